@@ -1,0 +1,13 @@
+pub mod Examples
+pub mod Found
+pub mod Resuming
+pub mod Numbers
+pub mod Spelled
+pub mod Again
+pub mod Regions
+pub mod Completes
+pub mod Faults
+pub mod Unique
+pub mod Told
+pub mod Extended
+pub mod OneFault

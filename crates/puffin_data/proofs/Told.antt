@@ -1,0 +1,99 @@
+-- What a walk's caller is told, from how the walk went.
+use Rattle.std.proofs.Common.{◌≡◌, ℕ, ◌-◌, ◌<◌, ◌≤◌, ◌^◌, List, [], length, drop, get_or, sym, ap, subst, ◌∙◌, arith, Result, Ok, Err, ◌⊎◌, inl, inr, cond, eqb, ℤ, ◌≤ℤ◌, pos, negsuc}
+use Rattle.std.specs.Prelude.{MatchResult, IfOk, IfErr}
+use Rattle.std.specs.Int.{int_min, int_max}
+use Rattle.std.proofs.lemmas.Int.{ints, clamps}
+use Rattle.std.proofs.lemmas.Bool.{cases_lt}
+use Rattle.std.proofs.lemmas.List.{get_or-take, get_or-drop}
+use Rattle.puffin_data.specs.declared.error.Error.{Error}
+use Rattle.puffin_data.specs.declared.error.Error.TheVariants.{Memory}
+use Rattle.puffin_data.specs.declared.data.walk.Walk.{Walk}
+use Rattle.puffin_data.specs.Forest.{Forest, empty, node}
+use Rattle.puffin_data.specs.Measures.{least_start, greatest_stop}
+use Rattle.puffin_data.specs.Walk.{region, IsFaultAt, Refuses}
+use Rattle.puffin_data.specs.Spelling.{Spells}
+use Rattle.puffin_data.specs.Honesty.{Counts}
+use Rattle.puffin_data.specs.Walking.{uncounted, tries_in, Walked, Stopped}
+use Rattle.puffin_data.proofs.Numbers.{IsBytes}
+use Rattle.puffin_data.proofs.Regions.{whole_region, empty_region, nothing_is_no_fault, between}
+use Rattle.puffin_data.proofs.Completes.{completed, tallied, tallies}
+use Rattle.puffin_data.proofs.Faults.{stopped_at}
+use Rattle.puffin_data.proofs.Unique.{faultless, same_forest}
+
+pub least_in_range : (f : Forest) → least_start f ≤ℤ pos (2 ^ 63 - 1)
+least_in_range empty = omega (arith, ints)
+least_in_range (node s c o) = omega (arith, ints, clamps, least_in_range c, least_in_range o)
+
+pub greatest_in_range : (f : Forest) → negsuc (2 ^ 63 - 1) ≤ℤ greatest_stop f
+greatest_in_range empty = omega (arith, ints)
+greatest_in_range (node s c o) = omega (arith, ints, clamps, greatest_in_range c, greatest_in_range o)
+
+pub from_most : (z : ℤ) → z ≤ℤ pos (2 ^ 63 - 1) → int_min (pos (2 ^ 63 - 1)) z ≡ z
+from_most z h = omega (arith, ints, clamps)
+
+pub from_least : (z : ℤ) → negsuc (2 ^ 63 - 1) ≤ℤ z → int_max (negsuc (2 ^ 63 - 1)) z ≡ z
+from_least z h = omega (arith, ints, clamps)
+
+counts : (f : Forest) → Counts (tallied 0 uncounted f) f
+counts f =
+    let t = tallies 0 uncounted f (record { depth = omega arith; start = omega (arith, ints); stop = omega (arith, ints) }) in
+    record {
+      num_scopes = t.num_scopes ∙ omega arith;
+      depth = t.depth ∙ omega arith;
+      least_start = t.start ∙ from_most (least_start f) (least_in_range f);
+      greatest_stop = t.stop ∙ from_least (greatest_stop f) (greatest_in_range f);
+    }
+
+pub told_forest : (bytes : List ℕ) (tries : ℕ) (w : Walk) → IsBytes bytes → Walked bytes tries w → (f : Forest) × Spells bytes f × Counts w f
+told_forest bytes tries w fits walked =
+    let c = completed bytes 0 uncounted w 0 (length bytes) fits (omega arith) (omega arith) walked.0 in
+    (c.forest, record { whole = sym (whole_region bytes) ∙ c.spelled; fits = c.fits }, subst (λ (x : Walk). Counts x c.forest) (sym c.numbers) (counts c.forest))
+
+-- a fault stands on a byte of its region
+fault_inside : (bytes : List ℕ) (p e : ℕ) (fault : Error) → p ≤ e → IsFaultAt bytes p e fault → p < e
+fault_inside bytes p e fault h at =
+    elim (cases_lt p e) [
+      | inl lt ↦ lt
+      | inr le ↦ let same : p ≡ e = omega arith in absurd (nothing_is_no_fault (region bytes p e) fault (subst (λ (n : ℕ). region bytes p n ≡ []) same (empty_region bytes p)) at)
+    ]
+
+pub told_fault : (bytes : List ℕ) (tries : ℕ) (e : Error) → IsBytes bytes → Stopped bytes tries e → (e ≡ Memory) ⊎ Refuses bytes e tries
+told_fault bytes tries e fits (inl memory) = inl memory
+told_fault bytes tries e fits (inr stopped) =
+    let s = stopped_at bytes 0 uncounted 0 (length bytes) _ fits (omega arith) (omega arith) stopped.1 in
+    let within = between bytes 0 (length bytes) stopped.0 s.end (omega arith) (omega arith) s.reached in
+    let inside = fault_inside bytes stopped.0 s.end e within.middle s.stands in
+    let first : get_or (region bytes stopped.0 s.end) 0 0 ≡ get_or bytes stopped.0 0 = get_or-take (s.end - stopped.0) (drop stopped.0 bytes) 0 0 (omega (arith, inside)) ∙ get_or-drop stopped.0 bytes 0 0 ∙ ap (λ (n : ℕ). get_or bytes n 0) (omega arith) in
+    let last : tries_in (region bytes stopped.0 s.end) ≡ cond {A = ℕ} (eqb (get_or bytes stopped.0 0) 40) 1 0 = ap (λ (b : ℕ). cond (eqb b 40) 1 0) first in
+    inr (record {
+      place = stopped.0;
+      first = record { end = s.end; reached = s.reached; stands = s.stands; least = s.least };
+      sounds = s.places;
+      are_sounds = s.sounds;
+      number = omega (arith, s.tries, last);
+    })
+
+pub told_only : (bytes : List ℕ) (tries : ℕ) (r : Result Walk Error) → IsBytes bytes → length bytes < 2 ^ 64 → MatchResult r (Walked bytes tries) (Stopped bytes tries) → (f : Forest) → Spells bytes f → MatchResult r (λ w. Counts w f) (λ e. e ≡ Memory)
+told_only bytes tries (Ok w) fits small walked f spells =
+    let t = told_forest bytes tries w fits walked in
+    subst (λ (g : Forest). Counts w g) (same_forest t.0 f t.1.fits spells.fits (omega (arith, ap length t.1.whole)) (sym t.1.whole ∙ spells.whole)) t.2
+told_only bytes tries (Err e) fits small (inl memory) f spells = memory
+told_only bytes tries (Err e) fits small (inr stopped) f spells =
+    let s = stopped_at bytes 0 uncounted 0 (length bytes) _ fits (omega arith) (omega arith) stopped.1 in
+    absurd (faultless f bytes 0 (length bytes) stopped.0 s.end e spells.fits (omega arith) (omega arith) small (whole_region bytes ∙ spells.whole) s.reached s.stands)
+
+-- ---- the same for what the walk of some bytes gave, at bytes that are equal to these
+
+abbrev pub Gave : List ℕ → ℕ → Result Walk Error → Type 0
+Gave bytes tries r = MatchResult r (Walked bytes tries) (Stopped bytes tries)
+
+pub gave_forest : (bytes stream : List ℕ) (tries : ℕ) (r : Result Walk Error) → bytes ≡ stream → IsBytes bytes → Gave bytes tries r → IfOk r (λ w. (f : Forest) × Spells stream f × Counts w f)
+gave_forest bytes stream tries (Ok w) same fits gave = subst (λ (xs : List ℕ). (f : Forest) × Spells xs f × Counts w f) same (told_forest bytes tries w fits gave)
+gave_forest bytes stream tries (Err e) same fits gave = tt
+
+pub gave_fault : (bytes stream : List ℕ) (tries : ℕ) (r : Result Walk Error) → bytes ≡ stream → IsBytes bytes → Gave bytes tries r → IfErr r (λ e. (e ≡ Memory) ⊎ Refuses stream e tries)
+gave_fault bytes stream tries (Ok w) same fits gave = tt
+gave_fault bytes stream tries (Err e) same fits gave = subst (λ (xs : List ℕ). (e ≡ Memory) ⊎ Refuses xs e tries) same (told_fault bytes tries e fits gave)
+
+pub gave_only : (bytes stream : List ℕ) (tries : ℕ) (r : Result Walk Error) → bytes ≡ stream → IsBytes bytes → length bytes < 2 ^ 64 → Gave bytes tries r → (f : Forest) → Spells stream f → MatchResult r (λ w. Counts w f) (λ e. e ≡ Memory)
+gave_only bytes stream tries r same fits small gave f spells = told_only bytes tries r fits small gave f (subst (λ (xs : List ℕ). Spells xs f) (sym same) spells)

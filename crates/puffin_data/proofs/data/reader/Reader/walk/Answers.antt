@@ -1,0 +1,15 @@
+-- The walk of the stream's bytes, told of the stream.
+use Rattle.puffin_data.proofs.Told.{gave_forest, gave_fault, gave_only}
+use Rattle.puffin_data.proofs.data.reader.Reader.walk.Goals as goal
+
+pub returns-clause-forest : goal.returns-clause-forest
+returns-clause-forest c =
+    gave_forest c.bytes.result.now c.args.stream.now.bytes c.walk_bytes.new.tries c.walk_bytes.result c.bytes.ensures c.walk_bytes.ensures.bytes c.walk_bytes.ensures.walked
+
+pub returns-clause-only : goal.returns-clause-only
+returns-clause-only c =
+    gave_only c.bytes.result.now c.args.stream.now.bytes c.walk_bytes.new.tries c.walk_bytes.result c.bytes.ensures c.walk_bytes.ensures.bytes c.walk_bytes.ensures.small c.walk_bytes.ensures.walked
+
+pub returns-clause-fault : goal.returns-clause-fault
+returns-clause-fault c =
+    gave_fault c.bytes.result.now c.args.stream.now.bytes c.walk_bytes.new.tries c.walk_bytes.result c.bytes.ensures c.walk_bytes.ensures.bytes c.walk_bytes.ensures.walked

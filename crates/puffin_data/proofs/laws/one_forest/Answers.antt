@@ -1,0 +1,9 @@
+use Rattle.std.proofs.Common.{arith}
+use Rattle.puffin_data.proofs.Unique.{same_forest, spelling-append}
+use Rattle.puffin_data.proofs.laws.one_forest.Goals as goal
+
+pub returns-clause-spelling : goal.returns-clause-spelling
+returns-clause-spelling c f g x y small e = same_forest f g x y (omega arith) e
+
+pub returns-clause-joined : goal.returns-clause-joined
+returns-clause-joined c f g = spelling-append f g

@@ -1,0 +1,11 @@
+-- What contracts see of a reader or writer whose failures are counted.
+use Rattle.std.specs.Prelude.{ℕ}
+use Rattle.puffin_data.specs.declared.data.device.Counted.{Counted}
+
+-- the reader or writer itself
+abbrev pub counted_device : {D : Type 0} → Counted D → D
+counted_device counted = counted.device
+
+-- how many of its calls failed
+abbrev pub failed_calls : {D : Type 0} → Counted D → ℕ
+failed_calls counted = counted.faults

@@ -1,0 +1,36 @@
+-- Profiled scopes as a forest, and when it can be written.
+use Rattle.std.specs.Prelude.{ℕ, ◌<◌, ◌^◌, ℤ, ◌-ℤ◌, ◌≤ℤ◌, FitsSigned, List, length}
+use Rattle.std.specs.List.{All}
+use Rattle.std.specs.Int.{w64}
+
+-- one scope without its children: the text is kept as bytes, as it was stored
+pub record Span : Type 0 where
+  pub id : ℕ
+  pub start : ℤ
+  pub stop : ℤ
+  pub text : List ℕ
+
+-- Scopes one after the other, each with its children: either none, or a first scope, the forest of its children, and the scopes that follow it.
+pub data Forest : Type 0 where
+  empty : Forest
+  node : (first : Span) → (children : Forest) → (others : Forest) → Forest
+
+-- the scopes of two forests, one after the other
+abbrev pub append : Forest → Forest → Forest
+append empty g = g
+append (node s children others) g = node s children (append others g)
+
+-- A scope that can be written: the id is a u32 and not 0, the times are i64 and so is the time between them, and the text has at most 255 bytes.
+pub record IsSpan (s : Span) : Type 0 where
+  pub id_low : 0 < s.id
+  pub id_high : s.id < 2 ^ 32
+  pub start : FitsSigned w64 s.start
+  pub stop : FitsSigned w64 s.stop
+  pub ordered : s.start ≤ℤ s.stop
+  pub duration : FitsSigned w64 (s.stop -ℤ s.start)
+  pub text_size : length s.text < 256
+  pub text_bytes : All (λ b. b < 256) s.text
+
+abbrev pub IsForest : Forest → Type 0
+IsForest empty = Unit {0}
+IsForest (node s children others) = IsSpan s × IsForest children × IsForest others

@@ -1,0 +1,11 @@
+pub mod Forest
+pub mod Measures
+pub mod Spelling
+pub mod Reading
+pub mod Walk
+pub mod Honesty
+pub mod Streams
+pub mod Errors
+pub mod Counting
+pub mod Sightings
+pub mod Walking

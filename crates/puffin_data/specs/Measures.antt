@@ -1,0 +1,24 @@
+-- The measures of a forest.
+use Rattle.std.specs.Prelude.{ℕ, ◌+◌, ◌-◌, ◌^◌, max, ℤ, pos, negsuc}
+use Rattle.std.specs.Int.{int_min, int_max}
+use Rattle.puffin_data.specs.Forest.{Forest, empty, node}
+
+-- how many scopes there are
+abbrev pub scope_count : Forest → ℕ
+scope_count empty = 0
+scope_count (node s children others) = 1 + scope_count children + scope_count others
+
+-- how many scopes stand one within the other, at most
+abbrev pub height : Forest → ℕ
+height empty = 0
+height (node s children others) = max (1 + height children) (height others)
+
+-- the least start of all scopes, and i64's greatest number where there is none
+abbrev pub least_start : Forest → ℤ
+least_start empty = pos (2 ^ 63 - 1)
+least_start (node s children others) = int_min s.start (int_min (least_start children) (least_start others))
+
+-- the greatest stop of all scopes, and i64's least number where there is none
+abbrev pub greatest_stop : Forest → ℤ
+greatest_stop empty = negsuc (2 ^ 63 - 1)
+greatest_stop (node s children others) = int_max s.stop (int_max (greatest_stop children) (greatest_stop others))

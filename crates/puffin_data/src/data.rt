@@ -1,0 +1,16 @@
+//! Streams of scopes: their bytes, the strict walk over them, and what is counted of them.
+
+mod device;
+mod info;
+mod reader;
+mod scope;
+mod scope_id;
+mod stream;
+mod walk;
+
+pub use device::{Counted, Drain, Source};
+pub use info::{StreamInfo, StreamInfoRef};
+pub use reader::Reader;
+pub use scope_id::ScopeId;
+pub use stream::Stream;
+pub use walk::Walk;

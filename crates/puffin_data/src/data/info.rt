@@ -1,0 +1,142 @@
+ghost use Rattle.std.specs.Prelude.{◌≡◌, ◌+◌, ◌≤◌, ◌^◌, ◌↔◌, ◌⊎◌, IfOk, IfErr, OnOk, OnErr, MatchResult};
+ghost use Rattle.std.specs.Int.{int_min, int_max};
+ghost use Rattle.puffin_data.specs.Forest.{Forest, empty, append};
+ghost use Rattle.puffin_data.specs.Spelling.{Spells};
+ghost use Rattle.puffin_data.specs.Walk.{IsFault};
+ghost use Rattle.puffin_data.specs.Honesty.{IsHonest, IsHonestRef};
+
+use crate::data::reader::Reader;
+use crate::data::stream::Stream;
+use crate::data::walk::Walk;
+use crate::error::{Error, NanoSecond, Result};
+use std::alloc::Global;
+
+/// A stream with what a walk over it counts. It is honest for a forest where its bytes spell that forest and its other
+/// fields are the forest's measures, as [`StreamInfo::parse`] gives them; made by hand it may say anything.
+#[derive(Drop)]
+pub struct StreamInfo {
+    /// The scopes as bytes.
+    pub stream: Stream,
+    /// How many scopes there are.
+    pub num_scopes: usize,
+    /// How many scopes stand one within the other, at most.
+    pub depth: usize,
+    /// The least start and the greatest stop of all scopes, or `(i64::MAX, i64::MIN)` where there is none.
+    pub range_ns: (NanoSecond, NanoSecond),
+}
+
+/// A [`StreamInfo`] with its bytes borrowed.
+#[derive(Clone, Copy)]
+pub struct StreamInfoRef<'a> {
+    /// The scopes as bytes.
+    pub stream: &'a [u8],
+    /// How many scopes there are.
+    pub num_scopes: usize,
+    /// How many scopes stand one within the other, at most.
+    pub depth: usize,
+    /// The least start and the greatest stop of all scopes, or `(i64::MAX, i64::MIN)` where there is none.
+    pub range_ns: (NanoSecond, NanoSecond),
+}
+
+/// The least start and the greatest stop of two ranges.
+pub fn joined_range(
+    a: (NanoSecond, NanoSecond),
+    b: (NanoSecond, NanoSecond),
+) -> (NanoSecond, NanoSecond)
+    ensures start { result.0 ≡ int_min a.0 b.0 }
+    ensures stop { result.1 ≡ int_max a.1 b.1 }
+{
+    (a.0.min(b.0), a.1.max(b.1))
+}
+
+impl StreamInfo {
+    /// The info of no scope.
+    pub fn new(alloc: Global) -> StreamInfo
+        ensures { IsHonest result empty }
+    {
+        let walk = Walk::empty();
+        StreamInfo {
+            stream: Stream::new(alloc),
+            num_scopes: walk.num_scopes,
+            depth: walk.depth,
+            range_ns: walk.range_ns,
+        }
+    }
+
+    /// Counts a stream, which has to be a forest of scopes. Refused as [`Reader::walk`], and the stream is then dropped.
+    pub fn parse(alloc: Global, stream: Stream) -> Result<StreamInfo>
+        ensures same { IfOk result (λ info. info.stream ≡ stream) }
+        ensures honest { IfOk result (λ info. (f : Forest) × IsHonest info f) }
+        // Each forest is counted, unless memory runs out.
+        ensures only { (f : Forest) → Spells stream.bytes f → MatchResult result (λ info. IsHonest info f) (λ e. e ≡ Error.Memory) }
+        ensures fault { IfErr result (λ e. (e ≡ Error.Memory) ⊎ IsFault stream.bytes e) }
+    {
+        let mut tries = 0;
+        let walk = Reader::walk(alloc, &stream, &mut tries)?;
+        Ok(StreamInfo {
+            stream,
+            num_scopes: walk.num_scopes,
+            depth: walk.depth,
+            range_ns: walk.range_ns,
+        })
+    }
+
+    /// Takes all scopes away. The stream keeps its memory.
+    pub fn clear(&mut self)
+        ensures { IsHonest self.new empty }
+    {
+        let walk = Walk::empty();
+        self.stream.clear();
+        self.num_scopes = walk.num_scopes;
+        self.depth = walk.depth;
+        self.range_ns = walk.range_ns;
+    }
+
+    /// Appends another info's scopes. Refused with `TooLarge` where the number of scopes wouldn't fit, else with `Memory`;
+    /// nothing is changed then.
+    pub fn extend(&mut self, other: &StreamInfoRef) -> Result<()>
+        // Two honest infos make an honest one.
+        ensures honest { OnOk result ((f g : Forest) → IsHonest self.old f → IsHonestRef other.now g → IsHonest self.new (append f g)) }
+        ensures too_large { (result ≡ Err Error.TooLarge) ↔ (2 ^ 64 ≤ self.old.num_scopes + other.now.num_scopes) }
+        ensures err { OnErr result ((self.new.stream.bytes ≡ self.old.stream.bytes) × (self.new.num_scopes ≡ self.old.num_scopes)
+            × (self.new.depth ≡ self.old.depth) × (self.new.range_ns ≡ self.old.range_ns)) }
+    {
+        let Some(num_scopes) = self.num_scopes.checked_add(other.num_scopes) else {
+            return Err(Error::TooLarge);
+        };
+        self.stream.append(other.stream)?;
+        self.num_scopes = num_scopes;
+        self.depth = self.depth.max(other.depth);
+        self.range_ns = joined_range(self.range_ns, other.range_ns);
+        Ok(())
+    }
+
+    /// A copy. Refused only with `Memory`.
+    pub fn clone(&self) -> Result<StreamInfo>
+        ensures ok { IfOk result (λ info. (info.stream.bytes ≡ self.now.stream.bytes) × (info.num_scopes ≡ self.now.num_scopes)
+            × (info.depth ≡ self.now.depth) × (info.range_ns ≡ self.now.range_ns)) }
+        ensures err { IfErr result (λ e. e ≡ Error.Memory) }
+    {
+        Ok(StreamInfo {
+            stream: self.stream.clone()?,
+            num_scopes: self.num_scopes,
+            depth: self.depth,
+            range_ns: self.range_ns,
+        })
+    }
+
+    /// The same with the bytes borrowed.
+    pub fn as_stream_into_ref(&self) -> StreamInfoRef<'_>
+        ensures stream { result.stream.now ≡ self.now.stream.bytes }
+        ensures num_scopes { result.num_scopes ≡ self.now.num_scopes }
+        ensures depth { result.depth ≡ self.now.depth }
+        ensures range { result.range_ns ≡ self.now.range_ns }
+    {
+        StreamInfoRef {
+            stream: self.stream.bytes(),
+            num_scopes: self.num_scopes,
+            depth: self.depth,
+            range_ns: self.range_ns,
+        }
+    }
+}

@@ -1,0 +1,40 @@
+ghost use Rattle.std.specs.Prelude.{◌≡◌, ℕ, ◌<◌, ◌^◌, SomeIff};
+
+use std::marker::Model;
+
+/// The number that stands for a scope's details: from 1 to `2^32 - 1`.
+#[derive(Clone, Copy, Debug, PartialEq, Eq, PartialOrd, Ord, Hash)]
+pub struct ScopeId {
+    number: u32,
+}
+
+impl Model for ScopeId {
+    ghost Value = { ℕ };
+
+    ghost view = { λ id. id.number };
+
+    ghost invariant = { λ id. (0 < id.number) × (id.number < 2 ^ 32) };
+
+    ghost inverse = { λ n. record { number = n } };
+}
+
+impl ScopeId {
+    /// `None` at 0.
+    pub fn new(number: u32) -> Option<ScopeId>
+        ensures { SomeIff result (0 < number) number }
+    {
+        if number == 0 {
+            None
+        } else {
+            Some(ScopeId { number })
+        }
+    }
+
+    /// The number itself.
+    pub fn get(&self) -> u32
+        ensures number { result ≡ self.now }
+        ensures positive { 0 < result }
+    {
+        self.number
+    }
+}

@@ -1,0 +1,95 @@
+//! The strict walk: one pass over the bytes of a stream, which have to be a forest of scopes.
+
+ghost use Rattle.std.specs.Prelude.{◌≡◌, ℕ, ◌+◌, ◌*◌, ◌≤◌, ◌<◌, ◌^◌, ◌==◌, if◌then◌else◌, length, slice_index, IfOk, IfErr, MatchResult};
+ghost use Rattle.puffin_data.specs.Reading.{reading, IsFaultIn};
+ghost use Rattle.puffin_data.specs.Sightings.{found_of};
+ghost use Rattle.puffin_data.specs.Walking.{uncounted, counted, Walked, Stopped};
+
+use crate::data::scope::{END_SIZE, SCOPE_BEGIN, Sighting, scope_in};
+use crate::error::{Error, NanoSecond, Result};
+use std::alloc::Global;
+
+/// What a walk over a stream counts: the measures of the forest that its bytes spell.
+#[derive(Clone, Copy, Debug, PartialEq, Eq)]
+pub struct Walk {
+    /// How many scopes there are.
+    pub num_scopes: usize,
+    /// How many scopes stand one within the other, at most.
+    pub depth: usize,
+    /// The least start and the greatest stop of all scopes, or `(i64::MAX, i64::MIN)` where there is none.
+    pub range_ns: (NanoSecond, NanoSecond),
+}
+
+impl Walk {
+    /// What a walk over no scope counts.
+    pub(crate) fn empty() -> Walk
+        ensures { result ≡ uncounted }
+    {
+        Walk {
+            num_scopes: 0,
+            depth: 0,
+            range_ns: (NanoSecond::MAX, NanoSecond::MIN),
+        }
+    }
+
+    /// One more scope, at this depth.
+    fn counted(self, depth: usize, scope: &Sighting) -> Walk
+        requires { self.num_scopes + 1 < 2 ^ 64 }
+        ensures { result ≡ counted self depth (found_of scope.now).span }
+    {
+        let (start, stop) = self.range_ns;
+        Walk {
+            num_scopes: self.num_scopes + 1,
+            depth: self.depth.max(depth),
+            range_ns: (start.min(scope.start), stop.max(scope.stop)),
+        }
+    }
+}
+
+/// The scope that has to stand at the front of a region. A reading at its first byte is a try.
+fn next_scope<'s>(region: &'s [u8], tries: &mut u64) -> Result<Sighting<'s>>
+    requires not_empty { 0 < length region.now }
+    requires few { tries.old + 1 < 2 ^ 64 }
+    ensures sound { IfOk result (λ s. reading region.now ≡ Ok (Some (found_of s))) }
+    ensures fault { IfErr result (IsFaultIn region.now) }
+    ensures tried { tries.new ≡ tries.old + (if slice_index region.now 0 == 40 then 1 else 0) }
+{
+    if region[0] == SCOPE_BEGIN {
+        *tries += 1;
+    }
+    match scope_in(region)? {
+        Some(scope) => Ok(scope),
+        None => Err(Error::InvalidStream),
+    }
+}
+
+/// Goes over all of the bytes, with the ends of the regions around the place where it is in a vector.
+pub(crate) fn walk_bytes(alloc: Global, bytes: &[u8], tries: &mut u64) -> Result<Walk>
+    ensures walked { MatchResult result (Walked bytes.now tries.new) (Stopped bytes.now tries.new) }
+    ensures few { 31 * tries.new ≤ length bytes.now + 31 }
+    ensures bytes { (i : ℕ) → slice_index bytes.now i < 256 }
+    ensures small { length bytes.now < 2 ^ 64 }
+{
+    let mut walk = Walk::empty();
+    let mut ends: Vec<usize> = Vec::new(alloc);
+    let mut at = 0;
+    let mut end = bytes.len();
+    *tries = 0;
+    'scopes: loop {
+        if at < end {
+            let scope = next_scope(&bytes[at..end], tries)?;
+            ends.push(end)?;
+            walk = walk.counted(ends.len(), &scope);
+            end = at + scope.child_end;
+            at += scope.child_begin;
+        } else {
+            match ends.pop() {
+                None => return Ok(walk),
+                Some(outer) => {
+                    at = end + END_SIZE;
+                    end = outer;
+                }
+            }
+        }
+    }
+}

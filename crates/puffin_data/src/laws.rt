@@ -1,0 +1,30 @@
+//! Laws of forests, their spellings and their walks, as contracts of functions that do nothing. A proof of another crate
+//! cites them by calling the function.
+
+ghost use Rattle.std.specs.Prelude.{List, ℕ, ◌≡◌, ◌+◌, ◌++◌, ◌<◌, ◌^◌, length, max};
+ghost use Rattle.std.specs.Int.{int_min, int_max};
+ghost use Rattle.puffin_data.specs.Forest.{Forest, IsForest, append};
+ghost use Rattle.puffin_data.specs.Measures.{scope_count, height, least_start, greatest_stop};
+ghost use Rattle.puffin_data.specs.Spelling.{spelling};
+ghost use Rattle.puffin_data.specs.Walk.{IsFirstFault};
+ghost use Rattle.puffin_data.specs.declared.error.Error.{Error};
+
+/// A forest has one spelling, and it is no other forest's. The spellings of two forests one after the other are joined.
+pub fn one_forest()
+    ensures spelling { (f g : Forest) → IsForest f → IsForest g → length (spelling f) < 2 ^ 63 → spelling f ≡ spelling g → f ≡ g }
+    ensures joined { (f g : Forest) → spelling (append f g) ≡ spelling f ++ spelling g }
+{}
+
+/// The measures of two forests one after the other. They can be written where both can.
+pub fn joined_measures()
+    ensures scope_count { (f g : Forest) → scope_count (append f g) ≡ scope_count f + scope_count g }
+    ensures height { (f g : Forest) → height (append f g) ≡ max (height f) (height g) }
+    ensures least_start { (f g : Forest) → least_start (append f g) ≡ int_min (least_start f) (least_start g) }
+    ensures greatest_stop { (f g : Forest) → greatest_stop (append f g) ≡ int_max (greatest_stop f) (greatest_stop g) }
+    ensures written { (f g : Forest) → IsForest f → IsForest g → IsForest (append f g) }
+{}
+
+/// Bytes have at most one first fault, at one place.
+pub fn one_fault()
+    ensures { (bytes : List ℕ) (p q : ℕ) (a b : Error) → IsFirstFault bytes p a → IsFirstFault bytes q b → (p ≡ q) × (a ≡ b) }
+{}

@@ -1,0 +1,13 @@
+//! The bytes that a profiled thread writes, and how they are read.
+#![tactic(auto)]
+
+pub mod data;
+mod error;
+mod file_error;
+pub mod laws;
+
+pub use error::{Error, NanoSecond, Result};
+pub use file_error::FileError;
+
+#[cfg(test)]
+mod tests;
