@@ -7,5 +7,6 @@ pub mod Honesty
 pub mod Streams
 pub mod Errors
 pub mod Counting
+pub mod Devices
 pub mod Sightings
 pub mod Walking

@@ -6,6 +6,7 @@ mod reader;
 mod scope;
 mod scope_id;
 mod stream;
+mod transfer;
 mod walk;
 
 pub use device::{Counted, Drain, Source};
@@ -13,4 +14,5 @@ pub use info::{StreamInfo, StreamInfoRef};
 pub use reader::Reader;
 pub use scope_id::ScopeId;
 pub use stream::Stream;
+pub use transfer::{read_to_end, write_all};
 pub use walk::Walk;

@@ -5,8 +5,8 @@ ghost use Rattle.std.specs.Prelude.{List, ℕ, ◌≡◌, ◌+◌, ◌++◌, ◌
 ghost use Rattle.std.specs.Int.{int_min, int_max};
 ghost use Rattle.puffin_data.specs.Forest.{Forest, IsForest, append};
 ghost use Rattle.puffin_data.specs.Measures.{scope_count, height, least_start, greatest_stop};
-ghost use Rattle.puffin_data.specs.Spelling.{spelling};
-ghost use Rattle.puffin_data.specs.Walk.{IsFirstFault};
+ghost use Rattle.puffin_data.specs.Spelling.{spelling, Spells};
+ghost use Rattle.puffin_data.specs.Walk.{IsFault, IsFirstFault};
 ghost use Rattle.puffin_data.specs.declared.error.Error.{Error};
 
 /// A forest has one spelling, and it is no other forest's. The spellings of two forests one after the other are joined.
@@ -27,4 +27,9 @@ pub fn joined_measures()
 /// Bytes have at most one first fault, at one place.
 pub fn one_fault()
     ensures { (bytes : List ℕ) (p q : ℕ) (a b : Error) → IsFirstFault bytes p a → IsFirstFault bytes q b → (p ≡ q) × (a ≡ b) }
+{}
+
+/// Bytes that spell a forest have no fault.
+pub fn no_fault_in_a_spelling()
+    ensures { (bytes : List ℕ) (f : Forest) (fault : Error) → length bytes < 2 ^ 64 → Spells bytes f → IsFault bytes fault → ⊥ }
 {}

@@ -1,0 +1,35 @@
+use Rattle.std.proofs.Common.{◌≡◌, ℕ, ◌+◌, ◌-◌, List, ◌++◌, arith, length, take, drop, sym, ap, ◌∙◌, subst, take_all, length-drop, take-append-drop}
+use Rattle.std.specs.Io.KnownBytes.{Appends}
+use Rattle.std.proofs.KnownBytes.{Appends-trans, Appends-kept}
+use lib.Seq.{take-add}
+use Rattle.puffin_data.proofs.data.transfer.write_all.Goals as goal
+
+-- what was written before, and the front of the rest that was written now
+grown : (at n : ℕ) (bytes : List ℕ) → take at bytes ++ take n (take (length bytes - at) (drop at bytes)) ≡ take (at + n) bytes
+grown at n bytes =
+    let rest : take (length bytes - at) (drop at bytes) ≡ drop at bytes = take_all (length bytes - at) (drop at bytes) (omega (arith, length-drop at bytes)) in
+    ap (λ (t : List ℕ). take at bytes ++ take n t) rest ∙ sym (take-add at n bytes)
+
+pub returns-in-Err-clause-err : goal.returns-in-Err-clause-err
+returns-in-Err-clause-err g c =
+    let at = c.pieces.at in
+    let bytes = c.args.bytes.now in
+    (take at bytes, drop at bytes, sym (take-append-drop at bytes), Appends-kept _ _ _ _ c.pieces.invariant.written c.in-Err.ensures.bytes)
+
+pub returns-then-n-eq0-clause-err : goal.returns-then-n-eq0-clause-err
+returns-then-n-eq0-clause-err g c =
+    let at = c.pieces.at in
+    let n = c.in-Ok.n in
+    let bytes = c.args.bytes.now in
+    (take (at + n) bytes, drop (at + n) bytes, sym (take-append-drop (at + n) bytes), subst (Appends _ _) (grown at n bytes) (Appends-trans _ _ _ _ _ c.pieces.invariant.written c.in-Ok.ensures.bytes))
+
+pub pieces-preserved : goal.pieces-preserved
+pieces-preserved g c =
+    let at = c.pieces.at in
+    let n = c.in-Ok.n in
+    let bytes = c.args.bytes.now in
+    record {
+      most = omega (arith, c.in-Ok.ensures.bound, length-drop at bytes);
+      written = subst (Appends _ _) (grown at n bytes) (Appends-trans _ _ _ _ _ c.pieces.invariant.written c.in-Ok.ensures.bytes);
+      failures = c.in-Ok.ensures.failed ∙ c.pieces.invariant.failures;
+    }

@@ -1,0 +1,72 @@
+//! Whole reads and whole writes over any reader and writer.
+
+ghost use Rattle.std.specs.Prelude.{◌≡◌, ◌++◌, ◌+◌, ◌-◌, ◌^◌, ◌<◌, ◌≤◌, List, ℕ, IfOk, IfErr, OnOk, OnErr, length, ◌⊎◌};
+ghost use Rattle.std.specs.Io.KnownBytes.{Consumes, Appends, IsAtEnd};
+ghost use Rattle.puffin_data.specs.Devices.{IsOutside, TookNothing, WritesBeginning, failures_after};
+
+use crate::data::device::{Drain, Source};
+use crate::file_error::FileError;
+use std::alloc::Global;
+
+/// How many bytes are read at once.
+const PIECE_SIZE: usize = 65536;
+
+/// Reads once into a piece, and appends what came.
+fn append_read<S: Source>(
+    source: &mut S,
+    piece: &mut [u8],
+    bytes: &mut Vec<u8>,
+) -> Result<usize, FileError>
+    requires { S.failures source.old < 2 ^ 64 - 1 }
+    ensures took { IfOk result (λ n. (taken : List ℕ) × (bytes.new.items ≡ bytes.old.items ++ taken) × (length taken ≡ n)
+        × Consumes (S.remaining source.old) (S.remaining source.new) taken × (n ≡ 0 → 0 < length piece.old → IsAtEnd (S.remaining source.new))) }
+    ensures outside { IfErr result IsOutside }
+    ensures failures { S.failures source.new ≡ failures_after (S.failures source.old) result }
+{
+    let n = match source.read(piece) {
+        Ok(n) => n,
+        Err(_) => return Err(FileError::Io),
+    };
+    bytes.extend_from_slice(&piece[..n])?;
+    Ok(n)
+}
+
+/// Reads to the end. Refused with `Io` where a read failed, else with `Memory`; the reader's place is then open.
+pub fn read_to_end<S: Source>(alloc: Global, source: &mut S) -> Result<Vec<u8>, FileError>
+    requires { S.failures source.old < 2 ^ 64 - 1 }
+    ensures all { IfOk result (λ bytes. Consumes (S.remaining source.old) (S.remaining source.new) bytes.items × IsAtEnd (S.remaining source.new)) }
+    ensures outside { IfErr result IsOutside }
+    ensures failures { S.failures source.new ≡ failures_after (S.failures source.old) result }
+{
+    let mut piece = [0; PIECE_SIZE];
+    let mut bytes = Vec::new(alloc);
+    'pieces: loop {
+        let n = append_read(source, &mut piece, &mut bytes)?;
+        if n == 0 {
+            return Ok(bytes);
+        }
+    }
+}
+
+/// Writes all of the bytes, in the pieces that the writer takes. Refused with `Io` alone, where a write failed or took
+/// nothing of a piece that wasn't empty; a beginning of the bytes is then written.
+pub fn write_all<D: Drain>(drain: &mut D, bytes: &[u8]) -> Result<(), FileError>
+    requires { D.failures drain.old < 2 ^ 64 - 1 }
+    ensures ok { OnOk result (Appends (D.contents drain.old) (D.contents drain.new) bytes.now) }
+    ensures err { OnErr result (WritesBeginning (D.contents drain.old) (D.contents drain.new) bytes.now) }
+    ensures io { IfErr result (λ e. (e ≡ FileError.Io) × ((D.failures drain.new ≡ D.failures drain.old + 1) ⊎ TookNothing D.takes drain.new)) }
+    ensures failures { OnOk result (D.failures drain.new ≡ D.failures drain.old) }
+{
+    let mut at = 0;
+    'pieces: while at < bytes.len() {
+        let n = match drain.write(&bytes[at..]) {
+            Ok(n) => n,
+            Err(_) => return Err(FileError::Io),
+        };
+        if n == 0 {
+            return Err(FileError::Io);
+        }
+        at += n;
+    }
+    Ok(())
+}
