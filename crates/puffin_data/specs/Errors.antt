@@ -1,5 +1,5 @@
 -- The numbers and the texts of the causes.
-use Rattle.std.specs.Prelude.{ℕ, List, ◌∷◌, ◌++◌, codes}
+use Rattle.std.specs.Prelude.{ℕ, List, [], ◌∷◌, ◌++◌, codes}
 use Rattle.std.specs.Fmt.{decimal}
 use Rattle.puffin_data.specs.declared.error.Error.{Error}
 use Rattle.puffin_data.specs.declared.error.Error.TheVariants as error
@@ -58,19 +58,28 @@ file_error_number file.PartTooLong = 12
 file_error_number (file.Refused cause) = 13
 file_error_number file.Memory = 14
 
--- the name, and behind a blank the number or the cause that it holds
+abbrev pub file_error_name : FileError → List ℕ
+file_error_name file.Io = codes "Io"
+file_error_name file.NoMagic = codes "NoMagic"
+file_error_name file.Truncated = codes "Truncated"
+file_error_name file.Legacy = codes "Legacy"
+file_error_name file.Newer = codes "Newer"
+file_error_name (file.UnknownKind kind) = codes "UnknownKind"
+file_error_name (file.Compressed kind) = codes "Compressed"
+file_error_name file.BadMeta = codes "BadMeta"
+file_error_name file.BadStreams = codes "BadStreams"
+file_error_name file.BadScopes = codes "BadScopes"
+file_error_name file.BadRange = codes "BadRange"
+file_error_name file.PartTooLong = codes "PartTooLong"
+file_error_name (file.Refused cause) = codes "Refused"
+file_error_name file.Memory = codes "Memory"
+
+-- behind a blank, the number or the cause that it holds
+abbrev pub file_error_detail : FileError → List ℕ
+file_error_detail (file.UnknownKind kind) = 32 ∷ decimal kind
+file_error_detail (file.Compressed kind) = 32 ∷ decimal kind
+file_error_detail (file.Refused cause) = 32 ∷ error_name cause
+file_error_detail _ = []
+
 abbrev pub file_error_text : FileError → List ℕ
-file_error_text file.Io = codes "Io"
-file_error_text file.NoMagic = codes "NoMagic"
-file_error_text file.Truncated = codes "Truncated"
-file_error_text file.Legacy = codes "Legacy"
-file_error_text file.Newer = codes "Newer"
-file_error_text (file.UnknownKind kind) = codes "UnknownKind " ++ decimal kind
-file_error_text (file.Compressed kind) = codes "Compressed " ++ decimal kind
-file_error_text file.BadMeta = codes "BadMeta"
-file_error_text file.BadStreams = codes "BadStreams"
-file_error_text file.BadScopes = codes "BadScopes"
-file_error_text file.BadRange = codes "BadRange"
-file_error_text file.PartTooLong = codes "PartTooLong"
-file_error_text (file.Refused cause) = codes "Refused " ++ error_name cause
-file_error_text file.Memory = codes "Memory"
+file_error_text fault = file_error_name fault ++ file_error_detail fault

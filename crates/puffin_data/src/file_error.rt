@@ -1,6 +1,6 @@
 ghost use Rattle.std.specs.Prelude.{◌≡◌};
 ghost use Rattle.puffin_data.specs.declared.file_error.FileError.TheVariants.{Memory};
-ghost use Rattle.puffin_data.specs.Errors.{file_error_number};
+ghost use Rattle.puffin_data.specs.Errors.{file_error_number, file_error_name};
 
 use crate::error::Error;
 use std::alloc::{AllocError, AllocFailed};
@@ -62,6 +62,28 @@ impl FileError {
             FileError::Memory => 14,
         }
     }
+
+    /// Its name alone.
+    pub fn name(self) -> &'static str
+        ensures { result.now ≡ file_error_name self }
+    {
+        match self {
+            FileError::Io => "Io",
+            FileError::NoMagic => "NoMagic",
+            FileError::Truncated => "Truncated",
+            FileError::Legacy => "Legacy",
+            FileError::Newer => "Newer",
+            FileError::UnknownKind(_) => "UnknownKind",
+            FileError::Compressed(_) => "Compressed",
+            FileError::BadMeta => "BadMeta",
+            FileError::BadStreams => "BadStreams",
+            FileError::BadScopes => "BadScopes",
+            FileError::BadRange => "BadRange",
+            FileError::PartTooLong => "PartTooLong",
+            FileError::Refused(_) => "Refused",
+            FileError::Memory => "Memory",
+        }
+    }
 }
 
 impl fmt::Display for FileError {
@@ -72,20 +94,10 @@ impl fmt::Display for FileError {
 
     fn fmt<W: fmt::Write>(&self, f: &mut fmt::Formatter<W>) -> fmt::Result {
         match self {
-            FileError::Io => write!(f, "Io"),
-            FileError::NoMagic => write!(f, "NoMagic"),
-            FileError::Truncated => write!(f, "Truncated"),
-            FileError::Legacy => write!(f, "Legacy"),
-            FileError::Newer => write!(f, "Newer"),
             FileError::UnknownKind(kind) => write!(f, "UnknownKind {kind}"),
             FileError::Compressed(kind) => write!(f, "Compressed {kind}"),
-            FileError::BadMeta => write!(f, "BadMeta"),
-            FileError::BadStreams => write!(f, "BadStreams"),
-            FileError::BadScopes => write!(f, "BadScopes"),
-            FileError::BadRange => write!(f, "BadRange"),
-            FileError::PartTooLong => write!(f, "PartTooLong"),
             FileError::Refused(cause) => write!(f, "Refused {cause}"),
-            FileError::Memory => write!(f, "Memory"),
+            _ => f.write_str(self.name()),
         }
     }
 }

@@ -1,0 +1,11 @@
+-- What a whole write leaves, whether it succeeded or not.
+use Rattle.std.proofs.Common.{◌≡◌, List, ℕ, [], ◌++◌, Option, Result, Ok, Err, sym, subst}
+use Rattle.std.specs.Prelude.{OnOk, OnErr}
+use Rattle.std.specs.Io.KnownBytes.{Appends}
+use Rattle.std.proofs.lemmas.List.{append-nil}
+use Rattle.puffin_data.specs.declared.file_error.FileError.{FileError}
+use Rattle.puffin_data.specs.Devices.{WritesBeginning}
+
+pub beginning_written : {T : Type 0} (r : Result T FileError) (old new : Option (List ℕ)) (bytes text : List ℕ) → bytes ≡ text → OnOk r (Appends old new bytes) → OnErr r (WritesBeginning old new bytes) → WritesBeginning old new text
+beginning_written (Ok x) old new bytes text same whole part = (text, [], sym (append-nil text), subst (Appends old new) same whole)
+beginning_written (Err e) old new bytes text same whole part = subst (WritesBeginning old new) same part

@@ -1,0 +1,6 @@
+//! What the program does, as functions over any reader and writer.
+#![tactic(auto)]
+
+pub mod replay;
+#[cfg(test)]
+mod tests;

@@ -1,0 +1,92 @@
+ghost use Rattle.std.specs.Prelude.{◌≡◌, ◌++◌, ◌+◌, ◌-◌, ◌^◌, ◌<◌, ◌≤◌, ◌⊎◌};
+ghost use Rattle.std.specs.Io.KnownBytes.{Appends};
+ghost use Rattle.arrayvec.specs.ArrayString.{array_string_len};
+ghost use Rattle.puffin_data.specs.Errors.{file_error_text};
+ghost use Rattle.puffin_data.specs.Devices.{TookNothing, WritesBeginning};
+ghost use Rattle.puffin_replay.specs.Faults.{fault_line, fault_text, status_of};
+
+use arrayvec::ArrayString;
+use itoa::Buffer;
+use puffin_data::data::{Drain, write_all};
+use puffin_data::{Error, FileError};
+
+/// Why the program didn't do what it was asked.
+#[derive(Clone, Copy, Debug, PartialEq, Eq)]
+pub enum ToolFault {
+    /// Its words are others than those that it knows.
+    Words,
+    /// This line of the script isn't a command, counted from 1.
+    Line(u64),
+    /// What it read was refused.
+    Cause(Error),
+    /// Reading or writing was refused.
+    File(FileError),
+}
+
+/// A line that is longer than each that is told.
+type Line = ArrayString<80>;
+
+/// Appends the text of a fault.
+fn push_file_error(line: &mut Line, fault: FileError)
+    requires { array_string_len line.old ≤ 32 }
+    ensures text { line.new.bytes ≡ line.old.bytes ++ file_error_text fault }
+    ensures len { array_string_len line.new ≤ array_string_len line.old + 32 }
+{
+    line.push_str(fault.name());
+    match fault {
+        FileError::UnknownKind(kind) | FileError::Compressed(kind) => {
+            line.push_str(" ");
+            line.push_str(Buffer::new().format(kind));
+        }
+        FileError::Refused(cause) => {
+            line.push_str(" ");
+            line.push_str(cause.name());
+        }
+        _ => {}
+    }
+}
+
+/// The line for standard error.
+fn line_of(fault: ToolFault) -> Line
+    ensures { result.bytes ≡ fault_line fault }
+{
+    let mut line = Line::new();
+    match fault {
+        ToolFault::Words => {
+            line.push_str("usage: puffin-tool count | replay SCRIPT OUT | report FILE THREAD\n");
+        }
+        ToolFault::Line(number) => {
+            line.push_str("puffin-tool: script line ");
+            line.push_str(Buffer::new().format(number));
+            line.push_str("\n");
+        }
+        ToolFault::Cause(cause) => {
+            line.push_str("puffin-tool: ");
+            line.push_str(cause.name());
+            line.push_str("\n");
+        }
+        ToolFault::File(cause) => {
+            line.push_str("puffin-tool: ");
+            push_file_error(&mut line, cause);
+            line.push_str("\n");
+        }
+    }
+    line
+}
+
+/// Writes the line that tells a fault, if there is one, and answers the program's status: 0 without a fault, 2 for other
+/// words, else 1. A failure of the writer doesn't change it; a beginning of the line is then written.
+pub fn finish<D: Drain>(fault: Option<ToolFault>, drain: &mut D) -> u8
+    requires { D.failures drain.old < 2 ^ 64 - 1 }
+    ensures status { result ≡ status_of fault }
+    ensures beginning { WritesBeginning (D.contents drain.old) (D.contents drain.new) (fault_text fault) }
+    // The whole line is written, or the writer failed, or took nothing.
+    ensures whole { Appends (D.contents drain.old) (D.contents drain.new) (fault_text fault)
+        ⊎ ((D.failures drain.new ≡ D.failures drain.old + 1) ⊎ TookNothing D.takes drain.new) }
+{
+    let Some(fault) = fault else {
+        return 0;
+    };
+    let _ = write_all(drain, line_of(fault).as_str().as_bytes());
+    if fault == ToolFault::Words { 2 } else { 1 }
+}
