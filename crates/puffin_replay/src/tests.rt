@@ -1,0 +1,250 @@
+ghost use Rattle.std.specs.Prelude.{◌≡◌, ◌+◌, ◌-◌, ◌^◌, ◌<◌, if◌then◌else◌};
+
+use crate::replay::*;
+use puffin_data::data::{Counted, Drain, Source};
+use puffin_data::{Error, FileError};
+use std::io;
+use std::test::Fail;
+
+/// One scope, `data` from 100 to 300.
+const ONE: &[u8] = b"(\x01\0\0\0\x64\0\0\0\0\0\0\0\x04data\0\0\0\0\0\0\0\0)\x2c\x01\0\0\0\0\0\0";
+
+/// `data_top` from 100 to 400, and in it `data_middle_0` from 200 to 300 and `data_middle_1` from 300 to 400.
+const THREE: &[u8] =
+    b"(\x01\0\0\0\x64\0\0\0\0\0\0\0\x08data_top\x58\0\0\0\0\0\0\0(\x02\0\0\0\xc8\0\0\0\0\0\0\0\x0ddata_middle_0\0\0\0\0\0\0\0\0)\x2c\x01\0\0\0\0\0\0(\x03\0\0\0\x2c\x01\0\0\0\0\0\0\x0ddata_middle_1\0\0\0\0\0\0\0\0)\x90\x01\0\0\0\0\0\0)\x90\x01\0\0\0\0\0\0";
+
+/// A scope with a child that claims to end past it.
+const CRAFTED: &[u8] =
+    b"(\x01\0\0\0\0\0\0\0\0\0\0\0\0\x1f\0\0\0\0\0\0\0(\x02\0\0\0\0\0\0\0\0\0\0\0\0\x1f\0\0\0\0\0\0\0)\0\0\0\0\0\0\0\0)\0\0\0\0\0\0\0\0";
+
+/// A scope that is begun and not ended.
+const UNFINISHED: &[u8] = b"(\x01\0\0\0\x64\0\0\0\0\0\0\0\0\xff\xff\xff\xff\xff\xff\xff\xff";
+
+/// A reader of some bytes in pieces, and a writer, whose call of this number fails.
+#[derive(Drop)]
+struct Failing<'a> {
+    bytes: &'a [u8],
+    written: Vec<u8>,
+    piece: usize,
+    calls: u64,
+    fails_at: u64,
+    faults: u64,
+}
+
+impl Failing<'_> {
+    fn fails(&mut self) -> bool
+        requires { self.old.faults < 2 ^ 64 - 1 }
+        ensures faults { self.new.faults ≡ (if result then self.old.faults + 1 else self.old.faults) }
+        ensures bytes { self.new.bytes.now ≡ self.old.bytes.now }
+    {
+        let fails = self.calls == self.fails_at;
+        self.calls = self.calls.saturating_add(1);
+        if fails {
+            self.faults += 1;
+        }
+        fails
+    }
+}
+
+impl Source for Failing<'_> {
+    ghost failures = { λ s. s.faults };
+
+    fn read(&mut self, buf: &mut [u8]) -> io::Result<usize> {
+        if self.fails() {
+            return Err(io::Error::from(io::ErrorKind::Other));
+        }
+        let n = self.piece.min(self.bytes.len()).min(buf.len());
+        buf[..n].copy_from_slice(&self.bytes[..n]);
+        self.bytes = &self.bytes[n..];
+        Ok(n)
+    }
+
+    fn faults(&self) -> u64 {
+        self.faults
+    }
+}
+
+impl Drain for Failing<'_> {
+    ghost failures = { λ s. s.faults };
+
+    fn write(&mut self, buf: &[u8]) -> io::Result<usize> {
+        if self.fails() {
+            return Err(io::Error::from(io::ErrorKind::Other));
+        }
+        let n = self.piece.min(buf.len());
+        if self.written.extend_from_slice(&buf[..n]).is_err() {
+            return Ok(0);
+        }
+        Ok(n)
+    }
+
+    fn faults(&self) -> u64 {
+        self.faults
+    }
+}
+
+const NEVER: u64 = u64::MAX;
+
+fn device<'a>(rt: &HostRuntime, bytes: &'a [u8], piece: usize, fails_at: u64) -> Failing<'a>
+    ensures { result.faults ≡ 0 }
+{
+    Failing {
+        bytes,
+        written: Vec::new(rt.alloc()),
+        piece,
+        calls: 0,
+        fails_at,
+        faults: 0,
+    }
+}
+
+/// What counting some bytes answers, and what it writes.
+fn counted(rt: &HostRuntime, bytes: &[u8]) -> (Result<Option<Error>, FileError>, Vec<u8>) {
+    let mut source = device(rt, bytes, 3, NEVER);
+    let mut drain = device(rt, b"", 1, NEVER);
+    let answer = count_stream(rt.alloc(), &mut source, &mut drain);
+    (answer, drain.written)
+}
+
+#[test]
+fn a_stream_is_counted_into_one_line(rt: HostRuntime) -> Result<(), Fail> {
+    for (bytes, line) in [
+        (ONE, "scopes 1 depth 1 range 100 300\n"),
+        (THREE, "scopes 3 depth 2 range 100 400\n"),
+        (b"".as_slice(), "scopes 0 depth 0 range empty\n"),
+    ] {
+        let (answer, written) = counted(&rt, bytes);
+        assert_eq!(rt; answer, Ok(None));
+        assert_eq!(rt; written.as_slice(), line.as_bytes());
+    }
+    Ok(())
+}
+
+#[test]
+fn a_refused_stream_writes_nothing(rt: HostRuntime) -> Result<(), Fail> {
+    let mut left_over = Vec::from_slice(rt.alloc(), ONE)?;
+    left_over.push(0)?;
+    for (bytes, cause) in [
+        (CRAFTED, Error::PrematureEnd),
+        (UNFINISHED, Error::ScopeNeverEnded),
+        (left_over.as_slice(), Error::InvalidStream),
+    ] {
+        let (answer, written) = counted(&rt, bytes);
+        assert_eq!(rt; answer, Ok(Some(cause)));
+        assert_eq!(rt; written.len(), 0);
+    }
+    Ok(())
+}
+
+#[test]
+fn std_readers_and_writers_are_counted(rt: HostRuntime) -> Result<(), Fail> {
+    let mut written = Vec::new(rt.alloc());
+    let answer = count_stream(
+        rt.alloc(),
+        &mut Counted::new(ONE),
+        &mut Counted::new(&mut written),
+    );
+    assert_eq!(rt; answer, Ok(None));
+    assert_eq!(rt;
+        written.as_slice(),
+        b"scopes 1 depth 1 range 100 300\n".as_slice()
+    );
+    Ok(())
+}
+
+#[test]
+fn each_read_fails_in_turn(rt: HostRuntime) {
+    // 35 bytes in pieces of 10 are read by five calls, the last of which gives none
+    for call in 0..5 {
+        let mut source = device(&rt, ONE, 10, call);
+        let mut drain = device(&rt, b"", 100, NEVER);
+        let answer = count_stream(rt.alloc(), &mut source, &mut drain);
+        assert_eq!(rt; answer, Err(FileError::Io), "at {call}");
+        assert_eq!(rt; source.faults, 1);
+        assert_eq!(rt; drain.written.len(), 0);
+    }
+    let (answer, _) = counted(&rt, ONE);
+    assert_eq!(rt; answer, Ok(None));
+}
+
+#[test]
+fn each_write_fails_in_turn(rt: HostRuntime) {
+    let line = b"scopes 1 depth 1 range 100 300\n";
+    // 31 bytes in pieces of 10 are written by four calls
+    for call in 0..4u64 {
+        let mut source = device(&rt, ONE, 100, NEVER);
+        let mut drain = device(&rt, b"", 10, call);
+        let answer = count_stream(rt.alloc(), &mut source, &mut drain);
+        assert_eq!(rt; answer, Err(FileError::Io), "at {call}");
+        assert_eq!(rt; drain.faults, 1);
+        let written = (call * 10) as usize;
+        assert_eq!(rt; written < line.len(), true);
+        assert_eq!(rt; drain.written.as_slice(), &line[..written]);
+    }
+}
+
+#[test]
+fn a_writer_that_takes_nothing_has_failed(rt: HostRuntime) {
+    let mut drain = device(&rt, b"", 0, NEVER);
+    let answer = count_stream(rt.alloc(), &mut device(&rt, ONE, 100, NEVER), &mut drain);
+    assert_eq!(rt; answer, Err(FileError::Io));
+    assert_eq!(rt; drain.faults, 0);
+}
+
+#[test]
+fn the_words_name_a_task(rt: HostRuntime) -> Result<(), Fail> {
+    let alloc = rt.alloc();
+    let count = String::from_str(alloc, "count")?;
+    let other = String::from_str(alloc, "Count")?;
+    let twice = [
+        String::from_str(alloc, "count")?,
+        String::from_str(alloc, "x")?,
+    ];
+    assert_eq!(rt; read_words(&[count])?, Some(Task::Count));
+    assert_eq!(rt; read_words(&[other])?, None);
+    assert_eq!(rt; read_words(&twice)?, None);
+    assert_eq!(rt; read_words(&[])?, None);
+    Ok(())
+}
+
+#[test]
+fn each_fault_is_told_with_its_status(rt: HostRuntime) {
+    let usage = "usage: puffin-tool count | replay SCRIPT OUT | report FILE THREAD\n";
+    for (fault, line, status) in [
+        (None, "", 0u8),
+        (Some(ToolFault::Words), usage, 2),
+        (Some(ToolFault::Line(3)), "puffin-tool: script line 3\n", 1),
+        (
+            Some(ToolFault::Line(u64::MAX)),
+            "puffin-tool: script line 18446744073709551615\n",
+            1,
+        ),
+        (
+            Some(ToolFault::Cause(Error::PrematureEnd)),
+            "puffin-tool: PrematureEnd\n",
+            1,
+        ),
+        (Some(ToolFault::File(FileError::Io)), "puffin-tool: Io\n", 1),
+        (
+            Some(ToolFault::File(FileError::UnknownKind(3))),
+            "puffin-tool: UnknownKind 3\n",
+            1,
+        ),
+        (
+            Some(ToolFault::File(FileError::Compressed(2))),
+            "puffin-tool: Compressed 2\n",
+            1,
+        ),
+        (
+            Some(ToolFault::File(FileError::Refused(Error::MissingId))),
+            "puffin-tool: Refused MissingId\n",
+            1,
+        ),
+    ] {
+        let mut drain = device(&rt, b"", 7, NEVER);
+        assert_eq!(rt; finish(fault, &mut drain), status);
+        assert_eq!(rt; drain.written.as_slice(), line.as_bytes());
+        // a writer that fails doesn't change the status
+        assert_eq!(rt; finish(fault, &mut device(&rt, b"", 7, 0)), status);
+    }
+}
