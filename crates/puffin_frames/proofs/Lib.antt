@@ -1,0 +1,3 @@
+pub mod Infos
+pub mod Joining
+pub mod Sharing
