@@ -2,6 +2,9 @@ ghost use Rattle.std.specs.Prelude.{◌≡◌, [], ◌+◌, ◌≤◌, ◌<◌, 
 ghost use Rattle.std.specs.BTreeMap.{values};
 ghost use Rattle.std.specs.Int.{int_min, int_max};
 ghost use Rattle.puffin_data.specs.declared.error.Error.{Error};
+ghost use Rattle.std.specs.Map.{keys_of};
+ghost use Rattle.std.specs.List.Sorted.{IsStrictlySortedBy};
+ghost use Rattle.puffin_frames.specs.Info.{thread_cmp};
 ghost use Rattle.puffin_frames.specs.Measures.{meta_of, TotalsFit};
 
 use crate::thread_profiler::ThreadInfo;
@@ -65,6 +68,7 @@ impl FrameMeta {
         streams: &BTreeMap<ThreadInfo, StreamInfo>,
     ) -> Result<FrameMeta>
         ensures ok { IfOk result (λ meta. meta ≡ meta_of frame_index (values streams.now)) }
+        ensures sorted { IsStrictlySortedBy thread_cmp (keys_of streams.now.entries) }
         ensures totals { IfOk result (λ _. TotalsFit (values streams.now)) }
         ensures err { IfErr result (λ e. (e ≡ Error.TooLarge) × ¬ TotalsFit (values streams.now)) }
     {
