@@ -1,0 +1,76 @@
+-- Going over infos one after the other.
+use Rattle.std.proofs.Common.{◌≡◌, ℕ, ◌+◌, ◌≤◌, ◌<◌, ◌^◌, List, [], ◌∷◌, length, ap, ◌∙◌, subst, arith, ◌⊎◌, inl, inr, ℤ}
+use Rattle.std.specs.List.{fold}
+use Rattle.std.specs.Int.{int_min, int_max}
+use Rattle.puffin_data.specs.declared.data.info.StreamInfo.{StreamInfo}
+use Rattle.puffin_frames.specs.declared.frame_data.meta.FrameMeta.{FrameMeta}
+use Rattle.puffin_frames.specs.Measures.{total_bytes, total_scopes, least_start, greatest_stop, meta_of, TotalsFit}
+
+-- the bytes, scopes, starts and stops of infos, joined to what is there already
+abbrev pub bytes_from : ℕ → List StreamInfo → ℕ
+bytes_from n infos = fold (λ a info. a + length info.stream.bytes) n infos
+
+abbrev pub scopes_from : ℕ → List StreamInfo → ℕ
+scopes_from n infos = fold (λ a info. a + info.num_scopes) n infos
+
+abbrev pub start_from : ℤ → List StreamInfo → ℤ
+start_from z infos = fold (λ least info. int_min least info.range_ns.0) z infos
+
+abbrev pub stop_from : ℤ → List StreamInfo → ℤ
+stop_from z infos = fold (λ greatest info. int_max greatest info.range_ns.1) z infos
+
+-- with the infos that are left, the numbers so far come to those of all
+pub record ComesTo (meta : FrameMeta) (rest : List StreamInfo) (index : ℕ) (all : List StreamInfo) : Type 0 where
+  pub frame_index : meta.frame_index ≡ index
+  pub num_bytes : bytes_from meta.num_bytes rest ≡ total_bytes all
+  pub num_scopes : scopes_from meta.num_scopes rest ≡ total_scopes all
+  pub start : start_from meta.range_ns.0 rest ≡ least_start all
+  pub stop : stop_from meta.range_ns.1 rest ≡ greatest_stop all
+  pub fit : (meta.num_bytes < 2 ^ 64) × (meta.num_scopes < 2 ^ 64)
+
+pub bytes_above : (n : ℕ) (infos : List StreamInfo) → n ≤ bytes_from n infos
+bytes_above n [] = omega arith
+bytes_above n (x ∷ xs) = omega (arith, bytes_above (n + length x.stream.bytes) xs)
+
+pub scopes_above : (n : ℕ) (infos : List StreamInfo) → n ≤ scopes_from n infos
+scopes_above n [] = omega arith
+scopes_above n (x ∷ xs) = omega (arith, scopes_above (n + x.num_scopes) xs)
+
+pub one_more : (meta more : FrameMeta) (x : StreamInfo) (rest all : List StreamInfo) (index : ℕ) → ComesTo meta (x ∷ rest) index all → more.frame_index ≡ meta.frame_index → more.num_bytes ≡ meta.num_bytes + length x.stream.bytes → more.num_scopes ≡ meta.num_scopes + x.num_scopes
+    → more.range_ns.0 ≡ int_min meta.range_ns.0 x.range_ns.0 → more.range_ns.1 ≡ int_max meta.range_ns.1 x.range_ns.1 → (more.num_bytes < 2 ^ 64) × (more.num_scopes < 2 ^ 64) → ComesTo more rest index all
+one_more meta more x rest all index h ei eb es e0 e1 fits = record {
+  frame_index = ei ∙ h.frame_index;
+  num_bytes = ap (λ n. bytes_from n rest) eb ∙ h.num_bytes;
+  num_scopes = ap (λ n. scopes_from n rest) es ∙ h.num_scopes;
+  start = ap (λ z. start_from z rest) e0 ∙ h.start;
+  stop = ap (λ z. stop_from z rest) e1 ∙ h.stop;
+  fit = fits;
+}
+
+-- a sum that doesn't fit on the way doesn't fit at the end
+pub too_large : (meta : FrameMeta) (x : StreamInfo) (rest all : List StreamInfo) (index : ℕ) → ComesTo meta (x ∷ rest) index all → (2 ^ 64 ≤ meta.num_bytes + length x.stream.bytes) ⊎ (2 ^ 64 ≤ meta.num_scopes + x.num_scopes) → TotalsFit all → ⊥
+too_large meta x rest all index h over fits =
+    let bytes = bytes_above (meta.num_bytes + length x.stream.bytes) rest in
+    let scopes = scopes_above (meta.num_scopes + x.num_scopes) rest in
+    elim over [
+      | inl more ↦ omega (arith, bytes, h.num_bytes, fits.bytes)
+      | inr more ↦ omega (arith, scopes, h.num_scopes, fits.scopes)
+    ]
+
+pub come : (meta : FrameMeta) (all : List StreamInfo) (index : ℕ) → ComesTo meta [] index all → meta ≡ meta_of index all
+come meta all index h = λ i. record {
+  frame_index = h.frame_index i;
+  range_ns = (h.start i, h.stop i);
+  num_bytes = h.num_bytes i;
+  num_scopes = h.num_scopes i;
+}
+
+pub totals_fit : (meta : FrameMeta) (all : List StreamInfo) (index : ℕ) → ComesTo meta [] index all → TotalsFit all
+totals_fit meta all index h = record {
+  bytes = omega (arith, h.num_bytes, h.fit.0);
+  scopes = omega (arith, h.num_scopes, h.fit.1);
+}
+
+-- what a loop over the rest leaves to be joined
+pub at_next : (meta : FrameMeta) (rest next : List StreamInfo) (all : List StreamInfo) (index : ℕ) → ComesTo meta rest index all → rest ≡ next → ComesTo meta next index all
+at_next meta rest next all index h e = subst (λ (infos : List StreamInfo). ComesTo meta infos index all) e h

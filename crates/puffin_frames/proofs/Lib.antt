@@ -1,0 +1,5 @@
+pub mod Infos
+pub mod Joining
+pub mod Sharing
+pub mod Keyed
+pub mod Ranges

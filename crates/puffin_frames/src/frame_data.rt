@@ -1,0 +1,9 @@
+//! Frames: what was reported since the frame before.
+
+mod meta;
+mod shared;
+mod unpacked;
+
+pub use meta::{FrameIndex, FrameMeta};
+pub use shared::ThreadStreams;
+pub use unpacked::UnpackedFrameData;

@@ -1,0 +1,84 @@
+ghost use Rattle.std.specs.Prelude.{◌≡◌, [], ◌+◌, ◌≤◌, ◌<◌, ◌^◌, ◌⊎◌, ◌↔◌, length, IfOk, IfErr, IfSome, IfNone};
+ghost use Rattle.std.specs.BTreeMap.{values};
+ghost use Rattle.std.specs.Int.{int_min, int_max};
+ghost use Rattle.puffin_data.specs.declared.error.Error.{Error};
+ghost use Rattle.std.specs.Map.{keys_of};
+ghost use Rattle.std.specs.List.Sorted.{IsStrictlySortedBy};
+ghost use Rattle.puffin_frames.specs.Info.{thread_cmp};
+ghost use Rattle.puffin_frames.specs.Measures.{meta_of, TotalsFit};
+
+use crate::thread_profiler::ThreadInfo;
+use puffin_data::data::StreamInfo;
+use puffin_data::{Error, NanoSecond, Result};
+use std::collections::BTreeMap;
+
+/// The number of a frame, counted from 0.
+pub type FrameIndex = u64;
+
+/// What is said of a frame's streams together. A plain record: made by hand it may say anything.
+#[derive(Clone, Copy, Debug)]
+pub struct FrameMeta {
+    /// The frame's number.
+    pub frame_index: FrameIndex,
+    /// The least start and the greatest stop of all scopes, in nanoseconds.
+    pub range_ns: (NanoSecond, NanoSecond),
+    /// How many bytes the streams have, unpacked.
+    pub num_bytes: usize,
+    /// How many scopes the streams have.
+    pub num_scopes: usize,
+}
+
+impl FrameMeta {
+    /// What is said of no stream.
+    fn of_none(frame_index: FrameIndex) -> FrameMeta
+        ensures { result ≡ meta_of frame_index [] }
+    {
+        FrameMeta {
+            frame_index,
+            range_ns: (NanoSecond::MAX, NanoSecond::MIN),
+            num_bytes: 0,
+            num_scopes: 0,
+        }
+    }
+
+    /// With one more stream. `None` where a sum doesn't fit.
+    fn joined(self, info: &StreamInfo) -> Option<FrameMeta>
+        ensures frame_index { IfSome result (λ meta. meta.frame_index ≡ self.frame_index) }
+        ensures num_bytes { IfSome result (λ meta. meta.num_bytes ≡ self.num_bytes + length info.now.stream.bytes) }
+        ensures num_scopes { IfSome result (λ meta. meta.num_scopes ≡ self.num_scopes + info.now.num_scopes) }
+        ensures start { IfSome result (λ meta. meta.range_ns.0 ≡ int_min self.range_ns.0 info.now.range_ns.0) }
+        ensures stop { IfSome result (λ meta. meta.range_ns.1 ≡ int_max self.range_ns.1 info.now.range_ns.1) }
+        ensures fit { IfSome result (λ meta. (meta.num_bytes < 2 ^ 64) × (meta.num_scopes < 2 ^ 64)) }
+        ensures none { IfNone result ((2 ^ 64 ≤ self.num_bytes + length info.now.stream.bytes) ⊎ (2 ^ 64 ≤ self.num_scopes + info.now.num_scopes)) }
+    {
+        let num_bytes = self.num_bytes.checked_add(info.stream.len())?;
+        let num_scopes = self.num_scopes.checked_add(info.num_scopes)?;
+        let (start, stop) = self.range_ns;
+        Some(FrameMeta {
+            frame_index: self.frame_index,
+            range_ns: (start.min(info.range_ns.0), stop.max(info.range_ns.1)),
+            num_bytes,
+            num_scopes,
+        })
+    }
+
+    /// What is said of these streams. Takes no memory. Refused with `TooLarge` where a sum doesn't fit.
+    pub(crate) fn of_streams(
+        frame_index: FrameIndex,
+        streams: &BTreeMap<ThreadInfo, StreamInfo>,
+    ) -> Result<FrameMeta>
+        ensures ok { IfOk result (λ meta. meta ≡ meta_of frame_index (values streams.now)) }
+        ensures sorted { IsStrictlySortedBy thread_cmp (keys_of streams.now.entries) }
+        ensures totals { IfOk result (λ _. TotalsFit (values streams.now)) }
+        ensures err { IfErr result (λ e. (e ≡ Error.TooLarge) × ¬ TotalsFit (values streams.now)) }
+    {
+        let mut meta = FrameMeta::of_none(frame_index);
+        for info in streams.values() {
+            let Some(more) = meta.joined(info) else {
+                return Err(Error::TooLarge);
+            };
+            meta = more;
+        }
+        Ok(meta)
+    }
+}

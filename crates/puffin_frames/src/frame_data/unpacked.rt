@@ -1,0 +1,94 @@
+ghost use Rattle.std.specs.Prelude.{◌≡◌, ◌^◌, ◌<◌, ◌-ℤ◌, ◌≤ℤ◌, FitsSigned};
+ghost use Rattle.std.specs.Int.{w64};
+
+use crate::frame_data::meta::{FrameIndex, FrameMeta};
+use crate::frame_data::shared::{ThreadStreams, shared};
+use crate::thread_profiler::ThreadInfo;
+use puffin_data::data::StreamInfo;
+use puffin_data::{Error, NanoSecond, Result};
+use std::alloc::Global;
+use std::collections::BTreeMap;
+
+/// A frame: the streams that were reported since the frame before, by the infos of their threads, with what is said of
+/// all of them together.
+///
+/// The range in its meta isn't reversed, and its duration fits [`NanoSecond`], also where a frame is made by hand.
+#[derive(Drop)]
+pub struct UnpackedFrameData {
+    /// What is said of the streams together.
+    pub meta: FrameMeta,
+    /// The streams by the infos of their threads.
+    pub thread_streams: ThreadStreams,
+    pub ghost ordered: { meta.range_ns.0 ≤ℤ meta.range_ns.1 },
+    pub ghost duration_fits: { FitsSigned w64 (meta.range_ns.1 -ℤ meta.range_ns.0) },
+}
+
+impl UnpackedFrameData {
+    ghost use Rattle.std.specs.Prelude.{◌↔◌, ◌⊎◌, IfOk, IfErr};
+    ghost use Rattle.std.specs.BTreeMap.{values};
+    ghost use Rattle.std.specs.FinMap as map;
+    ghost use Rattle.puffin_data.specs.declared.error.Error.{Error};
+    ghost use Rattle.puffin_frames.specs.Measures.{joined_range, TotalsFit, IsOrdered, DurationFits, MakeFrame, meta_of};
+    ghost use Rattle.puffin_frames.specs.Contents.{unshared, streams_of, contents};
+
+    /// The frame with this number of these streams, each of which is moved into an `Arc`.
+    ///
+    /// Refused with the first that applies: `TooLarge` where the sum of bytes or of scopes doesn't fit `usize`; `Empty`
+    /// where the joined range is reversed, as that of no scope is; `RangeTooLong` where its duration doesn't fit `i64`;
+    /// `Memory`. The streams are then dropped.
+    pub fn new(
+        alloc: Global,
+        frame_index: FrameIndex,
+        thread_streams: BTreeMap<ThreadInfo, StreamInfo>,
+    ) -> Result<UnpackedFrameData>
+        ensures meta { IfOk result (λ frame. frame.meta ≡ meta_of frame_index (values thread_streams)) }
+        ensures streams { IfOk result (λ frame. unshared frame.thread_streams.entries ≡ thread_streams.entries) }
+
+        // The same by infos: the frame holds what was given, and what its meta says is said of what it holds.
+        ensures contents { IfOk result (λ frame. contents frame ≡ streams_of thread_streams.entries) }
+        ensures own_meta { IfOk result (λ frame. frame.meta ≡ meta_of frame_index (map.values (contents frame))) }
+
+        ensures too_large { (result ≡ Err Error.TooLarge) ↔ ¬ TotalsFit (values thread_streams) }
+        ensures empty { (result ≡ Err Error.Empty) ↔ (TotalsFit (values thread_streams) × ¬ IsOrdered (joined_range (values thread_streams))) }
+        ensures range_too_long { (result ≡ Err Error.RangeTooLong) ↔ (TotalsFit (values thread_streams) × IsOrdered (joined_range (values thread_streams)) × ¬ DurationFits (joined_range (values thread_streams))) }
+        ensures memory { result ≡ Err Error.Memory → MakeFrame (values thread_streams) }
+        ensures only { IfErr result (λ e. (e ≡ Error.TooLarge) ⊎ (e ≡ Error.Empty) ⊎ (e ≡ Error.RangeTooLong) ⊎ (e ≡ Error.Memory)) }
+    {
+        let meta = FrameMeta::of_streams(frame_index, &thread_streams)?;
+        let (start, stop) = meta.range_ns;
+        if stop < start {
+            return Err(Error::Empty);
+        }
+        if stop.checked_sub(start).is_none() {
+            return Err(Error::RangeTooLong);
+        }
+        let thread_streams = shared(alloc, thread_streams)?;
+        Ok(UnpackedFrameData {
+            meta,
+            thread_streams,
+        })
+    }
+
+    /// The frame's number.
+    pub fn frame_index(&self) -> u64
+        ensures { result ≡ self.now.meta.frame_index }
+    {
+        self.meta.frame_index
+    }
+
+    /// The least start and the greatest stop, in nanoseconds.
+    pub fn range_ns(&self) -> (NanoSecond, NanoSecond)
+        ensures range { result ≡ self.now.meta.range_ns }
+        ensures ordered { result.0 ≤ℤ result.1 }
+    {
+        self.meta.range_ns
+    }
+
+    /// The time from the least start to the greatest stop, in nanoseconds.
+    pub fn duration_ns(&self) -> NanoSecond
+        ensures { result ≡ self.now.meta.range_ns.1 -ℤ self.now.meta.range_ns.0 }
+    {
+        let (start, stop) = self.meta.range_ns;
+        stop - start
+    }
+}
