@@ -8,8 +8,8 @@ use Rattle.std.proofs.lemmas.List.{get_or-take, get_or-drop}
 use Rattle.puffin_data.specs.declared.error.Error.{Error}
 use Rattle.puffin_data.specs.declared.error.Error.TheVariants.{Memory}
 use Rattle.puffin_data.specs.declared.data.walk.Walk.{Walk}
-use Rattle.puffin_data.specs.Forest.{Forest, empty, node}
-use Rattle.puffin_data.specs.Measures.{least_start, greatest_stop}
+use Rattle.puffin_data.specs.Forest.{Forest, empty, node, IsForest}
+use Rattle.puffin_data.specs.Measures.{scope_count, least_start, greatest_stop}
 use Rattle.puffin_data.specs.Walk.{region, IsFaultAt, Refuses}
 use Rattle.puffin_data.specs.Spelling.{Spells}
 use Rattle.puffin_data.specs.Honesty.{Counts}
@@ -27,6 +27,10 @@ least_in_range (node s c o) = omega (arith, ints, clamps, least_in_range c, leas
 pub greatest_in_range : (f : Forest) → negsuc (2 ^ 63 - 1) ≤ℤ greatest_stop f
 greatest_in_range empty = omega (arith, ints)
 greatest_in_range (node s c o) = omega (arith, ints, clamps, greatest_in_range c, greatest_in_range o)
+
+pub ordered : (f : Forest) → IsForest f → 0 < scope_count f → least_start f ≤ℤ greatest_stop f
+ordered empty fits some = absurd (omega arith)
+ordered (node s c o) fits some = omega (arith, ints, clamps, fits.0.ordered)
 
 pub from_most : (z : ℤ) → z ≤ℤ pos (2 ^ 63 - 1) → int_min (pos (2 ^ 63 - 1)) z ≡ z
 from_most z h = omega (arith, ints, clamps)

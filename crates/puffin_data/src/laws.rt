@@ -1,7 +1,7 @@
 //! Laws of forests, their spellings and their walks, as contracts of functions that do nothing. A proof of another crate
 //! cites them by calling the function.
 
-ghost use Rattle.std.specs.Prelude.{List, ℕ, ◌≡◌, ◌+◌, ◌++◌, ◌<◌, ◌^◌, length, max};
+ghost use Rattle.std.specs.Prelude.{List, ℕ, ◌≡◌, ◌+◌, ◌-◌, ◌++◌, ◌<◌, ◌^◌, ◌≤ℤ◌, pos, negsuc, length, max};
 ghost use Rattle.std.specs.Int.{int_min, int_max};
 ghost use Rattle.puffin_data.specs.Forest.{Forest, IsForest, append};
 ghost use Rattle.puffin_data.specs.Measures.{scope_count, height, least_start, greatest_stop};
@@ -22,6 +22,14 @@ pub fn joined_measures()
     ensures least_start { (f g : Forest) → least_start (append f g) ≡ int_min (least_start f) (least_start g) }
     ensures greatest_stop { (f g : Forest) → greatest_stop (append f g) ≡ int_max (greatest_stop f) (greatest_stop g) }
     ensures written { (f g : Forest) → IsForest f → IsForest g → IsForest (append f g) }
+{}
+
+/// The least start of a forest and its greatest stop are in the range of the numbers that they are counted in. Where
+/// there is a scope, the start isn't above the stop.
+pub fn range_of_a_forest()
+    ensures start { (f : Forest) → least_start f ≤ℤ pos (2 ^ 63 - 1) }
+    ensures stop { (f : Forest) → negsuc (2 ^ 63 - 1) ≤ℤ greatest_stop f }
+    ensures ordered { (f : Forest) → IsForest f → 0 < scope_count f → least_start f ≤ℤ greatest_stop f }
 {}
 
 /// Bytes have at most one first fault, at one place.

@@ -7,18 +7,18 @@ use Rattle.puffin_data.specs.Forest.{Forest}
 use Rattle.puffin_data.specs.Spelling.{Spells}
 use Rattle.puffin_data.specs.Walk.{IsFault}
 use Rattle.puffin_data.specs.Devices.{WritesBeginning}
-use Rattle.puffin_replay.specs.Lines.{count_line}
+use Rattle.puffin_replay.specs.Lines.{lines_of, frame_of_forest, refusal_of}
 
 -- the reader gave all that it had, which is these bytes
 abbrev pub ReadsAll : Option (List ℕ) → Option (List ℕ) → List ℕ → Type 0
 ReadsAll old new bytes = Consumes old new bytes × IsAtEnd new
 
--- Where no cause is answered, the line of the forest that the bytes spell was written; else the cause is the bytes' fault, and nothing was.
+-- The bytes spell a forest, whose two lines were written, and the answer is the cause that refuses its frame, if any; or the answer is the bytes' fault, and nothing was written.
 abbrev pub IsCounted : List ℕ → Option (List ℕ) → Option (List ℕ) → Option Error → Type 0
-IsCounted bytes old new None = (f : Forest) × Spells bytes f × Appends old new (count_line f)
-IsCounted bytes old new (Some cause) = IsFault bytes cause × Appends old new []
+IsCounted bytes old new answer =
+    ((f : Forest) × Spells bytes f × Appends old new (lines_of f) × (answer ≡ refusal_of (frame_of_forest f))) ⊎ ((cause : Error) × (answer ≡ Some cause) × IsFault bytes cause × Appends old new [])
 
--- A refused call wrote nothing, or a beginning of the line of what the reader gave.
+-- A refused call wrote nothing, or a beginning of the lines of what the reader gave.
 abbrev pub IsCutShort : Option (List ℕ) → Option (List ℕ) → Option (List ℕ) → Option (List ℕ) → Type 0
 IsCutShort unread left old new =
-    Appends old new [] ⊎ ((bytes : List ℕ) × (f : Forest) × ReadsAll unread left bytes × Spells bytes f × WritesBeginning old new (count_line f))
+    Appends old new [] ⊎ ((bytes : List ℕ) × (f : Forest) × ReadsAll unread left bytes × Spells bytes f × WritesBeginning old new (lines_of f))

@@ -1,8 +1,13 @@
--- The line that the program prints of a stream.
-use Rattle.std.specs.Prelude.{ℕ, ℤ, List, ◌++◌, codes}
+-- The two lines that the program prints of a stream.
+use Rattle.std.specs.Prelude.{ℕ, ◌^◌, ℤ, pos, ◌-ℤ◌, int_lt, List, ◌++◌, length, codes, Option, Some, None, Result, Ok, Err, if◌then◌else◌}
 use Rattle.std.specs.Fmt.{decimal, signed_decimal}
+use Rattle.puffin_data.specs.declared.error.Error.{Error}
+use Rattle.puffin_data.specs.declared.error.Error.TheVariants.{Empty, RangeTooLong}
+use Rattle.puffin_data.specs.Errors.{error_name}
 use Rattle.puffin_data.specs.Forest.{Forest, empty, node}
 use Rattle.puffin_data.specs.Measures.{scope_count, height, least_start, greatest_stop}
+use Rattle.puffin_data.specs.Spelling.{spelling}
+use Rattle.puffin_frames.specs.declared.frame_data.meta.FrameMeta.{FrameMeta}
 
 abbrev pub measures_line : ℕ → ℕ → ℤ → ℤ → List ℕ
 measures_line scopes depth start stop =
@@ -13,3 +18,41 @@ abbrev pub count_line : Forest → List ℕ
 count_line empty = codes "scopes 0 depth 0 range empty\n"
 count_line (node s children others) =
     let f = node s children others in measures_line (scope_count f) (height f) (least_start f) (greatest_stop f)
+
+-- the line of a frame
+abbrev pub meta_line : FrameMeta → List ℕ
+meta_line meta =
+    codes "frame " ++ (decimal meta.frame_index ++ (codes " bytes " ++ (decimal meta.num_bytes ++ (codes " scopes " ++ (decimal meta.num_scopes ++ (codes " range " ++ (signed_decimal meta.range_ns.0 ++ (codes " " ++ (signed_decimal meta.range_ns.1 ++ (codes " duration " ++ (signed_decimal (meta.range_ns.1 -ℤ meta.range_ns.0) ++ codes "\n")))))))))))
+
+-- the line of a frame that was refused
+abbrev pub none_line : Error → List ℕ
+none_line cause = codes "frame none " ++ (error_name cause ++ codes "\n")
+
+-- what frame 0 says of a forest, as the stream of one thread
+abbrev pub meta_of_forest : Forest → FrameMeta
+meta_of_forest f = record {
+  frame_index = 0;
+  range_ns = (least_start f, greatest_stop f);
+  num_bytes = length (spelling f);
+  num_scopes = scope_count f;
+}
+
+-- what making that frame comes to: there is none of no scope, and none where the time from the least start to the greatest stop is no i64
+abbrev pub frame_of_forest : Forest → Result FrameMeta Error
+frame_of_forest empty = Err Empty
+frame_of_forest (node s children others) =
+    let f = node s children others in if int_lt (greatest_stop f -ℤ least_start f) (pos (2 ^ 63)) then Ok (meta_of_forest f) else Err RangeTooLong
+
+abbrev pub outcome_line : Result FrameMeta Error → List ℕ
+outcome_line (Ok meta) = meta_line meta
+outcome_line (Err cause) = none_line cause
+
+-- the cause that the program ends with: that there is no scope is none
+abbrev pub refusal_of : Result FrameMeta Error → Option Error
+refusal_of (Ok meta) = None
+refusal_of (Err Empty) = None
+refusal_of (Err cause) = Some cause
+
+-- the two lines of a forest
+abbrev pub lines_of : Forest → List ℕ
+lines_of f = count_line f ++ outcome_line (frame_of_forest f)

@@ -1,14 +1,17 @@
-ghost use Rattle.std.specs.Prelude.{◌≡◌, ◌+◌, ◌-◌, ◌^◌, ◌<◌, List, ℕ, [], IfOk, IfErr, OnErr, ◌⊎◌};
+ghost use Rattle.std.specs.Prelude.{◌≡◌, ◌+◌, ◌-◌, ◌^◌, ◌<◌, ◌-ℤ◌, List, ℕ, IfOk, IfErr, OnErr, MatchResult, ◌⊎◌};
 ghost use Rattle.std.specs.String.{string_bytes};
 ghost use Rattle.puffin_data.specs.Forest.{Forest};
 ghost use Rattle.puffin_data.specs.Honesty.{IsHonest};
 ghost use Rattle.puffin_data.specs.Devices.{IsOutside, TookNothing};
-ghost use Rattle.puffin_replay.specs.Lines.{count_line, measures_line};
+ghost use Rattle.puffin_replay.specs.Lines.{count_line, measures_line, meta_line, none_line, outcome_line, frame_of_forest, refusal_of};
 ghost use Rattle.puffin_replay.specs.Counted.{ReadsAll, IsCounted, IsCutShort};
 
 use puffin_data::data::{Drain, Source, Stream, StreamInfo, read_to_end, write_all};
 use puffin_data::{Error, FileError, NanoSecond};
+use puffin_frames::frame_data::{FrameMeta, UnpackedFrameData};
+use puffin_frames::thread_profiler::ThreadInfo;
 use std::alloc::{AllocError, Global};
+use std::collections::BTreeMap;
 
 /// The line of these measures.
 fn measures_line(
@@ -34,12 +37,61 @@ fn line_of(alloc: Global, info: &StreamInfo) -> Result<String, AllocError>
     measures_line(alloc, info.num_scopes, info.depth, start, stop)
 }
 
-/// Reads a stream to its end, and writes one line with the measures of the forest that its bytes spell, in nanoseconds.
+/// The line of a frame.
+fn meta_line(alloc: Global, meta: FrameMeta, duration: NanoSecond) -> Result<String, AllocError>
+    requires { duration ≡ meta.range_ns.1 -ℤ meta.range_ns.0 }
+    ensures { IfOk result (λ line. string_bytes line ≡ meta_line meta) }
+{
+    let index = meta.frame_index;
+    let bytes = meta.num_bytes;
+    let scopes = meta.num_scopes;
+    let (start, stop) = meta.range_ns;
+    format!(in alloc; "frame {index} bytes {bytes} scopes {scopes} range {start} {stop} duration {duration}\n")
+}
+
+/// The line of a frame that was refused.
+fn none_line(alloc: Global, cause: Error) -> Result<String, AllocError>
+    ensures { IfOk result (λ line. string_bytes line ≡ none_line cause) }
+{
+    format!(in alloc; "frame none {cause}\n")
+}
+
+/// An honest info as the one stream of frame 0.
+fn frame_of(alloc: Global, info: StreamInfo) -> Result<UnpackedFrameData, Error>
+    ensures { (f : Forest) → IsHonest info f → MatchResult result (λ frame. frame_of_forest f ≡ Ok frame.meta) (λ e. (e ≡ Error.Memory) ⊎ (frame_of_forest f ≡ Err e)) }
+{
+    let thread = ThreadInfo {
+        start_time_ns: None,
+        name: String::from_str(alloc, "stdin")?,
+    };
+    let mut streams = BTreeMap::new(alloc);
+    streams.insert(thread, info)?;
+    UnpackedFrameData::new(alloc, 0, streams)
+}
+
+/// The frame's line of an honest info, and the cause that the program ends with, if any.
+fn frame_line(
+    alloc: Global,
+    info: StreamInfo,
+) -> Result<(String, Option<Error>), FileError>
+    ensures ok { IfOk result (λ it. (f : Forest) → IsHonest info f → (string_bytes it.0 ≡ outcome_line (frame_of_forest f)) × (it.1 ≡ refusal_of (frame_of_forest f))) }
+    ensures err { IfErr result (λ e. e ≡ FileError.Memory) }
+{
+    match frame_of(alloc, info) {
+        Ok(frame) => Ok((meta_line(alloc, frame.meta, frame.duration_ns())?, None)),
+        Err(Error::Memory) => Err(FileError::Memory),
+        Err(Error::Empty) => Ok((none_line(alloc, Error::Empty)?, None)),
+        Err(cause) => Ok((none_line(alloc, cause)?, Some(cause))),
+    }
+}
+
+/// Reads a stream to its end, and writes two lines: the measures of the forest that its bytes spell, in nanoseconds, and
+/// what frame 0 of it says, as the stream of the thread `stdin` that has no start.
 ///
-/// Answers `None` where the line is written, and the cause where the bytes are refused; nothing is written then. Fails
-/// with `Memory`, where nothing is written, or with `Io` where the reader or the writer failed: in the second case a
-/// beginning of the line may be written. The line is made whole before any of it is written. The reader's place is open
-/// after a failure.
+/// Answers `None` where the lines are written, or the cause that refuses the frame where it isn't `Empty`. Where the
+/// bytes are refused, answers their fault and writes nothing. Fails with `Memory`, where nothing is written, or with
+/// `Io` where the reader or the writer failed: in the second case a beginning of the lines may be written. The lines are
+/// made whole before any of them is written. The reader's place is open after a failure.
 pub fn count_stream<S: Source, D: Drain>(
     alloc: Global,
     source: &mut S,
@@ -47,8 +99,8 @@ pub fn count_stream<S: Source, D: Drain>(
 ) -> Result<Option<Error>, FileError>
     requires source { S.failures source.old < 2 ^ 64 - 1 }
     requires drain { D.failures drain.old < 2 ^ 64 - 1 }
-    ensures counted { IfOk result (λ cause. (bytes : List ℕ) × ReadsAll (S.remaining source.old) (S.remaining source.new) bytes
-        × IsCounted bytes (D.contents drain.old) (D.contents drain.new) cause) }
+    ensures counted { IfOk result (λ answer. (bytes : List ℕ) × ReadsAll (S.remaining source.old) (S.remaining source.new) bytes
+        × IsCounted bytes (D.contents drain.old) (D.contents drain.new) answer) }
     ensures fails { IfErr result IsOutside }
     ensures written { OnErr result (IsCutShort (S.remaining source.old) (S.remaining source.new) (D.contents drain.old) (D.contents drain.new)) }
     // The reader failed in this call, or the writer failed in it, or the writer took nothing.
@@ -61,7 +113,9 @@ pub fn count_stream<S: Source, D: Drain>(
         Err(Error::Memory) => return Err(FileError::Memory),
         Err(cause) => return Ok(Some(cause)),
     };
-    let line = line_of(alloc, &info)?;
-    write_all(drain, line.as_bytes())?;
-    Ok(None)
+    let mut lines = line_of(alloc, &info)?;
+    let (frame, refusal) = frame_line(alloc, info)?;
+    lines.push_str(frame.as_str())?;
+    write_all(drain, lines.as_bytes())?;
+    Ok(refusal)
 }

@@ -1,0 +1,11 @@
+use Rattle.puffin_data.proofs.Told.{least_in_range, greatest_in_range, ordered}
+use Rattle.puffin_data.proofs.laws.range_of_a_forest.Goals as goal
+
+pub returns-clause-start : goal.returns-clause-start
+returns-clause-start c f = least_in_range f
+
+pub returns-clause-stop : goal.returns-clause-stop
+returns-clause-stop c f = greatest_in_range f
+
+pub returns-clause-ordered : goal.returns-clause-ordered
+returns-clause-ordered c f fits some = ordered f fits some
