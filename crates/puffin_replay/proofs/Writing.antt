@@ -9,3 +9,8 @@ use Rattle.puffin_data.specs.Devices.{WritesBeginning}
 pub beginning_written : {T : Type 0} (r : Result T FileError) (old new : Option (List ℕ)) (bytes text : List ℕ) → bytes ≡ text → OnOk r (Appends old new bytes) → OnErr r (WritesBeginning old new bytes) → WritesBeginning old new text
 beginning_written (Ok x) old new bytes text same whole part = (text, [], sym (append-nil text), subst (Appends old new) same whole)
 beginning_written (Err e) old new bytes text same whole part = subst (WritesBeginning old new) same part
+
+-- a fact that holds anyway holds at an error
+pub at_an_error : {T E : Type 0} {P : Type 0} (r : Result T E) → P → OnErr r P
+at_an_error (Ok x) p = tt
+at_an_error (Err e) p = p

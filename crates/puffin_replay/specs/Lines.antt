@@ -19,10 +19,17 @@ count_line empty = codes "scopes 0 depth 0 range empty\n"
 count_line (node s children others) =
     let f = node s children others in measures_line (scope_count f) (height f) (least_start f) (greatest_stop f)
 
--- the line of a frame
+-- the line of a frame: its sums, and its range with the time between
+abbrev pub sums_text : ℕ → ℕ → ℕ → List ℕ
+sums_text index bytes scopes = codes "frame " ++ (decimal index ++ (codes " bytes " ++ (decimal bytes ++ (codes " scopes " ++ decimal scopes))))
+
+abbrev pub range_text : ℤ → ℤ → ℤ → List ℕ
+range_text start stop duration =
+    codes " range " ++ (signed_decimal start ++ (codes " " ++ (signed_decimal stop ++ (codes " duration " ++ (signed_decimal duration ++ codes "\n")))))
+
 abbrev pub meta_line : FrameMeta → List ℕ
 meta_line meta =
-    codes "frame " ++ (decimal meta.frame_index ++ (codes " bytes " ++ (decimal meta.num_bytes ++ (codes " scopes " ++ (decimal meta.num_scopes ++ (codes " range " ++ (signed_decimal meta.range_ns.0 ++ (codes " " ++ (signed_decimal meta.range_ns.1 ++ (codes " duration " ++ (signed_decimal (meta.range_ns.1 -ℤ meta.range_ns.0) ++ codes "\n")))))))))))
+    sums_text meta.frame_index meta.num_bytes meta.num_scopes ++ range_text meta.range_ns.0 meta.range_ns.1 (meta.range_ns.1 -ℤ meta.range_ns.0)
 
 -- the line of a frame that was refused
 abbrev pub none_line : Error → List ℕ

@@ -9,6 +9,10 @@ use std::test::Fail;
 /// One scope, `data` from 100 to 300.
 const ONE: &[u8] = b"(\x01\0\0\0\x64\0\0\0\0\0\0\0\x04data\0\0\0\0\0\0\0\0)\x2c\x01\0\0\0\0\0\0";
 
+/// What is written of it.
+const ONE_LINES: &[u8] =
+    b"scopes 1 depth 1 range 100 300\nframe 0 bytes 35 scopes 1 range 100 300 duration 200\n";
+
 /// `data_top` from 100 to 400, and in it `data_middle_0` from 200 to 300 and `data_middle_1` from 300 to 400.
 const THREE: &[u8] =
     b"(\x01\0\0\0\x64\0\0\0\0\0\0\0\x08data_top\x58\0\0\0\0\0\0\0(\x02\0\0\0\xc8\0\0\0\0\0\0\0\x0ddata_middle_0\0\0\0\0\0\0\0\0)\x2c\x01\0\0\0\0\0\0(\x03\0\0\0\x2c\x01\0\0\0\0\0\0\x0ddata_middle_1\0\0\0\0\0\0\0\0)\x90\x01\0\0\0\0\0\0)\x90\x01\0\0\0\0\0\0";
@@ -106,18 +110,38 @@ fn counted(rt: &HostRuntime, bytes: &[u8]) -> (Result<Option<Error>, FileError>,
     (answer, drain.written)
 }
 
+/// Two scopes without text, from `i64::MIN` to `i64::MIN` and from 0 to 0.
+const TOO_LONG: &[u8] =
+    b"(\x01\0\0\0\0\0\0\0\0\0\0\x80\0\0\0\0\0\0\0\0\0)\0\0\0\0\0\0\0\x80(\x01\0\0\0\0\0\0\0\0\0\0\0\0\0\0\0\0\0\0\0\0)\0\0\0\0\0\0\0\0";
+
 #[test]
-fn a_stream_is_counted_into_one_line(rt: HostRuntime) -> Result<(), Fail> {
-    for (bytes, line) in [
-        (ONE, "scopes 1 depth 1 range 100 300\n"),
-        (THREE, "scopes 3 depth 2 range 100 400\n"),
-        (b"".as_slice(), "scopes 0 depth 0 range empty\n"),
+fn a_stream_is_counted_into_two_lines(rt: HostRuntime) {
+    for (bytes, lines) in [
+        (
+            ONE,
+            "scopes 1 depth 1 range 100 300\nframe 0 bytes 35 scopes 1 range 100 300 duration 200\n",
+        ),
+        (
+            THREE,
+            "scopes 3 depth 2 range 100 400\nframe 0 bytes 127 scopes 3 range 100 400 duration 300\n",
+        ),
+        (
+            b"".as_slice(),
+            "scopes 0 depth 0 range empty\nframe none Empty\n",
+        ),
     ] {
         let (answer, written) = counted(&rt, bytes);
         assert_eq!(rt; answer, Ok(None));
-        assert_eq!(rt; written.as_slice(), line.as_bytes());
+        assert_eq!(rt; written.as_slice(), lines.as_bytes());
     }
-    Ok(())
+}
+
+#[test]
+fn a_range_that_is_too_long_is_told_behind_the_lines(rt: HostRuntime) {
+    let (answer, written) = counted(&rt, TOO_LONG);
+    assert_eq!(rt; answer, Ok(Some(Error::RangeTooLong)));
+    let lines = b"scopes 2 depth 1 range -9223372036854775808 0\nframe none RangeTooLong\n";
+    assert_eq!(rt; written.as_slice(), lines.as_slice());
 }
 
 #[test]
@@ -147,7 +171,7 @@ fn std_readers_and_writers_are_counted(rt: HostRuntime) -> Result<(), Fail> {
     assert_eq!(rt; answer, Ok(None));
     assert_eq!(rt;
         written.as_slice(),
-        b"scopes 1 depth 1 range 100 300\n".as_slice()
+        ONE_LINES
     );
     Ok(())
 }
@@ -169,17 +193,16 @@ fn each_read_fails_in_turn(rt: HostRuntime) {
 
 #[test]
 fn each_write_fails_in_turn(rt: HostRuntime) {
-    let line = b"scopes 1 depth 1 range 100 300\n";
-    // 31 bytes in pieces of 10 are written by four calls
-    for call in 0..4u64 {
+    // 84 bytes in pieces of 10 are written by nine calls
+    for call in 0..9u64 {
         let mut source = device(&rt, ONE, 100, NEVER);
         let mut drain = device(&rt, b"", 10, call);
         let answer = count_stream(rt.alloc(), &mut source, &mut drain);
         assert_eq!(rt; answer, Err(FileError::Io), "at {call}");
         assert_eq!(rt; drain.faults, 1);
         let written = (call * 10) as usize;
-        assert_eq!(rt; written < line.len(), true);
-        assert_eq!(rt; drain.written.as_slice(), &line[..written]);
+        assert_eq!(rt; written < ONE_LINES.len(), true);
+        assert_eq!(rt; drain.written.as_slice(), &ONE_LINES[..written]);
     }
 }
 

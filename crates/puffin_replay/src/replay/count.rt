@@ -3,12 +3,13 @@ ghost use Rattle.std.specs.String.{string_bytes};
 ghost use Rattle.puffin_data.specs.Forest.{Forest};
 ghost use Rattle.puffin_data.specs.Honesty.{IsHonest};
 ghost use Rattle.puffin_data.specs.Devices.{IsOutside, TookNothing};
-ghost use Rattle.puffin_replay.specs.Lines.{count_line, measures_line, meta_line, none_line, outcome_line, frame_of_forest, refusal_of};
+ghost use Rattle.puffin_replay.specs.Lines.{count_line, measures_line, sums_text, range_text, meta_line, none_line, outcome_line, frame_of_forest, refusal_of};
 ghost use Rattle.puffin_replay.specs.Counted.{ReadsAll, IsCounted, IsCutShort};
 
 use puffin_data::data::{Drain, Source, Stream, StreamInfo, read_to_end, write_all};
+use puffin_data::laws::range_of_a_forest;
 use puffin_data::{Error, FileError, NanoSecond};
-use puffin_frames::frame_data::{FrameMeta, UnpackedFrameData};
+use puffin_frames::frame_data::{FrameIndex, UnpackedFrameData};
 use puffin_frames::thread_profiler::ThreadInfo;
 use std::alloc::{AllocError, Global};
 use std::collections::BTreeMap;
@@ -37,16 +38,40 @@ fn line_of(alloc: Global, info: &StreamInfo) -> Result<String, AllocError>
     measures_line(alloc, info.num_scopes, info.depth, start, stop)
 }
 
-/// The line of a frame.
-fn meta_line(alloc: Global, meta: FrameMeta, duration: NanoSecond) -> Result<String, AllocError>
-    requires { duration ≡ meta.range_ns.1 -ℤ meta.range_ns.0 }
-    ensures { IfOk result (λ line. string_bytes line ≡ meta_line meta) }
+/// The first half of a frame's line.
+fn sums_text(
+    alloc: Global,
+    index: FrameIndex,
+    bytes: usize,
+    scopes: usize,
+) -> Result<String, AllocError>
+    ensures { IfOk result (λ text. string_bytes text ≡ sums_text index bytes scopes) }
 {
-    let index = meta.frame_index;
-    let bytes = meta.num_bytes;
-    let scopes = meta.num_scopes;
-    let (start, stop) = meta.range_ns;
-    format!(in alloc; "frame {index} bytes {bytes} scopes {scopes} range {start} {stop} duration {duration}\n")
+    format!(in alloc; "frame {index} bytes {bytes} scopes {scopes}")
+}
+
+/// The other half.
+fn range_text(
+    alloc: Global,
+    start: NanoSecond,
+    stop: NanoSecond,
+    duration: NanoSecond,
+) -> Result<String, AllocError>
+    ensures { IfOk result (λ text. string_bytes text ≡ range_text start stop duration) }
+{
+    format!(in alloc; " range {start} {stop} duration {duration}\n")
+}
+
+/// The line of a frame.
+fn meta_line(alloc: Global, frame: &UnpackedFrameData) -> Result<String, AllocError>
+    ensures { IfOk result (λ line. string_bytes line ≡ meta_line frame.now.meta) }
+{
+    let meta = &frame.meta;
+    let (start, stop) = frame.range_ns();
+    let range = range_text(alloc, start, stop, frame.duration_ns())?;
+    let mut line = sums_text(alloc, meta.frame_index, meta.num_bytes, meta.num_scopes)?;
+    line.push_str(range.as_str())?;
+    Ok(line)
 }
 
 /// The line of a frame that was refused.
@@ -60,6 +85,7 @@ fn none_line(alloc: Global, cause: Error) -> Result<String, AllocError>
 fn frame_of(alloc: Global, info: StreamInfo) -> Result<UnpackedFrameData, Error>
     ensures { (f : Forest) → IsHonest info f → MatchResult result (λ frame. frame_of_forest f ≡ Ok frame.meta) (λ e. (e ≡ Error.Memory) ⊎ (frame_of_forest f ≡ Err e)) }
 {
+    range_of_a_forest();
     let thread = ThreadInfo {
         start_time_ns: None,
         name: String::from_str(alloc, "stdin")?,
@@ -70,15 +96,12 @@ fn frame_of(alloc: Global, info: StreamInfo) -> Result<UnpackedFrameData, Error>
 }
 
 /// The frame's line of an honest info, and the cause that the program ends with, if any.
-fn frame_line(
-    alloc: Global,
-    info: StreamInfo,
-) -> Result<(String, Option<Error>), FileError>
+fn frame_line(alloc: Global, info: StreamInfo) -> Result<(String, Option<Error>), FileError>
     ensures ok { IfOk result (λ it. (f : Forest) → IsHonest info f → (string_bytes it.0 ≡ outcome_line (frame_of_forest f)) × (it.1 ≡ refusal_of (frame_of_forest f))) }
     ensures err { IfErr result (λ e. e ≡ FileError.Memory) }
 {
     match frame_of(alloc, info) {
-        Ok(frame) => Ok((meta_line(alloc, frame.meta, frame.duration_ns())?, None)),
+        Ok(frame) => Ok((meta_line(alloc, &frame)?, None)),
         Err(Error::Memory) => Err(FileError::Memory),
         Err(Error::Empty) => Ok((none_line(alloc, Error::Empty)?, None)),
         Err(cause) => Ok((none_line(alloc, cause)?, Some(cause))),
