@@ -169,10 +169,7 @@ fn std_readers_and_writers_are_counted(rt: HostRuntime) -> Result<(), Fail> {
         &mut Counted::new(&mut written),
     );
     assert_eq!(rt; answer, Ok(None));
-    assert_eq!(rt;
-        written.as_slice(),
-        ONE_LINES
-    );
+    assert_eq!(rt; written.as_slice(), ONE_LINES);
     Ok(())
 }
 
