@@ -3,10 +3,11 @@
 
 ghost use Rattle.std.specs.Prelude.{List, ℕ, ◌≡◌, ◌+◌, ◌++◌, ◌<◌, ◌^◌, length, max};
 ghost use Rattle.std.specs.Int.{int_min, int_max};
+ghost use Rattle.std.specs.List.Sorted.{IsStrictlyIncreasing};
 ghost use Rattle.puffin_data.specs.Forest.{Forest, IsForest, append};
 ghost use Rattle.puffin_data.specs.Measures.{scope_count, height, least_start, greatest_stop};
 ghost use Rattle.puffin_data.specs.Spelling.{spelling};
-ghost use Rattle.puffin_data.specs.Walk.{IsFirstFault};
+ghost use Rattle.puffin_data.specs.Walk.{IsFirstFault, Sounds};
 ghost use Rattle.puffin_data.specs.declared.error.Error.{Error};
 
 /// A forest has one spelling, and it is no other forest's. The spellings of two forests one after the other are joined.
@@ -27,4 +28,11 @@ pub fn joined_measures()
 /// Bytes have at most one first fault, at one place.
 pub fn one_fault()
     ensures { (bytes : List ℕ) (p q : ℕ) (a b : Error) → IsFirstFault bytes p a → IsFirstFault bytes q b → (p ≡ q) × (a ≡ b) }
+{}
+
+/// Each stream has one list of the places of its sound scopes, and these places rise strictly.
+pub fn sounds_rise()
+    ensures has { (bytes : List ℕ) → (places : List ℕ) × Sounds bytes 0 (length bytes) places }
+    ensures one { (bytes places others : List ℕ) → Sounds bytes 0 (length bytes) places → Sounds bytes 0 (length bytes) others → places ≡ others }
+    ensures rise { (bytes places : List ℕ) → Sounds bytes 0 (length bytes) places → IsStrictlyIncreasing places }
 {}

@@ -428,4 +428,5 @@ fn laws_are_called() {
     laws::one_forest();
     laws::joined_measures();
     laws::one_fault();
+    laws::sounds_rise();
 }
