@@ -1,4 +1,4 @@
--- Worked examples, computed. Bytes of ASCII stand as texts, as in `b"(\x01\0"`.
+-- Worked examples, computed. Bytes stand as the characters of a text: `(` for 0x28, `\u{c8}` for 0xc8.
 use Rattle.std.proofs.Common.{◌≡◌, ℕ, ◌+◌, ◌<◌, ◌≤◌, List, [], ◌∷◌, ◌++◌, length, pos, negsuc, refl, sym, ap, subst, ◌∙◌, arith, None, Some, Ok, Err, inl, inr}
 use Rattle.std.specs.Prelude.{codes}
 use Rattle.std.proofs.lemmas.Int.{ints}
