@@ -11,3 +11,4 @@ pub mod Unique
 pub mod Told
 pub mod Extended
 pub mod OneFault
+pub mod Sounds

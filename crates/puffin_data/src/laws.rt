@@ -3,10 +3,11 @@
 
 ghost use Rattle.std.specs.Prelude.{List, ℕ, ◌≡◌, ◌+◌, ◌-◌, ◌++◌, ◌<◌, ◌^◌, ◌≤ℤ◌, pos, negsuc, length, max};
 ghost use Rattle.std.specs.Int.{int_min, int_max};
+ghost use Rattle.std.specs.List.Sorted.{IsStrictlyIncreasing};
 ghost use Rattle.puffin_data.specs.Forest.{Forest, IsForest, append};
 ghost use Rattle.puffin_data.specs.Measures.{scope_count, height, least_start, greatest_stop};
 ghost use Rattle.puffin_data.specs.Spelling.{spelling, Spells};
-ghost use Rattle.puffin_data.specs.Walk.{IsFault, IsFirstFault};
+ghost use Rattle.puffin_data.specs.Walk.{IsFault, IsFirstFault, Sounds};
 ghost use Rattle.puffin_data.specs.declared.error.Error.{Error};
 
 /// A forest has one spelling, and it is no other forest's. The spellings of two forests one after the other are joined.
@@ -40,4 +41,11 @@ pub fn one_fault()
 /// Bytes that spell a forest have no fault.
 pub fn no_fault_in_a_spelling()
     ensures { (bytes : List ℕ) (f : Forest) (fault : Error) → length bytes < 2 ^ 64 → Spells bytes f → IsFault bytes fault → ⊥ }
+{}
+
+/// Each stream has one list of the places of its sound scopes, and these places rise strictly.
+pub fn sounds_rise()
+    ensures has { (bytes : List ℕ) → (places : List ℕ) × Sounds bytes 0 (length bytes) places }
+    ensures one { (bytes places others : List ℕ) → Sounds bytes 0 (length bytes) places → Sounds bytes 0 (length bytes) others → places ≡ others }
+    ensures rise { (bytes places : List ℕ) → Sounds bytes 0 (length bytes) places → IsStrictlyIncreasing places }
 {}
