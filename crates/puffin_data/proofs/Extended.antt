@@ -2,12 +2,10 @@
 use Rattle.std.proofs.Common.{◌≡◌, ℕ, ◌+◌, List, ◌++◌, max, sym, ap, ◌∙◌, arith, ℤ}
 use Rattle.std.specs.Int.{int_min, int_max}
 use Rattle.std.proofs.lemmas.Int.{ints, clamps}
-use Rattle.puffin_data.specs.declared.data.info.StreamInfo.{StreamInfo}
-use Rattle.puffin_data.specs.declared.data.info.StreamInfoRef.{StreamInfoRef}
 use Rattle.puffin_data.specs.Forest.{Forest, IsForest, empty, node, append}
 use Rattle.puffin_data.specs.Measures.{scope_count, height, least_start, greatest_stop}
 use Rattle.puffin_data.specs.Spelling.{spelling}
-use Rattle.puffin_data.specs.Honesty.{IsHonest, IsHonestRef}
+use Rattle.puffin_data.specs.Honesty.{Recorded, IsHonestRecord, joined}
 use Rattle.puffin_data.proofs.Unique.{spelling-append}
 use Rattle.puffin_data.proofs.Told.{least_in_range, greatest_in_range, from_most, from_least}
 
@@ -37,17 +35,27 @@ pub IsForest-append : (f g : Forest) → IsForest f → IsForest g → IsForest 
 IsForest-append empty g x y = y
 IsForest-append (node s c o) g x y = (x.0, x.1, IsForest-append o g x.2 y)
 
-pub honest_append : (a n : StreamInfo) (b : StreamInfoRef) (f g : Forest) → n.stream.bytes ≡ a.stream.bytes ++ b.stream.now → n.num_scopes ≡ a.num_scopes + b.num_scopes → n.depth ≡ max a.depth b.depth → n.range_ns.0 ≡ int_min a.range_ns.0 b.range_ns.0 → n.range_ns.1 ≡ int_max a.range_ns.1 b.range_ns.1 → IsHonest a f → IsHonestRef b g → IsHonest n (append f g)
-honest_append a n b f g eb en ed es et x y =
+pub honest_joined : (a b : Recorded) (f g : Forest) → IsHonestRecord a f → IsHonestRecord b g → IsHonestRecord (joined a b) (append f g)
+honest_joined a b f g x y =
     record {
       stream = record {
-        whole = eb ∙ ap (λ (t : List ℕ). t ++ b.stream.now) x.stream.whole ∙ ap (λ (t : List ℕ). spelling f ++ t) y.stream.whole ∙ sym (spelling-append f g);
+        whole = ap (λ (t : List ℕ). t ++ b.bytes) x.stream.whole ∙ ap (λ (t : List ℕ). spelling f ++ t) y.stream.whole ∙ sym (spelling-append f g);
         fits = IsForest-append f g x.stream.fits y.stream.fits;
       };
       counts = record {
-        num_scopes = omega (arith, en, x.counts.num_scopes, y.counts.num_scopes, scope_count-append f g);
-        depth = omega (arith, ed, x.counts.depth, y.counts.depth, height-append f g);
-        least_start = es ∙ ap (λ (t : ℤ). int_min t b.range_ns.0) x.counts.least_start ∙ ap (λ (t : ℤ). int_min (least_start f) t) y.counts.least_start ∙ sym (least_start-append f g);
-        greatest_stop = et ∙ ap (λ (t : ℤ). int_max t b.range_ns.1) x.counts.greatest_stop ∙ ap (λ (t : ℤ). int_max (greatest_stop f) t) y.counts.greatest_stop ∙ sym (greatest_stop-append f g);
+        num_scopes = omega (arith, x.counts.num_scopes, y.counts.num_scopes, scope_count-append f g);
+        depth = omega (arith, x.counts.depth, y.counts.depth, height-append f g);
+        least_start = ap (λ (t : ℤ). int_min t b.range_ns.0) x.counts.least_start ∙ ap (λ (t : ℤ). int_min (least_start f) t) y.counts.least_start ∙ sym (least_start-append f g);
+        greatest_stop = ap (λ (t : ℤ). int_max t b.range_ns.1) x.counts.greatest_stop ∙ ap (λ (t : ℤ). int_max (greatest_stop f) t) y.counts.greatest_stop ∙ sym (greatest_stop-append f g);
       };
+    }
+
+-- an info that was extended field by field
+pub extended : (n a b : Recorded) (f g : Forest) → n.bytes ≡ a.bytes ++ b.bytes → n.num_scopes ≡ a.num_scopes + b.num_scopes → n.depth ≡ max a.depth b.depth → n.range_ns.0 ≡ int_min a.range_ns.0 b.range_ns.0 → n.range_ns.1 ≡ int_max a.range_ns.1 b.range_ns.1
+    → IsHonestRecord a f → IsHonestRecord b g → IsHonestRecord n (append f g)
+extended n a b f g e1 e2 e3 e4 e5 x y =
+    let h = honest_joined a b f g x y in
+    record {
+      stream = record { whole = e1 ∙ h.stream.whole; fits = h.stream.fits };
+      counts = record { num_scopes = e2 ∙ h.counts.num_scopes; depth = e3 ∙ h.counts.depth; least_start = e4 ∙ h.counts.least_start; greatest_stop = e5 ∙ h.counts.greatest_stop };
     }

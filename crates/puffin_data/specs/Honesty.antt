@@ -1,5 +1,6 @@
 -- When what is said of a stream's scopes is true.
-use Rattle.std.specs.Prelude.{◌≡◌}
+use Rattle.std.specs.Prelude.{◌≡◌, ℕ, ◌+◌, max, ℤ, List, ◌++◌}
+use Rattle.std.specs.Int.{int_min, int_max}
 use Rattle.puffin_data.specs.declared.data.walk.Walk.{Walk}
 use Rattle.puffin_data.specs.declared.data.info.StreamInfo.{StreamInfo}
 use Rattle.puffin_data.specs.declared.data.info.StreamInfoRef.{StreamInfoRef}
@@ -14,11 +15,35 @@ pub record Counts (w : Walk) (f : Forest) : Type 0 where
   pub least_start : w.range_ns.0 ≡ least_start f
   pub greatest_stop : w.range_ns.1 ≡ greatest_stop f
 
--- the bytes spell the forest, and the other fields are its measures
-pub record IsHonest (info : StreamInfo) (f : Forest) : Type 0 where
-  pub stream : Spells info.stream.bytes f
-  pub counts : Counts (record { num_scopes = info.num_scopes; depth = info.depth; range_ns = info.range_ns }) f
+-- what an info holds, whatever room its stream has
+pub record Recorded : Type 0 where
+  pub bytes : List ℕ
+  pub num_scopes : ℕ
+  pub depth : ℕ
+  pub range_ns : ℤ × ℤ
 
-pub record IsHonestRef (info : StreamInfoRef) (f : Forest) : Type 0 where
-  pub stream : Spells info.stream.now f
-  pub counts : Counts (record { num_scopes = info.num_scopes; depth = info.depth; range_ns = info.range_ns }) f
+abbrev pub recorded : StreamInfo → Recorded
+recorded info = record { bytes = info.stream.bytes; num_scopes = info.num_scopes; depth = info.depth; range_ns = info.range_ns }
+
+abbrev pub recorded_ref : StreamInfoRef → Recorded
+recorded_ref info = record { bytes = info.stream.now; num_scopes = info.num_scopes; depth = info.depth; range_ns = info.range_ns }
+
+-- the bytes spell the forest, and the other fields are its measures
+pub record IsHonestRecord (r : Recorded) (f : Forest) : Type 0 where
+  pub stream : Spells r.bytes f
+  pub counts : Counts (record { num_scopes = r.num_scopes; depth = r.depth; range_ns = r.range_ns }) f
+
+abbrev pub IsHonest : StreamInfo → Forest → Type 0
+IsHonest info f = IsHonestRecord (recorded info) f
+
+abbrev pub IsHonestRef : StreamInfoRef → Forest → Type 0
+IsHonestRef info f = IsHonestRecord (recorded_ref info) f
+
+-- one info after another
+abbrev pub joined : Recorded → Recorded → Recorded
+joined a b = record {
+  bytes = a.bytes ++ b.bytes;
+  num_scopes = a.num_scopes + b.num_scopes;
+  depth = max a.depth b.depth;
+  range_ns = (int_min a.range_ns.0 b.range_ns.0, int_max a.range_ns.1 b.range_ns.1);
+}

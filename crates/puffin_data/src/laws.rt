@@ -7,6 +7,7 @@ ghost use Rattle.std.specs.List.Sorted.{IsStrictlyIncreasing};
 ghost use Rattle.puffin_data.specs.Forest.{Forest, IsForest, append};
 ghost use Rattle.puffin_data.specs.Measures.{scope_count, height, least_start, greatest_stop};
 ghost use Rattle.puffin_data.specs.Spelling.{spelling, Spells};
+ghost use Rattle.puffin_data.specs.Honesty.{Recorded, IsHonestRecord, joined};
 ghost use Rattle.puffin_data.specs.Walk.{IsFault, IsFirstFault, Sounds};
 ghost use Rattle.puffin_data.specs.declared.error.Error.{Error};
 
@@ -31,6 +32,11 @@ pub fn range_of_a_forest()
     ensures start { (f : Forest) → least_start f ≤ℤ pos (2 ^ 63 - 1) }
     ensures stop { (f : Forest) → negsuc (2 ^ 63 - 1) ≤ℤ greatest_stop f }
     ensures ordered { (f : Forest) → IsForest f → 0 < scope_count f → least_start f ≤ℤ greatest_stop f }
+{}
+
+/// Two honest infos, one after the other, are an honest one.
+pub fn joined_infos()
+    ensures { (a b : Recorded) (f g : Forest) → IsHonestRecord a f → IsHonestRecord b g → IsHonestRecord (joined a b) (append f g) }
 {}
 
 /// Bytes have at most one first fault, at one place.

@@ -3,7 +3,7 @@ ghost use Rattle.std.specs.Int.{int_min, int_max};
 ghost use Rattle.puffin_data.specs.Forest.{Forest, empty, append};
 ghost use Rattle.puffin_data.specs.Spelling.{Spells};
 ghost use Rattle.puffin_data.specs.Walk.{IsFault};
-ghost use Rattle.puffin_data.specs.Honesty.{IsHonest, IsHonestRef};
+ghost use Rattle.puffin_data.specs.Honesty.{IsHonest, IsHonestRef, recorded, recorded_ref, joined};
 
 use crate::data::reader::Reader;
 use crate::data::stream::Stream;
@@ -95,11 +95,12 @@ impl StreamInfo {
     /// Appends another info's scopes. Refused with `TooLarge` where the number of scopes wouldn't fit, else with `Memory`;
     /// nothing is changed then.
     pub fn extend(&mut self, other: &StreamInfoRef) -> Result<()>
+        ensures ok { OnOk result (recorded self.new ≡ joined (recorded self.old) (recorded_ref other.now)) }
         // Two honest infos make an honest one.
         ensures honest { OnOk result ((f g : Forest) → IsHonest self.old f → IsHonestRef other.now g → IsHonest self.new (append f g)) }
         ensures too_large { (result ≡ Err Error.TooLarge) ↔ (2 ^ 64 ≤ self.old.num_scopes + other.now.num_scopes) }
-        ensures err { OnErr result ((self.new.stream.bytes ≡ self.old.stream.bytes) × (self.new.num_scopes ≡ self.old.num_scopes)
-            × (self.new.depth ≡ self.old.depth) × (self.new.range_ns ≡ self.old.range_ns)) }
+        ensures err { OnErr result (recorded self.new ≡ recorded self.old) }
+        ensures cause { IfErr result (λ e. (e ≡ Error.TooLarge) ⊎ (e ≡ Error.Memory)) }
     {
         let Some(num_scopes) = self.num_scopes.checked_add(other.num_scopes) else {
             return Err(Error::TooLarge);
@@ -113,8 +114,7 @@ impl StreamInfo {
 
     /// A copy. Refused only with `Memory`.
     pub fn clone(&self) -> Result<StreamInfo>
-        ensures ok { IfOk result (λ info. (info.stream.bytes ≡ self.now.stream.bytes) × (info.num_scopes ≡ self.now.num_scopes)
-            × (info.depth ≡ self.now.depth) × (info.range_ns ≡ self.now.range_ns)) }
+        ensures ok { IfOk result (λ info. recorded info ≡ recorded self.now) }
         ensures err { IfErr result (λ e. e ≡ Error.Memory) }
     {
         Ok(StreamInfo {
@@ -127,10 +127,7 @@ impl StreamInfo {
 
     /// The same with the bytes borrowed.
     pub fn as_stream_into_ref(&self) -> StreamInfoRef<'_>
-        ensures stream { result.stream.now ≡ self.now.stream.bytes }
-        ensures num_scopes { result.num_scopes ≡ self.now.num_scopes }
-        ensures depth { result.depth ≡ self.now.depth }
-        ensures range { result.range_ns ≡ self.now.range_ns }
+        ensures { recorded_ref result ≡ recorded self.now }
     {
         StreamInfoRef {
             stream: self.stream.bytes(),

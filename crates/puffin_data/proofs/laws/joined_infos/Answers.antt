@@ -1,0 +1,5 @@
+use Rattle.puffin_data.proofs.Extended.{honest_joined}
+use Rattle.puffin_data.proofs.laws.joined_infos.Goals as goal
+
+pub returns : goal.returns
+returns c a b f g x y = honest_joined a b f g x y
