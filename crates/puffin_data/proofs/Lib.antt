@@ -11,3 +11,8 @@ pub mod Unique
 pub mod Told
 pub mod Extended
 pub mod OneFault
+pub mod Tours
+pub mod Written
+pub mod Opening
+pub mod Cuts
+pub mod WordMeasures

@@ -7,6 +7,7 @@ mod scope;
 mod scope_id;
 mod stream;
 mod walk;
+mod writing;
 
 pub use device::{Counted, Drain, Source};
 pub use info::{StreamInfo, StreamInfoRef};
