@@ -5,7 +5,9 @@ use Rattle.std.specs.Fmt.{is_char_start}
 use Rattle.std.specs.Fmt.Cut.{floor_char_boundary}
 use Rattle.std.specs.Str.{IsCharBoundary, IsUtf8}
 use Rattle.std.proofs.lemmas.Bool.{cases_lt, cases_eq, cases_Bool}
-use Rattle.std.proofs.lemmas.List.{take_all}
+use Rattle.std.specs.List.{All}
+use Rattle.std.proofs.lemmas.List.{take_all, length-take}
+use Rattle.std.proofs.lemmas.List.Elements.{All-take}
 use Rattle.std.proofs.lemmas.Str.{IsCharBoundary-start, IsCharBoundary-end, IsUtf8-take, utf8_valid_len-IsUtf8}
 use Rattle.puffin_data.specs.Text.{cut_text, IsCut, text_in}
 
@@ -97,3 +99,34 @@ text_in-cut text utf8 =
 pub cut_text-found : (text : List ℕ) (n : ℕ) → n ≤ 127 → IsCharBoundary text n → ((i : ℕ) → n < i → i ≤ 127 → ¬ (IsCharBoundary text i)) → take n text ≡ cut_text text
 cut_text-found text n short at nearest =
     cut_text-is text (take n text) (record { size = n; is = refl; short = short; ends_character = at; longest = λ m le b. elim (cases_lt n m) [ inl above ↦ absurd (nearest m above le b) | inr within ↦ within ] })
+
+floor_low : (text : List ℕ) (k : ℕ) → floor_char_boundary text k ≤ k
+unfolding floor_char_boundary
+floor_low text zero = omega arith
+floor_low text (suc i) =
+    elim (cases_Bool (is_char_start (get_or text (suc i) 0))) [
+      | inl starts ↦ rw starts (omega arith)
+      | inr goes_on ↦ rw goes_on (omega (arith, floor_low text i))
+    ]
+
+pub cut_text-short : (text : List ℕ) → length (cut_text text) ≤ 127
+cut_text-short text =
+    elim (cases_lt 127 (length text)) [
+      | inl long ↦
+          let test : nat_le (length text) 127 ≡ false = grind arith in
+          rw test (omega (arith, floor_low text 127, length-take (floor_char_boundary text 127) text))
+      | inr short ↦
+          let test : nat_le (length text) 127 ≡ true = grind arith in
+          rw test short
+    ]
+
+pub cut_text-bytes : (text : List ℕ) → All (λ b. b < 256) text → All (λ b. b < 256) (cut_text text)
+cut_text-bytes text bytes =
+    elim (cases_lt 127 (length text)) [
+      | inl long ↦
+          let test : nat_le (length text) 127 ≡ false = grind arith in
+          rw test (All-take (λ b. b < 256) (floor_char_boundary text 127) text bytes)
+      | inr short ↦
+          let test : nat_le (length text) 127 ≡ true = grind arith in
+          rw test bytes
+    ]

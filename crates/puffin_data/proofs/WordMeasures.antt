@@ -1,35 +1,35 @@
 -- The measures of a forest are those of its tour, and what one more event does to them.
-use Rattle.std.proofs.Common.{◌≡◌, ◌≤◌, ℕ, suc, ◌+◌, ◌-◌, ◌^◌, max, ℤ, pos, negsuc, ◌≤ℤ◌, List, [], ◌∷◌, ◌++◌, length, refl, sym, ap, ◌∙◌, arith, length-append, append_assoc}
+use Rattle.std.proofs.Common.{◌≡◌, ◌≤◌, ℕ, ◌+◌, ◌-◌, ◌^◌, max, ℤ, pos, negsuc, ◌≤ℤ◌, FitsSigned, List, [], ◌∷◌, ◌++◌, length, refl, sym, ap, ◌∙◌, arith, length-append}
 use Rattle.std.specs.Int.{int_min, int_max, w64, cast_unsigned}
-use Rattle.std.proofs.lemmas.Int.{ints}
+use Rattle.std.proofs.lemmas.Int.{ints, clamps}
 use Rattle.byteorder.specs.Endian.{little_bytes}
 use Rattle.byteorder.specs.Numbers.{length-bytes_low_first}
-use Rattle.puffin_data.specs.Forest.{Span, Forest, empty, node}
+use Rattle.puffin_data.specs.Forest.{Forest, empty, node}
 use Rattle.puffin_data.specs.Measures.{scope_count, height, least_start, greatest_stop}
 use Rattle.puffin_data.specs.Spelling.{spelling, begin_bytes, end_bytes, time_bytes}
 use Rattle.puffin_data.specs.Tour.{Event, Open, Close, tour}
 use Rattle.puffin_data.specs.Words.{word_size, num_begun, open_after, most_open, least_open, greatest_close}
 
 min_assoc : (x y z : ℤ) → int_min x (int_min y z) ≡ int_min (int_min x y) z
-min_assoc x y z = grind (arith, ints)
+min_assoc x y z = omega (arith, ints, clamps)
 
 max_assoc : (x y z : ℤ) → int_max x (int_max y z) ≡ int_max (int_max x y) z
-max_assoc x y z = grind (arith, ints)
+max_assoc x y z = omega (arith, ints, clamps)
 
 min_right : (x y m : ℤ) → y ≤ℤ m → int_min x y ≤ℤ m
-min_right x y m h = grind (arith, ints)
+min_right x y m h = omega (arith, ints, clamps)
 
 max_right : (x y m : ℤ) → m ≤ℤ y → m ≤ℤ int_max x y
-max_right x y m h = grind (arith, ints)
+max_right x y m h = omega (arith, ints, clamps)
 
 min_over : (y m : ℤ) → y ≤ℤ m → int_min m y ≡ y
-min_over y m h = grind (arith, ints)
+min_over y m h = omega (arith, ints, clamps)
 
 max_over : (y m : ℤ) → m ≤ℤ y → int_max m y ≡ y
-max_over y m h = grind (arith, ints)
+max_over y m h = omega (arith, ints, clamps)
 
 max_swap : (x y z : ℤ) → int_max x (int_max y z) ≡ int_max y (int_max x z)
-max_swap x y z = grind (arith, ints)
+max_swap x y z = omega (arith, ints, clamps)
 
 pub word_size-append : (u v : List Event) → word_size (u ++ v) ≡ word_size u + word_size v
 word_size-append [] v = omega arith
@@ -57,12 +57,12 @@ most_open-append n (Open id text start ∷ u) v = omega (arith, most_open-append
 most_open-append n (Close stop ∷ u) v = omega (arith, most_open-append (n - 1) u v)
 
 open_bound : (w : List Event) → least_open w ≤ℤ pos (2 ^ 63 - 1)
-open_bound [] = grind (arith, ints)
+open_bound [] = omega (arith, ints, clamps)
 open_bound (Open id text start ∷ w) = min_right start (least_open w) (pos (2 ^ 63 - 1)) (open_bound w)
 open_bound (Close stop ∷ w) = open_bound w
 
 close_bound : (w : List Event) → negsuc (2 ^ 63 - 1) ≤ℤ greatest_close w
-close_bound [] = grind (arith, ints)
+close_bound [] = omega (arith, ints, clamps)
 close_bound (Open id text start ∷ w) = close_bound w
 close_bound (Close stop ∷ w) = max_right stop (greatest_close w) (negsuc (2 ^ 63 - 1)) (close_bound w)
 
@@ -136,3 +136,37 @@ word_size-tour (node s c o) =
       length-append (spelling c) (end_bytes s.stop ++ spelling o),
       length-append (end_bytes s.stop) (spelling o),
     )
+
+open_le_most : (n : ℕ) (w : List Event) → open_after n w ≤ most_open n w
+open_le_most n [] = omega arith
+open_le_most n (Open id text start ∷ w) = omega (arith, open_le_most (n + 1) w)
+open_le_most n (Close stop ∷ w) = omega (arith, open_le_most (n - 1) w)
+
+pub most_open-opened : (w : List Event) (id : ℕ) (text : List ℕ) (start : ℤ) → most_open 0 (w ++ (Open id text start ∷ [])) ≡ max (most_open 0 w) (open_after 0 w + 1)
+most_open-opened w id text start = omega (arith, most_open-append 0 w (Open id text start ∷ []), open_le_most 0 w)
+
+pub most_open-closed : (w : List Event) (stop : ℤ) → most_open 0 (w ++ (Close stop ∷ [])) ≡ most_open 0 w
+most_open-closed w stop = omega (arith, most_open-append 0 w (Close stop ∷ []), open_le_most 0 w)
+
+-- a time in i64 is within the bounds of no scope
+min_last : (x : ℤ) → FitsSigned w64 x → int_min x (pos (2 ^ 63 - 1)) ≡ x
+min_last x fits = omega (arith, ints, clamps)
+
+max_last : (x : ℤ) → FitsSigned w64 x → int_max x (negsuc (2 ^ 63 - 1)) ≡ x
+max_last x fits = omega (arith, ints, clamps)
+
+pub least_open-opened : (w : List Event) (id : ℕ) (text : List ℕ) (start : ℤ) → FitsSigned w64 start → least_open (w ++ (Open id text start ∷ [])) ≡ int_min (least_open w) start
+least_open-opened w id text start fits = least_open-append w (Open id text start ∷ []) ∙ ap (int_min (least_open w)) (min_last start fits)
+
+pub greatest_close-closed : (w : List Event) (stop : ℤ) → FitsSigned w64 stop → greatest_close (w ++ (Close stop ∷ [])) ≡ int_max (greatest_close w) stop
+greatest_close-closed w stop fits = greatest_close-append w (Close stop ∷ []) ∙ ap (int_max (greatest_close w)) (max_last stop fits)
+
+pub least_open-kept : (w : List Event) (stop : ℤ) → least_open (w ++ (Close stop ∷ [])) ≡ least_open w
+least_open-kept [] stop = refl
+least_open-kept (Open id text start ∷ w) stop = ap (int_min start) (least_open-kept w stop)
+least_open-kept (Close other ∷ w) stop = least_open-kept w stop
+
+pub greatest_close-kept : (w : List Event) (id : ℕ) (text : List ℕ) (start : ℤ) → greatest_close (w ++ (Open id text start ∷ [])) ≡ greatest_close w
+greatest_close-kept [] id text start = refl
+greatest_close-kept (Open other bytes time ∷ w) id text start = greatest_close-kept w id text start
+greatest_close-kept (Close stop ∷ w) id text start = ap (int_max stop) (greatest_close-kept w id text start)

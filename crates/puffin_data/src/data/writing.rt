@@ -1,8 +1,9 @@
 //! Writing scopes into a stream.
 
-ghost use Rattle.std.specs.Prelude.{◌≡◌, ◌+◌, ◌-◌, ◌^◌, ◌<◌, ◌≤◌, ◌∷◌, [], ◌++◌, length, take, drop, IfOk, OnOk, OnErr, IfErr, IsOk};
+ghost use Rattle.std.specs.Prelude.{◌≡◌, ◌+◌, ◌-◌, ◌^◌, ◌≤◌, ◌∷◌, [], ◌++◌, length, IfOk, OnOk, OnErr, IfErr, IsOk};
 ghost use Rattle.byteorder.specs.Endian.{little_bytes};
-ghost use Rattle.puffin_data.specs.Spelling.{begin_bytes, end_bytes, time_bytes};
+ghost use Rattle.puffin_data.specs.Spelling.{begin_bytes, time_bytes};
+ghost use Rattle.puffin_data.specs.Opens.{ended_bytes};
 ghost use Rattle.puffin_data.specs.Text.{cut_text};
 
 use crate::data::scope::{END_SIZE, HEAD_SIZE, SCOPE_BEGIN, SCOPE_END};
@@ -97,8 +98,7 @@ impl Stream {
     #[inline]
     pub fn end_scope(&mut self, offset: usize, stop_ns: NanoSecond) -> Result<()>
         requires { offset + 8 ≤ length self.old.bytes }
-        ensures ended { OnOk result (self.new.bytes ≡ (take offset self.old.bytes
-            ++ (little_bytes 8 (length self.old.bytes - (offset + 8)) ++ drop (offset + 8) self.old.bytes)) ++ end_bytes stop_ns) }
+        ensures ended { OnOk result (self.new.bytes ≡ ended_bytes self.old.bytes offset stop_ns) }
         ensures err { OnErr result (self.new.bytes ≡ self.old.bytes) }
         ensures memory { IfErr result (λ e. e ≡ Error.Memory) }
         ensures succeeds { 9 ≤ self.old.room → IsOk result }

@@ -1,5 +1,5 @@
 -- The pieces of a scope's beginning, put one after another.
-use Rattle.std.proofs.Common.{◌≡◌, ◌∙◌, ap, List, ℕ, ℤ, ◌++◌, ◌∷◌, [], length, to_z, of_z, w64}
+use Rattle.std.proofs.Common.{◌∙◌, ap, List, ℕ, ℤ, ◌++◌, ◌∷◌, [], length, to_z, of_z, w64}
 use Rattle.byteorder.specs.Endian.{little_bytes}
 use Rattle.puffin_data.specs.Spelling.{begin_bytes, time_bytes}
 use Rattle.puffin_data.proofs.Written.{begun}
