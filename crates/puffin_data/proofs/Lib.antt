@@ -16,3 +16,4 @@ pub mod Written
 pub mod Opening
 pub mod Cuts
 pub mod WordMeasures
+pub mod Lenience
