@@ -17,3 +17,5 @@ pub mod Opening
 pub mod Cuts
 pub mod WordMeasures
 pub mod Lenience
+pub mod AllRead
+pub mod OneReading

@@ -1,5 +1,5 @@
 -- The code's scopes as they were read: the same without where their texts lie in memory.
-use Rattle.std.specs.Prelude.{◌≡◌, ℕ, List, [], ◌∷◌, ◌++◌, map, Option, Some, None, Result, Ok, Err}
+use Rattle.std.specs.Prelude.{◌≡◌, List, [], ◌∷◌, ◌++◌, map, Option, Some, None, Result, Ok, Err}
 use Rattle.puffin_data.specs.declared.error.Error.{Error}
 use Rattle.puffin_data.specs.declared.data.record.Scope.{Scope}
 use Rattle.puffin_data.specs.Lenient.{ReadScope, Place, next_read, Reads}
@@ -32,7 +32,7 @@ pub record IsNextRead (from : Place) (item : Option (Result Scope Error)) (to : 
 
 -- these scopes, and nothing else, are read from a place on
 abbrev pub ReadsScopes : Place → List Scope → Type 0
-ReadsScopes from scopes = Reads from.bytes from.at (map (λ s. Ok (scope_seen s)) scopes)
+ReadsScopes from scopes = Reads from.bytes from.at (map (λ s. Ok s) (map scope_seen scopes))
 
 -- some scopes are read from a place on, and then this fault
 abbrev pub ReadsFault : Place → Error → Type 0

@@ -129,7 +129,11 @@ impl<'s> Reader<'s> {
         let mut scopes = Vec::new(alloc);
         while let Some(next) = reader.next() {
             match next {
-                Ok(scope) => scopes.push(scope)?,
+                Ok(scope) => {
+                    if scopes.push(scope).is_err() {
+                        return Err(Error::Memory);
+                    }
+                }
                 Err(fault) => return Err(fault),
             }
         }
