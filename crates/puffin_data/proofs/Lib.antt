@@ -12,3 +12,11 @@ pub mod Told
 pub mod Extended
 pub mod OneFault
 pub mod Sounds
+pub mod Tours
+pub mod Written
+pub mod Opening
+pub mod Cuts
+pub mod WordMeasures
+pub mod Lenience
+pub mod AllRead
+pub mod OneReading

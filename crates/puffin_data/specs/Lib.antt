@@ -5,6 +5,12 @@ pub mod Reading
 pub mod Walk
 pub mod Honesty
 pub mod Streams
+pub mod Text
+pub mod Tour
+pub mod Opens
+pub mod Words
+pub mod Lenient
+pub mod Scopes
 pub mod Errors
 pub mod Counting
 pub mod Devices

@@ -3,15 +3,18 @@
 mod device;
 mod info;
 mod reader;
+mod record;
 mod scope;
 mod scope_id;
 mod stream;
 mod transfer;
 mod walk;
+mod writing;
 
 pub use device::{Counted, Drain, Source};
 pub use info::{StreamInfo, StreamInfoRef};
 pub use reader::Reader;
+pub use record::{Scope, ScopeRecord};
 pub use scope_id::ScopeId;
 pub use stream::Stream;
 pub use transfer::{read_to_end, write_all};

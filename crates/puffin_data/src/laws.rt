@@ -1,14 +1,21 @@
 //! Laws of forests, their spellings and their walks, as contracts of functions that do nothing. A proof of another crate
 //! cites them by calling the function.
 
-ghost use Rattle.std.specs.Prelude.{List, ℕ, ◌≡◌, ◌+◌, ◌-◌, ◌++◌, ◌<◌, ◌^◌, ◌≤ℤ◌, pos, negsuc, length, max};
-ghost use Rattle.std.specs.Int.{int_min, int_max};
+ghost use Rattle.std.specs.Prelude.{Result, List, ℕ, ℤ, ◌≡◌, ◌+◌, ◌-◌, ◌++◌, ◌∷◌, [], ◌<◌, ◌≤◌, ◌^◌, ◌≤ℤ◌, ◌-ℤ◌, pos, negsuc, FitsSigned, length, max};
+ghost use Rattle.std.specs.List.{All};
 ghost use Rattle.std.specs.List.Sorted.{IsStrictlyIncreasing};
-ghost use Rattle.puffin_data.specs.Forest.{Forest, IsForest, append};
+ghost use Rattle.std.specs.Str.{IsUtf8};
+ghost use Rattle.std.specs.Int.{int_min, int_max, w64};
+ghost use Rattle.puffin_data.specs.Forest.{Forest, IsForest, empty, append};
 ghost use Rattle.puffin_data.specs.Measures.{scope_count, height, least_start, greatest_stop};
-ghost use Rattle.puffin_data.specs.Spelling.{spelling, Spells};
+ghost use Rattle.puffin_data.specs.Spelling.{spelling, Spells, begin_bytes};
 ghost use Rattle.puffin_data.specs.Honesty.{Recorded, IsHonestRecord, joined};
 ghost use Rattle.puffin_data.specs.Walk.{IsFault, IsFirstFault, Sounds};
+ghost use Rattle.puffin_data.specs.Tour.{Event, Open, Close, tour, IsBalanced};
+ghost use Rattle.puffin_data.specs.Words.{word_size, num_begun, open_after, most_open, least_open, greatest_close};
+ghost use Rattle.puffin_data.specs.Text.{cut_text, IsCut, text_in};
+ghost use Rattle.puffin_data.specs.Lenient.{ReadScope, Reads};
+ghost use Rattle.puffin_data.specs.Opens.{Opened, IsOpened, open_spelling, open_word, size_place, ended_bytes, with_ended};
 ghost use Rattle.puffin_data.specs.declared.error.Error.{Error};
 
 /// A forest has one spelling, and it is no other forest's. The spellings of two forests one after the other are joined.
@@ -54,4 +61,90 @@ pub fn sounds_rise()
     ensures has { (bytes : List ℕ) → (places : List ℕ) × Sounds bytes 0 (length bytes) places }
     ensures one { (bytes places others : List ℕ) → Sounds bytes 0 (length bytes) places → Sounds bytes 0 (length bytes) others → places ≡ others }
     ensures rise { (bytes places : List ℕ) → Sounds bytes 0 (length bytes) places → IsStrictlyIncreasing places }
+{}
+
+/// A balanced word is the tour of one forest alone. The tours of two forests one after the other are joined.
+pub fn one_tour()
+    ensures tour { (f g : Forest) → tour f ≡ tour g → f ≡ g }
+    ensures balanced { (word : List Event) (a b : IsBalanced word) → a.0 ≡ b.0 }
+    ensures joined { (f g : Forest) → tour (append f g) ≡ tour f ++ tour g }
+{}
+
+/// The measures of a forest are those of its tour, the bytes of its spelling among them.
+pub fn tour_measures()
+    ensures size { (f : Forest) → word_size (tour f) ≡ length (spelling f) }
+    ensures begun { (f : Forest) → num_begun (tour f) ≡ scope_count f }
+    ensures open { (f : Forest) → open_after 0 (tour f) ≡ 0 }
+    ensures most_open { (f : Forest) → most_open 0 (tour f) ≡ height f }
+    ensures least_open { (f : Forest) → least_open (tour f) ≡ least_start f }
+    ensures greatest_close { (f : Forest) → greatest_close (tour f) ≡ greatest_stop f }
+{}
+
+/// What a scope that opens does to the measures of a word.
+pub fn opening_measures()
+    ensures size { (word : List Event) (id : ℕ) (text : List ℕ) (start : ℤ) →
+        word_size (word ++ (Open id text start ∷ [])) ≡ word_size word + (22 + length text) }
+    ensures begun { (word : List Event) (id : ℕ) (text : List ℕ) (start : ℤ) →
+        num_begun (word ++ (Open id text start ∷ [])) ≡ num_begun word + 1 }
+    ensures open { (word : List Event) (id : ℕ) (text : List ℕ) (start : ℤ) →
+        open_after 0 (word ++ (Open id text start ∷ [])) ≡ open_after 0 word + 1 }
+    ensures most_open { (word : List Event) (id : ℕ) (text : List ℕ) (start : ℤ) →
+        most_open 0 (word ++ (Open id text start ∷ [])) ≡ max (most_open 0 word) (open_after 0 word + 1) }
+    ensures least_open { (word : List Event) (id : ℕ) (text : List ℕ) (start : ℤ) → FitsSigned w64 start →
+        least_open (word ++ (Open id text start ∷ [])) ≡ int_min (least_open word) start }
+    ensures greatest_close { (word : List Event) (id : ℕ) (text : List ℕ) (start : ℤ) →
+        greatest_close (word ++ (Open id text start ∷ [])) ≡ greatest_close word }
+{}
+
+/// What a scope that closes does to the measures of a word.
+pub fn closing_measures()
+    ensures size { (word : List Event) (stop : ℤ) → word_size (word ++ (Close stop ∷ [])) ≡ word_size word + 9 }
+    ensures begun { (word : List Event) (stop : ℤ) → num_begun (word ++ (Close stop ∷ [])) ≡ num_begun word }
+    ensures open { (word : List Event) (stop : ℤ) → open_after 0 (word ++ (Close stop ∷ [])) ≡ open_after 0 word - 1 }
+    ensures most_open { (word : List Event) (stop : ℤ) → most_open 0 (word ++ (Close stop ∷ [])) ≡ most_open 0 word }
+    ensures least_open { (word : List Event) (stop : ℤ) → least_open (word ++ (Close stop ∷ [])) ≡ least_open word }
+    ensures greatest_close { (word : List Event) (stop : ℤ) → FitsSigned w64 stop →
+        greatest_close (word ++ (Close stop ∷ [])) ≡ int_max (greatest_close word) stop }
+{}
+
+/// The cut of a text is its longest beginning of at most 127 bytes that ends where a character ends, nothing else is, and
+/// it is the text that is read of it. Its bytes are the text's.
+pub fn cut_texts()
+    ensures is_cut { (text : List ℕ) → IsUtf8 text → IsCut text (cut_text text) }
+    ensures only { (text cut : List ℕ) → IsCut text cut → cut ≡ cut_text text }
+    ensures read_back { (text : List ℕ) → IsUtf8 text → text_in (cut_text text) ≡ cut_text text }
+    ensures short { (text : List ℕ) → length (cut_text text) ≤ 127 }
+    ensures bytes { (text : List ℕ) → All (λ b. b < 256) text → All (λ b. b < 256) (cut_text text) }
+{}
+
+/// A stream with open scopes, as its bytes and as its word: what a scope that begins makes of it, and the innermost scope's
+/// end; where that scope's size stands; and that without an open scope it spells a forest whose tour is the word.
+pub fn open_streams()
+    ensures begins { (opened : List Opened) (closed : Forest) (id : ℕ) (start : ℤ) (text : List ℕ) →
+        open_spelling opened closed ++ begin_bytes id start text (2 ^ 64 - 1)
+        ≡ open_spelling (record { before = closed; id = id; start = start; text = text } ∷ opened) empty }
+    ensures begins_word { (opened : List Opened) (closed : Forest) (id : ℕ) (start : ℤ) (text : List ℕ) →
+        open_word opened closed ++ (Open id text start ∷ [])
+        ≡ open_word (record { before = closed; id = id; start = start; text = text } ∷ opened) empty }
+    ensures begins_place { (o : Opened) (outer : List Opened) → size_place o outer + 8 ≡ length (open_spelling (o ∷ outer) empty) }
+    ensures place_within { (o : Opened) (outer : List Opened) (closed : Forest) →
+        size_place o outer + 8 ≤ length (open_spelling (o ∷ outer) closed) }
+    ensures ends { (o : Opened) (outer : List Opened) (closed : Forest) (stop : ℤ) →
+        ended_bytes (open_spelling (o ∷ outer) closed) (size_place o outer) stop ≡ open_spelling outer (with_ended o closed stop) }
+    ensures ends_word { (o : Opened) (outer : List Opened) (closed : Forest) (stop : ℤ) →
+        open_word (o ∷ outer) closed ++ (Close stop ∷ []) ≡ open_word outer (with_ended o closed stop) }
+    ensures ends_written { (o : Opened) (closed : Forest) (stop : ℤ) → IsOpened o → IsForest closed →
+        FitsSigned w64 stop → o.start ≤ℤ stop → FitsSigned w64 (stop -ℤ o.start) → IsForest (with_ended o closed stop) }
+    ensures none_open { (closed : Forest) → open_spelling [] closed ≡ spelling closed }
+    ensures none_open_word { (closed : Forest) → open_word [] closed ≡ tour closed }
+    ensures size { (opened : List Opened) (closed : Forest) → length (open_spelling opened closed) ≡ word_size (open_word opened closed) }
+    ensures open { (opened : List Opened) (closed : Forest) → open_after 0 (open_word opened closed) ≡ length opened }
+{}
+
+/// From each place of a stream on a reader gives one list of scopes and faults, and nothing at the stream's end, which is
+/// where it stands after a fault.
+pub fn one_reading()
+    ensures read { (bytes : List ℕ) (p : ℕ) → p ≤ length bytes → (items : List (Result ReadScope Error)) × Reads bytes p items }
+    ensures one { (bytes : List ℕ) (p : ℕ) (a b : List (Result ReadScope Error)) → Reads bytes p a → Reads bytes p b → a ≡ b }
+    ensures end { (bytes : List ℕ) (items : List (Result ReadScope Error)) → Reads bytes (length bytes) items → items ≡ [] }
 {}

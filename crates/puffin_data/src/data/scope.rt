@@ -12,7 +12,7 @@ pub(crate) const SCOPE_BEGIN: u8 = b'(';
 /// The byte after a scope's children.
 pub(crate) const SCOPE_END: u8 = b')';
 /// The bytes of a scope's beginning, without its text.
-const HEAD_SIZE: usize = 22;
+pub(crate) const HEAD_SIZE: usize = 22;
 /// The bytes of a scope's end.
 pub(crate) const END_SIZE: usize = 9;
 

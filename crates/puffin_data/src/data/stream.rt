@@ -1,4 +1,4 @@
-ghost use Rattle.std.specs.Prelude.{◌≡◌, ◌==◌, ◌-◌, ◌≤◌, [], ◌++◌, length, IfOk, OnOk, OnErr, IfErr, IsOk, vec_len};
+ghost use Rattle.std.specs.Prelude.{◌≡◌, ◌==◌, ◌+◌, ◌-◌, ◌≤◌, [], ◌++◌, length, take, drop, IfOk, OnOk, OnErr, IfErr, IsOk, vec_len};
 ghost use Rattle.std.specs.Vec.{vec_capacity};
 ghost use Rattle.puffin_data.specs.Streams.{Held};
 
@@ -59,6 +59,28 @@ impl Stream {
         self.bytes.clear()
     }
 
+    /// How many bytes can be appended without asking for memory.
+    #[inline]
+    pub fn room(&self) -> usize
+        ensures { result ≡ self.now.room }
+    {
+        self.bytes.capacity() - self.bytes.len()
+    }
+
+    /// Makes room for so many bytes behind those that there are. Refused only with `Memory`, and never where the room is
+    /// there already; the bytes stay as they are, also where it is refused.
+    #[inline]
+    pub fn reserve(&mut self, bytes: usize) -> Result<()>
+        ensures ok { OnOk result (bytes ≤ self.new.room) }
+        ensures bytes { self.new.bytes ≡ self.old.bytes }
+        ensures room { self.old.room ≤ self.new.room }
+        ensures memory { IfErr result (λ e. e ≡ Error.Memory) }
+        ensures succeeds { bytes ≤ self.old.room → IsOk result }
+    {
+        self.bytes.reserve(bytes)?;
+        Ok(())
+    }
+
     /// A copy of the bytes. Refused only with `Memory`.
     pub fn clone(&self) -> Result<Stream>
         ensures ok { IfOk result (λ stream. stream.bytes ≡ self.now.bytes) }
@@ -68,15 +90,37 @@ impl Stream {
         Ok(Stream { bytes })
     }
 
-    /// Appends bytes. Only want of memory is refused, and never within the room.
+    /// Appends bytes. Refused only with `Memory`, and never within the room; nothing is changed then.
     pub(crate) fn append(&mut self, bytes: &[u8]) -> Result<()>
         ensures ok { OnOk result (self.new.bytes ≡ self.old.bytes ++ bytes.now) }
         ensures err { OnErr result (self.new.bytes ≡ self.old.bytes) }
         ensures memory { IfErr result (λ e. e ≡ Error.Memory) }
         ensures succeeds { length bytes.now ≤ self.old.room → IsOk result }
+        ensures room { self.old.room ≤ self.new.room + length bytes.now }
     {
         self.bytes.extend_from_slice(bytes)?;
         Ok(())
+    }
+
+    /// Appends bytes within the room.
+    #[inline]
+    pub(crate) fn put(&mut self, bytes: &[u8])
+        requires { length bytes.now ≤ self.old.room }
+        ensures bytes { self.new.bytes ≡ self.old.bytes ++ bytes.now }
+        ensures room { self.old.room ≤ self.new.room + length bytes.now }
+    {
+        self.bytes.extend_from_slice(bytes).unwrap()
+    }
+
+    /// Writes eight bytes over those at a place.
+    #[inline]
+    pub(crate) fn overwrite(&mut self, place: usize, word: &[u8])
+        requires inside { place + 8 ≤ length self.old.bytes }
+        requires word { length word.now ≡ 8 }
+        ensures bytes { self.new.bytes ≡ take place self.old.bytes ++ (word.now ++ drop (place + 8) self.old.bytes) }
+        ensures room { self.new.room ≡ self.old.room }
+    {
+        self.bytes[place..place + 8].copy_from_slice(word);
     }
 }
 

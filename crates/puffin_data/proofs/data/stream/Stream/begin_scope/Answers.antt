@@ -1,0 +1,16 @@
+-- The pieces of a scope's beginning, put one after another.
+use Rattle.std.proofs.Common.{◌∙◌, ap, List, ℕ, ℤ, ◌++◌, ◌∷◌, [], length, to_z, of_z, w64}
+use Rattle.byteorder.specs.Endian.{little_bytes}
+use Rattle.puffin_data.specs.Spelling.{begin_bytes, time_bytes}
+use Rattle.puffin_data.proofs.Written.{begun}
+use Rattle.puffin_data.proofs.data.stream.Stream.begin_scope.Goals as goal
+
+pub returns-clause-begun : goal.returns-clause-begun
+returns-clause-begun g c =
+    let old = c.args.self.now.bytes in
+    let text = c.cut-text.result.now in
+    let start : ℤ = to_z w64 (of_z w64 c.now_ns-start.result) in
+    let front = c.front.ensures ∙ ap (λ (n : ℕ). 40 ∷ (little_bytes 4 n ++ (time_bytes start ++ (length text ∷ [])))) c.get.ensures.number in
+    let stored = c.put-2.ensures.bytes ∙ ap (λ (x : List ℕ). c.put.new.self.bytes ++ x) c.as_bytes.ensures.value in
+    begun old c.reserve.new.self.bytes c.put.new.self.bytes c.put-2.new.self.bytes c.put-3.new.self.bytes c.front.result text c.size_word.result c.args.id 18446744073709551615 start c.in_ok-reserve.ensures.bytes c.put.ensures.bytes stored c.put-3.ensures.bytes front c.size_word.ensures
+    ∙ ap (λ (x : List ℕ). old ++ begin_bytes c.args.id start x 18446744073709551615) c.cut-text.ensures.cut
