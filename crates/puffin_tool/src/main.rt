@@ -4,9 +4,8 @@
 use puffin_data::data::Counted;
 use puffin_data::{Error, FileError};
 use puffin_replay::replay::{Task, ToolFault, count_stream, finish, read_words};
-use std::env;
-use std::io;
 use std::process::ExitCode;
+use std::{env, io};
 
 /// The program's words, or the fault where they are no text or there is no memory for them.
 fn words(rt: &HostRuntime) -> Result<Vec<String>, ToolFault> {
