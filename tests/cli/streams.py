@@ -17,7 +17,7 @@ def nested(depth):
     return b"".join(parts) + _end(depth) * depth
 
 
-def row(count):
+def side_by_side(count):
     """Scopes with a text of 10 bytes, one after the other: scope n from n to n + 1."""
     text = b"ten bytes."
     return b"".join(_begin(1 + n % 7, n, text, 0) + _end(n + 1) for n in range(count))

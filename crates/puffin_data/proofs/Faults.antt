@@ -1,5 +1,5 @@
 -- A walk that stops has met the fault at the least place, and tried what stands before it.
-use Rattle.std.proofs.Common.{◌≡◌, ℕ, zero, suc, ◌+◌, ◌-◌, ◌<◌, ◌≤◌, List, [], ◌∷◌, ◌++◌, length, refl, sym, ap, subst, ◌∙◌, arith, Some, None, Ok, Err, ltb, cond, Bool, true, false}
+use Rattle.std.proofs.Common.{◌≡◌, ℕ, suc, ◌+◌, ◌<◌, ◌≤◌, List, [], ◌∷◌, ◌++◌, length, refl, ap, subst, arith, Err, ltb, cond, Bool, true, false}
 use Rattle.std.specs.Prelude.{nat_lt}
 use Rattle.std.specs.List.{count_by}
 use Rattle.std.proofs.lemmas.List.{length-append}
@@ -8,13 +8,14 @@ use Rattle.puffin_data.specs.declared.error.Error.{Error}
 use Rattle.puffin_data.specs.declared.data.walk.Walk.{Walk}
 use Rattle.puffin_data.specs.Forest.{Forest, empty, node}
 use Rattle.puffin_data.specs.Measures.{scope_count}
-use Rattle.puffin_data.specs.Reading.{Found, reading}
+use Rattle.puffin_data.specs.Reading.{Found}
 use Rattle.puffin_data.specs.Walk.{region, IsSoundAt, IsFaultAt, Reaches, here, child, sibling, Sounds, no_more, one_more}
 use Rattle.puffin_data.specs.Walking.{counted, Stop, tries_in, Visits, stops, stops_within, goes_on}
 use Rattle.puffin_data.proofs.Numbers.{IsBytes}
 use Rattle.puffin_data.proofs.Resuming.{found_places}
-use Rattle.puffin_data.proofs.Regions.{sound_is_no_fault, one_sound, ok_is_not_err, none_is_not_some, between, Answer}
+use Rattle.puffin_data.proofs.Regions.{sound_is_no_fault, one_sound, between}
 use Rattle.puffin_data.proofs.Completes.{tallied, completed}
+use Rattle.puffin_data.proofs.Sounds.{has_sounds}
 
 lt_test : (a b : ℕ) → a < b → ltb a b ≡ true
 lt_test a b h = grind arith
@@ -22,24 +23,7 @@ lt_test a b h = grind arith
 le_test : (a b : ℕ) → b ≤ a → ltb a b ≡ false
 le_test a b h = grind arith
 
--- ---- each region has its list of sound places, and they lie in it
-
--- each region that is shorter than n has its list
-abbrev HasPlaces : List ℕ → ℕ → Type 0
-HasPlaces bytes n = (p e : ℕ) → e - p < n → p ≤ e → e ≤ length bytes → (xs : List ℕ) × Sounds bytes p e xs
-
-one_region : (bytes : List ℕ) (n p e : ℕ) → HasPlaces bytes n → e - p < suc n → p ≤ e → e ≤ length bytes → (r : Answer) → reading (region bytes p e) ≡ r → (xs : List ℕ) × Sounds bytes p e xs
-one_region bytes n p e shorter lt h k (Ok (Some s)) is =
-    let at = found_places bytes p e s is h k in
-    let inner = shorter (p + s.child_begin) (p + s.child_end) (omega (arith, at)) (omega (arith, at)) (omega (arith, at)) in
-    let later = shorter (p + s.next_sibling) e (omega (arith, at)) (omega (arith, at)) k in
-    (p ∷ (inner.0 ++ later.0), one_more is inner.1 later.1)
-one_region bytes n p e shorter lt h k (Ok None) is = ([], no_more (λ s sound. none_is_not_some s (sym is ∙ sound)))
-one_region bytes n p e shorter lt h k (Err d) is = ([], no_more (λ s sound. ok_is_not_err (Some s) d (sym sound ∙ is)))
-
-sound_places : (bytes : List ℕ) (n : ℕ) → HasPlaces bytes n
-sound_places bytes zero p e lt h k = absurd (omega arith)
-sound_places bytes (suc n) p e lt h k = one_region bytes n p e (sound_places bytes n) lt h k (reading (region bytes p e)) refl
+-- ---- the sound places of a region lie in it
 
 -- how many places lie below one
 abbrev pub below : ℕ → List ℕ → ℕ
@@ -120,7 +104,7 @@ stopped_at bytes level w p e stop fits h k (stops_within {s = s} sound inner) =
     let at = found_places bytes p e s sound h k in
     let a = stopped_at bytes (suc level) (counted w (suc level) s.span) (p + s.child_begin) (p + s.child_end) stop fits (omega (arith, at)) (omega (arith, at)) inner in
     let inside = between bytes (p + s.child_begin) (p + s.child_end) stop.place a.end (omega (arith, at)) (omega (arith, at)) a.reached in
-    let b = sound_places bytes (suc e) (p + s.next_sibling) e (omega arith) (omega (arith, at)) k in
+    let b = has_sounds bytes (suc e) (p + s.next_sibling) e (omega arith) (omega (arith, at)) k in
     let none = none_below bytes (p + s.next_sibling) e stop.place b.0 (omega (arith, at)) k (omega (arith, at, inside)) b.1 in
     record {
       end = a.end;

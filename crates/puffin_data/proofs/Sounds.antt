@@ -9,7 +9,7 @@ use Rattle.puffin_data.proofs.Regions.{one_sound, ok_is_not_err, none_is_not_som
 -- ---- each has a list
 
 -- each region that is shorter than n has one
-abbrev HasSounds : List ℕ → ℕ → Type 0
+abbrev pub HasSounds : List ℕ → ℕ → Type 0
 HasSounds bytes n = (p e : ℕ) → e - p < n → p ≤ e → e ≤ length bytes → (places : List ℕ) × Sounds bytes p e places
 
 by_reading : (bytes : List ℕ) (n p e : ℕ) → HasSounds bytes n → e - p < suc n → p ≤ e → e ≤ length bytes → (r : Answer) → reading (region bytes p e) ≡ r → (places : List ℕ) × Sounds bytes p e places
@@ -21,7 +21,7 @@ by_reading bytes n p e shorter lt h k (Ok (Some s)) is =
 by_reading bytes n p e shorter lt h k (Ok None) is = ([], no_more (λ s sound. none_is_not_some s (sym is ∙ sound)))
 by_reading bytes n p e shorter lt h k (Err d) is = ([], no_more (λ s sound. ok_is_not_err (Some s) d (sym sound ∙ is)))
 
-has_sounds : (bytes : List ℕ) (n : ℕ) → HasSounds bytes n
+pub has_sounds : (bytes : List ℕ) (n : ℕ) → HasSounds bytes n
 has_sounds bytes zero p e lt h k = absurd (omega arith)
 has_sounds bytes (suc n) p e lt h k = by_reading bytes n p e (has_sounds bytes n) lt h k (reading (region bytes p e)) refl
 
