@@ -22,6 +22,31 @@ fn end(stream: &mut Stream, offset: usize, stop: i64) -> std::result::Result<(),
     Ok(())
 }
 
+/// What stands at a place of a region, where there is such a region.
+fn scope_at(stream: &Stream, at: usize, end: usize) -> Result<Option<Scope<'_>>> {
+    let len = stream.len();
+    if at > end || end > len {
+        return Err(Error::InvalidOffset);
+    }
+    Reader::scope_at(stream, at, end)
+}
+
+/// Where the next sibling stands of the scope at a place of a region.
+fn next_of(stream: &Stream, at: usize, end: usize) -> Option<u64> {
+    match scope_at(stream, at, end) {
+        Ok(Some(scope)) => Some(scope.next_sibling_position),
+        _ => None,
+    }
+}
+
+/// Why no scope is read at a place of a region.
+fn fault_at(stream: &Stream, at: usize, end: usize) -> Option<Error> {
+    match scope_at(stream, at, end) {
+        Ok(_) => None,
+        Err(fault) => Some(fault),
+    }
+}
+
 /// The scopes of a reader, with the fault that it gave at last. After that it has to give nothing.
 fn top_scopes<'s>(
     rt: &HostRuntime,
@@ -66,17 +91,20 @@ fn one_scope_takes_35_bytes(rt: HostRuntime) -> std::result::Result<(), Fail> {
 
 #[test]
 fn the_positions_of_a_scope_with_two_children(rt: HostRuntime) -> std::result::Result<(), Fail> {
+    let (one, two, three) = (id(1)?, id(2)?, id(3)?);
     let mut stream = Stream::new(rt.alloc());
-    let (top, _) = stream.begin_scope(|| 100, id(1)?, "data_top")?;
-    let (first, _) = stream.begin_scope(|| 200, id(2)?, "data_middle_0")?;
+    let (top, _) = stream.begin_scope(|| 100, one, "data_top")?;
+    let (first, _) = stream.begin_scope(|| 200, two, "data_middle_0")?;
     end(&mut stream, first, 300)?;
-    let (second, _) = stream.begin_scope(|| 300, id(3)?, "data_middle_1")?;
+    let (second, _) = stream.begin_scope(|| 300, three, "data_middle_1")?;
     end(&mut stream, second, 400)?;
     end(&mut stream, top, 400)?;
     assert_eq!(rt; stream.len(), 127);
     let scopes = Reader::from_start(&stream).read_top_scopes(rt.alloc())?;
     assert_eq!(rt; scopes.len(), 1);
-    let top = scopes.first().copied().ok_or("a top scope")?;
+    let Some(top) = scopes.first() else {
+        return Err(Fail::from("a top scope"));
+    };
     assert_eq!(rt; (top.rec.start_ns, top.rec.duration_ns), (100, 300));
     assert_eq!(rt; top.child_begin_position, 30);
     assert_eq!(rt; top.child_end_position, 118);
@@ -88,13 +116,10 @@ fn the_positions_of_a_scope_with_two_children(rt: HostRuntime) -> std::result::R
         .map(|s| (s.rec.start_ns, s.rec.duration_ns))
         .collect(rt.alloc())?;
     assert_eq!(rt; times.as_slice(), [(200, 100), (300, 100)].as_slice());
-    let child = Reader::scope_at(&stream, 30, 118)?.ok_or("a child")?;
-    assert_eq!(rt; child.next_sibling_position, 74);
-    assert!(rt; Reader::scope_at(&stream, 118, 118)?.is_none());
-    assert_eq!(rt;
-        Reader::scope_at(&stream, 30, 73).err(),
-        Some(Error::PrematureEnd)
-    );
+    assert_eq!(rt; next_of(&stream, 30, 118), Some(74));
+    assert_eq!(rt; next_of(&stream, 118, 118), None);
+    assert_eq!(rt; fault_at(&stream, 118, 118), None);
+    assert_eq!(rt; fault_at(&stream, 30, 73), Some(Error::PrematureEnd));
     Ok(())
 }
 
@@ -165,10 +190,7 @@ fn children_are_not_read(rt: HostRuntime) -> std::result::Result<(), Fail> {
     assert_eq!(rt; stream.len(), 62);
     let scopes = Reader::from_start(&stream).read_top_scopes(rt.alloc())?;
     assert_eq!(rt; scopes.len(), 1);
-    assert_eq!(rt;
-        Reader::scope_at(&stream, 22, 53).err(),
-        Some(Error::PrematureEnd)
-    );
+    assert_eq!(rt; fault_at(&stream, 22, 53), Some(Error::PrematureEnd));
     Ok(())
 }
 
@@ -178,8 +200,11 @@ fn stored_bytes_that_are_not_text(rt: HostRuntime) -> std::result::Result<(), Fa
         &rt,
         b"(\x01\0\0\0\0\0\0\0\0\0\0\0\x03\x61\xff\x62\0\0\0\0\0\0\0\0)\0\0\0\0\0\0\0\0",
     )?;
-    let scope = Reader::scope_at(&stream, 0, stream.len())?.ok_or("a scope")?;
-    assert_eq!(rt; scope.rec.text, "a");
+    let len = stream.len();
+    match scope_at(&stream, 0, len) {
+        Ok(Some(scope)) => assert_eq!(rt; scope.rec.text, "a"),
+        _ => return Err(Fail::from("no scope is read")),
+    }
     Ok(())
 }
 
@@ -190,16 +215,20 @@ fn stored_size(rt: &HostRuntime, letters: usize, last: char) -> std::result::Res
         text.push('a')?;
     }
     text.push(last)?;
+    let first = id(1)?;
     let mut stream = Stream::new(rt.alloc());
-    let (offset, _) = stream.begin_scope(|| 100, id(1)?, text.as_str())?;
+    let (offset, _) = stream.begin_scope(|| 100, first, text.as_str())?;
     end(&mut stream, offset, 300)?;
-    let scope = Reader::scope_at(&stream, 0, stream.len())?.ok_or("a scope")?;
-    let read = scope.rec.text.as_bytes();
+    let len = stream.len();
     let said = stream.bytes().get(13).copied().map(usize::from);
+    let Ok(Some(scope)) = scope_at(&stream, 0, len) else {
+        return Err(Fail::from("no scope is read"));
+    };
+    let read = scope.rec.text.as_bytes();
     if said != Some(read.len()) || !text.as_bytes().starts_with(read) {
         return Err(Fail::from("another text is read"));
     }
-    Ok(stream.len().saturating_sub(31))
+    Ok(len.saturating_sub(31))
 }
 
 #[test]
@@ -212,7 +241,7 @@ fn long_texts_are_cut_at_a_character(rt: HostRuntime) -> std::result::Result<(),
     ];
     for (last, want) in cases {
         for (size, want) in (126..130).zip(want.iter()) {
-            let letters = size - last.len_utf8();
+            let letters = usize::saturating_sub(size, last.len_utf8());
             assert_eq!(rt; stored_size(&rt, letters, last)?, *want, "{last} {size}");
         }
     }
