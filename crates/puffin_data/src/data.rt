@@ -19,3 +19,6 @@ pub use scope_id::ScopeId;
 pub use stream::Stream;
 pub use transfer::{read_to_end, write_all};
 pub use walk::Walk;
+
+#[cfg(test)]
+mod tests;
