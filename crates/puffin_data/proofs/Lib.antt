@@ -16,3 +16,6 @@ pub mod Written
 pub mod Opening
 pub mod Cuts
 pub mod WordMeasures
+pub mod Lenience
+pub mod AllRead
+pub mod OneReading

@@ -9,6 +9,8 @@ pub mod Text
 pub mod Tour
 pub mod Opens
 pub mod Words
+pub mod Lenient
+pub mod Scopes
 pub mod Errors
 pub mod Counting
 pub mod Sightings

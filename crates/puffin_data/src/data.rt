@@ -3,6 +3,7 @@
 mod device;
 mod info;
 mod reader;
+mod record;
 mod scope;
 mod scope_id;
 mod stream;
@@ -12,6 +13,7 @@ mod writing;
 pub use device::{Counted, Drain, Source};
 pub use info::{StreamInfo, StreamInfoRef};
 pub use reader::Reader;
+pub use record::{Scope, ScopeRecord};
 pub use scope_id::ScopeId;
 pub use stream::Stream;
 pub use walk::Walk;

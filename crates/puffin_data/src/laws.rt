@@ -1,7 +1,7 @@
 //! Laws of forests, their spellings and their walks, as contracts of functions that do nothing. A proof of another crate
 //! cites them by calling the function.
 
-ghost use Rattle.std.specs.Prelude.{List, ℕ, ℤ, ◌≡◌, ◌+◌, ◌-◌, ◌++◌, ◌∷◌, [], ◌<◌, ◌≤◌, ◌^◌, ◌≤ℤ◌, ◌-ℤ◌, FitsSigned, length, max};
+ghost use Rattle.std.specs.Prelude.{Result, List, ℕ, ℤ, ◌≡◌, ◌+◌, ◌-◌, ◌++◌, ◌∷◌, [], ◌<◌, ◌≤◌, ◌^◌, ◌≤ℤ◌, ◌-ℤ◌, FitsSigned, length, max};
 ghost use Rattle.std.specs.List.{All};
 ghost use Rattle.std.specs.Str.{IsUtf8};
 ghost use Rattle.std.specs.Int.{int_min, int_max, w64};
@@ -11,6 +11,7 @@ ghost use Rattle.puffin_data.specs.Spelling.{spelling, begin_bytes};
 ghost use Rattle.puffin_data.specs.Tour.{Event, Open, Close, tour, IsBalanced};
 ghost use Rattle.puffin_data.specs.Words.{word_size, num_begun, open_after, most_open, least_open, greatest_close};
 ghost use Rattle.puffin_data.specs.Text.{cut_text, IsCut, text_in};
+ghost use Rattle.puffin_data.specs.Lenient.{ReadScope, Reads};
 ghost use Rattle.puffin_data.specs.Opens.{Opened, IsOpened, open_spelling, open_word, size_place, ended_bytes, with_ended};
 ghost use Rattle.puffin_data.specs.Walk.{IsFirstFault};
 ghost use Rattle.puffin_data.specs.declared.error.Error.{Error};
@@ -111,4 +112,12 @@ pub fn open_streams()
     ensures none_open_word { (closed : Forest) → open_word [] closed ≡ tour closed }
     ensures size { (opened : List Opened) (closed : Forest) → length (open_spelling opened closed) ≡ word_size (open_word opened closed) }
     ensures open { (opened : List Opened) (closed : Forest) → open_after 0 (open_word opened closed) ≡ length opened }
+{}
+
+/// From each place of a stream on a reader gives one list of scopes and faults, and nothing at the stream's end, which is
+/// where it stands after a fault.
+pub fn one_reading()
+    ensures read { (bytes : List ℕ) (p : ℕ) → p ≤ length bytes → (items : List (Result ReadScope Error)) × Reads bytes p items }
+    ensures one { (bytes : List ℕ) (p : ℕ) (a b : List (Result ReadScope Error)) → Reads bytes p a → Reads bytes p b → a ≡ b }
+    ensures end { (bytes : List ℕ) (items : List (Result ReadScope Error)) → Reads bytes (length bytes) items → items ≡ [] }
 {}

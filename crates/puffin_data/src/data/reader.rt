@@ -1,19 +1,145 @@
-ghost use Rattle.std.specs.Prelude.{◌≡◌, ℕ, ◌+◌, ◌/◌, ◌≤◌, length, IfOk, IfErr, MatchResult, ◌⊎◌};
+ghost use Rattle.std.specs.Prelude.{◌≡◌, ℕ, ℤ, ◌+◌, ◌-◌, ◌/◌, ◌≤◌, ◌<◌, ◌^◌, ◌-ℤ◌, ◌+ℤ◌, ◌↔◌, FitsSigned, length, IfOk, IfErr, IsErr, MatchResult, ◌⊎◌};
+ghost use Rattle.std.specs.Int.{w64};
+ghost use Rattle.std.specs.Iterator.{at_most};
 ghost use Rattle.puffin_data.specs.Forest.{Forest};
 ghost use Rattle.puffin_data.specs.Measures.{scope_count, height};
 ghost use Rattle.puffin_data.specs.Spelling.{Spells};
 ghost use Rattle.puffin_data.specs.Honesty.{Counts};
 ghost use Rattle.puffin_data.specs.Walk.{IsFault, Refuses};
+ghost use Rattle.puffin_data.specs.Text.{text_in};
+ghost use Rattle.puffin_data.specs.Sightings.{found_of};
+ghost use Rattle.puffin_data.specs.Lenient.{Place, read_scope, scope_read};
+ghost use Rattle.puffin_data.specs.Scopes.{scope_seen, scope_answer, IsNextRead, ReadsScopes, ReadsFault};
 
+use crate::data::record::{Scope, ScopeRecord};
+use crate::data::scope::{Sighting, scope_in};
+use crate::data::scope_id::ScopeId;
 use crate::data::stream::Stream;
 use crate::data::walk::{Walk, walk_bytes};
 use crate::error::{Error, Result};
 use std::alloc::Global;
+use std::marker::Model;
 
-/// Reads the scopes of a stream.
-pub struct Reader;
+/// The text of stored bytes: their longest beginning that is UTF-8.
+fn text_of(stored: &[u8]) -> &str
+    ensures { result.now ≡ text_in stored.now }
+{
+    match std::str::from_utf8(stored) {
+        Ok(text) => text,
+        Err(fault) => std::str::from_utf8(&stored[..fault.valid_up_to()]).unwrap(),
+    }
+}
 
-impl Reader {
+/// What is told of a scope that stands at a place.
+fn told<'s>(at: usize, found: &Sighting<'s>) -> Scope<'s>
+    requires id { 0 < found.now.id }
+    requires fits { FitsSigned w64 (found.now.stop -ℤ found.now.start) }
+    requires begins { found.now.child_begin ≤ found.now.child_end }
+    requires ends { found.now.child_end ≤ found.now.next_sibling }
+    requires within { at + found.now.next_sibling < 2 ^ 64 }
+    ensures { scope_seen result ≡ read_scope at (found_of found.now) }
+{
+    Scope {
+        id: ScopeId::new(found.id).unwrap(),
+        rec: ScopeRecord {
+            start_ns: found.start,
+            duration_ns: found.stop - found.start,
+            text: text_of(found.text),
+        },
+        child_begin_position: (at + found.child_begin) as u64,
+        child_end_position: (at + found.child_end) as u64,
+        next_sibling_position: (at + found.next_sibling) as u64,
+    }
+}
+
+/// Reads one scope at a place of a region.
+fn read_at(bytes: &[u8], at: usize, end: usize) -> Result<Option<Scope<'_>>>
+    requires ordered { at ≤ end }
+    requires within { end ≤ length bytes.now }
+    ensures { scope_answer result ≡ scope_read bytes.now at end }
+{
+    match scope_in(&bytes[at..end])? {
+        None => Ok(None),
+        Some(found) => Ok(Some(told(at, &found))),
+    }
+}
+
+/// Reads the scopes of a stream one after the other, with their texts borrowed from it.
+///
+/// As an iterator it gives the scope that stands where the reader stands, and goes on at its next sibling. It ends at the
+/// stream's end, and without an error at a byte that isn't `(`. A fault (`PrematureEnd`, `InvalidStream` or
+/// `ScopeNeverEnded`) is given once, and then it ends. The children of a scope aren't read.
+#[derive(Drop)]
+pub struct Reader<'s> {
+    bytes: &'s [u8],
+    at: usize,
+}
+
+impl<'s> Model for Reader<'s> {
+    ghost Value = { Place };
+
+    ghost view = { λ r. record { bytes = r.bytes.now; at = r.at } };
+
+    ghost invariant = { λ r. r.at ≤ length r.bytes.now };
+}
+
+impl<'s> Reader<'s> {
+    /// Reads from a stream's first byte.
+    pub fn from_start(stream: &'s Stream) -> Reader<'s>
+        ensures { result ≡ record { bytes = stream.now.bytes; at = 0 } }
+    {
+        Reader {
+            bytes: stream.bytes(),
+            at: 0,
+        }
+    }
+
+    /// Reads from an offset on. Refused with `InvalidOffset` where the offset is above the stream's length.
+    pub fn with_offset(stream: &'s Stream, offset: u64) -> Result<Reader<'s>>
+        ensures ok { IfOk result (λ r. r ≡ record { bytes = stream.now.bytes; at = offset }) }
+        ensures refused { IsErr result ↔ (length stream.now.bytes < offset) }
+        ensures err { IfErr result (λ e. e ≡ Error.InvalidOffset) }
+    {
+        if offset > stream.len() as u64 {
+            return Err(Error::InvalidOffset);
+        }
+        Ok(Reader {
+            bytes: stream.bytes(),
+            at: offset as usize,
+        })
+    }
+
+    /// Reads one scope at `at` of the region that ends at `end`, which are offsets into the stream in this order. `None`
+    /// where `at` is the end or no byte `(` stands there. Refused with `PrematureEnd`, `InvalidStream` or
+    /// `ScopeNeverEnded` where no sound scope stands there.
+    pub fn scope_at(stream: &'s Stream, at: usize, end: usize) -> Result<Option<Scope<'s>>>
+        requires ordered { at ≤ end }
+        requires within { end ≤ length stream.now.bytes }
+        ensures { scope_answer result ≡ scope_read stream.now.bytes at end }
+    {
+        read_at(stream.bytes(), at, end)
+    }
+
+    /// All scopes that the reader gives. Refused with the fault that it gives, or with `Memory` where the vector can't grow.
+    pub fn read_top_scopes(self, alloc: Global) -> Result<Vec<Scope<'s>>>
+        ensures ok { IfOk result (λ scopes. ReadsScopes self.entry scopes.items) }
+        ensures err { IfErr result (λ e. (e ≡ Error.Memory) ⊎ ReadsFault self.entry e) }
+    {
+        let mut reader = self;
+        let mut scopes = Vec::new(alloc);
+        while let Some(next) = reader.next() {
+            match next {
+                Ok(scope) => {
+                    if scopes.push(scope).is_err() {
+                        return Err(Error::Memory);
+                    }
+                }
+                Err(fault) => return Err(fault),
+            }
+        }
+        Ok(scopes)
+    }
+
     /// Goes over the whole stream, which has to be a forest of scopes, in one pass and without the call stack.
     ///
     /// `tries` is set to the number of readings made at a byte `(`, also where the walk is refused. Refused with the
@@ -42,5 +168,27 @@ impl Reader {
         let mut tries = 0;
         let walk = Reader::walk(alloc, stream, &mut tries)?;
         Ok((walk.num_scopes, walk.depth))
+    }
+}
+
+impl<'s> Iterator for Reader<'s> {
+    type Item = Result<Scope<'s>>;
+
+    ghost next_gives = { IsNextRead };
+
+    ghost remaining = { λ r. at_most (length r.bytes - r.at) };
+
+    fn next(&mut self) -> Option<Result<Scope<'s>>> {
+        match read_at(self.bytes, self.at, self.bytes.len()) {
+            Ok(None) => None,
+            Ok(Some(scope)) => {
+                self.at = scope.next_sibling_position as usize;
+                Some(Ok(scope))
+            }
+            Err(fault) => {
+                self.at = self.bytes.len();
+                Some(Err(fault))
+            }
+        }
     }
 }

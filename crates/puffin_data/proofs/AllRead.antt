@@ -1,0 +1,86 @@
+-- What a loop over a reader has read so far.
+use Rattle.std.proofs.Common.{◌≡◌, ℕ, List, [], ◌∷◌, ◌++◌, map, length, Option, Some, None, Result, Ok, Err, refl, sym, ap, ◌∙◌, subst, append_assoc, append-nil}
+use Rattle.std.proofs.lemmas.List.{map-append}
+use Rattle.puffin_data.specs.declared.error.Error.{Error}
+use Rattle.puffin_data.specs.declared.data.record.Scope.{Scope}
+use Rattle.puffin_data.specs.Lenient.{ReadScope, Place, next_after, scope_read, Reads, ends, stops, goes_on}
+use Rattle.puffin_data.specs.Scopes.{scope_seen, IsNextRead, ReadsScopes, ReadsFault}
+
+abbrev items : List Scope → List (Result ReadScope Error)
+items scopes = map (λ s. Ok s) (map scope_seen scopes)
+
+-- after these scopes a reader stands at a place, and gives what is given from there
+pub record HasRead (from now : Place) (scopes : List Scope) : Type 0 where
+  pub same_bytes : now.bytes ≡ from.bytes
+  pub reads : (later : List (Result ReadScope Error)) → Reads from.bytes now.at later → Reads from.bytes from.at (items scopes ++ later)
+
+pub nothing_read : (from : Place) → HasRead from from []
+nothing_read from = record { same_bytes = refl; reads = λ later r. r }
+
+after_some : (from : Place) (x : Result (Option ReadScope) Error) (s : ReadScope) (at : ℕ) → (Some (Ok s), at) ≡ next_after from x → (x ≡ Ok (Some s)) × (at ≡ s.next_sibling)
+after_some from (Ok None) s at e = absurd (some_none _ (ap (λ p. p.0) e))
+  where
+    some_none : (r : Result ReadScope Error) → Some r ≡ None → ⊥
+    some_none r e = cc
+after_some from (Ok (Some t)) s at e =
+    let same : s ≡ t = same_scope s t (ap (λ p. p.0) e) in
+    (ap (λ (r : ReadScope). Ok (Some r)) (sym same), ap (λ p. p.1) e ∙ ap (λ (r : ReadScope). r.next_sibling) (sym same))
+  where
+    same_scope : (a b : ReadScope) → ◌≡◌ {A = Option (Result ReadScope Error)} (Some (Ok a)) (Some (Ok b)) → a ≡ b
+    same_scope a b e = cc
+after_some from (Err fault) s at e = absurd (ok_err s fault (ap (λ p. p.0) e))
+  where
+    ok_err : (a : ReadScope) (b : Error) → ◌≡◌ {A = Option (Result ReadScope Error)} (Some (Ok a)) (Some (Err b)) → ⊥
+    ok_err a b e = cc
+
+after_fault : (from : Place) (x : Result (Option ReadScope) Error) (fault : Error) (at : ℕ) → (Some (Err fault), at) ≡ next_after from x → x ≡ Err fault
+after_fault from (Ok None) fault at e = absurd (some_none _ (ap (λ p. p.0) e))
+  where
+    some_none : (r : Result ReadScope Error) → Some r ≡ None → ⊥
+    some_none r e = cc
+after_fault from (Ok (Some t)) fault at e = absurd (err_ok fault t (ap (λ p. p.0) e))
+  where
+    err_ok : (b : Error) (a : ReadScope) → ◌≡◌ {A = Option (Result ReadScope Error)} (Some (Err b)) (Some (Ok a)) → ⊥
+    err_ok b a e = cc
+after_fault from (Err other) fault at e = same_fault fault other (ap (λ p. p.0) e)
+  where
+    same_fault : (a b : Error) → ◌≡◌ {A = Option (Result ReadScope Error)} (Some (Err a)) (Some (Err b)) → ◌≡◌ {A = Result (Option ReadScope) Error} (Err b) (Err a)
+    same_fault a b e = cc
+
+after_none : (from : Place) (x : Result (Option ReadScope) Error) (at : ℕ) → (None, at) ≡ next_after from x → x ≡ Ok None
+after_none from (Ok None) at e = refl
+after_none from (Ok (Some t)) at e = absurd (none_some _ (ap (λ p. p.0) e))
+  where
+    none_some : (r : Result ReadScope Error) → None ≡ Some r → ⊥
+    none_some r e = cc
+after_none from (Err other) at e = absurd (none_some _ (ap (λ p. p.0) e))
+  where
+    none_some : (r : Result ReadScope Error) → None ≡ Some r → ⊥
+    none_some r e = cc
+
+-- what is read at the place where a reader stands, said of the bytes where it began
+read_there : (from now : Place) (r : Result (Option ReadScope) Error) → now.bytes ≡ from.bytes → scope_read now.bytes now.at (length now.bytes) ≡ r → scope_read from.bytes now.at (length from.bytes) ≡ r
+read_there from now r same e = subst (λ (bytes : List ℕ). scope_read bytes now.at (length bytes) ≡ r) same e
+
+pub one_more : (from now to : Place) (scopes all : List Scope) (s : Scope) → HasRead from now scopes → IsNextRead now (Some (Ok s)) to → all ≡ scopes ++ s ∷ [] → HasRead from to all
+one_more from now to scopes all s h step grown =
+    let x = scope_read now.bytes now.at (length now.bytes) in
+    let told = after_some now x (scope_seen s) to.at step.next in
+    let there = read_there from now (Ok (Some (scope_seen s))) h.same_bytes told.0 in
+    let split : items all ≡ items scopes ++ (Ok (scope_seen s) ∷ []) = ap items grown ∙ ap (map (λ (r : ReadScope). Ok r)) (map-append scope_seen scopes (s ∷ [])) ∙ map-append (λ (r : ReadScope). Ok r) (map scope_seen scopes) (scope_seen s ∷ []) in
+    record {
+      same_bytes = step.same_bytes ∙ h.same_bytes;
+      reads = λ later r.
+          let whole = h.reads (Ok (scope_seen s) ∷ later) (goes_on there (subst (λ (p : ℕ). Reads from.bytes p later) told.1 r)) in
+          subst (Reads from.bytes from.at) (sym (ap (λ (xs : List (Result ReadScope Error)). xs ++ later) split ∙ append_assoc (items scopes) (Ok (scope_seen s) ∷ []) later)) whole;
+    }
+
+pub all_read : (from now to : Place) (scopes : List Scope) → HasRead from now scopes → IsNextRead now None to → ReadsScopes from scopes
+all_read from now to scopes h step =
+    let there = read_there from now (Ok None) h.same_bytes (after_none now (scope_read now.bytes now.at (length now.bytes)) to.at step.next) in
+    subst (Reads from.bytes from.at) (append-nil (items scopes)) (h.reads [] (ends there))
+
+pub fault_read : (from now to : Place) (scopes : List Scope) (fault : Error) → HasRead from now scopes → IsNextRead now (Some (Err fault)) to → ReadsFault from fault
+fault_read from now to scopes fault h step =
+    let there = read_there from now (Err fault) h.same_bytes (after_fault now (scope_read now.bytes now.at (length now.bytes)) fault to.at step.next) in
+    (map scope_seen scopes, h.reads (Err fault ∷ []) (stops there))
