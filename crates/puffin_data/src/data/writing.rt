@@ -81,6 +81,28 @@ impl Stream {
         ensures succeeds { 22 + length (cut_text text.now) ≤ self.old.room → IsOk result }
         ensures room { self.old.room ≤ self.new.room + (22 + length (cut_text text.now)) }
     {
+        let mut now_ns = now_ns;
+        self.begin_scope_by(&mut now_ns, id, text)
+    }
+
+    /// The same with a clock that changes as it is asked: where the beginning is refused it is as it was.
+    #[inline]
+    pub fn begin_scope_by<F: FnMut() -> NanoSecond>(
+        &mut self,
+        now_ns: &mut F,
+        id: ScopeId,
+        text: &str,
+    ) -> Result<(usize, NanoSecond)>
+        requires { F.IsAlwaysCallable now_ns.old }
+        ensures begun { IfOk result (λ at. self.new.bytes ≡ self.old.bytes ++ begin_bytes id at.1 (cut_text text.now) (2 ^ 64 - 1)) }
+        ensures offset { IfOk result (λ at. at.0 + 8 ≡ length self.new.bytes) }
+        ensures clock { IfOk result (λ at. F.step now_ns.old at.1 now_ns.new) }
+        ensures err { OnErr result (self.new.bytes ≡ self.old.bytes) }
+        ensures unasked { OnErr result (now_ns.new ≡ now_ns.old) }
+        ensures memory { IfErr result (λ e. e ≡ Error.Memory) }
+        ensures succeeds { 22 + length (cut_text text.now) ≤ self.old.room → IsOk result }
+        ensures room { self.old.room ≤ self.new.room + (22 + length (cut_text text.now)) }
+    {
         let text = cut(text);
         self.reserve(HEAD_SIZE + text.len())?;
         let start = now_ns();

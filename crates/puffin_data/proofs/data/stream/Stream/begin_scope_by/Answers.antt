@@ -3,7 +3,7 @@ use Rattle.std.proofs.Common.{◌∙◌, ap, List, ℕ, ℤ, ◌++◌, ◌∷◌
 use Rattle.byteorder.specs.Endian.{little_bytes}
 use Rattle.puffin_data.specs.Spelling.{begin_bytes, time_bytes}
 use Rattle.puffin_data.proofs.Written.{begun}
-use Rattle.puffin_data.proofs.data.stream.Stream.begin_scope.Goals as goal
+use Rattle.puffin_data.proofs.data.stream.Stream.begin_scope_by.Goals as goal
 
 pub returns-clause-begun : goal.returns-clause-begun
 returns-clause-begun g c =
