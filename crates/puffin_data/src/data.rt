@@ -17,3 +17,6 @@ pub use record::{Scope, ScopeRecord};
 pub use scope_id::ScopeId;
 pub use stream::Stream;
 pub use walk::Walk;
+
+#[cfg(test)]
+mod tests;
