@@ -19,3 +19,4 @@ pub mod WordMeasures
 pub mod Lenience
 pub mod AllRead
 pub mod OneReading
+pub mod TopScopes
