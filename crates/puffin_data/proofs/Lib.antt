@@ -20,3 +20,4 @@ pub mod WordMeasures
 pub mod Lenience
 pub mod AllRead
 pub mod OneReading
+pub mod TopScopes

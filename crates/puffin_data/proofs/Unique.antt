@@ -39,7 +39,7 @@ rest_at s inner more =
     ap (λ (n : ℕ). drop n all) sum ∙ sym (drop-drop (length inner + 9) (22 + length s.text) all) ∙ ap (drop (length inner + 9)) (begin_at s inner more) ∙ sym (drop-drop 9 (length inner) (inner ++ (end_bytes s.stop ++ more))) ∙ ap (drop 9) (drop_at inner _ (length inner) refl) ∙ drop_at (end_bytes s.stop) more 9 (length-end s)
 
 -- a scope's bytes are more than those of its parts
-long : (s : Span) (inner more : List ℕ) → length inner + length more + 31 ≤ length (begin_bytes s.id s.start s.text (length inner) ++ (inner ++ (end_bytes s.stop ++ more)))
+pub long : (s : Span) (inner more : List ℕ) → length inner + length more + 31 ≤ length (begin_bytes s.id s.start s.text (length inner) ++ (inner ++ (end_bytes s.stop ++ more)))
 long s inner more = omega (arith, length-append (begin_bytes s.id s.start s.text (length inner)) (inner ++ (end_bytes s.stop ++ more)), length-append inner (end_bytes s.stop ++ more), length-append (end_bytes s.stop) more, length-begin s (length inner), length-end s)
 
 -- no fault is met in a spelling

@@ -1,6 +1,8 @@
 -- Reading one scope after another, up to a place where none begins, and without looking at their children.
 use Rattle.std.specs.Prelude.{◌≡◌, ℕ, ◌+◌, ℤ, ◌-ℤ◌, List, [], ◌∷◌, length, Option, Some, None, Result, Ok, Err}
 use Rattle.puffin_data.specs.declared.error.Error.{Error}
+use Rattle.puffin_data.specs.Forest.{Forest, empty, node}
+use Rattle.puffin_data.specs.Spelling.{spelling}
 use Rattle.puffin_data.specs.Text.{text_in}
 use Rattle.puffin_data.specs.Reading.{Found, reading}
 use Rattle.puffin_data.specs.Walk.{region}
@@ -55,3 +57,17 @@ pub data Reads (bytes : List ℕ) : ℕ → List (Result ReadScope Error) → Ty
   ends : {p : ℕ} → scope_read bytes p (length bytes) ≡ Ok None → Reads bytes p []
   stops : {p : ℕ} {fault : Error} → scope_read bytes p (length bytes) ≡ Err fault → Reads bytes p (Err fault ∷ [])
   goes_on : {p : ℕ} {s : ReadScope} {later : List (Result ReadScope Error)} → scope_read bytes p (length bytes) ≡ Ok (Some s) → Reads bytes s.next_sibling later → Reads bytes p (Ok s ∷ later)
+
+-- the top scopes of a forest whose spelling begins at place p
+abbrev pub top_scopes : ℕ → Forest → List ReadScope
+top_scopes p empty = []
+top_scopes p (node s children others) =
+    record {
+      id = s.id;
+      start = s.start;
+      duration = s.stop -ℤ s.start;
+      text = text_in s.text;
+      child_begin = p + (22 + length s.text);
+      child_end = p + (22 + length s.text + length (spelling children));
+      next_sibling = p + (22 + length s.text + length (spelling children) + 9);
+    } ∷ top_scopes (p + (22 + length s.text + length (spelling children) + 9)) others

@@ -1,7 +1,7 @@
 //! Laws of forests, their spellings and their walks, as contracts of functions that do nothing. A proof of another crate
 //! cites them by calling the function.
 
-ghost use Rattle.std.specs.Prelude.{Result, List, ℕ, ℤ, ◌≡◌, ◌+◌, ◌-◌, ◌++◌, ◌∷◌, [], ◌<◌, ◌≤◌, ◌^◌, ◌≤ℤ◌, ◌-ℤ◌, pos, negsuc, FitsSigned, length, max};
+ghost use Rattle.std.specs.Prelude.{Result, Ok, map, List, ℕ, ℤ, ◌≡◌, ◌+◌, ◌-◌, ◌++◌, ◌∷◌, [], ◌<◌, ◌≤◌, ◌^◌, ◌≤ℤ◌, ◌-ℤ◌, pos, negsuc, FitsSigned, length, max};
 ghost use Rattle.std.specs.List.{All};
 ghost use Rattle.std.specs.List.Sorted.{IsStrictlyIncreasing};
 ghost use Rattle.std.specs.Str.{IsUtf8};
@@ -14,7 +14,7 @@ ghost use Rattle.puffin_data.specs.Walk.{IsFault, IsFirstFault, Sounds};
 ghost use Rattle.puffin_data.specs.Tour.{Event, Open, Close, tour, IsBalanced};
 ghost use Rattle.puffin_data.specs.Words.{word_size, num_begun, open_after, most_open, least_open, greatest_close};
 ghost use Rattle.puffin_data.specs.Text.{cut_text, IsCut, text_in};
-ghost use Rattle.puffin_data.specs.Lenient.{ReadScope, Reads};
+ghost use Rattle.puffin_data.specs.Lenient.{ReadScope, Reads, top_scopes};
 ghost use Rattle.puffin_data.specs.Opens.{Opened, IsOpened, open_spelling, open_word, size_place, ended_bytes, with_ended};
 ghost use Rattle.puffin_data.specs.declared.error.Error.{Error};
 
@@ -142,9 +142,10 @@ pub fn open_streams()
 {}
 
 /// From each place of a stream on a reader gives one list of scopes and faults, and nothing at the stream's end, which is
-/// where it stands after a fault.
+/// where it stands after a fault. Of a forest's spelling it gives the top scopes.
 pub fn one_reading()
     ensures read { (bytes : List ℕ) (p : ℕ) → p ≤ length bytes → (items : List (Result ReadScope Error)) × Reads bytes p items }
     ensures one { (bytes : List ℕ) (p : ℕ) (a b : List (Result ReadScope Error)) → Reads bytes p a → Reads bytes p b → a ≡ b }
     ensures end { (bytes : List ℕ) (items : List (Result ReadScope Error)) → Reads bytes (length bytes) items → items ≡ [] }
+    ensures spelled { (bytes : List ℕ) (f : Forest) → Spells bytes f → length bytes < 2 ^ 63 → Reads bytes 0 (map (λ s. Ok s) (top_scopes 0 f)) }
 {}

@@ -280,10 +280,12 @@ fn a_refusal_leaves_stream_and_clock(rt: HostRuntime) -> std::result::Result<(),
         Ok((offset, start)) => {
             assert_eq!(rt; (offset, start), (18, 100));
             assert_eq!(rt; stream.len(), 26);
+            assert_eq!(rt; asked, 1);
         }
         Err(fault) => {
             assert_eq!(rt; fault, Error::Memory);
             assert!(rt; stream.is_empty());
+            assert_eq!(rt; asked, 0);
         }
     }
     Ok(())
