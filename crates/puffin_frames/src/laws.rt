@@ -8,13 +8,14 @@ ghost use Rattle.std.specs.Cmp.{IsTotalOrder};
 ghost use Rattle.std.specs.Cmp.Lexicographic.{slice_cmp};
 ghost use Rattle.std.specs.Map.{keys_of};
 ghost use Rattle.std.specs.List.Sorted.{IsStrictlySortedBy};
-ghost use Rattle.std.specs.BTreeMap.{insert_entry};
+ghost use Rattle.std.specs.BTreeMap.{BTreeMap, insert_entry};
 ghost use Rattle.std.specs.FinMap as map;
 ghost use Rattle.std.specs.Int.{int_min, int_max};
 ghost use Rattle.puffin_data.specs.declared.data.info.StreamInfo.{StreamInfo};
 ghost use Rattle.puffin_frames.specs.declared.thread_profiler.thread_info.ThreadInfo.{ThreadInfo};
 ghost use Rattle.puffin_frames.specs.Info.{Info, info_of, info_cmp, same_info, thread_cmp, keyed};
-ghost use Rattle.puffin_frames.specs.Contents.{streams_of};
+ghost use Rattle.puffin_frames.specs.Contents.{streams_of, records, all_recorded};
+ghost use Rattle.puffin_data.specs.Honesty.{Recorded, recorded};
 ghost use Rattle.puffin_frames.specs.Measures.{least_start, greatest_stop};
 
 use crate::thread_profiler::ThreadInfo;
@@ -41,15 +42,16 @@ pub fn order_of_infos()
 
 /// Entries in their order are the entries of the map by infos, and an insertion among them is one into that map.
 pub fn streams_by_info()
-    ensures entries { (entries : List (ThreadInfo × StreamInfo)) → IsStrictlySortedBy thread_cmp (keys_of entries) → map.entries (streams_of entries) ≡ keyed entries }
+    ensures entries { (entries : List (ThreadInfo × StreamInfo)) → IsStrictlySortedBy thread_cmp (keys_of entries) → map.entries (streams_of entries) ≡ keyed (records entries) }
+    ensures values { (streams : BTreeMap ThreadInfo StreamInfo) → IsStrictlySortedBy thread_cmp (keys_of streams.entries) → map.values (streams_of streams.entries) ≡ all_recorded streams }
     ensures inserted { (entries : List (ThreadInfo × StreamInfo)) (thread : ThreadInfo) (info : StreamInfo)
-        → streams_of (insert_entry thread_cmp entries thread info) ≡ map.insert (streams_of entries) (info_of thread) info }
+        → streams_of (insert_entry thread_cmp entries thread info) ≡ map.insert (streams_of entries) (info_of thread) (recorded info) }
 {}
 
 /// The joined range of one info more, and of infos one after the other.
 pub fn joined_ranges()
-    ensures start_of_one_more { (info : StreamInfo) (infos : List StreamInfo) → least_start (info ∷ infos) ≡ int_min info.range_ns.0 (least_start infos) }
-    ensures stop_of_one_more { (info : StreamInfo) (infos : List StreamInfo) → greatest_stop (info ∷ infos) ≡ int_max info.range_ns.1 (greatest_stop infos) }
-    ensures start { (xs ys : List StreamInfo) → least_start (xs ++ ys) ≡ int_min (least_start xs) (least_start ys) }
-    ensures stop { (xs ys : List StreamInfo) → greatest_stop (xs ++ ys) ≡ int_max (greatest_stop xs) (greatest_stop ys) }
+    ensures start_of_one_more { (info : Recorded) (infos : List Recorded) → least_start (info ∷ infos) ≡ int_min info.range_ns.0 (least_start infos) }
+    ensures stop_of_one_more { (info : Recorded) (infos : List Recorded) → greatest_stop (info ∷ infos) ≡ int_max info.range_ns.1 (greatest_stop infos) }
+    ensures start { (xs ys : List Recorded) → least_start (xs ++ ys) ≡ int_min (least_start xs) (least_start ys) }
+    ensures stop { (xs ys : List Recorded) → greatest_stop (xs ++ ys) ≡ int_max (greatest_stop xs) (greatest_stop ys) }
 {}

@@ -1,9 +1,11 @@
-ghost use Rattle.std.specs.Prelude.{◌≡◌, IfOk, IfErr};
+ghost use Rattle.std.specs.Prelude.{◌≡◌, ◌⊎◌, IfOk, IfErr, OnOk, OnErr};
+ghost use Rattle.std.specs.Arc.{arc_value};
+ghost use Rattle.puffin_data.specs.Honesty.{recorded, recorded_ref, joined};
 ghost use Rattle.puffin_data.specs.declared.error.Error.{Error};
 ghost use Rattle.puffin_frames.specs.Contents.{unshared};
 
 use crate::thread_profiler::ThreadInfo;
-use puffin_data::data::StreamInfo;
+use puffin_data::data::{StreamInfo, StreamInfoRef};
 use puffin_data::{Error, Result};
 use std::alloc::Global;
 use std::collections::BTreeMap;
@@ -25,4 +27,26 @@ pub(crate) fn shared(
         let _before = shared.insert(thread, Arc::new(alloc, info)?)?;
     }
     Ok(shared)
+}
+
+/// Appends an info's scopes to a shared one. Where it has another owner, that one keeps what it had.
+///
+/// Refused only with `Memory`, or with `TooLarge` where the number of scopes wouldn't fit `usize`; what is recorded is then
+/// as before.
+fn extend_shared(
+    alloc: Global,
+    shared: &mut Arc<StreamInfo>,
+    times: &StreamInfoRef,
+) -> Result<()>
+    ensures ok { OnOk result (recorded (arc_value shared.new) ≡ joined (recorded (arc_value shared.old)) (recorded_ref times.now)) }
+    ensures err { OnErr result (recorded (arc_value shared.new) ≡ recorded (arc_value shared.old)) }
+    ensures cause { IfErr result (λ e. (e ≡ Error.TooLarge) ⊎ (e ≡ Error.Memory)) }
+{
+    if let Some(alone) = Arc::get_mut(shared) {
+        return alone.extend(times);
+    }
+    let mut copy = StreamInfo::clone(shared)?;
+    copy.extend(times)?;
+    *shared = Arc::new(alloc, copy)?;
+    Ok(())
 }
