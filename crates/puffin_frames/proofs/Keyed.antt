@@ -70,15 +70,17 @@ values-records : (es : List (ThreadInfo × StreamInfo)) → values_of (records e
 values-records [] = refl
 values-records (e ∷ es) = ap (λ rs. recorded e.1 ∷ rs) (values-records es)
 
-records_at_order : (r : Ordering) (k : ThreadInfo) (v : StreamInfo) (e : ThreadInfo × StreamInfo) (es : List (ThreadInfo × StreamInfo)) → records (insert_entry thread_cmp es k v) ≡ insert_entry thread_cmp (records es) k (recorded v)
-    → records (match_ordering r ((k, v) ∷ (e ∷ es)) ((e.0, v) ∷ es) (e ∷ insert_entry thread_cmp es k v)) ≡ match_ordering r ((k, recorded v) ∷ ((e.0, recorded e.1) ∷ records es)) ((e.0, recorded v) ∷ records es) ((e.0, recorded e.1) ∷ insert_entry thread_cmp (records es) k (recorded v))
-records_at_order Less k v e es later = refl
-records_at_order Equal k v e es later = refl
-records_at_order Greater k v e es later = ap (λ fs. (e.0, recorded e.1) ∷ fs) later
+-- an insertion among entries whose values are read by g
+module _ {X Y : Type 0} (g : X → Y) where
+  read_at_order : (r : Ordering) (k : ThreadInfo) (v : X) (e : ThreadInfo × X) (es : List (ThreadInfo × X)) → map (λ f. (f.0, g f.1)) (insert_entry thread_cmp es k v) ≡ insert_entry thread_cmp (map (λ f. (f.0, g f.1)) es) k (g v)
+      → map (λ f. (f.0, g f.1)) (match_ordering r ((k, v) ∷ (e ∷ es)) ((e.0, v) ∷ es) (e ∷ insert_entry thread_cmp es k v)) ≡ match_ordering r ((k, g v) ∷ ((e.0, g e.1) ∷ map (λ f. (f.0, g f.1)) es)) ((e.0, g v) ∷ map (λ f. (f.0, g f.1)) es) ((e.0, g e.1) ∷ insert_entry thread_cmp (map (λ f. (f.0, g f.1)) es) k (g v))
+  read_at_order Less k v e es later = refl
+  read_at_order Equal k v e es later = refl
+  read_at_order Greater k v e es later = ap (λ fs. (e.0, g e.1) ∷ fs) later
 
-records-insert : (es : List (ThreadInfo × StreamInfo)) (k : ThreadInfo) (v : StreamInfo) → records (insert_entry thread_cmp es k v) ≡ insert_entry thread_cmp (records es) k (recorded v)
-records-insert [] k v = refl
-records-insert (e ∷ es) k v = records_at_order (thread_cmp k e.0) k v e es (records-insert es k v)
+  pub read-insert : (es : List (ThreadInfo × X)) (k : ThreadInfo) (v : X) → map (λ f. (f.0, g f.1)) (insert_entry thread_cmp es k v) ≡ insert_entry thread_cmp (map (λ f. (f.0, g f.1)) es) k (g v)
+  read-insert [] k v = refl
+  read-insert (e ∷ es) k v = read_at_order (thread_cmp k e.0) k v e es (read-insert es k v)
 
 pub entries-streams_of : (es : List (ThreadInfo × StreamInfo)) → IsStrictlySortedBy thread_cmp (keys_of es) → entries (streams_of es) ≡ keyed (records es)
 entries-streams_of es sorted = entries-by_info (records es) (sorted-records es sorted)
@@ -87,4 +89,4 @@ pub values-streams_of : (es : List (ThreadInfo × StreamInfo)) → IsStrictlySor
 values-streams_of es sorted = values-by_info (records es) (sorted-records es sorted) ∙ values-records es
 
 pub streams_of-insert : (es : List (ThreadInfo × StreamInfo)) (k : ThreadInfo) (v : StreamInfo) → streams_of (insert_entry thread_cmp es k v) ≡ insert (streams_of es) (info_of k) (recorded v)
-streams_of-insert es k v = ap by_info (records-insert es k v) ∙ by_info-insert (records es) k (recorded v)
+streams_of-insert es k v = ap by_info (read-insert recorded es k v) ∙ by_info-insert (records es) k (recorded v)

@@ -3,3 +3,4 @@ pub mod Joining
 pub mod Sharing
 pub mod Keyed
 pub mod Ranges
+pub mod Reports

@@ -7,5 +7,5 @@ mod unpacked;
 
 pub use frame::FrameData;
 pub use meta::{FrameIndex, FrameMeta};
-pub use shared::ThreadStreams;
+pub use shared::{ThreadStreams, report_to};
 pub use unpacked::UnpackedFrameData;
