@@ -23,7 +23,7 @@ no_length [] e = refl
 no_length (x ∷ es) e = absurd (omega arith)
 
 module _ {X : Type 0} where
-  entries-empty : entries (empty {X = X} {R = info_cmp}) ≡ []
+  pub entries-empty : entries (empty {X = X} {R = info_cmp}) ≡ []
   entries-empty = no_length _ (sym (len-entries (empty {X = X} {R = info_cmp})) ∙ len-empty info_cmp X)
 
   at_order : (r : Ordering) (k : ThreadInfo) (v : X) (e : ThreadInfo × X) (es : List (ThreadInfo × X)) → keyed (insert_entry thread_cmp es k v) ≡ put info_cmp (info_of k) v (keyed es)

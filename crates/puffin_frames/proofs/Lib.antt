@@ -4,3 +4,5 @@ pub mod Sharing
 pub mod Keyed
 pub mod Ranges
 pub mod Reports
+pub mod Measured
+pub mod Honest

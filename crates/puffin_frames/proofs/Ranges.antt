@@ -29,11 +29,11 @@ least_start-one info infos = start_from-min (pos (2 ^ 63 - 1)) info.range_ns.0 i
 pub greatest_stop-one : (info : Recorded) (infos : List Recorded) → greatest_stop (info ∷ infos) ≡ int_max info.range_ns.1 (greatest_stop infos)
 greatest_stop-one info infos = stop_from-max (negsuc (2 ^ 63 - 1)) info.range_ns.1 infos
 
-least_in_range : (infos : List Recorded) → least_start infos ≤ℤ pos (2 ^ 63 - 1)
+pub least_in_range : (infos : List Recorded) → least_start infos ≤ℤ pos (2 ^ 63 - 1)
 least_in_range [] = omega (arith, ints)
 least_in_range (x ∷ xs) = let e = least_start-one x xs in omega (arith, ints, clamps, e, least_in_range xs)
 
-greatest_in_range : (infos : List Recorded) → negsuc (2 ^ 63 - 1) ≤ℤ greatest_stop infos
+pub greatest_in_range : (infos : List Recorded) → negsuc (2 ^ 63 - 1) ≤ℤ greatest_stop infos
 greatest_in_range [] = omega (arith, ints)
 greatest_in_range (x ∷ xs) = let e = greatest_stop-one x xs in omega (arith, ints, clamps, e, greatest_in_range xs)
 

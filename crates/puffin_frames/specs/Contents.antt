@@ -1,11 +1,12 @@
 -- What a frame holds.
-use Rattle.std.specs.Prelude.{ℕ, ℤ, ◌-◌, ◌^◌, pos, negsuc, List, [], map, unwrap_or, refl}
+use Rattle.std.specs.Prelude.{◌≡◌, Some, ℕ, ℤ, ◌-◌, ◌^◌, pos, negsuc, List, [], map, unwrap_or, refl}
 use Rattle.std.specs.FinMap as map
 use Rattle.std.specs.Coded.{Coded, code_by, coded×, coded_list, coded_ℕ, coded_ℤ}
 use Rattle.std.specs.Arc.{arc_value}
 use Rattle.std.specs.BTreeMap.{BTreeMap, values}
 use Rattle.std.specs.declared.sync.Arc.{Arc}
-use Rattle.puffin_data.specs.Honesty.{Recorded, recorded, joined}
+use Rattle.puffin_data.specs.Honesty.{Recorded, recorded, joined, IsHonestRecord}
+use Rattle.puffin_data.specs.Forest.{Forest}
 use Rattle.puffin_data.specs.declared.data.info.StreamInfo.{StreamInfo}
 use Rattle.puffin_frames.specs.declared.thread_profiler.thread_info.ThreadInfo.{ThreadInfo}
 use Rattle.puffin_frames.specs.declared.frame_data.unpacked.UnpackedFrameData.{UnpackedFrameData}
@@ -54,6 +55,10 @@ no_scopes = record { bytes = []; num_scopes = 0; depth = 0; range_ns = (pos (2 ^
 -- what is reported comes after what is there under its info
 abbrev pub reported_to : Streams → Info → Recorded → Streams
 reported_to streams i r = map.insert streams i (joined (unwrap_or (map.get streams i) no_scopes) r)
+
+-- each stream spells a forest, and its numbers are that forest's measures
+abbrev pub AreHonest : Streams → Type 0
+AreHonest streams = (i : Info) (r : Recorded) → map.get streams i ≡ Some r → ∥ ((f : Forest) × IsHonestRecord r f) ∥₁
 
 -- the streams of a frame
 abbrev pub contents : UnpackedFrameData → Streams

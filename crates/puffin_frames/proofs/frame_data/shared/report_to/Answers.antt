@@ -1,5 +1,5 @@
 -- What is reported comes after what is there, and a refusal leaves what was recorded.
-use Rattle.std.proofs.Common.{◌≡◌, ap, ◌∙◌, sym}
+use Rattle.std.proofs.Common.{ap, ◌∙◌, sym}
 use Rattle.std.specs.Option.{option_copied_mut}
 use Rattle.std.specs.BTreeMap.{insert_entry}
 use Rattle.puffin_frames.specs.Info.{thread_cmp}
