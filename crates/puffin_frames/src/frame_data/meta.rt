@@ -30,8 +30,8 @@ pub struct FrameMeta {
 }
 
 impl FrameMeta {
-    /// What is said of no stream.
-    fn of_none(frame_index: FrameIndex) -> FrameMeta
+    /// What is said of no stream: nothing is counted, and the range is `(i64::MAX, i64::MIN)`.
+    pub fn of_none(frame_index: FrameIndex) -> FrameMeta
         ensures { result ≡ meta_of frame_index [] }
     {
         FrameMeta {
