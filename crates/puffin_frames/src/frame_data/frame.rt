@@ -1,4 +1,4 @@
-ghost use Rattle.std.specs.Prelude.{◌≡◌, ◌↔◌, ◌⊎◌, ◌-ℤ◌, ◌≤ℤ◌, IfOk, IfErr};
+ghost use Rattle.std.specs.Prelude.{◌≡◌, ◌↔◌, ◌⊎◌, ◌-ℤ◌, ◌≤ℤ◌, IfOk, IfErr, IfSome, IsSome};
 ghost use Rattle.std.specs.FinMap as map;
 ghost use Rattle.puffin_data.specs.declared.error.Error.{Error};
 ghost use Rattle.puffin_frames.specs.Measures.{joined_range, TotalsFit, IsOrdered, DurationFits, MakeFrame, meta_of};
@@ -70,6 +70,15 @@ impl FrameData {
         ensures meta { result.meta ≡ frame_meta self }
     {
         self.unpacked
+    }
+
+    /// The frame as it is held unpacked, or `None` where it is held packed alone, which no frame is yet.
+    pub fn as_unpacked(&self) -> Option<&UnpackedFrameData>
+        ensures contents { IfSome result (λ unpacked. contents unpacked.now ≡ frame_contents self.now) }
+        ensures meta { IfSome result (λ unpacked. unpacked.now.meta ≡ frame_meta self.now) }
+        ensures held { IsSome result }
+    {
+        Some(&self.unpacked)
     }
 
     /// What is said of the frame's streams together.
