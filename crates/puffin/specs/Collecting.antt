@@ -1,5 +1,5 @@
 -- What a call that collects a frame hands out.
-use Rattle.std.specs.Prelude.{◌≡◌, ℕ, ◌+◌, ◌<◌, Option, Some, None}
+use Rattle.std.specs.Prelude.{◌≡◌, ℕ, ◌+◌, ◌<◌, false, [], Option, Some, None}
 use Rattle.std.specs.FinMap as map
 use Rattle.std.specs.Arc.{arc_value}
 use Rattle.std.specs.declared.sync.Arc.{Arc}
@@ -11,10 +11,11 @@ use Rattle.puffin_frames.specs.Contents.{Streams, AreHonest, frame_contents, fra
 use Rattle.puffin_frames.specs.Measures.{total_scopes, meta_of, IsOrdered, DurationFits}
 use Rattle.puffin.specs.Collected.{Collected, after_frame, after_no_frame}
 
--- the frame holds all that is pending, under the next index
+-- the frame holds all that is pending, under the next index, and tells of no scope
 pub record HoldsAll (c : Collected) (frame : FrameData) : Type 0 where
   pub contents : frame_contents frame ≡ c.streams
   pub meta : frame_meta frame ≡ meta_of c.index (map.values c.streams)
+  pub no_delta : (frame.scope_delta.items ≡ []) × (frame.full_delta ≡ false)
 
 -- no stream has a scope
 abbrev pub HaveNoScopes : Streams → Type 0

@@ -94,6 +94,7 @@ impl Collector {
         if is_too_long(meta.range_ns) {
             return Err(Error::RangeTooLong);
         }
+        // The scopes of one stream fit, as those of all do.
         if report_to(self.alloc, &mut self.pending, info, times).is_err() {
             return Err(Error::Memory);
         }
@@ -157,6 +158,8 @@ impl Collector {
         ensures pending { result.pending ≡ total_scopes (map.values self.now.streams) }
         ensures emitted { result.emitted ≡ self.now.emitted }
         ensures sum { result.reported ≡ result.pending + result.emitted }
+        // What is pending is honest, at any time.
+        ensures honest { AreHonest self.now.streams }
     {
         Totals {
             reported: self.reported,

@@ -97,6 +97,8 @@ impl GlobalProfiler {
         ensures pending { result.pending ≡ total_scopes (map.values (collected self.now).streams) }
         ensures emitted { result.emitted ≡ (collected self.now).emitted }
         ensures sum { result.reported ≡ result.pending + result.emitted }
+        // What is pending is honest, at any time.
+        ensures honest { AreHonest (collected self.now).streams }
     {
         self.collector.totals()
     }
