@@ -1,5 +1,5 @@
 -- A map of threads, seen by the threads' infos.
-use Rattle.std.proofs.Common.{◌≡◌, length, arith, cond, List, [], ◌∷◌, map, Some, refl, sym, ap, ◌∙◌}
+use Rattle.std.proofs.Common.{◌≡◌, length, arith, cond, List, [], ◌∷◌, map, Some, refl, sym, ap, subst, ◌∙◌}
 use Rattle.std.specs.declared.cmp.Ordering.{Ordering}
 use Rattle.std.specs.declared.cmp.Ordering.TheVariants.{Less, Equal, Greater}
 use Rattle.std.specs.Ordering.{eq_by_cmp, match_ordering}
@@ -11,6 +11,10 @@ use Rattle.std.specs.FinMap.{empty, len-entries, len-empty, insert, entries, val
 use Rattle.std.specs.FinMap.Entries.{find-put, by_order}
 use Rattle.std.proofs.lemmas.Map.Keys.{sorted_head, sorted_tail}
 use Rattle.puffin_frames.specs.declared.thread_profiler.thread_info.ThreadInfo.{ThreadInfo}
+use Rattle.std.proofs.lemmas.Map.Made.{keys_of-map_values}
+use Rattle.puffin_data.specs.Honesty.{recorded}
+use Rattle.puffin_data.specs.declared.data.info.StreamInfo.{StreamInfo}
+use Rattle.puffin_frames.specs.Contents.{records, streams_of}
 use Rattle.puffin_frames.specs.Info.{info_cmp, info_of, thread_cmp, keyed, by_info}
 use Rattle.puffin_frames.proofs.Infos.{info_cmp_total, info_cmp-one}
 
@@ -19,7 +23,7 @@ no_length [] e = refl
 no_length (x ∷ es) e = absurd (omega arith)
 
 module _ {X : Type 0} where
-  entries-empty : entries (empty {X = X} {R = info_cmp}) ≡ []
+  pub entries-empty : entries (empty {X = X} {R = info_cmp}) ≡ []
   entries-empty = no_length _ (sym (len-entries (empty {X = X} {R = info_cmp})) ∙ len-empty info_cmp X)
 
   at_order : (r : Ordering) (k : ThreadInfo) (v : X) (e : ThreadInfo × X) (es : List (ThreadInfo × X)) → keyed (insert_entry thread_cmp es k v) ≡ put info_cmp (info_of k) v (keyed es)
@@ -57,3 +61,32 @@ module _ {X : Type 0} where
 
   pub values-by_info : (es : List (ThreadInfo × X)) → IsStrictlySortedBy thread_cmp (keys_of es) → values (by_info es) ≡ values_of es
   values-by_info es sorted = ap (map (λ e. e.1)) (entries-by_info es sorted) ∙ values-keyed es
+
+-- what is recorded, in place of the streams themselves
+sorted-records : (es : List (ThreadInfo × StreamInfo)) → IsStrictlySortedBy thread_cmp (keys_of es) → IsStrictlySortedBy thread_cmp (keys_of (records es))
+sorted-records es sorted = subst (λ (ks : List ThreadInfo). IsStrictlySortedBy thread_cmp ks) (sym (keys_of-map_values recorded es)) sorted
+
+values-records : (es : List (ThreadInfo × StreamInfo)) → values_of (records es) ≡ map recorded (values_of es)
+values-records [] = refl
+values-records (e ∷ es) = ap (λ rs. recorded e.1 ∷ rs) (values-records es)
+
+-- an insertion among entries whose values are read by g
+module _ {X Y : Type 0} (g : X → Y) where
+  read_at_order : (r : Ordering) (k : ThreadInfo) (v : X) (e : ThreadInfo × X) (es : List (ThreadInfo × X)) → map (λ f. (f.0, g f.1)) (insert_entry thread_cmp es k v) ≡ insert_entry thread_cmp (map (λ f. (f.0, g f.1)) es) k (g v)
+      → map (λ f. (f.0, g f.1)) (match_ordering r ((k, v) ∷ (e ∷ es)) ((e.0, v) ∷ es) (e ∷ insert_entry thread_cmp es k v)) ≡ match_ordering r ((k, g v) ∷ ((e.0, g e.1) ∷ map (λ f. (f.0, g f.1)) es)) ((e.0, g v) ∷ map (λ f. (f.0, g f.1)) es) ((e.0, g e.1) ∷ insert_entry thread_cmp (map (λ f. (f.0, g f.1)) es) k (g v))
+  read_at_order Less k v e es later = refl
+  read_at_order Equal k v e es later = refl
+  read_at_order Greater k v e es later = ap (λ fs. (e.0, g e.1) ∷ fs) later
+
+  pub read-insert : (es : List (ThreadInfo × X)) (k : ThreadInfo) (v : X) → map (λ f. (f.0, g f.1)) (insert_entry thread_cmp es k v) ≡ insert_entry thread_cmp (map (λ f. (f.0, g f.1)) es) k (g v)
+  read-insert [] k v = refl
+  read-insert (e ∷ es) k v = read_at_order (thread_cmp k e.0) k v e es (read-insert es k v)
+
+pub entries-streams_of : (es : List (ThreadInfo × StreamInfo)) → IsStrictlySortedBy thread_cmp (keys_of es) → entries (streams_of es) ≡ keyed (records es)
+entries-streams_of es sorted = entries-by_info (records es) (sorted-records es sorted)
+
+pub values-streams_of : (es : List (ThreadInfo × StreamInfo)) → IsStrictlySortedBy thread_cmp (keys_of es) → values (streams_of es) ≡ map recorded (values_of es)
+values-streams_of es sorted = values-by_info (records es) (sorted-records es sorted) ∙ values-records es
+
+pub streams_of-insert : (es : List (ThreadInfo × StreamInfo)) (k : ThreadInfo) (v : StreamInfo) → streams_of (insert_entry thread_cmp es k v) ≡ insert (streams_of es) (info_of k) (recorded v)
+streams_of-insert es k v = ap by_info (read-insert recorded es k v) ∙ by_info-insert (records es) k (recorded v)

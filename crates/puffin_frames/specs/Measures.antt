@@ -2,30 +2,30 @@
 use Rattle.std.specs.Prelude.{ℕ, ◌-◌, ◌<◌, ◌^◌, ℤ, pos, negsuc, ◌-ℤ◌, ◌≤ℤ◌, FitsSigned, List, length, fold}
 use Rattle.std.specs.List.{sum_by}
 use Rattle.std.specs.Int.{w64, int_min, int_max}
-use Rattle.puffin_data.specs.declared.data.info.StreamInfo.{StreamInfo}
+use Rattle.puffin_data.specs.Honesty.{Recorded}
 use Rattle.puffin_frames.specs.declared.frame_data.meta.FrameMeta.{FrameMeta}
 
 -- how many bytes all of the streams have
-abbrev pub total_bytes : List StreamInfo → ℕ
-total_bytes infos = sum_by (λ info. length info.stream.bytes) infos
+abbrev pub total_bytes : List Recorded → ℕ
+total_bytes infos = sum_by (λ info. length info.bytes) infos
 
 -- how many scopes all of the streams have
-abbrev pub total_scopes : List StreamInfo → ℕ
+abbrev pub total_scopes : List Recorded → ℕ
 total_scopes infos = sum_by (λ info. info.num_scopes) infos
 
 -- the least start of all, and i64's greatest number where there is none
-abbrev pub least_start : List StreamInfo → ℤ
+abbrev pub least_start : List Recorded → ℤ
 least_start infos = fold (λ least info. int_min least info.range_ns.0) (pos (2 ^ 63 - 1)) infos
 
 -- the greatest stop of all, and i64's least number where there is none
-abbrev pub greatest_stop : List StreamInfo → ℤ
+abbrev pub greatest_stop : List Recorded → ℤ
 greatest_stop infos = fold (λ greatest info. int_max greatest info.range_ns.1) (negsuc (2 ^ 63 - 1)) infos
 
-abbrev pub joined_range : List StreamInfo → ℤ × ℤ
+abbrev pub joined_range : List Recorded → ℤ × ℤ
 joined_range infos = (least_start infos, greatest_stop infos)
 
 -- both totals are usize
-pub record TotalsFit (infos : List StreamInfo) : Type 0 where
+pub record TotalsFit (infos : List Recorded) : Type 0 where
   pub bytes : total_bytes infos < 2 ^ 64
   pub scopes : total_scopes infos < 2 ^ 64
 
@@ -38,13 +38,13 @@ abbrev pub DurationFits : ℤ × ℤ → Type 0
 DurationFits range = FitsSigned w64 (range.1 -ℤ range.0)
 
 -- the infos make a frame
-pub record MakeFrame (infos : List StreamInfo) : Type 0 where
+pub record MakeFrame (infos : List Recorded) : Type 0 where
   pub totals : TotalsFit infos
   pub ordered : IsOrdered (joined_range infos)
   pub duration : DurationFits (joined_range infos)
 
 -- what a frame with this index says of these infos
-abbrev pub meta_of : ℕ → List StreamInfo → FrameMeta
+abbrev pub meta_of : ℕ → List Recorded → FrameMeta
 meta_of index infos = record {
   frame_index = index;
   range_ns = joined_range infos;

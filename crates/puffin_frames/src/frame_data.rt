@@ -1,9 +1,11 @@
 //! Frames: what was reported since the frame before.
 
+mod frame;
 mod meta;
 mod shared;
 mod unpacked;
 
+pub use frame::FrameData;
 pub use meta::{FrameIndex, FrameMeta};
-pub use shared::ThreadStreams;
+pub use shared::{ThreadStreams, report_to};
 pub use unpacked::UnpackedFrameData;

@@ -1,21 +1,23 @@
 //! Laws of infos and of what is said of them together, as contracts of functions that do nothing. A proof of another
 //! crate cites them by calling the function.
 
-ghost use Rattle.std.specs.Prelude.{List, ℤ, ◌≡◌, ◌<ℤ◌, ◌∷◌, ◌++◌, IsTrue};
+ghost use Rattle.std.specs.Prelude.{List, ℤ, ◌≡◌, ◌<ℤ◌, ◌∷◌, ◌++◌, ◌+◌, [], ◌<◌, length, IsTrue};
 ghost use Rattle.std.specs.declared.cmp.Ordering.TheVariants.{Less};
 ghost use Rattle.std.specs.Ordering.{nat_cmp};
 ghost use Rattle.std.specs.Cmp.{IsTotalOrder};
 ghost use Rattle.std.specs.Cmp.Lexicographic.{slice_cmp};
 ghost use Rattle.std.specs.Map.{keys_of};
 ghost use Rattle.std.specs.List.Sorted.{IsStrictlySortedBy};
-ghost use Rattle.std.specs.BTreeMap.{insert_entry};
+ghost use Rattle.std.specs.BTreeMap.{BTreeMap, insert_entry};
 ghost use Rattle.std.specs.FinMap as map;
 ghost use Rattle.std.specs.Int.{int_min, int_max};
 ghost use Rattle.puffin_data.specs.declared.data.info.StreamInfo.{StreamInfo};
 ghost use Rattle.puffin_frames.specs.declared.thread_profiler.thread_info.ThreadInfo.{ThreadInfo};
 ghost use Rattle.puffin_frames.specs.Info.{Info, info_of, info_cmp, same_info, thread_cmp, keyed};
-ghost use Rattle.puffin_frames.specs.Contents.{streams_of};
-ghost use Rattle.puffin_frames.specs.Measures.{least_start, greatest_stop};
+ghost use Rattle.puffin_frames.specs.Contents.{Streams, streams_of, records, all_recorded, reported_to, AreHonest};
+ghost use Rattle.puffin_data.specs.Forest.{Forest};
+ghost use Rattle.puffin_data.specs.Honesty.{Recorded, recorded, IsHonestRecord};
+ghost use Rattle.puffin_frames.specs.Measures.{total_bytes, total_scopes, least_start, greatest_stop, joined_range, IsOrdered};
 
 use crate::thread_profiler::ThreadInfo;
 use std::hash::Hash;
@@ -41,15 +43,37 @@ pub fn order_of_infos()
 
 /// Entries in their order are the entries of the map by infos, and an insertion among them is one into that map.
 pub fn streams_by_info()
-    ensures entries { (entries : List (ThreadInfo × StreamInfo)) → IsStrictlySortedBy thread_cmp (keys_of entries) → map.entries (streams_of entries) ≡ keyed entries }
+    ensures entries { (entries : List (ThreadInfo × StreamInfo)) → IsStrictlySortedBy thread_cmp (keys_of entries) → map.entries (streams_of entries) ≡ keyed (records entries) }
+    ensures values { (streams : BTreeMap ThreadInfo StreamInfo) → IsStrictlySortedBy thread_cmp (keys_of streams.entries) → map.values (streams_of streams.entries) ≡ all_recorded streams }
     ensures inserted { (entries : List (ThreadInfo × StreamInfo)) (thread : ThreadInfo) (info : StreamInfo)
-        → streams_of (insert_entry thread_cmp entries thread info) ≡ map.insert (streams_of entries) (info_of thread) info }
+        → streams_of (insert_entry thread_cmp entries thread info) ≡ map.insert (streams_of entries) (info_of thread) (recorded info) }
 {}
 
 /// The joined range of one info more, and of infos one after the other.
 pub fn joined_ranges()
-    ensures start_of_one_more { (info : StreamInfo) (infos : List StreamInfo) → least_start (info ∷ infos) ≡ int_min info.range_ns.0 (least_start infos) }
-    ensures stop_of_one_more { (info : StreamInfo) (infos : List StreamInfo) → greatest_stop (info ∷ infos) ≡ int_max info.range_ns.1 (greatest_stop infos) }
-    ensures start { (xs ys : List StreamInfo) → least_start (xs ++ ys) ≡ int_min (least_start xs) (least_start ys) }
-    ensures stop { (xs ys : List StreamInfo) → greatest_stop (xs ++ ys) ≡ int_max (greatest_stop xs) (greatest_stop ys) }
+    ensures start_of_one_more { (info : Recorded) (infos : List Recorded) → least_start (info ∷ infos) ≡ int_min info.range_ns.0 (least_start infos) }
+    ensures stop_of_one_more { (info : Recorded) (infos : List Recorded) → greatest_stop (info ∷ infos) ≡ int_max info.range_ns.1 (greatest_stop infos) }
+    ensures start { (xs ys : List Recorded) → least_start (xs ++ ys) ≡ int_min (least_start xs) (least_start ys) }
+    ensures stop { (xs ys : List Recorded) → greatest_stop (xs ++ ys) ≡ int_max (greatest_stop xs) (greatest_stop ys) }
 {}
+
+/// What a report does to what is said of all streams together.
+pub fn reported_streams()
+    ensures bytes { (streams : Streams) (i : Info) (r : Recorded) → total_bytes (map.values (reported_to streams i r)) ≡ total_bytes (map.values streams) + length r.bytes }
+    ensures scopes { (streams : Streams) (i : Info) (r : Recorded) → total_scopes (map.values (reported_to streams i r)) ≡ total_scopes (map.values streams) + r.num_scopes }
+    ensures start { (streams : Streams) (i : Info) (r : Recorded) → least_start (map.values (reported_to streams i r)) ≡ int_min (least_start (map.values streams)) r.range_ns.0 }
+    ensures stop { (streams : Streams) (i : Info) (r : Recorded) → greatest_stop (map.values (reported_to streams i r)) ≡ int_max (greatest_stop (map.values streams)) r.range_ns.1 }
+    ensures none { map.values {X = Recorded} {R = info_cmp} map.empty ≡ [] }
+{}
+
+/// What a report does to honest streams. Where there is a scope among them, their joined range isn't reversed, and where
+/// there is none, no stream has one.
+pub fn honest_streams()
+    ensures none { AreHonest map.empty }
+    ensures report { (streams : Streams) (i : Info) (r : Recorded) (f : Forest) → AreHonest streams → IsHonestRecord r f → AreHonest (reported_to streams i r) }
+    ensures ordered { (streams : Streams) → AreHonest streams → 0 < total_scopes (map.values streams) → IsOrdered (joined_range (map.values streams)) }
+    ensures no_scopes { (streams : Streams) (i : Info) (r : Recorded) → total_scopes (map.values streams) ≡ 0 → map.get streams i ≡ Some r → r.num_scopes ≡ 0 }
+{
+    puffin_data::laws::joined_infos();
+    puffin_data::laws::range_of_a_forest();
+}

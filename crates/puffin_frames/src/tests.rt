@@ -1,4 +1,4 @@
-use crate::frame_data::UnpackedFrameData;
+use crate::frame_data::{FrameData, UnpackedFrameData, report_to};
 use crate::thread_profiler::ThreadInfo;
 use puffin_data::data::{Stream, StreamInfo};
 use puffin_data::{Error, NanoSecond};
@@ -76,6 +76,60 @@ fn two_streams_are_summed_and_joined(rt: HostRuntime) -> Outcome {
     assert_eq!(rt; frame.duration_ns(), 405);
     assert_eq!(rt; frame.meta.num_bytes, 127);
     assert_eq!(rt; frame.meta.num_scopes, 5);
+    Ok(())
+}
+
+#[test]
+fn a_frame_with_its_delta(rt: HostRuntime) -> Outcome {
+    let mut streams = BTreeMap::new(rt.alloc());
+    let _ = streams.insert(thread(&rt, Some(100), "main")?, three_scopes(&rt)?)?;
+    let frame = FrameData::new(rt.alloc(), 7, streams, Vec::new(rt.alloc()), true)?;
+    assert_eq!(rt; frame.frame_index(), 7);
+    assert_eq!(rt; frame.range_ns(), (100, 400));
+    assert_eq!(rt; frame.duration_ns(), 300);
+    assert_eq!(rt; frame.meta().num_bytes, 127);
+    assert!(rt; frame.full_delta);
+    assert_eq!(rt;
+        frame.as_unpacked().map(|held| held.thread_streams.len()),
+        Some(1)
+    );
+    let unpacked = frame.into_unpacked();
+    assert_eq!(rt; unpacked.meta.num_scopes, 3);
+    let again = FrameData::of_unpacked(unpacked, Vec::new(rt.alloc()), false);
+    assert_eq!(rt; again.frame_index(), 7);
+    Ok(())
+}
+
+#[test]
+fn a_report_leaves_what_another_owner_has(rt: HostRuntime) -> Outcome {
+    let mut streams = BTreeMap::new(rt.alloc());
+    let info = three_scopes(&rt)?;
+    let main = thread(&rt, Some(100), "main")?;
+    report_to(
+        rt.alloc(),
+        &mut streams,
+        main.clone()?,
+        &info.as_stream_into_ref(),
+    )?;
+    let before = streams.get(&main).map(|shared| shared.clone()).transpose()?;
+    report_to(
+        rt.alloc(),
+        &mut streams,
+        main.clone()?,
+        &info.as_stream_into_ref(),
+    )?;
+    assert_eq!(rt; before.map(|shared| shared.stream.len()), Some(127));
+    assert_eq!(rt;
+        streams.get(&main).map(|shared| shared.stream.len()),
+        Some(254)
+    );
+    report_to(
+        rt.alloc(),
+        &mut streams,
+        main.clone()?,
+        &info.as_stream_into_ref(),
+    )?;
+    assert_eq!(rt; streams.get(&main).map(|shared| shared.num_scopes), Some(9));
     Ok(())
 }
 

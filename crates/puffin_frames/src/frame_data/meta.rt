@@ -1,14 +1,15 @@
 ghost use Rattle.std.specs.Prelude.{◌≡◌, [], ◌+◌, ◌≤◌, ◌<◌, ◌^◌, ◌⊎◌, ◌↔◌, length, IfOk, IfErr, IfSome, IfNone};
-ghost use Rattle.std.specs.BTreeMap.{values};
 ghost use Rattle.std.specs.Int.{int_min, int_max};
 ghost use Rattle.puffin_data.specs.declared.error.Error.{Error};
 ghost use Rattle.std.specs.Map.{keys_of};
 ghost use Rattle.std.specs.List.Sorted.{IsStrictlySortedBy};
 ghost use Rattle.puffin_frames.specs.Info.{thread_cmp};
+ghost use Rattle.puffin_frames.specs.Contents.{all_recorded};
 ghost use Rattle.puffin_frames.specs.Measures.{meta_of, TotalsFit};
+ghost use Rattle.puffin_data.specs.Honesty.{recorded_ref};
 
 use crate::thread_profiler::ThreadInfo;
-use puffin_data::data::StreamInfo;
+use puffin_data::data::{StreamInfo, StreamInfoRef};
 use puffin_data::{Error, NanoSecond, Result};
 use std::collections::BTreeMap;
 
@@ -29,8 +30,8 @@ pub struct FrameMeta {
 }
 
 impl FrameMeta {
-    /// What is said of no stream.
-    fn of_none(frame_index: FrameIndex) -> FrameMeta
+    /// What is said of no stream: nothing is counted, and the range is `(i64::MAX, i64::MIN)`.
+    pub fn of_none(frame_index: FrameIndex) -> FrameMeta
         ensures { result ≡ meta_of frame_index [] }
     {
         FrameMeta {
@@ -41,15 +42,15 @@ impl FrameMeta {
         }
     }
 
-    /// With one more stream. `None` where a sum doesn't fit.
-    fn joined(self, info: &StreamInfo) -> Option<FrameMeta>
+    /// What is said with one more stream. `None` where a sum doesn't fit `usize`.
+    pub fn joined(self, info: &StreamInfoRef) -> Option<FrameMeta>
         ensures frame_index { IfSome result (λ meta. meta.frame_index ≡ self.frame_index) }
-        ensures num_bytes { IfSome result (λ meta. meta.num_bytes ≡ self.num_bytes + length info.now.stream.bytes) }
+        ensures num_bytes { IfSome result (λ meta. meta.num_bytes ≡ self.num_bytes + length (recorded_ref info.now).bytes) }
         ensures num_scopes { IfSome result (λ meta. meta.num_scopes ≡ self.num_scopes + info.now.num_scopes) }
         ensures start { IfSome result (λ meta. meta.range_ns.0 ≡ int_min self.range_ns.0 info.now.range_ns.0) }
         ensures stop { IfSome result (λ meta. meta.range_ns.1 ≡ int_max self.range_ns.1 info.now.range_ns.1) }
         ensures fit { IfSome result (λ meta. (meta.num_bytes < 2 ^ 64) × (meta.num_scopes < 2 ^ 64)) }
-        ensures none { IfNone result ((2 ^ 64 ≤ self.num_bytes + length info.now.stream.bytes) ⊎ (2 ^ 64 ≤ self.num_scopes + info.now.num_scopes)) }
+        ensures none { IfNone result ((2 ^ 64 ≤ self.num_bytes + length (recorded_ref info.now).bytes) ⊎ (2 ^ 64 ≤ self.num_scopes + info.now.num_scopes)) }
     {
         let num_bytes = self.num_bytes.checked_add(info.stream.len())?;
         let num_scopes = self.num_scopes.checked_add(info.num_scopes)?;
@@ -67,14 +68,14 @@ impl FrameMeta {
         frame_index: FrameIndex,
         streams: &BTreeMap<ThreadInfo, StreamInfo>,
     ) -> Result<FrameMeta>
-        ensures ok { IfOk result (λ meta. meta ≡ meta_of frame_index (values streams.now)) }
+        ensures ok { IfOk result (λ meta. meta ≡ meta_of frame_index (all_recorded streams.now)) }
         ensures sorted { IsStrictlySortedBy thread_cmp (keys_of streams.now.entries) }
-        ensures totals { IfOk result (λ _. TotalsFit (values streams.now)) }
-        ensures err { IfErr result (λ e. (e ≡ Error.TooLarge) × ¬ TotalsFit (values streams.now)) }
+        ensures totals { IfOk result (λ _. TotalsFit (all_recorded streams.now)) }
+        ensures err { IfErr result (λ e. (e ≡ Error.TooLarge) × ¬ TotalsFit (all_recorded streams.now)) }
     {
         let mut meta = FrameMeta::of_none(frame_index);
         for info in streams.values() {
-            let Some(more) = meta.joined(info) else {
+            let Some(more) = meta.joined(&info.as_stream_into_ref()) else {
                 return Err(Error::TooLarge);
             };
             meta = more;

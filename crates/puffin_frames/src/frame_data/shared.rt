@@ -1,9 +1,12 @@
-ghost use Rattle.std.specs.Prelude.{◌≡◌, IfOk, IfErr};
+ghost use Rattle.std.specs.Prelude.{◌≡◌, ◌⊎◌, IfOk, IfErr, OnOk, OnErr};
+ghost use Rattle.std.specs.Arc.{arc_value};
+ghost use Rattle.puffin_data.specs.Honesty.{recorded, recorded_ref, joined};
 ghost use Rattle.puffin_data.specs.declared.error.Error.{Error};
-ghost use Rattle.puffin_frames.specs.Contents.{unshared};
+ghost use Rattle.puffin_frames.specs.Contents.{unshared, shared_streams, reported_to};
+ghost use Rattle.puffin_frames.specs.Info.{info_of};
 
 use crate::thread_profiler::ThreadInfo;
-use puffin_data::data::StreamInfo;
+use puffin_data::data::{StreamInfo, StreamInfoRef};
 use puffin_data::{Error, Result};
 use std::alloc::Global;
 use std::collections::BTreeMap;
@@ -25,4 +28,45 @@ pub(crate) fn shared(
         let _before = shared.insert(thread, Arc::new(alloc, info)?)?;
     }
     Ok(shared)
+}
+
+/// Appends an info's scopes to a shared one. Where it has another owner, that one keeps what it had.
+///
+/// Refused only with `Memory`, or with `TooLarge` where the number of scopes wouldn't fit `usize`; what is recorded is then
+/// as before.
+fn extend_shared(alloc: Global, shared: &mut Arc<StreamInfo>, times: &StreamInfoRef) -> Result<()>
+    ensures ok { OnOk result (recorded (arc_value shared.new) ≡ joined (recorded (arc_value shared.old)) (recorded_ref times.now)) }
+    ensures err { OnErr result (recorded (arc_value shared.new) ≡ recorded (arc_value shared.old)) }
+    ensures cause { IfErr result (λ e. (e ≡ Error.TooLarge) ⊎ (e ≡ Error.Memory)) }
+{
+    if let Some(alone) = Arc::get_mut(shared) {
+        return alone.extend(times);
+    }
+    let mut copy = StreamInfo::clone(shared)?;
+    copy.extend(times)?;
+    *shared = Arc::new(alloc, copy)?;
+    Ok(())
+}
+
+/// Appends an info's scopes to those that a map has under their thread.
+///
+/// Refused only with `Memory`, or with `TooLarge` where the number of scopes wouldn't fit `usize`; what the map has under each
+/// thread is then as before. Other owners of a stream of the map keep what they had.
+pub fn report_to(
+    alloc: Global,
+    streams: &mut ThreadStreams,
+    info: ThreadInfo,
+    times: &StreamInfoRef,
+) -> Result<()>
+    ensures ok { OnOk result (shared_streams streams.new.entries ≡ reported_to (shared_streams streams.old.entries) (info_of info) (recorded_ref times.now)) }
+    ensures err { OnErr result (shared_streams streams.new.entries ≡ shared_streams streams.old.entries) }
+    ensures cause { IfErr result (λ e. (e ≡ Error.TooLarge) ⊎ (e ≡ Error.Memory)) }
+{
+    if let Some(shared) = streams.get_mut(&info) {
+        return extend_shared(alloc, shared, times);
+    }
+    let mut fresh = StreamInfo::new(alloc);
+    fresh.extend(times)?;
+    let _before = streams.insert(info, Arc::new(alloc, fresh)?)?;
+    Ok(())
 }

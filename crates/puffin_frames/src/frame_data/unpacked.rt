@@ -25,11 +25,10 @@ pub struct UnpackedFrameData {
 
 impl UnpackedFrameData {
     ghost use Rattle.std.specs.Prelude.{◌↔◌, ◌⊎◌, IfOk, IfErr};
-    ghost use Rattle.std.specs.BTreeMap.{values};
     ghost use Rattle.std.specs.FinMap as map;
     ghost use Rattle.puffin_data.specs.declared.error.Error.{Error};
     ghost use Rattle.puffin_frames.specs.Measures.{joined_range, TotalsFit, IsOrdered, DurationFits, MakeFrame, meta_of};
-    ghost use Rattle.puffin_frames.specs.Contents.{unshared, streams_of, contents};
+    ghost use Rattle.puffin_frames.specs.Contents.{unshared, streams_of, all_recorded, contents};
 
     /// The frame with this number of these streams, each of which is moved into an `Arc`.
     ///
@@ -41,17 +40,17 @@ impl UnpackedFrameData {
         frame_index: FrameIndex,
         thread_streams: BTreeMap<ThreadInfo, StreamInfo>,
     ) -> Result<UnpackedFrameData>
-        ensures meta { IfOk result (λ frame. frame.meta ≡ meta_of frame_index (values thread_streams)) }
+        ensures meta { IfOk result (λ frame. frame.meta ≡ meta_of frame_index (all_recorded thread_streams)) }
         ensures streams { IfOk result (λ frame. unshared frame.thread_streams.entries ≡ thread_streams.entries) }
 
         // The same by infos: the frame holds what was given, and what its meta says is said of what it holds.
         ensures contents { IfOk result (λ frame. contents frame ≡ streams_of thread_streams.entries) }
         ensures own_meta { IfOk result (λ frame. frame.meta ≡ meta_of frame_index (map.values (contents frame))) }
 
-        ensures too_large { (result ≡ Err Error.TooLarge) ↔ ¬ TotalsFit (values thread_streams) }
-        ensures empty { (result ≡ Err Error.Empty) ↔ (TotalsFit (values thread_streams) × ¬ IsOrdered (joined_range (values thread_streams))) }
-        ensures range_too_long { (result ≡ Err Error.RangeTooLong) ↔ (TotalsFit (values thread_streams) × IsOrdered (joined_range (values thread_streams)) × ¬ DurationFits (joined_range (values thread_streams))) }
-        ensures memory { result ≡ Err Error.Memory → MakeFrame (values thread_streams) }
+        ensures too_large { (result ≡ Err Error.TooLarge) ↔ ¬ TotalsFit (all_recorded thread_streams) }
+        ensures empty { (result ≡ Err Error.Empty) ↔ (TotalsFit (all_recorded thread_streams) × ¬ IsOrdered (joined_range (all_recorded thread_streams))) }
+        ensures range_too_long { (result ≡ Err Error.RangeTooLong) ↔ (TotalsFit (all_recorded thread_streams) × IsOrdered (joined_range (all_recorded thread_streams)) × ¬ DurationFits (joined_range (all_recorded thread_streams))) }
+        ensures memory { result ≡ Err Error.Memory → MakeFrame (all_recorded thread_streams) }
         ensures only { IfErr result (λ e. (e ≡ Error.TooLarge) ⊎ (e ≡ Error.Empty) ⊎ (e ≡ Error.RangeTooLong) ⊎ (e ≡ Error.Memory)) }
     {
         let meta = FrameMeta::of_streams(frame_index, &thread_streams)?;

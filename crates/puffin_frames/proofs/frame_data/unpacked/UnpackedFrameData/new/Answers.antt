@@ -1,13 +1,13 @@
 -- What a frame holds, by infos, is what was given.
 use Rattle.std.proofs.Common.{sym, ap, ◌∙◌}
 use Rattle.std.specs.FinMap as map
-use Rattle.puffin_frames.specs.Info.{by_info}
+use Rattle.puffin_frames.specs.Contents.{streams_of}
 use Rattle.puffin_frames.specs.Measures.{meta_of}
-use Rattle.puffin_frames.proofs.Keyed.{values-by_info}
+use Rattle.puffin_frames.proofs.Keyed.{values-streams_of}
 use Rattle.puffin_frames.proofs.frame_data.unpacked.UnpackedFrameData.new.Goals as goal
 
 pub returns-clause-own_meta : goal.returns-clause-own_meta
 returns-clause-own_meta c =
     c.in_ok-meta.ensures.ok
-    ∙ ap (meta_of c.args.frame_index) (sym (values-by_info c.args.thread_streams.entries c.in_ok-meta.ensures.sorted))
-    ∙ ap (λ es. meta_of c.args.frame_index (map.values (by_info es))) (sym c.in_ok-thread_streams.ensures.ok)
+    ∙ ap (meta_of c.args.frame_index) (sym (values-streams_of c.args.thread_streams.entries c.in_ok-meta.ensures.sorted))
+    ∙ ap (λ es. meta_of c.args.frame_index (map.values (streams_of es))) (sym c.in_ok-thread_streams.ensures.ok)

@@ -1,0 +1,3 @@
+pub mod Collected
+pub mod Collecting
+pub mod Profiled

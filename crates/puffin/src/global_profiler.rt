@@ -1,0 +1,9 @@
+//! What threads report, and the frames that it is handed out in.
+
+mod collector;
+mod profiler;
+mod totals;
+
+pub use collector::Collector;
+pub use profiler::{Emitted, GlobalProfiler};
+pub use totals::Totals;

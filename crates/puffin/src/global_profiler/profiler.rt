@@ -1,0 +1,123 @@
+ghost use Rattle.std.specs.Prelude.{◌≡◌, ◌+◌, ◌-◌, ◌^◌, ◌⊎◌, ◌↔◌, OnErr, OnOk, IfOk, IfErr};
+ghost use Rattle.std.specs.FinMap as map;
+ghost use Rattle.puffin_data.specs.Forest.{Forest};
+ghost use Rattle.puffin_data.specs.Honesty.{IsHonestRef, recorded_ref};
+ghost use Rattle.puffin_frames.specs.Info.{info_of};
+ghost use Rattle.puffin_frames.specs.Contents.{AreHonest};
+ghost use Rattle.puffin_frames.specs.Measures.{total_scopes};
+ghost use Rattle.puffin.specs.Collected.{Accepts, Refuses};
+ghost use Rattle.puffin.specs.Collecting.{Collects};
+ghost use Rattle.puffin.specs.Profiled.{collected};
+
+use crate::global_profiler::collector::Collector;
+use crate::global_profiler::totals::Totals;
+use puffin_data::data::StreamInfoRef;
+use puffin_data::{Error, Result};
+use puffin_frames::frame_data::FrameData;
+use puffin_frames::scope_details::ScopeDetails;
+use puffin_frames::thread_profiler::{Reporter, ThreadInfo};
+use std::alloc::Global;
+use std::sync::Arc;
+
+/// What [`GlobalProfiler::new_frame`] did.
+#[derive(Drop)]
+pub struct Emitted {
+    /// The frame, where there was a scope to emit.
+    pub frame: Option<Arc<FrameData>>,
+    /// How many sinks didn't take the frame.
+    pub refused: usize,
+}
+
+/// What threads report to. It collects what they report, and hands it out in frames.
+#[derive(Drop)]
+pub struct GlobalProfiler {
+    collector: Collector,
+}
+
+impl GlobalProfiler {
+    /// With nothing reported. The first frame has the index 0.
+    pub fn new(alloc: Global) -> GlobalProfiler
+        ensures { collected result ≡ record { index = 0; reported = 0; emitted = 0; streams = map.empty } }
+    {
+        GlobalProfiler {
+            collector: Collector::new(alloc, 0),
+        }
+    }
+
+    /// Appends a thread's scopes to those that are pending, by one call of [`Collector::report`], refused as that is.
+    pub fn report(
+        &mut self,
+        info: ThreadInfo,
+        details: &[ScopeDetails],
+        times: &StreamInfoRef,
+    ) -> Result<()>
+        requires { (f : Forest) × IsHonestRef times.now f }
+        ensures ok { OnOk result (Accepts (collected self.old) (info_of info) (recorded_ref times.now) (collected self.new)) }
+        ensures err { IfErr result (λ e. Refuses (collected self.old) (info_of info) (recorded_ref times.now) e (collected self.new)) }
+    {
+        self.collector.report(info, details, times)
+    }
+
+    /// Appends scopes of the caller's own, by one call of [`Collector::report_user_scopes`], refused as that is.
+    pub fn report_user_scopes(&mut self, info: ThreadInfo, times: &StreamInfoRef) -> Result<()>
+        requires { (f : Forest) × IsHonestRef times.now f }
+        ensures ok { OnOk result (Accepts (collected self.old) (info_of info) (recorded_ref times.now) (collected self.new)) }
+        ensures err { IfErr result (λ e. Refuses (collected self.old) (info_of info) (recorded_ref times.now) e (collected self.new)) }
+    {
+        self.collector.report_user_scopes(info, times)
+    }
+
+    /// Hands out all that is pending, by one call of [`Collector::collect_frame`], refused as that is.
+    pub fn collect_frame(&mut self) -> Result<Option<Arc<FrameData>>>
+        ensures ok { IfOk result (λ frame. Collects (collected self.old) frame (collected self.new)) }
+        ensures honest { AreHonest (collected self.old).streams }
+        ensures exhausted { (result ≡ Err Error.IndexExhausted) ↔ ((collected self.old).index ≡ 2 ^ 64 - 1) }
+        ensures err { OnErr result (collected self.new ≡ collected self.old) }
+        ensures cause { IfErr result (λ e. (e ≡ Error.IndexExhausted) ⊎ (e ≡ Error.Memory)) }
+    {
+        self.collector.collect_frame()
+    }
+
+    /// The same, as [`Collector::collect_frame`] answers it, for the sinks too. There are none yet.
+    pub fn new_frame(&mut self) -> Result<Emitted>
+        ensures ok { IfOk result (λ emitted. Collects (collected self.old) emitted.frame (collected self.new)) }
+        ensures refused { IfOk result (λ emitted. emitted.refused ≡ 0) }
+        ensures honest { AreHonest (collected self.old).streams }
+        ensures exhausted { (result ≡ Err Error.IndexExhausted) ↔ ((collected self.old).index ≡ 2 ^ 64 - 1) }
+        ensures err { OnErr result (collected self.new ≡ collected self.old) }
+        ensures cause { IfErr result (λ e. (e ≡ Error.IndexExhausted) ⊎ (e ≡ Error.Memory)) }
+    {
+        let frame = self.collector.collect_frame()?;
+        Ok(Emitted { frame, refused: 0 })
+    }
+
+    /// How many scopes were reported, are pending, and were handed out. Takes no memory.
+    pub fn totals(&self) -> Totals
+        ensures reported { result.reported ≡ (collected self.now).reported }
+        ensures pending { result.pending ≡ total_scopes (map.values (collected self.now).streams) }
+        ensures emitted { result.emitted ≡ (collected self.now).emitted }
+        ensures sum { result.reported ≡ result.pending + result.emitted }
+        // What is pending is honest, at any time.
+        ensures honest { AreHonest (collected self.now).streams }
+    {
+        self.collector.totals()
+    }
+}
+
+impl Reporter for GlobalProfiler {
+    ghost use Rattle.puffin.specs.Collected.{Accepts, Refuses};
+    ghost use Rattle.puffin.specs.Profiled.{collected};
+
+    ghost accepts = { λ old i r new. Accepts (collected old) i r (collected new) };
+
+    ghost refuses = { λ old i r e new. Refuses (collected old) i r e (collected new) };
+
+    fn report(
+        &mut self,
+        info: ThreadInfo,
+        details: &[ScopeDetails],
+        times: &StreamInfoRef,
+    ) -> Result<()> {
+        GlobalProfiler::report(self, info, details, times)
+    }
+}

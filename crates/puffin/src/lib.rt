@@ -1,0 +1,11 @@
+//! A profiler that threads report to, and that hands out what they reported in frames.
+//!
+//! The modules of the crates below stand here again under their own names.
+#![tactic(auto)]
+
+pub mod global_profiler;
+#[cfg(test)]
+mod tests;
+
+pub use puffin_data::{Error, FileError, NanoSecond, Result, data};
+pub use puffin_frames::{frame_data, scope_details, thread_profiler};

@@ -1,0 +1,180 @@
+ghost use Rattle.std.specs.Prelude.{IfOk};
+ghost use Rattle.puffin_data.specs.Forest.{Forest};
+ghost use Rattle.puffin_data.specs.Honesty.{IsHonest, IsHonestRef};
+
+use crate::data::{Stream, StreamInfo, StreamInfoRef};
+use crate::frame_data::FrameData;
+use crate::global_profiler::{Collector, GlobalProfiler, Totals};
+use crate::thread_profiler::{Reporter, ThreadInfo};
+use crate::{Error, NanoSecond, Result};
+use std::sync::Arc;
+use std::test::Fail;
+
+type Outcome = std::result::Result<(), Fail>;
+
+/// A thread with this name, whose start isn't known.
+fn thread(rt: &HostRuntime, name: &str) -> Result<ThreadInfo> {
+    Ok(ThreadInfo {
+        start_time_ns: None,
+        name: String::from_str(rt.alloc(), name)?,
+    })
+}
+
+/// One scope with this id, no text and no children.
+fn scope(rt: &HostRuntime, id: u8, start: NanoSecond, stop: NanoSecond) -> Result<StreamInfo>
+    ensures { IfOk result (λ info. (f : Forest) × IsHonest info f) }
+{
+    let mut bytes = Vec::from_slice(rt.alloc(), b"(")?;
+    bytes.push(id)?;
+    bytes.extend_from_slice(b"\0\0\0")?;
+    bytes.extend_from_slice(&start.to_le_bytes())?;
+    bytes.extend_from_slice(b"\0\0\0\0\0\0\0\0\0)")?;
+    bytes.extend_from_slice(&stop.to_le_bytes())?;
+    StreamInfo::parse(rt.alloc(), Stream::from(bytes))
+}
+
+/// An honest info with its bytes borrowed.
+fn borrowed(info: &StreamInfo) -> StreamInfoRef<'_>
+    requires { (f : Forest) × IsHonest info.now f }
+    ensures { (f : Forest) × IsHonestRef result f }
+{
+    info.as_stream_into_ref()
+}
+
+/// Reports one scope under a thread.
+fn report<R: Reporter>(
+    rt: &HostRuntime,
+    reporter: &mut R,
+    name: &str,
+    id: u8,
+    range_ns: (NanoSecond, NanoSecond),
+) -> Result<()> {
+    let info = scope(rt, id, range_ns.0, range_ns.1)?;
+    reporter.report(thread(rt, name)?, &[], &borrowed(&info))
+}
+
+/// Reports one scope of the caller's own.
+fn report_user(
+    rt: &HostRuntime,
+    profiler: &mut GlobalProfiler,
+    name: &str,
+    range_ns: (NanoSecond, NanoSecond),
+) -> Result<()> {
+    let info = scope(rt, 1, range_ns.0, range_ns.1)?;
+    profiler.report_user_scopes(thread(rt, name)?, &borrowed(&info))
+}
+
+/// The bytes that a frame has under a thread, and how many scopes.
+fn held(rt: &HostRuntime, frame: &FrameData, name: &str) -> Result<Option<(usize, usize)>> {
+    let thread = thread(rt, name)?;
+    let Some(unpacked) = frame.as_unpacked() else {
+        return Ok(None);
+    };
+    Ok(
+        unpacked
+            .thread_streams
+            .get(&thread)
+            .map(|info| (info.stream.len(), info.num_scopes)),
+    )
+}
+
+/// The only frame that is emitted now.
+fn emitted(profiler: &mut GlobalProfiler) -> std::result::Result<Arc<FrameData>, Fail> {
+    let emitted = profiler.new_frame()?;
+    if emitted.refused != 0 {
+        return Err(Fail::new("a sink refused"));
+    }
+    let Some(frame) = emitted.frame else {
+        return Err(Fail::new("no frame"));
+    };
+    Ok(frame)
+}
+
+#[test]
+fn reports_of_two_threads(rt: HostRuntime) -> Outcome {
+    let mut profiler = GlobalProfiler::new(rt.alloc());
+    report(&rt, &mut profiler, "a", 1, (100, 200))?;
+    report(&rt, &mut profiler, "b", 2, (50, 60))?;
+    report(&rt, &mut profiler, "a", 3, (200, 260))?;
+    let frame = emitted(&mut profiler)?;
+    assert_eq!(rt; frame.frame_index(), 0);
+    assert_eq!(rt; frame.range_ns(), (50, 260));
+    assert_eq!(rt; frame.duration_ns(), 210);
+    assert_eq!(rt; frame.meta().num_bytes, 93);
+    assert_eq!(rt; frame.meta().num_scopes, 3);
+    assert_eq!(rt; held(&rt, &frame, "a")?, Some((62, 2)));
+    assert_eq!(rt; held(&rt, &frame, "b")?, Some((31, 1)));
+    assert_eq!(rt; held(&rt, &frame, "c")?, None);
+    assert!(rt; frame.scope_delta.is_empty());
+    assert!(rt; !frame.full_delta);
+    Ok(())
+}
+
+#[test]
+fn a_range_that_is_too_long(rt: HostRuntime) -> Outcome {
+    let mut profiler = GlobalProfiler::new(rt.alloc());
+    report_user(&rt, &mut profiler, "u", (NanoSecond::MIN, NanoSecond::MIN))?;
+    let refused = report_user(&rt, &mut profiler, "u", (0, 0));
+    assert_eq!(rt; refused.err(), Some(Error::RangeTooLong));
+    let other = report(&rt, &mut profiler, "v", 1, (0, 0));
+    assert_eq!(rt; other.err(), Some(Error::RangeTooLong));
+    let frame = emitted(&mut profiler)?;
+    assert_eq!(rt; frame.range_ns(), (NanoSecond::MIN, NanoSecond::MIN));
+    assert_eq!(rt; frame.duration_ns(), 0);
+    assert_eq!(rt; held(&rt, &frame, "u")?, Some((31, 1)));
+    assert_eq!(rt; held(&rt, &frame, "v")?, None);
+    // What is emitted is in no range any more.
+    report_user(&rt, &mut profiler, "u", (0, 0))?;
+    Ok(())
+}
+
+#[test]
+fn without_scopes_the_index_alone_rises(rt: HostRuntime) -> Outcome {
+    let mut profiler = GlobalProfiler::new(rt.alloc());
+    assert!(rt; profiler.new_frame()?.frame.is_none());
+    let none = StreamInfo::new(rt.alloc());
+    profiler.report(thread(&rt, "a")?, &[], &borrowed(&none))?;
+    assert!(rt; profiler.collect_frame()?.is_none());
+    report(&rt, &mut profiler, "b", 1, (5, 7))?;
+    let frame = emitted(&mut profiler)?;
+    assert_eq!(rt; frame.frame_index(), 2);
+    // The thread without scopes was kept until there was a frame.
+    assert_eq!(rt; held(&rt, &frame, "a")?, Some((0, 0)));
+    assert_eq!(rt; held(&rt, &frame, "b")?, Some((31, 1)));
+    assert!(rt; profiler.new_frame()?.frame.is_none());
+    Ok(())
+}
+
+#[test]
+fn totals_of_reports_and_frames(rt: HostRuntime) -> Outcome {
+    let mut profiler = GlobalProfiler::new(rt.alloc());
+    report(&rt, &mut profiler, "a", 1, (0, 1))?;
+    report(&rt, &mut profiler, "a", 1, (1, 2))?;
+    let _frame = emitted(&mut profiler)?;
+    report(&rt, &mut profiler, "a", 1, (2, 3))?;
+    let totals = Totals {
+        reported: 3,
+        pending: 1,
+        emitted: 2,
+    };
+    assert_eq!(rt; profiler.totals(), totals);
+    Ok(())
+}
+
+#[test]
+fn a_collector_at_the_last_index(rt: HostRuntime) -> Outcome {
+    let mut collector = Collector::new(rt.alloc(), u64::MAX - 1);
+    report(&rt, &mut collector, "a", 1, (5, 7))?;
+    let Some(frame) = collector.collect_frame()? else {
+        return Err(Fail::new("no frame"));
+    };
+    assert_eq!(rt; frame.frame_index(), u64::MAX - 1);
+    let last = scope(&rt, 1, 8, 9)?;
+    collector.report_user_scopes(thread(&rt, "a")?, &borrowed(&last))?;
+    assert_eq!(rt;
+        collector.collect_frame().err(),
+        Some(Error::IndexExhausted)
+    );
+    assert_eq!(rt; collector.totals().pending, 1);
+    Ok(())
+}

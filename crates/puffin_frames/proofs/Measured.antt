@@ -1,0 +1,128 @@
+-- What a report does to what is said of the streams of a map together.
+use Rattle.std.proofs.Common.{◌≡◌, ℕ, ◌+◌, length, List, [], ◌∷◌, map, Bool, true, false, ◌&&◌, T, cond, None, Some, refl, sym, ap, ◌∙◌, arith}
+use Rattle.std.specs.declared.cmp.Ordering.{Ordering}
+use Rattle.std.specs.declared.cmp.Ordering.TheVariants.{Less, Equal, Greater}
+use Rattle.std.specs.Ordering.{is_eq, is_lt}
+use Rattle.std.specs.Option.{unwrap_or}
+use Rattle.std.specs.Int.{int_min, int_max}
+use Rattle.std.specs.FinMap.{get, entries, values, find, put, is_sorted, entries_sorted, entries-insert, get-entries}
+use Rattle.std.specs.FinMap.Entries.{by_order, below_all}
+use Rattle.std.proofs.lemmas.Int.{ints, clamps}
+use Rattle.std.proofs.lemmas.List.{length-append}
+use Rattle.puffin_data.specs.Honesty.{Recorded, joined}
+use Rattle.puffin_frames.specs.Info.{Info, info_cmp}
+use Rattle.puffin_frames.specs.Contents.{Streams, reported_to, no_scopes}
+use Rattle.puffin_frames.specs.Measures.{total_bytes, total_scopes, least_start, greatest_stop}
+use Rattle.puffin_frames.proofs.Infos.{info_cmp_total}
+use Rattle.puffin_frames.proofs.Joining.{bytes_from, scopes_from}
+use Rattle.puffin_frames.proofs.Ranges.{least_start-one, greatest_stop-one, least_in_range, greatest_in_range}
+
+pub first : (a b : Bool) → T (a && b) → T a
+first true b p = tt
+first false b p = p
+
+pub second : (a b : Bool) → T (a && b) → T b
+second true b p = p
+second false b p = absurd p
+
+pub less : (o : Ordering) → T (is_lt o) → o ≡ Less
+less Less p = refl
+less Equal p = absurd p
+less Greater p = absurd p
+
+-- a key below all others isn't among them
+none_below : (x y : Info) (es : List (Info × Recorded)) → info_cmp x y ≡ Less → T (below_all info_cmp y es) → find info_cmp x es ≡ None
+none_below x y [] lt below = refl
+none_below x y (e ∷ es) lt below =
+    ap (λ o. cond (is_eq o) (Some e.1) (find info_cmp x es)) (info_cmp_total.trans x y e.0 lt (less (info_cmp y e.0) (first _ _ below)))
+    ∙ none_below x y es lt (second (is_lt (info_cmp y e.0)) _ below)
+
+-- a measure of lists that is one of their elements, put together by op
+pub record IsMeasure {N : Type 0} (all : List Recorded → N) (one : Recorded → N) (op : N → N → N) : Type 0 where
+  pub more : (x : Recorded) (xs : List Recorded) → all (x ∷ xs) ≡ op (one x) (all xs)
+  pub joins : (a b : Recorded) → one (joined a b) ≡ op (one a) (one b)
+  pub fresh : (r : Recorded) (xs : List Recorded) → op (one (joined no_scopes r)) (all xs) ≡ op (all xs) (one r)
+  pub swap : (a b c : N) → op (op a b) c ≡ op (op a c) b
+  pub assoc : (a b c : N) → op a (op b c) ≡ op (op a b) c
+
+module _ {N : Type 0} {all : List Recorded → N} {one : Recorded → N} {op : N → N → N} (m : IsMeasure all one op) where
+  at_order : (o : Ordering) (i : Info) (r : Recorded) (e : Info × Recorded) (es : List (Info × Recorded)) → info_cmp i e.0 ≡ o → T (below_all info_cmp e.0 es)
+      → all (map (λ f. f.1) (put info_cmp i (joined (unwrap_or (find info_cmp i es) no_scopes) r) es)) ≡ op (all (map (λ f. f.1) es)) (one r)
+      → all (map (λ f. f.1) (by_order o ((i, joined (unwrap_or (cond (is_eq o) (Some e.1) (find info_cmp i es)) no_scopes) r) ∷ (e ∷ es)) ((e.0, joined (unwrap_or (cond (is_eq o) (Some e.1) (find info_cmp i es)) no_scopes) r) ∷ es) (e ∷ put info_cmp i (joined (unwrap_or (cond (is_eq o) (Some e.1) (find info_cmp i es)) no_scopes) r) es)))
+      ≡ op (all (e.1 ∷ map (λ f. f.1) es)) (one r)
+  at_order Less i r e es lt below later =
+      ap (λ o. all (joined (unwrap_or o no_scopes) r ∷ (e.1 ∷ map (λ f. f.1) es))) (none_below i e.0 es lt below)
+      ∙ m.more (joined no_scopes r) (e.1 ∷ map (λ f. f.1) es)
+      ∙ m.fresh r (e.1 ∷ map (λ f. f.1) es)
+  at_order Equal i r e es same below later =
+      m.more (joined e.1 r) (map (λ f. f.1) es)
+      ∙ ap (λ n. op n (all (map (λ f. f.1) es))) (m.joins e.1 r)
+      ∙ m.swap (one e.1) (one r) (all (map (λ f. f.1) es))
+      ∙ ap (λ n. op n (one r)) (sym (m.more e.1 (map (λ f. f.1) es)))
+  at_order Greater i r e es above below later =
+      m.more e.1 (map (λ f. f.1) (put info_cmp i (joined (unwrap_or (find info_cmp i es) no_scopes) r) es))
+      ∙ ap (op (one e.1)) later
+      ∙ m.assoc (one e.1) (all (map (λ f. f.1) es)) (one r)
+      ∙ ap (λ n. op n (one r)) (sym (m.more e.1 (map (λ f. f.1) es)))
+
+  in_entries : (i : Info) (r : Recorded) (es : List (Info × Recorded)) → T (is_sorted info_cmp es) → all (map (λ f. f.1) (put info_cmp i (joined (unwrap_or (find info_cmp i es) no_scopes) r) es)) ≡ op (all (map (λ f. f.1) es)) (one r)
+  in_entries i r [] sorted = m.more (joined no_scopes r) [] ∙ m.fresh r []
+  in_entries i r (e ∷ es) sorted =
+      at_order (info_cmp i e.0) i r e es refl (first _ _ sorted) (in_entries i r es (second (below_all info_cmp e.0 es) _ sorted))
+
+  -- the measure of what is there and is reported
+  pub after_report : (streams : Streams) (i : Info) (r : Recorded) → all (values (reported_to streams i r)) ≡ op (all (values streams)) (one r)
+  after_report streams i r =
+      ap (λ es. all (map (λ f. f.1) es)) (entries-insert info_cmp_total streams i (joined (unwrap_or (get streams i) no_scopes) r) ∙ ap (λ o. put info_cmp i (joined (unwrap_or o no_scopes) r) (entries streams)) (get-entries streams i))
+      ∙ in_entries i r (entries streams) (entries_sorted streams)
+
+-- ---- the four measures
+bytes_from-add : (n : ℕ) (xs : List Recorded) → bytes_from n xs ≡ n + total_bytes xs
+bytes_from-add n [] = omega arith
+bytes_from-add n (x ∷ xs) = let here = bytes_from-add (n + length x.bytes) xs in let there = bytes_from-add (0 + length x.bytes) xs in omega (arith, here, there)
+
+scopes_from-add : (n : ℕ) (xs : List Recorded) → scopes_from n xs ≡ n + total_scopes xs
+scopes_from-add n [] = omega arith
+scopes_from-add n (x ∷ xs) = let here = scopes_from-add (n + x.num_scopes) xs in let there = scopes_from-add (0 + x.num_scopes) xs in omega (arith, here, there)
+
+pub total_bytes-one : (x : Recorded) (xs : List Recorded) → total_bytes (x ∷ xs) ≡ length x.bytes + total_bytes xs
+total_bytes-one x xs = let e = bytes_from-add (0 + length x.bytes) xs in omega (arith, e)
+
+pub total_scopes-one : (x : Recorded) (xs : List Recorded) → total_scopes (x ∷ xs) ≡ x.num_scopes + total_scopes xs
+total_scopes-one x xs = let e = scopes_from-add (0 + x.num_scopes) xs in omega (arith, e)
+
+pub bytes_measure : IsMeasure total_bytes (λ r. length r.bytes) (λ a b. a + b)
+bytes_measure = record {
+  more = total_bytes-one;
+  joins = λ a b. length-append a.bytes b.bytes;
+  fresh = λ r xs. omega arith;
+  swap = λ a b c. omega arith;
+  assoc = λ a b c. omega arith;
+}
+
+pub scopes_measure : IsMeasure total_scopes (λ r. r.num_scopes) (λ a b. a + b)
+scopes_measure = record {
+  more = total_scopes-one;
+  joins = λ a b. refl;
+  fresh = λ r xs. omega arith;
+  swap = λ a b c. omega arith;
+  assoc = λ a b c. omega arith;
+}
+
+pub starts_measure : IsMeasure least_start (λ r. r.range_ns.0) int_min
+starts_measure = record {
+  more = least_start-one;
+  joins = λ a b. refl;
+  fresh = λ r xs. let top = least_in_range xs in omega (arith, ints, clamps, top);
+  swap = λ a b c. omega (arith, ints, clamps);
+  assoc = λ a b c. omega (arith, ints, clamps);
+}
+
+pub stops_measure : IsMeasure greatest_stop (λ r. r.range_ns.1) int_max
+stops_measure = record {
+  more = greatest_stop-one;
+  joins = λ a b. refl;
+  fresh = λ r xs. let bottom = greatest_in_range xs in omega (arith, ints, clamps, bottom);
+  swap = λ a b c. omega (arith, ints, clamps);
+  assoc = λ a b c. omega (arith, ints, clamps);
+}

@@ -1,0 +1,98 @@
+-- Appending what is reported to the streams of a map.
+use Rattle.std.proofs.Common.{◌≡◌, List, [], ◌∷◌, Bool, true, false, cond, None, Some, refl, sym, ap, ◌∙◌}
+use Rattle.std.specs.declared.cmp.Ordering.{Ordering}
+use Rattle.std.specs.declared.cmp.Ordering.TheVariants.{Less, Equal, Greater}
+use Rattle.std.specs.Ordering.{is_eq, match_ordering}
+use Rattle.std.specs.Map.{keys_of, lookup, set_value}
+use Rattle.std.specs.Option.{option_map, unwrap_or}
+use Rattle.std.specs.List.Sorted.{IsStrictlySortedBy}
+use Rattle.std.specs.BTreeMap.{insert_entry, is_at}
+use Rattle.std.specs.FinMap.{FinMap, get, insert, find, get-insert, get-from_entries, same_map}
+use Rattle.std.specs.Arc.{arc_value}
+use Rattle.std.specs.declared.sync.Arc.{Arc}
+use Rattle.std.proofs.lemmas.Map.{lookup-none}
+use Rattle.std.proofs.lemmas.Map.Keys.{sorted_tail}
+use Rattle.std.proofs.lemmas.Map.Entries.{none_below_head}
+use Rattle.std.proofs.lemmas.Map.Made.{lookup-map_values}
+use Rattle.puffin_data.specs.Forest.{empty}
+use Rattle.puffin_data.specs.Honesty.{Recorded, IsHonest, recorded, joined}
+use Rattle.puffin_data.specs.declared.data.info.StreamInfo.{StreamInfo}
+use Rattle.puffin_frames.specs.declared.thread_profiler.thread_info.ThreadInfo.{ThreadInfo}
+use Rattle.puffin_frames.specs.Info.{Info, info_of, info_cmp, thread_cmp, same_info, keyed, by_info}
+use Rattle.puffin_frames.specs.Contents.{records, unshared, shared_streams, reported_to, no_scopes}
+use Rattle.puffin_frames.proofs.Infos.{info_cmp_total, info_cmp-one, same_info-one, thread_cmp_total}
+use Rattle.puffin_frames.proofs.Keyed.{read-insert, streams_of-insert}
+
+module _ {X : Type 0} where
+  -- a write over the value of a key that is there is an insertion
+  set_at_order : (r : Ordering) (k : ThreadInfo) (old w : X) (e : ThreadInfo × X) (es : List (ThreadInfo × X)) → thread_cmp k e.0 ≡ r → IsStrictlySortedBy thread_cmp (keys_of (e ∷ es))
+      → cond (is_eq r) (Some e.1) (lookup (is_at (thread_cmp k)) es) ≡ Some old
+      → (lookup (is_at (thread_cmp k)) es ≡ Some old → set_value (is_at (thread_cmp k)) es w ≡ insert_entry thread_cmp es k w)
+      → cond (is_eq r) ((e.0, w) ∷ es) (e ∷ set_value (is_at (thread_cmp k)) es w) ≡ match_ordering r ((k, w) ∷ (e ∷ es)) ((e.0, w) ∷ es) (e ∷ insert_entry thread_cmp es k w)
+  set_at_order Less k old w e es is sorted found later =
+      let none = lookup-none (is_at (thread_cmp k)) es (none_below_head thread_cmp_total k e es sorted is).1 in
+      absurd cc
+  set_at_order Equal k old w e es is sorted found later = refl
+  set_at_order Greater k old w e es is sorted found later = ap (λ fs. e ∷ fs) (later found)
+
+  set_is_insert : (es : List (ThreadInfo × X)) (k : ThreadInfo) (old w : X) → IsStrictlySortedBy thread_cmp (keys_of es) → lookup (is_at (thread_cmp k)) es ≡ Some old → set_value (is_at (thread_cmp k)) es w ≡ insert_entry thread_cmp es k w
+  set_is_insert [] k old w sorted found = absurd cc
+  set_is_insert (e ∷ es) k old w sorted found = set_at_order (thread_cmp k e.0) k old w e es refl sorted found (set_is_insert es k old w (sorted_tail thread_cmp e.0 _ sorted))
+
+  find-keyed : (es : List (ThreadInfo × X)) (k : ThreadInfo) → find info_cmp (info_of k) (keyed es) ≡ lookup (is_at (thread_cmp k)) es
+  find-keyed [] k = refl
+  find-keyed (e ∷ es) k = ap (λ o. cond (is_eq (thread_cmp k e.0)) (Some e.1) o) (find-keyed es k)
+
+  -- an insertion of what is there changes nothing
+  at_test : (m : FinMap info_cmp X) (i q : Info) (v : X) (b : Bool) → same_info q i ≡ b → get m i ≡ Some v → cond b (Some v) (get m q) ≡ get m q
+  at_test m i q v true same found = sym (ap (get m) (same_info-one q i same) ∙ found)
+  at_test m i q v false same found = refl
+
+  insert-same : (m : FinMap info_cmp X) (i : Info) (v : X) → get m i ≡ Some v → insert m i v ≡ m
+  insert-same m i v found = same_map info_cmp_total info_cmp-one (insert m i v) m (λ q. get-insert info_cmp_total m i v q ∙ at_test m i q v (same_info q i) refl found)
+
+recorded-none : (fresh : StreamInfo) → IsHonest fresh empty → recorded fresh ≡ no_scopes
+recorded-none fresh h = λ i. record {
+  bytes = h.stream.whole i;
+  num_scopes = h.counts.num_scopes i;
+  depth = h.counts.depth i;
+  range_ns = (h.counts.least_start i, h.counts.greatest_stop i);
+}
+
+module _ {A : Type 0} where
+  get-shared : (es : List (ThreadInfo × Arc StreamInfo A)) (k : ThreadInfo) → get (shared_streams es) (info_of k) ≡ option_map recorded (option_map arc_value (lookup (is_at (thread_cmp k)) es))
+  get-shared es k =
+      get-from_entries info_cmp_total (keyed (records (unshared es))) (info_of k)
+      ∙ find-keyed (records (unshared es)) k
+      ∙ lookup-map_values recorded (is_at (thread_cmp k)) (unshared es)
+      ∙ ap (option_map recorded) (lookup-map_values arc_value (is_at (thread_cmp k)) es)
+
+  shared-insert : (es : List (ThreadInfo × Arc StreamInfo A)) (k : ThreadInfo) (arc : Arc StreamInfo A) → shared_streams (insert_entry thread_cmp es k arc) ≡ insert (shared_streams es) (info_of k) (recorded (arc_value arc))
+  shared-insert es k arc = ap (λ fs. by_info (records fs)) (read-insert arc_value es k arc) ∙ streams_of-insert (unshared es) k (arc_value arc)
+
+  -- a write through what was lent for a key
+  pub record WritesAt (es : List (ThreadInfo × Arc StreamInfo A)) (k : ThreadInfo) (old w : Arc StreamInfo A) (fs : List (ThreadInfo × Arc StreamInfo A)) : Type 0 where
+    pub sorted : IsStrictlySortedBy thread_cmp (keys_of es)
+    pub found : lookup (is_at (thread_cmp k)) es ≡ Some old
+    pub after : fs ≡ set_value (is_at (thread_cmp k)) es w
+
+  written : (es : List (ThreadInfo × Arc StreamInfo A)) (k : ThreadInfo) (old w : Arc StreamInfo A) (fs : List (ThreadInfo × Arc StreamInfo A)) → WritesAt es k old w fs → shared_streams fs ≡ insert (shared_streams es) (info_of k) (recorded (arc_value w))
+  written es k old w fs h = ap shared_streams (h.after ∙ set_is_insert es k old w h.sorted h.found) ∙ shared-insert es k w
+
+  there : (es : List (ThreadInfo × Arc StreamInfo A)) (k : ThreadInfo) (old w : Arc StreamInfo A) (fs : List (ThreadInfo × Arc StreamInfo A)) → WritesAt es k old w fs → get (shared_streams es) (info_of k) ≡ Some (recorded (arc_value old))
+  there es k old w fs h = get-shared es k ∙ ap (λ o. option_map recorded (option_map arc_value o)) h.found
+
+  pub reported_over : (es : List (ThreadInfo × Arc StreamInfo A)) (k : ThreadInfo) (old w : Arc StreamInfo A) (fs : List (ThreadInfo × Arc StreamInfo A)) (r : Recorded) → WritesAt es k old w fs → recorded (arc_value w) ≡ joined (recorded (arc_value old)) r → shared_streams fs ≡ reported_to (shared_streams es) (info_of k) r
+  reported_over es k old w fs r h more =
+      written es k old w fs h ∙ ap (insert (shared_streams es) (info_of k)) (more ∙ ap (λ o. joined (unwrap_or o no_scopes) r) (sym (there es k old w fs h)))
+
+  pub refused_over : (es : List (ThreadInfo × Arc StreamInfo A)) (k : ThreadInfo) (old w : Arc StreamInfo A) (fs : List (ThreadInfo × Arc StreamInfo A)) → WritesAt es k old w fs → recorded (arc_value w) ≡ recorded (arc_value old) → shared_streams fs ≡ shared_streams es
+  refused_over es k old w fs h same =
+      written es k old w fs h ∙ ap (insert (shared_streams es) (info_of k)) same ∙ insert-same (shared_streams es) (info_of k) (recorded (arc_value old)) (there es k old w fs h)
+
+  pub reported_first : (es : List (ThreadInfo × Arc StreamInfo A)) (k : ThreadInfo) (arc : Arc StreamInfo A) (fs : List (ThreadInfo × Arc StreamInfo A)) (fresh : StreamInfo) (r : Recorded) → lookup (is_at (thread_cmp k)) es ≡ None → fs ≡ insert_entry thread_cmp es k arc → IsHonest fresh empty → recorded (arc_value arc) ≡ joined (recorded fresh) r
+      → shared_streams fs ≡ reported_to (shared_streams es) (info_of k) r
+  reported_first es k arc fs fresh r none after honest more =
+      let absent = get-shared es k ∙ ap (λ o. option_map recorded (option_map arc_value o)) none in
+      ap shared_streams after ∙ shared-insert es k arc
+      ∙ ap (insert (shared_streams es) (info_of k)) (more ∙ ap (λ n. joined n r) (recorded-none fresh honest) ∙ ap (λ o. joined (unwrap_or o no_scopes) r) (sym absent))

@@ -1,0 +1,34 @@
+-- What is reported comes after what is there, and a refusal leaves what was recorded.
+use Rattle.std.proofs.Common.{ap, ◌∙◌, sym}
+use Rattle.std.specs.Option.{option_copied_mut}
+use Rattle.std.specs.BTreeMap.{insert_entry}
+use Rattle.puffin_frames.specs.Info.{thread_cmp}
+use Rattle.std.proofs.lemmas.Result.{on_ok_weaker, on_err_weaker}
+use Rattle.puffin_data.specs.Honesty.{recorded, recorded_ref}
+use Rattle.puffin_frames.proofs.Reports.{WritesAt, reported_over, refused_over, reported_first}
+use Rattle.puffin_frames.proofs.frame_data.shared.report_to.Goals as goal
+
+writes : (c : goal.After-drop-info) → WritesAt c.args.streams.now.entries c.args.info c.in-Some.shared.now c.extend_shared.new.shared (c.get_mut.follows.lender c.extend_shared.new.shared).entries
+writes c = record {
+  sorted = c.get_mut.ensures.ordered;
+  found = sym c.get_mut.ensures.value ∙ ap option_copied_mut c.in-Some.is;
+  after = (c.get_mut.follows.holds c.extend_shared.new.shared).0;
+}
+
+pub returns-in-Some-clause-ok : goal.returns-in-Some-clause-ok
+returns-in-Some-clause-ok c =
+    on_ok_weaker c.extend_shared.result
+    (reported_over c.args.streams.now.entries c.args.info c.in-Some.shared.now c.extend_shared.new.shared (c.get_mut.follows.lender c.extend_shared.new.shared).entries (recorded_ref c.args.times.now) (writes c)) c.extend_shared.ensures.ok
+
+pub returns-in-Some-clause-err : goal.returns-in-Some-clause-err
+returns-in-Some-clause-err c =
+    on_err_weaker c.extend_shared.result
+    (refused_over c.args.streams.now.entries c.args.info c.in-Some.shared.now c.extend_shared.new.shared (c.get_mut.follows.lender c.extend_shared.new.shared).entries (writes c)) c.extend_shared.ensures.err
+
+pub returns-clause-ok : goal.returns-clause-ok
+returns-clause-ok c =
+    let none = sym c.get_mut.ensures.value ∙ ap option_copied_mut c.in_default.is in
+    let more = ap recorded (c.in_ok-new.ensures.ok) ∙ c.in_ok-extend.ensures.ok in
+    let after = c.in_ok-_before.ensures.entries ∙ ap (λ m. insert_entry thread_cmp m.entries c.args.info c.in_ok-new.field-0) c.get_mut.follows.holds-at-none in
+    reported_first c.args.streams.now.entries c.args.info c.in_ok-new.field-0 c.insert.new.self.entries c.new-fresh.result (recorded_ref c.args.times.now)
+    none after c.new-fresh.ensures more

@@ -1,0 +1,112 @@
+ghost use Rattle.std.specs.Prelude.{◌≡◌, ◌↔◌, ◌⊎◌, ◌-ℤ◌, ◌≤ℤ◌, IfOk, IfErr, IfSome, IsSome};
+ghost use Rattle.std.specs.FinMap as map;
+ghost use Rattle.puffin_data.specs.declared.error.Error.{Error};
+ghost use Rattle.puffin_frames.specs.Measures.{joined_range, TotalsFit, IsOrdered, DurationFits, MakeFrame, meta_of};
+ghost use Rattle.puffin_frames.specs.Contents.{streams_of, all_recorded, contents, frame_contents, frame_meta};
+
+use crate::frame_data::meta::{FrameIndex, FrameMeta};
+use crate::frame_data::unpacked::UnpackedFrameData;
+use crate::scope_details::ScopeDetails;
+use crate::thread_profiler::ThreadInfo;
+use puffin_data::data::StreamInfo;
+use puffin_data::{Error, NanoSecond, Result};
+use std::alloc::Global;
+use std::collections::BTreeMap;
+use std::sync::Arc;
+
+/// A frame, with what is told of the scopes that are new in it.
+#[derive(Drop)]
+pub struct FrameData {
+    /// What is told of the scopes that are new in this frame.
+    pub scope_delta: Vec<Arc<ScopeDetails>>,
+    /// Whether `scope_delta` also tells of all scopes so far.
+    pub full_delta: bool,
+    unpacked: UnpackedFrameData,
+}
+
+impl FrameData {
+    /// The frame with this number of these streams. Refused as [`UnpackedFrameData::new`]; streams and details are then
+    /// dropped.
+    pub fn new(
+        alloc: Global,
+        frame_index: FrameIndex,
+        thread_streams: BTreeMap<ThreadInfo, StreamInfo>,
+        scope_delta: Vec<Arc<ScopeDetails>>,
+        full_delta: bool,
+    ) -> Result<FrameData>
+        ensures delta { IfOk result (λ frame. (frame.scope_delta ≡ scope_delta) × (frame.full_delta ≡ full_delta)) }
+        ensures contents { IfOk result (λ frame. frame_contents frame ≡ streams_of thread_streams.entries) }
+        ensures meta { IfOk result (λ frame. frame_meta frame ≡ meta_of frame_index (map.values (frame_contents frame))) }
+        ensures too_large { (result ≡ Err Error.TooLarge) ↔ ¬ TotalsFit (all_recorded thread_streams) }
+        ensures empty { (result ≡ Err Error.Empty) ↔ (TotalsFit (all_recorded thread_streams) × ¬ IsOrdered (joined_range (all_recorded thread_streams))) }
+        ensures range_too_long { (result ≡ Err Error.RangeTooLong) ↔ (TotalsFit (all_recorded thread_streams) × IsOrdered (joined_range (all_recorded thread_streams)) × ¬ DurationFits (joined_range (all_recorded thread_streams))) }
+        ensures memory { result ≡ Err Error.Memory → MakeFrame (all_recorded thread_streams) }
+        ensures only { IfErr result (λ e. (e ≡ Error.TooLarge) ⊎ (e ≡ Error.Empty) ⊎ (e ≡ Error.RangeTooLong) ⊎ (e ≡ Error.Memory)) }
+    {
+        let unpacked = UnpackedFrameData::new(alloc, frame_index, thread_streams)?;
+        Ok(FrameData::of_unpacked(unpacked, scope_delta, full_delta))
+    }
+
+    /// A frame as it is, with these details. Takes no memory.
+    pub fn of_unpacked(
+        unpacked: UnpackedFrameData,
+        scope_delta: Vec<Arc<ScopeDetails>>,
+        full_delta: bool,
+    ) -> FrameData
+        ensures delta { (result.scope_delta ≡ scope_delta) × (result.full_delta ≡ full_delta) }
+        ensures contents { frame_contents result ≡ contents unpacked }
+        ensures meta { frame_meta result ≡ unpacked.meta }
+    {
+        FrameData {
+            scope_delta,
+            full_delta,
+            unpacked,
+        }
+    }
+
+    /// The frame without its details, which are dropped. Takes no memory.
+    pub fn into_unpacked(self) -> UnpackedFrameData
+        ensures contents { contents result ≡ frame_contents self }
+        ensures meta { result.meta ≡ frame_meta self }
+    {
+        self.unpacked
+    }
+
+    /// The frame as it is held unpacked, or `None` where it is held packed alone, which no frame is yet.
+    pub fn as_unpacked(&self) -> Option<&UnpackedFrameData>
+        ensures contents { IfSome result (λ unpacked. contents unpacked.now ≡ frame_contents self.now) }
+        ensures meta { IfSome result (λ unpacked. unpacked.now.meta ≡ frame_meta self.now) }
+        ensures held { IsSome result }
+    {
+        Some(&self.unpacked)
+    }
+
+    /// What is said of the frame's streams together.
+    pub fn meta(&self) -> &FrameMeta
+        ensures { result.now ≡ frame_meta self.now }
+    {
+        &self.unpacked.meta
+    }
+
+    /// The frame's number.
+    pub fn frame_index(&self) -> FrameIndex
+        ensures { result ≡ (frame_meta self.now).frame_index }
+    {
+        self.unpacked.frame_index()
+    }
+
+    /// The least start and the greatest stop of all scopes, in nanoseconds.
+    pub fn range_ns(&self) -> (NanoSecond, NanoSecond)
+        ensures range { result ≡ (frame_meta self.now).range_ns }
+        ensures ordered { result.0 ≤ℤ result.1 }
+    {
+        self.unpacked.range_ns()
+    }
+
+    /// The time from the least start to the greatest stop, in nanoseconds.
+    pub fn duration_ns(&self) -> NanoSecond
+        ensures { result ≡ (frame_meta self.now).range_ns.1 -ℤ (frame_meta self.now).range_ns.0 }
+    {
+        self.unpacked.duration_ns()
+    }
+}
