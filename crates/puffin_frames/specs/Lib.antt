@@ -1,3 +1,5 @@
 pub mod Info
 pub mod Contents
 pub mod Measures
+pub mod Threads
+pub mod Clocks

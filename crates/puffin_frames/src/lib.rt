@@ -3,6 +3,7 @@
 
 pub mod frame_data;
 pub mod laws;
+pub mod scope_details;
 #[cfg(test)]
 mod tests;
 pub mod thread_profiler;
