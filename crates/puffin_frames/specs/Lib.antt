@@ -3,3 +3,7 @@ pub mod Contents
 pub mod Measures
 pub mod Threads
 pub mod Clocks
+pub mod Events
+pub mod Recordings
+pub mod Closing
+pub mod Profilers
