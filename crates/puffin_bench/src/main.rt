@@ -2,31 +2,62 @@
 //! prints what it counted; with the word `time` it prints the nanoseconds that each takes.
 #![tactic(auto)]
 
+mod reports;
 mod scopes;
 
 use anyhow::{Context, Result};
+use puffin::global_profiler::GlobalProfiler;
+use puffin::thread_profiler::{ScriptClock, ThreadProfiler};
+use puffin_data::data::{Stream, StreamInfo};
+use reports::{profiled, reported, two_scopes};
 use scopes::{Work, written};
 use std::env;
 use std::time::Instant;
 
 /// How often each work is run; the fastest run counts.
 const ROUNDS: u32 = 4_000;
+/// The same of reports.
+const REPORT_ROUNDS: u32 = 300;
+/// A text of 12 bytes.
+const TEXT: &str = "image-12.png";
 
-/// Runs each work once, and prints its scopes and bytes.
+/// A thread's profiler whose clock stands at 1.
+fn thread(rt: &HostRuntime) -> Result<ThreadProfiler<ScriptClock>> {
+    let name = String::from_str(rt.alloc(), "main")?;
+    Ok(ThreadProfiler::new(rt.alloc(), name, ScriptClock::new(1)))
+}
+
+/// Runs each work once, and prints what it counted.
 fn count(rt: &HostRuntime) -> Result<()> {
     for work in Work::ALL {
-        let mut stream = puffin_data::data::Stream::new(rt.alloc());
+        let mut stream = Stream::new(rt.alloc());
         let scopes = written(&mut stream, &work).context("no memory")?;
         let bytes = stream.len();
         let name = work.name;
         println!(rt; "{name} scopes {scopes} bytes {bytes}")?;
     }
+    let scopes = profiled(&mut thread(rt)?, TEXT)?;
+    println!(rt; "profiled_text12 scopes {scopes}")?;
+    let info = StreamInfo::parse(rt.alloc(), two_scopes(rt.alloc())?)?;
+    let mut profiler = GlobalProfiler::new(rt.alloc());
+    let reports = reported(rt.alloc(), &mut profiler, &info)?;
+    let totals = profiler.totals();
+    let (reported, emitted) = (totals.reported, totals.emitted);
+    println!(rt; "report reports {reports} scopes {reported} emitted {emitted}")?;
     Ok(())
 }
 
-/// The fewest nanoseconds that a run of a work took, and its scopes.
-fn fastest(rt: &HostRuntime, work: &Work) -> Result<(u128, usize)> {
-    let mut stream = puffin_data::data::Stream::new(rt.alloc());
+/// Prints the nanoseconds that one unit takes, in hundredths, and how many units were timed.
+fn print(rt: &HostRuntime, name: &str, best: u128, units: usize) -> Result<()> {
+    let hundredths = best.saturating_mul(100) / (units as u128).max(1);
+    let (whole, part) = (hundredths / 100, hundredths % 100);
+    println!(rt; "{name} {whole}.{part:02} {units}")?;
+    Ok(())
+}
+
+/// Times scopes in a stream whose memory is used again.
+fn time_scopes(rt: &HostRuntime, work: &Work) -> Result<()> {
+    let mut stream = Stream::new(rt.alloc());
     let mut best = u128::MAX;
     let mut scopes = 0;
     for _ in 0..ROUNDS {
@@ -35,19 +66,44 @@ fn fastest(rt: &HostRuntime, work: &Work) -> Result<(u128, usize)> {
         scopes = written(&mut stream, work).context("no memory")?;
         best = best.min(begun.elapsed(rt)?.as_nanos());
     }
-    Ok((best, scopes))
+    print(rt, work.name, best, scopes)
 }
 
-/// Prints the nanoseconds that one scope of each work takes, in hundredths, and how many scopes were timed.
+/// Times the scopes of a thread profiler, eight deep, with a report for each nest.
+fn time_threads(rt: &HostRuntime, name: &str, text: &str) -> Result<()> {
+    let mut thread = thread(rt)?;
+    let mut best = u128::MAX;
+    let mut scopes = 0;
+    for _ in 0..ROUNDS {
+        let begun = Instant::now(rt)?;
+        scopes = profiled(&mut thread, text)?;
+        best = best.min(begun.elapsed(rt)?.as_nanos());
+    }
+    print(rt, name, best, scopes)
+}
+
+/// Times reports of two scopes, with a frame after every eight.
+fn time_reports(rt: &HostRuntime) -> Result<()> {
+    let info = StreamInfo::parse(rt.alloc(), two_scopes(rt.alloc())?)?;
+    let mut profiler = GlobalProfiler::new(rt.alloc());
+    let mut best = u128::MAX;
+    let mut reports = 0;
+    for _ in 0..REPORT_ROUNDS {
+        let begun = Instant::now(rt)?;
+        reports = reported(rt.alloc(), &mut profiler, &info)?;
+        best = best.min(begun.elapsed(rt)?.as_nanos());
+    }
+    print(rt, "report", best, reports)
+}
+
+/// Times each work.
 fn time(rt: &HostRuntime) -> Result<()> {
     for work in Work::ALL {
-        let (best, scopes) = fastest(rt, &work)?;
-        let hundredths = best.saturating_mul(100) / (scopes as u128).max(1);
-        let (whole, part) = (hundredths / 100, hundredths % 100);
-        let name = work.name;
-        println!(rt; "{name} {whole}.{part:02} {scopes}")?;
+        time_scopes(rt, &work)?;
     }
-    Ok(())
+    time_threads(rt, "profiled_empty", "")?;
+    time_threads(rt, "profiled_text12", TEXT)?;
+    time_reports(rt)
 }
 
 fn main(rt: HostRuntime) -> Result<()> {

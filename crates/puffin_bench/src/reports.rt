@@ -1,0 +1,96 @@
+//! Scopes of a thread profiler, and reports to a profiler.
+
+ghost use Rattle.puffin_data.specs.Forest.{Forest};
+ghost use Rattle.puffin_data.specs.Honesty.{IsHonest};
+
+use puffin::global_profiler::GlobalProfiler;
+use puffin::scope_details::ScopeDetails;
+use puffin::thread_profiler::{Reporter, ScriptClock, ThreadInfo, ThreadProfiler};
+use puffin_data::Result;
+use puffin_data::data::{ScopeId, Stream, StreamInfo, StreamInfoRef};
+use std::alloc::Global;
+
+/// How many nests of scopes a run profiles.
+const NESTS: usize = 512;
+/// How many scopes stand one within the other in a nest.
+const DEPTH: usize = 8;
+/// How many frames a run of reports takes.
+const FRAMES: usize = 1_000;
+
+/// A reporter that takes everything and keeps nothing.
+#[derive(Drop)]
+pub struct Ignored;
+
+impl Reporter for Ignored {
+    ghost accepts = { λ _ _ _ _. Unit {0} };
+
+    ghost refuses = { λ _ _ _ _ _. Unit {0} };
+
+    fn report(
+        &mut self,
+        _info: ThreadInfo,
+        _details: &[ScopeDetails],
+        _times: &StreamInfoRef,
+    ) -> Result<()> {
+        Ok(())
+    }
+}
+
+/// One nest of scopes of a thread, which is reported at its end.
+#[inline(never)]
+fn nest(thread: &mut ThreadProfiler<ScriptClock>, id: ScopeId, text: &str) -> Result<()> {
+    let mut offsets = [0; DEPTH];
+    for offset in offsets.iter_mut() {
+        *offset = thread.begin_scope(id, text)?;
+    }
+    for offset in offsets.iter().rev() {
+        thread.end_scope(*offset, &mut Ignored)?;
+    }
+    Ok(())
+}
+
+/// Profiles scopes, and answers how many.
+#[inline(never)]
+pub fn profiled(thread: &mut ThreadProfiler<ScriptClock>, text: &str) -> Result<usize> {
+    if let Some(id) = ScopeId::new(1) {
+        for _ in 0..NESTS {
+            nest(thread, id, text)?;
+        }
+    }
+    Ok(NESTS * DEPTH)
+}
+
+/// The stream of two scopes, one in the other.
+pub fn two_scopes(alloc: Global) -> Result<Stream> {
+    let mut stream = Stream::new(alloc);
+    if let Some(id) = ScopeId::new(1) {
+        let (outer, _) = stream.begin_scope(|| 0, id, "outer text")?;
+        let (inner, _) = stream.begin_scope(|| 10, id, "inner text")?;
+        for (offset, stop) in [(inner, 500), (outer, 1_000)] {
+            if stream.len() >= 8 && offset <= stream.len() - 8 {
+                stream.end_scope(offset, stop)?;
+            }
+        }
+    }
+    Ok(stream)
+}
+
+/// Reports an honest info under each of four names, twice, and takes a frame; so often. Answers how many reports.
+#[inline(never)]
+pub fn reported(alloc: Global, profiler: &mut GlobalProfiler, info: &StreamInfo) -> Result<usize>
+    requires { (f : Forest) × IsHonest info.now f }
+{
+    let threads = ["main", "loader", "audio", "worker"];
+    let times = info.as_stream_into_ref();
+    for _ in 0..FRAMES {
+        for name in threads.iter().chain(threads.iter()) {
+            let thread = ThreadInfo {
+                start_time_ns: Some(0),
+                name: String::from_str(alloc, name)?,
+            };
+            profiler.report(thread, &[], &times)?;
+        }
+        let _ = profiler.new_frame()?;
+    }
+    Ok(FRAMES * 2 * threads.len())
+}
