@@ -1,9 +1,12 @@
 //! Threads that are profiled.
 
 mod clock;
+pub mod laws;
 mod profiler;
 mod recording;
 mod reporter;
+#[cfg(test)]
+mod tests;
 mod thread_info;
 
 pub use clock::{NsSource, ScriptClock, SystemClock};
