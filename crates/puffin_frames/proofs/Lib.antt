@@ -6,3 +6,6 @@ pub mod Ranges
 pub mod Reports
 pub mod Measured
 pub mod Honest
+pub mod Events
+pub mod Holding
+pub mod Recordings

@@ -1,3 +1,9 @@
 pub mod Info
 pub mod Contents
 pub mod Measures
+pub mod Threads
+pub mod Clocks
+pub mod Events
+pub mod Recordings
+pub mod Closing
+pub mod Profilers

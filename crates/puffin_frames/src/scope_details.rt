@@ -1,5 +1,5 @@
-//! What is told of a scope once: its name and place.
+//! What is known of scopes besides their times.
 
-/// What is told of a scope. There is no way to make one yet.
+/// The details of a scope. None can be made yet, so each list of them is empty.
 #[derive(Debug, Drop)]
 pub enum ScopeDetails {}

@@ -1,7 +1,12 @@
 //! Threads that are profiled.
 
+mod clock;
+mod profiler;
+mod recording;
 mod reporter;
 mod thread_info;
 
-pub use reporter::Reporter;
+pub use clock::{NsSource, ScriptClock, SystemClock};
+pub use profiler::ThreadProfiler;
+pub use reporter::{Closed, Reporter};
 pub use thread_info::ThreadInfo;
