@@ -1,1 +1,11 @@
 pub mod Writing
+pub mod Laws
+pub mod Histories
+pub mod Collecting
+pub mod Standing
+pub mod Running
+pub mod Openings
+pub mod Sums
+pub mod Serving
+pub mod Offsets
+pub mod Closing

@@ -2,3 +2,9 @@ pub mod Words
 pub mod Faults
 pub mod Lines
 pub mod Counted
+pub mod History
+pub mod Handed
+pub mod Due
+pub mod Sessions
+pub mod Replies
+pub mod Serving

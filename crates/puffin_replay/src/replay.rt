@@ -1,9 +1,14 @@
 //! The words of the program, what each of them does, and how a fault is told.
 
+mod command;
 mod count;
 mod fault;
+mod profiled;
+mod session;
 mod task;
 
+pub use command::{Command, Reply};
 pub use count::count_stream;
 pub use fault::{ToolFault, finish};
+pub use session::Session;
 pub use task::{Task, read_words};

@@ -1,0 +1,90 @@
+-- What the contracts of a thread's profiler and of the collector give for one command.
+use Rattle.std.proofs.Common.{◌≡◌, ◌≢◌, ℕ, zero, suc, ◌-◌, ◌^◌, ◌<◌, ◌↔◌, ℤ, pos, List, [], ◌∷◌, length, get_or, set, arith, Option, Some, None, Result, Ok, Err, refl, sym, ap, ◌∙◌, subst, Global, ◌⊎◌, inl, inr}
+use Rattle.std.specs.Prelude.{OnOk, IfOk, IfErr, MatchOption}
+use Rattle.std.specs.Int.{int_max}
+use Rattle.std.specs.Arc.{arc_value}
+use Rattle.std.specs.declared.sync.Arc.{Arc}
+use Rattle.std.specs.FinMap.{get, values}
+use Rattle.puffin_data.specs.declared.error.Error.{Error}
+use Rattle.puffin_data.specs.declared.error.Error.TheVariants.{IndexExhausted, Memory}
+use Rattle.puffin_data.specs.Forest.{Forest}
+use Rattle.puffin_data.specs.Honesty.{Recorded, IsHonestRecord}
+use Rattle.puffin_data.specs.Walk.{IsFault}
+use Rattle.std.proofs.lemmas.List.{get_or-set_same}
+use Rattle.puffin_replay.specs.History.{nobody}
+use Rattle.puffin_frames.specs.Info.{Info}
+use Rattle.puffin_frames.specs.Threads.{Thread, after_end}
+use Rattle.puffin_frames.specs.Closing.{Closes}
+use Rattle.puffin_frames.specs.Contents.{frame_contents, frame_meta}
+use Rattle.puffin_frames.specs.Measures.{meta_of, total_scopes}
+use Rattle.puffin_frames.specs.declared.frame_data.frame.FrameData.{FrameData}
+use Rattle.puffin_frames.specs.declared.thread_profiler.reporter.Closed.{Closed}
+use Rattle.puffin_frames.specs.declared.thread_profiler.reporter.Closed.TheVariants.{Inner, Reported, Kept}
+use Rattle.puffin.specs.Collected.{Collected, Accepts, Refuses, after_report, SumsFit, range_with, IsTooLong, IsReportRefusal}
+use Rattle.puffin.specs.Collecting.{Collects}
+use Rattle.puffin_replay.specs.Sessions.{SessionState}
+use Rattle.puffin_replay.specs.Serving.{clock_time, thread_in, with_thread, with_collected, Ends}
+
+abbrev session : List Thread → Collected → SessionState
+session threads collected = record { threads = threads; collected = collected }
+
+-- what a profiler's end gives, where its clock was set to the command's time
+pub Ends-from : (old there new : Thread) (at clock t : ℤ) (before after : Collected) (closed : Closed) → there ≡ old → clock ≡ at → t ≡ int_max (pos 0) clock → Closes Accepts Refuses there new t before after closed
+    → Ends old new (clock_time at) before after closed
+Ends-from old there new at clock t before after closed same set answered closes =
+    subst (λ (th : Thread). Closes Accepts Refuses th new (clock_time at) before after closed) same
+    (subst (λ (x : ℤ). Closes Accepts Refuses there new x before after closed) (answered ∙ ap (int_max (pos 0)) set) closes)
+
+-- what a new frame gives
+pub Collects-from : (now seen : SessionState) (new : Collected) (result : Result (Option (Arc FrameData Global)) Error) → seen ≡ now → ((result ≡ Err IndexExhausted) ↔ (seen.collected.index ≡ 2 ^ 64 - 1)) → IfOk result (λ frame. Collects seen.collected frame new)
+    → IfOk result (λ frame. (now.collected.index ≢ 2 ^ 64 - 1) × (with_collected seen new ≡ with_collected now new) × Collects now.collected frame new)
+Collects-from now seen new (Err e) same exhausted took = tt
+Collects-from now seen new (Ok frame) same exhausted took =
+    subst (λ (s : SessionState). (s.collected.index ≢ 2 ^ 64 - 1) × (with_collected seen new ≡ with_collected s new) × Collects s.collected frame new) same ((λ last. no_error (exhausted.1 last)), refl, took)
+  where
+    no_error : ◌≡◌ {A = Result (Option (Arc FrameData Global)) Error} (Ok frame) (Err IndexExhausted) → ⊥
+    no_error e = cc
+
+pub causes-from : (now seen : SessionState) (result : Result (Option (Arc FrameData Global)) Error) → seen ≡ now → ((result ≡ Err IndexExhausted) ↔ (seen.collected.index ≡ 2 ^ 64 - 1)) → IfErr result (λ e. (e ≡ IndexExhausted) ⊎ (e ≡ Memory))
+    → IfErr result (λ e. ((e ≡ IndexExhausted) × (now.collected.index ≡ 2 ^ 64 - 1)) ⊎ (e ≡ Memory))
+causes-from now seen (Ok frame) same exhausted cause = tt
+causes-from now seen (Err e) same exhausted (inl last) = inl (last, ap (λ (s : SessionState). s.collected.index) (sym same) ∙ exhausted.0 (ap Err last))
+causes-from now seen (Err e) same exhausted (inr memory) = inr memory
+
+same_default : (xs : List Thread) (t : ℕ) (d e : Thread) → t < length xs → get_or xs t d ≡ get_or xs t e
+same_default [] t d e lt = absurd (omega arith)
+same_default (x ∷ xs) zero d e lt = refl
+same_default (x ∷ xs) (suc t) d e lt = same_default xs t d e (omega arith)
+
+-- what ending a scope of one thread gives for its session
+pub Ends-there : (now : SessionState) (threads : List Thread) (collected after : Collected) (t : ℕ) (thread new : Thread) (at : ℤ) (back : ℕ) (result : Result Closed Error) → session threads collected ≡ now → t < length threads → thread ≡ get_or threads t thread
+    → OnOk result (back ≡ 0) → IfOk result (λ closed. Ends thread new at collected after closed)
+    → IfOk result (λ closed. (t < length now.threads) × (back ≡ 0) × (session (set threads t new) after ≡ with_thread now t (get_or (set threads t new) t nobody) after) × Ends (thread_in now t) (get_or (set threads t new) t nobody) at now.collected after closed)
+Ends-there now threads collected after t thread new at back (Err e) same lt read innermost ends = tt
+Ends-there now threads collected after t thread new at back (Ok closed) same lt read innermost ends =
+    let there : get_or (set threads t new) t nobody ≡ new = get_or-set_same threads t new nobody lt in
+    let was : thread ≡ get_or threads t nobody = read ∙ same_default threads t thread nobody lt in
+    subst
+    (λ (s : SessionState). (t < length s.threads) × (back ≡ 0) × (session (set threads t new) after ≡ with_thread s t (get_or (set threads t new) t nobody) after) × Ends (thread_in s t) (get_or (set threads t new) t nobody) at s.collected after closed)
+    same (
+      lt,
+      innermost,
+      ap (λ (th : Thread). session (set threads t th) after) (sym there),
+      subst (λ (th : Thread). Ends (get_or threads t nobody) th at collected after closed) (sym there) (subst (λ (th : Thread). Ends th new at collected after closed) was ends),
+    )
+
+-- what an accepted report of a user's scopes gives, and a refused one
+pub Accepts-from : (now seen : SessionState) (after : Collected) (i given : Info) (r lent : Recorded) (f : Forest) (bytes : List ℕ) (result : Result (Unit {0}) Error) → seen ≡ now → IsHonestRecord r f → r.bytes ≡ bytes → lent ≡ r → given ≡ i
+    → OnOk result (after ≡ after_report seen.collected given lent) → OnOk result (SumsFit seen.collected lent × ¬ IsTooLong (range_with seen.collected lent))
+    → OnOk result ((r : Recorded) × (f : Forest) × IsHonestRecord r f × (r.bytes ≡ bytes) × Accepts now.collected i r after × (with_collected seen after ≡ with_collected now after))
+Accepts-from now seen after i given r lent f bytes (Err e) same honest read lends names took fits = tt
+Accepts-from now seen after i given r lent f bytes (Ok x) same honest read lends names took fits =
+    let given_there : Accepts seen.collected given lent after = (took, fits.0, fits.1) in
+    let here : Accepts seen.collected i r after = subst (λ (q : Recorded). Accepts seen.collected i q after) lends (subst (λ (j : Info). Accepts seen.collected j lent after) names given_there) in
+    (r, f, honest, read, subst (λ (s : SessionState). Accepts s.collected i r after) same here, ap (λ (s : SessionState). with_collected s after) same)
+
+pub Refuses-from : (now seen : SessionState) (r lent : Recorded) (f : Forest) (bytes : List ℕ) (result : Result (Unit {0}) Error) → seen ≡ now → IsHonestRecord r f → r.bytes ≡ bytes → lent ≡ r
+    → IfErr result (λ e. IsReportRefusal seen.collected lent e) → IfErr result (λ e. (e ≡ Memory) ⊎ IsFault bytes e ⊎ ((r : Recorded) × (f : Forest) × IsHonestRecord r f × (r.bytes ≡ bytes) × IsReportRefusal now.collected r e))
+Refuses-from now seen r lent f bytes (Ok x) same honest read lends refused = tt
+Refuses-from now seen r lent f bytes (Err e) same honest read lends refused =
+    inr (inr (r, f, honest, read, subst (λ (s : SessionState). IsReportRefusal s.collected r e) same (subst (λ (q : Recorded). IsReportRefusal seen.collected q e) lends refused)))

@@ -1,0 +1,17 @@
+-- The lemmas of the crates below that the proofs here stand on.
+use Rattle.std.proofs.Common.{◌≡◌, ℤ, pos, []}
+use Rattle.puffin_data.specs.Forest.{Forest, IsForest}
+use Rattle.puffin_data.specs.Spelling.{spelling}
+use Rattle.puffin_data.specs.Tour.{tour}
+use Rattle.puffin_frames.specs.Events.{events_in}
+use Rattle.puffin_frames.proofs.Events.{events_open}
+pub use Rattle.puffin_data.proofs.Tours.{tour-append}
+pub use Rattle.puffin_data.proofs.Extended.{honest_joined}
+pub use Rattle.puffin_data.proofs.WordMeasures.{word_size-append, num_begun-append, least_open-append, greatest_close-append, word_size-tour, num_begun-tour, least_open-tour, greatest_close-tour}
+pub use Rattle.puffin_frames.proofs.Infos.{info_cmp_total, same_info-one, same_info-itself}
+pub use Rattle.puffin_frames.proofs.Measured.{after_report, bytes_measure, scopes_measure, starts_measure, stops_measure, total_bytes-one, total_scopes-one}
+pub use Rattle.puffin_frames.proofs.Ranges.{least_start-one, greatest_stop-one}
+
+-- of bytes that spell a forest, the events are its tour
+pub events_in-spelling : (f : Forest) → IsForest f → events_in (spelling f) ≡ tour f
+events_in-spelling f fits = events_open (pos 0) [] f tt fits

@@ -1,0 +1,145 @@
+-- The places of a thread's open scopes: the last one begun stands first, and each stands before those begun after it.
+use Rattle.std.proofs.Common.{◌≡◌, ℕ, zero, suc, ◌+◌, ◌-◌, ◌<◌, ◌≤◌, ℤ, List, [], ◌∷◌, ◌++◌, length, drop, take, get_or, reverse, Option, Some, refl, sym, ap, ◌∙◌, subst, arith, length-append, length-drop, ◌⊎◌, inl, inr}
+use Rattle.std.specs.Prelude.{slice_get}
+use Rattle.std.specs.List.{fold}
+use Rattle.std.proofs.lemmas.List.{get_or-reverse, length-reverse, reverse-append, take_at}
+use Rattle.std.proofs.lemmas.Option.{get_or_from_slice_get}
+use Rattle.puffin_data.specs.Tour.{Event, Open, Close}
+use Rattle.puffin_data.specs.Words.{word_size, open_after}
+use Rattle.puffin_data.specs.declared.error.Error.{Error}
+use Rattle.puffin_data.specs.Honesty.{Recorded}
+use Rattle.puffin_frames.specs.declared.thread_profiler.reporter.Closed.{Closed}
+use Rattle.puffin_frames.specs.declared.thread_profiler.reporter.Closed.TheVariants.{Inner, Reported, Kept}
+use Rattle.puffin_frames.specs.Closing.{Closes}
+use Rattle.puffin_frames.specs.Info.{Info}
+use Rattle.puffin_frames.specs.Threads.{Thread, after_begin, after_end, after_handing, opened_after, open_offsets}
+
+fold_last : (word : List Event) (e : Event) (sofar : ℕ × List ℕ) → fold opened_after sofar (word ++ (e ∷ [])) ≡ opened_after (fold opened_after sofar word) e
+fold_last [] e sofar = refl
+fold_last (d ∷ word) e sofar = fold_last word e (opened_after sofar d)
+
+size_along : (word : List Event) (sofar : ℕ × List ℕ) → (fold opened_after sofar word).0 ≡ sofar.0 + word_size word
+size_along [] sofar = omega arith
+size_along (Open id text start ∷ word) sofar = omega (arith, size_along word (sofar.0 + 22 + length text, (sofar.0 + 14 + length text) ∷ sofar.1))
+size_along (Close stop ∷ word) sofar = omega (arith, size_along word (sofar.0 + 9, drop 1 sofar.1))
+
+offsets-open : (word : List Event) (id : ℕ) (text : List ℕ) (start : ℤ) → open_offsets (word ++ (Open id text start ∷ [])) ≡ (word_size word + 14 + length text) ∷ open_offsets word
+offsets-open word id text start =
+    ap (λ (p : ℕ × List ℕ). p.1) (fold_last word (Open id text start) (0, [])) ∙ ap (λ (n : ℕ). (n + 14 + length text) ∷ open_offsets word) (size_along word (0, []) ∙ omega arith)
+
+offsets-close : (word : List Event) (stop : ℤ) → open_offsets (word ++ (Close stop ∷ [])) ≡ drop 1 (open_offsets word)
+offsets-close word stop = ap (λ (p : ℕ × List ℕ). p.1) (fold_last word (Close stop) (0, []))
+
+open_along : (word : List Event) (sofar : ℕ × List ℕ) → open_after (length sofar.1) word ≡ length (fold opened_after sofar word).1
+open_along [] sofar = refl
+open_along (Open id text start ∷ word) sofar =
+    ap (λ (n : ℕ). open_after n word) (omega arith) ∙ open_along word (sofar.0 + 22 + length text, (sofar.0 + 14 + length text) ∷ sofar.1)
+open_along (Close stop ∷ word) sofar =
+    ap (λ (n : ℕ). open_after n word) (sym (length-drop 1 sofar.1)) ∙ open_along word (sofar.0 + 9, drop 1 sofar.1)
+
+-- as many scopes are open as have their offsets
+pub open_after-offsets : (word : List Event) → open_after 0 word ≡ length (open_offsets word)
+open_after-offsets word = open_along word (0, [])
+
+-- ---- the code's list, which has the innermost last
+
+reverse-first : (x : ℕ) (xs : List ℕ) → reverse (x ∷ xs) ≡ reverse xs ++ (x ∷ [])
+reverse-first x xs = reverse-append (x ∷ []) xs
+
+pub pushed : (items more : List ℕ) (old new : Thread) (id : ℕ) (text : List ℕ) (t : ℤ) (offset : ℕ) → items ≡ reverse (open_offsets old.word) → new ≡ after_begin old id text t → offset ≡ word_size old.word + 14 + length text
+    → more ≡ items ++ (offset ∷ []) → more ≡ reverse (open_offsets new.word)
+pushed items more old new id text t offset was begun place is =
+    is ∙ ap (λ (n : ℕ). items ++ (n ∷ [])) place ∙ ap (λ (xs : List ℕ). xs ++ ((word_size old.word + 14 + length text) ∷ [])) was
+    ∙ sym (reverse-first (word_size old.word + 14 + length text) (open_offsets old.word)) ∙ sym (ap (λ (th : Thread). reverse (open_offsets th.word)) begun ∙ ap reverse (offsets-open old.word id text _))
+
+popped_list : (xs : List ℕ) → take (length (reverse xs) - 1) (reverse xs) ≡ reverse (drop 1 xs)
+popped_list [] = refl
+popped_list (x ∷ xs) = ap (λ (ys : List ℕ). take (length ys - 1) ys) (reverse-first x xs) ∙ take_at (reverse xs) (x ∷ []) (length (reverse xs ++ (x ∷ [])) - 1) (omega (arith, length-append (reverse xs) (x ∷ [])))
+
+pub popped : (items less : List ℕ) (old new : Thread) (t : ℤ) → items ≡ reverse (open_offsets old.word) → new ≡ after_end old t → less ≡ take (length items - 1) items → less ≡ reverse (open_offsets new.word)
+popped items less old new t was ended is =
+    is ∙ ap (λ (xs : List ℕ). take (length xs - 1) xs) was ∙ popped_list (open_offsets old.word) ∙ sym (ap (λ (th : Thread). reverse (open_offsets th.word)) ended ∙ ap reverse (offsets-close old.word _))
+
+-- the innermost scope's place goes where it ends, and all go where all was handed over
+pub closed_places : {R : Type 0} (accepts : R → Info → Recorded → R → Type 0) (refuses : R → Info → Recorded → Error → R → Type 0) (items less : List ℕ) (old new : Thread) (t : ℤ) (before after : R) (closed : Closed) → items ≡ reverse (open_offsets old.word) → less ≡ take (length items - 1) items
+    → Closes accepts refuses old new t before after closed → less ≡ reverse (open_offsets new.word)
+closed_places accepts refuses items less old new t before after Inner was is closes = popped items less old new t was closes.1 is
+closed_places accepts refuses items less old new t before after Reported was is closes =
+    let one : length (open_offsets old.word) ≡ 1 = sym (open_after-offsets old.word) ∙ closes.0 in
+    is ∙ ap (λ (xs : List ℕ). take (length xs - 1) xs) was ∙ popped_list (open_offsets old.word) ∙ ap reverse (one_dropped (open_offsets old.word) one) ∙ sym (ap (λ (th : Thread). reverse (open_offsets th.word)) closes.1)
+  where
+    one_dropped : (xs : List ℕ) → length xs ≡ 1 → drop 1 xs ≡ []
+    one_dropped [] e = absurd (omega arith)
+    one_dropped (x ∷ []) e = refl
+    one_dropped (x ∷ (y ∷ ys)) e = absurd (omega arith)
+closed_places accepts refuses items less old new t before after (Kept e) was is closes = popped items less old new t was closes.1 is
+
+-- where no place stands so far from the last, it is an outer one's, or no scope is open
+pub past_all : (items : List ℕ) (word : List Event) (back : ℕ) → items ≡ reverse (open_offsets word) → length items ≤ back → (0 < back) ⊎ (open_after 0 word ≡ 0)
+past_all items word zero was past = inr (omega (arith, open_after-offsets word, length-reverse (open_offsets word), ap length was))
+past_all items word (suc back) was past = inl (omega arith)
+
+-- ---- places fall from the innermost outwards
+
+Falls : ℕ → List ℕ → Type 0
+Falls n [] = Unit {0}
+Falls n (x ∷ xs) = (x < n) × Falls x xs
+
+falls_above : (n m : ℕ) (xs : List ℕ) → n ≤ m → Falls n xs → Falls m xs
+unfolding Falls
+falls_above n m [] le h = tt
+falls_above n m (x ∷ xs) le h = (omega (arith, h.0), h.1)
+
+falls_rest : (n m : ℕ) (xs : List ℕ) → n ≤ m → Falls n xs → Falls m (drop 1 xs)
+unfolding Falls
+falls_rest n m [] le h = tt
+falls_rest n m (x ∷ xs) le h = falls_above x m xs (omega (arith, h.0)) h.1
+
+falls_along : (word : List Event) (sofar : ℕ × List ℕ) → Falls sofar.0 sofar.1 → Falls (fold opened_after sofar word).0 (fold opened_after sofar word).1
+unfolding Falls
+falls_along [] sofar h = h
+falls_along (Open id text start ∷ word) sofar h =
+    falls_along word (sofar.0 + 22 + length text, (sofar.0 + 14 + length text) ∷ sofar.1) (omega arith, falls_above sofar.0 (sofar.0 + 14 + length text) sofar.1 (omega arith) h)
+falls_along (Close stop ∷ word) sofar h = falls_along word (sofar.0 + 9, drop 1 sofar.1) (falls_rest sofar.0 (sofar.0 + 9) sofar.1 (omega arith) h)
+
+below : (n : ℕ) (xs : List ℕ) (k d : ℕ) → Falls n xs → k < length xs → get_or xs k d < n
+unfolding Falls
+below n [] k d h lt = absurd (omega arith)
+below n (x ∷ xs) zero d h lt = h.0
+below n (x ∷ xs) (suc k) d h lt = omega (arith, h.0, below x xs k d h.1 (omega arith))
+
+first_only : (n : ℕ) (xs : List ℕ) (k x d : ℕ) → Falls n xs → k < length xs → get_or xs k d ≡ x → slice_get xs 0 ≡ Some x → k ≡ 0
+unfolding Falls
+first_only n [] k x d h lt at first = absurd (omega arith)
+first_only n (y ∷ ys) zero x d h lt at first = refl
+first_only n (y ∷ ys) (suc k) x d h lt at first =
+    let same : y ≡ x = get_or_from_slice_get (y ∷ ys) 0 x d first in
+    absurd (omega (arith, same, at, below y ys k d h.1 (omega arith)))
+
+-- a place that is the innermost one's was read at the list's end
+pub innermost_last : (items : List ℕ) (word : List Event) (back offset : ℕ) → items ≡ reverse (open_offsets word) → back < length items → offset ≡ get_or items (length items - 1 - back) offset → slice_get (open_offsets word) 0 ≡ Some offset → back ≡ 0
+unfolding Falls
+innermost_last items word back offset was lt read first =
+    let offsets = open_offsets word in
+    let size : length items ≡ length offsets = ap length was ∙ length-reverse offsets in
+    let there : get_or items (length items - 1 - back) offset ≡ get_or offsets back offset =
+    ap (λ (xs : List ℕ). get_or xs (length xs - 1 - back) offset) was
+    ∙ get_or-reverse offsets (length (reverse offsets) - 1 - back) offset (omega (arith, size, length-reverse offsets))
+    ∙ ap (λ (k : ℕ). get_or offsets k offset) (omega (arith, size, length-reverse offsets)) in
+    first_only (fold opened_after (0, []) word).0 offsets back offset offset (falls_along word (0, []) tt) (omega (arith, size)) (sym there ∙ sym read) first
+
+-- any other place isn't, so a refusal says that no scope is open or that the place is an outer one
+pub outer_or_none : (items : List ℕ) (word : List Event) (back offset : ℕ) → items ≡ reverse (open_offsets word) → back < length items → offset ≡ get_or items (length items - 1 - back) offset → (slice_get (open_offsets word) 0 ≡ Some offset → ⊥) → 0 < back
+outer_or_none items word zero offset was lt read other =
+    let offsets = open_offsets word in
+    let size : length items ≡ length offsets = ap length was ∙ length-reverse offsets in
+    let there : get_or items (length items - 1 - 0) offset ≡ get_or offsets 0 offset =
+    ap (λ (xs : List ℕ). get_or xs (length xs - 1 - 0) offset) was
+    ∙ get_or-reverse offsets (length (reverse offsets) - 1 - 0) offset (omega (arith, size, length-reverse offsets))
+    ∙ ap (λ (k : ℕ). get_or offsets k offset) (omega (arith, size, length-reverse offsets)) in
+    absurd (other (got offsets offset (omega (arith, size)) (read ∙ there)))
+  where
+    got : (xs : List ℕ) (x : ℕ) → 0 < length xs → x ≡ get_or xs 0 x → slice_get xs 0 ≡ Some x
+    got [] x lt e = absurd (omega arith)
+    got (y ∷ ys) x lt e = ap Some (sym e)
+outer_or_none items word (suc back) offset was lt read other = omega arith

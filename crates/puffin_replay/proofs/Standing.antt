@@ -1,0 +1,172 @@
+-- What single calls do to a session keeps it where its history leaves it.
+use Rattle.std.proofs.Common.{◌≡◌, ◌≢◌, ℕ, ◌+◌, ◌<◌, ◌==◌, eqb, ℤ, pos, Bool, true, false, cond, List, [], ◌∷◌, ◌++◌, map, length, Option, Some, None, refl, sym, ap, ◌∙◌, subst, append_assoc, append-nil, arith, inl, inr}
+use Rattle.std.proofs.lemmas.List.Sums.{sum_by-append}
+use Rattle.std.proofs.lemmas.Bool.{cases_eq}
+use Rattle.std.specs.Int.{int_max}
+use Rattle.std.specs.Option.{option_or}
+use Rattle.std.specs.List.{slice_index_or, count_by, flat_map}
+use Rattle.std.specs.FinMap.{empty}
+use Rattle.std.proofs.lemmas.List.Concat.{flat_map-append}
+use Rattle.puffin_data.specs.Honesty.{Recorded}
+use Rattle.puffin_data.specs.Tour.{Event, Open, Close}
+use Rattle.puffin_data.specs.Words.{num_begun}
+use Rattle.puffin_frames.specs.Info.{Info}
+use Rattle.puffin_frames.specs.Threads.{Thread, after_begin, after_end, after_handing, info_of_thread}
+use Rattle.puffin.specs.Collected.{reported_to}
+use Rattle.puffin_replay.specs.History.{Opening, Mark, begun, ended, Call, Action, calls, hands, frames, nothing, nobody, thread_at, call_of, latest_of}
+use Rattle.puffin_replay.specs.Handed.{Delivery, under, unreported, first_start_of, info_under, handed_at, handed_after}
+use Rattle.puffin_replay.specs.Due.{due, events_of, is_numbered, index_after, reported_after}
+use Rattle.puffin_replay.specs.Sessions.{SessionState, opening_of, SpellsWord, SpellsDue, StandsAfter, thread_after}
+use Rattle.puffin_replay.proofs.Laws.{num_begun-append}
+use Rattle.puffin_replay.proofs.Histories.{latest_of-same, latest_of-more, unreported-same, unreported-begun, unreported-ended, unreported-reported, first_start_of-same, first_start_of-begun, first_start_of-ended, handed_after-more, due-same, due-more, due-anew}
+use Rattle.puffin_replay.proofs.Collecting.{SpellsDue-report, SpellsDue-none}
+
+-- ---- threads
+
+-- a thread after a call of it; an accepted report leaves no events
+abbrev pub after_call : Thread → ℤ → Mark → Thread
+after_call thread at (begun id text) = after_begin thread id text (int_max (pos 0) at)
+after_call thread at (ended false) = after_end thread (int_max (pos 0) at)
+after_call thread at (ended true) = after_handing (after_end thread (int_max (pos 0) at))
+
+-- the word that a report hands over where the last open scope ends
+abbrev pub handed_at_end : Thread → ℤ → List Event
+handed_at_end thread at = (after_end thread (int_max (pos 0) at)).word
+
+same_thread : {n n' : List ℕ} {f f' : Option ℤ} {l l' : ℤ} {w w' : List Event} → n ≡ n' → f ≡ f' → l ≡ l' → w ≡ w' →
+    ◌≡◌ {A = Thread} (record { name = n; first_start = f; latest = l; word = w }) (record { name = n'; first_start = f'; latest = l'; word = w' })
+same_thread a b c d i = record { name = a i; first_start = b i; latest = c i; word = d i }
+
+itself : (t : ℕ) → (t == t) ≡ true
+itself t = grind arith
+
+other : (t u : ℕ) → t ≢ u → (t == u) ≡ false
+other t u h = grind arith
+
+own_call : (t : ℕ) (c : Call) → call_of t (calls t c) ≡ Some (record { at = int_max (pos 0) c.at; mark = c.mark })
+own_call t c = rw (itself t)
+
+pub foreign_call : (t u : ℕ) (c : Call) → t ≢ u → call_of t (calls u c) ≡ None
+foreign_call t u c h = rw (other t u h)
+
+module _ (o : Opening) (t : ℕ) (done : List Action) where
+  -- an action that is no call of a thread leaves it
+  pub thread_after-same : (a : Action) → call_of t a ≡ None → thread_after o (done ++ (a ∷ [])) t ≡ thread_after o done t
+  thread_after-same a e = same_thread refl (first_start_of-same o t done a e) (latest_of-same o t done a e) (unreported-same o t done a e)
+
+  -- a call does to its thread what it says
+  pub thread_after-call : (at : ℤ) (m : Mark) → thread_after o (done ++ (calls t (record { at = at; mark = m }) ∷ [])) t ≡ after_call (thread_after o done t) at m
+  thread_after-call at (begun id text) =
+      let a : Action = calls t (record { at = at; mark = begun id text }) in
+      let e = own_call t (record { at = at; mark = begun id text }) in
+      same_thread refl (first_start_of-begun o t done a (int_max (pos 0) at) id text e) (latest_of-more o t done a (record { at = int_max (pos 0) at; mark = begun id text }) e) (unreported-begun o t done a (int_max (pos 0) at) id text e)
+  thread_after-call at (ended false) =
+      let a : Action = calls t (record { at = at; mark = ended false }) in
+      let e = own_call t (record { at = at; mark = ended false }) in
+      same_thread refl (first_start_of-ended o t done a (int_max (pos 0) at) false e) (latest_of-more o t done a (record { at = int_max (pos 0) at; mark = ended false }) e) (unreported-ended o t done a (int_max (pos 0) at) e)
+  thread_after-call at (ended true) =
+      let a : Action = calls t (record { at = at; mark = ended true }) in
+      let e = own_call t (record { at = at; mark = ended true }) in
+      same_thread refl (first_start_of-ended o t done a (int_max (pos 0) at) true e) (latest_of-more o t done a (record { at = int_max (pos 0) at; mark = ended true }) e) (unreported-reported o t done a (int_max (pos 0) at) e)
+
+  -- what an accepted report delivers
+  pub handed_at-reported : (at : ℤ) → handed_at o done (calls t (record { at = at; mark = ended true })) ≡ under (info_of_thread (thread_after o done t)) (handed_at_end (thread_after o done t) at) ∷ []
+  handed_at-reported at = ap (λ time. under (info_under o t done) (unreported o t done ++ (Close time ∷ [])) ∷ [])
+      (latest_of-more o t done (calls t (record { at = at; mark = ended true })) (record { at = int_max (pos 0) at; mark = ended true }) (own_call t (record { at = at; mark = ended true })))
+
+-- ---- a session
+
+-- the threads of a session changed at one place
+pub record ChangesThread (now new : SessionState) (t : ℕ) (changed : Thread) (scopes : ℕ) : Type 0 where
+  pub num_threads : length new.threads ≡ length now.threads
+  pub there : thread_at (opening_of new) t ≡ changed
+  pub others : (u : ℕ) → u ≢ t → thread_at (opening_of new) u ≡ thread_at (opening_of now) u
+  pub index : new.collected.index ≡ now.collected.index
+  pub reported : new.collected.reported ≡ now.collected.reported + scopes
+
+-- only what is collected changed
+pub record ChangesPending (now new : SessionState) (index scopes : ℕ) : Type 0 where
+  pub threads : new.threads ≡ now.threads
+  pub raised : new.collected.index ≡ index
+  pub reported : new.collected.reported ≡ now.collected.reported + scopes
+
+pub index_after-more : (o : Opening) (done : List Action) (a : Action) → index_after o (done ++ (a ∷ [])) ≡ index_after o done + cond (is_numbered a) 1 0
+index_after-more o done a = omega (arith, sum_by-append (λ b. cond (is_numbered b) 1 0) done (a ∷ []))
+
+pub reported_after-more : (o : Opening) (done : List Action) (a : Action) → reported_after o (done ++ (a ∷ [])) ≡ reported_after o done + num_begun (flat_map events_of (handed_at o done a))
+reported_after-more o done a =
+    ap (λ ds. o.reported + num_begun (flat_map events_of ds)) (handed_after-more o [] done a)
+    ∙ ap (λ w. o.reported + num_begun w) (flat_map-append events_of (handed_after o [] done) (handed_at o done a))
+    ∙ omega (arith, num_begun-append (flat_map events_of (handed_after o [] done)) (flat_map events_of (handed_at o done a)))
+
+module _ (o : Opening) (done : List Action) (now new : SessionState) (before : StandsAfter o done now) where
+  called : (t : ℕ) (at : ℤ) (m : Mark) → t < length o.threads → ChangesThread now new t (after_call (thread_at (opening_of now) t) at m) (num_begun (flat_map events_of (handed_at o done (calls t (record { at = at; mark = m })))))
+      → SpellsDue new.collected.streams (due o (done ++ (calls t (record { at = at; mark = m }) ∷ []))) → StandsAfter o (done ++ (calls t (record { at = at; mark = m }) ∷ [])) new
+  called t at m within change collected =
+      let a : Action = calls t (record { at = at; mark = m }) in
+      record {
+        num_threads = change.num_threads ∙ before.num_threads;
+        threads = λ u lt. elim (cases_eq u t) [
+          | inl same ↦ subst (λ v. thread_at (opening_of new) v ≡ thread_after o (done ++ (a ∷ [])) v) (sym same)
+              (change.there ∙ ap (λ th. after_call th at m) (before.threads t within) ∙ sym (thread_after-call o t done at m))
+          | inr apart ↦ change.others u apart ∙ before.threads u lt ∙ sym (thread_after-same o u done a (foreign_call u t (record { at = at; mark = m }) apart))
+        ];
+        collected = collected;
+        index = change.index ∙ before.index ∙ sym (index_after-more o done a ∙ omega arith);
+        reported = change.reported ∙ ap (λ n. n + num_begun (flat_map events_of (handed_at o done a))) before.reported ∙ sym (reported_after-more o done a);
+      }
+
+  pub StandsAfter-begun : (t : ℕ) (at : ℤ) (id : ℕ) (text : List ℕ) → t < length o.threads → ChangesThread now new t (after_call (thread_at (opening_of now) t) at (begun id text)) 0
+      → new.collected.streams ≡ now.collected.streams → StandsAfter o (done ++ (calls t (record { at = at; mark = begun id text }) ∷ [])) new
+  StandsAfter-begun t at id text within change same =
+      called t at (begun id text) within change (rw (same, due-same o done (calls t (record { at = at; mark = begun id text })) refl) before.collected)
+
+  -- an inner scope, or an outermost one whose report was kept back
+  pub StandsAfter-ended : (t : ℕ) (at : ℤ) → t < length o.threads → ChangesThread now new t (after_call (thread_at (opening_of now) t) at (ended false)) 0
+      → new.collected.streams ≡ now.collected.streams → StandsAfter o (done ++ (calls t (record { at = at; mark = ended false }) ∷ [])) new
+  StandsAfter-ended t at within change same =
+      called t at (ended false) within change (rw (same, due-same o done (calls t (record { at = at; mark = ended false })) refl) before.collected)
+
+  scopes_reported : (t : ℕ) (at : ℤ) → thread_at (opening_of now) t ≡ thread_after o done t
+      → num_begun (handed_at_end (thread_at (opening_of now) t) at) ≡ num_begun (flat_map events_of (handed_at o done (calls t (record { at = at; mark = ended true }))))
+  scopes_reported t at th =
+      ap (λ v. num_begun (handed_at_end v at)) th ∙ ap num_begun (sym (append-nil (handed_at_end (thread_after o done t) at))) ∙ ap (λ ds. num_begun (flat_map events_of ds)) (sym (handed_at-reported o t done at))
+
+  pub StandsAfter-reported : (t : ℕ) (at : ℤ) (s : Recorded) → t < length o.threads → ChangesThread now new t (after_call (thread_at (opening_of now) t) at (ended true)) (num_begun (handed_at_end (thread_at (opening_of now) t) at))
+      → SpellsWord s (handed_at_end (thread_at (opening_of now) t) at) → new.collected.streams ≡ reported_to now.collected.streams (info_of_thread (thread_at (opening_of now) t)) s
+      → StandsAfter o (done ++ (calls t (record { at = at; mark = ended true }) ∷ [])) new
+  StandsAfter-reported t at s within change spells same =
+      let a : Action = calls t (record { at = at; mark = ended true }) in
+      let th = before.threads t within in
+      let more = due-more o done a (info_of_thread (thread_after o done t)) (handed_at_end (thread_after o done t) at) (handed_at-reported o t done at) in
+      let ready = SpellsDue-report now.collected.streams (due o done) (info_of_thread (thread_after o done t)) s (handed_at_end (thread_after o done t) at) before.collected (subst (λ v. SpellsWord s (handed_at_end v at)) th spells) in
+      called t at (ended true) within (record { num_threads = change.num_threads; there = change.there; others = change.others; index = change.index; reported = change.reported ∙ ap (λ n. now.collected.reported + n) (scopes_reported t at th) })
+      (subst (λ ds. SpellsDue new.collected.streams ds) (sym more) (subst (λ ss. SpellsDue ss (due o done ++ (under (info_of_thread (thread_after o done t)) (handed_at_end (thread_after o done t) at) ∷ []))) (sym (same ∙ ap (λ v. reported_to now.collected.streams (info_of_thread v) s) th)) ready))
+
+  -- an action that is no thread's
+  unthreaded : (a : Action) → ((t : ℕ) → call_of t a ≡ None) → ChangesPending now new (now.collected.index + cond (is_numbered a) 1 0) (num_begun (flat_map events_of (handed_at o done a))) → SpellsDue new.collected.streams (due o (done ++ (a ∷ []))) → StandsAfter o (done ++ (a ∷ [])) new
+  unthreaded a none change collected = record {
+    num_threads = ap length change.threads ∙ before.num_threads;
+    threads = λ u lt. ap (λ ts. slice_index_or ts u nobody) change.threads ∙ before.threads u lt ∙ sym (thread_after-same o u done a (none u));
+    collected = collected;
+    index = change.raised ∙ ap (λ n. n + cond (is_numbered a) 1 0) before.index ∙ sym (index_after-more o done a);
+    reported = change.reported ∙ ap (λ n. n + num_begun (flat_map events_of (handed_at o done a))) before.reported ∙ sym (reported_after-more o done a);
+  }
+
+  pub StandsAfter-handed : (i : Info) (s : Recorded) (word : List Event) → ChangesPending now new now.collected.index (num_begun word) → SpellsWord s word → new.collected.streams ≡ reported_to now.collected.streams i s
+      → StandsAfter o (done ++ (hands i word ∷ [])) new
+  StandsAfter-handed i s word change spells same =
+      unthreaded (hands i word) (λ t. refl) (record { threads = change.threads; raised = omega (arith, change.raised); reported = change.reported ∙ ap (λ w. now.collected.reported + num_begun w) (sym (append-nil word)) })
+      (rw (same, due-more o done (hands i word) i word refl) (SpellsDue-report now.collected.streams (due o done) i s word before.collected spells))
+
+  -- a frame took all that was collected
+  pub StandsAfter-framed : ChangesPending now new (now.collected.index + 1) 0 → new.collected.streams ≡ empty → StandsAfter o (done ++ (frames true ∷ [])) new
+  StandsAfter-framed change same = unthreaded (frames true) (λ t. refl) change (rw (same, due-anew o done (frames true) refl) SpellsDue-none)
+
+  -- the index rose alone
+  pub StandsAfter-unframed : ChangesPending now new (now.collected.index + 1) 0 → new.collected.streams ≡ now.collected.streams → StandsAfter o (done ++ (frames false ∷ [])) new
+  StandsAfter-unframed change same = unthreaded (frames false) (λ t. refl) change (rw (same, due-same o done (frames false) refl) before.collected)
+
+  -- a refusal, or a command that hands over no scopes
+  pub StandsAfter-nothing : ChangesPending now new now.collected.index 0 → new.collected.streams ≡ now.collected.streams → StandsAfter o (done ++ (nothing ∷ [])) new
+  StandsAfter-nothing change same = unthreaded nothing (λ t. refl) (record { threads = change.threads; raised = omega (arith, change.raised); reported = change.reported }) (rw (same, due-same o done nothing refl) before.collected)

@@ -1,0 +1,11 @@
+-- The scope's place is put last.
+use Rattle.std.proofs.Common.{◌∙◌, ap, sym, reverse}
+use Rattle.puffin_frames.specs.Threads.{Thread, open_offsets}
+use Rattle.puffin_replay.proofs.Offsets.{pushed}
+use Rattle.puffin_replay.proofs.replay.profiled.Profiled.begin.Goals as goal
+
+pub invariant_of-self-2 : goal.invariant_of-self-2
+invariant_of-self-2 c =
+    let begun = c.in_ok-offset.ensures.begun in
+    pushed c.reserve.new.self.items c.push.new.self.items c.self.inside.profiler.recording c.begin_scope.new.self.recording _ _ begun.0 c.in_ok-offset.offset
+    (c.in_ok-reserve.ensures.items ∙ c.self.invariant) begun.3 c.in_ok-offset.ensures.offset c.in-Ok.ensures.items

@@ -1,0 +1,61 @@
+-- Each call continues the history.
+use Rattle.std.proofs.Common.{◌≡◌, ◌+◌, ℕ, List, length, ◌∙◌, ap, sym, subst, ℤ, rules, FitsSigned, w64}
+use Rattle.std.proofs.lemmas.Int.{to_z-of_z}
+use Rattle.puffin_data.specs.Text.{cut_text}
+use Rattle.puffin_data.specs.Words.{word_size}
+use Rattle.puffin_frames.specs.Threads.{after_begin}
+use Rattle.puffin_replay.specs.declared.replay.command.Command.TheVariants.{End}
+use Rattle.puffin_replay.specs.Serving.{clock_time, thread_in, with_thread, Ends}
+use Rattle.puffin_replay.proofs.Serving.{Continues-began, Continues-ended, Continues-handed, Continues-taken, Continues-not_begun, Continues-not_ended, Continues-not_reported, Continues-not_framed, same}
+use Rattle.puffin_replay.proofs.replay.session.Session.serve.Goals as goal
+
+pub returns-in-Ok : goal.returns-in-Ok
+returns-in-Ok c =
+    let it = c.in-Ok.ensures.ok in
+    let now = c.args.self.now in
+    let t = c.in-Begin.thread in
+    let at = to_z-of_z w64 c.in-Begin.at (search rules) in
+    let text = c.as_str.ensures.value in
+    same now c.begin.new.self _ _ _ _ c.in-Begin.is
+    (it.1 ∙ ap (λ (x : ℤ). with_thread now t (after_begin (thread_in now t) c.in-Begin.id (cut_text c.as_str.result.now) (clock_time x)) now.collected) at
+    ∙ ap (λ (bytes : List ℕ). with_thread now t (after_begin (thread_in now t) c.in-Begin.id (cut_text bytes) (clock_time c.in-Begin.at)) now.collected) text)
+    (Continues-began now t c.in-Begin.at c.in-Begin.id c.in-Begin.text c.in-Ok.offset it.0 (it.2 ∙ ap (λ (bytes : List ℕ). word_size (thread_in now t).word + 14 + length (cut_text bytes)) text))
+
+pub returns-in-Err : goal.returns-in-Err
+returns-in-Err c =
+    let it = c.in-Err.ensures in
+    same c.args.self.now c.begin.new.self _ _ _ _ c.in-Begin.is it.err (Continues-not_begun c.args.self.now c.in-Begin.thread c.in-Begin.at c.in-Begin.id c.in-Begin.text c.in-Err.cause it.cause)
+
+pub returns-in-Ok-end : goal.returns-in-Ok-end
+returns-in-Ok-end c =
+    let it = c.in-Ok-end.ensures.ok in
+    let now = c.args.self.now in
+    let t = c.in-End.thread in
+    let at = to_z-of_z w64 c.in-End.at (search rules) in
+    let ends = subst (λ (x : ℤ). Ends (thread_in now t) (thread_in c.end.new.self t) (clock_time x) now.collected c.end.new.self.collected c.in-Ok-end.closed) at it.3 in
+    same now c.end.new.self _ _ _ _ (c.in-End.is ∙ ap (End t c.in-End.at) it.1) it.2 (Continues-ended now t c.in-End.at it.0 (thread_in c.end.new.self t) c.end.new.self.collected c.in-Ok-end.closed ends)
+
+pub returns-in-Err-end : goal.returns-in-Err-end
+returns-in-Err-end c =
+    let it = c.in-Err-end.ensures in
+    same c.args.self.now c.end.new.self _ _ _ _ c.in-End.is it.err (Continues-not_ended c.args.self.now c.in-End.thread c.in-End.at c.in-End.back c.in-Err-end.cause it.cause)
+
+pub returns-in-Ok-report_user : goal.returns-in-Ok-report_user
+returns-in-Ok-report_user c =
+    let it = c.in-Ok-report_user.ensures.ok in
+    same c.args.self.now c.report_user.new.self _ _ _ _ c.in-ReportUser.is it.5 (Continues-handed c.args.self.now c.report_user.new.self.collected c.in-ReportUser.info c.in-ReportUser.stream it.0 it.1 it.2 it.3 it.4)
+
+pub returns-in-Err-report_user : goal.returns-in-Err-report_user
+returns-in-Err-report_user c =
+    let it = c.in-Err-report_user.ensures in
+    same c.args.self.now c.report_user.new.self _ _ _ _ c.in-ReportUser.is it.err (Continues-not_reported c.args.self.now c.in-ReportUser.info c.in-ReportUser.stream c.in-Err-report_user.cause it.cause)
+
+pub returns-in-Ok-new_frame : goal.returns-in-Ok-new_frame
+returns-in-Ok-new_frame c =
+    let it = c.in-Ok-new_frame.ensures.ok in
+    same c.args.self.now c.new_frame.new.self _ _ _ _ c.in-NewFrame.is it.1 (Continues-taken c.args.self.now c.new_frame.new.self.collected c.in-Ok-new_frame.frame it.0 it.2)
+
+pub returns-in-Err-new_frame : goal.returns-in-Err-new_frame
+returns-in-Err-new_frame c =
+    let it = c.in-Err-new_frame.ensures in
+    same c.args.self.now c.new_frame.new.self _ _ _ _ c.in-NewFrame.is it.err (Continues-not_framed c.args.self.now c.in-Err-new_frame.cause it.cause)

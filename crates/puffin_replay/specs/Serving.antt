@@ -1,0 +1,57 @@
+-- What single commands do to a session: what the proof of a run stands on.
+use Rattle.std.specs.Prelude.{◌≡◌, ℕ, ℤ, pos, List, [], ◌∷◌, ◌++◌, slice_set}
+use Rattle.std.specs.List.{slice_index_or, flat_map}
+use Rattle.std.specs.Int.{int_max}
+use Rattle.std.specs.FinMap.{values}
+use Rattle.puffin_data.specs.Tour.{Event}
+use Rattle.puffin_data.specs.Words.{word_size, num_begun, least_open, greatest_close}
+use Rattle.puffin_frames.specs.Threads.{Thread}
+use Rattle.puffin_frames.specs.Closing.{Closes}
+use Rattle.puffin_frames.specs.Contents.{Streams}
+use Rattle.puffin_frames.specs.Measures.{total_bytes, total_scopes, least_start, greatest_stop}
+use Rattle.puffin_frames.specs.declared.thread_profiler.reporter.Closed.{Closed}
+use Rattle.puffin.specs.Collected.{Collected, Accepts, Refuses}
+use Rattle.puffin_replay.specs.declared.replay.command.Command.{Command}
+use Rattle.puffin_replay.specs.declared.replay.command.Reply.{Reply}
+use Rattle.puffin_replay.specs.History.{Opening, Action, nobody}
+use Rattle.puffin_replay.specs.Due.{due, events_of}
+use Rattle.puffin_replay.specs.Sessions.{SessionState, StandsAfter}
+use Rattle.puffin_replay.specs.Replies.{action_of, MayReply}
+
+-- ---- what single calls do
+
+-- a time below 0 counts as 0
+abbrev pub clock_time : ℤ → ℤ
+clock_time at = int_max (pos 0) at
+
+abbrev pub thread_in : SessionState → ℕ → Thread
+thread_in s t = slice_index_or s.threads t nobody
+
+-- a session with another thread at this number, and with this collected
+abbrev pub with_thread : SessionState → ℕ → Thread → Collected → SessionState
+with_thread s t thread collected = record { threads = slice_set s.threads t thread; collected = collected }
+
+abbrev pub with_collected : SessionState → Collected → SessionState
+with_collected s collected = record { threads = s.threads; collected = collected }
+
+-- The innermost scope of a thread was ended. Where it was the last, the report of the whole word was accepted, or it was refused and left what is collected.
+abbrev pub Ends : Thread → Thread → ℤ → Collected → Collected → Closed → Type 0
+Ends old new at before after closed = Closes Accepts Refuses old new at before after closed
+
+-- ---- what a run keeps
+
+-- The sums over these streams are those of the events.
+pub record SumsTo (streams : Streams) (events : List Event) : Type 0 where
+  pub bytes : total_bytes (values streams) ≡ word_size events
+  pub scopes : total_scopes (values streams) ≡ num_begun events
+  pub start : least_start (values streams) ≡ least_open events
+  pub stop : greatest_stop (values streams) ≡ greatest_close events
+
+-- a session stands after a history, and the sums over what is collected are those of what is due
+pub record Continued (o : Opening) (done : List Action) (now : SessionState) : Type 0 where
+  pub stands : StandsAfter o done now
+  pub sums : SumsTo now.collected.streams (flat_map events_of (due o done))
+
+-- One command and its reply: whatever history the session stood after, it stands after that history and what the command did.
+abbrev pub Continues : SessionState → SessionState → Command → Reply → Type 0
+Continues old new c r = (o : Opening) (done : List Action) → Continued o done old → Continued o (done ++ (action_of c r ∷ [])) new × MayReply o done c r

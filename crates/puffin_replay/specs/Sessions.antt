@@ -1,0 +1,69 @@
+-- What contracts see of a session, and where a history leaves it.
+use Rattle.std.specs.Prelude.{◌≡◌, ℕ, ◌+◌, ◌<◌, ℤ, pos, List, [], length, map, Option, Some, None}
+use Rattle.std.specs.List.{slice_index_or}
+use Rattle.std.specs.FinMap.{empty, entries, get, values}
+use Rattle.puffin_data.specs.Forest.{Forest}
+use Rattle.puffin_data.specs.Tour.{Event, tour}
+use Rattle.puffin_data.specs.Words.{word_size, num_begun, least_open, greatest_close}
+use Rattle.puffin_data.specs.Honesty.{Recorded, IsHonestRecord}
+use Rattle.puffin_frames.specs.Info.{Info}
+use Rattle.puffin_frames.specs.Threads.{Thread}
+use Rattle.puffin_frames.specs.Contents.{Streams}
+use Rattle.puffin_frames.specs.Measures.{total_bytes, total_scopes, least_start, greatest_stop}
+use Rattle.puffin.specs.Collected.{Collected}
+use Rattle.puffin_frames.specs.Events.{events_in}
+use Rattle.puffin_replay.specs.History.{Opening, Action, nobody, thread_at, latest_of}
+use Rattle.puffin_replay.specs.Handed.{Delivery, unreported, first_start_of}
+use Rattle.puffin_replay.specs.Due.{due, events_of, total_under, index_after, reported_after}
+
+-- its threads, and what is collected for the next frame
+pub record SessionState : Type 0 where
+  pub threads : List Thread
+  pub collected : Collected
+
+abbrev pub named : List ℕ → Thread
+named name = record { name = name; first_start = None; latest = pos 0; word = [] }
+
+abbrev pub nothing_collected : Collected
+nothing_collected = record { index = 0; reported = 0; emitted = 0; streams = empty }
+
+-- with these threads, before any command
+abbrev pub new_session : List (List ℕ) → SessionState
+new_session names = record { threads = map named names; collected = nothing_collected }
+
+-- what stands before a run
+abbrev pub opening_of : SessionState → Opening
+opening_of s = record {
+  threads = s.threads;
+  due = map (λ e. (e.0, events_in e.1.bytes)) (entries s.collected.streams);
+  index = s.collected.index;
+  reported = s.collected.reported;
+}
+
+-- an honest info of the scopes of these events
+pub record SpellsWord (r : Recorded) (word : List Event) : Type 0 where
+  pub forest : Forest
+  pub honest : IsHonestRecord r forest
+  pub toured : tour forest ≡ word
+
+abbrev pub SpellsIfAny : Option Recorded → Option (List Event) → Type 0
+SpellsIfAny None None = Unit {0}
+SpellsIfAny (Some r) (Some word) = ∥ SpellsWord r word ∥₁
+SpellsIfAny None (Some word) = ⊥
+SpellsIfAny (Some r) None = ⊥
+
+-- there is a stream under each info under which something was handed over and under no other, and it spells just that
+abbrev pub SpellsDue : Streams → List Delivery → Type 0
+SpellsDue streams ds = (i : Info) → SpellsIfAny (get streams i) (total_under ds i)
+
+-- a thread after these actions
+abbrev pub thread_after : Opening → List Action → ℕ → Thread
+thread_after o done t = record { name = (thread_at o t).name; first_start = first_start_of o t done; latest = latest_of o t done; word = unreported o t done }
+
+-- Nothing is lost, doubled or changed: each thread holds its unreported word, and what is collected spells just what is due.
+pub record StandsAfter (o : Opening) (done : List Action) (now : SessionState) : Type 0 where
+  pub num_threads : length now.threads ≡ length o.threads
+  pub threads : (t : ℕ) → t < length o.threads → slice_index_or now.threads t nobody ≡ thread_after o done t
+  pub collected : SpellsDue now.collected.streams (due o done)
+  pub index : now.collected.index ≡ index_after o done
+  pub reported : now.collected.reported ≡ reported_after o done

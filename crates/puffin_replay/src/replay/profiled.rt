@@ -1,0 +1,85 @@
+ghost use Rattle.std.specs.Prelude.{◌≡◌, ◌+◌, ◌-◌, ◌<◌, ◌⊎◌, length, IfOk, IfErr, OnOk, OnErr};
+ghost use Rattle.std.specs.String.{string_bytes};
+ghost use Rattle.puffin_data.specs.Text.{cut_text};
+ghost use Rattle.puffin_data.specs.Words.{word_size, open_after};
+ghost use Rattle.puffin_frames.specs.Threads.{after_begin};
+ghost use Rattle.puffin_replay.specs.Sessions.{named};
+ghost use Rattle.puffin_replay.specs.Serving.{clock_time, Ends};
+
+use puffin::global_profiler::Collector;
+use puffin_data::data::ScopeId;
+use puffin_data::{Error, NanoSecond, Result};
+use puffin_frames::thread_profiler::{Closed, ScriptClock, ThreadProfiler};
+use std::alloc::Global;
+use std::marker::Model;
+
+/// A thread of a session, with the places that its open scopes are ended by, the innermost last.
+#[derive(Drop)]
+pub(crate) struct Profiled {
+    profiler: ThreadProfiler<ScriptClock>,
+    open: Vec<usize>,
+}
+
+impl Model for Profiled {
+    ghost use Rattle.std.specs.Prelude.{◌≡◌, reverse};
+    ghost use Rattle.puffin_frames.specs.Threads.{Thread, open_offsets};
+    ghost use Rattle.puffin_frames.specs.Profilers.{thread_of};
+
+    ghost Value = { Thread };
+
+    ghost view = { λ p. thread_of p.profiler };
+
+    ghost invariant = { λ p. p.open.items ≡ reverse (open_offsets (thread_of p.profiler).word) };
+}
+
+impl Profiled {
+    /// A thread before its first scope.
+    pub(crate) fn new(alloc: Global, name: String) -> Profiled
+        ensures { result ≡ named (string_bytes name) }
+    {
+        Profiled {
+            profiler: ThreadProfiler::new(alloc, name, ScriptClock::new(0)),
+            open: Vec::new(alloc),
+        }
+    }
+
+    /// Begins a scope at this time. Refused only with `Memory`; nothing is changed then.
+    pub(crate) fn begin(&mut self, at: NanoSecond, id: ScopeId, text: &str) -> Result<usize>
+        ensures ok { OnOk result (self.new ≡ after_begin self.old id (cut_text text.now) (clock_time at)) }
+        ensures offset { IfOk result (λ offset. offset ≡ word_size self.old.word + 14 + length (cut_text text.now)) }
+        ensures err { OnErr result (self.new ≡ self.old) }
+        ensures memory { IfErr result (λ e. e ≡ Error.Memory) }
+    {
+        self.open.reserve(1)?;
+        self.profiler.clock().set(at);
+        let offset = self.profiler.begin_scope(id, text)?;
+        match self.open.push(offset) {
+            Ok(()) => Ok(offset),
+            Err(_) => unreachable!(),
+        }
+    }
+
+    /// Ends the open scope that is so many places out of the innermost one, at this time. Refused only with
+    /// `MismatchedEnd`, unless it is the innermost one; nothing is changed then.
+    pub(crate) fn end(
+        &mut self,
+        at: NanoSecond,
+        back: usize,
+        collector: &mut Collector,
+    ) -> Result<Closed>
+        ensures back { OnOk result (back ≡ 0) }
+        ensures ok { IfOk result (λ closed. Ends self.old self.new (clock_time at) collector.old collector.new closed) }
+        ensures err { OnErr result ((self.new ≡ self.old) × (collector.new ≡ collector.old)) }
+        ensures cause { IfErr result (λ e. (e ≡ Error.MismatchedEnd) × ((0 < back) ⊎ (open_after 0 self.old.word ≡ 0))) }
+    {
+        let depth = self.open.len();
+        if depth <= back {
+            return Err(Error::MismatchedEnd);
+        }
+        let offset = self.open[depth - 1 - back];
+        self.profiler.clock().set(at);
+        let closed = self.profiler.end_scope(offset, collector)?;
+        let _ = self.open.pop();
+        Ok(closed)
+    }
+}

@@ -1,0 +1,166 @@
+ghost use Rattle.std.specs.Prelude.{◌≡◌, ◌≢◌, ◌+◌, ◌-◌, ◌^◌, ◌<◌, ◌≤◌, ◌⊎◌, length, map, IfOk, IfErr, OnOk, OnErr};
+ghost use Rattle.std.specs.String.{string_bytes};
+ghost use Rattle.puffin_data.specs.Forest.{Forest};
+ghost use Rattle.puffin_data.specs.Honesty.{Recorded, IsHonestRecord};
+ghost use Rattle.puffin_data.specs.Text.{cut_text};
+ghost use Rattle.puffin_data.specs.Walk.{IsFault};
+ghost use Rattle.puffin_data.specs.Words.{word_size, open_after};
+ghost use Rattle.puffin_frames.specs.Info.{info_of};
+ghost use Rattle.puffin_frames.specs.Threads.{after_begin};
+ghost use Rattle.puffin.specs.Collected.{Accepts, IsReportRefusal};
+ghost use Rattle.puffin.specs.Collecting.{Collects};
+ghost use Rattle.puffin_replay.specs.Sessions.{new_session};
+ghost use Rattle.puffin_replay.specs.Replies.{Records};
+ghost use Rattle.puffin_replay.specs.Serving.{clock_time, thread_in, with_thread, with_collected, Ends, Continues};
+
+use crate::replay::command::{Command, Reply};
+use crate::replay::profiled::Profiled;
+use puffin::global_profiler::{Collector, Emitted};
+use puffin_data::data::{ScopeId, Stream, StreamInfo};
+use puffin_data::{Error, NanoSecond, Result};
+use puffin_frames::frame_data::FrameData;
+use puffin_frames::thread_profiler::{Closed, ThreadInfo};
+use std::alloc::Global;
+use std::marker::Model;
+use std::sync::Arc;
+
+/// Threads that are profiled, all by one profiler, and driven by commands.
+///
+/// Contracts see each thread's unreported scopes, and what is collected for the next frame.
+#[derive(Drop)]
+pub struct Session {
+    profiled: Vec<Profiled>,
+    collector: Collector,
+    alloc: Global,
+}
+
+impl Model for Session {
+    ghost use Rattle.puffin_replay.specs.Sessions.{SessionState};
+    ghost use Rattle.puffin_replay.specs.contracts.replay.profiled.Profiled as t;
+    ghost use Rattle.puffin.specs.contracts.global_profiler.collector.Collector as c;
+    ghost use Rattle.std.specs.Coded.{code_by, coded×, coded_list};
+    ghost use Rattle.std.specs.Prelude.{refl};
+
+    ghost Value = { SessionState };
+
+    ghost coded = { code_by _ (coded× (coded_list t.the_row.coded) c.the_row.coded) (λ s. (s.threads, s.collected)) (λ p. record { threads = p.0; collected = p.1 }) (λ _. refl) };
+
+    ghost view = { λ s. record { threads = s.profiled.items; collected = s.collector } };
+}
+
+impl Session {
+    /// One thread a name, before its first scope. Refused only with `Memory`.
+    pub fn new(alloc: Global, names: Vec<String>) -> Result<Session>
+        ensures new { IfOk result (λ session. session ≡ new_session (map string_bytes names.items)) }
+        ensures memory { IfErr result (λ e. e ≡ Error.Memory) }
+    {
+        let mut profiled = Vec::new(alloc);
+        for name in names {
+            profiled.push(Profiled::new(alloc, name))?;
+        }
+        Ok(Session {
+            profiled,
+            collector: Collector::new(alloc, 0),
+            alloc,
+        })
+    }
+
+    /// Runs commands in order, with one reply each. Each accepted scope is then once in an emitted frame, in what is due
+    /// for the next one, or in its thread's unreported scopes, and each frame holds just what was due. Refused only with
+    /// `Memory`, before any command has run.
+    pub fn run(&mut self, commands: &[Command]) -> Result<Vec<Reply>>
+        ensures run { IfOk result (λ replies. Records self.old self.new commands.now replies.items) }
+        ensures err { OnErr result (self.new ≡ self.old) }
+        ensures memory { IfErr result (λ e. e ≡ Error.Memory) }
+    {
+        // What is collected is honest: each collector says so of itself.
+        let _ = self.collector.totals();
+        let mut replies = Vec::with_capacity(self.alloc, commands.len())?;
+        for command in commands {
+            let reply = self.serve(command);
+            match replies.push(reply) {
+                Ok(()) => {}
+                Err(_) => unreachable!(),
+            }
+        }
+        Ok(replies)
+    }
+
+    /// One command.
+    fn serve(&mut self, command: &Command) -> Reply
+        ensures { Continues self.old self.new command.now result }
+    {
+        match command {
+            Command::Begin {
+                thread,
+                at,
+                id,
+                text,
+            } => match self.begin(*thread, *at, *id, text.as_str()) {
+                Ok(offset) => Reply::Began(offset),
+                Err(cause) => Reply::Refused(cause),
+            },
+            Command::End { thread, at, back } => match self.end(*thread, *at, *back) {
+                Ok(closed) => Reply::Ended(closed),
+                Err(cause) => Reply::Refused(cause),
+            },
+            Command::ReportUser { info, stream } => match self.report_user(info, stream) {
+                Ok(()) => Reply::Reported,
+                Err(cause) => Reply::Refused(cause),
+            },
+            Command::NewFrame => match self.new_frame() {
+                Ok(frame) => Reply::Frame(Emitted { frame, refused: 0 }),
+                Err(cause) => Reply::Refused(cause),
+            },
+        }
+    }
+
+    fn begin(&mut self, thread: usize, at: NanoSecond, id: ScopeId, text: &str) -> Result<usize>
+        ensures ok { IfOk result (λ offset. (thread < length self.old.threads)
+            × (self.new ≡ with_thread self.old thread (after_begin (thread_in self.old thread) id (cut_text text.now) (clock_time at)) self.old.collected)
+            × (offset ≡ word_size (thread_in self.old thread).word + 14 + length (cut_text text.now))) }
+        ensures err { OnErr result (self.new ≡ self.old) }
+        ensures cause { IfErr result (λ e. ((e ≡ Error.NoThread) × (length self.old.threads ≤ thread)) ⊎ ((e ≡ Error.Memory) × (thread < length self.old.threads))) }
+    {
+        match self.profiled.get_mut(thread) {
+            Some(profiled) => profiled.begin(at, id, text),
+            None => Err(Error::NoThread),
+        }
+    }
+
+    fn end(&mut self, thread: usize, at: NanoSecond, back: usize) -> Result<Closed>
+        ensures ok { IfOk result (λ closed. (thread < length self.old.threads) × (back ≡ 0)
+            × (self.new ≡ with_thread self.old thread (thread_in self.new thread) self.new.collected)
+            × Ends (thread_in self.old thread) (thread_in self.new thread) (clock_time at) self.old.collected self.new.collected closed) }
+        ensures err { OnErr result (self.new ≡ self.old) }
+        ensures cause { IfErr result (λ e. ((e ≡ Error.NoThread) × (length self.old.threads ≤ thread))
+            ⊎ ((e ≡ Error.MismatchedEnd) × (thread < length self.old.threads) × ((0 < back) ⊎ (open_after 0 (thread_in self.old thread).word ≡ 0)))) }
+    {
+        match self.profiled.get_mut(thread) {
+            Some(profiled) => profiled.end(at, back, &mut self.collector),
+            None => Err(Error::NoThread),
+        }
+    }
+
+    fn report_user(&mut self, info: &ThreadInfo, stream: &Stream) -> Result<()>
+        ensures ok { OnOk result ((r : Recorded) × (f : Forest) × IsHonestRecord r f × (r.bytes ≡ stream.now.bytes)
+            × Accepts self.old.collected (info_of info.now) r self.new.collected × (self.new ≡ with_collected self.old self.new.collected)) }
+        ensures err { OnErr result (self.new ≡ self.old) }
+        ensures cause { IfErr result (λ e. (e ≡ Error.Memory) ⊎ IsFault stream.now.bytes e
+            ⊎ ((r : Recorded) × (f : Forest) × IsHonestRecord r f × (r.bytes ≡ stream.now.bytes) × IsReportRefusal self.old.collected r e)) }
+    {
+        let times = StreamInfo::parse(self.alloc, stream.clone()?)?;
+        let info = info.clone()?;
+        self.collector
+            .report_user_scopes(info, &times.as_stream_into_ref())
+    }
+
+    fn new_frame(&mut self) -> Result<Option<Arc<FrameData>>>
+        ensures ok { IfOk result (λ frame. (self.old.collected.index ≢ 2 ^ 64 - 1) × (self.new ≡ with_collected self.old self.new.collected)
+            × Collects self.old.collected frame self.new.collected) }
+        ensures err { OnErr result (self.new ≡ self.old) }
+        ensures cause { IfErr result (λ e. ((e ≡ Error.IndexExhausted) × (self.old.collected.index ≡ 2 ^ 64 - 1)) ⊎ (e ≡ Error.Memory)) }
+    {
+        self.collector.collect_frame()
+    }
+}
