@@ -5,6 +5,8 @@ mod count;
 mod fault;
 mod profiled;
 mod session;
+#[cfg(test)]
+mod session_tests;
 mod task;
 
 pub use command::{Command, Reply};
