@@ -178,3 +178,48 @@ fn a_collector_at_the_last_index(rt: HostRuntime) -> Outcome {
     assert_eq!(rt; collector.totals().pending, 1);
     Ok(())
 }
+
+/// Reports, and once more where memory is refused, which changes no total.
+fn report_again(rt: &HostRuntime, profiler: &mut GlobalProfiler, name: &str, id: u8) -> Outcome {
+    let before = profiler.totals();
+    let first = report(rt, profiler, name, id, (5, 7));
+    if first.is_err() {
+        if profiler.totals() != before {
+            return Err(Fail::new("a refused report was counted"));
+        }
+        report(rt, profiler, name, id, (5, 7))?;
+    }
+    Ok(())
+}
+
+/// Run with each allocation failing in turn: nothing is lost or doubled.
+#[test]
+fn one_refused_allocation(rt: HostRuntime) -> Outcome {
+    let mut profiler = GlobalProfiler::new(rt.alloc());
+    for id in 1..4_u8 {
+        report_again(&rt, &mut profiler, "a", id)?;
+        report_again(&rt, &mut profiler, "b", id)?;
+    }
+    let mut emitted = profiler.new_frame();
+    if emitted.is_err() {
+        assert_eq!(rt; profiler.totals().pending, 6);
+        report_again(&rt, &mut profiler, "c", 1)?;
+        emitted = profiler.new_frame();
+    }
+    let Some(frame) = emitted?.frame else {
+        return Err(Fail::new("no frame"));
+    };
+    assert_eq!(rt; frame.frame_index(), 0);
+    let Some(unpacked) = frame.as_unpacked() else {
+        return Err(Fail::new("packed"));
+    };
+    for (thread, info) in &unpacked.thread_streams {
+        if thread.name.as_str() == "c" {
+            assert_eq!(rt; info.stream.len(), 31);
+        } else {
+            assert_eq!(rt; (info.stream.len(), info.num_scopes), (93, 3));
+        }
+    }
+    assert_eq!(rt; profiler.totals().pending, 0);
+    Ok(())
+}
