@@ -1,10 +1,8 @@
 -- What the contracts of a thread's profiler and of the collector give for one command.
-use Rattle.std.proofs.Common.{◌≡◌, ◌≢◌, ℕ, zero, suc, ◌-◌, ◌^◌, ◌<◌, ◌↔◌, ℤ, pos, List, [], ◌∷◌, length, get_or, set, arith, Option, Some, None, Result, Ok, Err, refl, sym, ap, ◌∙◌, subst, Global, ◌⊎◌, inl, inr}
-use Rattle.std.specs.Prelude.{OnOk, IfOk, IfErr, MatchOption}
+use Rattle.std.proofs.Common.{◌≡◌, ◌≢◌, ℕ, zero, suc, ◌-◌, ◌^◌, ◌<◌, ◌↔◌, ℤ, pos, List, [], ◌∷◌, length, get_or, set, arith, Option, Result, Ok, Err, refl, sym, ap, ◌∙◌, subst, Global, ◌⊎◌, inl, inr}
+use Rattle.std.specs.Prelude.{OnOk, IfOk, IfErr}
 use Rattle.std.specs.Int.{int_max}
-use Rattle.std.specs.Arc.{arc_value}
 use Rattle.std.specs.declared.sync.Arc.{Arc}
-use Rattle.std.specs.FinMap.{get, values}
 use Rattle.puffin_data.specs.declared.error.Error.{Error}
 use Rattle.puffin_data.specs.declared.error.Error.TheVariants.{IndexExhausted, Memory}
 use Rattle.puffin_data.specs.Forest.{Forest}
@@ -13,13 +11,10 @@ use Rattle.puffin_data.specs.Walk.{IsFault}
 use Rattle.std.proofs.lemmas.List.{get_or-set_same}
 use Rattle.puffin_replay.specs.History.{nobody}
 use Rattle.puffin_frames.specs.Info.{Info}
-use Rattle.puffin_frames.specs.Threads.{Thread, after_end}
+use Rattle.puffin_frames.specs.Threads.{Thread}
 use Rattle.puffin_frames.specs.Closing.{Closes}
-use Rattle.puffin_frames.specs.Contents.{frame_contents, frame_meta}
-use Rattle.puffin_frames.specs.Measures.{meta_of, total_scopes}
 use Rattle.puffin_frames.specs.declared.frame_data.frame.FrameData.{FrameData}
 use Rattle.puffin_frames.specs.declared.thread_profiler.reporter.Closed.{Closed}
-use Rattle.puffin_frames.specs.declared.thread_profiler.reporter.Closed.TheVariants.{Inner, Reported, Kept}
 use Rattle.puffin.specs.Collected.{Collected, Accepts, Refuses, after_report, SumsFit, range_with, IsTooLong, IsReportRefusal}
 use Rattle.puffin.specs.Collecting.{Collects}
 use Rattle.puffin_replay.specs.Sessions.{SessionState}

@@ -1,13 +1,12 @@
 -- What is collected keeps in step with what is due.
-use Rattle.std.proofs.Common.{◌≡◌, ℕ, ◌+◌, ◌-◌, ◌^◌, ◌<◌, Bool, true, false, cond, List, [], ◌∷◌, ◌++◌, Option, Some, None, unwrap_or, refl, sym, ap, ◌∙◌, subst, arith}
+use Rattle.std.proofs.Common.{◌≡◌, ℕ, ◌<◌, Bool, true, false, List, [], ◌∷◌, ◌++◌, Option, Some, None, unwrap_or, refl, sym, ap, ◌∙◌, subst, arith}
 use mathlib.Core.Logic.{∥∥₁_map}
 use Rattle.std.proofs.lemmas.Grind.{merely, not_there}
-use Rattle.std.specs.FinMap.{get, insert, empty, values, get-insert, get-empty}
+use Rattle.std.specs.FinMap.{get, empty, values, get-insert, get-empty}
 use Rattle.puffin_data.specs.Forest.{Forest, append}
-use Rattle.puffin_data.specs.Forest
 use Rattle.puffin_data.specs.Measures.{scope_count}
 use Rattle.puffin_data.specs.Honesty.{Recorded, IsHonestRecord, joined}
-use Rattle.puffin_data.specs.Tour.{Event, Open, Close, tour}
+use Rattle.puffin_data.specs.Tour.{Event, tour}
 use Rattle.puffin_data.specs.Words.{num_begun}
 use Rattle.puffin_frames.specs.Info.{Info, info_cmp, same_info}
 use Rattle.puffin_frames.specs.Contents.{Streams}
@@ -15,11 +14,11 @@ use Rattle.puffin_frames.specs.Measures.{meta_of, total_scopes}
 use Rattle.puffin_frames.specs.Contents.{frame_contents, frame_meta}
 use Rattle.puffin_frames.specs.declared.frame_data.frame.FrameData.{FrameData}
 use Rattle.puffin.specs.Collected.{no_scopes, reported_to}
-use Rattle.puffin_replay.specs.Handed.{Delivery, under, taken}
+use Rattle.puffin_replay.specs.Handed.{Delivery, under}
 use Rattle.puffin_replay.specs.Due.{total_under, NoneDue}
 use Rattle.puffin_replay.specs.Sessions.{SpellsWord, SpellsIfAny, SpellsDue}
 use Rattle.puffin_replay.specs.Replies.{SpellsFrame}
-use Rattle.puffin_replay.proofs.Laws.{tour-append, honest_joined, num_begun-tour, info_cmp_total, same_info-one, same_info-itself}
+use Rattle.puffin_replay.proofs.Laws.{tour-append, honest_joined, num_begun-tour, info_cmp_total, same_info-one}
 use Rattle.puffin_replay.proofs.Histories.{total_under-itself, total_under-other}
 
 joined_word : (a s : Recorded) (old word : List Event) → SpellsWord a old → SpellsWord s word → SpellsWord (joined a s) (old ++ word)

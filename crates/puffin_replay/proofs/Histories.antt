@@ -1,6 +1,6 @@
 -- What one more action changes in what a history records.
-use Rattle.std.proofs.Common.{◌≡◌, ◌≢◌, ℕ, ◌+◌, ◌==◌, ℤ, pos, Bool, true, false, not, cond, ◌||◌, List, [], ◌∷◌, ◌++◌, map, Option, Some, None, unwrap_or, refl, sym, ap, ◌∙◌, subst, append_assoc, append-nil, arith}
-use Rattle.std.specs.List.{list_any, filter_map, flat_map, count_by, fold}
+use Rattle.std.proofs.Common.{◌≡◌, ℕ, ℤ, Bool, true, false, cond, ◌||◌, List, [], ◌∷◌, ◌++◌, map, Option, Some, None, unwrap_or, refl, sym, ap, ◌∙◌, append_assoc, append-nil}
+use Rattle.std.specs.List.{list_any, flat_map}
 use Rattle.std.specs.Int.{int_max}
 use Rattle.std.specs.Option.{option_or}
 use Rattle.std.proofs.lemmas.List.{map-append}
@@ -9,9 +9,9 @@ use Rattle.std.proofs.lemmas.List.Concat.{flat_map-append}
 use Rattle.std.proofs.lemmas.List.Folds.{list_any-append}
 use Rattle.puffin_data.specs.Tour.{Event, Open, Close}
 use Rattle.puffin_frames.specs.Info.{Info, same_info}
-use Rattle.puffin_replay.specs.History.{Opening, Mark, begun, ended, Call, Action, calls, hands, frames, nothing, since_last, thread_at, call_of, calls_of, greatest, latest_of}
-use Rattle.puffin_replay.specs.Handed.{Marked, marked_at, marked, first_open, word_of, unreported, first_start_of, info_under, Delivery, under, taken, handed_at, handed_after}
-use Rattle.puffin_replay.specs.Due.{is_taken, due, is_numbered, index_after, is_under, events_under, total_under}
+use Rattle.puffin_replay.specs.History.{Opening, begun, ended, Call, Action, since_last, thread_at, call_of, calls_of, greatest, latest_of}
+use Rattle.puffin_replay.specs.Handed.{Marked, marked_at, marked, first_open, word_of, unreported, first_start_of, Delivery, under, taken, handed_at, handed_after}
+use Rattle.puffin_replay.specs.Due.{is_taken, due, is_under, events_under, total_under}
 
 -- ---- the part since the last that passes
 

@@ -1,5 +1,5 @@
 -- The lemmas of the crates below that the proofs here stand on.
-use Rattle.std.proofs.Common.{◌≡◌, ℤ, pos, []}
+use Rattle.std.proofs.Common.{◌≡◌, pos, []}
 use Rattle.puffin_data.specs.Forest.{Forest, IsForest}
 use Rattle.puffin_data.specs.Spelling.{spelling}
 use Rattle.puffin_data.specs.Tour.{tour}

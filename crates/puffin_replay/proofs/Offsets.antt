@@ -1,5 +1,5 @@
 -- The places of a thread's open scopes: the last one begun stands first, and each stands before those begun after it.
-use Rattle.std.proofs.Common.{◌≡◌, ℕ, zero, suc, ◌+◌, ◌-◌, ◌<◌, ◌≤◌, ℤ, List, [], ◌∷◌, ◌++◌, length, drop, take, get_or, reverse, Option, Some, refl, sym, ap, ◌∙◌, subst, arith, length-append, length-drop, ◌⊎◌, inl, inr}
+use Rattle.std.proofs.Common.{◌≡◌, ℕ, zero, suc, ◌+◌, ◌-◌, ◌<◌, ◌≤◌, ℤ, List, [], ◌∷◌, ◌++◌, length, drop, take, get_or, reverse, Some, refl, sym, ap, ◌∙◌, arith, length-append, length-drop, ◌⊎◌, inl, inr}
 use Rattle.std.specs.Prelude.{slice_get}
 use Rattle.std.specs.List.{fold}
 use Rattle.std.proofs.lemmas.List.{get_or-reverse, length-reverse, reverse-append, take_at}
@@ -12,7 +12,7 @@ use Rattle.puffin_frames.specs.declared.thread_profiler.reporter.Closed.{Closed}
 use Rattle.puffin_frames.specs.declared.thread_profiler.reporter.Closed.TheVariants.{Inner, Reported, Kept}
 use Rattle.puffin_frames.specs.Closing.{Closes}
 use Rattle.puffin_frames.specs.Info.{Info}
-use Rattle.puffin_frames.specs.Threads.{Thread, after_begin, after_end, after_handing, opened_after, open_offsets}
+use Rattle.puffin_frames.specs.Threads.{Thread, after_begin, after_end, opened_after, open_offsets}
 
 fold_last : (word : List Event) (e : Event) (sofar : ℕ × List ℕ) → fold opened_after sofar (word ++ (e ∷ [])) ≡ opened_after (fold opened_after sofar word) e
 fold_last [] e sofar = refl

@@ -1,24 +1,23 @@
 -- A session stands where it stands: before any command, what is collected spells what is due.
-use Rattle.std.proofs.Common.{◌≡◌, ℕ, ◌<◌, ℤ, Bool, true, false, cond, ◌||◌, ◌&&◌, T, List, [], ◌∷◌, ◌++◌, map, length, Option, Some, None, refl, sym, ap, ◌∙◌, subst, append-nil, arith}
+use Rattle.std.proofs.Common.{◌≡◌, ℤ, Bool, true, false, cond, ◌||◌, ◌&&◌, T, List, [], ◌∷◌, ◌++◌, map, Option, Some, None, refl, sym, ap, ◌∙◌, subst, append-nil, arith}
 use Rattle.std.specs.declared.cmp.Ordering.{Ordering}
 use Rattle.std.specs.declared.cmp.Ordering.TheVariants.{Less, Equal, Greater}
 use Rattle.std.specs.Ordering.{is_lt, is_eq}
 use mathlib.Core.Logic.{∥∥₁_map}
-use Rattle.std.specs.List.{list_any, flat_map}
+use Rattle.std.specs.List.{list_any}
 use Rattle.std.specs.Option.{option_map, option_or}
 use Rattle.std.specs.FinMap.{get, entries, entries_sorted, get-entries, find, is_sorted}
 use Rattle.std.specs.FinMap.Entries.{below_all}
 use Rattle.puffin_data.specs.Honesty.{Recorded}
 use Rattle.puffin_data.specs.Tour.{Event}
 use Rattle.puffin_frames.specs.Info.{Info, info_cmp, same_info}
-use Rattle.puffin_frames.specs.Threads.{Thread}
 use Rattle.puffin_frames.specs.Contents.{Streams, AreHonest}
 use Rattle.puffin_frames.specs.Events.{events_in}
-use Rattle.puffin_replay.specs.History.{Opening, since_last, thread_at, nobody}
-use Rattle.puffin_replay.specs.Handed.{Marked, unreported, Delivery, under}
-use Rattle.puffin_replay.specs.Due.{due, is_taken, is_under, events_under, total_under}
-use Rattle.puffin_replay.specs.Sessions.{SessionState, opening_of, StandsAfter, thread_after, SpellsWord, SpellsIfAny, SpellsDue}
-use Rattle.puffin_replay.proofs.Laws.{same_info-one, same_info-itself}
+use Rattle.puffin_replay.specs.History.{since_last, thread_at}
+use Rattle.puffin_replay.specs.Handed.{Marked, Delivery, under}
+use Rattle.puffin_replay.specs.Due.{due, is_taken, is_under, total_under}
+use Rattle.puffin_replay.specs.Sessions.{SessionState, opening_of, StandsAfter, SpellsIfAny, SpellsDue}
+use Rattle.puffin_replay.proofs.Laws.{same_info-one}
 use Rattle.puffin_replay.proofs.Histories.{none_under}
 use Rattle.puffin_replay.proofs.Laws.{events_in-spelling}
 

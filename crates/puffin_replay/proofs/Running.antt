@@ -1,5 +1,5 @@
 -- What holds after some commands holds after one more.
-use Rattle.std.proofs.Common.{◌≡◌, ℕ, ◌+◌, List, [], ◌∷◌, ◌++◌, length, refl, sym, ap, subst, append_assoc, append-nil, length-append, arith}
+use Rattle.std.proofs.Common.{◌≡◌, List, [], ◌∷◌, ◌++◌, length, refl, sym, ap, subst, append_assoc, append-nil, length-append, arith}
 use Rattle.puffin_replay.specs.declared.replay.command.Command.{Command}
 use Rattle.puffin_replay.specs.declared.replay.command.Command.TheVariants.{Begin, End, ReportUser, NewFrame}
 use Rattle.puffin_replay.specs.declared.replay.command.Reply.{Reply}

@@ -1,8 +1,7 @@
 -- What single commands do to a session continues its history.
-use Rattle.std.proofs.Common.{◌≡◌, ◌≢◌, ℕ, ◌+◌, ◌-◌, ◌^◌, ◌<◌, ◌≤◌, ◌⊎◌, inl, inr, ℤ, pos, Bool, true, false, List, [], ◌∷◌, ◌++◌, length, drop, length-drop, set, Option, Some, None, String, Global, refl, sym, ap, ◌∙◌, subst, arith, append-nil}
+use Rattle.std.proofs.Common.{◌≡◌, ◌≢◌, ℕ, ◌+◌, ◌-◌, ◌^◌, ◌<◌, ◌≤◌, ◌⊎◌, inl, inr, ℤ, true, false, List, [], ◌∷◌, ◌++◌, length, set, Option, Some, None, String, Global, refl, sym, ap, ◌∙◌, subst, arith, append-nil}
 use Rattle.std.specs.String.{string_bytes}
-use Rattle.std.specs.List.{slice_index_or, flat_map, fold}
-use Rattle.std.specs.Int.{int_max}
+use Rattle.std.specs.List.{slice_index_or, flat_map}
 use Rattle.std.specs.FinMap.{get, values, empty}
 use Rattle.std.specs.Arc.{arc_value}
 use Rattle.std.specs.declared.sync.Arc.{Arc}
@@ -12,14 +11,13 @@ use Rattle.puffin_data.specs.declared.error.Error.{Error}
 use Rattle.puffin_data.specs.declared.error.Error.TheVariants.{NoThread, MismatchedEnd, IndexExhausted, Memory}
 use Rattle.puffin_data.specs.Forest.{Forest}
 use Rattle.puffin_data.specs.Honesty.{Recorded, IsHonestRecord}
-use Rattle.puffin_data.specs.Spelling.{Spells}
 use Rattle.puffin_data.specs.Streams.{Held}
 use Rattle.puffin_data.specs.Text.{cut_text}
-use Rattle.puffin_data.specs.Tour.{Event, Open, Close, tour}
+use Rattle.puffin_data.specs.Tour.{Event, tour}
 use Rattle.puffin_data.specs.Walk.{IsFault}
 use Rattle.puffin_data.specs.Words.{word_size, num_begun, open_after}
 use Rattle.puffin_frames.specs.Info.{Info, info_of}
-use Rattle.puffin_frames.specs.Threads.{Thread, after_begin, after_end, after_handing, info_of_thread, opened_after, open_offsets}
+use Rattle.puffin_frames.specs.Threads.{Thread, after_begin, after_end, after_handing, info_of_thread}
 use Rattle.puffin_frames.specs.Contents.{Streams}
 use Rattle.puffin_frames.specs.Measures.{meta_of, total_scopes}
 use Rattle.puffin_frames.specs.Contents.{frame_contents, frame_meta}
@@ -27,7 +25,7 @@ use Rattle.puffin_frames.specs.declared.frame_data.frame.FrameData.{FrameData}
 use Rattle.puffin_frames.specs.declared.thread_profiler.thread_info.ThreadInfo.{ThreadInfo}
 use Rattle.puffin_frames.specs.declared.thread_profiler.reporter.Closed.{Closed}
 use Rattle.puffin_frames.specs.declared.thread_profiler.reporter.Closed.TheVariants.{Inner, Reported, Kept}
-use Rattle.puffin.specs.Collected.{Collected, Accepts, after_report, after_frame, after_no_frame, reported_to, IsReportRefusal}
+use Rattle.puffin.specs.Collected.{Collected, Accepts, after_frame, after_no_frame, reported_to, IsReportRefusal}
 use Rattle.puffin.specs.Collecting.{Collects}
 use Rattle.puffin_frames.specs.Closing.{IsReportOf}
 use Rattle.puffin_replay.specs.declared.replay.command.Command.{Command}
@@ -35,17 +33,17 @@ use Rattle.puffin_replay.specs.declared.replay.command.Command.TheVariants.{Begi
 use Rattle.puffin_replay.specs.declared.replay.command.Reply.{Reply}
 use Rattle.puffin_replay.specs.declared.replay.command.Reply.TheVariants as reply
 use Rattle.puffin_frames.specs.Events.{events_in}
-use Rattle.puffin_replay.specs.History.{Opening, Mark, begun, ended, Action, calls, hands, frames, nothing, nobody, thread_at, call_of}
-use Rattle.puffin_replay.specs.Handed.{Delivery, under, taken, handed_at}
+use Rattle.puffin_replay.specs.History.{Opening, begun, ended, Action, calls, hands, frames, nothing, nobody}
+use Rattle.puffin_replay.specs.Handed.{under, taken, handed_at}
 use Rattle.puffin_replay.specs.Due.{due, events_of, index_after}
-use Rattle.puffin_replay.specs.Sessions.{SessionState, opening_of, thread_after, StandsAfter, SpellsWord, SpellsDue}
-use Rattle.puffin_replay.specs.Replies.{action_of, MayReply, MayReport, IsRefusal, ending_word}
+use Rattle.puffin_replay.specs.Sessions.{SessionState, thread_after, SpellsWord}
+use Rattle.puffin_replay.specs.Replies.{MayReply, ending_word}
 use Rattle.puffin_replay.specs.Serving.{clock_time, thread_in, with_thread, with_collected, Ends, SumsTo, Continued, Continues}
 use Rattle.puffin_replay.proofs.Histories.{due-same, due-more, due-anew}
 use Rattle.puffin_replay.proofs.Collecting.{SpellsFrame-taken, NoneDue-untaken}
 use Rattle.puffin_replay.proofs.Laws.{events_in-spelling}
 use Rattle.puffin_replay.proofs.Running.{refused_nothing}
-use Rattle.puffin_replay.proofs.Standing.{after_call, handed_at_end, handed_at-reported, ChangesThread, ChangesPending, StandsAfter-begun, StandsAfter-ended, StandsAfter-reported, StandsAfter-handed, StandsAfter-framed, StandsAfter-unframed, StandsAfter-nothing}
+use Rattle.puffin_replay.proofs.Standing.{handed_at_end, handed_at-reported, ChangesThread, StandsAfter-begun, StandsAfter-ended, StandsAfter-reported, StandsAfter-handed, StandsAfter-framed, StandsAfter-unframed, StandsAfter-nothing}
 use Rattle.puffin_replay.proofs.Sums.{SumsTo-reported, SumsTo-none, scopes_of, MayReport-from, IsRefusal-from}
 
 -- ---- sums

@@ -1,20 +1,19 @@
 -- What single calls do to a session keeps it where its history leaves it.
-use Rattle.std.proofs.Common.{◌≡◌, ◌≢◌, ℕ, ◌+◌, ◌<◌, ◌==◌, eqb, ℤ, pos, Bool, true, false, cond, List, [], ◌∷◌, ◌++◌, map, length, Option, Some, None, refl, sym, ap, ◌∙◌, subst, append_assoc, append-nil, arith, inl, inr}
+use Rattle.std.proofs.Common.{◌≡◌, ◌≢◌, ℕ, ◌+◌, ◌<◌, ◌==◌, ℤ, pos, true, false, cond, List, [], ◌∷◌, ◌++◌, length, Option, Some, None, refl, sym, ap, ◌∙◌, subst, append-nil, arith, inl, inr}
 use Rattle.std.proofs.lemmas.List.Sums.{sum_by-append}
 use Rattle.std.proofs.lemmas.Bool.{cases_eq}
 use Rattle.std.specs.Int.{int_max}
-use Rattle.std.specs.Option.{option_or}
-use Rattle.std.specs.List.{slice_index_or, count_by, flat_map}
+use Rattle.std.specs.List.{slice_index_or, flat_map}
 use Rattle.std.specs.FinMap.{empty}
 use Rattle.std.proofs.lemmas.List.Concat.{flat_map-append}
 use Rattle.puffin_data.specs.Honesty.{Recorded}
-use Rattle.puffin_data.specs.Tour.{Event, Open, Close}
+use Rattle.puffin_data.specs.Tour.{Event, Close}
 use Rattle.puffin_data.specs.Words.{num_begun}
 use Rattle.puffin_frames.specs.Info.{Info}
 use Rattle.puffin_frames.specs.Threads.{Thread, after_begin, after_end, after_handing, info_of_thread}
 use Rattle.puffin.specs.Collected.{reported_to}
-use Rattle.puffin_replay.specs.History.{Opening, Mark, begun, ended, Call, Action, calls, hands, frames, nothing, nobody, thread_at, call_of, latest_of}
-use Rattle.puffin_replay.specs.Handed.{Delivery, under, unreported, first_start_of, info_under, handed_at, handed_after}
+use Rattle.puffin_replay.specs.History.{Opening, Mark, begun, ended, Call, Action, calls, hands, frames, nothing, nobody, thread_at, call_of}
+use Rattle.puffin_replay.specs.Handed.{under, unreported, info_under, handed_at, handed_after}
 use Rattle.puffin_replay.specs.Due.{due, events_of, is_numbered, index_after, reported_after}
 use Rattle.puffin_replay.specs.Sessions.{SessionState, opening_of, SpellsWord, SpellsDue, StandsAfter, thread_after}
 use Rattle.puffin_replay.proofs.Laws.{num_begun-append}

@@ -1,11 +1,11 @@
 -- The sums over all that is collected are those of all that is due, so that a report's refusal is one in the history's words.
-use Rattle.std.proofs.Common.{◌≡◌, ◌≢◌, ℕ, ◌+◌, ◌-◌, ◌^◌, ◌<◌, ◌⊎◌, inl, inr, ℤ, pos, negsuc, ◌≤ℤ◌, ◌<ℤ◌, Bool, true, false, cond, ◌&&◌, T, List, [], ◌∷◌, ◌++◌, length, map, Option, Some, None, refl, sym, ap, ◌∙◌, subst, arith}
+use Rattle.std.proofs.Common.{◌≡◌, ℕ, inl, inr, ℤ, ◌<ℤ◌, Bool, true, false, cond, ◌&&◌, T, List, [], ◌∷◌, ◌++◌, length, map, Option, Some, None, refl, sym, ap, ◌∙◌, subst, arith}
 use Rattle.std.specs.declared.cmp.Ordering.{Ordering}
 use Rattle.std.specs.declared.cmp.Ordering.TheVariants.{Less, Equal, Greater}
 use Rattle.std.specs.Ordering.{is_lt, is_eq}
 use Rattle.std.specs.List.{flat_map}
 use Rattle.std.specs.Int.{int_min, int_max}
-use Rattle.std.specs.FinMap.{get, entries, entries_sorted, get-entries, values, empty, find, is_sorted, len-entries, len-empty}
+use Rattle.std.specs.FinMap.{entries, entries_sorted, get-entries, values, empty, find, is_sorted, len-entries, len-empty}
 use Rattle.std.specs.FinMap.Entries.{below_all}
 use Rattle.std.proofs.lemmas.Bool.{cases_eq}
 use Rattle.std.proofs.lemmas.Int.{ints, clamps}
@@ -20,11 +20,11 @@ use Rattle.puffin_frames.specs.Events.{events_in}
 use Rattle.puffin_frames.specs.Info.{Info, info_cmp, same_info}
 use Rattle.puffin_frames.specs.Contents.{Streams, AreHonest, reported_to}
 use Rattle.puffin_frames.specs.Measures.{total_bytes, total_scopes, least_start, greatest_stop}
-use Rattle.puffin.specs.Collected.{Collected, SumsFit, range_with, IsTooLong, IsReportRefusal}
+use Rattle.puffin.specs.Collected.{SumsFit, range_with, IsTooLong, IsReportRefusal}
 use Rattle.puffin_replay.specs.History.{Opening, Action}
-use Rattle.puffin_replay.specs.Due.{due, events_of, reported_after}
+use Rattle.puffin_replay.specs.Due.{due, events_of}
 use Rattle.puffin_replay.specs.Sessions.{SessionState, opening_of, StandsAfter, SpellsWord}
-use Rattle.puffin_replay.specs.Replies.{due_with, DueFits, DueIsTooLong, MayReport, IsRefusal}
+use Rattle.puffin_replay.specs.Replies.{DueFits, MayReport, IsRefusal}
 use Rattle.puffin_replay.specs.Serving.{SumsTo}
 use Rattle.puffin_replay.proofs.Laws.{word_size-append, num_begun-append, least_open-append, greatest_close-append, word_size-tour, num_begun-tour, least_open-tour, greatest_close-tour, same_info-one, same_info-itself, events_in-spelling, after_report, bytes_measure, scopes_measure, starts_measure, stops_measure, total_bytes-one, total_scopes-one, least_start-one, greatest_stop-one}
 use Rattle.puffin_replay.proofs.Openings.{due_of, due-opening}

@@ -15,7 +15,7 @@ use Rattle.puffin_data.specs.Words.{word_size, num_begun, open_after, least_open
 use Rattle.std.specs.Int.{int_max}
 use Rattle.puffin_frames.specs.Info.{info_of}
 use Rattle.puffin_frames.specs.Threads.{after_end}
-use Rattle.puffin_frames.specs.Measures.{meta_of, IsOrdered, DurationFits}
+use Rattle.puffin_frames.specs.Measures.{meta_of}
 use Rattle.puffin_frames.specs.Contents.{frame_contents, frame_meta}
 use Rattle.puffin_frames.specs.declared.frame_data.frame.FrameData.{FrameData}
 use Rattle.puffin_frames.specs.declared.thread_profiler.reporter.Closed.{Closed}

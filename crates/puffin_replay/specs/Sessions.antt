@@ -1,20 +1,18 @@
 -- What contracts see of a session, and where a history leaves it.
-use Rattle.std.specs.Prelude.{◌≡◌, ℕ, ◌+◌, ◌<◌, ℤ, pos, List, [], length, map, Option, Some, None}
+use Rattle.std.specs.Prelude.{◌≡◌, ℕ, ◌<◌, pos, List, [], length, map, Option, Some, None}
 use Rattle.std.specs.List.{slice_index_or}
-use Rattle.std.specs.FinMap.{empty, entries, get, values}
+use Rattle.std.specs.FinMap.{empty, entries, get}
 use Rattle.puffin_data.specs.Forest.{Forest}
 use Rattle.puffin_data.specs.Tour.{Event, tour}
-use Rattle.puffin_data.specs.Words.{word_size, num_begun, least_open, greatest_close}
 use Rattle.puffin_data.specs.Honesty.{Recorded, IsHonestRecord}
 use Rattle.puffin_frames.specs.Info.{Info}
 use Rattle.puffin_frames.specs.Threads.{Thread}
 use Rattle.puffin_frames.specs.Contents.{Streams}
-use Rattle.puffin_frames.specs.Measures.{total_bytes, total_scopes, least_start, greatest_stop}
 use Rattle.puffin.specs.Collected.{Collected}
 use Rattle.puffin_frames.specs.Events.{events_in}
 use Rattle.puffin_replay.specs.History.{Opening, Action, nobody, thread_at, latest_of}
 use Rattle.puffin_replay.specs.Handed.{Delivery, unreported, first_start_of}
-use Rattle.puffin_replay.specs.Due.{due, events_of, total_under, index_after, reported_after}
+use Rattle.puffin_replay.specs.Due.{due, total_under, index_after, reported_after}
 
 -- its threads, and what is collected for the next frame
 pub record SessionState : Type 0 where

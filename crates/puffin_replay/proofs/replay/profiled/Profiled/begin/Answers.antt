@@ -1,6 +1,5 @@
 -- The scope's place is put last.
-use Rattle.std.proofs.Common.{◌∙◌, ap, sym, reverse}
-use Rattle.puffin_frames.specs.Threads.{Thread, open_offsets}
+use Rattle.std.proofs.Common.{◌∙◌}
 use Rattle.puffin_replay.proofs.Offsets.{pushed}
 use Rattle.puffin_replay.proofs.replay.profiled.Profiled.begin.Goals as goal
 

@@ -1,5 +1,5 @@
 -- Only the innermost scope's place ends one.
-use Rattle.std.proofs.Common.{◌∙◌, ap, sym, subst, length, w64, rules, ◌≡◌, ◌<◌, ◌-◌, ℕ, get_or, take, vec_len, reverse, refl, inl, arith}
+use Rattle.std.proofs.Common.{◌∙◌, ap, length, w64, rules, ◌≡◌, ◌-◌, ℕ, get_or, take, vec_len, reverse, refl, inl, arith}
 use Rattle.std.proofs.lemmas.Result.{err_from_is_err_and}
 use Rattle.puffin_frames.specs.Threads.{Thread, open_offsets}
 use Rattle.std.proofs.lemmas.Int.{to_z-of_z}

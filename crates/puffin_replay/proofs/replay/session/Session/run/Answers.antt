@@ -1,12 +1,12 @@
 -- Nothing has run yet; and what a command did is added to what the commands before it did.
-use Rattle.std.proofs.Common.{◌≡◌, ◌+◌, ℕ, List, [], ◌∷◌, ◌++◌, length, take, refl, sym, ap, ◌∙◌, subst, arith, rules}
+use Rattle.std.proofs.Common.{◌≡◌, ◌+◌, List, [], ◌∷◌, ◌++◌, take, refl, sym, ap, ◌∙◌, subst, arith}
 use Rattle.std.specs.List.{flat_map}
 use Rattle.std.proofs.lemmas.List.{take_more}
 use Rattle.puffin_replay.specs.declared.replay.command.Command.{Command}
 use Rattle.puffin_replay.specs.History.{Action}
 use Rattle.puffin_replay.specs.Due.{due, events_of}
 use Rattle.puffin_replay.specs.Sessions.{SessionState, opening_of}
-use Rattle.puffin_replay.specs.Replies.{Records, action_of, actions_of}
+use Rattle.puffin_replay.specs.Replies.{Records, actions_of}
 use Rattle.puffin_replay.specs.Serving.{SumsTo}
 use Rattle.puffin_frames.specs.Contents.{AreHonest}
 use Rattle.puffin_replay.proofs.Openings.{StandsAfter-opening}

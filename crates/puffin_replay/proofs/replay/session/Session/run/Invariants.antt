@@ -1,5 +1,5 @@
 -- The replies so far belong to the commands so far, and there is room for the others.
-use Rattle.std.proofs.Common.{◌≡◌, ◌+◌, ◌-◌, ◌≤◌, length, take, vec_len, vec_capacity}
+use Rattle.std.proofs.Common.{◌≡◌, ◌≤◌, length, take, vec_len, vec_capacity}
 use Rattle.std.specs.List.{flat_map}
 use Rattle.puffin_replay.specs.Due.{due, events_of}
 use Rattle.puffin_replay.specs.Sessions.{opening_of}
