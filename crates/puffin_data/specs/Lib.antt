@@ -14,5 +14,7 @@ pub mod Scopes
 pub mod Errors
 pub mod Counting
 pub mod Devices
+pub mod Layout
+pub mod Front
 pub mod Sightings
 pub mod Walking
