@@ -1,1 +1,3 @@
 pub mod Reporting
+pub mod Knowing
+pub mod Registrations

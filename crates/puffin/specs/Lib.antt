@@ -1,3 +1,4 @@
 pub mod Collected
+pub mod Registering
 pub mod Collecting
 pub mod Profiled

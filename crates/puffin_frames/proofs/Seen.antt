@@ -17,6 +17,9 @@ no_length : {A : Type 0} (es : List A) → length es ≡ 0 → es ≡ []
 no_length [] e = refl
 no_length (x ∷ es) e = absurd (omega arith)
 
+pub entries-empty : {L Y : Type 0} (R : L → L → Ordering) → entries (empty {X = Y} {R = R}) ≡ []
+entries-empty {Y = Y} R = no_length _ (sym (len-entries (empty {X = Y} {R = R})) ∙ len-empty R Y)
+
 module _ {K L X Y : Type 0} (f : K → L) (g : X → Y) where
   abbrev pub seen : List (K × X) → List (L × Y)
   seen es = map (λ e. (f e.0, g e.1)) es
@@ -65,6 +68,6 @@ module _ {K L X Y : Type 0} (f : K → L) (g : X → Y) where
 
       -- what is in order stays so
       pub entries-seen : (es : List (K × X)) → IsStrictlySortedBy (λ a b. R (f a) (f b)) (keys_of es) → entries (from_entries {R = R} (seen es)) ≡ seen es
-      entries-seen [] sorted = no_length _ (sym (len-entries (empty {X = Y} {R = R})) ∙ len-empty R Y)
+      entries-seen [] sorted = entries-empty R
       entries-seen (e ∷ es) sorted =
           entries-insert total (from_entries (seen es)) (f e.0) (g e.1) ∙ ap (put R (f e.0) (g e.1)) (entries-seen es (sorted_tail (λ a b. R (f a) (f b)) e.0 _ sorted)) ∙ put_first e.0 e.1 es (sorted_head (λ a b. R (f a) (f b)) e.0 _ sorted)

@@ -3,7 +3,7 @@ ghost use Rattle.std.specs.Arc.{arc_value};
 ghost use Rattle.std.specs.FinMap as map;
 ghost use Rattle.puffin_data.specs.declared.error.Error.{Error};
 ghost use Rattle.puffin_frames.specs.Details.{details_of};
-ghost use Rattle.puffin_frames.specs.Collection.{no_details, inserted, kept_for, by_ids, by_names};
+ghost use Rattle.puffin_frames.specs.Collection.{no_details, inserted, kept_for, KeepsOwnIds, by_ids, by_names};
 
 use crate::scope_details::details::ScopeDetails;
 use puffin_data::data::ScopeId;
@@ -98,7 +98,8 @@ impl ScopeCollection {
 
     /// The details by their ids.
     pub fn scopes_by_id(&self) -> &BTreeMap<ScopeId, Arc<ScopeDetails>>
-        ensures { by_ids result.now.entries ≡ self.now.by_id }
+        ensures details { by_ids result.now.entries ≡ self.now.by_id }
+        ensures own { KeepsOwnIds self.now }
     {
         &self.by_id
     }
