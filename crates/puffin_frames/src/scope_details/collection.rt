@@ -35,6 +35,27 @@ impl Model for ScopeCollection {
     ghost invariant = { IsCollection };
 }
 
+/// Puts an id under a name. Only a name that isn't there takes memory.
+///
+/// Refused only with `Memory`, and nothing is changed then.
+fn put_name(
+    alloc: Global,
+    by_name: &mut BTreeMap<String, ScopeId>,
+    name: &str,
+    id: ScopeId,
+) -> Result<()>
+    ensures ok { OnOk result (by_names by_name.new.entries ≡ map.insert (by_names by_name.old.entries) name.now id) }
+    ensures err { OnErr result (by_names by_name.new.entries ≡ by_names by_name.old.entries) }
+    ensures memory { IfErr result (λ e. e ≡ Error.Memory) }
+{
+    if let Some(kept) = by_name.get_mut(name) {
+        *kept = id;
+        return Ok(());
+    }
+    let _none = by_name.insert(String::from_str(alloc, name)?, id)?;
+    Ok(())
+}
+
 impl ScopeCollection {
     /// No details.
     pub fn new(alloc: Global) -> ScopeCollection
@@ -74,17 +95,16 @@ impl ScopeCollection {
         let Some(id) = details.scope_id() else {
             return Err(Error::MissingId);
         };
-        let name = String::from_str(self.alloc, details.name().as_str())?;
         if let Some(kept) = self.by_id.get(&id) {
             let kept = Arc::try_clone(kept)?;
-            let _before = self.by_name.insert(name, id)?;
+            put_name(self.alloc, &mut self.by_name, details.name().as_str(), id)?;
             return Ok(kept);
         }
         let kept = Arc::try_clone(&details)?;
-        let _before = self.by_id.insert(id, details)?;
-        if self.by_name.insert(name, id).is_err() {
+        let _none = self.by_id.insert(id, details)?;
+        if let Err(e) = put_name(self.alloc, &mut self.by_name, kept.name().as_str(), id) {
             let _undone = self.by_id.remove(&id);
-            return Err(Error::Memory);
+            return Err(e);
         }
         Ok(kept)
     }
