@@ -41,9 +41,9 @@ impl Recorder {
 impl Reporter for Recorder {
     ghost use Rattle.std.specs.Prelude.{⊤};
 
-    ghost accepts = { λ _ _ _ _. ⊤ };
+    ghost accepts = { λ _ _ _ _ _. ⊤ };
 
-    ghost refuses = { λ _ _ _ _ _. ⊤ };
+    ghost refuses = { λ _ _ _ _ _ _. ⊤ };
 
     fn report(
         &mut self,
