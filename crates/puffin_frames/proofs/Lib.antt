@@ -1,4 +1,5 @@
 pub mod Infos
+pub mod Appending
 pub mod Joining
 pub mod Sharing
 pub mod Keyed

@@ -3,6 +3,10 @@ pub mod Types
 pub mod Details
 pub mod Collection
 pub mod Collections
+pub mod ThreadStreams
+pub mod Values
+pub mod Holding
+pub mod Stored
 pub mod Contents
 pub mod Measures
 pub mod Threads

@@ -1,6 +1,8 @@
 //! Frames: what was reported since the frame before.
 
 mod frame;
+mod encode;
+mod held;
 mod meta;
 mod shared;
 mod unpacked;

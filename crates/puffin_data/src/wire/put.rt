@@ -1,6 +1,7 @@
 //! Values written one after the other.
 
-ghost use Rattle.std.specs.Prelude.{◌≡◌, ◌++◌, OnOk, OnErr};
+ghost use Rattle.std.specs.Prelude.{◌≡◌, ◌++◌, OnOk, OnErr, IfErr};
+ghost use Rattle.puffin_data.specs.declared.error.Error.{Error};
 ghost use Rattle.puffin_data.specs.Layout.{number, signed, byte, block, zigzag};
 
 use crate::error::Result;
@@ -10,6 +11,7 @@ use crate::error::Result;
 pub fn put_u64(out: &mut Vec<u8>, n: u64) -> Result<()>
     ensures ok { OnOk result (out.new.items ≡ out.old.items ++ number n) }
     ensures err { OnErr result (out.new.items ≡ out.old.items) }
+    ensures memory { IfErr result (λ e. e ≡ Error.Memory) }
 {
     if n < 251 {
         out.push(n as u8)?;
@@ -30,6 +32,7 @@ pub fn put_u64(out: &mut Vec<u8>, n: u64) -> Result<()>
 pub fn put_u8(out: &mut Vec<u8>, n: u8) -> Result<()>
     ensures ok { OnOk result (out.new.items ≡ out.old.items ++ byte n) }
     ensures err { OnErr result (out.new.items ≡ out.old.items) }
+    ensures memory { IfErr result (λ e. e ≡ Error.Memory) }
 {
     out.push(n)?;
     Ok(())
@@ -39,6 +42,7 @@ pub fn put_u8(out: &mut Vec<u8>, n: u8) -> Result<()>
 pub fn put_u32(out: &mut Vec<u8>, n: u32) -> Result<()>
     ensures ok { OnOk result (out.new.items ≡ out.old.items ++ number n) }
     ensures err { OnErr result (out.new.items ≡ out.old.items) }
+    ensures memory { IfErr result (λ e. e ≡ Error.Memory) }
 {
     put_u64(out, n as u64)
 }
@@ -57,6 +61,7 @@ fn zigzag_of(z: i64) -> u64
 pub fn put_i64(out: &mut Vec<u8>, z: i64) -> Result<()>
     ensures ok { OnOk result (out.new.items ≡ out.old.items ++ signed z) }
     ensures err { OnErr result (out.new.items ≡ out.old.items) }
+    ensures memory { IfErr result (λ e. e ≡ Error.Memory) }
 {
     put_u64(out, zigzag_of(z))
 }
@@ -65,6 +70,7 @@ pub fn put_i64(out: &mut Vec<u8>, z: i64) -> Result<()>
 pub fn put_bytes(out: &mut Vec<u8>, bytes: &[u8]) -> Result<()>
     ensures ok { OnOk result (out.new.items ≡ out.old.items ++ block bytes.now) }
     ensures err { OnErr result (out.new.items ≡ out.old.items) }
+    ensures memory { IfErr result (λ e. e ≡ Error.Memory) }
 {
     let before = out.len();
     put_u64(out, bytes.len() as u64)?;
@@ -80,6 +86,7 @@ pub fn put_bytes(out: &mut Vec<u8>, bytes: &[u8]) -> Result<()>
 pub fn put_text(out: &mut Vec<u8>, t: &str) -> Result<()>
     ensures ok { OnOk result (out.new.items ≡ out.old.items ++ block t.now) }
     ensures err { OnErr result (out.new.items ≡ out.old.items) }
+    ensures memory { IfErr result (λ e. e ≡ Error.Memory) }
 {
     put_bytes(out, t.as_bytes())
 }
