@@ -25,3 +25,5 @@ pub mod Readers
 pub mod ValueReaders
 pub mod Texts
 pub mod Loops
+pub mod Devices
+pub mod Filled

@@ -14,6 +14,7 @@ pub mod Scopes
 pub mod Errors
 pub mod Counting
 pub mod Devices
+pub mod Parts
 pub mod Layout
 pub mod Front
 pub mod Sightings
