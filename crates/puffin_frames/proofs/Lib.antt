@@ -10,3 +10,5 @@ pub mod Honest
 pub mod Events
 pub mod Holding
 pub mod Recordings
+pub mod Seen
+pub mod Inserting

@@ -1,5 +1,5 @@
 -- What contracts see of a collection of details: the first inserted under each id, and the last id inserted under each name.
-use Rattle.std.specs.Prelude.{◌≡◌, ℕ, List, [], ◌∷◌, reverse, Option, Some, None, map, fold, find, is_some, ◌&&◌, nat_eq, option_and_then, string_bytes, String, refl}
+use Rattle.std.specs.Prelude.{◌≡◌, ℕ, List, reverse, Option, Some, None, map, fold, find, is_some, ◌&&◌, nat_eq, option_and_then, string_bytes, String, refl}
 use Rattle.std.specs.declared.sync.Arc.{Arc}
 use Rattle.std.specs.declared.cmp.Ordering.{Ordering}
 use Rattle.std.specs.Option.{option_eq}
@@ -37,7 +37,7 @@ kept_or (Some kept) by_id id d = by_id
 kept_or None by_id id d = map.insert by_id id d
 
 -- details are inserted under their id and their name; those without an id change nothing
-abbrev inserted_at : Collection → Details → Option ℕ → Collection
+abbrev pub inserted_at : Collection → Details → Option ℕ → Collection
 inserted_at collection d None = collection
 inserted_at collection d (Some id) = record {
   by_id = kept_or (map.get collection.by_id id) collection.by_id id d;

@@ -1,6 +1,6 @@
 //! What one thread records, apart from its clock.
 
-ghost use Rattle.std.specs.Prelude.{◌≡◌, ◌+◌, ◌-◌, ◌^◌, ◌<◌, ◌≤◌, ◌++◌, ◌⊎◌, ℤ, pos, ◌≤ℤ◌, [], ◌==◌, length, None, OnOk, OnErr, IfOk, IfErr, IfSome, IfNone, string_bytes, slice_get, unwrap_or, option_map};
+ghost use Rattle.std.specs.Prelude.{◌≡◌, ◌+◌, ◌-◌, ◌*◌, ◌^◌, ◌<◌, ◌≤◌, ◌++◌, ◌⊎◌, ℤ, pos, ◌≤ℤ◌, [], ◌==◌, length, None, OnOk, OnErr, IfOk, IfErr, IfSome, IfNone, string_bytes, slice_get, unwrap_or, option_map};
 ghost use Rattle.puffin_data.specs.declared.error.Error.{Error};
 ghost use Rattle.puffin_data.specs.Spelling.{begin_bytes};
 ghost use Rattle.puffin_data.specs.Text.{cut_text};
@@ -60,6 +60,14 @@ fn keep_copy(spare: &mut Option<String>, name: &String) -> Result<()>
         *spare = Some(name.clone()?);
     }
     Ok(())
+}
+
+/// How many bytes the ends of the open scopes take, whose sizes stand at these offsets, and the end of one more.
+fn size_of_ends(offsets: &[usize]) -> usize
+    ensures size { result ≡ 9 * (length offsets.now + 1) }
+    ensures small { result + 149 < 2 ^ 64 }
+{
+    END_SIZE * (offsets.len() + 1)
 }
 
 /// Writes a scope's beginning at a time, within the room, and answers where its size stands.
@@ -128,7 +136,7 @@ impl Recording {
     {
         keep_copy(&mut self.spare, &self.name)?;
         self.offsets.reserve(1)?;
-        let ends = END_SIZE * (self.offsets.len() + 1);
+        let ends = size_of_ends(&self.offsets);
         self.info.stream.reserve(BEGIN_LIMIT + ends)?;
         let at = self.latest.max(clock.now_ns());
         let offset = write_begin(&mut self.info.stream, at, id, text);

@@ -51,7 +51,7 @@ invariant_of-self-2 g c =
       least = grind (arith, ints, clamps, to_z-of_z);
       greatest = refl;
       latest = refl;
-      room = omega (arith, room, c.in_ok-reserve-2.ensures.ok, c.len.ensures, ap length items, length-append c.self.inside.offsets.items (c.write_begin-offset.result ∷ []));
+      room = omega (arith, room, c.in_ok-reserve-2.ensures.ok, c.size_of_ends-ends.ensures.size, ap length c.reserve.ensures.items, ap length c.deref.ensures.value, ap length items, length-append c.self.inside.offsets.items (c.write_begin-offset.result ∷ []));
       spare = search rules;
     })
 

@@ -31,7 +31,7 @@ returns-in_err-report-clause-err g c =
         recorded c.self.inside.info,
         told,
         told_so (λ i d x. g.R.Reporter.refuses c.args.reporter.now i d x c.in_err-report.field-0.0 c.report.new.self) same
-            (ap (λ (t : Thread). t.details) c.self.view_is) c.as_stream_into_ref.ensures c.in_err-report.ensures.err,
+            (ap details_seen c.deref.ensures.value ∙ ap (λ (t : Thread). t.details) c.self.view_is) c.as_stream_into_ref.ensures c.in_err-report.ensures.err,
       ),
     )
 
@@ -51,6 +51,6 @@ returns-clause-ok g c =
         recorded c.self.inside.info,
         told,
         told_so (λ i d x. g.R.Reporter.accepts c.args.reporter.now i d x c.report.new.self) same
-            (ap (λ (t : Thread). t.details) c.self.view_is) c.as_stream_into_ref.ensures c.in_ok-report.ensures.ok,
+            (ap details_seen c.deref.ensures.value ∙ ap (λ (t : Thread). t.details) c.self.view_is) c.as_stream_into_ref.ensures c.in_ok-report.ensures.ok,
       ),
     )
