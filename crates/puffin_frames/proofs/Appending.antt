@@ -1,6 +1,6 @@
 -- Layouts appended one after the other.
-use Rattle.std.proofs.Common.{◌≡◌, ◌++◌, ◌∷◌, [], ℕ, List, refl, ap, subst, ◌∙◌, append_assoc}
-use Rattle.std.proofs.lemmas.List.{append-nil}
+use Rattle.std.proofs.Common.{◌≡◌, ◌++◌, ◌∷◌, [], ℕ, ◌+◌, ◌<◌, List, length, map, drop, get_or, refl, ap, sym, subst, ◌∙◌, append_assoc}
+use Rattle.std.proofs.lemmas.List.{append-nil, drop_more}
 use Rattle.std.specs.List.{flat_map, AllByRecursion}
 
 pub two : (o p q a b : List ℕ) → p ≡ o ++ a → q ≡ p ++ b → q ≡ o ++ (a ++ b)
@@ -54,3 +54,8 @@ all_written {A = A} layout fits before now all h =
 -- the same with the rest in another form
 pub next_of : {A : Type 0} (layout : A → List ℕ) (fits : A → Type 0) (before now : List ℕ) (rest other all : List A) → rest ≡ other → Writes layout fits before now rest all → Writes layout fits before now other all
 next_of layout fits before now rest other all e h = subst (λ (xs : _). Writes layout fits before now xs all) e h
+
+-- what is left of a slice from a place on
+pub at_index : {X Y : Type 0} (f : X → Y) (xs : List X) (i : ℕ) (x : X) → i < length xs → x ≡ get_or xs i x → map f (drop i xs) ≡ f x ∷ map f (drop (i + 1) xs)
+at_index {X} f xs i x lt is =
+    ap (map f) (drop_more xs i x lt) ∙ ap (λ (y : X). f y ∷ map f (drop (i + 1) xs)) (sym is)

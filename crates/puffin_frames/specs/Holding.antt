@@ -1,7 +1,9 @@
 -- How the streams of a frame are held, and its one content.
-use Rattle.std.specs.Prelude.{◌≡◌, ℕ, List, [], Option, Some, None, ◌==◌, if◌then◌else◌}
+use Rattle.std.specs.Prelude.{◌≡◌, ℕ, List, [], Option, Some, None, Result, Ok, Err, ◌==◌, if◌then◌else◌}
 use Rattle.std.specs.FinMap.{entries, from_sorted}
 use Rattle.std.specs.Option.{option_map}
+use Rattle.puffin_data.specs.declared.file_error.FileError.{FileError}
+use Rattle.puffin_data.specs.declared.file_error.FileError.TheVariants as file
 use Rattle.puffin_data.specs.Front.{whole}
 use Rattle.puffin_frames.specs.ThreadStreams.{Streams}
 use Rattle.puffin_frames.specs.Values.{streams_layout, streams_at, AreStreams}
@@ -62,3 +64,19 @@ as_packed h = record { packed = Some (packing_of h); unpacked = None }
 -- also held as it is, where there are contents
 abbrev pub as_unpacked : Holding → Holding
 as_unpacked h = record { packed = h.packed; unpacked = held_contents h }
+
+-- what unpacking gives: streams, or why there are none
+abbrev pub or_bad : Option Streams → Result Streams FileError
+or_bad None = Err file.BadStreams
+or_bad (Some streams) = Ok streams
+
+abbrev pub unpacking : Packing → Result Streams FileError
+unpacking p = if p.kind == 0 then or_bad (option_map from_sorted (whole streams_at p.bytes)) else Err (file.Compressed p.kind)
+
+abbrev pub unpacked_of : Option Packing → Option Streams → Result Streams FileError
+unpacked_of p (Some streams) = Ok streams
+unpacked_of (Some p) None = unpacking p
+unpacked_of None None = Err file.BadStreams
+
+abbrev pub unpacked_from : Holding → Result Streams FileError
+unpacked_from h = unpacked_of h.packed h.unpacked

@@ -7,6 +7,10 @@ pub mod ThreadStreams
 pub mod Values
 pub mod Holding
 pub mod Stored
+pub mod Tries
+pub mod Steps
+pub mod Reads
+pub mod Forms
 pub mod Contents
 pub mod Measures
 pub mod Threads

@@ -1,9 +1,9 @@
 -- What packets hold: the values, their bytes, and how they are read. Fields stand in the order of their bytes.
-use Rattle.std.specs.Prelude.{◌≡◌, ℕ, ℤ, true, List, ◌++◌, Option, nat_lt}
+use Rattle.std.specs.Prelude.{◌≡◌, ℕ, ℤ, true, List, ◌++◌, Option, Some, None, nat_lt, if◌then◌else◌}
 use Rattle.std.specs.FinMap.{is_sorted}
 use Rattle.puffin_data.specs.Honesty.{Recorded}
 use Rattle.puffin_data.specs.Layout.{number, signed, optional, block, pair, items, IsWord, IsLong, IsSigned, IsBlock, IsText, IfAny, AreItems}
-use Rattle.puffin_data.specs.Front.{checked, seen_as, number_at, word_at, signed_at, bytes_at, text_at, optional_at, pair_at, items_at}
+use Rattle.puffin_data.specs.Front.{◌>>=◌, checked, seen_as, number_at, word_at, signed_at, bytes_at, text_at, optional_at, pair_at, items_at}
 use Rattle.puffin_frames.specs.declared.frame_data.meta.FrameMeta.{FrameMeta}
 use Rattle.puffin_frames.specs.Info.{Info, info_cmp}
 use Rattle.puffin_frames.specs.Details.{Details}
@@ -60,6 +60,12 @@ AreStreams es = AreItems (λ (e : Info × Recorded). IsThread e.0 × IsRecorded 
 
 abbrev pub stream_at : List ℕ → Option ((Info × Recorded) × List ℕ)
 stream_at = pair_at thread_at recorded_at
+
+-- what was read, where the keys rise
+abbrev pub rising : Option (List (Info × Recorded) × List ℕ) → Option (List (Info × Recorded) × List ℕ)
+rising read = do
+  es ← read
+  if is_sorted info_cmp es.0 then Some es else None
 
 unfoldable pub streams_at : List ℕ → Option (List (Info × Recorded) × List ℕ)
 streams_at = checked (is_sorted info_cmp) (items_at stream_at)

@@ -32,9 +32,10 @@ pub(crate) fn put_meta(out: &mut Vec<u8>, meta: &FrameMeta) -> Result<()>
     ensures memory { IfErr result (λ e. e ≡ Error.Memory) }
 {
     let meta = *meta;
+    let (start, stop) = meta.range_ns;
     put_u64(out, meta.frame_index)?;
-    put_i64(out, meta.range_ns.0)?;
-    put_i64(out, meta.range_ns.1)?;
+    put_i64(out, start)?;
+    put_i64(out, stop)?;
     put_u64(out, meta.num_bytes as u64)?;
     put_u64(out, meta.num_scopes as u64)
 }
