@@ -10,6 +10,7 @@ pub mod Stored
 pub mod Tries
 pub mod Steps
 pub mod Reads
+pub mod Writes
 pub mod Forms
 pub mod Contents
 pub mod Measures

@@ -11,6 +11,7 @@ mod packing;
 mod reading;
 mod shared;
 mod unpacked;
+mod writing;
 
 pub use frame::FrameData;
 pub use meta::{FrameIndex, FrameMeta};

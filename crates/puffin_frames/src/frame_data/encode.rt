@@ -2,6 +2,7 @@
 
 ghost use Rattle.std.specs.Prelude.{◌≡◌, ◌++◌, ◌^◌, ◌<◌, List, OnOk, OnErr, IfOk, IfErr, map, length};
 ghost use Rattle.std.specs.Map.{keys_of, values_of};
+ghost use Rattle.std.specs.Ordering.{nat_cmp};
 ghost use Rattle.std.specs.List.Sorted.{IsStrictlySortedBy};
 ghost use Rattle.std.specs.Arc.{arc_value};
 ghost use Rattle.std.specs.Option.{option_map};
@@ -172,6 +173,7 @@ pub(crate) fn put_details_by_id(
 ) -> Result<()>
     ensures ok { OnOk result (out.new.items ≡ out.old.items ++ details_layout (shared_details (values_of details.now.entries))) }
     ensures fit { OnOk result (AreDetails (shared_details (values_of details.now.entries))) }
+    ensures sorted { IsStrictlySortedBy nat_cmp (keys_of details.now.entries) }
     ensures memory { IfErr result (λ e. e ≡ Error.Memory) }
 {
     put_u64(out, details.len() as u64)?;

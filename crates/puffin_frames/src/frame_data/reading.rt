@@ -10,7 +10,7 @@ ghost use Rattle.puffin_frames.specs.Details.{shared_details};
 ghost use Rattle.puffin_frames.specs.Contents.{holding_of, frame_says};
 ghost use Rattle.puffin_frames.specs.Tries.{Decided, DecidedInMemory};
 ghost use Rattle.puffin_frames.specs.Forms.{IsFormOf};
-ghost use Rattle.puffin_frames.specs.Steps.{is_range_at, meta_from, meta_part_at, kind_from, kind_at, details_from, details_part_at, streams_part_at, packed_at, form_at, legacy_from, legacy_part_at, stored_after};
+ghost use Rattle.puffin_frames.specs.Steps.{is_range_at, meta_from, meta_part_at, kind_from, kind_at, details_from, details_part_at, streams_part_at, packed_at, form_at, legacy_from, legacy_part_at, is_packet, stored_after};
 ghost use Rattle.puffin_frames.specs.Reads.{HeaderFrom, legacy_of, stored_of, IsFresh, ReadsNext};
 
 use crate::frame_data::decode::{Stop, details_in, legacy_in, meta_in};
@@ -250,6 +250,13 @@ fn read_header<S: Source>(source: &mut S) -> Result<Option<[u8; 4]>, FileError>
     Ok(Some(header))
 }
 
+/// Whether a header is that of a packet, and not the length of a frame of the first form.
+fn is_packet_header(header: [u8; 4]) -> bool
+    ensures { result ≡ is_packet header }
+{
+    header[0] == b'P' && header[1] == b'F' && header[2] == b'D'
+}
+
 /// Reads what follows a header.
 fn read_stored<S: Source>(
     alloc: Global,
@@ -257,11 +264,11 @@ fn read_stored<S: Source>(
     header: [u8; 4],
 ) -> Result<FrameData, FileError>
     requires { S.failures source.old < 2 ^ 64 - 1 }
-    ensures part { FromDevice (λ frame. Some (stored_of frame)) (S.remaining source.old) (S.remaining source.new) result (stored_after header.entry) }
+    ensures part { FromDevice (λ frame. Some (stored_of frame)) (S.remaining source.old) (S.remaining source.new) result (stored_after header) }
     ensures fresh { IfOk result IsFresh }
     ensures failures { S.failures source.new ≡ failures_after (S.failures source.old) result }
 {
-    if header[0] == b'P' && header[1] == b'F' && header[2] == b'D' {
+    if is_packet_header(header) {
         read_form(alloc, source, header[3])
     } else {
         let len = LittleEndian::read_u32(&header) as usize;
