@@ -1,4 +1,8 @@
 pub mod Infos
+pub mod Appending
+pub mod Listed
+pub mod Structs
+pub mod Reading
 pub mod Joining
 pub mod Sharing
 pub mod Keyed

@@ -1,11 +1,20 @@
 //! Frames: what was reported since the frame before.
 
+mod copies;
+mod decode;
+mod encode;
 mod frame;
+mod held;
 mod meta;
+mod pack;
+mod packing;
+mod reading;
 mod shared;
 mod unpacked;
+mod writing;
 
 pub use frame::FrameData;
 pub use meta::{FrameIndex, FrameMeta};
+pub use packing::PackingInfo;
 pub use shared::{ThreadStreams, report_to};
 pub use unpacked::UnpackedFrameData;
