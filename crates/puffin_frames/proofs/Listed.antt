@@ -12,7 +12,7 @@ use Rattle.std.specs.List.Sorted.{IsStrictlySortedBy}
 use Rattle.std.specs.BTreeMap.{insert_entry}
 use Rattle.std.specs.Arc.{arc_value}
 use Rattle.std.specs.declared.sync.Arc.{Arc}
-use Rattle.std.specs.FinMap.{FinMap, is_sorted, entries, insert, from_entries, from_sorted, entries-insert, entries-from_sorted, same_entries_map, put}
+use Rattle.std.specs.FinMap.{FinMap, is_sorted, entries, insert, from_entries, from_sorted, entries-insert, entries-from_sorted, same_entries_map, put, empty, len-entries, len-empty}
 use Rattle.std.specs.FinMap.Entries.{below_all, by_order}
 use Rattle.std.proofs.lemmas.Map.Keys.{sorted_head, sorted_tail}
 use Rattle.puffin_data.specs.Honesty.{Recorded, recorded}
@@ -80,6 +80,13 @@ module _ {A : Type 0} where
       ap (λ o. match_ordering o ((k, v) ∷ e ∷ es) ((e.0, v) ∷ es) (e ∷ insert_entry thread_cmp es k v)) above ∙ ap (λ l. e ∷ l) (insert-last es k v r rest (and-second _ _ sorted))
 
 -- ---- maps from lists in order
+
+no_length : {A : Type 0} (es : List A) → length es ≡ 0 → es ≡ []
+no_length [] e = refl
+no_length (x ∷ es) e = absurd (omega arith)
+
+pub no_entries : {K X : Type 0} (R : K → K → Ordering) → entries (from_entries {X = X} {R = R} []) ≡ []
+no_entries {K} {X} R = no_length _ (sym (len-entries (empty {X = X} {R = R})) ∙ len-empty R X)
 
 module _ {K X : Type 0} {R : K → K → Ordering} (total : IsTotalOrder R) (nothing : entries (from_entries {X = X} {R = R} []) ≡ []) where
   put-first : (k : K) (v : X) (es : List (K × X)) → below_all R k es ≡ true → put R k v es ≡ (k, v) ∷ es

@@ -5,6 +5,7 @@ mod decode;
 mod encode;
 mod frame;
 mod held;
+pub mod laws;
 mod meta;
 mod pack;
 mod packing;
