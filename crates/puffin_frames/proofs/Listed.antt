@@ -1,5 +1,5 @@
 -- The streams of a map as the list of their pairs, in the order of their threads.
-use Rattle.std.proofs.Common.{◌≡◌, ℕ, suc, ◌-◌, Bool, true, false, ◌&&◌, List, [], ◌∷◌, ◌++◌, length, Some, refl, sym, ap, subst, ◌∙◌, append_assoc, arith}
+use Rattle.std.proofs.Common.{◌≡◌, suc, ◌-◌, Bool, true, false, ◌&&◌, List, [], ◌∷◌, ◌++◌, length, Some, refl, sym, ap, subst, ◌∙◌, append_assoc, arith}
 use Rattle.std.specs.Prelude.{T, slice_get}
 use Rattle.std.proofs.lemmas.Option.{same_Some}
 use Rattle.std.specs.declared.cmp.Ordering.{Ordering}
@@ -12,13 +12,13 @@ use Rattle.std.specs.List.Sorted.{IsStrictlySortedBy}
 use Rattle.std.specs.BTreeMap.{insert_entry}
 use Rattle.std.specs.Arc.{arc_value}
 use Rattle.std.specs.declared.sync.Arc.{Arc}
-use Rattle.std.specs.FinMap.{FinMap, is_sorted, entries, insert, from_entries, from_sorted, entries-insert, entries-from_sorted, same_entries_map, put, empty, len-entries, len-empty}
+use Rattle.std.specs.FinMap.{is_sorted, entries, from_entries, from_sorted, entries-insert, entries-from_sorted, same_entries_map, put, empty, len-entries, len-empty}
 use Rattle.std.specs.FinMap.Entries.{below_all, by_order}
 use Rattle.std.proofs.lemmas.Map.Keys.{sorted_head, sorted_tail}
 use Rattle.puffin_data.specs.Honesty.{Recorded, recorded}
 use Rattle.puffin_data.specs.declared.data.info.StreamInfo.{StreamInfo}
 use Rattle.puffin_frames.specs.declared.thread_profiler.thread_info.ThreadInfo.{ThreadInfo}
-use Rattle.puffin_frames.specs.Contents.{listed, shared_streams, Streams}
+use Rattle.puffin_frames.specs.Contents.{listed, shared_streams}
 use Rattle.puffin_frames.specs.Info.{Info, info_cmp, info_of, thread_cmp}
 use Rattle.puffin_frames.proofs.Infos.{info_cmp_total, thread_cmp_total}
 use Rattle.puffin_frames.proofs.Keyed.{entries-empty}

@@ -1,8 +1,7 @@
 -- Packing and unpacking keep what a frame holds.
-use Rattle.std.proofs.Common.{◌≡◌, ℕ, List, Option, Some, None, refl, sym, ap, ◌∙◌}
+use Rattle.std.proofs.Common.{◌≡◌, Option, Some, None, refl, ap, ◌∙◌}
 use Rattle.std.specs.Option.{option_map}
-use Rattle.std.specs.FinMap.{FinMap, entries, entries_sorted, from_sorted, entries-from_sorted, same_entries_map}
-use Rattle.puffin_data.specs.Front.{whole}
+use Rattle.std.specs.FinMap.{entries, entries_sorted, from_sorted, entries-from_sorted, same_entries_map}
 use Rattle.puffin_data.proofs.Readers.{whole_again}
 use Rattle.puffin_frames.specs.Info.{info_cmp}
 use Rattle.puffin_frames.specs.ThreadStreams.{Streams}
