@@ -110,9 +110,12 @@ entries-listed es sorted = entries-sorted_list info_cmp_total entries-empty (lis
 
 -- ---- one more thread
 
+alone : {X : Type 0} (y x : X) → y ≡ x → y ∷ [] ≡ x ∷ []
+alone {X} y x e = ap (λ (z : X). z ∷ []) e
+
 last_split : {X : Type 0} (xs : List X) (x : X) → slice_get xs (length xs - 1) ≡ Some x → (front : List X) × (xs ≡ front ++ x ∷ [])
 last_split [] x e = absurd cc
-last_split (y ∷ []) x e = ([], ap (λ (z : _). z ∷ []) (same_Some y x e))
+last_split (y ∷ []) x e = ([], alone y x (same_Some y x e))
 last_split {X} (y ∷ z ∷ ys) x e =
     let k : length (y ∷ z ∷ ys) - 1 ≡ suc (length (z ∷ ys) - 1) = omega arith in
     let later : slice_get (z ∷ ys) (length (z ∷ ys) - 1) ≡ Some x = rw k at e in

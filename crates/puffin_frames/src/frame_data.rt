@@ -11,6 +11,8 @@ mod pack;
 mod packing;
 mod reading;
 mod shared;
+#[cfg(test)]
+mod tests;
 mod unpacked;
 mod writing;
 
