@@ -3,6 +3,9 @@ pub mod Appending
 pub mod Listed
 pub mod Structs
 pub mod Reading
+pub mod Writing
+pub mod Packets
+pub mod Packings
 pub mod Joining
 pub mod Sharing
 pub mod Keyed

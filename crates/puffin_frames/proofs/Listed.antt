@@ -1,5 +1,5 @@
 -- The streams of a map as the list of their pairs, in the order of their threads.
-use Rattle.std.proofs.Common.{◌≡◌, ℕ, suc, ◌-◌, Bool, true, false, ◌&&◌, List, [], ◌∷◌, ◌++◌, length, Some, refl, sym, ap, subst, ◌∙◌, append_assoc, arith}
+use Rattle.std.proofs.Common.{◌≡◌, suc, ◌-◌, Bool, true, false, ◌&&◌, List, [], ◌∷◌, ◌++◌, length, Some, refl, sym, ap, subst, ◌∙◌, append_assoc, arith}
 use Rattle.std.specs.Prelude.{T, slice_get}
 use Rattle.std.proofs.lemmas.Option.{same_Some}
 use Rattle.std.specs.declared.cmp.Ordering.{Ordering}
@@ -12,13 +12,13 @@ use Rattle.std.specs.List.Sorted.{IsStrictlySortedBy}
 use Rattle.std.specs.BTreeMap.{insert_entry}
 use Rattle.std.specs.Arc.{arc_value}
 use Rattle.std.specs.declared.sync.Arc.{Arc}
-use Rattle.std.specs.FinMap.{FinMap, is_sorted, entries, insert, from_entries, from_sorted, entries-insert, entries-from_sorted, same_entries_map, put}
+use Rattle.std.specs.FinMap.{is_sorted, entries, from_entries, from_sorted, entries-insert, entries-from_sorted, same_entries_map, put, empty, len-entries, len-empty}
 use Rattle.std.specs.FinMap.Entries.{below_all, by_order}
 use Rattle.std.proofs.lemmas.Map.Keys.{sorted_head, sorted_tail}
 use Rattle.puffin_data.specs.Honesty.{Recorded, recorded}
 use Rattle.puffin_data.specs.declared.data.info.StreamInfo.{StreamInfo}
 use Rattle.puffin_frames.specs.declared.thread_profiler.thread_info.ThreadInfo.{ThreadInfo}
-use Rattle.puffin_frames.specs.Contents.{listed, shared_streams, Streams}
+use Rattle.puffin_frames.specs.Contents.{listed, shared_streams}
 use Rattle.puffin_frames.specs.Info.{Info, info_cmp, info_of, thread_cmp}
 use Rattle.puffin_frames.proofs.Infos.{info_cmp_total, thread_cmp_total}
 use Rattle.puffin_frames.proofs.Keyed.{entries-empty}
@@ -81,6 +81,13 @@ module _ {A : Type 0} where
 
 -- ---- maps from lists in order
 
+no_length : {A : Type 0} (es : List A) → length es ≡ 0 → es ≡ []
+no_length [] e = refl
+no_length (x ∷ es) e = absurd (omega arith)
+
+pub no_entries : {K X : Type 0} (R : K → K → Ordering) → entries (from_entries {X = X} {R = R} []) ≡ []
+no_entries {K} {X} R = no_length _ (sym (len-entries (empty {X = X} {R = R})) ∙ len-empty R X)
+
 module _ {K X : Type 0} {R : K → K → Ordering} (total : IsTotalOrder R) (nothing : entries (from_entries {X = X} {R = R} []) ≡ []) where
   put-first : (k : K) (v : X) (es : List (K × X)) → below_all R k es ≡ true → put R k v es ≡ (k, v) ∷ es
   put-first k v [] below = refl
@@ -103,9 +110,12 @@ entries-listed es sorted = entries-sorted_list info_cmp_total entries-empty (lis
 
 -- ---- one more thread
 
+alone : {X : Type 0} (y x : X) → y ≡ x → y ∷ [] ≡ x ∷ []
+alone {X} y x e = ap (λ (z : X). z ∷ []) e
+
 last_split : {X : Type 0} (xs : List X) (x : X) → slice_get xs (length xs - 1) ≡ Some x → (front : List X) × (xs ≡ front ++ x ∷ [])
 last_split [] x e = absurd cc
-last_split (y ∷ []) x e = ([], ap (λ (z : _). z ∷ []) (same_Some y x e))
+last_split (y ∷ []) x e = ([], alone y x (same_Some y x e))
 last_split {X} (y ∷ z ∷ ys) x e =
     let k : length (y ∷ z ∷ ys) - 1 ≡ suc (length (z ∷ ys) - 1) = omega arith in
     let later : slice_get (z ∷ ys) (length (z ∷ ys) - 1) ≡ Some x = rw k at e in

@@ -1,7 +1,7 @@
 -- Reading the next frame, from its header on.
-use Rattle.std.proofs.Common.{◌≡◌, ℕ, suc, ◌<◌, Bool, true, false, List, [], ◌∷◌, ◌++◌, length, drop, take, ltb, Option, Some, None, Result, Ok, Err, refl, sym, ap, ◌∙◌, append_assoc, ne_eqb, arith}
-use Rattle.std.specs.Prelude.{is_some, ◌||◌}
-use Rattle.std.specs.Io.KnownBytes.{Consumes, IsAtEnd}
+use Rattle.std.proofs.Common.{◌≡◌, ℕ, ◌<◌, true, false, List, [], ◌∷◌, ◌++◌, length, drop, ltb, Option, Some, None, Result, Ok, Err, refl, sym, ap, ◌∙◌, append_assoc, ne_eqb, arith}
+use Rattle.std.specs.Prelude.{is_some}
+use Rattle.std.specs.Io.KnownBytes.{Consumes}
 use Rattle.std.proofs.KnownBytes.{Consumes-trans}
 use Rattle.std.specs.Result.{IfOk}
 use Rattle.std.proofs.lemmas.Bool.{le-ltb, lt-ltb}
@@ -16,7 +16,7 @@ use Rattle.puffin_frames.specs.Contents.{holding_of, frame_says}
 use Rattle.puffin_frames.specs.Stored.{Said, Stored, packed, legacy}
 use Rattle.puffin_frames.specs.Values.{Legacy}
 use Rattle.puffin_frames.specs.Reads.{legacy_of, stored_as, stored_of}
-use Rattle.puffin_frames.specs.Steps.{as_stored, stored_after, is_end, next_at, AtEnd}
+use Rattle.puffin_frames.specs.Steps.{as_stored, stored_after, is_end, next_at}
 
 -- ---- behind a header
 

@@ -1,5 +1,5 @@
 -- The structs that packets hold are read back, and nothing else is read.
-use Rattle.std.proofs.Common.{◌≡◌, ℕ, true, cond, eqb, List, length, Some, None, refl, ap, subst, ◌∙◌}
+use Rattle.std.proofs.Common.{◌≡◌, ℕ, true, cond, eqb, List, length, Some, None, refl, subst}
 use Rattle.std.specs.Prelude.{nat_lt}
 use Rattle.std.specs.FinMap.{is_sorted}
 use Rattle.std.proofs.lemmas.Option.{cond_some}

@@ -1,6 +1,5 @@
 -- What a frame holds, and how.
-use Rattle.std.specs.Prelude.{ℕ, Bool, true, false, List, Option, Some, None}
-use Rattle.std.specs.FinMap.{entries}
+use Rattle.std.specs.Prelude.{Bool, true, false, List, Option, Some, None}
 use Rattle.std.specs.Arc.{arc_value}
 use Rattle.puffin_frames.specs.declared.frame_data.frame.FrameData.{FrameData}
 use Rattle.puffin_frames.specs.declared.frame_data.held.PackedStreams.{PackedStreams}

@@ -1,16 +1,15 @@
 -- What reading the next frame promises.
-use Rattle.std.specs.Prelude.{◌≡◌, ℕ, Bool, true, false, not, List, [], length, is_some, Option, Some, None, Result, Ok, Err}
+use Rattle.std.specs.Prelude.{◌≡◌, ℕ, false, not, List, [], length, is_some, Option, Some, None, Result, Ok, Err}
 use Rattle.std.specs.FinMap.{entries}
 use Rattle.std.specs.Io.KnownBytes.{Consumes}
 use Rattle.puffin_data.specs.Honesty.{Recorded}
 use Rattle.puffin_data.specs.Devices.{FromDevice, FailsAt}
 use Rattle.puffin_data.specs.declared.file_error.FileError.{FileError}
 use Rattle.puffin_frames.specs.declared.frame_data.frame.FrameData.{FrameData}
-use Rattle.puffin_frames.specs.declared.frame_data.meta.FrameMeta.{FrameMeta}
 use Rattle.puffin_frames.specs.Info.{Info}
 use Rattle.puffin_frames.specs.Values.{Legacy}
 use Rattle.puffin_frames.specs.Holding.{Packing}
-use Rattle.puffin_frames.specs.Stored.{Said, Stored, packed, legacy}
+use Rattle.puffin_frames.specs.Stored.{Stored, packed, legacy}
 use Rattle.puffin_frames.specs.Contents.{Streams, holding_of, frame_meta, frame_details, frame_says}
 use Rattle.puffin_frames.specs.Steps.{is_end, next_at, AtEnd}
 

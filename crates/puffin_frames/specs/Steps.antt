@@ -123,12 +123,12 @@ abbrev pub counted : List ℕ → List ℕ
 counted part = little_bytes 4 (length part) ++ part
 
 -- the letters and the meta, and of the streams their length and their kind
-abbrev pub packet_head : FrameMeta → ℕ → ℕ → List ℕ
+unfoldable pub packet_head : FrameMeta → ℕ → ℕ → List ℕ
 packet_head meta kind len = (80 ∷ 70 ∷ 68 ∷ 52 ∷ []) ++ (counted (meta_layout meta) ++ (little_bytes 4 len ++ (kind ∷ [])))
 
 -- a packet of these streams and this part of details
 abbrev pub packet_with : FrameMeta → ℕ → List ℕ → List ℕ → List ℕ
-packet_with meta kind streams details = packet_head meta kind (length streams) ++ (streams ++ counted details)
+packet_with meta kind streams details = (packet_head meta kind (length streams) ++ streams) ++ counted details
 
 -- a packet of the form that is written
 abbrev pub packet : Said → List ℕ

@@ -5,11 +5,14 @@ mod decode;
 mod encode;
 mod frame;
 mod held;
+pub mod laws;
 mod meta;
 mod pack;
 mod packing;
 mod reading;
 mod shared;
+#[cfg(test)]
+mod tests;
 mod unpacked;
 mod writing;
 

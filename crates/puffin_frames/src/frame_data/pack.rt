@@ -20,7 +20,7 @@ use std::sync::Arc;
 
 impl PackedStreams {
     /// Streams as they are, as bytes. Refused only with `Memory`.
-    fn of(alloc: Global, streams: &ThreadStreams) -> Result<PackedStreams>
+    pub(crate) fn of(alloc: Global, streams: &ThreadStreams) -> Result<PackedStreams>
         ensures ok { IfOk result (λ packed. packed_as packed ≡ plainly_packed (shared_streams streams.now.entries)) }
         ensures content { IfOk result (λ packed. streams_in (packed_as packed) ≡ Some (shared_streams streams.now.entries)) }
         ensures memory { IfErr result (λ e. e ≡ Error.Memory) }

@@ -1,10 +1,10 @@
-use Rattle.std.proofs.Common.{◌≡◌, ◌++◌, ◌∷◌, [], List, true, ap, ◌∙◌}
+use Rattle.std.proofs.Common.{◌≡◌, ◌++◌, ◌∷◌, [], true, ap, ◌∙◌}
 use Rattle.std.specs.Arc.{arc_value}
 use Rattle.std.specs.FinMap.{is_sorted}
 use Rattle.puffin_data.specs.Honesty.{Recorded, recorded}
 use Rattle.puffin_data.specs.Front.{times_at}
 use Rattle.puffin_data.proofs.Loops.{one_more}
-use Rattle.puffin_frames.specs.Info.{Info, info_of, info_cmp}
+use Rattle.puffin_frames.specs.Info.{info_of, info_cmp}
 use Rattle.puffin_frames.specs.Values.{stream_at}
 use Rattle.puffin_frames.specs.Contents.{listed}
 use Rattle.puffin_frames.proofs.Listed.{insert-last, listed-push}

@@ -1,4 +1,3 @@
-use Rattle.std.proofs.Common.{ap, sym, arith}
 use Rattle.std.specs.Arc.{arc_value}
 use Rattle.puffin_frames.specs.Details.{details_of}
 use Rattle.puffin_frames.specs.Values.{detail_layout, IsDetail}

@@ -4,7 +4,7 @@ use Rattle.puffin_data.specs.declared.file_error.FileError.TheVariants as file
 use Rattle.puffin_frames.specs.declared.frame_data.meta.FrameMeta.{FrameMeta}
 use Rattle.puffin_frames.specs.Info.{Info}
 use Rattle.puffin_frames.specs.Holding.{Holding}
-use Rattle.puffin_frames.specs.Contents.{listed, holding_of, frame_meta}
+use Rattle.puffin_frames.specs.Contents.{listed, holding_of}
 use Rattle.puffin_frames.specs.Values.{Legacy}
 use Rattle.puffin_frames.specs.Reads.{entries_if_any, legacy_of}
 use Rattle.puffin_frames.specs.Steps.{legacy_from, legacy_with_range}

@@ -1,4 +1,4 @@
-use Rattle.std.proofs.Common.{◌≡◌, Bool, cond, false, List, ℕ, Some, ap, sym, ◌∙◌}
+use Rattle.std.proofs.Common.{◌≡◌, Bool, cond, false, ℕ, Some, ap, sym, ◌∙◌}
 use Rattle.byteorder.specs.Endian.{little_number}
 use Rattle.puffin_data.proofs.Devices.{same_reading}
 use Rattle.puffin_frames.specs.declared.frame_data.frame.FrameData.{FrameData}

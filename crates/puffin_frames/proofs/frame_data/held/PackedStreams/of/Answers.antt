@@ -4,7 +4,6 @@ use Rattle.std.specs.FinMap.{from_sorted}
 use Rattle.puffin_data.specs.Front.{whole}
 use Rattle.puffin_data.proofs.Readers.{whole_again}
 use Rattle.puffin_frames.specs.Contents.{listed}
-use Rattle.puffin_frames.specs.Holding.{Packing}
 use Rattle.puffin_frames.specs.Values.{AreStreams, streams_layout, streams_at}
 use Rattle.puffin_frames.proofs.Structs.{streams_reader}
 use Rattle.puffin_frames.proofs.Listed.{streams-listed, entries-listed}
