@@ -16,7 +16,7 @@ use Rattle.puffin.specs.Collected.{Collected, range_with, delta_of, after_frame,
 
 -- The frame holds all that is pending, under the next index. It tells of the new details, and of all that were known where that was wanted.
 pub record HoldsAll (c : Collected) (frame : FrameData) : Type 0 where
-  pub contents : frame_contents frame ≡ c.streams
+  pub contents : frame_contents frame ≡ Some c.streams
   pub meta : frame_meta frame ≡ meta_of c.index (map.values c.streams)
   pub delta : shared_details frame.scope_delta.items ≡ delta_of c.collection c.new_details c.wants_all
   pub full : frame.full_delta ≡ c.wants_all
