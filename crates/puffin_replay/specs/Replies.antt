@@ -18,7 +18,7 @@ use Rattle.std.specs.Int.{int_max}
 use Rattle.puffin_frames.specs.Info.{info_of}
 use Rattle.puffin_frames.specs.Threads.{after_end}
 use Rattle.puffin_frames.specs.Measures.{meta_of}
-use Rattle.puffin_frames.specs.Contents.{frame_contents, frame_meta}
+use Rattle.puffin_frames.specs.Contents.{Streams, frame_contents, frame_meta}
 use Rattle.puffin_frames.specs.declared.frame_data.frame.FrameData.{FrameData}
 use Rattle.puffin_frames.specs.declared.thread_profiler.reporter.Closed.{Closed}
 use Rattle.puffin_frames.specs.declared.thread_profiler.reporter.Closed.TheVariants as closed
@@ -76,8 +76,10 @@ actions_of _ _ _ = []
 
 -- The frame with this index spells what was due, and its meta is that of its streams, which have some scope.
 pub record SpellsFrame (frame : FrameData) (index : ℕ) (ds : List Delivery) : Type 0 where
-  pub streams : SpellsDue (frame_contents frame) ds
-  pub meta : frame_meta frame ≡ meta_of index (values (frame_contents frame))
+  pub streams : Streams
+  pub held : frame_contents frame ≡ Some streams
+  pub spelled : SpellsDue streams ds
+  pub meta : frame_meta frame ≡ meta_of index (values streams)
   pub some : 0 < (frame_meta frame).num_scopes
 
 -- The frame tells of just these new details, in order, and then, where that is wanted, of all that were known; and it says whether it was wanted.
