@@ -61,7 +61,6 @@ module _ {A : Type 0} where
   listed-push [] k a = refl
   listed-push (e ∷ es) k a = ap (λ (l : List (Info × Recorded)). (info_of e.0, recorded (arc_value e.1)) ∷ l) (listed-push es k a)
 
-
 below_at : (x k : Info) (r : Recorded) (es rest : List (Info × Recorded)) → below_all info_cmp x (es ++ (k, r) ∷ rest) ≡ true → info_cmp x k ≡ Less
 below_at x k r [] rest h = is_less _ (and-first _ _ h)
 below_at x k r (e ∷ es) rest h = below_at x k r es rest (and-second _ _ h)
@@ -166,7 +165,7 @@ pub copy_more : {A B : Type 0} (es fs : List (ThreadInfo × Arc StreamInfo A)) (
 copy_more es fs k copy a b left rest all sorted whole next same value put =
     let one : (Info × Recorded) = (info_of copy, recorded (arc_value b)) in
     let there : listed es ++ one ∷ listed rest ≡ listed all =
-        ap (λ (x : Info). listed es ++ (x, recorded (arc_value b)) ∷ listed rest) same ∙ (ap (λ (x : StreamInfo). listed es ++ (info_of k, recorded x) ∷ listed rest) value ∙ (ap (λ l. listed es ++ listed l) (sym next) ∙ whole)) in
+    ap (λ (x : Info). listed es ++ (x, recorded (arc_value b)) ∷ listed rest) same ∙ (ap (λ (x : StreamInfo). listed es ++ (info_of k, recorded x) ∷ listed rest) value ∙ (ap (λ l. listed es ++ listed l) (sym next) ∙ whole)) in
     let order = subst (λ (l : List (Info × Recorded)). is_sorted info_cmp l ≡ true) (sym there) (listed-sorted all sorted) in
     let last = insert-last es copy b (recorded (arc_value b)) (listed rest) order in
     let grown : listed fs ≡ listed es ++ one ∷ [] = ap listed (put ∙ last) ∙ listed-push es copy b in
