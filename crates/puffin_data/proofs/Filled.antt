@@ -1,5 +1,5 @@
 -- A buffer that is read into, piece behind piece.
-use Rattle.std.proofs.Common.{◌≡◌, ℕ, ◌+◌, ◌≤◌, List, ◌++◌, length, take, drop, Option, sym, ap, subst, ◌∙◌, arith, length-take-le, take-append-drop}
+use Rattle.std.proofs.Common.{◌≡◌, ℕ, ◌+◌, ◌≤◌, List, ◌++◌, length, take, drop, Option, sym, ap, subst, ◌∙◌, arith, length-take-le, take-append-drop, take_all}
 use lib.Seq.{take-take, take-add}
 use Rattle.std.specs.Io.KnownBytes.{Consumes}
 use Rattle.std.proofs.KnownBytes.{Consumes-trans}
@@ -18,8 +18,10 @@ filled_more a b c xs ys at end n le within same before read =
     ap (drop at) (take-add end n ys) ∙ (drop-append-le at (take end ys) (take n (drop end ys)) long ∙ ap (λ (t : List ℕ). drop at t ++ take n (drop end ys)) same) in
     subst (Consumes a c) (sym parts) (Consumes-trans a b c _ _ before read)
 
--- what stood before a place stays, and what was read follows it
-pub behind_old : (old room after : List ℕ) (at end : ℕ) → length old ≡ at → at ≤ end → take at after ≡ take at (old ++ room) → take end after ≡ old ++ drop at (take end after)
-behind_old old room after at end long le front =
-    let before : take at (take end after) ≡ old = take-take at end after le ∙ (front ∙ take_at old room at long) in
+-- What stood in a vector stays where the vector was lengthened and lent out to be read into from there, and what was read follows it.
+pub behind_old : (old room longer lent after : List ℕ) (at end wanted : ℕ) → length old ≡ at → length old ≤ wanted → at ≤ end
+    → longer ≡ take wanted old ++ room → lent ≡ longer → take at after ≡ take at lent → take end after ≡ old ++ drop at (take end after)
+behind_old old room longer lent after at end wanted long below le lengthened same front =
+    let whole : lent ≡ old ++ room = same ∙ (lengthened ∙ ap (λ (t : List ℕ). t ++ room) (take_all wanted old below)) in
+    let before : take at (take end after) ≡ old = take-take at end after le ∙ (front ∙ (ap (take at) whole ∙ take_at old room at long)) in
     sym (take-append-drop at (take end after)) ∙ ap (λ (t : List ℕ). t ++ drop at (take end after)) before

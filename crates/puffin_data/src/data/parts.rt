@@ -6,12 +6,10 @@ ghost use Rattle.puffin_data.specs.Devices.{FromDevice, TookUpTo, IsFilled, IsOu
 ghost use Rattle.puffin_data.specs.Parts.{part_of, first_at, length_at, counted_part_at};
 
 use crate::data::device::Source;
+use crate::data::transfer::PIECE_SIZE;
 use crate::file_error::FileError;
 use byteorder::{ByteOrder, LittleEndian};
 use std::alloc::Global;
-
-/// For how many bytes memory is asked at once: a length that lies costs no more than that.
-const PIECE_SIZE: usize = 65536;
 
 /// Reads once, into what stands behind the first `at` bytes.
 fn read_behind<S: Source>(source: &mut S, buf: &mut [u8], at: usize) -> Result<usize, FileError>
@@ -139,3 +137,6 @@ pub fn read_counted_part<S: Source>(alloc: Global, source: &mut S) -> Result<Vec
     let len = read_length(source)?;
     read_part(alloc, source, len)
 }
+
+#[cfg(test)]
+mod tests;

@@ -9,7 +9,8 @@ use crate::wire::front::{
 };
 use std::marker::Model;
 
-/// What is left of some bytes that are read from the front.
+/// What is left of some bytes that are read from the front. Each call that reads gives `None` exactly where no layout of
+/// its kind begins, and doesn't move then.
 #[derive(Drop)]
 pub struct Cursor<'s> {
     bytes: &'s [u8],
@@ -96,7 +97,7 @@ impl<'s> Cursor<'s> {
         Some(value)
     }
 
-    /// Whether a value follows: the first byte of an option.
+    /// Whether a value follows: the first byte of an option, which is 0 or 1.
     pub fn flag(&mut self) -> Option<bool>
         ensures reads { Reads (λ x. x) IsAny flag self.old result self.new }
         ensures exact { Gives (λ x. x) self.old result self.new (flag_at self.old) }

@@ -1,12 +1,11 @@
-//! Values written one after the other.
+//! Values written one after the other. Each call is refused with `Memory` alone, and then appends nothing.
 
 ghost use Rattle.std.specs.Prelude.{◌≡◌, ◌++◌, OnOk, OnErr, IfErr};
-ghost use Rattle.puffin_data.specs.declared.error.Error.{Error};
 ghost use Rattle.puffin_data.specs.Layout.{number, signed, byte, block, zigzag};
 
-use crate::error::Result;
+use crate::error::{Error, Result};
 
-/// Appends the shortest spelling of a number.
+/// Appends a number of 64 bits in its shortest spelling. Refused with `Memory`; nothing is then appended.
 #[tactic(auto, unfolding(crate::specs::Layout::number))]
 pub fn put_u64(out: &mut Vec<u8>, n: u64) -> Result<()>
     ensures ok { OnOk result (out.new.items ≡ out.old.items ++ number n) }
@@ -28,7 +27,7 @@ pub fn put_u64(out: &mut Vec<u8>, n: u64) -> Result<()>
     Ok(())
 }
 
-/// Appends a byte.
+/// Appends a byte. Refused as [`put_u64`] is.
 pub fn put_u8(out: &mut Vec<u8>, n: u8) -> Result<()>
     ensures ok { OnOk result (out.new.items ≡ out.old.items ++ byte n) }
     ensures err { OnErr result (out.new.items ≡ out.old.items) }
@@ -38,7 +37,7 @@ pub fn put_u8(out: &mut Vec<u8>, n: u8) -> Result<()>
     Ok(())
 }
 
-/// Appends the shortest spelling of a number.
+/// Appends a number of 32 bits, laid out as one of 64. Refused as [`put_u64`] is.
 pub fn put_u32(out: &mut Vec<u8>, n: u32) -> Result<()>
     ensures ok { OnOk result (out.new.items ≡ out.old.items ++ number n) }
     ensures err { OnErr result (out.new.items ≡ out.old.items) }
@@ -57,7 +56,7 @@ fn zigzag_of(z: i64) -> u64
     }
 }
 
-/// Appends the shortest spelling of a signed number.
+/// Appends a signed number: 0, -1, 1 and -2 are laid out as 0, 1, 2 and 3. Refused as [`put_u64`] is.
 pub fn put_i64(out: &mut Vec<u8>, z: i64) -> Result<()>
     ensures ok { OnOk result (out.new.items ≡ out.old.items ++ signed z) }
     ensures err { OnErr result (out.new.items ≡ out.old.items) }
@@ -66,7 +65,7 @@ pub fn put_i64(out: &mut Vec<u8>, z: i64) -> Result<()>
     put_u64(out, zigzag_of(z))
 }
 
-/// Appends bytes behind their length.
+/// Appends bytes behind their length. Refused as [`put_u64`] is.
 pub fn put_bytes(out: &mut Vec<u8>, bytes: &[u8]) -> Result<()>
     ensures ok { OnOk result (out.new.items ≡ out.old.items ++ block bytes.now) }
     ensures err { OnErr result (out.new.items ≡ out.old.items) }
@@ -74,15 +73,14 @@ pub fn put_bytes(out: &mut Vec<u8>, bytes: &[u8]) -> Result<()>
 {
     let before = out.len();
     put_u64(out, bytes.len() as u64)?;
-    let added = out.extend_from_slice(bytes);
-    if added.is_err() {
+    if out.extend_from_slice(bytes).is_err() {
         out.truncate(before);
+        return Err(Error::Memory);
     }
-    added?;
     Ok(())
 }
 
-/// Appends a text behind its length.
+/// Appends a text behind its length in bytes. Refused as [`put_u64`] is.
 pub fn put_text(out: &mut Vec<u8>, t: &str) -> Result<()>
     ensures ok { OnOk result (out.new.items ≡ out.old.items ++ block t.now) }
     ensures err { OnErr result (out.new.items ≡ out.old.items) }
