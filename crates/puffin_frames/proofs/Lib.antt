@@ -18,3 +18,5 @@ pub mod Holding
 pub mod Recordings
 pub mod Seen
 pub mod Inserting
+pub mod Comparing
+pub mod Collected

@@ -21,7 +21,6 @@ use Rattle.puffin_frames.specs.declared.thread_profiler.thread_info.ThreadInfo.{
 use Rattle.puffin_frames.specs.Contents.{listed, shared_streams}
 use Rattle.puffin_frames.specs.Info.{Info, info_cmp, info_of, thread_cmp}
 use Rattle.puffin_frames.proofs.Infos.{info_cmp_total, thread_cmp_total}
-use Rattle.puffin_frames.proofs.Keyed.{entries-empty}
 
 pub and-first : (a b : Bool) → (a && b) ≡ true → a ≡ true
 and-first true b e = refl
@@ -102,10 +101,10 @@ module _ {K X : Type 0} {R : K → K → Ordering} (total : IsTotalOrder R) (not
 
 -- the streams of a map are those of its list
 pub streams-listed : {A : Type 0} (es : List (ThreadInfo × Arc StreamInfo A)) → is_sorted info_cmp (listed es) ≡ true → from_sorted {R = info_cmp} (listed es) ≡ shared_streams es
-streams-listed es sorted = from_entries-sorted_list info_cmp_total entries-empty (listed es) sorted
+streams-listed es sorted = from_entries-sorted_list info_cmp_total (no_entries info_cmp) (listed es) sorted
 
 pub entries-listed : {A : Type 0} (es : List (ThreadInfo × Arc StreamInfo A)) → is_sorted info_cmp (listed es) ≡ true → entries (shared_streams es) ≡ listed es
-entries-listed es sorted = entries-sorted_list info_cmp_total entries-empty (listed es) sorted
+entries-listed es sorted = entries-sorted_list info_cmp_total (no_entries info_cmp) (listed es) sorted
 
 -- ---- one more thread
 

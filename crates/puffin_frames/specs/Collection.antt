@@ -1,8 +1,8 @@
 -- What contracts see of a collection of details: the first inserted under each id, and the last id inserted under each name.
-use Rattle.std.specs.Prelude.{◌≡◌, ℕ, List, reverse, Option, Some, None, map, fold, find, is_some, ◌&&◌, nat_eq, option_and_then, string_bytes, String, refl}
+use Rattle.std.specs.Prelude.{ℕ, List, [], ◌∷◌, ◌≡◌, Option, Some, None, map, fold, find, if◌then◌else◌, nat_eq, option_and_then, string_bytes, String, refl}
 use Rattle.std.specs.declared.sync.Arc.{Arc}
 use Rattle.std.specs.declared.cmp.Ordering.{Ordering}
-use Rattle.std.specs.Option.{option_eq}
+use Rattle.std.specs.Option.{option_eq, option_or}
 use Rattle.std.specs.Ordering.{nat_cmp, eq_by_cmp}
 use Rattle.std.specs.Arc.{arc_value}
 use Rattle.std.specs.Cmp.Lexicographic.{slice_cmp}
@@ -58,12 +58,18 @@ kept_for collection d = option_and_then (λ id. map.get collection.by_id id) d.i
 abbrev pub KeepsOwnIds : Collection → Type 0
 KeepsOwnIds collection = (id : ℕ) (d : Details) → map.get collection.by_id id ≡ Some d → d.id ≡ Some id
 
--- the first of a list of details with an id, and the last id of those with a name
+-- the first of a list of details with this id
 abbrev pub first_with_id : ℕ → List Details → Option Details
 first_with_id id ds = find (λ d. option_eq nat_eq d.id (Some id)) ds
 
+-- the id of details, where this is their name
+abbrev pub id_under : List ℕ → Details → Option ℕ
+id_under name d = if eq_by_cmp bytes_cmp name (name_of d) then d.id else None
+
+-- the last id of details with this name
 abbrev pub last_id_of : List ℕ → List Details → Option ℕ
-last_id_of name ds = option_and_then (λ d. d.id) (find (λ d. eq_by_cmp bytes_cmp (name_of d) name && is_some d.id) (reverse ds))
+last_id_of name [] = None
+last_id_of name (d ∷ ds) = option_or (last_id_of name ds) (id_under name d)
 
 -- the entries of the two maps as they are held
 abbrev pub ids_seen : {A : Type 0} → List (ℕ × Arc ScopeDetails A) → List (ℕ × Details)

@@ -70,13 +70,16 @@ lacks_id d = is_none d.id
 abbrev pub AllHaveIds : List Details → Type 0
 AllHaveIds ds = All (λ d. IsSome d.id) ds
 
--- by the id, then by the scope name, none first; then by function, file and line
-abbrev pub details_cmp : Details → Details → Ordering
-details_cmp =
-    then_cmp (on (λ d. d.id) (option_cmp nat_cmp))
-    (then_cmp (on (λ d. d.scope_name) (option_cmp (slice_cmp nat_cmp)))
+-- by the scope's name, none first, then by function, file and line
+abbrev pub texts_cmp : Details → Details → Ordering
+texts_cmp =
+    then_cmp (on (λ d. d.scope_name) (option_cmp (slice_cmp nat_cmp)))
     (then_cmp (on (λ d. d.function_name) (slice_cmp nat_cmp))
-    (then_cmp (on (λ d. d.file_path) (slice_cmp nat_cmp)) (on (λ d. d.line_nr) nat_cmp))))
+    (then_cmp (on (λ d. d.file_path) (slice_cmp nat_cmp)) (on (λ d. d.line_nr) nat_cmp)))
+
+-- by the id, none first, and then by the texts and the line
+abbrev pub details_cmp : Details → Details → Ordering
+details_cmp = then_cmp (on (λ d. d.id) (option_cmp nat_cmp)) texts_cmp
 
 abbrev pub same_details : Details → Details → Bool
 same_details = eq_by_cmp details_cmp

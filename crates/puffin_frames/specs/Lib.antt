@@ -1,8 +1,7 @@
 pub mod Info
-pub mod Types
+pub mod ScopeTypes
 pub mod Details
 pub mod Collection
-pub mod Collections
 pub mod ThreadStreams
 pub mod Values
 pub mod Holding
@@ -12,6 +11,7 @@ pub mod Steps
 pub mod Reads
 pub mod Writes
 pub mod Forms
+pub mod HeldCollection
 pub mod Contents
 pub mod Measures
 pub mod Threads

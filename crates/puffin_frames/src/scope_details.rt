@@ -3,6 +3,7 @@
 mod collection;
 mod details;
 mod ids;
+pub mod laws;
 mod scope_type;
 #[cfg(test)]
 mod tests;
