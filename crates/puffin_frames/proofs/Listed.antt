@@ -21,7 +21,6 @@ use Rattle.puffin_frames.specs.declared.thread_profiler.thread_info.ThreadInfo.{
 use Rattle.puffin_frames.specs.Contents.{listed, shared_streams}
 use Rattle.puffin_frames.specs.Info.{Info, info_cmp, info_of, thread_cmp}
 use Rattle.puffin_frames.proofs.Infos.{info_cmp_total, thread_cmp_total}
-use Rattle.puffin_frames.proofs.Seen.{entries-empty}
 
 pub and-first : (a b : Bool) → (a && b) ≡ true → a ≡ true
 and-first true b e = refl
@@ -60,7 +59,6 @@ module _ {A : Type 0} where
   pub listed-push : (es : List (ThreadInfo × Arc StreamInfo A)) (k : ThreadInfo) (a : Arc StreamInfo A) → listed (es ++ (k, a) ∷ []) ≡ listed es ++ (info_of k, recorded (arc_value a)) ∷ []
   listed-push [] k a = refl
   listed-push (e ∷ es) k a = ap (λ (l : List (Info × Recorded)). (info_of e.0, recorded (arc_value e.1)) ∷ l) (listed-push es k a)
-
 
 below_at : (x k : Info) (r : Recorded) (es rest : List (Info × Recorded)) → below_all info_cmp x (es ++ (k, r) ∷ rest) ≡ true → info_cmp x k ≡ Less
 below_at x k r [] rest h = is_less _ (and-first _ _ h)
@@ -103,10 +101,10 @@ module _ {K X : Type 0} {R : K → K → Ordering} (total : IsTotalOrder R) (not
 
 -- the streams of a map are those of its list
 pub streams-listed : {A : Type 0} (es : List (ThreadInfo × Arc StreamInfo A)) → is_sorted info_cmp (listed es) ≡ true → from_sorted {R = info_cmp} (listed es) ≡ shared_streams es
-streams-listed es sorted = from_entries-sorted_list info_cmp_total (entries-empty info_cmp) (listed es) sorted
+streams-listed es sorted = from_entries-sorted_list info_cmp_total (no_entries info_cmp) (listed es) sorted
 
 pub entries-listed : {A : Type 0} (es : List (ThreadInfo × Arc StreamInfo A)) → is_sorted info_cmp (listed es) ≡ true → entries (shared_streams es) ≡ listed es
-entries-listed es sorted = entries-sorted_list info_cmp_total (entries-empty info_cmp) (listed es) sorted
+entries-listed es sorted = entries-sorted_list info_cmp_total (no_entries info_cmp) (listed es) sorted
 
 -- ---- one more thread
 
@@ -166,7 +164,7 @@ pub copy_more : {A B : Type 0} (es fs : List (ThreadInfo × Arc StreamInfo A)) (
 copy_more es fs k copy a b left rest all sorted whole next same value put =
     let one : (Info × Recorded) = (info_of copy, recorded (arc_value b)) in
     let there : listed es ++ one ∷ listed rest ≡ listed all =
-        ap (λ (x : Info). listed es ++ (x, recorded (arc_value b)) ∷ listed rest) same ∙ (ap (λ (x : StreamInfo). listed es ++ (info_of k, recorded x) ∷ listed rest) value ∙ (ap (λ l. listed es ++ listed l) (sym next) ∙ whole)) in
+    ap (λ (x : Info). listed es ++ (x, recorded (arc_value b)) ∷ listed rest) same ∙ (ap (λ (x : StreamInfo). listed es ++ (info_of k, recorded x) ∷ listed rest) value ∙ (ap (λ l. listed es ++ listed l) (sym next) ∙ whole)) in
     let order = subst (λ (l : List (Info × Recorded)). is_sorted info_cmp l ≡ true) (sym there) (listed-sorted all sorted) in
     let last = insert-last es copy b (recorded (arc_value b)) (listed rest) order in
     let grown : listed fs ≡ listed es ++ one ∷ [] = ap listed (put ∙ last) ∙ listed-push es copy b in

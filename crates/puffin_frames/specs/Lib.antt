@@ -2,7 +2,6 @@ pub mod Info
 pub mod ScopeTypes
 pub mod Details
 pub mod Collection
-pub mod HeldCollection
 pub mod ThreadStreams
 pub mod Values
 pub mod Holding
@@ -12,6 +11,7 @@ pub mod Steps
 pub mod Reads
 pub mod Writes
 pub mod Forms
+pub mod HeldCollection
 pub mod Contents
 pub mod Measures
 pub mod Threads

@@ -143,11 +143,7 @@ fn read_stream(alloc: Global, cursor: &mut Cursor) -> Result<(ThreadInfo, Stream
     Ok((thread, info))
 }
 
-fn read_streams_times(
-    alloc: Global,
-    cursor: &mut Cursor,
-    count: u64,
-) -> Result<ThreadStreams, Stop>
+fn read_streams_times(alloc: Global, cursor: &mut Cursor, count: u64) -> Result<ThreadStreams, Stop>
     ensures given { TriesToGive (λ m. listed m.entries) result cursor.new (rising (times_at stream_at count cursor.old)) }
     ensures sorted { IfOk result (λ m. is_sorted info_cmp (listed m.entries) ≡ true) }
 {

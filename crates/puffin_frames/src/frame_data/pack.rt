@@ -143,10 +143,7 @@ impl Held {
     pub(crate) fn unpack(
         self,
         alloc: Global,
-    ) -> (
-        Held,
-        std::result::Result<Arc<UnpackedFrameData>, FileError>,
-    )
+    ) -> (Held, std::result::Result<Arc<UnpackedFrameData>, FileError>)
         ensures ok { OnOk result.1 (held_as result.0 ≡ as_unpacked (held_as self)) }
         ensures contents { held_contents (held_as result.0) ≡ held_contents (held_as self) }
         ensures err { OnErr result.1 (held_as result.0 ≡ held_as self) }
@@ -203,10 +200,7 @@ impl Held {
 fn share(
     alloc: Global,
     frame: UnpackedFrameData,
-) -> (
-    Held,
-    std::result::Result<Arc<UnpackedFrameData>, FileError>,
-)
+) -> (Held, std::result::Result<Arc<UnpackedFrameData>, FileError>)
     ensures held { held_as result.0 ≡ record { packed = None; unpacked = Some (contents frame) } }
     ensures meta { held_meta result.0 ≡ frame.meta }
     ensures ok { IfOk result.1 (λ same. arc_value same ≡ frame) }
@@ -225,10 +219,7 @@ fn share(
 fn unpack_too(
     alloc: Global,
     packed: PackedFrame,
-) -> (
-    Held,
-    std::result::Result<Arc<UnpackedFrameData>, FileError>,
-)
+) -> (Held, std::result::Result<Arc<UnpackedFrameData>, FileError>)
     ensures ok { IfOk result.1 (λ frame. held_as result.0 ≡ record { packed = Some (packed_as packed.streams); unpacked = Some (contents (arc_value frame)) }) }
     ensures err { OnErr result.1 (held_as result.0 ≡ record { packed = Some (packed_as packed.streams); unpacked = None }) }
     ensures meta { held_meta result.0 ≡ packed.meta }

@@ -134,11 +134,7 @@ fn read_details_part<S: Source>(
 }
 
 /// Reads what follows the four letters of a packet, of which this is the last.
-fn read_packed<S: Source>(
-    alloc: Global,
-    source: &mut S,
-    letter: u8,
-) -> Result<FrameData, FileError>
+fn read_packed<S: Source>(alloc: Global, source: &mut S, letter: u8) -> Result<FrameData, FileError>
     requires { S.failures source.old < 2 ^ 64 - 1 }
     ensures part { FromDevice frame_says (S.remaining source.old) (S.remaining source.new) result (packed_at letter) }
     ensures packed { IfOk result (λ frame. is_some (holding_of frame).packed ≡ true) }
@@ -179,11 +175,7 @@ fn form_of(letter: u8) -> Form
 }
 
 /// Reads what follows `PFD` and this letter.
-fn read_form<S: Source>(
-    alloc: Global,
-    source: &mut S,
-    letter: u8,
-) -> Result<FrameData, FileError>
+fn read_form<S: Source>(alloc: Global, source: &mut S, letter: u8) -> Result<FrameData, FileError>
     requires { S.failures source.old < 2 ^ 64 - 1 }
     ensures part { FromDevice frame_says (S.remaining source.old) (S.remaining source.new) result (form_at letter) }
     ensures packed { IfOk result (λ frame. is_some (holding_of frame).packed ≡ true) }

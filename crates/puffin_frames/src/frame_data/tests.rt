@@ -12,36 +12,27 @@ type Outcome = std::result::Result<(), Fail>;
 
 /// Frame 0 with one scope `data` of id 1 on the thread `main`, from 100 to 300.
 const PACKET: [u8; 75] = [
-    80, 70, 68, 52, 7, 0, 0, 0, 0, 200, 251, 88, 2, 35, 1, 50,
-    0, 0, 0, 0, 1, 1, 200, 4, 109, 97, 105, 110, 35, 40, 1, 0,
-    0, 0, 100, 0, 0, 0, 0, 0, 0, 0, 4, 100, 97, 116, 97, 0,
-    0, 0, 0, 0, 0, 0, 0, 41, 44, 1, 0, 0, 0, 0, 0, 0,
-    1, 1, 200, 251, 88, 2, 1, 0, 0, 0, 0,
+    80, 70, 68, 52, 7, 0, 0, 0, 0, 200, 251, 88, 2, 35, 1, 50, 0, 0, 0, 0, 1, 1, 200, 4, 109, 97,
+    105, 110, 35, 40, 1, 0, 0, 0, 100, 0, 0, 0, 0, 0, 0, 0, 4, 100, 97, 116, 97, 0, 0, 0, 0, 0, 0,
+    0, 0, 41, 44, 1, 0, 0, 0, 0, 0, 0, 1, 1, 200, 251, 88, 2, 1, 0, 0, 0, 0,
 ];
 
 /// The two packets that the Rust crate writes, at kind 0, of these scopes: `t1` from 374487 to 375371, and then `t0` with one
 /// scope in another from 378236 to 378240 and `t1` from 378300 to 70000000000; each frame with the details of one new scope.
 const RUST_PACKETS: [u8; 314] = [
-    80, 70, 68, 52, 13, 0, 0, 0, 0, 252, 174, 109, 11, 0, 252, 150,
-    116, 11, 0, 31, 1, 54, 0, 0, 0, 0, 1, 1, 252, 174, 109, 11,
-    0, 2, 116, 49, 31, 40, 3, 0, 0, 0, 215, 182, 5, 0, 0, 0,
-    0, 0, 0, 0, 0, 0, 0, 0, 0, 0, 0, 41, 75, 186, 5, 0,
-    0, 0, 0, 0, 1, 1, 252, 174, 109, 11, 0, 252, 150, 116, 11, 0,
-    24, 0, 0, 0, 1, 1, 1, 0, 3, 102, 50, 48, 12, 109, 47, 115,
-    114, 99, 47, 195, 188, 48, 46, 114, 115, 251, 215, 4, 80, 70, 68, 52,
-    17, 0, 0, 0, 1, 252, 248, 138, 11, 0, 253, 0, 120, 166, 152, 32,
-    0, 0, 0, 97, 3, 146, 0, 0, 0, 0, 2, 1, 252, 174, 109, 11,
-    0, 2, 116, 49, 31, 40, 1, 0, 0, 0, 188, 197, 5, 0, 0, 0,
-    0, 0, 0, 0, 0, 0, 0, 0, 0, 0, 0, 41, 0, 60, 83, 76,
-    16, 0, 0, 0, 1, 1, 252, 120, 139, 11, 0, 253, 0, 120, 166, 152,
-    32, 0, 0, 0, 1, 252, 248, 138, 11, 0, 2, 116, 48, 66, 40, 5,
-    0, 0, 0, 124, 197, 5, 0, 0, 0, 0, 0, 4, 109, 101, 115, 104,
-    31, 0, 0, 0, 0, 0, 0, 0, 40, 44, 1, 0, 0, 125, 197, 5,
-    0, 0, 0, 0, 0, 0, 0, 0, 0, 0, 0, 0, 0, 0, 41, 127,
-    197, 5, 0, 0, 0, 0, 0, 41, 128, 197, 5, 0, 0, 0, 0, 0,
-    2, 2, 252, 248, 138, 11, 0, 252, 0, 139, 11, 0, 26, 0, 0, 0,
-    1, 1, 2, 1, 6, 112, 97, 114, 116, 45, 55, 3, 102, 50, 48, 5,
-    109, 51, 46, 114, 115, 252, 250, 45, 238, 255,
+    80, 70, 68, 52, 13, 0, 0, 0, 0, 252, 174, 109, 11, 0, 252, 150, 116, 11, 0, 31, 1, 54, 0, 0, 0,
+    0, 1, 1, 252, 174, 109, 11, 0, 2, 116, 49, 31, 40, 3, 0, 0, 0, 215, 182, 5, 0, 0, 0, 0, 0, 0,
+    0, 0, 0, 0, 0, 0, 0, 0, 41, 75, 186, 5, 0, 0, 0, 0, 0, 1, 1, 252, 174, 109, 11, 0, 252, 150,
+    116, 11, 0, 24, 0, 0, 0, 1, 1, 1, 0, 3, 102, 50, 48, 12, 109, 47, 115, 114, 99, 47, 195, 188,
+    48, 46, 114, 115, 251, 215, 4, 80, 70, 68, 52, 17, 0, 0, 0, 1, 252, 248, 138, 11, 0, 253, 0,
+    120, 166, 152, 32, 0, 0, 0, 97, 3, 146, 0, 0, 0, 0, 2, 1, 252, 174, 109, 11, 0, 2, 116, 49, 31,
+    40, 1, 0, 0, 0, 188, 197, 5, 0, 0, 0, 0, 0, 0, 0, 0, 0, 0, 0, 0, 0, 0, 41, 0, 60, 83, 76, 16,
+    0, 0, 0, 1, 1, 252, 120, 139, 11, 0, 253, 0, 120, 166, 152, 32, 0, 0, 0, 1, 252, 248, 138, 11,
+    0, 2, 116, 48, 66, 40, 5, 0, 0, 0, 124, 197, 5, 0, 0, 0, 0, 0, 4, 109, 101, 115, 104, 31, 0, 0,
+    0, 0, 0, 0, 0, 40, 44, 1, 0, 0, 125, 197, 5, 0, 0, 0, 0, 0, 0, 0, 0, 0, 0, 0, 0, 0, 0, 41, 127,
+    197, 5, 0, 0, 0, 0, 0, 41, 128, 197, 5, 0, 0, 0, 0, 0, 2, 2, 252, 248, 138, 11, 0, 252, 0, 139,
+    11, 0, 26, 0, 0, 0, 1, 1, 2, 1, 6, 112, 97, 114, 116, 45, 55, 3, 102, 50, 48, 5, 109, 51, 46,
+    114, 115, 252, 250, 45, 238, 255,
 ];
 
 fn bytes_of(rt: &HostRuntime, pieces: &[&[u8]]) -> std::result::Result<Vec<u8>, Fail> {
@@ -83,22 +74,22 @@ fn frame(rt: &HostRuntime) -> std::result::Result<FrameData, Fail> {
     };
     let stream = Stream::from(Vec::from_slice(rt.alloc(), &PACKET[29..64])?);
     let _ = streams.insert(thread, StreamInfo::parse(rt.alloc(), stream)?)?;
-    Ok(FrameData::new(
-        rt.alloc(),
-        0,
-        streams,
-        Vec::new(rt.alloc()),
-        false,
-    )?)
+    Ok(FrameData::new(rt.alloc(), 0, streams, Vec::new(rt.alloc()), false)?)
 }
 
-fn details(rt: &HostRuntime, id: u32, name: &'static str) -> std::result::Result<ScopeDetails, Fail> {
+fn details(
+    rt: &HostRuntime,
+    id: u32,
+    name: &'static str,
+) -> std::result::Result<ScopeDetails, Fail> {
     let id = ScopeId::new(id).ok_or("not 0")?;
-    Ok(ScopeDetails::from_scope_name(CowStr::Borrowed(name))
-        .with_function_name(CowStr::Borrowed("a"))
-        .with_file(CowStr::Borrowed("b.rs"))
-        .with_line_nr(7)
-        .with_scope_id(id))
+    Ok(
+        ScopeDetails::from_scope_name(CowStr::Borrowed(name))
+            .with_function_name(CowStr::Borrowed("a"))
+            .with_file(CowStr::Borrowed("b.rs"))
+            .with_line_nr(7)
+            .with_scope_id(id),
+    )
 }
 
 #[test]
@@ -136,31 +127,46 @@ fn a_packet_is_read(rt: HostRuntime) -> Outcome {
     Ok(())
 }
 
+/// The function and the line of a frame's only details.
+fn only_details<'f>(frame: &'f FrameData) -> std::result::Result<(&'f str, u32), Fail> {
+    match frame.scope_delta.as_slice() {
+        [details] => Ok((details.function_name.as_str(), details.line_nr)),
+        _ => Err("one scope's details".into()),
+    }
+}
+
 #[test]
 fn packets_of_the_rust_crate_are_read_and_written_back(rt: HostRuntime) -> Outcome {
-    let mut source = Counted::new(RUST_PACKETS.as_slice());
-    let mut all = Vec::new(rt.alloc());
-    for (index, range, num_bytes, num_scopes, packed_size, line_nr) in [
-        (0, (374487, 375371), 31, 1, 54, 1239),
-        (1, (378236, 70000000000), 97, 3, 146, 4293799418),
-    ] {
-        let next = FrameData::read_next(rt.alloc(), &mut source);
-        let mut frame = next.ok().ok_or("no fault")?.ok_or("a frame")?;
-        assert_eq!(rt; frame.frame_index(), index);
-        assert_eq!(rt; frame.range_ns(), range);
-        assert_eq!(rt; frame.meta().num_bytes, num_bytes);
-        assert_eq!(rt; frame.meta().num_scopes, num_scopes);
-        assert_eq!(rt; frame.packed_size(), Some(packed_size));
-        assert_eq!(rt; frame.scope_delta.len(), 1);
-        assert_eq!(rt; frame.scope_delta[0].function_name.as_str(), "f20");
-        assert_eq!(rt; frame.scope_delta[0].line_nr, line_nr);
-        assert!(rt; frame.unpacked().is_ok());
-        let bytes = written(&rt, &frame, None)?;
-        all.extend_from_slice(&bytes)?;
-    }
-    assert_eq!(rt; all.as_slice(), RUST_PACKETS.as_slice());
-    let end = FrameData::read_next(rt.alloc(), &mut source);
-    assert!(rt; matches!(end, Ok(None)));
+    let mut first = read_one(&rt, &RUST_PACKETS)?;
+    assert_eq!(rt; first.frame_index(), 0);
+    assert_eq!(rt; first.range_ns(), (374487, 375371));
+    assert_eq!(rt; first.meta().num_bytes, 31);
+    assert_eq!(rt; first.meta().num_scopes, 1);
+    assert_eq!(rt; first.packed_size(), Some(54));
+    assert_eq!(rt; only_details(&first)?, ("f20", 1239));
+    assert!(rt; first.unpacked().is_ok());
+    assert_eq!(rt;
+        written(&rt, &first, None)?.as_slice(),
+        &RUST_PACKETS[..108]
+    );
+    Ok(())
+}
+
+#[test]
+fn the_second_packet_of_the_rust_crate(rt: HostRuntime) -> Outcome {
+    let mut second = read_one(&rt, &RUST_PACKETS[108..])?;
+    assert_eq!(rt; second.frame_index(), 1);
+    assert_eq!(rt; second.range_ns(), (378236, 70000000000));
+    assert_eq!(rt; second.meta().num_bytes, 97);
+    assert_eq!(rt; second.meta().num_scopes, 3);
+    assert_eq!(rt; second.packed_size(), Some(146));
+    assert_eq!(rt; only_details(&second)?, ("f20", 4293799418));
+    let unpacked = second.unpacked().ok().ok_or("streams")?;
+    assert_eq!(rt; unpacked.thread_streams.len(), 2);
+    assert_eq!(rt;
+        written(&rt, &second, None)?.as_slice(),
+        &RUST_PACKETS[108..]
+    );
     Ok(())
 }
 
@@ -230,13 +236,10 @@ fn details_without_an_id(rt: HostRuntime) -> Outcome {
     let bytes = bytes_of(&rt, &[&PACKET[..70], &[6, 0, 0, 0, 1, 0, 0, 0, 0, 0]])?;
     assert_eq!(rt; bytes.len(), 80);
     let frame = read_one(&rt, &bytes)?;
-    assert_eq!(rt; frame.scope_delta.len(), 1);
-    assert_eq!(rt; frame.scope_delta[0].scope_id(), None);
+    let ids = frame.scope_delta.first().map(|details| details.scope_id());
+    assert_eq!(rt; ids, Some(None));
     assert_eq!(rt; written(&rt, &frame, None)?.as_slice(), bytes.as_slice());
-    let zero = bytes_of(
-        &rt,
-        &[&PACKET[..70], &[7, 0, 0, 0, 1, 1, 0, 0, 0, 0, 0]],
-    )?;
+    let zero = bytes_of(&rt, &[&PACKET[..70], &[7, 0, 0, 0, 1, 1, 0, 0, 0, 0, 0]])?;
     assert_eq!(rt; read(&rt, &zero).err(), Some(FileError::BadScopes));
     Ok(())
 }
@@ -275,17 +278,35 @@ fn a_list_of_one_detail(rt: HostRuntime) -> Outcome {
     let expected = bytes_of(&rt, &[&PACKET[..70], &[21, 0, 0, 0], &list])?;
     assert_eq!(rt; written(&rt, &frame, None)?.as_slice(), expected.as_slice());
     let read_back = read_one(&rt, &expected)?;
-    assert_eq!(rt; *read_back.scope_delta[0], details(&rt, 1, "my-scope")?);
+    assert_eq!(rt; only_name(&read_back)?, "my-scope");
+    assert_eq!(rt; only_details(&read_back)?, ("a", 7));
+    Ok(())
+}
+
+fn only_name<'f>(frame: &'f FrameData) -> std::result::Result<&'f str, Fail> {
+    match frame.scope_delta.as_slice() {
+        [details] => Ok(details.name().as_str()),
+        _ => Err("one scope's details".into()),
+    }
+}
+
+#[test]
+fn details_of_a_collection_are_written(rt: HostRuntime) -> Outcome {
+    let frame = frame(&rt)?;
     // A collection's details stand in place of the frame's, by rising id.
     let mut scopes = ScopeCollection::new(rt.alloc());
     let _ = scopes.insert(Arc::new(rt.alloc(), details(&rt, 300, "x")?)?)?;
     let _ = scopes.insert(Arc::new(rt.alloc(), details(&rt, 2, "y")?)?)?;
     let bytes = written(&rt, &frame, Some(&scopes))?;
     let read_back = read_one(&rt, &bytes)?;
-    assert_eq!(rt; read_back.scope_delta.len(), 2);
-    assert_eq!(rt; *read_back.scope_delta[0], details(&rt, 2, "y")?);
-    assert_eq!(rt; *read_back.scope_delta[1], details(&rt, 300, "x")?);
-    Ok(())
+    match read_back.scope_delta.as_slice() {
+        [first, second] => {
+            assert_eq!(rt; first.name().as_str(), "y");
+            assert_eq!(rt; second.name().as_str(), "x");
+            Ok(())
+        }
+        _ => Err("details of two scopes".into()),
+    }
 }
 
 #[test]

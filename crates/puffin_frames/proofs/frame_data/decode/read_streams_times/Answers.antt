@@ -18,7 +18,7 @@ streams-preserved c =
     let sorted : is_sorted info_cmp (listed es ++ (info_of k, recorded (arc_value a)) ∷ []) ≡ true = c.comes_last.ensures.yes (recorded (arc_value a)) c.streams.invariant.sorted c.if-not-comes_last.false in
     let pushed = ap listed (c.in_ok-_before.ensures.entries ∙ insert-last es k a (recorded (arc_value a)) [] sorted) ∙ listed-push es k a in
     let whole : listed c.insert.new.self.entries ≡ listed es ++ (info_of k, recorded c.in_ok-thread.info) ∷ [] =
-        pushed ∙ ap (λ (r : Recorded). listed es ++ (info_of k, r) ∷ []) (ap recorded c.in_ok-new.ensures.ok) in
+    pushed ∙ ap (λ (r : Recorded). listed es ++ (info_of k, r) ∷ []) (ap recorded c.in_ok-new.ensures.ok) in
     record {
       so_far = rw whole (one_more stream_at (listed es) c.args.count c.streams.counter c.streams.cursor (info_of k, recorded c.in_ok-thread.info) c.read_stream.new.cursor (times_at stream_at c.args.count c.args.cursor.now) c.streams-test.true c.in_ok-thread.ensures c.streams.invariant.so_far);
       sorted = rw pushed sorted;

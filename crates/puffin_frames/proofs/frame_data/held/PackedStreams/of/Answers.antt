@@ -20,5 +20,5 @@ returns-clause-content c =
     let es = c.args.streams.now.entries in
     let put = rw c.new-bytes.ensures.items at c.in_ok-put_streams.ensures.ok in
     let read : whole streams_at c.put_streams.new.out.items ≡ Some (listed es) =
-        ap (whole streams_at) put ∙ whole_again AreStreams streams_layout streams_at streams_reader (listed es) c.in_ok-put_streams.ensures.fit in
+    ap (whole streams_at) put ∙ whole_again AreStreams streams_layout streams_at streams_reader (listed es) c.in_ok-put_streams.ensures.fit in
     ap (option_map from_sorted) read ∙ ap Some (streams-listed es c.in_ok-put_streams.ensures.fit.1)
