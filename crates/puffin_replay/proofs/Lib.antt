@@ -1,4 +1,6 @@
 pub mod Writing
+pub mod Statements
+pub mod Scripts
 pub mod Laws
 pub mod Histories
 pub mod Collecting
