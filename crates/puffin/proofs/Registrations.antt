@@ -1,6 +1,5 @@
 -- Scopes of the caller's own, one after the other.
-use Rattle.std.proofs.Common.{◌≡◌, ℕ, ◌+◌, ◌<◌, ◌⊎◌, inl, inr, List, [], ◌∷◌, ◌++◌, take, drop, get_or, length, map, Result, Ok, Err, Some, None, refl, sym, ap, ◌∙◌, subst, append-nil, append_assoc, arith}
-use Rattle.std.specs.List.{fold}
+use Rattle.std.proofs.Common.{◌≡◌, ℕ, ◌+◌, ◌<◌, ◌⊎◌, inl, inr, List, [], ◌∷◌, ◌++◌, take, drop, get_or, length, Some, None, refl, sym, ap, ◌∙◌, subst, append-nil, append_assoc}
 use Rattle.std.proofs.lemmas.List.{map-append, take-append-drop, take_more}
 use Rattle.puffin_data.specs.declared.error.Error.{Error}
 use Rattle.puffin_data.specs.declared.error.Error.TheVariants.{IdsExhausted, Memory}
@@ -8,7 +7,7 @@ use Rattle.puffin_frames.specs.declared.scope_details.details.ScopeDetails.{Scop
 use Rattle.puffin_frames.specs.Details.{Details, details_of, details_seen, with_id}
 use Rattle.puffin_frames.specs.Collection.{Collection, inserted, inserted_all}
 use Rattle.puffin.specs.Collected.{Collected, after_adding}
-use Rattle.puffin.specs.Registering.{known_id, Registers, none_asked, known_name, new_name, Adds, AddsSome}
+use Rattle.puffin.specs.Registering.{known_id, none_asked, known_name, new_name, Adds, AddsSome}
 
 inserted_all-append : (c : Collection) (xs ys : List Details) → inserted_all c (xs ++ ys) ≡ inserted_all (inserted_all c xs) ys
 inserted_all-append c [] ys = refl

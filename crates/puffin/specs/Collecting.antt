@@ -7,7 +7,7 @@ use Rattle.puffin_data.specs.declared.error.Error.{Error}
 use Rattle.puffin_data.specs.declared.error.Error.TheVariants.{IndexExhausted, Memory}
 use Rattle.puffin_data.specs.Honesty.{Recorded}
 use Rattle.puffin_frames.specs.Info.{Info}
-use Rattle.puffin_frames.specs.Details.{Details, shared_details, AllHaveIds}
+use Rattle.puffin_frames.specs.Details.{Details, shared_details}
 use Rattle.puffin_frames.specs.declared.frame_data.frame.FrameData.{FrameData}
 use Rattle.puffin_frames.specs.declared.frame_data.meta.FrameMeta.{FrameMeta}
 use Rattle.puffin_frames.specs.Contents.{Streams, AreHonest, frame_contents, frame_meta}

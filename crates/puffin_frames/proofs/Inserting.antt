@@ -3,7 +3,7 @@ use Rattle.std.proofs.Common.{◌≡◌, ℕ, Bool, true, false, cond, List, Opt
 use Rattle.std.specs.Ordering.{nat_cmp, eq_by_cmp}
 use Rattle.std.specs.Cmp.{nat_cmp_total, Equal-is, eq_by_cmp_equiv}
 use Rattle.std.specs.Cmp.Lexicographic.{nat_list_cmp_total}
-use Rattle.std.specs.Map.{lookup}
+use Rattle.std.specs.Map.{lookup, set_value}
 use Rattle.std.specs.BTreeMap.{BTreeMap, insert_entry, is_at}
 use Rattle.std.specs.BTreeMap as tree
 use Rattle.std.specs.FinMap.{FinMap, get, insert, get-insert, get-empty, same_map, nat_cmp-IsAntisymmetric, slice_cmp-IsAntisymmetric}
@@ -12,7 +12,7 @@ use Rattle.std.specs.declared.sync.Arc.{Arc}
 use Rattle.puffin_frames.specs.declared.scope_details.details.ScopeDetails.{ScopeDetails}
 use Rattle.puffin_frames.specs.Details.{Details, details_of, name_of}
 use Rattle.puffin_frames.specs.Collection.{Collection, bytes_cmp, inserted, inserted_at, kept_for, kept_or, no_details, KeepsOwnIds, by_ids, by_names}
-use Rattle.puffin_frames.proofs.Seen.{get-seen, insert-seen}
+use Rattle.puffin_frames.proofs.Seen.{get-seen, insert-seen, write-seen}
 use Rattle.std.proofs.lemmas.Option.{same_Some, none-some}
 
 module _ {A : Type 0} where
@@ -31,6 +31,9 @@ module _ {A : Type 0} where
 
   pub by_names-insert : (es : List (String A × ℕ)) (k : String A) (n : ℕ) → by_names (insert_entry (λ a b. bytes_cmp (string_bytes a) (string_bytes b)) es k n) ≡ insert (by_names es) (string_bytes k) n
   by_names-insert es k n = insert-seen (λ k. string_bytes k) (λ n. n) bytes_cmp nat_list_cmp_total (slice_cmp-IsAntisymmetric nat_cmp-IsAntisymmetric) es k n
+
+  pub by_names-write : (es : List (String A × ℕ)) (name : List ℕ) (old n : ℕ) → lookup (is_at (λ k. bytes_cmp name (string_bytes k))) es ≡ Some old → by_names (set_value (is_at (λ k. bytes_cmp name (string_bytes k))) es n) ≡ insert (by_names es) name n
+  by_names-write es name old n found = write-seen (λ k. string_bytes k) (λ n. n) bytes_cmp nat_list_cmp_total (slice_cmp-IsAntisymmetric nat_cmp-IsAntisymmetric) es name old n found
 
   -- an id that is taken out again, where there was none
   undone_test : (b : Bool) (q k : ℕ) (d : Arc ScopeDetails A) (o : Option (Arc ScopeDetails A)) → (b ≡ true → o ≡ None) → cond b None (cond b (Some d) o) ≡ o

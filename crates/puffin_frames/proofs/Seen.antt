@@ -1,11 +1,13 @@
 -- The entries of a map whose keys are read by f and whose values are read by g.
-use Rattle.std.proofs.Common.{◌≡◌, length, arith, Bool, true, false, cond, List, [], ◌∷◌, map, Some, refl, sym, ap, ◌∙◌}
+use Rattle.std.proofs.Common.{◌≡◌, length, arith, Bool, true, false, true≢false, cond, Option, List, [], ◌∷◌, map, Some, refl, sym, ap, ◌∙◌}
 use Rattle.std.specs.declared.cmp.Ordering.{Ordering}
 use Rattle.std.specs.declared.cmp.Ordering.TheVariants.{Less, Equal, Greater}
 use Rattle.std.specs.Ordering.{eq_by_cmp, is_eq, match_ordering}
-use Rattle.std.specs.Cmp.{IsTotalOrder}
+use Rattle.std.specs.Cmp.{IsTotalOrder, Equal-is}
+use Rattle.std.proofs.lemmas.Cmp.{tied_itself}
+use Rattle.std.proofs.lemmas.Option.{none-some}
 use Rattle.std.specs.Option.{option_map}
-use Rattle.std.specs.Map.{keys_of, lookup}
+use Rattle.std.specs.Map.{keys_of, lookup, set_value}
 use Rattle.std.specs.List.{AllByRecursion, AllZip}
 use Rattle.std.specs.List.Sorted.{IsStrictlySortedBy}
 use Rattle.std.specs.BTreeMap.{insert_entry, is_at}
@@ -71,3 +73,42 @@ module _ {K L X Y : Type 0} (f : K → L) (g : X → Y) where
       entries-seen [] sorted = entries-empty R
       entries-seen (e ∷ es) sorted =
           entries-insert total (from_entries (seen es)) (f e.0) (g e.1) ∙ ap (put R (f e.0) (g e.1)) (entries-seen es (sorted_tail (λ a b. R (f a) (f b)) e.0 _ sorted)) ∙ put_first e.0 e.1 es (sorted_head (λ a b. R (f a) (f b)) e.0 _ sorted)
+
+      -- a write over a value that is there is an insertion into the map that is seen
+      twice : (b : Bool) (x y : Y) (o : Option Y) → cond b (Some x) o ≡ cond b (Some x) (cond b (Some y) o)
+      twice true x y o = refl
+      twice false x y o = refl
+
+      apart : (b c : Bool) (x y : Y) (o : Option Y) → (b ≡ true → c ≡ true → ⊥) → cond c (Some y) (cond b (Some x) o) ≡ cond b (Some x) (cond c (Some y) o)
+      apart true true x y o never = absurd (never refl refl)
+      apart true false x y o never = refl
+      apart false c x y o never = refl
+
+      tied_to : IsAntisymmetric R → (a b : L) → is_eq (R a b) ≡ true → a ≡ b
+      tied_to one a b e = one a b ((Equal-is (R a b)).0 e)
+
+      both_tied : IsAntisymmetric R → (q n k : L) → is_eq (R n k) ≡ false → is_eq (R q n) ≡ true → is_eq (R q k) ≡ true → ⊥
+      both_tied one q n k differ to_n to_k = true≢false (sym (ap is_eq (tied_itself total n)) ∙ ap (λ x. is_eq (R n x)) (sym (tied_to one q n to_n) ∙ tied_to one q k to_k) ∙ differ)
+
+      find-write : IsAntisymmetric R → (es : List (K × X)) (n : L) (old w : X) → lookup (is_at (λ k. R n (f k))) es ≡ Some old → (q : L)
+          → find R q (seen (set_value (is_at (λ k. R n (f k))) es w)) ≡ cond (is_eq (R q n)) (Some (g w)) (find R q (seen es))
+      find-write one [] n old w found q = absurd (none-some old found)
+      find-write one (e ∷ es) n old w found q = at_test (is_eq (R n (f e.0))) refl found (λ there. find-write one es n old w there q)
+        where
+          at_test : (b : Bool) → is_eq (R n (f e.0)) ≡ b → cond b (Some e.1) (lookup (is_at (λ k. R n (f k))) es) ≡ Some old
+              → (lookup (is_at (λ k. R n (f k))) es ≡ Some old → find R q (seen (set_value (is_at (λ k. R n (f k))) es w)) ≡ cond (is_eq (R q n)) (Some (g w)) (find R q (seen es)))
+              → find R q (seen (cond b ((e.0, w) ∷ es) (e ∷ set_value (is_at (λ k. R n (f k))) es w))) ≡ cond (is_eq (R q n)) (Some (g w)) (find R q (seen (e ∷ es)))
+          at_test true is there later =
+              let same = tied_to one n (f e.0) is in
+              ap (λ x. cond (is_eq (R q x)) (Some (g w)) (find R q (seen es))) (sym same)
+              ∙ twice (is_eq (R q n)) (g w) (g e.1) (find R q (seen es))
+              ∙ ap (λ x. cond (is_eq (R q n)) (Some (g w)) (cond (is_eq (R q x)) (Some (g e.1)) (find R q (seen es)))) same
+          at_test false is there later =
+              ap (cond (is_eq (R q (f e.0))) (Some (g e.1))) (later there)
+              ∙ apart (is_eq (R q n)) (is_eq (R q (f e.0))) (g w) (g e.1) (find R q (seen es)) (both_tied one q n (f e.0) is)
+
+      pub write-seen : IsAntisymmetric R → (es : List (K × X)) (n : L) (old w : X) → lookup (is_at (λ k. R n (f k))) es ≡ Some old → from_entries {R = R} (seen (set_value (is_at (λ k. R n (f k))) es w)) ≡ insert (from_entries (seen es)) n (g w)
+      write-seen one es n old w found =
+          same_map total one (from_entries (seen (set_value (is_at (λ k. R n (f k))) es w))) (insert (from_entries (seen es)) n (g w))
+          (λ q. get-from_entries total (seen (set_value (is_at (λ k. R n (f k))) es w)) q ∙ find-write one es n old w found q
+          ∙ sym (get-insert total (from_entries (seen es)) n (g w) q ∙ ap (cond (eq_by_cmp R q n) (Some (g w))) (get-from_entries total (seen es) q)))

@@ -3,6 +3,7 @@ pub mod Statements
 pub mod Scripts
 pub mod Laws
 pub mod Histories
+pub mod Telling
 pub mod Collecting
 pub mod Standing
 pub mod Running

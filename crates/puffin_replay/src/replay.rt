@@ -2,6 +2,8 @@
 
 mod command;
 mod count;
+#[cfg(test)]
+mod details_tests;
 mod fault;
 mod profiled;
 mod reply_line;

@@ -1,4 +1,4 @@
-ghost use Rattle.std.specs.Prelude.{◌≡◌, ◌↔◌, ◌⊎◌, Some, None, IfOk, IfErr, OnOk, OnErr, option_map, option_copied, is_some, IsTrue};
+ghost use Rattle.std.specs.Prelude.{◌≡◌, ◌↔◌, ◌⊎◌, Some, None, IfOk, IfErr, OnOk, OnErr, option_map, option_copied};
 ghost use Rattle.std.specs.Arc.{arc_value};
 ghost use Rattle.std.specs.FinMap as map;
 ghost use Rattle.puffin_data.specs.declared.error.Error.{Error};
@@ -28,11 +28,32 @@ impl Model for ScopeCollection {
 
     ghost coded = { collection_code };
 
-    ghost use Rattle.puffin_frames.specs.Collections.{collection_in, IsCollection};
+    ghost use Rattle.puffin_frames.specs.HeldCollection.{collection_in, IsCollection};
 
     ghost view = { collection_in };
 
     ghost invariant = { IsCollection };
+}
+
+/// Puts an id under a name. Only a name that isn't there takes memory.
+///
+/// Refused only with `Memory`, and nothing is changed then.
+fn put_name(
+    alloc: Global,
+    by_name: &mut BTreeMap<String, ScopeId>,
+    name: &str,
+    id: ScopeId,
+) -> Result<()>
+    ensures ok { OnOk result (by_names by_name.new.entries ≡ map.insert (by_names by_name.old.entries) name.now id) }
+    ensures err { OnErr result (by_names by_name.new.entries ≡ by_names by_name.old.entries) }
+    ensures memory { IfErr result (λ e. e ≡ Error.Memory) }
+{
+    if let Some(kept) = by_name.get_mut(name) {
+        *kept = id;
+        return Ok(());
+    }
+    let _none = by_name.insert(String::from_str(alloc, name)?, id)?;
+    Ok(())
 }
 
 impl ScopeCollection {
@@ -74,17 +95,16 @@ impl ScopeCollection {
         let Some(id) = details.scope_id() else {
             return Err(Error::MissingId);
         };
-        let name = String::from_str(self.alloc, details.name().as_str())?;
         if let Some(kept) = self.by_id.get(&id) {
             let kept = Arc::try_clone(kept)?;
-            let _before = self.by_name.insert(name, id)?;
+            put_name(self.alloc, &mut self.by_name, details.name().as_str(), id)?;
             return Ok(kept);
         }
         let kept = Arc::try_clone(&details)?;
-        let _before = self.by_id.insert(id, details)?;
-        if self.by_name.insert(name, id).is_err() {
+        let _none = self.by_id.insert(id, details)?;
+        if let Err(e) = put_name(self.alloc, &mut self.by_name, kept.name().as_str(), id) {
             let _undone = self.by_id.remove(&id);
-            return Err(Error::Memory);
+            return Err(e);
         }
         Ok(kept)
     }

@@ -1,5 +1,5 @@
 -- What is to be told of is what the collection has under its ids.
-use Rattle.std.proofs.Common.{◌≡◌, ◌++◌, List, ◌∙◌, ap, sym}
+use Rattle.std.proofs.Common.{◌++◌, List, ◌∙◌, ap, sym}
 use Rattle.std.specs.FinMap.{values}
 use Rattle.puffin_frames.specs.Details.{Details, shared_details}
 use Rattle.puffin.proofs.Knowing.{values-by_ids}

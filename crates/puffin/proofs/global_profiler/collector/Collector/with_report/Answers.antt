@@ -2,7 +2,6 @@
 use Rattle.std.proofs.Common.{◌≡◌, ◌+◌, ◌^◌, ◌<◌, arith, refl, sym, subst, inl, inr}
 use Rattle.std.specs.FinMap as map
 use Rattle.puffin_data.specs.Honesty.{recorded_ref}
-use Rattle.puffin_frames.specs.Details.{details_seen}
 use Rattle.puffin_frames.specs.Measures.{meta_of}
 use Rattle.puffin.specs.Collected.{Collected, SumsFit}
 use Rattle.puffin.proofs.Knowing.{all_ids, not_all_ids}
