@@ -1,6 +1,6 @@
 -- How a script is read: its lines, the numbers of its threads, its commands.
-use Rattle.std.proofs.Common.{◌≡◌, ◌≢◌, ◌==◌, ℕ, ◌+◌, ◌-◌, ◌<◌, ◌≤◌, List, [], ◌∷◌, ◌++◌, length, map, take, drop, append_assoc, zero, suc, if◌then◌else◌, Bool, true, false, cond, not, Option, Some, None, option_map, Result, Ok, Err, refl, ap, sym, subst, ◌∙◌, arith, length-drop, slice_get, position, MatchOption, Bor}
-use Rattle.std.specs.List.{slice_split, position_or_len, list_any}
+use Rattle.std.proofs.Common.{◌≡◌, ◌==◌, ℕ, ◌+◌, ◌-◌, ◌<◌, ◌≤◌, List, [], ◌∷◌, ◌++◌, length, map, take, drop, append_assoc, zero, suc, if◌then◌else◌, Bool, true, false, cond, not, Option, Some, None, option_map, Result, Ok, Err, refl, ap, sym, subst, ◌∙◌, arith, length-drop, slice_get, position, MatchOption}
+use Rattle.std.specs.List.{position_or_len, list_any}
 use Rattle.std.proofs.lemmas.List.{take_all, map-append}
 use Rattle.std.proofs.lemmas.List.Splits.{slice_split_first, length-slice_split}
 use Rattle.std.proofs.lemmas.List.Sums.{prefix_len-le-length, count_by-le-length}
@@ -12,7 +12,7 @@ use Rattle.std.specs.declared.string.String.{String}
 use Rattle.std.proofs.lemmas.Bool.{false_from_ne_true}
 use Rattle.std.proofs.lemmas.Bool.Decides.{nat_tests}
 use Rattle.puffin_replay.specs.Statements.{Said, said, said_by, words_in}
-use Rattle.puffin_replay.specs.Scripts.{is_line_feed, lines_in, is_skipped, known, told_by, with_first, onto, statements_from, with_name, with_if_named, with_thread, thread_in, threads_after, command_said}
+use Rattle.puffin_replay.specs.Scripts.{is_line_feed, lines_in, is_skipped, known, told_by, onto, statements_from, with_name, with_if_named, with_thread, thread_in, threads_after, command_said}
 use Rattle.std.proofs.lemmas.List.Folds.{list_any-append}
 use Rattle.std.proofs.lemmas.Slice.Eq.{bytes_eq-Decides}
 use Rattle.std.specs.Str.{bytes_eq}
@@ -106,7 +106,7 @@ pub numbered_more : (names named : List (List ℕ)) (name q : List ℕ) (number 
 numbered_more names named name q number old new more next before now =
     let same : new ≡ cond (bytes_eq name q) (Some (length names)) old = now ∙ ap (λ (n : ℕ). cond (bytes_eq name q) (Some n) old) next in
     subst (λ (ns : List (List ℕ)). Places ns q new) (sym more)
-      (subst (Places (names ++ name ∷ []) q) (sym same) (numbered_at (bytes_eq name q) names name q old refl before))
+    (subst (Places (names ++ name ∷ []) q) (sym same) (numbered_at (bytes_eq name q) names name q old refl before))
 
 pub named_more : {A : Type 0} (names names' : List (String A)) (name : String A) (bytes : List ℕ) → names' ≡ names ++ name ∷ [] → string_bytes name ≡ bytes → map string_bytes names' ≡ map string_bytes names ++ bytes ∷ []
 named_more names names' name bytes more same = rw (more, map-append, same) refl

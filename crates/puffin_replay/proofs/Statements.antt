@@ -1,15 +1,14 @@
 -- The words and the numbers of a line.
-use Rattle.std.proofs.Common.{◌≡◌, ◌≢◌, ◌==◌, ℕ, ◌^◌, ◌+◌, ◌<◌, ◌≤◌, List, [], ◌∷◌, length, get_or, Bool, true, false, Option, Some, None, Result, Ok, Err, refl, ap, sym, arith, if◌then◌else◌, cond, not}
+use Rattle.std.proofs.Common.{◌≡◌, ◌≢◌, ◌==◌, ℕ, ◌^◌, ◌+◌, ◌<◌, ◌≤◌, List, [], ◌∷◌, length, get_or, Bool, true, false, Some, None, Result, Ok, Err, refl, ap, arith, if◌then◌else◌, cond, not}
 use Rattle.std.specs.Option.{option_and_then}
 use Rattle.std.specs.Result.{result_ok}
 use Rattle.std.specs.List.{slice_split, onto_first, position_or_len, before_first, after_first}
-use Rattle.std.specs.Char.{is_ascii_digit}
 use Rattle.std.specs.Str.{all_ascii_digits}
 use Rattle.std.proofs.lemmas.List.Splits.{slice_split_first}
 use Rattle.std.specs.Str.Parse.{ParsesUnsigned, digits_value}
 use Rattle.std.proofs.lemmas.Str.Parse.{IsNumeralModel, numerals_by_value, tells_all_ascii_digits, parse_plain}
 use Rattle.std.proofs.lemmas.Bool.Decides.{nat_tests}
-use Rattle.puffin_replay.specs.Statements.{number_of, number_in, if_below, is_blank, words_in}
+use Rattle.puffin_replay.specs.Statements.{number_of, if_below, is_blank, words_in}
 
 -- ---- words
 
@@ -57,10 +56,3 @@ number_read {E} k (b ∷ bs) (Err e) h plain = number_refused (all_ascii_digits 
 
 pub is_not_plus : (byte : ℕ) → false ≡ (byte == 43) → byte ≢ 43
 is_not_plus byte h = grind (arith, nat_tests)
-
--- a word with a plus in front is no number
-pub plus_refused : (limit : ℕ) (word : List ℕ) → get_or word 0 0 ≡ 43 → number_of limit word ≡ None
-plus_refused limit [] h = refl
-plus_refused limit (b ∷ bs) h =
-    let other : is_ascii_digit b ≡ false = grind (arith, nat_tests) in
-    rw other refl

@@ -47,7 +47,12 @@ fn taken_line(alloc: Global, frame: &FrameData) -> Result<String, AllocError>
 {
     let meta = frame.meta();
     let duration = duration_text(alloc, meta.num_bytes, frame.duration_ns())?;
-    let mut line = frame_text(alloc, meta.frame_index, thread_count(frame), meta.num_scopes)?;
+    let mut line = frame_text(
+        alloc,
+        meta.frame_index,
+        thread_count(frame),
+        meta.num_scopes,
+    )?;
     line.push_str(duration.as_str())?;
     Ok(line)
 }

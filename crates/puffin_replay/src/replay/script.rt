@@ -1,16 +1,16 @@
 //! Reading a script.
 
-ghost use Rattle.std.specs.Prelude.{◌≡◌, ◌+◌, ◌-◌, ◌^◌, ◌<◌, ◌⊎◌, List, ℕ, [], ◌∷◌, ◌++◌, Ok, Some, option_map, length, map, position, MatchOption, MatchResult, IfOk, IfErr, IfSome, OnOk, slice_get};
+ghost use Rattle.std.specs.Prelude.{◌≡◌, ◌+◌, ◌-◌, ◌^◌, ◌<◌, ◌⊎◌, List, ℕ, [], ◌∷◌, ◌++◌, Ok, Some, option_map, length, map, position, MatchOption, MatchResult, IfOk, IfErr, OnOk, slice_get};
 ghost use Rattle.std.specs.String.{string_bytes};
 ghost use Rattle.puffin_replay.specs.Counted.{ReadsAll};
 ghost use Rattle.puffin_replay.specs.Statements.{Said, said};
-ghost use Rattle.puffin_replay.specs.Scripts.{is_line_feed, is_skipped, lines_in, lines_left, told_by, statements_from, names_in, with_name, with_thread, IsNumbered, IsReading, command_said, IsScript, IsLineFault};
+ghost use Rattle.puffin_replay.specs.Scripts.{is_line_feed, is_skipped, lines_left, told_by, names_in, with_name, with_thread, IsNumbered, IsReading, command_said, IsScript, IsLineFault};
 
 use crate::replay::command::Command;
 use crate::replay::fault::ToolFault;
 use crate::replay::statement::{Statement, read_statement};
-use puffin_data::data::{Source, read_to_end};
 use puffin_data::FileError;
+use puffin_data::data::{Source, read_to_end};
 use std::alloc::{AllocError, Global};
 use std::collections::BTreeMap;
 
@@ -234,9 +234,9 @@ fn script_of(alloc: Global, bytes: &[u8]) -> Result<Script, ToolFault>
     Ok(reading.into_script())
 }
 
-/// Reads a script to its end. Refused with the number of the first line that isn't UTF-8 or isn't a command, unless it is
-/// empty or begins with `#`; else with `Io` where the reader failed, or with `Memory`. The reader's place is open after a
-/// refusal of the last two kinds.
+/// Reads a script to its end: a command in each line, but for those that are empty or begin with `#`. Refused with the
+/// number of the first line that isn't UTF-8 or isn't a command; else with `Io` where the reader failed, or with `Memory`,
+/// and the reader's place is then open.
 pub fn read_script<S: Source>(alloc: Global, source: &mut S) -> Result<Script, ToolFault>
     requires { S.failures source.old < 2 ^ 64 - 1 }
     ensures script { IfOk result (λ script. (bytes : List ℕ) × ReadsAll (S.remaining source.old) (S.remaining source.new) bytes × IsScript bytes script) }

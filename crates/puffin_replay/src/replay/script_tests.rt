@@ -3,8 +3,8 @@ use crate::replay::fault::ToolFault;
 use crate::replay::reply_line::reply_line;
 use crate::replay::script::{Script, read_script};
 use crate::replay::session::Session;
-use puffin_data::{Error, FileError};
 use puffin_data::data::{Counted, Source};
+use puffin_data::{Error, FileError};
 use puffin_frames::thread_profiler::Closed;
 use std::io;
 use std::test::Fail;
@@ -22,20 +22,16 @@ fn fault(rt: &HostRuntime, bytes: &[u8]) -> Option<ToolFault> {
 }
 
 /// Whether a command begins such a scope.
-fn is_begin(
-    command: Option<&Command>,
-    number: usize,
-    time: i64,
-    scope: u32,
-    what: &str,
-) -> bool {
+fn is_begin(command: Option<&Command>, number: usize, time: i64, scope: u32, what: &str) -> bool {
     match command {
-        Some(Command::Begin {
-            thread,
-            at,
-            id,
-            text,
-        }) => *thread == number && *at == time && id.get() == scope && text.as_str() == what,
+        Some(
+            Command::Begin {
+                thread,
+                at,
+                id,
+                text,
+            },
+        ) => *thread == number && *at == time && id.get() == scope && text.as_str() == what,
         _ => false,
     }
 }
@@ -54,13 +50,15 @@ fn is_register(
     scope: Option<&str>,
     code: (&str, &str, u32),
 ) -> bool {
-    let Some(Command::Register {
-        thread,
-        name,
-        function,
-        file,
-        line,
-    }) = command
+    let Some(
+        Command::Register {
+            thread,
+            name,
+            function,
+            file,
+            line,
+        },
+    ) = command
     else {
         return false;
     };
@@ -88,7 +86,8 @@ fn is_user(command: Option<&Command>, scope: &str) -> bool {
 
 #[test]
 fn each_form_of_line_is_a_command(rt: HostRuntime) {
-    let text = "begin main 100 1\n# a note\n\nbegin main 0200 4294967295 a  text \nbegin main 9223372036854775807 007 \nend other 300\nfunction main load a.rs 0\nscope other part load a.rs 4294967295\nuser u\nsnapshot\nframe";
+    let text =
+        "begin main 100 1\n# a note\n\nbegin main 0200 4294967295 a  text \nbegin main 9223372036854775807 007 \nend other 300\nfunction main load a.rs 0\nscope other part load a.rs 4294967295\nuser u\nsnapshot\nframe";
     let Ok(script) = script(&rt, text.as_bytes()) else {
         panic!(rt; "the script is refused");
     };
@@ -99,11 +98,21 @@ fn each_form_of_line_is_a_command(rt: HostRuntime) {
     assert!(rt; is_begin(commands.get(2), 0, i64::MAX, 7, ""));
     assert!(rt; is_end(commands.get(3), 1, 300));
     assert!(rt; is_register(commands.get(4), 0, None, ("load", "a.rs", 0)));
-    assert!(rt; is_register(commands.get(5), 1, Some("part"), ("load", "a.rs", 4294967295)));
+    assert!(rt;
+        is_register(
+            commands.get(5),
+            1,
+            Some("part"),
+            ("load", "a.rs", 4294967295)
+        )
+    );
     assert!(rt; is_user(commands.get(6), "u"));
     assert!(rt; matches!(commands.get(7), Some(Command::Snapshot)));
     assert!(rt; matches!(commands.get(8), Some(Command::NewFrame)));
-    assert_eq!(rt; script.lines.as_slice(), [1, 4, 5, 6, 7, 8, 9, 10, 11].as_slice());
+    assert_eq!(rt;
+        script.lines.as_slice(),
+        [1, 4, 5, 6, 7, 8, 9, 10, 11].as_slice()
+    );
     assert_eq!(rt; script.names.len(), 2);
     assert!(rt; script.names.first().map(|name| name.as_str() == "main") == Some(true));
     assert!(rt; script.names.last().map(|name| name.as_str() == "other") == Some(true));
@@ -170,8 +179,14 @@ fn other_lines_are_refused(rt: HostRuntime) {
 
 #[test]
 fn all_lines_are_counted(rt: HostRuntime) {
-    assert_eq!(rt; fault(&rt, b"#\n\nbegin main 5 0\n"), Some(ToolFault::Line(3)));
-    assert_eq!(rt; fault(&rt, b"frame\n\n# two\nframe\nframe \nframe  "), Some(ToolFault::Line(5)));
+    assert_eq!(rt;
+        fault(&rt, b"#\n\nbegin main 5 0\n"),
+        Some(ToolFault::Line(3))
+    );
+    assert_eq!(rt;
+        fault(&rt, b"frame\n\n# two\nframe\nframe \nframe  "),
+        Some(ToolFault::Line(5))
+    );
 }
 
 #[test]
@@ -238,7 +253,10 @@ fn printed(rt: &HostRuntime, bytes: &[u8]) -> Outcome<String> {
 fn an_emitted_frame_is_told_in_a_line(rt: HostRuntime) -> Outcome<()> {
     let text = "begin main 100 1\nbegin main 200 2 x\nend main 300\nend main 400\nframe\n";
     let lines = printed(&rt, text.as_bytes())?;
-    assert_eq!(rt; lines.as_str(), "frame 0 threads 1 scopes 2 bytes 63 duration 300\n");
+    assert_eq!(rt;
+        lines.as_str(),
+        "frame 0 threads 1 scopes 2 bytes 63 duration 300\n"
+    );
     Ok(())
 }
 
@@ -250,10 +268,12 @@ fn a_refused_command_is_told_with_its_line(rt: HostRuntime) -> Outcome<()> {
 }
 
 /// Two threads, with frames between their scopes.
-const TWO_THREADS: &str = "# two threads\nbegin t0 348336 5\nend t0 348751\nbegin t1 348969 2 mesh\nbegin t0 349057 2 größe ✓ of a level\nend t1 349773\n\nend t0 350348\nend t1 350434\nbegin t0 351007 2 \nbegin t1 351007 3\nframe\nend t1 351850\nend t0 352293\nframe\nframe\nbegin t0 352690 5  40\nend t0 352690\nend t0 352691\nframe\n";
+const TWO_THREADS: &str =
+    "# two threads\nbegin t0 348336 5\nend t0 348751\nbegin t1 348969 2 mesh\nbegin t0 349057 2 größe ✓ of a level\nend t1 349773\n\nend t0 350348\nend t1 350434\nbegin t0 351007 2 \nbegin t1 351007 3\nframe\nend t1 351850\nend t0 352293\nframe\nframe\nbegin t0 352690 5  40\nend t0 352690\nend t0 352691\nframe\n";
 
 /// What is printed of them.
-const TWO_THREADS_LINES: &str = "refused 9 MismatchedEnd\nframe 0 threads 2 scopes 3 bytes 119 duration 2012\nframe 1 threads 2 scopes 2 bytes 62 duration 1286\nframe none\nrefused 19 MismatchedEnd\nframe 3 threads 1 scopes 1 bytes 34 duration 0\n";
+const TWO_THREADS_LINES: &str =
+    "refused 9 MismatchedEnd\nframe 0 threads 2 scopes 3 bytes 119 duration 2012\nframe 1 threads 2 scopes 2 bytes 62 duration 1286\nframe none\nrefused 19 MismatchedEnd\nframe 3 threads 1 scopes 1 bytes 34 duration 0\n";
 
 #[test]
 fn a_whole_script_is_told(rt: HostRuntime) -> Outcome<()> {

@@ -1,7 +1,7 @@
 //! What a line of a script says, with its words as they stand there.
 
 ghost use Rattle.std.specs.Prelude.{◌≡◌, ◌^◌, List, ℕ, [], ◌∷◌, Some, None, option_map, MatchOption};
-ghost use Rattle.puffin_replay.specs.Statements.{said, said_by, words_in, words_left, joined_words, number_of, time_of, id_of, line_of, name_of, begin_of, end_of, details_of, function_of, scope_of, user_of, tells_all, takes_frame};
+ghost use Rattle.puffin_replay.specs.Statements.{said, said_by, words_in, words_left, joined_words, number_of, time_of, id_of, line_of, name_of, begin_of, end_of, details_of, function_of, scope_of, user_of};
 
 use puffin_data::NanoSecond;
 use puffin_data::data::ScopeId;
@@ -17,7 +17,10 @@ pub(crate) enum Statement<'l> {
         text: &'l str,
     },
     /// The innermost open scope of a thread ends.
-    End { thread: &'l str, at: NanoSecond },
+    End {
+        thread: &'l str,
+        at: NanoSecond,
+    },
     /// A thread registers a scope's details: a function's without a name.
     Register {
         thread: &'l str,
@@ -27,7 +30,9 @@ pub(crate) enum Statement<'l> {
         line: u32,
     },
     /// A scope of another origin is registered.
-    RegisterUser { name: &'l str },
+    RegisterUser {
+        name: &'l str,
+    },
     /// The next frame tells of all scopes.
     Snapshot,
     /// A frame is taken.

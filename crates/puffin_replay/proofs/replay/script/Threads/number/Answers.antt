@@ -17,8 +17,7 @@ returns c = λ numbered.
     let unknown = absent names name _ c.in_default.ensures.value (numbered name) in
     let more = named_more _ _ _ name c.in_ok-push.ensures.items c.in_ok-from_str.ensures.ok in
     let size : vec_len c.args.self.now.names ≡ length c.args.self.now.names.items = search rules in
-    let next : c.len-number.result ≡ length names = c.len-number.ensures ∙ size ∙ sym (length-map _ _) in
-    (
+    let next : c.len-number.result ≡ length names = c.len-number.ensures ∙ size ∙ sym (length-map _ _) in (
       λ q. numbered_more names _ name q c.len-number.result _ _ more next (numbered q) (btree_map_updates_str name c.args.self.now.numbers c.insert.new.self _ c.in_ok-insert.ensures.updates q),
       more ∙ new_name names name unknown,
       place_of_new names _ name _ more next,
