@@ -205,8 +205,8 @@ impl Collector {
     }
 
     /// Hands out all that is pending in one frame, where there is a scope in it, and raises the index. The frame tells of the
-    /// new scopes in order, and then, where that is wanted, of all that were known; it is known of the new ones after it.
-    /// Without a frame the new scopes and that wish are kept.
+    /// new scopes in order, and then, where that was wanted, of all that were known before; from then on the new ones are
+    /// known. Without a frame the new scopes and that wish are kept.
     ///
     /// Refused with `IndexExhausted` where the index is the last one, else only with `Memory`; nothing is changed then, but
     /// after `Memory` a beginning of the new scopes may be known.
