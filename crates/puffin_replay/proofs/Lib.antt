@@ -1,4 +1,7 @@
 pub mod Writing
+pub mod Statements
+pub mod Scripts
+pub mod Counting
 pub mod Laws
 pub mod Histories
 pub mod Telling

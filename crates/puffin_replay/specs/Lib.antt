@@ -1,6 +1,8 @@
 pub mod Words
 pub mod Faults
 pub mod Lines
+pub mod Statements
+pub mod Scripts
 pub mod Counted
 pub mod History
 pub mod Handed
