@@ -9,7 +9,7 @@ use Rattle.puffin_data.specs.Measures.{scope_count, height, least_start, greates
 use Rattle.puffin_data.specs.Spelling.{spelling}
 use Rattle.puffin_frames.specs.declared.frame_data.meta.FrameMeta.{FrameMeta}
 use Rattle.puffin_frames.specs.declared.frame_data.frame.FrameData.{FrameData}
-use Rattle.puffin_frames.specs.Contents.{frame_contents, frame_meta}
+use Rattle.puffin_frames.specs.Contents.{Streams, holding_of, frame_meta}
 use Rattle.puffin_frames.specs.declared.thread_profiler.reporter.Closed.{Closed}
 use Rattle.puffin_frames.specs.declared.thread_profiler.reporter.Closed.TheVariants as closed
 use Rattle.puffin_replay.specs.declared.replay.command.Reply.{Reply}
@@ -99,8 +99,16 @@ ended_line number (closed.Kept cause) = Some (kept_line number cause)
 ended_line number closed.Inner = None
 ended_line number closed.Reported = None
 
+-- how many threads a frame has streams of, as it is held unpacked; a frame that was just taken is
+abbrev pub threads_held : Option Streams → ℕ
+threads_held None = 0
+threads_held (Some streams) = len streams
+
+abbrev pub thread_count : FrameData → ℕ
+thread_count frame = threads_held (holding_of frame).unpacked
+
 abbrev pub emitted_line : Option (Arc FrameData Global) → List ℕ
-emitted_line (Some frame) = taken_line (len (frame_contents (arc_value frame))) (frame_meta (arc_value frame))
+emitted_line (Some frame) = taken_line (thread_count (arc_value frame)) (frame_meta (arc_value frame))
 emitted_line None = codes "frame none\n"
 
 -- what is printed of a reply to the command in this line, if anything

@@ -38,6 +38,7 @@ impl FrameData {
     ) -> Result<FrameData>
         ensures delta { IfOk result (λ frame. (frame.scope_delta ≡ scope_delta) × (frame.full_delta ≡ full_delta)) }
         ensures contents { IfOk result (λ frame. holding_of frame ≡ record { packed = None; unpacked = Some (streams_of thread_streams.entries) }) }
+        ensures alone { IfOk result (λ frame. is_alone frame ≡ true) }
         ensures meta { IfOk result (λ frame. frame_meta frame ≡ meta_of frame_index (map.values (streams_of thread_streams.entries))) }
         ensures too_large { (result ≡ Err Error.TooLarge) ↔ ¬ TotalsFit (all_recorded thread_streams) }
         ensures empty { (result ≡ Err Error.Empty) ↔ (TotalsFit (all_recorded thread_streams) × ¬ IsOrdered (joined_range (all_recorded thread_streams))) }

@@ -1,10 +1,9 @@
 //! What is printed of a reply.
 
 ghost use Rattle.std.specs.Prelude.{◌≡◌, IfOk, Some, option_map};
-ghost use Rattle.std.specs.FinMap.{len};
 ghost use Rattle.std.specs.String.{string_bytes};
-ghost use Rattle.puffin_frames.specs.Contents.{frame_contents, frame_meta};
-ghost use Rattle.puffin_replay.specs.Lines.{frame_text, duration_text, taken_line, refused_line, kept_line, reply_line};
+ghost use Rattle.puffin_frames.specs.Contents.{frame_meta};
+ghost use Rattle.puffin_replay.specs.Lines.{frame_text, duration_text, thread_count, taken_line, refused_line, kept_line, reply_line};
 
 use crate::replay::command::Reply;
 use puffin_data::{Error, NanoSecond};
@@ -33,7 +32,7 @@ fn duration_text(alloc: Global, bytes: usize, duration: NanoSecond) -> Result<St
 
 /// How many threads a frame has streams of.
 fn thread_count(frame: &FrameData) -> usize
-    ensures { result ≡ len (frame_contents frame.now) }
+    ensures { result ≡ thread_count frame.now }
 {
     match frame.as_unpacked() {
         Some(unpacked) => unpacked.thread_streams.len(),
@@ -43,7 +42,7 @@ fn thread_count(frame: &FrameData) -> usize
 
 /// The line of a frame that was taken.
 fn taken_line(alloc: Global, frame: &FrameData) -> Result<String, AllocError>
-    ensures { IfOk result (λ line. string_bytes line ≡ taken_line (len (frame_contents frame.now)) (frame_meta frame.now)) }
+    ensures { IfOk result (λ line. string_bytes line ≡ taken_line (thread_count frame.now) (frame_meta frame.now)) }
 {
     let meta = frame.meta();
     let duration = duration_text(alloc, meta.num_bytes, frame.duration_ns())?;
