@@ -1,3 +1,13 @@
 pub mod Collected
 pub mod Collecting
 pub mod Profiled
+pub mod Ranking
+pub mod Frames
+pub mod Views
+pub mod Codes
+pub mod Kept
+pub mod Selection
+pub mod Stats
+pub mod FrameOf
+pub mod Ranks
+pub mod Held

@@ -1,0 +1,12 @@
+-- How many frames a view holds, and how many bytes they take.
+use Rattle.std.specs.Prelude.{ℕ, ◌-◌, ◌^◌, min, List, length}
+use Rattle.std.specs.List.{sum_by, count_by}
+use Rattle.puffin.specs.declared.profile_view.stats.FrameStats.{FrameStats}
+use Rattle.puffin.specs.Frames.{Frame, ram_of}
+
+-- a sum, cut where it doesn't fit usize
+abbrev pub cut : ℕ → ℕ
+cut n = min (2 ^ 64 - 1) n
+
+abbrev pub stats_of : List Frame → FrameStats
+stats_of fs = record { frames = cut (length fs); unpacked_frames = cut (count_by (λ f. f.is_unpacked) fs); bytes_of_ram_used = cut (sum_by ram_of fs) }

@@ -1,0 +1,9 @@
+//! The last frames and the slowest ones.
+
+mod held_frames;
+mod slow_rank;
+mod stats;
+mod stub;
+mod sums;
+
+pub use stats::FrameStats;
