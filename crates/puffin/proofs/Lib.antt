@@ -4,3 +4,6 @@ pub mod Orders
 pub mod Taking
 pub mod Keeping
 pub mod Holding
+pub mod Placing
+pub mod Storing
+pub mod Joining

@@ -11,3 +11,4 @@ pub mod Stats
 pub mod FrameOf
 pub mod Ranks
 pub mod Held
+pub mod Stored

@@ -1,5 +1,6 @@
 //! The last frames and the slowest ones.
 
+mod frame_store;
 mod held_frames;
 mod slow_rank;
 mod stats;

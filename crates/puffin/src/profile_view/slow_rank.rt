@@ -1,6 +1,8 @@
-ghost use Rattle.std.specs.Prelude.{◌≡◌};
+ghost use Rattle.std.specs.Prelude.{◌≡◌, ◌≤◌, length, insert};
+ghost use Rattle.std.specs.List.Sorted.{IsStrictlySortedBy};
 ghost use Rattle.puffin.specs.FrameOf.{frame_of};
-ghost use Rattle.puffin.specs.Ranks.{rank_of};
+ghost use Rattle.puffin.specs.Ranking.{place};
+ghost use Rattle.puffin.specs.Ranks.{rank_of, rank_cmp, is_before, rank_enters};
 
 use crate::profile_view::stub::FrameData;
 use puffin_data::NanoSecond;
@@ -21,6 +23,28 @@ impl SlowRank {
         SlowRank {
             duration_ns: Reverse(frame.duration_ns()),
             frame_index: frame.frame_index(),
+        }
+    }
+
+    /// Where it goes among others.
+    pub fn place_in(self, slow: &[SlowRank]) -> usize
+        requires { IsStrictlySortedBy rank_cmp slow.now }
+        ensures bound { result ≤ length slow.now }
+        ensures placed { insert slow.now result self ≡ place is_before self slow.now }
+    {
+        slow.partition_point(|other| *other <= self)
+    }
+
+    /// Whether it comes among the slowest: where there is room, or where it comes before the last of them.
+    pub fn enters(self, slow: &[SlowRank], max: usize) -> bool
+        ensures { result ≡ rank_enters max slow.now self }
+    {
+        if slow.len() < max {
+            return true;
+        }
+        match slow.last() {
+            Some(last) => self < *last,
+            None => false,
         }
     }
 }
