@@ -9,3 +9,7 @@ pub mod Honest
 pub mod Events
 pub mod Holding
 pub mod Recordings
+pub mod Seen
+pub mod Inserting
+pub mod Comparing
+pub mod Collected

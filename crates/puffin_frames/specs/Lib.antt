@@ -1,4 +1,8 @@
 pub mod Info
+pub mod Types
+pub mod Details
+pub mod Collection
+pub mod Collections
 pub mod Contents
 pub mod Measures
 pub mod Threads
