@@ -4,13 +4,15 @@ use Rattle.std.specs.declared.cmp.Ordering.{Ordering}
 use Rattle.std.specs.Ordering.{nat_cmp, int_cmp, is_lt, on, then_cmp, flip_args}
 use Rattle.std.specs.FinMap as map
 use Rattle.puffin_frames.specs.declared.frame_data.meta.FrameMeta.{FrameMeta}
+use Rattle.puffin_frames.specs.Details.{Details}
 use Rattle.puffin.specs.Ranking.{first_in_order}
 
--- what a frame says, however it is held
+-- what a frame says, however it is held: its meta, its streams as a packet has them, and its details
 pub record Contents : Type 0 where
   pub meta : FrameMeta
-  -- the bytes of its streams, as a packet has them
+  pub kind : ℕ
   pub streams : List ℕ
+  pub details : List Details
 
 -- a frame, and how it is held
 pub record Frame : Type 0 where

@@ -1,13 +1,17 @@
 ghost use Rattle.std.specs.Prelude.{◌≡◌, ◌-ℤ◌, IfOk, OnOk, OnErr};
+ghost use Rattle.puffin_frames.specs.Details.{shared_details};
 ghost use Rattle.puffin.specs.Frames.{packed, ram_of, index_of, duration_of};
 
 use puffin_data::{NanoSecond, Result};
 use puffin_frames::frame_data::{FrameIndex, FrameMeta};
+use puffin_frames::scope_details::ScopeDetails;
 use std::marker::Model;
+use std::sync::Arc;
 
 /// A stand-in.
 #[derive(Drop)]
 pub struct FrameData {
+    pub scope_delta: Vec<Arc<ScopeDetails>>,
     meta: FrameMeta,
     streams: Vec<u8>,
     is_unpacked: bool,
@@ -17,6 +21,7 @@ pub struct FrameData {
 impl Model for FrameData {
     ghost use Rattle.std.specs.Prelude.{◌-ℤ◌, FitsSigned};
     ghost use Rattle.std.specs.Int.{w64};
+    ghost use Rattle.puffin_frames.specs.Details.{shared_details};
     ghost use Rattle.puffin.specs.Frames.{Frame};
     ghost use Rattle.puffin.specs.Codes.{frame_code};
 
@@ -24,7 +29,7 @@ impl Model for FrameData {
 
     ghost coded = { frame_code };
 
-    ghost view = { λ f. record { contents = record { meta = f.meta; streams = f.streams.items }; is_unpacked = f.is_unpacked; is_packed = f.is_packed } };
+    ghost view = { λ f. record { contents = record { meta = f.meta; kind = 0; streams = f.streams.items; details = shared_details f.scope_delta.items }; is_unpacked = f.is_unpacked; is_packed = f.is_packed } };
 
     ghost invariant = { λ f. FitsSigned w64 (f.meta.range_ns.1 -ℤ f.meta.range_ns.0) };
 }
@@ -65,15 +70,32 @@ impl FrameData {
         unpacked.saturating_add(packed)
     }
 
+    pub fn details(&self) -> &[Arc<ScopeDetails>]
+        ensures { shared_details result.now ≡ self.now.contents.details }
+    {
+        &self.scope_delta
+    }
+
     pub fn packed_copy(&self) -> Result<FrameData>
         ensures { IfOk result (λ f. f ≡ packed self.now) }
     {
         let streams = self.streams.clone()?;
         Ok(FrameData {
+            scope_delta: copied(&self.scope_delta)?,
             meta: self.meta,
             streams,
             is_unpacked: false,
             is_packed: true,
         })
     }
+}
+
+fn copied(details: &Vec<Arc<ScopeDetails>>) -> Result<Vec<Arc<ScopeDetails>>>
+    ensures { IfOk result (λ copy. shared_details copy.items ≡ shared_details details.now.items) }
+{
+    let mut copy = Vec::new(*details.allocator());
+    for k in 0..details.len() {
+        copy.push(Arc::try_clone(&details[k])?)?;
+    }
+    Ok(copy)
 }
