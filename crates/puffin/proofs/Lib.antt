@@ -7,3 +7,5 @@ pub mod Holding
 pub mod Placing
 pub mod Storing
 pub mod Joining
+pub mod Knowing
+pub mod Registrations

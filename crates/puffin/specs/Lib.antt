@@ -1,4 +1,5 @@
 pub mod Collected
+pub mod Registering
 pub mod Collecting
 pub mod Profiled
 pub mod Ranking

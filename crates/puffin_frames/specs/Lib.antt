@@ -1,8 +1,8 @@
 pub mod Info
-pub mod Types
+pub mod ScopeTypes
 pub mod Details
 pub mod Collection
-pub mod Collections
+pub mod HeldCollection
 pub mod Contents
 pub mod Measures
 pub mod Threads

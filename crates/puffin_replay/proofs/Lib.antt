@@ -1,6 +1,7 @@
 pub mod Writing
 pub mod Laws
 pub mod Histories
+pub mod Telling
 pub mod Collecting
 pub mod Standing
 pub mod Running

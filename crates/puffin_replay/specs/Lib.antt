@@ -5,6 +5,7 @@ pub mod Counted
 pub mod History
 pub mod Handed
 pub mod Due
+pub mod Told
 pub mod Sessions
 pub mod Replies
 pub mod Serving

@@ -1,4 +1,4 @@
-ghost use Rattle.std.specs.Prelude.{◌≡◌, ◌↔◌, ◌⊎◌, Some, None, IfOk, IfErr, OnOk, OnErr, option_map, option_copied, is_some, IsTrue};
+ghost use Rattle.std.specs.Prelude.{◌≡◌, ◌↔◌, ◌⊎◌, Some, None, IfOk, IfErr, OnOk, OnErr, option_map, option_copied};
 ghost use Rattle.std.specs.Arc.{arc_value};
 ghost use Rattle.std.specs.FinMap as map;
 ghost use Rattle.puffin_data.specs.declared.error.Error.{Error};
@@ -28,7 +28,7 @@ impl Model for ScopeCollection {
 
     ghost coded = { collection_code };
 
-    ghost use Rattle.puffin_frames.specs.Collections.{collection_in, IsCollection};
+    ghost use Rattle.puffin_frames.specs.HeldCollection.{collection_in, IsCollection};
 
     ghost view = { collection_in };
 
