@@ -93,9 +93,9 @@ impl FrameData {
 fn copied(details: &Vec<Arc<ScopeDetails>>) -> Result<Vec<Arc<ScopeDetails>>>
     ensures { IfOk result (λ copy. shared_details copy.items ≡ shared_details details.now.items) }
 {
-    let mut copy = Vec::new(*details.allocator());
-    for k in 0..details.len() {
-        copy.push(Arc::try_clone(&details[k])?)?;
+    let mut copy = Vec::with_capacity(*details.allocator(), details.len())?;
+    for one in details {
+        copy.push(one.clone()?)?;
     }
     Ok(copy)
 }
