@@ -1,5 +1,5 @@
 -- A map of frames, seen by their indices, and the sums over it.
-use Rattle.std.proofs.Common.{◌≡◌, ℕ, suc, ◌+◌, ◌-◌, ◌*◌, ◌^◌, ◌<◌, ◌≤◌, Bool, true, false, cond, List, [], ◌∷◌, length, map, Option, Some, None, refl, sym, ap, ◌∙◌, arith, suc-mul, Bor}
+use Rattle.std.proofs.Common.{◌≡◌, subst, ℕ, suc, ◌+◌, ◌-◌, ◌*◌, ◌^◌, ◌<◌, ◌≤◌, Bool, true, false, cond, List, [], ◌∷◌, length, map, Option, Some, None, refl, sym, ap, ◌∙◌, arith, suc-mul, Bor}
 use Rattle.std.specs.Prelude.{unwrap_or, is_some}
 use Rattle.std.specs.declared.cmp.Ordering.TheVariants.{Less}
 use Rattle.std.specs.declared.sync.Arc.{Arc}
@@ -7,7 +7,7 @@ use Rattle.std.specs.Ordering.{nat_cmp, is_eq, eq_by_cmp}
 use Rattle.std.specs.Cmp.{nat_cmp_total}
 use Rattle.std.specs.Option.{option_map}
 use Rattle.std.specs.Map.{keys_of, values_of, lookup, remove_entry}
-use Rattle.std.specs.List.{AllByRecursion, sum_by}
+use Rattle.std.specs.List.{AllByRecursion, AllZip, sum_by}
 use Rattle.std.specs.List.Sorted.{IsStrictlySortedBy}
 use Rattle.std.specs.BTreeMap.{insert_entry, is_at}
 use Rattle.std.specs.FinMap as fin
@@ -17,7 +17,8 @@ use Rattle.std.proofs.lemmas.Map.Entries.{length-values_of, sum_by-insert_entry,
 use Rattle.std.proofs.lemmas.List.Sums.{sum_by-cons}
 use Rattle.puffin.specs.declared.profile_view.stub.FrameData.{FrameData}
 use Rattle.puffin.specs.Frames.{Frame, ram_of}
-use Rattle.puffin.specs.FrameOf.{shared_frame}
+use Rattle.std.specs.Arc.{arc_value}
+use Rattle.puffin.specs.FrameOf.{frame_of, shared_frame}
 use Rattle.std.specs.Option.{option_copied}
 use Rattle.puffin.specs.declared.profile_view.sums.Sums.{Sums}
 use Rattle.puffin.specs.Stats.{stats_of, cut}
@@ -160,3 +161,31 @@ module _ {A : Type 0} where
       let bytes = h.bytes ∙ sym (sum_by-map shared_frame ram_of (values_of es)) in
       let same : record { frames = cut sums.frames; unpacked_frames = cut sums.unpacked_frames; bytes_of_ram_used = cut sums.bytes_of_ram_used } ≡ made fs = λ i. record { frames = cut (count i); unpacked_frames = cut (unpacked i); bytes_of_ram_used = cut (bytes i) } in
       same ∙ ap made (sym (values-held_of es h.ordered))
+
+-- a clone has the same keys and the same frames
+module _ {A : Type 0} where
+  pub keys_cloned : (es fs : List (ℕ × Arc FrameData A)) → AllZip (λ p q. (q.0 ≡ p.0) × (arc_value q.1 ≡ arc_value p.1)) es fs → keys_of fs ≡ keys_of es
+  keys_cloned [] [] h = refl
+  keys_cloned [] (f ∷ fs) h = absurd h
+  keys_cloned (e ∷ es) [] h = absurd h
+  keys_cloned (e ∷ es) (f ∷ fs) h = λ i. h.0.0 i ∷ keys_cloned es fs h.1 i
+
+  pub seen_cloned : (es fs : List (ℕ × Arc FrameData A)) → AllZip (λ p q. (q.0 ≡ p.0) × (arc_value q.1 ≡ arc_value p.1)) es fs → seen fs ≡ seen es
+  seen_cloned [] [] h = refl
+  seen_cloned [] (f ∷ fs) h = absurd h
+  seen_cloned (e ∷ es) [] h = absurd h
+  seen_cloned (e ∷ es) (f ∷ fs) h = λ i. (h.0.0 i, frame_of (h.0.1 i)) ∷ seen_cloned es fs h.1 i
+
+  frames_cloned : (es fs : List (ℕ × Arc FrameData A)) → AllZip (λ p q. (q.0 ≡ p.0) × (arc_value q.1 ≡ arc_value p.1)) es fs → map shared_frame (values_of fs) ≡ map shared_frame (values_of es)
+  frames_cloned es fs h = sym (values-seen fs) ∙ ap (map (λ e. e.1)) (seen_cloned es fs h) ∙ values-seen es
+
+  sum_cloned : (w : Frame → ℕ) (es fs : List (ℕ × Arc FrameData A)) → AllZip (λ p q. (q.0 ≡ p.0) × (arc_value q.1 ≡ arc_value p.1)) es fs → sum_by (λ a. w (shared_frame a)) (values_of es) ≡ sum_by (λ a. w (shared_frame a)) (values_of fs)
+  sum_cloned w es fs h = sym (sum_by-map shared_frame w (values_of es)) ∙ ap (sum_by w) (sym (frames_cloned es fs h)) ∙ sum_by-map shared_frame w (values_of fs)
+
+  pub summed_cloned : (es fs : List (ℕ × Arc FrameData A)) (sums : Sums) → AllZip (λ p q. (q.0 ≡ p.0) × (arc_value q.1 ≡ arc_value p.1)) es fs → IsSummed es sums → IsSummed fs sums
+  summed_cloned es fs sums h s = record {
+    ordered = subst (λ ks. IsStrictlySortedBy nat_cmp ks) (sym (keys_cloned es fs h)) s.ordered;
+    frames = s.frames ∙ sym (length-values_of es) ∙ sym (length-map shared_frame (values_of es)) ∙ ap length (sym (frames_cloned es fs h)) ∙ length-map shared_frame (values_of fs) ∙ length-values_of fs;
+    unpacked_frames = s.unpacked_frames ∙ sum_cloned (λ f. number_if f.is_unpacked) es fs h;
+    bytes = s.bytes ∙ sum_cloned ram_of es fs h;
+  }

@@ -1,19 +1,19 @@
 -- What the steps of a view's store make of it.
-use Rattle.std.proofs.Common.{◌≡◌, ℕ, ◌-◌, ◌<◌, Bool, true, false, cond, List, [], ◌∷◌, ◌++◌, length, take, drop, map, Option, Some, refl, sym, ap, subst, ◌∙◌}
+use Rattle.std.proofs.Common.{◌≡◌, ℕ, zero, suc, ◌-◌, ◌<◌, Bool, true, false, cond, List, [], ◌∷◌, ◌++◌, length, take, drop, map, Option, Some, refl, sym, ap, subst, ◌∙◌}
 use Rattle.std.specs.List.{AllByRecursion}
 use Rattle.std.specs.Option.{option_map_or}
 use Rattle.std.specs.FinMap as fin
-use Rattle.std.proofs.lemmas.List.{take-append-drop}
+use Rattle.std.proofs.lemmas.List.{take-append-drop, take_rest}
 use Rattle.puffin.specs.declared.profile_view.slow_rank.SlowRank.{SlowRank}
 use Rattle.puffin.specs.Ranking.{place, last_of, last_in}
 use Rattle.puffin.specs.Frames.{Frame, index_of, is_slower_frame, packed, packed_at}
 use Rattle.puffin.specs.Held.{Held}
 use Rattle.puffin.specs.Ranks.{rank_of, rank_index, is_before, rank_enters, ranks_after, ranks_gone, LetsGo}
 use Rattle.puffin.specs.Views.{View, is_past, joined_by, slow_after, with_packed, with_newest_packed}
-use Rattle.puffin.specs.Stored.{AreStored}
+use Rattle.puffin.specs.Stored.{frames_at, AreHeld, AreStored}
 use Rattle.puffin.proofs.Orders.{map-take, map-drop, map-length}
 use Rattle.puffin.proofs.Taking.{steady_before}
-use Rattle.puffin.proofs.Storing.{stored-cut_slow, stored-cut_recent, stored-added, stored-placed, stored-packed, enters_same, index-rank_of, got_itself}
+use Rattle.puffin.proofs.Storing.{held_back, stored-cut_slow, stored-cut_recent, stored-added, stored-placed, stored-packed, enters_same, index-rank_of, got_itself}
 
 pub lets_as : (old new : Held) (a b c d : List ℕ) → a ≡ b → c ≡ d → LetsGo old a c new → LetsGo old b d new
 lets_as old new a b c d e p h =
@@ -96,3 +96,19 @@ packed_newest held new recent slow last R S f g h newest e is =
 
 pub newest_is_packed : (v w : View) (f : Frame) → last_in v.recent ≡ Some f → w ≡ v → with_packed (index_of f) w ≡ with_newest_packed v
 newest_is_packed v w f newest e = ap (with_packed (index_of f)) e ∙ ap (λ o. option_map_or (λ g. with_packed (index_of g) v) o v) (sym newest)
+
+-- the last of the indices are those of the last of the frames
+pub last_frames : (held : Held) (recent : List ℕ) (slow : List SlowRank) (last : Option ℕ) (n : ℕ) (R S : List Frame) → AreStored held recent slow last R S → frames_at held (last_of n recent) ≡ last_of n R
+last_frames held recent slow last n R S h =
+    let m : ℕ = length R - n in
+    let as_many : length recent - n ≡ m = ap (λ is. length is - n) h.recent_at ∙ ap (λ k. k - n) (map-length index_of R) in
+    ap (λ k. frames_at held (drop k recent)) as_many ∙ ap (λ is. frames_at held (drop m is)) h.recent_at ∙ ap (frames_at held) (sym (map-drop index_of m R)) ∙ held_back (fin.get held) (drop m R) (held_dropped m R h.recent_held) where
+      held_dropped : (k : ℕ) (fs : List Frame) → AreHeld (fin.get held) fs → AreHeld (fin.get held) (drop k fs)
+      held_dropped zero fs h = h
+      held_dropped (suc k) [] h = tt
+      held_dropped (suc k) (f ∷ fs) h = held_dropped k fs h.1
+
+pub range_last : {A : Type 0} (xs : List A) (len first n : ℕ) → len ≡ length xs → first ≡ len - n → take (len - first) (drop first xs) ≡ last_of n xs
+range_last xs len first n e f =
+    let far : first ≡ length xs - n = f ∙ ap (λ m. m - n) e in
+    ap (λ m. take (m - first) (drop first xs)) e ∙ take_rest xs first ∙ ap (λ m. drop m xs) far

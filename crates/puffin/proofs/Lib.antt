@@ -9,3 +9,5 @@ pub mod Storing
 pub mod Joining
 pub mod Knowing
 pub mod Registrations
+pub mod Listing
+pub mod Chronology

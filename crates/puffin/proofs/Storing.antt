@@ -44,7 +44,7 @@ has_index-append q (f ∷ fs) gs = at (nat_eq q (index_of f)) (has_index-append 
   at true e = refl
   at false e = e
 
-has-index_of : (q : ℕ) (fs : List Frame) → has q (map index_of fs) ≡ has_index q fs
+pub has-index_of : (q : ℕ) (fs : List Frame) → has q (map index_of fs) ≡ has_index q fs
 has-index_of q [] = refl
 has-index_of q (f ∷ fs) = ap (λ b. nat_eq q (index_of f) || b) (has-index_of q fs)
 
@@ -422,7 +422,7 @@ view_as held recent slow last max_recent max_slow packs v h l m n p =
 
 -- all that is held is the frames, by their indices
 
-find_held : (h : ℕ → Option Frame) (q : ℕ) (fs : List Frame) → AreHeld h fs → fin.find nat_cmp q (map (λ f. (index_of f, f)) fs) ≡ cond (has_index q fs) (h q) None
+pub find_held : (h : ℕ → Option Frame) (q : ℕ) (fs : List Frame) → AreHeld h fs → fin.find nat_cmp q (map (λ f. (index_of f, f)) fs) ≡ cond (has_index q fs) (h q) None
 find_held h q [] held = refl
 find_held h q (f ∷ fs) held = ap (λ b. cond b (Some f) (fin.find nat_cmp q (map (λ g. (index_of g, g)) fs))) (is_at q (index_of f)) ∙ at (nat_eq q (index_of f)) refl (find_held h q fs held.1) where
   at : (b : Bool) → nat_eq q (index_of f) ≡ b → fin.find nat_cmp q (map (λ g. (index_of g, g)) fs) ≡ cond (has_index q fs) (h q) None → cond b (Some f) (fin.find nat_cmp q (map (λ g. (index_of g, g)) fs)) ≡ cond (b || has_index q fs) (h q) None
@@ -593,7 +593,7 @@ slow_step old mid new recent rs k d b h go is off on =
 pub unlike : {A : Type 0} {b : Bool} → b ≡ true → b ≡ false → A
 unlike e p = absurd (true≢false (sym e ∙ p))
 
-any_ranks : (i : ℕ) (rs : List SlowRank) → list_any (λ r. nat_eq r.frame_index i) rs ≡ has i (map rank_index rs)
+pub any_ranks : (i : ℕ) (rs : List SlowRank) → list_any (λ r. nat_eq r.frame_index i) rs ≡ has i (map rank_index rs)
 any_ranks i [] = refl
 any_ranks i (r ∷ rs) = λ j. flips r.frame_index i j || any_ranks i rs j where
   flips : (a b : ℕ) → nat_eq a b ≡ nat_eq b a

@@ -13,3 +13,5 @@ pub mod FrameOf
 pub mod Ranks
 pub mod Held
 pub mod Stored
+pub mod Listings
+pub mod FrameViews

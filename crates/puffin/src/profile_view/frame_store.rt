@@ -1,18 +1,19 @@
-ghost use Rattle.std.specs.Prelude.{◌≡◌, ◌⊎◌, ◌-◌, ◌<◌, ◌≤◌, OnOk, OnErr, IfErr, IfSome, nat_eq, [], false, take, drop, map, length, Some, vec_len, vec_capacity, insert};
+ghost use Rattle.std.specs.Prelude.{◌≡◌, ◌⊎◌, ◌↔◌, IsTrue, IfOk, ◌-◌, ◌<◌, ◌≤◌, OnOk, OnErr, IfErr, IfSome, [], false, take, drop, map, length, Some, vec_len, vec_capacity, insert};
 ghost use Rattle.std.specs.FinMap as map;
 ghost use Rattle.std.specs.Option.{option_map};
-ghost use Rattle.std.specs.List.{list_any};
 ghost use Rattle.std.specs.List.Sorted.{IsStrictlySortedBy};
 ghost use Rattle.puffin_data.specs.declared.error.Error.{Error};
 ghost use Rattle.puffin.specs.FrameOf.{shared_frame};
 ghost use Rattle.puffin.specs.Ranking.{last_of, last_in};
 ghost use Rattle.puffin.specs.Ranks.{rank_index, rank_cmp, ranks_after, ranks_gone, LetsGo};
-ghost use Rattle.puffin.specs.Frames.{index_of};
-ghost use Rattle.puffin.specs.Views.{empty_view, emptied, with_newest_packed, is_past, joined_by, after_taking, all_uniq};
+ghost use Rattle.puffin.specs.Frames.{index_of, chronological};
+ghost use Rattle.puffin.specs.Listings.{recent_left, all_left, slowest_left};
+ghost use Rattle.puffin.specs.Views.{empty_view, emptied, with_newest_packed, is_past, joined_by, after_taking, all_uniq, IsSteady};
 ghost use Rattle.puffin.specs.Stats.{stats_of};
 
 use crate::profile_view::held_frames::HeldFrames;
-use crate::profile_view::slow_rank::SlowRank;
+use crate::profile_view::listings::{AllFrames, RecentFrames, SlowestFrames};
+use crate::profile_view::slow_rank::{SlowRank, has_index};
 use crate::profile_view::stats::FrameStats;
 use crate::profile_view::stub::FrameData;
 use puffin_data::{Error, Result};
@@ -119,6 +120,58 @@ impl FrameStore {
         }
     }
 
+    /// Whether there is no frame.
+    pub fn is_empty(&self) -> bool
+        ensures { IsTrue result ↔ ((self.now.recent ≡ []) × (self.now.slow ≡ [])) }
+    {
+        self.recent.is_empty() && self.slow.is_empty()
+    }
+
+    /// The recent frames, oldest first.
+    pub fn recent_frames(&self) -> RecentFrames<'_>
+        ensures { recent_left result ≡ self.now.recent }
+    {
+        RecentFrames::new(self.recent.iter(), &self.held)
+    }
+
+    /// The last `n` of the recent frames, oldest first.
+    pub fn latest_frames(&self, n: usize) -> RecentFrames<'_>
+        ensures { recent_left result ≡ last_of n self.now.recent }
+    {
+        let first = self.recent.len().saturating_sub(n);
+        RecentFrames::new(self.recent.range(first..), &self.held)
+    }
+
+    /// All frames, each once, by rising index.
+    pub fn all_uniq(&self) -> AllFrames<'_>
+        ensures { all_left result ≡ all_uniq self.now }
+    {
+        AllFrames::new(self.held.values())
+    }
+
+    /// The slowest frames, by rising index.
+    pub fn slowest_frames_chronological(&self) -> SlowestFrames<'_>
+        ensures { slowest_left result ≡ chronological self.now.slow }
+    {
+        SlowestFrames::new(self.held.values(), &self.slow)
+    }
+
+    /// A copy, which shares the frames. Refused only with `Memory`.
+    pub fn clone(&self) -> Result<FrameStore>
+        ensures ok { IfOk result (λ copy. copy ≡ self.now) }
+        ensures cause { IfErr result (λ e. e ≡ Error.Memory) }
+    {
+        Ok(FrameStore {
+            held: self.held.clone()?,
+            recent: self.recent.clone()?,
+            slow: self.slow.clone()?,
+            last: self.last,
+            max_recent: self.max_recent,
+            max_slow: self.max_slow,
+            pack_frames: self.pack_frames,
+        })
+    }
+
     /// How many frames there are, and how many bytes they take.
     pub fn stats(&self) -> FrameStats
         ensures { result ≡ stats_of (all_uniq self.now) }
@@ -144,7 +197,8 @@ impl FrameStore {
 
     /// Whether an index isn't above the last one taken.
     fn is_past(&self, index: FrameIndex) -> bool
-        ensures { result ≡ is_past self.now index }
+        ensures past { result ≡ is_past self.now index }
+        ensures steady { IsSteady self.now }
     {
         match self.last {
             Some(last) => index <= last,
@@ -156,6 +210,7 @@ impl FrameStore {
     fn pack_newest(&mut self) -> Result<()>
         ensures ok { OnOk result (self.new ≡ with_newest_packed self.old) }
         ensures err { OnErr result (self.new ≡ self.old) }
+        ensures cause { IfErr result (λ e. e ≡ Error.Memory) }
     {
         let alloc = *self.recent.allocator();
         let Some(newest) = self.latest_frame() else {
@@ -171,6 +226,7 @@ impl FrameStore {
         requires { is_past self.old (index_of (shared_frame frame)) ≡ false }
         ensures ok { OnOk result (self.new ≡ joined_by self.old (shared_frame frame)) }
         ensures err { OnErr result (self.new ≡ self.old) }
+        ensures cause { IfErr result (λ e. e ≡ Error.Memory) }
     {
         let rank = SlowRank::of(&frame);
         self.recent.reserve(1)?;
@@ -198,6 +254,8 @@ impl FrameStore {
     pub fn take(&mut self, frame: Arc<FrameData>) -> Result<()>
         ensures ok { OnOk result (self.new ≡ after_taking self.old (shared_frame frame)) }
         ensures err { OnErr result ((self.new ≡ self.old) ⊎ (self.new ≡ with_newest_packed self.old)) }
+        ensures cause { IfErr result (λ e. e ≡ Error.Memory) }
+        ensures steady { IsSteady self.old }
     {
         if self.is_past(frame.frame_index()) {
             let mut anew = self.emptied();
@@ -270,11 +328,4 @@ fn cut_recent(
             }
         }
     }
-}
-
-/// Whether a frame of an index is among the slowest.
-fn has_index(slow: &[SlowRank], index: FrameIndex) -> bool
-    ensures { result ≡ list_any (λ rank. nat_eq rank.frame_index index) slow.now }
-{
-    slow.iter().any(|rank| rank.frame_index == index)
 }

@@ -1,9 +1,9 @@
-ghost use Rattle.std.specs.Prelude.{◌≡◌, OnOk, OnErr, IfErr, is_some};
+ghost use Rattle.std.specs.Prelude.{◌≡◌, OnOk, OnErr, IfOk, IfErr};
 ghost use Rattle.std.specs.FinMap as map;
 ghost use Rattle.std.specs.Option.{option_map};
 ghost use Rattle.puffin_data.specs.declared.error.Error.{Error};
 ghost use Rattle.puffin.specs.Frames.{index_of};
-ghost use Rattle.puffin.specs.FrameOf.{shared_frame};
+ghost use Rattle.puffin.specs.FrameOf.{shared_frame, frames_of};
 ghost use Rattle.puffin.specs.Stats.{stats_of};
 
 use crate::profile_view::stats::FrameStats;
@@ -13,6 +13,7 @@ use puffin_data::{Error, Result};
 use puffin_frames::frame_data::FrameIndex;
 use std::alloc::Global;
 use std::collections::BTreeMap;
+use std::collections::btree_map::Values;
 use std::marker::Model;
 use std::sync::Arc;
 
@@ -77,6 +78,24 @@ impl HeldFrames {
         let before = self.frames.remove(&index);
         self.sums.frames = self.frames.len() as u128;
         self.sums.lower(before);
+    }
+
+    /// The frames by rising index.
+    pub fn values(&self) -> Values<'_, FrameIndex, Arc<FrameData>>
+        ensures { frames_of result ≡ map.values self.now }
+    {
+        self.frames.values()
+    }
+
+    /// A copy, which shares the frames. Refused only with `Memory`.
+    pub fn clone(&self) -> Result<HeldFrames>
+        ensures ok { IfOk result (λ copy. copy ≡ self.now) }
+        ensures cause { IfErr result (λ e. e ≡ Error.Memory) }
+    {
+        Ok(HeldFrames {
+            frames: self.frames.clone()?,
+            sums: self.sums,
+        })
     }
 
     /// The sums over all frames, cut where they don't fit.

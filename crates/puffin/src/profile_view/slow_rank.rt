@@ -1,4 +1,5 @@
-ghost use Rattle.std.specs.Prelude.{◌≡◌, ◌≤◌, length, insert};
+ghost use Rattle.std.specs.Prelude.{◌≡◌, ◌≤◌, nat_eq, length, insert};
+ghost use Rattle.std.specs.List.{list_any};
 ghost use Rattle.std.specs.List.Sorted.{IsStrictlySortedBy};
 ghost use Rattle.puffin.specs.FrameOf.{frame_of};
 ghost use Rattle.puffin.specs.Ranking.{place};
@@ -47,4 +48,11 @@ impl SlowRank {
             None => false,
         }
     }
+}
+
+/// Whether a frame of an index is among the slowest.
+pub(crate) fn has_index(slow: &[SlowRank], index: FrameIndex) -> bool
+    ensures { result ≡ list_any (λ rank. nat_eq rank.frame_index index) slow.now }
+{
+    slow.iter().any(|rank| rank.frame_index == index)
 }

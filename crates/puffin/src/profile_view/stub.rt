@@ -1,4 +1,5 @@
-ghost use Rattle.std.specs.Prelude.{◌≡◌, ◌-ℤ◌, IfOk, OnOk, OnErr};
+ghost use Rattle.std.specs.Prelude.{◌≡◌, ◌-ℤ◌, IfOk, IfErr};
+ghost use Rattle.puffin_data.specs.declared.error.Error.{Error};
 ghost use Rattle.puffin_frames.specs.Details.{shared_details};
 ghost use Rattle.puffin.specs.Frames.{packed, ram_of, index_of, duration_of};
 
@@ -77,7 +78,8 @@ impl FrameData {
     }
 
     pub fn packed_copy(&self) -> Result<FrameData>
-        ensures { IfOk result (λ f. f ≡ packed self.now) }
+        ensures ok { IfOk result (λ f. f ≡ packed self.now) }
+        ensures memory { IfErr result (λ e. e ≡ Error.Memory) }
     {
         let streams = self.streams.clone()?;
         Ok(FrameData {
@@ -91,7 +93,8 @@ impl FrameData {
 }
 
 fn copied(details: &Vec<Arc<ScopeDetails>>) -> Result<Vec<Arc<ScopeDetails>>>
-    ensures { IfOk result (λ copy. shared_details copy.items ≡ shared_details details.now.items) }
+    ensures ok { IfOk result (λ copy. shared_details copy.items ≡ shared_details details.now.items) }
+    ensures memory { IfErr result (λ e. e ≡ Error.Memory) }
 {
     let mut copy = Vec::with_capacity(*details.allocator(), details.len())?;
     for one in details {

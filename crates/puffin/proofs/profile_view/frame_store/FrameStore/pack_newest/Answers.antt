@@ -25,7 +25,7 @@ same : (c : goal.In_ok-insert) → before c ≡ c.args.self.now
 same c = c.self.view_is
 
 packs : (c : goal.In_ok-insert) → shared_frame c.in_ok-packed.packed ≡ packed (newest c)
-packs c = ap frame_of c.in_ok-packed.ensures.ok ∙ c.in_ok-packed_copy.ensures ∙ ap (λ f. packed (frame_of f)) c.deref.ensures
+packs c = ap frame_of c.in_ok-packed.ensures.ok ∙ c.in_ok-packed_copy.ensures.ok ∙ ap (λ f. packed (frame_of f)) c.deref.ensures
 
 stored : (c : goal.In_ok-insert) → AreStored c.insert.new.self c.self.inside.recent.items c.self.inside.slow.items c.self.inside.last (with_packed (index_of (newest c)) (before c)).recent (with_packed (index_of (newest c)) (before c)).slow
 stored c =
