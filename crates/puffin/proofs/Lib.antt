@@ -11,3 +11,5 @@ pub mod Knowing
 pub mod Registrations
 pub mod Listing
 pub mod Chronology
+pub mod Learning
+pub mod Counting
