@@ -3,7 +3,7 @@ use Rattle.std.proofs.Common.{◌≡◌, ℕ, suc, ◌+◌, ◌-◌, ◌^◌, Bo
 use Rattle.std.specs.List.{fold, sum_by, count_by}
 use Rattle.std.specs.declared.sync.Arc.{Arc}
 use Rattle.std.proofs.lemmas.List.Sums.{sum_by-cons}
-use Rattle.puffin.specs.declared.profile_view.stub.FrameData.{FrameData}
+use Rattle.puffin_frames.specs.declared.frame_data.frame.FrameData.{FrameData}
 use Rattle.puffin.specs.declared.profile_view.stats.FrameStats.{FrameStats}
 use Rattle.puffin.specs.Frames.{Frame, ram_of}
 use Rattle.puffin.specs.FrameOf.{shared_frame, lent_frames}

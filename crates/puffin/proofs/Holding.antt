@@ -1,5 +1,5 @@
 -- A map of frames, seen by their indices, and the sums over it.
-use Rattle.std.proofs.Common.{◌≡◌, subst, ℕ, suc, ◌+◌, ◌-◌, ◌*◌, ◌^◌, ◌<◌, ◌≤◌, Bool, true, false, cond, List, [], ◌∷◌, length, map, Option, Some, None, refl, sym, ap, ◌∙◌, arith, suc-mul, Bor}
+use Rattle.std.proofs.Common.{◌≡◌, min, subst, ℕ, suc, ◌+◌, ◌-◌, ◌*◌, ◌^◌, ◌<◌, ◌≤◌, Bool, true, false, cond, List, [], ◌∷◌, length, map, Option, Some, None, refl, sym, ap, ◌∙◌, arith, suc-mul, Bor}
 use Rattle.std.specs.Prelude.{unwrap_or, is_some}
 use Rattle.std.specs.declared.cmp.Ordering.TheVariants.{Less}
 use Rattle.std.specs.declared.sync.Arc.{Arc}
@@ -15,8 +15,10 @@ use Rattle.std.specs.FinMap.Entries.{by_order}
 use Rattle.std.proofs.lemmas.Map.Keys.{sorted_head, sorted_tail}
 use Rattle.std.proofs.lemmas.Map.Entries.{length-values_of, sum_by-insert_entry, sum_by-remove_entry}
 use Rattle.std.proofs.lemmas.List.Sums.{sum_by-cons}
-use Rattle.puffin.specs.declared.profile_view.stub.FrameData.{FrameData}
-use Rattle.puffin.specs.Frames.{Frame, ram_of}
+use Rattle.puffin_frames.specs.declared.frame_data.frame.FrameData.{FrameData}
+use Rattle.puffin_frames.specs.Contents.{Streams, holding_of, frame_meta, frame_says}
+use Rattle.puffin_frames.specs.Holding.{Packing, packing, as_packed}
+use Rattle.puffin.specs.Frames.{Frame, packed, ram_of}
 use Rattle.std.specs.Arc.{arc_value}
 use Rattle.puffin.specs.FrameOf.{frame_of, shared_frame}
 use Rattle.std.specs.Option.{option_copied}
@@ -189,3 +191,17 @@ module _ {A : Type 0} where
     unpacked_frames = s.unpacked_frames ∙ sum_cloned (λ f. number_if f.is_unpacked) es fs h;
     bytes = s.bytes ∙ sum_cloned ram_of es fs h;
   }
+
+-- the bytes that a frame takes, as its sizes say it
+ram_at : (p : Option Packing) (u : Option Streams) (n : ℕ) → min (unwrap_or (option_map (λ _. n) u) 0 + unwrap_or (option_map (λ q. length q.bytes) p) 0) (2 ^ 64 - 1) ≡ min (cond (is_some u) n 0 + cond (is_some p) (length (packing p u).bytes) 0) (2 ^ 64 - 1)
+ram_at None None n = refl
+ram_at None (Some u) n = refl
+ram_at (Some p) None n = refl
+ram_at (Some p) (Some u) n = refl
+
+pub ram_says : (f : FrameData) → min (unwrap_or (option_map (λ _. (frame_meta f).num_bytes) (holding_of f).unpacked) 0 + unwrap_or (option_map (λ q. length q.bytes) (holding_of f).packed) 0) (2 ^ 64 - 1) ≡ ram_of (frame_of f)
+ram_says f = ram_at (holding_of f).packed (holding_of f).unpacked (frame_meta f).num_bytes
+
+-- a packed copy
+pub packed_copied : (f g : FrameData) → holding_of g ≡ as_packed (holding_of f) → frame_says g ≡ frame_says f → frame_of g ≡ packed (frame_of f)
+packed_copied f g held says = λ i. record { contents = says i; is_unpacked = is_some (held i).unpacked; is_packed = is_some (held i).packed }

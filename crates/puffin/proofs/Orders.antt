@@ -4,7 +4,8 @@ use Rattle.std.specs.Cmp.{IsStrictWeakOrder, IsTotalOrder, nat_cmp_total, int_cm
 use Rattle.std.specs.Prelude.{nat_eq, int_lt}
 use Rattle.std.proofs.lemmas.List.Sorted.{ranks_by}
 use Rattle.puffin.specs.Ranking.{place, last_from}
-use Rattle.puffin.specs.Frames.{Contents, Frame, frame_index, duration, by_duration, by_index, is_slower, contents_of, index_of, packed_at, packed}
+use Rattle.puffin_frames.specs.Stored.{Said}
+use Rattle.puffin.specs.Frames.{Frame, frame_index, duration, by_duration, by_index, is_slower, contents_of, index_of, packed_at, packed}
 
 pub by_duration_total : IsTotalOrder by_duration
 by_duration_total = then_total (on_total duration (back_total int_cmp_total)) (on_total frame_index nat_cmp_total)
@@ -13,10 +14,10 @@ pub by_index_total : IsTotalOrder by_index
 by_index_total = then_total (on_total frame_index nat_cmp_total) (on_total duration int_cmp_total)
 
 pub slower_order : IsStrictWeakOrder is_slower
-slower_order = ranks_by by_duration_total (λ (c : Contents). c)
+slower_order = ranks_by by_duration_total (λ (c : Said). c)
 
 -- a frame no longer than another, with an index above it, doesn't come before it
-pub later_behind : (c d : Contents) → int_lt (duration d) (duration c) ≡ false → frame_index d < frame_index c → is_slower c d ≡ false
+pub later_behind : (c d : Said) → int_lt (duration d) (duration c) ≡ false → frame_index d < frame_index c → is_slower c d ≡ false
 later_behind c d short late = grind arith
 
 module _ {F G : Type 0} (g : F → G) (before : G → G → Bool) where

@@ -5,7 +5,8 @@ use Rattle.std.specs.List.{AllByRecursion}
 use Rattle.std.specs.Option.{IfSome, option_map_or}
 use Rattle.std.proofs.Math.Seq.{drop-nil}
 use Rattle.puffin.specs.Ranking.{place, last_of, last_from, last_in}
-use Rattle.puffin.specs.Frames.{Contents, Frame, frame_index, contents_of, index_of, duration_of, is_slower, is_slower_frame, slowest, packed_at, packed, taken, rises_above}
+use Rattle.puffin_frames.specs.Stored.{Said}
+use Rattle.puffin.specs.Frames.{Frame, frame_index, contents_of, index_of, duration_of, is_slower, is_slower_frame, slowest, packed_at, packed, taken, rises_above}
 use Rattle.puffin.specs.Views.{View, emptied, with_packed, with_newest_packed, is_past, enters, joined_by, after_taking, after_all, Holds, IsUpTo, IsSteady, Took}
 use Rattle.puffin.proofs.Rankings.{last_of-more, first_in_order-more, first_in_order-same}
 use Rattle.puffin.proofs.Orders.{slower_order, later_behind, map-place, map-take, map-drop, map-more, map-length, map-last_from, packed_at_says}
@@ -28,14 +29,14 @@ late_last : (f : Frame) (slow : List Frame) → AreBefore (index_of f) slow → 
     → IfSome (last_in (map contents_of slow)) (λ d. is_slower (contents_of f) d ≡ false)
 late_last f [] h p = tt
 late_last f (x ∷ xs) h p =
-    let P : Contents → Type 0 = λ d. is_slower (contents_of f) d ≡ false in
+    let P : Said → Type 0 = λ d. is_slower (contents_of f) d ≡ false in
     subst P (map-last_from contents_of x xs) (later_behind (contents_of f) (contents_of (last_from x xs)) p (before_last (index_of f) x xs h))
 
 neither : (a b : Bool) → (a || b) ≡ false → (a ≡ false) × (b ≡ false)
 neither true b h = cc
 neither false b h = (refl, h)
 
-slow_at : (v : View) (f : Frame) (ds : List Contents) (b : Bool) → enters v f ≡ b → AreBefore (index_of f) v.slow → map contents_of v.slow ≡ slowest v.max_slow ds
+slow_at : (v : View) (f : Frame) (ds : List Said) (b : Bool) → enters v f ≡ b → AreBefore (index_of f) v.slow → map contents_of v.slow ≡ slowest v.max_slow ds
     → map contents_of (cond b (take v.max_slow (place is_slower_frame f v.slow)) v.slow) ≡ slowest v.max_slow (ds ++ contents_of f ∷ [])
 slow_at v f ds true p h e =
     map-take contents_of v.max_slow (place is_slower_frame f v.slow)
@@ -43,34 +44,34 @@ slow_at v f ds true p h e =
     ∙ first_in_order-more is_slower slower_order v.max_slow ds (contents_of f)
 slow_at v f ds false p h e =
     let both : (nat_lt (length v.slow) v.max_slow ≡ false) × (option_map_or (λ g. int_lt (duration_of g) (duration_of f)) (last_in v.slow) false ≡ false) = neither (nat_lt (length v.slow) v.max_slow) (option_map_or (λ g. int_lt (duration_of g) (duration_of f)) (last_in v.slow) false) p in
-    let P : List Contents → Type 0 = λ cs. IfSome (last_in cs) (λ d. is_slower (contents_of f) d ≡ false) in
+    let P : List Said → Type 0 = λ cs. IfSome (last_in cs) (λ d. is_slower (contents_of f) d ≡ false) in
     let Q : ℕ → Type 0 = λ n. v.max_slow ≤ n in
     e ∙ first_in_order-same is_slower slower_order v.max_slow ds (contents_of f)
     (subst Q (sym (map-length contents_of v.slow) ∙ ap length e) (not_below (length v.slow) v.max_slow both.0))
     (subst P e (late_last f v.slow h both.1))
 
 -- a view that holds the last and the slowest of two lists holds those of the lists with one frame more
-pub Holds-joined : (v : View) (f : Frame) (cs ds : List Contents) → Holds cs ds v → AreBefore (index_of f) v.slow → Holds (cs ++ contents_of f ∷ []) (ds ++ contents_of f ∷ []) (joined_by v f)
+pub Holds-joined : (v : View) (f : Frame) (cs ds : List Said) → Holds cs ds v → AreBefore (index_of f) v.slow → Holds (cs ++ contents_of f ∷ []) (ds ++ contents_of f ∷ []) (joined_by v f)
 Holds-joined v f cs ds h late = record {
   recent = map-last_of v.max_recent (v.recent ++ f ∷ []) ∙ ap (last_of v.max_recent) (map-more contents_of v.recent f ∙ ap (λ xs. xs ++ contents_of f ∷ []) h.recent) ∙ last_of-more v.max_recent cs (contents_of f);
   slow = slow_at v f ds (enters v f) refl late h.slow;
 }
 
 -- packing doesn't show
-pub Holds-packed : (i : ℕ) (v : View) (cs ds : List Contents) → Holds cs ds v → Holds cs ds (with_packed i v)
+pub Holds-packed : (i : ℕ) (v : View) (cs ds : List Said) → Holds cs ds v → Holds cs ds (with_packed i v)
 Holds-packed i v cs ds h = record { recent = packed_at_says i v.recent ∙ h.recent; slow = packed_at_says i v.slow ∙ h.slow }
 
-Holds-newest_at : (v : View) (cs ds : List Contents) (o : Option Frame) → Holds cs ds v → Holds cs ds (option_map_or (λ f. with_packed (index_of f) v) o v)
+Holds-newest_at : (v : View) (cs ds : List Said) (o : Option Frame) → Holds cs ds v → Holds cs ds (option_map_or (λ f. with_packed (index_of f) v) o v)
 Holds-newest_at v cs ds None h = h
 Holds-newest_at v cs ds (Some f) h = Holds-packed (index_of f) v cs ds h
 
-Holds-choice : (v : View) (cs ds : List Contents) (b : Bool) → Holds cs ds v → Holds cs ds (cond b (with_newest_packed v) v)
+Holds-choice : (v : View) (cs ds : List Said) (b : Bool) → Holds cs ds v → Holds cs ds (cond b (with_newest_packed v) v)
 Holds-choice v cs ds true h = Holds-newest_at v cs ds (last_in v.recent) h
 Holds-choice v cs ds false h = h
 
 pub Holds-emptied : (v : View) → Holds [] [] (emptied v)
 Holds-emptied v = record { recent = sym (drop-nil (0 - v.max_recent)); slow = sym (take_nil v.max_slow) } where
-  take_nil : (n : ℕ) → take n (let none : List Contents = [] in none) ≡ []
+  take_nil : (n : ℕ) → take n (let none : List Said = [] in none) ≡ []
   take_nil zero = refl
   take_nil (suc n) = refl
 
@@ -98,7 +99,7 @@ all_choice : (P : ℕ → Type 0) (v : View) (b : Bool) → AllByRecursion (λ f
 all_choice P v true h = all_newest_at P v (last_in v.recent) h
 all_choice P v false h = h
 
-more_at : (v : View) (f : Frame) (cs ds : List Contents) (b : Bool) → b ≡ false → is_past v (index_of f) ≡ false → IsSteady v → Holds cs ds v
+more_at : (v : View) (f : Frame) (cs ds : List Said) (b : Bool) → b ≡ false → is_past v (index_of f) ≡ false → IsSteady v → Holds cs ds v
     → Holds (cs ++ contents_of f ∷ []) (ds ++ contents_of f ∷ []) (joined_by (cond b (emptied v) (cond v.packs (with_newest_packed v) v)) f)
 more_at v f cs ds true e p steady h = cc
 more_at v f cs ds false e p steady h =
@@ -106,7 +107,7 @@ more_at v f cs ds false e p steady h =
     (all_choice (λ i. i < index_of f) v v.packs (steady_before v.last (index_of f) v.slow p steady))
 
 -- where the index is above the last one taken, what the view holds is that of the lists with one frame more
-pub Holds-more : (v : View) (f : Frame) (cs ds : List Contents) → IsSteady v → is_past v (index_of f) ≡ false → Holds cs ds v → Holds (cs ++ contents_of f ∷ []) (ds ++ contents_of f ∷ []) (after_taking v f)
+pub Holds-more : (v : View) (f : Frame) (cs ds : List Said) → IsSteady v → is_past v (index_of f) ≡ false → Holds cs ds v → Holds (cs ++ contents_of f ∷ []) (ds ++ contents_of f ∷ []) (after_taking v f)
 Holds-more v f cs ds steady p h = more_at v f cs ds (is_past v (index_of f)) p p steady h
 
 anew_at : (v : View) (f : Frame) (b : Bool) → b ≡ true → Holds (contents_of f ∷ []) (contents_of f ∷ []) (joined_by (cond b (emptied v) (cond v.packs (with_newest_packed v) v)) f)
@@ -118,7 +119,7 @@ pub Holds-anew : (v : View) (f : Frame) → is_past v (index_of f) ≡ true → 
 Holds-anew v f p = anew_at v f (is_past v (index_of f)) p
 
 -- after the slowest were cleared, their list is empty
-pub Holds-cleared : (v : View) (cs ds : List Contents) → Holds cs ds v → Holds cs [] (record v { slow = [] })
+pub Holds-cleared : (v : View) (cs ds : List Said) → Holds cs ds v → Holds cs [] (record v { slow = [] })
 Holds-cleared v cs ds h = record { recent = h.recent; slow = (Holds-emptied v).slow }
 
 -- steadiness
@@ -160,27 +161,27 @@ and_assoc : (a b c : Bool) → (a && (b && c)) ≡ ((a && b) && c)
 and_assoc true b c = refl
 and_assoc false b c = refl
 
-rises-more : (x : Contents) (xs : List Contents) (c : Contents) → rises_above (frame_index x) (xs ++ c ∷ []) ≡ (rises_above (frame_index x) xs && nat_lt (frame_index (last_from x xs)) (frame_index c))
+rises-more : (x : Said) (xs : List Said) (c : Said) → rises_above (frame_index x) (xs ++ c ∷ []) ≡ (rises_above (frame_index x) xs && nat_lt (frame_index (last_from x xs)) (frame_index c))
 rises-more x [] c = and_true (nat_lt (frame_index x) (frame_index c))
 rises-more x (y ∷ ys) c = ap (λ b. nat_lt (frame_index x) (frame_index y) && b) (rises-more y ys c) ∙ and_assoc (nat_lt (frame_index x) (frame_index y)) (rises_above (frame_index y) ys) (nat_lt (frame_index (last_from y ys)) (frame_index c))
 
-more_taken_at : (whole later rest : List Contents) (c : Contents) (b d l : Bool) → d ≡ (b && l) → l ≡ true → later ≡ rest ++ c ∷ [] → cond d (whole ++ c ∷ []) later ≡ cond b whole rest ++ c ∷ []
+more_taken_at : (whole later rest : List Said) (c : Said) (b d l : Bool) → d ≡ (b && l) → l ≡ true → later ≡ rest ++ c ∷ [] → cond d (whole ++ c ∷ []) later ≡ cond b whole rest ++ c ∷ []
 more_taken_at whole later rest c true d l e p ih = rw (e, p) refl
 more_taken_at whole later rest c false d l e p ih = rw e ih
 
-pub taken-more : (x : Contents) (xs : List Contents) (c : Contents) → nat_lt (frame_index (last_from x xs)) (frame_index c) ≡ true → taken ((x ∷ xs) ++ c ∷ []) ≡ taken (x ∷ xs) ++ c ∷ []
+pub taken-more : (x : Said) (xs : List Said) (c : Said) → nat_lt (frame_index (last_from x xs)) (frame_index c) ≡ true → taken ((x ∷ xs) ++ c ∷ []) ≡ taken (x ∷ xs) ++ c ∷ []
 taken-more x [] c p = rw p refl
 taken-more x (y ∷ ys) c p = more_taken_at (x ∷ (y ∷ ys)) (taken ((y ∷ ys) ++ c ∷ [])) (taken (y ∷ ys)) c (rises_above (frame_index x) (y ∷ ys)) (rises_above (frame_index x) ((y ∷ ys) ++ c ∷ [])) (nat_lt (frame_index (last_from x (y ∷ ys))) (frame_index c)) (rises-more x (y ∷ ys) c) p (taken-more y ys c p)
 
-none_taken_at : (whole later : List Contents) (c : Contents) (b d l : Bool) → d ≡ (b && l) → l ≡ false → later ≡ c ∷ [] → cond d whole later ≡ c ∷ []
+none_taken_at : (whole later : List Said) (c : Said) (b d l : Bool) → d ≡ (b && l) → l ≡ false → later ≡ c ∷ [] → cond d whole later ≡ c ∷ []
 none_taken_at whole later c true d l e p ih = rw (e, p) ih
 none_taken_at whole later c false d l e p ih = rw e ih
 
-pub taken-anew : (x : Contents) (xs : List Contents) (c : Contents) → nat_lt (frame_index (last_from x xs)) (frame_index c) ≡ false → taken ((x ∷ xs) ++ c ∷ []) ≡ c ∷ []
+pub taken-anew : (x : Said) (xs : List Said) (c : Said) → nat_lt (frame_index (last_from x xs)) (frame_index c) ≡ false → taken ((x ∷ xs) ++ c ∷ []) ≡ c ∷ []
 taken-anew x [] c p = rw p refl
 taken-anew x (y ∷ ys) c p = none_taken_at ((x ∷ (y ∷ ys)) ++ c ∷ []) (taken ((y ∷ ys) ++ c ∷ [])) c (rises_above (frame_index x) (y ∷ ys)) (rises_above (frame_index x) ((y ∷ ys) ++ c ∷ [])) (nat_lt (frame_index (last_from x (y ∷ ys))) (frame_index c)) (rises-more x (y ∷ ys) c) p (taken-anew y ys c p)
 
-last-more : (x : Contents) (xs : List Contents) (c : Contents) → last_from x (xs ++ c ∷ []) ≡ c
+last-more : (x : Said) (xs : List Said) (c : Said) → last_from x (xs ++ c ∷ []) ≡ c
 last-more x [] c = refl
 last-more x (y ∷ ys) c = last-more y ys c
 
@@ -188,12 +189,12 @@ opposite : (i l : ℕ) (b : Bool) → nat_le i l ≡ b → nat_lt l i ≡ (cond 
 opposite i l true h = grind arith
 opposite i l false h = grind arith
 
-took_at : (v : View) (f : Frame) (x : Contents) (xs : List Contents) (b : Bool) → is_past v (index_of f) ≡ b → v.last ≡ Some (frame_index (last_from x xs)) → IsSteady v → Holds (taken (x ∷ xs)) (taken (x ∷ xs)) v
+took_at : (v : View) (f : Frame) (x : Said) (xs : List Said) (b : Bool) → is_past v (index_of f) ≡ b → v.last ≡ Some (frame_index (last_from x xs)) → IsSteady v → Holds (taken (x ∷ xs)) (taken (x ∷ xs)) v
     → Holds (taken ((x ∷ xs) ++ contents_of f ∷ [])) (taken ((x ∷ xs) ++ contents_of f ∷ [])) (after_taking v f)
 took_at v f x xs b p last steady h =
     let was : nat_le (index_of f) (frame_index (last_from x xs)) ≡ b = ap (λ o. option_map_or (λ l. nat_le (index_of f) l) o false) (sym last) ∙ p in
     choose b p was where
-      H : List Contents → Type 0
+      H : List Said → Type 0
       H cs = Holds cs cs (after_taking v f)
 
       choose : (b : Bool) → is_past v (index_of f) ≡ b → nat_le (index_of f) (frame_index (last_from x xs)) ≡ b → Holds (taken ((x ∷ xs) ++ contents_of f ∷ [])) (taken ((x ∷ xs) ++ contents_of f ∷ [])) (after_taking v f)
@@ -201,7 +202,7 @@ took_at v f x xs b p last steady h =
       choose false p q = subst H (sym (taken-more x xs (contents_of f) (opposite (index_of f) (frame_index (last_from x xs)) false q))) (Holds-more v f (taken (x ∷ xs)) (taken (x ∷ xs)) steady p h)
 
 -- a view that took some frames, and takes one more
-pub Took-more : (v : View) (f : Frame) (cs : List Contents) → IsSteady v → Took cs v → Took (cs ++ contents_of f ∷ []) (after_taking v f)
+pub Took-more : (v : View) (f : Frame) (cs : List Said) → IsSteady v → Took cs v → Took (cs ++ contents_of f ∷ []) (after_taking v f)
 Took-more v f [] steady h = record { holds = Holds-more v f [] [] steady (ap (λ o. option_map_or (λ l. nat_le (index_of f) l) o false) h.last) h.holds; last = refl }
 Took-more v f (x ∷ xs) steady h = record {
   holds = took_at v f x xs (is_past v (index_of f)) refl h.last steady h.holds;
@@ -209,10 +210,10 @@ Took-more v f (x ∷ xs) steady h = record {
 }
 
 -- a view that took some frames, and takes more
-pub Took-all : (v : View) (cs : List Contents) (fs : List Frame) → IsSteady v → Took cs v → Took (cs ++ map contents_of fs) (after_all v fs)
-Took-all v cs [] steady h = let P : List Contents → Type 0 = λ ds. Took ds v in subst P (sym (append-nil cs)) h
+pub Took-all : (v : View) (cs : List Said) (fs : List Frame) → IsSteady v → Took cs v → Took (cs ++ map contents_of fs) (after_all v fs)
+Took-all v cs [] steady h = let P : List Said → Type 0 = λ ds. Took ds v in subst P (sym (append-nil cs)) h
 Took-all v cs (f ∷ fs) steady h =
-    let P : List Contents → Type 0 = λ ds. Took ds (after_all (after_taking v f) fs) in
+    let P : List Said → Type 0 = λ ds. Took ds (after_all (after_taking v f) fs) in
     subst P (append_assoc cs (contents_of f ∷ []) (map contents_of fs)) (Took-all (after_taking v f) (cs ++ contents_of f ∷ []) fs (IsSteady-taking v f steady) (Took-more v f cs steady h))
 
 -- an empty view has taken nothing

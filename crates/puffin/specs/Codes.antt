@@ -3,7 +3,8 @@ use Rattle.std.specs.Prelude.{ℕ, ℤ, Bool, List, Option, refl}
 use Rattle.std.specs.Coded.{Coded, code_by, coded×, coded_option, coded_list, coded_ℕ, coded_ℤ, coded_bool}
 use Rattle.puffin_frames.specs.declared.frame_data.meta.FrameMeta.{FrameMeta}
 use Rattle.puffin_frames.specs.Details.{Details, details_code}
-use Rattle.puffin.specs.Frames.{Contents, Frame}
+use Rattle.puffin_frames.specs.Stored.{Said}
+use Rattle.puffin.specs.Frames.{Frame}
 use Rattle.puffin.specs.Views.{View}
 
 abbrev pub meta_code : Coded FrameMeta
@@ -12,14 +13,14 @@ meta_code = code_by (ℕ × ((ℤ × ℤ) × (ℕ × ℕ))) (coded× coded_ℕ (
     (λ p. record { frame_index = p.0; range_ns = p.1.0; num_bytes = p.1.1.0; num_scopes = p.1.1.1 })
     (λ _. refl)
 
-abbrev pub contents_code : Coded Contents
-contents_code = code_by (FrameMeta × (ℕ × (List ℕ × List Details))) (coded× meta_code (coded× coded_ℕ (coded× (coded_list coded_ℕ) (coded_list details_code))))
+abbrev pub said_code : Coded Said
+said_code = code_by (FrameMeta × (ℕ × (List ℕ × List Details))) (coded× meta_code (coded× coded_ℕ (coded× (coded_list coded_ℕ) (coded_list details_code))))
     (λ c. (c.meta, (c.kind, (c.streams, c.details))))
     (λ p. record { meta = p.0; kind = p.1.0; streams = p.1.1.0; details = p.1.1.1 })
     (λ _. refl)
 
 abbrev pub frame_code : Coded Frame
-frame_code = code_by (Contents × (Bool × Bool)) (coded× contents_code (coded× coded_bool coded_bool))
+frame_code = code_by (Said × (Bool × Bool)) (coded× said_code (coded× coded_bool coded_bool))
     (λ f. (f.contents, (f.is_unpacked, f.is_packed)))
     (λ p. record { contents = p.0; is_unpacked = p.1.0; is_packed = p.1.1 })
     (λ _. refl)

@@ -3,31 +3,23 @@ use Rattle.std.specs.Prelude.{ℕ, ◌+◌, ◌-◌, ◌^◌, ℤ, ◌-ℤ◌, B
 use Rattle.std.specs.declared.cmp.Ordering.{Ordering}
 use Rattle.std.specs.Ordering.{nat_cmp, int_cmp, is_lt, on, then_cmp, flip_args}
 use Rattle.std.specs.FinMap as map
-use Rattle.puffin_frames.specs.declared.frame_data.meta.FrameMeta.{FrameMeta}
-use Rattle.puffin_frames.specs.Details.{Details}
+use Rattle.puffin_frames.specs.Stored.{Said}
 use Rattle.puffin.specs.Ranking.{first_in_order}
-
--- what a frame says, however it is held: its meta, its streams as a packet has them, and its details
-pub record Contents : Type 0 where
-  pub meta : FrameMeta
-  pub kind : ℕ
-  pub streams : List ℕ
-  pub details : List Details
 
 -- a frame, and how it is held
 pub record Frame : Type 0 where
-  pub contents : Contents
+  pub contents : Said
   pub is_unpacked : Bool
   pub is_packed : Bool
 
-abbrev pub contents_of : Frame → Contents
+abbrev pub contents_of : Frame → Said
 contents_of f = f.contents
 
-abbrev pub frame_index : Contents → ℕ
+abbrev pub frame_index : Said → ℕ
 frame_index c = c.meta.frame_index
 
 -- the time from its least start to its greatest stop
-abbrev pub duration : Contents → ℤ
+abbrev pub duration : Said → ℤ
 duration c = c.meta.range_ns.1 -ℤ c.meta.range_ns.0
 
 abbrev pub index_of : Frame → ℕ
@@ -37,34 +29,34 @@ abbrev pub duration_of : Frame → ℤ
 duration_of f = duration f.contents
 
 -- by falling duration, then rising index
-abbrev pub by_duration : Contents → Contents → Ordering
+abbrev pub by_duration : Said → Said → Ordering
 by_duration = then_cmp (on duration (flip_args int_cmp)) (on frame_index nat_cmp)
 
 -- by rising index, then rising duration
-abbrev pub by_index : Contents → Contents → Ordering
+abbrev pub by_index : Said → Said → Ordering
 by_index = then_cmp (on frame_index nat_cmp) (on duration int_cmp)
 
-abbrev pub is_slower : Contents → Contents → Bool
+abbrev pub is_slower : Said → Said → Bool
 is_slower c d = is_lt (by_duration c d)
 
 abbrev pub is_slower_frame : Frame → Frame → Bool
 is_slower_frame f g = is_slower f.contents g.contents
 
 -- the first k by falling duration, then rising index, then place in the list
-abbrev pub slowest : ℕ → List Contents → List Contents
+abbrev pub slowest : ℕ → List Said → List Said
 slowest k cs = first_in_order is_slower k cs
 
 -- whether indices rise strictly along a list, the first above i
-abbrev pub rises_above : ℕ → List Contents → Bool
+abbrev pub rises_above : ℕ → List Said → Bool
 rises_above i [] = true
 rises_above i (c ∷ cs) = nat_lt i (frame_index c) && rises_above (frame_index c) cs
 
-abbrev pub is_rising : List Contents → Bool
+abbrev pub is_rising : List Said → Bool
 is_rising [] = true
 is_rising (c ∷ cs) = rises_above (frame_index c) cs
 
 -- the longest end of a list along which indices rise strictly: the frames since a view was last emptied by an index that didn't rise
-abbrev pub taken : List Contents → List Contents
+abbrev pub taken : List Said → List Said
 taken [] = []
 taken (c ∷ cs) = cond (is_rising (c ∷ cs)) (c ∷ cs) (taken cs)
 
@@ -82,7 +74,7 @@ packed_at i f = cond (nat_eq (index_of f) i) (packed f) f
 
 -- how many bytes a frame takes, as it is held
 abbrev pub ram_of : Frame → ℕ
-ram_of f = min (2 ^ 64 - 1) (cond f.is_unpacked f.contents.meta.num_bytes 0 + cond f.is_packed (length f.contents.streams) 0)
+ram_of f = min (cond f.is_unpacked f.contents.meta.num_bytes 0 + cond f.is_packed (length f.contents.streams) 0) (2 ^ 64 - 1)
 
 -- frames by their indices, the first at each
 abbrev pub frames_by_index : List Frame → map.FinMap nat_cmp Frame

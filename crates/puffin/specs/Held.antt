@@ -8,7 +8,7 @@ use Rattle.std.specs.Ordering.{nat_cmp}
 use Rattle.std.specs.FinMap as map
 use Rattle.std.specs.Coded.{Coded, coded_ℕ}
 use Rattle.std.specs.declared.sync.Arc.{Arc}
-use Rattle.puffin.specs.declared.profile_view.stub.FrameData.{FrameData}
+use Rattle.puffin_frames.specs.declared.frame_data.frame.FrameData.{FrameData}
 use Rattle.puffin.specs.declared.profile_view.sums.Sums.{Sums}
 use Rattle.puffin.specs.Frames.{Frame, ram_of}
 use Rattle.puffin.specs.FrameOf.{shared_frame}

@@ -3,7 +3,8 @@ use Rattle.std.specs.Prelude.{ℕ, ◌≤◌, Bool, true, false, cond, List, [],
 use Rattle.std.specs.Option.{option_map_or, option_map}
 use Rattle.std.specs.List.{AllByRecursion}
 use Rattle.puffin.specs.Ranking.{place, last_of, last_in}
-use Rattle.puffin.specs.Frames.{Contents, Frame, is_slower_frame, slowest, contents_of, frame_index, index_of, duration_of, packed_at, taken, chronological}
+use Rattle.puffin_frames.specs.Stored.{Said}
+use Rattle.puffin.specs.Frames.{Frame, is_slower_frame, slowest, contents_of, frame_index, index_of, duration_of, packed_at, taken, chronological}
 
 pub record View : Type 0 where
   -- the last frames, oldest first
@@ -74,7 +75,7 @@ after_all v [] = v
 after_all v (f ∷ fs) = after_all (after_taking v f) fs
 
 -- the view's frames are, by what they say, the last of cs and the slowest of ds
-pub record Holds (cs ds : List Contents) (v : View) : Type 0 where
+pub record Holds (cs ds : List Said) (v : View) : Type 0 where
   pub recent : map contents_of v.recent ≡ last_of v.max_recent cs
   pub slow : map contents_of v.slow ≡ slowest v.max_slow ds
 
@@ -88,11 +89,11 @@ abbrev pub IsSteady : View → Type 0
 IsSteady v = AllByRecursion (λ f. IsUpTo v.last (index_of f)) v.slow
 
 -- the index of the last of a list
-abbrev pub last_index : List Contents → Option ℕ
+abbrev pub last_index : List Said → Option ℕ
 last_index cs = option_map frame_index (last_in cs)
 
 -- a view that took frames that say cs, and whose limits weren't changed since its first frame
-pub record Took (cs : List Contents) (v : View) : Type 0 where
+pub record Took (cs : List Said) (v : View) : Type 0 where
   pub holds : Holds (taken cs) (taken cs) v
   pub last : v.last ≡ last_index cs
 

@@ -6,7 +6,6 @@ mod held_frames;
 mod listings;
 mod slow_rank;
 mod stats;
-mod stub;
 mod sums;
 
 pub use frame_view::FrameView;

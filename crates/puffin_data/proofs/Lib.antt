@@ -21,3 +21,9 @@ pub mod Lenience
 pub mod AllRead
 pub mod OneReading
 pub mod TopScopes
+pub mod Readers
+pub mod ValueReaders
+pub mod Texts
+pub mod Loops
+pub mod Devices
+pub mod Filled

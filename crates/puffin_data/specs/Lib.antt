@@ -14,5 +14,8 @@ pub mod Scopes
 pub mod Errors
 pub mod Counting
 pub mod Devices
+pub mod Parts
+pub mod Layout
+pub mod Front
 pub mod Sightings
 pub mod Walking

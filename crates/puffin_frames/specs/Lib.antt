@@ -3,6 +3,15 @@ pub mod ScopeTypes
 pub mod Details
 pub mod Collection
 pub mod HeldCollection
+pub mod ThreadStreams
+pub mod Values
+pub mod Holding
+pub mod Stored
+pub mod Tries
+pub mod Steps
+pub mod Reads
+pub mod Writes
+pub mod Forms
 pub mod Contents
 pub mod Measures
 pub mod Threads

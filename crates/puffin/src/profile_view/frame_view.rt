@@ -4,7 +4,8 @@ ghost use Rattle.puffin_data.specs.declared.error.Error.{Error};
 ghost use Rattle.puffin_frames.specs.Details.{shared_details};
 ghost use Rattle.puffin_frames.specs.Collection.{no_details, inserted_all};
 ghost use Rattle.puffin.specs.Ranking.{last_of, last_in};
-ghost use Rattle.puffin.specs.Frames.{Contents, contents_of, index_of, chronological};
+ghost use Rattle.puffin_frames.specs.Stored.{Said};
+ghost use Rattle.puffin.specs.Frames.{contents_of, index_of, chronological};
 ghost use Rattle.puffin.specs.FrameOf.{shared_frame, told};
 ghost use Rattle.puffin.specs.Views.{empty_view, with_newest_packed, is_past, after_taking, all_uniq, Holds, Took};
 ghost use Rattle.puffin.specs.Stats.{stats_of};
@@ -14,8 +15,8 @@ ghost use Rattle.puffin.specs.FrameViews.{view_of, collection_of, LearnsSome};
 use crate::profile_view::frame_store::FrameStore;
 use crate::profile_view::listings::{AllFrames, RecentFrames, SlowestFrames};
 use crate::profile_view::stats::FrameStats;
-use crate::profile_view::stub::FrameData;
 use puffin_data::Result;
+use puffin_frames::frame_data::FrameData;
 use puffin_frames::scope_details::{ScopeCollection, ScopeDetails};
 use std::alloc::Global;
 use std::sync::Arc;
@@ -66,13 +67,13 @@ impl FrameView {
         ensures refusal { IfErr result (λ e. LearnsSome (collection_of self.old) (told (shared_frame frame)) e (collection_of self.new)) }
 
         // What the view holds of any two lists, it holds of them with the frame.
-        ensures more { OnOk result ((cs ds : List Contents) → is_past (view_of self.old) (index_of (shared_frame frame)) ≡ false → Holds cs ds (view_of self.old)
+        ensures more { OnOk result ((cs ds : List Said) → is_past (view_of self.old) (index_of (shared_frame frame)) ≡ false → Holds cs ds (view_of self.old)
             → Holds (cs ++ contents_of (shared_frame frame) ∷ []) (ds ++ contents_of (shared_frame frame) ∷ []) (view_of self.new)) }
         ensures anew { OnOk result (is_past (view_of self.old) (index_of (shared_frame frame)) ≡ true
             → Holds (contents_of (shared_frame frame) ∷ []) (contents_of (shared_frame frame) ∷ []) (view_of self.new)) }
-        ensures took { OnOk result ((cs : List Contents) → Took cs (view_of self.old) → Took (cs ++ contents_of (shared_frame frame) ∷ []) (view_of self.new)) }
+        ensures took { OnOk result ((cs : List Said) → Took cs (view_of self.old) → Took (cs ++ contents_of (shared_frame frame) ∷ []) (view_of self.new)) }
     {
-        learn(&mut self.scope_collection, frame.details())?;
+        learn(&mut self.scope_collection, &frame.scope_delta)?;
         self.frames.take(frame)
     }
 
@@ -114,7 +115,7 @@ impl FrameView {
     /// Forgets which frames were the slowest.
     pub fn clear_slowest(&mut self)
         ensures frames { view_of self.new ≡ record (view_of self.old) { slow = [] } }
-        ensures holds { (cs ds : List Contents) → Holds cs ds (view_of self.old) → Holds cs [] (view_of self.new) }
+        ensures holds { (cs ds : List Said) → Holds cs ds (view_of self.old) → Holds cs [] (view_of self.new) }
         ensures collection { collection_of self.new ≡ collection_of self.old }
     {
         self.frames.clear_slowest();

@@ -7,10 +7,9 @@ ghost use Rattle.puffin.specs.FrameOf.{shared_frame, frames_of};
 ghost use Rattle.puffin.specs.Stats.{stats_of};
 
 use crate::profile_view::stats::FrameStats;
-use crate::profile_view::stub::FrameData;
 use crate::profile_view::sums::Sums;
 use puffin_data::{Error, Result};
-use puffin_frames::frame_data::FrameIndex;
+use puffin_frames::frame_data::{FrameData, FrameIndex};
 use std::alloc::Global;
 use std::collections::BTreeMap;
 use std::collections::btree_map::Values;

@@ -4,8 +4,7 @@ ghost use Rattle.puffin.specs.FrameOf.{shared_frame};
 
 use crate::profile_view::held_frames::HeldFrames;
 use crate::profile_view::slow_rank::{SlowRank, has_index};
-use crate::profile_view::stub::FrameData;
-use puffin_frames::frame_data::FrameIndex;
+use puffin_frames::frame_data::{FrameData, FrameIndex};
 use std::collections::{btree_map, vec_deque};
 use std::sync::Arc;
 

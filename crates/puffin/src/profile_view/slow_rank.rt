@@ -5,9 +5,8 @@ ghost use Rattle.puffin.specs.FrameOf.{frame_of};
 ghost use Rattle.puffin.specs.Ranking.{place};
 ghost use Rattle.puffin.specs.Ranks.{rank_of, rank_cmp, is_before, rank_enters};
 
-use crate::profile_view::stub::FrameData;
 use puffin_data::NanoSecond;
-use puffin_frames::frame_data::FrameIndex;
+use puffin_frames::frame_data::{FrameData, FrameIndex};
 use std::cmp::Reverse;
 
 /// Where a frame stands among the slowest: by falling duration, then rising index.

@@ -1,10 +1,10 @@
 ghost use Rattle.std.specs.Prelude.{◌≡◌, ◌+◌, []};
 ghost use Rattle.std.specs.Iterator.{IsFinite};
 ghost use Rattle.std.specs.Iterator.Runs.{WholeRun};
-ghost use Rattle.puffin.specs.FrameOf.{lent_frames, shared_frame};
+ghost use Rattle.puffin.specs.FrameOf.{frame_of, lent_frames};
 ghost use Rattle.puffin.specs.Stats.{stats_of, with_frame};
 
-use crate::profile_view::stub::FrameData;
+use puffin_frames::frame_data::FrameData;
 use std::fmt::Debug;
 use std::sync::Arc;
 
@@ -29,7 +29,7 @@ impl FrameStats {
 
     /// The same with one frame more.
     fn with(self, frame: &FrameData) -> FrameStats
-        ensures { result ≡ with_frame self frame.now }
+        ensures { result ≡ with_frame self (frame_of frame.now) }
     {
         FrameStats {
             frames: self.frames.saturating_add(1),

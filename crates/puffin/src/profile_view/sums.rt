@@ -3,7 +3,7 @@ ghost use Rattle.puffin.specs.Stats.{cut};
 ghost use Rattle.puffin.specs.Held.{number_if, ram_if, unpacked_if};
 
 use crate::profile_view::stats::FrameStats;
-use crate::profile_view::stub::FrameData;
+use puffin_frames::frame_data::FrameData;
 use std::sync::Arc;
 
 /// Running sums over frames. They may be too great for `usize`, and are right again where they fall.

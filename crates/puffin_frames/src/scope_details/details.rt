@@ -13,7 +13,7 @@ use std::borrow::CowStr;
 /// line; a missing id or name comes first.
 #[derive(Debug, PartialEq, Eq, PartialOrd, Ord, Hash, Drop)]
 pub struct ScopeDetails {
-    scope_id: Option<ScopeId>,
+    pub(crate) scope_id: Option<ScopeId>,
     /// The scope's own name, or `None` where it is a whole function.
     pub scope_name: Option<CowStr<'static>>,
     /// The function that the scope is in.

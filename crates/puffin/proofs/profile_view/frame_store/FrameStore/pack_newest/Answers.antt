@@ -6,6 +6,7 @@ use Rattle.puffin.specs.Frames.{Frame, index_of, packed}
 use Rattle.puffin.specs.FrameOf.{frame_of, shared_frame}
 use Rattle.puffin.specs.Ranks.{rank_index}
 use Rattle.puffin.specs.Stored.{AreStored, frames_at}
+use Rattle.puffin.proofs.Holding.{packed_copied}
 use Rattle.puffin.proofs.Joining.{packed_newest, newest_is_packed}
 use Rattle.puffin.proofs.Storing.{stored_as, view_as}
 use Rattle.puffin.proofs.profile_view.frame_store.FrameStore.pack_newest.Goals as goal
@@ -25,7 +26,8 @@ same : (c : goal.In_ok-insert) → before c ≡ c.args.self.now
 same c = c.self.view_is
 
 packs : (c : goal.In_ok-insert) → shared_frame c.in_ok-packed.packed ≡ packed (newest c)
-packs c = ap frame_of c.in_ok-packed.ensures.ok ∙ c.in_ok-packed_copy.ensures.ok ∙ ap (λ f. packed (frame_of f)) c.deref.ensures
+packs c =
+    ap frame_of c.in_ok-packed.ensures.ok ∙ packed_copied c.deref.result.now c.in_ok-packed_copy.field-0 c.in_ok-packed_copy.ensures.held c.in_ok-packed_copy.ensures.says ∙ ap (λ f. packed (frame_of f)) c.deref.ensures
 
 stored : (c : goal.In_ok-insert) → AreStored c.insert.new.self c.self.inside.recent.items c.self.inside.slow.items c.self.inside.last (with_packed (index_of (newest c)) (before c)).recent (with_packed (index_of (newest c)) (before c)).slow
 stored c =

@@ -1,6 +1,6 @@
 use Rattle.std.proofs.Common.{List, subst, sym, ap, ◌∙◌, ◌++◌, ◌∷◌, []}
 use Rattle.std.proofs.lemmas.Result.{on_ok_weaker, err_from_is_err_and}
-use Rattle.puffin_frames.specs.Details.{Details}
+use Rattle.puffin_frames.specs.Details.{Details, shared_details}
 use Rattle.puffin.specs.Frames.{contents_of}
 use Rattle.puffin.specs.FrameOf.{shared_frame, told, frame_of}
 use Rattle.puffin.specs.Views.{View, Holds, Took}
@@ -12,7 +12,7 @@ pub returns-in_err-learn-clause-refusal : goal.returns-in_err-learn-clause-refus
 returns-in_err-learn-clause-refusal c =
     let p = err_from_is_err_and c.from_residual.result c.from_residual.ensures.1 in
     let P : List Details → Type 0 = λ ds. LearnsSome (collection_of c.args.self.now) ds c.in_err-learn.field-0.0 c.learn.new.collection in
-    rw (p.1, p.2) (subst P (c.details.ensures ∙ ap (λ f. told (frame_of f)) c.deref.ensures) c.in_err-learn.ensures.refusal)
+    rw (p.1, p.2) (subst P (ap shared_details c.deref-2.ensures.value ∙ ap (λ f. told (frame_of f)) c.deref.ensures) c.in_err-learn.ensures.refusal)
 
 pub returns-clause-more : goal.returns-clause-more
 returns-clause-more c =

@@ -1,9 +1,9 @@
 use Rattle.std.proofs.Common.{◌≡◌, ap, ◌∙◌, ◌<◌, ◌+◌, ◌^◌, length, arith}
 use Rattle.std.specs.FinMap as fin
-use Rattle.puffin.specs.Frames.{Frame, index_of}
-use Rattle.puffin.specs.FrameOf.{shared_frame}
+use Rattle.puffin.specs.Frames.{index_of, ram_of}
+use Rattle.puffin.specs.FrameOf.{frame_of, shared_frame}
 use Rattle.puffin.specs.Held.{unpacked_number, ram_taken, number_if}
-use Rattle.puffin.proofs.Holding.{one_of_sum, few_before, numbers_below, ram_below, sum_inserted, held_of-inserted}
+use Rattle.puffin.proofs.Holding.{one_of_sum, few_before, numbers_below, ram_below, sum_inserted, held_of-inserted, ram_says}
 use Rattle.puffin.proofs.profile_view.held_frames.HeldFrames.insert.Goals as goal
 
 pub lower-requires-clause-unpacked_frames : goal.lower-requires-clause-unpacked_frames
@@ -31,10 +31,10 @@ raise-requires-clause-bytes c =
     omega arith
 
 unpacked_is : (c : goal.After-raise) → c.has_unpacked-is_unpacked.result ≡ (shared_frame c.args.frame).is_unpacked
-unpacked_is c = c.has_unpacked-is_unpacked.ensures ∙ ap (λ (f : Frame). f.is_unpacked) c.deref-2.ensures
+unpacked_is c = c.has_unpacked-is_unpacked.ensures ∙ ap (λ f. (frame_of f).is_unpacked) c.deref-2.ensures
 
 index_is : (c : goal.After-raise) → c.frame_index-index.result ≡ index_of (shared_frame c.args.frame)
-index_is c = c.frame_index-index.ensures ∙ ap index_of c.deref.ensures
+index_is c = c.frame_index-index.ensures ∙ ap (λ f. index_of (frame_of f)) c.deref.ensures
 
 pub invariant_of-self-2 : goal.invariant_of-self-2
 invariant_of-self-2 c = record {
@@ -45,7 +45,7 @@ invariant_of-self-2 c = record {
       c.lower.ensures.unpacked_frames (ap (λ s. s.unpacked_frames) c.raise.ensures ∙ ap (λ b. c.lower.new.self.unpacked_frames + number_if b) (unpacked_is c));
   bytes = sum_inserted ram_taken c.self.inside.frames.entries c.insert.new.self.entries c.frame_index-index.result c.args.frame c.in-Ok.before
       c.self.inside.sums.bytes_of_ram_used c.lower.new.self.bytes_of_ram_used c.raise.new.self.bytes_of_ram_used c.in-Ok.ensures.entries c.in-Ok.ensures.old c.self.invariant.ordered c.self.invariant.bytes
-      c.lower.ensures.bytes (ap (λ s. s.bytes_of_ram_used) c.raise.ensures ∙ ap (λ n. c.lower.new.self.bytes_of_ram_used + n) (c.bytes_of_ram_used-bytes.ensures ∙ ap Rattle.puffin.specs.Frames.ram_of c.deref-3.ensures));
+      c.lower.ensures.bytes (ap (λ s. s.bytes_of_ram_used) c.raise.ensures ∙ ap (λ n. c.lower.new.self.bytes_of_ram_used + n) (c.bytes_of_ram_used-bytes.ensures ∙ ram_says c.deref-3.result.now ∙ ap (λ f. ram_of (frame_of f)) c.deref-3.ensures));
 }
 
 pub returns-clause-ok : goal.returns-clause-ok
