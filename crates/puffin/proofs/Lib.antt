@@ -13,3 +13,4 @@ pub mod Listing
 pub mod Chronology
 pub mod Learning
 pub mod Counting
+pub mod Selecting

@@ -15,3 +15,4 @@ pub mod Held
 pub mod Stored
 pub mod Listings
 pub mod FrameViews
+pub mod Selections

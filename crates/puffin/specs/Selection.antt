@@ -10,10 +10,13 @@ pub record Rank : Type 0 where
   pub index : ℕ
   pub place : ℕ
 
+abbrev pub rank_at : ℕ → Frame → Rank
+rank_at k f = record { duration = duration_of f; index = index_of f; place = k }
+
 -- the ranks of frames, the first at place k
 abbrev pub ranks_from : ℕ → List Frame → List Rank
 ranks_from k [] = []
-ranks_from k (f ∷ fs) = record { duration = duration_of f; index = index_of f; place = k } ∷ ranks_from (suc k) fs
+ranks_from k (f ∷ fs) = rank_at k f ∷ ranks_from (suc k) fs
 
 -- by falling duration, then rising index, then place
 abbrev pub slower_rank : Rank → Rank → Bool

@@ -4,10 +4,12 @@ mod frame_store;
 mod frame_view;
 mod held_frames;
 mod listings;
+mod select;
 mod slow_rank;
 mod stats;
 mod sums;
 
 pub use frame_view::FrameView;
 pub use listings::{AllFrames, RecentFrames, SlowestFrames};
+pub use select::select_slowest;
 pub use stats::FrameStats;
