@@ -8,6 +8,8 @@ mod select;
 mod slow_rank;
 mod stats;
 mod sums;
+#[cfg(test)]
+mod tests;
 
 pub use frame_view::FrameView;
 pub use listings::{AllFrames, RecentFrames, SlowestFrames};
