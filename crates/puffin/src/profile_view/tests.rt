@@ -24,6 +24,21 @@ fn frame(rt: &HostRuntime, index: FrameIndex, duration: NanoSecond) -> Result<Ar
     Ok(Arc::new(alloc, frame)?)
 }
 
+/// One scope of 35 bytes with a text, of a thread whose start is known. Packed, its stream has 50 bytes.
+fn known_frame(rt: &HostRuntime, index: FrameIndex) -> Result<Arc<FrameData>> {
+    let alloc = rt.alloc();
+    let mut bytes = Vec::from_slice(alloc, b"(\x01\0\0\0d\0\0\0\0\0\0\0\x04data")?;
+    bytes.extend_from_slice(b"\0\0\0\0\0\0\0\0)\x2c\x01\0\0\0\0\0\0")?;
+    let mut streams = BTreeMap::new(alloc);
+    let thread = ThreadInfo {
+        start_time_ns: Some(100),
+        name: String::from_str(alloc, "main")?,
+    };
+    let _none = streams.insert(thread, StreamInfo::parse(alloc, Stream::from(bytes))?)?;
+    let frame = FrameData::new(alloc, index, streams, Vec::new(alloc), false)?;
+    Ok(Arc::new(alloc, frame)?)
+}
+
 /// The indices of the recent frames.
 fn recent(rt: &HostRuntime, view: &FrameView) -> Result<Vec<FrameIndex>> {
     let mut all = Vec::new(rt.alloc());
@@ -74,6 +89,17 @@ fn numbers(stats: FrameStats) -> (usize, usize, usize) {
         stats.unpacked_frames(),
         stats.bytes_of_ram_used(),
     )
+}
+
+#[test]
+fn a_packed_frame_counts_its_packed_bytes(rt: HostRuntime) -> Outcome {
+    let mut frames = FrameView::new(rt.alloc());
+    frames.add_frame(known_frame(&rt, 0)?)?;
+    assert_eq!(rt; numbers(frames.stats()), (1, 1, 35));
+    frames.add_frame(known_frame(&rt, 1)?)?;
+    assert_eq!(rt; numbers(frames.stats()), (2, 1, 85));
+    assert_eq!(rt; numbers(frames.stats_full()), (2, 1, 85));
+    Ok(())
 }
 
 #[test]
