@@ -1,9 +1,9 @@
-use Rattle.std.proofs.Common.{◌≡◌, List, map, take, ap, ◌∙◌, subst, sym, refl}
+use Rattle.std.proofs.Common.{◌≡◌, List, map, take, ap, ◌∙◌, subst, refl}
 use Rattle.puffin.specs.FrameOf.{frames_of}
 use Rattle.std.specs.Prelude.{IsPermutation, filter_map, slice_get}
 use Rattle.std.proofs.lemmas.Result.{IfOk-weaker}
 use Rattle.std.proofs.lemmas.List.Sorted.{IsPermutation-map}
-use Rattle.puffin.specs.Selection.{Rank, IsSelection, slower_rank, older_rank}
+use Rattle.puffin.specs.Selection.{Rank, slower_rank, older_rank}
 use Rattle.puffin.specs.Selections.{slow_place, old_place}
 use Rattle.puffin.proofs.Orders.{map-take}
 use Rattle.puffin.proofs.Selecting.{map_sorted}

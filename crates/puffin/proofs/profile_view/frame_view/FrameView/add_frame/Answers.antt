@@ -5,7 +5,7 @@ use Rattle.puffin.specs.Frames.{contents_of}
 use Rattle.puffin.specs.FrameOf.{shared_frame, told, frame_of}
 use Rattle.puffin.specs.Views.{View, Holds, Took}
 use Rattle.puffin.specs.FrameViews.{LearnsSome, view_of, collection_of}
-use Rattle.puffin.proofs.Taking.{Holds-more, Holds-anew, Took-more}
+use Rattle.puffin.proofs.Taking.{Holds-more, Took-more}
 use Rattle.puffin.proofs.profile_view.frame_view.FrameView.add_frame.Goals as goal
 
 pub returns-in_err-learn-clause-refusal : goal.returns-in_err-learn-clause-refusal

@@ -1,5 +1,5 @@
-use Rattle.std.proofs.Common.{◌≡◌, true, false, map, ◌∷◌, sym, ap, ◌∙◌}
-use Rattle.puffin.specs.Frames.{Frame, index_of}
+use Rattle.std.proofs.Common.{◌≡◌, true, false, map, ◌∷◌, ap}
+use Rattle.puffin.specs.Frames.{index_of}
 use Rattle.puffin.specs.FrameOf.{frame_of, shared_frame}
 use Rattle.puffin.specs.Ranks.{rank_index, has}
 use Rattle.puffin.specs.Listings.{slowest_left}
