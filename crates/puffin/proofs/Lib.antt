@@ -1,3 +1,16 @@
 pub mod Reporting
+pub mod Rankings
+pub mod Orders
+pub mod Taking
+pub mod Keeping
+pub mod Holding
+pub mod Placing
+pub mod Storing
+pub mod Joining
 pub mod Knowing
 pub mod Registrations
+pub mod Listing
+pub mod Chronology
+pub mod Learning
+pub mod Counting
+pub mod Selecting

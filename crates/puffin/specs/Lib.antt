@@ -2,3 +2,17 @@ pub mod Collected
 pub mod Registering
 pub mod Collecting
 pub mod Profiled
+pub mod Ranking
+pub mod Frames
+pub mod Views
+pub mod Codes
+pub mod Kept
+pub mod Selection
+pub mod Stats
+pub mod FrameOf
+pub mod Ranks
+pub mod Held
+pub mod Stored
+pub mod Listings
+pub mod FrameViews
+pub mod Selections
