@@ -21,3 +21,6 @@ pub mod Lenience
 pub mod AllRead
 pub mod OneReading
 pub mod TopScopes
+pub mod SightsSeen
+pub mod Going
+pub mod Visited

@@ -16,3 +16,6 @@ pub mod Counting
 pub mod Devices
 pub mod Sightings
 pub mod Walking
+pub mod Sights
+pub mod Visiting
+pub mod Goings
