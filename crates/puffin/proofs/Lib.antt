@@ -1,1 +1,10 @@
 pub mod Reporting
+pub mod Starting
+pub mod Reordering
+pub mod AnyOrder
+pub mod Growing
+pub mod Assembling
+pub mod Examples
+pub mod Paths
+pub mod Finding
+pub mod Tabling

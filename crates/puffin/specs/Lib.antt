@@ -1,3 +1,17 @@
 pub mod Collected
 pub mod Collecting
 pub mod Profiled
+pub mod Occurrences
+pub mod Pieces
+pub mod Starts
+pub mod MergedForests
+pub mod Merges
+pub mod Origins
+pub mod Assembled
+pub mod Tables
+pub mod Frames
+pub mod Refusals
+pub mod Seen
+pub mod Places
+pub mod Merging
+pub mod Steps

@@ -4,6 +4,7 @@
 #![tactic(auto)]
 
 pub mod global_profiler;
+pub mod merge;
 #[cfg(test)]
 mod tests;
 

@@ -1,7 +1,7 @@
 //! The strict walk with a visitor, which takes each scope as it is entered.
 
 ghost use Rattle.std.specs.Prelude.{◌≡◌, ℕ, ◌+◌, ◌*◌, ◌≤◌, List, [], ◌∷◌, ◌++◌, length, IfOk, IfErr, ◌⊎◌};
-ghost use Rattle.puffin_data.specs.Forest.{Span};
+ghost use Rattle.puffin_data.specs.Forest.{Span, IsSpan};
 ghost use Rattle.puffin_data.specs.Sightings.{found_of};
 ghost use Rattle.puffin_data.specs.Sights.{Nested};
 ghost use Rattle.puffin_data.specs.Visiting.{TakesAll, StopsEarly};
@@ -30,7 +30,8 @@ pub trait Visitor<'s> {
 
     /// Takes a scope that stands directly within the one of which this is kept, and answers what is to be kept of it.
     fn enter(&mut self, within: Self::Within, scope: &Sighting<'s>) -> Result<Self::Within>
-        requires { (around : List Span) × stands_for self.old within around }
+        requires stands { (around : List Span) × stands_for self.old within around }
+        requires span { IsSpan (found_of scope.now).span }
         ensures ok { IfOk result (λ inner. Entering takes stands_for self.old within (found_of scope.now).span inner self.new) }
         ensures err { IfErr result (λ e. (e ≡ Error.Memory) ⊎ Refusing refuses stands_for self.old within (found_of scope.now).span e) };
 

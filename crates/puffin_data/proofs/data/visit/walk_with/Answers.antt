@@ -1,4 +1,4 @@
-use Rattle.std.proofs.Common.{ℕ, ◌≡◌, ◌+◌, ◌*◌, ◌≤◌, List, [], ◌∷◌, ◌++◌, length, reverse, All, Some, ap, subst, sym, ◌∙◌, get_or, cond, eqb, arith, inl, inr}
+use Rattle.std.proofs.Common.{ℕ, ◌≡◌, ◌+◌, ◌*◌, ◌≤◌, List, [], ◌∷◌, ◌++◌, length, reverse, All, Some, ap, subst, sym, ◌∙◌, get_or, cond, eqb, arith, inl, inr, refl, ◌-◌, drop}
 use Rattle.std.proofs.lemmas.List.{length_push, nil_from_length}
 use Rattle.std.proofs.lemmas.List.Elements.{All-push, All-pop}
 use Rattle.std.proofs.lemmas.Result.{err_from_is_err_and}
@@ -9,9 +9,10 @@ use Rattle.puffin_data.specs.Sightings.{found_of}
 use Rattle.puffin_data.specs.Walking.{tries_in}
 use Rattle.puffin_data.specs.Visiting.{StopsEarly, StopsAtFault}
 use Rattle.puffin_data.specs.Goings.{Visits}
-use Rattle.puffin_data.proofs.Numbers.{IsBytes}
+use Rattle.puffin_data.proofs.Numbers.{IsBytes, IsBytes-drop, IsBytes-take}
 use Rattle.puffin_data.proofs.Found.{passes}
 use Rattle.puffin_data.proofs.Resuming.{found_places, IsNested}
+use Rattle.puffin_data.proofs.Spelled.{spelt}
 use Rattle.puffin_data.proofs.Going.{nested_low_regions, regions_push, regions_pop, ends_of, enters_region, leaves_region, ended, fails, refusing, all_of_it}
 use Rattle.puffin_data.proofs.Visited.{all_taken, stops_at_fault, stops_at_refusal}
 use Rattle.puffin_data.proofs.data.visit.walk_with.Goals as goal
@@ -39,6 +40,13 @@ returns-in_err-within-clause-err g c =
           (all_of_it c.args.outside c.args.visitor.now 0 0 (length bytes) _ (c.scopes.invariant.resumes _
           (refusing (reverse c.scopes.outers.items) c.scopes.region.within c.scopes.visitor c.scopes.tries c.scopes.at c.scopes.region.end (found_of c.in_ok-scope.scope) c.in_err-within.field-0.0 c.in_ok-scope.ensures.sound refused)))))
     ])
+
+pub enter-requires : goal.enter-requires
+enter-requires g c κs =
+    let bytes = c.args.bytes.now in
+    let fits : IsBytes bytes = λ i. omega (arith, c.type_inv.bytes i) in
+    let part : IsBytes (region bytes c.scopes.at c.scopes.region.end) = IsBytes-take (c.scopes.region.end - c.scopes.at) (drop c.scopes.at bytes) (IsBytes-drop c.scopes.at bytes fits) in
+    ((refl, tt), (c.scopes.invariant.stands, (spelt (region bytes c.scopes.at c.scopes.region.end) (found_of c.in_ok-scope.scope) part c.in_ok-scope.ensures.sound).fits))
 
 pub overflow_add-region : goal.overflow_add-region
 overflow_add-region g c =
