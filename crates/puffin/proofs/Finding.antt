@@ -88,9 +88,9 @@ found_more t u key n x f items is number updates fresh =
     let size : vec_len t.nodes ≡ length t.nodes.items = t.nodes.ok.0 in
     let wide : vec_len u.nodes ≡ vec_len t.nodes + 1 = u.nodes.ok.0 ∙ ap length items ∙ length_push t.nodes.items n ∙ ap (λ (m : ℕ). m + 1) (sym size) in
     let before : (k : ℕ) (d : Node) → k < vec_len t.nodes → get_or u.nodes.items k d ≡ get_or t.nodes.items k d =
-        λ k d lt. ap (λ (xs : List Node). get_or xs k d) items ∙ get_or_append_left t.nodes.items (n ∷ []) d k (omega (arith, lt)) in
+    λ k d lt. ap (λ (xs : List Node). get_or xs k d) items ∙ get_or_append_left t.nodes.items (n ∷ []) d k (omega (arith, lt)) in
     let last : (k : ℕ) (d : Node) → k ≡ vec_len t.nodes → get_or u.nodes.items k d ≡ n =
-        λ k d e. ap (λ (xs : List Node). get_or xs k d) items ∙ get_or_push t.nodes.items n d k (omega (arith, e)) in
+    λ k d e. ap (λ (xs : List Node). get_or xs k d) items ∙ get_or_push t.nodes.items n d k (omega (arith, e)) in
     record {
       found = λ q y e. found_by t u key n x f is number fresh before last wide q y (is_at (key_cmp key) q) refl (sym (updates q) ∙ e);
       all_found = λ k d lt. elim (cases_lt k (vec_len t.nodes)) [
@@ -148,5 +148,5 @@ found_kept t u f numbers size keys = record {
       (old.0, omega arith, λ d. subst (λ (k : Key). IsSameKey k q) (sym (keys (y.number - 1) d)) (old.2 d));
   all_found = λ k d lt.
       subst (λ m. lookup (is_at (key_cmp (get_or u.nodes.items k d).key)) m.entries ≡ Some (record { number = k + 1 })) (sym numbers)
-          (subst (λ (q : Key). lookup (is_at (key_cmp q)) t.numbers.entries ≡ Some (record { number = k + 1 })) (sym (keys k d)) (f.all_found k d (omega (arith, lt, size))));
+      (subst (λ (q : Key). lookup (is_at (key_cmp q)) t.numbers.entries ≡ Some (record { number = k + 1 })) (sym (keys k d)) (f.all_found k d (omega (arith, lt, size))));
 }

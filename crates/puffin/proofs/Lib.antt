@@ -8,3 +8,8 @@ pub mod Examples
 pub mod Paths
 pub mod Finding
 pub mod Tabling
+pub mod Entering
+pub mod FramesRead
+pub mod Streams
+pub mod CodeFrames
+pub mod Placing

@@ -133,7 +133,7 @@ grown all t u i o d n table h path is items numbers fits =
     record {
       each = λ k e lt. subst (λ (xs : List Node). IsNodeOf (all ++ (o ∷ [])) xs k (get_or xs k e)) (sym items)
           (subst (λ (m : Node). IsNodeOf (all ++ (o ∷ [])) (set nodes i n) k m) (same_at (set nodes i n) k d e (omega (arith, lt, wide, length-set nodes i n)))
-              (grown_each all t u i k o d n table h (omega (arith, lt, wide)) path is items fits));
+          (grown_each all t u i k o d n table h (omega (arith, lt, wide)) path is items fits));
       apart = λ p q x y e. table.apart p q (omega (arith, x, wide)) (omega (arith, y, wide)) (sym (paths p) ∙ e ∙ paths q);
       whole = All-push (λ (x : Occurrence). (k : ℕ) × (k < vec_len u.nodes) × (path_at u.nodes.items (k + 1) ≡ x.path)) all o
           (λ j e lt. let old = table.whole j e lt in (old.0, subst (λ (m : ℕ). old.0 < m) (sym wide) old.1, paths (old.0 + 1) ∙ old.2))
@@ -244,7 +244,7 @@ adds_grown t u key own_start duration x some low high has new fits =
     let one : x ≡ (x - 1) + 1 = omega arith in
     let kept : (p : ℕ) → path_at u.nodes.items p ≡ path_at nodes p = λ p. ap (λ (xs : List Node). path_at xs p) (new.1 d) ∙ path_at-set nodes (x - 1) _ d p refl in
     let path : (all : List Occurrence) → IsTableOf all t → below (path_at nodes key.parent.number) (label_in key) ≡ path_at nodes ((x - 1) + 1) =
-        λ all table. sym (path_of_key all nodes (x - 1) (get_or nodes (x - 1) d) key (table.each (x - 1) d (omega arith)) (has d)) in
+    λ all table. sym (path_of_key all nodes (x - 1) (get_or nodes (x - 1) d) key (table.each (x - 1) d (omega arith)) (has d)) in
     record {
       number = omega (arith, high, wide);
       path = kept x ∙ ap (path_at nodes) one ∙ sym (path some.0 some.1);

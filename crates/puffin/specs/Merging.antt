@@ -33,7 +33,7 @@ pub record StandsFor (v : Merging) (w : Open) (around : List Span) : Type 0 wher
 
 -- ---- laws
 
-append-nil : {A : Type 0} (xs : List A) → xs ++ [] ≡ xs
+pub append-nil : {A : Type 0} (xs : List A) → xs ++ [] ≡ xs
 append-nil [] = refl
 append-nil (x ∷ xs) = ap (λ l. x ∷ l) (append-nil xs)
 
@@ -53,7 +53,7 @@ takes_none v = record {
 pub takes_more : (u v w : Merging) (xs ys : List Nested) → TakesScopes u xs v → TakesScopes v ys w → TakesScopes u (xs ++ ys) w
 takes_more u v w xs ys a b =
     let split : occurrences_in u.origin (xs ++ ys) ≡ occurrences_in u.origin xs ++ occurrences_in v.origin ys =
-        map-append (occurrence_of u.origin) xs ys ∙ ap (λ (o : ℤ). occurrences_in u.origin xs ++ occurrences_in o ys) (sym a.origin) in
+    map-append (occurrence_of u.origin) xs ys ∙ ap (λ (o : ℤ). occurrences_in u.origin xs ++ occurrences_in o ys) (sym a.origin) in
     let first = a.extends in
     let second = b.extends in
     let low = first.longer in

@@ -1,5 +1,5 @@
 -- The nodes of a table in the order in which their forest is made, and their starts. Steps of the proof, and no part of what is promised.
-use Rattle.std.specs.Prelude.{◌≡◌, ℕ, ◌+◌, ◌-◌, ◌/◌, ◌<◌, ◌≤◌, ◌==◌, ℤ, pos, ◌+ℤ◌, FitsSigned, List, [], ◌∷◌, length, map, slice_index_or, All, Contains, if◌then◌else◌}
+use Rattle.std.specs.Prelude.{◌≡◌, ℕ, ◌+◌, ◌-◌, ◌/◌, ◌<◌, ◌≤◌, ◌==◌, ℤ, pos, ◌+ℤ◌, FitsSigned, List, [], ◌∷◌, length, map, slice_index_or, All, ◌⊎◌, if◌then◌else◌}
 use Rattle.std.specs.Int.{w64}
 use Rattle.std.specs.declared.cmp.Ordering.{Ordering}
 use Rattle.std.specs.Ordering.{nat_cmp, int_cmp, on, then_cmp}
@@ -14,14 +14,30 @@ use Rattle.puffin.specs.Tables.{label_in, merged_in}
 abbrev pub node_of_place : List Node → Place → Node → Node
 node_of_place nodes p d = slice_index_or nodes (p.number.number - 1) d
 
--- a place is that of its node
-pub record IsPlaceOf (nodes : List Node) (p : Place) : Type 0 where
-  pub low : 0 < p.number.number
-  pub high : p.number.number ≤ length nodes
-  pub parent : (d : Node) → p.parent.number ≡ (node_of_place nodes p d).key.parent.number
-  pub own_start : (d : Node) → p.own_start ≡ (node_of_place nodes p d).sums.own_start
-  pub id : (d : Node) → p.id ≡ (node_of_place nodes p d).key.id
-  pub text : (d : Node) → p.text.now ≡ (node_of_place nodes p d).key.text.now
+-- a place is that of the node at k
+pub record IsPlaceAt (nodes : List Node) (k : ℕ) (p : Place) : Type 0 where
+  pub number : p.number.number ≡ k + 1
+  pub parent : (d : Node) → p.parent.number ≡ (slice_index_or nodes k d).key.parent.number
+  pub own_start : (d : Node) → p.own_start ≡ (slice_index_or nodes k d).sums.own_start
+  pub id : (d : Node) → p.id ≡ (slice_index_or nodes k d).key.id
+  pub text : (d : Node) → p.text.now ≡ (slice_index_or nodes k d).key.text.now
+
+abbrev pub IsPlaceOf : List Node → Place → Type 0
+IsPlaceOf nodes p = (k : ℕ) × (k < length nodes) × IsPlaceAt nodes k p
+
+-- some element, by recursion
+abbrev pub SomeOf : {A : Type 0} → (A → Type 0) → List A → Type 0
+SomeOf P [] = ⊥
+SomeOf P (x ∷ xs) = P x ⊎ SomeOf P xs
+
+-- each two differ, by recursion
+abbrev pub EachOf : {A : Type 0} → (A → Type 0) → List A → Type 0
+EachOf P [] = Unit {0}
+EachOf P (x ∷ xs) = P x × EachOf P xs
+
+abbrev pub AreApart : List Place → Type 0
+AreApart [] = Unit {0}
+AreApart (p ∷ places) = EachOf (λ q. p.number.number ≡ q.number.number → ⊥) places × AreApart places
 
 -- by parent's number, then as siblings, and then by number
 abbrev pub place_cmp : Place → Place → Ordering
@@ -30,7 +46,8 @@ place_cmp = then_cmp (on (λ p. p.parent.number) nat_cmp) (then_cmp (on (λ p. p
 pub record ArePlacesOf (nodes : List Node) (places : List Place) : Type 0 where
   pub size : length places ≡ length nodes
   pub each : All (IsPlaceOf nodes) places
-  pub whole : (k : ℕ) → k < length nodes → Contains (map (λ p. p.number.number) places) (k + 1)
+  pub whole : (k : ℕ) → k < length nodes → SomeOf (λ p. p.number.number ≡ k + 1) places
+  pub apart : AreApart places
   pub sorted : IsSorted place_cmp places
 
 -- each start as early as it can be: after one sibling's end, from 0 where the parent is another than before

@@ -1,5 +1,13 @@
 //! Scopes of many frames, merged by their paths of ids and texts.
 
+ghost use Rattle.std.specs.Prelude.{◌≡◌, ◌≤◌, ◌⊎◌, length, IfOk, IfErr};
+ghost use Rattle.puffin_frames.specs.Info.{info_of};
+ghost use Rattle.puffin.specs.Occurrences.{occurrences};
+ghost use Rattle.puffin.specs.Frames.{most_tries};
+ghost use Rattle.puffin.specs.Refusals.{IsRefusal, AreMerged};
+ghost use Rattle.puffin.specs.Seen.{frames_bytes, forest_in};
+
+pub mod laws;
 mod scope;
 mod starts;
 mod stream;
@@ -9,11 +17,10 @@ mod tests;
 mod tree;
 
 use crate::frame_data::UnpackedFrameData;
-use crate::merge::stream::{Merging, Open};
+use crate::merge::stream::{Merging, read_frame};
 use crate::merge::tree::tree_of;
 use crate::thread_profiler::ThreadInfo;
-use puffin_data::Result;
-use puffin_data::data::walk_with;
+use puffin_data::{Error, Result};
 pub use scope::MergeScope;
 use std::alloc::Global;
 use std::sync::Arc;
@@ -32,7 +39,12 @@ pub fn merge_scopes_for_thread<'s>(
     alloc: Global,
     frames: &'s [Arc<UnpackedFrameData>],
     info: &ThreadInfo,
-) -> Result<Vec<MergeScope<'s>>> {
+) -> Result<Vec<MergeScope<'s>>>
+    // What it gives is the frames' merge.
+    ensures merged { IfOk result (λ merged. AreMerged (frames_bytes (info_of info.now) frames.now) (forest_in merged.items)) }
+    // What it is refused with, if not for want of memory, is the frames' refusal.
+    ensures refused { IfErr result (λ e. (e ≡ Error.Memory) ⊎ IsRefusal (frames_bytes (info_of info.now) frames.now) e) }
+{
     let mut tries = 0;
     merge_scopes_counted(alloc, frames, info, &mut tries)
 }
@@ -43,25 +55,20 @@ pub fn merge_scopes_counted<'s>(
     frames: &'s [Arc<UnpackedFrameData>],
     info: &ThreadInfo,
     tries: &mut u128,
-) -> Result<Vec<MergeScope<'s>>> {
+) -> Result<Vec<MergeScope<'s>>>
+    // What it gives is the frames' merge, with one try for each scope.
+    ensures merged { IfOk result (λ merged. (m : AreMerged (frames_bytes (info_of info.now) frames.now) (forest_in merged.items)) × (tries.new ≡ length (occurrences m.scopes))) }
+    // What it is refused with, if not for want of memory, is the frames' refusal.
+    ensures refused { IfErr result (λ e. (e ≡ Error.Memory) ⊎ IsRefusal (frames_bytes (info_of info.now) frames.now) e) }
+    ensures few { tries.new ≤ most_tries (frames_bytes (info_of info.now) frames.now) }
+{
     *tries = 0;
     let mut merging = Merging::new(alloc);
     for i in 0..frames.len() {
-        let frame = &frames[i];
-        if let Some(info) = frame.thread_streams.get(info) {
-            let origin = frame.meta.range_ns.0 as i128 - frames[0].meta.range_ns.0 as i128;
-            merging.origin = origin;
-            let mut made = 0;
-            let merged = walk_with(
-                alloc,
-                info.stream.bytes(),
-                &mut merging,
-                Open::outside(origin),
-                &mut made,
-            );
-            *tries += made as u128;
-            merged?;
-        }
+        let mut made = 0;
+        let read = read_frame(alloc, &mut merging, &frames[i], &frames[0], info, &mut made);
+        *tries += made as u128;
+        read?;
     }
     if frames.is_empty() {
         return Ok(Vec::new(alloc));

@@ -1,11 +1,19 @@
 //! Taking the scopes of a stream into the table.
 
-ghost use Rattle.std.specs.Prelude.{◌≡◌, ◌-ℤ◌, [], if◌then◌else◌, Ok, Err};
+ghost use Rattle.std.specs.Prelude.{◌≡◌, ◌≤◌, ◌⊎◌, ◌-ℤ◌, List, [], if◌then◌else◌, Ok, Err, IfOk, IfErr};
+ghost use Rattle.puffin_data.specs.Visiting.{TakesAll, StopsEarly};
+ghost use Rattle.puffin_frames.specs.Info.{info_of};
+ghost use Rattle.puffin.specs.Occurrences.{Occurrence};
+ghost use Rattle.puffin.specs.Frames.{bytes_of, most_tries_of};
+ghost use Rattle.puffin.specs.Seen.{frame_bytes};
+ghost use Rattle.puffin.specs.Merging.{TakesScopes, RefusesScope};
 ghost use Rattle.puffin.specs.Tables.{IsTableOf};
 ghost use Rattle.puffin.specs.Origins.{IsOrigin, fits_i64};
 
+use crate::frame_data::UnpackedFrameData;
 use crate::merge::table::{Key, NodeNumber, Table};
-use puffin_data::data::{Sighting, Visitor, text_of};
+use crate::thread_profiler::ThreadInfo;
+use puffin_data::data::{Sighting, Visitor, text_of, walk_with};
 use puffin_data::{Error, NanoSecond, Result};
 use std::alloc::Global;
 
@@ -102,5 +110,37 @@ impl<'s> Visitor<'s> for Merging<'s> {
             depth: within.depth + 1,
             origin: scope.start as i128,
         })
+    }
+}
+
+/// What the starts of a frame's top scopes are counted from, as if its range started where the first frame's does.
+fn origin_of(frame: &UnpackedFrameData, first: &UnpackedFrameData) -> i128
+    ensures origin { result ≡ frame.now.meta.range_ns.0 -ℤ first.now.meta.range_ns.0 }
+    ensures is { IsOrigin result }
+{
+    frame.meta.range_ns.0 as i128 - first.meta.range_ns.0 as i128
+}
+
+/// Takes the scopes of a frame's stream into the table, if it has one under the info.
+pub(crate) fn read_frame<'s>(
+    alloc: Global,
+    merging: &mut Merging<'s>,
+    frame: &'s UnpackedFrameData,
+    first: &UnpackedFrameData,
+    info: &ThreadInfo,
+    tries: &mut u64,
+) -> Result<()>
+    requires { (all : List Occurrence) × IsTableOf all merging.old.table }
+    ensures ok { IfOk result (λ _. TakesAll TakesScopes (record { table = merging.old.table; origin = frame.now.meta.range_ns.0 -ℤ first.now.meta.range_ns.0 }) merging.new (bytes_of (frame_bytes (info_of info.now) frame.now)) tries.new) }
+    ensures err { IfErr result (λ e. (e ≡ Error.Memory) ⊎ StopsEarly TakesScopes RefusesScope (record { table = merging.old.table; origin = frame.now.meta.range_ns.0 -ℤ first.now.meta.range_ns.0 }) merging.new (bytes_of (frame_bytes (info_of info.now) frame.now)) tries.new e) }
+    ensures few { tries.new ≤ most_tries_of (frame_bytes (info_of info.now) frame.now) }
+{
+    puffin_frames::laws::order_of_infos();
+    *tries = 0;
+    merging.origin = origin_of(frame, first);
+    let outside = Open::outside(merging.origin);
+    match frame.thread_streams.get(info) {
+        None => Ok(()),
+        Some(times) => walk_with(alloc, times.stream.bytes(), merging, outside, tries),
     }
 }

@@ -1,13 +1,14 @@
 //! The merged scopes of a table.
 
-ghost use Rattle.std.specs.Prelude.{◌≡◌, ℕ, ◌<◌, ◌≤◌, ◌^◌, ◌/◌, ◌⊎◌, pos, List, All, IfOk, IfErr, length, vec_len};
+ghost use Rattle.std.specs.Prelude.{◌≡◌, ◌==◌, if◌then◌else◌, ℕ, ◌<◌, ◌≤◌, ◌^◌, ◌/◌, ◌⊎◌, pos, List, All, IfOk, IfErr, length, vec_len};
 ghost use Rattle.puffin.specs.Occurrences.{Occurrence};
 ghost use Rattle.puffin.specs.Merges.{IsMerge};
 ghost use Rattle.puffin.specs.MergedForests.{MergedForest};
 ghost use Rattle.puffin.specs.Refusals.{EndsFit};
 ghost use Rattle.puffin.specs.Seen.{forest_in};
 ghost use Rattle.puffin.specs.Tables.{IsTableOf};
-ghost use Rattle.puffin.specs.Places.{ArePlacesOf, AreStartsOf, IsEndOf};
+ghost use Rattle.puffin.specs.Places.{ArePlacesOf, AreStartsOf, EndsFitFrom, IsEndOf};
+ghost use Rattle.puffin.specs.declared.merge.table.Node.{Node};
 
 use crate::merge::scope::MergeScope;
 use crate::merge::starts::{earliest_start, end_from};
@@ -57,25 +58,34 @@ fn per_frame(sums: &Sums, frames: usize) -> NanoSecond
     (sums.total / frames as u64) as i64
 }
 
+/// What is free for a place after one with that parent, after which this is free.
+fn free_for(place: &Place, parent: NodeNumber, free: NanoSecond) -> NanoSecond
+    ensures { result ≡ (if place.now.parent.number == parent.number then free else pos 0) }
+{
+    if place.parent.number == parent.number {
+        free
+    } else {
+        0
+    }
+}
+
 /// The start of each place: as early as it can be.
 fn starts(alloc: Global, table: &Table, places: &[Place], frames: usize) -> Result<Vec<NanoSecond>>
     requires frames { 0 < frames }
     requires table { (all : List Occurrence) × IsTableOf all table.now }
     requires places { ArePlacesOf table.now.nodes.items places.now }
     ensures ok { IfOk result (λ starts. AreStartsOf table.now.nodes.items frames places.now starts.items) }
+    ensures fit { IfOk result (λ starts. (d : Node) → EndsFitFrom table.now.nodes.items frames places.now starts.items d) }
     ensures err { IfErr result (λ e. (e ≡ Error.Memory) ⊎ ((e ≡ Error.TooLarge) × IsEndOf table.now.nodes.items frames places.now)) }
 {
     let mut starts = Vec::with_capacity(alloc, places.len())?;
     let mut parent = NodeNumber { number: 0 };
     let mut free = 0;
     for place in places {
-        if place.parent != parent {
-            parent = place.parent;
-            free = 0;
-        }
-        let start = earliest_start(place.own_start, free);
         let node = &table.nodes[place.number.number - 1];
+        let start = earliest_start(place.own_start, free_for(place, parent, free));
         free = end_from(start, per_frame(&node.sums, frames))?;
+        parent = place.parent;
         starts.push(start)?;
     }
     Ok(starts)
