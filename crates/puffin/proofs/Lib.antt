@@ -13,3 +13,4 @@ pub mod FramesRead
 pub mod Streams
 pub mod CodeFrames
 pub mod Placing
+pub mod Drawing

@@ -7,8 +7,9 @@ use Rattle.std.specs.Cmp.Lexicographic.{slice_cmp}
 use Rattle.std.specs.List.Sorted.{IsSorted}
 use Rattle.puffin.specs.declared.merge.table.Node.{Node}
 use Rattle.puffin.specs.declared.merge.tree.Place.{Place}
-use Rattle.puffin.specs.Starts.{Sibling, earliest_start, end_from}
-use Rattle.puffin.specs.Tables.{label_in, merged_in}
+use Rattle.puffin.specs.declared.merge.tree.Drawn.{Drawn}
+use Rattle.puffin.specs.declared.merge.table.Sums.{Sums}
+use Rattle.puffin.specs.Starts.{Sibling, earliest_start}
 
 -- the node of a place
 abbrev pub node_of_place : List Node → Place → Node → Node
@@ -50,21 +51,20 @@ pub record ArePlacesOf (nodes : List Node) (places : List Place) : Type 0 where
   pub apart : AreApart places
   pub sorted : IsSorted place_cmp places
 
--- each start as early as it can be: after one sibling's end, from 0 where the parent is another than before
-abbrev pub starts_from : List Node → ℕ → ℕ → ℤ → List Place → Node → List ℤ
-starts_from nodes frames parent free [] d = []
-starts_from nodes frames parent free (p ∷ places) d =
-    let start = earliest_start (if p.parent.number == parent then free else pos 0) (record { own_start = p.own_start; duration = 0 }) in
-    start ∷ starts_from nodes frames p.parent.number (start +ℤ pos ((node_of_place nodes p d).sums.total / frames)) places d
+-- where nodes of no parent are drawn from
+abbrev pub above_all : Drawn
+above_all = record { parent = 0; start = pos 0; end = pos 0 }
 
-abbrev pub AreStartsOf : List Node → ℕ → List Place → List ℤ → Type 0
-AreStartsOf nodes frames places starts = (d : Node) → starts ≡ starts_from nodes frames 0 (pos 0) places d
+-- the next node, as early as it can be: after its sibling's end, and from 0 where the one before is no sibling
+abbrev pub drawn_after : ℕ → Sums → Place → Drawn → Drawn
+drawn_after frames sums place before =
+    let start = earliest_start (if place.parent.number == before.parent then before.end else pos 0) (record { own_start = place.own_start; duration = sums.total / frames }) in
+    record { parent = place.parent.number; start = start; end = start +ℤ pos (sums.total / frames) }
 
--- whether the start and what is drawn of each place end at a time that fits
-abbrev pub EndsFitFrom : List Node → ℕ → List Place → List ℤ → Node → Type 0
-EndsFitFrom nodes frames [] starts d = Unit {0}
-EndsFitFrom nodes frames (p ∷ places) [] d = Unit {0}
-EndsFitFrom nodes frames (p ∷ places) (t ∷ starts) d = FitsSigned w64 (t +ℤ pos ((node_of_place nodes p d).sums.total / frames)) × EndsFitFrom nodes frames places starts d
+abbrev pub drawn_from : List Node → ℕ → Drawn → List Place → Node → List Drawn
+drawn_from nodes frames before [] d = []
+drawn_from nodes frames before (p ∷ places) d =
+    drawn_after frames (slice_index_or nodes (p.number.number - 1) d).sums p before ∷ drawn_from nodes frames (drawn_after frames (slice_index_or nodes (p.number.number - 1) d).sums p before) places d
 
-abbrev pub IsEndOf : List Node → ℕ → List Place → Type 0
-IsEndOf nodes frames places = (d : Node) → EndsFitFrom nodes frames places (starts_from nodes frames 0 (pos 0) places d) d → ⊥
+abbrev pub EndFits : Drawn → Type 0
+EndFits drawn = FitsSigned w64 drawn.end

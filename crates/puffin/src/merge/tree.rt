@@ -1,13 +1,14 @@
 //! The merged scopes of a table.
 
-ghost use Rattle.std.specs.Prelude.{◌≡◌, ◌==◌, if◌then◌else◌, ℕ, ◌<◌, ◌≤◌, ◌^◌, ◌/◌, ◌⊎◌, pos, List, All, IfOk, IfErr, length, vec_len};
+ghost use Rattle.std.specs.Prelude.{◌≡◌, ℕ, ◌<◌, ◌≤◌, ◌^◌, ◌/◌, ◌⊎◌, pos, FitsSigned, List, IfOk, IfErr};
+ghost use Rattle.std.specs.Int.{w64};
 ghost use Rattle.puffin.specs.Occurrences.{Occurrence};
 ghost use Rattle.puffin.specs.Merges.{IsMerge};
 ghost use Rattle.puffin.specs.MergedForests.{MergedForest};
 ghost use Rattle.puffin.specs.Refusals.{EndsFit};
 ghost use Rattle.puffin.specs.Seen.{forest_in};
 ghost use Rattle.puffin.specs.Tables.{IsTableOf};
-ghost use Rattle.puffin.specs.Places.{ArePlacesOf, AreStartsOf, EndsFitFrom, IsEndOf};
+ghost use Rattle.puffin.specs.Places.{ArePlacesOf, EachOf, EndFits, above_all, drawn_after, drawn_from};
 ghost use Rattle.puffin.specs.declared.merge.table.Node.{Node};
 
 use crate::merge::scope::MergeScope;
@@ -58,37 +59,57 @@ fn per_frame(sums: &Sums, frames: usize) -> NanoSecond
     (sums.total / frames as u64) as i64
 }
 
-/// What is free for a place after one with that parent, after which this is free.
-fn free_for(place: &Place, parent: NodeNumber, free: NanoSecond) -> NanoSecond
-    ensures { result ≡ (if place.now.parent.number == parent.number then free else pos 0) }
-{
-    if place.parent.number == parent.number {
-        free
-    } else {
-        0
-    }
+/// Where a node is drawn: whose child it is, from when and until when.
+#[derive(Clone, Copy, Debug)]
+struct Drawn {
+    parent: usize,
+    start: NanoSecond,
+    end: NanoSecond,
 }
 
-/// The start of each place: as early as it can be.
-fn starts(alloc: Global, table: &Table, places: &[Place], frames: usize) -> Result<Vec<NanoSecond>>
+/// Draws a node as early as it can be, after the one before it.
+fn draw(sums: &Sums, place: &Place, before: &Drawn, frames: usize) -> Result<Drawn>
+    requires frames { 0 < frames }
+    requires small { sums.now.total < 2 ^ 63 }
+    ensures ok { IfOk result (λ drawn. drawn ≡ drawn_after frames sums.now place.now before.now) }
+    ensures fits { IfOk result (λ drawn. FitsSigned w64 drawn.end) }
+    ensures err { IfErr result (λ e. (e ≡ Error.TooLarge) × (FitsSigned w64 (drawn_after frames sums.now place.now before.now).end → ⊥)) }
+{
+    let free = if place.parent.number == before.parent {
+        before.end
+    } else {
+        0
+    };
+    let start = earliest_start(place.own_start, free);
+    let end = end_from(start, per_frame(sums, frames))?;
+    Ok(Drawn {
+        parent: place.parent.number,
+        start,
+        end,
+    })
+}
+
+/// Where the node of each place is drawn.
+fn draw_all(alloc: Global, table: &Table, places: &[Place], frames: usize) -> Result<Vec<Drawn>>
     requires frames { 0 < frames }
     requires table { (all : List Occurrence) × IsTableOf all table.now }
     requires places { ArePlacesOf table.now.nodes.items places.now }
-    ensures ok { IfOk result (λ starts. AreStartsOf table.now.nodes.items frames places.now starts.items) }
-    ensures fit { IfOk result (λ starts. (d : Node) → EndsFitFrom table.now.nodes.items frames places.now starts.items d) }
-    ensures err { IfErr result (λ e. (e ≡ Error.Memory) ⊎ ((e ≡ Error.TooLarge) × IsEndOf table.now.nodes.items frames places.now)) }
+    ensures ok { IfOk result (λ drawn. (d : Node) → drawn.items ≡ drawn_from table.now.nodes.items frames above_all places.now d) }
+    ensures fit { IfOk result (λ drawn. EachOf EndFits drawn.items) }
+    ensures err { IfErr result (λ e. (e ≡ Error.Memory) ⊎ ((e ≡ Error.TooLarge) × ((d : Node) → EachOf EndFits (drawn_from table.now.nodes.items frames above_all places.now d) → ⊥))) }
 {
-    let mut starts = Vec::with_capacity(alloc, places.len())?;
-    let mut parent = NodeNumber { number: 0 };
-    let mut free = 0;
+    let mut drawn = Vec::with_capacity(alloc, places.len())?;
+    let mut last = Drawn {
+        parent: 0,
+        start: 0,
+        end: 0,
+    };
     for place in places {
         let node = &table.nodes[place.number.number - 1];
-        let start = earliest_start(place.own_start, free_for(place, parent, free));
-        free = end_from(start, per_frame(&node.sums, frames))?;
-        parent = place.parent;
-        starts.push(start)?;
+        last = draw(&node.sums, place, &last, frames)?;
+        drawn.push(last)?;
     }
-    Ok(starts)
+    Ok(drawn)
 }
 
 /// The merged scopes of a table.
@@ -103,7 +124,7 @@ pub(crate) fn tree_of<'s>(
     ensures err { IfErr result (λ e. (e ≡ Error.Memory) ⊎ ((e ≡ Error.TooLarge) × ((all : List Occurrence) → IsTableOf all table.now → (f : MergedForest) × IsMerge all frames f × (EndsFit f → ⊥)))) }
 {
     let places = places(alloc, table)?;
-    let starts = starts(alloc, table, places.as_slice(), frames)?;
+    let drawn = draw_all(alloc, table, places.as_slice(), frames)?;
     // the rows below each node so far, the last sibling first
     let mut rows: Vec<Vec<MergeScope<'s>>> = Vec::with_capacity(alloc, places.len() + 1)?;
     let size = places.len() + 1;
@@ -116,7 +137,7 @@ pub(crate) fn tree_of<'s>(
         let mut children = mem::replace(&mut rows[place.number.number], Vec::new(alloc));
         children.reverse();
         rows[place.parent.number].push(MergeScope {
-            relative_start_ns: starts[i],
+            relative_start_ns: drawn[i].start,
             total_duration_ns: node.sums.total as i64,
             duration_per_frame_ns: per_frame(&node.sums, frames),
             max_duration_ns: node.sums.greatest as i64,
