@@ -14,3 +14,5 @@ pub mod Streams
 pub mod CodeFrames
 pub mod Placing
 pub mod Drawing
+pub mod Listing
+pub mod Ending

@@ -10,6 +10,8 @@ use Rattle.puffin.specs.declared.merge.tree.Place.{Place}
 use Rattle.puffin.specs.declared.merge.tree.Drawn.{Drawn}
 use Rattle.puffin.specs.declared.merge.table.Sums.{Sums}
 use Rattle.puffin.specs.Starts.{Sibling, earliest_start}
+use Rattle.puffin.specs.Tables.{merged_in}
+use Rattle.puffin.specs.Assembled.{Entry}
 
 -- the node of a place
 abbrev pub node_of_place : List Node → Place → Node → Node
@@ -68,3 +70,18 @@ drawn_from nodes frames before (p ∷ places) d =
 
 abbrev pub EndFits : Drawn → Type 0
 EndFits drawn = FitsSigned w64 drawn.end
+
+-- what the forest is made of: the places, with their nodes' sums and where they are drawn
+abbrev pub entry_of : List Node → Place → Drawn → Node → Entry
+entry_of nodes p drawn d = record {
+  parent = p.parent.number;
+  number = p.number.number;
+  label = record { id = p.id; text = p.text.now };
+  merged = merged_in (slice_index_or nodes (p.number.number - 1) d).sums;
+  start = drawn.start;
+}
+
+abbrev pub entries_from : List Node → ℕ → Drawn → List Place → Node → List Entry
+entries_from nodes frames before [] d = []
+entries_from nodes frames before (p ∷ places) d =
+    entry_of nodes p (drawn_after frames (slice_index_or nodes (p.number.number - 1) d).sums p before) d ∷ entries_from nodes frames (drawn_after frames (slice_index_or nodes (p.number.number - 1) d).sums p before) places d
