@@ -1,5 +1,6 @@
 -- Where all ends in the forest of a table's entries fit, those of all its places do.
-use Rattle.std.proofs.Common.{◌≡◌, ℕ, zero, suc, ◌+◌, ◌-◌, ◌/◌, ◌<◌, ◌≤◌, ℤ, pos, ◌+ℤ◌, FitsSigned, Bool, true, false, cond, eqb, List, [], ◌∷◌, length, get_or, ◌⊎◌, inl, inr, refl, sym, ap, subst, ◌∙◌, arith, w64, vec_len}
+use Rattle.std.proofs.Common.{◌≡◌, ℕ, zero, suc, ◌+◌, ◌-◌, ◌/◌, ◌<◌, ◌≤◌, ℤ, pos, ◌^◌, ◌+ℤ◌, FitsSigned, Bool, true, false, cond, eqb, List, [], ◌∷◌, length, get_or, ◌⊎◌, inl, inr, refl, sym, ap, subst, ◌∙◌, arith, w64, vec_len}
+use Rattle.std.specs.Prelude.{SomeIff, IsSome, Option, Some, None}
 use Rattle.std.specs.List.{AllByRecursion}
 use Rattle.std.proofs.lemmas.Bool.{cases_eq}
 use Rattle.std.proofs.lemmas.List.Elements.{recursion_from_All}
@@ -121,11 +122,51 @@ node_for t places are some = first t.nodes.items (omega (arith, are.size)) where
   first [] h = absurd (omega arith)
   first (n ∷ nodes) h = n
 
+-- some node, whatever it is
+abbrev pub blank : Node
+blank = record { key = record { parent = record { number = 0 }; id = 0; text = record { ref_ptr = (0, 0); now = [] } }; sums = record { number = 0; total = 0; greatest = 0; own_start = pos 0 } }
+
 -- without places nothing is drawn
 pub drawn_some : (t : Table) (frames : ℕ) (places : List Place) → ArePlacesOf t.nodes.items places → ((d : Node) → EachOf EndFits (drawn_from t.nodes.items frames above_all places d) → ⊥) → (all : List Occurrence) → IsTableOf all t → (f : MergedForest) × IsMerge all frames f × (EndsFit f → ⊥)
-drawn_some t frames [] are no_fit all table = absurd (no_fit (blank) tt) where
-  blank : Node
-  blank = record { key = record { parent = record { number = 0 }; id = 0; text = record { ref_ptr = (0, 0); now = [] } }; sums = record { number = 0; total = 0; greatest = 0; own_start = pos 0 } }
+drawn_some t frames [] are no_fit all table = absurd (no_fit blank tt)
 drawn_some t frames (p ∷ places) are no_fit all table =
     let d = node_for t (p ∷ places) are (omega arith) in
     ends_refused_by t frames (p ∷ places) are d (no_fit d) all table
+
+-- what a place's node allows
+pub record Usable (t : Table) (p : Place) (n : Node) : Type 0 where
+  pub low : 0 < p.number.number
+  pub high : p.number.number ≤ vec_len t.nodes
+  pub parent : p.parent.number < p.number.number
+  pub id : 0 < p.id
+  pub small : n.sums.total < 2 ^ 63
+  pub greatest : n.sums.greatest < 2 ^ 63
+
+pub usable : (t : Table) (places : List Place) (i : ℕ) (p q : Place) (n d : Node) → (all : List Occurrence) × IsTableOf all t → ArePlacesOf t.nodes.items places → i < length places → p ≡ get_or places i q → n ≡ get_or t.nodes.items (p.number.number - 1) d → Usable t p n
+usable t places i p q n d some are lt e en =
+    let of : IsPlaceOf t.nodes.items p = subst (IsPlaceOf t.nodes.items) (sym e) (are.each i q lt) in
+    let number = of.2.number in
+    let inside = of.1 in
+    let place : p.number.number - 1 ≡ of.0 = omega arith in
+    let is = some.1.each of.0 d (omega (arith, inside, t.nodes.ok.0)) in
+    let same : n ≡ get_or t.nodes.items of.0 d = en ∙ ap (λ (k : ℕ). get_or t.nodes.items k d) place in
+    let small : n.sums.total < 2 ^ 63 = subst (λ (m : Node). m.sums.total < 2 ^ 63) (sym same) is.small in
+    let greatest : n.sums.greatest ≤ n.sums.total = subst (λ (m : Node). m.sums.greatest ≤ m.sums.total) (sym same) is.greatest in
+    let id = of.2.id d in
+    let has_id = is.id in
+    record {
+      low = omega arith;
+      high = omega (arith, inside, t.nodes.ok.0);
+      parent = parent_low t p some.0 some.1 of;
+      id = omega (arith, id, has_id);
+      small = small;
+      greatest = omega arith;
+    }
+
+pub drawn_size : (nodes : List Node) (frames : ℕ) (places : List Place) (before : Drawn) (d : Node) → length (drawn_from nodes frames before places d) ≡ length places
+drawn_size nodes frames [] before d = refl
+drawn_size nodes frames (p ∷ places) before d = let e = drawn_size nodes frames places (drawn_after frames (get_or nodes (p.number.number - 1) d).sums p before) d in omega arith
+
+pub some_if : {T : Type 0} (r : Option T) (P : Type 0) (v : T) → SomeIff r P v → P → IsSome r
+some_if None P v n h = absurd (n h)
+some_if (Some x) P v n h = refl
