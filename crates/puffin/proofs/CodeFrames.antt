@@ -15,7 +15,7 @@ use Rattle.puffin.specs.declared.merge.scope.MergeScope.{MergeScope}
 use Rattle.puffin.specs.Occurrences.{Occurrence, occurrences}
 use Rattle.puffin.specs.MergedForests.{MergedForest, no_node}
 use Rattle.puffin.specs.Merges.{IsMerge}
-use Rattle.puffin.specs.Frames.{FrameBytes, bytes_of, start_of, most_tries_of, most_tries}
+use Rattle.puffin.specs.FrameStreams.{FrameBytes, bytes_of, start_of, most_tries_of, most_tries}
 use Rattle.puffin.specs.Refusals.{IsRefusal, EndsFit, AreMerged}
 use Rattle.puffin.specs.Seen.{frame_bytes, frames_bytes, forest_in}
 use Rattle.puffin.specs.Tables.{IsTableOf}

@@ -15,7 +15,7 @@ use Rattle.puffin.specs.Assembled.{Entry, node_of, forest_below}
 use Rattle.puffin.specs.Tables.{IsTableOf}
 use Rattle.puffin.specs.Places.{IsPlaceAt, IsPlaceOf, SomeOf, EachOf, EndFits, ArePlacesOf, above_all, drawn_after, drawn_from, entry_of, entries_from}
 use Rattle.puffin.specs.Merges.{IsMerge}
-use Rattle.puffin.proofs.Listing.{InRow, in_row, each_at_least, forest_merged}
+use Rattle.puffin.proofs.PlaceEntries.{InRow, in_row, each_at_least, forest_merged}
 
 -- each parent is known, or stands before
 abbrev ParentsKnown : List Place → (ℕ → Type 0) → Type 0

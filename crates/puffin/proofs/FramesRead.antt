@@ -14,7 +14,7 @@ use Rattle.puffin.specs.declared.merge.stream.Merging.{Merging}
 use Rattle.puffin.specs.Occurrences.{Occurrence, FrameScopes, occurrence_of, occurrences_in, occurrences_of, occurrences_from, first_start, occurrences}
 use Rattle.puffin.specs.MergedForests.{MergedForest, no_node}
 use Rattle.puffin.specs.Merges.{IsMerge}
-use Rattle.puffin.specs.Frames.{FrameBytes, bytes_of, start_of, HasScopes, HaveScopes, most_tries_of, most_tries}
+use Rattle.puffin.specs.FrameStreams.{FrameBytes, bytes_of, start_of, HasScopes, HaveScopes, most_tries_of, most_tries}
 use Rattle.puffin.specs.Refusals.{IsRefusedFor, AreAccepted, IsFrameRefusal, faulty, refused, IsRefusal, in_frame, at_end, EndsFit, AreMerged}
 use Rattle.puffin.specs.Tables.{IsTableOf}
 use Rattle.puffin.specs.Merging.{TakesScopes, RefusesScope, accepted-append, append-nil}

@@ -1,5 +1,5 @@
 -- What is kept beside the pending streams, with one report more.
-use Rattle.std.proofs.Common.{◌≡◌, ℕ, ◌+◌, ◌^◌, ◌<◌, length, ◌∷◌, List, Bool, true, false, MatchBool, ap, subst, arith, ℤ, Result, Ok, Err, OnOk, is_err}
+use Rattle.std.proofs.Common.{◌≡◌, ℕ, ◌+◌, ◌^◌, ◌<◌, ◌≤◌, ◌⊎◌, inl, inr, length, ◌∷◌, List, Bool, true, false, MatchBool, ap, ◌∙◌, subst, arith, ℤ, Result, Ok, Err, OnOk, is_err}
 use Rattle.std.specs.Int.{int_min, int_max}
 use Rattle.std.specs.FinMap as map
 use Rattle.std.proofs.lemmas.Int.{ints, clamps}
@@ -10,11 +10,12 @@ use Rattle.puffin_frames.specs.Contents.{Streams, reported_to, AreHonest}
 use Rattle.puffin_frames.specs.Measures.{total_bytes, total_scopes, least_start, greatest_stop, meta_of, IsOrdered, DurationFits}
 use Rattle.puffin_frames.specs.declared.frame_data.meta.FrameMeta.{FrameMeta}
 use Rattle.puffin.specs.Collected.{Collected, SumsFit, range_with, IsTooLong}
-use Rattle.puffin.specs.Collecting.{IsKept}
+use Rattle.puffin.specs.Collecting.{IsKept, AddsUp}
 
--- what a frame of all that is pending would say, and what it would say with one info more
-pub record AddsUp (c : Collected) (meta more : FrameMeta) (r : Recorded) : Type 0 where
-  pub sums : meta ≡ meta_of meta.frame_index (map.values c.streams)
+-- what a frame of all that is pending would say, and what it says once joined with one info more
+pub record Joins (c : Collected) (meta more : FrameMeta) (r : Recorded) : Type 0 where
+  pub sums : meta ≡ meta_of c.index (map.values c.streams)
+  pub frame_index : more.frame_index ≡ meta.frame_index
   pub num_bytes : more.num_bytes ≡ meta.num_bytes + length r.bytes
   pub num_scopes : more.num_scopes ≡ meta.num_scopes + r.num_scopes
   pub start : more.range_ns.0 ≡ int_min meta.range_ns.0 r.range_ns.0
@@ -22,7 +23,7 @@ pub record AddsUp (c : Collected) (meta more : FrameMeta) (r : Recorded) : Type 
   pub fit : (more.num_bytes < 2 ^ 64) × (more.num_scopes < 2 ^ 64)
   pub reported : c.reported + r.num_scopes < 2 ^ 64
 
-module _ (c : Collected) (meta more : FrameMeta) (r : Recorded) (h : AddsUp c meta more r) where
+module _ (c : Collected) (meta more : FrameMeta) (r : Recorded) (h : Joins c meta more r) where
   bytes_are : meta.num_bytes ≡ total_bytes (map.values c.streams)
   bytes_are = ap (λ m. m.num_bytes) h.sums
 
@@ -49,6 +50,15 @@ module _ (c : Collected) (meta more : FrameMeta) (r : Recorded) (h : AddsUp c me
       let last : more.range_ns.1 ≡ greatest_stop (r ∷ map.values c.streams) = omega (arith, ints, clamps, h.stop, stop_is, one_stop r (map.values c.streams)) in
       λ i. (first i, last i)
 
+  pub adds_up : more.range_ns ≡ range_with c r → (IsOrdered more.range_ns → DurationFits more.range_ns) → AddsUp c more r
+  adds_up range duration = record {
+    frame_index = h.frame_index ∙ ap (λ m. m.frame_index) h.sums;
+    num_bytes = omega (arith, bytes_are, h.num_bytes);
+    num_scopes = omega (arith, scopes_are, h.num_scopes);
+    range = range;
+    duration = duration;
+  }
+
 -- what is kept after a report, by the laws of what a report does to all streams
 pub record Laws (streams : Streams) (i : Info) (r : Recorded) (f : Forest) : Type 0 where
   pub bytes : total_bytes (map.values (reported_to streams i r)) ≡ total_bytes (map.values streams) + length r.bytes
@@ -57,30 +67,37 @@ pub record Laws (streams : Streams) (i : Info) (r : Recorded) (f : Forest) : Typ
   pub stop : greatest_stop (map.values (reported_to streams i r)) ≡ int_max (greatest_stop (map.values streams)) r.range_ns.1
   pub honest : AreHonest streams → IsHonestRecord r f → AreHonest (reported_to streams i r)
 
-pub kept_after : (c : Collected) (meta more : FrameMeta) (i : Info) (r : Recorded) (f : Forest) (reported : ℕ) → Laws c.streams i r f → AddsUp c meta more r → IsKept c.streams meta c.reported c.emitted → IsHonestRecord r f → reported ≡ c.reported + r.num_scopes → (IsOrdered more.range_ns → DurationFits more.range_ns) → IsKept (reported_to c.streams i r) more reported c.emitted
-kept_after c meta more i r f reported laws h kept honest sum duration = record {
+pub kept_after : (c : Collected) (meta more : FrameMeta) (i : Info) (r : Recorded) (f : Forest) (reported : ℕ) → Laws c.streams i r f → AddsUp c more r → least_start (r ∷ map.values c.streams) ≡ int_min r.range_ns.0 (least_start (map.values c.streams))
+    → greatest_stop (r ∷ map.values c.streams) ≡ int_max r.range_ns.1 (greatest_stop (map.values c.streams)) → IsKept c.streams meta c.reported c.emitted → IsHonestRecord r f → reported ≡ c.reported + r.num_scopes
+    → IsKept (reported_to c.streams i r) more reported c.emitted
+kept_after c meta more i r f reported laws h one_start one_stop kept honest sum = record {
   sums = λ j. record {
     frame_index = more.frame_index;
     range_ns = (first j, last j);
     num_bytes = bytes j;
     num_scopes = scopes j;
   };
-  counted = omega (arith, kept.counted, h.num_scopes, sum);
+  counted = omega (arith, kept.counted, ap (λ (m : FrameMeta). m.num_scopes) kept.sums, h.num_scopes, sum);
   honest = laws.honest kept.honest honest;
-  duration = duration;
+  duration = h.duration;
 }
   where
     first : more.range_ns.0 ≡ least_start (map.values (reported_to c.streams i r))
-    first = omega (arith, ints, clamps, h.start, start_is c meta more r h, laws.start)
+    first = omega (arith, ints, clamps, ap (λ (p : ℤ × ℤ). p.0) h.range, one_start, laws.start)
 
     last : more.range_ns.1 ≡ greatest_stop (map.values (reported_to c.streams i r))
-    last = omega (arith, ints, clamps, h.stop, stop_is c meta more r h, laws.stop)
+    last = omega (arith, ints, clamps, ap (λ (p : ℤ × ℤ). p.1) h.range, one_stop, laws.stop)
 
     bytes : more.num_bytes ≡ total_bytes (map.values (reported_to c.streams i r))
-    bytes = omega (arith, h.num_bytes, bytes_are c meta more r h, laws.bytes)
+    bytes = omega (arith, h.num_bytes, laws.bytes)
 
     scopes : more.num_scopes ≡ total_scopes (map.values (reported_to c.streams i r))
-    scopes = omega (arith, h.num_scopes, scopes_are c meta more r h, laws.scopes)
+    scopes = omega (arith, h.num_scopes, laws.scopes)
+
+-- sums that don't fit
+pub too_large : (c : Collected) (meta : FrameMeta) (r : Recorded) → meta ≡ meta_of c.index (map.values c.streams) → (2 ^ 64 ≤ meta.num_bytes + length r.bytes) ⊎ (2 ^ 64 ≤ meta.num_scopes + r.num_scopes) → ¬ SumsFit c r
+too_large c meta r sums (inl bytes) fits = omega (arith, ap (λ (m : FrameMeta). m.num_bytes) sums, bytes, fits.bytes)
+too_large c meta r sums (inr scopes) fits = omega (arith, ap (λ (m : FrameMeta). m.num_scopes) sums, scopes, fits.scopes)
 
 -- the answer of the test
 pub too_long : (answer : Bool) (range other : ℤ × ℤ) → range ≡ other → MatchBool answer (IsTooLong range) (IsOrdered range → DurationFits range) → answer ≡ true → IsTooLong other

@@ -22,7 +22,7 @@ use Rattle.puffin_frames.specs.Info.{Info, info_of, info_cmp, thread_cmp, keyed}
 use Rattle.puffin_frames.specs.Contents.{records, unshared, contents}
 use Rattle.puffin.specs.declared.merge.table.Table.{Table}
 use Rattle.puffin.specs.declared.merge.stream.Merging.{Merging}
-use Rattle.puffin.specs.Frames.{FrameBytes, bytes_of, most_tries_of}
+use Rattle.puffin.specs.FrameStreams.{FrameBytes, bytes_of, most_tries_of}
 use Rattle.puffin.specs.Seen.{frame_bytes}
 use Rattle.puffin.specs.Merging.{TakesScopes, RefusesScope, takes_none}
 

@@ -9,7 +9,7 @@ use Rattle.puffin.specs.Occurrences.{Path, Occurrence, FrameScopes, occurrence_o
 use Rattle.puffin.specs.Pieces.{merged_at}
 use Rattle.puffin.specs.MergedForests.{Node, MergedForest, no_node, merged}
 use Rattle.puffin.specs.Merges.{IsMerge}
-use Rattle.puffin.specs.Frames.{FrameBytes, bytes_of, start_of, HaveScopes}
+use Rattle.puffin.specs.FrameStreams.{FrameBytes, bytes_of, start_of, HaveScopes}
 
 -- a scope that stands within at most 1,023 others
 abbrev pub IsShallow : Occurrence → Type 0

@@ -10,7 +10,7 @@ use Rattle.puffin_frames.specs.declared.frame_data.unpacked.UnpackedFrameData.{U
 use Rattle.puffin_frames.specs.Info.{Info}
 use Rattle.puffin_frames.specs.Contents.{contents}
 use Rattle.puffin.specs.declared.merge.scope.MergeScope.{MergeScope, MergeScope', Row_of-MergeScope, end_of-MergeScope, more_of-MergeScope}
-use Rattle.puffin.specs.Frames.{FrameBytes}
+use Rattle.puffin.specs.FrameStreams.{FrameBytes}
 use Rattle.puffin.specs.MergedForests.{MergedForest, no_node, merged}
 
 -- a frame's range start, and its stream under an info

@@ -1,6 +1,7 @@
 //! What threads report, and the frames that it is handed out in.
 
 mod collector;
+mod delta;
 mod profiler;
 mod totals;
 

@@ -5,6 +5,7 @@
 
 pub mod global_profiler;
 pub mod merge;
+pub mod profile_view;
 #[cfg(test)]
 mod tests;
 

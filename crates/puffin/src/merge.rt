@@ -3,7 +3,7 @@
 ghost use Rattle.std.specs.Prelude.{◌≡◌, ◌≤◌, ◌⊎◌, length, IfOk, IfErr};
 ghost use Rattle.puffin_frames.specs.Info.{info_of};
 ghost use Rattle.puffin.specs.Occurrences.{occurrences};
-ghost use Rattle.puffin.specs.Frames.{most_tries};
+ghost use Rattle.puffin.specs.FrameStreams.{most_tries};
 ghost use Rattle.puffin.specs.Refusals.{IsRefusal, AreMerged};
 ghost use Rattle.puffin.specs.Seen.{frames_bytes, forest_in};
 

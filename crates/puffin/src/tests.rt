@@ -2,11 +2,13 @@ ghost use Rattle.std.specs.Prelude.{IfOk};
 ghost use Rattle.puffin_data.specs.Forest.{Forest};
 ghost use Rattle.puffin_data.specs.Honesty.{IsHonest, IsHonestRef};
 
-use crate::data::{Stream, StreamInfo, StreamInfoRef};
+use crate::data::{ScopeId, Stream, StreamInfo, StreamInfoRef};
 use crate::frame_data::FrameData;
 use crate::global_profiler::{Collector, GlobalProfiler, Totals};
+use crate::scope_details::{ScopeDetails, ScopeIds};
 use crate::thread_profiler::{Reporter, ThreadInfo};
 use crate::{Error, NanoSecond, Result};
+use std::borrow::CowStr;
 use std::sync::Arc;
 use std::test::Fail;
 
@@ -221,5 +223,101 @@ fn one_refused_allocation(rt: HostRuntime) -> Outcome {
         }
     }
     assert_eq!(rt; profiler.totals().pending, 0);
+    Ok(())
+}
+
+fn named(name: &'static str) -> ScopeDetails {
+    ScopeDetails::from_scope_name(CowStr::Borrowed(name))
+}
+
+fn id(number: u32) -> Result<ScopeId> {
+    ScopeId::new(number).ok_or(Error::MissingId)
+}
+
+/// Whether a frame tells of scopes with these ids and names, in this order.
+fn tells_of(frame: &FrameData, scopes: &[(u32, &str)]) -> bool {
+    frame.scope_delta.len() == scopes.len()
+        && frame.scope_delta.iter().zip(scopes).all(|(details, (number, name))| {
+            details.name().as_str() == *name
+                && details.scope_id().is_some_and(|id| id.get() == *number)
+        })
+}
+
+#[test]
+fn details_without_an_id_are_refused(rt: HostRuntime) -> Outcome {
+    let mut profiler = GlobalProfiler::new(rt.alloc());
+    report(&rt, &mut profiler, "a", 1, (100, 200))?;
+    let before = profiler.totals();
+    let info = scope(&rt, 2, 300, 400)?;
+    let refused = profiler.report(
+        thread(&rt, "a")?,
+        &[named("y").with_scope_id(id(2)?), named("x")],
+        &borrowed(&info),
+    );
+    assert_eq!(rt; refused.err(), Some(Error::MissingId));
+    assert_eq!(rt; profiler.totals(), before);
+    let frame = emitted(&mut profiler)?;
+    assert_eq!(rt; held(&rt, &frame, "a")?, Some((31, 1)));
+    assert!(rt; frame.scope_delta.is_empty());
+    Ok(())
+}
+
+#[test]
+fn details_wait_for_the_next_frame(rt: HostRuntime) -> Outcome {
+    let mut profiler = GlobalProfiler::new(rt.alloc());
+    let ids = ScopeIds::new();
+    let drawn = profiler.register_user_scopes(&ids, &[named("u")])?;
+    assert_eq!(rt; drawn.as_slice(), [id(1)?].as_slice());
+    assert!(rt; profiler.new_frame()?.frame.is_none());
+    report(&rt, &mut profiler, "a", 1, (100, 200))?;
+    let frame = emitted(&mut profiler)?;
+    assert_eq!(rt; frame.frame_index(), 1);
+    assert!(rt; tells_of(&frame, &[(1, "u")]));
+    assert!(rt; !frame.full_delta);
+    report(&rt, &mut profiler, "a", 1, (200, 300))?;
+    assert!(rt; emitted(&mut profiler)?.scope_delta.is_empty());
+    Ok(())
+}
+
+#[test]
+fn a_snapshot_comes_after_the_new_details(rt: HostRuntime) -> Outcome {
+    let mut profiler = GlobalProfiler::new(rt.alloc());
+    let ids = ScopeIds::new();
+    let _drawn = profiler.register_user_scopes(&ids, &[named("u")])?;
+    profiler.emit_scope_snapshot();
+    assert!(rt; profiler.new_frame()?.frame.is_none());
+    report(&rt, &mut profiler, "a", 1, (100, 200))?;
+    let frame = emitted(&mut profiler)?;
+    assert!(rt; tells_of(&frame, &[(1, "u"), (1, "u")]));
+    assert!(rt; frame.full_delta);
+    // Details of a report are known after its frame.
+    profiler.emit_scope_snapshot();
+    let info = scope(&rt, 7, 300, 400)?;
+    profiler.report(
+        thread(&rt, "a")?,
+        &[named("t").with_scope_id(id(7)?)],
+        &borrowed(&info),
+    )?;
+    let second = emitted(&mut profiler)?;
+    assert!(rt; tells_of(&second, &[(7, "t"), (1, "u")]));
+    assert!(rt; second.full_delta);
+    profiler.emit_scope_snapshot();
+    report(&rt, &mut profiler, "a", 1, (400, 500))?;
+    let third = emitted(&mut profiler)?;
+    assert!(rt; tells_of(&third, &[(1, "u"), (7, "t")]));
+    Ok(())
+}
+
+#[test]
+fn the_first_scopes_are_registered_where_ids_run_out(rt: HostRuntime) -> Outcome {
+    let mut profiler = GlobalProfiler::new(rt.alloc());
+    let ids = ScopeIds::starting_at(4_294_967_294);
+    let refused = profiler.register_user_scopes(&ids, &[named("a"), named("b"), named("c")]);
+    assert_eq!(rt; refused.err(), Some(Error::IdsExhausted));
+    let known = profiler.register_user_scopes(&ids, &[named("a"), named("b")])?;
+    assert_eq!(rt;
+        known.as_slice(),
+        [id(4_294_967_294)?, id(4_294_967_295)?].as_slice()
+    );
     Ok(())
 }

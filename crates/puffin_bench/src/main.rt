@@ -2,10 +2,12 @@
 //! prints what it counted; with the word `time` it prints the nanoseconds that each takes.
 #![tactic(auto)]
 
+mod packets;
 mod reports;
 mod scopes;
 
 use anyhow::{Context, Result};
+use packets::{FileWork, Files};
 use puffin::global_profiler::GlobalProfiler;
 use puffin::thread_profiler::{ScriptClock, ThreadProfiler};
 use puffin_data::data::{Stream, StreamInfo};
@@ -18,6 +20,8 @@ use std::time::Instant;
 const ROUNDS: u32 = 4_000;
 /// The same of reports.
 const REPORT_ROUNDS: u32 = 300;
+/// The same of files.
+const FILE_ROUNDS: u32 = 40;
 /// A text of 12 bytes.
 const TEXT: &str = "image-12.png";
 
@@ -44,6 +48,18 @@ fn count(rt: &HostRuntime) -> Result<()> {
     let totals = profiler.totals();
     let (reported, emitted) = (totals.reported, totals.emitted);
     println!(rt; "report reports {reports} scopes {reported} emitted {emitted}")?;
+    count_packets(rt)
+}
+
+/// Writes and reads a small file, and prints how many frames and bytes it has.
+fn count_packets(rt: &HostRuntime) -> Result<()> {
+    let mut files = Files::new(rt.alloc(), 10).ok().context("a file")?;
+    let frames = files
+        .work(rt.alloc(), FileWork::ReadUnpacked)
+        .ok()
+        .context("a file")?;
+    let bytes = files.file.len();
+    println!(rt; "packets frames {frames} bytes {bytes}")?;
     Ok(())
 }
 
@@ -96,6 +112,29 @@ fn time_reports(rt: &HostRuntime) -> Result<()> {
     print(rt, "report", best, reports)
 }
 
+/// Times what is done with the frames of a file, a frame being a unit.
+fn time_file(rt: &HostRuntime, files: &mut Files, work: FileWork) -> Result<()> {
+    let mut best = u128::MAX;
+    let mut frames = 0;
+    for _ in 0..FILE_ROUNDS {
+        let begun = Instant::now(rt)?;
+        frames = files.work(rt.alloc(), work).ok().context("a file")?;
+        best = best.min(begun.elapsed(rt)?.as_nanos());
+    }
+    print(rt, work.name(), best, frames)
+}
+
+/// Times writing and reading packets.
+fn time_packets(rt: &HostRuntime) -> Result<()> {
+    let mut files = Files::new(rt.alloc(), packets::FRAMES)
+        .ok()
+        .context("a file")?;
+    for work in FileWork::ALL {
+        time_file(rt, &mut files, work)?;
+    }
+    Ok(())
+}
+
 /// Times each work.
 fn time(rt: &HostRuntime) -> Result<()> {
     for work in Work::ALL {
@@ -103,7 +142,8 @@ fn time(rt: &HostRuntime) -> Result<()> {
     }
     time_threads(rt, "profiled_empty", "")?;
     time_threads(rt, "profiled_text12", TEXT)?;
-    time_reports(rt)
+    time_reports(rt)?;
+    time_packets(rt)
 }
 
 fn main(rt: HostRuntime) -> Result<()> {

@@ -22,9 +22,9 @@ const FRAMES: usize = 1_000;
 pub struct Ignored;
 
 impl Reporter for Ignored {
-    ghost accepts = { λ _ _ _ _. Unit {0} };
+    ghost accepts = { λ _ _ _ _ _. Unit {0} };
 
-    ghost refuses = { λ _ _ _ _ _. Unit {0} };
+    ghost refuses = { λ _ _ _ _ _ _. Unit {0} };
 
     fn report(
         &mut self,

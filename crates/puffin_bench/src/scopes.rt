@@ -56,7 +56,7 @@ fn end(stream: &mut Stream, offset: usize, stop: i64) -> Result<()> {
 
 /// Scopes one within the other. Answers the clock after them.
 #[inline(never)]
-fn nest(stream: &mut Stream, id: ScopeId, text: &str, mut now: i64) -> Result<i64> {
+pub fn nest(stream: &mut Stream, id: ScopeId, text: &str, mut now: i64) -> Result<i64> {
     let mut offsets = [0; DEPTH];
     for offset in offsets.iter_mut() {
         now = now.wrapping_add(1);

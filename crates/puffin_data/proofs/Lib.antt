@@ -24,3 +24,9 @@ pub mod TopScopes
 pub mod SightsSeen
 pub mod Going
 pub mod Visited
+pub mod Readers
+pub mod ValueReaders
+pub mod Texts
+pub mod Loops
+pub mod Devices
+pub mod Filled

@@ -14,6 +14,9 @@ pub mod Scopes
 pub mod Errors
 pub mod Counting
 pub mod Devices
+pub mod Parts
+pub mod Layout
+pub mod Front
 pub mod Sightings
 pub mod Walking
 pub mod Sights

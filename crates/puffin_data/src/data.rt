@@ -2,6 +2,7 @@
 
 mod device;
 mod info;
+mod parts;
 mod reader;
 mod record;
 mod scope;
@@ -14,6 +15,7 @@ mod writing;
 
 pub use device::{Counted, Drain, Source};
 pub use info::{StreamInfo, StreamInfoRef};
+pub use parts::{read_byte, read_counted_part, read_length, read_part, read_up_to};
 pub use reader::{Reader, text_of};
 pub use record::{Scope, ScopeRecord};
 pub use scope::Sighting;

@@ -1,4 +1,4 @@
-//! Laws of forests, their spellings and their walks, as contracts of functions that do nothing. A proof of another crate
+//! Laws of forests, their spellings and their walks, and of layouts, as contracts of functions that do nothing. A proof of another crate
 //! cites them by calling the function.
 
 ghost use Rattle.std.specs.Prelude.{Result, Ok, map, List, ℕ, ℤ, ◌≡◌, ◌+◌, ◌-◌, ◌++◌, ◌∷◌, [], ◌<◌, ◌≤◌, ◌^◌, ◌≤ℤ◌, ◌-ℤ◌, pos, negsuc, FitsSigned, length, max};
@@ -16,6 +16,7 @@ ghost use Rattle.puffin_data.specs.Words.{word_size, num_begun, open_after, most
 ghost use Rattle.puffin_data.specs.Text.{cut_text, IsCut, text_in};
 ghost use Rattle.puffin_data.specs.Lenient.{ReadScope, Reads, top_scopes};
 ghost use Rattle.puffin_data.specs.Opens.{Opened, IsOpened, open_spelling, open_word, size_place, ended_bytes, with_ended};
+ghost use Rattle.puffin_data.specs.Layout.{NoneBeginsAnother, byte, number, signed, flag, block, IsByte, IsLong, IsSigned, IsAny, IsBlock};
 ghost use Rattle.puffin_data.specs.declared.error.Error.{Error};
 
 /// A forest has one spelling, and it is no other forest's. The spellings of two forests one after the other are joined.
@@ -148,4 +149,13 @@ pub fn one_reading()
     ensures one { (bytes : List ℕ) (p : ℕ) (a b : List (Result ReadScope Error)) → Reads bytes p a → Reads bytes p b → a ≡ b }
     ensures end { (bytes : List ℕ) (items : List (Result ReadScope Error)) → Reads bytes (length bytes) items → items ≡ [] }
     ensures spelled { (bytes : List ℕ) (f : Forest) → Spells bytes f → length bytes < 2 ^ 63 → Reads bytes 0 (map (λ s. Ok s) (top_scopes 0 f)) }
+{}
+
+/// No layout of a value begins another of its kind. A number of fewer bits is one of 64, and a text is a block of bytes.
+pub fn no_layout_begins_another()
+    ensures bytes { NoneBeginsAnother IsByte byte }
+    ensures numbers { NoneBeginsAnother IsLong number }
+    ensures signed { NoneBeginsAnother IsSigned signed }
+    ensures flags { NoneBeginsAnother IsAny flag }
+    ensures blocks { NoneBeginsAnother IsBlock block }
 {}

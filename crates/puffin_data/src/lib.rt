@@ -5,6 +5,7 @@ pub mod data;
 mod error;
 mod file_error;
 pub mod laws;
+pub mod wire;
 
 pub use error::{Error, NanoSecond, Result};
 pub use file_error::FileError;

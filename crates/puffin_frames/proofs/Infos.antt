@@ -15,7 +15,7 @@ use Rattle.puffin_frames.specs.Info.{Info, info_of, info_cmp, thread_cmp, same_i
 pub info_cmp_total : IsTotalOrder info_cmp
 info_cmp_total = then_total (on_total (λ (i : Info). i.start) (options_total int_cmp_total)) (on_total (λ (i : Info). i.name) nat_list_cmp_total)
 
-ties : (r s : Ordering) → ordering_then r s ≡ Equal → (r ≡ Equal) × (s ≡ Equal)
+pub ties : (r s : Ordering) → ordering_then r s ≡ Equal → (r ≡ Equal) × (s ≡ Equal)
 ties Less s e = cc
 ties Equal s e = (refl, e)
 ties Greater s e = cc
@@ -65,7 +65,7 @@ pub then_by_name : (a b : Info) → a.start ≡ b.start → info_cmp a b ≡ sli
 then_by_name a b e = rw (e, same_start b.start) refl
 
 -- ---- equality is a tie
-both : (r s : Ordering) → (is_eq r && is_eq s) ≡ is_eq (ordering_then r s)
+pub both : (r s : Ordering) → (is_eq r && is_eq s) ≡ is_eq (ordering_then r s)
 both Less s = refl
 both Equal s = refl
 both Greater s = refl

@@ -1,15 +1,12 @@
 -- A map of threads, seen by the threads' infos.
-use Rattle.std.proofs.Common.{◌≡◌, length, arith, cond, List, [], ◌∷◌, map, Some, refl, sym, ap, subst, ◌∙◌}
+use Rattle.std.proofs.Common.{◌≡◌, List, [], ◌∷◌, map, refl, sym, ap, subst, ◌∙◌}
 use Rattle.std.specs.declared.cmp.Ordering.{Ordering}
 use Rattle.std.specs.declared.cmp.Ordering.TheVariants.{Less, Equal, Greater}
-use Rattle.std.specs.Ordering.{eq_by_cmp, match_ordering}
+use Rattle.std.specs.Ordering.{match_ordering}
 use Rattle.std.specs.Map.{keys_of, values_of}
-use Rattle.std.specs.List.{AllByRecursion}
 use Rattle.std.specs.List.Sorted.{IsStrictlySortedBy}
 use Rattle.std.specs.BTreeMap.{insert_entry}
-use Rattle.std.specs.FinMap.{empty, len-entries, len-empty, insert, entries, values, entries-insert, get-insert, get-from_entries, same_map, find, put}
-use Rattle.std.specs.FinMap.Entries.{find-put, by_order}
-use Rattle.std.proofs.lemmas.Map.Keys.{sorted_head, sorted_tail}
+use Rattle.std.specs.FinMap.{insert, entries, values}
 use Rattle.puffin_frames.specs.declared.thread_profiler.thread_info.ThreadInfo.{ThreadInfo}
 use Rattle.std.proofs.lemmas.Map.Made.{keys_of-map_values}
 use Rattle.puffin_data.specs.Honesty.{recorded}
@@ -17,43 +14,16 @@ use Rattle.puffin_data.specs.declared.data.info.StreamInfo.{StreamInfo}
 use Rattle.puffin_frames.specs.Contents.{records, streams_of}
 use Rattle.puffin_frames.specs.Info.{info_cmp, info_of, thread_cmp, keyed, by_info}
 use Rattle.puffin_frames.proofs.Infos.{info_cmp_total, info_cmp-one}
-
-no_length : {A : Type 0} (es : List A) → length es ≡ 0 → es ≡ []
-no_length [] e = refl
-no_length (x ∷ es) e = absurd (omega arith)
+use Rattle.puffin_frames.proofs.Seen.{insert-seen, entries-seen}
 
 module _ {X : Type 0} where
-  pub entries-empty : entries (empty {X = X} {R = info_cmp}) ≡ []
-  entries-empty = no_length _ (sym (len-entries (empty {X = X} {R = info_cmp})) ∙ len-empty info_cmp X)
-
-  at_order : (r : Ordering) (k : ThreadInfo) (v : X) (e : ThreadInfo × X) (es : List (ThreadInfo × X)) → keyed (insert_entry thread_cmp es k v) ≡ put info_cmp (info_of k) v (keyed es)
-      → keyed (match_ordering r ((k, v) ∷ (e ∷ es)) ((e.0, v) ∷ es) (e ∷ insert_entry thread_cmp es k v)) ≡ by_order r ((info_of k, v) ∷ ((info_of e.0, e.1) ∷ keyed es)) ((info_of e.0, v) ∷ keyed es) ((info_of e.0, e.1) ∷ put info_cmp (info_of k) v (keyed es))
-  at_order Less k v e es later = refl
-  at_order Equal k v e es later = refl
-  at_order Greater k v e es later = ap (λ fs. (info_of e.0, e.1) ∷ fs) later
-
-  keyed-insert : (es : List (ThreadInfo × X)) (k : ThreadInfo) (v : X) → keyed (insert_entry thread_cmp es k v) ≡ put info_cmp (info_of k) v (keyed es)
-  keyed-insert [] k v = refl
-  keyed-insert (e ∷ es) k v = at_order (thread_cmp k e.0) k v e es (keyed-insert es k v)
-
   -- an insertion into the map is one by infos
   pub by_info-insert : (es : List (ThreadInfo × X)) (k : ThreadInfo) (v : X) → by_info (insert_entry thread_cmp es k v) ≡ insert (by_info es) (info_of k) v
-  by_info-insert es k v =
-      same_map info_cmp_total info_cmp-one (by_info (insert_entry thread_cmp es k v)) (insert (by_info es) (info_of k) v)
-      (λ q. get-from_entries info_cmp_total (keyed (insert_entry thread_cmp es k v)) q ∙ ap (find info_cmp q) (keyed-insert es k v)
-      ∙ find-put info_cmp info_cmp_total q (info_of k) v (keyed es)
-      ∙ sym (get-insert info_cmp_total (by_info es) (info_of k) v q ∙ ap (cond (eq_by_cmp info_cmp q (info_of k)) (Some v)) (get-from_entries info_cmp_total (keyed es) q)))
-
-  -- an entry below all others goes to the front
-  put_first : (k : ThreadInfo) (v : X) (es : List (ThreadInfo × X)) → AllByRecursion (λ y. thread_cmp k y ≡ Less) (keys_of es) → put info_cmp (info_of k) v (keyed es) ≡ (info_of k, v) ∷ keyed es
-  put_first k v [] below = refl
-  put_first k v (e ∷ es) below = ap (λ r. by_order r ((info_of k, v) ∷ ((info_of e.0, e.1) ∷ keyed es)) ((info_of e.0, v) ∷ keyed es) ((info_of e.0, e.1) ∷ put info_cmp (info_of k) v (keyed es))) below.0
+  by_info-insert es k v = insert-seen info_of (λ x. x) info_cmp info_cmp_total info_cmp-one es k v
 
   -- what is in order stays so
   pub entries-by_info : (es : List (ThreadInfo × X)) → IsStrictlySortedBy thread_cmp (keys_of es) → entries (by_info es) ≡ keyed es
-  entries-by_info [] sorted = entries-empty
-  entries-by_info (e ∷ es) sorted =
-      entries-insert info_cmp_total (by_info es) (info_of e.0) e.1 ∙ ap (put info_cmp (info_of e.0) e.1) (entries-by_info es (sorted_tail thread_cmp e.0 _ sorted)) ∙ put_first e.0 e.1 es (sorted_head thread_cmp e.0 _ sorted)
+  entries-by_info es sorted = entries-seen info_of (λ x. x) info_cmp info_cmp_total es sorted
 
   values-keyed : (es : List (ThreadInfo × X)) → map (λ e. e.1) (keyed es) ≡ values_of es
   values-keyed [] = refl

@@ -1,4 +1,11 @@
 pub mod Infos
+pub mod Appending
+pub mod Listed
+pub mod Structs
+pub mod Reading
+pub mod Writing
+pub mod Packets
+pub mod Packings
 pub mod Joining
 pub mod Sharing
 pub mod Keyed
@@ -9,3 +16,7 @@ pub mod Honest
 pub mod Events
 pub mod Holding
 pub mod Recordings
+pub mod Seen
+pub mod Inserting
+pub mod Comparing
+pub mod Collected

@@ -21,8 +21,8 @@ use Rattle.puffin_frames.specs.Threads.{Thread, open_offsets}
 use Rattle.puffin_frames.proofs.Events.{events_of_none}
 use Rattle.puffin_frames.proofs.Holding.{Goes, held, length-open_offsets, size_held, begins_held, ends_held, place_held, closed_held, nothing_held, offsets_opened, offsets_closed}
 
-pub same_thread : (a b : Thread) → a.name ≡ b.name → a.first_start ≡ b.first_start → a.latest ≡ b.latest → a.word ≡ b.word → a ≡ b
-same_thread a b e1 e2 e3 e4 = λ i. record { name = e1 i; first_start = e2 i; latest = e3 i; word = e4 i }
+pub same_thread : (a b : Thread) → a.name ≡ b.name → a.first_start ≡ b.first_start → a.latest ≡ b.latest → a.word ≡ b.word → a.details ≡ b.details → a ≡ b
+same_thread a b e1 e2 e3 e4 e5 = λ i. record { name = e1 i; first_start = e2 i; latest = e3 i; word = e4 i; details = e5 i }
 
 pub holds_in : (r : Inside) → IsRecording r → Holds r.info.stream.bytes r.latest
 holds_in r h = held r.info.stream.bytes r.latest h.scopes

@@ -1,72 +1,60 @@
--- What a frame holds.
-use Rattle.std.specs.Prelude.{◌≡◌, Some, ℕ, ℤ, ◌-◌, ◌^◌, pos, negsuc, List, [], map, unwrap_or, refl}
-use Rattle.std.specs.FinMap as map
-use Rattle.std.specs.Coded.{Coded, code_by, coded×, coded_list, coded_ℕ, coded_ℤ}
+-- What a frame holds, and how.
+use Rattle.std.specs.Prelude.{Bool, true, false, List, Option, Some, None}
 use Rattle.std.specs.Arc.{arc_value}
-use Rattle.std.specs.BTreeMap.{BTreeMap, values}
-use Rattle.std.specs.declared.sync.Arc.{Arc}
-use Rattle.puffin_data.specs.Honesty.{Recorded, recorded, joined, IsHonestRecord}
-use Rattle.puffin_data.specs.Forest.{Forest}
-use Rattle.puffin_data.specs.declared.data.info.StreamInfo.{StreamInfo}
-use Rattle.puffin_frames.specs.declared.thread_profiler.thread_info.ThreadInfo.{ThreadInfo}
-use Rattle.puffin_frames.specs.declared.frame_data.unpacked.UnpackedFrameData.{UnpackedFrameData}
 use Rattle.puffin_frames.specs.declared.frame_data.frame.FrameData.{FrameData}
+use Rattle.puffin_frames.specs.declared.frame_data.held.PackedStreams.{PackedStreams}
+use Rattle.puffin_frames.specs.declared.frame_data.held.Held.{Held}
+use Rattle.puffin_frames.specs.declared.frame_data.held.Held.TheVariants.{Own, Shared, Packed, Both}
 use Rattle.puffin_frames.specs.declared.frame_data.meta.FrameMeta.{FrameMeta}
-use Rattle.puffin_frames.specs.Info.{Info, info_cmp, info_code, by_info}
+use Rattle.puffin_frames.specs.Details.{Details, shared_details}
+use Rattle.puffin_frames.specs.Holding.{Packing, Holding, packing_of, held_contents}
+use Rattle.puffin_frames.specs.Stored.{Said}
+pub use Rattle.puffin_frames.specs.ThreadStreams.{Streams, recorded_code, streams_code, records, all_recorded, streams_of, unshared, shared_streams, listed, no_scopes, reported_to, AreHonest, contents}
 
--- what threads recorded, by their infos
-abbrev pub Streams : Type 0
-Streams = map.FinMap info_cmp Recorded
+abbrev pub packed_as : PackedStreams → Packing
+packed_as p = record { kind = p.kind; bytes = p.bytes.items }
 
--- what is recorded is stored as the tuple of its fields
-abbrev pub recorded_code : Coded Recorded
-recorded_code =
-    code_by (List ℕ × (ℕ × (ℕ × (ℤ × ℤ))))
-    (coded× (coded_list coded_ℕ) (coded× coded_ℕ (coded× coded_ℕ (coded× coded_ℤ coded_ℤ))))
-    (λ r. (r.bytes, (r.num_scopes, (r.depth, r.range_ns))))
-    (λ p. record { bytes = p.0; num_scopes = p.1.0; depth = p.1.1.0; range_ns = p.1.1.1 })
-    (λ _. refl)
+abbrev pub held_as : Held → Holding
+held_as (Own u) = record { packed = None; unpacked = Some (contents u) }
+held_as (Shared u) = record { packed = None; unpacked = Some (contents (arc_value u)) }
+held_as (Packed p) = record { packed = Some (packed_as p.streams); unpacked = None }
+held_as (Both b) = record { packed = Some (packed_as b.packed); unpacked = Some (contents (arc_value b.unpacked)) }
 
-abbrev pub streams_code : Coded Streams
-streams_code = map.code info_code recorded_code
+abbrev pub held_meta : Held → FrameMeta
+held_meta (Own u) = u.meta
+held_meta (Shared u) = (arc_value u).meta
+held_meta (Packed p) = p.meta
+held_meta (Both b) = (arc_value b.unpacked).meta
 
--- what the streams of a map hold, each under its thread, and without the threads
-abbrev pub records : List (ThreadInfo × StreamInfo) → List (ThreadInfo × Recorded)
-records entries = map (λ e. (e.0, recorded e.1)) entries
+abbrev pub is_own : Held → Bool
+is_own (Own u) = true
+is_own _ = false
 
-abbrev pub all_recorded : BTreeMap ThreadInfo StreamInfo → List Recorded
-all_recorded streams = map recorded (values streams)
+-- how a frame's streams are held
+abbrev pub holding_of : FrameData → Holding
+holding_of frame = held_as frame.held
 
--- the streams of a map's entries
-abbrev pub streams_of : List (ThreadInfo × StreamInfo) → Streams
-streams_of entries = by_info (records entries)
+-- the streams of a frame, however they are held; none where they are packed in a way that isn't unpacked here, or the
+-- packed bytes aren't streams
+abbrev pub frame_contents : FrameData → Option Streams
+frame_contents frame = held_contents (holding_of frame)
 
--- the entries of a map of shared streams, without the sharing
-abbrev pub unshared : {A : Type 0} → List (ThreadInfo × Arc StreamInfo A) → List (ThreadInfo × StreamInfo)
-unshared entries = map (λ e. (e.0, arc_value e.1)) entries
-
-abbrev pub shared_streams : {A : Type 0} → List (ThreadInfo × Arc StreamInfo A) → Streams
-shared_streams entries = streams_of (unshared entries)
-
--- what is recorded where there is no scope
-abbrev pub no_scopes : Recorded
-no_scopes = record { bytes = []; num_scopes = 0; depth = 0; range_ns = (pos (2 ^ 63 - 1), negsuc (2 ^ 63 - 1)) }
-
--- what is reported comes after what is there under its info
-abbrev pub reported_to : Streams → Info → Recorded → Streams
-reported_to streams i r = map.insert streams i (joined (unwrap_or (map.get streams i) no_scopes) r)
-
--- each stream spells a forest, and its numbers are that forest's measures
-abbrev pub AreHonest : Streams → Type 0
-AreHonest streams = (i : Info) (r : Recorded) → map.get streams i ≡ Some r → ∥ ((f : Forest) × IsHonestRecord r f) ∥₁
-
--- the streams of a frame
-abbrev pub contents : UnpackedFrameData → Streams
-contents frame = shared_streams frame.thread_streams.entries
-
--- the same of a frame that may be held in other ways, and what is said of them together
-abbrev pub frame_contents : FrameData → Streams
-frame_contents frame = contents frame.unpacked
-
+-- what is said of all streams together
 abbrev pub frame_meta : FrameData → FrameMeta
-frame_meta frame = frame.unpacked.meta
+frame_meta frame = held_meta frame.held
+
+abbrev pub frame_details : FrameData → List Details
+frame_details frame = shared_details frame.scope_delta.items
+
+-- what a frame says, however it is held
+abbrev pub frame_says : FrameData → Said
+frame_says frame = record {
+  meta = frame_meta frame;
+  kind = (packing_of (holding_of frame)).kind;
+  streams = (packing_of (holding_of frame)).bytes;
+  details = frame_details frame;
+}
+
+-- whether a frame holds its data as it is, and no other frame does
+abbrev pub is_alone : FrameData → Bool
+is_alone frame = is_own frame.held

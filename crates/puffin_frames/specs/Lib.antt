@@ -1,4 +1,17 @@
 pub mod Info
+pub mod ScopeTypes
+pub mod Details
+pub mod Collection
+pub mod ThreadStreams
+pub mod Values
+pub mod Holding
+pub mod Stored
+pub mod Tries
+pub mod Steps
+pub mod Reads
+pub mod Writes
+pub mod Forms
+pub mod HeldCollection
 pub mod Contents
 pub mod Measures
 pub mod Threads

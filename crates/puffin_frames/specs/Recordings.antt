@@ -7,6 +7,7 @@ use Rattle.puffin_data.specs.Tour.{Event, Open, Close}
 use Rattle.puffin_data.specs.Opens.{Opened, IsOpened, open_spelling, size_place, with_ended}
 use Rattle.puffin_data.specs.Words.{num_begun, most_open, least_open, greatest_close}
 use Rattle.puffin_frames.specs.declared.thread_profiler.recording.Recording.TheInside.{Inside}
+use Rattle.puffin_frames.specs.Details.{details_seen}
 use Rattle.puffin_frames.specs.Events.{events_in}
 use Rattle.puffin_frames.specs.Threads.{Thread, open_offsets}
 
@@ -47,7 +48,7 @@ pub record Counted (info : StreamInfo) (word : List Event) : Type 0 where
   pub greatest : info.range_ns.1 ≡ greatest_close word
 
 abbrev pub thread_in : Inside → Thread
-thread_in r = record { name = string_bytes r.name; first_start = r.first_start; latest = r.latest; word = events_in r.info.stream.bytes }
+thread_in r = record { name = string_bytes r.name; first_start = r.first_start; latest = r.latest; word = events_in r.info.stream.bytes; details = details_seen r.details.items }
 
 -- the copy of the name, where there is one
 abbrev pub spare_name : Inside → Option (List ℕ)

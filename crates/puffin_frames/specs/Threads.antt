@@ -4,13 +4,15 @@ use Rattle.std.specs.Int.{int_max}
 use Rattle.std.specs.Option.{option_or}
 use Rattle.puffin_data.specs.Tour.{Event, Open, Close}
 use Rattle.puffin_frames.specs.Info.{Info}
+use Rattle.puffin_frames.specs.Details.{Details}
 
--- a thread: its name, the start of its first scope ever, its greatest time, and its events that no accepted report has handed over
+-- a thread: its name, the start of its first scope ever, its greatest time, and its events and registered details that no accepted report has handed over
 pub record Thread : Type 0 where
   pub name : List ℕ
   pub first_start : Option ℤ
   pub latest : ℤ
   pub word : List Event
+  pub details : List Details
 
 -- the time of a call where the clock answers `at`: the greatest answer so far
 abbrev pub time_of : Thread → ℤ → ℤ
@@ -23,6 +25,7 @@ after_begin thread id text at = record {
   first_start = option_or thread.first_start (Some (time_of thread at));
   latest = time_of thread at;
   word = thread.word ++ (Open id text (time_of thread at) ∷ []);
+  details = thread.details;
 }
 
 -- after the innermost scope was ended
@@ -32,11 +35,22 @@ after_end thread at = record {
   first_start = thread.first_start;
   latest = time_of thread at;
   word = thread.word ++ (Close (time_of thread at) ∷ []);
+  details = thread.details;
 }
 
--- after an accepted report, which hands over all of its events
+-- after the details of a scope were registered
+abbrev pub after_registering : Thread → Details → Thread
+after_registering thread d = record {
+  name = thread.name;
+  first_start = thread.first_start;
+  latest = thread.latest;
+  word = thread.word;
+  details = thread.details ++ (d ∷ []);
+}
+
+-- after an accepted report, which hands over all of its events and details
 abbrev pub after_handing : Thread → Thread
-after_handing thread = record { name = thread.name; first_start = thread.first_start; latest = thread.latest; word = [] }
+after_handing thread = record { name = thread.name; first_start = thread.first_start; latest = thread.latest; word = []; details = [] }
 
 -- whose scopes a report hands over
 abbrev pub info_of_thread : Thread → Info

@@ -1,11 +1,23 @@
 //! Frames: what was reported since the frame before.
 
+mod copies;
+mod decode;
+mod encode;
 mod frame;
+mod held;
+pub mod laws;
 mod meta;
+mod pack;
+mod packing;
+mod reading;
 mod shared;
+#[cfg(test)]
+mod tests;
 mod unpacked;
+mod writing;
 
 pub use frame::FrameData;
 pub use meta::{FrameIndex, FrameMeta};
+pub use packing::PackingInfo;
 pub use shared::{ThreadStreams, report_to};
 pub use unpacked::UnpackedFrameData;

@@ -1,5 +1,14 @@
 //! What is known of scopes besides their times.
 
-/// The details of a scope. None can be made yet, so each list of them is empty.
-#[derive(Drop)]
-pub enum ScopeDetails {}
+mod collection;
+mod details;
+mod ids;
+pub mod laws;
+mod scope_type;
+#[cfg(test)]
+mod tests;
+
+pub use collection::ScopeCollection;
+pub use details::ScopeDetails;
+pub use ids::ScopeIds;
+pub use scope_type::ScopeType;

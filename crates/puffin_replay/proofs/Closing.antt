@@ -1,5 +1,5 @@
 -- What the contracts of a thread's profiler and of the collector give for one command.
-use Rattle.std.proofs.Common.{◌≡◌, ◌≢◌, ℕ, zero, suc, ◌-◌, ◌^◌, ◌<◌, ◌↔◌, ℤ, pos, List, [], ◌∷◌, length, get_or, set, arith, Option, Result, Ok, Err, refl, sym, ap, ◌∙◌, subst, Global, ◌⊎◌, inl, inr}
+use Rattle.std.proofs.Common.{◌≡◌, ◌≢◌, ℕ, zero, suc, ◌-◌, ◌^◌, ◌<◌, ◌↔◌, ℤ, pos, List, [], ◌∷◌, length, get_or, set, arith, Option, Result, Ok, Err, refl, sym, ap, ◌∙◌, subst, Global, ◌⊎◌, inr}
 use Rattle.std.specs.Prelude.{OnOk, IfOk, IfErr}
 use Rattle.std.specs.Int.{int_max}
 use Rattle.std.specs.declared.sync.Arc.{Arc}
@@ -11,12 +11,14 @@ use Rattle.puffin_data.specs.Walk.{IsFault}
 use Rattle.std.proofs.lemmas.List.{get_or-set_same}
 use Rattle.puffin_replay.specs.History.{nobody}
 use Rattle.puffin_frames.specs.Info.{Info}
+use Rattle.puffin_frames.specs.Details.{Details, AllHaveIds}
 use Rattle.puffin_frames.specs.Threads.{Thread}
 use Rattle.puffin_frames.specs.Closing.{Closes}
 use Rattle.puffin_frames.specs.declared.frame_data.frame.FrameData.{FrameData}
 use Rattle.puffin_frames.specs.declared.thread_profiler.reporter.Closed.{Closed}
-use Rattle.puffin.specs.Collected.{Collected, Accepts, Refuses, after_report, SumsFit, range_with, IsTooLong, IsReportRefusal}
-use Rattle.puffin.specs.Collecting.{Collects}
+use Rattle.puffin_frames.specs.declared.thread_profiler.reporter.Closed.TheVariants.{Inner, Reported, Kept}
+use Rattle.puffin.specs.Collected.{Collected, Accepts, Refuses, after_report, after_wanting, SumsFit, range_with, IsTooLong, IsReportRefusal}
+use Rattle.puffin.specs.Collecting.{Collects, KeepsPending}
 use Rattle.puffin_replay.specs.Sessions.{SessionState}
 use Rattle.puffin_replay.specs.Serving.{clock_time, thread_in, with_thread, with_collected, Ends}
 
@@ -30,6 +32,16 @@ Ends-from old there new at clock t before after closed same set answered closes 
     subst (λ (th : Thread). Closes Accepts Refuses th new (clock_time at) before after closed) same
     (subst (λ (x : ℤ). Closes Accepts Refuses there new x before after closed) (answered ∙ ap (int_max (pos 0)) set) closes)
 
+no_details_lack : AllHaveIds []
+no_details_lack k d lt = absurd (omega arith)
+
+-- a thread's registered details have their ids after an end too
+pub kept_ids : {R : Type 0} (accepts : R → Info → List Details → Recorded → R → Type 0) (refuses : R → Info → List Details → Recorded → Error → R → Type 0) (old new : Thread) (t : ℤ) (before after : R) (closed : Closed)
+    → Closes accepts refuses old new t before after closed → AllHaveIds old.details → AllHaveIds new.details
+kept_ids accepts refuses old new t before after Inner closes ids = subst (λ (th : Thread). AllHaveIds th.details) (sym closes.1) ids
+kept_ids accepts refuses old new t before after Reported closes ids = subst (λ (th : Thread). AllHaveIds th.details) (sym closes.1) no_details_lack
+kept_ids accepts refuses old new t before after (Kept e) closes ids = subst (λ (th : Thread). AllHaveIds th.details) (sym closes.1) ids
+
 -- what a new frame gives
 pub Collects-from : (now seen : SessionState) (new : Collected) (result : Result (Option (Arc FrameData Global)) Error) → seen ≡ now → ((result ≡ Err IndexExhausted) ↔ (seen.collected.index ≡ 2 ^ 64 - 1)) → IfOk result (λ frame. Collects seen.collected frame new)
     → IfOk result (λ frame. (now.collected.index ≢ 2 ^ 64 - 1) × (with_collected seen new ≡ with_collected now new) × Collects now.collected frame new)
@@ -40,11 +52,14 @@ Collects-from now seen new (Ok frame) same exhausted took =
     no_error : ◌≡◌ {A = Result (Option (Arc FrameData Global)) Error} (Ok frame) (Err IndexExhausted) → ⊥
     no_error e = cc
 
-pub causes-from : (now seen : SessionState) (result : Result (Option (Arc FrameData Global)) Error) → seen ≡ now → ((result ≡ Err IndexExhausted) ↔ (seen.collected.index ≡ 2 ^ 64 - 1)) → IfErr result (λ e. (e ≡ IndexExhausted) ⊎ (e ≡ Memory))
-    → IfErr result (λ e. ((e ≡ IndexExhausted) × (now.collected.index ≡ 2 ^ 64 - 1)) ⊎ (e ≡ Memory))
-causes-from now seen (Ok frame) same exhausted cause = tt
-causes-from now seen (Err e) same exhausted (inl last) = inl (last, ap (λ (s : SessionState). s.collected.index) (sym same) ∙ exhausted.0 (ap Err last))
-causes-from now seen (Err e) same exhausted (inr memory) = inr memory
+pub KeepsPending-from : (now seen : SessionState) (new : Collected) (result : Result (Option (Arc FrameData Global)) Error) → seen ≡ now → IfErr result (λ e. KeepsPending seen.collected e new)
+    → IfErr result (λ e. (with_collected seen new ≡ with_collected now new) × KeepsPending now.collected e new)
+KeepsPending-from now seen new (Ok frame) same keeps = tt
+KeepsPending-from now seen new (Err e) same keeps = subst (λ (s : SessionState). (with_collected seen new ≡ with_collected s new) × KeepsPending s.collected e new) same (refl, keeps)
+
+pub last-from : (now seen : SessionState) (result : Result (Option (Arc FrameData Global)) Error) → seen ≡ now → ((result ≡ Err IndexExhausted) ↔ (seen.collected.index ≡ 2 ^ 64 - 1)) → IfErr result (λ e. e ≡ IndexExhausted → now.collected.index ≡ 2 ^ 64 - 1)
+last-from now seen (Ok frame) same exhausted = tt
+last-from now seen (Err e) same exhausted = λ last. ap (λ (s : SessionState). s.collected.index) (sym same) ∙ exhausted.0 (ap Err last)
 
 same_default : (xs : List Thread) (t : ℕ) (d e : Thread) → t < length xs → get_or xs t d ≡ get_or xs t e
 same_default [] t d e lt = absurd (omega arith)
@@ -70,16 +85,20 @@ Ends-there now threads collected after t thread new at back (Ok closed) same lt 
 
 -- what an accepted report of a user's scopes gives, and a refused one
 pub Accepts-from : (now seen : SessionState) (after : Collected) (i given : Info) (r lent : Recorded) (f : Forest) (bytes : List ℕ) (result : Result (Unit {0}) Error) → seen ≡ now → IsHonestRecord r f → r.bytes ≡ bytes → lent ≡ r → given ≡ i
-    → OnOk result (after ≡ after_report seen.collected given lent) → OnOk result (SumsFit seen.collected lent × ¬ IsTooLong (range_with seen.collected lent))
-    → OnOk result ((r : Recorded) × (f : Forest) × IsHonestRecord r f × (r.bytes ≡ bytes) × Accepts now.collected i r after × (with_collected seen after ≡ with_collected now after))
+    → OnOk result (after ≡ after_report seen.collected given [] lent) → OnOk result (SumsFit seen.collected lent × ¬ IsTooLong (range_with seen.collected lent))
+    → OnOk result ((r : Recorded) × (f : Forest) × IsHonestRecord r f × (r.bytes ≡ bytes) × Accepts now.collected i [] r after × (with_collected seen after ≡ with_collected now after))
 Accepts-from now seen after i given r lent f bytes (Err e) same honest read lends names took fits = tt
 Accepts-from now seen after i given r lent f bytes (Ok x) same honest read lends names took fits =
-    let given_there : Accepts seen.collected given lent after = (took, fits.0, fits.1) in
-    let here : Accepts seen.collected i r after = subst (λ (q : Recorded). Accepts seen.collected i q after) lends (subst (λ (j : Info). Accepts seen.collected j lent after) names given_there) in
-    (r, f, honest, read, subst (λ (s : SessionState). Accepts s.collected i r after) same here, ap (λ (s : SessionState). with_collected s after) same)
+    let given_there : Accepts seen.collected given [] lent after = (took, no_details_lack, fits.0, fits.1) in
+    let here : Accepts seen.collected i [] r after = subst (λ (q : Recorded). Accepts seen.collected i [] q after) lends (subst (λ (j : Info). Accepts seen.collected j [] lent after) names given_there) in
+    (r, f, honest, read, subst (λ (s : SessionState). Accepts s.collected i [] r after) same here, ap (λ (s : SessionState). with_collected s after) same)
 
 pub Refuses-from : (now seen : SessionState) (r lent : Recorded) (f : Forest) (bytes : List ℕ) (result : Result (Unit {0}) Error) → seen ≡ now → IsHonestRecord r f → r.bytes ≡ bytes → lent ≡ r
-    → IfErr result (λ e. IsReportRefusal seen.collected lent e) → IfErr result (λ e. (e ≡ Memory) ⊎ IsFault bytes e ⊎ ((r : Recorded) × (f : Forest) × IsHonestRecord r f × (r.bytes ≡ bytes) × IsReportRefusal now.collected r e))
+    → IfErr result (λ e. IsReportRefusal seen.collected [] lent e) → IfErr result (λ e. (e ≡ Memory) ⊎ IsFault bytes e ⊎ ((r : Recorded) × (f : Forest) × IsHonestRecord r f × (r.bytes ≡ bytes) × IsReportRefusal now.collected [] r e))
 Refuses-from now seen r lent f bytes (Ok x) same honest read lends refused = tt
 Refuses-from now seen r lent f bytes (Err e) same honest read lends refused =
-    inr (inr (r, f, honest, read, subst (λ (s : SessionState). IsReportRefusal s.collected r e) same (subst (λ (q : Recorded). IsReportRefusal seen.collected q e) lends refused)))
+    inr (inr (r, f, honest, read, subst (λ (s : SessionState). IsReportRefusal s.collected [] r e) same (subst (λ (q : Recorded). IsReportRefusal seen.collected [] q e) lends refused)))
+
+-- what a wanted snapshot gives
+pub wanted-from : (now seen : SessionState) (new : Collected) → seen ≡ now → new ≡ after_wanting seen.collected → with_collected seen new ≡ with_collected now (after_wanting now.collected)
+wanted-from now seen new same is = ap (with_collected seen) is ∙ ap (λ (s : SessionState). with_collected s (after_wanting s.collected)) same

@@ -59,11 +59,13 @@ SpellsDue-none j = rw (get-empty {X = Recorded} info_cmp j) tt
 -- ---- a frame
 
 -- a frame of just what was collected spells what was due
-pub SpellsFrame-taken : (frame : FrameData) (number index : ℕ) (streams : Streams) (ds : List Delivery) → frame_contents frame ≡ streams → frame_meta frame ≡ meta_of number (values streams) → number ≡ index
+pub SpellsFrame-taken : (frame : FrameData) (number index : ℕ) (streams : Streams) (ds : List Delivery) → frame_contents frame ≡ Some streams → frame_meta frame ≡ meta_of number (values streams) → number ≡ index
     → 0 < total_scopes (values streams) → SpellsDue streams ds → SpellsFrame frame index ds
 SpellsFrame-taken frame number index streams ds same meta numbered some spells = record {
-  streams = subst (λ ss. SpellsDue ss ds) (sym same) spells;
-  meta = meta ∙ ap (λ (n : ℕ). meta_of n (values streams)) numbered ∙ ap (λ ss. meta_of index (values ss)) (sym same);
+  streams = streams;
+  held = same;
+  spelled = spells;
+  meta = meta ∙ ap (λ (n : ℕ). meta_of n (values streams)) numbered;
   some = subst (λ (n : ℕ). 0 < n) (sym (ap (λ m. m.num_scopes) meta)) some;
 }
 

@@ -1,6 +1,10 @@
 pub mod Writing
+pub mod Statements
+pub mod Scripts
+pub mod Counting
 pub mod Laws
 pub mod Histories
+pub mod Telling
 pub mod Collecting
 pub mod Standing
 pub mod Running

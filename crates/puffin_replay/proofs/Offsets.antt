@@ -12,6 +12,7 @@ use Rattle.puffin_frames.specs.declared.thread_profiler.reporter.Closed.{Closed}
 use Rattle.puffin_frames.specs.declared.thread_profiler.reporter.Closed.TheVariants.{Inner, Reported, Kept}
 use Rattle.puffin_frames.specs.Closing.{Closes}
 use Rattle.puffin_frames.specs.Info.{Info}
+use Rattle.puffin_frames.specs.Details.{Details}
 use Rattle.puffin_frames.specs.Threads.{Thread, after_begin, after_end, opened_after, open_offsets}
 
 fold_last : (word : List Event) (e : Event) (sofar : ℕ × List ℕ) → fold opened_after sofar (word ++ (e ∷ [])) ≡ opened_after (fold opened_after sofar word) e
@@ -61,7 +62,7 @@ popped items less old new t was ended is =
     is ∙ ap (λ (xs : List ℕ). take (length xs - 1) xs) was ∙ popped_list (open_offsets old.word) ∙ sym (ap (λ (th : Thread). reverse (open_offsets th.word)) ended ∙ ap reverse (offsets-close old.word _))
 
 -- the innermost scope's place goes where it ends, and all go where all was handed over
-pub closed_places : {R : Type 0} (accepts : R → Info → Recorded → R → Type 0) (refuses : R → Info → Recorded → Error → R → Type 0) (items less : List ℕ) (old new : Thread) (t : ℤ) (before after : R) (closed : Closed) → items ≡ reverse (open_offsets old.word) → less ≡ take (length items - 1) items
+pub closed_places : {R : Type 0} (accepts : R → Info → List Details → Recorded → R → Type 0) (refuses : R → Info → List Details → Recorded → Error → R → Type 0) (items less : List ℕ) (old new : Thread) (t : ℤ) (before after : R) (closed : Closed) → items ≡ reverse (open_offsets old.word) → less ≡ take (length items - 1) items
     → Closes accepts refuses old new t before after closed → less ≡ reverse (open_offsets new.word)
 closed_places accepts refuses items less old new t before after Inner was is closes = popped items less old new t was closes.1 is
 closed_places accepts refuses items less old new t before after Reported was is closes =

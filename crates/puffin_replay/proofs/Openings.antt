@@ -19,6 +19,7 @@ use Rattle.puffin_replay.specs.Due.{due, is_taken, is_under, total_under}
 use Rattle.puffin_replay.specs.Sessions.{SessionState, opening_of, StandsAfter, SpellsIfAny, SpellsDue}
 use Rattle.puffin_replay.proofs.Laws.{same_info-one}
 use Rattle.puffin_replay.proofs.Histories.{none_under}
+use Rattle.puffin_replay.proofs.Telling.{registered-opening, due_details-opening}
 use Rattle.puffin_replay.proofs.Laws.{events_in-spelling}
 
 -- ---- what is collected, as what is due
@@ -103,8 +104,10 @@ StandsAfter-opening s honest = record {
     first_start = sym (or_none (thread_at (opening_of s) t).first_start) i;
     latest = (thread_at (opening_of s) t).latest;
     word = sym (ap (λ ms. map (λ (m : Marked). m.event) (since_last (λ m. m.reported) ms)) (append-nil (map (λ e. record { event = e; reported = false }) (thread_at (opening_of s) t).word)) ∙ (no_report (thread_at (opening_of s) t).word).1) i;
+    details = sym (registered-opening (opening_of s) t) i;
   };
   collected = subst (λ ds. SpellsDue s.collected.streams ds) (sym (due-opening s)) (SpellsDue-collected s.collected.streams honest);
   index = omega arith;
   reported = omega arith;
+  tells = record { collection = refl; new_details = sym (due_details-opening (opening_of s)); wants_all = refl };
 }

@@ -1,43 +1,59 @@
 -- What holds after some commands holds after one more.
 use Rattle.std.proofs.Common.{◌≡◌, List, [], ◌∷◌, ◌++◌, length, refl, sym, ap, subst, append_assoc, append-nil, length-append, arith}
 use Rattle.puffin_replay.specs.declared.replay.command.Command.{Command}
-use Rattle.puffin_replay.specs.declared.replay.command.Command.TheVariants.{Begin, End, ReportUser, NewFrame}
 use Rattle.puffin_replay.specs.declared.replay.command.Reply.{Reply}
-use Rattle.puffin_replay.specs.declared.replay.command.Reply.TheVariants.{Refused}
-use Rattle.puffin_data.specs.declared.error.Error.{Error}
-use Rattle.puffin_replay.specs.History.{Opening, Action, nothing}
+use Rattle.std.specs.List.{flat_map}
+use Rattle.puffin_frames.specs.Details.{Details}
+use Rattle.puffin_replay.specs.History.{Opening, Action}
+use Rattle.puffin_replay.specs.Due.{due, events_of}
 use Rattle.puffin_replay.specs.Sessions.{SessionState, opening_of, StandsAfter}
-use Rattle.puffin_replay.specs.Replies.{action_of, actions_of, MayReply, EachReply, Records}
+use Rattle.puffin_replay.specs.Replies.{action_of, actions_of, MayReply, EachReply}
+use Rattle.puffin_replay.specs.Serving.{SumsTo, Continues, RunsTo}
 
-pub actions_of-more : (cs : List Command) (rs : List Reply) (c : Command) (r : Reply) → length rs ≡ length cs → actions_of (cs ++ (c ∷ [])) (rs ++ (r ∷ [])) ≡ actions_of cs rs ++ (action_of c r ∷ [])
-actions_of-more [] [] c r e = refl
-actions_of-more [] (q ∷ rs) c r e = absurd (omega arith)
-actions_of-more (d ∷ cs) [] c r e = absurd (omega arith)
-actions_of-more (d ∷ cs) (q ∷ rs) c r e = ap (λ done. action_of d q ∷ done) (actions_of-more cs rs c r (omega arith))
+pub actions_of-more : (cs : List Command) (rs : List Reply) (ls : List (List Details)) (c : Command) (r : Reply) (l : List Details) → length rs ≡ length cs → length ls ≡ length cs
+    → actions_of (cs ++ (c ∷ [])) (rs ++ (r ∷ [])) (ls ++ (l ∷ [])) ≡ actions_of cs rs ls ++ (action_of c r l ∷ [])
+actions_of-more [] [] [] c r l e f = refl
+actions_of-more [] [] (k ∷ ls) c r l e f = absurd (omega arith)
+actions_of-more [] (q ∷ rs) ls c r l e f = absurd (omega arith)
+actions_of-more (d ∷ cs) [] ls c r l e f = absurd (omega arith)
+actions_of-more (d ∷ cs) (q ∷ rs) [] c r l e f = absurd (omega arith)
+actions_of-more (d ∷ cs) (q ∷ rs) (k ∷ ls) c r l e f = ap (λ done. action_of d q k ∷ done) (actions_of-more cs rs ls c r l (omega arith) (omega arith))
 
-pub EachReply-more : (o : Opening) (done : List Action) (cs : List Command) (rs : List Reply) (c : Command) (r : Reply) → length rs ≡ length cs
-    → EachReply o done cs rs → MayReply o (done ++ actions_of cs rs) c r → EachReply o done (cs ++ (c ∷ [])) (rs ++ (r ∷ []))
-EachReply-more o done [] [] c r e each last = (subst (λ d. MayReply o d c r) (append-nil done) last, tt)
-EachReply-more o done [] (q ∷ rs) c r e each last = absurd (omega arith)
-EachReply-more o done (d ∷ cs) [] c r e each last = absurd (omega arith)
-EachReply-more o done (d ∷ cs) (q ∷ rs) c r e each last = (
+pub EachReply-more : (o : Opening) (done : List Action) (cs : List Command) (rs : List Reply) (ls : List (List Details)) (c : Command) (r : Reply) (l : List Details) → length rs ≡ length cs → length ls ≡ length cs
+    → EachReply o done cs rs ls → MayReply o (done ++ actions_of cs rs ls) c r l → EachReply o done (cs ++ (c ∷ [])) (rs ++ (r ∷ [])) (ls ++ (l ∷ []))
+EachReply-more o done [] [] [] c r l e f each last = (subst (λ d. MayReply o d c r l) (append-nil done) last, tt)
+EachReply-more o done [] [] (k ∷ ls) c r l e f each last = absurd (omega arith)
+EachReply-more o done [] (q ∷ rs) ls c r l e f each last = absurd (omega arith)
+EachReply-more o done (d ∷ cs) [] ls c r l e f each last = absurd (omega arith)
+EachReply-more o done (d ∷ cs) (q ∷ rs) [] c r l e f each last = absurd (omega arith)
+EachReply-more o done (d ∷ cs) (q ∷ rs) (k ∷ ls) c r l e f each last = (
   each.0,
-  EachReply-more o (done ++ (action_of d q ∷ [])) cs rs c r (omega arith) each.1
-      (subst (λ a. MayReply o a c r) (sym (append_assoc done (action_of d q ∷ []) (actions_of cs rs))) last),
+  EachReply-more o (done ++ (action_of d q k ∷ [])) cs rs ls c r l (omega arith) (omega arith) each.1
+      (subst (λ a. MayReply o a c r l) (sym (append_assoc done (action_of d q k ∷ []) (actions_of cs rs ls))) last),
 )
 
--- what holds after some commands holds after one more
-pub Records-more : (old now new : SessionState) (cs : List Command) (rs : List Reply) (c : Command) (r : Reply) → Records old now cs rs
-    → StandsAfter (opening_of old) (actions_of cs rs ++ (action_of c r ∷ [])) new → MayReply (opening_of old) (actions_of cs rs) c r → Records old new (cs ++ (c ∷ [])) (rs ++ (r ∷ []))
-Records-more old now new cs rs c r before stands may = record {
-  num_replies = omega (arith, before.num_replies, length-append rs (r ∷ []), length-append cs (c ∷ []));
-  opened = before.opened;
-  replies_stand = EachReply-more (opening_of old) [] cs rs c r before.num_replies before.replies_stand may;
-  stands = subst (λ done. StandsAfter (opening_of old) done new) (sym (actions_of-more cs rs c r before.num_replies)) stands;
+-- before any command
+pub RunsTo-none : (s : SessionState) → StandsAfter (opening_of s) [] s → SumsTo s.collected.streams (flat_map events_of (due (opening_of s) [])) → RunsTo s s [] []
+RunsTo-none s stands sums = record {
+  recorded = record { num_replies = refl; learnt = []; num_learnt = refl; opened = stands; replies_stand = tt; stands = stands };
+  sums = sums;
 }
 
-pub refused_nothing : (c : Command) (e : Error) → action_of c (Refused e) ≡ nothing
-refused_nothing (Begin thread at id text) e = refl
-refused_nothing (End thread at back) e = refl
-refused_nothing (ReportUser info stream) e = refl
-refused_nothing NewFrame e = refl
+-- what holds after some commands holds after one more
+pub RunsTo-more : (old now new : SessionState) (cs : List Command) (rs : List Reply) (c : Command) (r : Reply) → RunsTo old now cs rs → Continues now new c r → RunsTo old new (cs ++ (c ∷ [])) (rs ++ (r ∷ []))
+RunsTo-more old now new cs rs c r before continues =
+    let records = before.recorded in
+    let l = continues.0 in
+    let step = continues.1 (opening_of old) (actions_of cs rs records.learnt) (record { stands = records.stands; sums = before.sums }) in
+    let actions = actions_of-more cs rs records.learnt c r l records.num_replies records.num_learnt in
+    record {
+      recorded = record {
+        num_replies = omega (arith, records.num_replies, length-append rs (r ∷ []), length-append cs (c ∷ []));
+        learnt = records.learnt ++ (l ∷ []);
+        num_learnt = omega (arith, records.num_learnt, length-append records.learnt (l ∷ []), length-append cs (c ∷ []));
+        opened = records.opened;
+        replies_stand = EachReply-more (opening_of old) [] cs rs records.learnt c r l records.num_replies records.num_learnt records.replies_stand step.1;
+        stands = subst (λ done. StandsAfter (opening_of old) done new) (sym actions) step.0.stands;
+      };
+      sums = subst (λ (done : List Action). SumsTo new.collected.streams (flat_map events_of (due (opening_of old) done))) (sym actions) step.0.sums;
+    }

@@ -18,6 +18,7 @@ use Rattle.puffin_data.specs.Tour.{Event}
 use Rattle.puffin_data.specs.Words.{word_size, num_begun, least_open, greatest_close}
 use Rattle.puffin_frames.specs.Events.{events_in}
 use Rattle.puffin_frames.specs.Info.{Info, info_cmp, same_info}
+use Rattle.puffin_frames.specs.Details.{Details, AllHaveIds}
 use Rattle.puffin_frames.specs.Contents.{Streams, AreHonest, reported_to}
 use Rattle.puffin_frames.specs.Measures.{total_bytes, total_scopes, least_start, greatest_stop}
 use Rattle.puffin.specs.Collected.{SumsFit, range_with, IsTooLong, IsReportRefusal}
@@ -209,7 +210,9 @@ module _ (o : Opening) (done : List Action) (now : SessionState) (r : Recorded) 
   pub MayReport-from : SumsFit now.collected r → ¬ IsTooLong (range_with now.collected r) → MayReport o done word
   MayReport-from h short = (fits h, λ long. short (subst IsTooLong (sym range) long))
 
-  pub IsRefusal-from : (e : Error) → IsReportRefusal now.collected r e → IsRefusal o done word e
-  IsRefusal-from e (inl large) = inl (large.0, λ h. large.1 (fits_back h))
-  IsRefusal-from e (inr (inl long)) = inr (inl (long.0, fits long.1, subst IsTooLong range long.2))
-  IsRefusal-from e (inr (inr memory)) = inr (inr (memory.0, MayReport-from memory.1 memory.2))
+  -- where all details have their ids
+  pub IsRefusal-from : (ds : List Details) (e : Error) → AllHaveIds ds → IsReportRefusal now.collected ds r e → IsRefusal o done word e
+  IsRefusal-from ds e ids (inl missing) = absurd (missing.1 ids)
+  IsRefusal-from ds e ids (inr (inl large)) = inl (large.0, λ h. large.2 (fits_back h))
+  IsRefusal-from ds e ids (inr (inr (inl long))) = inr (inl (long.0, fits long.2, subst IsTooLong range long.3))
+  IsRefusal-from ds e ids (inr (inr (inr memory))) = inr (inr (memory.0, MayReport-from memory.2 memory.3))

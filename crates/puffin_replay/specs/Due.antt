@@ -4,7 +4,7 @@ use Rattle.std.specs.List.{list_any, flat_map, count_by}
 use Rattle.puffin_data.specs.Tour.{Event}
 use Rattle.puffin_data.specs.Words.{num_begun}
 use Rattle.puffin_frames.specs.Info.{Info, same_info}
-use Rattle.puffin_replay.specs.History.{Opening, Action, calls, hands, frames, nothing, since_last}
+use Rattle.puffin_replay.specs.History.{Opening, Action, calls, hands, frames, registers, adds, learns, wants, nothing, since_last}
 use Rattle.puffin_replay.specs.Handed.{Delivery, under, taken, handed}
 
 abbrev pub is_taken : Delivery → Bool
@@ -44,6 +44,10 @@ abbrev pub is_numbered : Action → Bool
 is_numbered (calls t c) = false
 is_numbered (hands i word) = false
 is_numbered (frames emitted) = true
+is_numbered (registers t d) = false
+is_numbered (adds new) = false
+is_numbered (learns some) = false
+is_numbered wants = false
 is_numbered nothing = false
 
 -- the next frame's index

@@ -3,7 +3,7 @@ use Rattle.std.specs.Prelude.{ℕ, ℤ, Bool, false, if◌then◌else◌, List, 
 use Rattle.std.specs.Option.{option_or}
 use Rattle.puffin_data.specs.Tour.{Event, Open, Close}
 use Rattle.puffin_frames.specs.Info.{Info}
-use Rattle.puffin_replay.specs.History.{Opening, Mark, begun, ended, Call, Action, calls, hands, frames, nothing, thread_at, calls_of, greatest, latest_of, since_last}
+use Rattle.puffin_replay.specs.History.{Opening, Mark, begun, ended, Call, Action, calls, hands, frames, registers, adds, learns, wants, nothing, thread_at, calls_of, greatest, latest_of, since_last}
 
 -- an event, and whether a report was accepted behind it
 pub record Marked : Type 0 where
@@ -54,6 +54,10 @@ module _ (o : Opening) where
   ]
   handed_at done (hands i word) = under i word ∷ []
   handed_at done (frames emitted) = if emitted then taken ∷ [] else []
+  handed_at done (registers t d) = []
+  handed_at done (adds new) = []
+  handed_at done (learns some) = []
+  handed_at done wants = []
   handed_at done nothing = []
 
   -- what actions hand over one after another, after those of the past

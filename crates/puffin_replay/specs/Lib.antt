@@ -1,10 +1,13 @@
 pub mod Words
 pub mod Faults
 pub mod Lines
+pub mod Statements
+pub mod Scripts
 pub mod Counted
 pub mod History
 pub mod Handed
 pub mod Due
+pub mod Told
 pub mod Sessions
 pub mod Replies
 pub mod Serving

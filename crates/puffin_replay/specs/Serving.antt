@@ -6,6 +6,7 @@ use Rattle.std.specs.FinMap.{values}
 use Rattle.puffin_data.specs.Tour.{Event}
 use Rattle.puffin_data.specs.Words.{word_size, num_begun, least_open, greatest_close}
 use Rattle.puffin_frames.specs.Threads.{Thread}
+use Rattle.puffin_frames.specs.Details.{Details}
 use Rattle.puffin_frames.specs.Closing.{Closes}
 use Rattle.puffin_frames.specs.Contents.{Streams}
 use Rattle.puffin_frames.specs.Measures.{total_bytes, total_scopes, least_start, greatest_stop}
@@ -15,8 +16,8 @@ use Rattle.puffin_replay.specs.declared.replay.command.Command.{Command}
 use Rattle.puffin_replay.specs.declared.replay.command.Reply.{Reply}
 use Rattle.puffin_replay.specs.History.{Opening, Action, nobody}
 use Rattle.puffin_replay.specs.Due.{due, events_of}
-use Rattle.puffin_replay.specs.Sessions.{SessionState, StandsAfter}
-use Rattle.puffin_replay.specs.Replies.{action_of, MayReply}
+use Rattle.puffin_replay.specs.Sessions.{SessionState, opening_of, StandsAfter}
+use Rattle.puffin_replay.specs.Replies.{action_of, actions_of, MayReply, Records}
 
 -- ---- what single calls do
 
@@ -52,6 +53,14 @@ pub record Continued (o : Opening) (done : List Action) (now : SessionState) : T
   pub stands : StandsAfter o done now
   pub sums : SumsTo now.collected.streams (flat_map events_of (due o done))
 
--- One command and its reply: whatever history the session stood after, it stands after that history and what the command did.
+-- One command and its reply: something was learnt, and whatever history the session stood after, it stands after that history and what the command did.
+abbrev pub ContinuesBy : SessionState → SessionState → Command → Reply → List Details → Type 0
+ContinuesBy old new c r learnt = (o : Opening) (done : List Action) → Continued o done old → Continued o (done ++ (action_of c r learnt ∷ [])) new × MayReply o done c r learnt
+
 abbrev pub Continues : SessionState → SessionState → Command → Reply → Type 0
-Continues old new c r = (o : Opening) (done : List Action) → Continued o done old → Continued o (done ++ (action_of c r ∷ [])) new × MayReply o done c r
+Continues old new c r = (learnt : List Details) × ContinuesBy old new c r learnt
+
+-- a run so far, and the sums over what is collected
+pub record RunsTo (old now : SessionState) (commands : List Command) (replies : List Reply) : Type 0 where
+  pub recorded : Records old now commands replies
+  pub sums : SumsTo now.collected.streams (flat_map events_of (due (opening_of old) (actions_of commands replies recorded.learnt)))

@@ -2,15 +2,23 @@
 
 mod command;
 mod count;
+#[cfg(test)]
+mod details_tests;
 mod fault;
 mod profiled;
+mod reply_line;
+mod script;
+#[cfg(test)]
+mod script_tests;
 mod session;
 #[cfg(test)]
 mod session_tests;
+mod statement;
 mod task;
 
 pub use command::{Command, Reply};
 pub use count::count_stream;
 pub use fault::{ToolFault, finish};
+pub use script::{Script, read_script};
 pub use session::Session;
 pub use task::{Task, read_words};

@@ -1,22 +1,26 @@
-ghost use Rattle.std.specs.Prelude.{◌≡◌, ◌+◌, ◌-◌, ◌^◌, ◌<◌, ◌⊎◌, ◌↔◌, OnOk, OnErr, IfOk, IfErr};
+ghost use Rattle.std.specs.Prelude.{◌≡◌, ◌+◌, ◌-◌, ◌^◌, ◌<◌, ◌⊎◌, ◌↔◌, [], ◌∷◌, None, Some, false, OnOk, OnErr, IfOk, IfErr};
 ghost use Rattle.std.specs.Bool.{MatchBool};
 ghost use Rattle.std.specs.FinMap as map;
 ghost use Rattle.puffin_data.specs.Forest.{Forest};
 ghost use Rattle.puffin_data.specs.Honesty.{IsHonestRef, recorded_ref};
 ghost use Rattle.puffin_frames.specs.Info.{info_of};
+ghost use Rattle.puffin_frames.specs.Details.{details_of, details_seen, with_id, AllHaveIds};
+ghost use Rattle.puffin_frames.specs.Collection.{no_details};
 ghost use Rattle.puffin_frames.specs.Contents.{AreHonest};
 ghost use Rattle.puffin_frames.specs.Measures.{total_scopes, IsOrdered, DurationFits};
-ghost use Rattle.puffin.specs.Collected.{after_report, SumsFit, range_with, IsTooLong, IsReportRefusal};
-ghost use Rattle.puffin.specs.Collecting.{Collects};
+ghost use Rattle.puffin.specs.Collected.{after_report, after_adding, after_wanting, SumsFit, range_with, IsTooLong, IsReportRefusal};
+ghost use Rattle.puffin.specs.Registering.{known_id, Adds, AddsSome};
+ghost use Rattle.puffin.specs.Collecting.{Collects, KeepsPending, AddsUp};
 
+use crate::global_profiler::delta::{all_have_ids, copies, learn, scope_delta};
 use crate::global_profiler::totals::Totals;
-use puffin_data::data::StreamInfoRef;
+use puffin_data::data::{ScopeId, StreamInfoRef};
 use puffin_data::{Error, NanoSecond, Result};
 use puffin_frames::frame_data::{
     FrameData, FrameIndex, FrameMeta, ThreadStreams, UnpackedFrameData, report_to,
 };
 use puffin_frames::laws;
-use puffin_frames::scope_details::ScopeDetails;
+use puffin_frames::scope_details::{ScopeCollection, ScopeDetails, ScopeIds};
 use puffin_frames::thread_profiler::{Reporter, ThreadInfo};
 use std::alloc::Global;
 use std::collections::BTreeMap;
@@ -32,6 +36,9 @@ pub struct Collector {
     meta: FrameMeta,
     reported: u64,
     emitted: u64,
+    collection: ScopeCollection,
+    new_details: Vec<Arc<ScopeDetails>>,
+    wants_all: bool,
 }
 
 impl Model for Collector {
@@ -42,17 +49,18 @@ impl Model for Collector {
     ghost coded = { collected_code };
 
     ghost use Rattle.puffin_frames.specs.Contents.{shared_streams};
+    ghost use Rattle.puffin_frames.specs.Details.{shared_details, AllHaveIds};
     ghost use Rattle.puffin.specs.Collecting.{IsKept};
 
-    ghost view = { λ c. record { index = c.meta.frame_index; reported = c.reported; emitted = c.emitted; streams = shared_streams c.pending.entries } };
+    ghost view = { λ c. record { index = c.meta.frame_index; reported = c.reported; emitted = c.emitted; streams = shared_streams c.pending.entries; collection = c.collection; new_details = shared_details c.new_details.items; wants_all = c.wants_all } };
 
-    ghost invariant = { λ c. IsKept (shared_streams c.pending.entries) c.meta c.reported c.emitted };
+    ghost invariant = { λ c. IsKept (shared_streams c.pending.entries) c.meta c.reported c.emitted × AllHaveIds (shared_details c.new_details.items) };
 }
 
 impl Collector {
     /// With nothing reported, and this index for the next frame.
     pub fn new(alloc: Global, frame_index: FrameIndex) -> Collector
-        ensures { result ≡ record { index = frame_index; reported = 0; emitted = 0; streams = map.empty } }
+        ensures { result ≡ record { index = frame_index; reported = 0; emitted = 0; streams = map.empty; collection = no_details; new_details = []; wants_all = false } }
     {
         laws::reported_streams();
         laws::honest_streams();
@@ -62,29 +70,66 @@ impl Collector {
             meta: FrameMeta::of_none(frame_index),
             reported: 0,
             emitted: 0,
+            collection: ScopeCollection::new(alloc),
+            new_details: Vec::new(alloc),
+            wants_all: false,
         }
     }
 
-    /// Appends a thread's scopes to those that are pending under its info. They have to be honest.
+    /// Appends a thread's scopes to those that are pending under its info, and details to those that are new in the next
+    /// frame. The scopes have to be honest.
     ///
-    /// Refused with the first that applies, with nothing changed: `TooLarge` where the bytes or the scopes that are pending, or
-    /// the scopes ever reported, wouldn't fit 64 bits; `RangeTooLong` where the joined range of all that is pending wouldn't be
-    /// reversed and its duration wouldn't fit `i64`; `Memory`.
+    /// Refused with the first that applies, with nothing changed: `MissingId` where some details have no id; `TooLarge` where
+    /// the bytes or the scopes that are pending, or the scopes ever reported, wouldn't fit 64 bits; `RangeTooLong` where the
+    /// joined range of all that is pending wouldn't be reversed and its duration wouldn't fit `i64`; `Memory`.
     pub fn report(
         &mut self,
         info: ThreadInfo,
-        _details: &[ScopeDetails],
+        details: &[ScopeDetails],
         times: &StreamInfoRef,
     ) -> Result<()>
         requires { (f : Forest) × IsHonestRef times.now f }
-        ensures ok { OnOk result (self.new ≡ after_report self.old (info_of info) (recorded_ref times.now)) }
+        ensures ok { OnOk result (self.new ≡ after_report self.old (info_of info) (details_seen details.now) (recorded_ref times.now)) }
+        ensures ids { OnOk result (AllHaveIds (details_seen details.now)) }
         ensures fits { OnOk result (SumsFit self.old (recorded_ref times.now) × ¬ IsTooLong (range_with self.old (recorded_ref times.now))) }
-        ensures refusal { IfErr result (λ e. IsReportRefusal self.old (recorded_ref times.now) e) }
+        ensures refusal { IfErr result (λ e. IsReportRefusal self.old (details_seen details.now) (recorded_ref times.now) e) }
         ensures err { OnErr result (self.new ≡ self.old) }
     {
         laws::joined_ranges();
         laws::reported_streams();
         laws::honest_streams();
+        let (meta, reported) = self.with_report(details, times)?;
+        let mut fresh = copies(self.alloc, details)?;
+        self.new_details.reserve(fresh.len())?;
+        // The scopes of one stream fit, as those of all do.
+        if report_to(self.alloc, &mut self.pending, info, times).is_err() {
+            return Err(Error::Memory);
+        }
+        match self.new_details.append(&mut fresh) {
+            Ok(()) => {}
+            Err(_) => unreachable!(),
+        }
+        self.meta = meta;
+        self.reported = reported;
+        Ok(())
+    }
+
+    /// What a frame of all that is pending would say with one report more, and how many scopes were ever reported then.
+    /// Refused with the first cause that applies, memory aside.
+    fn with_report(
+        &self,
+        details: &[ScopeDetails],
+        times: &StreamInfoRef,
+    ) -> Result<(FrameMeta, u64)>
+        ensures sums { IfOk result (λ sums. AddsUp self.now sums.0 (recorded_ref times.now) × (sums.1 ≡ self.now.reported + times.now.num_scopes)) }
+        ensures ids { OnOk result (AllHaveIds (details_seen details.now)) }
+        ensures fits { OnOk result (SumsFit self.now (recorded_ref times.now) × ¬ IsTooLong (range_with self.now (recorded_ref times.now))) }
+        ensures refusal { IfErr result (λ e. IsReportRefusal self.now (details_seen details.now) (recorded_ref times.now) e) }
+    {
+        laws::joined_ranges();
+        if !all_have_ids(details) {
+            return Err(Error::MissingId);
+        }
         let Some(meta) = self.meta.joined(times) else {
             return Err(Error::TooLarge);
         };
@@ -94,35 +139,82 @@ impl Collector {
         if is_too_long(meta.range_ns) {
             return Err(Error::RangeTooLong);
         }
-        // The scopes of one stream fit, as those of all do.
-        if report_to(self.alloc, &mut self.pending, info, times).is_err() {
-            return Err(Error::Memory);
-        }
-        self.meta = meta;
-        self.reported = reported;
-        Ok(())
+        Ok((meta, reported))
     }
 
     /// Appends scopes of the caller's own, as [`Collector::report`] does, refused as it is.
     pub fn report_user_scopes(&mut self, info: ThreadInfo, times: &StreamInfoRef) -> Result<()>
         requires { (f : Forest) × IsHonestRef times.now f }
-        ensures ok { OnOk result (self.new ≡ after_report self.old (info_of info) (recorded_ref times.now)) }
+        ensures ok { OnOk result (self.new ≡ after_report self.old (info_of info) [] (recorded_ref times.now)) }
         ensures fits { OnOk result (SumsFit self.old (recorded_ref times.now) × ¬ IsTooLong (range_with self.old (recorded_ref times.now))) }
-        ensures refusal { IfErr result (λ e. IsReportRefusal self.old (recorded_ref times.now) e) }
+        ensures refusal { IfErr result (λ e. IsReportRefusal self.old [] (recorded_ref times.now) e) }
         ensures err { OnErr result (self.new ≡ self.old) }
     {
         self.report(info, &[], times)
     }
 
-    /// Hands out all that is pending in one frame, where there is a scope in it, and raises the index.
+    /// Registers scopes of the caller's own by their names, and answers an id for each. A name that is known gives its id;
+    /// other details are known from now on, and new in the next frame, under a newly drawn id in place of the one they had.
     ///
-    /// Refused with `IndexExhausted` where the index is the last one, else only with `Memory`; nothing is changed then.
+    /// Refused with `IdsExhausted` or `Memory`: a beginning of the list is registered then, and an id may be used up.
+    pub fn register_user_scopes(
+        &mut self,
+        ids: &ScopeIds,
+        details: &[ScopeDetails],
+    ) -> Result<Vec<ScopeId>>
+        ensures ok { IfOk result (λ scope_ids. Adds self.old (details_seen details.now) scope_ids.items self.new) }
+        ensures err { IfErr result (λ e. AddsSome self.old (details_seen details.now) e self.new) }
+    {
+        let mut scope_ids = Vec::with_capacity(self.alloc, details.len())?;
+        for details in details {
+            let id = self.register_user_scope(ids, details)?;
+            match scope_ids.push(id) {
+                Ok(()) => {}
+                Err(_) => unreachable!(),
+            }
+        }
+        Ok(scope_ids)
+    }
+
+    /// One scope. Nothing is changed where it is refused.
+    fn register_user_scope(&mut self, ids: &ScopeIds, details: &ScopeDetails) -> Result<ScopeId>
+        ensures ok { IfOk result (λ id.
+            ((known_id self.old.collection (details_of details.now) ≡ Some id) × (self.new ≡ self.old))
+            ⊎ ((known_id self.old.collection (details_of details.now) ≡ None) × (self.new ≡ after_adding self.old (with_id (details_of details.now) id ∷ [])))) }
+        ensures err { OnErr result (self.new ≡ self.old) }
+        ensures cause { IfErr result (λ e. (e ≡ Error.Memory) ⊎ ((e ≡ Error.IdsExhausted) × (known_id self.old.collection (details_of details.now) ≡ None))) }
+    {
+        if let Some(id) = self.collection.fetch_by_name(details.name().as_str()) {
+            return Ok(*id);
+        }
+        self.new_details.reserve(1)?;
+        let id = ids.draw()?;
+        let details = Arc::new(self.alloc, details.clone()?.with_scope_id(id))?;
+        let _kept = self.collection.insert(details.clone()?)?;
+        match self.new_details.push(details) {
+            Ok(()) => Ok(id),
+            Err(_) => unreachable!(),
+        }
+    }
+
+    /// Lets the next frame tell of all scopes that are known, besides the new ones. Takes no memory.
+    pub fn emit_scope_snapshot(&mut self)
+        ensures { self.new ≡ after_wanting self.old }
+    {
+        self.wants_all = true;
+    }
+
+    /// Hands out all that is pending in one frame, where there is a scope in it, and raises the index. The frame tells of the
+    /// new scopes in order, and then, where that was wanted, of all that were known before; from then on the new ones are
+    /// known. Without a frame the new scopes and that wish are kept.
+    ///
+    /// Refused with `IndexExhausted` where the index is the last one, else only with `Memory`; nothing is changed then, but
+    /// after `Memory` a beginning of the new scopes may be known.
     pub fn collect_frame(&mut self) -> Result<Option<Arc<FrameData>>>
         ensures ok { IfOk result (λ frame. Collects self.old frame self.new) }
         ensures honest { AreHonest self.old.streams }
         ensures exhausted { (result ≡ Err Error.IndexExhausted) ↔ (self.old.index ≡ 2 ^ 64 - 1) }
-        ensures err { OnErr result (self.new ≡ self.old) }
-        ensures cause { IfErr result (λ e. (e ≡ Error.IndexExhausted) ⊎ (e ≡ Error.Memory)) }
+        ensures err { IfErr result (λ e. KeepsPending self.old e self.new) }
     {
         laws::reported_streams();
         laws::honest_streams();
@@ -133,16 +225,25 @@ impl Collector {
             self.meta.frame_index = next;
             return Ok(None);
         }
+        let delta = scope_delta(
+            self.alloc,
+            &self.new_details,
+            &self.collection,
+            self.wants_all,
+        )?;
+        learn(&mut self.collection, &self.new_details)?;
         let thread_streams = mem::replace(&mut self.pending, BTreeMap::new(self.alloc));
         let unpacked = UnpackedFrameData {
             meta: self.meta,
             thread_streams,
         };
-        let frame = FrameData::of_unpacked(unpacked, Vec::new(self.alloc), false);
+        let frame = FrameData::of_unpacked(unpacked, delta, self.wants_all);
         match Arc::new(self.alloc, frame) {
             Ok(frame) => {
                 self.meta = FrameMeta::of_none(next);
                 self.emitted = self.reported;
+                self.new_details.clear();
+                self.wants_all = false;
                 Ok(Some(frame))
             }
             Err(refused) => {

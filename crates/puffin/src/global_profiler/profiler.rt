@@ -1,20 +1,23 @@
-ghost use Rattle.std.specs.Prelude.{◌≡◌, ◌+◌, ◌-◌, ◌^◌, ◌⊎◌, ◌↔◌, OnErr, OnOk, IfOk, IfErr};
+ghost use Rattle.std.specs.Prelude.{◌≡◌, ◌+◌, ◌-◌, ◌^◌, ◌⊎◌, ◌↔◌, [], false, OnOk, IfOk, IfErr};
 ghost use Rattle.std.specs.FinMap as map;
 ghost use Rattle.puffin_data.specs.Forest.{Forest};
 ghost use Rattle.puffin_data.specs.Honesty.{IsHonestRef, recorded_ref};
 ghost use Rattle.puffin_frames.specs.Info.{info_of};
+ghost use Rattle.puffin_frames.specs.Details.{details_seen};
+ghost use Rattle.puffin_frames.specs.Collection.{no_details};
 ghost use Rattle.puffin_frames.specs.Contents.{AreHonest};
 ghost use Rattle.puffin_frames.specs.Measures.{total_scopes};
-ghost use Rattle.puffin.specs.Collected.{Accepts, Refuses};
-ghost use Rattle.puffin.specs.Collecting.{Collects};
+ghost use Rattle.puffin.specs.Collected.{Accepts, Refuses, after_wanting};
+ghost use Rattle.puffin.specs.Registering.{Adds, AddsSome};
+ghost use Rattle.puffin.specs.Collecting.{Collects, KeepsPending};
 ghost use Rattle.puffin.specs.Profiled.{collected};
 
 use crate::global_profiler::collector::Collector;
 use crate::global_profiler::totals::Totals;
-use puffin_data::data::StreamInfoRef;
+use puffin_data::data::{ScopeId, StreamInfoRef};
 use puffin_data::{Error, Result};
 use puffin_frames::frame_data::FrameData;
-use puffin_frames::scope_details::ScopeDetails;
+use puffin_frames::scope_details::{ScopeDetails, ScopeIds};
 use puffin_frames::thread_profiler::{Reporter, ThreadInfo};
 use std::alloc::Global;
 use std::sync::Arc;
@@ -37,14 +40,14 @@ pub struct GlobalProfiler {
 impl GlobalProfiler {
     /// With nothing reported. The first frame has the index 0.
     pub fn new(alloc: Global) -> GlobalProfiler
-        ensures { collected result ≡ record { index = 0; reported = 0; emitted = 0; streams = map.empty } }
+        ensures { collected result ≡ record { index = 0; reported = 0; emitted = 0; streams = map.empty; collection = no_details; new_details = []; wants_all = false } }
     {
         GlobalProfiler {
             collector: Collector::new(alloc, 0),
         }
     }
 
-    /// Appends a thread's scopes to those that are pending, by one call of [`Collector::report`], refused as that is.
+    /// Appends a thread's scopes to those that are pending, and details to the new ones, by one call of [`Collector::report`], refused as that is.
     pub fn report(
         &mut self,
         info: ThreadInfo,
@@ -52,8 +55,8 @@ impl GlobalProfiler {
         times: &StreamInfoRef,
     ) -> Result<()>
         requires { (f : Forest) × IsHonestRef times.now f }
-        ensures ok { OnOk result (Accepts (collected self.old) (info_of info) (recorded_ref times.now) (collected self.new)) }
-        ensures err { IfErr result (λ e. Refuses (collected self.old) (info_of info) (recorded_ref times.now) e (collected self.new)) }
+        ensures ok { OnOk result (Accepts (collected self.old) (info_of info) (details_seen details.now) (recorded_ref times.now) (collected self.new)) }
+        ensures err { IfErr result (λ e. Refuses (collected self.old) (info_of info) (details_seen details.now) (recorded_ref times.now) e (collected self.new)) }
     {
         self.collector.report(info, details, times)
     }
@@ -61,10 +64,29 @@ impl GlobalProfiler {
     /// Appends scopes of the caller's own, by one call of [`Collector::report_user_scopes`], refused as that is.
     pub fn report_user_scopes(&mut self, info: ThreadInfo, times: &StreamInfoRef) -> Result<()>
         requires { (f : Forest) × IsHonestRef times.now f }
-        ensures ok { OnOk result (Accepts (collected self.old) (info_of info) (recorded_ref times.now) (collected self.new)) }
-        ensures err { IfErr result (λ e. Refuses (collected self.old) (info_of info) (recorded_ref times.now) e (collected self.new)) }
+        ensures ok { OnOk result (Accepts (collected self.old) (info_of info) [] (recorded_ref times.now) (collected self.new)) }
+        ensures err { IfErr result (λ e. Refuses (collected self.old) (info_of info) [] (recorded_ref times.now) e (collected self.new)) }
     {
         self.collector.report_user_scopes(info, times)
+    }
+
+    /// Registers scopes of the caller's own, by one call of [`Collector::register_user_scopes`], refused as that is.
+    pub fn register_user_scopes(
+        &mut self,
+        ids: &ScopeIds,
+        details: &[ScopeDetails],
+    ) -> Result<Vec<ScopeId>>
+        ensures ok { IfOk result (λ scope_ids. Adds (collected self.old) (details_seen details.now) scope_ids.items (collected self.new)) }
+        ensures err { IfErr result (λ e. AddsSome (collected self.old) (details_seen details.now) e (collected self.new)) }
+    {
+        self.collector.register_user_scopes(ids, details)
+    }
+
+    /// Lets the next frame tell of all scopes that are known, besides the new ones. Takes no memory.
+    pub fn emit_scope_snapshot(&mut self)
+        ensures { collected self.new ≡ after_wanting (collected self.old) }
+    {
+        self.collector.emit_scope_snapshot();
     }
 
     /// Hands out all that is pending, by one call of [`Collector::collect_frame`], refused as that is.
@@ -72,8 +94,7 @@ impl GlobalProfiler {
         ensures ok { IfOk result (λ frame. Collects (collected self.old) frame (collected self.new)) }
         ensures honest { AreHonest (collected self.old).streams }
         ensures exhausted { (result ≡ Err Error.IndexExhausted) ↔ ((collected self.old).index ≡ 2 ^ 64 - 1) }
-        ensures err { OnErr result (collected self.new ≡ collected self.old) }
-        ensures cause { IfErr result (λ e. (e ≡ Error.IndexExhausted) ⊎ (e ≡ Error.Memory)) }
+        ensures err { IfErr result (λ e. KeepsPending (collected self.old) e (collected self.new)) }
     {
         self.collector.collect_frame()
     }
@@ -84,8 +105,7 @@ impl GlobalProfiler {
         ensures refused { IfOk result (λ emitted. emitted.refused ≡ 0) }
         ensures honest { AreHonest (collected self.old).streams }
         ensures exhausted { (result ≡ Err Error.IndexExhausted) ↔ ((collected self.old).index ≡ 2 ^ 64 - 1) }
-        ensures err { OnErr result (collected self.new ≡ collected self.old) }
-        ensures cause { IfErr result (λ e. (e ≡ Error.IndexExhausted) ⊎ (e ≡ Error.Memory)) }
+        ensures err { IfErr result (λ e. KeepsPending (collected self.old) e (collected self.new)) }
     {
         let frame = self.collector.collect_frame()?;
         Ok(Emitted { frame, refused: 0 })
@@ -108,9 +128,9 @@ impl Reporter for GlobalProfiler {
     ghost use Rattle.puffin.specs.Collected.{Accepts, Refuses};
     ghost use Rattle.puffin.specs.Profiled.{collected};
 
-    ghost accepts = { λ old i r new. Accepts (collected old) i r (collected new) };
+    ghost accepts = { λ old i ds r new. Accepts (collected old) i ds r (collected new) };
 
-    ghost refuses = { λ old i r e new. Refuses (collected old) i r e (collected new) };
+    ghost refuses = { λ old i ds r e new. Refuses (collected old) i ds r e (collected new) };
 
     fn report(
         &mut self,

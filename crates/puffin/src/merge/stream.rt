@@ -4,7 +4,7 @@ ghost use Rattle.std.specs.Prelude.{◌≡◌, ◌≤◌, ◌⊎◌, ◌-ℤ◌,
 ghost use Rattle.puffin_data.specs.Visiting.{TakesAll, StopsEarly};
 ghost use Rattle.puffin_frames.specs.Info.{info_of};
 ghost use Rattle.puffin.specs.Occurrences.{Occurrence};
-ghost use Rattle.puffin.specs.Frames.{bytes_of, most_tries_of};
+ghost use Rattle.puffin.specs.FrameStreams.{bytes_of, most_tries_of};
 ghost use Rattle.puffin.specs.Seen.{frame_bytes};
 ghost use Rattle.puffin.specs.Merging.{TakesScopes, RefusesScope};
 ghost use Rattle.puffin.specs.Tables.{IsTableOf};

@@ -8,8 +8,8 @@ use crate::data::device::{Drain, Source};
 use crate::file_error::FileError;
 use std::alloc::Global;
 
-/// How many bytes are read at once.
-const PIECE_SIZE: usize = 65536;
+/// How many bytes are read at once. A length that lies asks for no more memory than that before bytes come.
+pub(super) const PIECE_SIZE: usize = 65536;
 
 /// Reads once into a piece, and appends what came.
 fn append_read<S: Source>(

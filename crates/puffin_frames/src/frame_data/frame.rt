@@ -1,9 +1,11 @@
-ghost use Rattle.std.specs.Prelude.{◌≡◌, ◌↔◌, ◌⊎◌, ◌-ℤ◌, ◌≤ℤ◌, IfOk, IfErr, IfSome, IsSome};
+ghost use Rattle.std.specs.Prelude.{◌≡◌, ◌↔◌, ◌⊎◌, ◌-ℤ◌, ◌≤ℤ◌, IfOk, IfErr, IfSome, Some, None, true};
+ghost use Rattle.std.specs.Option.{option_map};
 ghost use Rattle.std.specs.FinMap as map;
 ghost use Rattle.puffin_data.specs.declared.error.Error.{Error};
 ghost use Rattle.puffin_frames.specs.Measures.{joined_range, TotalsFit, IsOrdered, DurationFits, MakeFrame, meta_of};
-ghost use Rattle.puffin_frames.specs.Contents.{streams_of, all_recorded, contents, frame_contents, frame_meta};
+ghost use Rattle.puffin_frames.specs.Contents.{streams_of, all_recorded, contents, holding_of, frame_contents, frame_meta, is_alone};
 
+use crate::frame_data::held::Held;
 use crate::frame_data::meta::{FrameIndex, FrameMeta};
 use crate::frame_data::unpacked::UnpackedFrameData;
 use crate::scope_details::ScopeDetails;
@@ -21,7 +23,7 @@ pub struct FrameData {
     pub scope_delta: Vec<Arc<ScopeDetails>>,
     /// Whether `scope_delta` also tells of all scopes so far.
     pub full_delta: bool,
-    unpacked: UnpackedFrameData,
+    pub(crate) held: Held,
 }
 
 impl FrameData {
@@ -35,8 +37,9 @@ impl FrameData {
         full_delta: bool,
     ) -> Result<FrameData>
         ensures delta { IfOk result (λ frame. (frame.scope_delta ≡ scope_delta) × (frame.full_delta ≡ full_delta)) }
-        ensures contents { IfOk result (λ frame. frame_contents frame ≡ streams_of thread_streams.entries) }
-        ensures meta { IfOk result (λ frame. frame_meta frame ≡ meta_of frame_index (map.values (frame_contents frame))) }
+        ensures contents { IfOk result (λ frame. holding_of frame ≡ record { packed = None; unpacked = Some (streams_of thread_streams.entries) }) }
+        ensures alone { IfOk result (λ frame. is_alone frame ≡ true) }
+        ensures meta { IfOk result (λ frame. frame_meta frame ≡ meta_of frame_index (map.values (streams_of thread_streams.entries))) }
         ensures too_large { (result ≡ Err Error.TooLarge) ↔ ¬ TotalsFit (all_recorded thread_streams) }
         ensures empty { (result ≡ Err Error.Empty) ↔ (TotalsFit (all_recorded thread_streams) × ¬ IsOrdered (joined_range (all_recorded thread_streams))) }
         ensures range_too_long { (result ≡ Err Error.RangeTooLong) ↔ (TotalsFit (all_recorded thread_streams) × IsOrdered (joined_range (all_recorded thread_streams)) × ¬ DurationFits (joined_range (all_recorded thread_streams))) }
@@ -54,45 +57,61 @@ impl FrameData {
         full_delta: bool,
     ) -> FrameData
         ensures delta { (result.scope_delta ≡ scope_delta) × (result.full_delta ≡ full_delta) }
-        ensures contents { frame_contents result ≡ contents unpacked }
+        ensures held { holding_of result ≡ record { packed = None; unpacked = Some (contents unpacked) } }
+        ensures alone { is_alone result ≡ true }
         ensures meta { frame_meta result ≡ unpacked.meta }
     {
         FrameData {
             scope_delta,
             full_delta,
-            unpacked,
+            held: Held::Own(unpacked),
         }
     }
 
-    /// The frame without its details, which are dropped. Takes no memory.
+    /// The frame's data, of a frame that holds it as it is and alone, as [`FrameData::of_unpacked`] makes it. Its details are
+    /// dropped. Takes no memory.
     pub fn into_unpacked(self) -> UnpackedFrameData
-        ensures contents { contents result ≡ frame_contents self }
+        requires { is_alone self ≡ true }
+        ensures contents { Some (contents result) ≡ frame_contents self }
         ensures meta { result.meta ≡ frame_meta self }
     {
-        self.unpacked
+        let FrameData { held, .. } = self;
+        match held {
+            Held::Own(unpacked) => unpacked,
+            _ => unreachable!(),
+        }
     }
 
-    /// The frame as it is held unpacked, or `None` where it is held packed alone, which no frame is yet.
+    /// The frame as it is held unpacked, or `None` where it is held packed only.
     pub fn as_unpacked(&self) -> Option<&UnpackedFrameData>
-        ensures contents { IfSome result (λ unpacked. contents unpacked.now ≡ frame_contents self.now) }
+        ensures contents { option_map (λ unpacked. contents unpacked.now) result ≡ (holding_of self.now).unpacked }
         ensures meta { IfSome result (λ unpacked. unpacked.now.meta ≡ frame_meta self.now) }
-        ensures held { IsSome result }
     {
-        Some(&self.unpacked)
+        match &self.held {
+            Held::Own(unpacked) => Some(unpacked),
+            Held::Shared(unpacked) => Some(unpacked),
+            Held::Packed(_) => None,
+            Held::Both(both) => Some(&both.unpacked),
+        }
     }
 
     /// What is said of the frame's streams together.
     pub fn meta(&self) -> &FrameMeta
         ensures { result.now ≡ frame_meta self.now }
     {
-        &self.unpacked.meta
+        match &self.held {
+            Held::Own(unpacked) => &unpacked.meta,
+            Held::Shared(unpacked) => &unpacked.meta,
+            Held::Packed(packed) => &packed.meta,
+            Held::Both(both) => &both.unpacked.meta,
+        }
     }
 
     /// The frame's number.
     pub fn frame_index(&self) -> FrameIndex
         ensures { result ≡ (frame_meta self.now).frame_index }
     {
-        self.unpacked.frame_index()
+        self.meta().frame_index
     }
 
     /// The least start and the greatest stop of all scopes, in nanoseconds.
@@ -100,13 +119,23 @@ impl FrameData {
         ensures range { result ≡ (frame_meta self.now).range_ns }
         ensures ordered { result.0 ≤ℤ result.1 }
     {
-        self.unpacked.range_ns()
+        match &self.held {
+            Held::Own(unpacked) => unpacked.range_ns(),
+            Held::Shared(unpacked) => unpacked.range_ns(),
+            Held::Packed(packed) => packed.meta.range_ns,
+            Held::Both(both) => both.unpacked.range_ns(),
+        }
     }
 
     /// The time from the least start to the greatest stop, in nanoseconds.
     pub fn duration_ns(&self) -> NanoSecond
         ensures { result ≡ (frame_meta self.now).range_ns.1 -ℤ (frame_meta self.now).range_ns.0 }
     {
-        self.unpacked.duration_ns()
+        match &self.held {
+            Held::Own(unpacked) => unpacked.duration_ns(),
+            Held::Shared(unpacked) => unpacked.duration_ns(),
+            Held::Packed(packed) => packed.meta.range_ns.1 - packed.meta.range_ns.0,
+            Held::Both(both) => both.unpacked.duration_ns(),
+        }
     }
 }

@@ -1,9 +1,11 @@
+use crate::scope_details::{ScopeDetails, ScopeIds};
 use crate::thread_profiler::clock::NsSource;
 use crate::thread_profiler::recording::Recording;
 use crate::thread_profiler::reporter::{Closed, Reporter};
 use puffin_data::data::ScopeId;
 use puffin_data::{Error, Result};
 use std::alloc::Global;
+use std::borrow::CowStr;
 
 /// The profiler of one thread: it writes down when the thread's scopes begin and end, by a clock of its own, and reports
 /// them whenever the last open scope has closed.
@@ -16,11 +18,12 @@ pub struct ThreadProfiler<C> {
 }
 
 impl<C: NsSource> ThreadProfiler<C> {
-    ghost use Rattle.std.specs.Prelude.{◌≡◌, ◌≢◌, ◌+◌, ℤ, pos, ◌≤ℤ◌, [], length, None, OnOk, OnErr, IfOk, IfErr, string_bytes, slice_get};
+    ghost use Rattle.std.specs.Prelude.{◌≡◌, ◌≢◌, ◌+◌, ◌⊎◌, ℤ, pos, ◌≤ℤ◌, [], length, None, Some, OnOk, OnErr, IfOk, IfErr, string_bytes, slice_get};
     ghost use Rattle.puffin_data.specs.declared.error.Error.{Error};
+    ghost use Rattle.std.specs.Cow.{cow_str_bytes};
     ghost use Rattle.puffin_data.specs.Text.{cut_text};
     ghost use Rattle.puffin_data.specs.Words.{word_size, open_after};
-    ghost use Rattle.puffin_frames.specs.Threads.{after_begin, open_offsets};
+    ghost use Rattle.puffin_frames.specs.Threads.{after_begin, after_registering, open_offsets};
     ghost use Rattle.puffin_frames.specs.Closing.{Closes, Reports};
     ghost use Rattle.puffin_frames.specs.Profilers.{thread_of, clock_of, with_clock};
     ghost use Rattle.puffin_frames.specs.contracts.thread_profiler.profiler.ThreadProfiler.{the_row};
@@ -28,7 +31,7 @@ impl<C: NsSource> ThreadProfiler<C> {
 
     /// A thread without scopes, of this name.
     pub fn new(alloc: Global, name: String, clock: C) -> ThreadProfiler<C>
-        ensures thread { thread_of result ≡ record { name = string_bytes name; first_start = None; latest = pos 0; word = [] } }
+        ensures thread { thread_of result ≡ record { name = string_bytes name; first_start = None; latest = pos 0; word = []; details = [] } }
         ensures clock { clock_of result ≡ clock }
     {
         ThreadProfiler {
@@ -88,6 +91,50 @@ impl<C: NsSource> ThreadProfiler<C> {
             Ok(()) => Ok(Closed::Reported),
             Err(e) => Ok(Closed::Kept(e)),
         }
+    }
+
+    /// Registers a whole function as a scope, under a newly drawn id, which is answered. Its details go to the reporter with
+    /// the thread's next accepted report.
+    ///
+    /// Refused with `IdsExhausted` or `Memory`, and nothing is changed then, though an id may be used up.
+    pub fn register_function_scope(
+        &mut self,
+        ids: &ScopeIds,
+        function_name: CowStr<'static>,
+        file_path: CowStr<'static>,
+        line_nr: u32,
+    ) -> Result<ScopeId>
+        ensures ok { IfOk result (λ id. thread_of self.new ≡ after_registering (thread_of self.old) (record { id = Some id; scope_name = None; function_name = cow_str_bytes function_name.entry; file_path = cow_str_bytes file_path.entry; line_nr = line_nr })) }
+        ensures clock { clock_of self.new ≡ clock_of self.old }
+        ensures unchanged { OnErr result (self.new ≡ self.old) }
+        ensures cause { IfErr result (λ e. (e ≡ Error.IdsExhausted) ⊎ (e ≡ Error.Memory)) }
+    {
+        let details = ScopeDetails::default()
+            .with_function_name(function_name)
+            .with_file(file_path)
+            .with_line_nr(line_nr);
+        self.recording.register(ids, details)
+    }
+
+    /// Registers a scope with a name of its own. Else as [`ThreadProfiler::register_function_scope`].
+    pub fn register_named_scope(
+        &mut self,
+        ids: &ScopeIds,
+        scope_name: CowStr<'static>,
+        function_name: CowStr<'static>,
+        file_path: CowStr<'static>,
+        line_nr: u32,
+    ) -> Result<ScopeId>
+        ensures ok { IfOk result (λ id. thread_of self.new ≡ after_registering (thread_of self.old) (record { id = Some id; scope_name = Some (cow_str_bytes scope_name.entry); function_name = cow_str_bytes function_name.entry; file_path = cow_str_bytes file_path.entry; line_nr = line_nr })) }
+        ensures clock { clock_of self.new ≡ clock_of self.old }
+        ensures unchanged { OnErr result (self.new ≡ self.old) }
+        ensures cause { IfErr result (λ e. (e ≡ Error.IdsExhausted) ⊎ (e ≡ Error.Memory)) }
+    {
+        let details = ScopeDetails::from_scope_name(scope_name)
+            .with_function_name(function_name)
+            .with_file(file_path)
+            .with_line_nr(line_nr);
+        self.recording.register(ids, details)
     }
 
     /// Reports the closed scopes that wait since a report was refused. `Ok(false)` where none waits.

@@ -1,13 +1,15 @@
 //! What one thread records, apart from its clock.
 
-ghost use Rattle.std.specs.Prelude.{◌≡◌, ◌+◌, ◌-◌, ◌^◌, ◌<◌, ◌≤◌, ◌++◌, ℤ, pos, ◌≤ℤ◌, [], ◌==◌, length, None, OnOk, OnErr, IfOk, IfErr, IfSome, IfNone, string_bytes, slice_get, unwrap_or, option_map};
+ghost use Rattle.std.specs.Prelude.{◌≡◌, ◌+◌, ◌-◌, ◌*◌, ◌^◌, ◌<◌, ◌≤◌, ◌++◌, ◌⊎◌, ℤ, pos, ◌≤ℤ◌, [], ◌==◌, length, None, OnOk, OnErr, IfOk, IfErr, IfSome, IfNone, string_bytes, slice_get, unwrap_or, option_map};
 ghost use Rattle.puffin_data.specs.declared.error.Error.{Error};
 ghost use Rattle.puffin_data.specs.Spelling.{begin_bytes};
 ghost use Rattle.puffin_data.specs.Text.{cut_text};
 ghost use Rattle.puffin_data.specs.Words.{word_size, open_after};
-ghost use Rattle.puffin_frames.specs.Threads.{after_begin, after_end, after_handing, open_offsets};
+ghost use Rattle.puffin_frames.specs.Threads.{after_begin, after_end, after_handing, after_registering, open_offsets};
 ghost use Rattle.puffin_frames.specs.Closing.{GoesTo};
+ghost use Rattle.puffin_frames.specs.Details.{details_of, with_id};
 
+use crate::scope_details::{ScopeDetails, ScopeIds};
 use crate::thread_profiler::clock::NsSource;
 use crate::thread_profiler::reporter::Reporter;
 use crate::thread_profiler::thread_info::ThreadInfo;
@@ -32,6 +34,8 @@ pub struct Recording {
     latest: NanoSecond,
     // Where the sizes of the open scopes stand, the innermost last.
     offsets: Vec<usize>,
+    // What was registered since the last accepted report.
+    details: Vec<ScopeDetails>,
 }
 
 impl Model for Recording {
@@ -58,6 +62,14 @@ fn keep_copy(spare: &mut Option<String>, name: &String) -> Result<()>
     Ok(())
 }
 
+/// How many bytes the ends of the open scopes take, whose sizes stand at these offsets, and the end of one more.
+fn size_of_ends(offsets: &[usize]) -> usize
+    ensures size { result ≡ 9 * (length offsets.now + 1) }
+    ensures small { result + 149 < 2 ^ 64 }
+{
+    END_SIZE * (offsets.len() + 1)
+}
+
 /// Writes a scope's beginning at a time, within the room, and answers where its size stands.
 fn write_begin(stream: &mut Stream, at: NanoSecond, id: ScopeId, text: &str) -> usize
     requires { 149 ≤ stream.old.room }
@@ -75,7 +87,7 @@ fn write_begin(stream: &mut Stream, at: NanoSecond, id: ScopeId, text: &str) -> 
 impl Recording {
     /// A thread without scopes.
     pub(crate) fn new(alloc: Global, name: String) -> Recording
-        ensures { result ≡ record { name = string_bytes name; first_start = None; latest = pos 0; word = [] } }
+        ensures { result ≡ record { name = string_bytes name; first_start = None; latest = pos 0; word = []; details = [] } }
     {
         Recording {
             name,
@@ -84,6 +96,7 @@ impl Recording {
             first_start: None,
             latest: 0,
             offsets: Vec::new(alloc),
+            details: Vec::new(alloc),
         }
     }
 
@@ -123,7 +136,7 @@ impl Recording {
     {
         keep_copy(&mut self.spare, &self.name)?;
         self.offsets.reserve(1)?;
-        let ends = END_SIZE * (self.offsets.len() + 1);
+        let ends = size_of_ends(&self.offsets);
         self.info.stream.reserve(BEGIN_LIMIT + ends)?;
         let at = self.latest.max(clock.now_ns());
         let offset = write_begin(&mut self.info.stream, at, id, text);
@@ -168,19 +181,34 @@ impl Recording {
         }
     }
 
-    /// Hands over all scopes under a name. Where they are refused, they stay.
+    /// Registers details under a newly drawn id, which is answered, for the next accepted report.
+    ///
+    /// Refused with `IdsExhausted` or `Memory`, and nothing is changed then. The memory is taken before the id is drawn.
+    pub(crate) fn register(&mut self, ids: &ScopeIds, details: ScopeDetails) -> Result<ScopeId>
+        ensures ok { IfOk result (λ id. self.new ≡ after_registering self.old (with_id (details_of details) id)) }
+        ensures unchanged { OnErr result (self.new ≡ self.old) }
+        ensures cause { IfErr result (λ e. (e ≡ Error.IdsExhausted) ⊎ (e ≡ Error.Memory)) }
+    {
+        self.details.reserve(1)?;
+        let id = ids.draw()?;
+        self.details.push_reserved(details.with_scope_id(id));
+        Ok(id)
+    }
+
+    /// Hands over all scopes under a name, with the details. Where they are refused, they stay.
     pub(crate) fn hand_over<R: Reporter>(&mut self, name: String, reporter: &mut R) -> Result<()>
         requires none_open { open_after 0 self.old.word ≡ 0 }
         requires name { string_bytes name ≡ self.old.name }
         ensures ok { OnOk result ((self.new ≡ after_handing self.old) × GoesTo R.accepts self.old reporter.old reporter.new) }
-        ensures err { IfErr result (λ e. (self.new ≡ self.old) × GoesTo (λ b i r a. R.refuses b i r e a) self.old reporter.old reporter.new) }
+        ensures err { IfErr result (λ e. (self.new ≡ self.old) × GoesTo (λ b i d r a. R.refuses b i d r e a) self.old reporter.old reporter.new) }
     {
         let info = ThreadInfo {
             start_time_ns: self.first_start,
             name,
         };
-        reporter.report(info, &[], &self.info.as_stream_into_ref())?;
+        reporter.report(info, &self.details, &self.info.as_stream_into_ref())?;
         self.info.clear();
+        self.details.clear();
         Ok(())
     }
 }

@@ -3,6 +3,7 @@
 ghost use Rattle.std.specs.Prelude.{OnOk, IfErr};
 ghost use Rattle.puffin_data.specs.Forest.{Forest};
 ghost use Rattle.puffin_data.specs.Honesty.{IsHonestRef, recorded_ref};
+ghost use Rattle.puffin_frames.specs.Details.{details_seen};
 ghost use Rattle.puffin_frames.specs.Info.{info_of};
 
 use crate::scope_details::ScopeDetails;
@@ -15,12 +16,14 @@ pub trait Reporter {
     ghost use Rattle.puffin_data.specs.declared.error.Error.{Error};
     ghost use Rattle.puffin_data.specs.Honesty.{Recorded};
     ghost use Rattle.puffin_frames.specs.Info.{Info};
+    ghost use Rattle.puffin_frames.specs.Details.{Details};
+    ghost use Rattle.std.specs.Prelude.{List};
 
-    /// Accepting a report, in this state, under this info, of these scopes, may leave that state.
-    ghost accepts: { Self → Info → Recorded → Self → Type 0 };
+    /// Accepting a report, in this state, under this info, of these details and scopes, may leave that state.
+    ghost accepts: { Self → Info → List Details → Recorded → Self → Type 0 };
 
     /// Refusing it with this error may leave that state.
-    ghost refuses: { Self → Info → Recorded → Error → Self → Type 0 };
+    ghost refuses: { Self → Info → List Details → Recorded → Error → Self → Type 0 };
 
     /// Takes a thread's scopes, and the details that were registered for them. What is said of the scopes has to be honest.
     fn report(
@@ -30,8 +33,8 @@ pub trait Reporter {
         times: &StreamInfoRef,
     ) -> Result<()>
         requires { (f : Forest) × IsHonestRef times.now f }
-        ensures ok { OnOk result (accepts self.old (info_of info) (recorded_ref times.now) self.new) }
-        ensures err { IfErr result (λ e. refuses self.old (info_of info) (recorded_ref times.now) e self.new) };
+        ensures ok { OnOk result (accepts self.old (info_of info) (details_seen details.now) (recorded_ref times.now) self.new) }
+        ensures err { IfErr result (λ e. refuses self.old (info_of info) (details_seen details.now) (recorded_ref times.now) e self.new) };
 }
 
 /// What became of a scope that was ended.

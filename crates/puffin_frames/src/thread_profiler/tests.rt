@@ -1,10 +1,11 @@
-use crate::scope_details::ScopeDetails;
+use crate::scope_details::{ScopeDetails, ScopeIds};
 use crate::thread_profiler::{
     Closed, NsSource, Reporter, ScriptClock, SystemClock, ThreadInfo, ThreadProfiler,
 };
 use puffin_data::data::{Reader, ScopeId, Stream, StreamInfo, StreamInfoRef};
 use puffin_data::{Error, NanoSecond, Result};
 use std::alloc::Global;
+use std::borrow::CowStr;
 use std::cell::Cell;
 use std::io;
 use std::process::Abort;
@@ -19,7 +20,7 @@ type Outcome = std::result::Result<(), Fail>;
 struct Recorder {
     alloc: Global,
     refusals: usize,
-    details: usize,
+    details: Vec<ScopeDetails>,
     reports: Vec<(ThreadInfo, StreamInfo)>,
 }
 
@@ -28,7 +29,7 @@ impl Recorder {
         Recorder {
             alloc,
             refusals,
-            details: 0,
+            details: Vec::new(alloc),
             reports: Vec::new(alloc),
         }
     }
@@ -41,9 +42,9 @@ impl Recorder {
 impl Reporter for Recorder {
     ghost use Rattle.std.specs.Prelude.{⊤};
 
-    ghost accepts = { λ _ _ _ _. ⊤ };
+    ghost accepts = { λ _ _ _ _ _. ⊤ };
 
-    ghost refuses = { λ _ _ _ _ _. ⊤ };
+    ghost refuses = { λ _ _ _ _ _ _. ⊤ };
 
     fn report(
         &mut self,
@@ -61,8 +62,10 @@ impl Reporter for Recorder {
             depth: times.depth,
             range_ns: times.range_ns,
         };
+        for registered in details {
+            self.details.push(registered.clone()?)?;
+        }
         self.reports.push((info, kept))?;
-        self.details = details.len();
         Ok(())
     }
 }
@@ -97,7 +100,7 @@ fn one_scope_is_reported(rt: HostRuntime) -> Outcome {
     assert_eq!(rt; thread.end_scope(offset, &mut recorder)?, Closed::Reported);
     assert_eq!(rt; thread.depth(), 0);
     assert_eq!(rt; recorder.reports.len(), 1);
-    assert_eq!(rt; recorder.details, 0);
+    assert!(rt; recorder.details.is_empty());
     let (info, times) = recorder.at(0)?;
     assert_eq!(rt; info.start_time_ns, Some(100));
     assert_eq!(rt; info.name.as_str(), "main");
@@ -298,6 +301,69 @@ fn want_of_memory_is_told(rt: HostRuntime) {
     assert_eq!(rt; reported, Ok(true));
     assert_eq!(rt; recorder.reports.len(), 1);
     assert_eq!(rt; recorder.reports[0].1.stream.len(), 93);
+}
+
+#[test]
+fn details_come_with_the_next_accepted_report(rt: HostRuntime) -> Outcome {
+    let mut thread = main_thread(rt.alloc(), 100)?;
+    let mut recorder = Recorder::new(rt.alloc(), 1);
+    let ids = ScopeIds::starting_at(5);
+    let file = CowStr::Borrowed("b.rs");
+    let function = thread.register_function_scope(&ids, CowStr::Borrowed("f"), file.clone()?, 7)?;
+    let offset = thread.begin_scope(function, "")?;
+    let part = thread.register_named_scope(
+        &ids,
+        CowStr::Borrowed("part"),
+        CowStr::Borrowed("f"),
+        file,
+        9,
+    )?;
+    assert_eq!(rt; (function.get(), part.get()), (5, 6));
+    assert_eq!(rt;
+        thread.end_scope(offset, &mut recorder)?,
+        Closed::Kept(Error::TooLarge)
+    );
+    assert!(rt; recorder.details.is_empty());
+    assert!(rt; thread.report_closed(&mut recorder)?);
+    assert_eq!(rt; recorder.details.len(), 2);
+    let first = &recorder.details[0];
+    assert_eq!(rt; first.scope_id(), Some(function));
+    assert_eq!(rt; first.name().as_str(), "f");
+    assert_eq!(rt; first.location(rt.alloc())?.as_str(), "b.rs:7");
+    let second = &recorder.details[1];
+    assert_eq!(rt; second.scope_id(), Some(part));
+    assert_eq!(rt; second.name().as_str(), "part");
+    assert_eq!(rt; second.function_name.as_str(), "f");
+    assert_eq!(rt; second.location(rt.alloc())?.as_str(), "b.rs:9");
+    // They were handed over, and don't come again.
+    let offset = thread.begin_scope(function, "")?;
+    assert_eq!(rt; thread.end_scope(offset, &mut recorder)?, Closed::Reported);
+    assert_eq!(rt; recorder.details.len(), 2);
+    Ok(())
+}
+
+#[test]
+fn nothing_is_registered_without_an_id(rt: HostRuntime) -> Outcome {
+    let mut thread = main_thread(rt.alloc(), 100)?;
+    let mut recorder = Recorder::new(rt.alloc(), 0);
+    let ids = ScopeIds::starting_at(4294967296);
+    let text = CowStr::Borrowed("f");
+    assert_eq!(rt;
+        thread
+            .register_function_scope(&ids, text.clone()?, text.clone()?, 0)
+            .err(),
+        Some(Error::IdsExhausted)
+    );
+    assert_eq!(rt;
+        thread
+            .register_named_scope(&ids, text.clone()?, text.clone()?, text, 0)
+            .err(),
+        Some(Error::IdsExhausted)
+    );
+    let offset = thread.begin_scope(id(1)?, "")?;
+    assert_eq!(rt; thread.end_scope(offset, &mut recorder)?, Closed::Reported);
+    assert!(rt; recorder.details.is_empty());
+    Ok(())
 }
 
 /// A clock whose two readings are set, and may be errors.

@@ -3,12 +3,15 @@ ghost use Rattle.std.specs.Io.KnownBytes.{Appends};
 ghost use Rattle.arrayvec.specs.ArrayString.{array_string_len};
 ghost use Rattle.puffin_data.specs.Errors.{file_error_text};
 ghost use Rattle.puffin_data.specs.Devices.{TookNothing, WritesBeginning};
+ghost use Rattle.puffin_data.specs.declared.file_error.FileError.TheVariants.{Memory};
+ghost use Rattle.puffin_replay.specs.declared.replay.fault.ToolFault.TheVariants.{File};
 ghost use Rattle.puffin_replay.specs.Faults.{fault_line, fault_text, status_of};
 
 use arrayvec::ArrayString;
 use itoa::Buffer;
 use puffin_data::data::{Drain, write_all};
 use puffin_data::{Error, FileError};
+use std::alloc::AllocError;
 
 /// Why the program didn't do what it was asked.
 #[derive(Clone, Copy, Debug, PartialEq, Eq)]
@@ -21,6 +24,14 @@ pub enum ToolFault {
     Cause(Error),
     /// Reading or writing was refused.
     File(FileError),
+}
+
+impl From<AllocError> for ToolFault {
+    ghost from_gives = { λ _ fault. fault ≡ File Memory };
+
+    fn from(_: AllocError) -> ToolFault {
+        ToolFault::File(FileError::Memory)
+    }
 }
 
 /// A line that is longer than each that is told.

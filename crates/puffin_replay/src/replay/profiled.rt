@@ -1,16 +1,20 @@
-ghost use Rattle.std.specs.Prelude.{◌≡◌, ◌+◌, ◌-◌, ◌<◌, ◌⊎◌, length, IfOk, IfErr, OnOk, OnErr};
+ghost use Rattle.std.specs.Prelude.{◌≡◌, ◌+◌, ◌-◌, ◌<◌, ◌⊎◌, length, option_map, IfOk, IfErr, OnOk, OnErr};
 ghost use Rattle.std.specs.String.{string_bytes};
 ghost use Rattle.puffin_data.specs.Text.{cut_text};
 ghost use Rattle.puffin_data.specs.Words.{word_size, open_after};
-ghost use Rattle.puffin_frames.specs.Threads.{after_begin};
+ghost use Rattle.puffin_frames.specs.Details.{AllHaveIds};
+ghost use Rattle.puffin_frames.specs.Threads.{after_begin, after_registering};
 ghost use Rattle.puffin_replay.specs.Sessions.{named};
+ghost use Rattle.puffin_replay.specs.Replies.{details_given};
 ghost use Rattle.puffin_replay.specs.Serving.{clock_time, Ends};
 
 use puffin::global_profiler::Collector;
 use puffin_data::data::ScopeId;
 use puffin_data::{Error, NanoSecond, Result};
+use puffin_frames::scope_details::ScopeIds;
 use puffin_frames::thread_profiler::{Closed, ScriptClock, ThreadProfiler};
 use std::alloc::Global;
+use std::borrow::CowStr;
 use std::marker::Model;
 
 /// A thread of a session, with the places that its open scopes are ended by, the innermost last.
@@ -22,6 +26,7 @@ pub(crate) struct Profiled {
 
 impl Model for Profiled {
     ghost use Rattle.std.specs.Prelude.{◌≡◌, reverse};
+    ghost use Rattle.puffin_frames.specs.Details.{AllHaveIds};
     ghost use Rattle.puffin_frames.specs.Threads.{Thread, open_offsets};
     ghost use Rattle.puffin_frames.specs.Profilers.{thread_of};
 
@@ -29,7 +34,7 @@ impl Model for Profiled {
 
     ghost view = { λ p. thread_of p.profiler };
 
-    ghost invariant = { λ p. p.open.items ≡ reverse (open_offsets (thread_of p.profiler).word) };
+    ghost invariant = { λ p. (p.open.items ≡ reverse (open_offsets (thread_of p.profiler).word)) × AllHaveIds (thread_of p.profiler).details };
 }
 
 impl Profiled {
@@ -59,6 +64,34 @@ impl Profiled {
         }
     }
 
+    /// Registers a scope's details under a newly drawn id, which is answered. Refused only with `IdsExhausted` or `Memory`;
+    /// nothing is changed then.
+    pub(crate) fn register(
+        &mut self,
+        ids: &ScopeIds,
+        name: &Option<String>,
+        function: &String,
+        file: &String,
+        line: u32,
+    ) -> Result<ScopeId>
+        ensures ok { IfOk result (λ id. self.new ≡ after_registering self.old (details_given (option_map string_bytes name.now) (string_bytes function.now) (string_bytes file.now) line id)) }
+        ensures err { OnErr result (self.new ≡ self.old) }
+        ensures cause { IfErr result (λ e. (e ≡ Error.IdsExhausted) ⊎ (e ≡ Error.Memory)) }
+    {
+        let function = CowStr::Owned(function.clone()?);
+        let file = CowStr::Owned(file.clone()?);
+        match name {
+            Some(name) => {
+                let name = CowStr::Owned(name.clone()?);
+                self.profiler
+                    .register_named_scope(ids, name, function, file, line)
+            }
+            None => self
+                .profiler
+                .register_function_scope(ids, function, file, line),
+        }
+    }
+
     /// Ends the open scope that is so many places out of the innermost one, at this time. Refused only with
     /// `MismatchedEnd`, unless it is the innermost one; nothing is changed then.
     pub(crate) fn end(
@@ -67,6 +100,8 @@ impl Profiled {
         back: usize,
         collector: &mut Collector,
     ) -> Result<Closed>
+        // What is registered has ids, at any time.
+        ensures ids { AllHaveIds self.old.details }
         ensures back { OnOk result (back ≡ 0) }
         ensures ok { IfOk result (λ closed. Ends self.old self.new (clock_time at) collector.old collector.new closed) }
         ensures err { OnErr result ((self.new ≡ self.old) × (collector.new ≡ collector.old)) }

@@ -1,4 +1,4 @@
-ghost use Rattle.std.specs.Prelude.{◌≡◌, ◌≢◌, ◌+◌, ◌-◌, ◌^◌, ◌<◌, ◌≤◌, ◌⊎◌, length, map, IfOk, IfErr, OnOk, OnErr};
+ghost use Rattle.std.specs.Prelude.{◌≡◌, ◌≢◌, ◌+◌, ◌-◌, ◌^◌, ◌<◌, ◌≤◌, ◌⊎◌, length, map, [], option_map, IfOk, IfErr, OnOk, OnErr};
 ghost use Rattle.std.specs.String.{string_bytes};
 ghost use Rattle.puffin_data.specs.Forest.{Forest};
 ghost use Rattle.puffin_data.specs.Honesty.{Recorded, IsHonestRecord};
@@ -6,11 +6,13 @@ ghost use Rattle.puffin_data.specs.Text.{cut_text};
 ghost use Rattle.puffin_data.specs.Walk.{IsFault};
 ghost use Rattle.puffin_data.specs.Words.{word_size, open_after};
 ghost use Rattle.puffin_frames.specs.Info.{info_of};
-ghost use Rattle.puffin_frames.specs.Threads.{after_begin};
-ghost use Rattle.puffin.specs.Collected.{Accepts, IsReportRefusal};
-ghost use Rattle.puffin.specs.Collecting.{Collects};
+ghost use Rattle.puffin_frames.specs.Details.{AllHaveIds, details_seen};
+ghost use Rattle.puffin_frames.specs.Threads.{after_begin, after_registering};
+ghost use Rattle.puffin.specs.Collected.{Accepts, IsReportRefusal, after_wanting};
+ghost use Rattle.puffin.specs.Collecting.{Collects, KeepsPending};
+ghost use Rattle.puffin.specs.Registering.{Adds, AddsSome};
 ghost use Rattle.puffin_replay.specs.Sessions.{new_session};
-ghost use Rattle.puffin_replay.specs.Replies.{Records};
+ghost use Rattle.puffin_replay.specs.Replies.{Records, details_given, user_details};
 ghost use Rattle.puffin_replay.specs.Serving.{clock_time, thread_in, with_thread, with_collected, Ends, Continues};
 
 use crate::replay::command::{Command, Reply};
@@ -19,18 +21,21 @@ use puffin::global_profiler::{Collector, Emitted};
 use puffin_data::data::{ScopeId, Stream, StreamInfo};
 use puffin_data::{Error, NanoSecond, Result};
 use puffin_frames::frame_data::FrameData;
+use puffin_frames::scope_details::{ScopeDetails, ScopeIds};
 use puffin_frames::thread_profiler::{Closed, ThreadInfo};
 use std::alloc::Global;
+use std::borrow::CowStr;
 use std::marker::Model;
 use std::sync::Arc;
 
 /// Threads that are profiled, all by one profiler, and driven by commands.
 ///
-/// Contracts see each thread's unreported scopes, and what is collected for the next frame.
+/// Contracts see each thread's unreported scopes and details, and what is collected for the next frame.
 #[derive(Drop)]
 pub struct Session {
     profiled: Vec<Profiled>,
     collector: Collector,
+    ids: ScopeIds,
     alloc: Global,
 }
 
@@ -49,7 +54,7 @@ impl Model for Session {
 }
 
 impl Session {
-    /// One thread a name, before its first scope. Refused only with `Memory`.
+    /// One thread a name, before its first scope. The first id that is drawn is 1. Refused only with `Memory`.
     pub fn new(alloc: Global, names: Vec<String>) -> Result<Session>
         ensures new { IfOk result (λ session. session ≡ new_session (map string_bytes names.items)) }
         ensures memory { IfErr result (λ e. e ≡ Error.Memory) }
@@ -61,13 +66,15 @@ impl Session {
         Ok(Session {
             profiled,
             collector: Collector::new(alloc, 0),
+            ids: ScopeIds::new(),
             alloc,
         })
     }
 
     /// Runs commands in order, with one reply each. Each accepted scope is then once in an emitted frame, in what is due
-    /// for the next one, or in its thread's unreported scopes, and each frame holds just what was due. Refused only with
-    /// `Memory`, before any command has run.
+    /// for the next one, or in its thread's unreported scopes, and each frame holds just what was due. So are details, of which
+    /// each frame tells just those that are new, and of all that are known where that was wanted. Refused only with `Memory`,
+    /// before any command has run.
     pub fn run(&mut self, commands: &[Command]) -> Result<Vec<Reply>>
         ensures run { IfOk result (λ replies. Records self.old self.new commands.now replies.items) }
         ensures err { OnErr result (self.new ≡ self.old) }
@@ -104,10 +111,28 @@ impl Session {
                 Ok(closed) => Reply::Ended(closed),
                 Err(cause) => Reply::Refused(cause),
             },
+            Command::Register {
+                thread,
+                name,
+                function,
+                file,
+                line,
+            } => match self.register(*thread, name, function, file, *line) {
+                Ok(id) => Reply::Registered(id),
+                Err(cause) => Reply::Refused(cause),
+            },
+            Command::RegisterUser { names } => match self.register_user(names) {
+                Ok(ids) => Reply::RegisteredUser(ids),
+                Err(cause) => Reply::Refused(cause),
+            },
             Command::ReportUser { info, stream } => match self.report_user(info, stream) {
                 Ok(()) => Reply::Reported,
                 Err(cause) => Reply::Refused(cause),
             },
+            Command::Snapshot => {
+                self.collector.emit_scope_snapshot();
+                Reply::Snapshot
+            }
             Command::NewFrame => match self.new_frame() {
                 Ok(frame) => Reply::Frame(Emitted { frame, refused: 0 }),
                 Err(cause) => Reply::Refused(cause),
@@ -129,6 +154,7 @@ impl Session {
     }
 
     fn end(&mut self, thread: usize, at: NanoSecond, back: usize) -> Result<Closed>
+        ensures ids { OnOk result (AllHaveIds (thread_in self.old thread).details) }
         ensures ok { IfOk result (λ closed. (thread < length self.old.threads) × (back ≡ 0)
             × (self.new ≡ with_thread self.old thread (thread_in self.new thread) self.new.collected)
             × Ends (thread_in self.old thread) (thread_in self.new thread) (clock_time at) self.old.collected self.new.collected closed) }
@@ -142,12 +168,40 @@ impl Session {
         }
     }
 
+    fn register(
+        &mut self,
+        thread: usize,
+        name: &Option<String>,
+        function: &String,
+        file: &String,
+        line: u32,
+    ) -> Result<ScopeId>
+        ensures ok { IfOk result (λ id. (thread < length self.old.threads)
+            × (self.new ≡ with_thread self.old thread (after_registering (thread_in self.old thread) (details_given (option_map string_bytes name.now) (string_bytes function.now) (string_bytes file.now) line id)) self.old.collected)) }
+        ensures err { OnErr result (self.new ≡ self.old) }
+        ensures cause { IfErr result (λ e. ((e ≡ Error.NoThread) × (length self.old.threads ≤ thread)) ⊎ (((e ≡ Error.IdsExhausted) ⊎ (e ≡ Error.Memory)) × (thread < length self.old.threads))) }
+    {
+        match self.profiled.get_mut(thread) {
+            Some(profiled) => profiled.register(&self.ids, name, function, file, line),
+            None => Err(Error::NoThread),
+        }
+    }
+
+    fn register_user(&mut self, names: &[String]) -> Result<Vec<ScopeId>>
+        ensures ok { IfOk result (λ ids. Adds self.old.collected (user_details names.now) ids.items self.new.collected) }
+        ensures err { IfErr result (λ e. AddsSome self.old.collected (user_details names.now) e self.new.collected) }
+        ensures threads { self.new ≡ with_collected self.old self.new.collected }
+    {
+        let details = user_scopes(self.alloc, names)?;
+        self.collector.register_user_scopes(&self.ids, &details)
+    }
+
     fn report_user(&mut self, info: &ThreadInfo, stream: &Stream) -> Result<()>
         ensures ok { OnOk result ((r : Recorded) × (f : Forest) × IsHonestRecord r f × (r.bytes ≡ stream.now.bytes)
-            × Accepts self.old.collected (info_of info.now) r self.new.collected × (self.new ≡ with_collected self.old self.new.collected)) }
+            × Accepts self.old.collected (info_of info.now) [] r self.new.collected × (self.new ≡ with_collected self.old self.new.collected)) }
         ensures err { OnErr result (self.new ≡ self.old) }
         ensures cause { IfErr result (λ e. (e ≡ Error.Memory) ⊎ IsFault stream.now.bytes e
-            ⊎ ((r : Recorded) × (f : Forest) × IsHonestRecord r f × (r.bytes ≡ stream.now.bytes) × IsReportRefusal self.old.collected r e)) }
+            ⊎ ((r : Recorded) × (f : Forest) × IsHonestRecord r f × (r.bytes ≡ stream.now.bytes) × IsReportRefusal self.old.collected [] r e)) }
     {
         let times = StreamInfo::parse(self.alloc, stream.clone()?)?;
         let info = info.clone()?;
@@ -158,9 +212,22 @@ impl Session {
     fn new_frame(&mut self) -> Result<Option<Arc<FrameData>>>
         ensures ok { IfOk result (λ frame. (self.old.collected.index ≢ 2 ^ 64 - 1) × (self.new ≡ with_collected self.old self.new.collected)
             × Collects self.old.collected frame self.new.collected) }
-        ensures err { OnErr result (self.new ≡ self.old) }
-        ensures cause { IfErr result (λ e. ((e ≡ Error.IndexExhausted) × (self.old.collected.index ≡ 2 ^ 64 - 1)) ⊎ (e ≡ Error.Memory)) }
+        ensures err { IfErr result (λ e. (self.new ≡ with_collected self.old self.new.collected) × KeepsPending self.old.collected e self.new.collected) }
+        ensures last { IfErr result (λ e. e ≡ Error.IndexExhausted → self.old.collected.index ≡ 2 ^ 64 - 1) }
     {
         self.collector.collect_frame()
     }
+}
+
+/// The details of scopes with these names. Refused only with `Memory`.
+fn user_scopes(alloc: Global, names: &[String]) -> Result<Vec<ScopeDetails>>
+    ensures ok { IfOk result (λ details. details_seen details.items ≡ user_details names.now) }
+    ensures err { IfErr result (λ e. e ≡ Error.Memory) }
+{
+    let mut details = Vec::with_capacity(alloc, names.len())?;
+    for name in names {
+        let name = CowStr::Owned(name.clone()?);
+        details.push(ScopeDetails::from_scope_name(name))?;
+    }
+    Ok(details)
 }

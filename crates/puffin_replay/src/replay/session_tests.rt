@@ -5,9 +5,9 @@ use puffin_data::{Error, NanoSecond};
 use puffin_frames::thread_profiler::{Closed, ThreadInfo};
 use std::test::Fail;
 
-type Outcome<T> = Result<T, Fail>;
+pub(crate) type Outcome<T> = Result<T, Fail>;
 
-fn session(rt: &HostRuntime, names: &[&str]) -> Outcome<Session> {
+pub(crate) fn session(rt: &HostRuntime, names: &[&str]) -> Outcome<Session> {
     let mut owned = Vec::new(rt.alloc());
     for name in names {
         owned.push(String::from_str(rt.alloc(), name)?)?;
@@ -15,7 +15,13 @@ fn session(rt: &HostRuntime, names: &[&str]) -> Outcome<Session> {
     Ok(Session::new(rt.alloc(), owned)?)
 }
 
-fn begin(rt: &HostRuntime, thread: usize, at: NanoSecond, id: u32, text: &str) -> Outcome<Command> {
+pub(crate) fn begin(
+    rt: &HostRuntime,
+    thread: usize,
+    at: NanoSecond,
+    id: u32,
+    text: &str,
+) -> Outcome<Command> {
     let Some(id) = ScopeId::new(id) else {
         return Err(Fail::new("an id of 0"));
     };
@@ -27,7 +33,7 @@ fn begin(rt: &HostRuntime, thread: usize, at: NanoSecond, id: u32, text: &str) -
     })
 }
 
-fn end(thread: usize, at: NanoSecond) -> Command {
+pub(crate) fn end(thread: usize, at: NanoSecond) -> Command {
     Command::End {
         thread,
         at,
@@ -68,7 +74,7 @@ fn is_frame(
 }
 
 /// Whether a reply is an accepted one without a frame.
-fn is_no_frame(reply: Option<&Reply>) -> bool {
+pub(crate) fn is_no_frame(reply: Option<&Reply>) -> bool {
     match reply {
         Some(Reply::Frame(emitted)) => emitted.frame.is_none(),
         _ => false,

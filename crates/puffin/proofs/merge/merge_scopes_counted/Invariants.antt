@@ -1,7 +1,7 @@
 -- The scopes of the frames so far are accepted and stand in the table.
 use Rattle.std.proofs.Common.{◌≡◌, ◌≤◌, ◌*◌, ◌^◌, List, take, length}
 use Rattle.puffin_frames.specs.Info.{info_of}
-use Rattle.puffin.specs.Frames.{most_tries}
+use Rattle.puffin.specs.FrameStreams.{most_tries}
 use Rattle.puffin.specs.Seen.{frames_bytes}
 use Rattle.puffin.proofs.FramesRead.{HasRead}
 use Rattle.puffin.proofs.merge.merge_scopes_counted.Given as goal

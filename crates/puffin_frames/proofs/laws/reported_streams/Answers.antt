@@ -1,4 +1,5 @@
-use Rattle.puffin_frames.proofs.Keyed.{entries-empty}
+use Rattle.puffin_frames.specs.Info.{info_cmp}
+use Rattle.puffin_frames.proofs.Seen.{entries-empty}
 use Rattle.std.proofs.Common.{ap, map}
 use Rattle.puffin_frames.proofs.Measured.{after_report, bytes_measure, scopes_measure, starts_measure, stops_measure}
 use Rattle.puffin_frames.proofs.laws.reported_streams.Goals as goal
@@ -16,4 +17,4 @@ pub returns-clause-stop : goal.returns-clause-stop
 returns-clause-stop c = after_report stops_measure
 
 pub returns-clause-none : goal.returns-clause-none
-returns-clause-none c = ap (map (λ e. e.1)) entries-empty
+returns-clause-none c = ap (map (λ e. e.1)) (entries-empty info_cmp)

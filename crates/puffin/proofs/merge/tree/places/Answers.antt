@@ -1,6 +1,6 @@
 -- The places were made in the nodes' order, and then sorted.
 use Rattle.std.proofs.Common.{◌≡◌, length, arith}
-use Rattle.puffin.proofs.Placing.{places_sorted}
+use Rattle.puffin.proofs.NodePlaces.{places_sorted}
 use Rattle.puffin.proofs.merge.tree.places.Goals as goal
 
 pub returns-clause-places : goal.returns-clause-places

@@ -77,7 +77,7 @@ returns-then-is_empty-clause-closed c =
     let greatest : at ≡ int_max inside.latest c.args.now_ns = grind (arith, ints, clamps, to_z-of_z) in
     let time : at ≡ time_of now c.args.now_ns = greatest ∙ ap (λ (t : Thread). int_max t.latest c.args.now_ns) c.self.view_is in
     let word : events_in c.end_scope.new.self.bytes ≡ now.word ++ (Close (time_of now c.args.now_ns) ∷ []) = goes.word ∙ ap (λ (t : Thread). t.word ++ (Close at ∷ [])) c.self.view_is ∙ ap (λ (t : ℤ). now.word ++ (Close t ∷ [])) time in
-    same_thread _ _ (ap (λ (t : Thread). t.name) c.self.view_is) (ap (λ (t : Thread). t.first_start) c.self.view_is) time word
+    same_thread _ _ (ap (λ (t : Thread). t.name) c.self.view_is) (ap (λ (t : Thread). t.first_start) c.self.view_is) time word (ap (λ (t : Thread). t.details) c.self.view_is)
 
 -- what holds of the value, where there is one
 if_some : {S : Type 0} (o : Option S) (P : S → Type 0) → ((x : S) → o ≡ Some x → P x) → IfSome o P
@@ -109,7 +109,7 @@ returns-else-is_empty-clause-closed c =
     let greatest : at ≡ int_max inside.latest c.args.now_ns = grind (arith, ints, clamps, to_z-of_z) in
     let time : at ≡ time_of now c.args.now_ns = greatest ∙ ap (λ (t : Thread). int_max t.latest c.args.now_ns) c.self.view_is in
     let word : events_in c.end_scope.new.self.bytes ≡ now.word ++ (Close (time_of now c.args.now_ns) ∷ []) = goes.word ∙ ap (λ (t : Thread). t.word ++ (Close at ∷ [])) c.self.view_is ∙ ap (λ (t : ℤ). now.word ++ (Close t ∷ [])) time in
-    same_thread _ _ (ap (λ (t : Thread). t.name) c.self.view_is) (ap (λ (t : Thread). t.first_start) c.self.view_is) time word
+    same_thread _ _ (ap (λ (t : Thread). t.name) c.self.view_is) (ap (λ (t : Thread). t.first_start) c.self.view_is) time word (ap (λ (t : Thread). t.details) c.self.view_is)
 
 pub returns-else-is_empty-clause-inner : goal.returns-else-is_empty-clause-inner
 returns-else-is_empty-clause-inner c =

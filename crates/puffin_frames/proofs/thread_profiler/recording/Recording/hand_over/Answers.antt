@@ -1,12 +1,17 @@
-use Rattle.std.proofs.Common.{◌≡◌, ◌∙◌, ap, sym, subst, refl, string_bytes}
+use Rattle.std.proofs.Common.{◌≡◌, List, ◌∙◌, ap, sym, subst, refl, string_bytes}
 use Rattle.std.proofs.lemmas.Result.{err_from_is_err_and}
 use Rattle.puffin_data.specs.Honesty.{Recorded, IsHonestRecord, recorded}
 use Rattle.puffin_data.specs.Words.{open_after}
 use Rattle.puffin_frames.specs.Closing.{IsReportOf}
+use Rattle.puffin_frames.specs.Details.{Details, details_seen}
 use Rattle.puffin_frames.specs.Info.{Info}
 use Rattle.puffin_frames.specs.Threads.{Thread, info_of_thread}
 use Rattle.puffin_frames.proofs.Recordings.{report_in, cleared_in, none_in, none_open_in, same_thread}
 use Rattle.puffin_frames.proofs.thread_profiler.recording.Recording.hand_over.Goals as goal
+
+-- what was answered to a report is the same of equal parts
+told_so : {i j : Info} {ds es : List Details} {r s : Recorded} (P : Info → List Details → Recorded → Type 0) → i ≡ j → ds ≡ es → r ≡ s → P i ds r → P j es s
+told_so P same_info same_details same_record p = subst (λ (t : Info × (List Details × Recorded)). P t.0 t.1.0 t.1.1) (λ k. (same_info k, (same_details k, same_record k))) p
 
 pub report-requires : goal.report-requires
 report-requires g c =
@@ -25,8 +30,8 @@ returns-in_err-report-clause-err g c =
       (
         recorded c.self.inside.info,
         told,
-        subst (λ (i : Info). g.R.Reporter.refuses c.args.reporter.now i (recorded c.self.inside.info) c.in_err-report.field-0.0 c.report.new.self) same
-            (subst (λ (x : Recorded). g.R.Reporter.refuses c.args.reporter.now (record { start = c.self.inside.first_start; name = string_bytes c.args.name }) x c.in_err-report.field-0.0 c.report.new.self) c.as_stream_into_ref.ensures c.in_err-report.ensures.err),
+        told_so (λ i d x. g.R.Reporter.refuses c.args.reporter.now i d x c.in_err-report.field-0.0 c.report.new.self) same
+            (ap details_seen c.deref.ensures.value ∙ ap (λ (t : Thread). t.details) c.self.view_is) c.as_stream_into_ref.ensures c.in_err-report.ensures.err,
       ),
     )
 
@@ -41,11 +46,11 @@ returns-clause-ok g c =
     let none = ap (λ (t : Thread). open_after 0 t.word) c.self.view_is ∙ c.requires.none_open in
     let told = subst (λ (t : Thread). IsReportOf t (recorded c.self.inside.info)) c.self.view_is (report_in c.self.inside c.self.invariant none) in
     let same : (record { start = c.self.inside.first_start; name = string_bytes c.args.name }) ≡ info_of_thread c.args.self.now = λ i. record { start = (c.self.view_is i).first_start; name = c.requires.name i } in (
-      same_thread _ _ (ap (λ (t : Thread). t.name) c.self.view_is) (ap (λ (t : Thread). t.first_start) c.self.view_is) (ap (λ (t : Thread). t.latest) c.self.view_is) (none_in c.clear.new.self c.clear.ensures),
+      same_thread _ _ (ap (λ (t : Thread). t.name) c.self.view_is) (ap (λ (t : Thread). t.first_start) c.self.view_is) (ap (λ (t : Thread). t.latest) c.self.view_is) (none_in c.clear.new.self c.clear.ensures) (ap details_seen c.clear-2.ensures.items),
       (
         recorded c.self.inside.info,
         told,
-        subst (λ (i : Info). g.R.Reporter.accepts c.args.reporter.now i (recorded c.self.inside.info) c.report.new.self) same
-            (subst (λ (x : Recorded). g.R.Reporter.accepts c.args.reporter.now (record { start = c.self.inside.first_start; name = string_bytes c.args.name }) x c.report.new.self) c.as_stream_into_ref.ensures c.in_ok-report.ensures.ok),
+        told_so (λ i d x. g.R.Reporter.accepts c.args.reporter.now i d x c.report.new.self) same
+            (ap details_seen c.deref.ensures.value ∙ ap (λ (t : Thread). t.details) c.self.view_is) c.as_stream_into_ref.ensures c.in_ok-report.ensures.ok,
       ),
     )

@@ -5,7 +5,7 @@ use Rattle.puffin_frames.specs.Threads.{Thread, open_offsets}
 use Rattle.std.proofs.lemmas.Int.{to_z-of_z}
 use Rattle.puffin_replay.proofs.Offsets.{innermost_last, outer_or_none, past_all, closed_places}
 use Rattle.puffin.specs.Collected.{Accepts, Refuses}
-use Rattle.puffin_replay.proofs.Closing.{Ends-from}
+use Rattle.puffin_replay.proofs.Closing.{Ends-from, kept_ids}
 use Rattle.puffin_replay.proofs.replay.profiled.Profiled.end.Goals as goal
 
 pub returns-clause-back : goal.returns-clause-back
@@ -13,7 +13,7 @@ returns-clause-back c =
     let items = c.self.inside.open.items in
     let depth : c.len-depth.result ≡ length items = search rules in
     innermost_last items c.self.inside.profiler.recording.word c.args.back c.index-offset.result.now
-    c.self.invariant
+    c.self.invariant.0
     (omega (arith, depth, c.if-depth-back.false))
     (c.index-offset.ensures ∙ ap (λ (n : ℕ). get_or items (n - 1 - c.args.back) c.index-offset.result.now) depth)
     c.in_ok-closed.ensures.innermost
@@ -28,7 +28,7 @@ returns-then-depth-back-clause-cause c =
     let items = c.self.inside.open.items in
     let depth : c.len-depth.result ≡ length items = search rules in (
       refl,
-      past_all items c.args.self.now.word c.args.back (c.self.invariant ∙ ap (λ (th : Thread). reverse (open_offsets th.word)) c.self.view_is) (omega (arith, depth, c.if-depth-back.true)),
+      past_all items c.args.self.now.word c.args.back (c.self.invariant.0 ∙ ap (λ (th : Thread). reverse (open_offsets th.word)) c.self.view_is) (omega (arith, depth, c.if-depth-back.true)),
     )
 
 pub returns-in_err-closed-clause-cause : goal.returns-in_err-closed-clause-cause
@@ -37,7 +37,7 @@ returns-in_err-closed-clause-cause c =
     let depth : c.len-depth.result ≡ length items = search rules in
     let refused = c.in_err-closed.ensures.mismatched in
     let outer = outer_or_none items c.self.inside.profiler.recording.word c.args.back c.index-offset.result.now
-    c.self.invariant
+    c.self.invariant.0
     (omega (arith, depth, c.if-depth-back.false))
     (c.index-offset.ensures ∙ ap (λ (n : ℕ). get_or items (n - 1 - c.args.back) c.index-offset.result.now) depth)
     refused.1 in
@@ -48,7 +48,9 @@ pub invariant_of-self-2 : goal.invariant_of-self-2
 invariant_of-self-2 c =
     let items = c.self.inside.open.items in
     let closed = c.in_ok-closed.ensures.closed in
-    let size : vec_len c.self.inside.open ≡ length items = search rules in
-    closed_places Accepts Refuses items c.pop.new.self.items c.self.inside.profiler.recording _ _ _ _ _
-    c.self.invariant
-    (c.pop.ensures.rest ∙ ap (λ (n : ℕ). take (n - 1) items) size) closed.3
+    let size : vec_len c.self.inside.open ≡ length items = search rules in (
+      closed_places Accepts Refuses items c.pop.new.self.items c.self.inside.profiler.recording _ _ _ _ _
+          c.self.invariant.0
+          (c.pop.ensures.rest ∙ ap (λ (n : ℕ). take (n - 1) items) size) closed.3,
+      kept_ids Accepts Refuses c.self.inside.profiler.recording _ _ _ _ _ closed.3 c.self.invariant.1,
+    )

@@ -1,12 +1,15 @@
 -- Each call continues the history.
-use Rattle.std.proofs.Common.{◌+◌, ℕ, List, length, ◌∙◌, ap, subst, ℤ, rules, w64}
+use Rattle.std.proofs.Common.{◌+◌, ℕ, List, length, ◌∙◌, ap, subst, ℤ, rules, w64, String, Global}
 use Rattle.std.proofs.lemmas.Int.{to_z-of_z}
 use Rattle.puffin_data.specs.Text.{cut_text}
 use Rattle.puffin_data.specs.Words.{word_size}
 use Rattle.puffin_frames.specs.Threads.{after_begin}
 use Rattle.puffin_replay.specs.declared.replay.command.Command.TheVariants.{End}
 use Rattle.puffin_replay.specs.Serving.{clock_time, thread_in, with_thread, Ends}
-use Rattle.puffin_replay.proofs.Serving.{Continues-began, Continues-ended, Continues-handed, Continues-taken, Continues-not_begun, Continues-not_ended, Continues-not_reported, Continues-not_framed, same}
+use Rattle.puffin_replay.proofs.Serving.{Continues-began, Continues-ended, Continues-handed, Continues-taken, Continues-registered, Continues-not_registered, Continues-added, Continues-not_added, Continues-wanted, Continues-not_begun, Continues-not_ended, Continues-not_reported, Continues-not_framed, same}
+use Rattle.puffin_replay.specs.Replies.{user_details}
+use Rattle.puffin.specs.Registering.{Adds, AddsSome}
+use Rattle.puffin_replay.proofs.Closing.{wanted-from}
 use Rattle.puffin_replay.proofs.replay.session.Session.serve.Goals as goal
 
 pub returns-in-Ok : goal.returns-in-Ok
@@ -33,7 +36,7 @@ returns-in-Ok-end c =
     let t = c.in-End.thread in
     let at = to_z-of_z w64 c.in-End.at (search rules) in
     let ends = subst (λ (x : ℤ). Ends (thread_in now t) (thread_in c.end.new.self t) (clock_time x) now.collected c.end.new.self.collected c.in-Ok-end.closed) at it.3 in
-    same now c.end.new.self _ _ _ _ (c.in-End.is ∙ ap (End t c.in-End.at) it.1) it.2 (Continues-ended now t c.in-End.at it.0 (thread_in c.end.new.self t) c.end.new.self.collected c.in-Ok-end.closed ends)
+    same now c.end.new.self _ _ _ _ (c.in-End.is ∙ ap (End t c.in-End.at) it.1) it.2 (Continues-ended now t c.in-End.at it.0 (thread_in c.end.new.self t) c.end.new.self.collected c.in-Ok-end.closed c.in-Ok-end.ensures.ids ends)
 
 pub returns-in-Err-end : goal.returns-in-Err-end
 returns-in-Err-end c =
@@ -58,4 +61,33 @@ returns-in-Ok-new_frame c =
 pub returns-in-Err-new_frame : goal.returns-in-Err-new_frame
 returns-in-Err-new_frame c =
     let it = c.in-Err-new_frame.ensures in
-    same c.args.self.now c.new_frame.new.self _ _ _ _ c.in-NewFrame.is it.err (Continues-not_framed c.args.self.now c.in-Err-new_frame.cause it.cause)
+    same c.args.self.now c.new_frame.new.self _ _ _ _ c.in-NewFrame.is it.err.0 (Continues-not_framed c.args.self.now c.new_frame.new.self.collected c.in-Err-new_frame.cause it.last it.err.1)
+
+pub returns-in-Ok-register : goal.returns-in-Ok-register
+returns-in-Ok-register c =
+    let it = c.in-Ok-register.ensures.ok in
+    same c.args.self.now c.register.new.self _ _ _ _ c.in-Register.is it.1 (Continues-registered c.args.self.now c.in-Register.thread c.in-Register.name c.in-Register.function c.in-Register.file c.in-Register.line c.in-Ok-register.id it.0)
+
+pub returns-in-Err-register : goal.returns-in-Err-register
+returns-in-Err-register c =
+    let it = c.in-Err-register.ensures in
+    same c.args.self.now c.register.new.self _ _ _ _ c.in-Register.is it.err (Continues-not_registered c.args.self.now c.in-Register.thread c.in-Register.name c.in-Register.function c.in-Register.file c.in-Register.line c.in-Err-register.cause it.cause)
+
+pub returns-in-Ok-register_user : goal.returns-in-Ok-register_user
+returns-in-Ok-register_user c =
+    let it = c.in-Ok-register_user.ensures in
+    let now = c.args.self.now in
+    let new = c.register_user.new.self in
+    let adds = subst (λ (names : List (String Global)). Adds now.collected (user_details names) c.in-Ok-register_user.ids.items new.collected) c.deref.ensures.value it.ok in
+    same now new _ _ _ _ c.in-RegisterUser.is it.threads (Continues-added now new.collected c.in-RegisterUser.names c.in-Ok-register_user.ids adds)
+
+pub returns-in-Err-register_user : goal.returns-in-Err-register_user
+returns-in-Err-register_user c =
+    let it = c.in-Err-register_user.ensures in
+    let now = c.args.self.now in
+    let new = c.register_user.new.self in
+    let adds = subst (λ (names : List (String Global)). AddsSome now.collected (user_details names) c.in-Err-register_user.cause new.collected) c.deref.ensures.value it.err in
+    same now new _ _ _ _ c.in-RegisterUser.is it.threads (Continues-not_added now new.collected c.in-RegisterUser.names c.in-Err-register_user.cause adds)
+
+pub returns-in-Snapshot : goal.returns-in-Snapshot
+returns-in-Snapshot c = same c.args.self.now _ _ _ _ _ c.in-Snapshot.is (wanted-from c.args.self.now _ _ c.self.view_is c.emit_scope_snapshot.ensures) (Continues-wanted c.args.self.now)

@@ -1,0 +1,67 @@
+-- Details that are copied, known, and told of.
+use Rattle.std.proofs.Common.{◌≡◌, ℕ, ◌<◌, Bool, true, false, ◌↔◌, All, List, [], ◌∷◌, ◌++◌, map, take, drop, get_or, length, Result, Ok, Err, ◌⊎◌, inl, inr, refl, sym, ap, ◌∙◌, subst, arith, Option, None}
+use Rattle.std.specs.Prelude.{IsSome, IsTrue, OnErr}
+use Rattle.std.specs.Arc.{arc_value}
+use Rattle.std.specs.declared.sync.Arc.{Arc}
+use Rattle.std.specs.Ordering.{nat_cmp}
+use Rattle.std.specs.Map.{keys_of, values_of}
+use Rattle.std.specs.List.Sorted.{IsStrictlySortedBy}
+use Rattle.std.specs.FinMap.{values}
+use Rattle.std.proofs.lemmas.Cmp.{nat_cmp_total}
+use Rattle.std.proofs.lemmas.List.{get_or-map, length-map, map-append, take-append-drop}
+use Rattle.std.proofs.lemmas.List.Elements.{All-map, All-get_or, All-append}
+use Rattle.puffin_data.specs.declared.error.Error.{Error}
+use Rattle.puffin_data.specs.declared.error.Error.TheVariants.{MissingId, Memory}
+use Rattle.puffin_frames.specs.declared.scope_details.details.ScopeDetails.{ScopeDetails}
+use Rattle.puffin_frames.specs.Details.{Details, details_of, details_seen, shared_details, AllHaveIds}
+use Rattle.puffin_frames.specs.Collection.{Collection, inserted_all, by_ids, ids_seen}
+use Rattle.puffin_frames.proofs.Seen.{entries-seen}
+use Rattle.puffin.specs.Collecting.{Begins}
+
+-- ---- ids
+
+pub all_ids : (b : Bool) (ds : List ScopeDetails) → (IsTrue b ↔ All (λ d. IsSome (details_of d).id) ds) → b ≡ true → AllHaveIds (details_seen ds)
+all_ids b ds test is = All-map (λ d. IsSome d.id) details_of ds (test.0 is)
+
+pub not_all_ids : (b : Bool) (ds : List ScopeDetails) → (IsTrue b ↔ All (λ d. IsSome (details_of d).id) ds) → b ≡ false → ¬ AllHaveIds (details_seen ds)
+not_all_ids b ds test is all =
+    let yes : b ≡ true = test.1 (λ k d lt. subst (λ (e : Details). IsSome e.id) (get_or-map details_of ds k d (details_of d) lt) (All-get_or (λ e. IsSome e.id) (details_seen ds) k (details_of d) (omega (arith, lt, length-map ds details_of)) all)) in
+    cc
+
+pub ids_after : {A : Type 0} (old more new : List (Arc ScopeDetails A)) → new ≡ old ++ more → AllHaveIds (shared_details old) → AllHaveIds (shared_details more) → AllHaveIds (shared_details new)
+ids_after old more new is before later =
+    subst AllHaveIds (sym (ap shared_details is ∙ map-append (λ d. details_of (arc_value d)) old more)) (All-append (λ d. IsSome d.id) (shared_details old) (shared_details more) before later)
+
+-- the details at a place of a list that have their ids, and a copy of them, have one
+pub id_at : {A : Type 0} (ds : List (Arc ScopeDetails A)) (i : ℕ) (item copy : Arc ScopeDetails A) → AllHaveIds (shared_details ds) → i < length ds → item ≡ get_or ds i item → arc_value copy ≡ arc_value item → IsSome (details_of (arc_value copy)).id
+id_at ds i item copy all lt is same =
+    let f : Arc ScopeDetails _ → Details = λ d. details_of (arc_value d) in
+    subst (λ (v : ScopeDetails). IsSome (details_of v).id) (sym same)
+    (subst (λ (e : Details). IsSome e.id) (get_or-map f ds i item (f item) lt ∙ ap f (sym is)) (All-get_or (λ e. IsSome e.id) (shared_details ds) i (f item) (omega (arith, lt, length-map ds f)) all))
+
+-- the only refusal of details that have an id
+pub memory_alone : {T : Type 0} (r : Result T Error) (e : Error) (d : Details) → IsSome d.id → r ≡ Err e → ((r ≡ Err MissingId) ↔ (d.id ≡ None)) → (e ≡ MissingId) ⊎ (e ≡ Memory) → e ≡ Memory
+memory_alone r e d some is missing (inl none) = absurd (no_id (subst (λ (o : Option ℕ). IsSome o) (missing.0 (is ∙ ap Err none)) some))
+  where
+    no_id : IsSome {T = ℕ} None → ⊥
+    no_id e = cc
+memory_alone r e d some is missing (inr memory) = memory
+
+-- ---- lists of details
+
+pub beginning : {A : Type 0} (ds : List (Arc ScopeDetails A)) (i : ℕ) → Begins (shared_details (take i ds)) (shared_details ds)
+beginning ds i = (shared_details (drop i ds), ap shared_details (sym (take-append-drop i ds)) ∙ map-append (λ d. details_of (arc_value d)) (take i ds) (drop i ds))
+
+-- what was learnt so far is a beginning of all
+pub learnt_so_far : {A T E : Type 0} (r : Result T E) (ds : List (Arc ScopeDetails A)) (i : ℕ) (old new : Collection) → new ≡ inserted_all old (shared_details (take i ds))
+    → OnErr r ((learnt : List Details) × Begins learnt (shared_details ds) × (new ≡ inserted_all old learnt))
+learnt_so_far (Ok x) ds i old new is = tt
+learnt_so_far (Err e) ds i old new is = (shared_details (take i ds), beginning ds i, is)
+
+-- the details of a collection's map, in its order
+values-seen : {A : Type 0} (es : List (ℕ × Arc ScopeDetails A)) → map (λ (e : ℕ × Details). e.1) (ids_seen es) ≡ shared_details (values_of es)
+values-seen [] = refl
+values-seen (e ∷ es) = ap (λ ds. details_of (arc_value e.1) ∷ ds) (values-seen es)
+
+pub values-by_ids : {A : Type 0} (es : List (ℕ × Arc ScopeDetails A)) → IsStrictlySortedBy nat_cmp (keys_of es) → values (by_ids es) ≡ shared_details (values_of es)
+values-by_ids es sorted = ap (map (λ (e : ℕ × Details). e.1)) (entries-seen (λ (id : ℕ). id) (λ d. details_of (arc_value d)) nat_cmp nat_cmp_total es sorted) ∙ values-seen es

@@ -1,0 +1,8 @@
+use Rattle.std.proofs.Common.{◌≡◌, take}
+use Rattle.puffin_frames.specs.Details.{shared_details}
+use Rattle.puffin_frames.specs.Collection.{inserted_all}
+use Rattle.puffin.proofs.profile_view.frame_view.learn.Given as goal
+
+-- the details so far are known
+abbrev pub invariant-loop-details : goal.invariant-loop-details
+invariant-loop-details l = l.collection ≡ inserted_all l.fn.collection (shared_details (take l.details-index l.details))

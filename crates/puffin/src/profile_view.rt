@@ -1,0 +1,17 @@
+//! The last frames and the slowest ones.
+
+mod frame_store;
+mod frame_view;
+mod held_frames;
+mod listings;
+mod select;
+mod slow_rank;
+mod stats;
+mod sums;
+#[cfg(test)]
+mod tests;
+
+pub use frame_view::FrameView;
+pub use listings::{AllFrames, RecentFrames, SlowestFrames};
+pub use select::select_slowest;
+pub use stats::FrameStats;

@@ -1,0 +1,169 @@
+//! Frames that are written as packets, and read again.
+
+use crate::scopes::nest;
+use puffin::frame_data::FrameData;
+use puffin::thread_profiler::ThreadInfo;
+use puffin_data::data::{Counted, Drain, ScopeId, Source, Stream, StreamInfo};
+use puffin_data::{FileError, Result};
+use std::alloc::Global;
+use std::collections::BTreeMap;
+
+/// How many frames a file has, at most.
+pub const FRAMES: u32 = 1_000;
+/// How many nests of eight scopes a frame has. Its stream has about 35 kB.
+const NESTS: usize = 106;
+/// The text of each scope, of 12 bytes.
+const TEXT: &str = "image-12.png";
+
+/// The stream of one frame, from a time on.
+fn stream(alloc: Global, start: i64) -> Result<Stream> {
+    let mut stream = Stream::new(alloc);
+    let mut now = start;
+    if let Some(id) = ScopeId::new(1) {
+        for _ in 0..NESTS {
+            now = nest(&mut stream, id, TEXT, now)?;
+        }
+    }
+    Ok(stream)
+}
+
+/// A frame of one thread.
+fn frame(alloc: Global, index: u32) -> Result<FrameData> {
+    let info = StreamInfo::parse(alloc, stream(alloc, 10_000 * i64::from(index))?)?;
+    let thread = ThreadInfo {
+        start_time_ns: Some(0),
+        name: String::from_str(alloc, "main")?,
+    };
+    let mut streams = BTreeMap::new(alloc);
+    let _before = streams.insert(thread, info)?;
+    FrameData::new(alloc, u64::from(index), streams, Vec::new(alloc), false)
+}
+
+/// So many frames.
+fn frames(alloc: Global, count: u32) -> Result<Vec<FrameData>> {
+    let mut frames = Vec::new(alloc);
+    for index in 0..count {
+        frames.push(frame(alloc, index)?)?;
+    }
+    Ok(frames)
+}
+
+/// The same frames, packed.
+fn packed(alloc: Global, frames: &[FrameData]) -> std::result::Result<Vec<FrameData>, FileError> {
+    let mut packed = Vec::new(alloc);
+    for frame in frames {
+        match frame.packed_copy() {
+            Ok(copy) => packed.push(copy)?,
+            Err(cause) => return Err(FileError::Refused(cause)),
+        }
+    }
+    Ok(packed)
+}
+
+/// What is done with the frames of a file.
+#[derive(Clone, Copy)]
+pub enum FileWork {
+    /// Frames are packed as they are written.
+    Write,
+    /// Packed frames are written.
+    WritePacked,
+    /// Frames are read.
+    Read,
+    /// Frames are read and unpacked.
+    ReadUnpacked,
+}
+
+impl FileWork {
+    /// Each kind of work.
+    pub const ALL: [FileWork; 4] = [
+        FileWork::Write,
+        FileWork::WritePacked,
+        FileWork::Read,
+        FileWork::ReadUnpacked,
+    ];
+
+    /// What it is called where its time is printed.
+    pub fn name(self) -> &'static str {
+        match self {
+            FileWork::Write => "write",
+            FileWork::WritePacked => "write_packed",
+            FileWork::Read => "read",
+            FileWork::ReadUnpacked => "read_unpacked",
+        }
+    }
+}
+
+/// Frames, the same packed, and the memory of a file.
+#[derive(Drop)]
+pub struct Files {
+    frames: Vec<FrameData>,
+    packed: Vec<FrameData>,
+    /// The file that was written last.
+    pub file: Vec<u8>,
+}
+
+impl Files {
+    /// So many frames, and a file of them.
+    pub fn new(alloc: Global, count: u32) -> std::result::Result<Files, FileError> {
+        let frames = match frames(alloc, count) {
+            Ok(frames) => frames,
+            Err(cause) => return Err(FileError::Refused(cause)),
+        };
+        let packed = packed(alloc, &frames)?;
+        let mut file = Vec::new(alloc);
+        let _count = written(&frames, &mut file)?;
+        Ok(Files {
+            frames,
+            packed,
+            file,
+        })
+    }
+
+    /// Does one work, and answers with how many frames.
+    pub fn work(&mut self, alloc: Global, work: FileWork) -> std::result::Result<usize, FileError> {
+        match work {
+            FileWork::Write => written(&self.frames, &mut self.file),
+            FileWork::WritePacked => written(&self.packed, &mut self.file),
+            FileWork::Read => Ok(read(alloc, &self.file)?.len()),
+            FileWork::ReadUnpacked => read_unpacked(alloc, &self.file),
+        }
+    }
+}
+
+/// Writes frames into memory that is used again.
+#[inline(never)]
+fn written(frames: &[FrameData], file: &mut Vec<u8>) -> std::result::Result<usize, FileError> {
+    file.clear();
+    let mut drain = Counted::new(file);
+    for frame in frames {
+        if drain.faults() == 0 {
+            frame.write_into(None, &mut drain)?;
+        }
+    }
+    Ok(frames.len())
+}
+
+/// Reads the frames of a file.
+#[inline(never)]
+fn read(alloc: Global, file: &[u8]) -> std::result::Result<Vec<FrameData>, FileError> {
+    let mut source = Counted::new(file);
+    let mut frames = Vec::new(alloc);
+    for _ in 0..FRAMES {
+        if source.faults() == 0
+            && let Some(frame) = FrameData::read_next(alloc, &mut source)?
+        {
+            frames.push(frame)?;
+        }
+    }
+    Ok(frames)
+}
+
+/// Reads and unpacks the frames of a file, and answers how many.
+#[inline(never)]
+fn read_unpacked(alloc: Global, file: &[u8]) -> std::result::Result<usize, FileError> {
+    let mut frames = read(alloc, file)?;
+    for frame in frames.iter_mut() {
+        let _unpacked = frame.unpacked()?;
+    }
+    Ok(frames.len())
+}

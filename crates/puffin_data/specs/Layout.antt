@@ -1,0 +1,96 @@
+-- The bytes of the values that a packet holds. Numbers have their lowest byte first.
+use Rattle.std.specs.Prelude.{◌≡◌, ℕ, ◌+◌, ◌*◌, ◌<◌, ◌^◌, ℤ, pos, negsuc, FitsSigned, Bool, true, List, [], ◌∷◌, ◌++◌, length, get_or, Option, Some, None, nat_lt, if◌then◌else◌}
+use Rattle.std.specs.List.{flat_map, AllByRecursion}
+use Rattle.std.specs.Int.{w64}
+use Rattle.std.specs.Str.{is_utf8}
+use Rattle.byteorder.specs.Endian.{little_bytes}
+
+-- each item is a byte
+abbrev pub IsBytes : List ℕ → Type 0
+IsBytes bytes = (i : ℕ) → get_or bytes i 0 < 256
+
+-- ---- numbers, texts and lists
+
+abbrev pub byte : ℕ → List ℕ
+byte n = n ∷ []
+
+-- the shortest spelling
+unfoldable pub number : ℕ → List ℕ
+number n =
+    if nat_lt n 251 then n ∷ []
+    else if nat_lt n (2 ^ 16) then 251 ∷ little_bytes 2 n
+    else if nat_lt n (2 ^ 32) then 252 ∷ little_bytes 4 n
+    else 253 ∷ little_bytes 8 n
+
+-- 0, -1, 1, -2 as 0, 1, 2, 3
+abbrev pub zigzag : ℤ → ℕ
+zigzag (pos n) = 2 * n
+zigzag (negsuc n) = 2 * n + 1
+
+abbrev pub signed : ℤ → List ℕ
+signed z = number (zigzag z)
+
+-- whether a value follows
+abbrev pub flag : Bool → List ℕ
+flag b = (if b then 1 else 0) ∷ []
+
+abbrev pub optional : {A : Type 0} → (A → List ℕ) → Option A → List ℕ
+optional layout None = 0 ∷ []
+optional layout (Some a) = 1 ∷ layout a
+
+-- bytes or a text, behind their length
+abbrev pub block : List ℕ → List ℕ
+block bytes = number (length bytes) ++ bytes
+
+-- one value after the other
+abbrev pub pair : {A B : Type 0} → (A → List ℕ) → (B → List ℕ) → A × B → List ℕ
+pair first second p = first p.0 ++ second p.1
+
+-- A list, or a map as the list of its pairs, behind the number of its items.
+abbrev pub items : {A : Type 0} → (A → List ℕ) → List A → List ℕ
+items layout xs = number (length xs) ++ flat_map layout xs
+
+-- ---- which values have a layout
+
+abbrev pub IsByte : ℕ → Type 0
+IsByte n = n < 256
+
+abbrev pub IsWord : ℕ → Type 0
+IsWord n = n < 2 ^ 32
+
+abbrev pub IsLong : ℕ → Type 0
+IsLong n = n < 2 ^ 64
+
+abbrev pub IsSigned : ℤ → Type 0
+IsSigned z = FitsSigned w64 z
+
+abbrev pub IsBlock : List ℕ → Type 0
+IsBlock bytes = (length bytes < 2 ^ 64) × IsBytes bytes
+
+abbrev pub IsText : List ℕ → Type 0
+IsText bytes = IsBlock bytes × (is_utf8 bytes ≡ true)
+
+abbrev pub IfAny : {A : Type 0} → (A → Type 0) → Option A → Type 0
+IfAny fits None = Unit {0}
+IfAny fits (Some a) = fits a
+
+abbrev pub AreItems : {A : Type 0} → (A → Type 0) → List A → Type 0
+AreItems fits xs = (length xs < 2 ^ 64) × AllByRecursion fits xs
+
+-- each value of the type
+abbrev pub IsAny : {A : Type 0} → A → Type 0
+IsAny a = Unit {0}
+
+-- any two values with a layout have different ones, and neither begins the other
+abbrev pub NoneBeginsAnother : {A : Type 0} → (A → Type 0) → (A → List ℕ) → Type 0
+NoneBeginsAnother {A = A} fits layout = (a b : A) (x y : List ℕ) → fits a → fits b → layout a ++ x ≡ layout b ++ y → (a ≡ b) × (x ≡ y)
+
+-- Of the bytes old either a value was read, seen by view, whose layout begins them, and new follow it; or nothing was, where no layout begins them, and they stay.
+abbrev pub Reads : {X A : Type 0} → (X → A) → (A → Type 0) → (A → List ℕ) → List ℕ → Option X → List ℕ → Type 0
+Reads view fits layout old (Some x) new = fits (view x) × (old ≡ layout (view x) ++ new)
+Reads {A = A} view fits layout old None new = ((a : A) (rest : List ℕ) → fits a → old ≡ layout a ++ rest → ⊥) × (new ≡ old)
+
+-- the same of a call that returns the bytes that follow beside the value
+abbrev pub ReadsWithRest : {X A : Type 0} → (X → A × List ℕ) → (A → Type 0) → (A → List ℕ) → List ℕ → Option X → Type 0
+ReadsWithRest view fits layout old (Some x) = fits (view x).0 × (old ≡ layout (view x).0 ++ (view x).1)
+ReadsWithRest {A = A} view fits layout old None = (a : A) (rest : List ℕ) → fits a → old ≡ layout a ++ rest → ⊥

@@ -1,0 +1,32 @@
+-- Parts at the front of bytes, which may end too early.
+use Rattle.std.specs.Prelude.{ℕ, List, length, take, drop, slice_index, Result, Ok, Err, nat_lt, if◌then◌else◌}
+use Rattle.byteorder.specs.Endian.{little_number}
+use Rattle.puffin_data.specs.declared.file_error.FileError.{FileError}
+use Rattle.puffin_data.specs.declared.file_error.FileError.TheVariants as file
+
+infixl 10 ◌>>=◌
+abbrev pub ◌>>=◌ : {A B : Type 0} → Result A FileError → (A → Result B FileError) → Result B FileError
+(Ok x) >>= f = f x
+(Err e) >>= f = Err e
+
+-- so many bytes
+abbrev pub part_of : ℕ → List ℕ → Result (List ℕ × List ℕ) FileError
+part_of n bytes = if nat_lt (length bytes) n then Err file.Truncated else Ok (take n bytes, drop n bytes)
+
+-- one byte
+abbrev pub first_at : List ℕ → Result (ℕ × List ℕ) FileError
+first_at bytes = do
+  one ← part_of 1 bytes
+  Ok (slice_index one.0 0, one.1)
+
+-- four bytes, as a number with its lowest byte first
+abbrev pub length_at : List ℕ → Result (ℕ × List ℕ) FileError
+length_at bytes = do
+  four ← part_of 4 bytes
+  Ok (little_number 4 four.0, four.1)
+
+-- a length, and that many bytes
+abbrev pub counted_part_at : List ℕ → Result (List ℕ × List ℕ) FileError
+counted_part_at bytes = do
+  n ← length_at bytes
+  part_of n.0 n.1

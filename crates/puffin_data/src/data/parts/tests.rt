@@ -1,0 +1,111 @@
+ghost use Rattle.std.specs.Prelude.{◌≡◌};
+ghost use Rattle.puffin_data.specs.Counting.{failed_calls};
+
+use crate::data::{
+    Counted, Source, read_byte, read_counted_part, read_length, read_part, read_up_to,
+};
+use crate::file_error::FileError;
+use std::io;
+use std::io::Read;
+use std::process::Abort;
+use std::test::Fail;
+
+/// Gives the bytes 0, 1, 2 and so on up to an end, at most three at once. Behind its end it fails, where it is to.
+#[derive(Drop)]
+struct Trickle {
+    next: u8,
+    end: u8,
+    fails: bool,
+}
+
+impl Read for Trickle {
+    fn read(&mut self, buf: &mut [u8]) -> io::Result<usize> {
+        if self.next >= self.end && self.fails {
+            return Err(io::Error::from(io::ErrorKind::Interrupted));
+        }
+        let left = usize::from(self.end.saturating_sub(self.next));
+        let count = buf.len().min(3).min(left);
+        for slot in &mut buf[..count] {
+            *slot = self.next;
+            self.next = self.next.saturating_add(1);
+        }
+        Ok(count)
+    }
+}
+
+fn source_of(end: u8, fails: bool) -> Counted<Trickle>
+    ensures { failed_calls result ≡ 0 }
+{
+    Counted::new(Trickle {
+        next: 0,
+        end,
+        fails,
+    })
+}
+
+#[test]
+fn a_part_comes_in_small_reads(rt: HostRuntime) -> Result<(), Fail> {
+    let mut source = source_of(12, false);
+    assert_eq!(rt; read_byte(&mut source)?, 0);
+    assert_eq!(rt; read_length(&mut source)?, 0x04030201);
+    let part = read_part(rt.alloc(), &mut source, 5)?;
+    assert_eq!(rt; part.as_slice(), b"\x05\x06\x07\x08\x09".as_slice());
+    let mut piece = [9; 4];
+    assert_eq!(rt; read_up_to(&mut source, &mut piece)?, 2);
+    assert_eq!(rt; piece, [10, 11, 9, 9]);
+    assert_eq!(rt; Source::faults(&source), 0);
+    Ok(())
+}
+
+#[test]
+fn a_part_that_ends_too_early(rt: HostRuntime) -> Result<(), Fail> {
+    let mut source = source_of(5, false);
+    assert_eq!(rt;
+        read_part(rt.alloc(), &mut source, 6).err(),
+        Some(FileError::Truncated)
+    );
+    assert_eq!(rt; read_byte(&mut source), Err(FileError::Truncated));
+    assert_eq!(rt;
+        read_length(&mut source_of(3, false)),
+        Err(FileError::Truncated)
+    );
+    Ok(())
+}
+
+#[test]
+fn a_failure_is_told_and_counted(rt: HostRuntime) -> Result<(), Fail> {
+    let mut source = source_of(5, true);
+    assert_eq!(rt;
+        read_part(rt.alloc(), &mut source, 6).err(),
+        Some(FileError::Io)
+    );
+    assert_eq!(rt; Source::faults(&source), 1);
+    assert_eq!(rt; read_up_to(&mut source, &mut [0]), Err(FileError::Io));
+    assert_eq!(rt; Source::faults(&source), 2);
+    Ok(())
+}
+
+#[test]
+fn a_counted_part(rt: HostRuntime) -> Result<(), Fail> {
+    let mut source = Counted::new(b"\x04\0\0\0data\0\0\0\0\xff\xff\xff\xffa".as_slice());
+    let part = read_counted_part(rt.alloc(), &mut source)?;
+    assert_eq!(rt; part.as_slice(), b"data".as_slice());
+    let empty = read_counted_part(rt.alloc(), &mut source)?;
+    assert!(rt; empty.is_empty());
+    let lies = read_counted_part(rt.alloc(), &mut source);
+    assert_eq!(rt; lies.err(), Some(FileError::Truncated));
+    Ok(())
+}
+
+#[test]
+fn a_part_of_more_than_a_piece(rt: HostRuntime) -> Result<(), Fail> {
+    let mut bytes = Vec::new(rt.alloc());
+    bytes.resize(65540, 7)?;
+    bytes.push(8)?;
+    let mut source = Counted::new(bytes.as_slice());
+    let part = read_part(rt.alloc(), &mut source, 65540)?;
+    assert_eq!(rt; part.len(), 65540);
+    assert!(rt; part.iter().all(|byte| *byte == 7));
+    assert_eq!(rt; read_byte(&mut source)?, 8);
+    Ok(())
+}

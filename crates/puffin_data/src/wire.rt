@@ -1,0 +1,12 @@
+//! The values that a packet holds, as bytes: written behind one another into a vector, and read from the front of a slice.
+//! A number has one spelling, the shortest, and no layout of a value begins that of another.
+
+mod cursor;
+mod front;
+mod put;
+
+pub use cursor::Cursor;
+pub use put::{put_bytes, put_i64, put_text, put_u8, put_u32, put_u64};
+
+#[cfg(test)]
+mod tests;

@@ -1,0 +1,197 @@
+//! One value read from the front of bytes, and the bytes after it.
+
+ghost use Rattle.std.specs.Prelude.{◌≡◌, ◌^◌, true, false, MatchOption};
+ghost use Rattle.std.specs.Str.{is_utf8};
+ghost use Rattle.puffin_data.specs.Layout.{number, signed, byte, block, flag, ReadsWithRest, IsAny, IsByte, IsWord, IsLong, IsSigned, IsBlock, IsText};
+ghost use Rattle.puffin_data.specs.Front.{byte_at, wide_at, number_at, word_at, signed_at, unzigzag, flag_at, bytes_at, text_at, GivesWithRest};
+
+use byteorder::{ByteOrder, LittleEndian};
+
+#[tactic(auto, unfolding(crate::specs::Front::wide_at))]
+fn two_bytes_in(bytes: &[u8]) -> Option<(u64, &[u8])>
+    ensures { GivesWithRest (λ x. (x.0, x.1.now)) result (wide_at 2 251 bytes.now) }
+{
+    if bytes.len() < 2 {
+        return None;
+    }
+    let n = LittleEndian::read_u16(bytes) as u64;
+    if n < 251 {
+        return None;
+    }
+    Some((n, bytes.split_at(2).1))
+}
+
+#[tactic(auto, unfolding(crate::specs::Front::wide_at))]
+fn four_bytes_in(bytes: &[u8]) -> Option<(u64, &[u8])>
+    ensures { GivesWithRest (λ x. (x.0, x.1.now)) result (wide_at 4 (2 ^ 16) bytes.now) }
+{
+    if bytes.len() < 4 {
+        return None;
+    }
+    let n = LittleEndian::read_u32(bytes) as u64;
+    if n < 65536 {
+        return None;
+    }
+    Some((n, bytes.split_at(4).1))
+}
+
+#[tactic(auto, unfolding(crate::specs::Front::wide_at))]
+fn eight_bytes_in(bytes: &[u8]) -> Option<(u64, &[u8])>
+    ensures { GivesWithRest (λ x. (x.0, x.1.now)) result (wide_at 8 (2 ^ 32) bytes.now) }
+{
+    if bytes.len() < 8 {
+        return None;
+    }
+    let n = LittleEndian::read_u64(bytes);
+    if n < 4294967296 {
+        return None;
+    }
+    Some((n, bytes.split_at(8).1))
+}
+
+#[tactic(auto, unfolding(crate::specs::Front::number_after))]
+fn number_in(bytes: &[u8]) -> Option<(u64, &[u8])>
+    ensures { GivesWithRest (λ x. (x.0, x.1.now)) result (number_at bytes.now) }
+{
+    match bytes {
+        [] => None,
+        [first, rest @ ..] => {
+            let first = *first;
+            if first < 251 {
+                Some((first as u64, rest))
+            } else if first == 251 {
+                two_bytes_in(rest)
+            } else if first == 252 {
+                four_bytes_in(rest)
+            } else if first == 253 {
+                eight_bytes_in(rest)
+            } else {
+                None
+            }
+        }
+    }
+}
+
+fn word_in(bytes: &[u8]) -> Option<(u32, &[u8])>
+    ensures { GivesWithRest (λ x. (x.0, x.1.now)) result (word_at bytes.now) }
+{
+    let (n, rest) = number_in(bytes)?;
+    if n < 4294967296 {
+        Some((n as u32, rest))
+    } else {
+        None
+    }
+}
+
+fn zigzag_back(n: u64) -> i64
+    ensures { result ≡ unzigzag n }
+{
+    if n % 2 == 0 {
+        (n / 2) as i64
+    } else {
+        -((n / 2) as i64) - 1
+    }
+}
+
+fn signed_in(bytes: &[u8]) -> Option<(i64, &[u8])>
+    ensures { GivesWithRest (λ x. (x.0, x.1.now)) result (signed_at bytes.now) }
+{
+    let (n, rest) = number_in(bytes)?;
+    Some((zigzag_back(n), rest))
+}
+
+fn bytes_in(bytes: &[u8]) -> Option<(&[u8], &[u8])>
+    ensures { GivesWithRest (λ x. (x.0.now, x.1.now)) result (bytes_at bytes.now) }
+{
+    let (n, rest) = number_in(bytes)?;
+    if (rest.len() as u64) < n {
+        return None;
+    }
+    Some(rest.split_at(n as usize))
+}
+
+#[tactic(auto, using(crate::proofs::Texts::utf8_tests))]
+fn text_of(stored: &[u8]) -> Option<&str>
+    ensures { MatchOption result (is_utf8 stored.now ≡ false) (λ t. (t.now ≡ stored.now) × (is_utf8 stored.now ≡ true)) }
+{
+    match std::str::from_utf8(stored) {
+        Ok(text) => Some(text),
+        Err(_) => None,
+    }
+}
+
+fn text_in(bytes: &[u8]) -> Option<(&str, &[u8])>
+    ensures { GivesWithRest (λ x. (x.0.now, x.1.now)) result (text_at bytes.now) }
+{
+    let (stored, rest) = bytes_in(bytes)?;
+    let text = text_of(stored)?;
+    Some((text, rest))
+}
+
+fn flag_in(bytes: &[u8]) -> Option<(bool, &[u8])>
+    ensures { GivesWithRest (λ x. (x.0, x.1.now)) result (flag_at bytes.now) }
+{
+    match bytes {
+        [0, rest @ ..] => Some((false, rest)),
+        [1, rest @ ..] => Some((true, rest)),
+        _ => None,
+    }
+}
+
+fn byte_in(bytes: &[u8]) -> Option<(u8, &[u8])>
+    ensures { GivesWithRest (λ x. (x.0, x.1.now)) result (byte_at bytes.now) }
+{
+    match bytes {
+        [] => None,
+        [first, rest @ ..] => Some((*first, rest)),
+    }
+}
+
+pub(super) fn read_byte(bytes: &[u8]) -> Option<(u8, &[u8])>
+    ensures reads { ReadsWithRest (λ x. (x.0, x.1.now)) IsByte byte bytes.now result }
+    ensures exact { GivesWithRest (λ x. (x.0, x.1.now)) result (byte_at bytes.now) }
+{
+    byte_in(bytes)
+}
+
+pub(super) fn read_number(bytes: &[u8]) -> Option<(u64, &[u8])>
+    ensures reads { ReadsWithRest (λ x. (x.0, x.1.now)) IsLong number bytes.now result }
+    ensures exact { GivesWithRest (λ x. (x.0, x.1.now)) result (number_at bytes.now) }
+{
+    number_in(bytes)
+}
+
+pub(super) fn read_word(bytes: &[u8]) -> Option<(u32, &[u8])>
+    ensures reads { ReadsWithRest (λ x. (x.0, x.1.now)) IsWord number bytes.now result }
+    ensures exact { GivesWithRest (λ x. (x.0, x.1.now)) result (word_at bytes.now) }
+{
+    word_in(bytes)
+}
+
+pub(super) fn read_signed(bytes: &[u8]) -> Option<(i64, &[u8])>
+    ensures reads { ReadsWithRest (λ x. (x.0, x.1.now)) IsSigned signed bytes.now result }
+    ensures exact { GivesWithRest (λ x. (x.0, x.1.now)) result (signed_at bytes.now) }
+{
+    signed_in(bytes)
+}
+
+pub(super) fn read_bytes(bytes: &[u8]) -> Option<(&[u8], &[u8])>
+    ensures reads { ReadsWithRest (λ x. (x.0.now, x.1.now)) IsBlock block bytes.now result }
+    ensures exact { GivesWithRest (λ x. (x.0.now, x.1.now)) result (bytes_at bytes.now) }
+{
+    bytes_in(bytes)
+}
+
+pub(super) fn read_text(bytes: &[u8]) -> Option<(&str, &[u8])>
+    ensures reads { ReadsWithRest (λ x. (x.0.now, x.1.now)) IsText block bytes.now result }
+    ensures exact { GivesWithRest (λ x. (x.0.now, x.1.now)) result (text_at bytes.now) }
+{
+    text_in(bytes)
+}
+
+pub(super) fn read_flag(bytes: &[u8]) -> Option<(bool, &[u8])>
+    ensures reads { ReadsWithRest (λ x. (x.0, x.1.now)) IsAny flag bytes.now result }
+    ensures exact { GivesWithRest (λ x. (x.0, x.1.now)) result (flag_at bytes.now) }
+{
+    flag_in(bytes)
+}

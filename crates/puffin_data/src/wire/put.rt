@@ -1,0 +1,90 @@
+//! Values written one after the other. Each call is refused with `Memory` alone, and then appends nothing.
+
+ghost use Rattle.std.specs.Prelude.{◌≡◌, ◌++◌, OnOk, OnErr, IfErr};
+ghost use Rattle.puffin_data.specs.Layout.{number, signed, byte, block, zigzag};
+
+use crate::error::{Error, Result};
+
+/// Appends a number of 64 bits in its shortest spelling. Refused with `Memory`; nothing is then appended.
+#[tactic(auto, unfolding(crate::specs::Layout::number))]
+pub fn put_u64(out: &mut Vec<u8>, n: u64) -> Result<()>
+    ensures ok { OnOk result (out.new.items ≡ out.old.items ++ number n) }
+    ensures err { OnErr result (out.new.items ≡ out.old.items) }
+    ensures memory { IfErr result (λ e. e ≡ Error.Memory) }
+{
+    if n < 251 {
+        out.push(n as u8)?;
+    } else if n < 65536 {
+        let [a, b] = (n as u16).to_le_bytes();
+        out.extend_from_slice(&[251, a, b])?;
+    } else if n < 4294967296 {
+        let [a, b, c, d] = (n as u32).to_le_bytes();
+        out.extend_from_slice(&[252, a, b, c, d])?;
+    } else {
+        let [a, b, c, d, e, f, g, h] = n.to_le_bytes();
+        out.extend_from_slice(&[253, a, b, c, d, e, f, g, h])?;
+    }
+    Ok(())
+}
+
+/// Appends a byte. Refused as [`put_u64`] is.
+pub fn put_u8(out: &mut Vec<u8>, n: u8) -> Result<()>
+    ensures ok { OnOk result (out.new.items ≡ out.old.items ++ byte n) }
+    ensures err { OnErr result (out.new.items ≡ out.old.items) }
+    ensures memory { IfErr result (λ e. e ≡ Error.Memory) }
+{
+    out.push(n)?;
+    Ok(())
+}
+
+/// Appends a number of 32 bits, laid out as one of 64. Refused as [`put_u64`] is.
+pub fn put_u32(out: &mut Vec<u8>, n: u32) -> Result<()>
+    ensures ok { OnOk result (out.new.items ≡ out.old.items ++ number n) }
+    ensures err { OnErr result (out.new.items ≡ out.old.items) }
+    ensures memory { IfErr result (λ e. e ≡ Error.Memory) }
+{
+    put_u64(out, n as u64)
+}
+
+fn zigzag_of(z: i64) -> u64
+    ensures { result ≡ zigzag z }
+{
+    if z >= 0 {
+        (z as u64) * 2
+    } else {
+        (-(z + 1)) as u64 * 2 + 1
+    }
+}
+
+/// Appends a signed number: 0, -1, 1 and -2 are laid out as 0, 1, 2 and 3. Refused as [`put_u64`] is.
+pub fn put_i64(out: &mut Vec<u8>, z: i64) -> Result<()>
+    ensures ok { OnOk result (out.new.items ≡ out.old.items ++ signed z) }
+    ensures err { OnErr result (out.new.items ≡ out.old.items) }
+    ensures memory { IfErr result (λ e. e ≡ Error.Memory) }
+{
+    put_u64(out, zigzag_of(z))
+}
+
+/// Appends bytes behind their length. Refused as [`put_u64`] is.
+pub fn put_bytes(out: &mut Vec<u8>, bytes: &[u8]) -> Result<()>
+    ensures ok { OnOk result (out.new.items ≡ out.old.items ++ block bytes.now) }
+    ensures err { OnErr result (out.new.items ≡ out.old.items) }
+    ensures memory { IfErr result (λ e. e ≡ Error.Memory) }
+{
+    let before = out.len();
+    put_u64(out, bytes.len() as u64)?;
+    if out.extend_from_slice(bytes).is_err() {
+        out.truncate(before);
+        return Err(Error::Memory);
+    }
+    Ok(())
+}
+
+/// Appends a text behind its length in bytes. Refused as [`put_u64`] is.
+pub fn put_text(out: &mut Vec<u8>, t: &str) -> Result<()>
+    ensures ok { OnOk result (out.new.items ≡ out.old.items ++ block t.now) }
+    ensures err { OnErr result (out.new.items ≡ out.old.items) }
+    ensures memory { IfErr result (λ e. e ≡ Error.Memory) }
+{
+    put_bytes(out, t.as_bytes())
+}

@@ -1,0 +1,157 @@
+use crate::wire::{Cursor, put_bytes, put_i64, put_text, put_u8, put_u32, put_u64};
+use std::alloc::Global;
+use std::process::Abort;
+use std::test::Fail;
+
+/// Numbers with their spellings, at each end of each width.
+const NUMBERS: [(u64, &[u8]); 9] = [
+    (0, b"\x00"),
+    (250, b"\xfa"),
+    (251, b"\xfb\xfb\x00"),
+    (300, b"\xfb\x2c\x01"),
+    (65535, b"\xfb\xff\xff"),
+    (65536, b"\xfc\x00\x00\x01\x00"),
+    (4294967295, b"\xfc\xff\xff\xff\xff"),
+    (4294967296, b"\xfd\x00\x00\x00\x00\x01\x00\x00\x00"),
+    (u64::MAX, b"\xfd\xff\xff\xff\xff\xff\xff\xff\xff"),
+];
+
+const SIGNED: [(i64, &[u8]); 8] = [
+    (0, b"\x00"),
+    (-1, b"\x01"),
+    (1, b"\x02"),
+    (-2, b"\x03"),
+    (100, b"\xc8"),
+    (300, b"\xfb\x58\x02"),
+    (i64::MAX, b"\xfd\xfe\xff\xff\xff\xff\xff\xff\xff"),
+    (i64::MIN, b"\xfd\xff\xff\xff\xff\xff\xff\xff\xff"),
+];
+
+/// Details of a scope with the id 1, the name `my-scope`, the function `a` and the file `b.rs`, line 7.
+const DETAILS: &[u8] = b"\x01\x01\x01\x01\x08my-scope\x01a\x04b.rs\x07";
+
+#[test]
+fn numbers_are_written_in_their_shortest_spelling(rt: HostRuntime) -> Result<(), Fail> {
+    for (n, bytes) in NUMBERS {
+        let mut out = Vec::new(rt.alloc());
+        put_u64(&mut out, n)?;
+        assert_eq!(rt; out.as_slice(), bytes, "{n}");
+        let mut cursor = Cursor::new(bytes);
+        assert_eq!(rt; cursor.u64(), Some(n), "{n}");
+        assert_eq!(rt; cursor.rest(), 0);
+    }
+    Ok(())
+}
+
+#[test]
+fn numbers_of_32_bits(rt: HostRuntime) -> Result<(), Fail> {
+    for (n, bytes) in NUMBERS {
+        let mut cursor = Cursor::new(bytes);
+        match u32::try_from(n) {
+            Ok(word) => {
+                let mut out = Vec::new(rt.alloc());
+                put_u32(&mut out, word)?;
+                assert_eq!(rt; out.as_slice(), bytes, "{n}");
+                assert_eq!(rt; cursor.u32(), Some(word), "{n}");
+                assert_eq!(rt; cursor.rest(), 0);
+            }
+            Err(_) => {
+                assert_eq!(rt; cursor.u32(), None, "{n}");
+                assert_eq!(rt; cursor.rest(), 9);
+            }
+        }
+    }
+    Ok(())
+}
+
+#[test]
+fn signed_numbers(rt: HostRuntime) -> Result<(), Fail> {
+    for (z, bytes) in SIGNED {
+        let mut out = Vec::new(rt.alloc());
+        put_i64(&mut out, z)?;
+        assert_eq!(rt; out.as_slice(), bytes, "{z}");
+        let mut cursor = Cursor::new(bytes);
+        assert_eq!(rt; cursor.i64(), Some(z), "{z}");
+        assert_eq!(rt; cursor.rest(), 0);
+    }
+    Ok(())
+}
+
+#[test]
+fn other_spellings_of_a_number_are_refused(rt: HostRuntime) -> Result<(), Fail> {
+    let refused: [&[u8]; 8] = [
+        b"",
+        b"\xfb\xfa\x00",
+        b"\xfb\xfb",
+        b"\xfc\xff\xff\x00\x00",
+        b"\xfc\x00\x00\x01",
+        b"\xfd\xff\xff\xff\xff\x00\x00\x00\x00",
+        b"\xfe\x00",
+        b"\xff\x00",
+    ];
+    for bytes in refused {
+        let mut cursor = Cursor::new(bytes);
+        assert_eq!(rt; cursor.u64(), None);
+        assert_eq!(rt; cursor.u32(), None);
+        assert_eq!(rt; cursor.i64(), None);
+        assert!(rt; cursor.bytes().is_none());
+        assert!(rt; cursor.text().is_none());
+        assert_eq!(rt; cursor.rest(), bytes.len());
+    }
+    Ok(())
+}
+
+/// The details of a scope, as their kinds are written one behind the other.
+fn details(alloc: Global) -> crate::Result<Vec<u8>> {
+    let mut out = Vec::new(alloc);
+    put_u64(&mut out, 1)?;
+    put_u8(&mut out, 1)?;
+    put_u32(&mut out, 1)?;
+    put_u8(&mut out, 1)?;
+    put_text(&mut out, "my-scope")?;
+    put_bytes(&mut out, b"a")?;
+    put_text(&mut out, "b.rs")?;
+    put_u32(&mut out, 7)?;
+    Ok(out)
+}
+
+#[test]
+fn the_kinds_one_behind_the_other(rt: HostRuntime) -> Result<(), Fail> {
+    let out = details(rt.alloc())?;
+    assert_eq!(rt; out.as_slice(), DETAILS);
+    let mut cursor = Cursor::new(DETAILS);
+    assert_eq!(rt; cursor.rest(), 21);
+    assert_eq!(rt; cursor.u64(), Some(1));
+    assert_eq!(rt; cursor.flag(), Some(true));
+    assert_eq!(rt; cursor.u32(), Some(1));
+    assert_eq!(rt; cursor.u8(), Some(1));
+    assert_eq!(rt; cursor.text(), Some("my-scope"));
+    assert_eq!(rt; cursor.bytes(), Some(b"a".as_slice()));
+    assert_eq!(rt; cursor.text(), Some("b.rs"));
+    assert_eq!(rt; cursor.rest(), 1);
+    assert_eq!(rt; cursor.u64(), Some(7));
+    assert_eq!(rt; cursor.u8(), None);
+    assert_eq!(rt; cursor.flag(), None);
+    Ok(())
+}
+
+#[test]
+fn flags_are_0_and_1(rt: HostRuntime) -> Result<(), Fail> {
+    let mut cursor = Cursor::new(b"\x00\x02");
+    assert_eq!(rt; cursor.flag(), Some(false));
+    assert_eq!(rt; cursor.flag(), None);
+    assert_eq!(rt; cursor.rest(), 1);
+    Ok(())
+}
+
+#[test]
+fn bytes_that_are_not_utf8_are_no_text(rt: HostRuntime) -> Result<(), Fail> {
+    let mut cursor = Cursor::new(b"\x02a\xff\x03\xe2\x80\xa6\x04abc");
+    assert_eq!(rt; cursor.text(), None);
+    assert_eq!(rt; cursor.rest(), 11);
+    assert_eq!(rt; cursor.bytes(), Some(b"a\xff".as_slice()));
+    assert_eq!(rt; cursor.text(), Some("…"));
+    assert!(rt; cursor.bytes().is_none());
+    assert_eq!(rt; cursor.rest(), 4);
+    Ok(())
+}

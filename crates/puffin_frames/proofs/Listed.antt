@@ -1,0 +1,174 @@
+-- The streams of a map as the list of their pairs, in the order of their threads.
+use Rattle.std.proofs.Common.{◌≡◌, suc, ◌-◌, Bool, true, false, ◌&&◌, List, [], ◌∷◌, ◌++◌, length, Some, refl, sym, ap, subst, ◌∙◌, append_assoc, arith}
+use Rattle.std.specs.Prelude.{T, slice_get}
+use Rattle.std.proofs.lemmas.Option.{same_Some}
+use Rattle.std.specs.declared.cmp.Ordering.{Ordering}
+use Rattle.std.specs.declared.cmp.Ordering.TheVariants.{Less, Equal, Greater}
+use Rattle.std.specs.Ordering.{is_lt, match_ordering, ordering_reverse}
+use Rattle.std.specs.Cmp.{IsTotalOrder}
+use Rattle.std.specs.Map.{keys_of}
+use Rattle.std.specs.List.{AllByRecursion}
+use Rattle.std.specs.List.Sorted.{IsStrictlySortedBy}
+use Rattle.std.specs.BTreeMap.{insert_entry}
+use Rattle.std.specs.Arc.{arc_value}
+use Rattle.std.specs.declared.sync.Arc.{Arc}
+use Rattle.std.specs.FinMap.{is_sorted, entries, from_entries, from_sorted, entries-insert, entries-from_sorted, same_entries_map, put, empty, len-entries, len-empty}
+use Rattle.std.specs.FinMap.Entries.{below_all, by_order}
+use Rattle.std.proofs.lemmas.Map.Keys.{sorted_head, sorted_tail}
+use Rattle.puffin_data.specs.Honesty.{Recorded, recorded}
+use Rattle.puffin_data.specs.declared.data.info.StreamInfo.{StreamInfo}
+use Rattle.puffin_frames.specs.declared.thread_profiler.thread_info.ThreadInfo.{ThreadInfo}
+use Rattle.puffin_frames.specs.Contents.{listed, shared_streams}
+use Rattle.puffin_frames.specs.Info.{Info, info_cmp, info_of, thread_cmp}
+use Rattle.puffin_frames.proofs.Infos.{info_cmp_total, thread_cmp_total}
+
+pub and-first : (a b : Bool) → (a && b) ≡ true → a ≡ true
+and-first true b e = refl
+and-first false b e = e
+
+pub and-second : (a b : Bool) → (a && b) ≡ true → b ≡ true
+and-second true b e = e
+and-second false b e = absurd cc
+
+pub and-both : (a b : Bool) → a ≡ true → b ≡ true → (a && b) ≡ true
+and-both a b p q = rw (p, q) refl
+
+pub holds : (b : Bool) → b ≡ true → T b
+holds b e = subst T (sym e) tt
+
+pub is_so : (b : Bool) → T b → b ≡ true
+is_so true h = refl
+is_so false h = absurd h
+
+is_less : (o : Ordering) → is_lt o ≡ true → o ≡ Less
+is_less Less e = refl
+is_less Equal e = absurd cc
+is_less Greater e = absurd cc
+
+module _ {A : Type 0} where
+  listed-below : (x : ThreadInfo) (es : List (ThreadInfo × Arc StreamInfo A)) → AllByRecursion (λ y. thread_cmp x y ≡ Less) (keys_of es) → below_all info_cmp (info_of x) (listed es) ≡ true
+  listed-below x [] h = refl
+  listed-below x (e ∷ es) h = and-both (is_lt (thread_cmp x e.0)) (below_all info_cmp (info_of x) (listed es)) (ap is_lt h.0) (listed-below x es h.1)
+
+  -- entries in the order of their threads are listed in order
+  pub listed-sorted : (es : List (ThreadInfo × Arc StreamInfo A)) → IsStrictlySortedBy thread_cmp (keys_of es) → is_sorted info_cmp (listed es) ≡ true
+  listed-sorted [] sorted = refl
+  listed-sorted (e ∷ es) sorted =
+      and-both (below_all info_cmp (info_of e.0) (listed es)) (is_sorted info_cmp (listed es)) (listed-below e.0 es (sorted_head thread_cmp e.0 _ sorted)) (listed-sorted es (sorted_tail thread_cmp e.0 _ sorted))
+
+  pub listed-push : (es : List (ThreadInfo × Arc StreamInfo A)) (k : ThreadInfo) (a : Arc StreamInfo A) → listed (es ++ (k, a) ∷ []) ≡ listed es ++ (info_of k, recorded (arc_value a)) ∷ []
+  listed-push [] k a = refl
+  listed-push (e ∷ es) k a = ap (λ (l : List (Info × Recorded)). (info_of e.0, recorded (arc_value e.1)) ∷ l) (listed-push es k a)
+
+below_at : (x k : Info) (r : Recorded) (es rest : List (Info × Recorded)) → below_all info_cmp x (es ++ (k, r) ∷ rest) ≡ true → info_cmp x k ≡ Less
+below_at x k r [] rest h = is_less _ (and-first _ _ h)
+below_at x k r (e ∷ es) rest h = below_at x k r es rest (and-second _ _ h)
+
+below_middle : (x k : Info) (r : Recorded) (es : List (Info × Recorded)) → below_all info_cmp x es ≡ true → info_cmp x k ≡ Less → below_all info_cmp x (es ++ (k, r) ∷ []) ≡ true
+below_middle x k r [] h lt = and-both _ _ (ap is_lt lt) refl
+below_middle x k r (e ∷ es) h lt = and-both _ _ (and-first _ _ h) (below_middle x k r es (and-second _ _ h) lt)
+
+module _ {A : Type 0} where
+  -- a thread above all others goes to the end
+  pub insert-last : (es : List (ThreadInfo × Arc StreamInfo A)) (k : ThreadInfo) (v : Arc StreamInfo A) (r : Recorded) (rest : List (Info × Recorded)) → is_sorted info_cmp (listed es ++ (info_of k, r) ∷ rest) ≡ true → insert_entry thread_cmp es k v ≡ es ++ (k, v) ∷ []
+  insert-last [] k v r rest sorted = refl
+  insert-last (e ∷ es) k v r rest sorted =
+      let below : thread_cmp e.0 k ≡ Less = below_at (info_of e.0) (info_of k) r (listed es) rest (and-first _ _ sorted) in
+      let above : thread_cmp k e.0 ≡ Greater = thread_cmp_total.antisymm k e.0 ∙ ap ordering_reverse below in
+      ap (λ o. match_ordering o ((k, v) ∷ e ∷ es) ((e.0, v) ∷ es) (e ∷ insert_entry thread_cmp es k v)) above ∙ ap (λ l. e ∷ l) (insert-last es k v r rest (and-second _ _ sorted))
+
+-- ---- maps from lists in order
+
+no_length : {A : Type 0} (es : List A) → length es ≡ 0 → es ≡ []
+no_length [] e = refl
+no_length (x ∷ es) e = absurd (omega arith)
+
+pub no_entries : {K X : Type 0} (R : K → K → Ordering) → entries (from_entries {X = X} {R = R} []) ≡ []
+no_entries {K} {X} R = no_length _ (sym (len-entries (empty {X = X} {R = R})) ∙ len-empty R X)
+
+module _ {K X : Type 0} {R : K → K → Ordering} (total : IsTotalOrder R) (nothing : entries (from_entries {X = X} {R = R} []) ≡ []) where
+  put-first : (k : K) (v : X) (es : List (K × X)) → below_all R k es ≡ true → put R k v es ≡ (k, v) ∷ es
+  put-first k v [] below = refl
+  put-first k v (e ∷ es) below = ap (λ o. by_order o ((k, v) ∷ e ∷ es) ((e.0, v) ∷ es) (e ∷ put R k v es)) (is_less _ (and-first _ _ below))
+
+  pub entries-sorted_list : (es : List (K × X)) → is_sorted R es ≡ true → entries (from_entries {R = R} es) ≡ es
+  entries-sorted_list [] sorted = nothing
+  entries-sorted_list (e ∷ es) sorted =
+      entries-insert total (from_entries es) e.0 e.1 ∙ ap (put R e.0 e.1) (entries-sorted_list es (and-second _ _ sorted)) ∙ put-first e.0 e.1 es (and-first _ _ sorted)
+
+  pub from_entries-sorted_list : (es : List (K × X)) → is_sorted R es ≡ true → from_sorted {R = R} es ≡ from_entries es
+  from_entries-sorted_list es sorted = same_entries_map (from_sorted es) (from_entries es) (entries-from_sorted R es (holds _ sorted) ∙ sym (entries-sorted_list es sorted))
+
+-- the streams of a map are those of its list
+pub streams-listed : {A : Type 0} (es : List (ThreadInfo × Arc StreamInfo A)) → is_sorted info_cmp (listed es) ≡ true → from_sorted {R = info_cmp} (listed es) ≡ shared_streams es
+streams-listed es sorted = from_entries-sorted_list info_cmp_total (no_entries info_cmp) (listed es) sorted
+
+pub entries-listed : {A : Type 0} (es : List (ThreadInfo × Arc StreamInfo A)) → is_sorted info_cmp (listed es) ≡ true → entries (shared_streams es) ≡ listed es
+entries-listed es sorted = entries-sorted_list info_cmp_total (no_entries info_cmp) (listed es) sorted
+
+-- ---- one more thread
+
+alone : {X : Type 0} (y x : X) → y ≡ x → y ∷ [] ≡ x ∷ []
+alone {X} y x e = ap (λ (z : X). z ∷ []) e
+
+last_split : {X : Type 0} (xs : List X) (x : X) → slice_get xs (length xs - 1) ≡ Some x → (front : List X) × (xs ≡ front ++ x ∷ [])
+last_split [] x e = absurd cc
+last_split (y ∷ []) x e = ([], alone y x (same_Some y x e))
+last_split {X} (y ∷ z ∷ ys) x e =
+    let k : length (y ∷ z ∷ ys) - 1 ≡ suc (length (z ∷ ys) - 1) = omega arith in
+    let later : slice_get (z ∷ ys) (length (z ∷ ys) - 1) ≡ Some x = rw k at e in
+    let rest = last_split (z ∷ ys) x later in
+    (y ∷ rest.0, ap (λ (l : List X). y ∷ l) rest.1)
+
+sorted-push : (front : List (Info × Recorded)) (last k : Info) (s r : Recorded) → is_sorted info_cmp (front ++ (last, s) ∷ []) ≡ true → info_cmp last k ≡ Less → is_sorted info_cmp ((front ++ (last, s) ∷ []) ++ (k, r) ∷ []) ≡ true
+sorted-push [] last k s r sorted lt = and-both _ _ (and-both _ _ (ap is_lt lt) refl) refl
+sorted-push (e ∷ front) last k s r sorted lt =
+    let below : info_cmp e.0 last ≡ Less = below_at e.0 last s front [] (and-first _ _ sorted) in
+    and-both _ _ (below_middle e.0 k r (front ++ (last, s) ∷ []) (and-first _ _ sorted) (info_cmp_total.trans e.0 last k below lt)) (sorted-push front last k s r (and-second _ _ sorted) lt)
+
+is_above : (front rest : List (Info × Recorded)) (last k : Info) (s r : Recorded) → is_sorted info_cmp ((front ++ (last, s) ∷ []) ++ (k, r) ∷ rest) ≡ true → info_cmp last k ≡ Less
+is_above [] rest last k s r sorted = is_less _ (and-first _ _ (and-first _ _ sorted))
+is_above (e ∷ front) rest last k s r sorted = is_above front rest last k s r (and-second _ _ sorted)
+
+not_so : (b : Bool) → (b ≡ true → ⊥) → b ≡ false
+not_so true h = absurd (h refl)
+not_so false h = refl
+
+module _ {A : Type 0} where
+  -- the last entry of a map, as the last of its list
+  listed-last : (es : List (ThreadInfo × Arc StreamInfo A)) (last : ThreadInfo) (v : Arc StreamInfo A) → slice_get es (length es - 1) ≡ Some (last, v) → (front : List (Info × Recorded)) × (listed es ≡ front ++ (info_of last, recorded (arc_value v)) ∷ [])
+  listed-last es last v e =
+      let split = last_split es (last, v) e in
+      (listed split.0, ap listed split.1 ∙ listed-push split.0 last v)
+
+  -- a thread above the last one comes last
+  pub rises_after : (es : List (ThreadInfo × Arc StreamInfo A)) (last : ThreadInfo) (v : Arc StreamInfo A) (k : ThreadInfo) (r : Recorded) → is_sorted info_cmp (listed es) ≡ true → slice_get es (length es - 1) ≡ Some (last, v) → is_lt (thread_cmp last k) ≡ true → is_sorted info_cmp (listed es ++ (info_of k, r) ∷ []) ≡ true
+  rises_after es last v k r sorted at lt =
+      let split = listed-last es last v at in
+      let P : List (Info × Recorded) → Type 0 = λ (l : List (Info × Recorded)). is_sorted info_cmp l ≡ true → is_sorted info_cmp (l ++ (info_of k, r) ∷ []) ≡ true in
+      subst P (sym split.1) (λ h. sorted-push split.0 (info_of last) (info_of k) (recorded (arc_value v)) r h (is_less _ lt)) sorted
+
+  -- and another one doesn't
+  pub falls_after : (es : List (ThreadInfo × Arc StreamInfo A)) (last : ThreadInfo) (v : Arc StreamInfo A) (k : ThreadInfo) (r : Recorded) (rest : List (Info × Recorded)) → slice_get es (length es - 1) ≡ Some (last, v) → is_lt (thread_cmp last k) ≡ false → is_sorted info_cmp (listed es ++ (info_of k, r) ∷ rest) ≡ false
+  falls_after es last v k r rest at not =
+      let split = listed-last es last v at in
+      not_so _ (λ h.
+      let lt : info_cmp (info_of last) (info_of k) ≡ Less = is_above split.0 rest (info_of last) (info_of k) (recorded (arc_value v)) r (subst (λ (l : List (Info × Recorded)). is_sorted info_cmp (l ++ (info_of k, r) ∷ rest) ≡ true) split.1 h) in
+      two_ways (sym (ap is_lt lt) ∙ not))
+    where
+      two_ways : true ≡ false → ⊥
+      two_ways e = absurd cc
+
+-- a copy of the next stream goes to the end of the copies
+pub copy_more : {A B : Type 0} (es fs : List (ThreadInfo × Arc StreamInfo A)) (k copy : ThreadInfo) (a : Arc StreamInfo B) (b : Arc StreamInfo A) (left rest all : List (ThreadInfo × Arc StreamInfo B)) → IsStrictlySortedBy thread_cmp (keys_of all) → listed es ++ listed left ≡ listed all → left ≡ (k, a) ∷ rest → info_of copy ≡ info_of k → arc_value b ≡ arc_value a → fs ≡ insert_entry thread_cmp es copy b → listed fs ++ listed rest ≡ listed all
+copy_more es fs k copy a b left rest all sorted whole next same value put =
+    let one : (Info × Recorded) = (info_of copy, recorded (arc_value b)) in
+    let there : listed es ++ one ∷ listed rest ≡ listed all =
+    ap (λ (x : Info). listed es ++ (x, recorded (arc_value b)) ∷ listed rest) same ∙ (ap (λ (x : StreamInfo). listed es ++ (info_of k, recorded x) ∷ listed rest) value ∙ (ap (λ l. listed es ++ listed l) (sym next) ∙ whole)) in
+    let order = subst (λ (l : List (Info × Recorded)). is_sorted info_cmp l ≡ true) (sym there) (listed-sorted all sorted) in
+    let last = insert-last es copy b (recorded (arc_value b)) (listed rest) order in
+    let grown : listed fs ≡ listed es ++ one ∷ [] = ap listed (put ∙ last) ∙ listed-push es copy b in
+    ap (λ (l : List (Info × Recorded)). l ++ listed rest) grown ∙ (regrouped (listed es) one (listed rest) ∙ there)
+  where
+    regrouped : (xs : List (Info × Recorded)) (x : Info × Recorded) (ys : List (Info × Recorded)) → (xs ++ x ∷ []) ++ ys ≡ xs ++ x ∷ ys
+    regrouped xs x ys = simp append_assoc

@@ -1,0 +1,87 @@
+-- A packet that was written is read again, whatever follows it.
+use Rattle.std.proofs.Common.{◌≡◌, ℕ, ◌^◌, ◌<◌, false, ltb, List, [], ◌∷◌, ◌++◌, length, Option, Some, Result, Ok, refl, sym, ap, ◌∙◌, append_assoc, arith}
+use Rattle.std.proofs.lemmas.Bool.{le-ltb}
+use Rattle.std.proofs.lemmas.List.{take_at, drop_at, length-append}
+use Rattle.byteorder.specs.Endian.{little_bytes, little_number}
+use Rattle.byteorder.specs.Numbers.{little_number-reads_back}
+use Rattle.puffin_data.specs.declared.file_error.FileError.{FileError}
+use Rattle.puffin_data.specs.Parts.{part_of, length_at, counted_part_at}
+use Rattle.puffin_data.specs.Layout.{NoneBeginsAnother}
+use Rattle.puffin_data.proofs.Readers.{whole_again}
+use Rattle.puffin_frames.specs.Values.{IsMeta, meta_layout, meta_at, AreDetails, details_layout, details_at}
+use Rattle.puffin_frames.specs.Stored.{Said, Stored, packed}
+use Rattle.puffin_frames.specs.Steps.{meta_part_at, streams_part_at, details_part_at, packed_at, next_at, counted, packet_head, packet, IsPacked, as_stored}
+use Rattle.puffin_frames.proofs.Structs.{meta_reader, details_reader}
+use Rattle.puffin_frames.proofs.Writing.{meta_short}
+
+part_again : (n : ℕ) (t rest : List ℕ) → length t ≡ n → part_of n (t ++ rest) ≡ Ok (t, rest)
+part_again n t rest len =
+    let long : ltb (length (t ++ rest)) n ≡ false = le-ltb _ _ (omega (arith, length-append t rest, len)) in
+    rw (long, take_at t rest n len, drop_at t rest n len) refl
+
+length_again : (n : ℕ) (rest : List ℕ) → n < 2 ^ 32 → length_at (little_bytes 4 n ++ rest) ≡ Ok (n, rest)
+length_again n rest h =
+    let back : little_number 4 (little_bytes 4 n ++ []) ≡ n = little_number-reads_back 4 n [] (omega arith) in
+    rw (part_again 4 (little_bytes 4 n) rest refl) (ap (λ (k : ℕ). Ok (k, rest)) back)
+
+counted_again : (t rest : List ℕ) → length t < 2 ^ 32 → counted_part_at (counted t ++ rest) ≡ Ok (t, rest)
+counted_again t rest h =
+    ap counted_part_at (append_assoc (little_bytes 4 (length t)) t rest) ∙ rw (length_again (length t) (t ++ rest) h) (part_again (length t) t rest refl)
+
+meta_again : (p : Said) (rest : List ℕ) → IsPacked p → meta_part_at (counted (meta_layout p.meta) ++ rest) ≡ Ok (p.meta, rest)
+meta_again p rest h =
+    rw (counted_again (meta_layout p.meta) rest (meta_short p.meta), whole_again IsMeta meta_layout meta_at meta_reader p.meta h.meta, h.range) refl
+
+streams_again : (p : Said) (rest : List ℕ) → IsPacked p → streams_part_at 52 (little_bytes 4 (length p.streams) ++ (p.kind ∷ (p.streams ++ rest))) ≡ Ok ((p.kind, p.streams), rest)
+streams_again p rest h =
+    rw (length_again (length p.streams) (p.kind ∷ (p.streams ++ rest)) h.short, part_again 1 (p.kind ∷ []) (p.streams ++ rest) refl, h.kind, part_again (length p.streams) p.streams rest refl) refl
+
+details_again : (p : Said) (rest : List ℕ) → IsPacked p → details_part_at 52 (counted (details_layout p.details) ++ rest) ≡ Ok (p.details, rest)
+details_again p rest h =
+    rw (counted_again (details_layout p.details) rest h.details_short, whole_again AreDetails details_layout details_at details_reader p.details h.details) refl
+
+parts_again : (p : Said) (rest : List ℕ) → IsPacked p
+    → packed_at 52 (counted (meta_layout p.meta) ++ (little_bytes 4 (length p.streams) ++ (p.kind ∷ (p.streams ++ (counted (details_layout p.details) ++ rest))))) ≡ Ok (p, rest)
+parts_again p rest h =
+    let d = counted (details_layout p.details) ++ rest in
+    rw (meta_again p (little_bytes 4 (length p.streams) ++ (p.kind ∷ (p.streams ++ d))) h, streams_again p d h, details_again p rest h) refl
+
+after_letters : (xs : List ℕ) → next_at (80 ∷ 70 ∷ 68 ∷ 52 ∷ xs) ≡ as_stored packed (packed_at 52 xs)
+unfolding next_at
+after_letters xs =
+    let long : ltb (length (80 ∷ 70 ∷ 68 ∷ 52 ∷ xs)) 4 ≡ false = le-ltb _ _ (omega arith) in
+    rw long refl
+
+-- a packet with its parts in a row
+in_a_row : (m l s d rest : List ℕ) (kind : ℕ) → ((((80 ∷ 70 ∷ 68 ∷ 52 ∷ []) ++ (m ++ (l ++ (kind ∷ [])))) ++ s) ++ d) ++ rest ≡ 80 ∷ 70 ∷ 68 ∷ 52 ∷ (m ++ (l ++ (kind ∷ (s ++ (d ++ rest)))))
+in_a_row m l s d rest kind = simp append_assoc
+
+pub packet_again : (p : Said) (rest : List ℕ) → IsPacked p → next_at (packet p ++ rest) ≡ Ok (Some (packed p), rest)
+unfolding packet_head
+packet_again p rest h =
+    let m = counted (meta_layout p.meta) in
+    let l = little_bytes 4 (length p.streams) in
+    let d = counted (details_layout p.details) in
+    ap next_at (in_a_row m l p.streams d rest p.kind) ∙ (after_letters (m ++ (l ++ (p.kind ∷ (p.streams ++ (d ++ rest))))) ∙ ap (as_stored packed) (parts_again p rest h))
+
+said_is : (a b : Said) → packed a ≡ packed b → a ≡ b
+said_is a b e = cc
+
+some_is : (a b : Stored) → Some a ≡ Some b → a ≡ b
+some_is a b e = cc
+
+found : Option Stored × List ℕ → Result (Option Stored × List ℕ) FileError
+found o = Ok o
+
+pair_is : (u v : Option Stored × List ℕ) → found u ≡ found v → u ≡ v
+unfolding found
+pair_is u v e = cc
+
+one_frame : (a b : Said) (x y : List ℕ) → found (Some (packed a), x) ≡ found (Some (packed b), y) → (a ≡ b) × (x ≡ y)
+one_frame a b x y e =
+    let same = pair_is (Some (packed a), x) (Some (packed b), y) e in
+    (said_is a b (some_is (packed a) (packed b) (ap (λ (t : Option Stored × List ℕ). t.0) same)), ap (λ (t : Option Stored × List ℕ). t.1) same)
+
+pub no_packet_begins_another : NoneBeginsAnother IsPacked packet
+unfolding found
+no_packet_begins_another a b x y fa fb e = one_frame a b x y (sym (packet_again a x fa) ∙ (ap next_at e ∙ packet_again b y fb))

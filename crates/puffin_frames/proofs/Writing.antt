@@ -1,0 +1,86 @@
+-- Pieces of a packet written one after the other.
+use Rattle.std.proofs.Common.{◌≡◌, ℕ, ◌≤◌, ◌<◌, ◌^◌, ℤ, ◌-ℤ◌, ◌≤ℤ◌, FitsSigned, w64, Bool, true, false, cond, List, [], ◌∷◌, ◌++◌, length, Option, Result, Ok, Err, OnErr, IfErr, refl, sym, ap, ◌∙◌, append_assoc, arith, length-append}
+use Rattle.std.specs.Prelude.{nat_lt, int_le, int_lt, pos}
+use Rattle.std.proofs.lemmas.Int.{ints}
+use Rattle.byteorder.specs.Endian.{little_bytes}
+use Rattle.std.specs.Io.KnownBytes.{Appends}
+use Rattle.std.proofs.KnownBytes.{Appends-trans}
+use Rattle.puffin_data.specs.declared.file_error.FileError.{FileError}
+use Rattle.puffin_data.specs.declared.file_error.FileError.TheVariants as file
+use Rattle.puffin_data.specs.Devices.{WritesBeginning}
+use Rattle.puffin_data.specs.Layout.{number, signed, zigzag}
+use Rattle.puffin_frames.specs.declared.frame_data.meta.FrameMeta.{FrameMeta}
+use Rattle.puffin_frames.specs.Values.{meta_layout}
+use Rattle.puffin_frames.specs.Steps.{is_range_at}
+use Rattle.std.specs.Prelude.{map}
+use Rattle.std.specs.declared.cmp.Ordering.TheVariants.{Less}
+use Rattle.std.specs.declared.sync.Arc.{Arc}
+use Rattle.std.specs.Arc.{arc_value}
+use Rattle.std.specs.Ordering.{nat_cmp, is_lt}
+use Rattle.std.specs.Cmp.{nat_cmp_total}
+use Rattle.std.specs.Map.{keys_of, values_of}
+use Rattle.std.specs.List.{AllByRecursion}
+use Rattle.std.specs.List.Sorted.{IsStrictlySortedBy}
+use Rattle.std.specs.FinMap.{is_sorted, values}
+use Rattle.std.specs.FinMap.Entries.{below_all}
+use Rattle.std.proofs.lemmas.Map.Keys.{sorted_head, sorted_tail}
+use Rattle.puffin_frames.specs.declared.scope_details.details.ScopeDetails.{ScopeDetails}
+use Rattle.puffin_frames.specs.Details.{Details, details_of, shared_details}
+use Rattle.puffin_frames.specs.Collection.{ids_seen, by_ids}
+use Rattle.puffin_frames.proofs.Listed.{and-both, entries-sorted_list, no_entries}
+
+pub beginning_more : (old new : Option (List ℕ)) (a b : List ℕ) → WritesBeginning old new a → WritesBeginning old new (a ++ b)
+beginning_more old new a b h = (h.0, h.1 ++ b, ap (λ (t : List ℕ). t ++ b) h.2 ∙ append_assoc h.0 h.1 b, h.3)
+
+pub beginning_after : (old mid new : Option (List ℕ)) (a b : List ℕ) → Appends old mid a → WritesBeginning mid new b → WritesBeginning old new (a ++ b)
+beginning_after old mid new a b first h = (a ++ h.0, h.1, ap (λ (t : List ℕ). a ++ t) h.2 ∙ sym (append_assoc a h.0 h.1), Appends-trans old mid new a h.0 first h.3)
+
+pub begun_if : {X P Q : Type 0} (r : Result X FileError) → (P → Q) → OnErr r P → IfErr r (λ e. e ≡ file.Io → Q)
+begun_if (Ok x) f h = tt
+begun_if (Err e) f h = λ _. f h
+
+-- ---- a meta part is short
+
+short_if : (b : Bool) (x y : List ℕ) → length x ≤ 9 → length y ≤ 9 → length (cond b x y) ≤ 9
+short_if true x y p q = p
+short_if false x y p q = q
+
+number_short : (n : ℕ) → length (number n) ≤ 9
+unfolding number
+number_short n =
+    let eight : List ℕ = 253 ∷ little_bytes 8 n in
+    let four : List ℕ = 252 ∷ little_bytes 4 n in
+    let two : List ℕ = 251 ∷ little_bytes 2 n in
+    short_if (nat_lt n 251) (n ∷ []) (cond (nat_lt n (2 ^ 16)) two (cond (nat_lt n (2 ^ 32)) four eight)) (omega arith)
+    (short_if (nat_lt n (2 ^ 16)) two (cond (nat_lt n (2 ^ 32)) four eight) (omega arith) (short_if (nat_lt n (2 ^ 32)) four eight (omega arith) (omega arith)))
+
+sum_short : (a b c d e : List ℕ) → length a ≤ 9 → length b ≤ 9 → length c ≤ 9 → length d ≤ 9 → length e ≤ 9 → length (a ++ (b ++ (c ++ (d ++ e)))) < 2 ^ 32
+sum_short a b c d e f g h i j = omega (arith, length-append a (b ++ (c ++ (d ++ e))), length-append b (c ++ (d ++ e)), length-append c (d ++ e), length-append d e)
+
+pub meta_short : (m : FrameMeta) → length (meta_layout m) < 2 ^ 32
+meta_short m =
+    sum_short (number m.frame_index) (signed m.range_ns.0) (signed m.range_ns.1) (number m.num_bytes) (number m.num_scopes)
+    (number_short m.frame_index) (number_short (zigzag m.range_ns.0)) (number_short (zigzag m.range_ns.1)) (number_short m.num_bytes) (number_short m.num_scopes)
+
+-- ---- a range that a frame may have
+
+pub range_holds : (start stop : ℤ) → start ≤ℤ stop → FitsSigned w64 (stop -ℤ start) → is_range_at start stop ≡ true
+range_holds start stop ordered fits = and-both (int_le start stop) (int_lt (stop -ℤ start) (pos (2 ^ 63))) (grind (arith, ints)) (grind (arith, ints))
+
+-- ---- a collection's details
+
+ids_sorted : {A : Type 0} (es : List (ℕ × Arc ScopeDetails A)) → IsStrictlySortedBy nat_cmp (keys_of es) → is_sorted nat_cmp (ids_seen es) ≡ true
+ids_sorted [] sorted = refl
+ids_sorted (e ∷ es) sorted = and-both (below_all nat_cmp e.0 (ids_seen es)) (is_sorted nat_cmp (ids_seen es)) (ids_below e.0 es (sorted_head nat_cmp e.0 _ sorted)) (ids_sorted es (sorted_tail nat_cmp e.0 _ sorted))
+  where
+    ids_below : {A : Type 0} (x : ℕ) (es : List (ℕ × Arc ScopeDetails A)) → AllByRecursion (λ y. nat_cmp x y ≡ Less) (keys_of es) → below_all nat_cmp x (ids_seen es) ≡ true
+    ids_below x [] h = refl
+    ids_below x (e ∷ es) h = and-both (is_lt (nat_cmp x e.0)) (below_all nat_cmp x (ids_seen es)) (ap is_lt h.0) (ids_below x es h.1)
+
+values_seen : {A : Type 0} (es : List (ℕ × Arc ScopeDetails A)) → map (λ e. e.1) (ids_seen es) ≡ shared_details (values_of es)
+values_seen [] = refl
+values_seen (e ∷ es) = ap (λ (l : List Details). details_of (arc_value e.1) ∷ l) (values_seen es)
+
+-- the details of a collection are those of its map, by rising id
+pub values-by_ids : {A : Type 0} (es : List (ℕ × Arc ScopeDetails A)) → IsStrictlySortedBy nat_cmp (keys_of es) → values (by_ids es) ≡ shared_details (values_of es)
+values-by_ids es sorted = ap (map (λ e. e.1)) (entries-sorted_list nat_cmp_total (no_entries nat_cmp) (ids_seen es) (ids_sorted es sorted)) ∙ values_seen es

@@ -1,0 +1,9 @@
+use Rattle.std.proofs.Common.{◌≡◌, ◌-◌}
+use Rattle.puffin_data.specs.Front.{times_at}
+use Rattle.puffin_data.proofs.Loops.{with_front}
+use Rattle.puffin_frames.specs.Values.{detail_at}
+use Rattle.puffin_frames.specs.Details.{shared_details}
+use Rattle.puffin_frames.proofs.frame_data.decode.read_details_times.Given as goal
+
+abbrev pub invariant-details : goal.invariant-details
+invariant-details l = with_front (shared_details l.all.items) (times_at detail_at (l.count - l.counter) l.cursor) ≡ times_at detail_at l.count l.initial.cursor

@@ -1,0 +1,14 @@
+use Rattle.std.proofs.Common.{◌≡◌, ◌-◌, true}
+use Rattle.std.specs.FinMap.{is_sorted}
+use Rattle.puffin_data.specs.Front.{times_at}
+use Rattle.puffin_data.proofs.Loops.{with_front}
+use Rattle.puffin_frames.specs.Values.{stream_at}
+use Rattle.puffin_frames.specs.Info.{info_cmp}
+use Rattle.puffin_frames.specs.Contents.{listed}
+use Rattle.puffin_frames.proofs.frame_data.decode.read_streams_times.Given as goal
+
+abbrev pub invariant-streams : goal.invariant-streams
+invariant-streams l = record {
+  so_far : with_front (listed l.streams.entries) (times_at stream_at (l.count - l.counter) l.cursor) ≡ times_at stream_at l.count l.initial.cursor;
+  sorted : is_sorted info_cmp (listed l.streams.entries) ≡ true;
+}

@@ -1,0 +1,8 @@
+use Rattle.std.proofs.Common.{drop}
+use Rattle.puffin_frames.specs.Values.{detail_layout, IsDetail}
+use Rattle.puffin_frames.specs.Details.{shared_details}
+use Rattle.puffin_frames.proofs.Appending.{Writes}
+use Rattle.puffin_frames.proofs.frame_data.encode.put_details.Given as goal
+
+abbrev pub invariant-details : goal.invariant-details
+invariant-details l = Writes detail_layout IsDetail l.initial.out.items l.out.items (shared_details (drop l.one-index l.details)) (shared_details l.details)

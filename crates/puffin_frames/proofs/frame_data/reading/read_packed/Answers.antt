@@ -1,0 +1,57 @@
+use Rattle.std.proofs.Common.{ℕ, List, Result, Ok}
+use Rattle.std.proofs.lemmas.Result.{err_from_is_err_and}
+use Rattle.puffin_data.specs.declared.file_error.FileError.{FileError}
+use Rattle.puffin_frames.specs.Details.{Details}
+use Rattle.puffin_frames.specs.declared.frame_data.meta.FrameMeta.{FrameMeta}
+use Rattle.puffin_frames.specs.Stored.{Said}
+use Rattle.puffin_frames.specs.Details.{shared_details}
+use Rattle.puffin_data.specs.Parts.{◌>>=◌}
+use Rattle.puffin_frames.specs.Steps.{meta_part_at, streams_part_at, details_part_at}
+use Rattle.puffin_data.proofs.Devices.{fails_on, gives_on, stops, given}
+use Rattle.puffin_frames.proofs.frame_data.reading.read_packed.Goals as goal
+
+made : FrameMeta → ℕ × List ℕ → List Details → Said
+made m s ds = record { meta = m; kind = s.0; streams = s.1; details = ds }
+
+-- what follows the meta, and what follows the streams
+after_meta : ℕ → FrameMeta → List ℕ → Result (Said × List ℕ) FileError
+unfolding made
+after_meta letter m bytes = streams_part_at letter bytes >>= λ s. details_part_at letter s.1 >>= λ d. Ok (made m s.0 d.0, d.1)
+
+after_streams : ℕ → FrameMeta → ℕ × List ℕ → List ℕ → Result (Said × List ℕ) FileError
+after_streams letter m s bytes = details_part_at letter bytes >>= λ d. Ok (made m s d.0, d.1)
+
+pub returns-in_err-kind-clause-part : goal.returns-in_err-kind-clause-part
+unfolding made after_meta after_streams
+returns-in_err-kind-clause-part g c =
+    let p = err_from_is_err_and c.from_residual-in_err-kind.result c.from_residual-in_err-kind.ensures.1 in
+    let e = c.in_err-kind.field-0.0 in
+    let letter = c.args.letter in
+    let m = c.in_ok-meta.meta in
+    rw (p.1, p.2) (fails_on e m _ _ _ meta_part_at (after_meta letter) c.in_ok-meta.ensures.part
+    (stops e _ _ (streams_part_at letter) (after_streams letter m) c.in_err-kind.ensures.part))
+
+pub returns-in_err-scope_delta-clause-part : goal.returns-in_err-scope_delta-clause-part
+unfolding made after_meta after_streams
+returns-in_err-scope_delta-clause-part g c =
+    let p = err_from_is_err_and c.from_residual-in_err-scope_delta.result c.from_residual-in_err-scope_delta.ensures.1 in
+    let e = c.in_err-scope_delta.field-0.0 in
+    let letter = c.args.letter in
+    let m = c.in_ok-meta.meta in
+    let s : (ℕ × List ℕ) = (c.in_ok-kind.kind, c.in_ok-kind.bytes.items) in
+    rw (p.1, p.2) (fails_on e m _ _ _ meta_part_at (after_meta letter) c.in_ok-meta.ensures.part
+    (fails_on e s _ _ _ (streams_part_at letter) (after_streams letter m) c.in_ok-kind.ensures.part
+    (stops e _ _ (details_part_at letter) (λ d bytes. Ok (made m s d, bytes)) c.in_err-scope_delta.ensures.part)))
+
+pub returns-clause-part : goal.returns-clause-part
+unfolding made after_meta after_streams
+returns-clause-part g c =
+    let letter = c.args.letter in
+    let m = c.in_ok-meta.meta in
+    let s : (ℕ × List ℕ) = (c.in_ok-kind.kind, c.in_ok-kind.bytes.items) in
+    let d = shared_details c.in_ok-scope_delta.scope_delta.items in
+    let out : Said = made m s d in
+    gives_on m out _ _ _ meta_part_at (after_meta letter) c.in_ok-meta.ensures.part
+    (gives_on s out _ _ _ (streams_part_at letter) (after_streams letter m) c.in_ok-kind.ensures.part
+    (gives_on d out _ _ _ (details_part_at letter) (λ x bytes. Ok (made m s x, bytes)) c.in_ok-scope_delta.ensures.part
+    (given out _)))

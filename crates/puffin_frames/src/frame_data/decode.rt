@@ -1,0 +1,292 @@
+//! The parts of a packet, read from bytes.
+
+ghost use Rattle.std.specs.Prelude.{◌≡◌, ◌-◌, ℕ, ◌∷◌, ◌++◌, [], List, Option, string_bytes, true, false, IfOk};
+ghost use Rattle.std.specs.Option.{option_map};
+ghost use Rattle.std.specs.Cow.{cow_str_bytes};
+ghost use Rattle.std.specs.FinMap.{is_sorted};
+ghost use Rattle.puffin_data.specs.Honesty.{Recorded, recorded};
+ghost use Rattle.puffin_data.specs.Front.{IfSomeGives, SeenAs, whole, optional_at, signed_at, text_at, times_at};
+ghost use Rattle.puffin_frames.specs.declared.frame_data.decode.Stop.TheVariants.{Memory};
+ghost use Rattle.puffin_frames.specs.Info.{Info, info_of, info_cmp};
+ghost use Rattle.puffin_frames.specs.Details.{details_of, shared_details};
+ghost use Rattle.puffin_frames.specs.Contents.{listed};
+ghost use Rattle.puffin_frames.specs.Values.{meta_at, thread_at, recorded_at, stream_at, rising, streams_at, id_at, detail_at, details_at, legacy_at, Legacy};
+ghost use Rattle.puffin_frames.specs.Tries.{TriesToGive, Tries};
+
+use crate::frame_data::meta::FrameMeta;
+use crate::frame_data::shared::ThreadStreams;
+use crate::scope_details::ScopeDetails;
+use crate::thread_profiler::ThreadInfo;
+use puffin_data::NanoSecond;
+use puffin_data::data::{ScopeId, Stream, StreamInfo};
+use puffin_data::wire::Cursor;
+use std::alloc::{AllocError, AllocFailed, Global};
+use std::borrow::CowStr;
+use std::collections::BTreeMap;
+use std::sync::Arc;
+
+/// Why a part isn't read.
+#[derive(Clone, Copy, Debug)]
+pub(crate) enum Stop {
+    /// A growth was refused.
+    Memory,
+    /// The bytes aren't a layout of the value.
+    NoLayout,
+}
+
+impl From<AllocError> for Stop {
+    ghost from_gives = { λ _ e. e ≡ Memory };
+
+    fn from(_e: AllocError) -> Stop {
+        Stop::Memory
+    }
+}
+
+impl<T: Drop> From<AllocFailed<T>> for Stop {
+    ghost from_gives = { λ _ e. e ≡ Memory };
+
+    fn from(_e: AllocFailed<T>) -> Stop {
+        Stop::Memory
+    }
+}
+
+#[tactic(auto, unfolding(crate::specs::Values::meta_at))]
+fn read_meta(cursor: &mut Cursor) -> Option<FrameMeta>
+    ensures { IfSomeGives (λ m. m) result cursor.new (meta_at cursor.old) }
+{
+    let frame_index = cursor.u64()?;
+    let start = cursor.i64()?;
+    let stop = cursor.i64()?;
+    let num_bytes = cursor.u64()? as usize;
+    let num_scopes = cursor.u64()? as usize;
+    Some(FrameMeta {
+        frame_index,
+        range_ns: (start, stop),
+        num_bytes,
+        num_scopes,
+    })
+}
+
+/// The meta whose layout the bytes are, all of them.
+pub(crate) fn meta_in(bytes: &[u8]) -> Option<FrameMeta>
+    ensures { SeenAs (λ m. m) result (whole meta_at bytes.now) }
+{
+    let mut cursor = Cursor::new(bytes);
+    let meta = read_meta(&mut cursor)?;
+    if cursor.rest() == 0 { Some(meta) } else { None }
+}
+
+fn read_string(alloc: Global, cursor: &mut Cursor) -> Result<String, Stop>
+    ensures { TriesToGive (λ t. string_bytes t) result cursor.new (text_at cursor.old) }
+{
+    let text = cursor.text().ok_or(Stop::NoLayout)?;
+    Ok(String::from_str(alloc, text)?)
+}
+
+fn read_start(cursor: &mut Cursor) -> Result<Option<NanoSecond>, Stop>
+    ensures { TriesToGive (λ o. o) result cursor.new (optional_at signed_at cursor.old) }
+{
+    let given = cursor.flag().ok_or(Stop::NoLayout)?;
+    if !given {
+        return Ok(None);
+    }
+    let start = cursor.i64().ok_or(Stop::NoLayout)?;
+    Ok(Some(start))
+}
+
+#[tactic(auto, unfolding(crate::specs::Values::thread_at))]
+fn read_thread(alloc: Global, cursor: &mut Cursor) -> Result<ThreadInfo, Stop>
+    ensures { TriesToGive info_of result cursor.new (thread_at cursor.old) }
+{
+    let start_time_ns = read_start(cursor)?;
+    let name = read_string(alloc, cursor)?;
+    Ok(ThreadInfo {
+        start_time_ns,
+        name,
+    })
+}
+
+/// What is recorded of a thread, its stream copied as one block.
+#[tactic(auto, unfolding(crate::specs::Values::recorded_at))]
+fn read_recorded(alloc: Global, cursor: &mut Cursor) -> Result<StreamInfo, Stop>
+    ensures { TriesToGive recorded result cursor.new (recorded_at cursor.old) }
+{
+    let bytes = cursor.bytes().ok_or(Stop::NoLayout)?;
+    let num_scopes = cursor.u64().ok_or(Stop::NoLayout)? as usize;
+    let depth = cursor.u64().ok_or(Stop::NoLayout)? as usize;
+    let start = cursor.i64().ok_or(Stop::NoLayout)?;
+    let stop = cursor.i64().ok_or(Stop::NoLayout)?;
+    Ok(StreamInfo {
+        stream: Stream::from(Vec::from_slice(alloc, bytes)?),
+        num_scopes,
+        depth,
+        range_ns: (start, stop),
+    })
+}
+
+/// Whether a thread comes after all those of a map.
+fn comes_last(streams: &ThreadStreams, thread: &ThreadInfo) -> bool
+    ensures yes { (r : Recorded) → is_sorted info_cmp (listed streams.now.entries) ≡ true → result ≡ true → is_sorted info_cmp (listed streams.now.entries ++ (info_of thread.now, r) ∷ []) ≡ true }
+    ensures no { (r : Recorded) (rest : List (Info × Recorded)) → result ≡ false → is_sorted info_cmp (listed streams.now.entries ++ (info_of thread.now, r) ∷ rest) ≡ false }
+{
+    match streams.last_key_value() {
+        None => true,
+        Some((last, _)) => last.cmp(thread).is_lt(),
+    }
+}
+
+fn read_stream(alloc: Global, cursor: &mut Cursor) -> Result<(ThreadInfo, StreamInfo), Stop>
+    ensures { TriesToGive (λ p. (info_of p.0, recorded p.1)) result cursor.new (stream_at cursor.old) }
+{
+    let thread = read_thread(alloc, cursor)?;
+    let info = read_recorded(alloc, cursor)?;
+    Ok((thread, info))
+}
+
+fn read_streams_times(alloc: Global, cursor: &mut Cursor, count: u64) -> Result<ThreadStreams, Stop>
+    ensures given { TriesToGive (λ m. listed m.entries) result cursor.new (rising (times_at stream_at count cursor.old)) }
+    ensures sorted { IfOk result (λ m. is_sorted info_cmp (listed m.entries) ≡ true) }
+{
+    let mut streams = BTreeMap::new(alloc);
+    'streams: for _ in 0..count {
+        let (thread, info) = read_stream(alloc, cursor)?;
+        if !comes_last(&streams, &thread) {
+            return Err(Stop::NoLayout);
+        }
+        let _before = streams.insert(thread, Arc::new(alloc, info)?)?;
+    }
+    Ok(streams)
+}
+
+#[tactic(auto, unfolding(crate::specs::Values::streams_at))]
+fn read_streams(alloc: Global, cursor: &mut Cursor) -> Result<ThreadStreams, Stop>
+    ensures given { TriesToGive (λ m. listed m.entries) result cursor.new (streams_at cursor.old) }
+    ensures sorted { IfOk result (λ m. is_sorted info_cmp (listed m.entries) ≡ true) }
+{
+    let count = cursor.u64().ok_or(Stop::NoLayout)?;
+    read_streams_times(alloc, cursor, count)
+}
+
+/// The streams whose layout the bytes are, all of them.
+pub(crate) fn streams_in(alloc: Global, bytes: &[u8]) -> Result<ThreadStreams, Stop>
+    ensures { Tries (λ m. listed m.entries) result (whole streams_at bytes.now) }
+{
+    let mut cursor = Cursor::new(bytes);
+    let streams = read_streams(alloc, &mut cursor)?;
+    if cursor.rest() == 0 {
+        Ok(streams)
+    } else {
+        Err(Stop::NoLayout)
+    }
+}
+
+fn read_id(cursor: &mut Cursor) -> Result<Option<ScopeId>, Stop>
+    ensures { TriesToGive (λ o. o) result cursor.new (optional_at id_at cursor.old) }
+{
+    let given = cursor.flag().ok_or(Stop::NoLayout)?;
+    if !given {
+        return Ok(None);
+    }
+    let number = cursor.u32().ok_or(Stop::NoLayout)?;
+    let id = ScopeId::new(number).ok_or(Stop::NoLayout)?;
+    Ok(Some(id))
+}
+
+fn read_name(alloc: Global, cursor: &mut Cursor) -> Result<Option<CowStr<'static>>, Stop>
+    ensures { TriesToGive (λ o. option_map cow_str_bytes o) result cursor.new (optional_at text_at cursor.old) }
+{
+    let given = cursor.flag().ok_or(Stop::NoLayout)?;
+    if !given {
+        return Ok(None);
+    }
+    let name = read_string(alloc, cursor)?;
+    Ok(Some(CowStr::Owned(name)))
+}
+
+#[tactic(auto, unfolding(crate::specs::Values::detail_at))]
+fn read_detail(alloc: Global, cursor: &mut Cursor) -> Result<ScopeDetails, Stop>
+    ensures { TriesToGive details_of result cursor.new (detail_at cursor.old) }
+{
+    let scope_id = read_id(cursor)?;
+    let scope_name = read_name(alloc, cursor)?;
+    let function_name = read_string(alloc, cursor)?;
+    let file_path = read_string(alloc, cursor)?;
+    let line_nr = cursor.u32().ok_or(Stop::NoLayout)?;
+    Ok(ScopeDetails {
+        scope_id,
+        scope_name,
+        function_name: CowStr::Owned(function_name),
+        file_path: CowStr::Owned(file_path),
+        line_nr,
+    })
+}
+
+fn read_details_times(
+    alloc: Global,
+    cursor: &mut Cursor,
+    count: u64,
+) -> Result<Vec<Arc<ScopeDetails>>, Stop>
+    ensures { TriesToGive (λ v. shared_details v.items) result cursor.new (times_at detail_at count cursor.old) }
+{
+    let mut all = Vec::new(alloc);
+    'details: for _ in 0..count {
+        let details = read_detail(alloc, cursor)?;
+        all.push(Arc::new(alloc, details)?)?;
+    }
+    Ok(all)
+}
+
+#[tactic(auto, unfolding(crate::specs::Values::details_at))]
+fn read_details(alloc: Global, cursor: &mut Cursor) -> Result<Vec<Arc<ScopeDetails>>, Stop>
+    ensures { TriesToGive (λ v. shared_details v.items) result cursor.new (details_at cursor.old) }
+{
+    let count = cursor.u64().ok_or(Stop::NoLayout)?;
+    read_details_times(alloc, cursor, count)
+}
+
+/// The details whose layout the bytes are, all of them.
+pub(crate) fn details_in(alloc: Global, bytes: &[u8]) -> Result<Vec<Arc<ScopeDetails>>, Stop>
+    ensures { Tries (λ v. shared_details v.items) result (whole details_at bytes.now) }
+{
+    let mut cursor = Cursor::new(bytes);
+    let all = read_details(alloc, &mut cursor)?;
+    if cursor.rest() == 0 {
+        Ok(all)
+    } else {
+        Err(Stop::NoLayout)
+    }
+}
+
+#[tactic(auto, unfolding(crate::specs::Values::legacy_at))]
+fn read_legacy(alloc: Global, cursor: &mut Cursor) -> Result<(FrameMeta, ThreadStreams), Stop>
+    ensures given { TriesToGive (λ p. record { meta = p.0; streams = listed p.1.entries }) result cursor.new (legacy_at cursor.old) }
+    ensures sorted { IfOk result (λ p. is_sorted info_cmp (listed p.1.entries) ≡ true) }
+{
+    let frame_index = cursor.u64().ok_or(Stop::NoLayout)?;
+    let streams = read_streams(alloc, cursor)?;
+    let start = cursor.i64().ok_or(Stop::NoLayout)?;
+    let stop = cursor.i64().ok_or(Stop::NoLayout)?;
+    let num_bytes = cursor.u64().ok_or(Stop::NoLayout)? as usize;
+    let num_scopes = cursor.u64().ok_or(Stop::NoLayout)? as usize;
+    let meta = FrameMeta {
+        frame_index,
+        range_ns: (start, stop),
+        num_bytes,
+        num_scopes,
+    };
+    Ok((meta, streams))
+}
+
+/// The meta and the streams of a frame as it was written at first, whose layout the bytes are, all of them.
+pub(crate) fn legacy_in(alloc: Global, bytes: &[u8]) -> Result<(FrameMeta, ThreadStreams), Stop>
+    ensures given { Tries (λ p. record { meta = p.0; streams = listed p.1.entries }) result (whole legacy_at bytes.now) }
+    ensures sorted { IfOk result (λ p. is_sorted info_cmp (listed p.1.entries) ≡ true) }
+{
+    let mut cursor = Cursor::new(bytes);
+    let frame = read_legacy(alloc, &mut cursor)?;
+    if cursor.rest() == 0 {
+        Ok(frame)
+    } else {
+        Err(Stop::NoLayout)
+    }
+}

@@ -1,0 +1,184 @@
+//! The parts of a packet, written behind one another.
+
+ghost use Rattle.std.specs.Prelude.{◌≡◌, ◌++◌, ◌^◌, ◌<◌, List, OnOk, OnErr, IfOk, IfErr, map, length};
+ghost use Rattle.std.specs.Map.{keys_of, values_of};
+ghost use Rattle.std.specs.Ordering.{nat_cmp};
+ghost use Rattle.std.specs.List.Sorted.{IsStrictlySortedBy};
+ghost use Rattle.std.specs.Arc.{arc_value};
+ghost use Rattle.std.specs.Option.{option_map};
+ghost use Rattle.std.specs.Cow.{cow_str_bytes};
+ghost use Rattle.puffin_data.specs.declared.error.Error.{Error};
+ghost use Rattle.puffin_data.specs.Honesty.{recorded};
+ghost use Rattle.puffin_data.specs.Layout.{optional, number, block, signed, IsBlock, IsText, IfAny};
+ghost use Rattle.puffin_frames.specs.Info.{info_of, thread_cmp};
+ghost use Rattle.puffin_frames.specs.Details.{details_of, shared_details};
+ghost use Rattle.puffin_frames.specs.Contents.{listed};
+ghost use Rattle.puffin_frames.specs.Values.{meta_layout, IsMeta, thread_layout, IsThread, recorded_layout, IsRecorded, streams_layout, AreStreams, detail_layout, IsDetail, details_layout, AreDetails, IsId};
+
+use crate::frame_data::meta::FrameMeta;
+use crate::frame_data::shared::ThreadStreams;
+use crate::scope_details::ScopeDetails;
+use crate::thread_profiler::ThreadInfo;
+use puffin_data::Result;
+use puffin_data::data::{ScopeId, StreamInfo};
+use puffin_data::wire::{put_bytes, put_i64, put_text, put_u8, put_u32, put_u64};
+use std::borrow::CowStr;
+use std::collections::BTreeMap;
+use std::sync::Arc;
+
+/// Appends a frame's meta.
+pub(crate) fn put_meta(out: &mut Vec<u8>, meta: &FrameMeta) -> Result<()>
+    ensures ok { OnOk result (out.new.items ≡ out.old.items ++ meta_layout meta.now) }
+    ensures fits { IsMeta meta.now }
+    ensures memory { IfErr result (λ e. e ≡ Error.Memory) }
+{
+    let meta = *meta;
+    let (start, stop) = meta.range_ns;
+    put_u64(out, meta.frame_index)?;
+    put_i64(out, start)?;
+    put_i64(out, stop)?;
+    put_u64(out, meta.num_bytes as u64)?;
+    put_u64(out, meta.num_scopes as u64)
+}
+
+/// A text as it is, which is UTF-8 and shorter than `2^64` bytes.
+fn text_of(text: &str) -> &str
+    ensures same { result.now ≡ text.now }
+    ensures text { IsText text.now }
+{
+    text
+}
+
+/// Bytes as they are, which are fewer than `2^64`.
+fn block_of(bytes: &[u8]) -> &[u8]
+    ensures same { result.now ≡ bytes.now }
+    ensures block { IsBlock bytes.now }
+{
+    bytes
+}
+
+/// Appends a thread's info.
+fn put_thread(out: &mut Vec<u8>, thread: &ThreadInfo) -> Result<()>
+    ensures ok { OnOk result (out.new.items ≡ out.old.items ++ thread_layout (info_of thread.now)) }
+    ensures fits { IsThread (info_of thread.now) }
+    ensures memory { IfErr result (λ e. e ≡ Error.Memory) }
+{
+    let name = text_of(&thread.name);
+    match thread.start_time_ns {
+        None => put_u8(out, 0)?,
+        Some(start) => {
+            put_u8(out, 1)?;
+            put_i64(out, start)?;
+        }
+    }
+    put_text(out, name)
+}
+
+/// Appends what is recorded of a thread, its stream as one block.
+fn put_recorded(out: &mut Vec<u8>, info: &StreamInfo) -> Result<()>
+    ensures ok { OnOk result (out.new.items ≡ out.old.items ++ recorded_layout (recorded info.now)) }
+    ensures fits { IsRecorded (recorded info.now) }
+    ensures memory { IfErr result (λ e. e ≡ Error.Memory) }
+{
+    let stream = block_of(info.stream.bytes());
+    let num_scopes = info.num_scopes as u64;
+    let depth = info.depth as u64;
+    let (start, stop) = info.range_ns;
+    put_bytes(out, stream)?;
+    put_u64(out, num_scopes)?;
+    put_u64(out, depth)?;
+    put_i64(out, start)?;
+    put_i64(out, stop)
+}
+
+/// Appends streams by their threads.
+pub(crate) fn put_streams(out: &mut Vec<u8>, streams: &ThreadStreams) -> Result<()>
+    ensures ok { OnOk result (out.new.items ≡ out.old.items ++ streams_layout (listed streams.now.entries)) }
+    ensures fit { OnOk result (AreStreams (listed streams.now.entries)) }
+    ensures sorted { IsStrictlySortedBy thread_cmp (keys_of streams.now.entries) }
+    ensures memory { IfErr result (λ e. e ≡ Error.Memory) }
+{
+    put_u64(out, streams.len() as u64)?;
+    'streams: for (thread, info) in streams {
+        put_thread(out, thread)?;
+        put_recorded(out, info)?;
+    }
+    Ok(())
+}
+
+/// Appends a text that may be missing.
+fn put_name(out: &mut Vec<u8>, name: &Option<CowStr<'static>>) -> Result<()>
+    ensures ok { OnOk result (out.new.items ≡ out.old.items ++ optional block (option_map cow_str_bytes name.now)) }
+    ensures fits { IfAny IsText (option_map cow_str_bytes name.now) }
+    ensures memory { IfErr result (λ e. e ≡ Error.Memory) }
+{
+    match name {
+        None => put_u8(out, 0),
+        Some(name) => {
+            let name = text_of(name.as_str());
+            put_u8(out, 1)?;
+            put_text(out, name)
+        }
+    }
+}
+
+/// Appends an id that may be missing.
+fn put_id(out: &mut Vec<u8>, id: Option<ScopeId>) -> Result<()>
+    ensures ok { OnOk result (out.new.items ≡ out.old.items ++ optional number id) }
+    ensures fits { IfAny IsId id }
+    ensures memory { IfErr result (λ e. e ≡ Error.Memory) }
+{
+    match id {
+        None => put_u8(out, 0),
+        Some(id) => {
+            let number = id.get();
+            put_u8(out, 1)?;
+            put_u32(out, number)
+        }
+    }
+}
+
+/// Appends the details of one scope.
+fn put_detail(out: &mut Vec<u8>, details: &ScopeDetails) -> Result<()>
+    ensures ok { OnOk result (out.new.items ≡ out.old.items ++ detail_layout (details_of details.now)) }
+    ensures fits { OnOk result (IsDetail (details_of details.now)) }
+    ensures memory { IfErr result (λ e. e ≡ Error.Memory) }
+{
+    let function_name = text_of(details.function_name.as_str());
+    let file_path = text_of(details.file_path.as_str());
+    put_id(out, details.scope_id())?;
+    put_name(out, &details.scope_name)?;
+    put_text(out, function_name)?;
+    put_text(out, file_path)?;
+    put_u32(out, details.line_nr)
+}
+
+/// Appends a list of details.
+pub(crate) fn put_details(out: &mut Vec<u8>, details: &[Arc<ScopeDetails>]) -> Result<()>
+    ensures ok { OnOk result (out.new.items ≡ out.old.items ++ details_layout (shared_details details.now)) }
+    ensures fit { OnOk result (AreDetails (shared_details details.now)) }
+    ensures memory { IfErr result (λ e. e ≡ Error.Memory) }
+{
+    put_u64(out, details.len() as u64)?;
+    'details: for one in details {
+        put_detail(out, one)?;
+    }
+    Ok(())
+}
+
+/// Appends the details of a map, by rising id.
+pub(crate) fn put_details_by_id(
+    out: &mut Vec<u8>,
+    details: &BTreeMap<ScopeId, Arc<ScopeDetails>>,
+) -> Result<()>
+    ensures ok { OnOk result (out.new.items ≡ out.old.items ++ details_layout (shared_details (values_of details.now.entries))) }
+    ensures fit { OnOk result (AreDetails (shared_details (values_of details.now.entries))) }
+    ensures sorted { IsStrictlySortedBy nat_cmp (keys_of details.now.entries) }
+    ensures memory { IfErr result (λ e. e ≡ Error.Memory) }
+{
+    put_u64(out, details.len() as u64)?;
+    'details: for one in details.values() {
+        put_detail(out, one)?;
+    }
+    Ok(())
+}

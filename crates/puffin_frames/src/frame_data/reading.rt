@@ -1,0 +1,295 @@
+//! Frames, read from any reader.
+
+ghost use Rattle.std.specs.Prelude.{◌≡◌, ◌-◌, ◌+◌, ◌^◌, ◌<◌, ◌≤◌, ◌-ℤ◌, ◌≤ℤ◌, FitsSigned, Some, None, true, is_some, IfOk, IfErr, IfSome};
+ghost use Rattle.std.specs.Int.{w64};
+ghost use Rattle.puffin_data.specs.declared.file_error.FileError.{FileError};
+ghost use Rattle.puffin_data.specs.Devices.{FromDevice, failures_after};
+ghost use Rattle.puffin_data.specs.Front.{whole};
+ghost use Rattle.puffin_frames.specs.Values.{details_at};
+ghost use Rattle.puffin_frames.specs.Details.{shared_details};
+ghost use Rattle.puffin_frames.specs.Contents.{holding_of, frame_says};
+ghost use Rattle.puffin_frames.specs.Tries.{Decided, DecidedInMemory};
+ghost use Rattle.puffin_frames.specs.Forms.{IsFormOf};
+ghost use Rattle.puffin_frames.specs.Steps.{is_range_at, meta_from, meta_part_at, kind_from, kind_at, details_from, details_part_at, streams_part_at, packed_at, form_at, legacy_from, legacy_part_at, is_packet, stored_after};
+ghost use Rattle.puffin_frames.specs.Reads.{HeaderFrom, legacy_of, stored_of, IsFresh, ReadsNext};
+
+use crate::frame_data::decode::{Stop, details_in, legacy_in, meta_in};
+use crate::frame_data::frame::FrameData;
+use crate::frame_data::held::{Held, PackedFrame, PackedStreams};
+use crate::frame_data::meta::FrameMeta;
+use crate::frame_data::unpacked::UnpackedFrameData;
+use crate::scope_details::ScopeDetails;
+use byteorder::{ByteOrder, LittleEndian};
+use puffin_data::data::{Source, read_byte, read_counted_part, read_length, read_part, read_up_to};
+use puffin_data::{FileError, NanoSecond};
+use std::alloc::Global;
+use std::sync::Arc;
+
+/// Whether a range isn't reversed and its duration fits.
+fn is_range(range: (NanoSecond, NanoSecond)) -> bool
+    ensures test { result ≡ is_range_at range.0 range.1 }
+    ensures ordered { result ≡ true → range.0 ≤ℤ range.1 }
+    ensures duration_fits { result ≡ true → FitsSigned w64 (range.1 -ℤ range.0) }
+{
+    range.0 <= range.1 && (range.0 >= 0 || range.1 <= i64::MAX + range.0)
+}
+
+fn parsed_meta(bytes: &[u8]) -> Result<FrameMeta, FileError>
+    ensures decided { Decided (λ m. m) result (meta_from bytes.now) }
+    ensures ordered { IfOk result (λ m. m.range_ns.0 ≤ℤ m.range_ns.1) }
+    ensures duration_fits { IfOk result (λ m. FitsSigned w64 (m.range_ns.1 -ℤ m.range_ns.0)) }
+{
+    match meta_in(bytes) {
+        None => Err(FileError::BadMeta),
+        Some(meta) => {
+            if is_range(meta.range_ns) {
+                Ok(meta)
+            } else {
+                Err(FileError::BadRange)
+            }
+        }
+    }
+}
+
+/// Reads a meta part.
+fn read_meta_part<S: Source>(alloc: Global, source: &mut S) -> Result<FrameMeta, FileError>
+    requires { S.failures source.old < 2 ^ 64 - 1 }
+    ensures part { FromDevice (λ m. m) (S.remaining source.old) (S.remaining source.new) result meta_part_at }
+    ensures ordered { IfOk result (λ m. m.range_ns.0 ≤ℤ m.range_ns.1) }
+    ensures duration_fits { IfOk result (λ m. FitsSigned w64 (m.range_ns.1 -ℤ m.range_ns.0)) }
+    ensures failures { S.failures source.new ≡ failures_after (S.failures source.old) result }
+{
+    let bytes = read_counted_part(alloc, source)?;
+    let meta = parsed_meta(&bytes)?;
+    Ok(meta)
+}
+
+fn kind_of(byte: u8) -> Result<u8, FileError>
+    ensures decided { Decided (λ k. k) result (kind_from byte) }
+    ensures known { IfOk result (λ k. k ≤ 2) }
+{
+    if byte > 2 {
+        Err(FileError::UnknownKind(byte))
+    } else {
+        Ok(byte)
+    }
+}
+
+/// Reads how the streams are packed.
+fn read_kind<S: Source>(source: &mut S, letter: u8) -> Result<u8, FileError>
+    requires { S.failures source.old < 2 ^ 64 - 1 }
+    ensures part { FromDevice (λ k. k) (S.remaining source.old) (S.remaining source.new) result (kind_at letter) }
+    ensures known { IfOk result (λ k. k ≤ 2) }
+    ensures failures { S.failures source.new ≡ failures_after (S.failures source.old) result }
+{
+    if letter == b'2' {
+        return Ok(2);
+    }
+    let byte = read_byte(source)?;
+    kind_of(byte)
+}
+
+/// Reads the length, the kind and the bytes of the packed streams.
+fn read_streams_part<S: Source>(
+    alloc: Global,
+    source: &mut S,
+    letter: u8,
+) -> Result<(u8, Vec<u8>), FileError>
+    requires { S.failures source.old < 2 ^ 64 - 1 }
+    ensures part { FromDevice (λ p. (p.0, p.1.items)) (S.remaining source.old) (S.remaining source.new) result (streams_part_at letter) }
+    ensures known { IfOk result (λ p. p.0 ≤ 2) }
+    ensures failures { S.failures source.new ≡ failures_after (S.failures source.old) result }
+{
+    let len = read_length(source)?;
+    let kind = read_kind(source, letter)?;
+    let streams = read_part(alloc, source, len)?;
+    Ok((kind, streams))
+}
+
+fn parsed_details(alloc: Global, bytes: &[u8]) -> Result<Vec<Arc<ScopeDetails>>, FileError>
+    ensures { DecidedInMemory (λ v. shared_details v.items) result (details_from (whole details_at bytes.now)) }
+{
+    match details_in(alloc, bytes) {
+        Ok(all) => Ok(all),
+        Err(Stop::Memory) => Err(FileError::Memory),
+        Err(Stop::NoLayout) => Err(FileError::BadScopes),
+    }
+}
+
+/// Reads the scope details, which only the fourth form has.
+fn read_details_part<S: Source>(
+    alloc: Global,
+    source: &mut S,
+    letter: u8,
+) -> Result<Vec<Arc<ScopeDetails>>, FileError>
+    requires { S.failures source.old < 2 ^ 64 - 1 }
+    ensures part { FromDevice (λ v. shared_details v.items) (S.remaining source.old) (S.remaining source.new) result (details_part_at letter) }
+    ensures failures { S.failures source.new ≡ failures_after (S.failures source.old) result }
+{
+    if letter != b'4' {
+        return Ok(Vec::new(alloc));
+    }
+    let part = read_counted_part(alloc, source)?;
+    parsed_details(alloc, &part)
+}
+
+/// Reads what follows the four letters of a packet, of which this is the last.
+fn read_packed<S: Source>(alloc: Global, source: &mut S, letter: u8) -> Result<FrameData, FileError>
+    requires { S.failures source.old < 2 ^ 64 - 1 }
+    ensures part { FromDevice frame_says (S.remaining source.old) (S.remaining source.new) result (packed_at letter) }
+    ensures packed { IfOk result (λ frame. is_some (holding_of frame).packed ≡ true) }
+    ensures fresh { IfOk result IsFresh }
+    ensures failures { S.failures source.new ≡ failures_after (S.failures source.old) result }
+{
+    let meta = read_meta_part(alloc, source)?;
+    let (kind, bytes) = read_streams_part(alloc, source, letter)?;
+    let scope_delta = read_details_part(alloc, source, letter)?;
+    Ok(FrameData {
+        scope_delta,
+        full_delta: false,
+        held: Held::Packed(PackedFrame {
+            meta,
+            streams: PackedStreams { kind, bytes },
+        }),
+    })
+}
+
+/// What a packet's fourth letter says of it.
+enum Form {
+    /// No longer read.
+    Old,
+    /// Read.
+    Read,
+    /// Not known.
+    New,
+}
+
+fn form_of(letter: u8) -> Form
+    ensures { IsFormOf letter result }
+{
+    match letter {
+        b'0' | b'1' => Form::Old,
+        b'2' | b'3' | b'4' => Form::Read,
+        _ => Form::New,
+    }
+}
+
+/// Reads what follows `PFD` and this letter.
+fn read_form<S: Source>(alloc: Global, source: &mut S, letter: u8) -> Result<FrameData, FileError>
+    requires { S.failures source.old < 2 ^ 64 - 1 }
+    ensures part { FromDevice frame_says (S.remaining source.old) (S.remaining source.new) result (form_at letter) }
+    ensures packed { IfOk result (λ frame. is_some (holding_of frame).packed ≡ true) }
+    ensures fresh { IfOk result IsFresh }
+    ensures failures { S.failures source.new ≡ failures_after (S.failures source.old) result }
+{
+    match form_of(letter) {
+        Form::Old => Err(FileError::Legacy),
+        Form::Read => read_packed(alloc, source, letter),
+        Form::New => Err(FileError::Newer),
+    }
+}
+
+fn parsed_legacy(alloc: Global, bytes: &[u8]) -> Result<FrameData, FileError>
+    ensures decided { DecidedInMemory legacy_of result (legacy_from bytes.now) }
+    ensures unpacked { IfOk result (λ frame. (holding_of frame).packed ≡ None) }
+    ensures fresh { IfOk result IsFresh }
+{
+    let (meta, thread_streams) = match legacy_in(alloc, bytes) {
+        Ok(frame) => frame,
+        Err(Stop::Memory) => return Err(FileError::Memory),
+        Err(Stop::NoLayout) => return Err(FileError::BadStreams),
+    };
+    if !is_range(meta.range_ns) {
+        return Err(FileError::BadRange);
+    }
+    let unpacked = UnpackedFrameData {
+        meta,
+        thread_streams,
+    };
+    Ok(FrameData::of_unpacked(unpacked, Vec::new(alloc), false))
+}
+
+/// Reads a frame as it was written at first, of so many bytes.
+fn read_legacy_part<S: Source>(
+    alloc: Global,
+    source: &mut S,
+    len: usize,
+) -> Result<FrameData, FileError>
+    requires { S.failures source.old < 2 ^ 64 - 1 }
+    ensures part { FromDevice legacy_of (S.remaining source.old) (S.remaining source.new) result (legacy_part_at len) }
+    ensures unpacked { IfOk result (λ frame. (holding_of frame).packed ≡ None) }
+    ensures fresh { IfOk result IsFresh }
+    ensures failures { S.failures source.new ≡ failures_after (S.failures source.old) result }
+{
+    let part = read_part(alloc, source, len)?;
+    parsed_legacy(alloc, &part)
+}
+
+/// Reads the four bytes before a packet, or none at the end.
+fn read_header<S: Source>(source: &mut S) -> Result<Option<[u8; 4]>, FileError>
+    requires { S.failures source.old < 2 ^ 64 - 1 }
+    ensures header { IfOk result (λ o. HeaderFrom (S.remaining source.old) (S.remaining source.new) o) }
+    ensures io { IfErr result (λ e. e ≡ FileError.Io) }
+    ensures failures { S.failures source.new ≡ failures_after (S.failures source.old) result }
+{
+    let mut header = [0; 4];
+    if read_up_to(source, &mut header)? < 4 {
+        return Ok(None);
+    }
+    if LittleEndian::read_u32(&header) == 0 {
+        return Ok(None);
+    }
+    Ok(Some(header))
+}
+
+/// Whether a header is that of a packet, and not the length of a frame of the first form.
+fn is_packet_header(header: [u8; 4]) -> bool
+    ensures { result ≡ is_packet header }
+{
+    header[0] == b'P' && header[1] == b'F' && header[2] == b'D'
+}
+
+/// Reads what follows a header.
+fn read_stored<S: Source>(
+    alloc: Global,
+    source: &mut S,
+    header: [u8; 4],
+) -> Result<FrameData, FileError>
+    requires { S.failures source.old < 2 ^ 64 - 1 }
+    ensures part { FromDevice (λ frame. Some (stored_of frame)) (S.remaining source.old) (S.remaining source.new) result (stored_after header) }
+    ensures fresh { IfOk result IsFresh }
+    ensures failures { S.failures source.new ≡ failures_after (S.failures source.old) result }
+{
+    if is_packet_header(header) {
+        read_form(alloc, source, header[3])
+    } else {
+        let len = LittleEndian::read_u32(&header) as usize;
+        read_legacy_part(alloc, source, len)
+    }
+}
+
+impl FrameData {
+    /// Reads the next frame, or `None` at the end: where fewer than four bytes are left, or four zeros stand.
+    ///
+    /// A frame of a packet is held packed only, and one of the first form unpacked only; its range isn't reversed, and its
+    /// duration fits. `full_delta` is false.
+    ///
+    /// Refused with the first that applies: `Io` where a read failed; `Legacy` and `Newer` where the packet's form isn't
+    /// read; `Truncated` where the bytes end within it; `BadMeta`, `BadRange`, `UnknownKind`, `BadScopes`, and `BadStreams`
+    /// of a frame of the first form, where a part isn't what it has to be; and `Memory`. The reader's place is then open.
+    pub fn read_next<S: Source>(
+        alloc: Global,
+        source: &mut S,
+    ) -> Result<Option<FrameData>, FileError>
+        requires { S.failures source.old < 2 ^ 64 - 1 }
+        ensures next { ReadsNext (S.remaining source.old) (S.remaining source.new) result }
+        ensures fresh { IfOk result (λ next. IfSome next IsFresh) }
+        ensures failures { S.failures source.new ≡ failures_after (S.failures source.old) result }
+    {
+        let Some(header) = read_header(source)? else {
+            return Ok(None);
+        };
+        let frame = read_stored(alloc, source, header)?;
+        Ok(Some(frame))
+    }
+}

@@ -1,0 +1,194 @@
+//! Frames, written to any writer.
+
+ghost use Rattle.std.specs.Prelude.{◌≡◌, ◌≢◌, ◌-◌, ◌+◌, ◌++◌, ◌^◌, ◌<◌, ◌≤◌, ◌⊎◌, List, ℕ, Some, None, IfOk, IfErr, OnOk, OnErr, option_map, length};
+ghost use Rattle.std.specs.Io.KnownBytes.{Appends};
+ghost use Rattle.puffin_data.specs.declared.file_error.FileError.{FileError};
+ghost use Rattle.puffin_data.specs.Devices.{TookNothing, WritesBeginning};
+ghost use Rattle.std.specs.FinMap.{values};
+ghost use Rattle.puffin_frames.specs.Details.{shared_details};
+ghost use Rattle.puffin_frames.specs.Values.{meta_layout, IsMeta, details_layout, AreDetails};
+ghost use Rattle.puffin_frames.specs.Contents.{frame_details, packed_as, contents};
+ghost use Rattle.puffin_frames.specs.Holding.{plainly_packed};
+ghost use Rattle.puffin_frames.specs.Steps.{counted, packet_head, packet_with, packet, IsPacked};
+ghost use Rattle.puffin_frames.specs.Writes.{details_or, says_with, HasLongPart};
+
+use crate::frame_data::encode::{put_details, put_details_by_id, put_meta};
+use crate::frame_data::frame::FrameData;
+use crate::frame_data::held::{Held, PackedStreams};
+use crate::frame_data::meta::FrameMeta;
+use crate::frame_data::unpacked::UnpackedFrameData;
+use crate::scope_details::{ScopeCollection, ScopeDetails};
+use puffin_data::FileError;
+use puffin_data::data::{Drain, write_all};
+use std::alloc::Global;
+use std::sync::Arc;
+
+/// Writes two pieces, one after the other.
+fn write_both<D: Drain>(drain: &mut D, first: &[u8], second: &[u8]) -> Result<(), FileError>
+    requires { D.failures drain.old < 2 ^ 64 - 1 }
+    ensures ok { OnOk result (Appends (D.contents drain.old) (D.contents drain.new) (first.now ++ second.now)) }
+    ensures err { OnErr result (WritesBeginning (D.contents drain.old) (D.contents drain.new) (first.now ++ second.now)) }
+    ensures io { IfErr result (λ e. (e ≡ FileError.Io) × ((D.failures drain.new ≡ D.failures drain.old + 1) ⊎ TookNothing D.takes drain.new)) }
+    ensures failures { OnOk result (D.failures drain.new ≡ D.failures drain.old) }
+{
+    write_all(drain, first)?;
+    write_all(drain, second)
+}
+
+/// A meta part.
+fn meta_part(alloc: Global, meta: &FrameMeta) -> Result<Vec<u8>, FileError>
+    ensures ok { IfOk result (λ bytes. bytes.items ≡ meta_layout meta.now) }
+    ensures short { length (meta_layout meta.now) < 2 ^ 32 }
+    ensures fits { IsMeta meta.now }
+    ensures memory { IfErr result (λ e. e ≡ FileError.Memory) }
+{
+    let mut bytes = Vec::new(alloc);
+    match put_meta(&mut bytes, meta) {
+        Ok(()) => Ok(bytes),
+        Err(_) => Err(FileError::Memory),
+    }
+}
+
+/// A packet's letters, its meta part, and the length and the kind of its streams.
+#[tactic(auto, unfolding(crate::specs::Steps::packet_head))]
+fn head(alloc: Global, meta: &FrameMeta, kind: u8, len: u32) -> Result<Vec<u8>, FileError>
+    ensures ok { IfOk result (λ bytes. bytes.items ≡ packet_head meta.now kind len) }
+    ensures fits { IsMeta meta.now }
+    ensures memory { IfErr result (λ e. e ≡ FileError.Memory) }
+{
+    let part = meta_part(alloc, meta)?;
+    let mut bytes = Vec::new(alloc);
+    bytes.extend_from_slice(b"PFD4")?;
+    bytes.extend_from_slice(&(part.len() as u32).to_le_bytes())?;
+    bytes.extend_from_slice(&part)?;
+    bytes.extend_from_slice(&len.to_le_bytes())?;
+    bytes.push(kind)?;
+    Ok(bytes)
+}
+
+/// Writes the packet of packed streams.
+fn write_packed<D: Drain>(
+    alloc: Global,
+    meta: &FrameMeta,
+    streams: &PackedStreams,
+    details: &[u8],
+    drain: &mut D,
+) -> Result<(), FileError>
+    requires { D.failures drain.old < 2 ^ 64 - 1 }
+    ensures ok { OnOk result (Appends (D.contents drain.old) (D.contents drain.new) (packet_with meta.now streams.now.kind streams.now.bytes.items details.now)) }
+    ensures begun { IfErr result (λ e. e ≡ FileError.Io → WritesBeginning (D.contents drain.old) (D.contents drain.new) (packet_with meta.now streams.now.kind streams.now.bytes.items details.now)) }
+    ensures untouched { IfErr result (λ e. e ≢ FileError.Io → drain.new ≡ drain.old) }
+    ensures io { IfErr result (λ e. e ≡ FileError.Io → (D.failures drain.new ≡ D.failures drain.old + 1) ⊎ TookNothing D.takes drain.new) }
+    ensures too_long { IfErr result (λ e. e ≡ FileError.PartTooLong → (2 ^ 32 ≤ length streams.now.bytes.items) ⊎ (2 ^ 32 ≤ length details.now)) }
+    ensures short { OnOk result ((length streams.now.bytes.items < 2 ^ 32) × (length details.now < 2 ^ 32)) }
+    ensures fits { OnOk result (IsMeta meta.now) }
+    ensures cause { IfErr result (λ e. (e ≡ FileError.PartTooLong) ⊎ (e ≡ FileError.Memory) ⊎ (e ≡ FileError.Io)) }
+    ensures failures { OnOk result (D.failures drain.new ≡ D.failures drain.old) }
+{
+    if streams.bytes.len() > u32::MAX as usize || details.len() > u32::MAX as usize {
+        return Err(FileError::PartTooLong);
+    }
+    let head = head(alloc, meta, streams.kind, streams.bytes.len() as u32)?;
+    write_both(drain, &head, &streams.bytes)?;
+    write_both(drain, &(details.len() as u32).to_le_bytes(), details)
+}
+
+/// Writes the packet of a frame that is held as it is.
+fn write_unpacked<D: Drain>(
+    alloc: Global,
+    frame: &UnpackedFrameData,
+    details: &[u8],
+    drain: &mut D,
+) -> Result<(), FileError>
+    requires { D.failures drain.old < 2 ^ 64 - 1 }
+    ensures ok { OnOk result (Appends (D.contents drain.old) (D.contents drain.new) (packet_with frame.now.meta 0 (plainly_packed (contents frame.now)).bytes details.now)) }
+    ensures begun { IfErr result (λ e. e ≡ FileError.Io → WritesBeginning (D.contents drain.old) (D.contents drain.new) (packet_with frame.now.meta 0 (plainly_packed (contents frame.now)).bytes details.now)) }
+    ensures untouched { IfErr result (λ e. e ≢ FileError.Io → drain.new ≡ drain.old) }
+    ensures io { IfErr result (λ e. e ≡ FileError.Io → (D.failures drain.new ≡ D.failures drain.old + 1) ⊎ TookNothing D.takes drain.new) }
+    ensures too_long { IfErr result (λ e. e ≡ FileError.PartTooLong → (2 ^ 32 ≤ length (plainly_packed (contents frame.now)).bytes) ⊎ (2 ^ 32 ≤ length details.now)) }
+    ensures short { OnOk result ((length (plainly_packed (contents frame.now)).bytes < 2 ^ 32) × (length details.now < 2 ^ 32)) }
+    ensures fits { OnOk result (IsMeta frame.now.meta) }
+    ensures cause { IfErr result (λ e. (e ≡ FileError.PartTooLong) ⊎ (e ≡ FileError.Memory) ⊎ (e ≡ FileError.Io)) }
+    ensures failures { OnOk result (D.failures drain.new ≡ D.failures drain.old) }
+{
+    let Ok(streams) = PackedStreams::of(alloc, &frame.thread_streams) else {
+        return Err(FileError::Memory);
+    };
+    write_packed(alloc, &frame.meta, &streams, details, drain)
+}
+
+/// A list of details, as bytes. Refused only with `Memory`.
+fn delta_part(alloc: Global, details: &[Arc<ScopeDetails>]) -> Result<Vec<u8>, FileError>
+    ensures ok { IfOk result (λ bytes. bytes.items ≡ details_layout (shared_details details.now)) }
+    ensures fit { OnOk result (AreDetails (shared_details details.now)) }
+    ensures memory { IfErr result (λ e. e ≡ FileError.Memory) }
+{
+    let mut bytes = Vec::new(alloc);
+    match put_details(&mut bytes, details) {
+        Ok(()) => Ok(bytes),
+        Err(_) => Err(FileError::Memory),
+    }
+}
+
+/// The details of a collection by rising id, as bytes. Refused only with `Memory`.
+fn collection_part(alloc: Global, scopes: &ScopeCollection) -> Result<Vec<u8>, FileError>
+    ensures ok { IfOk result (λ bytes. bytes.items ≡ details_layout (values scopes.now.by_id)) }
+    ensures fit { OnOk result (AreDetails (values scopes.now.by_id)) }
+    ensures memory { IfErr result (λ e. e ≡ FileError.Memory) }
+{
+    let mut bytes = Vec::new(alloc);
+    match put_details_by_id(&mut bytes, scopes.scopes_by_id()) {
+        Ok(()) => Ok(bytes),
+        Err(_) => Err(FileError::Memory),
+    }
+}
+
+impl FrameData {
+    /// The details of a collection by rising id, or else the frame's own, as bytes.
+    fn details_part(&self, scopes: Option<&ScopeCollection>) -> Result<Vec<u8>, FileError>
+        ensures ok { IfOk result (λ bytes. bytes.items ≡ details_layout (details_or (frame_details self.now) (option_map (λ c. c.now) scopes.entry))) }
+        ensures fit { OnOk result (AreDetails (details_or (frame_details self.now) (option_map (λ c. c.now) scopes.entry))) }
+        ensures memory { IfErr result (λ e. e ≡ FileError.Memory) }
+    {
+        let alloc = *self.scope_delta.allocator();
+        match scopes {
+            Some(scopes) => collection_part(alloc, scopes),
+            None => delta_part(alloc, &self.scope_delta),
+        }
+    }
+
+    /// Writes the frame as one packet, with the details of a collection by rising id, or else with the frame's own. Streams
+    /// that are packed are written as they are.
+    ///
+    /// Refused with `PartTooLong` where a part has `2^32` bytes or more, with `Memory`, and with `Io` where a write failed or
+    /// took nothing of a piece that wasn't empty. Only after `Io` is anything written: a beginning of the packet.
+    pub fn write_into<D: Drain>(
+        &self,
+        scopes: Option<&ScopeCollection>,
+        drain: &mut D,
+    ) -> Result<(), FileError>
+        requires { D.failures drain.old < 2 ^ 64 - 1 }
+        ensures ok { OnOk result (Appends (D.contents drain.old) (D.contents drain.new) (packet (says_with self.now (option_map (λ c. c.now) scopes.entry)))) }
+        // What is written is read again.
+        ensures packed { OnOk result (IsPacked (says_with self.now (option_map (λ c. c.now) scopes.entry))) }
+        ensures begun { IfErr result (λ e. e ≡ FileError.Io → WritesBeginning (D.contents drain.old) (D.contents drain.new) (packet (says_with self.now (option_map (λ c. c.now) scopes.entry)))) }
+        ensures untouched { IfErr result (λ e. e ≢ FileError.Io → drain.new ≡ drain.old) }
+        ensures io { IfErr result (λ e. e ≡ FileError.Io → (D.failures drain.new ≡ D.failures drain.old + 1) ⊎ TookNothing D.takes drain.new) }
+        ensures too_long { IfErr result (λ e. e ≡ FileError.PartTooLong → HasLongPart (says_with self.now (option_map (λ c. c.now) scopes.entry))) }
+        ensures cause { IfErr result (λ e. (e ≡ FileError.PartTooLong) ⊎ (e ≡ FileError.Memory) ⊎ (e ≡ FileError.Io)) }
+        ensures failures { OnOk result (D.failures drain.new ≡ D.failures drain.old) }
+    {
+        let alloc = *self.scope_delta.allocator();
+        let details = self.details_part(scopes)?;
+        match &self.held {
+            Held::Own(frame) => write_unpacked(alloc, frame, &details, drain),
+            Held::Shared(frame) => write_unpacked(alloc, frame, &details, drain),
+            Held::Packed(frame) => {
+                write_packed(alloc, &frame.meta, &frame.streams, &details, drain)
+            }
+            Held::Both(frame) => {
+                write_packed(alloc, &frame.unpacked.meta, &frame.packed, &details, drain)
+            }
+        }
+    }
+}

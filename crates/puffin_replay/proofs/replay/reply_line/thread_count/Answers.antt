@@ -1,0 +1,7 @@
+use Rattle.std.proofs.Common.{sym, ap, ◌∙◌}
+use Rattle.puffin_replay.specs.Lines.{threads_held}
+use Rattle.puffin_replay.proofs.Counting.{len-shared_streams}
+use Rattle.puffin_replay.proofs.replay.reply_line.thread_count.Goals as goal
+
+pub returns-in-Some : goal.returns-in-Some
+returns-in-Some c = c.len.ensures.len ∙ sym (len-shared_streams _ c.len.ensures.ordered) ∙ ap threads_held c.in-Some.ensures.contents

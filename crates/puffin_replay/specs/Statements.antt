@@ -1,0 +1,131 @@
+-- What a line of a script says.
+use Rattle.std.specs.Prelude.{ℕ, ◌^◌, ℤ, pos, ◌==◌, List, [], ◌∷◌, codes, Bool, Option, Some, None, option_map, if◌then◌else◌, nat_lt}
+use Rattle.std.specs.List.{slice_split, join_with_byte}
+use Rattle.std.specs.Option.{option_and_then}
+use Rattle.std.specs.Str.{bytes_eq, all_ascii_digits}
+use Rattle.std.specs.Str.Parse.{digits_value}
+use Rattle.std.specs.Borrow.{Bor}
+use Rattle.puffin_replay.specs.declared.replay.statement.Statement.{Statement}
+use Rattle.puffin_replay.specs.declared.replay.statement.Statement.TheVariants as statement
+use Rattle.puffin_replay.specs.declared.replay.statement.Words.{Words}
+
+pub data Said : Type 0 where
+  -- a scope begins
+  begins : (thread : List ℕ) → (at : ℤ) → (id : ℕ) → (text : List ℕ) → Said
+  -- the innermost open scope of a thread ends
+  ends : (thread : List ℕ) → (at : ℤ) → Said
+  -- a thread registers a scope's details: a function's without a name
+  registers : (thread : List ℕ) → (name : Option (List ℕ)) → (function : List ℕ) → (file : List ℕ) → (line : ℕ) → Said
+  -- a scope of another origin is registered
+  registers_user : (name : List ℕ) → Said
+  -- the next frame tells of all scopes
+  tells_all : Said
+  takes_frame : Said
+
+-- ---- words
+
+abbrev pub is_blank : ℕ → Bool
+is_blank byte = byte == 32
+
+-- the words of a line, with one blank between two
+abbrev pub words_in : List ℕ → List (List ℕ)
+words_in line = slice_split is_blank line
+
+-- words as they stood in a line
+abbrev pub joined_words : List (List ℕ) → List ℕ
+joined_words words = join_with_byte 32 words
+
+-- a word that isn't empty
+abbrev pub name_of : List ℕ → Option (List ℕ)
+name_of [] = None
+name_of (byte ∷ bytes) = Some (byte ∷ bytes)
+
+-- a decimal number without a sign
+abbrev pub number_in : List ℕ → Option ℕ
+number_in [] = None
+number_in (byte ∷ bytes) = if all_ascii_digits (byte ∷ bytes) then Some (digits_value 10 (byte ∷ bytes)) else None
+
+abbrev pub if_below : ℕ → ℕ → Option ℕ
+if_below limit n = if nat_lt n limit then Some n else None
+
+-- such a number below a limit
+abbrev pub number_of : ℕ → List ℕ → Option ℕ
+number_of limit word = option_and_then (if_below limit) (number_in word)
+
+-- a time, in nanoseconds
+abbrev pub time_of : List ℕ → Option ℤ
+time_of word = option_map pos (number_of (2 ^ 63) word)
+
+-- the number of a line of code
+abbrev pub line_of : List ℕ → Option ℕ
+line_of word = number_of (2 ^ 32) word
+
+abbrev pub unless_zero : ℕ → Option ℕ
+unless_zero n = if n == 0 then None else Some n
+
+-- a scope's id
+abbrev pub id_of : List ℕ → Option ℕ
+id_of word = option_and_then unless_zero (line_of word)
+
+-- ---- lines, by the words behind the first
+
+abbrev pub begin_of : List (List ℕ) → Option Said
+begin_of (thread ∷ time ∷ id ∷ text) =
+    option_and_then (λ t. option_and_then (λ at. option_map (λ n. begins t at n (joined_words text)) (id_of id)) (time_of time)) (name_of thread)
+begin_of _ = None
+
+abbrev pub end_of : List (List ℕ) → Option Said
+end_of (thread ∷ time ∷ []) = option_and_then (λ t. option_map (λ at. ends t at) (time_of time)) (name_of thread)
+end_of _ = None
+
+abbrev pub details_of : List ℕ → Option (List ℕ) → List (List ℕ) → Option Said
+details_of thread name (function ∷ file ∷ line ∷ []) =
+    option_and_then (λ f. option_and_then (λ path. option_map (λ n. registers thread name f path n) (line_of line)) (name_of file)) (name_of function)
+details_of thread name _ = None
+
+abbrev pub function_of : List (List ℕ) → Option Said
+function_of (thread ∷ words) = option_and_then (λ t. details_of t None words) (name_of thread)
+function_of [] = None
+
+abbrev pub scope_of : List (List ℕ) → Option Said
+scope_of (thread ∷ name ∷ words) = option_and_then (λ t. option_and_then (λ n. details_of t (Some n) words) (name_of name)) (name_of thread)
+scope_of _ = None
+
+abbrev pub user_of : List (List ℕ) → Option Said
+user_of (name ∷ []) = option_map (λ n. registers_user n) (name_of name)
+user_of _ = None
+
+-- a line of one word
+abbrev pub alone : Said → List (List ℕ) → Option Said
+alone what [] = Some what
+alone what (word ∷ words) = None
+
+-- what a line says, by its words
+abbrev pub said_by : List (List ℕ) → Option Said
+said_by [] = None
+said_by (verb ∷ words) =
+    if bytes_eq verb (codes "begin") then begin_of words else
+    if bytes_eq verb (codes "end") then end_of words else
+    if bytes_eq verb (codes "function") then function_of words else
+    if bytes_eq verb (codes "scope") then scope_of words else
+    if bytes_eq verb (codes "user") then user_of words else
+    if bytes_eq verb (codes "snapshot") then alone tells_all words else
+    if bytes_eq verb (codes "frame") then alone takes_frame words else None
+
+-- ---- what is read
+
+-- the words that are left of a line
+abbrev pub words_behind : Option (Bor (List ℕ)) → List (List ℕ)
+words_behind None = []
+words_behind (Some text) = words_in text.now
+
+abbrev pub words_left : Words → List (List ℕ)
+words_left words = words_behind words.left
+
+abbrev pub said : Statement → Said
+said (statement.Begin thread at id text) = begins thread.now at id text.now
+said (statement.End thread at) = ends thread.now at
+said (statement.Register thread name function file line) = registers thread.now (option_map (λ (n : Bor (List ℕ)). n.now) name) function.now file.now line
+said (statement.RegisterUser name) = registers_user name.now
+said statement.Snapshot = tells_all
+said statement.NewFrame = takes_frame

@@ -1,0 +1,254 @@
+//! Reading a script.
+
+ghost use Rattle.std.specs.Prelude.{◌≡◌, ◌+◌, ◌-◌, ◌^◌, ◌<◌, ◌⊎◌, List, ℕ, [], ◌∷◌, ◌++◌, Ok, Some, option_map, length, map, position, MatchOption, MatchResult, IfOk, IfErr, OnOk, slice_get};
+ghost use Rattle.std.specs.String.{string_bytes};
+ghost use Rattle.puffin_replay.specs.Counted.{ReadsAll};
+ghost use Rattle.puffin_replay.specs.Statements.{Said, said};
+ghost use Rattle.puffin_replay.specs.Scripts.{is_line_feed, is_skipped, lines_left, told_by, names_in, with_name, with_thread, IsNumbered, IsReading, command_said, IsScript, IsLineFault};
+
+use crate::replay::command::Command;
+use crate::replay::fault::ToolFault;
+use crate::replay::statement::{Statement, read_statement};
+use puffin_data::FileError;
+use puffin_data::data::{Source, read_to_end};
+use std::alloc::{AllocError, Global};
+use std::collections::BTreeMap;
+
+/// What a session is to do, as a script says it.
+#[derive(Drop)]
+pub struct Script {
+    /// The threads' names, in the order in which they appear first.
+    pub names: Vec<String>,
+    /// The commands, in order. A thread's number is the place of its name.
+    pub commands: Vec<Command>,
+    /// The line of each command, counted from 1 over all lines.
+    pub lines: Vec<u64>,
+}
+
+/// The threads that a script has named so far.
+#[derive(Drop)]
+struct Threads<'s> {
+    names: Vec<String>,
+    numbers: BTreeMap<&'s str, usize>,
+    alloc: Global,
+}
+
+impl<'s> Threads<'s> {
+    fn new(alloc: Global) -> Threads<'s>
+        ensures none { names_in result ≡ [] }
+        ensures numbered { IsNumbered result }
+    {
+        Threads {
+            names: Vec::new(alloc),
+            numbers: BTreeMap::new(alloc),
+            alloc,
+        }
+    }
+
+    /// The number of this name, which is the next one where it is new.
+    fn number(&mut self, name: &'s str) -> Result<usize, AllocError>
+        ensures { IfOk result (λ number. IsNumbered self.old → IsNumbered self.new × (names_in self.new ≡ with_name (names_in self.old) name.now)
+            × (slice_get (names_in self.new) number ≡ Some name.now)) }
+    {
+        if let Some(number) = self.numbers.get(name) {
+            return Ok(*number);
+        }
+        let number = self.names.len();
+        self.names.push(String::from_str(self.alloc, name)?)?;
+        self.numbers.insert(name, number)?;
+        Ok(number)
+    }
+
+    /// The command that a statement asks for.
+    fn command(&mut self, statement: &Statement<'s>) -> Result<Command, AllocError>
+        ensures { IfOk result (λ command. IsNumbered self.old → IsNumbered self.new × (names_in self.new ≡ with_thread (names_in self.old) (said statement.now))
+            × (command_said (names_in self.new) command ≡ Some (said statement.now))) }
+    {
+        let alloc = self.alloc;
+        Ok(match statement {
+            Statement::Begin {
+                thread,
+                at,
+                id,
+                text,
+            } => Command::Begin {
+                thread: self.number(*thread)?,
+                at: *at,
+                id: *id,
+                text: String::from_str(alloc, *text)?,
+            },
+            Statement::End { thread, at } => Command::End {
+                thread: self.number(*thread)?,
+                at: *at,
+                back: 0,
+            },
+            Statement::Register {
+                thread,
+                name,
+                function,
+                file,
+                line,
+            } => Command::Register {
+                thread: self.number(*thread)?,
+                name: match name {
+                    Some(name) => Some(String::from_str(alloc, *name)?),
+                    None => None,
+                },
+                function: String::from_str(alloc, *function)?,
+                file: String::from_str(alloc, *file)?,
+                line: *line,
+            },
+            Statement::RegisterUser { name } => {
+                let mut names = Vec::new(alloc);
+                names.push(String::from_str(alloc, *name)?)?;
+                Command::RegisterUser { names }
+            }
+            Statement::Snapshot => Command::Snapshot,
+            Statement::NewFrame => Command::NewFrame,
+        })
+    }
+}
+
+/// The lines that are left of a script, each without its line feed.
+#[derive(Clone, Copy)]
+struct Lines<'s> {
+    left: Option<&'s [u8]>,
+}
+
+/// Where the first line ends, if a line feed ends it.
+fn line_end(bytes: &[u8]) -> Option<usize>
+    ensures { result ≡ position is_line_feed bytes.now }
+{
+    bytes.iter().position(|byte| *byte == b'\n')
+}
+
+impl<'s> Lines<'s> {
+    fn next(&mut self) -> Option<&'s [u8]>
+        ensures { MatchOption result (lines_left self.old ≡ []) (λ line. lines_left self.old ≡ line.now ∷ lines_left self.new) }
+    {
+        let left = self.left?;
+        match line_end(left) {
+            Some(at) => {
+                self.left = Some(&left[at + 1..]);
+                Some(&left[..at])
+            }
+            None => {
+                self.left = None;
+                Some(left)
+            }
+        }
+    }
+}
+
+/// Whether a line is empty, or begins with `#`.
+fn is_skipped(line: &[u8]) -> bool
+    ensures { result ≡ is_skipped line.now }
+{
+    match line {
+        [] => true,
+        [first, ..] => *first == b'#',
+    }
+}
+
+/// What a line says, `None` where it is skipped, or a fault.
+fn told(number: u64, line: &[u8]) -> Result<Option<Statement<'_>>, ToolFault>
+    ensures { MatchResult result (λ statement. told_by number line.now ≡ Ok (option_map said statement)) (λ fault. (fault ≡ ToolFault.Line number) × (told_by number line.now ≡ Err number)) }
+{
+    let Ok(text) = str::from_utf8(line) else {
+        return Err(ToolFault::Line(number));
+    };
+    if is_skipped(line) {
+        return Ok(None);
+    }
+    match read_statement(text) {
+        Some(statement) => Ok(Some(statement)),
+        None => Err(ToolFault::Line(number)),
+    }
+}
+
+/// A script that is being read.
+#[derive(Drop)]
+struct Reading<'s> {
+    threads: Threads<'s>,
+    commands: Vec<Command>,
+    lines: Vec<u64>,
+}
+
+impl<'s> Reading<'s> {
+    fn new(alloc: Global) -> Reading<'s>
+        ensures { IsReading result [] }
+    {
+        Reading {
+            threads: Threads::new(alloc),
+            commands: Vec::new(alloc),
+            lines: Vec::new(alloc),
+        }
+    }
+
+    fn into_script(self) -> Script
+        ensures names { map string_bytes result.names.items ≡ names_in self.entry.threads }
+        ensures commands { result.commands ≡ self.entry.commands }
+        ensures lines { result.lines ≡ self.entry.lines }
+    {
+        let Reading {
+            threads,
+            commands,
+            lines,
+        } = self;
+        Script {
+            names: threads.names,
+            commands,
+            lines,
+        }
+    }
+
+    /// Appends the command of this line.
+    fn push(&mut self, number: u64, statement: &Statement<'s>) -> Result<(), AllocError>
+        ensures { OnOk result ((before : List (ℕ × Said)) → IsReading self.old before → IsReading self.new (before ++ (number, said statement.now) ∷ [])) }
+    {
+        self.commands.push(self.threads.command(statement)?)?;
+        self.lines.push(number)?;
+        Ok(())
+    }
+}
+
+/// The script that these bytes spell.
+fn script_of(alloc: Global, bytes: &[u8]) -> Result<Script, ToolFault>
+    requires { length bytes.now < 2 ^ 63 }
+    ensures ok { IfOk result (IsScript bytes.now) }
+    ensures err { IfErr result (λ fault. IsLineFault bytes.now fault ⊎ (fault ≡ ToolFault.File FileError.Memory)) }
+{
+    let mut reading = Reading::new(alloc);
+    let mut number: u64 = 0;
+    let mut lines = Lines { left: Some(bytes) };
+    'lines: while let Some(line) = lines.next() {
+        number += 1;
+        let statement = match told(number, line) {
+            Ok(statement) => statement,
+            Err(fault) => return Err(fault),
+        };
+        if let Some(statement) = &statement {
+            reading.push(number, statement)?;
+        }
+    }
+    Ok(reading.into_script())
+}
+
+/// Reads a script to its end: a command in each line, but for those that are empty or begin with `#`. Refused with the
+/// number of the first line that isn't UTF-8 or isn't a command; else with `Io` where the reader failed, or with `Memory`,
+/// and the reader's place is then open.
+pub fn read_script<S: Source>(alloc: Global, source: &mut S) -> Result<Script, ToolFault>
+    requires { S.failures source.old < 2 ^ 64 - 1 }
+    ensures script { IfOk result (λ script. (bytes : List ℕ) × ReadsAll (S.remaining source.old) (S.remaining source.new) bytes × IsScript bytes script) }
+    // The number is that of the first line that says nothing that is known.
+    ensures fails { IfErr result (λ fault. ((bytes : List ℕ) × ReadsAll (S.remaining source.old) (S.remaining source.new) bytes × IsLineFault bytes fault)
+        ⊎ ((fault ≡ ToolFault.File FileError.Memory) ⊎ (fault ≡ ToolFault.File FileError.Io))) }
+    // The reader failed in this call.
+    ensures io { (result ≡ Err (ToolFault.File FileError.Io)) → S.failures source.new ≡ S.failures source.old + 1 }
+{
+    let bytes = match read_to_end(alloc, source) {
+        Ok(bytes) => bytes,
+        Err(cause) => return Err(ToolFault::File(cause)),
+    };
+    script_of(alloc, bytes.as_slice())
+}

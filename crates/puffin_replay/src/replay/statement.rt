@@ -1,0 +1,213 @@
+//! What a line of a script says, with its words as they stand there.
+
+ghost use Rattle.std.specs.Prelude.{◌≡◌, ◌^◌, List, ℕ, [], ◌∷◌, Some, None, option_map, MatchOption};
+ghost use Rattle.puffin_replay.specs.Statements.{said, said_by, words_in, words_left, joined_words, number_of, time_of, id_of, line_of, name_of, begin_of, end_of, details_of, function_of, scope_of, user_of};
+
+use puffin_data::NanoSecond;
+use puffin_data::data::ScopeId;
+
+/// What one line says.
+#[derive(Clone, Copy, Debug, PartialEq, Eq)]
+pub(crate) enum Statement<'l> {
+    /// A scope begins.
+    Begin {
+        thread: &'l str,
+        at: NanoSecond,
+        id: ScopeId,
+        text: &'l str,
+    },
+    /// The innermost open scope of a thread ends.
+    End {
+        thread: &'l str,
+        at: NanoSecond,
+    },
+    /// A thread registers a scope's details: a function's without a name.
+    Register {
+        thread: &'l str,
+        name: Option<&'l str>,
+        function: &'l str,
+        file: &'l str,
+        line: u32,
+    },
+    /// A scope of another origin is registered.
+    RegisterUser {
+        name: &'l str,
+    },
+    /// The next frame tells of all scopes.
+    Snapshot,
+    /// A frame is taken.
+    NewFrame,
+}
+
+/// The words that are left of a line, with one blank between two.
+#[derive(Clone, Copy)]
+struct Words<'l> {
+    left: Option<&'l str>,
+}
+
+impl<'l> Words<'l> {
+    /// The next word, which may be empty.
+    fn next(&mut self) -> Option<&'l str>
+        ensures { MatchOption result (words_left self.old ≡ []) (λ word. words_left self.old ≡ word.now ∷ words_left self.new) }
+    {
+        let left = self.left?;
+        match left.split_once(' ') {
+            Some((word, behind)) => {
+                self.left = Some(behind);
+                Some(word)
+            }
+            None => {
+                self.left = None;
+                Some(left)
+            }
+        }
+    }
+
+    /// What is left, as it stands there.
+    fn rest(self) -> &'l str
+        ensures { result.now ≡ joined_words (words_left self.entry) }
+    {
+        match self.left {
+            Some(text) => text,
+            None => "",
+        }
+    }
+
+    /// `None` where a word is left.
+    fn end(self) -> Option<()>
+        ensures { MatchOption result ((word : List ℕ) × (words : List (List ℕ)) × (words_left self.entry ≡ word ∷ words)) (λ _. words_left self.entry ≡ []) }
+    {
+        match self.left {
+            Some(_) => None,
+            None => Some(()),
+        }
+    }
+}
+
+/// A decimal number without a sign, below `2^64`.
+fn number(word: &str) -> Option<u64>
+    ensures { result ≡ number_of (2 ^ 64) word.now }
+{
+    if word.starts_with('+') {
+        return None;
+    }
+    word.parse::<u64>().ok()
+}
+
+/// A time, in nanoseconds.
+fn time(word: &str) -> Option<NanoSecond>
+    ensures { result ≡ time_of word.now }
+{
+    i64::try_from(number(word)?).ok()
+}
+
+/// A scope's id.
+fn scope_id(word: &str) -> Option<ScopeId>
+    ensures { result ≡ id_of word.now }
+{
+    ScopeId::new(line_number(word)?)
+}
+
+/// The number of a line of code.
+fn line_number(word: &str) -> Option<u32>
+    ensures { result ≡ line_of word.now }
+{
+    u32::try_from(number(word)?).ok()
+}
+
+/// A word that isn't empty.
+fn name(word: &str) -> Option<&str>
+    ensures { option_map (λ x. x.now) result ≡ name_of word.now }
+{
+    if word.is_empty() { None } else { Some(word) }
+}
+
+/// `T TIME ID`, and perhaps a text, which is the rest of the line.
+fn begin<'l>(mut words: Words<'l>) -> Option<Statement<'l>>
+    ensures { option_map said result ≡ begin_of (words_left words.entry) }
+{
+    let thread = name(words.next()?)?;
+    let at = time(words.next()?)?;
+    let id = scope_id(words.next()?)?;
+    let text = words.rest();
+    Some(Statement::Begin {
+        thread,
+        at,
+        id,
+        text,
+    })
+}
+
+/// `T TIME`.
+fn end<'l>(mut words: Words<'l>) -> Option<Statement<'l>>
+    ensures { option_map said result ≡ end_of (words_left words.entry) }
+{
+    let thread = name(words.next()?)?;
+    let at = time(words.next()?)?;
+    words.end()?;
+    Some(Statement::End { thread, at })
+}
+
+/// `FUNCTION FILE LINE`.
+fn details<'l>(
+    thread: &'l str,
+    scope: Option<&'l str>,
+    mut words: Words<'l>,
+) -> Option<Statement<'l>>
+    ensures { option_map said result ≡ details_of thread.now (option_map (λ n. n.now) scope.entry) (words_left words.entry) }
+{
+    let function = name(words.next()?)?;
+    let file = name(words.next()?)?;
+    let line = line_number(words.next()?)?;
+    words.end()?;
+    Some(Statement::Register {
+        thread,
+        name: scope,
+        function,
+        file,
+        line,
+    })
+}
+
+/// `T FUNCTION FILE LINE`.
+fn function<'l>(mut words: Words<'l>) -> Option<Statement<'l>>
+    ensures { option_map said result ≡ function_of (words_left words.entry) }
+{
+    let thread = name(words.next()?)?;
+    details(thread, None, words)
+}
+
+/// `T NAME FUNCTION FILE LINE`.
+fn scope<'l>(mut words: Words<'l>) -> Option<Statement<'l>>
+    ensures { option_map said result ≡ scope_of (words_left words.entry) }
+{
+    let thread = name(words.next()?)?;
+    let scope = name(words.next()?)?;
+    details(thread, Some(scope), words)
+}
+
+/// `NAME`.
+fn user<'l>(mut words: Words<'l>) -> Option<Statement<'l>>
+    ensures { option_map said result ≡ user_of (words_left words.entry) }
+{
+    let name = name(words.next()?)?;
+    words.end()?;
+    Some(Statement::RegisterUser { name })
+}
+
+/// What a line says, or `None` where it says nothing that is known.
+pub(crate) fn read_statement(line: &str) -> Option<Statement<'_>>
+    ensures { option_map said result ≡ said_by (words_in line.now) }
+{
+    let mut words = Words { left: Some(line) };
+    match words.next()? {
+        "begin" => begin(words),
+        "end" => end(words),
+        "function" => function(words),
+        "scope" => scope(words),
+        "user" => user(words),
+        "snapshot" => words.end().map(|()| Statement::Snapshot),
+        "frame" => words.end().map(|()| Statement::NewFrame),
+        _ => None,
+    }
+}
