@@ -16,6 +16,7 @@ pub mod NodePlaces
 pub mod Drawing
 pub mod PlaceEntries
 pub mod Ending
+pub mod Attaching
 pub mod Rankings
 pub mod Orders
 pub mod Taking

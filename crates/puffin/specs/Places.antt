@@ -11,6 +11,7 @@ use Rattle.puffin.specs.declared.merge.tree.Drawn.{Drawn}
 use Rattle.puffin.specs.declared.merge.table.Sums.{Sums}
 use Rattle.puffin.specs.Starts.{Sibling, earliest_start}
 use Rattle.puffin.specs.Tables.{merged_in}
+use Rattle.puffin.specs.MergedForests as forests
 use Rattle.puffin.specs.Assembled.{Entry}
 
 -- the node of a place
@@ -85,3 +86,14 @@ abbrev pub entries_from : List Node → ℕ → Drawn → List Place → Node �
 entries_from nodes frames before [] d = []
 entries_from nodes frames before (p ∷ places) d =
     entry_of nodes p (drawn_after frames (slice_index_or nodes (p.number.number - 1) d).sums p before) d ∷ entries_from nodes frames (drawn_after frames (slice_index_or nodes (p.number.number - 1) d).sums p before) places d
+
+-- a place's node as it is drawn
+abbrev pub drawn_node : ℕ → Sums → Place → Drawn → forests.Node
+drawn_node frames sums p drawn = record {
+  label = record { id = p.id; text = p.text.now };
+  start = drawn.start;
+  total = pos sums.total;
+  per_frame = pos (sums.total / frames);
+  greatest = pos sums.greatest;
+  pieces = sums.number;
+}

@@ -4,11 +4,11 @@ ghost use Rattle.std.specs.Prelude.{◌≡◌, ℕ, ◌<◌, ◌≤◌, ◌^◌,
 ghost use Rattle.std.specs.Int.{w64};
 ghost use Rattle.puffin.specs.Occurrences.{Occurrence};
 ghost use Rattle.puffin.specs.Merges.{IsMerge};
-ghost use Rattle.puffin.specs.MergedForests.{MergedForest};
+ghost use Rattle.puffin.specs.MergedForests.{MergedForest, merged};
 ghost use Rattle.puffin.specs.Refusals.{EndsFit};
-ghost use Rattle.puffin.specs.Seen.{forest_in};
+ghost use Rattle.puffin.specs.Seen.{forest_in, scope_then};
 ghost use Rattle.puffin.specs.Tables.{IsTableOf};
-ghost use Rattle.puffin.specs.Places.{ArePlacesOf, EachOf, EndFits, above_all, drawn_after, drawn_from};
+ghost use Rattle.puffin.specs.Places.{ArePlacesOf, EachOf, EndFits, above_all, drawn_after, drawn_from, drawn_node};
 ghost use Rattle.puffin.specs.declared.merge.table.Node.{Node};
 
 use crate::merge::scope::MergeScope;
@@ -112,6 +112,32 @@ fn draw_all(alloc: Global, table: &Table, places: &[Place], frames: usize) -> Re
     Ok(drawn)
 }
 
+/// The merged scope of a place's node, with its children.
+fn scope_at<'s>(
+    place: &Place<'s>,
+    sums: &Sums,
+    drawn: &Drawn,
+    frames: usize,
+    children: Vec<MergeScope<'s>>,
+) -> MergeScope<'s>
+    requires frames { 0 < frames }
+    requires id { 0 < place.now.id }
+    requires small { sums.now.total < 2 ^ 63 }
+    requires greatest { sums.now.greatest < 2 ^ 63 }
+    ensures { (others : MergedForest) → scope_then result others ≡ merged (drawn_node frames sums.now place.now drawn.now) (forest_in children.entry.items) others }
+{
+    MergeScope {
+        relative_start_ns: drawn.start,
+        total_duration_ns: sums.total as i64,
+        duration_per_frame_ns: per_frame(sums, frames),
+        max_duration_ns: sums.greatest as i64,
+        num_pieces: sums.number,
+        id: ScopeId::new(place.id).unwrap(),
+        text: CowStr::Borrowed(place.text),
+        children,
+    }
+}
+
 /// The merged scopes of a table.
 pub(crate) fn tree_of<'s>(
     alloc: Global,
@@ -136,16 +162,8 @@ pub(crate) fn tree_of<'s>(
         let node = &table.nodes[place.number.number - 1];
         let mut children = mem::replace(&mut rows[place.number.number], Vec::new(alloc));
         children.reverse();
-        rows[place.parent.number].push(MergeScope {
-            relative_start_ns: drawn[i].start,
-            total_duration_ns: node.sums.total as i64,
-            duration_per_frame_ns: per_frame(&node.sums, frames),
-            max_duration_ns: node.sums.greatest as i64,
-            num_pieces: node.sums.number,
-            id: ScopeId::new(place.id).unwrap(),
-            text: CowStr::Borrowed(node.key.text),
-            children,
-        })?;
+        let scope = scope_at(place, &node.sums, &drawn[i], frames, children);
+        rows[place.parent.number].push(scope)?;
     }
     let mut top = mem::replace(&mut rows[0], Vec::new(alloc));
     top.reverse();

@@ -16,26 +16,33 @@ same_streams a b e = cc
 pub returns-in-Err-clause-err : goal.returns-in-Err-clause-err
 returns-in-Err-clause-err c =
     let taken : shared_streams c.into_unpacked.result.thread_streams.entries ≡ shared_streams c.replace-thread_streams.result.entries =
-        same_streams _ _ (c.into_unpacked.ensures.contents ∙ ap frame_contents c.in-Err.ensures.value_returned ∙ ap held_contents c.of_unpacked-frame.ensures.held) in
+    same_streams _ _ (c.into_unpacked.ensures.contents ∙ ap frame_contents c.in-Err.ensures.value_returned ∙ ap held_contents c.of_unpacked-frame.ensures.held) in
     let back = taken ∙ ap (λ m. shared_streams m.entries) c.replace-thread_streams.ensures.value in
     let new = shared_details c.self.inside.new_details.items in
     let known : c.learn.new.collection ≡ inserted_all c.self.inside.collection new =
-        c.in_ok-learn.ensures.ok ∙ ap (λ ds. inserted_all c.self.inside.collection (shared_details ds)) c.deref-2.ensures.value in
+    c.in_ok-learn.ensures.ok ∙ ap (λ ds. inserted_all c.self.inside.collection (shared_details ds)) c.deref-2.ensures.value in
     subst (λ (v : Collected). KeepsPending v Memory (record {
-        index = c.self.inside.meta.frame_index;
-        reported = c.self.inside.reported;
-        emitted = c.self.inside.emitted;
-        streams = shared_streams c.into_unpacked.result.thread_streams.entries;
-        collection = c.learn.new.collection;
-        new_details = new;
-        wants_all = c.self.inside.wants_all;
-      })) c.self.view_is
-      (inr (refl, (new, ([], sym (append-nil new)), λ j. record {
-        index = c.self.inside.meta.frame_index;
-        reported = c.self.inside.reported;
-        emitted = c.self.inside.emitted;
-        streams = back j;
-        collection = known j;
-        new_details = new;
-        wants_all = c.self.inside.wants_all;
-      })))
+      index = c.self.inside.meta.frame_index;
+      reported = c.self.inside.reported;
+      emitted = c.self.inside.emitted;
+      streams = shared_streams c.into_unpacked.result.thread_streams.entries;
+      collection = c.learn.new.collection;
+      new_details = new;
+      wants_all = c.self.inside.wants_all;
+    })) c.self.view_is
+    (inr (
+      refl,
+      (
+        new,
+        ([], sym (append-nil new)),
+        λ j. record {
+          index = c.self.inside.meta.frame_index;
+          reported = c.self.inside.reported;
+          emitted = c.self.inside.emitted;
+          streams = back j;
+          collection = known j;
+          new_details = new;
+          wants_all = c.self.inside.wants_all;
+        },
+      ),
+    ))
