@@ -19,6 +19,7 @@ mod tree;
 use crate::frame_data::UnpackedFrameData;
 use crate::merge::stream::{Merging, read_frame};
 use crate::merge::tree::tree_of;
+use crate::scope_details::ScopeCollection;
 use crate::thread_profiler::ThreadInfo;
 use puffin_data::{Error, Result};
 pub use scope::MergeScope;
@@ -35,8 +36,11 @@ use std::sync::Arc;
 /// (`PrematureEnd`, `InvalidStream`, `ScopeNeverEnded`); `TooDeep` at a scope within 1,024 others; `TooLarge` where its start
 /// as it is counted, the number of its path or its sum doesn't fit. After all of them with `TooLarge` where an end doesn't
 /// fit, and anywhere with `Memory`.
+///
+/// The collection is not read: a scope's details change neither what is merged nor in which order.
 pub fn merge_scopes_for_thread<'s>(
     alloc: Global,
+    _collection: &ScopeCollection,
     frames: &'s [Arc<UnpackedFrameData>],
     info: &ThreadInfo,
 ) -> Result<Vec<MergeScope<'s>>>
@@ -49,7 +53,7 @@ pub fn merge_scopes_for_thread<'s>(
     merge_scopes_counted(alloc, frames, info, &mut tries)
 }
 
-/// The same. `tries` is set to the number of readings made at a byte `(`, also where merging is refused.
+/// The same, and no collection is wanted. `tries` is set to the number of readings made at a byte `(`, also where merging is refused.
 pub fn merge_scopes_counted<'s>(
     alloc: Global,
     frames: &'s [Arc<UnpackedFrameData>],

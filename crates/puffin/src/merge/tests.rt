@@ -1,6 +1,7 @@
 use crate::data::{ScopeId, Stream, StreamInfo};
 use crate::frame_data::UnpackedFrameData;
 use crate::merge::{MergeScope, merge_scopes_counted, merge_scopes_for_thread};
+use crate::scope_details::ScopeCollection;
 use crate::thread_profiler::ThreadInfo;
 use crate::{Error, NanoSecond, Result};
 use std::alloc::Global;
@@ -68,7 +69,8 @@ fn one_frame(alloc: Global, stream: Stream) -> Result<Frames> {
 }
 
 fn merged<'s>(alloc: Global, frames: &'s Frames) -> Result<Vec<MergeScope<'s>>> {
-    merge_scopes_for_thread(alloc, frames.as_slice(), &thread(alloc)?)
+    let collection = ScopeCollection::new(alloc);
+    merge_scopes_for_thread(alloc, &collection, frames.as_slice(), &thread(alloc)?)
 }
 
 fn numbers(scope: &MergeScope) -> Numbers {
