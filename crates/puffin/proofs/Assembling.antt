@@ -1,13 +1,13 @@
 -- The forest of a table is the merge of its occurrences.
-use Rattle.std.proofs.Common.{◌≡◌, ℕ, zero, suc, ◌+◌, ◌/◌, ◌<◌, ◌≤◌, ◌==◌, ℤ, pos, Bool, true, false, cond, List, [], ◌∷◌, ◌++◌, length, get_or, map, filter, All, Contains, ◌⊎◌, inl, inr, ⊎_elim, refl, sym, ap, ◌∙◌, subst, arith}
+use Rattle.std.proofs.Common.{◌≡◌, ℕ, suc, ◌/◌, ◌<◌, ◌≤◌, ◌==◌, ℤ, pos, Bool, true, false, cond, List, [], ◌∷◌, ◌++◌, get_or, map, All, Contains, inl, inr, ⊎_elim, refl, sym, ap, ◌∙◌, subst, arith}
 use Rattle.std.specs.List.{AllByRecursion}
 use Rattle.std.specs.declared.cmp.Ordering.TheVariants.{Less}
 use Rattle.std.proofs.lemmas.Bool.Decides.{nat_tests}
-use Rattle.std.proofs.lemmas.List.Elements.{All-from_recursion, recursion_from_All}
+use Rattle.std.proofs.lemmas.List.Elements.{All-from_recursion}
 use Rattle.puffin.specs.Occurrences.{Label, Path, Occurrence}
 use Rattle.puffin.specs.Pieces.{Merged, merged_at}
-use Rattle.puffin.specs.Starts.{Sibling, IsLeastFeasible, earliest}
-use Rattle.puffin.specs.MergedForests.{Node, MergedForest, no_node, merged, row}
+use Rattle.puffin.specs.Starts.{Sibling, IsLeastFeasible}
+use Rattle.puffin.specs.MergedForests.{Node, merged, row}
 use Rattle.puffin.specs.Merges.{below, TellsOf, sibling_cmp, IsRising, sibling_of, IsRow, AreBelow, IsMerge}
 use Rattle.puffin.specs.Assembled.{Entry, node_of, children_of, forest_below, Each, Some_of, StandsBefore, InOrder, IsEntry, IsTable}
 use Rattle.puffin.proofs.Starting.{earliest-is_least}

@@ -1,5 +1,5 @@
 -- The rows below the nodes hold the forests of the entries of all places so far, the last sibling first.
-use Rattle.std.proofs.Common.{◌≡◌, ℕ, zero, suc, ◌+◌, ◌-◌, ◌/◌, ◌<◌, ◌≤◌, ℤ, pos, ◌+ℤ◌, FitsSigned, Bool, true, false, cond, eqb, List, [], ◌∷◌, ◌++◌, length, get_or, set, reverse, drop, ◌⊎◌, inl, inr, refl, sym, ap, subst, ◌∙◌, arith, w64, vec_len}
+use Rattle.std.proofs.Common.{◌≡◌, ℕ, zero, suc, ◌+◌, ◌-◌, ◌<◌, ℤ, ◌+ℤ◌, FitsSigned, Bool, true, false, cond, eqb, List, [], ◌∷◌, ◌++◌, length, get_or, set, reverse, drop, inl, inr, refl, sym, ap, subst, ◌∙◌, arith, w64, vec_len}
 use Rattle.std.specs.Prelude.{SomeIff, Option, Some, None}
 use Rattle.std.proofs.lemmas.Bool.{cases_eq}
 use Rattle.std.proofs.lemmas.List.{drop_more, reverse-append, get_or-set_other, length-set}
@@ -25,7 +25,7 @@ use Rattle.puffin.specs.Places.{EachOf, AreApart, EndFits, ArePlacesOf, above_al
 use Rattle.puffin.specs.Merges.{IsMerge}
 use Rattle.puffin.proofs.PlaceEntries.{forest_merged}
 use Rattle.puffin.proofs.Finding.{same_at}
-use Rattle.puffin.proofs.Ending.{blank, Usable, drawn_size}
+use Rattle.puffin.proofs.Ending.{blank, Usable}
 
 abbrev pub Siblings : Type 0
 Siblings = Vec MergeScope Global

@@ -1,5 +1,5 @@
 -- Reading the frames that the code has, one after the other.
-use Rattle.std.proofs.Common.{◌≡◌, ℕ, ◌+◌, ◌<◌, ◌≤◌, ℤ, ◌-ℤ◌, List, [], ◌∷◌, ◌++◌, length, take, drop, get_or, map, ◌⊎◌, inl, inr, refl, sym, ap, subst, ◌∙◌, arith, Result, Ok, Err, Vec}
+use Rattle.std.proofs.Common.{◌≡◌, ℕ, ◌+◌, ◌<◌, ◌≤◌, ℤ, ◌-ℤ◌, List, [], ◌∷◌, length, take, get_or, ◌⊎◌, inl, inr, sym, ap, subst, ◌∙◌, arith, Result, Ok, Err, Vec}
 use Rattle.std.specs.Prelude.{IfOk, IfErr}
 use Rattle.std.specs.Arc.{arc_value}
 use Rattle.std.specs.declared.sync.Arc.{Arc}
@@ -13,14 +13,14 @@ use Rattle.puffin.specs.declared.merge.table.Table.{Table}
 use Rattle.puffin.specs.declared.merge.stream.Merging.{Merging}
 use Rattle.puffin.specs.declared.merge.scope.MergeScope.{MergeScope}
 use Rattle.puffin.specs.Occurrences.{Occurrence, occurrences}
-use Rattle.puffin.specs.MergedForests.{MergedForest, no_node}
+use Rattle.puffin.specs.MergedForests.{MergedForest}
 use Rattle.puffin.specs.Merges.{IsMerge}
 use Rattle.puffin.specs.FrameStreams.{FrameBytes, bytes_of, start_of, most_tries_of, most_tries}
 use Rattle.puffin.specs.Refusals.{IsRefusal, EndsFit, AreMerged}
 use Rattle.puffin.specs.Seen.{frame_bytes, frames_bytes, forest_in}
 use Rattle.puffin.specs.Tables.{IsTableOf}
 use Rattle.puffin.specs.Merging.{TakesScopes, RefusesScope}
-use Rattle.puffin.proofs.FramesRead.{HasRead, read_more, read_refused, tries_more, tries_of_all, take_push, split_at, size_mapped, read_whole, ends_refused}
+use Rattle.puffin.proofs.FramesRead.{HasRead, read_more, read_refused, tries_more, take_push, split_at, size_mapped, read_whole, ends_refused}
 
 abbrev Held : Type 0
 Held = Arc UnpackedFrameData Global

@@ -1,14 +1,13 @@
 -- Drawing one node after the other.
-use Rattle.std.proofs.Common.{◌≡◌, ℕ, ◌+◌, ◌-◌, ◌<◌, ◌≤◌, ◌^◌, List, [], ◌∷◌, ◌++◌, length, get_or, drop, refl, sym, ap, subst, ◌∙◌, arith, append_assoc, vec_len, pos}
+use Rattle.std.proofs.Common.{◌≡◌, ℕ, ◌+◌, ◌-◌, ◌<◌, ◌≤◌, ◌^◌, List, [], ◌∷◌, ◌++◌, length, get_or, drop, sym, ap, subst, ◌∙◌, arith, append_assoc, pos}
 use Rattle.std.proofs.lemmas.List.{drop_more}
 use Rattle.puffin.specs.declared.merge.table.Table.{Table}
 use Rattle.puffin.specs.declared.merge.table.Node.{Node}
-use Rattle.puffin.specs.declared.merge.table.Sums.{Sums}
 use Rattle.puffin.specs.declared.merge.tree.Place.{Place}
 use Rattle.puffin.specs.declared.merge.tree.Drawn.{Drawn}
 use Rattle.puffin.specs.Occurrences.{Occurrence}
 use Rattle.puffin.specs.Tables.{IsTableOf}
-use Rattle.puffin.specs.Places.{IsPlaceAt, IsPlaceOf, ArePlacesOf, EachOf, EndFits, above_all, drawn_after, drawn_from}
+use Rattle.puffin.specs.Places.{ArePlacesOf, EachOf, EndFits, above_all, drawn_after, drawn_from}
 use Rattle.puffin.proofs.Finding.{same_at}
 
 -- what stands nowhere

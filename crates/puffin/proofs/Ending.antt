@@ -1,5 +1,5 @@
 -- Where all ends in the forest of a table's entries fit, those of all its places do.
-use Rattle.std.proofs.Common.{◌≡◌, ℕ, zero, suc, ◌+◌, ◌-◌, ◌/◌, ◌<◌, ◌≤◌, ℤ, pos, ◌^◌, ◌+ℤ◌, FitsSigned, Bool, true, false, cond, eqb, List, [], ◌∷◌, length, get_or, ◌⊎◌, inl, inr, refl, sym, ap, subst, ◌∙◌, arith, w64, vec_len}
+use Rattle.std.proofs.Common.{◌≡◌, ℕ, ◌+◌, ◌-◌, ◌<◌, ◌≤◌, pos, ◌^◌, ◌+ℤ◌, FitsSigned, Bool, true, false, cond, eqb, List, [], ◌∷◌, length, get_or, ◌⊎◌, inl, inr, refl, sym, ap, subst, ◌∙◌, arith, w64, vec_len}
 use Rattle.std.specs.Prelude.{SomeIff, IsSome, Option, Some, None}
 use Rattle.std.specs.List.{AllByRecursion}
 use Rattle.std.proofs.lemmas.Bool.{cases_eq}
@@ -11,9 +11,9 @@ use Rattle.puffin.specs.declared.merge.tree.Drawn.{Drawn}
 use Rattle.puffin.specs.Occurrences.{Occurrence}
 use Rattle.puffin.specs.MergedForests.{MergedForest, merged}
 use Rattle.puffin.specs.Refusals.{EndsFit}
-use Rattle.puffin.specs.Assembled.{Entry, node_of, forest_below}
+use Rattle.puffin.specs.Assembled.{node_of, forest_below}
 use Rattle.puffin.specs.Tables.{IsTableOf}
-use Rattle.puffin.specs.Places.{IsPlaceAt, IsPlaceOf, SomeOf, EachOf, EndFits, ArePlacesOf, above_all, drawn_after, drawn_from, entry_of, entries_from}
+use Rattle.puffin.specs.Places.{IsPlaceOf, SomeOf, EachOf, EndFits, ArePlacesOf, above_all, drawn_after, drawn_from, entry_of, entries_from}
 use Rattle.puffin.specs.Merges.{IsMerge}
 use Rattle.puffin.proofs.PlaceEntries.{InRow, in_row, each_at_least, forest_merged}
 

@@ -1,5 +1,5 @@
 -- A scope of a stream is taken into the table, or refused.
-use Rattle.std.proofs.Common.{◌≡◌, ℕ, ◌+◌, ◌<◌, ◌≤◌, ◌^◌, ℤ, pos, negsuc, ◌-ℤ◌, ◌≤ℤ◌, nat_abs, FitsSigned, Bool, true, false, List, [], ◌∷◌, ◌++◌, length, map, Result, Ok, Err, ◌⊎◌, inl, inr, refl, sym, ap, subst, ◌∙◌, arith, w64, cond}
+use Rattle.std.proofs.Common.{◌≡◌, ℕ, ◌+◌, ◌<◌, ◌≤◌, ℤ, ◌-ℤ◌, nat_abs, FitsSigned, Bool, true, false, List, [], ◌∷◌, ◌++◌, length, Result, Ok, Err, ◌⊎◌, inl, inr, refl, sym, ap, subst, ◌∙◌, arith, w64, cond}
 use Rattle.std.proofs.lemmas.Int.{ints, to_z-of_z}
 use mir.Syntax.{w128}
 use mir.Val.{to_z, of_z}
@@ -7,18 +7,17 @@ use Rattle.std.proofs.lemmas.List.{map-append, length_push, length-map}
 use Rattle.puffin_data.specs.declared.error.Error.{Error}
 use Rattle.puffin_data.specs.declared.error.Error.TheVariants.{Memory, TooLarge}
 use Rattle.puffin_data.specs.Forest.{Span}
-use Rattle.puffin_data.specs.Sights.{Nested}
 use Rattle.puffin_data.specs.Goings.{Entering, Refusing}
 use Rattle.puffin.specs.declared.merge.table.Table.{Table}
 use Rattle.puffin.specs.declared.merge.table.Key.{Key}
 use Rattle.puffin.specs.declared.merge.table.NodeNumber.{NodeNumber}
 use Rattle.puffin.specs.declared.merge.stream.Merging.{Merging}
 use Rattle.puffin.specs.declared.merge.stream.Open.{Open}
-use Rattle.puffin.specs.Occurrences.{Occurrence, Path, Label, label_of, path_of, origin_in, occurrence_of, occurrences_in}
+use Rattle.puffin.specs.Occurrences.{Occurrence, Path, label_of, path_of, origin_in, occurrence_of}
 use Rattle.puffin.specs.Origins.{IsOrigin, fits_i64}
 use Rattle.puffin.specs.Merges.{below}
-use Rattle.puffin.specs.Refusals.{IsShallow, SumsFit, Fits, IsRefusedFor, AreAccepted}
-use Rattle.puffin.specs.Tables.{label_in, path_at, IsTableOf, occurrence_at, AddsAt, Extends}
+use Rattle.puffin.specs.Refusals.{SumsFit, Fits}
+use Rattle.puffin.specs.Tables.{label_in, path_at, IsTableOf, occurrence_at, AddsAt}
 use Rattle.puffin.specs.Merging.{TakesScopes, RefusesScope, StandsFor}
 
 fits_test : (t : ℤ) → FitsSigned w64 t → fits_i64 t ≡ true

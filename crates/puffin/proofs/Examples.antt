@@ -1,9 +1,9 @@
 -- Worked values of the definitions.
-use Rattle.std.proofs.Common.{◌≡◌, ℕ, ◌+◌, ℤ, pos, negsuc, List, [], ◌∷◌, take, zero, suc, refl}
-use Rattle.puffin_data.specs.Forest.{Span, Forest, empty, node, append}
-use Rattle.puffin.specs.Occurrences.{Label, Path, Occurrence, FrameScopes, label_of, is_path, occurrences}
-use Rattle.puffin.specs.Pieces.{Merged, merged_at}
-use Rattle.puffin.specs.Starts.{Sibling, earliest}
+use Rattle.std.proofs.Common.{◌≡◌, ℕ, ◌+◌, pos, negsuc, List, [], ◌∷◌, take, zero, suc, refl}
+use Rattle.puffin_data.specs.Forest.{Forest, empty, node}
+use Rattle.puffin.specs.Occurrences.{Label, Occurrence, FrameScopes, occurrences}
+use Rattle.puffin.specs.Pieces.{merged_at}
+use Rattle.puffin.specs.Starts.{earliest}
 
 -- a scope without a text
 no_text : (n : ℕ) → take {A = ℕ} n [] ≡ []

@@ -1,21 +1,20 @@
 -- What is read of the frames so far, and of one more.
-use Rattle.std.proofs.Common.{◌≡◌, ℕ, zero, suc, ◌+◌, ◌-◌, ◌*◌, ◌/◌, ◌<◌, ◌≤◌, ◌^◌, ℤ, pos, ◌-ℤ◌, List, [], ◌∷◌, ◌++◌, length, take, drop, get_or, map, flat_map, sum_by, Option, Some, None, ◌⊎◌, inl, inr, refl, sym, ap, subst, ◌∙◌, arith, append_assoc}
-use Rattle.std.specs.Option.{option_map}
+use Rattle.std.proofs.Common.{◌≡◌, ℕ, zero, suc, ◌+◌, ◌<◌, ◌≤◌, ℤ, ◌-ℤ◌, List, [], ◌∷◌, ◌++◌, length, take, drop, get_or, map, ◌⊎◌, inl, inr, refl, sym, ap, subst, ◌∙◌, arith, append_assoc}
 use Rattle.std.proofs.lemmas.List.{length-append, take-append-drop}
 use Rattle.std.proofs.lemmas.List.Sums.{sum_by-append}
 use Rattle.puffin_data.specs.declared.error.Error.{Error}
 use Rattle.puffin_data.specs.declared.error.Error.TheVariants.{Memory, TooLarge}
 use Rattle.puffin_data.specs.Forest.{Forest, empty}
 use Rattle.puffin_data.specs.Spelling.{Spells}
-use Rattle.puffin_data.specs.Sights.{Nested, nested_in, Sight, scopes_of, before}
-use Rattle.puffin_data.specs.Visiting.{TakesAll, StopsAtFault, StopsAtRefusal, StopsEarly}
+use Rattle.puffin_data.specs.Sights.{Nested, nested_in, scopes_of, before}
+use Rattle.puffin_data.specs.Visiting.{TakesAll, StopsEarly}
 use Rattle.puffin.specs.declared.merge.table.Table.{Table}
 use Rattle.puffin.specs.declared.merge.stream.Merging.{Merging}
 use Rattle.puffin.specs.Occurrences.{Occurrence, FrameScopes, occurrence_of, occurrences_in, occurrences_of, occurrences_from, first_start, occurrences}
 use Rattle.puffin.specs.MergedForests.{MergedForest, no_node}
 use Rattle.puffin.specs.Merges.{IsMerge}
 use Rattle.puffin.specs.FrameStreams.{FrameBytes, bytes_of, start_of, HasScopes, HaveScopes, most_tries_of, most_tries}
-use Rattle.puffin.specs.Refusals.{IsRefusedFor, AreAccepted, IsFrameRefusal, faulty, refused, IsRefusal, in_frame, at_end, EndsFit, AreMerged}
+use Rattle.puffin.specs.Refusals.{IsRefusedFor, AreAccepted, faulty, refused, IsRefusal, in_frame, at_end, EndsFit, AreMerged}
 use Rattle.puffin.specs.Tables.{IsTableOf}
 use Rattle.puffin.specs.Merging.{TakesScopes, RefusesScope, accepted-append, append-nil}
 use Rattle.puffin.proofs.Starting.{earliest-is_least}

@@ -1,9 +1,9 @@
 -- What is merged at a path when one occurrence more comes in.
-use Rattle.std.proofs.Common.{◌≡◌, ℕ, ◌+◌, ◌<◌, ℤ, pos, max, Bool, true, false, cond, List, [], ◌∷◌, ◌++◌, length, filter, fold, refl, sym, ap, ◌∙◌, subst, arith}
+use Rattle.std.proofs.Common.{◌≡◌, ◌+◌, ◌<◌, max, Bool, true, false, cond, List, [], ◌∷◌, ◌++◌, length, fold, refl, ap, ◌∙◌, arith}
 use Rattle.std.specs.Int.{int_min}
 use Rattle.std.proofs.lemmas.List.Elements.{filter-append}
 use Rattle.puffin.specs.Occurrences.{Path, Occurrence, is_path}
-use Rattle.puffin.specs.Pieces.{Merged, pieces_at, total_of, greatest_of, least_start_of, merged_of, merged_at}
+use Rattle.puffin.specs.Pieces.{pieces_at, total_of, greatest_of, least_start_of, merged_of, merged_at}
 use Rattle.puffin.specs.Steps.{with_piece, one_piece}
 
 fold-push : {A B : Type 0} (f : B → A → B) (b : B) (xs : List A) (x : A) → fold f b (xs ++ (x ∷ [])) ≡ f (fold f b xs) x

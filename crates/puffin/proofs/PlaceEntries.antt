@@ -1,5 +1,5 @@
 -- The places of a table's nodes, in order, are the entries that its forest is made of.
-use Rattle.std.proofs.Common.{◌≡◌, ℕ, zero, suc, ◌+◌, ◌-◌, ◌/◌, ◌<◌, ◌≤◌, ◌==◌, ℤ, pos, Bool, true, false, cond, eqb, List, [], ◌∷◌, ◌++◌, length, get_or, map, filter, All, ◌⊎◌, inl, inr, refl, sym, ap, subst, ◌∙◌, arith, vec_len}
+use Rattle.std.proofs.Common.{◌≡◌, ℕ, suc, ◌+◌, ◌-◌, ◌/◌, ◌<◌, ◌≤◌, ℤ, pos, Bool, true, false, cond, eqb, List, [], ◌∷◌, length, get_or, map, All, ◌⊎◌, inl, inr, refl, sym, ap, subst, ◌∙◌, arith, vec_len}
 use Rattle.std.specs.List.{AllByRecursion}
 use Rattle.std.specs.List.Sorted.{IsSorted}
 use Rattle.std.proofs.lemmas.Bool.Decides.{nat_tests}
@@ -10,23 +10,21 @@ use Rattle.std.specs.declared.cmp.Ordering.TheVariants.{Less, Equal, Greater}
 use Rattle.std.specs.Ordering.{is_lt, is_gt, nat_cmp, int_cmp, ordering_then, ordering_reverse}
 use Rattle.std.specs.Cmp.{IsTotalOrder, then_total, on_total, nat_cmp_total, int_cmp_total, upto}
 use Rattle.std.specs.Cmp.Lexicographic.{slice_cmp, nat_list_cmp_total}
-use Rattle.std.specs.FinMap.{nat_cmp-IsAntisymmetric, int_cmp-IsAntisymmetric, slice_cmp-IsAntisymmetric}
+use Rattle.std.specs.FinMap.{nat_cmp-IsAntisymmetric, slice_cmp-IsAntisymmetric}
 use Rattle.puffin.specs.declared.merge.table.Table.{Table}
 use Rattle.puffin.specs.declared.merge.table.Node.{Node}
-use Rattle.puffin.specs.declared.merge.table.Sums.{Sums}
 use Rattle.puffin.specs.declared.merge.tree.Place.{Place}
 use Rattle.puffin.specs.declared.merge.tree.Drawn.{Drawn}
 use Rattle.puffin.specs.Occurrences.{Label, Path, Occurrence}
 use Rattle.puffin.specs.Pieces.{Merged, merged_at}
 use Rattle.puffin.specs.Starts.{Sibling, earliest, earliest_start, end_from}
 use Rattle.puffin.specs.Merges.{below, sibling_of, IsMerge}
-use Rattle.puffin.specs.Assembled.{Entry, children_of, forest_below, Each, Some_of, StandsBefore, InOrder, IsEntry, IsTable}
-use Rattle.puffin.specs.Tables.{label_in, merged_in, path_at, IsNodeOf, IsTableOf}
-use Rattle.puffin.specs.Places.{IsPlaceAt, IsPlaceOf, SomeOf, EachOf, AreApart, place_cmp, ArePlacesOf, above_all, drawn_after, drawn_from, entry_of, entries_from}
+use Rattle.puffin.specs.Assembled.{Entry, children_of, forest_below, Each, Some_of, StandsBefore, InOrder, IsEntry}
+use Rattle.puffin.specs.Tables.{label_in, merged_in, path_at, IsTableOf}
+use Rattle.puffin.specs.Places.{IsPlaceOf, SomeOf, EachOf, AreApart, place_cmp, ArePlacesOf, above_all, drawn_after, entry_of, entries_from}
 use Rattle.std.proofs.lemmas.Cmp.{tied_itself}
 use Rattle.puffin.proofs.Assembling.{table-merged}
 use Rattle.puffin.proofs.Paths.{ties, top_path}
-use Rattle.puffin.proofs.Finding.{same_at}
 
 -- ---- each place's entry
 

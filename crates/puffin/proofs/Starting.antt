@@ -1,6 +1,5 @@
 -- Starting each sibling as early as it can gives the least feasible starts.
-use Rattle.std.proofs.Common.{◌≡◌, ℕ, ℤ, pos, ◌+ℤ◌, ◌≤ℤ◌, List, [], ◌∷◌, refl, sym, subst, arith}
-use Rattle.std.specs.Int.{int_max}
+use Rattle.std.proofs.Common.{ℤ, pos, ◌≤ℤ◌, List, [], ◌∷◌, arith}
 use Rattle.std.proofs.lemmas.Int.{ints, clamps}
 use Rattle.puffin.specs.Starts.{Sibling, end_from, IsFree, IsFeasible, IsNowhereAbove, IsLeastFeasible, earliest_start, earliest}
 

@@ -18,11 +18,11 @@ use Rattle.puffin_data.specs.Honesty.{Recorded, recorded}
 use Rattle.puffin_data.specs.Visiting.{TakesAll, StopsEarly}
 use Rattle.puffin_frames.specs.declared.thread_profiler.thread_info.ThreadInfo.{ThreadInfo}
 use Rattle.puffin_frames.specs.declared.frame_data.unpacked.UnpackedFrameData.{UnpackedFrameData}
-use Rattle.puffin_frames.specs.Info.{Info, info_of, info_cmp, thread_cmp, keyed}
-use Rattle.puffin_frames.specs.Contents.{records, unshared, contents}
+use Rattle.puffin_frames.specs.Info.{info_of, info_cmp, thread_cmp, keyed}
+use Rattle.puffin_frames.specs.Contents.{records, unshared}
 use Rattle.puffin.specs.declared.merge.table.Table.{Table}
 use Rattle.puffin.specs.declared.merge.stream.Merging.{Merging}
-use Rattle.puffin.specs.FrameStreams.{FrameBytes, bytes_of, most_tries_of}
+use Rattle.puffin.specs.FrameStreams.{bytes_of, most_tries_of}
 use Rattle.puffin.specs.Seen.{frame_bytes}
 use Rattle.puffin.specs.Merging.{TakesScopes, RefusesScope, takes_none}
 

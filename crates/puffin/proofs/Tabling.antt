@@ -1,20 +1,19 @@
 -- A table with one piece more, at a node that is there or at a new one.
-use Rattle.std.proofs.Common.{◌≡◌, ◌≢◌, ℕ, zero, suc, ◌+◌, ◌-◌, ◌<◌, ◌≤◌, ◌^◌, ℤ, Bool, true, false, cond, List, [], ◌∷◌, ◌++◌, length, get_or, set, filter, All, refl, sym, ap, subst, ◌∙◌, arith, inl, inr, ◌⊎◌, vec_len}
+use Rattle.std.proofs.Common.{◌≡◌, ℕ, zero, suc, ◌+◌, ◌-◌, ◌<◌, ◌≤◌, ◌^◌, ℤ, Bool, false, cond, List, [], ◌∷◌, ◌++◌, length, get_or, set, All, refl, sym, ap, subst, ◌∙◌, arith, inl, inr, vec_len}
 use Rattle.std.proofs.lemmas.Bool.{cases_lt, cases_eq}
 use Rattle.std.proofs.lemmas.List.{length_push, get_or-set_same, get_or-set_other, get_or_append_left, get_or_push, length-set}
-use Rattle.std.proofs.lemmas.List.Elements.{All-push, All-from_recursion, recursion_from_All}
+use Rattle.std.proofs.lemmas.List.Elements.{All-push, recursion_from_All}
 use Rattle.std.specs.List.{AllByRecursion}
 use Rattle.puffin.specs.declared.merge.table.Table.{Table}
 use Rattle.puffin.specs.declared.merge.table.Node.{Node}
 use Rattle.puffin.specs.declared.merge.table.Key.{Key}
-use Rattle.puffin.specs.declared.merge.table.Sums.{Sums}
 use Rattle.puffin.specs.Occurrences.{Label, Path, Occurrence, is_path}
-use Rattle.puffin.specs.Pieces.{Merged, pieces_at, merged_of, merged_at}
+use Rattle.puffin.specs.Pieces.{Merged, pieces_at, merged_at}
 use Rattle.puffin.specs.Merges.{below}
 use Rattle.puffin.specs.Refusals.{SumsFit}
 use Rattle.puffin.specs.Steps.{with_piece, one_piece}
-use Rattle.puffin.specs.Tables.{label_in, merged_in, keys_in, path_at, IsSameKey, HasKey, IsFound, made_node, grown_node, IsNodeOf, IsTableOf, occurrence_at, Extends, FitsOneMore, AddsAt}
-use Rattle.puffin.proofs.Paths.{one_path, same_path, other_path, path_at-kept, path_at-new, path_at-set, top_path}
+use Rattle.puffin.specs.Tables.{label_in, merged_in, path_at, IsSameKey, HasKey, IsFound, made_node, grown_node, IsNodeOf, IsTableOf, occurrence_at, FitsOneMore, AddsAt}
+use Rattle.puffin.proofs.Paths.{same_path, other_path, path_at-kept, path_at-new, path_at-set, top_path}
 use Rattle.puffin.proofs.Finding.{some_of, same_at, key_at-set, found_kept}
 use Rattle.puffin.proofs.Growing.{merged_at-other, merged_at-more, merged_at-first}
 

@@ -1,10 +1,9 @@
 -- A flat table of nodes, and the forest that it makes. Steps of the proof, and no part of what is promised.
-use Rattle.std.specs.Prelude.{◌≡◌, ℕ, ◌+◌, ◌/◌, ◌<◌, ◌≤◌, ◌==◌, ℤ, pos, Bool, cond, List, [], ◌∷◌, filter, map, length, All, Contains, ◌⊎◌}
-use Rattle.std.specs.declared.cmp.Ordering.{Ordering}
+use Rattle.std.specs.Prelude.{◌≡◌, ℕ, ◌/◌, ◌<◌, ◌≤◌, ◌==◌, ℤ, pos, cond, List, [], ◌∷◌, filter, map, All, ◌⊎◌}
 use Rattle.std.specs.declared.cmp.Ordering.TheVariants.{Less}
 use Rattle.puffin.specs.Occurrences.{Label, Path, Occurrence}
 use Rattle.puffin.specs.Pieces.{Merged, merged_at}
-use Rattle.puffin.specs.Starts.{Sibling, earliest}
+use Rattle.puffin.specs.Starts.{earliest}
 use Rattle.puffin.specs.MergedForests.{Node, MergedForest, no_node, merged}
 use Rattle.puffin.specs.Merges.{below, sibling_cmp, sibling_of}
 

@@ -1,5 +1,5 @@
 -- What the table takes from a stream, scope by scope. Steps of the proof, and no part of what is promised.
-use Rattle.std.specs.Prelude.{◌≡◌, ℕ, ◌+◌, ◌≤◌, ℤ, List, [], ◌∷◌, ◌++◌, length, vec_len}
+use Rattle.std.specs.Prelude.{◌≡◌, ◌≤◌, ℤ, List, [], ◌∷◌, ◌++◌, length, vec_len}
 use Rattle.std.proofs.Common.{refl, sym, ap, subst, ◌∙◌, append_assoc, arith}
 use Rattle.std.proofs.lemmas.List.{map-append}
 use Rattle.puffin_data.specs.declared.error.Error.{Error}
@@ -7,7 +7,7 @@ use Rattle.puffin_data.specs.Forest.{Span}
 use Rattle.puffin_data.specs.Sights.{Nested}
 use Rattle.puffin.specs.declared.merge.stream.Merging.{Merging}
 use Rattle.puffin.specs.declared.merge.stream.Open.{Open}
-use Rattle.puffin.specs.Occurrences.{Occurrence, Path, path_of, origin_in, occurrence_of, occurrences_in}
+use Rattle.puffin.specs.Occurrences.{Occurrence, path_of, origin_in, occurrence_of, occurrences_in}
 use Rattle.puffin.specs.Origins.{IsOrigin}
 use Rattle.puffin.specs.Refusals.{IsRefusedFor, AreAccepted}
 use Rattle.puffin.specs.Tables.{path_at, IsTableOf, Extends}

@@ -1,5 +1,5 @@
 -- The scopes of frames under one info, each as merging sees it.
-use Rattle.std.specs.Prelude.{◌≡◌, ℕ, ℤ, ◌-ℤ◌, nat_abs, pos, Bool, List, [], ◌∷◌, ◌++◌, map, flat_map}
+use Rattle.std.specs.Prelude.{ℕ, ℤ, ◌-ℤ◌, nat_abs, pos, Bool, List, [], ◌∷◌, ◌++◌, map, flat_map}
 use Rattle.std.specs.declared.cmp.Ordering.{Ordering}
 use Rattle.std.specs.Ordering.{nat_cmp, on, then_cmp, eq_by_cmp}
 use Rattle.std.specs.Cmp.Lexicographic.{slice_cmp}

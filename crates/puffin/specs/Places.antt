@@ -1,5 +1,5 @@
 -- The nodes of a table in the order in which their forest is made, and their starts. Steps of the proof, and no part of what is promised.
-use Rattle.std.specs.Prelude.{◌≡◌, ℕ, ◌+◌, ◌-◌, ◌/◌, ◌<◌, ◌≤◌, ◌==◌, ℤ, pos, ◌+ℤ◌, FitsSigned, List, [], ◌∷◌, length, map, slice_index_or, All, ◌⊎◌, if◌then◌else◌}
+use Rattle.std.specs.Prelude.{◌≡◌, ℕ, ◌+◌, ◌-◌, ◌/◌, ◌<◌, ◌==◌, pos, ◌+ℤ◌, FitsSigned, List, [], ◌∷◌, length, slice_index_or, All, ◌⊎◌, if◌then◌else◌}
 use Rattle.std.specs.Int.{w64}
 use Rattle.std.specs.declared.cmp.Ordering.{Ordering}
 use Rattle.std.specs.Ordering.{nat_cmp, int_cmp, on, then_cmp}
@@ -9,7 +9,7 @@ use Rattle.puffin.specs.declared.merge.table.Node.{Node}
 use Rattle.puffin.specs.declared.merge.tree.Place.{Place}
 use Rattle.puffin.specs.declared.merge.tree.Drawn.{Drawn}
 use Rattle.puffin.specs.declared.merge.table.Sums.{Sums}
-use Rattle.puffin.specs.Starts.{Sibling, earliest_start}
+use Rattle.puffin.specs.Starts.{earliest_start}
 use Rattle.puffin.specs.Tables.{merged_in}
 use Rattle.puffin.specs.MergedForests as forests
 use Rattle.puffin.specs.Assembled.{Entry}

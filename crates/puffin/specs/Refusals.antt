@@ -1,13 +1,13 @@
 -- Which refusal merging answers.
-use Rattle.std.specs.Prelude.{◌≡◌, ℕ, ◌+◌, ◌^◌, ◌<◌, ◌≤◌, ◌⊎◌, ℤ, pos, ◌-ℤ◌, ◌+ℤ◌, FitsSigned, List, [], ◌∷◌, ◌++◌, length}
+use Rattle.std.specs.Prelude.{◌≡◌, ℕ, ◌^◌, ◌<◌, ◌≤◌, ◌⊎◌, ℤ, ◌-ℤ◌, ◌+ℤ◌, FitsSigned, List, [], ◌∷◌, ◌++◌, length}
 use Rattle.std.specs.Int.{w64}
 use Rattle.puffin_data.specs.declared.error.Error.{Error}
 use Rattle.puffin_data.specs.declared.error.Error.TheVariants.{TooDeep, TooLarge}
 use Rattle.puffin_data.specs.Walk.{Reaches, IsFaultAt, IsFirstFault}
 use Rattle.puffin_data.specs.Sights.{Sight, Sees, scopes_of, before}
-use Rattle.puffin.specs.Occurrences.{Path, Occurrence, FrameScopes, occurrence_of, occurrences_in, occurrences_from, occurrences}
+use Rattle.puffin.specs.Occurrences.{Occurrence, FrameScopes, occurrence_of, occurrences_in, occurrences_from, occurrences}
 use Rattle.puffin.specs.Pieces.{merged_at}
-use Rattle.puffin.specs.MergedForests.{Node, MergedForest, no_node, merged}
+use Rattle.puffin.specs.MergedForests.{MergedForest, no_node, merged}
 use Rattle.puffin.specs.Merges.{IsMerge}
 use Rattle.puffin.specs.FrameStreams.{FrameBytes, bytes_of, start_of, HaveScopes}
 

@@ -1,5 +1,5 @@
 -- What contracts see of frames and merged scopes.
-use Rattle.std.specs.Prelude.{ℕ, ℤ, List, [], ◌∷◌, map, Option, option_map}
+use Rattle.std.specs.Prelude.{List, [], ◌∷◌, map, option_map}
 use Rattle.std.specs.FinMap as tree
 use Rattle.std.specs.Arc.{arc_value}
 use Rattle.std.specs.Cow.{cow_str_bytes}

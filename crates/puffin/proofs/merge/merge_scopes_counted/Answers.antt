@@ -1,9 +1,9 @@
 -- One frame after the other is read into the table, and then its forest is made.
-use Rattle.std.proofs.Common.{◌≡◌, ◌∙◌, ◌+◌, ◌≤◌, ℕ, List, length, take, sym, ap, subst, arith, Bool, true, eqb}
+use Rattle.std.proofs.Common.{◌≡◌, ◌+◌, ℕ, length, arith, Bool, true, eqb}
 use Rattle.std.proofs.lemmas.Bool.Decides.{nat_tests}
 use Rattle.std.proofs.lemmas.Result.{err_from_is_err_and}
 use Rattle.puffin_frames.specs.Info.{info_of}
-use Rattle.puffin.specs.Seen.{frames_bytes, forest_in}
+use Rattle.puffin.specs.Seen.{frames_bytes}
 use Rattle.puffin.proofs.FramesRead.{tries_of_all, read_no_frames}
 use Rattle.puffin.proofs.CodeFrames.{more_read, refused_read, more_tries, made_whole, made_refused, frames_size}
 use Rattle.puffin.proofs.merge.merge_scopes_counted.Goals as goal

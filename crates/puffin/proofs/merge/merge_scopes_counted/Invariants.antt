@@ -1,5 +1,5 @@
 -- The scopes of the frames so far are accepted and stand in the table.
-use Rattle.std.proofs.Common.{◌≡◌, ◌≤◌, ◌*◌, ◌^◌, List, take, length}
+use Rattle.std.proofs.Common.{◌≤◌, ◌*◌, ◌^◌, take}
 use Rattle.puffin_frames.specs.Info.{info_of}
 use Rattle.puffin.specs.FrameStreams.{most_tries}
 use Rattle.puffin.specs.Seen.{frames_bytes}

@@ -1,5 +1,5 @@
 -- The walk of the frame's stream, told of the frame.
-use Rattle.std.proofs.Common.{◌≡◌, ◌∙◌, ◌*◌, ◌+◌, ◌≤◌, ℕ, ℤ, List, length, refl, sym, ap, subst, arith}
+use Rattle.std.proofs.Common.{◌∙◌, ℤ, length, refl, sym, ap, subst, arith}
 use mir.Syntax.{w128}
 use mir.Val.{to_z, of_z}
 use Rattle.puffin.specs.declared.merge.stream.Open.{Open}

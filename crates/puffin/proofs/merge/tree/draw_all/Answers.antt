@@ -1,7 +1,6 @@
 -- The node of each place is there, and what is drawn of it comes next.
-use Rattle.std.proofs.Common.{inr, arith, subst, sym}
+use Rattle.std.proofs.Common.{inr, arith}
 use Rattle.std.proofs.lemmas.Result.{err_from_is_err_and}
-use Rattle.puffin.specs.Places.{EndFits}
 use Rattle.puffin.proofs.Drawing.{no_place, place_low, place_high, small_at, drawn_more, fit_push, drawn_refused}
 use Rattle.puffin.proofs.merge.tree.draw_all.Goals as goal
 

@@ -1,5 +1,5 @@
 -- The places were made in the nodes' order, and then sorted.
-use Rattle.std.proofs.Common.{◌≡◌, length, arith}
+use Rattle.std.proofs.Common.{arith}
 use Rattle.puffin.proofs.NodePlaces.{places_sorted}
 use Rattle.puffin.proofs.merge.tree.places.Goals as goal
 

@@ -1,5 +1,5 @@
 -- The rows so far: empty, and then with the forests of the places from the last one on.
-use Rattle.std.proofs.Common.{◌≡◌, ℕ, ◌+◌, ◌≤◌, drop, length, vec_len}
+use Rattle.std.proofs.Common.{◌≡◌, ◌+◌, drop, vec_len}
 use Rattle.puffin.proofs.Attaching.{AreEmpty, HoldForests}
 use Rattle.puffin.proofs.merge.tree.tree_of.Given as goal
 

@@ -1,5 +1,5 @@
 -- Numbers that are passed on keep their values, and then the lemmas on entering a scope serve.
-use Rattle.std.proofs.Common.{◌≡◌, ◌∙◌, ◌-ℤ◌, nat_abs, ℕ, ℤ, refl, ap, sym, subst, arith, inl, inr, w64, FitsSigned}
+use Rattle.std.proofs.Common.{◌≡◌, ◌∙◌, ◌-ℤ◌, nat_abs, ℤ, refl, ap, sym, subst, arith, inr, w64, FitsSigned}
 use Rattle.std.proofs.lemmas.Result.{err_from_is_err_and}
 use mir.Syntax.{w128}
 use mir.Val.{to_z, of_z}

@@ -1,4 +1,4 @@
-use Rattle.std.proofs.Common.{◌∙◌, refl, arith}
+use Rattle.std.proofs.Common.{refl, arith}
 use Rattle.puffin.proofs.Finding.{found_more}
 use Rattle.puffin.proofs.merge.table.Table.start.Goals as goal
 
