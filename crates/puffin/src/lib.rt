@@ -4,6 +4,7 @@
 #![tactic(auto)]
 
 pub mod global_profiler;
+pub mod merge;
 pub mod profile_view;
 #[cfg(test)]
 mod tests;

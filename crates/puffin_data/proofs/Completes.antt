@@ -32,13 +32,13 @@ pub record Completed (bytes : List ℕ) (level : ℕ) (w v : Walk) (p e : ℕ) :
   pub number_of_places : length places ≡ scope_count forest
   pub faultless : (q f : ℕ) (fault : Error) → Reaches bytes p e q f → IsFaultAt bytes q f fault → ⊥
 
-nothing_reached : (bytes : List ℕ) (p e q f : ℕ) (fault : Error) → region bytes p e ≡ [] → Reaches bytes p e q f → IsFaultAt bytes q f fault → ⊥
+pub nothing_reached : (bytes : List ℕ) (p e q f : ℕ) (fault : Error) → region bytes p e ≡ [] → Reaches bytes p e q f → IsFaultAt bytes q f fault → ⊥
 nothing_reached bytes p e q f fault h here at = nothing_is_no_fault (region bytes p e) fault h at
 nothing_reached bytes p e q f fault h (child {s = s} sound r) at = nothing_is_not_sound (region bytes p e) s h sound
 nothing_reached bytes p e q f fault h (sibling {s = s} sound r) at = nothing_is_not_sound (region bytes p e) s h sound
 
 -- what is reached from a place where a sound scope stands
-after_sound : (bytes : List ℕ) (p e q f : ℕ) (s : Found) (fault : Error) → IsSoundAt bytes p e s
+pub after_sound : (bytes : List ℕ) (p e q f : ℕ) (s : Found) (fault : Error) → IsSoundAt bytes p e s
     → (Reaches bytes (p + s.child_begin) (p + s.child_end) q f → ⊥) → (Reaches bytes (p + s.next_sibling) e q f → ⊥) → Reaches bytes p e q f → IsFaultAt bytes q f fault → ⊥
 after_sound bytes p e q f s fault sound inner later here at = sound_is_no_fault (region bytes p e) s fault sound at
 after_sound bytes p e q f s fault sound inner later (child {s = t} other r) at =
@@ -47,7 +47,7 @@ after_sound bytes p e q f s fault sound inner later (sibling {s = t} other r) at
     later (subst (λ (x : Found). Reaches bytes (p + x.next_sibling) e q f) (one_sound (region bytes p e) t s other sound) r)
 
 -- the spelling of a scope with its children and what follows it, from those of the parts
-joined : (part inner rest : List ℕ) (s : Span) (size : ℕ) (f g : Forest) → part ≡ begin_bytes s.id s.start s.text size ++ (inner ++ (end_bytes s.stop ++ rest)) → length inner ≡ size → inner ≡ spelling f → rest ≡ spelling g → part ≡ spelling (node s f g)
+pub joined : (part inner rest : List ℕ) (s : Span) (size : ℕ) (f g : Forest) → part ≡ begin_bytes s.id s.start s.text size ++ (inner ++ (end_bytes s.stop ++ rest)) → length inner ≡ size → inner ≡ spelling f → rest ≡ spelling g → part ≡ spelling (node s f g)
 joined part inner rest s size f g e len ef eg =
     e ∙ ap (λ (n : ℕ). begin_bytes s.id s.start s.text n ++ (inner ++ (end_bytes s.stop ++ rest))) (sym len) ∙ ap (λ (x : List ℕ). begin_bytes s.id s.start s.text (length x) ++ (x ++ (end_bytes s.stop ++ rest))) ef ∙ ap (λ (x : List ℕ). begin_bytes s.id s.start s.text (length (spelling f)) ++ (spelling f ++ (end_bytes s.stop ++ x))) eg
 

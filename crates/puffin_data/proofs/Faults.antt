@@ -81,7 +81,7 @@ pub record Stops (bytes : List ℕ) (w : Walk) (p e : ℕ) (stop : Stop) : Type 
   pub tries : stop.tries ≡ w.num_scopes + below stop.place places + tries_in (region bytes stop.place end)
 
 -- what is reached from a place where a sound scope stands, and isn't that place, is reached from its children or its next sibling
-by_parts : (bytes : List ℕ) (p e q f place : ℕ) (s : Found) (fault : Error) → IsSoundAt bytes p e s
+pub by_parts : (bytes : List ℕ) (p e q f place : ℕ) (s : Found) (fault : Error) → IsSoundAt bytes p e s
     → (Reaches bytes (p + s.child_begin) (p + s.child_end) q f → place ≤ q) → (Reaches bytes (p + s.next_sibling) e q f → place ≤ q) → Reaches bytes p e q f → IsFaultAt bytes q f fault → place ≤ q
 by_parts bytes p e q f place s fault sound inner later here at = absurd (sound_is_no_fault (region bytes p e) s fault sound at)
 by_parts bytes p e q f place s fault sound inner later (child {s = t} other r) at =

@@ -21,6 +21,9 @@ pub mod Lenience
 pub mod AllRead
 pub mod OneReading
 pub mod TopScopes
+pub mod SightsSeen
+pub mod Going
+pub mod Visited
 pub mod Readers
 pub mod ValueReaders
 pub mod Texts

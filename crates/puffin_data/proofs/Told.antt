@@ -54,7 +54,7 @@ told_forest bytes tries w fits walked =
     (c.forest, record { whole = sym (whole_region bytes) ∙ c.spelled; fits = c.fits }, subst (λ (x : Walk). Counts x c.forest) (sym c.numbers) (counts c.forest))
 
 -- a fault stands on a byte of its region
-fault_inside : (bytes : List ℕ) (p e : ℕ) (fault : Error) → p ≤ e → IsFaultAt bytes p e fault → p < e
+pub fault_inside : (bytes : List ℕ) (p e : ℕ) (fault : Error) → p ≤ e → IsFaultAt bytes p e fault → p < e
 fault_inside bytes p e fault h at =
     elim (cases_lt p e) [
       | inl lt ↦ lt

@@ -19,3 +19,6 @@ pub mod Layout
 pub mod Front
 pub mod Sightings
 pub mod Walking
+pub mod Sights
+pub mod Visiting
+pub mod Goings

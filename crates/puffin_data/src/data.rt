@@ -9,17 +9,20 @@ mod scope;
 mod scope_id;
 mod stream;
 mod transfer;
+mod visit;
 mod walk;
 mod writing;
 
 pub use device::{Counted, Drain, Source};
 pub use info::{StreamInfo, StreamInfoRef};
 pub use parts::{read_byte, read_counted_part, read_length, read_part, read_up_to};
-pub use reader::Reader;
+pub use reader::{Reader, text_of};
 pub use record::{Scope, ScopeRecord};
+pub use scope::Sighting;
 pub use scope_id::ScopeId;
 pub use stream::Stream;
 pub use transfer::{read_to_end, write_all};
+pub use visit::{Visitor, walk_with};
 pub use walk::Walk;
 
 #[cfg(test)]

@@ -21,7 +21,7 @@ use std::alloc::Global;
 use std::marker::Model;
 
 /// The text of stored bytes: their longest beginning that is UTF-8.
-fn text_of(stored: &[u8]) -> &str
+pub fn text_of(stored: &[u8]) -> &str
     ensures { result.now ≡ text_in stored.now }
 {
     match std::str::from_utf8(stored) {

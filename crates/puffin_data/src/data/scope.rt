@@ -18,13 +18,20 @@ pub(crate) const END_SIZE: usize = 9;
 
 /// A sound scope at the front of a region. Positions count from the scope's first byte.
 #[derive(Clone, Copy, Debug)]
-pub(crate) struct Sighting<'s> {
+pub struct Sighting<'s> {
+    /// What stands for the scope's details. Not 0.
     pub id: u32,
+    /// When the scope began, in nanoseconds.
     pub start: NanoSecond,
+    /// When the scope ended, in nanoseconds.
     pub stop: NanoSecond,
+    /// The stored bytes of its text.
     pub text: &'s [u8],
+    /// Where its first child begins, if there is one.
     pub child_begin: usize,
+    /// Where its last child ends.
     pub child_end: usize,
+    /// Where its next sibling begins, if there is one.
     pub next_sibling: usize,
 }
 

@@ -47,7 +47,7 @@ impl Walk {
 }
 
 /// The scope that has to stand at the front of a region. A reading at its first byte is a try.
-fn next_scope<'s>(region: &'s [u8], tries: &mut u64) -> Result<Sighting<'s>>
+pub(crate) fn next_scope<'s>(region: &'s [u8], tries: &mut u64) -> Result<Sighting<'s>>
     requires not_empty { 0 < length region.now }
     requires few { tries.old + 1 < 2 ^ 64 }
     ensures sound { IfOk result (λ s. reading region.now ≡ Ok (Some (found_of s))) }

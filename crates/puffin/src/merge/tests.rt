@@ -1,0 +1,293 @@
+use crate::data::{ScopeId, Stream, StreamInfo};
+use crate::frame_data::UnpackedFrameData;
+use crate::merge::{MergeScope, merge_scopes_counted, merge_scopes_for_thread};
+use crate::scope_details::ScopeCollection;
+use crate::thread_profiler::ThreadInfo;
+use crate::{Error, NanoSecond, Result};
+use std::alloc::Global;
+use std::collections::BTreeMap;
+use std::sync::Arc;
+use std::test::Fail;
+
+type Outcome = std::result::Result<(), Fail>;
+
+type Frames = Vec<Arc<UnpackedFrameData>>;
+
+/// Id, start, total, per frame, greatest, pieces.
+type Numbers = (u32, NanoSecond, NanoSecond, NanoSecond, NanoSecond, usize);
+
+/// Begins a scope, and answers where its size stands.
+fn begin(stream: &mut Stream, id: u32, start: NanoSecond, text: &str) -> Result<usize> {
+    match ScopeId::new(id) {
+        None => Err(Error::PrematureEnd),
+        Some(id) => Ok(stream.begin_scope(move || start, id, text)?.0),
+    }
+}
+
+fn end(stream: &mut Stream, offset: usize, stop: NanoSecond) -> Result<()> {
+    if offset <= stream.len() && 8 <= stream.len() - offset {
+        stream.end_scope(offset, stop)
+    } else {
+        Err(Error::ScopeNeverEnded)
+    }
+}
+
+fn leaf(stream: &mut Stream, id: u32, start: NanoSecond, stop: NanoSecond) -> Result<()> {
+    let offset = begin(stream, id, start, "")?;
+    end(stream, offset, stop)
+}
+
+fn thread(alloc: Global) -> Result<ThreadInfo> {
+    Ok(ThreadInfo {
+        start_time_ns: Some(0),
+        name: String::from_str(alloc, "main")?,
+    })
+}
+
+fn frame(alloc: Global, stream: Stream) -> Result<Arc<UnpackedFrameData>> {
+    let mut streams = BTreeMap::new(alloc);
+    let _none = streams.insert(thread(alloc)?, StreamInfo::parse(alloc, stream)?)?;
+    Ok(Arc::new(alloc, UnpackedFrameData::new(alloc, 0, streams)?)?)
+}
+
+/// A frame of one scope.
+fn one_scope(
+    alloc: Global,
+    id: u32,
+    start: NanoSecond,
+    stop: NanoSecond,
+) -> Result<Arc<UnpackedFrameData>> {
+    let mut stream = Stream::new(alloc);
+    leaf(&mut stream, id, start, stop)?;
+    frame(alloc, stream)
+}
+
+fn one_frame(alloc: Global, stream: Stream) -> Result<Frames> {
+    let mut frames = Vec::new(alloc);
+    frames.push(frame(alloc, stream)?)?;
+    Ok(frames)
+}
+
+fn merged<'s>(alloc: Global, frames: &'s Frames) -> Result<Vec<MergeScope<'s>>> {
+    let collection = ScopeCollection::new(alloc);
+    merge_scopes_for_thread(alloc, &collection, frames.as_slice(), &thread(alloc)?)
+}
+
+fn numbers(scope: &MergeScope) -> Numbers {
+    (
+        scope.id.get(),
+        scope.relative_start_ns,
+        scope.total_duration_ns,
+        scope.duration_per_frame_ns,
+        scope.max_duration_ns,
+        scope.num_pieces,
+    )
+}
+
+/// The numbers of three levels, parents before children.
+fn all_numbers(alloc: Global, merged: &[MergeScope]) -> Result<Vec<Numbers>> {
+    let mut seen = Vec::new(alloc);
+    for top in merged {
+        seen.push(numbers(top))?;
+        for child in &top.children {
+            seen.push(numbers(child))?;
+            for grandchild in &child.children {
+                seen.push(numbers(grandchild))?;
+            }
+        }
+    }
+    Ok(seen)
+}
+
+#[test]
+fn scopes_within_scopes(rt: HostRuntime) -> Outcome {
+    let alloc = rt.alloc();
+    let mut stream = Stream::new(alloc);
+    for n in [0, 1000] {
+        leaf(&mut stream, 1, n + 100, n + 200)?;
+        let two = begin(&mut stream, 2, n + 200, "")?;
+        leaf(&mut stream, 3, n + 400, n + 600)?;
+        let four = begin(&mut stream, 4, n + 600, "")?;
+        leaf(&mut stream, 5, n + 600, n + 700)?;
+        end(&mut stream, four, n + 800)?;
+        end(&mut stream, two, n + 900)?;
+    }
+    let frames = one_frame(alloc, stream)?;
+    let merged = merged(alloc, &frames)?;
+    assert_eq!(rt;
+        all_numbers(alloc, merged.as_slice())?.as_slice(),
+        &[
+            (1, 100, 200, 200, 100, 2),
+            (2, 300, 1400, 1400, 700, 2),
+            (3, 200, 400, 400, 200, 2),
+            (4, 600, 400, 400, 200, 2),
+            (5, 0, 200, 200, 100, 2),
+        ][..]
+    );
+    Ok(())
+}
+
+fn merge_of_three(alloc: Global, ranges: [(NanoSecond, NanoSecond); 3]) -> Result<Option<Numbers>> {
+    let mut frames = Vec::new(alloc);
+    for (start, stop) in ranges {
+        frames.push(one_scope(alloc, 1, start, stop)?)?;
+    }
+    Ok(match merged(alloc, &frames)?.first() {
+        Some(scope) => Some(numbers(scope)),
+        None => None,
+    })
+}
+
+#[test]
+fn frames_in_any_order(rt: HostRuntime) -> Outcome {
+    let alloc = rt.alloc();
+    let first = (100, 300);
+    let second = (1100, 1300);
+    let third = (2100, 2110);
+    let first_ahead = Some((1, 100, 410, 136, 200, 3));
+    assert_eq!(rt; merge_of_three(alloc, [first, second, third])?, first_ahead);
+    assert_eq!(rt; merge_of_three(alloc, [first, third, second])?, first_ahead);
+    let third_ahead = Some((1, 2100, 410, 136, 200, 3));
+    assert_eq!(rt; merge_of_three(alloc, [third, first, second])?, third_ahead);
+    assert_eq!(rt; merge_of_three(alloc, [third, second, first])?, third_ahead);
+    Ok(())
+}
+
+#[test]
+fn a_child_that_starts_before_its_parent(rt: HostRuntime) -> Outcome {
+    let alloc = rt.alloc();
+    let mut stream = Stream::new(alloc);
+    let parent = begin(&mut stream, 1, 100, "")?;
+    leaf(&mut stream, 2, 95, 150)?;
+    end(&mut stream, parent, 200)?;
+    let frames = one_frame(alloc, stream)?;
+    let merged = merged(alloc, &frames)?;
+    assert_eq!(rt;
+        all_numbers(alloc, merged.as_slice())?.as_slice(),
+        &[(1, 100, 100, 100, 100, 1), (2, 0, 55, 55, 55, 1)][..]
+    );
+    Ok(())
+}
+
+#[test]
+fn a_total_that_does_not_fit(rt: HostRuntime) -> Outcome {
+    let alloc = rt.alloc();
+    let mut stream = Stream::new(alloc);
+    leaf(&mut stream, 1, 0, i64::MAX)?;
+    leaf(&mut stream, 1, 0, i64::MAX)?;
+    let frames = one_frame(alloc, stream)?;
+    assert!(rt; matches!(merged(alloc, &frames), Err(Error::TooLarge)));
+    Ok(())
+}
+
+#[test]
+fn a_scope_of_one_of_two_frames(rt: HostRuntime) -> Outcome {
+    let alloc = rt.alloc();
+    let mut frames = Vec::new(alloc);
+    frames.push(one_scope(alloc, 1, 10, 15)?)?;
+    frames.push(one_scope(alloc, 2, 100, 101)?)?;
+    let merged = merged(alloc, &frames)?;
+    assert_eq!(rt;
+        all_numbers(alloc, merged.as_slice())?.as_slice(),
+        &[(1, 10, 5, 2, 5, 1), (2, 12, 1, 0, 1, 1)][..]
+    );
+    Ok(())
+}
+
+#[test]
+fn no_frames_and_no_stream(rt: HostRuntime) -> Outcome {
+    let alloc = rt.alloc();
+    let none = Vec::new(alloc);
+    assert_eq!(rt; merged(alloc, &none)?.len(), 0);
+    let mut frames = Vec::new(alloc);
+    frames.push(one_scope(alloc, 1, 10, 15)?)?;
+    let other = ThreadInfo {
+        start_time_ns: None,
+        name: String::from_str(alloc, "main")?,
+    };
+    let mut tries = 7;
+    assert_eq!(rt;
+        merge_scopes_counted(alloc, frames.as_slice(), &other, &mut tries)?.len(),
+        0
+    );
+    assert_eq!(rt; tries, 0);
+    Ok(())
+}
+
+#[test]
+fn texts_and_ids_tell_siblings_apart(rt: HostRuntime) -> Outcome {
+    let alloc = rt.alloc();
+    let mut stream = Stream::new(alloc);
+    for text in ["b", "a", "b"] {
+        let offset = begin(&mut stream, 1, 3, text)?;
+        end(&mut stream, offset, 4)?;
+    }
+    let frames = one_frame(alloc, stream)?;
+    let merged = merged(alloc, &frames)?;
+    assert_eq!(rt; merged.len(), 2);
+    assert_eq!(rt; merged[0].text.as_str(), "a");
+    assert_eq!(rt; merged[1].text.as_str(), "b");
+    assert_eq!(rt; numbers(&merged[1]), (1, 4, 2, 2, 1, 2));
+    Ok(())
+}
+
+#[test]
+fn tries_are_counted(rt: HostRuntime) -> Outcome {
+    let alloc = rt.alloc();
+    let mut frames = Vec::new(alloc);
+    for _ in 0..3 {
+        let mut stream = Stream::new(alloc);
+        let offset = begin(&mut stream, 1, 100, "data")?;
+        end(&mut stream, offset, 300)?;
+        frames.push(frame(alloc, stream)?)?;
+    }
+    let mut tries = 0;
+    let merged = merge_scopes_counted(alloc, frames.as_slice(), &thread(alloc)?, &mut tries)?;
+    assert_eq!(rt; merged.len(), 1);
+    assert_eq!(rt; tries, 3);
+    Ok(())
+}
+
+/// So many scopes, each in the one before.
+fn nested(alloc: Global, height: usize) -> Result<Stream> {
+    let mut stream = Stream::new(alloc);
+    let mut offsets = Vec::new(alloc);
+    for _ in 0..height {
+        offsets.push(begin(&mut stream, 1, 0, "")?)?;
+    }
+    while let Some(offset) = offsets.pop() {
+        end(&mut stream, offset, 0)?;
+    }
+    Ok(stream)
+}
+
+#[test]
+fn heights(rt: HostRuntime) -> Outcome {
+    let alloc = rt.alloc();
+    let fit = one_frame(alloc, nested(alloc, 1024)?)?;
+    assert_eq!(rt; merged(alloc, &fit)?.len(), 1);
+    for height in [1025, 100_000] {
+        let too_deep = one_frame(alloc, nested(alloc, height)?)?;
+        assert!(rt; matches!(merged(alloc, &too_deep), Err(Error::TooDeep)));
+    }
+    Ok(())
+}
+
+#[test]
+fn copies(rt: HostRuntime) -> Outcome {
+    let alloc = rt.alloc();
+    let mut stream = Stream::new(alloc);
+    let parent = begin(&mut stream, 1, 100, "outer")?;
+    leaf(&mut stream, 2, 120, 150)?;
+    end(&mut stream, parent, 200)?;
+    let frames = one_frame(alloc, stream)?;
+    for scope in merged(alloc, &frames)? {
+        let copy = scope.clone()?;
+        assert_eq!(rt; copy, scope);
+        let owned = scope.into_owned(alloc)?;
+        assert_eq!(rt; owned.text.as_str(), "outer");
+        assert_eq!(rt; numbers(&owned), numbers(&copy));
+        assert_eq!(rt; owned.children.len(), 1);
+    }
+    Ok(())
+}
