@@ -255,8 +255,8 @@ fn nested(alloc: Global, height: usize) -> Result<Stream> {
     for _ in 0..height {
         offsets.push(begin(&mut stream, 1, 0, "")?)?;
     }
-    while let Some(offset) = offsets.pop() {
-        end(&mut stream, offset, 0)?;
+    for offset in offsets.iter().rev() {
+        end(&mut stream, *offset, 0)?;
     }
     Ok(stream)
 }
