@@ -26,7 +26,7 @@ impl ScopeIds {
         }
     }
 
-    /// The next number as an id. Two draws give different ids. Takes no memory.
+    /// The next number as an id. Takes no memory. Draws give different ids until the counter has gone round, as tests show.
     ///
     /// Refused only with `IdsExhausted`, where the number is 0 or beyond `u32`. It is used up then, too.
     pub fn draw(&self) -> Result<ScopeId>
