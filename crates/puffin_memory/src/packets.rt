@@ -1,0 +1,98 @@
+//! Frames that are packed, written, read and unpacked.
+
+use crate::again;
+use puffin_data::FileError;
+use puffin_data::data::{Counted, ScopeId, Stream, StreamInfo};
+use puffin_frames::frame_data::FrameData;
+use puffin_frames::scope_details::ScopeDetails;
+use puffin_frames::thread_profiler::ThreadInfo;
+use std::alloc::Global;
+use std::borrow::CowStr;
+use std::collections::BTreeMap;
+use std::sync::Arc;
+
+/// The stream of one scope in another, for which memory is taken at once.
+fn stream(alloc: Global, start: i64) -> Option<Stream> {
+    let id = ScopeId::new(7)?;
+    let mut stream = Stream::new(alloc);
+    again!(stream.reserve(100))?;
+    let (outer, _) = stream.begin_scope(|| start, id, "outer").ok()?;
+    let (inner, _) = stream.begin_scope(|| start, id, "").ok()?;
+    stream.end_scope(inner, start).ok()?;
+    stream.end_scope(outer, start).ok()?;
+    Some(stream)
+}
+
+fn thread(alloc: Global, start: i64, name: &str) -> Option<ThreadInfo> {
+    Some(ThreadInfo {
+        start_time_ns: Some(start),
+        name: again!(String::from_str(alloc, name))?,
+    })
+}
+
+fn details(alloc: Global) -> Option<Vec<Arc<ScopeDetails>>> {
+    let name = again!(String::from_str(alloc, "named"))?;
+    let details = ScopeDetails::from_scope_name(CowStr::Owned(name))
+        .with_line_nr(7)
+        .with_scope_id(ScopeId::new(3)?);
+    let mut all = Vec::new(alloc);
+    again!(all.reserve(1))?;
+    all.push(Arc::new(alloc, details).ok()?).ok()?;
+    Some(all)
+}
+
+/// A frame of two threads, which tells of one scope.
+fn frame(alloc: Global) -> Option<FrameData> {
+    let mut streams = BTreeMap::new(alloc);
+    for (name, start) in [("main", 100), ("other", 150)] {
+        let info = StreamInfo::parse(alloc, stream(alloc, start)?).ok()?;
+        streams.insert(thread(alloc, start, name)?, info).ok()?;
+    }
+    FrameData::new(alloc, 4, streams, details(alloc)?, false).ok()
+}
+
+fn packet(alloc: Global, frame: &FrameData) -> Result<Vec<u8>, FileError> {
+    let mut bytes = Vec::new(alloc);
+    let mut drain = Counted::new(&mut bytes);
+    frame.write_into(None, &mut drain)?;
+    Ok(bytes)
+}
+
+fn read(alloc: Global, bytes: &[u8]) -> Result<Option<FrameData>, FileError> {
+    let mut source = Counted::new(bytes);
+    FrameData::read_next(alloc, &mut source)
+}
+
+/// Writes a frame, and prints a sum over its bytes.
+fn write(rt: &HostRuntime, held: &str, frame: &FrameData) -> Option<Vec<u8>> {
+    let bytes = again!(packet(rt.alloc(), frame))?;
+    let mut sum: u64 = 0;
+    for byte in &bytes {
+        sum = sum.wrapping_mul(31).wrapping_add(u64::from(*byte));
+    }
+    let len = bytes.len();
+    println!(rt; "{held} bytes {len} sum {sum}").ok()?;
+    Some(bytes)
+}
+
+/// Writes a frame in each state that it may be held in.
+pub fn run(rt: &HostRuntime) -> Option<()> {
+    let alloc = rt.alloc();
+    let mut made = match frame(alloc) {
+        Some(made) => made,
+        None => frame(alloc)?,
+    };
+    let _bytes = write(rt, "unpacked", &made)?;
+    let copy = again!(made.clone())?;
+    let _bytes = write(rt, "copy", &copy)?;
+    let copy = again!(made.packed_copy())?;
+    let _bytes = write(rt, "packed copy", &copy)?;
+    again!(made.pack())?;
+    let bytes = write(rt, "packed", &made)?;
+    let mut again = again!(read(alloc, &bytes))??;
+    let _bytes = write(rt, "read", &again)?;
+    let unpacked = again!(again.unpacked())?;
+    let threads = unpacked.thread_streams.len();
+    let _bytes = write(rt, "both ways", &again)?;
+    println!(rt; "threads {threads}").ok()
+}

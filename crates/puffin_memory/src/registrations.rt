@@ -1,0 +1,120 @@
+//! Scopes that are registered, reported and told of in frames.
+
+use crate::again;
+use puffin::frame_data::FrameData;
+use puffin::global_profiler::GlobalProfiler;
+use puffin_data::Error;
+use puffin_data::data::ScopeId;
+use puffin_frames::scope_details::{ScopeDetails, ScopeIds};
+use puffin_frames::thread_profiler::{Closed, ScriptClock, ThreadProfiler};
+use std::alloc::Global;
+use std::borrow::CowStr;
+
+type Thread = ThreadProfiler<ScriptClock>;
+
+fn owned(alloc: Global, text: &str) -> Option<CowStr<'static>> {
+    Some(CowStr::Owned(again!(String::from_str(alloc, text))?))
+}
+
+fn thread(alloc: Global, name: &str) -> Option<Thread> {
+    let name = again!(String::from_str(alloc, name))?;
+    Some(ThreadProfiler::new(alloc, name, ScriptClock::new(0)))
+}
+
+fn function(alloc: Global, thread: &mut Thread, ids: &ScopeIds) -> Option<ScopeId> {
+    again!(thread.register_function_scope(ids, owned(alloc, "load")?, owned(alloc, "a.rs")?, 7))
+}
+
+fn named(alloc: Global, thread: &mut Thread, ids: &ScopeIds) -> Option<ScopeId> {
+    again!(thread.register_named_scope(
+        ids,
+        owned(alloc, "inner")?,
+        owned(alloc, "load")?,
+        owned(alloc, "a.rs")?,
+        9
+    ))
+}
+
+/// Reports one scope in another.
+fn report(
+    profiler: &mut GlobalProfiler,
+    thread: &mut Thread,
+    scopes: (ScopeId, ScopeId),
+    start: i64,
+) -> Option<()> {
+    thread.clock().set(start);
+    let outer = again!(thread.begin_scope(scopes.0, "outer text"))?;
+    let inner = again!(thread.begin_scope(scopes.1, ""))?;
+    thread.clock().set(start.saturating_add(100));
+    let _inner = thread.end_scope(inner, profiler).ok()?;
+    match thread.end_scope(outer, profiler) {
+        Ok(Closed::Reported) => Some(()),
+        Ok(Closed::Kept(Error::Memory)) => {
+            let _was_kept = again!(thread.report_closed(profiler))?;
+            Some(())
+        }
+        _ => None,
+    }
+}
+
+/// Registers two scopes of the caller's own, one of them twice.
+fn users(alloc: Global, profiler: &mut GlobalProfiler, ids: &ScopeIds) -> Option<()> {
+    let details = [
+        ScopeDetails::from_scope_name(owned(alloc, "first of the user's")?),
+        ScopeDetails::from_scope_name(owned(alloc, "second")?)
+            .with_file(owned(alloc, "b.rs")?)
+            .with_line_nr(3),
+        ScopeDetails::from_scope_name(CowStr::Borrowed("second")),
+    ];
+    let _ids = again!(profiler.register_user_scopes(ids, &details))?;
+    Some(())
+}
+
+fn print_frame(rt: &HostRuntime, frame: &FrameData) -> Option<()> {
+    let meta = frame.meta();
+    let (index, scopes, bytes) = (meta.frame_index, meta.num_scopes, meta.num_bytes);
+    println!(rt; "frame {index} scopes {scopes} bytes {bytes}").ok()?;
+    for details in &frame.scope_delta {
+        let name = details.name().as_str();
+        let line = details.line_nr;
+        println!(rt; "  {name} {line}").ok()?;
+    }
+    Some(())
+}
+
+fn frame(rt: &HostRuntime, profiler: &mut GlobalProfiler) -> Option<()> {
+    let emitted = again!(profiler.new_frame())?;
+    match &emitted.frame {
+        Some(frame) => print_frame(rt, frame),
+        None => println!(rt; "no frame").ok(),
+    }
+}
+
+/// Two threads register scopes and report them, over four frames; the last one tells of all that is known.
+pub fn run(rt: &HostRuntime) -> Option<()> {
+    let alloc = rt.alloc();
+    let ids = ScopeIds::new();
+    let mut profiler = GlobalProfiler::new(alloc);
+    let mut main = thread(alloc, "main")?;
+    let mut other = thread(alloc, "other")?;
+    users(alloc, &mut profiler, &ids)?;
+    frame(rt, &mut profiler)?;
+    let scopes = (
+        function(alloc, &mut main, &ids)?,
+        named(alloc, &mut main, &ids)?,
+    );
+    report(&mut profiler, &mut main, scopes, 100)?;
+    let others = (
+        function(alloc, &mut other, &ids)?,
+        named(alloc, &mut other, &ids)?,
+    );
+    report(&mut profiler, &mut other, others, 150)?;
+    report(&mut profiler, &mut main, scopes, 300)?;
+    frame(rt, &mut profiler)?;
+    report(&mut profiler, &mut other, others, 500)?;
+    frame(rt, &mut profiler)?;
+    users(alloc, &mut profiler, &ids)?;
+    profiler.emit_scope_snapshot();
+    report(&mut profiler, &mut main, scopes, 700)?;
+    frame(rt, &mut profiler)
+}

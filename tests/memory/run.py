@@ -1,0 +1,99 @@
+"""Runs programs once for each of their allocations, which is refused, and looks at how they end.
+
+    python3 run.py PUFFIN_MEMORY PUFFIN_TOOL
+
+The first program makes each call again that was refused for memory: it has to end with status 0 and to print the same
+whichever allocation it was. The second must do what it does otherwise, or end with status 1 and say that there was no
+memory, and nothing but a beginning of its output is written then. A C compiler is needed: `cc`, or what CC names.
+"""
+
+import os
+import pathlib
+import subprocess
+import sys
+import tempfile
+
+HERE = pathlib.Path(__file__).resolve().parent
+STREAM = bytes.fromhex("28 01000000 6400000000000000 04 64617461 0000000000000000 29 2c01000000000000")
+SCRIPT = b"""function main load a.rs 7
+user own
+begin main 100 1 data
+begin main 120 1 inner
+end main 150
+end main 300
+frame
+snapshot
+begin main 400 1
+begin other 410 2 of another thread
+end other 420
+end other 420
+end main 500
+frame
+frame
+"""
+
+
+class Refusing:
+    """Runs a program in a folder, with one allocation refused."""
+
+    def __init__(self, folder):
+        self.folder = folder
+        self.library = f"{folder}/refuse.so"
+        compiler = os.environ.get("CC", "cc")
+        subprocess.run([compiler, "-O2", "-shared", "-fPIC", "-o", self.library, HERE / "refuse.c"], check=True)
+
+    def run(self, words, given, number):
+        """The status, what was written, and how many allocations there were (0: refused)."""
+        told, out = f"{self.folder}/count", pathlib.Path(f"{self.folder}/out")
+        for path in (told, out):
+            pathlib.Path(path).unlink(missing_ok=True)
+        settings = {"LD_PRELOAD": self.library, "REFUSED": str(number), "REFUSED_COUNT": told}
+        ran = subprocess.run(words, input=given, capture_output=True, cwd=self.folder, env={**os.environ, **settings}, timeout=120)
+        count = int(pathlib.Path(told).read_text()) if os.path.exists(told) else 0
+        return ran.returncode, ran.stdout, ran.stderr, out.read_bytes() if out.exists() else b"", count
+
+
+def is_alike(ended, usual):
+    return ended[:4] == usual[:4]
+
+
+def is_told(ended, usual):
+    """The program's own words for want of memory, with nothing but a beginning of its output."""
+    status, lines, cause, file, _ = ended
+    began = usual[1].startswith(lines) and usual[3].startswith(file)
+    return status == 1 and began and cause == b"puffin-tool: Memory\n"
+
+
+def faults(refusing, words, given, may_tell):
+    """How many allocations were refused, and the runs that ended as none may."""
+    usual = refusing.run(words, given, 0)
+    if usual[0]:
+        return 0, [f"with memory it ends with status {usual[0]}: {usual[2]!r:.200}"]
+    found = []
+    for number in range(1, usual[4] + 1):
+        ended = refusing.run(words, given, number)
+        if not is_alike(ended, usual) and not (may_tell and is_told(ended, usual)):
+            found.append(f"at {number}: status {ended[0]}, {ended[1]!r:.200}, {ended[2]!r:.200}")
+    return usual[4], found
+
+
+def main():
+    memory, tool = (str(pathlib.Path(it).resolve()) for it in sys.argv[1:])
+    failed = 0
+    with tempfile.TemporaryDirectory() as folder:
+        refusing = Refusing(folder)
+        pathlib.Path(f"{folder}/script").write_bytes(SCRIPT)
+        cases = {
+            "each call twice": ([memory], b"", False),
+            "count": ([tool, "count"], STREAM, True),
+        }
+        for name, (words, given, may_tell) in cases.items():
+            count, found = faults(refusing, words, given, may_tell)
+            failed += bool(found)
+            print(f"memory {name} ... {'; '.join(found) if found else f'{count} allocations refused in turn: ok'}")
+    print(f"{len(cases) - failed} passed, {failed} failed")
+    return 1 if failed else 0
+
+
+if __name__ == "__main__":
+    sys.exit(main())
