@@ -12,8 +12,8 @@ use std::collections::BTreeMap;
 pub const FRAMES: u32 = 1_000;
 /// How many nests of eight scopes a frame has. Its stream has about 35 kB.
 const NESTS: usize = 106;
-/// The text of each scope, of 12 bytes.
-const TEXT: &str = "image-12.png";
+/// The text of each scope, of 10 bytes.
+const TEXT: &str = "mesh-7.obj";
 
 /// The stream of one frame, from a time on.
 fn stream(alloc: Global, start: i64) -> Result<Stream> {

@@ -23,6 +23,11 @@ use puffin_data::data::{Drain, write_all};
 use std::alloc::Global;
 use std::sync::Arc;
 
+/// How many bytes a meta has, at most: five numbers of at most 9 bytes.
+const META_SIZE: usize = 45;
+/// How many bytes stand beside the meta before a packet's streams: the letters, two lengths and the kind.
+const HEAD_SIZE: usize = 13;
+
 /// Writes two pieces, one after the other.
 fn write_both<D: Drain>(drain: &mut D, first: &[u8], second: &[u8]) -> Result<(), FileError>
     requires { D.failures drain.old < 2 ^ 64 - 1 }
@@ -36,14 +41,14 @@ fn write_both<D: Drain>(drain: &mut D, first: &[u8], second: &[u8]) -> Result<()
 }
 
 /// A meta part.
-fn meta_part(alloc: Global, meta: &FrameMeta) -> Result<Vec<u8>, FileError>
-    ensures ok { IfOk result (λ bytes. bytes.items ≡ meta_layout meta.now) }
-    ensures short { length (meta_layout meta.now) < 2 ^ 32 }
-    ensures fits { IsMeta meta.now }
+fn meta_part(alloc: Global, meta: FrameMeta) -> Result<Vec<u8>, FileError>
+    ensures ok { IfOk result (λ bytes. bytes.items ≡ meta_layout meta) }
+    ensures short { length (meta_layout meta) < 2 ^ 32 }
+    ensures fits { IsMeta meta }
     ensures memory { IfErr result (λ e. e ≡ FileError.Memory) }
 {
-    let mut bytes = Vec::new(alloc);
-    match put_meta(&mut bytes, meta) {
+    let mut bytes = Vec::with_capacity(alloc, META_SIZE)?;
+    match put_meta(&mut bytes, &meta) {
         Ok(()) => Ok(bytes),
         Err(_) => Err(FileError::Memory),
     }
@@ -56,8 +61,8 @@ fn head(alloc: Global, meta: &FrameMeta, kind: u8, len: u32) -> Result<Vec<u8>, 
     ensures fits { IsMeta meta.now }
     ensures memory { IfErr result (λ e. e ≡ FileError.Memory) }
 {
-    let part = meta_part(alloc, meta)?;
-    let mut bytes = Vec::new(alloc);
+    let part = meta_part(alloc, *meta)?;
+    let mut bytes = Vec::with_capacity(alloc, HEAD_SIZE + part.len())?;
     bytes.extend_from_slice(b"PFD4")?;
     bytes.extend_from_slice(&(part.len() as u32).to_le_bytes())?;
     bytes.extend_from_slice(&part)?;
