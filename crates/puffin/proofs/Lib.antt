@@ -32,3 +32,5 @@ pub mod Chronology
 pub mod Learning
 pub mod Counting
 pub mod Selecting
+pub mod FilesRead
+pub mod FileFrames

@@ -1,6 +1,6 @@
 //! Files of views.
 
-ghost use Rattle.std.specs.Prelude.{◌≡◌, ◌⊎◌, ◌+◌, ◌-◌, ◌^◌, ◌<◌, ◌++◌, ◌∷◌, [], List, true, false, IfErr, OnOk};
+ghost use Rattle.std.specs.Prelude.{◌≡◌, ◌⊎◌, ◌+◌, ◌-◌, ◌^◌, ◌<◌, true, false, IfErr, OnOk};
 ghost use Rattle.std.specs.List.{AllByRecursion, Any, list_any};
 ghost use Rattle.std.specs.Io.KnownBytes.{Appends, Consumes};
 ghost use Rattle.puffin_data.specs.declared.error.Error.{Error};
@@ -8,12 +8,10 @@ ghost use Rattle.puffin_data.specs.declared.file_error.FileError.{FileError};
 ghost use Rattle.puffin_data.specs.Devices.{TookNothing, WritesBeginning, failures_after};
 ghost use Rattle.puffin_frames.specs.Collection.{inserted_all};
 ghost use Rattle.puffin_frames.specs.Details.{lacks_id};
-ghost use Rattle.puffin_frames.specs.Stored.{Said};
 ghost use Rattle.puffin_frames.specs.Steps.{IsPacked};
 ghost use Rattle.puffin_frames.specs.Writes.{HasLongPart};
-ghost use Rattle.puffin.specs.Frames.{contents_of};
 ghost use Rattle.puffin.specs.FrameOf.{frame_of, told};
-ghost use Rattle.puffin.specs.Views.{after_taking, Took};
+ghost use Rattle.puffin.specs.Views.{after_taking};
 ghost use Rattle.puffin.specs.FrameViews.{view_of, collection_of};
 ghost use Rattle.puffin.specs.Files.{magic, begins_file, file_of, contents_in, file_at, frames_at, most_packets, FailsToRead, ReadsView};
 
@@ -52,7 +50,6 @@ fn read_magic<S: Source>(source: &mut S) -> Result<(), FileError>
 /// Adds a frame that was read to a view.
 fn add_read(alloc: Global, view: &mut FrameView, frame: FrameData) -> Result<(), FileError>
     ensures ok { OnOk result (view_of view.new ≡ after_taking (view_of view.old) (frame_of frame)) }
-    ensures took { OnOk result ((cs : List Said) → Took cs (view_of view.old) → Took (cs ++ contents_of (frame_of frame) ∷ []) (view_of view.new)) }
     ensures learnt { OnOk result (collection_of view.new ≡ inserted_all (collection_of view.old) (told (frame_of frame))) }
     ensures ids { OnOk result (list_any lacks_id (told (frame_of frame)) ≡ false) }
     ensures missing { IfErr result (λ e. e ≡ FileError.Refused Error.MissingId → list_any lacks_id (told (frame_of frame)) ≡ true) }
