@@ -34,3 +34,4 @@ pub mod Counting
 pub mod Selecting
 pub mod FilesRead
 pub mod FileFrames
+pub mod FilesWritten
