@@ -2,7 +2,6 @@
 use Rattle.std.proofs.Common.{◌≡◌, ℕ, suc, ◌+◌, ◌-◌, ◌^◌, ◌<◌, ◌≤◌, Bool, true, false, cond, ltb, List, [], ◌∷◌, ◌++◌, length, take, drop, Option, Some, None, Result, Ok, Err, ◌⊎◌, inl, inr, refl, sym, ap, subst, ◌∙◌, append_assoc, arith, length-append}
 use Rattle.std.specs.Prelude.{is_some}
 use Rattle.std.proofs.lemmas.Bool.{le-ltb}
-use Rattle.std.specs.List.{list_any}
 use Rattle.std.specs.Io.KnownBytes.{Consumes, IsAtEnd}
 use Rattle.std.proofs.KnownBytes.{Consumes-nil, Consumes-trans}
 use Rattle.std.proofs.lemmas.List.{append-nil}
@@ -11,11 +10,12 @@ use Rattle.puffin_data.specs.declared.file_error.FileError.{FileError}
 use Rattle.puffin_data.specs.declared.file_error.FileError.TheVariants as file
 use Rattle.puffin_data.specs.Devices.{FailsAt}
 use Rattle.puffin_data.specs.Parts.{◌>>=◌}
-use Rattle.puffin_frames.specs.Details.{lacks_id}
 use Rattle.puffin_frames.specs.Stored.{Stored, packed, legacy}
 use Rattle.puffin_frames.specs.Steps.{as_stored, is_packet, stored_after, is_end, next_at, AtEnd}
 use Rattle.puffin.specs.declared.profile_view.frame_view.FrameView.{FrameView}
-use Rattle.puffin.specs.Files.{magic, details_stored, with_ids, frames_from, frames_at, most_packets, file_at, TookFrames, TookFault, FailsToRead, ReadsView}
+use Rattle.puffin.specs.Frames.{contents_of}
+use Rattle.puffin.specs.FrameViews.{lacks_ids}
+use Rattle.puffin.specs.Files.{magic, frame_stored, with_ids, frames_from, frames_at, most_packets, file_at, TookFrames, TookFault, FailsToRead, ReadsView}
 
 -- ---- frames before others
 
@@ -51,20 +51,20 @@ step : (old new : Option (List ℕ)) (frames : List Stored) (h : HasTaken old ne
     → frames_at (suc n + length frames) ((h.taken ++ t) ++ rest) ≡ behind frames (next_at (t ++ rest) >>= λ next. frames_from (frames_at n) next.0 next.1)
 step old new frames h n t rest = ap (frames_at (suc n + length frames)) (append_assoc h.taken t rest) ∙ h.goes_on (suc n) (t ++ rest)
 
-ids_so : (s : Stored) → list_any lacks_id (details_stored s) ≡ false → with_ids s ≡ Ok s
+ids_so : (s : Stored) → lacks_ids (contents_of (frame_stored s)) ≡ false → with_ids s ≡ Ok s
 ids_so s e = rw e refl
 
-missing_so : (s : Stored) → list_any lacks_id (details_stored s) ≡ true → with_ids s ≡ Err (file.Refused MissingId)
+missing_so : (s : Stored) → lacks_ids (contents_of (frame_stored s)) ≡ true → with_ids s ≡ Err (file.Refused MissingId)
 missing_so s e = rw e refl
 
 -- ---- one more
 
-one_more : (frames : List Stored) (s : Stored) (n : ℕ) (bytes rest : List ℕ) → next_at bytes ≡ Ok (Some s, rest) → list_any lacks_id (details_stored s) ≡ false
+one_more : (frames : List Stored) (s : Stored) (n : ℕ) (bytes rest : List ℕ) → next_at bytes ≡ Ok (Some s, rest) → lacks_ids (contents_of (frame_stored s)) ≡ false
     → behind frames (next_at bytes >>= λ next. frames_from (frames_at n) next.0 next.1) ≡ behind (frames ++ s ∷ []) (frames_at n rest)
 one_more frames s n bytes rest is ids = rw (is, ids_so s ids) (regroup frames s (frames_at n rest))
 
 pub takes_one : (old mid new : Option (List ℕ)) (frames : List Stored) (s : Stored) (t : List ℕ) → HasTaken old mid frames → Consumes mid new t → ((rest : List ℕ) → next_at (t ++ rest) ≡ Ok (Some s, rest))
-    → list_any lacks_id (details_stored s) ≡ false → HasTaken old new (frames ++ s ∷ [])
+    → lacks_ids (contents_of (frame_stored s)) ≡ false → HasTaken old new (frames ++ s ∷ [])
 takes_one old mid new frames s t h c is ids = record {
   taken = h.taken ++ t;
   consumed = Consumes-trans old mid new h.taken t h.consumed c;
@@ -180,18 +180,18 @@ fails_next old mid new frames e lt h f =
     subst (λ (n : ℕ). FailsToRead (frames_at n) old new e) (room (length frames) lt) (fails_by old mid new frames (most_packets - suc (length frames)) h e f)
 
 -- a frame of which a detail has no id
-lacks_so : (frames : List Stored) (s : Stored) (n : ℕ) (bytes rest : List ℕ) → next_at bytes ≡ Ok (Some s, rest) → list_any lacks_id (details_stored s) ≡ true
+lacks_so : (frames : List Stored) (s : Stored) (n : ℕ) (bytes rest : List ℕ) → next_at bytes ≡ Ok (Some s, rest) → lacks_ids (contents_of (frame_stored s)) ≡ true
     → behind frames (next_at bytes >>= λ next. frames_from (frames_at n) next.0 next.1) ≡ Err (file.Refused MissingId)
 lacks_so frames s n bytes rest is lacks = rw (is, missing_so s lacks) refl
 
 lacks_by : (old mid new : Option (List ℕ)) (frames : List Stored) (n : ℕ) (h : HasTaken old mid frames) (s : Stored) (t : List ℕ) → Consumes mid new t → ((rest : List ℕ) → next_at (t ++ rest) ≡ Ok (Some s, rest))
-    → list_any lacks_id (details_stored s) ≡ true → TookFault (frames_at (suc n + length frames)) old new (file.Refused MissingId)
+    → lacks_ids (contents_of (frame_stored s)) ≡ true → TookFault (frames_at (suc n + length frames)) old new (file.Refused MissingId)
 lacks_by old mid new frames n h s t c is lacks =
     fault_stays old mid new frames n h (file.Refused MissingId) t c (λ rest. step old mid frames h n t rest ∙ lacks_so frames s n (t ++ rest) rest (is rest) lacks)
 
-pub lacks_ids : (old mid new : Option (List ℕ)) (frames : List Stored) (s : Stored) (t : List ℕ) → length frames < most_packets → HasTaken old mid frames → Consumes mid new t
-    → ((rest : List ℕ) → next_at (t ++ rest) ≡ Ok (Some s, rest)) → list_any lacks_id (details_stored s) ≡ true → FailsToRead (frames_at most_packets) old new (file.Refused MissingId)
-lacks_ids old mid new frames s t lt h c is lacks =
+pub one_lacks : (old mid new : Option (List ℕ)) (frames : List Stored) (s : Stored) (t : List ℕ) → length frames < most_packets → HasTaken old mid frames → Consumes mid new t
+    → ((rest : List ℕ) → next_at (t ++ rest) ≡ Ok (Some s, rest)) → lacks_ids (contents_of (frame_stored s)) ≡ true → FailsToRead (frames_at most_packets) old new (file.Refused MissingId)
+one_lacks old mid new frames s t lt h c is lacks =
     subst (λ (n : ℕ). TookFault (frames_at n) old new (file.Refused MissingId)) (room (length frames) lt) (lacks_by old mid new frames (most_packets - suc (length frames)) h s t c is lacks)
 
 -- too many packets
@@ -243,10 +243,10 @@ none_left frames k e low high = subst (λ (n : ℕ). length frames ≡ n) (sym m
 
 -- a frame that a view refused
 pub refused : (old mid new : Option (List ℕ)) (frames : List Stored) (s : Stored) (t : List ℕ) (e : FileError) → length frames < most_packets → HasTaken old mid frames → Consumes mid new t
-    → ((rest : List ℕ) → next_at (t ++ rest) ≡ Ok (Some s, rest)) → (e ≡ file.Refused MissingId → list_any lacks_id (details_stored s) ≡ true) → (e ≡ file.Refused MissingId) ⊎ (e ≡ file.Memory)
+    → ((rest : List ℕ) → next_at (t ++ rest) ≡ Ok (Some s, rest)) → (e ≡ file.Refused MissingId → lacks_ids (contents_of (frame_stored s)) ≡ true) → (e ≡ file.Refused MissingId) ⊎ (e ≡ file.Memory)
     → FailsToRead (frames_at most_packets) old new e
 refused old mid new frames s t e lt h c is lacks (inl missing) =
-    subst (λ (f : FileError). FailsToRead (frames_at most_packets) old new f) (sym missing) (lacks_ids old mid new frames s t lt h c is (lacks missing))
+    subst (λ (f : FileError). FailsToRead (frames_at most_packets) old new f) (sym missing) (one_lacks old mid new frames s t lt h c is (lacks missing))
 refused old mid new frames s t e lt h c is lacks (inr memory) = subst (λ (f : FileError). FailsToRead (frames_at most_packets) old new f) (sym memory) tt
 
 pub view_in_file : (old mid new : Option (List ℕ)) (r : Result FrameView FileError) → Consumes old mid magic → ReadsView (frames_at most_packets) mid new r → ReadsView file_at old new r

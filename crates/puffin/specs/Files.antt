@@ -1,12 +1,12 @@
 -- Files of frames: what they hold, and what a call that reads one promises.
 use Rattle.std.specs.Prelude.{◌≡◌, ◌⊎◌, ◌&&◌, ◌==◌, ◌^◌, ◌-◌, ℕ, zero, suc, Bool, true, false, List, [], ◌∷◌, ◌++◌, Option, Some, None, Result, Ok, Err, map, drop, slice_index, if◌then◌else◌}
-use Rattle.std.specs.List.{flat_map, list_any}
+use Rattle.std.specs.List.{flat_map}
 use Rattle.std.specs.Io.KnownBytes.{Consumes, IsAtEnd}
 use Rattle.puffin_data.specs.declared.error.Error.TheVariants.{MissingId}
 use Rattle.puffin_data.specs.declared.file_error.FileError.{FileError}
 use Rattle.puffin_data.specs.declared.file_error.FileError.TheVariants as file
 use Rattle.puffin_data.specs.Parts.{◌>>=◌}
-use Rattle.puffin_frames.specs.Details.{Details, lacks_id}
+use Rattle.puffin_frames.specs.Details.{Details}
 use Rattle.puffin_frames.specs.Collection.{no_details, inserted_all}
 use Rattle.puffin_frames.specs.Values.{Legacy, streams_layout}
 use Rattle.puffin_frames.specs.Stored.{Said, Stored, packed, legacy}
@@ -15,7 +15,7 @@ use Rattle.puffin.specs.declared.profile_view.frame_view.FrameView.{FrameView}
 use Rattle.puffin.specs.Frames.{Frame, contents_of}
 use Rattle.puffin.specs.FrameOf.{told}
 use Rattle.puffin.specs.Views.{View, empty_view, after_all, all_uniq, Took}
-use Rattle.puffin.specs.FrameViews.{view_of, collection_of}
+use Rattle.puffin.specs.FrameViews.{view_of, collection_of, lacks_ids}
 
 -- ---- what is written
 
@@ -42,12 +42,13 @@ abbrev pub frame_stored : Stored → Frame
 frame_stored (packed p) = record { contents = p; is_unpacked = false; is_packed = true }
 frame_stored (legacy l) = record { contents = said_at_first l; is_unpacked = true; is_packed = false }
 
+-- the details that it tells
 abbrev pub details_stored : Stored → List Details
 details_stored s = told (frame_stored s)
 
 -- a frame all of whose details have an id
 abbrev pub with_ids : Stored → Result Stored FileError
-with_ids s = if list_any lacks_id (details_stored s) then Err (file.Refused MissingId) else Ok s
+with_ids s = if lacks_ids (contents_of (frame_stored s)) then Err (file.Refused MissingId) else Ok s
 
 -- the frames from one on, where there is one
 abbrev pub frames_from : (List ℕ → Result (List Stored × List ℕ) FileError) → Option Stored → List ℕ → Result (List Stored × List ℕ) FileError

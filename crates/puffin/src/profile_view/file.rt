@@ -1,18 +1,18 @@
 //! Files of views.
 
 ghost use Rattle.std.specs.Prelude.{◌≡◌, ◌⊎◌, ◌+◌, ◌-◌, ◌^◌, ◌<◌, true, false, IfErr, OnOk};
-ghost use Rattle.std.specs.List.{AllByRecursion, Any, list_any};
+ghost use Rattle.std.specs.List.{AllByRecursion, Any};
 ghost use Rattle.std.specs.Io.KnownBytes.{Appends, Consumes};
 ghost use Rattle.puffin_data.specs.declared.error.Error.{Error};
 ghost use Rattle.puffin_data.specs.declared.file_error.FileError.{FileError};
 ghost use Rattle.puffin_data.specs.Devices.{TookNothing, WritesBeginning, failures_after};
 ghost use Rattle.puffin_frames.specs.Collection.{inserted_all};
-ghost use Rattle.puffin_frames.specs.Details.{lacks_id};
 ghost use Rattle.puffin_frames.specs.Steps.{IsPacked};
 ghost use Rattle.puffin_frames.specs.Writes.{HasLongPart};
+ghost use Rattle.puffin.specs.Frames.{contents_of};
 ghost use Rattle.puffin.specs.FrameOf.{frame_of, told};
 ghost use Rattle.puffin.specs.Views.{after_taking};
-ghost use Rattle.puffin.specs.FrameViews.{view_of, collection_of};
+ghost use Rattle.puffin.specs.FrameViews.{view_of, collection_of, lacks_ids};
 ghost use Rattle.puffin.specs.Files.{magic, begins_file, file_of, contents_in, file_at, frames_at, most_packets, FailsToRead, ReadsView};
 
 use crate::profile_view::frame_view::FrameView;
@@ -51,8 +51,8 @@ fn read_magic<S: Source>(source: &mut S) -> Result<(), FileError>
 fn add_read(alloc: Global, view: &mut FrameView, frame: FrameData) -> Result<(), FileError>
     ensures ok { OnOk result (view_of view.new ≡ after_taking (view_of view.old) (frame_of frame)) }
     ensures learnt { OnOk result (collection_of view.new ≡ inserted_all (collection_of view.old) (told (frame_of frame))) }
-    ensures ids { OnOk result (list_any lacks_id (told (frame_of frame)) ≡ false) }
-    ensures missing { IfErr result (λ e. e ≡ FileError.Refused Error.MissingId → list_any lacks_id (told (frame_of frame)) ≡ true) }
+    ensures ids { OnOk result (lacks_ids (contents_of (frame_of frame)) ≡ false) }
+    ensures missing { IfErr result (λ e. e ≡ FileError.Refused Error.MissingId → lacks_ids (contents_of (frame_of frame)) ≡ true) }
     ensures cause { IfErr result (λ e. (e ≡ FileError.Refused Error.MissingId) ⊎ (e ≡ FileError.Memory)) }
 {
     let frame = Arc::new(alloc, frame)?;

@@ -1,13 +1,11 @@
-use Rattle.std.proofs.Common.{◌≡◌, ◌<◌, List, [], ◌∷◌, ◌++◌, ℕ, ◌-◌, ◌^◌, length, false, true, refl, sym, ap, ◌∙◌, arith, length-append}
-use Rattle.std.specs.List.{list_any}
+use Rattle.std.proofs.Common.{List, [], ◌∷◌, ◌++◌, ◌-◌, ◌^◌, refl, sym, ap, ◌∙◌, arith, length-append}
 use Rattle.std.proofs.lemmas.Result.{err_from_is_err_and}
-use Rattle.puffin_frames.specs.Details.{lacks_id}
 use Rattle.puffin_frames.specs.Stored.{Stored}
 use Rattle.puffin_frames.specs.Reads.{stored_of}
-use Rattle.puffin.specs.Frames.{Frame}
-use Rattle.puffin.specs.FrameOf.{frame_of, told}
+use Rattle.puffin.specs.Frames.{Frame, contents_of}
+use Rattle.puffin.specs.FrameOf.{frame_of}
+use Rattle.puffin.specs.FrameViews.{lacks_ids}
 use Rattle.puffin.specs.Views.{View}
-use Rattle.puffin.specs.Files.{most_packets}
 use Rattle.puffin.proofs.FilesRead.{none_taken, takes_one, takes_all, fails_next, refused, spent, room_left, none_left}
 use Rattle.puffin.proofs.FileFrames.{fresh_frame, view_of_frames, view_of_more}
 use Rattle.puffin.proofs.profile_view.file.read_frames.Goals as goal
@@ -37,7 +35,7 @@ returns-in_err-add_read-clause-frames g c =
     let seen = fresh_frame frame (rw c.in-Some.is at c.in_ok-frame.ensures.fresh) in
     rw (p.1, p.2)
     (refused _ _ _ before.0 (stored_of frame) next.0 c.in_err-add_read.field-0.0 (room_left before.0 c.packets.counter before.3 c.packets-test.true) before.1 next.1 next.2
-    (λ missing. sym (ap (λ (f : Frame). list_any lacks_id (told f)) seen) ∙ c.in_err-add_read.ensures.missing missing) c.in_err-add_read.ensures.cause)
+    (λ missing. sym (ap (λ (f : Frame). lacks_ids (contents_of f)) seen) ∙ c.in_err-add_read.ensures.missing missing) c.in_err-add_read.ensures.cause)
 
 pub packets-preserved : goal.packets-preserved
 packets-preserved g c =
@@ -45,7 +43,7 @@ packets-preserved g c =
     let frame = c.in-Some.frame in
     let next = rw c.in-Some.is at c.in_ok-frame.ensures.next in
     let seen = fresh_frame frame (rw c.in-Some.is at c.in_ok-frame.ensures.fresh) in
-    let ids = sym (ap (λ (f : Frame). list_any lacks_id (told f)) seen) ∙ c.in_ok-add_read.ensures.ids in
+    let ids = sym (ap (λ (f : Frame). lacks_ids (contents_of f)) seen) ∙ c.in_ok-add_read.ensures.ids in
     let one : List Stored = stored_of frame ∷ [] in (
       before.0 ++ one,
       takes_one _ _ _ before.0 (stored_of frame) next.0 before.1 next.1 next.2 ids,

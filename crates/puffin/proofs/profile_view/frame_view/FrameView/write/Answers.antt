@@ -24,9 +24,13 @@ frames-preserved g c =
     let said : Said = frame_says c.deref.result.now in
     let left : all_left c.frames.frame-iterator ≡ shared_frame c.in-Some.frame.now ∷ all_left c.next.new.self = rest_more (λ a. shared_frame a.now) _ _ _ _ c.in-Some.is c.next.ensures.steps in
     let is = one_left before.0 said (shared_frame c.in-Some.frame.now) (all_left c.frames.frame-iterator) (all_left c.next.new.self) (contents_in (view_of c.args.self.now)) before.1 left (ap frame_says c.deref.ensures) in
-    let h = c.in_ok-write_into.ensures in
-    (before.0 ++ said ∷ [], is ∙ sym (append_assoc before.0 (said ∷ []) (map contents_of (all_left c.next.new.self))),
-    subst (Appends _ _) (file_more before.0 said) (Appends-trans _ _ _ _ _ before.2 h.ok), all_more before.0 said before.3 h.packed, h.failures ∙ before.4)
+    let h = c.in_ok-write_into.ensures in (
+      before.0 ++ said ∷ [],
+      is ∙ sym (append_assoc before.0 (said ∷ []) (map contents_of (all_left c.next.new.self))),
+      subst (Appends _ _) (file_more before.0 said) (Appends-trans _ _ _ _ _ before.2 h.ok),
+      all_more before.0 said before.3 h.packed,
+      h.failures ∙ before.4,
+    )
 
 pub returns-in_err-write_into-clause-begun : goal.returns-in_err-write_into-clause-begun
 returns-in_err-write_into-clause-begun g c =
