@@ -32,3 +32,6 @@ pub mod Chronology
 pub mod Learning
 pub mod Counting
 pub mod Selecting
+pub mod FilesRead
+pub mod FileFrames
+pub mod FilesWritten
