@@ -3,6 +3,7 @@
 mod frame_store;
 mod frame_view;
 mod held_frames;
+pub mod laws;
 mod listings;
 mod select;
 mod slow_rank;
