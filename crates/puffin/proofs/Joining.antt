@@ -1,6 +1,8 @@
 -- What the steps of a view's store make of it.
 use Rattle.std.proofs.Common.{◌≡◌, ℕ, zero, suc, ◌-◌, ◌<◌, Bool, true, false, cond, List, [], ◌∷◌, ◌++◌, length, take, drop, map, Option, Some, refl, sym, ap, subst, ◌∙◌}
 use Rattle.std.specs.List.{AllByRecursion}
+use Rattle.std.specs.List.Sorted.{IsStrictlySortedBy}
+use Rattle.std.specs.Ordering.{nat_cmp}
 use Rattle.std.specs.Option.{option_map_or}
 use Rattle.std.specs.FinMap as fin
 use Rattle.std.proofs.lemmas.List.{take-append-drop, take_rest}
@@ -8,11 +10,12 @@ use Rattle.puffin.specs.declared.profile_view.slow_rank.SlowRank.{SlowRank}
 use Rattle.puffin.specs.Ranking.{place, last_of, last_in}
 use Rattle.puffin.specs.Frames.{Frame, index_of, is_slower_frame, packed, packed_at}
 use Rattle.puffin.specs.Held.{Held}
-use Rattle.puffin.specs.Ranks.{rank_of, rank_index, is_before, rank_enters, ranks_after, ranks_gone, LetsGo}
+use Rattle.puffin.specs.Ranks.{rank_of, rank_index, rank_cmp, is_before, rank_enters, ranks_after, ranks_gone, AreRanked, LetsGo}
 use Rattle.puffin.specs.Views.{View, is_past, joined_by, slow_after, with_packed, with_newest_packed}
 use Rattle.puffin.specs.Stored.{frames_at, AreHeld, AreStored}
 use Rattle.puffin.proofs.Orders.{map-take, map-drop, map-length}
 use Rattle.puffin.proofs.Taking.{steady_before}
+use Rattle.puffin.proofs.Searching.{stored_rising, stored_ranked}
 use Rattle.puffin.proofs.Storing.{held_back, stored-cut_slow, stored-cut_recent, stored-added, stored-placed, stored-packed, enters_same, index-rank_of, got_itself}
 
 pub lets_as : (old new : Held) (a b c d : List ℕ) → a ≡ b → c ≡ d → LetsGo old a c new → LetsGo old b d new
@@ -68,24 +71,39 @@ entered held new recent slow max f R S false h there before go =
       all_taken (x ∷ xs) = ap (λ l. x ∷ l) (all_taken xs)
 
 -- the whole way of one frame
-pub stored_joined : (v : View) (f : Frame) (held held1 held2 held3 : Held) (recent recent1 recent2 : List ℕ) (slow slow1 : List SlowRank) → AreStored held recent slow v.last v.recent v.slow → is_past v (index_of f) ≡ false
-    → held1 ≡ fin.insert held (index_of f) f → recent1 ≡ recent ++ index_of f ∷ []
-    → slow1 ≡ ranks_after v.max_slow slow (rank_of f) → LetsGo held1 recent1 (map rank_index (ranks_gone v.max_slow slow (rank_of f))) held2
-    → recent2 ≡ last_of v.max_recent recent1 → LetsGo held2 (map rank_index slow1) (take (length recent1 - v.max_recent) recent1) held3
-    → AreStored held3 recent2 slow1 (Some (index_of f)) (joined_by v f).recent (joined_by v f).slow
-stored_joined v f held held1 held2 held3 recent recent1 recent2 slow slow1 h later inserted pushed entered_is go cut_is went =
-    let i : ℕ = index_of f in
-    let before : AllByRecursion (λ g. index_of g < i) v.recent = steady_before v.last i v.recent later h.kept.recent_taken in
-    let slow_before : AllByRecursion (λ g. index_of g < i) v.slow = steady_before v.last i v.slow later h.kept.slow_taken in
-    let P : Held → Type 0 = λ m. AreStored m recent1 slow (Some i) (v.recent ++ f ∷ []) v.slow in
-    let Q : List ℕ → Type 0 = λ is. AreStored (fin.insert held i f) is slow (Some i) (v.recent ++ f ∷ []) v.slow in
-    let added : AreStored held1 recent1 slow (Some i) (v.recent ++ f ∷ []) v.slow = subst P (sym inserted) (subst Q (sym pushed) (stored-added held recent slow v.last f v.recent v.slow h before slow_before)) in
-    let there : fin.get held1 i ≡ Some f = ap (λ m. fin.get m i) inserted ∙ got_itself held f in
-    let after = entered held1 held2 recent1 slow v.max_slow f (v.recent ++ f ∷ []) v.slow (rank_enters v.max_slow slow (rank_of f)) added there slow_before go in
-    let R : List SlowRank → Type 0 = λ rs. AreStored held2 recent1 rs (Some i) (v.recent ++ f ∷ []) (slow_after v.max_slow v.slow f) in
-    let S : Bool → Type 0 = λ b. AreStored held2 recent1 (ranks_after v.max_slow slow (rank_of f)) (Some i) (v.recent ++ f ∷ []) (cond b (take v.max_slow (place is_slower_frame f v.slow)) v.slow) in
-    recent_cut held2 held3 recent1 recent2 slow1 (Some i) v.max_recent (v.recent ++ f ∷ []) (slow_after v.max_slow v.slow f)
-    (subst R (sym entered_is) (subst S (enters_same v.max_slow f slow v.slow h.slow_at slow_before) after)) went cut_is
+module _ (v : View) (f : Frame) (held held1 : Held) (recent recent1 : List ℕ) (slow : List SlowRank) (h : AreStored held recent slow v.last v.recent v.slow) (later : is_past v (index_of f) ≡ false) (inserted : held1 ≡ fin.insert held (index_of f) f)
+    (pushed : recent1 ≡ recent ++ index_of f ∷ []) where
+  slow_before : AllByRecursion (λ g. index_of g < index_of f) v.slow
+  slow_before = steady_before v.last (index_of f) v.slow later h.kept.slow_taken
+
+  stored_pushed : AreStored held1 recent1 slow (Some (index_of f)) (v.recent ++ f ∷ []) v.slow
+  stored_pushed =
+      let before : AllByRecursion (λ g. index_of g < index_of f) v.recent = steady_before v.last (index_of f) v.recent later h.kept.recent_taken in
+      let P : Held → Type 0 = λ m. AreStored m recent1 slow (Some (index_of f)) (v.recent ++ f ∷ []) v.slow in
+      let Q : List ℕ → Type 0 = λ is. AreStored (fin.insert held (index_of f) f) is slow (Some (index_of f)) (v.recent ++ f ∷ []) v.slow in
+      subst P (sym inserted) (subst Q (sym pushed) (stored-added held recent slow v.last f v.recent v.slow h before slow_before))
+
+  pub pushed_rising : IsStrictlySortedBy nat_cmp recent1
+  pushed_rising = stored_rising held1 recent1 slow (Some (index_of f)) (v.recent ++ f ∷ []) v.slow stored_pushed
+
+  module _ (held2 : Held) (slow1 : List SlowRank) (entered_is : slow1 ≡ ranks_after v.max_slow slow (rank_of f)) (go : LetsGo held1 recent1 (map rank_index (ranks_gone v.max_slow slow (rank_of f))) held2) where
+    stored_entered : AreStored held2 recent1 slow1 (Some (index_of f)) (v.recent ++ f ∷ []) (slow_after v.max_slow v.slow f)
+    stored_entered =
+        let there : fin.get held1 (index_of f) ≡ Some f = ap (λ m. fin.get m (index_of f)) inserted ∙ got_itself held f in
+        let after = entered held1 held2 recent1 slow v.max_slow f (v.recent ++ f ∷ []) v.slow (rank_enters v.max_slow slow (rank_of f)) stored_pushed there slow_before go in
+        let P : List SlowRank → Type 0 = λ rs. AreStored held2 recent1 rs (Some (index_of f)) (v.recent ++ f ∷ []) (slow_after v.max_slow v.slow f) in
+        let Q : Bool → Type 0 = λ b. AreStored held2 recent1 (ranks_after v.max_slow slow (rank_of f)) (Some (index_of f)) (v.recent ++ f ∷ []) (cond b (take v.max_slow (place is_slower_frame f v.slow)) v.slow) in
+        subst P (sym entered_is) (subst Q (enters_same v.max_slow f slow v.slow h.slow_at slow_before) after)
+
+    pub entered_in_order : IsStrictlySortedBy rank_cmp slow1
+    entered_in_order = stored_entered.in_order
+
+    pub entered_ranked : AreRanked held2 slow1
+    entered_ranked = stored_ranked held2 recent1 slow1 (Some (index_of f)) (v.recent ++ f ∷ []) (slow_after v.max_slow v.slow f) stored_entered
+
+    pub stored_joined : (held3 : Held) (recent2 : List ℕ) → recent2 ≡ last_of v.max_recent recent1 → LetsGo held2 (map rank_index slow1) (take (length recent1 - v.max_recent) recent1) held3
+        → AreStored held3 recent2 slow1 (Some (index_of f)) (joined_by v f).recent (joined_by v f).slow
+    stored_joined held3 recent2 cut_is went = recent_cut held2 held3 recent1 recent2 slow1 (Some (index_of f)) v.max_recent (v.recent ++ f ∷ []) (slow_after v.max_slow v.slow f) stored_entered went cut_is
 
 -- the newest frame packed
 pub packed_newest : (held new : Held) (recent : List ℕ) (slow : List SlowRank) (last : Option ℕ) (R S : List Frame) (f g : Frame) → AreStored held recent slow last R S → last_in R ≡ Some f → g ≡ packed f → new ≡ fin.insert held (index_of g) g

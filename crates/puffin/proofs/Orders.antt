@@ -1,7 +1,9 @@
 -- The orders of frames, and frames by what they say.
 use Rattle.std.proofs.Common.{◌≡◌, ℕ, zero, suc, ◌<◌, Bool, true, false, cond, List, [], ◌∷◌, ◌++◌, length, take, drop, map, refl, ap, arith}
 use Rattle.std.specs.Cmp.{IsStrictWeakOrder, IsTotalOrder, nat_cmp_total, int_cmp_total, on_total, then_total, back_total}
-use Rattle.std.specs.Prelude.{nat_eq, int_lt}
+use Rattle.std.specs.Prelude.{nat_eq, int_lt, ◌↔◌}
+use Rattle.std.specs.declared.cmp.Ordering.TheVariants.{Equal}
+use Rattle.std.proofs.lemmas.Int.{ints}
 use Rattle.std.proofs.lemmas.List.Sorted.{ranks_by}
 use Rattle.puffin.specs.Ranking.{place, last_from}
 use Rattle.puffin_frames.specs.Stored.{Said}
@@ -19,6 +21,19 @@ slower_order = ranks_by by_duration_total (λ (c : Said). c)
 -- a frame no longer than another, with an index above it, doesn't come before it
 pub later_behind : (c d : Said) → int_lt (duration d) (duration c) ≡ false → frame_index d < frame_index c → is_slower c d ≡ false
 later_behind c d short late = grind arith
+
+-- what ties by duration
+same_duration : (c d : Said) → by_duration c d ≡ Equal → duration c ≡ duration d
+same_duration c d e = grind (arith, ints)
+
+same_index : (c d : Said) → by_duration c d ≡ Equal → frame_index c ≡ frame_index d
+same_index c d e = grind (arith, ints)
+
+tied : (c d : Said) → duration c ≡ duration d → frame_index c ≡ frame_index d → by_duration c d ≡ Equal
+tied c d long at = grind (arith, ints)
+
+pub by_duration_ties : (c d : Said) → by_duration c d ≡ Equal ↔ ((duration c ≡ duration d) × (frame_index c ≡ frame_index d))
+by_duration_ties c d = (λ e. (same_duration c d e, same_index c d e), λ h. tied c d h.0 h.1)
 
 module _ {F G : Type 0} (g : F → G) (before : G → G → Bool) where
   map-place_at : (f x : F) (xs : List F) (b : Bool) → map g (place (λ y z. before (g y) (g z)) f xs) ≡ place before (g f) (map g xs)

@@ -1,12 +1,12 @@
 -- Lists in order, and one more.
-use Rattle.std.proofs.Common.{◌≡◌, ℕ, zero, suc, ◌+◌, ◌-◌, ◌≤◌, Bool, true, false, cond, List, [], ◌∷◌, ◌++◌, length, take, drop, refl, sym, ap, ◌∙◌, arith, length-append, length-drop}
+use Rattle.std.proofs.Common.{◌≡◌, ℕ, zero, suc, ◌+◌, ◌-◌, ◌<◌, ◌≤◌, get_or, Bool, true, false, cond, List, [], ◌∷◌, ◌++◌, length, take, drop, refl, sym, ap, ◌∙◌, arith, length-append, length-drop}
 use Rattle.std.specs.Option.{IfSome}
 use Rattle.std.specs.Prelude.{IsPermutation}
 use Rattle.std.proofs.lemmas.List.Sorted.{IsPermutation-refl, IsPermutation-trans, IsPermutation-cons, IsPermutation-middle}
 use Rattle.std.specs.Cmp.{IsStrictWeakOrder}
-use Rattle.std.specs.List.{AllByRecursion}
+use Rattle.std.specs.List.{AllByRecursion, AllPairs}
 use Rattle.std.proofs.lemmas.List.{take-append-le, drop-append-le, drop-drop}
-use Rattle.puffin.specs.Ranking.{place, place_first, in_order, first_in_order, last_of, last_from, last_in}
+use Rattle.puffin.specs.Ranking.{AreFirst, place, place_first, in_order, first_in_order, last_of, last_from, last_in}
 
 true≢false : true ≡ false → ⊥
 true≢false e = cc
@@ -159,3 +159,25 @@ module _ {F : Type 0} (before : F → F → Bool) where
   pub in_order-permutes : (xs : List F) → IsPermutation xs (in_order before xs)
   in_order-permutes [] = IsPermutation-refl []
   in_order-permutes (x ∷ xs) = IsPermutation-trans (x ∷ xs) (x ∷ in_order before xs) (place_first before x (in_order before xs)) (IsPermutation-cons x xs (in_order before xs) (in_order-permutes xs)) (first_permutes x (in_order before xs))
+
+-- in order, by pairs
+none_below : (k : ℕ) → k < 0 → ⊥
+none_below k h = omega arith
+
+at_all : {F : Type 0} (P : F → Type 0) (xs : List F) (k : ℕ) (d : F) → k < length xs → AllByRecursion P xs → P (get_or xs k d)
+at_all P [] k d b h = absurd (none_below k b)
+at_all P (x ∷ xs) zero d b h = h.0
+at_all P (x ∷ xs) (suc k) d b h = at_all P xs k d (omega arith) h.1
+
+pub in_pairs : {F : Type 0} (before : F → F → Bool) (xs : List F) → IsInOrder before xs → AllPairs (λ x y. before y x ≡ false) xs
+in_pairs before [] h i j d low high = absurd (none_below j high)
+in_pairs before (x ∷ xs) h i zero d low high = absurd (none_below i low)
+in_pairs before (x ∷ xs) h zero (suc j) d low high = at_all (λ y. before y x ≡ false) xs j d (omega arith) h.0
+in_pairs before (x ∷ xs) h (suc i) (suc j) d low high = in_pairs before xs h.1 i j d (omega arith) (omega arith)
+
+module _ {F : Type 0} (before : F → F → Bool) (o : IsStrictWeakOrder before) (k : ℕ) (xs : List F) where
+  pub first_in_pairs : AllPairs (λ x y. before y x ≡ false) (first_in_order before k xs)
+  first_in_pairs = in_pairs before (first_in_order before k xs) (in_order-take before k (in_order before xs) (in_order-in_order before o xs))
+
+  pub are_first : AreFirst before k xs (first_in_order before k xs)
+  are_first = record { ordered = in_order before xs; all = in_order-permutes before xs; in_order = in_pairs before (in_order before xs) (in_order-in_order before o xs); first = refl }

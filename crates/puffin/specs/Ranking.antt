@@ -1,5 +1,6 @@
 -- The first of a list in an order, and the last of it as it stands.
-use Rattle.std.specs.Prelude.{ℕ, ◌-◌, Bool, cond, List, [], ◌∷◌, length, take, drop, Option, Some, None}
+use Rattle.std.specs.Prelude.{ℕ, ◌-◌, ◌≡◌, Bool, false, cond, List, [], ◌∷◌, length, take, drop, Option, Some, None, IsPermutation}
+use Rattle.std.specs.List.{AllPairs}
 
 -- what one more comes to in a list in order: behind all that it doesn't come before
 abbrev pub place : {F : Type 0} → (F → F → Bool) → F → List F → List F
@@ -19,6 +20,13 @@ in_order before (x ∷ xs) = place_first before x (in_order before xs)
 -- the first k in an order; ties go to the earlier
 abbrev pub first_in_order : {F : Type 0} → (F → F → Bool) → ℕ → List F → List F
 first_in_order before k xs = take k (in_order before xs)
+
+-- out is the first k of all of a list in order: of these none comes before one in front of it
+pub record AreFirst {F : Type 0} (before : F → F → Bool) (k : ℕ) (xs out : List F) : Type 0 where
+  pub ordered : List F
+  pub all : IsPermutation xs ordered
+  pub in_order : AllPairs (λ x y. before y x ≡ false) ordered
+  pub first : out ≡ take k ordered
 
 -- the last n of a list
 abbrev pub last_of : {F : Type 0} → ℕ → List F → List F

@@ -1,7 +1,7 @@
 -- Where a frame stands among the slowest, and lists of where frames stand.
-use Rattle.std.specs.Prelude.{ℕ, Bool, cond, nat_lt, nat_eq, ◌||◌, List, [], take, drop, length, None, ◌≡◌, false}
-use Rattle.std.specs.List.{list_any}
-use Rattle.std.specs.Option.{option_map_or}
+use Rattle.std.specs.Prelude.{ℕ, Bool, cond, nat_lt, nat_eq, ◌||◌, List, [], take, drop, length, Some, None, ◌≡◌, false}
+use Rattle.std.specs.List.{AllByRecursion, list_any}
+use Rattle.std.specs.Option.{option_map, option_map_or}
 use Rattle.std.specs.declared.cmp.Ordering.{Ordering}
 use Rattle.std.specs.Ordering.{nat_cmp, int_cmp, ordering_then, is_lt}
 use Rattle.std.specs.FinMap as map
@@ -33,6 +33,10 @@ ranks_after k slow r = cond (rank_enters k slow r) (take k (place is_before r sl
 
 abbrev pub ranks_gone : ℕ → List SlowRank → SlowRank → List SlowRank
 ranks_gone k slow r = cond (rank_enters k slow r) (drop k (place is_before r slow)) []
+
+-- each rank is that of the frame which is held under its index
+abbrev pub AreRanked : Held → List SlowRank → Type 0
+AreRanked held slow = AllByRecursion (λ r. option_map rank_of (map.get held (rank_index r)) ≡ Some r) slow
 
 -- whether an index is in a list
 abbrev pub has : ℕ → List ℕ → Bool

@@ -1,11 +1,13 @@
-ghost use Rattle.std.specs.Prelude.{◌≡◌, ◌⊎◌, ◌↔◌, IsTrue, IfOk, ◌-◌, ◌<◌, ◌≤◌, OnOk, OnErr, IfErr, IfSome, [], false, take, drop, map, length, Some, vec_len, vec_capacity, insert};
+ghost use Rattle.std.specs.Prelude.{◌≡◌, ◌⊎◌, ◌↔◌, IsTrue, IfOk, ◌-◌, ◌<◌, ◌≤◌, OnOk, OnErr, IfErr, IfSome, [], false, take, drop, map, length, Some, vec_len, vec_capacity, insert, nat_eq};
+ghost use Rattle.std.specs.Ordering.{nat_cmp};
+ghost use Rattle.std.specs.List.{list_any};
 ghost use Rattle.std.specs.FinMap as map;
 ghost use Rattle.std.specs.Option.{option_map};
 ghost use Rattle.std.specs.List.Sorted.{IsStrictlySortedBy};
 ghost use Rattle.puffin_data.specs.declared.error.Error.{Error};
 ghost use Rattle.puffin.specs.FrameOf.{shared_frame};
 ghost use Rattle.puffin.specs.Ranking.{last_of, last_in};
-ghost use Rattle.puffin.specs.Ranks.{rank_index, rank_cmp, ranks_after, ranks_gone, LetsGo};
+ghost use Rattle.puffin.specs.Ranks.{rank_index, rank_cmp, ranks_after, ranks_gone, AreRanked, LetsGo};
 ghost use Rattle.puffin.specs.Frames.{index_of, chronological};
 ghost use Rattle.puffin.specs.Listings.{recent_left, all_left, slowest_left};
 ghost use Rattle.puffin.specs.Views.{empty_view, emptied, with_newest_packed, is_past, joined_by, after_taking, all_uniq, IsSteady};
@@ -13,11 +15,12 @@ ghost use Rattle.puffin.specs.Stats.{stats_of};
 
 use crate::profile_view::held_frames::HeldFrames;
 use crate::profile_view::listings::{AllFrames, RecentFrames, SlowestFrames};
-use crate::profile_view::slow_rank::{SlowRank, has_index};
+use crate::profile_view::slow_rank::SlowRank;
 use crate::profile_view::stats::FrameStats;
 use puffin_data::{Error, Result};
 use puffin_frames::frame_data::{FrameData, FrameIndex};
 use std::alloc::Global;
+use std::cmp::Reverse;
 use std::collections::VecDeque;
 use std::marker::Model;
 use std::sync::Arc;
@@ -269,6 +272,32 @@ impl FrameStore {
     }
 }
 
+/// Whether a frame of an index is recent.
+fn is_recent(recent: &VecDeque<FrameIndex>, index: FrameIndex) -> bool
+    requires { IsStrictlySortedBy nat_cmp recent.now.items }
+    ensures { result ≡ list_any (λ i. nat_eq i index) recent.now.items }
+{
+    recent.binary_search(&index).is_ok()
+}
+
+/// Whether a frame of an index is among the slowest.
+fn is_slow(held: &HeldFrames, slow: &[SlowRank], index: FrameIndex) -> bool
+    requires sorted { IsStrictlySortedBy rank_cmp slow.now }
+    requires ranked { AreRanked held.now slow.now }
+    ensures { result ≡ list_any (λ rank. nat_eq rank.frame_index index) slow.now }
+{
+    match held.get(index) {
+        Some(frame) => {
+            let rank = SlowRank {
+                duration_ns: Reverse(frame.duration_ns()),
+                frame_index: index,
+            };
+            rank.is_among(slow)
+        }
+        None => false,
+    }
+}
+
 /// Puts a rank among the slowest, if it comes there, and cuts them.
 fn enter_slow(
     held: &mut HeldFrames,
@@ -278,6 +307,7 @@ fn enter_slow(
     max: usize,
 )
     requires room { vec_len slow.old < vec_capacity slow.old }
+    requires rising { IsStrictlySortedBy nat_cmp recent.now.items }
     requires sorted { IsStrictlySortedBy rank_cmp slow.old.items }
     ensures slow { slow.new.items ≡ ranks_after max slow.old.items rank }
     ensures held { LetsGo held.old recent.now.items (map rank_index (ranks_gone max slow.old.items rank)) held.new }
@@ -299,11 +329,12 @@ fn cut_slow(
     slow: &mut Vec<SlowRank>,
     max: usize,
 )
+    requires { IsStrictlySortedBy nat_cmp recent.now.items }
     ensures slow { slow.new.items ≡ take max slow.old.items }
     ensures held { LetsGo held.old recent.now.items (map rank_index (drop max slow.old.items)) held.new }
 {
     for rank in &slow[max.min(slow.len())..] {
-        if !recent.contains(&rank.frame_index) {
+        if !is_recent(recent, rank.frame_index) {
             held.remove(rank.frame_index);
         }
     }
@@ -317,12 +348,14 @@ fn cut_recent(
     slow: &[SlowRank],
     max: usize,
 )
+    requires sorted { IsStrictlySortedBy rank_cmp slow.now }
+    requires ranked { AreRanked held.old slow.now }
     ensures recent { recent.new.items ≡ last_of max recent.old.items }
     ensures held { LetsGo held.old (map rank_index slow.now) (take (length recent.old.items - max) recent.old.items) held.new }
 {
     for _ in 0..recent.len().saturating_sub(max) {
         if let Some(index) = recent.pop_front() {
-            if !has_index(slow, index) {
+            if !is_slow(held, slow, index) {
                 held.remove(index);
             }
         }

@@ -1,5 +1,6 @@
 ghost use Rattle.std.specs.Prelude.{◌≡◌, ◌≤◌, nat_eq, length, insert};
 ghost use Rattle.std.specs.List.{list_any};
+ghost use Rattle.std.specs.Ordering.{is_eq};
 ghost use Rattle.std.specs.List.Sorted.{IsStrictlySortedBy};
 ghost use Rattle.puffin.specs.FrameOf.{frame_of};
 ghost use Rattle.puffin.specs.Ranking.{place};
@@ -33,6 +34,14 @@ impl SlowRank {
         ensures placed { insert slow.now result self ≡ place is_before self slow.now }
     {
         slow.partition_point(|other| *other <= self)
+    }
+
+    /// Whether it is one of others.
+    pub fn is_among(self, slow: &[SlowRank]) -> bool
+        requires { IsStrictlySortedBy rank_cmp slow.now }
+        ensures { result ≡ list_any (λ other. is_eq (rank_cmp other self)) slow.now }
+    {
+        slow.binary_search(&self).is_ok()
     }
 
     /// Whether it comes among the slowest: where there is room, or where it comes before the last of them.

@@ -2,6 +2,7 @@ use Rattle.std.proofs.Common.{refl, ap, ◌∙◌, []}
 use Rattle.puffin.specs.Views.{View}
 use Rattle.puffin.specs.Stored.{AreStored, frames_at}
 use Rattle.puffin.proofs.Joining.{slow_cut}
+use Rattle.puffin.proofs.Searching.{stored_rising}
 use Rattle.puffin.proofs.Storing.{stored_as, view_as}
 use Rattle.puffin.proofs.profile_view.frame_store.FrameStore.clear_slowest.Goals as goal
 
@@ -17,3 +18,6 @@ returns c =
     view_as c.cut_slow.new.held s.recent.items c.cut_slow.new.slow.items s.last s.max_recent s.max_slow s.pack_frames
     (record { recent = frames_at s.held s.recent.items; slow = []; last = s.last; max_recent = s.max_recent; max_slow = s.max_slow; packs = s.pack_frames }) (cut c) refl refl refl refl
     ∙ ap (λ (v : View). record { recent = v.recent; slow = []; last = v.last; max_recent = v.max_recent; max_slow = v.max_slow; packs = v.packs }) c.self.view_is
+
+pub cut_slow-requires : goal.cut_slow-requires
+cut_slow-requires c = stored_rising _ _ _ _ _ _ c.self.invariant
