@@ -101,7 +101,7 @@ pub take_all : {A : Type 0} (xs : List A) → take (length xs) xs ≡ xs
 take_all [] = refl
 take_all (x ∷ xs) = ap (λ (ys : List _). x ∷ ys) (take_all xs)
 
-starts_same : (frames : List FrameBytes) (scopes : List FrameScopes) → HaveScopes frames scopes → start_of frames ≡ first_start scopes
+pub starts_same : (frames : List FrameBytes) (scopes : List FrameScopes) → HaveScopes frames scopes → start_of frames ≡ first_start scopes
 starts_same [] [] h = refl
 starts_same [] (s ∷ scopes) h = absurd h
 starts_same (f ∷ frames) [] h = absurd h

@@ -33,3 +33,5 @@ pub mod Learning
 pub mod Counting
 pub mod Selecting
 pub mod Copied
+pub mod OneMerge
+pub mod OneOutcome
