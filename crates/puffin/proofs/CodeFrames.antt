@@ -1,5 +1,5 @@
 -- Reading the frames that the code has, one after the other.
-use Rattle.std.proofs.Common.{◌≡◌, ℕ, ◌+◌, ◌<◌, ◌≤◌, ℤ, ◌-ℤ◌, List, [], ◌∷◌, length, take, get_or, ◌⊎◌, inl, inr, sym, ap, subst, ◌∙◌, arith, Result, Ok, Err, Vec}
+use Rattle.std.proofs.Common.{◌≡◌, ℕ, ◌+◌, ◌<◌, ◌≤◌, ◌^◌, ℤ, ◌-ℤ◌, List, [], ◌∷◌, length, take, get_or, ◌⊎◌, inl, inr, sym, ap, subst, ◌∙◌, arith, Result, Ok, Err, Vec}
 use Rattle.std.specs.Prelude.{IfOk, IfErr}
 use Rattle.std.specs.Arc.{arc_value}
 use Rattle.std.specs.declared.sync.Arc.{Arc}
@@ -45,10 +45,12 @@ origin_is info frames i x z frame first lt ez ef eg =
     ∙ ap (λ (s : ℤ). (arc_value x).meta.range_ns.0 -ℤ s) (ap (λ (y : UnpackedFrameData). y.meta.range_ns.0) eg ∙ sym (first_is info frames z (omega arith) ez))
 
 pub more_read : (info : Info) (frames : List Held) (i : ℕ) (x z : Held) (frame first : UnpackedFrameData) (t : Table) (w : Merging) (tried made : ℕ) → i < length frames → x ≡ get_or frames i x → z ≡ get_or frames 0 z → frame ≡ arc_value x → first ≡ arc_value z
-    → HasRead (frames_bytes info frames) i t tried → TakesAll TakesScopes (from t frame first) w (bytes_of (frame_bytes info frame)) made → HasRead (frames_bytes info frames) (i + 1) w.table (tried + made)
-more_read info frames i x z frame first t w tried made lt ex ez ef eg r all =
+    → HasRead (frames_bytes info frames) i t tried → TakesAll TakesScopes (from t frame first) w (bytes_of (frame_bytes info frame)) made → length (bytes_of (frame_bytes info frame)) < 2 ^ 63
+    → HasRead (frames_bytes info frames) (i + 1) w.table (tried + made)
+more_read info frames i x z frame first t w tried made lt ex ez ef eg r all short =
     read_more (frames_bytes info frames) i (bytes_in info x) (from t frame first) w tried made (take_push (bytes_in info) frames i x lt ex) (origin_is info frames i x z frame first lt ez ef eg) r
     (subst (λ (y : UnpackedFrameData). TakesAll TakesScopes (from t frame first) w (bytes_of (frame_bytes info y)) made) ef all)
+    (subst (λ (y : UnpackedFrameData). length (bytes_of (frame_bytes info y)) < 2 ^ 63) ef short)
 
 pub refused_read : (info : Info) (frames : List Held) (i : ℕ) (x z : Held) (frame first : UnpackedFrameData) (t : Table) (w : Merging) (tried made : ℕ) (e : Error) → i < length frames → x ≡ get_or frames i x → z ≡ get_or frames 0 z → frame ≡ arc_value x → first ≡ arc_value z
     → HasRead (frames_bytes info frames) i t tried → (e ≡ Memory) ⊎ StopsEarly TakesScopes RefusesScope (from t frame first) w (bytes_of (frame_bytes info frame)) made e → (e ≡ Memory) ⊎ IsRefusal (frames_bytes info frames) e

@@ -122,6 +122,7 @@ scope_taken v w s u key own duration at origin low parent label start own_fits l
         node = adds.number;
         path = path ∙ ap (λ (x : Occurrence). x.path) o ∙ sym (map-append label_of around (s ∷ []));
         depth = ap (λ (n : ℕ). n + 1) depth ∙ sym (length_push around s);
+        shallow = omega arith;
         origin = origin_is ∙ sym (origin_last v.origin around s);
         is_origin = subst IsOrigin (sym origin_is) (time_is_origin s.start fits);
       },

@@ -1,10 +1,10 @@
 -- What is read of the frames so far, and of one more.
-use Rattle.std.proofs.Common.{◌≡◌, ℕ, zero, suc, ◌+◌, ◌<◌, ◌≤◌, ℤ, ◌-ℤ◌, List, [], ◌∷◌, ◌++◌, length, take, drop, get_or, map, ◌⊎◌, inl, inr, refl, sym, ap, subst, ◌∙◌, arith, append_assoc}
+use Rattle.std.proofs.Common.{◌≡◌, ℕ, zero, suc, ◌+◌, ◌<◌, ◌≤◌, ◌^◌, ℤ, ◌-ℤ◌, List, [], ◌∷◌, ◌++◌, length, take, drop, get_or, map, ◌⊎◌, inl, inr, refl, sym, ap, subst, ◌∙◌, arith, append_assoc}
 use Rattle.std.proofs.lemmas.List.{length-append, take-append-drop}
 use Rattle.std.proofs.lemmas.List.Sums.{sum_by-append}
 use Rattle.puffin_data.specs.declared.error.Error.{Error}
 use Rattle.puffin_data.specs.declared.error.Error.TheVariants.{Memory, TooLarge}
-use Rattle.puffin_data.specs.Forest.{Forest, empty}
+use Rattle.puffin_data.specs.Forest.{Forest}
 use Rattle.puffin_data.specs.Spelling.{Spells}
 use Rattle.puffin_data.specs.Sights.{Nested, nested_in, scopes_of, before}
 use Rattle.puffin_data.specs.Visiting.{TakesAll, StopsEarly}
@@ -48,37 +48,31 @@ length_mapped f [] = refl
 length_mapped f (x ∷ xs) = let e = length_mapped f xs in omega arith
 
 -- one frame more, whose scopes the table has taken
-more_scopes : (frames : List FrameBytes) (i : ℕ) (f : FrameBytes) (forest : Forest) (t u : Table) (tried made : ℕ) → take (i + 1) frames ≡ take i frames ++ (f ∷ []) → (r : HasRead frames i t tried) → Spells (bytes_of f) forest
+more_scopes : (frames : List FrameBytes) (i : ℕ) (f : FrameBytes) (forest : Forest) (t u : Table) (tried made : ℕ) → take (i + 1) frames ≡ take i frames ++ (f ∷ []) → (r : HasRead frames i t tried) → Spells (bytes_of f) forest → length (bytes_of f) < 2 ^ 63
     → AreAccepted (occurrences_from (start_of frames) r.scopes) (occurrences_of (start_of frames) (record { start = f.start; forest = forest }))
     → IsTableOf (occurrences_from (start_of frames) r.scopes ++ occurrences_of (start_of frames) (record { start = f.start; forest = forest })) u
     → made ≡ length (nested_in [] forest) → HasRead frames (i + 1) u (tried + made)
-more_scopes frames i f forest t u tried made split r spells accepted table tries =
+more_scopes frames i f forest t u tried made split r spells short accepted table tries =
     let s : FrameScopes = record { start = f.start; forest = forest } in
     let first = start_of frames in
     let more = from_push first r.scopes s in
     let before_tries = r.tries in
     record {
       scopes = r.scopes ++ (s ∷ []);
-      have = subst (λ (xs : List FrameBytes). HaveScopes xs (r.scopes ++ (s ∷ []))) (sym split) (have_push (take i frames) r.scopes f s r.have (record { start = refl; spells = spells }));
+      have = subst (λ (xs : List FrameBytes). HaveScopes xs (r.scopes ++ (s ∷ []))) (sym split) (have_push (take i frames) r.scopes f s r.have (record { start = refl; spells = spells; short = short }));
       accepted = subst (λ (xs : List Occurrence). AreAccepted [] xs) (sym more) (accepted-append [] (occurrences_from first r.scopes) (occurrences_of first s) r.accepted accepted);
       table = subst (λ (xs : List Occurrence). IsTableOf xs u) (sym more) table;
       tries = omega (arith, before_tries, tries, ap length more, length-append (occurrences_from first r.scopes) (occurrences_of first s), length_mapped (occurrence_of (f.start -ℤ first)) (nested_in [] forest));
     }
 
-pub read_more : (frames : List FrameBytes) (i : ℕ) (f : FrameBytes) (v w : Merging) (tried made : ℕ) → take (i + 1) frames ≡ take i frames ++ (f ∷ []) → v.origin ≡ f.start -ℤ start_of frames → HasRead frames i v.table tried → TakesAll TakesScopes v w (bytes_of f) made
+pub read_more : (frames : List FrameBytes) (i : ℕ) (f : FrameBytes) (v w : Merging) (tried made : ℕ) → take (i + 1) frames ≡ take i frames ++ (f ∷ []) → v.origin ≡ f.start -ℤ start_of frames → HasRead frames i v.table tried → TakesAll TakesScopes v w (bytes_of f) made → length (bytes_of f) < 2 ^ 63
     → HasRead frames (i + 1) w.table (tried + made)
-read_more frames i f v w tried made split origin r all =
+read_more frames i f v w tried made split origin r all short =
     let done = occurrences_from (start_of frames) r.scopes in
     let scopes = nested_in [] all.forest in
-    more_scopes frames i f all.forest v.table w.table tried made split r all.spells
+    more_scopes frames i f all.forest v.table w.table tried made split r all.spells short
     (subst (λ (o : ℤ). AreAccepted done (occurrences_in o scopes)) origin (all.taken.accepted done r.table))
     (subst (λ (o : ℤ). IsTableOf (done ++ occurrences_in o scopes) w.table) origin (all.taken.table done r.table)) all.tries
-
--- one frame more without a stream
-pub read_skipped : (frames : List FrameBytes) (i : ℕ) (f : FrameBytes) (t : Table) (tried : ℕ) → take (i + 1) frames ≡ take i frames ++ (f ∷ []) → bytes_of f ≡ [] → HasRead frames i t tried → HasRead frames (i + 1) t tried
-read_skipped frames i f t tried split nothing r =
-    subst (λ (n : ℕ). HasRead frames (i + 1) t n) (omega arith)
-    (more_scopes frames i f empty t t tried 0 split r (record { whole = nothing; fits = tt }) tt (subst (λ (xs : List Occurrence). IsTableOf xs t) (sym (append-nil (occurrences_from (start_of frames) r.scopes))) r.table) refl)
 
 -- a frame that is refused
 pub read_refused : (frames : List FrameBytes) (i : ℕ) (f : FrameBytes) (v w : Merging) (tried made : ℕ) (e : Error) → frames ≡ take i frames ++ (f ∷ drop (i + 1) frames) → v.origin ≡ f.start -ℤ start_of frames → HasRead frames i v.table tried
@@ -103,11 +97,11 @@ read_refused frames i f v w tried made e split origin r (inr s) =
 
 -- ---- all frames
 
-take_all : {A : Type 0} (xs : List A) → take (length xs) xs ≡ xs
+pub take_all : {A : Type 0} (xs : List A) → take (length xs) xs ≡ xs
 take_all [] = refl
 take_all (x ∷ xs) = ap (λ (ys : List _). x ∷ ys) (take_all xs)
 
-starts_same : (frames : List FrameBytes) (scopes : List FrameScopes) → HaveScopes frames scopes → start_of frames ≡ first_start scopes
+pub starts_same : (frames : List FrameBytes) (scopes : List FrameScopes) → HaveScopes frames scopes → start_of frames ≡ first_start scopes
 starts_same [] [] h = refl
 starts_same [] (s ∷ scopes) h = absurd h
 starts_same (f ∷ frames) [] h = absurd h

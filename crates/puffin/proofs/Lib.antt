@@ -36,3 +36,6 @@ pub mod FilesRead
 pub mod FileFrames
 pub mod FilesWritten
 pub mod Searching
+pub mod Copied
+pub mod OneMerge
+pub mod OneOutcome

@@ -1,5 +1,5 @@
 -- What merging reads of frames.
-use Rattle.std.specs.Prelude.{◌≡◌, ℕ, ◌+◌, ◌/◌, ℤ, pos, List, [], ◌∷◌, length, sum_by, Option, None, Some}
+use Rattle.std.specs.Prelude.{◌≡◌, ℕ, ◌+◌, ◌/◌, ◌<◌, ◌^◌, ℤ, pos, List, [], ◌∷◌, length, sum_by, Option, None, Some}
 use Rattle.puffin_data.specs.Spelling.{Spells}
 use Rattle.puffin.specs.Occurrences.{FrameScopes}
 
@@ -16,10 +16,11 @@ abbrev pub start_of : List FrameBytes → ℤ
 start_of [] = pos 0
 start_of (frame ∷ frames) = frame.start
 
--- the frame's bytes spell the forest
+-- the frame's bytes spell the forest, and are no more than a slice may have
 pub record HasScopes (frame : FrameBytes) (scopes : FrameScopes) : Type 0 where
   pub start : scopes.start ≡ frame.start
   pub spells : Spells (bytes_of frame) scopes.forest
+  pub short : length (bytes_of frame) < 2 ^ 63
 
 -- each frame's
 abbrev pub HaveScopes : List FrameBytes → List FrameScopes → Type 0

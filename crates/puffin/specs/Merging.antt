@@ -28,6 +28,7 @@ pub record StandsFor (v : Merging) (w : Open) (around : List Span) : Type 0 wher
   pub node : w.node.number ≤ vec_len v.table.nodes
   pub path : path_at v.table.nodes.items w.node.number ≡ path_of around
   pub depth : w.depth ≡ length around
+  pub shallow : w.depth ≤ 1024
   pub origin : w.origin ≡ origin_in v.origin around
   pub is_origin : IsOrigin w.origin
 
@@ -75,6 +76,7 @@ still_stands u v xs w around t s =
       node = omega (arith, longer, node);
       path = wide.kept w.node.number s.node ∙ s.path;
       depth = s.depth;
+      shallow = s.shallow;
       origin = s.origin ∙ ap (λ (o : ℤ). origin_in o around) (sym t.origin);
       is_origin = s.is_origin;
     }

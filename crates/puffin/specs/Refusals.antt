@@ -25,9 +25,9 @@ pub record Fits (done : List Occurrence) (o : Occurrence) : Type 0 where
   pub own_start : FitsSigned w64 o.own_start
   pub sums : SumsFit done o
 
--- one more occurrence that is refused
+-- one more occurrence that is refused: the first that stands within 1,024 others, or one whose numbers don't fit
 abbrev pub IsRefusedFor : List Occurrence → Occurrence → Error → Type 0
-IsRefusedFor done o e = ((1024 < length o.path) × (e ≡ TooDeep)) ⊎ (IsShallow o × (Fits done o → ⊥) × (e ≡ TooLarge))
+IsRefusedFor done o e = ((length o.path ≡ 1025) × (e ≡ TooDeep)) ⊎ (IsShallow o × (Fits done o → ⊥) × (e ≡ TooLarge))
 
 -- after some occurrences, each of these in turn is accepted
 abbrev pub AreAccepted : List Occurrence → List Occurrence → Type 0

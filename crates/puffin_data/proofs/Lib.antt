@@ -24,6 +24,8 @@ pub mod TopScopes
 pub mod SightsSeen
 pub mod Going
 pub mod Visited
+pub mod SpelledSights
+pub mod Causes
 pub mod Readers
 pub mod ValueReaders
 pub mod Texts

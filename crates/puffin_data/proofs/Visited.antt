@@ -1,11 +1,11 @@
 -- What a walk with a visitor comes to, from how it went.
-use Rattle.std.proofs.Common.{◌≡◌, ℕ, ◌+◌, ◌-◌, ◌<◌, ◌≤◌, List, [], ◌∷◌, ◌++◌, length, take, drop, map, refl, sym, ap, subst, ◌∙◌, arith, append_assoc, get_or, cond, eqb, ◌⊎◌, inl, inr}
+use Rattle.std.proofs.Common.{◌≡◌, ℕ, ◌+◌, ◌-◌, ◌≤◌, List, [], ◌∷◌, ◌++◌, length, take, drop, map, refl, sym, ap, subst, ◌∙◌, arith, append_assoc, get_or, cond, eqb}
 use Rattle.std.proofs.lemmas.List.{length-append, get_or-take, get_or-drop, map-append}
 use Rattle.puffin_data.specs.declared.error.Error.{Error}
 use Rattle.puffin_data.specs.Forest.{Span, Forest, empty, node, IsForest}
 use Rattle.puffin_data.specs.Spelling.{spelling}
 use Rattle.puffin_data.specs.Reading.{Found}
-use Rattle.puffin_data.specs.Walk.{region, IsSoundAt, IsFaultAt, Reaches, here, child, sibling}
+use Rattle.puffin_data.specs.Walk.{region, IsFaultAt, Reaches, here, child, sibling}
 use Rattle.puffin_data.specs.Walking.{tries_in}
 use Rattle.puffin_data.specs.Sights.{Nested, nested_in, Sight, Sees, no_sight, one_sight, scopes_of, before}
 use Rattle.puffin_data.specs.Visiting.{TakesAll, StopsAtFault, StopsAtRefusal}
@@ -39,7 +39,7 @@ pub record Done {V : Type 0} (takes : V → List Nested → V → Type 0) (bytes
   pub tries : m ≡ n + length sights
   pub faultless : (q f : ℕ) (fault : Error) → Reaches bytes p e q f → IsFaultAt bytes q f fault → ⊥
 
-same_scopes : (s : Sight) (inner later : List Sight) (a b : List Nested) → scopes_of inner ≡ a → scopes_of later ≡ b → scopes_of (s ∷ (inner ++ later)) ≡ s.scope ∷ (a ++ b)
+pub same_scopes : (s : Sight) (inner later : List Sight) (a b : List Nested) → scopes_of inner ≡ a → scopes_of later ≡ b → scopes_of (s ∷ (inner ++ later)) ≡ s.scope ∷ (a ++ b)
 same_scopes s inner later a b x y =
     scopes_split s inner later ∙ ap (λ (xs : List Nested). s.scope ∷ (xs ++ scopes_of later)) x ∙ ap (λ (xs : List Nested). s.scope ∷ (a ++ xs)) y
 

@@ -1,5 +1,5 @@
 -- How a walk with a visitor goes, scope by scope: what the proof of its loop stands on.
-use Rattle.std.specs.Prelude.{◌≡◌, ℕ, ◌+◌, List, [], ◌∷◌, ◌++◌}
+use Rattle.std.specs.Prelude.{ℕ, ◌+◌, List, [], ◌∷◌, ◌++◌}
 use Rattle.puffin_data.specs.declared.error.Error.{Error}
 use Rattle.puffin_data.specs.Forest.{Span}
 use Rattle.puffin_data.specs.Reading.{Found}

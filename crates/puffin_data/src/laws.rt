@@ -1,7 +1,7 @@
 //! Laws of forests, their spellings and their walks, and of layouts, as contracts of functions that do nothing. A proof of another crate
 //! cites them by calling the function.
 
-ghost use Rattle.std.specs.Prelude.{Result, Ok, map, List, ℕ, ℤ, ◌≡◌, ◌+◌, ◌-◌, ◌++◌, ◌∷◌, [], ◌<◌, ◌≤◌, ◌^◌, ◌≤ℤ◌, ◌-ℤ◌, pos, negsuc, FitsSigned, length, max};
+ghost use Rattle.std.specs.Prelude.{Result, Ok, map, List, ℕ, ℤ, ◌≡◌, ◌⊎◌, ◌+◌, ◌-◌, ◌++◌, ◌∷◌, [], ◌<◌, ◌≤◌, ◌^◌, ◌≤ℤ◌, ◌-ℤ◌, pos, negsuc, FitsSigned, length, max};
 ghost use Rattle.std.specs.List.{All};
 ghost use Rattle.std.specs.List.Sorted.{IsStrictlyIncreasing};
 ghost use Rattle.std.specs.Str.{IsUtf8};
@@ -11,6 +11,7 @@ ghost use Rattle.puffin_data.specs.Measures.{scope_count, height, least_start, g
 ghost use Rattle.puffin_data.specs.Spelling.{spelling, Spells, begin_bytes};
 ghost use Rattle.puffin_data.specs.Honesty.{Recorded, IsHonestRecord, joined};
 ghost use Rattle.puffin_data.specs.Walk.{IsFault, IsFirstFault, Sounds};
+ghost use Rattle.puffin_data.specs.Sights.{nested_in, Sight, Sees, scopes_of};
 ghost use Rattle.puffin_data.specs.Tour.{Event, Open, Close, tour, IsBalanced};
 ghost use Rattle.puffin_data.specs.Words.{word_size, num_begun, open_after, most_open, least_open, greatest_close};
 ghost use Rattle.puffin_data.specs.Text.{cut_text, IsCut, text_in};
@@ -62,6 +63,18 @@ pub fn sounds_rise()
     ensures has { (bytes : List ℕ) → (places : List ℕ) × Sounds bytes 0 (length bytes) places }
     ensures one { (bytes places others : List ℕ) → Sounds bytes 0 (length bytes) places → Sounds bytes 0 (length bytes) others → places ≡ others }
     ensures rise { (bytes places : List ℕ) → Sounds bytes 0 (length bytes) places → IsStrictlyIncreasing places }
+{}
+
+/// A walk has one list of the scopes that it meets, and in a forest's spelling these are its scopes.
+pub fn sights_of_a_walk()
+    ensures has { (bytes : List ℕ) → (sights : List Sight) × Sees bytes [] 0 (length bytes) sights }
+    ensures one { (bytes : List ℕ) (sights others : List Sight) → Sees bytes [] 0 (length bytes) sights → Sees bytes [] 0 (length bytes) others → sights ≡ others }
+    ensures spelled { (bytes : List ℕ) (f : Forest) (sights : List Sight) → length bytes < 2 ^ 64 → Spells bytes f → Sees bytes [] 0 (length bytes) sights → scopes_of sights ≡ nested_in [] f }
+{}
+
+/// A fault is one of three.
+pub fn faults_of_a_walk()
+    ensures { (bytes : List ℕ) (fault : Error) → IsFault bytes fault → (fault ≡ Error.PrematureEnd) ⊎ (fault ≡ Error.InvalidStream) ⊎ (fault ≡ Error.ScopeNeverEnded) }
 {}
 
 /// A balanced word is the tour of one forest alone. The tours of two forests one after the other are joined.

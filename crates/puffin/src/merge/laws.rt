@@ -1,10 +1,13 @@
 //! Laws of merging, as contracts of functions that do nothing. A proof of another crate cites them by calling the function.
 
-ghost use Rattle.std.specs.Prelude.{ℕ, pos, List, ◌∷◌, IsPermutation};
+ghost use Rattle.std.specs.Prelude.{◌≡◌, ℕ, pos, List, ◌∷◌, IsPermutation};
+ghost use Rattle.puffin_data.specs.declared.error.Error.{Error};
 ghost use Rattle.puffin.specs.Occurrences.{FrameScopes, occurrences};
 ghost use Rattle.puffin.specs.MergedForests.{MergedForest};
 ghost use Rattle.puffin.specs.Starts.{Sibling, IsLeastFeasible, earliest};
 ghost use Rattle.puffin.specs.Merges.{IsMerge};
+ghost use Rattle.puffin.specs.FrameStreams.{FrameBytes};
+ghost use Rattle.puffin.specs.Refusals.{IsRefusal, AreMerged};
 
 /// Siblings that each start as early as they can have the least feasible starts.
 pub fn earliest_starts()
@@ -16,3 +19,13 @@ pub fn frames_in_any_order()
     ensures { (first : FrameScopes) (others again : List FrameScopes) → IsPermutation others again →
         (frames : ℕ) (f : MergedForest) → IsMerge (occurrences (first ∷ others)) frames f → IsMerge (occurrences (first ∷ again)) frames f }
 {}
+
+/// Frames are merged into one forest at most, and then no refusal is theirs.
+pub fn one_outcome()
+    ensures merged { (frames : List FrameBytes) (f g : MergedForest) → AreMerged frames f → AreMerged frames g → f ≡ g }
+    ensures refused { (frames : List FrameBytes) (f : MergedForest) (refusal : Error) → AreMerged frames f → IsRefusal frames refusal → ⊥ }
+{
+    puffin_data::laws::one_forest();
+    puffin_data::laws::no_fault_in_a_spelling();
+    puffin_data::laws::sights_of_a_walk();
+}

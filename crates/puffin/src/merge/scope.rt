@@ -1,4 +1,5 @@
-ghost use Rattle.std.specs.Prelude.{◌≡◌, IfOk, IfErr};
+ghost use Rattle.std.specs.Prelude.{◌≡◌, [], ◌∷◌, IfOk, IfErr};
+ghost use Rattle.puffin.specs.Seen.{forest_in};
 
 use puffin_data::data::ScopeId;
 use puffin_data::{Error, NanoSecond, Result};
@@ -27,8 +28,11 @@ pub struct MergeScope<'s> {
 }
 
 impl<'s> MergeScope<'s> {
-    /// The same with texts of its own. Refused only with `Memory`.
-    pub fn into_owned(self, alloc: Global) -> Result<MergeScope<'static>> {
+    /// The same with texts of its own, down to the innermost. Refused only with `Memory`.
+    pub fn into_owned(self, alloc: Global) -> Result<MergeScope<'static>>
+        ensures same { IfOk result (λ owned. forest_in (owned ∷ []) ≡ forest_in (self.entry ∷ [])) }
+        ensures memory { IfErr result (λ e. e ≡ Error.Memory) }
+    {
         let MergeScope {
             relative_start_ns,
             total_duration_ns,
@@ -56,8 +60,11 @@ impl<'s> MergeScope<'s> {
         })
     }
 
-    /// A copy, with borrowed texts borrowed again. Refused only with `Memory`.
-    pub fn clone(&self) -> Result<MergeScope<'s>> {
+    /// A copy, with borrowed texts borrowed again, down to the innermost. Refused only with `Memory`.
+    pub fn clone(&self) -> Result<MergeScope<'s>>
+        ensures same { IfOk result (λ copy. forest_in (copy ∷ []) ≡ forest_in (self.now ∷ [])) }
+        ensures memory { IfErr result (λ e. e ≡ Error.Memory) }
+    {
         let mut children = Vec::with_capacity(*self.children.allocator(), self.children.len())?;
         for child in &self.children {
             children.push(child.clone()?)?;

@@ -1,6 +1,6 @@
 //! Taking the scopes of a stream into the table.
 
-ghost use Rattle.std.specs.Prelude.{◌≡◌, ◌≤◌, ◌⊎◌, ◌-ℤ◌, List, [], if◌then◌else◌, Ok, Err, IfOk, IfErr};
+ghost use Rattle.std.specs.Prelude.{◌≡◌, ◌<◌, ◌≤◌, ◌^◌, ◌⊎◌, ◌-ℤ◌, List, [], length, if◌then◌else◌, Ok, Err, IfOk, IfErr};
 ghost use Rattle.puffin_data.specs.Visiting.{TakesAll, StopsEarly};
 ghost use Rattle.puffin_frames.specs.Info.{info_of};
 ghost use Rattle.puffin.specs.Occurrences.{Occurrence};
@@ -134,6 +134,7 @@ pub(crate) fn read_frame<'s>(
     ensures ok { IfOk result (λ _. TakesAll TakesScopes (record { table = merging.old.table; origin = frame.now.meta.range_ns.0 -ℤ first.now.meta.range_ns.0 }) merging.new (bytes_of (frame_bytes (info_of info.now) frame.now)) tries.new) }
     ensures err { IfErr result (λ e. (e ≡ Error.Memory) ⊎ StopsEarly TakesScopes RefusesScope (record { table = merging.old.table; origin = frame.now.meta.range_ns.0 -ℤ first.now.meta.range_ns.0 }) merging.new (bytes_of (frame_bytes (info_of info.now) frame.now)) tries.new e) }
     ensures few { tries.new ≤ most_tries_of (frame_bytes (info_of info.now) frame.now) }
+    ensures short { length (bytes_of (frame_bytes (info_of info.now) frame.now)) < 2 ^ 63 }
 {
     puffin_frames::laws::order_of_infos();
     *tries = 0;

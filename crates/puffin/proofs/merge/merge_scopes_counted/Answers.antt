@@ -22,7 +22,7 @@ returns-in_err-read-clause-few c =
 pub loop-i-preserved : goal.loop-i-preserved
 loop-i-preserved c = record {
   read = more_read (info_of c.args.info.now) c.args.frames.now c.loop-i.i c.index-frames-i.result c.index-frames-0.result c.deref.result.now c.deref-in-loop-i.result.now c.loop-i.merging.table c.read_frame-read.new.merging c.loop-i.tries c.read_frame-read.new.tries
-      (omega arith) c.index-frames-i.is c.index-frames-0.is c.deref.ensures c.deref-in-loop-i.ensures c.loop-i.invariant.read c.in_ok-read.ensures.ok;
+      (omega arith) c.index-frames-i.is c.index-frames-0.is c.deref.ensures c.deref-in-loop-i.ensures c.loop-i.invariant.read c.in_ok-read.ensures.ok c.in_ok-read.ensures.short;
   few = more_tries (info_of c.args.info.now) c.args.frames.now c.loop-i.i c.index-frames-i.result c.deref.result.now c.loop-i.tries c.read_frame-read.new.tries (omega arith) c.index-frames-i.is c.deref.ensures c.loop-i.invariant.few c.in_ok-read.ensures.few;
   low = omega arith;
 }

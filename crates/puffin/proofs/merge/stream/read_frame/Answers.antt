@@ -19,6 +19,7 @@ walk_with-requires c κs =
         node = omega arith;
         path = top_path c.args.merging.now.table.nodes.items;
         depth = refl;
+        shallow = omega arith;
         origin = ap (λ (t : ℤ). to_z w128 (of_z w128 t)) same;
         is_origin = subst IsOrigin (sym (ap (λ (t : ℤ). to_z w128 (of_z w128 t)) same ∙ same)) c.origin_of-merging.ensures.is;
       }),
@@ -47,3 +48,14 @@ pub returns-in-Some-clause-few : goal.returns-in-Some-clause-few
 returns-in-Some-clause-few c =
     let size = ap length (c.bytes.ensures ∙ ap (λ s. s.stream.bytes) c.deref.ensures) in
     some_tries c.order_of_infos.ensures.total c.args.info.now c.args.frame.now c.in-Some.times.now c.walk_with.new.tries c.in-Some.ensures.value (omega (arith, size, c.walk_with.ensures.few))
+
+pub returns-in-None-clause-short : goal.returns-in-None-clause-short
+returns-in-None-clause-short c =
+    let size = ap length (no_bytes c.order_of_infos.ensures.total c.args.info.now c.args.frame.now c.in-None.ensures.value) in
+    omega (arith, size)
+
+pub returns-in-Some-clause-short : goal.returns-in-Some-clause-short
+returns-in-Some-clause-short c =
+    let bytes = some_bytes c.order_of_infos.ensures.total c.args.info.now c.args.frame.now c.in-Some.times.now c.in-Some.ensures.value in
+    let size = ap length (c.bytes.ensures ∙ ap (λ s. s.stream.bytes) c.deref.ensures ∙ sym bytes) in
+    omega (arith, size)

@@ -1,4 +1,4 @@
-use Rattle.std.proofs.Common.{ℕ, ◌≡◌, ◌+◌, ◌*◌, ◌≤◌, List, [], ◌∷◌, ◌++◌, length, reverse, All, Some, ap, subst, sym, ◌∙◌, get_or, cond, eqb, arith, inl, inr, refl, ◌-◌, drop}
+use Rattle.std.proofs.Common.{ℕ, ◌≡◌, ◌+◌, List, [], ◌∷◌, ◌++◌, length, reverse, Some, ap, subst, sym, ◌∙◌, get_or, cond, eqb, arith, inl, inr, refl, ◌-◌, drop}
 use Rattle.std.proofs.lemmas.List.{length_push, nil_from_length}
 use Rattle.std.proofs.lemmas.List.Elements.{All-push, All-pop}
 use Rattle.std.proofs.lemmas.Result.{err_from_is_err_and}
@@ -7,7 +7,7 @@ use Rattle.puffin_data.specs.Forest.{Span}
 use Rattle.puffin_data.specs.Walk.{region}
 use Rattle.puffin_data.specs.Sightings.{found_of}
 use Rattle.puffin_data.specs.Walking.{tries_in}
-use Rattle.puffin_data.specs.Visiting.{StopsEarly, StopsAtFault}
+use Rattle.puffin_data.specs.Visiting.{StopsAtFault}
 use Rattle.puffin_data.specs.Goings.{Visits}
 use Rattle.puffin_data.proofs.Numbers.{IsBytes, IsBytes-drop, IsBytes-take}
 use Rattle.puffin_data.proofs.Found.{passes}

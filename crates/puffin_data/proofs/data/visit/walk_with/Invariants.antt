@@ -1,4 +1,4 @@
-use Rattle.std.proofs.Common.{◌-◌, ℕ, ◌+◌, ◌*◌, ◌≤◌, List, [], length, reverse, All}
+use Rattle.std.proofs.Common.{◌-◌, ◌+◌, ◌*◌, ◌≤◌, List, [], length, reverse, All}
 use Rattle.puffin_data.specs.Forest.{Span}
 use Rattle.puffin_data.specs.Goings.{End, Entering, Refusing}
 use Rattle.puffin_data.proofs.Going.{Resumes, ends_of}
