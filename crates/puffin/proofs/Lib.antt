@@ -35,3 +35,4 @@ pub mod Selecting
 pub mod FilesRead
 pub mod FileFrames
 pub mod FilesWritten
+pub mod FilesAgain
