@@ -15,7 +15,7 @@ use Rattle.puffin.specs.Stored.{AreStored}
 use Rattle.puffin.proofs.Storing.{held_whole, find_held, has-index_of, index-rank_of}
 
 -- each frame stands under its index
-abbrev AreKeyed : List (ℕ × Frame) → Type 0
+abbrev pub AreKeyed : List (ℕ × Frame) → Type 0
 AreKeyed es = AllByRecursion (λ e. index_of e.1 ≡ e.0) es
 
 tied : (k i : ℕ) → nat_cmp k i ≡ Equal → k ≡ i
@@ -39,7 +39,7 @@ no_length (x ∷ xs) e = absurd (omega arith)
 no_entries : fin.entries (fin.empty {X = Frame} {R = nat_cmp}) ≡ []
 no_entries = no_length (fin.entries (fin.empty {X = Frame} {R = nat_cmp})) (sym (fin.len-entries (fin.empty {X = Frame} {R = nat_cmp})) ∙ fin.len-empty nat_cmp Frame)
 
-keyed : (fs : List Frame) → AreKeyed (fin.entries (frames_by_index fs))
+pub keyed : (fs : List Frame) → AreKeyed (fin.entries (frames_by_index fs))
 keyed [] = none_keyed (fin.entries (frames_by_index [])) no_entries
 keyed (f ∷ fs) = subst AreKeyed (sym (fin.entries-insert nat_cmp_total (frames_by_index fs) (index_of f) f)) (keyed-put f (fin.entries (frames_by_index fs)) (keyed fs))
 

@@ -82,10 +82,10 @@ any_of done c left cs is long = subst (λ (ds : List Said). Any HasLongPart ds) 
 
 -- ---- and is read again
 
-abbrev Again : Type 0
+abbrev pub Again : Type 0
 Again = (p : Said) (rest : List ℕ) → IsPacked p → next_at (packet p ++ rest) ≡ Ok (Some (packed p), rest)
 
-abbrev Answer : Type 0
+abbrev pub Answer : Type 0
 Answer = Result (List Stored × List ℕ) FileError
 
 abbrev pub unless_missing : Bool → List Stored → List ℕ → Answer

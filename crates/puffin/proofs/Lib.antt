@@ -39,3 +39,4 @@ pub mod Searching
 pub mod Copied
 pub mod OneMerge
 pub mod OneOutcome
+pub mod FilesAgain
