@@ -32,3 +32,4 @@ pub mod Chronology
 pub mod Learning
 pub mod Counting
 pub mod Selecting
+pub mod Owning
