@@ -10,8 +10,8 @@ use Rattle.std.specs.FinMap.Entries.{by_order, where_key, is_sorted-where_key, f
 use Rattle.puffin.specs.declared.profile_view.slow_rank.SlowRank.{SlowRank}
 use Rattle.puffin.specs.Frames.{Frame, index_of, frames_by_index, chronological}
 use Rattle.puffin.specs.Held.{Held}
-use Rattle.puffin.specs.Ranks.{rank_of, rank_index, has}
-use Rattle.puffin.specs.Stored.{has_index, AreStored}
+use Rattle.puffin.specs.Ranks.{rank_index, has}
+use Rattle.puffin.specs.Stored.{AreStored}
 use Rattle.puffin.proofs.Storing.{held_whole, find_held, has-index_of, index-rank_of}
 
 -- each frame stands under its index

@@ -1,6 +1,6 @@
 -- Frames counted one after the other.
-use Rattle.std.proofs.Common.{◌≡◌, ℕ, suc, ◌+◌, ◌-◌, ◌^◌, Bool, cond, min, List, [], ◌∷◌, length, map, Bor, refl, sym, ap, ◌∙◌, arith}
-use Rattle.std.specs.List.{fold, sum_by, count_by}
+use Rattle.std.proofs.Common.{◌≡◌, ℕ, suc, ◌+◌, cond, List, [], ◌∷◌, length, Bor, sym, ap, ◌∙◌, arith}
+use Rattle.std.specs.List.{fold, sum_by}
 use Rattle.std.specs.declared.sync.Arc.{Arc}
 use Rattle.std.proofs.lemmas.List.Sums.{sum_by-cons}
 use Rattle.puffin_frames.specs.declared.frame_data.frame.FrameData.{FrameData}

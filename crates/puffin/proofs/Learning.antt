@@ -1,12 +1,12 @@
 -- What a view knows of details where it was refused.
-use Rattle.std.proofs.Common.{◌≡◌, ℕ, ◌<◌, List, [], ◌∷◌, ◌++◌, map, take, drop, get_or, length, Result, Err, ◌⊎◌, inl, inr, ◌↔◌, None, subst, sym, ap, ◌∙◌}
+use Rattle.std.proofs.Common.{◌≡◌, ℕ, ◌<◌, List, ◌++◌, take, drop, get_or, length, Result, Err, ◌⊎◌, inl, inr, ◌↔◌, None, subst, sym, ap, ◌∙◌}
 use Rattle.std.specs.Arc.{arc_value}
 use Rattle.std.specs.declared.sync.Arc.{Arc}
 use Rattle.std.proofs.lemmas.List.{map-append, take-append-drop, drop_more}
 use Rattle.puffin_data.specs.declared.error.Error.{Error}
 use Rattle.puffin_data.specs.declared.error.Error.TheVariants.{MissingId, Memory}
 use Rattle.puffin_frames.specs.declared.scope_details.details.ScopeDetails.{ScopeDetails}
-use Rattle.puffin_frames.specs.Details.{Details, details_of, shared_details}
+use Rattle.puffin_frames.specs.Details.{details_of, shared_details}
 use Rattle.puffin_frames.specs.Collection.{Collection, inserted_all}
 use Rattle.puffin.specs.FrameViews.{LearnsSome, FirstLacksId}
 

@@ -33,3 +33,6 @@ pub mod Learning
 pub mod Counting
 pub mod Selecting
 pub mod Owning
+pub mod FilesRead
+pub mod FileFrames
+pub mod FilesWritten

@@ -1,11 +1,9 @@
 -- Steps of selecting the slowest.
-use Rattle.std.proofs.Common.{◌≡◌, ℕ, zero, suc, ◌+◌, ◌-◌, ◌<◌, ◌≤◌, Bool, true, false, cond, List, [], ◌∷◌, ◌++◌, length, take, drop, map, refl, sym, ap, ◌∙◌, subst, arith, Option, Some, None, get_or, add-one, append_assoc, drop-cons, append-nil}
-use Rattle.std.specs.Prelude.{slice_get, filter_map, IsPermutation}
+use Rattle.std.proofs.Common.{◌≡◌, ℕ, zero, suc, ◌+◌, ◌<◌, ◌≤◌, Bool, List, [], ◌∷◌, ◌++◌, length, drop, map, refl, sym, ap, ◌∙◌, arith, Option, Some, None, get_or, add-one, append_assoc, drop-cons, append-nil}
+use Rattle.std.specs.Prelude.{slice_get, filter_map}
 use Rattle.std.specs.Option.{option_map, option_to_list}
 use Rattle.std.specs.List.{cons_option}
 use Rattle.std.specs.List.Sorted.{IsSortedBy}
-use Rattle.std.proofs.lemmas.List.{drop_all}
-use Rattle.std.proofs.lemmas.List.Sorted.{IsPermutation-map}
 use Rattle.puffin.specs.Frames.{Frame, index_of, duration_of}
 use Rattle.puffin.specs.Selection.{Rank, ranks_from}
 use Rattle.puffin.proofs.Orders.{map-more, map-length}

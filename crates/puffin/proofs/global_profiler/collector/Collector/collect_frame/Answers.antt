@@ -1,10 +1,10 @@
 -- A frame that was refused gives back what was pending.
-use Rattle.std.proofs.Common.{◌≡◌, List, [], Some, inr, refl, sym, ap, subst, ◌∙◌}
+use Rattle.std.proofs.Common.{◌≡◌, [], Some, inr, refl, sym, ap, subst, ◌∙◌}
 use Rattle.std.proofs.lemmas.List.{append-nil}
 use Rattle.puffin_data.specs.declared.error.Error.TheVariants.{Memory}
 use Rattle.puffin_frames.specs.Contents.{Streams, frame_contents, shared_streams}
 use Rattle.puffin_frames.specs.Details.{shared_details}
-use Rattle.puffin_frames.specs.Collection.{Collection, inserted_all}
+use Rattle.puffin_frames.specs.Collection.{inserted_all}
 use Rattle.puffin_frames.specs.Holding.{held_contents}
 use Rattle.puffin.specs.Collected.{Collected}
 use Rattle.puffin.specs.Collecting.{KeepsPending}
