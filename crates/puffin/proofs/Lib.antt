@@ -32,6 +32,7 @@ pub mod Chronology
 pub mod Learning
 pub mod Counting
 pub mod Selecting
+pub mod Owning
 pub mod FilesRead
 pub mod FileFrames
 pub mod FilesWritten

@@ -7,10 +7,10 @@ use Rattle.puffin_data.specs.declared.error.Error.{Error}
 use Rattle.puffin_data.specs.declared.error.Error.TheVariants.{IndexExhausted, Memory}
 use Rattle.puffin_data.specs.Honesty.{Recorded}
 use Rattle.puffin_frames.specs.Info.{Info}
-use Rattle.puffin_frames.specs.Details.{Details, shared_details}
+use Rattle.puffin_frames.specs.Details.{Details, shared_details, AllHaveIds}
 use Rattle.puffin_frames.specs.declared.frame_data.frame.FrameData.{FrameData}
 use Rattle.puffin_frames.specs.declared.frame_data.meta.FrameMeta.{FrameMeta}
-use Rattle.puffin_frames.specs.Contents.{Streams, AreHonest, frame_contents, frame_meta}
+use Rattle.puffin_frames.specs.Contents.{Streams, AreHonest, frame_contents, frame_meta, frame_details}
 use Rattle.puffin_frames.specs.Measures.{total_bytes, total_scopes, meta_of, IsOrdered, DurationFits}
 use Rattle.puffin.specs.Collected.{Collected, range_with, delta_of, after_frame, after_no_frame, after_learning}
 
@@ -29,6 +29,11 @@ HaveNoScopes streams = (i : Info) (r : Recorded) → map.get streams i ≡ Some 
 abbrev pub Collects : {A : Type 0} → Collected → Option (Arc FrameData A) → Collected → Type 0
 Collects old (Some frame) new = HoldsAll old (arc_value frame) × (0 < total_scopes (map.values old.streams)) × (new ≡ after_frame old)
 Collects old None new = HaveNoScopes old.streams × (new ≡ after_no_frame old)
+
+-- the frame, if there is one, tells of details with ids alone
+abbrev pub TellsIds : {A : Type 0} → Option (Arc FrameData A) → Type 0
+TellsIds None = Unit {0}
+TellsIds (Some frame) = AllHaveIds (frame_details (arc_value frame))
 
 -- some of the details are the first of those
 abbrev pub Begins : List Details → List Details → Type 0

@@ -1,5 +1,5 @@
 -- What a whole write leaves, whether it succeeded or not.
-use Rattle.std.proofs.Common.{◌≡◌, List, ℕ, [], Option, Result, Ok, Err, sym, subst}
+use Rattle.std.proofs.Common.{◌≡◌, List, ℕ, [], Option, Some, None, Result, Ok, Err, sym, subst}
 use Rattle.std.specs.Prelude.{OnOk, OnErr}
 use Rattle.std.specs.Io.KnownBytes.{Appends}
 use Rattle.std.proofs.lemmas.List.{append-nil}
@@ -14,3 +14,8 @@ beginning_written (Err e) old new bytes text same whole part = subst (WritesBegi
 pub at_an_error : {T E : Type 0} {P : Type 0} (r : Result T E) → P → OnErr r P
 at_an_error (Ok x) p = tt
 at_an_error (Err e) p = p
+
+-- what nothing is written to stays
+pub nothing_written : (known : Option (List ℕ)) → Appends known known []
+nothing_written None = tt
+nothing_written (Some xs) = sym (append-nil xs)

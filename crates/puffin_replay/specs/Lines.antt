@@ -1,5 +1,6 @@
 -- The lines that the program prints: two of a stream, and one of a reply.
-use Rattle.std.specs.Prelude.{ℕ, ◌^◌, ℤ, pos, ◌-ℤ◌, int_lt, List, ◌++◌, length, codes, Option, Some, None, Result, Ok, Err, if◌then◌else◌}
+use Rattle.std.specs.Prelude.{ℕ, ◌^◌, ℤ, pos, ◌-ℤ◌, int_lt, List, [], ◌∷◌, ◌++◌, length, codes, Option, Some, None, Result, Ok, Err, if◌then◌else◌}
+use Rattle.std.specs.Option.{unwrap_or}
 use Rattle.std.specs.Fmt.{decimal, signed_decimal}
 use Rattle.puffin_data.specs.declared.error.Error.{Error}
 use Rattle.puffin_data.specs.declared.error.Error.TheVariants.{Empty, RangeTooLong}
@@ -121,3 +122,8 @@ reply_line number (reply.Registered id) = None
 reply_line number (reply.RegisteredUser ids) = None
 reply_line number reply.Reported = None
 reply_line number reply.Snapshot = None
+
+-- what is printed of replies to the commands in these lines, one after another
+abbrev pub reply_lines : List ℕ → List Reply → List ℕ
+reply_lines (number ∷ numbers) (reply ∷ replies) = unwrap_or (reply_line number reply) [] ++ reply_lines numbers replies
+reply_lines _ _ = []

@@ -6,6 +6,9 @@ mod count;
 mod details_tests;
 mod fault;
 mod profiled;
+#[cfg(test)]
+mod record_tests;
+mod recorder;
 mod reply_line;
 mod script;
 #[cfg(test)]
@@ -19,6 +22,7 @@ mod task;
 pub use command::{Command, Reply};
 pub use count::count_stream;
 pub use fault::{ToolFault, finish};
+pub use recorder::{record, run_script};
 pub use script::{Script, read_script};
 pub use session::Session;
 pub use task::{Task, read_words};

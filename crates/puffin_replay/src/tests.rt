@@ -26,9 +26,9 @@ const UNFINISHED: &[u8] = b"(\x01\0\0\0\x64\0\0\0\0\0\0\0\0\xff\xff\xff\xff\xff\
 
 /// A reader of some bytes in pieces, and a writer, whose call of this number fails.
 #[derive(Drop)]
-struct Failing<'a> {
+pub(crate) struct Failing<'a> {
     bytes: &'a [u8],
-    written: Vec<u8>,
+    pub(crate) written: Vec<u8>,
     piece: usize,
     calls: u64,
     fails_at: u64,
@@ -87,9 +87,14 @@ impl Drain for Failing<'_> {
     }
 }
 
-const NEVER: u64 = u64::MAX;
+pub(crate) const NEVER: u64 = u64::MAX;
 
-fn device<'a>(rt: &HostRuntime, bytes: &'a [u8], piece: usize, fails_at: u64) -> Failing<'a>
+pub(crate) fn device<'a>(
+    rt: &HostRuntime,
+    bytes: &'a [u8],
+    piece: usize,
+    fails_at: u64,
+) -> Failing<'a>
     ensures { result.faults ≡ 0 }
 {
     Failing {
@@ -220,7 +225,17 @@ fn the_words_name_a_task(rt: HostRuntime) -> Result<(), Fail> {
         String::from_str(alloc, "count")?,
         String::from_str(alloc, "x")?,
     ];
+    let mut replay = Vec::new(alloc);
+    for word in ["replay", "a script", "b"] {
+        replay.push(String::from_str(alloc, word)?)?;
+    }
+    let task = Task::Replay(
+        String::from_str(alloc, "a script")?,
+        String::from_str(alloc, "b")?,
+    );
     assert_eq!(rt; read_words(&[count])?, Some(Task::Count));
+    assert_eq!(rt; read_words(&replay)?, Some(task));
+    assert_eq!(rt; read_words(&replay[..2])?, None);
     assert_eq!(rt; read_words(&[other])?, None);
     assert_eq!(rt; read_words(&twice)?, None);
     assert_eq!(rt; read_words(&[])?, None);

@@ -1,9 +1,12 @@
-//! `puffin-tool`: counts a stream of scopes.
+//! `puffin-tool`: counts a stream of scopes, and replays a script of commands into a file of frames.
 #![tactic(auto)]
 
 use puffin_data::data::Counted;
 use puffin_data::{Error, FileError};
-use puffin_replay::replay::{Task, ToolFault, count_stream, finish, read_words};
+use puffin_replay::replay::{
+    Script, Task, ToolFault, count_stream, finish, read_script, read_words, run_script,
+};
+use std::fs::File;
 use std::process::ExitCode;
 use std::{env, io};
 
@@ -25,6 +28,14 @@ fn words(rt: &HostRuntime) -> Result<Vec<String>, ToolFault> {
     Ok(words)
 }
 
+/// The fault of a file that isn't opened or made.
+fn not_opened(error: &io::Error) -> ToolFault {
+    match error.kind() {
+        io::ErrorKind::OutOfMemory => ToolFault::File(FileError::Memory),
+        _ => ToolFault::File(FileError::Io),
+    }
+}
+
 fn count(rt: &HostRuntime) -> Result<(), ToolFault> {
     let mut input = Counted::new(rt.stdin());
     let mut output = Counted::new(rt.stdout());
@@ -35,10 +46,33 @@ fn count(rt: &HostRuntime) -> Result<(), ToolFault> {
     }
 }
 
+/// The script in a file.
+fn script_in(rt: &HostRuntime, path: &str) -> Result<Script, ToolFault> {
+    match File::open(rt, path) {
+        Ok(file) => read_script(rt.alloc(), &mut Counted::new(file)),
+        Err(error) => Err(not_opened(&error)),
+    }
+}
+
+/// The script is read before the file is made.
+fn replay(rt: &HostRuntime, script: &str, out: &str) -> Result<(), ToolFault> {
+    let script = script_in(rt, script)?;
+    let mut out = match File::create(rt, out) {
+        Ok(file) => Counted::new(file),
+        Err(error) => return Err(not_opened(&error)),
+    };
+    let mut lines = Counted::new(rt.stdout());
+    match run_script(rt.alloc(), &script, &mut out, &mut lines) {
+        Ok(()) => Ok(()),
+        Err(fault) => Err(ToolFault::File(fault)),
+    }
+}
+
 fn run(rt: &HostRuntime) -> Result<(), ToolFault> {
     let words = words(rt)?;
     match read_words(words.as_slice()) {
         Ok(Some(Task::Count)) => count(rt),
+        Ok(Some(Task::Replay(script, out))) => replay(rt, script.as_str(), out.as_str()),
         Ok(None) => Err(ToolFault::Words),
         Err(cause) => Err(ToolFault::Cause(cause)),
     }

@@ -10,7 +10,7 @@ ghost use Rattle.puffin_frames.specs.Contents.{AreHonest};
 ghost use Rattle.puffin_frames.specs.Measures.{total_scopes, IsOrdered, DurationFits};
 ghost use Rattle.puffin.specs.Collected.{after_report, after_adding, after_wanting, SumsFit, range_with, IsTooLong, IsReportRefusal};
 ghost use Rattle.puffin.specs.Registering.{known_id, Adds, AddsSome};
-ghost use Rattle.puffin.specs.Collecting.{Collects, KeepsPending, AddsUp};
+ghost use Rattle.puffin.specs.Collecting.{Collects, TellsIds, KeepsPending, AddsUp};
 
 use crate::global_profiler::delta::{all_have_ids, copies, learn, scope_delta};
 use crate::global_profiler::totals::Totals;
@@ -212,6 +212,8 @@ impl Collector {
     /// after `Memory` a beginning of the new scopes may be known.
     pub fn collect_frame(&mut self) -> Result<Option<Arc<FrameData>>>
         ensures ok { IfOk result (λ frame. Collects self.old frame self.new) }
+        // What a frame tells of has ids.
+        ensures ids { IfOk result TellsIds }
         ensures honest { AreHonest self.old.streams }
         ensures exhausted { (result ≡ Err Error.IndexExhausted) ↔ (self.old.index ≡ 2 ^ 64 - 1) }
         ensures err { IfErr result (λ e. KeepsPending self.old e self.new) }

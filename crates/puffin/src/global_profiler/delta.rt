@@ -1,6 +1,6 @@
 ghost use Rattle.std.specs.Prelude.{◌≡◌, ◌++◌, ◌↔◌, OnOk, OnErr, IfOk, IfErr, List, All, IsTrue, IsSome};
 ghost use Rattle.puffin_frames.specs.Details.{Details, details_of, details_seen, shared_details, AllHaveIds};
-ghost use Rattle.puffin_frames.specs.Collection.{inserted_all};
+ghost use Rattle.puffin_frames.specs.Collection.{inserted_all, KeepsOwnIds};
 ghost use Rattle.puffin.specs.Collected.{all_details, delta_of};
 ghost use Rattle.puffin.specs.Collecting.{Begins};
 
@@ -36,7 +36,9 @@ pub(crate) fn scope_delta(
     collection: &ScopeCollection,
     wants_all: bool,
 ) -> Result<Vec<Arc<ScopeDetails>>>
+    requires { AllHaveIds (shared_details new_details.now) }
     ensures ok { IfOk result (λ delta. shared_details delta.items ≡ delta_of collection.now (shared_details new_details.now) wants_all) }
+    ensures ids { IfOk result (λ delta. AllHaveIds (shared_details delta.items)) }
     ensures err { IfErr result (λ e. e ≡ Error.Memory) }
 {
     let mut delta = Vec::with_capacity(alloc, new_details.len())?;
@@ -52,6 +54,7 @@ pub(crate) fn scope_delta(
 /// All details of a collection by rising id, after those that are there. Refused only with `Memory`.
 fn tell_of_all(delta: &mut Vec<Arc<ScopeDetails>>, collection: &ScopeCollection) -> Result<()>
     ensures ok { OnOk result (shared_details delta.new.items ≡ shared_details delta.old.items ++ all_details collection.now) }
+    ensures own { KeepsOwnIds collection.now }
     ensures err { IfErr result (λ e. e ≡ Error.Memory) }
 {
     for details in collection.scopes_by_id().values() {

@@ -3,7 +3,7 @@
 ghost use Rattle.std.specs.Prelude.{◌≡◌, IfOk, Some, option_map};
 ghost use Rattle.std.specs.String.{string_bytes};
 ghost use Rattle.puffin_frames.specs.Contents.{frame_meta};
-ghost use Rattle.puffin_replay.specs.Lines.{frame_text, duration_text, thread_count, taken_line, refused_line, kept_line, reply_line};
+ghost use Rattle.puffin_replay.specs.Lines.{frame_text, duration_text, thread_count, taken_line, refused_line, kept_line, reply_line, reply_lines};
 
 use crate::replay::command::Reply;
 use puffin_data::{Error, NanoSecond};
@@ -88,4 +88,21 @@ pub(crate) fn reply_line(
         _ => return Ok(None),
     };
     Ok(Some(line))
+}
+
+/// The lines that tell the replies to the commands of these lines of the script, one after another.
+pub(crate) fn reply_lines(
+    alloc: Global,
+    numbers: &[u64],
+    replies: &[Reply],
+) -> Result<String, AllocError>
+    ensures { IfOk result (λ lines. string_bytes lines ≡ reply_lines numbers.now replies.now) }
+{
+    let mut lines = String::new(alloc);
+    for (number, reply) in numbers.iter().zip(replies) {
+        if let Some(line) = reply_line(alloc, *number, reply)? {
+            lines.push_str(line.as_str())?;
+        }
+    }
+    Ok(lines)
 }

@@ -1,11 +1,10 @@
-use crate::replay::command::{Command, Reply};
+use crate::replay::command::Command;
 use crate::replay::fault::ToolFault;
-use crate::replay::reply_line::reply_line;
+use crate::replay::recorder::run_script;
 use crate::replay::script::{Script, read_script};
-use crate::replay::session::Session;
+use crate::tests::{NEVER, device};
+use puffin_data::FileError;
 use puffin_data::data::{Counted, Source};
-use puffin_data::{Error, FileError};
-use puffin_frames::thread_profiler::Closed;
 use std::io;
 use std::test::Fail;
 
@@ -233,37 +232,32 @@ fn a_reader_that_fails_is_told(rt: HostRuntime) {
     assert_eq!(rt; answer, Some(ToolFault::File(FileError::Io)));
 }
 
-/// The lines that a script's replies print.
-fn printed(rt: &HostRuntime, bytes: &[u8]) -> Outcome<String> {
+/// The lines that a script's run prints.
+fn printed(rt: &HostRuntime, bytes: &[u8]) -> Outcome<Vec<u8>> {
     let Ok(script) = script(rt, bytes) else {
         return Err(Fail::new("the script is refused"));
     };
-    let mut session = Session::new(rt.alloc(), script.names)?;
-    let replies = session.run(&script.commands)?;
-    let mut text = String::new(rt.alloc());
-    for (number, reply) in script.lines.iter().zip(replies.iter()) {
-        if let Some(line) = reply_line(rt.alloc(), *number, reply)? {
-            text.push_str(line.as_str())?;
-        }
+    let mut out = device(rt, b"", 1000, NEVER);
+    let mut lines = device(rt, b"", 1, NEVER);
+    match run_script(rt.alloc(), &script, &mut out, &mut lines) {
+        Ok(()) => Ok(lines.written),
+        Err(_) => Err(Fail::new("the run fails")),
     }
-    Ok(text)
 }
 
 #[test]
 fn an_emitted_frame_is_told_in_a_line(rt: HostRuntime) -> Outcome<()> {
     let text = "begin main 100 1\nbegin main 200 2 x\nend main 300\nend main 400\nframe\n";
     let lines = printed(&rt, text.as_bytes())?;
-    assert_eq!(rt;
-        lines.as_str(),
-        "frame 0 threads 1 scopes 2 bytes 63 duration 300\n"
-    );
+    let line = b"frame 0 threads 1 scopes 2 bytes 63 duration 300\n";
+    assert_eq!(rt; lines.as_slice(), line.as_slice());
     Ok(())
 }
 
 #[test]
 fn a_refused_command_is_told_with_its_line(rt: HostRuntime) -> Outcome<()> {
     let lines = printed(&rt, b"end main 300")?;
-    assert_eq!(rt; lines.as_str(), "refused 1 MismatchedEnd\n");
+    assert_eq!(rt; lines.as_slice(), b"refused 1 MismatchedEnd\n".as_slice());
     Ok(())
 }
 
@@ -278,16 +272,6 @@ const TWO_THREADS_LINES: &str =
 #[test]
 fn a_whole_script_is_told(rt: HostRuntime) -> Outcome<()> {
     let lines = printed(&rt, TWO_THREADS.as_bytes())?;
-    assert_eq!(rt; lines.as_str(), TWO_THREADS_LINES);
-    Ok(())
-}
-
-#[test]
-fn a_kept_report_is_told_with_its_line(rt: HostRuntime) -> Outcome<()> {
-    let reply = Reply::Ended(Closed::Kept(Error::TooLarge));
-    let Some(line) = reply_line(rt.alloc(), 7, &reply)? else {
-        return Err(Fail::new("nothing is told"));
-    };
-    assert_eq!(rt; line.as_str(), "kept 7 TooLarge\n");
+    assert_eq!(rt; lines.as_slice(), TWO_THREADS_LINES.as_bytes());
     Ok(())
 }

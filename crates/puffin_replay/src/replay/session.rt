@@ -1,4 +1,4 @@
-ghost use Rattle.std.specs.Prelude.{◌≡◌, ◌≢◌, ◌+◌, ◌-◌, ◌^◌, ◌<◌, ◌≤◌, ◌⊎◌, length, map, [], option_map, IfOk, IfErr, OnOk, OnErr};
+ghost use Rattle.std.specs.Prelude.{◌≡◌, ◌≢◌, ◌+◌, ◌-◌, ◌^◌, ◌<◌, ◌≤◌, ◌⊎◌, length, map, [], All, option_map, IfOk, IfErr, OnOk, OnErr};
 ghost use Rattle.std.specs.String.{string_bytes};
 ghost use Rattle.puffin_data.specs.Forest.{Forest};
 ghost use Rattle.puffin_data.specs.Honesty.{Recorded, IsHonestRecord};
@@ -9,10 +9,11 @@ ghost use Rattle.puffin_frames.specs.Info.{info_of};
 ghost use Rattle.puffin_frames.specs.Details.{AllHaveIds, details_seen};
 ghost use Rattle.puffin_frames.specs.Threads.{after_begin, after_registering};
 ghost use Rattle.puffin.specs.Collected.{Accepts, IsReportRefusal, after_wanting};
-ghost use Rattle.puffin.specs.Collecting.{Collects, KeepsPending};
+ghost use Rattle.puffin.specs.Collecting.{Collects, TellsIds, KeepsPending};
 ghost use Rattle.puffin.specs.Registering.{Adds, AddsSome};
 ghost use Rattle.puffin_replay.specs.Sessions.{new_session};
 ghost use Rattle.puffin_replay.specs.Replies.{Records, details_given, user_details};
+ghost use Rattle.puffin_replay.specs.Recorded.{HasIds};
 ghost use Rattle.puffin_replay.specs.Serving.{clock_time, thread_in, with_thread, with_collected, Ends, Continues};
 
 use crate::replay::command::{Command, Reply};
@@ -77,6 +78,8 @@ impl Session {
     /// before any command has run.
     pub fn run(&mut self, commands: &[Command]) -> Result<Vec<Reply>>
         ensures run { IfOk result (λ replies. Records self.old self.new commands.now replies.items) }
+        // What a frame tells of has ids.
+        ensures ids { IfOk result (λ replies. All HasIds replies.items) }
         ensures err { OnErr result (self.new ≡ self.old) }
         ensures memory { IfErr result (λ e. e ≡ Error.Memory) }
     {
@@ -95,7 +98,8 @@ impl Session {
 
     /// One command.
     fn serve(&mut self, command: &Command) -> Reply
-        ensures { Continues self.old self.new command.now result }
+        ensures continues { Continues self.old self.new command.now result }
+        ensures ids { HasIds result }
     {
         match command {
             Command::Begin {
@@ -213,6 +217,7 @@ impl Session {
         ensures ok { IfOk result (λ frame. (self.old.collected.index ≢ 2 ^ 64 - 1) × (self.new ≡ with_collected self.old self.new.collected)
             × Collects self.old.collected frame self.new.collected) }
         ensures err { IfErr result (λ e. (self.new ≡ with_collected self.old self.new.collected) × KeepsPending self.old.collected e self.new.collected) }
+        ensures ids { IfOk result TellsIds }
         ensures last { IfErr result (λ e. e ≡ Error.IndexExhausted → self.old.collected.index ≡ 2 ^ 64 - 1) }
     {
         self.collector.collect_frame()

@@ -1,6 +1,8 @@
 -- Nothing has run yet; and what a command did is added to what the commands before it did.
 use Rattle.std.proofs.Common.{◌≡◌, ◌+◌, [], ◌∷◌, ◌++◌, take, sym, ap, ◌∙◌, subst, arith}
 use Rattle.std.proofs.lemmas.List.{take_more}
+use Rattle.std.proofs.lemmas.List.Elements.{All-nil, All-push}
+use Rattle.puffin_replay.specs.Recorded.{HasIds}
 use Rattle.puffin_replay.specs.declared.replay.command.Command.{Command}
 use Rattle.puffin_replay.specs.Sessions.{SessionState}
 use Rattle.puffin_frames.specs.Contents.{AreHonest}
@@ -15,6 +17,7 @@ loop-command-init c =
     let honest : AreHonest now.collected.streams = subst (λ (s : SessionState). AreHonest s.collected.streams) c.self.view_is c.totals.ensures.honest in
     record {
       ran = rw c.in_ok-replies.ensures.items (RunsTo-none now (StandsAfter-opening now honest) (SumsTo-opening now honest));
+      ids = rw c.in_ok-replies.ensures.items (All-nil HasIds);
       room = c.in_ok-replies.ensures.capacity;
       filled = c.in_ok-replies.ensures.len;
     }
@@ -27,7 +30,8 @@ loop-command-preserved c =
     let before = c.loop-command.invariant in
     let more : take (i + 1) commands ≡ take i commands ++ (command ∷ []) = take_more commands i command (omega (arith, c.loop-command-test.true)) ∙ ap (λ (x : Command). take i commands ++ (x ∷ [])) (sym c.command-item.is) in
     record {
-      ran = rw (more, c.in-Ok.ensures.items) (RunsTo-more c.args.self.now c.loop-command.self c.serve-reply.new.self (take i commands) c.loop-command.replies.items command c.serve-reply.result before.ran c.serve-reply.ensures);
+      ran = rw (more, c.in-Ok.ensures.items) (RunsTo-more c.args.self.now c.loop-command.self c.serve-reply.new.self (take i commands) c.loop-command.replies.items command c.serve-reply.result before.ran c.serve-reply.ensures.continues);
+      ids = rw c.in-Ok.ensures.items (All-push HasIds c.loop-command.replies.items c.serve-reply.result before.ids c.serve-reply.ensures.ids);
       room = omega (arith, before.room, c.push.ensures.capacity);
       filled = omega (arith, before.filled, c.in-Ok.ensures.len);
     }

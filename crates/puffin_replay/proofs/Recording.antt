@@ -1,0 +1,199 @@
+-- What a view makes of the frames of replies, one after another.
+use Rattle.std.proofs.Common.{◌≡◌, ◌⊎◌, inl, inr, ℕ, ◌+◌, ◌<◌, List, [], ◌∷◌, ◌++◌, length, take, drop, get_or, map, refl, sym, ap, ◌∙◌, subst, append_assoc, append-nil, Option, Result, Ok, Err, string_bytes, String, All, arith, length-append}
+use Rattle.std.specs.Prelude.{IsSome, OnErr, IfErr}
+use Rattle.std.specs.List.{flat_map, Any, AllZip}
+use Rattle.std.proofs.lemmas.Grind.{flat_map-append}
+use Rattle.std.proofs.lemmas.List.{take_more, drop_more, take-append-drop, map-append}
+use Rattle.std.proofs.Math.Seq.{get_or-append_seam}
+use Rattle.std.proofs.lemmas.List.Elements.{All-get_or}
+use Rattle.std.proofs.lemmas.List.Sums.{fold-append}
+use Rattle.std.specs.Io.KnownBytes.{Appends}
+use Rattle.puffin_data.specs.declared.error.Error.{Error}
+use Rattle.puffin_data.specs.declared.error.Error.TheVariants.{Memory}
+use Rattle.puffin_data.specs.declared.file_error.FileError.{FileError}
+use Rattle.puffin_data.specs.declared.file_error.FileError.TheVariants as file
+use Rattle.puffin_data.specs.Devices.{IsOutside, WritesBeginning}
+use Rattle.puffin_frames.specs.Writes.{HasLongPart}
+use Rattle.puffin_frames.specs.Details.{Details, AllHaveIds}
+use Rattle.puffin_frames.specs.Collection.{Collection, inserted, inserted_all}
+use Rattle.puffin_frames.specs.Stored.{Said}
+use Rattle.puffin.specs.declared.profile_view.frame_view.FrameView.{FrameView}
+use Rattle.puffin.specs.Frames.{Frame, contents_of}
+use Rattle.puffin.specs.FrameOf.{told}
+use Rattle.puffin.specs.Views.{View, Took, empty_view, after_taking, after_all, with_newest_packed}
+use Rattle.puffin.specs.FrameViews.{view_of, collection_of, FirstLacksId, LearnsSome}
+use Rattle.puffin.specs.Files.{file_of, contents_in}
+use Rattle.puffin_replay.specs.declared.replay.command.Command.{Command}
+use Rattle.puffin_replay.specs.declared.replay.script.Script.{Script}
+use Rattle.puffin_replay.specs.declared.replay.command.Reply.{Reply}
+use Rattle.puffin_replay.specs.Recorded.{HasIds, emitted_by, frames_emitted, Takes, TakesSome, AreReplies, AreAnswers, file_of_view, view_after, IsBroken, IsReplayed, IsUnfinished}
+use Rattle.puffin_replay.specs.Lines.{reply_lines}
+use Rattle.puffin_replay.proofs.Writing.{nothing_written}
+
+-- ---- lists
+
+after_all-append : (v : View) (fs gs : List Frame) → after_all v (fs ++ gs) ≡ after_all (after_all v fs) gs
+after_all-append v [] gs = refl
+after_all-append v (f ∷ fs) gs = after_all-append (after_taking v f) fs gs
+
+inserted_all-append : (c : Collection) (ds es : List Details) → inserted_all c (ds ++ es) ≡ inserted_all (inserted_all c ds) es
+inserted_all-append c ds es = fold-append inserted c ds es
+
+told-more : (fs : List Frame) (f : Frame) → flat_map told (fs ++ (f ∷ [])) ≡ flat_map told fs ++ told f
+told-more fs f = flat_map-append told fs (f ∷ []) ∙ ap (λ ds. flat_map told fs ++ ds) (append-nil (told f))
+
+-- Details that have ids are refused for want of memory alone.
+none_at : (learnt rest : List Details) → AllHaveIds (learnt ++ rest) → FirstLacksId rest → ⊥
+none_at learnt [] all lacks = lacks
+none_at learnt (d ∷ rest) all lacks =
+    let at : IsSome (get_or (learnt ++ (d ∷ rest)) (length learnt) d).id = All-get_or (λ (e : Details). IsSome e.id) (learnt ++ (d ∷ rest)) (length learnt) d (omega (arith, length-append learnt (d ∷ rest))) all in
+    let some : IsSome d.id = subst (λ (e : Details). IsSome e.id) (get_or-append_seam learnt d rest d) at in
+    cc
+
+memory_alone : (old new : Collection) (ds : List Details) (e : Error) → AllHaveIds ds → LearnsSome old ds e new → e ≡ Memory
+memory_alone old new ds e all learns = elim learns.4 [ inl missing ↦ absurd (none_at learns.0 learns.1 (subst AllHaveIds learns.2 all) missing.1) | inr memory ↦ memory ]
+
+-- a view that took a list took these frames besides
+abbrev pub TookAlso : List Frame → View → View → Type 0
+TookAlso fs old new = (cs : List Said) → Took cs old → Took (cs ++ map contents_of fs) new
+
+abbrev pub TakesAll : List Frame → FrameView → FrameView → Type 0
+TakesAll fs old new = Takes fs old new × TookAlso fs (view_of old) (view_of new)
+
+module _ (rs : List Reply) (i : ℕ) (r : Reply) (h : i < length rs) (is : r ≡ get_or rs i r) where
+  -- the frames up to a reply, with the reply and without
+  frames-more : frames_emitted (take (i + 1) rs) ≡ frames_emitted (take i rs) ++ emitted_by r
+  frames-more =
+      ap frames_emitted (take_more rs i r h ∙ ap (λ (x : Reply). take i rs ++ (x ∷ [])) (sym is)) ∙ flat_map-append emitted_by (take i rs) (r ∷ [])
+      ∙ ap (λ (fs : List Frame). frames_emitted (take i rs) ++ fs) (append-nil (emitted_by r))
+
+  -- and all of them
+  frames-split : frames_emitted rs ≡ frames_emitted (take i rs) ++ (emitted_by r ++ frames_emitted (drop (i + 1) rs))
+  frames-split =
+      ap frames_emitted (sym (take-append-drop i rs)) ∙ flat_map-append emitted_by (take i rs) (drop i rs)
+      ∙ ap (λ (xs : List Reply). frames_emitted (take i rs) ++ frames_emitted xs) (drop_more rs i r h ∙ ap (λ (x : Reply). x ∷ drop (i + 1) rs) (sym is))
+
+  -- ---- a reply without a frame
+
+  pub TakesAll-same : emitted_by r ≡ [] → (old now : FrameView) → TakesAll (frames_emitted (take i rs)) old now → TakesAll (frames_emitted (take (i + 1) rs)) old now
+  TakesAll-same none old now =
+      subst (λ (fs : List Frame). TakesAll fs old now) (sym (frames-more ∙ ap (λ (fs : List Frame). frames_emitted (take i rs) ++ fs) none ∙ append-nil (frames_emitted (take i rs))))
+
+  -- ---- a reply with a frame
+
+  module _ (f : Frame) (some : emitted_by r ≡ f ∷ []) where
+    one_more : frames_emitted (take (i + 1) rs) ≡ frames_emitted (take i rs) ++ (f ∷ [])
+    one_more = frames-more ∙ ap (λ (fs : List Frame). frames_emitted (take i rs) ++ fs) some
+
+    Takes-more : (old now new : FrameView) → Takes (frames_emitted (take i rs)) old now → view_of new ≡ after_taking (view_of now) f → collection_of new ≡ inserted_all (collection_of now) (told f)
+        → Takes (frames_emitted (take (i + 1) rs)) old new
+    Takes-more old now new takes taken learnt =
+        let fs = frames_emitted (take i rs) in
+        subst (λ (gs : List Frame). Takes gs old new) (sym one_more)
+        (record {
+          taken = taken ∙ ap (λ (v : View). after_taking v f) takes.taken ∙ sym (after_all-append (view_of old) fs (f ∷ []));
+          details = learnt ∙ ap (λ (c : Collection). inserted_all c (told f)) takes.details ∙ sym (inserted_all-append (collection_of old) (flat_map told fs) (told f))
+              ∙ ap (λ (ds : List Details). inserted_all (collection_of old) ds) (sym (told-more fs f));
+        })
+
+    Took-more : (old now new : View) → TookAlso (frames_emitted (take i rs)) old now → TookAlso (f ∷ []) now new → TookAlso (frames_emitted (take (i + 1) rs)) old new
+    Took-more old now new before step cs took =
+        let fs = frames_emitted (take i rs) in
+        let joined : cs ++ map contents_of (frames_emitted (take (i + 1) rs)) ≡ (cs ++ map contents_of fs) ++ (contents_of f ∷ []) =
+        ap (λ (gs : List Frame). cs ++ map contents_of gs) one_more ∙ ap (λ (ds : List Said). cs ++ ds) (map-append contents_of fs (f ∷ []))
+        ∙ sym (append_assoc cs (map contents_of fs) (contents_of f ∷ [])) in
+        subst (λ (ds : List Said). Took ds new) (sym joined) (step (cs ++ map contents_of fs) (before cs took))
+
+    pub TakesAll-more : (old now new : FrameView) → TakesAll (frames_emitted (take i rs)) old now → view_of new ≡ after_taking (view_of now) f → collection_of new ≡ inserted_all (collection_of now) (told f)
+        → TookAlso (f ∷ []) (view_of now) (view_of new) → TakesAll (frames_emitted (take (i + 1) rs)) old new
+    TakesAll-more old now new before taken learnt took = (Takes-more old now new before.0 taken learnt, Took-more (view_of old) (view_of now) (view_of new) before.1 took)
+
+    -- ---- and where it was refused
+
+    split : frames_emitted rs ≡ frames_emitted (take i rs) ++ (f ∷ frames_emitted (drop (i + 1) rs))
+    split = frames-split ∙ ap (λ (fs : List Frame). frames_emitted (take i rs) ++ (fs ++ frames_emitted (drop (i + 1) rs))) some
+
+    have_ids : HasIds r → AllHaveIds (told f)
+    have_ids ids = subst AllHaveIds (ap (flat_map told) some ∙ append-nil (told f)) ids
+
+    pub refused_for_memory : All HasIds rs → (now new : FrameView) (e : Error) → LearnsSome (collection_of now) (told f) e (collection_of new) → e ≡ Memory
+    refused_for_memory ids now new e learns = memory_alone (collection_of now) (collection_of new) (told f) e (have_ids (subst HasIds (sym is) (All-get_or HasIds rs i r h ids))) learns
+
+    pub TakesSome-refused : (old now new : FrameView) → Takes (frames_emitted (take i rs)) old now → (view_of new ≡ view_of now) ⊎ (view_of new ≡ with_newest_packed (view_of now))
+        → LearnsSome (collection_of now) (told f) Memory (collection_of new) → TakesSome (frames_emitted rs) old new
+    TakesSome-refused old now new takes kept learns = record {
+      front = frames_emitted (take i rs);
+      next = f;
+      rest = frames_emitted (drop (i + 1) rs);
+      split = split;
+      taken = elim kept [ inl same ↦ inl (same ∙ takes.taken) | inr same ↦ inr (same ∙ ap with_newest_packed takes.taken) ];
+      details = subst (λ (c : Collection). LearnsSome c (told f) Memory (collection_of new)) takes.details learns;
+    }
+
+    -- there was no copy of it
+    pub TakesSome-memory : (old now : FrameView) → Takes (frames_emitted (take i rs)) old now → TakesSome (frames_emitted rs) old now
+    TakesSome-memory old now takes = TakesSome-refused old now now takes (inl refl) ([], told f, refl, refl, inr refl)
+
+-- ---- a script's run
+
+-- the lines weren't written whole
+pub told-cut : {T W : Type 0} (X : Type 0) (Q : FileError → Type 0) (r : Result T FileError) → ((e : FileError) → e ≡ file.Io → W → Q e) → OnErr r W → IfErr r (λ e. (e ≡ file.Io) × X) → IfErr r Q
+told-cut X Q (Ok x) step part io = tt
+told-cut X Q (Err e) step part io = step e io.0 part
+
+module _ (script : Script) (names : List (List ℕ)) (commands : List Command) (same_names : names ≡ map string_bytes script.names.items) (same_commands : commands ≡ script.commands.items) where
+  pub answers : (replies : List Reply) → AreReplies names commands replies → AreAnswers script replies
+  answers replies run = subst (λ (ns : List (List ℕ)). AreReplies ns script.commands.items replies) same_names (subst (λ (cs : List Command). AreReplies names cs replies) same_commands run)
+
+  module _ (old new : FrameView) (empty : view_of old ≡ empty_view) where
+    pub view-after : (replies : List Reply) → Takes (frames_emitted replies) old new → view_of new ≡ view_after replies
+    view-after replies takes = takes.taken ∙ ap (λ (v : View). after_all v (frames_emitted replies)) empty
+
+    -- the file wasn't written whole
+    pub unfinished : (fault : FileError) (file_before file_after lines : Option (List ℕ)) → IsBroken names commands fault old new file_before file_after → (fault ≡ file.PartTooLong → Any HasLongPart (contents_in (view_of new)))
+        → IsUnfinished script fault file_before file_after lines lines
+    unfinished fault file_before file_after lines (inl none) long = inl (none.0, none.2, nothing_written lines)
+    unfinished fault file_before file_after lines (inr (inl some)) long = inl (some.3, some.4, nothing_written lines)
+    unfinished fault file_before file_after lines (inr (inr all)) long =
+        let same = view-after all.0 all.2 in
+        inr (inl (
+          all.0,
+          answers all.0 all.1,
+          subst (λ (v : View). WritesBeginning file_before file_after (file_of (contents_in v))) same all.3,
+          nothing_written lines,
+          all.4,
+          λ e. subst (λ (v : View). Any HasLongPart (contents_in v)) same (long e),
+        ))
+
+    -- the file was written
+    module _ (replies : List Reply) (run : AreReplies names commands replies) (takes : Takes (frames_emitted replies) old new) (file_before file_after : Option (List ℕ)) (written : Appends file_before file_after (file_of_view new)) where
+      written-after : Appends file_before file_after (file_of (contents_in (view_after replies)))
+      written-after = subst (λ (v : View). Appends file_before file_after (file_of (contents_in v))) (view-after replies takes) written
+
+      -- and a beginning of the lines
+      pub cut_lines : (fault : FileError) (bytes : List ℕ) (lines_before lines_after : Option (List ℕ)) → bytes ≡ reply_lines script.lines.items replies → WritesBeginning lines_before lines_after bytes → IsOutside fault
+          → IsUnfinished script fault file_before file_after lines_before lines_after
+      cut_lines fault bytes lines_before lines_after same part outside =
+          inr (inr (replies, answers replies run, written-after, subst (λ (bs : List ℕ). WritesBeginning lines_before lines_after bs) same part, outside))
+
+      -- and no line, for want of memory
+      pub no_lines : (fault : FileError) (lines : Option (List ℕ)) → fault ≡ file.Memory → IsUnfinished script fault file_before file_after lines lines
+      no_lines fault lines memory = cut_lines fault (reply_lines script.lines.items replies) lines lines refl ([], reply_lines script.lines.items replies, refl, nothing_written lines) (inr memory)
+
+      -- and the lines
+      pub replayed : (bytes : List ℕ) (lines_before lines_after : Option (List ℕ)) → TookAlso (frames_emitted replies) (view_of old) (view_of new) → Took [] (view_of old) → bytes ≡ reply_lines script.lines.items replies → Appends lines_before lines_after bytes
+          → IsReplayed script file_before file_after lines_before lines_after
+      replayed bytes lines_before lines_after took none same told = record {
+        replies = replies;
+        run = answers replies run;
+        took = subst (λ (v : View). Took (map contents_of (frames_emitted replies)) v) (view-after replies takes) (took [] none);
+        written = written-after;
+        told = subst (λ (bs : List ℕ). Appends lines_before lines_after bs) same told;
+      }
+
+-- copies of texts have their bytes
+pub same_texts : {A : Type 0} (texts copies : List (String A)) → AllZip (λ s t. string_bytes t ≡ string_bytes s) texts copies → map string_bytes copies ≡ map string_bytes texts
+same_texts [] [] same = refl
+same_texts [] (t ∷ ts) same = absurd same
+same_texts (s ∷ ss) [] same = absurd same
+same_texts (s ∷ ss) (t ∷ ts) same = ap (λ (b : List ℕ). b ∷ map string_bytes ts) same.0 ∙ ap (λ (bs : List (List ℕ)). string_bytes s ∷ bs) (same_texts ss ts same.1)

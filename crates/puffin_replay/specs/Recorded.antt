@@ -1,0 +1,116 @@
+-- What a run of commands from a new session emits, and what recording it makes of a view and of the view's file.
+use Rattle.std.specs.Prelude.{◌≡◌, ◌⊎◌, ℕ, List, [], ◌∷◌, ◌++◌, Option, Some, None, map}
+use Rattle.std.specs.List.{flat_map, Any}
+use Rattle.std.specs.String.{string_bytes}
+use Rattle.std.specs.declared.sync.Arc.{Arc}
+use Rattle.std.specs.declared.alloc.Global.{Global}
+use Rattle.std.specs.Io.KnownBytes.{Appends}
+use Rattle.puffin_data.specs.declared.error.Error.TheVariants as error
+use Rattle.puffin_data.specs.declared.file_error.FileError.{FileError}
+use Rattle.puffin_data.specs.declared.file_error.FileError.TheVariants as file
+use Rattle.puffin_data.specs.Devices.{IsOutside, WritesBeginning}
+use Rattle.puffin_frames.specs.declared.frame_data.frame.FrameData.{FrameData}
+use Rattle.puffin_frames.specs.Details.{AllHaveIds}
+use Rattle.puffin_frames.specs.Collection.{inserted_all}
+use Rattle.puffin_frames.specs.Writes.{HasLongPart}
+use Rattle.puffin.specs.declared.profile_view.frame_view.FrameView.{FrameView}
+use Rattle.puffin.specs.Frames.{Frame, contents_of}
+use Rattle.puffin.specs.FrameOf.{shared_frame, told}
+use Rattle.puffin.specs.Views.{View, Took, empty_view, with_newest_packed, after_all}
+use Rattle.puffin.specs.FrameViews.{view_of, collection_of, LearnsSome}
+use Rattle.puffin.specs.Files.{file_of, contents_in}
+use Rattle.puffin_replay.specs.declared.replay.command.Command.{Command}
+use Rattle.puffin_replay.specs.declared.replay.command.Reply.{Reply}
+use Rattle.puffin_replay.specs.declared.replay.command.Reply.TheVariants as reply
+use Rattle.puffin_replay.specs.declared.replay.script.Script.{Script}
+use Rattle.puffin_replay.specs.Lines.{reply_lines}
+use Rattle.puffin_replay.specs.Sessions.{SessionState, new_session}
+use Rattle.puffin_replay.specs.Replies.{Records}
+
+-- ---- the frames of a run
+
+-- these replies are those of a run of the commands, from a new session with these threads
+abbrev pub AreReplies : List (List ℕ) → List Command → List Reply → Type 0
+AreReplies names commands replies = (end : SessionState) × Records (new_session names) end commands replies
+
+abbrev pub frame_in : Option (Arc FrameData Global) → List Frame
+frame_in None = []
+frame_in (Some frame) = shared_frame frame ∷ []
+
+-- the frame that a reply tells of, if any
+abbrev pub emitted_by : Reply → List Frame
+emitted_by (reply.Frame emitted) = frame_in emitted.frame
+emitted_by (reply.Began offset) = []
+emitted_by (reply.Ended closed) = []
+emitted_by (reply.Registered id) = []
+emitted_by (reply.RegisteredUser ids) = []
+emitted_by reply.Reported = []
+emitted_by reply.Snapshot = []
+emitted_by (reply.Refused cause) = []
+
+-- what a reply's frame tells of has ids
+abbrev pub HasIds : Reply → Type 0
+HasIds reply = AllHaveIds (flat_map told (emitted_by reply))
+
+-- the emitted frames, in order
+abbrev pub frames_emitted : List Reply → List Frame
+frames_emitted replies = flat_map emitted_by replies
+
+-- ---- what a view makes of them
+
+-- The view took these frames, in order, and knows the details that they tell.
+pub record Takes (frames : List Frame) (old new : FrameView) : Type 0 where
+  pub taken : view_of new ≡ after_all (view_of old) frames
+  pub details : collection_of new ≡ inserted_all (collection_of old) (flat_map told frames)
+
+-- The view took a beginning of these frames, and there was no memory for the next: it knows a beginning of what that tells, and its newest frame may be packed.
+pub record TakesSome (frames : List Frame) (old new : FrameView) : Type 0 where
+  pub front : List Frame
+  pub next : Frame
+  pub rest : List Frame
+  pub split : frames ≡ front ++ (next ∷ rest)
+  pub taken : (view_of new ≡ after_all (view_of old) front) ⊎ (view_of new ≡ with_newest_packed (after_all (view_of old) front))
+  pub details : LearnsSome (inserted_all (collection_of old) (flat_map told front)) (told next) error.Memory (collection_of new)
+
+-- ---- recording
+
+-- the file of a view
+abbrev pub file_of_view : FrameView → List ℕ
+file_of_view view = file_of (contents_in (view_of view))
+
+-- a file is refused for a part that is too long, for want of memory, or by its writer
+abbrev pub IsWriteFault : FileError → Type 0
+IsWriteFault fault = (fault ≡ file.PartTooLong) ⊎ (fault ≡ file.Memory) ⊎ (fault ≡ file.Io)
+
+-- Why a recording failed, and what it left of the view and of what is written: there was no memory to run the commands, or for the view to take all frames of the run, and nothing is written; or the view took them, and a beginning of its file is written.
+abbrev pub IsBroken : List (List ℕ) → List Command → FileError → FrameView → FrameView → Option (List ℕ) → Option (List ℕ) → Type 0
+IsBroken names commands fault old new before after =
+    ((fault ≡ file.Memory) × Takes [] old new × Appends before after [])
+    ⊎ ((replies : List Reply) × AreReplies names commands replies × TakesSome (frames_emitted replies) old new × (fault ≡ file.Memory) × Appends before after [])
+    ⊎ ((replies : List Reply) × AreReplies names commands replies × Takes (frames_emitted replies) old new × WritesBeginning before after (file_of_view new) × IsWriteFault fault)
+
+-- ---- running a script
+
+abbrev pub AreAnswers : Script → List Reply → Type 0
+AreAnswers script replies = AreReplies (map string_bytes script.names.items) script.commands.items replies
+
+-- a new view that took the frames of replies, and no others
+abbrev pub view_after : List Reply → View
+view_after replies = after_all empty_view (frames_emitted replies)
+
+-- One writer got the file of a view that took the frames of a run of the script, and the other the lines of the run's replies.
+pub record IsReplayed (script : Script) (file_before file_after lines_before lines_after : Option (List ℕ)) : Type 0 where
+  pub replies : List Reply
+  pub run : AreAnswers script replies
+  pub took : Took (map contents_of (frames_emitted replies)) (view_after replies)
+  pub written : Appends file_before file_after (file_of (contents_in (view_after replies)))
+  pub told : Appends lines_before lines_after (reply_lines script.lines.items replies)
+
+-- Why a script's run failed, and what it wrote: there was no memory, and nothing is written; or a beginning of the file is, and no line; or the file is, and a beginning of the lines.
+abbrev pub IsUnfinished : Script → FileError → Option (List ℕ) → Option (List ℕ) → Option (List ℕ) → Option (List ℕ) → Type 0
+IsUnfinished script fault file_before file_after lines_before lines_after =
+    ((fault ≡ file.Memory) × Appends file_before file_after [] × Appends lines_before lines_after [])
+    ⊎ ((replies : List Reply) × AreAnswers script replies × WritesBeginning file_before file_after (file_of (contents_in (view_after replies))) × Appends lines_before lines_after []
+    × IsWriteFault fault × (fault ≡ file.PartTooLong → Any HasLongPart (contents_in (view_after replies))))
+    ⊎ ((replies : List Reply) × AreAnswers script replies × Appends file_before file_after (file_of (contents_in (view_after replies))) × WritesBeginning lines_before lines_after (reply_lines script.lines.items replies)
+    × IsOutside fault)

@@ -1,0 +1,122 @@
+//! Recording what a session emits.
+
+ghost use Rattle.std.specs.Prelude.{◌≡◌, ◌⊎◌, ◌+◌, ◌-◌, ◌^◌, ◌<◌, ◌++◌, List, All, map, option_map, IfOk, IfErr, OnOk};
+ghost use Rattle.std.specs.List.{Any};
+ghost use Rattle.std.specs.String.{string_bytes};
+ghost use Rattle.std.specs.Io.KnownBytes.{Appends};
+ghost use Rattle.puffin_data.specs.Devices.{TookNothing};
+ghost use Rattle.puffin_frames.specs.Stored.{Said};
+ghost use Rattle.puffin_frames.specs.Writes.{HasLongPart};
+ghost use Rattle.puffin.specs.Frames.{contents_of};
+ghost use Rattle.puffin.specs.Views.{Took};
+ghost use Rattle.puffin.specs.FrameViews.{view_of};
+ghost use Rattle.puffin.specs.Files.{contents_in};
+ghost use Rattle.puffin_replay.specs.Recorded.{AreReplies, HasIds, frame_in, emitted_by, frames_emitted, file_of_view, Takes, TakesSome, IsBroken, IsReplayed, IsUnfinished};
+
+use crate::replay::command::{Command, Reply};
+use crate::replay::reply_line::reply_lines;
+use crate::replay::script::Script;
+use crate::replay::session::Session;
+use puffin::profile_view::FrameView;
+use puffin_data::data::{Drain, write_all};
+use puffin_data::{Error, FileError, Result as Answer};
+use puffin_frames::frame_data::FrameData;
+use std::alloc::Global;
+use std::sync::Arc;
+
+/// What a new session answers to commands. Refused only with `Memory`.
+fn replies_to(alloc: Global, names: Vec<String>, commands: &[Command]) -> Answer<Vec<Reply>>
+    ensures ok { IfOk result (λ replies. AreReplies (map string_bytes names.items) commands.now replies.items) }
+    ensures ids { IfOk result (λ replies. All HasIds replies.items) }
+    ensures memory { IfErr result (λ e. e ≡ Error.Memory) }
+{
+    let mut session = Session::new(alloc, names)?;
+    session.run(commands)
+}
+
+/// The frame that a reply tells of, if any.
+fn emitted_by(reply: &Reply) -> Option<&Arc<FrameData>>
+    ensures { frame_in (option_map (λ frame. frame.now) result) ≡ emitted_by reply.now }
+{
+    match reply {
+        Reply::Frame(emitted) => emitted.frame.as_ref(),
+        _ => None,
+    }
+}
+
+/// Adds each frame that the replies tell of to a view, in order. Refused only with `Memory`.
+fn add_frames(view: &mut FrameView, replies: &[Reply]) -> Answer<()>
+    requires { All HasIds replies.now }
+    ensures ok { OnOk result (Takes (frames_emitted replies.now) view.old view.new) }
+    ensures took { OnOk result ((cs : List Said) → Took cs (view_of view.old) → Took (cs ++ map contents_of (frames_emitted replies.now)) (view_of view.new)) }
+    ensures refusal { IfErr result (λ e. (e ≡ Error.Memory) × TakesSome (frames_emitted replies.now) view.old view.new) }
+{
+    for reply in replies {
+        if let Some(frame) = emitted_by(reply) {
+            view.add_frame(frame.clone()?)?;
+        }
+    }
+    Ok(())
+}
+
+/// Runs commands in a new session of threads with these names, adds each emitted frame to a view, in order, and writes the
+/// view's file. Answers one reply to each command.
+///
+/// Fails with `Memory`, and as [`FrameView::write`] with `PartTooLong` and `Io`; the view may then have taken a beginning of
+/// the frames, but nothing is written before it took all of them.
+pub fn record<D: Drain>(
+    alloc: Global,
+    names: Vec<String>,
+    commands: &[Command],
+    view: &mut FrameView,
+    drain: &mut D,
+) -> Result<Vec<Reply>, FileError>
+    requires { D.failures drain.old < 2 ^ 64 - 1 }
+    // The commands were run, and the view took the frames of that run.
+    ensures run { IfOk result (λ replies. AreReplies (map string_bytes names.items) commands.now replies.items) }
+    ensures view { IfOk result (λ replies. Takes (frames_emitted replies.items) view.old view.new) }
+    ensures took { IfOk result (λ replies. (cs : List Said) → Took cs (view_of view.old) → Took (cs ++ map contents_of (frames_emitted replies.items)) (view_of view.new)) }
+    ensures written { OnOk result (Appends (D.contents drain.old) (D.contents drain.new) (file_of_view view.new)) }
+    ensures failures { OnOk result (D.failures drain.new ≡ D.failures drain.old) }
+
+    ensures broken { IfErr result (λ e. IsBroken (map string_bytes names.items) commands.now e view.old view.new (D.contents drain.old) (D.contents drain.new)) }
+    // The writer failed in this call, or took nothing.
+    ensures io { (result ≡ Err FileError.Io) → (D.failures drain.new ≡ D.failures drain.old + 1) ⊎ TookNothing D.takes drain.new }
+    ensures too_long { (result ≡ Err FileError.PartTooLong) → Any HasLongPart (contents_in (view_of view.new)) }
+{
+    let replies = match replies_to(alloc, names, commands) {
+        Ok(replies) => replies,
+        Err(_) => return Err(FileError::Memory),
+    };
+    match add_frames(view, &replies) {
+        Ok(()) => {}
+        Err(_) => return Err(FileError::Memory),
+    }
+    view.write(drain)?;
+    Ok(replies)
+}
+
+/// Runs a script in a new session, and writes two things: first the file of a new view that took each frame of the run,
+/// then the lines that tell the replies.
+///
+/// Fails as [`record`] does, with no line written; and with `Memory` or `Io` where a line can't be told.
+pub fn run_script<D: Drain, E: Drain>(
+    alloc: Global,
+    script: &Script,
+    out: &mut D,
+    lines: &mut E,
+) -> Result<(), FileError>
+    requires out { D.failures out.old < 2 ^ 64 - 1 }
+    requires lines { E.failures lines.old < 2 ^ 64 - 1 }
+    ensures ok { OnOk result (IsReplayed script.now (D.contents out.old) (D.contents out.new) (E.contents lines.old) (E.contents lines.new)) }
+    ensures fails { IfErr result (λ e. IsUnfinished script.now e (D.contents out.old) (D.contents out.new) (E.contents lines.old) (E.contents lines.new)) }
+    // One of the writers failed in this call, or took nothing.
+    ensures io { (result ≡ Err FileError.Io) → ((D.failures out.new ≡ D.failures out.old + 1) ⊎ TookNothing D.takes out.new)
+        ⊎ ((E.failures lines.new ≡ E.failures lines.old + 1) ⊎ TookNothing E.takes lines.new) }
+{
+    let names = script.names.clone()?;
+    let mut view = FrameView::new(alloc);
+    let replies = record(alloc, names, &script.commands, &mut view, out)?;
+    let text = reply_lines(alloc, &script.lines, &replies)?;
+    write_all(lines, text.as_bytes())
+}
