@@ -35,3 +35,6 @@ pub mod Selecting
 pub mod Copied
 pub mod OneMerge
 pub mod OneOutcome
+pub mod FilesRead
+pub mod FileFrames
+pub mod FilesWritten

@@ -1,8 +1,10 @@
 -- What contracts see of a view of frames.
-use Rattle.std.specs.Prelude.{◌≡◌, ◌⊎◌, List, [], ◌∷◌, ◌++◌, None}
+use Rattle.std.specs.Prelude.{◌≡◌, ◌⊎◌, Bool, List, [], ◌∷◌, ◌++◌, None}
+use Rattle.std.specs.List.{list_any}
 use Rattle.puffin_data.specs.declared.error.Error.{Error}
 use Rattle.puffin_data.specs.declared.error.Error.TheVariants.{MissingId, Memory}
-use Rattle.puffin_frames.specs.Details.{Details}
+use Rattle.puffin_frames.specs.Details.{Details, lacks_id}
+use Rattle.puffin_frames.specs.Stored.{Said}
 use Rattle.puffin_frames.specs.Collection.{Collection, inserted_all}
 use Rattle.puffin.specs.declared.profile_view.frame_view.FrameView.{FrameView}
 use Rattle.puffin.specs.Views.{View}
@@ -12,6 +14,10 @@ view_of view = view.frames
 
 abbrev pub collection_of : FrameView → Collection
 collection_of view = view.scope_collection
+
+-- whether one of a frame's details has no id
+abbrev pub lacks_ids : Said → Bool
+lacks_ids c = list_any lacks_id c.details
 
 abbrev pub FirstLacksId : List Details → Type 0
 FirstLacksId [] = ⊥

@@ -30,3 +30,4 @@ pub mod Stored
 pub mod Listings
 pub mod FrameViews
 pub mod Selections
+pub mod Files

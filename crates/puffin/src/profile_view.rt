@@ -1,8 +1,10 @@
 //! The last frames and the slowest ones.
 
+mod file;
 mod frame_store;
 mod frame_view;
 mod held_frames;
+pub mod laws;
 mod listings;
 mod select;
 mod slow_rank;

@@ -1,7 +1,8 @@
 ghost use Rattle.std.specs.Prelude.{◌≡◌, ◌⊎◌, ◌↔◌, ◌++◌, ◌∷◌, [], List, OnOk, OnErr, IfOk, IfErr, IsTrue, true, false};
 ghost use Rattle.std.specs.Option.{option_map};
+ghost use Rattle.std.specs.List.{list_any};
 ghost use Rattle.puffin_data.specs.declared.error.Error.{Error};
-ghost use Rattle.puffin_frames.specs.Details.{shared_details};
+ghost use Rattle.puffin_frames.specs.Details.{shared_details, lacks_id};
 ghost use Rattle.puffin_frames.specs.Collection.{no_details, inserted_all};
 ghost use Rattle.puffin.specs.Ranking.{last_of, last_in};
 ghost use Rattle.puffin_frames.specs.Stored.{Said};
@@ -10,7 +11,7 @@ ghost use Rattle.puffin.specs.FrameOf.{shared_frame, told};
 ghost use Rattle.puffin.specs.Views.{empty_view, with_newest_packed, is_past, after_taking, all_uniq, Holds, Took};
 ghost use Rattle.puffin.specs.Stats.{stats_of};
 ghost use Rattle.puffin.specs.Listings.{recent_left, all_left, slowest_left};
-ghost use Rattle.puffin.specs.FrameViews.{view_of, collection_of, LearnsSome};
+ghost use Rattle.puffin.specs.FrameViews.{view_of, collection_of, lacks_ids, LearnsSome};
 
 use crate::profile_view::frame_store::FrameStore;
 use crate::profile_view::listings::{AllFrames, RecentFrames, SlowestFrames};
@@ -64,6 +65,7 @@ impl FrameView {
         ensures ok { OnOk result (view_of self.new ≡ after_taking (view_of self.old) (shared_frame frame)) }
         ensures learnt { OnOk result (collection_of self.new ≡ inserted_all (collection_of self.old) (told (shared_frame frame))) }
         ensures err { OnErr result ((view_of self.new ≡ view_of self.old) ⊎ (view_of self.new ≡ with_newest_packed (view_of self.old))) }
+        ensures ids { OnOk result (lacks_ids (contents_of (shared_frame frame)) ≡ false) }
         ensures refusal { IfErr result (λ e. LearnsSome (collection_of self.old) (told (shared_frame frame)) e (collection_of self.new)) }
 
         // What the view holds of any two lists, it holds of them with the frame.
@@ -197,6 +199,7 @@ impl FrameView {
 /// `Memory`; those before it are then in the collection.
 fn learn(collection: &mut ScopeCollection, details: &[Arc<ScopeDetails>]) -> Result<()>
     ensures ok { OnOk result (collection.new ≡ inserted_all collection.old (shared_details details.now)) }
+    ensures ids { OnOk result (list_any lacks_id (shared_details details.now) ≡ false) }
     ensures refusal { IfErr result (λ e. LearnsSome collection.old (shared_details details.now) e collection.new) }
 {
     for details in details {
