@@ -71,11 +71,18 @@ one_more (y ∷ xs) (suc i) x lt e = let step : suc i + 1 ≡ suc (i + 1) = omeg
 pub all_taken : (xs : List MergeScope) (i : ℕ) → length xs ≤ i → take i xs ≡ xs
 all_taken xs i h = take_all i xs h
 
+-- a scope among others stands for one that is the same
+pub exchanged : (before after : List MergeScope) (s t : MergeScope) → forest_in (s ∷ []) ≡ forest_in (t ∷ []) → forest_in (before ++ (s ∷ after)) ≡ forest_in (before ++ (t ∷ after))
+exchanged before after s t e =
+    joined_lists before (s ∷ after)
+    ∙ ap (joined (forest_in before)) (joined_lists (s ∷ []) after ∙ ap (λ (f : MergedForest). joined f (forest_in after)) e ∙ sym (joined_lists (t ∷ []) after))
+    ∙ sym (joined_lists before (t ∷ after))
+
 -- one scope more, and what is left after it
 pub same_next : (xs zs rest more : List MergeScope) (s t : MergeScope) → zs ≡ xs ++ (s ∷ []) → rest ≡ t ∷ more → forest_in (s ∷ []) ≡ forest_in (t ∷ []) → forest_in (zs ++ more) ≡ forest_in (xs ++ rest)
 same_next xs zs rest more s t is left e =
-    joined_lists zs more ∙ ap (λ (f : MergedForest). joined f (forest_in more)) (same_push xs xs zs s t is refl e) ∙ sym (joined_lists (xs ++ (t ∷ [])) more)
-    ∙ ap forest_in (append_assoc xs (t ∷ []) more) ∙ ap (λ (ys : List MergeScope). forest_in (xs ++ ys)) (sym left)
+    ap (λ (ys : List MergeScope). forest_in (ys ++ more)) is ∙ ap forest_in (append_assoc xs (s ∷ []) more) ∙ exchanged xs more s t e
+    ∙ ap (λ (ys : List MergeScope). forest_in (xs ++ ys)) (sym left)
 
 -- nothing is left
 pub none_left : (xs rest : List MergeScope) → length rest ≡ 0 → forest_in xs ≡ forest_in (xs ++ rest)

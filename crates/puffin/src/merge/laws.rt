@@ -1,6 +1,6 @@
 //! Laws of merging, as contracts of functions that do nothing. A proof of another crate cites them by calling the function.
 
-ghost use Rattle.std.specs.Prelude.{◌≡◌, ℕ, pos, List, ◌∷◌, IsPermutation};
+ghost use Rattle.std.specs.Prelude.{◌≡◌, ℕ, pos, List, [], ◌∷◌, ◌++◌, IsPermutation};
 ghost use Rattle.puffin_data.specs.declared.error.Error.{Error};
 ghost use Rattle.puffin.specs.Occurrences.{FrameScopes, occurrences};
 ghost use Rattle.puffin.specs.MergedForests.{MergedForest};
@@ -8,6 +8,8 @@ ghost use Rattle.puffin.specs.Starts.{Sibling, IsLeastFeasible, earliest};
 ghost use Rattle.puffin.specs.Merges.{IsMerge};
 ghost use Rattle.puffin.specs.FrameStreams.{FrameBytes};
 ghost use Rattle.puffin.specs.Refusals.{IsRefusal, AreMerged};
+ghost use Rattle.puffin.specs.Seen.{forest_in};
+ghost use Rattle.puffin.specs.declared.merge.scope.MergeScope.{MergeScope};
 
 /// Siblings that each start as early as they can have the least feasible starts.
 pub fn earliest_starts()
@@ -29,3 +31,8 @@ pub fn one_outcome()
     puffin_data::laws::no_fault_in_a_spelling();
     puffin_data::laws::sights_of_a_walk();
 }
+
+/// A merged scope among others may stand for one that says the same.
+pub fn same_scopes()
+    ensures { (before after : List MergeScope) (s t : MergeScope) → forest_in (s ∷ []) ≡ forest_in (t ∷ []) → forest_in (before ++ (s ∷ after)) ≡ forest_in (before ++ (t ∷ after)) }
+{}
