@@ -41,9 +41,3 @@ pub mod Copied
 pub mod OneMerge
 pub mod OneOutcome
 pub mod FilesAgain
-pub mod Copied
-pub mod OneMerge
-pub mod OneOutcome
-pub mod FilesRead
-pub mod FileFrames
-pub mod FilesWritten

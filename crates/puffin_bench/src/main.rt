@@ -2,19 +2,24 @@
 //! prints what it counted; with the word `time` it prints the nanoseconds that each takes.
 #![tactic(auto)]
 
+mod merges;
 mod packets;
 mod reports;
 mod scopes;
+mod views;
 
 use anyhow::{Context, Result};
+use merges::{MergeWork, main_thread, merged};
 use packets::{FileWork, Files};
 use puffin::global_profiler::GlobalProfiler;
+use puffin::scope_details::ScopeCollection;
 use puffin::thread_profiler::{ScriptClock, ThreadProfiler};
 use puffin_data::data::{Stream, StreamInfo};
 use reports::{profiled, reported, two_scopes};
 use scopes::{Work, written};
 use std::env;
 use std::time::Instant;
+use views::{ViewWork, added};
 
 /// How often each work is run; the fastest run counts.
 const ROUNDS: u32 = 4_000;
@@ -22,6 +27,8 @@ const ROUNDS: u32 = 4_000;
 const REPORT_ROUNDS: u32 = 300;
 /// The same of files.
 const FILE_ROUNDS: u32 = 40;
+/// The same of views.
+const VIEW_ROUNDS: u32 = 10;
 /// A text of 12 bytes.
 const TEXT: &str = "image-12.png";
 
@@ -48,7 +55,42 @@ fn count(rt: &HostRuntime) -> Result<()> {
     let totals = profiler.totals();
     let (reported, emitted) = (totals.reported, totals.emitted);
     println!(rt; "report reports {reports} scopes {reported} emitted {emitted}")?;
-    count_packets(rt)
+    count_packets(rt)?;
+    count_merges(rt)?;
+    count_views(rt)
+}
+
+/// Merges a few frames, and prints how many scopes they have and how many top scopes come of it.
+fn count_merges(rt: &HostRuntime) -> Result<()> {
+    let work = MergeWork {
+        name: "merge_wide",
+        frames: 4,
+        children: 9,
+        rounds: 1,
+    };
+    let frames = work.frames(rt.alloc())?;
+    let collection = ScopeCollection::new(rt.alloc());
+    let thread = main_thread(rt.alloc())?;
+    let tops = merged(rt.alloc(), &collection, &frames, &thread)?;
+    let scopes = work.scopes();
+    println!(rt; "merge scopes {scopes} tops {tops}")?;
+    Ok(())
+}
+
+/// Gives frames to a small view, and prints how many it holds.
+fn count_views(rt: &HostRuntime) -> Result<()> {
+    let work = ViewWork {
+        name: "add",
+        max_recent: 20,
+        max_slow: 5,
+        packs: true,
+        rises: true,
+    };
+    let mut view = work.full(rt.alloc())?;
+    let frames = added(&mut view, work.frames(rt.alloc())?)?;
+    let held = view.stats().frames();
+    println!(rt; "view frames {frames} held {held}")?;
+    Ok(())
 }
 
 /// Writes and reads a small file, and prints how many frames and bytes it has.
@@ -135,6 +177,34 @@ fn time_packets(rt: &HostRuntime) -> Result<()> {
     Ok(())
 }
 
+/// Times merging, a scope being a unit.
+fn time_merges(rt: &HostRuntime, work: &MergeWork) -> Result<()> {
+    let frames = work.frames(rt.alloc())?;
+    let collection = ScopeCollection::new(rt.alloc());
+    let thread = main_thread(rt.alloc())?;
+    let mut best = u128::MAX;
+    for _ in 0..work.rounds {
+        let begun = Instant::now(rt)?;
+        let _tops = merged(rt.alloc(), &collection, &frames, &thread)?;
+        best = best.min(begun.elapsed(rt)?.as_nanos());
+    }
+    print(rt, work.name, best, work.scopes())
+}
+
+/// Times frames that are added to a full view.
+fn time_views(rt: &HostRuntime, work: &ViewWork) -> Result<()> {
+    let mut best = u128::MAX;
+    let mut count = 0;
+    for _ in 0..VIEW_ROUNDS {
+        let mut view = work.full(rt.alloc())?;
+        let frames = work.frames(rt.alloc())?;
+        let begun = Instant::now(rt)?;
+        count = added(&mut view, frames)?;
+        best = best.min(begun.elapsed(rt)?.as_nanos());
+    }
+    print(rt, work.name, best, count)
+}
+
 /// Times each work.
 fn time(rt: &HostRuntime) -> Result<()> {
     for work in Work::ALL {
@@ -143,7 +213,14 @@ fn time(rt: &HostRuntime) -> Result<()> {
     time_threads(rt, "profiled_empty", "")?;
     time_threads(rt, "profiled_text12", TEXT)?;
     time_reports(rt)?;
-    time_packets(rt)
+    time_packets(rt)?;
+    for work in MergeWork::ALL {
+        time_merges(rt, &work)?;
+    }
+    for work in ViewWork::all() {
+        time_views(rt, &work)?;
+    }
+    Ok(())
 }
 
 fn main(rt: HostRuntime) -> Result<()> {

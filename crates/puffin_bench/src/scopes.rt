@@ -47,7 +47,7 @@ impl Work {
 
 /// Ends a scope, where there is one at this offset.
 #[inline]
-fn end(stream: &mut Stream, offset: usize, stop: i64) -> Result<()> {
+pub fn end(stream: &mut Stream, offset: usize, stop: i64) -> Result<()> {
     if stream.len() < 8 || offset > stream.len() - 8 {
         return Ok(());
     }

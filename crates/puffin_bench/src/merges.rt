@@ -1,0 +1,123 @@
+//! Frames whose scopes are merged.
+
+use crate::scopes::end;
+use puffin::frame_data::UnpackedFrameData;
+use puffin::merge::merge_scopes_for_thread;
+use puffin::scope_details::ScopeCollection;
+use puffin::thread_profiler::ThreadInfo;
+use puffin_data::Result;
+use puffin_data::data::{ScopeId, Stream, StreamInfo};
+use std::alloc::Global;
+use std::collections::BTreeMap;
+use std::sync::Arc;
+
+/// How many top scopes a frame has.
+const TOPS: u32 = 10;
+/// The text of each scope, of 12 bytes.
+const TEXT: &str = "image-12.png";
+
+/// Frames of one thread, of ten top scopes each.
+#[derive(Clone, Copy)]
+pub struct MergeWork {
+    /// What it is called where its time is printed.
+    pub name: &'static str,
+    /// How many frames there are.
+    pub frames: u32,
+    /// How many scopes stand in each top scope.
+    pub children: u32,
+    /// How often it is run.
+    pub rounds: u32,
+}
+
+impl MergeWork {
+    /// Each kind of work: 1,000, 10,000 and 100,000 scopes a frame.
+    pub const ALL: [MergeWork; 3] = [
+        MergeWork {
+            name: "merge_wide",
+            frames: 200,
+            children: 99,
+            rounds: 40,
+        },
+        MergeWork {
+            name: "merge_wide_10",
+            frames: 200,
+            children: 999,
+            rounds: 8,
+        },
+        MergeWork {
+            name: "merge_wide_100",
+            frames: 20,
+            children: 9_999,
+            rounds: 8,
+        },
+    ];
+
+    /// The stream of one frame, from a time on.
+    fn stream(&self, alloc: Global, start: i64) -> Result<Stream> {
+        let mut stream = Stream::new(alloc);
+        let mut now = start;
+        for top in 1..=TOPS {
+            if let Some(id) = ScopeId::new(top) {
+                let (offset, _) = stream.begin_scope(|| now, id, TEXT)?;
+                now = leaves(&mut stream, self.children, now)?;
+                end(&mut stream, offset, now)?;
+            }
+        }
+        Ok(stream)
+    }
+
+    /// The frames.
+    pub fn frames(&self, alloc: Global) -> Result<Vec<Arc<UnpackedFrameData>>> {
+        let mut frames = Vec::new(alloc);
+        for index in 0..self.frames {
+            let info = StreamInfo::parse(
+                alloc,
+                self.stream(alloc, 10_000_000 * i64::from(index))?,
+            )?;
+            let mut streams = BTreeMap::new(alloc);
+            let _before = streams.insert(main_thread(alloc)?, info)?;
+            let frame = UnpackedFrameData::new(alloc, u64::from(index), streams)?;
+            frames.push(Arc::new(alloc, frame)?)?;
+        }
+        Ok(frames)
+    }
+
+    /// How many scopes they have together.
+    pub fn scopes(&self) -> usize {
+        (self.frames as usize)
+            .saturating_mul(TOPS as usize)
+            .saturating_mul((self.children as usize).saturating_add(1))
+    }
+}
+
+/// The thread of each frame.
+pub fn main_thread(alloc: Global) -> Result<ThreadInfo> {
+    Ok(ThreadInfo {
+        start_time_ns: Some(0),
+        name: String::from_str(alloc, "main")?,
+    })
+}
+
+/// Scopes one after the other, of an id each. Answers the clock after them.
+fn leaves(stream: &mut Stream, count: u32, mut now: i64) -> Result<i64> {
+    for number in 1..=count {
+        if let Some(id) = ScopeId::new(number) {
+            let at = now;
+            let (offset, _) = stream.begin_scope(|| at, id, TEXT)?;
+            now = now.wrapping_add(1);
+            end(stream, offset, now)?;
+        }
+    }
+    Ok(now)
+}
+
+/// Merges the scopes of frames, and answers how many top scopes come of it.
+#[inline(never)]
+pub fn merged(
+    alloc: Global,
+    collection: &ScopeCollection,
+    frames: &[Arc<UnpackedFrameData>],
+    thread: &ThreadInfo,
+) -> Result<usize> {
+    Ok(merge_scopes_for_thread(alloc, collection, frames, thread)?.len())
+}

@@ -1,0 +1,125 @@
+//! Views that take frames.
+
+use crate::scopes::{end, nest};
+use puffin::frame_data::FrameData;
+use puffin::profile_view::FrameView;
+use puffin::thread_profiler::ThreadInfo;
+use puffin_data::Result;
+use puffin_data::data::{ScopeId, Stream, StreamInfo};
+use std::alloc::Global;
+use std::collections::BTreeMap;
+use std::sync::Arc;
+
+/// How many frames a full view is given.
+const FRAMES: u32 = 1_000;
+/// The text of each scope, of 12 bytes.
+const TEXT: &str = "image-12.png";
+
+/// A view that is full, and how frames are added to it.
+#[derive(Clone, Copy)]
+pub struct ViewWork {
+    /// What it is called where its time is printed.
+    pub name: &'static str,
+    /// How many recent frames it keeps.
+    pub max_recent: u32,
+    /// How many of the slowest frames it keeps.
+    pub max_slow: u32,
+    /// Whether it packs the newest frame.
+    pub packs: bool,
+    /// Whether each frame takes longer than those before it, so that it comes among the slowest, and not shorter.
+    pub rises: bool,
+}
+
+impl ViewWork {
+    /// A view of the limits that a new one has.
+    fn usual(name: &'static str, packs: bool, rises: bool) -> ViewWork {
+        ViewWork {
+            name,
+            max_recent: 1_000,
+            max_slow: 256,
+            packs,
+            rises,
+        }
+    }
+
+    /// A view of ten times these limits.
+    fn large(name: &'static str, packs: bool, rises: bool) -> ViewWork {
+        ViewWork {
+            name,
+            max_recent: 10_000,
+            max_slow: 2_560,
+            packs,
+            rises,
+        }
+    }
+
+    /// Each kind of work.
+    pub fn all() -> [ViewWork; 8] {
+        [
+            ViewWork::usual("add_shorter", false, false),
+            ViewWork::large("add_shorter_10", false, false),
+            ViewWork::usual("add_longer", false, true),
+            ViewWork::large("add_longer_10", false, true),
+            ViewWork::usual("add_shorter_packed", true, false),
+            ViewWork::large("add_shorter_packed_10", true, false),
+            ViewWork::usual("add_longer_packed", true, true),
+            ViewWork::large("add_longer_packed_10", true, true),
+        ]
+    }
+
+    /// How much longer than a microsecond the frame of an index takes, in nanoseconds.
+    fn extra_ns(&self, index: u32) -> u32 {
+        if self.rises { index } else { u32::MAX - index }
+    }
+
+    /// The frame of an index, of nine scopes.
+    fn frame(&self, alloc: Global, index: u32) -> Result<Arc<FrameData>> {
+        let start = 1_000_000 * i64::from(index);
+        let mut stream = Stream::new(alloc);
+        if let Some(id) = ScopeId::new(1) {
+            let (offset, _) = stream.begin_scope(|| start, id, TEXT)?;
+            let _now = nest(&mut stream, id, TEXT, start)?;
+            let stop = start + 1_000 + i64::from(self.extra_ns(index));
+            end(&mut stream, offset, stop)?;
+        }
+        let thread = ThreadInfo {
+            start_time_ns: Some(0),
+            name: String::from_str(alloc, "main")?,
+        };
+        let mut streams = BTreeMap::new(alloc);
+        let _before = streams.insert(thread, StreamInfo::parse(alloc, stream)?)?;
+        let frame = FrameData::new(alloc, u64::from(index), streams, Vec::new(alloc), false)?;
+        Ok(Arc::new(alloc, frame)?)
+    }
+
+    /// A view with as many frames as it keeps.
+    pub fn full(&self, alloc: Global) -> Result<FrameView> {
+        let mut view = FrameView::new(alloc);
+        view.set_max_recent(self.max_recent as usize);
+        view.set_max_slow(self.max_slow as usize);
+        view.set_pack_frames(self.packs);
+        for index in 0..self.max_recent {
+            view.add_frame(self.frame(alloc, index)?)?;
+        }
+        Ok(view)
+    }
+
+    /// The frames that a full view is given.
+    pub fn frames(&self, alloc: Global) -> Result<Vec<Arc<FrameData>>> {
+        let mut frames = Vec::with_capacity(alloc, FRAMES as usize)?;
+        for index in 0..FRAMES {
+            frames.push(self.frame(alloc, self.max_recent.saturating_add(index))?)?;
+        }
+        Ok(frames)
+    }
+}
+
+/// Gives frames to a view, and answers how many.
+#[inline(never)]
+pub fn added(view: &mut FrameView, frames: Vec<Arc<FrameData>>) -> Result<usize> {
+    let count = frames.len();
+    for frame in frames {
+        view.add_frame(frame)?;
+    }
+    Ok(count)
+}
