@@ -3,8 +3,9 @@
     python3 run.py PUFFIN_MEMORY PUFFIN_TOOL
 
 The first program makes each call again that was refused for memory: it has to end with status 0 and to print the same
-whichever allocation it was. The second must do what it does otherwise, or end with status 1 and say that there was no
-memory, and nothing but a beginning of its output is written then. A C compiler is needed: `cc`, or what CC names.
+whichever allocation it was. The second must do what it does otherwise; or end with status 1 and say that there was no
+memory, and nothing but a beginning of its output is written then; or, where it replays a script, tell in one line that
+one command was refused or one report kept for memory, and go on. A C compiler is needed: `cc`, or what CC names.
 """
 
 import os
@@ -25,7 +26,6 @@ frame
 snapshot
 begin main 400 1
 begin other 410 2 of another thread
-end other 420
 end other 420
 end main 500
 frame
@@ -64,15 +64,23 @@ def is_told(ended, usual):
     return status == 1 and began and cause == b"puffin-tool: Memory\n"
 
 
-def faults(refusing, words, given, may_tell):
-    """How many allocations were refused, and the runs that ended as none may."""
+def is_replied(ended, usual):
+    """One command was refused for want of memory, or one report kept; a file is written, and nothing else is told."""
+    status, lines, cause, file, _ = ended
+    refused = [it for it in lines.splitlines() if it.endswith(b" Memory")]
+    is_one = len(refused) == 1 and refused[0].split()[0] in (b"refused", b"kept")
+    return status == 0 and is_one and not cause and file.startswith(b"PUF0")
+
+
+def faults(refusing, words, given, ends):
+    """How many allocations were refused, and the runs that ended in none of these ways."""
     usual = refusing.run(words, given, 0)
     if usual[0]:
         return 0, [f"with memory it ends with status {usual[0]}: {usual[2]!r:.200}"]
     found = []
     for number in range(1, usual[4] + 1):
         ended = refusing.run(words, given, number)
-        if not is_alike(ended, usual) and not (may_tell and is_told(ended, usual)):
+        if not any(is_well(ended, usual) for is_well in ends):
             found.append(f"at {number}: status {ended[0]}, {ended[1]!r:.200}, {ended[2]!r:.200}")
     return usual[4], found
 
@@ -84,11 +92,12 @@ def main():
         refusing = Refusing(folder)
         pathlib.Path(f"{folder}/script").write_bytes(SCRIPT)
         cases = {
-            "each call twice": ([memory], b"", False),
-            "count": ([tool, "count"], STREAM, True),
+            "each call twice": ([memory], b"", [is_alike]),
+            "count": ([tool, "count"], STREAM, [is_alike, is_told]),
+            "replay": ([tool, "replay", "script", "out"], b"", [is_alike, is_told, is_replied]),
         }
-        for name, (words, given, may_tell) in cases.items():
-            count, found = faults(refusing, words, given, may_tell)
+        for name, (words, given, ends) in cases.items():
+            count, found = faults(refusing, words, given, ends)
             failed += bool(found)
             print(f"memory {name} ... {'; '.join(found) if found else f'{count} allocations refused in turn: ok'}")
     print(f"{len(cases) - failed} passed, {failed} failed")
