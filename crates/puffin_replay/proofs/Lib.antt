@@ -13,3 +13,4 @@ pub mod Sums
 pub mod Serving
 pub mod Offsets
 pub mod Closing
+pub mod Summing

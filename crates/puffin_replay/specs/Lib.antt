@@ -11,3 +11,4 @@ pub mod Told
 pub mod Sessions
 pub mod Replies
 pub mod Serving
+pub mod Summaries

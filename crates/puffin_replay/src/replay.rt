@@ -14,6 +14,7 @@ mod session;
 #[cfg(test)]
 mod session_tests;
 mod statement;
+mod summary;
 mod task;
 
 pub use command::{Command, Reply};
@@ -21,4 +22,5 @@ pub use count::count_stream;
 pub use fault::{ToolFault, finish};
 pub use script::{Script, read_script};
 pub use session::Session;
+pub use summary::{Summary, summarize};
 pub use task::{Task, read_words};
