@@ -5,12 +5,14 @@
 mod packets;
 mod refusal;
 mod registrations;
+mod summaries;
 
 use std::process::ExitCode;
 
 fn run(rt: &HostRuntime) -> Option<()> {
     registrations::run(rt)?;
-    packets::run(rt)
+    packets::run(rt)?;
+    summaries::run(rt)
 }
 
 fn main(rt: HostRuntime) -> ExitCode {

@@ -12,18 +12,20 @@ use std::collections::BTreeMap;
 use std::sync::Arc;
 
 /// The stream of one scope in another, for which memory is taken at once.
-fn stream(alloc: Global, start: i64) -> Option<Stream> {
+fn stream(alloc: Global, start: i64, length: u32) -> Option<Stream> {
     let id = ScopeId::new(7)?;
     let mut stream = Stream::new(alloc);
     again!(stream.reserve(100))?;
     let (outer, _) = stream.begin_scope(|| start, id, "outer").ok()?;
     let (inner, _) = stream.begin_scope(|| start, id, "").ok()?;
     stream.end_scope(inner, start).ok()?;
-    stream.end_scope(outer, start).ok()?;
+    stream
+        .end_scope(outer, start.saturating_add(i64::from(length)))
+        .ok()?;
     Some(stream)
 }
 
-fn thread(alloc: Global, start: i64, name: &str) -> Option<ThreadInfo> {
+pub fn thread(alloc: Global, start: i64, name: &str) -> Option<ThreadInfo> {
     Some(ThreadInfo {
         start_time_ns: Some(start),
         name: again!(String::from_str(alloc, name))?,
@@ -41,14 +43,14 @@ fn details(alloc: Global) -> Option<Vec<Arc<ScopeDetails>>> {
     Some(all)
 }
 
-/// A frame of two threads, which tells of one scope.
-fn frame(alloc: Global) -> Option<FrameData> {
+/// A frame of two threads, of this index and length, which tells of one scope.
+pub fn frame(alloc: Global, index: u64, length: u32) -> Option<FrameData> {
     let mut streams = BTreeMap::new(alloc);
     for (name, start) in [("main", 100), ("other", 150)] {
-        let info = StreamInfo::parse(alloc, stream(alloc, start)?).ok()?;
+        let info = StreamInfo::parse(alloc, stream(alloc, start, length)?).ok()?;
         streams.insert(thread(alloc, start, name)?, info).ok()?;
     }
-    FrameData::new(alloc, 4, streams, details(alloc)?, false).ok()
+    FrameData::new(alloc, index, streams, details(alloc)?, false).ok()
 }
 
 fn packet(alloc: Global, frame: &FrameData) -> Result<Vec<u8>, FileError> {
@@ -78,9 +80,9 @@ fn write(rt: &HostRuntime, held: &str, frame: &FrameData) -> Option<Vec<u8>> {
 /// Writes a frame in each state that it may be held in.
 pub fn run(rt: &HostRuntime) -> Option<()> {
     let alloc = rt.alloc();
-    let mut made = match frame(alloc) {
+    let mut made = match frame(alloc, 4, 0) {
         Some(made) => made,
-        None => frame(alloc)?,
+        None => frame(alloc, 4, 0)?,
     };
     let _bytes = write(rt, "unpacked", &made)?;
     let copy = again!(made.clone())?;

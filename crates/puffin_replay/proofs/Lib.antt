@@ -14,3 +14,4 @@ pub mod Serving
 pub mod Offsets
 pub mod Closing
 pub mod Recording
+pub mod Summing

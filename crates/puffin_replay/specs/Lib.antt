@@ -12,3 +12,4 @@ pub mod Sessions
 pub mod Replies
 pub mod Serving
 pub mod Recorded
+pub mod Summaries

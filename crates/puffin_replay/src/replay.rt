@@ -17,6 +17,7 @@ mod session;
 #[cfg(test)]
 mod session_tests;
 mod statement;
+mod summary;
 mod task;
 
 pub use command::{Command, Reply};
@@ -25,4 +26,5 @@ pub use fault::{ToolFault, finish};
 pub use recorder::{record, run_script};
 pub use script::{Script, read_script};
 pub use session::Session;
+pub use summary::{Summary, summarize};
 pub use task::{Task, read_words};

@@ -1,9 +1,10 @@
-use crate::data::{ScopeId, Stream, StreamInfo};
+use crate::data::{Counted, ScopeId, Stream, StreamInfo};
 use crate::frame_data::UnpackedFrameData;
 use crate::merge::{MergeScope, merge_scopes_counted, merge_scopes_for_thread};
+use crate::profile_view::FrameView;
 use crate::scope_details::ScopeCollection;
 use crate::thread_profiler::ThreadInfo;
-use crate::{Error, NanoSecond, Result};
+use crate::{Error, FileError, NanoSecond, Result};
 use std::alloc::Global;
 use std::collections::BTreeMap;
 use std::sync::Arc;
@@ -289,5 +290,66 @@ fn copies(rt: HostRuntime) -> Outcome {
         assert_eq!(rt; numbers(&owned), numbers(&copy));
         assert_eq!(rt; owned.children.len(), 1);
     }
+    Ok(())
+}
+
+/// The file that the Rust crate writes of three frames of the thread `main`, whose first scope starts at 100. It was made by
+/// that crate of a script of scopes with ids 1 to 4, some with texts `a` and `b`, and these are the merged scopes that it
+/// tells of it.
+const FILE: [u8; 477] = [
+    80, 85, 70, 48, 80, 70, 68, 52, 7, 0, 0, 0, 0, 200, 251, 204, 1, 126, 4, 141, 0, 0, 0, 0, 1, 1,
+    200, 4, 109, 97, 105, 110, 126, 40, 1, 0, 0, 0, 100, 0, 0, 0, 0, 0, 0, 0, 0, 64, 0, 0, 0, 0, 0,
+    0, 0, 40, 2, 0, 0, 0, 110, 0, 0, 0, 0, 0, 0, 0, 1, 97, 0, 0, 0, 0, 0, 0, 0, 0, 41, 150, 0, 0,
+    0, 0, 0, 0, 0, 40, 2, 0, 0, 0, 150, 0, 0, 0, 0, 0, 0, 0, 1, 98, 0, 0, 0, 0, 0, 0, 0, 0, 41,
+    170, 0, 0, 0, 0, 0, 0, 0, 41, 200, 0, 0, 0, 0, 0, 0, 0, 40, 3, 0, 0, 0, 200, 0, 0, 0, 0, 0, 0,
+    0, 0, 0, 0, 0, 0, 0, 0, 0, 0, 41, 230, 0, 0, 0, 0, 0, 0, 0, 4, 2, 200, 251, 204, 1, 1, 0, 0, 0,
+    0, 80, 70, 68, 52, 9, 0, 0, 0, 1, 251, 208, 7, 251, 214, 8, 125, 4, 142, 0, 0, 0, 0, 1, 1, 200,
+    4, 109, 97, 105, 110, 125, 40, 1, 0, 0, 0, 232, 3, 0, 0, 0, 0, 0, 0, 0, 63, 0, 0, 0, 0, 0, 0,
+    0, 40, 2, 0, 0, 0, 252, 3, 0, 0, 0, 0, 0, 0, 1, 98, 31, 0, 0, 0, 0, 0, 0, 0, 40, 4, 0, 0, 0, 1,
+    4, 0, 0, 0, 0, 0, 0, 0, 0, 0, 0, 0, 0, 0, 0, 0, 41, 6, 4, 0, 0, 0, 0, 0, 0, 41, 17, 4, 0, 0, 0,
+    0, 0, 0, 41, 76, 4, 0, 0, 0, 0, 0, 0, 40, 3, 0, 0, 0, 66, 4, 0, 0, 0, 0, 0, 0, 0, 0, 0, 0, 0,
+    0, 0, 0, 0, 41, 107, 4, 0, 0, 0, 0, 0, 0, 4, 3, 251, 208, 7, 251, 214, 8, 1, 0, 0, 0, 0, 80,
+    70, 68, 52, 9, 0, 0, 0, 2, 251, 160, 15, 251, 4, 16, 94, 3, 111, 0, 0, 0, 0, 1, 1, 200, 4, 109,
+    97, 105, 110, 94, 40, 3, 0, 0, 0, 208, 7, 0, 0, 0, 0, 0, 0, 0, 0, 0, 0, 0, 0, 0, 0, 0, 41, 218,
+    7, 0, 0, 0, 0, 0, 0, 40, 1, 0, 0, 0, 218, 7, 0, 0, 0, 0, 0, 0, 0, 32, 0, 0, 0, 0, 0, 0, 0, 40,
+    2, 0, 0, 0, 238, 7, 0, 0, 0, 0, 0, 0, 1, 97, 0, 0, 0, 0, 0, 0, 0, 0, 41, 239, 7, 0, 0, 0, 0, 0,
+    0, 41, 2, 8, 0, 0, 0, 0, 0, 0, 3, 2, 251, 160, 15, 251, 4, 16, 1, 0, 0, 0, 0,
+];
+
+/// The frames of the file.
+fn frames_of_file(alloc: Global) -> std::result::Result<Frames, FileError> {
+    let view = FrameView::read(alloc, &mut Counted::new(&FILE[..]))?;
+    let mut frames = Vec::new(alloc);
+    for frame in view.all_uniq() {
+        match frame.packed_copy() {
+            Ok(mut copy) => frames.push(copy.unpacked()?)?,
+            Err(_) => return Err(FileError::Memory),
+        }
+    }
+    Ok(frames)
+}
+
+#[test]
+fn a_file_of_the_rust_crate(rt: HostRuntime) -> Outcome {
+    let alloc = rt.alloc();
+    let info = ThreadInfo {
+        start_time_ns: Some(100),
+        name: String::from_str(alloc, "main")?,
+    };
+    let frames = frames_of_file(alloc).ok().ok_or("no fault")?;
+    let collection = ScopeCollection::new(alloc);
+    let merged = merge_scopes_for_thread(alloc, &collection, frames.as_slice(), &info)?;
+    assert_eq!(rt;
+        all_numbers(alloc, merged.as_slice())?.as_slice(),
+        &[
+            (1, 100, 240, 80, 100, 3),
+            (2, 10, 41, 13, 40, 2),
+            (2, 23, 41, 13, 21, 2),
+            (4, 5, 5, 1, 5, 1),
+            (3, 180, 81, 27, 41, 3),
+        ][..]
+    );
+    assert_eq!(rt; merged[0].children[0].text.as_str(), "a");
+    assert_eq!(rt; merged[0].children[1].text.as_str(), "b");
     Ok(())
 }
