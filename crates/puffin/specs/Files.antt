@@ -58,13 +58,14 @@ frames_from read (Some s) rest = do
   others ← read rest
   Ok (frame ∷ others.0, others.1)
 
--- all frames up to the end, and the bytes after it, or the first fault; the end has to stand before so many packets
+-- all frames up to the end, of which there are fewer than a limit, and the bytes after it; or the first fault
 abbrev pub frames_at : ℕ → List ℕ → Result (List Stored × List ℕ) FileError
 frames_at zero bytes = Err file.Truncated
 frames_at (suc n) bytes = do
   next ← next_at bytes
   frames_from (frames_at n) next.0 next.1
 
+-- after so many packets a file isn't read on
 unfoldable pub most_packets : ℕ
 most_packets = 2 ^ 64 - 1
 
@@ -103,7 +104,7 @@ FailsToRead read old new fault = TookFault read old new fault
 
 -- ---- views that are read
 
--- a view that keeps all frames
+-- an empty view that keeps all recent frames
 abbrev pub read_view : View
 read_view = record empty_view { max_recent = 2 ^ 64 - 1 }
 

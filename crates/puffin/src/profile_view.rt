@@ -1,6 +1,8 @@
 //! The last frames and the slowest ones.
 
 mod file;
+#[cfg(test)]
+mod file_tests;
 mod frame_store;
 mod frame_view;
 mod held_frames;

@@ -104,10 +104,8 @@ impl FrameView {
         Ok(())
     }
 
-    /// Reads a file into a new view, which keeps each of its frames: up to `2^64 - 1` of them are recent, and the 256 slowest
-    /// slow.
-    ///
-    /// The file ends where fewer than four bytes are left, or four zeros stand; nothing more is read then.
+    /// Reads a file: a new view that has taken each of its frames, in order. It keeps up to `usize::MAX` recent and 256 slow
+    /// frames, and packs. A file ends where fewer than four bytes are left, or four zeros stand; nothing more is read then.
     ///
     /// Refused with the first that applies: `NoMagic` where there are fewer than four bytes, or others than `PUF0`; as
     /// [`FrameData::read_next`] at each frame; `Refused(MissingId)` where some of a frame's details have no id; and
