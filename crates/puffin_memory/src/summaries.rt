@@ -21,10 +21,9 @@ fn view(alloc: Global) -> Option<FrameView> {
             Some(made) => made,
             None => frame(alloc, index, length)?,
         };
-        let copy = again!(made.packed_copy())?;
         let shared = match Arc::new(alloc, made) {
             Ok(shared) => shared,
-            Err(_) => again!(Arc::new(alloc, again!(copy.clone())?))?,
+            Err(refused) => Arc::new(alloc, refused.value).ok()?,
         };
         again!(view.add_frame(again!(shared.clone())?))?;
     }
