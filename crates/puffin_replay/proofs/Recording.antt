@@ -1,7 +1,7 @@
 -- What a view makes of the frames of replies, one after another.
 use Rattle.std.proofs.Common.{◌≡◌, ◌⊎◌, inl, inr, ℕ, ◌+◌, ◌<◌, List, [], ◌∷◌, ◌++◌, length, take, drop, get_or, map, refl, sym, ap, ◌∙◌, subst, append_assoc, append-nil, Option, Result, Ok, Err, string_bytes, String, All, arith, length-append}
 use Rattle.std.specs.Prelude.{IsSome, OnErr, IfErr}
-use Rattle.std.specs.List.{flat_map, Any, AllZip}
+use Rattle.std.specs.List.{flat_map, AllByRecursion, Any, AllZip}
 use Rattle.std.proofs.lemmas.Grind.{flat_map-append}
 use Rattle.std.proofs.lemmas.List.{take_more, drop_more, take-append-drop, map-append}
 use Rattle.std.proofs.Math.Seq.{get_or-append_seam}
@@ -13,6 +13,7 @@ use Rattle.puffin_data.specs.declared.error.Error.TheVariants.{Memory}
 use Rattle.puffin_data.specs.declared.file_error.FileError.{FileError}
 use Rattle.puffin_data.specs.declared.file_error.FileError.TheVariants as file
 use Rattle.puffin_data.specs.Devices.{IsOutside, WritesBeginning}
+use Rattle.puffin_frames.specs.Steps.{IsPacked}
 use Rattle.puffin_frames.specs.Writes.{HasLongPart}
 use Rattle.puffin_frames.specs.Details.{Details, AllHaveIds}
 use Rattle.puffin_frames.specs.Collection.{Collection, inserted, inserted_all}
@@ -181,13 +182,14 @@ module _ (script : Script) (names : List (List ℕ)) (commands : List Command) (
       no_lines fault lines memory = cut_lines fault (reply_lines script.lines.items replies) lines lines refl ([], reply_lines script.lines.items replies, refl, nothing_written lines) (inr memory)
 
       -- and the lines
-      pub replayed : (bytes : List ℕ) (lines_before lines_after : Option (List ℕ)) → TookAlso (frames_emitted replies) (view_of old) (view_of new) → Took [] (view_of old) → bytes ≡ reply_lines script.lines.items replies → Appends lines_before lines_after bytes
+      pub replayed : (bytes : List ℕ) (lines_before lines_after : Option (List ℕ)) → TookAlso (frames_emitted replies) (view_of old) (view_of new) → Took [] (view_of old) → bytes ≡ reply_lines script.lines.items replies → AllByRecursion IsPacked (contents_in (view_of new)) → Appends lines_before lines_after bytes
           → IsReplayed script file_before file_after lines_before lines_after
-      replayed bytes lines_before lines_after took none same told = record {
+      replayed bytes lines_before lines_after took none same packed told = record {
         replies = replies;
         run = answers replies run;
         took = subst (λ (v : View). Took (map contents_of (frames_emitted replies)) v) (view-after replies takes) (took [] none);
         written = written-after;
+        packed = subst (λ (v : View). AllByRecursion IsPacked (contents_in v)) (view-after replies takes) packed;
         told = subst (λ (bs : List ℕ). Appends lines_before lines_after bs) same told;
       }
 

@@ -1,6 +1,6 @@
 -- What a run of commands from a new session emits, and what recording it makes of a view and of the view's file.
 use Rattle.std.specs.Prelude.{◌≡◌, ◌⊎◌, ℕ, List, [], ◌∷◌, ◌++◌, Option, Some, None, map}
-use Rattle.std.specs.List.{flat_map, Any}
+use Rattle.std.specs.List.{flat_map, AllByRecursion, Any}
 use Rattle.std.specs.String.{string_bytes}
 use Rattle.std.specs.declared.sync.Arc.{Arc}
 use Rattle.std.specs.declared.alloc.Global.{Global}
@@ -12,6 +12,7 @@ use Rattle.puffin_data.specs.Devices.{IsOutside, WritesBeginning}
 use Rattle.puffin_frames.specs.declared.frame_data.frame.FrameData.{FrameData}
 use Rattle.puffin_frames.specs.Details.{AllHaveIds}
 use Rattle.puffin_frames.specs.Collection.{inserted_all}
+use Rattle.puffin_frames.specs.Steps.{IsPacked}
 use Rattle.puffin_frames.specs.Writes.{HasLongPart}
 use Rattle.puffin.specs.declared.profile_view.frame_view.FrameView.{FrameView}
 use Rattle.puffin.specs.Frames.{Frame, contents_of}
@@ -104,6 +105,7 @@ pub record IsReplayed (script : Script) (file_before file_after lines_before lin
   pub run : AreAnswers script replies
   pub took : Took (map contents_of (frames_emitted replies)) (view_after replies)
   pub written : Appends file_before file_after (file_of (contents_in (view_after replies)))
+  pub packed : AllByRecursion IsPacked (contents_in (view_after replies))
   pub told : Appends lines_before lines_after (reply_lines script.lines.items replies)
 
 -- Why a script's run failed, and what it wrote: there was no memory, and nothing is written; or a beginning of the file is, and no line; or the file is, and a beginning of the lines.

@@ -1,11 +1,12 @@
 //! Recording what a session emits.
 
 ghost use Rattle.std.specs.Prelude.{◌≡◌, ◌⊎◌, ◌+◌, ◌-◌, ◌^◌, ◌<◌, ◌++◌, List, All, map, option_map, IfOk, IfErr, OnOk};
-ghost use Rattle.std.specs.List.{Any};
+ghost use Rattle.std.specs.List.{AllByRecursion, Any};
 ghost use Rattle.std.specs.String.{string_bytes};
 ghost use Rattle.std.specs.Io.KnownBytes.{Appends};
 ghost use Rattle.puffin_data.specs.Devices.{TookNothing};
 ghost use Rattle.puffin_frames.specs.Stored.{Said};
+ghost use Rattle.puffin_frames.specs.Steps.{IsPacked};
 ghost use Rattle.puffin_frames.specs.Writes.{HasLongPart};
 ghost use Rattle.puffin.specs.Frames.{contents_of};
 ghost use Rattle.puffin.specs.Views.{Took};
@@ -77,6 +78,8 @@ pub fn record<D: Drain>(
     ensures view { IfOk result (λ replies. Takes (frames_emitted replies.items) view.old view.new) }
     ensures took { IfOk result (λ replies. (cs : List Said) → Took cs (view_of view.old) → Took (cs ++ map contents_of (frames_emitted replies.items)) (view_of view.new)) }
     ensures written { OnOk result (Appends (D.contents drain.old) (D.contents drain.new) (file_of_view view.new)) }
+    // What is written is read again.
+    ensures packed { OnOk result (AllByRecursion IsPacked (contents_in (view_of view.new))) }
     ensures failures { OnOk result (D.failures drain.new ≡ D.failures drain.old) }
 
     ensures broken { IfErr result (λ e. IsBroken (map string_bytes names.items) commands.now e view.old view.new (D.contents drain.old) (D.contents drain.new)) }

@@ -33,7 +33,7 @@ returns-clause-ok g c =
     let lines = c.as_bytes.ensures.value ∙ c.in_ok-text.ensures ∙ ap (λ (ns : List ℕ). reply_lines ns c.deref-3.result.now) c.deref-2.ensures.value ∙ ap (λ (rs : List Reply). reply_lines script.lines.items rs) c.deref-3.ensures.value in
     on_ok_weaker c.write_all.result
     (replayed script (map string_bytes c.in_ok-names.names.items) c.deref.result.now names c.deref.ensures.value c.new-view.result c.record.new.view c.new-view.ensures.frames c.in_ok-replies.replies.items recorded.run recorded.view
-    (g.D.Drain.contents c.args.out.now) (g.D.Drain.contents c.record.new.drain) recorded.written c.as_bytes.result.now (g.E.Drain.contents c.args.lines.now) (g.E.Drain.contents c.write_all.new.drain) recorded.took c.new-view.ensures.took lines)
+    (g.D.Drain.contents c.args.out.now) (g.D.Drain.contents c.record.new.drain) recorded.written c.as_bytes.result.now (g.E.Drain.contents c.args.lines.now) (g.E.Drain.contents c.write_all.new.drain) recorded.took c.new-view.ensures.took lines recorded.packed)
     c.write_all.ensures.ok
 
 pub returns-clause-fails : goal.returns-clause-fails
