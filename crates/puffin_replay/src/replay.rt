@@ -18,6 +18,8 @@ mod session;
 mod session_tests;
 mod statement;
 mod summary;
+#[cfg(test)]
+mod summary_tests;
 mod task;
 
 pub use command::{Command, Reply};
