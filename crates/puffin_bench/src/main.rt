@@ -1,5 +1,5 @@
 //! Times what the profiler does, for a comparison with the Rust crate. Without words it runs each kind of work once and
-//! prints what it counted; with the word `time` it prints the nanoseconds that each takes.
+//! prints what it counted; with the word `time` it prints the nanoseconds that each takes, with `frames` those of merging and of views alone.
 #![tactic(auto)]
 
 mod merges;
@@ -214,6 +214,11 @@ fn time(rt: &HostRuntime) -> Result<()> {
     time_threads(rt, "profiled_text12", TEXT)?;
     time_reports(rt)?;
     time_packets(rt)?;
+    time_frames(rt)
+}
+
+/// Times what is done with frames: merging, and views.
+fn time_frames(rt: &HostRuntime) -> Result<()> {
     for work in MergeWork::ALL {
         time_merges(rt, &work)?;
     }
@@ -227,6 +232,7 @@ fn main(rt: HostRuntime) -> Result<()> {
     let mut words = env::args(&rt)?.skip(1);
     match words.next() {
         Some(word) if word.as_str() == "time" => time(&rt),
+        Some(word) if word.as_str() == "frames" => time_frames(&rt),
         _ => count(&rt),
     }
 }

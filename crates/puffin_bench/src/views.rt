@@ -92,13 +92,18 @@ impl ViewWork {
         Ok(Arc::new(alloc, frame)?)
     }
 
-    /// A view with as many frames as it keeps.
+    /// The index of the first frame that a full view is given.
+    fn first(&self) -> u32 {
+        self.max_recent.saturating_add(self.max_slow)
+    }
+
+    /// A view that was given as many frames as it may hold.
     pub fn full(&self, alloc: Global) -> Result<FrameView> {
         let mut view = FrameView::new(alloc);
         view.set_max_recent(self.max_recent as usize);
         view.set_max_slow(self.max_slow as usize);
         view.set_pack_frames(self.packs);
-        for index in 0..self.max_recent {
+        for index in 0..self.first() {
             view.add_frame(self.frame(alloc, index)?)?;
         }
         Ok(view)
@@ -108,7 +113,7 @@ impl ViewWork {
     pub fn frames(&self, alloc: Global) -> Result<Vec<Arc<FrameData>>> {
         let mut frames = Vec::with_capacity(alloc, FRAMES as usize)?;
         for index in 0..FRAMES {
-            frames.push(self.frame(alloc, self.max_recent.saturating_add(index))?)?;
+            frames.push(self.frame(alloc, self.first().saturating_add(index))?)?;
         }
         Ok(frames)
     }

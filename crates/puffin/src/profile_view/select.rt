@@ -5,6 +5,7 @@ ghost use Rattle.puffin.specs.FrameOf.{frame_of, frames_of};
 ghost use Rattle.puffin.specs.Selection.{rank_at, ranks_from, IsSelection};
 ghost use Rattle.puffin.specs.Selections.{slow_place, old_place};
 
+use itertools::Itertools;
 use puffin_data::{NanoSecond, Result};
 use puffin_frames::frame_data::{FrameData, FrameIndex};
 use std::alloc::Global;
@@ -108,10 +109,9 @@ pub fn select_slowest(
     ensures ok { IfOk result (λ v. IsSelection max (frames_of frames.now) (frames_of v.items)) }
     ensures cause { IfErr result (λ e. e ≡ Error.Memory) }
 {
-    let mut ranked = slow_places(alloc, frames)?;
-    ranked.sort()?;
-    ranked.truncate(max);
-    let mut chosen = old_places(alloc, &ranked)?;
-    chosen.sort()?;
+    let places = slow_places(alloc, frames)?;
+    let ranked: Vec<SlowPlace> = places.into_iter().sorted(alloc)?.take(max).collect(alloc)?;
+    let old = old_places(alloc, &ranked)?;
+    let chosen: Vec<OldPlace> = old.into_iter().sorted(alloc)?.collect(alloc)?;
     frames_at(alloc, frames, &chosen)
 }
