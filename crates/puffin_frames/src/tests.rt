@@ -1,27 +1,28 @@
-use crate::frame_data::{FrameData, UnpackedFrameData, report_to};
+use crate::frame_data::{FrameData, ThreadStreams, UnpackedFrameData, report_to};
 use crate::thread_profiler::ThreadInfo;
 use puffin_data::data::{Stream, StreamInfo};
 use puffin_data::{Error, NanoSecond};
+use std::alloc::Global;
 use std::collections::BTreeMap;
 use std::test::Fail;
 
 type Outcome = std::result::Result<(), Fail>;
 
 fn thread(
-    rt: &HostRuntime,
+    alloc: Global,
     start_time_ns: Option<NanoSecond>,
     name: &str,
 ) -> std::result::Result<ThreadInfo, Fail> {
     Ok(ThreadInfo {
         start_time_ns,
-        name: String::from_str(rt.alloc(), name)?,
+        name: String::from_str(alloc, name)?,
     })
 }
 
 /// An info that says what it is told to, of a stream without bytes.
-fn told(rt: &HostRuntime, num_scopes: usize, range_ns: (NanoSecond, NanoSecond)) -> StreamInfo {
+fn told(alloc: Global, num_scopes: usize, range_ns: (NanoSecond, NanoSecond)) -> StreamInfo {
     StreamInfo {
-        stream: Stream::new(rt.alloc()),
+        stream: Stream::new(alloc),
         num_scopes,
         depth: 1,
         range_ns,
@@ -29,8 +30,8 @@ fn told(rt: &HostRuntime, num_scopes: usize, range_ns: (NanoSecond, NanoSecond))
 }
 
 /// A scope of 127 bytes with two others in it, from 100 to 400.
-fn three_scopes(rt: &HostRuntime) -> std::result::Result<StreamInfo, Fail> {
-    let mut bytes = Vec::new(rt.alloc());
+fn three_scopes(alloc: Global) -> std::result::Result<StreamInfo, Fail> {
+    let mut bytes = Vec::new(alloc);
     bytes.extend_from_slice(b"(\x01\0\0\0\x64\0\0\0\0\0\0\0\x08data_top\x58\0\0\0\0\0\0\0")?;
     bytes.extend_from_slice(
         b"(\x02\0\0\0\xc8\0\0\0\0\0\0\0\x0ddata_middle_0\0\0\0\0\0\0\0\0)\x2c\x01\0\0\0\0\0\0",
@@ -39,60 +40,104 @@ fn three_scopes(rt: &HostRuntime) -> std::result::Result<StreamInfo, Fail> {
         b"(\x03\0\0\0\x2c\x01\0\0\0\0\0\0\x0ddata_middle_1\0\0\0\0\0\0\0\0)\x90\x01\0\0\0\0\0\0",
     )?;
     bytes.extend_from_slice(b")\x90\x01\0\0\0\0\0\0")?;
-    Ok(StreamInfo::parse(rt.alloc(), Stream::from(bytes))?)
+    Ok(StreamInfo::parse(alloc, Stream::from(bytes))?)
+}
+
+/// Streams by their threads.
+type Streams = BTreeMap<ThreadInfo, StreamInfo>;
+
+/// The three scopes of the thread `main`, which began at 100.
+fn main_stream(alloc: Global) -> std::result::Result<Streams, Fail> {
+    let mut streams = BTreeMap::new(alloc);
+    let _ = streams.insert(thread(alloc, Some(100), "main")?, three_scopes(alloc)?)?;
+    Ok(streams)
+}
+
+/// The streams of two threads without a start.
+fn two_streams(
+    alloc: Global,
+    first: StreamInfo,
+    second: StreamInfo,
+) -> std::result::Result<Streams, Fail> {
+    let mut streams = BTreeMap::new(alloc);
+    let _ = streams.insert(thread(alloc, None, "first")?, first)?;
+    let _ = streams.insert(thread(alloc, None, "second")?, second)?;
+    Ok(streams)
+}
+
+/// Why streams make no frame.
+fn refusal(alloc: Global, streams: Streams) -> Option<Error> {
+    UnpackedFrameData::new(alloc, 0, streams).err()
+}
+
+/// What an unpacked frame says: its index, its range, its duration, its bytes and scopes.
+fn facts(frame: &UnpackedFrameData) -> (u64, (NanoSecond, NanoSecond), NanoSecond, (usize, usize)) {
+    let counts = (frame.meta.num_bytes, frame.meta.num_scopes);
+    (
+        frame.frame_index(),
+        frame.range_ns(),
+        frame.duration_ns(),
+        counts,
+    )
+}
+
+/// How many bytes and scopes the thread `main` has, which began at 100.
+fn counts_of_main(
+    alloc: Global,
+    streams: &ThreadStreams,
+) -> std::result::Result<(usize, usize), Fail> {
+    let info = streams
+        .get(&thread(alloc, Some(100), "main")?)
+        .ok_or("a stream")?;
+    Ok((info.stream.len(), info.num_scopes))
 }
 
 #[test]
 fn one_stream_makes_a_frame(rt: HostRuntime) -> Outcome {
-    let mut streams = BTreeMap::new(rt.alloc());
-    let _ = streams.insert(thread(&rt, Some(100), "main")?, three_scopes(&rt)?)?;
-    let frame = UnpackedFrameData::new(rt.alloc(), 7, streams)?;
-    assert_eq!(rt; frame.frame_index(), 7);
-    assert_eq!(rt; frame.range_ns(), (100, 400));
-    assert_eq!(rt; frame.duration_ns(), 300);
-    assert_eq!(rt; frame.meta.frame_index, 7);
-    assert_eq!(rt; frame.meta.range_ns, (100, 400));
-    assert_eq!(rt; frame.meta.num_bytes, 127);
-    assert_eq!(rt; frame.meta.num_scopes, 3);
-    assert_eq!(rt; frame.thread_streams.len(), 1);
-    let main = thread(&rt, Some(100), "main")?;
+    let frame = UnpackedFrameData::new(rt.alloc(), 7, main_stream(rt.alloc())?)?;
+    assert_eq!(rt; facts(&frame), (7, (100, 400), 300, (127, 3)));
     assert_eq!(rt;
-        frame
-            .thread_streams
-            .get(&main)
-            .map(|info| info.stream.len()),
-        Some(127)
+        (frame.meta.frame_index, frame.meta.range_ns),
+        (7, (100, 400))
+    );
+    assert_eq!(rt; frame.thread_streams.len(), 1);
+    assert_eq!(rt;
+        counts_of_main(rt.alloc(), &frame.thread_streams)?,
+        (127, 3)
     );
     Ok(())
 }
 
 #[test]
 fn two_streams_are_summed_and_joined(rt: HostRuntime) -> Outcome {
-    let mut streams = BTreeMap::new(rt.alloc());
-    let _ = streams.insert(thread(&rt, Some(100), "main")?, three_scopes(&rt)?)?;
-    let _ = streams.insert(thread(&rt, None, "other")?, told(&rt, 2, (-5, 250)))?;
+    let mut streams = main_stream(rt.alloc())?;
+    let other = thread(rt.alloc(), None, "other")?;
+    let _ = streams.insert(other, told(rt.alloc(), 2, (-5, 250)))?;
     let frame = UnpackedFrameData::new(rt.alloc(), 0, streams)?;
-    assert_eq!(rt; frame.range_ns(), (-5, 400));
-    assert_eq!(rt; frame.duration_ns(), 405);
-    assert_eq!(rt; frame.meta.num_bytes, 127);
-    assert_eq!(rt; frame.meta.num_scopes, 5);
+    assert_eq!(rt; facts(&frame), (0, (-5, 400), 405, (127, 5)));
     Ok(())
+}
+
+/// A frame with all known details, of none.
+fn frame_with_delta(alloc: Global) -> std::result::Result<FrameData, Fail> {
+    Ok(FrameData::new(alloc, 7, main_stream(alloc)?, Vec::new(alloc), true)?)
 }
 
 #[test]
 fn a_frame_with_its_delta(rt: HostRuntime) -> Outcome {
-    let mut streams = BTreeMap::new(rt.alloc());
-    let _ = streams.insert(thread(&rt, Some(100), "main")?, three_scopes(&rt)?)?;
-    let frame = FrameData::new(rt.alloc(), 7, streams, Vec::new(rt.alloc()), true)?;
-    assert_eq!(rt; frame.frame_index(), 7);
-    assert_eq!(rt; frame.range_ns(), (100, 400));
-    assert_eq!(rt; frame.duration_ns(), 300);
-    assert_eq!(rt; frame.meta().num_bytes, 127);
+    let frame = frame_with_delta(rt.alloc())?;
+    assert_eq!(rt; (frame.frame_index(), frame.range_ns()), (7, (100, 400)));
+    assert_eq!(rt; (frame.duration_ns(), frame.meta().num_bytes), (300, 127));
     assert!(rt; frame.full_delta);
-    assert_eq!(rt;
-        frame.as_unpacked().map(|held| held.thread_streams.len()),
-        Some(1)
-    );
+    let count = frame.as_unpacked().map(|held| held.thread_streams.len());
+    assert_eq!(rt; count, Some(1));
+    Ok(())
+}
+
+#[test]
+fn a_frame_made_again_of_its_streams(rt: HostRuntime) -> Outcome {
+    let streams = main_stream(rt.alloc())?;
+    let frame = FrameData::new(rt.alloc(), 7, streams, Vec::new(rt.alloc()), true)?;
     let unpacked = frame.into_unpacked();
     assert_eq!(rt; unpacked.meta.num_scopes, 3);
     let again = FrameData::of_unpacked(unpacked, Vec::new(rt.alloc()), false);
@@ -100,79 +145,64 @@ fn a_frame_with_its_delta(rt: HostRuntime) -> Outcome {
     Ok(())
 }
 
+/// Reports the three scopes of the thread `main`.
+fn report_main(alloc: Global, streams: &mut ThreadStreams) -> Outcome {
+    let main = thread(alloc, Some(100), "main")?;
+    Ok(report_to(
+        alloc,
+        streams,
+        main,
+        &three_scopes(alloc)?.as_stream_into_ref(),
+    )?)
+}
+
 #[test]
 fn a_report_leaves_what_another_owner_has(rt: HostRuntime) -> Outcome {
     let mut streams = BTreeMap::new(rt.alloc());
-    let info = three_scopes(&rt)?;
-    let main = thread(&rt, Some(100), "main")?;
-    report_to(
-        rt.alloc(),
-        &mut streams,
-        main.clone()?,
-        &info.as_stream_into_ref(),
-    )?;
-    let before = streams.get(&main).map(|shared| shared.clone()).transpose()?;
-    report_to(
-        rt.alloc(),
-        &mut streams,
-        main.clone()?,
-        &info.as_stream_into_ref(),
-    )?;
+    report_main(rt.alloc(), &mut streams)?;
+    let before = streams
+        .values()
+        .next()
+        .map(|shared| shared.clone())
+        .transpose()?;
+    report_main(rt.alloc(), &mut streams)?;
     assert_eq!(rt; before.map(|shared| shared.stream.len()), Some(127));
-    assert_eq!(rt;
-        streams.get(&main).map(|shared| shared.stream.len()),
-        Some(254)
-    );
-    report_to(
-        rt.alloc(),
-        &mut streams,
-        main.clone()?,
-        &info.as_stream_into_ref(),
-    )?;
-    assert_eq!(rt; streams.get(&main).map(|shared| shared.num_scopes), Some(9));
+    assert_eq!(rt; counts_of_main(rt.alloc(), &streams)?, (254, 6));
+    report_main(rt.alloc(), &mut streams)?;
+    assert_eq!(rt; counts_of_main(rt.alloc(), &streams)?, (381, 9));
     Ok(())
 }
 
 #[test]
 fn no_streams_make_no_frame(rt: HostRuntime) {
     let streams = BTreeMap::new(rt.alloc());
-    assert_eq!(rt;
-        UnpackedFrameData::new(rt.alloc(), 0, streams).err(),
-        Some(Error::Empty)
-    );
+    assert_eq!(rt; refusal(rt.alloc(), streams), Some(Error::Empty));
 }
 
 #[test]
 fn a_duration_that_does_not_fit(rt: HostRuntime) -> Outcome {
-    let mut streams = BTreeMap::new(rt.alloc());
-    let first = told(&rt, 1, (NanoSecond::MIN, NanoSecond::MIN));
-    let _ = streams.insert(thread(&rt, None, "first")?, first)?;
-    let _ = streams.insert(thread(&rt, Some(0), "second")?, told(&rt, 1, (0, 0)))?;
-    let refusal = UnpackedFrameData::new(rt.alloc(), 0, streams).err();
-    assert_eq!(rt; refusal, Some(Error::RangeTooLong));
+    let first = told(rt.alloc(), 1, (NanoSecond::MIN, NanoSecond::MIN));
+    let streams = two_streams(rt.alloc(), first, told(rt.alloc(), 1, (0, 0)))?;
+    assert_eq!(rt; refusal(rt.alloc(), streams), Some(Error::RangeTooLong));
     Ok(())
 }
 
 #[test]
 fn a_sum_that_does_not_fit(rt: HostRuntime) -> Outcome {
-    let mut streams = BTreeMap::new(rt.alloc());
     // The joined range is reversed too: the sum is looked at first.
-    let _ = streams.insert(thread(&rt, None, "first")?, told(&rt, usize::MAX, (9, 0)))?;
-    let _ = streams.insert(thread(&rt, None, "second")?, told(&rt, 1, (9, 0)))?;
-    let refusal = UnpackedFrameData::new(rt.alloc(), 0, streams).err();
-    assert_eq!(rt; refusal, Some(Error::TooLarge));
+    let first = told(rt.alloc(), usize::MAX, (9, 0));
+    let streams = two_streams(rt.alloc(), first, told(rt.alloc(), 1, (9, 0)))?;
+    assert_eq!(rt; refusal(rt.alloc(), streams), Some(Error::TooLarge));
     Ok(())
 }
 
 #[test]
 fn threads_in_order(rt: HostRuntime) -> Outcome {
-    let unknown = thread(&rt, None, "z")?;
-    let early = thread(&rt, Some(-1), "z")?;
-    let main = thread(&rt, Some(100), "main")?;
-    let longer = thread(&rt, Some(100), "main 2")?;
-    assert!(rt; unknown < early);
-    assert!(rt; early < main);
-    assert!(rt; main < longer);
+    let unknown = thread(rt.alloc(), None, "z")?;
+    let early = thread(rt.alloc(), Some(-1), "z")?;
+    let main = thread(rt.alloc(), Some(100), "main")?;
+    let longer = thread(rt.alloc(), Some(100), "main 2")?;
+    assert!(rt; unknown < early && early < main && main < longer);
     assert!(rt; main == main.clone()?);
     assert!(rt; main != longer);
     Ok(())

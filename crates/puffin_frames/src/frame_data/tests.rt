@@ -1,17 +1,19 @@
-use crate::frame_data::FrameData;
+use crate::frame_data::{FrameData, UnpackedFrameData};
 use crate::scope_details::{ScopeCollection, ScopeDetails};
 use crate::thread_profiler::ThreadInfo;
 use puffin_data::FileError;
 use puffin_data::data::{Counted, ScopeId, Stream, StreamInfo};
+use std::alloc::Global;
 use std::borrow::CowStr;
 use std::collections::BTreeMap;
+use std::process::Abort;
 use std::sync::Arc;
 use std::test::Fail;
 
 type Outcome = std::result::Result<(), Fail>;
 
 /// Frame 0 with one scope `data` of id 1 on the thread `main`, from 100 to 300.
-const PACKET: [u8; 75] = [
+static PACKET: [u8; 75] = [
     80, 70, 68, 52, 7, 0, 0, 0, 0, 200, 251, 88, 2, 35, 1, 50, 0, 0, 0, 0, 1, 1, 200, 4, 109, 97,
     105, 110, 35, 40, 1, 0, 0, 0, 100, 0, 0, 0, 0, 0, 0, 0, 4, 100, 97, 116, 97, 0, 0, 0, 0, 0, 0,
     0, 0, 41, 44, 1, 0, 0, 0, 0, 0, 0, 1, 1, 200, 251, 88, 2, 1, 0, 0, 0, 0,
@@ -19,7 +21,7 @@ const PACKET: [u8; 75] = [
 
 /// The two packets that the Rust crate writes, at kind 0, of these scopes: `t1` from 374487 to 375371, and then `t0` with one
 /// scope in another from 378236 to 378240 and `t1` from 378300 to 70000000000; each frame with the details of one new scope.
-const RUST_PACKETS: [u8; 314] = [
+static RUST_PACKETS: [u8; 314] = [
     80, 70, 68, 52, 13, 0, 0, 0, 0, 252, 174, 109, 11, 0, 252, 150, 116, 11, 0, 31, 1, 54, 0, 0, 0,
     0, 1, 1, 252, 174, 109, 11, 0, 2, 116, 49, 31, 40, 3, 0, 0, 0, 215, 182, 5, 0, 0, 0, 0, 0, 0,
     0, 0, 0, 0, 0, 0, 0, 0, 41, 75, 186, 5, 0, 0, 0, 0, 0, 1, 1, 252, 174, 109, 11, 0, 252, 150,
@@ -35,8 +37,9 @@ const RUST_PACKETS: [u8; 314] = [
     114, 115, 252, 250, 45, 238, 255,
 ];
 
-fn bytes_of(rt: &HostRuntime, pieces: &[&[u8]]) -> std::result::Result<Vec<u8>, Fail> {
-    let mut bytes = Vec::new(rt.alloc());
+/// Pieces, one after the other.
+fn bytes_of(alloc: Global, pieces: &[&[u8]]) -> std::result::Result<Vec<u8>, Fail> {
+    let mut bytes = Vec::new(alloc);
     for piece in pieces {
         bytes.extend_from_slice(piece)?;
     }
@@ -44,87 +47,118 @@ fn bytes_of(rt: &HostRuntime, pieces: &[&[u8]]) -> std::result::Result<Vec<u8>, 
 }
 
 /// Reads a frame.
-fn read(rt: &HostRuntime, bytes: &[u8]) -> std::result::Result<Option<FrameData>, FileError> {
-    FrameData::read_next(rt.alloc(), &mut Counted::new(bytes))
+fn read(alloc: Global, bytes: &[u8]) -> std::result::Result<Option<FrameData>, FileError> {
+    FrameData::read_next(alloc, &mut Counted::new(bytes))
 }
 
-fn read_one(rt: &HostRuntime, bytes: &[u8]) -> std::result::Result<FrameData, Fail> {
-    Ok(read(rt, bytes).ok().ok_or("no fault")?.ok_or("a frame")?)
+fn read_one(alloc: Global, bytes: &[u8]) -> std::result::Result<FrameData, Fail> {
+    Ok(read(alloc, bytes)?.ok_or("a frame")?)
+}
+
+/// Bytes that are read as the end.
+fn is_end(alloc: Global, bytes: &[u8]) -> bool {
+    matches!(read(alloc, bytes), Ok(None))
+}
+
+/// Why bytes aren't read.
+fn refusal(alloc: Global, bytes: &[u8]) -> Option<FileError> {
+    read(alloc, bytes).err()
+}
+
+/// Why pieces, one after the other, aren't read.
+fn refusal_of(alloc: Global, pieces: &[&[u8]]) -> std::result::Result<Option<FileError>, Fail> {
+    Ok(refusal(alloc, &bytes_of(alloc, pieces)?))
 }
 
 /// What is written of a frame.
 fn written(
-    rt: &HostRuntime,
+    alloc: Global,
     frame: &FrameData,
     scopes: Option<&ScopeCollection>,
 ) -> std::result::Result<Vec<u8>, Fail> {
-    let mut bytes = Vec::new(rt.alloc());
-    frame
-        .write_into(scopes, &mut Counted::new(&mut bytes))
-        .ok()
-        .ok_or("no fault")?;
+    let mut bytes = Vec::new(alloc);
+    frame.write_into(scopes, &mut Counted::new(&mut bytes))?;
     Ok(bytes)
 }
 
-fn frame(rt: &HostRuntime) -> std::result::Result<FrameData, Fail> {
-    let mut streams = BTreeMap::new(rt.alloc());
-    let thread = ThreadInfo {
-        start_time_ns: Some(100),
-        name: String::from_str(rt.alloc(), "main")?,
-    };
-    let stream = Stream::from(Vec::from_slice(rt.alloc(), &PACKET[29..64])?);
-    let _ = streams.insert(thread, StreamInfo::parse(rt.alloc(), stream)?)?;
-    Ok(FrameData::new(rt.alloc(), 0, streams, Vec::new(rt.alloc()), false)?)
+/// Just these bytes are written of a frame.
+fn is_written(rt: &impl Abort, alloc: Global, frame: &FrameData, expected: &[u8]) -> Outcome {
+    assert_eq!(rt; written(alloc, frame, None)?.as_slice(), expected);
+    Ok(())
 }
 
+/// The stream of [`PACKET`].
+fn info(alloc: Global) -> std::result::Result<StreamInfo, Fail> {
+    let stream = Stream::from(Vec::from_slice(alloc, &PACKET[29..64])?);
+    Ok(StreamInfo::parse(alloc, stream)?)
+}
+
+fn main_thread(alloc: Global) -> std::result::Result<ThreadInfo, Fail> {
+    Ok(ThreadInfo {
+        start_time_ns: Some(100),
+        name: String::from_str(alloc, "main")?,
+    })
+}
+
+/// The frame of [`PACKET`].
+fn frame(alloc: Global) -> std::result::Result<FrameData, Fail> {
+    let mut streams = BTreeMap::new(alloc);
+    let _ = streams.insert(main_thread(alloc)?, info(alloc)?)?;
+    Ok(FrameData::new(alloc, 0, streams, Vec::new(alloc), false)?)
+}
+
+/// Details with an id, of a part of the function `a`.
 fn details(
-    rt: &HostRuntime,
+    alloc: Global,
     id: u32,
     name: &'static str,
-) -> std::result::Result<ScopeDetails, Fail> {
+) -> std::result::Result<Arc<ScopeDetails>, Fail> {
     let id = ScopeId::new(id).ok_or("not 0")?;
-    Ok(
-        ScopeDetails::from_scope_name(CowStr::Borrowed(name))
-            .with_function_name(CowStr::Borrowed("a"))
-            .with_file(CowStr::Borrowed("b.rs"))
-            .with_line_nr(7)
-            .with_scope_id(id),
+    let function = ScopeDetails::from_scope_name(CowStr::Borrowed(name))
+        .with_function_name(CowStr::Borrowed("a"))
+        .with_scope_id(id);
+    Ok(Arc::new(alloc, in_file(function))?)
+}
+
+/// The same details, at line 7 of `b.rs`.
+fn in_file(details: ScopeDetails) -> ScopeDetails {
+    details.with_file(CowStr::Borrowed("b.rs")).with_line_nr(7)
+}
+
+/// What a frame says: its index, its range, its bytes and scopes, and the size of its packed streams.
+fn facts(frame: &FrameData) -> (u64, (i64, i64), (usize, usize), Option<usize>) {
+    let meta = frame.meta();
+    let counts = (meta.num_bytes, meta.num_scopes);
+    (
+        frame.frame_index(),
+        frame.range_ns(),
+        counts,
+        frame.packed_size(),
     )
 }
 
-#[test]
-fn a_frame_is_written_byte_for_byte(rt: HostRuntime) -> Outcome {
-    let frame = frame(&rt)?;
-    assert_eq!(rt; written(&rt, &frame, None)?.as_slice(), PACKET.as_slice());
-    let packed = frame.packed_copy()?;
-    assert_eq!(rt; written(&rt, &packed, None)?.as_slice(), PACKET.as_slice());
-    let copy = frame.clone()?;
-    assert!(rt; copy.has_unpacked());
-    assert_eq!(rt; written(&rt, &copy, None)?.as_slice(), PACKET.as_slice());
-    Ok(())
+/// Whether a frame's streams are packed, and whether they are there as they are.
+fn held(frame: &FrameData) -> (bool, bool) {
+    (frame.has_packed(), frame.has_unpacked())
 }
 
-#[test]
-fn a_packet_is_read(rt: HostRuntime) -> Outcome {
-    let mut frame = read_one(&rt, &PACKET)?;
-    assert_eq!(rt; frame.frame_index(), 0);
-    assert_eq!(rt; frame.range_ns(), (100, 300));
-    assert_eq!(rt; frame.duration_ns(), 200);
-    assert_eq!(rt; frame.meta().num_bytes, 35);
-    assert_eq!(rt; frame.meta().num_scopes, 1);
-    assert_eq!(rt; frame.scope_delta.len(), 0);
-    assert!(rt; !frame.full_delta);
-    assert!(rt; frame.has_packed());
-    assert!(rt; !frame.has_unpacked());
-    let unpacked = frame.unpacked().ok().ok_or("streams")?;
-    let Some((thread, info)) = unpacked.thread_streams.first_key_value() else {
-        return Err("a stream".into());
-    };
-    assert_eq!(rt; thread.name.as_str(), "main");
-    assert_eq!(rt; thread.start_time_ns, Some(100));
-    assert_eq!(rt; info.stream.bytes(), &PACKET[29..64]);
-    assert_eq!(rt; info.depth, 1);
-    Ok(())
+/// The sizes of a frame: packed, unpacked, and in memory.
+fn sizes(frame: &FrameData) -> (Option<usize>, Option<usize>, usize) {
+    (
+        frame.packed_size(),
+        frame.unpacked_size(),
+        frame.bytes_of_ram_used(),
+    )
+}
+
+/// How many streams a frame has.
+fn count_streams(frame: &mut FrameData) -> std::result::Result<usize, Fail> {
+    Ok(frame.unpacked()?.thread_streams.len())
+}
+
+/// Why a frame isn't unpacked.
+fn fault_of_streams(frame: &mut FrameData) -> Option<FileError> {
+    frame.unpacked().err()
 }
 
 /// The function and the line of a frame's only details.
@@ -135,133 +169,196 @@ fn only_details<'f>(frame: &'f FrameData) -> std::result::Result<(&'f str, u32),
     }
 }
 
+/// The name of a frame's only details.
+fn only_name<'f>(frame: &'f FrameData) -> std::result::Result<&'f str, Fail> {
+    match frame.scope_delta.as_slice() {
+        [details] => Ok(details.name().as_str()),
+        _ => Err("one scope's details".into()),
+    }
+}
+
+#[test]
+fn a_frame_is_written_byte_for_byte(rt: HostRuntime) -> Outcome {
+    let frame = frame(rt.alloc())?;
+    is_written(&rt, rt.alloc(), &frame, &PACKET)?;
+    let packed = frame.packed_copy()?;
+    is_written(&rt, rt.alloc(), &packed, &PACKET)?;
+    let copy = frame.clone()?;
+    assert!(rt; copy.has_unpacked());
+    is_written(&rt, rt.alloc(), &copy, &PACKET)
+}
+
+#[test]
+fn a_packet_is_read(rt: HostRuntime) -> Outcome {
+    let frame = read_one(rt.alloc(), &PACKET)?;
+    assert_eq!(rt; facts(&frame), (0, (100, 300), (35, 1), Some(50)));
+    assert_eq!(rt; frame.duration_ns(), 200);
+    assert_eq!(rt; (frame.scope_delta.len(), frame.full_delta), (0, false));
+    assert_eq!(rt; held(&frame), (true, false));
+    Ok(())
+}
+
+/// The first stream is that of [`PACKET`].
+fn is_stream_of_packet(rt: &impl Abort, frame: &UnpackedFrameData) -> Outcome {
+    let (thread, info) = frame.thread_streams.first_key_value().ok_or("a stream")?;
+    assert_eq!(rt;
+        (thread.name.as_str(), thread.start_time_ns),
+        ("main", Some(100))
+    );
+    assert_eq!(rt; info.stream.bytes(), &PACKET[29..64]);
+    assert_eq!(rt; info.depth, 1);
+    Ok(())
+}
+
+#[test]
+fn streams_of_a_packet_that_is_read(rt: HostRuntime) -> Outcome {
+    let mut frame = read_one(rt.alloc(), &PACKET)?;
+    let unpacked = frame.unpacked()?;
+    is_stream_of_packet(&rt, &unpacked)
+}
+
 #[test]
 fn packets_of_the_rust_crate_are_read_and_written_back(rt: HostRuntime) -> Outcome {
-    let mut first = read_one(&rt, &RUST_PACKETS)?;
-    assert_eq!(rt; first.frame_index(), 0);
-    assert_eq!(rt; first.range_ns(), (374487, 375371));
-    assert_eq!(rt; first.meta().num_bytes, 31);
-    assert_eq!(rt; first.meta().num_scopes, 1);
-    assert_eq!(rt; first.packed_size(), Some(54));
+    let mut first = read_one(rt.alloc(), &RUST_PACKETS)?;
+    assert_eq!(rt; facts(&first), (0, (374487, 375371), (31, 1), Some(54)));
     assert_eq!(rt; only_details(&first)?, ("f20", 1239));
-    assert!(rt; first.unpacked().is_ok());
-    assert_eq!(rt;
-        written(&rt, &first, None)?.as_slice(),
-        &RUST_PACKETS[..108]
-    );
-    Ok(())
+    assert_eq!(rt; count_streams(&mut first)?, 1);
+    is_written(&rt, rt.alloc(), &first, &RUST_PACKETS[..108])
 }
 
 #[test]
 fn the_second_packet_of_the_rust_crate(rt: HostRuntime) -> Outcome {
-    let mut second = read_one(&rt, &RUST_PACKETS[108..])?;
-    assert_eq!(rt; second.frame_index(), 1);
-    assert_eq!(rt; second.range_ns(), (378236, 70000000000));
-    assert_eq!(rt; second.meta().num_bytes, 97);
-    assert_eq!(rt; second.meta().num_scopes, 3);
-    assert_eq!(rt; second.packed_size(), Some(146));
-    assert_eq!(rt; only_details(&second)?, ("f20", 4293799418));
-    let unpacked = second.unpacked().ok().ok_or("streams")?;
-    assert_eq!(rt; unpacked.thread_streams.len(), 2);
+    let packet = &RUST_PACKETS[108..];
+    let mut second = read_one(rt.alloc(), packet)?;
     assert_eq!(rt;
-        written(&rt, &second, None)?.as_slice(),
-        &RUST_PACKETS[108..]
+        facts(&second),
+        (1, (378236, 70000000000), (97, 3), Some(146))
     );
-    Ok(())
+    assert_eq!(rt; only_details(&second)?, ("f20", 4293799418));
+    assert_eq!(rt; count_streams(&mut second)?, 2);
+    is_written(&rt, rt.alloc(), &second, packet)
 }
 
 #[test]
 fn the_third_form_has_no_details(rt: HostRuntime) -> Outcome {
-    let bytes = bytes_of(&rt, &[b"PFD3", &PACKET[4..70]])?;
-    let frame = read_one(&rt, &bytes)?;
-    assert!(rt; frame.has_packed());
-    assert_eq!(rt; frame.scope_delta.len(), 0);
-    assert_eq!(rt; written(&rt, &frame, None)?.as_slice(), PACKET.as_slice());
-    Ok(())
+    let bytes = bytes_of(rt.alloc(), &[b"PFD3", &PACKET[4..70]])?;
+    let frame = read_one(rt.alloc(), &bytes)?;
+    assert_eq!(rt; (frame.has_packed(), frame.scope_delta.len()), (true, 0));
+    is_written(&rt, rt.alloc(), &frame, &PACKET)
 }
 
 #[test]
 fn the_second_form_is_kept_compressed(rt: HostRuntime) -> Outcome {
-    let bytes = bytes_of(&rt, &[b"PFD2", &PACKET[4..19], &PACKET[20..70]])?;
-    let mut frame = read_one(&rt, &bytes)?;
-    assert_eq!(rt; frame.unpacked().err(), Some(FileError::Compressed(2)));
+    let bytes = bytes_of(rt.alloc(), &[b"PFD2", &PACKET[4..19], &PACKET[20..70]])?;
+    let mut frame = read_one(rt.alloc(), &bytes)?;
+    assert_eq!(rt;
+        fault_of_streams(&mut frame),
+        Some(FileError::Compressed(2))
+    );
     assert!(rt; !frame.has_unpacked());
-    let expected = bytes_of(&rt, &[&PACKET[..19], &[2], &PACKET[20..]])?;
-    assert_eq!(rt; written(&rt, &frame, None)?.as_slice(), expected.as_slice());
-    Ok(())
+    let expected = bytes_of(rt.alloc(), &[&PACKET[..19], &[2], &PACKET[20..]])?;
+    is_written(&rt, rt.alloc(), &frame, &expected)
+}
+
+/// The packet's frame in the first form, with what stands after its streams.
+fn first_form(alloc: Global, end: &[u8]) -> std::result::Result<Vec<u8>, Fail> {
+    bytes_of(alloc, &[&[57, 0, 0, 0, 0], &PACKET[20..70], end])
 }
 
 #[test]
 fn the_first_form_is_held_unpacked(rt: HostRuntime) -> Outcome {
-    let bytes = bytes_of(
-        &rt,
-        &[
-            &[57, 0, 0, 0, 0],
-            &PACKET[20..70],
-            &[0xc8, 0xfb, 0x58, 0x02, 0x23, 0x01],
-        ],
-    )?;
+    let bytes = first_form(rt.alloc(), &[0xc8, 0xfb, 0x58, 0x02, 0x23, 0x01])?;
     assert_eq!(rt; bytes.len(), 61);
-    let frame = read_one(&rt, &bytes)?;
-    assert!(rt; !frame.has_packed());
-    assert!(rt; frame.has_unpacked());
-    assert_eq!(rt; written(&rt, &frame, None)?.as_slice(), PACKET.as_slice());
-    // A reversed range, and bytes left over.
-    let reversed = bytes_of(
-        &rt,
-        &[
-            &[57, 0, 0, 0, 0],
-            &PACKET[20..70],
-            &[0xfb, 0x58, 0x02, 0xc8, 0x23, 0x01],
-        ],
-    )?;
-    assert_eq!(rt; read(&rt, &reversed).err(), Some(FileError::BadRange));
-    let longer = bytes_of(&rt, &[&[58, 0, 0, 0], &bytes[4..], &[0]])?;
-    assert_eq!(rt; read(&rt, &longer).err(), Some(FileError::BadStreams));
+    let frame = read_one(rt.alloc(), &bytes)?;
+    drop(bytes);
+    assert_eq!(rt; held(&frame), (false, true));
+    is_written(&rt, rt.alloc(), &frame, &PACKET)
+}
+
+#[test]
+fn the_first_form_with_a_reversed_range(rt: HostRuntime) -> Outcome {
+    let reversed = first_form(rt.alloc(), &[0xfb, 0x58, 0x02, 0xc8, 0x23, 0x01])?;
+    assert_eq!(rt; refusal(rt.alloc(), &reversed), Some(FileError::BadRange));
     Ok(())
+}
+
+#[test]
+fn the_first_form_with_bytes_left_over(rt: HostRuntime) -> Outcome {
+    let end = [0xc8, 0xfb, 0x58, 0x02, 0x23, 0x01, 0];
+    let pieces: [&[u8]; 3] = [&[58, 0, 0, 0, 0], &PACKET[20..70], &end];
+    assert_eq!(rt;
+        refusal_of(rt.alloc(), &pieces)?,
+        Some(FileError::BadStreams)
+    );
+    Ok(())
+}
+
+/// Why the packet with another number of streams isn't unpacked.
+fn fault_with_count(alloc: Global, count: u8) -> std::result::Result<Option<FileError>, Fail> {
+    let bytes = bytes_of(alloc, &[&PACKET[..20], &[count], &PACKET[21..]])?;
+    Ok(fault_of_streams(&mut read_one(alloc, &bytes)?))
 }
 
 #[test]
 fn streams_are_tested_when_unpacked(rt: HostRuntime) -> Outcome {
     for count in [2, 0] {
-        let bytes = bytes_of(&rt, &[&PACKET[..20], &[count], &PACKET[21..]])?;
-        let mut frame = read_one(&rt, &bytes)?;
-        assert_eq!(rt; frame.unpacked().err(), Some(FileError::BadStreams));
+        assert_eq!(rt;
+            fault_with_count(rt.alloc(), count)?,
+            Some(FileError::BadStreams)
+        );
     }
     Ok(())
 }
 
 #[test]
 fn details_without_an_id(rt: HostRuntime) -> Outcome {
-    let bytes = bytes_of(&rt, &[&PACKET[..70], &[6, 0, 0, 0, 1, 0, 0, 0, 0, 0]])?;
+    let bytes = bytes_of(
+        rt.alloc(),
+        &[&PACKET[..70], &[6, 0, 0, 0, 1, 0, 0, 0, 0, 0]],
+    )?;
     assert_eq!(rt; bytes.len(), 80);
-    let frame = read_one(&rt, &bytes)?;
+    let frame = read_one(rt.alloc(), &bytes)?;
     let ids = frame.scope_delta.first().map(|details| details.scope_id());
     assert_eq!(rt; ids, Some(None));
-    assert_eq!(rt; written(&rt, &frame, None)?.as_slice(), bytes.as_slice());
-    let zero = bytes_of(&rt, &[&PACKET[..70], &[7, 0, 0, 0, 1, 1, 0, 0, 0, 0, 0]])?;
-    assert_eq!(rt; read(&rt, &zero).err(), Some(FileError::BadScopes));
+    is_written(&rt, rt.alloc(), &frame, &bytes)
+}
+
+#[test]
+fn details_with_the_id_0_are_refused(rt: HostRuntime) -> Outcome {
+    let zero = [7, 0, 0, 0, 1, 1, 0, 0, 0, 0, 0];
+    assert_eq!(rt;
+        refusal_of(rt.alloc(), &[&PACKET[..70], &zero])?,
+        Some(FileError::BadScopes)
+    );
+    Ok(())
+}
+
+/// The frame of [`PACKET`], packed.
+fn packed_frame(alloc: Global) -> std::result::Result<FrameData, Fail> {
+    let mut frame = frame(alloc)?;
+    frame.pack()?;
+    Ok(frame)
+}
+
+#[test]
+fn sizes_of_a_frame_before_and_after_packing(rt: HostRuntime) -> Outcome {
+    assert_eq!(rt; sizes(&frame(rt.alloc())?), (None, Some(35), 35));
+    assert_eq!(rt; sizes(&packed_frame(rt.alloc())?), (Some(50), None, 50));
     Ok(())
 }
 
 #[test]
-fn sizes_of_each_way_to_hold_a_frame(rt: HostRuntime) -> Outcome {
-    let mut frame = frame(&rt)?;
-    assert_eq!(rt; frame.packed_size(), None);
-    assert_eq!(rt; frame.unpacked_size(), Some(35));
-    assert_eq!(rt; frame.bytes_of_ram_used(), 35);
-    frame.pack()?;
-    assert_eq!(rt; frame.packed_size(), Some(50));
-    assert_eq!(rt; frame.unpacked_size(), None);
-    assert_eq!(rt; frame.bytes_of_ram_used(), 50);
-    assert!(rt; frame.unpacked().is_ok());
-    assert_eq!(rt; frame.bytes_of_ram_used(), 85);
+fn sizes_of_a_frame_that_is_held_both_ways(rt: HostRuntime) -> Outcome {
+    let mut frame = packed_frame(rt.alloc())?;
+    assert_eq!(rt; count_streams(&mut frame)?, 1);
     let info = frame.packing_info();
-    assert_eq!(rt; info.packed_size, Some(50));
-    assert_eq!(rt; info.unpacked_size, Some(35));
+    assert_eq!(rt;
+        (info.packed_size, info.unpacked_size),
+        (Some(50), Some(35))
+    );
+    assert_eq!(rt; frame.bytes_of_ram_used(), 85);
     frame.pack()?;
-    assert!(rt; frame.has_packed());
-    assert!(rt; !frame.has_unpacked());
+    assert_eq!(rt; held(&frame), (true, false));
     assert_eq!(rt; frame.bytes_of_ram_used(), 50);
     Ok(())
 }
@@ -271,74 +368,72 @@ fn a_list_of_one_detail(rt: HostRuntime) -> Outcome {
     let list = [
         1, 1, 1, 1, 8, 109, 121, 45, 115, 99, 111, 112, 101, 1, 97, 4, 98, 46, 114, 115, 7,
     ];
-    let mut frame = frame(&rt)?;
-    frame
-        .scope_delta
-        .push(Arc::new(rt.alloc(), details(&rt, 1, "my-scope")?)?)?;
-    let expected = bytes_of(&rt, &[&PACKET[..70], &[21, 0, 0, 0], &list])?;
-    assert_eq!(rt; written(&rt, &frame, None)?.as_slice(), expected.as_slice());
-    let read_back = read_one(&rt, &expected)?;
+    let expected = bytes_of(rt.alloc(), &[&PACKET[..70], &[21, 0, 0, 0], &list])?;
+    let mut frame = frame(rt.alloc())?;
+    frame.scope_delta.push(details(rt.alloc(), 1, "my-scope")?)?;
+    is_written(&rt, rt.alloc(), &frame, &expected)?;
+    let read_back = read_one(rt.alloc(), &expected)?;
     assert_eq!(rt; only_name(&read_back)?, "my-scope");
     assert_eq!(rt; only_details(&read_back)?, ("a", 7));
     Ok(())
 }
 
-fn only_name<'f>(frame: &'f FrameData) -> std::result::Result<&'f str, Fail> {
-    match frame.scope_delta.as_slice() {
-        [details] => Ok(details.name().as_str()),
-        _ => Err("one scope's details".into()),
-    }
-}
-
 #[test]
 fn details_of_a_collection_are_written(rt: HostRuntime) -> Outcome {
-    let frame = frame(&rt)?;
     // A collection's details stand in place of the frame's, by rising id.
     let mut scopes = ScopeCollection::new(rt.alloc());
-    let _ = scopes.insert(Arc::new(rt.alloc(), details(&rt, 300, "x")?)?)?;
-    let _ = scopes.insert(Arc::new(rt.alloc(), details(&rt, 2, "y")?)?)?;
-    let bytes = written(&rt, &frame, Some(&scopes))?;
-    let read_back = read_one(&rt, &bytes)?;
-    match read_back.scope_delta.as_slice() {
-        [first, second] => {
-            assert_eq!(rt; first.name().as_str(), "y");
-            assert_eq!(rt; second.name().as_str(), "x");
-            Ok(())
-        }
-        _ => Err("details of two scopes".into()),
+    let _ = scopes.insert(details(rt.alloc(), 300, "x")?)?;
+    let _ = scopes.insert(details(rt.alloc(), 2, "y")?)?;
+    let bytes = written(rt.alloc(), &frame(rt.alloc())?, Some(&scopes))?;
+    let read_back = read_one(rt.alloc(), &bytes)?;
+    let [first, second] = read_back.scope_delta.as_slice() else {
+        return Err("details of two scopes".into());
+    };
+    assert_eq!(rt; (first.name().as_str(), second.name().as_str()), ("y", "x"));
+    Ok(())
+}
+
+#[test]
+fn ends_and_other_forms(rt: HostRuntime) {
+    let no_bytes: &[u8] = &[];
+    assert!(rt; is_end(rt.alloc(), no_bytes));
+    assert!(rt; is_end(rt.alloc(), b"PFD"));
+    assert!(rt; is_end(rt.alloc(), &[0, 0, 0, 0, 9]));
+    assert_eq!(rt; refusal(rt.alloc(), b"PFD0"), Some(FileError::Legacy));
+    assert_eq!(rt; refusal(rt.alloc(), b"PFD1"), Some(FileError::Legacy));
+    assert_eq!(rt; refusal(rt.alloc(), b"PFD5"), Some(FileError::Newer));
+}
+
+#[test]
+fn each_beginning_of_a_packet_is_cut_short(rt: HostRuntime) {
+    for end in 4..75 {
+        let front = PACKET.get(..end).map(|front| refusal(rt.alloc(), front));
+        assert_eq!(rt; front, Some(Some(FileError::Truncated)));
     }
 }
 
 #[test]
-fn faults_come_in_their_order(rt: HostRuntime) -> Outcome {
-    assert!(rt; matches!(read(&rt, &[]), Ok(None)));
-    assert!(rt; matches!(read(&rt, b"PFD"), Ok(None)));
-    assert!(rt; matches!(read(&rt, &[0, 0, 0, 0, 9]), Ok(None)));
-    assert_eq!(rt; read(&rt, b"PFD0").err(), Some(FileError::Legacy));
-    assert_eq!(rt; read(&rt, b"PFD1").err(), Some(FileError::Legacy));
-    assert_eq!(rt; read(&rt, b"PFD5").err(), Some(FileError::Newer));
-    for end in 4..75 {
-        let Some(front) = PACKET.get(..end) else {
-            continue;
-        };
-        assert_eq!(rt; read(&rt, front).err(), Some(FileError::Truncated));
-    }
-    // Bytes left over in the meta part; a longer spelling; a reversed range; a length that lies.
-    let longer = bytes_of(&rt, &[b"PFD4", &[8, 0, 0, 0], &PACKET[8..15], &[0]])?;
-    assert_eq!(rt; read(&rt, &longer).err(), Some(FileError::BadMeta));
-    let spelled = bytes_of(
-        &rt,
-        &[b"PFD4", &[9, 0, 0, 0], &[0xfb, 0, 0], &PACKET[9..15]],
+fn faults_of_the_meta_part(rt: HostRuntime) -> Outcome {
+    // Bytes left over; a longer spelling; a reversed range.
+    let longer = refusal_of(rt.alloc(), &[b"PFD4", &[8, 0, 0, 0], &PACKET[8..15], &[0]])?;
+    assert_eq!(rt; longer, Some(FileError::BadMeta));
+    let spelled = refusal_of(
+        rt.alloc(),
+        &[b"PFD4", &[9, 0, 0, 0, 0xfb, 0, 0], &PACKET[9..15]],
     )?;
-    assert_eq!(rt; read(&rt, &spelled).err(), Some(FileError::BadMeta));
-    let reversed = bytes_of(
-        &rt,
-        &[b"PFD4", &[7, 0, 0, 0, 0, 0xfb, 0x58, 0x02, 0xc8, 0x23, 1]],
-    )?;
-    assert_eq!(rt; read(&rt, &reversed).err(), Some(FileError::BadRange));
-    let lies = bytes_of(&rt, &[b"PFD4", &[0xff, 0xff, 0xff, 0xff], &PACKET[8..15]])?;
-    assert_eq!(rt; read(&rt, &lies).err(), Some(FileError::Truncated));
-    let unknown = bytes_of(&rt, &[&PACKET[..19], &[3]])?;
-    assert_eq!(rt; read(&rt, &unknown).err(), Some(FileError::UnknownKind(3)));
+    assert_eq!(rt; spelled, Some(FileError::BadMeta));
+    let reversed = [7, 0, 0, 0, 0, 0xfb, 0x58, 0x02, 0xc8, 0x23, 1];
+    let reversed = refusal_of(rt.alloc(), &[b"PFD4", &reversed])?;
+    assert_eq!(rt; reversed, Some(FileError::BadRange));
+    Ok(())
+}
+
+#[test]
+fn a_length_that_lies_and_an_unknown_kind(rt: HostRuntime) -> Outcome {
+    let lies = [0xff, 0xff, 0xff, 0xff];
+    let lies = refusal_of(rt.alloc(), &[b"PFD4", &lies, &PACKET[8..15]])?;
+    assert_eq!(rt; lies, Some(FileError::Truncated));
+    let unknown = refusal_of(rt.alloc(), &[&PACKET[..19], &[3]])?;
+    assert_eq!(rt; unknown, Some(FileError::UnknownKind(3)));
     Ok(())
 }

@@ -3,6 +3,7 @@ use puffin_data::data::ScopeId;
 use puffin_data::{Error, Result};
 use std::alloc::Global;
 use std::borrow::CowStr;
+use std::process::Abort;
 use std::sync::Arc;
 use std::test::Fail;
 use std::thread;
@@ -34,25 +35,39 @@ fn a_file_and_its_line(rt: HostRuntime) -> Outcome {
     Ok(())
 }
 
+/// What details say of the kind of scope, its name, and its id.
+fn facts<'d>(details: &'d ScopeDetails) -> (ScopeType, &'d str, Option<ScopeId>) {
+    (
+        details.scope_type(),
+        details.name().as_str(),
+        details.scope_id(),
+    )
+}
+
+#[test]
+fn kinds_of_scopes(rt: HostRuntime) {
+    assert_eq!(rt; ScopeType::Function.type_str(), "function scope");
+    assert_eq!(rt; ScopeType::Named.type_str(), "named");
+    assert!(rt; ScopeType::Function < ScopeType::Named);
+}
+
 #[test]
 fn a_function_and_a_scope_in_it(rt: HostRuntime) -> Outcome {
     let whole = function(7);
-    assert_eq!(rt; whole.scope_type(), ScopeType::Function);
-    assert_eq!(rt; whole.scope_type().type_str(), "function scope");
-    assert_eq!(rt; whole.name().as_str(), "f");
-    assert_eq!(rt; whole.scope_id(), None);
+    assert_eq!(rt; facts(&whole), (ScopeType::Function, "f", None));
     let name = String::from_str(rt.alloc(), "part")?;
     let part = ScopeDetails::from_scope_name(CowStr::Owned(name))
         .with_function_name(CowStr::Borrowed("f"))
         .with_scope_id(id(3)?);
-    assert_eq!(rt; part.scope_type(), ScopeType::Named);
-    assert_eq!(rt; part.scope_type().type_str(), "named");
-    assert_eq!(rt; part.name().as_str(), "part");
-    assert_eq!(rt; part.function_name.as_str(), "f");
-    assert_eq!(rt; part.file_path.as_str(), "");
-    assert_eq!(rt; part.line_nr, 0);
-    assert_eq!(rt; part.scope_id(), Some(id(3)?));
-    assert!(rt; ScopeType::Function < ScopeType::Named);
+    assert_eq!(rt; facts(&part), (ScopeType::Named, "part", Some(id(3)?)));
+    assert_eq!(rt;
+        (
+            part.function_name.as_str(),
+            part.file_path.as_str(),
+            part.line_nr
+        ),
+        ("f", "", 0)
+    );
     Ok(())
 }
 
@@ -62,33 +77,60 @@ fn details_in_order(rt: HostRuntime) -> Outcome {
     let with = function(7).with_scope_id(id(1)?);
     let next = function(0).with_scope_id(id(2)?);
     let name = ScopeDetails::from_scope_name(CowStr::Borrowed("a"));
-    assert!(rt; without < with);
-    assert!(rt; with < next);
-    assert!(rt; without < name);
-    assert!(rt; function(0) < without);
+    assert!(rt; without < with && with < next);
+    assert!(rt; without < name && function(0) < without);
     assert!(rt; without == without.clone()?);
-    assert!(rt; with == with.clone()?);
-    assert!(rt; with != without);
+    assert!(rt; with == with.clone()? && with != without);
     Ok(())
+}
+
+/// Inserts a named scope, after which the details that are kept have its number and a name that is expected.
+fn is_inserted(
+    rt: &impl Abort,
+    scopes: &mut ScopeCollection,
+    alloc: Global,
+    scope: (u32, &'static str),
+    expected: &str,
+) -> Outcome {
+    let kept = scopes.insert(named(alloc, scope.0, scope.1)?)?;
+    assert_eq!(rt;
+        (kept.name().as_str(), kept.scope_id()),
+        (expected, ScopeId::new(scope.0))
+    );
+    Ok(())
+}
+
+/// The name that a collection has under an id.
+fn name_of<'s>(scopes: &'s ScopeCollection, number: u32) -> Option<&'s str> {
+    let id = ScopeId::new(number)?;
+    Some(scopes.fetch_by_id(&id)?.name().as_str())
+}
+
+/// The number that a collection has under a name.
+fn number_of(scopes: &ScopeCollection, name: &str) -> Option<u32> {
+    Some(scopes.fetch_by_name(name)?.get())
+}
+
+/// How many details a collection has by id and by name.
+fn sizes(scopes: &ScopeCollection) -> (usize, usize) {
+    (scopes.scopes_by_id().len(), scopes.scopes_by_name().len())
 }
 
 #[test]
 fn first_by_id_and_last_by_name(rt: HostRuntime) -> Outcome {
     let mut scopes = ScopeCollection::new(rt.alloc());
-    assert!(rt; scopes.fetch_by_id(&id(1)?).is_none());
-    let kept = scopes.insert(named(rt.alloc(), 1, "a")?)?;
-    assert_eq!(rt; kept.name().as_str(), "a");
-    let kept = scopes.insert(named(rt.alloc(), 1, "b")?)?;
-    assert_eq!(rt; kept.name().as_str(), "a");
-    let kept = scopes.insert(named(rt.alloc(), 2, "a")?)?;
-    assert_eq!(rt; kept.scope_id(), Some(id(2)?));
-    let first = scopes.fetch_by_id(&id(1)?).map(|kept| kept.name().as_str());
-    assert_eq!(rt; first, Some("a"));
-    assert_eq!(rt; scopes.fetch_by_name("a").copied(), Some(id(2)?));
-    assert_eq!(rt; scopes.fetch_by_name("b").copied(), Some(id(1)?));
-    assert_eq!(rt; scopes.fetch_by_name("c").copied(), None);
-    assert_eq!(rt; scopes.scopes_by_id().len(), 2);
-    assert_eq!(rt; scopes.scopes_by_name().len(), 2);
+    assert_eq!(rt; name_of(&scopes, 1), None);
+    is_inserted(&rt, &mut scopes, rt.alloc(), (1, "a"), "a")?;
+    is_inserted(&rt, &mut scopes, rt.alloc(), (1, "b"), "a")?;
+    is_inserted(&rt, &mut scopes, rt.alloc(), (2, "a"), "a")?;
+    assert_eq!(rt; name_of(&scopes, 1), Some("a"));
+    let numbers = (
+        number_of(&scopes, "a"),
+        number_of(&scopes, "b"),
+        number_of(&scopes, "c"),
+    );
+    assert_eq!(rt; numbers, (Some(2), Some(1), None));
+    assert_eq!(rt; sizes(&scopes), (2, 2));
     Ok(())
 }
 
@@ -97,21 +139,50 @@ fn details_without_an_id_are_refused(rt: HostRuntime) -> Outcome {
     let mut scopes = ScopeCollection::new(rt.alloc());
     let details = Arc::new(rt.alloc(), function(7))?;
     assert_eq!(rt; scopes.insert(details).err(), Some(Error::MissingId));
-    assert!(rt; scopes.scopes_by_id().is_empty());
-    assert!(rt; scopes.scopes_by_name().is_empty());
+    assert_eq!(rt; sizes(&scopes), (0, 0));
     Ok(())
 }
 
 #[test]
 fn a_copy_of_a_collection(rt: HostRuntime) -> Outcome {
     let mut scopes = ScopeCollection::new(rt.alloc());
-    scopes.insert(named(rt.alloc(), 1, "a")?)?;
+    is_inserted(&rt, &mut scopes, rt.alloc(), (1, "a"), "a")?;
     let copy = scopes.clone()?;
-    scopes.insert(named(rt.alloc(), 2, "a")?)?;
-    assert_eq!(rt; copy.scopes_by_id().len(), 1);
-    assert_eq!(rt; copy.fetch_by_name("a").copied(), Some(id(1)?));
-    assert_eq!(rt; scopes.fetch_by_name("a").copied(), Some(id(2)?));
+    is_inserted(&rt, &mut scopes, rt.alloc(), (2, "a"), "a")?;
+    assert_eq!(rt; sizes(&copy).0, 1);
+    assert_eq!(rt;
+        (number_of(&copy, "a"), number_of(&scopes, "a")),
+        (Some(1), Some(2))
+    );
     Ok(())
+}
+
+/// Inserts a named scope, and answers the number of the details that are kept.
+fn number_kept(
+    scopes: &mut ScopeCollection,
+    alloc: Global,
+    number: u32,
+    name: &'static str,
+) -> Result<Option<ScopeId>> {
+    Ok(scopes.insert(named(alloc, number, name)?)?.scope_id())
+}
+
+/// Inserts a named scope. A refusal says `Memory`, changes nothing, and doesn't come again.
+fn inserts_again(
+    rt: &impl Abort,
+    scopes: &mut ScopeCollection,
+    alloc: Global,
+    number: u32,
+    name: &'static str,
+) {
+    let before = sizes(scopes);
+    let mut kept = number_kept(scopes, alloc, number, name);
+    if kept.is_err() {
+        assert_eq!(rt; kept, Err(Error::Memory));
+        assert_eq!(rt; sizes(scopes), before);
+        kept = number_kept(scopes, alloc, number, name);
+    }
+    assert_eq!(rt; kept, Ok(ScopeId::new(number)));
 }
 
 /// One allocation may fail: then the call says so, nothing is changed, and the same call succeeds.
@@ -119,26 +190,9 @@ fn a_copy_of_a_collection(rt: HostRuntime) -> Outcome {
 fn want_of_memory_changes_no_collection(rt: HostRuntime) {
     let mut scopes = ScopeCollection::new(rt.alloc());
     for (number, name) in [(1, "a"), (2, "b"), (1, "c")] {
-        let (by_id, by_name) = (scopes.scopes_by_id().len(), scopes.scopes_by_name().len());
-        let Ok(details) = named(rt.alloc(), number, name) else {
-            return;
-        };
-        let kept = match scopes.insert(details) {
-            Err(e) => {
-                assert_eq!(rt; e, Error::Memory);
-                assert_eq!(rt; scopes.scopes_by_id().len(), by_id);
-                assert_eq!(rt; scopes.scopes_by_name().len(), by_name);
-                named(rt.alloc(), number, name).and_then(|details| scopes.insert(details))
-            }
-            kept => kept,
-        };
-        assert_eq!(rt;
-            kept.ok().map(|kept| kept.scope_id()),
-            Some(ScopeId::new(number))
-        );
+        inserts_again(&rt, &mut scopes, rt.alloc(), number, name);
     }
-    assert_eq!(rt; scopes.scopes_by_id().len(), 2);
-    assert_eq!(rt; scopes.scopes_by_name().len(), 3);
+    assert_eq!(rt; sizes(&scopes), (2, 3));
 }
 
 #[test]

@@ -79,290 +79,325 @@ fn main_thread(alloc: Global, at: NanoSecond) -> Result<ThreadProfiler<ScriptClo
     Ok(ThreadProfiler::new(alloc, name, ScriptClock::new(at)))
 }
 
-/// What a walk over the bytes counts is what the report says.
-fn is_honest(rt: &impl Abort, alloc: Global, info: &StreamInfo) -> Outcome {
+/// A thread's profiler, and the recorder that it reports to.
+#[derive(Drop)]
+struct Rig {
+    thread: ThreadProfiler<ScriptClock>,
+    recorder: Recorder,
+}
+
+impl Rig {
+    /// The thread `main` at a time, and a recorder that refuses so many reports.
+    fn new(alloc: Global, at: NanoSecond, refusals: usize) -> Result<Rig> {
+        Ok(Rig {
+            thread: main_thread(alloc, at)?,
+            recorder: Recorder::new(alloc, refusals),
+        })
+    }
+
+    fn begin(&mut self, number: u32, text: &str) -> Result<usize> {
+        self.thread.begin_scope(id(number)?, text)
+    }
+
+    fn end(&mut self, offset: usize) -> Result<Closed> {
+        self.thread.end_scope(offset, &mut self.recorder)
+    }
+
+    fn report_closed(&mut self) -> Result<bool> {
+        self.thread.report_closed(&mut self.recorder)
+    }
+
+    fn set(&mut self, at: NanoSecond) {
+        self.thread.clock().set(at);
+    }
+
+    /// How many scopes are open, and how many reports and details the recorder has.
+    fn counts(&self) -> (usize, usize, usize) {
+        (
+            self.thread.depth(),
+            self.recorder.reports.len(),
+            self.recorder.details.len(),
+        )
+    }
+
+    /// The bytes of a report.
+    fn bytes(&self, place: usize) -> Result<&[u8]> {
+        Ok(self.recorder.at(place)?.1.stream.bytes())
+    }
+}
+
+/// How many scopes, how deep, and their range.
+type Counts = (usize, usize, (NanoSecond, NanoSecond));
+
+/// What an info says of its scopes.
+fn counts(info: &StreamInfo) -> Counts {
+    (info.num_scopes, info.depth, info.range_ns)
+}
+
+/// A walk over an info's bytes counts what the info says, and that is expected.
+fn is_honest(rt: &impl Abort, alloc: Global, info: &StreamInfo, expected: Counts) -> Outcome {
     let walked = StreamInfo::parse(alloc, info.stream.clone()?)?;
-    assert_eq!(rt; walked.num_scopes, info.num_scopes);
-    assert_eq!(rt; walked.depth, info.depth);
-    assert_eq!(rt; walked.range_ns, info.range_ns);
+    assert_eq!(rt; counts(&walked), counts(info));
+    assert_eq!(rt; counts(info), expected);
     Ok(())
+}
+
+/// A report is of the thread that began at a time, and its scopes are as expected.
+fn is_report(
+    rt: &impl Abort,
+    recorder: &Recorder,
+    place: usize,
+    start: NanoSecond,
+    expected: Counts,
+) -> Outcome {
+    let (info, times) = recorder.at(place)?;
+    assert_eq!(rt;
+        (info.name.as_str(), info.start_time_ns),
+        ("main", Some(start))
+    );
+    is_honest(rt, recorder.alloc, times, expected)
+}
+
+/// What a report says of its top scopes: id, duration and stop.
+fn top_scopes(
+    recorder: &Recorder,
+    place: usize,
+) -> std::result::Result<Vec<(u32, NanoSecond, NanoSecond)>, Fail> {
+    let (_info, times) = recorder.at(place)?;
+    let mut scopes = Vec::new(recorder.alloc);
+    for scope in &Reader::from_start(&times.stream).read_top_scopes(recorder.alloc)? {
+        scopes.push((scope.id.get(), scope.rec.duration_ns, scope.rec.stop_ns()))?;
+    }
+    Ok(scopes)
 }
 
 #[test]
 fn one_scope_is_reported(rt: HostRuntime) -> Outcome {
-    let mut thread = main_thread(rt.alloc(), 100)?;
-    let mut recorder = Recorder::new(rt.alloc(), 0);
-    assert_eq!(rt; thread.depth(), 0);
-    let offset = thread.begin_scope(id(1)?, "data")?;
-    assert_eq!(rt; offset, 18);
-    assert_eq!(rt; thread.depth(), 1);
-    thread.clock().set(300);
-    assert_eq!(rt; thread.end_scope(offset, &mut recorder)?, Closed::Reported);
-    assert_eq!(rt; thread.depth(), 0);
-    assert_eq!(rt; recorder.reports.len(), 1);
-    assert!(rt; recorder.details.is_empty());
-    let (info, times) = recorder.at(0)?;
-    assert_eq!(rt; info.start_time_ns, Some(100));
-    assert_eq!(rt; info.name.as_str(), "main");
+    let mut rig = Rig::new(rt.alloc(), 100, 0)?;
+    assert_eq!(rt; rig.counts(), (0, 0, 0));
+    assert_eq!(rt; rig.begin(1, "data"), Ok(18));
+    assert_eq!(rt; rig.counts(), (1, 0, 0));
+    rig.set(300);
+    assert_eq!(rt; rig.end(18), Ok(Closed::Reported));
+    assert_eq!(rt; rig.counts(), (0, 1, 0));
     assert_eq!(rt;
-        times.stream.bytes(),
+        rig.bytes(0)?,
         b"(\x01\0\0\0\x64\0\0\0\0\0\0\0\x04data\0\0\0\0\0\0\0\0)\x2c\x01\0\0\0\0\0\0".as_slice()
     );
-    assert_eq!(rt;
-        (times.num_scopes, times.depth, times.range_ns),
-        (1, 1, (100, 300))
-    );
-    is_honest(&rt, rt.alloc(), times)
+    is_report(&rt, &rig.recorder, 0, 100, (1, 1, (100, 300)))
 }
 
 #[test]
 fn a_falling_clock_stands_still(rt: HostRuntime) -> Outcome {
-    let mut thread = main_thread(rt.alloc(), 100)?;
-    let mut recorder = Recorder::new(rt.alloc(), 0);
-    let offset = thread.begin_scope(id(1)?, "")?;
-    thread.clock().set(50);
-    assert_eq!(rt; thread.end_scope(offset, &mut recorder)?, Closed::Reported);
-    let (_info, times) = recorder.at(0)?;
-    let scopes = Reader::from_start(&times.stream).read_top_scopes(rt.alloc())?;
-    assert_eq!(rt; scopes.len(), 1);
-    assert_eq!(rt; scopes[0].rec.duration_ns, 0);
-    assert_eq!(rt; scopes[0].rec.stop_ns(), 100);
-    assert_eq!(rt; times.range_ns, (100, 100));
-    is_honest(&rt, rt.alloc(), times)
+    let mut rig = Rig::new(rt.alloc(), 100, 0)?;
+    assert_eq!(rt; rig.begin(1, ""), Ok(14));
+    rig.set(50);
+    assert_eq!(rt; rig.end(14), Ok(Closed::Reported));
+    assert_eq!(rt;
+        top_scopes(&rig.recorder, 0)?.as_slice(),
+        [(1, 0, 100)].as_slice()
+    );
+    is_report(&rt, &rig.recorder, 0, 100, (1, 1, (100, 100)))
 }
 
 #[test]
 fn an_outer_scope_is_not_ended_first(rt: HostRuntime) -> Outcome {
-    let mut thread = main_thread(rt.alloc(), 100)?;
-    let mut recorder = Recorder::new(rt.alloc(), 0);
-    let outer = thread.begin_scope(id(1)?, "")?;
-    let inner = thread.begin_scope(id(2)?, "")?;
-    assert_eq!(rt; (outer, inner), (14, 36));
-    assert_eq!(rt;
-        thread.end_scope(outer, &mut recorder).err(),
-        Some(Error::MismatchedEnd)
-    );
-    assert_eq!(rt;
-        thread.end_scope(15, &mut recorder).err(),
-        Some(Error::MismatchedEnd)
-    );
-    assert_eq!(rt; thread.depth(), 2);
-    assert_eq!(rt; thread.end_scope(inner, &mut recorder)?, Closed::Inner);
-    assert_eq!(rt; thread.depth(), 1);
-    assert!(rt; recorder.reports.is_empty());
-    assert_eq!(rt; thread.end_scope(outer, &mut recorder)?, Closed::Reported);
-    assert_eq!(rt;
-        thread.end_scope(outer, &mut recorder).err(),
-        Some(Error::MismatchedEnd)
-    );
-    let (_info, times) = recorder.at(0)?;
-    assert_eq!(rt; times.stream.len(), 62);
-    assert_eq!(rt;
-        (times.num_scopes, times.depth, times.range_ns),
-        (2, 2, (100, 100))
-    );
-    is_honest(&rt, rt.alloc(), times)
+    let mut rig = Rig::new(rt.alloc(), 100, 0)?;
+    assert_eq!(rt; rig.begin(1, ""), Ok(14));
+    assert_eq!(rt; rig.begin(2, ""), Ok(36));
+    for wrong in [14, 15] {
+        assert_eq!(rt; rig.end(wrong), Err(Error::MismatchedEnd));
+    }
+    assert_eq!(rt; rig.counts(), (2, 0, 0));
+    assert_eq!(rt; rig.end(36), Ok(Closed::Inner));
+    assert_eq!(rt; rig.counts(), (1, 0, 0));
+    assert_eq!(rt; rig.end(14), Ok(Closed::Reported));
+    assert_eq!(rt; rig.end(14), Err(Error::MismatchedEnd));
+    assert_eq!(rt; rig.bytes(0)?.len(), 62);
+    is_report(&rt, &rig.recorder, 0, 100, (2, 2, (100, 100)))
 }
 
 /// A scope with id 1 from 100 to 200, whose report is refused, and one with id 2 from 300 to 400.
-fn kept_and_reported(
-    rt: &impl Abort,
-    alloc: Global,
-    recorder: &mut Recorder,
-) -> std::result::Result<ThreadProfiler<ScriptClock>, Fail> {
-    let mut thread = main_thread(alloc, 100)?;
-    let first = thread.begin_scope(id(1)?, "")?;
-    thread.clock().set(200);
-    assert_eq!(rt;
-        thread.end_scope(first, recorder)?,
-        Closed::Kept(Error::TooLarge)
-    );
-    assert_eq!(rt; thread.depth(), 0);
-    assert!(rt; recorder.reports.is_empty());
-    thread.clock().set(300);
-    let second = thread.begin_scope(id(2)?, "")?;
-    assert_eq!(rt; second, 45);
-    thread.clock().set(400);
-    assert_eq!(rt; thread.end_scope(second, recorder)?, Closed::Reported);
-    Ok(thread)
+fn kept_and_reported(rt: &impl Abort, alloc: Global) -> std::result::Result<Rig, Fail> {
+    let mut rig = Rig::new(alloc, 100, 1)?;
+    assert_eq!(rt; rig.begin(1, ""), Ok(14));
+    rig.set(200);
+    assert_eq!(rt; rig.end(14), Ok(Closed::Kept(Error::TooLarge)));
+    assert_eq!(rt; rig.counts(), (0, 0, 0));
+    rig.set(300);
+    assert_eq!(rt; rig.begin(2, ""), Ok(45));
+    rig.set(400);
+    assert_eq!(rt; rig.end(45), Ok(Closed::Reported));
+    Ok(rig)
 }
 
 #[test]
 fn a_refused_report_waits_for_the_next(rt: HostRuntime) -> Outcome {
-    let mut recorder = Recorder::new(rt.alloc(), 1);
-    let mut thread = kept_and_reported(&rt, rt.alloc(), &mut recorder)?;
-    assert_eq!(rt; recorder.reports.len(), 1);
-    let (info, times) = recorder.at(0)?;
-    assert_eq!(rt; info.start_time_ns, Some(100));
-    assert_eq!(rt; times.stream.len(), 62);
+    let rig = kept_and_reported(&rt, rt.alloc())?;
+    assert_eq!(rt; rig.counts(), (0, 1, 0));
+    assert_eq!(rt; rig.bytes(0)?.len(), 62);
     assert_eq!(rt;
-        (times.num_scopes, times.depth, times.range_ns),
-        (2, 1, (100, 400))
+        top_scopes(&rig.recorder, 0)?.as_slice(),
+        [(1, 100, 200), (2, 100, 400)].as_slice()
     );
-    let scopes = Reader::from_start(&times.stream).read_top_scopes(rt.alloc())?;
-    assert_eq!(rt; scopes.len(), 2);
-    assert_eq!(rt; (scopes[0].id.get(), scopes[1].id.get()), (1, 2));
-    drop(scopes);
-    is_honest(&rt, rt.alloc(), times)?;
-    // The stream is empty again, and the start stays that of the first scope ever.
-    thread.clock().set(500);
-    let third = thread.begin_scope(id(3)?, "")?;
-    assert_eq!(rt; third, 14);
-    assert_eq!(rt; thread.end_scope(third, &mut recorder)?, Closed::Reported);
-    let (info, times) = recorder.at(1)?;
-    assert_eq!(rt; info.start_time_ns, Some(100));
-    assert_eq!(rt; times.range_ns, (500, 500));
-    is_honest(&rt, rt.alloc(), times)
+    is_report(&rt, &rig.recorder, 0, 100, (2, 1, (100, 400)))
+}
+
+/// After a report the stream is empty again, and the start stays that of the first scope ever.
+#[test]
+fn a_thread_s_start_stays_after_a_report(rt: HostRuntime) -> Outcome {
+    let mut rig = kept_and_reported(&rt, rt.alloc())?;
+    rig.set(500);
+    assert_eq!(rt; rig.begin(3, ""), Ok(14));
+    assert_eq!(rt; rig.end(14), Ok(Closed::Reported));
+    is_report(&rt, &rig.recorder, 1, 100, (1, 1, (500, 500)))
 }
 
 #[test]
 fn closed_scopes_are_reported_on_demand(rt: HostRuntime) -> Outcome {
-    let mut thread = main_thread(rt.alloc(), 100)?;
-    let mut recorder = Recorder::new(rt.alloc(), 2);
-    assert!(rt; !thread.report_closed(&mut recorder)?);
-    let offset = thread.begin_scope(id(1)?, "")?;
-    assert_eq!(rt;
-        thread.report_closed(&mut recorder).err(),
-        Some(Error::ScopesOpen)
-    );
-    assert_eq!(rt;
-        thread.end_scope(offset, &mut recorder)?,
-        Closed::Kept(Error::TooLarge)
-    );
-    assert_eq!(rt;
-        thread.report_closed(&mut recorder).err(),
-        Some(Error::TooLarge)
-    );
-    assert!(rt; recorder.reports.is_empty());
-    assert!(rt; thread.report_closed(&mut recorder)?);
-    let (info, times) = recorder.at(0)?;
-    assert_eq!(rt; info.start_time_ns, Some(100));
-    assert_eq!(rt; info.name.as_str(), "main");
-    assert_eq!(rt; times.stream.len(), 31);
-    is_honest(&rt, rt.alloc(), times)?;
-    assert!(rt; !thread.report_closed(&mut recorder)?);
-    assert_eq!(rt; recorder.reports.len(), 1);
-    Ok(())
+    let mut rig = Rig::new(rt.alloc(), 100, 2)?;
+    assert_eq!(rt; rig.report_closed(), Ok(false));
+    assert_eq!(rt; rig.begin(1, ""), Ok(14));
+    assert_eq!(rt; rig.report_closed(), Err(Error::ScopesOpen));
+    assert_eq!(rt; rig.end(14), Ok(Closed::Kept(Error::TooLarge)));
+    assert_eq!(rt; rig.report_closed(), Err(Error::TooLarge));
+    assert_eq!(rt; rig.counts(), (0, 0, 0));
+    assert_eq!(rt; rig.report_closed(), Ok(true));
+    assert_eq!(rt; rig.report_closed(), Ok(false));
+    assert_eq!(rt; rig.counts(), (0, 1, 0));
+    assert_eq!(rt; rig.bytes(0)?.len(), 31);
+    is_report(&rt, &rig.recorder, 0, 100, (1, 1, (100, 100)))
 }
 
-#[test]
-fn a_long_text_is_cut(rt: HostRuntime) -> Outcome {
-    let mut thread = main_thread(rt.alloc(), 0)?;
-    let mut recorder = Recorder::new(rt.alloc(), 0);
-    let mut text = String::new(rt.alloc());
+/// A text of 126 letters and one of two bytes.
+fn long_text(alloc: Global) -> std::result::Result<String, Fail> {
+    let mut text = String::new(alloc);
     for _ in 0..126 {
         text.push('a')?;
     }
     text.push('é')?;
-    let offset = thread.begin_scope(id(1)?, &text)?;
-    assert_eq!(rt; offset, 140);
-    assert_eq!(rt; thread.end_scope(offset, &mut recorder)?, Closed::Reported);
-    assert_eq!(rt; recorder.at(0)?.1.stream.len(), 157);
+    Ok(text)
+}
+
+#[test]
+fn a_long_text_is_cut(rt: HostRuntime) -> Outcome {
+    let mut rig = Rig::new(rt.alloc(), 0, 0)?;
+    assert_eq!(rt; rig.begin(1, &long_text(rt.alloc())?), Ok(140));
+    assert_eq!(rt; rig.end(140), Ok(Closed::Reported));
+    assert_eq!(rt; rig.bytes(0)?.len(), 157);
     Ok(())
+}
+
+/// Begins a scope, whose offset is expected. A refusal says `Memory`, changes nothing, and doesn't come again.
+fn begins_again(rt: &impl Abort, rig: &mut Rig, depth: usize, expected: usize) {
+    assert_eq!(rt; rig.counts(), (depth, 0, 0));
+    let mut offset = rig.begin(1, "");
+    if offset.is_err() {
+        assert_eq!(rt; offset, Err(Error::Memory));
+        assert_eq!(rt; rig.counts(), (depth, 0, 0));
+        offset = rig.begin(1, "");
+    }
+    assert_eq!(rt; offset, Ok(expected));
+}
+
+/// Reports what is closed. A refusal says `Memory`, changes nothing, and doesn't come again.
+fn reports_again(rt: &impl Abort, rig: &mut Rig) {
+    let mut reported = rig.report_closed();
+    if reported.is_err() {
+        assert_eq!(rt; reported, Err(Error::Memory));
+        assert_eq!(rt; rig.counts(), (0, 0, 0));
+        reported = rig.report_closed();
+    }
+    assert_eq!(rt; reported, Ok(true));
+    assert_eq!(rt; rig.counts(), (0, 1, 0));
 }
 
 /// One allocation may fail: then the call says so, nothing is changed, and the same call succeeds.
 #[test]
 fn want_of_memory_is_told(rt: HostRuntime) {
-    let Ok(mut thread) = main_thread(rt.alloc(), 100) else {
+    let Ok(mut rig) = Rig::new(rt.alloc(), 100, 1) else {
         return;
     };
-    let Ok(number) = id(1) else {
-        return;
-    };
-    let mut recorder = Recorder::new(rt.alloc(), 1);
-    for (depth, want) in [14, 36, 58].into_iter().enumerate() {
-        assert_eq!(rt; thread.depth(), depth);
-        let offset = match thread.begin_scope(number, "") {
-            Err(e) => {
-                assert_eq!(rt; e, Error::Memory);
-                assert_eq!(rt; thread.depth(), depth);
-                thread.begin_scope(number, "").ok()
-            }
-            Ok(offset) => Some(offset),
-        };
-        assert_eq!(rt; offset, Some(want));
+    for (depth, expected) in [14, 36, 58].into_iter().enumerate() {
+        begins_again(&rt, &mut rig, depth, expected);
     }
-    assert_eq!(rt; thread.end_scope(58, &mut recorder), Ok(Closed::Inner));
-    assert_eq!(rt; thread.end_scope(36, &mut recorder), Ok(Closed::Inner));
-    assert_eq!(rt;
-        thread.end_scope(14, &mut recorder),
-        Ok(Closed::Kept(Error::TooLarge))
-    );
+    for inner in [58, 36] {
+        assert_eq!(rt; rig.end(inner), Ok(Closed::Inner));
+    }
+    assert_eq!(rt; rig.end(14), Ok(Closed::Kept(Error::TooLarge)));
     // The name is copied here, and the recorder copies the bytes.
-    let reported = match thread.report_closed(&mut recorder) {
-        Err(e) => {
-            assert_eq!(rt; e, Error::Memory);
-            assert!(rt; recorder.reports.is_empty());
-            thread.report_closed(&mut recorder)
-        }
-        reported => reported,
-    };
-    assert_eq!(rt; reported, Ok(true));
-    assert_eq!(rt; recorder.reports.len(), 1);
-    assert_eq!(rt; recorder.reports[0].1.stream.len(), 93);
+    reports_again(&rt, &mut rig);
+    assert_eq!(rt; rig.bytes(0).map(|bytes| bytes.len()), Ok(93));
 }
 
-#[test]
-fn details_come_with_the_next_accepted_report(rt: HostRuntime) -> Outcome {
-    let mut thread = main_thread(rt.alloc(), 100)?;
-    let mut recorder = Recorder::new(rt.alloc(), 1);
-    let ids = ScopeIds::starting_at(5);
+/// Registers the function `f` at line 7 of `b.rs`, and its part `part` at line 9.
+fn register_two(
+    thread: &mut ThreadProfiler<ScriptClock>,
+    ids: &ScopeIds,
+) -> Result<(ScopeId, ScopeId)> {
+    let text = CowStr::Borrowed("f");
     let file = CowStr::Borrowed("b.rs");
-    let function = thread.register_function_scope(&ids, CowStr::Borrowed("f"), file.clone()?, 7)?;
-    let offset = thread.begin_scope(function, "")?;
-    let part = thread.register_named_scope(
-        &ids,
-        CowStr::Borrowed("part"),
-        CowStr::Borrowed("f"),
-        file,
-        9,
-    )?;
-    assert_eq!(rt; (function.get(), part.get()), (5, 6));
-    assert_eq!(rt;
-        thread.end_scope(offset, &mut recorder)?,
-        Closed::Kept(Error::TooLarge)
-    );
-    assert!(rt; recorder.details.is_empty());
-    assert!(rt; thread.report_closed(&mut recorder)?);
-    assert_eq!(rt; recorder.details.len(), 2);
-    let first = &recorder.details[0];
-    assert_eq!(rt; first.scope_id(), Some(function));
-    assert_eq!(rt; first.name().as_str(), "f");
-    assert_eq!(rt; first.location(rt.alloc())?.as_str(), "b.rs:7");
-    let second = &recorder.details[1];
-    assert_eq!(rt; second.scope_id(), Some(part));
-    assert_eq!(rt; second.name().as_str(), "part");
-    assert_eq!(rt; second.function_name.as_str(), "f");
-    assert_eq!(rt; second.location(rt.alloc())?.as_str(), "b.rs:9");
-    // They were handed over, and don't come again.
-    let offset = thread.begin_scope(function, "")?;
-    assert_eq!(rt; thread.end_scope(offset, &mut recorder)?, Closed::Reported);
-    assert_eq!(rt; recorder.details.len(), 2);
+    let function = thread.register_function_scope(ids, text.clone()?, file.clone()?, 7)?;
+    let part = thread.register_named_scope(ids, CowStr::Borrowed("part"), text, file, 9)?;
+    Ok((function, part))
+}
+
+/// Registered details have this id, and this name, function and place.
+fn is_registered(
+    rt: &impl Abort,
+    recorder: &Recorder,
+    place: usize,
+    number: u32,
+    texts: (&str, &str, &str),
+) -> Outcome {
+    let details = recorder.details.get(place).ok_or("details")?;
+    assert_eq!(rt; details.scope_id(), ScopeId::new(number));
+    let location = details.location(recorder.alloc)?;
+    let names = (details.name().as_str(), details.function_name.as_str());
+    assert_eq!(rt; (names.0, names.1, location.as_str()), texts);
     Ok(())
 }
 
 #[test]
-fn nothing_is_registered_without_an_id(rt: HostRuntime) -> Outcome {
-    let mut thread = main_thread(rt.alloc(), 100)?;
-    let mut recorder = Recorder::new(rt.alloc(), 0);
+fn details_come_with_the_next_accepted_report(rt: HostRuntime) -> Outcome {
+    let mut rig = Rig::new(rt.alloc(), 100, 1)?;
+    let (function, part) = register_two(&mut rig.thread, &ScopeIds::starting_at(5))?;
+    assert_eq!(rt; (function.get(), part.get()), (5, 6));
+    assert_eq!(rt; rig.begin(5, ""), Ok(14));
+    assert_eq!(rt; rig.end(14), Ok(Closed::Kept(Error::TooLarge)));
+    assert_eq!(rt; rig.counts(), (0, 0, 0));
+    assert_eq!(rt; rig.report_closed(), Ok(true));
+    assert_eq!(rt; rig.counts(), (0, 1, 2));
+    is_registered(&rt, &rig.recorder, 0, 5, ("f", "f", "b.rs:7"))?;
+    is_registered(&rt, &rig.recorder, 1, 6, ("part", "f", "b.rs:9"))?;
+    // They were handed over, and don't come again.
+    assert_eq!(rt; rig.begin(5, ""), Ok(14));
+    assert_eq!(rt; rig.end(14), Ok(Closed::Reported));
+    assert_eq!(rt; rig.counts(), (0, 2, 2));
+    Ok(())
+}
+
+/// Why two registrations with an exhausted counter are refused.
+fn refused_registrations(
+    thread: &mut ThreadProfiler<ScriptClock>,
+) -> std::result::Result<(Option<Error>, Option<Error>), Fail> {
     let ids = ScopeIds::starting_at(4294967296);
     let text = CowStr::Borrowed("f");
+    let function = thread.register_function_scope(&ids, text.clone()?, text.clone()?, 0);
+    let part = thread.register_named_scope(&ids, text.clone()?, text.clone()?, text, 0);
+    Ok((function.err(), part.err()))
+}
+
+#[test]
+fn nothing_is_registered_without_an_id(rt: HostRuntime) -> Outcome {
+    let mut rig = Rig::new(rt.alloc(), 100, 0)?;
     assert_eq!(rt;
-        thread
-            .register_function_scope(&ids, text.clone()?, text.clone()?, 0)
-            .err(),
-        Some(Error::IdsExhausted)
+        refused_registrations(&mut rig.thread)?,
+        (Some(Error::IdsExhausted), Some(Error::IdsExhausted))
     );
-    assert_eq!(rt;
-        thread
-            .register_named_scope(&ids, text.clone()?, text.clone()?, text, 0)
-            .err(),
-        Some(Error::IdsExhausted)
-    );
-    let offset = thread.begin_scope(id(1)?, "")?;
-    assert_eq!(rt; thread.end_scope(offset, &mut recorder)?, Closed::Reported);
-    assert!(rt; recorder.details.is_empty());
+    assert_eq!(rt; rig.begin(1, ""), Ok(14));
+    assert_eq!(rt; rig.end(14), Ok(Closed::Reported));
+    assert_eq!(rt; rig.counts(), (0, 1, 0));
     Ok(())
 }
 
@@ -399,26 +434,41 @@ fn clock_reading(
     }
 }
 
+/// The first time that a system's clock tells. `None` where there is no clock.
+fn first_time(
+    since_1970: std::result::Result<Duration, io::ErrorKind>,
+    monotonic: Option<u64>,
+) -> Option<NanoSecond> {
+    let runtime = clock_reading(since_1970, monotonic);
+    Some(SystemClock::new(&runtime).ok()?.now_ns())
+}
+
 #[test]
 fn the_system_clock_counts_from_its_start(rt: HostRuntime) -> Outcome {
     let runtime = clock_reading(Ok(Duration::from_nanos(1000)), Some(7));
     let mut clock = SystemClock::new(&runtime)?;
     assert_eq!(rt; clock.now_ns(), 1000);
-    runtime.monotonic.set(Some(27));
-    assert_eq!(rt; clock.now_ns(), 1020);
-    runtime.monotonic.set(None);
-    assert_eq!(rt; clock.now_ns(), 1020);
-    runtime.monotonic.set(Some(u64::MAX));
-    assert_eq!(rt; clock.now_ns(), NanoSecond::MAX);
-    let before = clock_reading(Err(io::ErrorKind::InvalidData), Some(7));
-    assert_eq!(rt; SystemClock::new(&before)?.now_ns(), 0);
-    let far = clock_reading(Ok(Duration::from_secs(u64::MAX)), Some(7));
-    assert_eq!(rt; SystemClock::new(&far)?.now_ns(), NanoSecond::MAX);
-    let unreadable = clock_reading(Err(io::ErrorKind::Unsupported), Some(7));
-    assert!(rt; SystemClock::new(&unreadable).is_err());
-    let stopped = clock_reading(Ok(Duration::from_nanos(1000)), None);
-    assert!(rt; SystemClock::new(&stopped).is_err());
+    for (monotonic, expected) in [
+        (Some(27), 1020),
+        (None, 1020),
+        (Some(u64::MAX), NanoSecond::MAX),
+    ] {
+        runtime.monotonic.set(monotonic);
+        assert_eq!(rt; clock.now_ns(), expected);
+    }
     Ok(())
+}
+
+#[test]
+fn a_clock_before_1970_and_one_that_is_not_read(rt: HostRuntime) {
+    assert_eq!(rt;
+        first_time(Err(io::ErrorKind::InvalidData), Some(7)),
+        Some(0)
+    );
+    let far = Duration::from_secs(u64::MAX);
+    assert_eq!(rt; first_time(Ok(far), Some(7)), Some(NanoSecond::MAX));
+    assert_eq!(rt; first_time(Err(io::ErrorKind::Unsupported), Some(7)), None);
+    assert_eq!(rt; first_time(Ok(Duration::from_nanos(1000)), None), None);
 }
 
 #[test]
@@ -428,11 +478,13 @@ fn scopes_are_timed_by_the_system(rt: HostRuntime) -> Outcome {
     let mut thread = ThreadProfiler::new(rt.alloc(), name, clock);
     let mut recorder = Recorder::new(rt.alloc(), 0);
     let offset = thread.begin_scope(id(1)?, "timed")?;
-    assert_eq!(rt; thread.end_scope(offset, &mut recorder)?, Closed::Reported);
-    let (info, times) = recorder.at(0)?;
-    assert_eq!(rt; info.start_time_ns, Some(times.range_ns.0));
-    assert!(rt; times.range_ns.0 > 0);
-    is_honest(&rt, rt.alloc(), times)
+    assert_eq!(rt;
+        thread.end_scope(offset, &mut recorder),
+        Ok(Closed::Reported)
+    );
+    let (start, stop) = recorder.at(0)?.1.range_ns;
+    assert!(rt; start > 0);
+    is_report(&rt, &recorder, 0, start, (1, 1, (start, stop)))
 }
 
 #[test]
