@@ -120,6 +120,30 @@ impl Rig {
         )
     }
 
+    /// A scope begins, and its offset is as expected.
+    fn begins(&mut self, rt: &impl Abort, scope: (u32, &str), expected: usize) {
+        assert_eq!(rt;
+            self.begin(scope.0, scope.1),
+            Ok(expected),
+            "offset {expected}"
+        );
+    }
+
+    /// What ending a scope answers is as expected.
+    fn ends(&mut self, rt: &impl Abort, offset: usize, expected: Result<Closed>) {
+        assert_eq!(rt; self.end(offset), expected, "offset {offset}");
+    }
+
+    /// What reporting closed scopes answers is as expected.
+    fn reports(&mut self, rt: &impl Abort, expected: Result<bool>) {
+        assert_eq!(rt; self.report_closed(), expected);
+    }
+
+    /// So many scopes are open, and the recorder has so many reports and details.
+    fn has(&self, rt: &impl Abort, expected: (usize, usize, usize)) {
+        assert_eq!(rt; self.counts(), expected);
+    }
+
     /// The bytes of a report.
     fn bytes(&self, place: usize) -> Result<&[u8]> {
         Ok(self.recorder.at(place)?.1.stream.bytes())
@@ -174,12 +198,12 @@ fn top_scopes(
 #[test]
 fn one_scope_is_reported(rt: HostRuntime) -> Outcome {
     let mut rig = Rig::new(rt.alloc(), 100, 0)?;
-    assert_eq!(rt; rig.counts(), (0, 0, 0));
-    assert_eq!(rt; rig.begin(1, "data"), Ok(18));
-    assert_eq!(rt; rig.counts(), (1, 0, 0));
+    rig.has(&rt, (0, 0, 0));
+    rig.begins(&rt, (1, "data"), 18);
+    rig.has(&rt, (1, 0, 0));
     rig.set(300);
-    assert_eq!(rt; rig.end(18), Ok(Closed::Reported));
-    assert_eq!(rt; rig.counts(), (0, 1, 0));
+    rig.ends(&rt, 18, Ok(Closed::Reported));
+    rig.has(&rt, (0, 1, 0));
     assert_eq!(rt;
         rig.bytes(0)?,
         b"(\x01\0\0\0\x64\0\0\0\0\0\0\0\x04data\0\0\0\0\0\0\0\0)\x2c\x01\0\0\0\0\0\0".as_slice()
@@ -190,9 +214,9 @@ fn one_scope_is_reported(rt: HostRuntime) -> Outcome {
 #[test]
 fn a_falling_clock_stands_still(rt: HostRuntime) -> Outcome {
     let mut rig = Rig::new(rt.alloc(), 100, 0)?;
-    assert_eq!(rt; rig.begin(1, ""), Ok(14));
+    rig.begins(&rt, (1, ""), 14);
     rig.set(50);
-    assert_eq!(rt; rig.end(14), Ok(Closed::Reported));
+    rig.ends(&rt, 14, Ok(Closed::Reported));
     assert_eq!(rt;
         top_scopes(&rig.recorder, 0)?.as_slice(),
         [(1, 0, 100)].as_slice()
@@ -203,16 +227,16 @@ fn a_falling_clock_stands_still(rt: HostRuntime) -> Outcome {
 #[test]
 fn an_outer_scope_is_not_ended_first(rt: HostRuntime) -> Outcome {
     let mut rig = Rig::new(rt.alloc(), 100, 0)?;
-    assert_eq!(rt; rig.begin(1, ""), Ok(14));
-    assert_eq!(rt; rig.begin(2, ""), Ok(36));
+    rig.begins(&rt, (1, ""), 14);
+    rig.begins(&rt, (2, ""), 36);
     for wrong in [14, 15] {
-        assert_eq!(rt; rig.end(wrong), Err(Error::MismatchedEnd));
+        rig.ends(&rt, wrong, Err(Error::MismatchedEnd));
     }
-    assert_eq!(rt; rig.counts(), (2, 0, 0));
-    assert_eq!(rt; rig.end(36), Ok(Closed::Inner));
-    assert_eq!(rt; rig.counts(), (1, 0, 0));
-    assert_eq!(rt; rig.end(14), Ok(Closed::Reported));
-    assert_eq!(rt; rig.end(14), Err(Error::MismatchedEnd));
+    rig.has(&rt, (2, 0, 0));
+    rig.ends(&rt, 36, Ok(Closed::Inner));
+    rig.has(&rt, (1, 0, 0));
+    rig.ends(&rt, 14, Ok(Closed::Reported));
+    rig.ends(&rt, 14, Err(Error::MismatchedEnd));
     assert_eq!(rt; rig.bytes(0)?.len(), 62);
     is_report(&rt, &rig.recorder, 0, 100, (2, 2, (100, 100)))
 }
@@ -220,21 +244,21 @@ fn an_outer_scope_is_not_ended_first(rt: HostRuntime) -> Outcome {
 /// A scope with id 1 from 100 to 200, whose report is refused, and one with id 2 from 300 to 400.
 fn kept_and_reported(rt: &impl Abort, alloc: Global) -> std::result::Result<Rig, Fail> {
     let mut rig = Rig::new(alloc, 100, 1)?;
-    assert_eq!(rt; rig.begin(1, ""), Ok(14));
+    rig.begins(rt, (1, ""), 14);
     rig.set(200);
-    assert_eq!(rt; rig.end(14), Ok(Closed::Kept(Error::TooLarge)));
-    assert_eq!(rt; rig.counts(), (0, 0, 0));
+    rig.ends(rt, 14, Ok(Closed::Kept(Error::TooLarge)));
+    rig.has(rt, (0, 0, 0));
     rig.set(300);
-    assert_eq!(rt; rig.begin(2, ""), Ok(45));
+    rig.begins(rt, (2, ""), 45);
     rig.set(400);
-    assert_eq!(rt; rig.end(45), Ok(Closed::Reported));
+    rig.ends(rt, 45, Ok(Closed::Reported));
     Ok(rig)
 }
 
 #[test]
 fn a_refused_report_waits_for_the_next(rt: HostRuntime) -> Outcome {
     let rig = kept_and_reported(&rt, rt.alloc())?;
-    assert_eq!(rt; rig.counts(), (0, 1, 0));
+    rig.has(&rt, (0, 1, 0));
     assert_eq!(rt; rig.bytes(0)?.len(), 62);
     assert_eq!(rt;
         top_scopes(&rig.recorder, 0)?.as_slice(),
@@ -248,23 +272,23 @@ fn a_refused_report_waits_for_the_next(rt: HostRuntime) -> Outcome {
 fn a_thread_s_start_stays_after_a_report(rt: HostRuntime) -> Outcome {
     let mut rig = kept_and_reported(&rt, rt.alloc())?;
     rig.set(500);
-    assert_eq!(rt; rig.begin(3, ""), Ok(14));
-    assert_eq!(rt; rig.end(14), Ok(Closed::Reported));
+    rig.begins(&rt, (3, ""), 14);
+    rig.ends(&rt, 14, Ok(Closed::Reported));
     is_report(&rt, &rig.recorder, 1, 100, (1, 1, (500, 500)))
 }
 
 #[test]
 fn closed_scopes_are_reported_on_demand(rt: HostRuntime) -> Outcome {
     let mut rig = Rig::new(rt.alloc(), 100, 2)?;
-    assert_eq!(rt; rig.report_closed(), Ok(false));
-    assert_eq!(rt; rig.begin(1, ""), Ok(14));
-    assert_eq!(rt; rig.report_closed(), Err(Error::ScopesOpen));
-    assert_eq!(rt; rig.end(14), Ok(Closed::Kept(Error::TooLarge)));
-    assert_eq!(rt; rig.report_closed(), Err(Error::TooLarge));
-    assert_eq!(rt; rig.counts(), (0, 0, 0));
-    assert_eq!(rt; rig.report_closed(), Ok(true));
-    assert_eq!(rt; rig.report_closed(), Ok(false));
-    assert_eq!(rt; rig.counts(), (0, 1, 0));
+    rig.reports(&rt, Ok(false));
+    rig.begins(&rt, (1, ""), 14);
+    rig.reports(&rt, Err(Error::ScopesOpen));
+    rig.ends(&rt, 14, Ok(Closed::Kept(Error::TooLarge)));
+    rig.reports(&rt, Err(Error::TooLarge));
+    rig.has(&rt, (0, 0, 0));
+    rig.reports(&rt, Ok(true));
+    rig.reports(&rt, Ok(false));
+    rig.has(&rt, (0, 1, 0));
     assert_eq!(rt; rig.bytes(0)?.len(), 31);
     is_report(&rt, &rig.recorder, 0, 100, (1, 1, (100, 100)))
 }
@@ -282,8 +306,8 @@ fn long_text(alloc: Global) -> std::result::Result<String, Fail> {
 #[test]
 fn a_long_text_is_cut(rt: HostRuntime) -> Outcome {
     let mut rig = Rig::new(rt.alloc(), 0, 0)?;
-    assert_eq!(rt; rig.begin(1, &long_text(rt.alloc())?), Ok(140));
-    assert_eq!(rt; rig.end(140), Ok(Closed::Reported));
+    rig.begins(&rt, (1, &long_text(rt.alloc())?), 140);
+    rig.ends(&rt, 140, Ok(Closed::Reported));
     assert_eq!(rt; rig.bytes(0)?.len(), 157);
     Ok(())
 }
@@ -322,9 +346,9 @@ fn want_of_memory_is_told(rt: HostRuntime) {
         begins_again(&rt, &mut rig, depth, expected);
     }
     for inner in [58, 36] {
-        assert_eq!(rt; rig.end(inner), Ok(Closed::Inner));
+        rig.ends(&rt, inner, Ok(Closed::Inner));
     }
-    assert_eq!(rt; rig.end(14), Ok(Closed::Kept(Error::TooLarge)));
+    rig.ends(&rt, 14, Ok(Closed::Kept(Error::TooLarge)));
     // The name is copied here, and the recorder copies the bytes.
     reports_again(&rt, &mut rig);
     assert_eq!(rt; rig.bytes(0).map(|bytes| bytes.len()), Ok(93));
@@ -352,9 +376,9 @@ fn is_registered(
 ) -> Outcome {
     let details = recorder.details.get(place).ok_or("details")?;
     assert_eq!(rt; details.scope_id(), ScopeId::new(number));
-    let location = details.location(recorder.alloc)?;
-    let names = (details.name().as_str(), details.function_name.as_str());
-    assert_eq!(rt; (names.0, names.1, location.as_str()), texts);
+    assert_eq!(rt; details.name().as_str(), texts.0);
+    assert_eq!(rt; details.function_name.as_str(), texts.1);
+    assert_eq!(rt; details.location(recorder.alloc)?.as_str(), texts.2);
     Ok(())
 }
 
@@ -363,17 +387,17 @@ fn details_come_with_the_next_accepted_report(rt: HostRuntime) -> Outcome {
     let mut rig = Rig::new(rt.alloc(), 100, 1)?;
     let (function, part) = register_two(&mut rig.thread, &ScopeIds::starting_at(5))?;
     assert_eq!(rt; (function.get(), part.get()), (5, 6));
-    assert_eq!(rt; rig.begin(5, ""), Ok(14));
-    assert_eq!(rt; rig.end(14), Ok(Closed::Kept(Error::TooLarge)));
-    assert_eq!(rt; rig.counts(), (0, 0, 0));
-    assert_eq!(rt; rig.report_closed(), Ok(true));
-    assert_eq!(rt; rig.counts(), (0, 1, 2));
+    rig.begins(&rt, (5, ""), 14);
+    rig.ends(&rt, 14, Ok(Closed::Kept(Error::TooLarge)));
+    rig.has(&rt, (0, 0, 0));
+    rig.reports(&rt, Ok(true));
+    rig.has(&rt, (0, 1, 2));
     is_registered(&rt, &rig.recorder, 0, 5, ("f", "f", "b.rs:7"))?;
     is_registered(&rt, &rig.recorder, 1, 6, ("part", "f", "b.rs:9"))?;
     // They were handed over, and don't come again.
-    assert_eq!(rt; rig.begin(5, ""), Ok(14));
-    assert_eq!(rt; rig.end(14), Ok(Closed::Reported));
-    assert_eq!(rt; rig.counts(), (0, 2, 2));
+    rig.begins(&rt, (5, ""), 14);
+    rig.ends(&rt, 14, Ok(Closed::Reported));
+    rig.has(&rt, (0, 2, 2));
     Ok(())
 }
 
@@ -395,9 +419,9 @@ fn nothing_is_registered_without_an_id(rt: HostRuntime) -> Outcome {
         refused_registrations(&mut rig.thread)?,
         (Some(Error::IdsExhausted), Some(Error::IdsExhausted))
     );
-    assert_eq!(rt; rig.begin(1, ""), Ok(14));
-    assert_eq!(rt; rig.end(14), Ok(Closed::Reported));
-    assert_eq!(rt; rig.counts(), (0, 1, 0));
+    rig.begins(&rt, (1, ""), 14);
+    rig.ends(&rt, 14, Ok(Closed::Reported));
+    rig.has(&rt, (0, 1, 0));
     Ok(())
 }
 
