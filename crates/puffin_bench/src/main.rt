@@ -102,6 +102,15 @@ fn count_packets(rt: &HostRuntime) -> Result<()> {
         .context("a file")?;
     let bytes = files.file.len();
     println!(rt; "packets frames {frames} bytes {bytes}")?;
+    let _written = files
+        .work(rt.alloc(), FileWork::ViewWrite)
+        .ok()
+        .context("a view")?;
+    let frames = files
+        .work(rt.alloc(), FileWork::ViewRead)
+        .ok()
+        .context("a view")?;
+    println!(rt; "view_file frames {frames}")?;
     Ok(())
 }
 

@@ -2,11 +2,13 @@
 
 use crate::scopes::nest;
 use puffin::frame_data::FrameData;
+use puffin::profile_view::FrameView;
 use puffin::thread_profiler::ThreadInfo;
 use puffin_data::data::{Counted, Drain, ScopeId, Source, Stream, StreamInfo};
 use puffin_data::{FileError, Result};
 use std::alloc::Global;
 use std::collections::BTreeMap;
+use std::sync::Arc;
 
 /// How many frames a file has, at most.
 pub const FRAMES: u32 = 1_000;
@@ -71,15 +73,21 @@ pub enum FileWork {
     Read,
     /// Frames are read and unpacked.
     ReadUnpacked,
+    /// A view of packed frames writes its file.
+    ViewWrite,
+    /// A view is read from its file.
+    ViewRead,
 }
 
 impl FileWork {
     /// Each kind of work.
-    pub const ALL: [FileWork; 4] = [
+    pub const ALL: [FileWork; 6] = [
         FileWork::Write,
         FileWork::WritePacked,
         FileWork::Read,
         FileWork::ReadUnpacked,
+        FileWork::ViewWrite,
+        FileWork::ViewRead,
     ];
 
     /// What it is called where its time is printed.
@@ -89,6 +97,8 @@ impl FileWork {
             FileWork::WritePacked => "write_packed",
             FileWork::Read => "read",
             FileWork::ReadUnpacked => "read_unpacked",
+            FileWork::ViewWrite => "view_write",
+            FileWork::ViewRead => "view_read",
         }
     }
 }
@@ -98,8 +108,10 @@ impl FileWork {
 pub struct Files {
     frames: Vec<FrameData>,
     packed: Vec<FrameData>,
-    /// The file that was written last.
+    /// The packets that were written last.
     pub file: Vec<u8>,
+    view: FrameView,
+    view_file: Vec<u8>,
 }
 
 impl Files {
@@ -112,10 +124,15 @@ impl Files {
         let packed = packed(alloc, &frames)?;
         let mut file = Vec::new(alloc);
         let _count = written(&frames, &mut file)?;
+        let view = view(alloc, &packed)?;
+        let mut view_file = Vec::new(alloc);
+        let _count = view_written(&view, &mut view_file)?;
         Ok(Files {
             frames,
             packed,
             file,
+            view,
+            view_file,
         })
     }
 
@@ -126,6 +143,8 @@ impl Files {
             FileWork::WritePacked => written(&self.packed, &mut self.file),
             FileWork::Read => Ok(read(alloc, &self.file)?.len()),
             FileWork::ReadUnpacked => read_unpacked(alloc, &self.file),
+            FileWork::ViewWrite => view_written(&self.view, &mut self.view_file),
+            FileWork::ViewRead => view_read(alloc, &self.view_file),
         }
     }
 }
@@ -166,4 +185,34 @@ fn read_unpacked(alloc: Global, file: &[u8]) -> std::result::Result<usize, FileE
         let _unpacked = frame.unpacked()?;
     }
     Ok(frames.len())
+}
+
+/// A view of copies of these frames.
+fn view(alloc: Global, frames: &[FrameData]) -> std::result::Result<FrameView, FileError> {
+    let mut view = FrameView::new(alloc);
+    for frame in frames {
+        let copy = match frame.clone() {
+            Ok(copy) => Arc::new(alloc, copy)?,
+            Err(cause) => return Err(FileError::Refused(cause)),
+        };
+        if let Err(cause) = view.add_frame(copy) {
+            return Err(FileError::Refused(cause));
+        }
+    }
+    Ok(view)
+}
+
+/// Writes a view into memory that is used again.
+#[inline(never)]
+fn view_written(view: &FrameView, file: &mut Vec<u8>) -> std::result::Result<usize, FileError> {
+    file.clear();
+    view.write(&mut Counted::new(file))?;
+    Ok(view.stats().frames())
+}
+
+/// Reads a view.
+#[inline(never)]
+fn view_read(alloc: Global, file: &[u8]) -> std::result::Result<usize, FileError> {
+    let view = FrameView::read(alloc, &mut Counted::new(file))?;
+    Ok(view.stats().frames())
 }
