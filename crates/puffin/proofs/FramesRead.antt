@@ -1,6 +1,6 @@
 -- What is read of the frames so far, and of one more.
 use Rattle.std.proofs.Common.{◌≡◌, ℕ, zero, suc, ◌+◌, ◌<◌, ◌≤◌, ◌^◌, ℤ, ◌-ℤ◌, List, [], ◌∷◌, ◌++◌, length, take, drop, get_or, map, ◌⊎◌, inl, inr, refl, sym, ap, subst, ◌∙◌, arith, append_assoc}
-use Rattle.std.proofs.lemmas.List.{length-append, take-append-drop}
+use Rattle.std.proofs.lemmas.List.{length-append, take-append-drop, take-take}
 use Rattle.std.proofs.lemmas.List.Sums.{sum_by-append}
 use Rattle.puffin_data.specs.declared.error.Error.{Error}
 use Rattle.puffin_data.specs.declared.error.Error.TheVariants.{Memory, TooLarge}
@@ -14,7 +14,7 @@ use Rattle.puffin.specs.Occurrences.{Occurrence, FrameScopes, occurrence_of, occ
 use Rattle.puffin.specs.MergedForests.{MergedForest, no_node}
 use Rattle.puffin.specs.Merges.{IsMerge}
 use Rattle.puffin.specs.FrameStreams.{FrameBytes, bytes_of, start_of, HasScopes, HaveScopes, most_tries_of, most_tries}
-use Rattle.puffin.specs.Refusals.{IsRefusedFor, AreAccepted, faulty, refused, IsRefusal, in_frame, at_end, EndsFit, AreMerged}
+use Rattle.puffin.specs.Refusals.{IsRefusedFor, AreAccepted, faulty, refused, IsRefusal, in_frame, at_end, EndsFit, AreMerged, ReadsFew}
 use Rattle.puffin.specs.Tables.{IsTableOf}
 use Rattle.puffin.specs.Merging.{TakesScopes, RefusesScope, accepted-append, append-nil}
 use Rattle.puffin.proofs.Starting.{earliest-is_least}
@@ -202,3 +202,10 @@ size_mapped f xs = length_mapped f xs
 pub tries_of_all : (frames : List FrameBytes) (i : ℕ) (n : ℕ) → n ≤ most_tries (take i frames) → n ≤ most_tries frames
 tries_of_all frames i n h =
     subst (λ (xs : List FrameBytes). n ≤ most_tries xs) (take-append-drop i frames) (omega (arith, h, sum_by-append most_tries_of (take i frames) (drop i frames)))
+
+pub one_more_tries : (frames : List FrameBytes) (i n : ℕ) → n ≤ most_tries (take i frames) → n ≤ most_tries (take (i + 1) frames)
+one_more_tries frames i n h = tries_of_all (take (i + 1) frames) i n (subst (λ (xs : List FrameBytes). n ≤ most_tries xs) (sym (take-take i (i + 1) frames (omega arith))) h)
+
+-- what was read so far, and at most one frame more
+pub few_read : (frames : List FrameBytes) (i : ℕ) (t : Table) (tried n : ℕ) → HasRead frames i t tried → n ≤ most_tries (take (i + 1) frames) → ReadsFew frames n
+few_read frames i t tried n r h = record { accepted = i; scopes = r.scopes; have = r.have; fine = r.accepted; few = h }

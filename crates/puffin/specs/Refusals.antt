@@ -1,5 +1,5 @@
 -- Which refusal merging answers.
-use Rattle.std.specs.Prelude.{◌≡◌, ℕ, ◌^◌, ◌<◌, ◌≤◌, ◌⊎◌, ℤ, ◌-ℤ◌, ◌+ℤ◌, FitsSigned, List, [], ◌∷◌, ◌++◌, length}
+use Rattle.std.specs.Prelude.{◌≡◌, ℕ, ◌+◌, ◌^◌, ◌<◌, ◌≤◌, ◌⊎◌, ℤ, ◌-ℤ◌, ◌+ℤ◌, FitsSigned, List, [], ◌∷◌, ◌++◌, length, take}
 use Rattle.std.specs.Int.{w64}
 use Rattle.puffin_data.specs.declared.error.Error.{Error}
 use Rattle.puffin_data.specs.declared.error.Error.TheVariants.{TooDeep, TooLarge}
@@ -9,7 +9,7 @@ use Rattle.puffin.specs.Occurrences.{Occurrence, FrameScopes, occurrence_of, occ
 use Rattle.puffin.specs.Pieces.{merged_at}
 use Rattle.puffin.specs.MergedForests.{MergedForest, no_node, merged}
 use Rattle.puffin.specs.Merges.{IsMerge}
-use Rattle.puffin.specs.FrameStreams.{FrameBytes, bytes_of, start_of, HaveScopes}
+use Rattle.puffin.specs.FrameStreams.{FrameBytes, bytes_of, start_of, HaveScopes, most_tries}
 
 -- a scope that stands within at most 1,023 others
 abbrev pub IsShallow : Occurrence → Type 0
@@ -58,3 +58,11 @@ pub record AreMerged (frames : List FrameBytes) (f : MergedForest) : Type 0 wher
   pub accepted : AreAccepted [] (occurrences scopes)
   pub merge : IsMerge (occurrences scopes) (length frames) f
   pub ends : EndsFit f
+
+-- Some frames from the first on are accepted, and of the others at most the next was read, with so many tries in all.
+pub record ReadsFew (frames : List FrameBytes) (tries : ℕ) : Type 0 where
+  pub accepted : ℕ
+  pub scopes : List FrameScopes
+  pub have : HaveScopes (take accepted frames) scopes
+  pub fine : AreAccepted [] (occurrences_from (start_of frames) scopes)
+  pub few : tries ≤ most_tries (take (accepted + 1) frames)

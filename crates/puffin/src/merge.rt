@@ -4,7 +4,7 @@ ghost use Rattle.std.specs.Prelude.{◌≡◌, ◌≤◌, ◌⊎◌, length, IfO
 ghost use Rattle.puffin_frames.specs.Info.{info_of};
 ghost use Rattle.puffin.specs.Occurrences.{occurrences};
 ghost use Rattle.puffin.specs.FrameStreams.{most_tries};
-ghost use Rattle.puffin.specs.Refusals.{IsRefusal, AreMerged};
+ghost use Rattle.puffin.specs.Refusals.{IsRefusal, AreMerged, ReadsFew};
 ghost use Rattle.puffin.specs.Seen.{frames_bytes, forest_in};
 
 pub mod laws;
@@ -64,6 +64,8 @@ pub fn merge_scopes_counted<'s>(
     ensures merged { IfOk result (λ merged. (m : AreMerged (frames_bytes (info_of info.now) frames.now) (forest_in merged.items)) × (tries.new ≡ length (occurrences m.scopes))) }
     // What it is refused with, if not for want of memory, is the frames' refusal.
     ensures refused { IfErr result (λ e. (e ≡ Error.Memory) ⊎ IsRefusal (frames_bytes (info_of info.now) frames.now) e) }
+    // No frame is read after one that isn't accepted.
+    ensures read { ReadsFew (frames_bytes (info_of info.now) frames.now) tries.new }
     ensures few { tries.new ≤ most_tries (frames_bytes (info_of info.now) frames.now) }
 {
     *tries = 0;

@@ -4,7 +4,7 @@ use Rattle.std.proofs.lemmas.Bool.Decides.{nat_tests}
 use Rattle.std.proofs.lemmas.Result.{err_from_is_err_and}
 use Rattle.puffin_frames.specs.Info.{info_of}
 use Rattle.puffin.specs.Seen.{frames_bytes}
-use Rattle.puffin.proofs.FramesRead.{tries_of_all, read_no_frames}
+use Rattle.puffin.proofs.FramesRead.{tries_of_all, read_no_frames, one_more_tries, few_read}
 use Rattle.puffin.proofs.CodeFrames.{more_read, refused_read, more_tries, made_whole, made_refused, frames_size}
 use Rattle.puffin.proofs.merge.merge_scopes_counted.Goals as goal
 
@@ -17,6 +17,11 @@ returns-in_err-read-clause-refused c =
 pub returns-in_err-read-clause-few : goal.returns-in_err-read-clause-few
 returns-in_err-read-clause-few c =
     tries_of_all (frames_bytes (info_of c.args.info.now) c.args.frames.now) (c.loop-i.i + 1) _
+    (more_tries (info_of c.args.info.now) c.args.frames.now c.loop-i.i c.index-frames-i.result c.deref.result.now c.loop-i.tries c.read_frame-read.new.tries (omega arith) c.index-frames-i.is c.deref.ensures c.loop-i.invariant.few c.in_err-read.ensures.few)
+
+pub returns-in_err-read-clause-read : goal.returns-in_err-read-clause-read
+returns-in_err-read-clause-read c =
+    few_read (frames_bytes (info_of c.args.info.now) c.args.frames.now) c.loop-i.i c.loop-i.merging.table c.loop-i.tries _ c.loop-i.invariant.read
     (more_tries (info_of c.args.info.now) c.args.frames.now c.loop-i.i c.index-frames-i.result c.deref.result.now c.loop-i.tries c.read_frame-read.new.tries (omega arith) c.index-frames-i.is c.deref.ensures c.loop-i.invariant.few c.in_err-read.ensures.few)
 
 pub loop-i-preserved : goal.loop-i-preserved
@@ -35,6 +40,16 @@ returns-then-is_empty-clause-merged c =
     let size = frames_size (info_of c.args.info.now) c.args.frames.now in
     let none : length c.args.frames.now ≡ 0 = empty_is (length c.args.frames.now) c.is_empty.result c.is_empty.ensures c.if-is_empty.true in
     rw c.new.ensures.items (read_no_frames (frames_bytes (info_of c.args.info.now) c.args.frames.now) c.loop-i.i c.loop-i.merging.table c.loop-i.tries (omega (arith, size, none)) (omega (arith, size)) c.loop-i.invariant.read)
+
+pub returns-then-is_empty-clause-read : goal.returns-then-is_empty-clause-read
+returns-then-is_empty-clause-read c =
+    let frames = frames_bytes (info_of c.args.info.now) c.args.frames.now in
+    few_read frames c.loop-i.i c.loop-i.merging.table c.loop-i.tries _ c.loop-i.invariant.read (one_more_tries frames c.loop-i.i c.loop-i.tries c.loop-i.invariant.few)
+
+pub returns-clause-read : goal.returns-clause-read
+returns-clause-read c =
+    let frames = frames_bytes (info_of c.args.info.now) c.args.frames.now in
+    few_read frames c.loop-i.i c.loop-i.merging.table c.loop-i.tries _ c.loop-i.invariant.read (one_more_tries frames c.loop-i.i c.loop-i.tries c.loop-i.invariant.few)
 
 pub returns-clause-merged : goal.returns-clause-merged
 returns-clause-merged c = made_whole (info_of c.args.info.now) c.args.frames.now c.loop-i.i c.loop-i.merging.table c.loop-i.tries c.tree_of.result (omega arith) c.loop-i.invariant.read c.tree_of.ensures.ok
