@@ -111,11 +111,11 @@ fn a_view_takes_what_is_recorded(rt: HostRuntime) -> Outcome<()> {
     let mut view = FrameView::new(rt.alloc());
     let first = recorded(&rt, &mut view)?;
     assert_eq!(rt; first.as_slice(), ONE_FRAME);
-    assert_eq!(rt; view.recent_frames().count(), 1);
+    assert_eq!(rt; view.stats().frames(), 1);
     // The frames of another session begin with the index 0 again.
     let second = recorded(&rt, &mut view)?;
     assert_eq!(rt; second.as_slice(), ONE_FRAME);
-    assert_eq!(rt; view.recent_frames().count(), 1);
+    assert_eq!(rt; view.stats().frames(), 1);
     Ok(())
 }
 
