@@ -244,7 +244,7 @@ fn the_words_name_a_task(rt: HostRuntime) -> Result<(), Fail> {
 
 #[test]
 fn each_fault_is_told_with_its_status(rt: HostRuntime) {
-    let usage = "usage: puffin-tool count | replay SCRIPT OUT\n";
+    let usage = "usage: puffin-tool count | replay SCRIPT OUT | report FILE THREAD\n";
     for (fault, line, status) in [
         (None, "", 0u8),
         (Some(ToolFault::Words), usage, 2),

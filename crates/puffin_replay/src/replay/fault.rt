@@ -64,7 +64,7 @@ fn line_of(fault: ToolFault) -> Line
     let mut line = Line::new();
     match fault {
         ToolFault::Words => {
-            line.push_str("usage: puffin-tool count | replay SCRIPT OUT\n");
+            line.push_str("usage: puffin-tool count | replay SCRIPT OUT | report FILE THREAD\n");
         }
         ToolFault::Line(number) => {
             line.push_str("puffin-tool: script line ");
