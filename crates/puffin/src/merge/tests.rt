@@ -349,7 +349,11 @@ fn a_file_of_the_rust_crate(rt: HostRuntime) -> Outcome {
             (3, 180, 81, 27, 41, 3),
         ][..]
     );
-    assert_eq!(rt; merged[0].children[0].text.as_str(), "a");
-    assert_eq!(rt; merged[0].children[1].text.as_str(), "b");
+    let Some(top) = merged.first() else {
+        return Err(Fail::new("no scope"));
+    };
+    assert_eq!(rt; top.children.len(), 2);
+    assert_eq!(rt; top.children[0].text.as_str(), "a");
+    assert_eq!(rt; top.children[1].text.as_str(), "b");
     Ok(())
 }
