@@ -16,7 +16,9 @@ use Rattle.std.proofs.lemmas.Map.Keys.{sorted_head, sorted_tail}
 use Rattle.std.proofs.lemmas.Map.Entries.{length-values_of, sum_by-insert_entry, sum_by-remove_entry}
 use Rattle.std.proofs.lemmas.List.Sums.{sum_by-cons}
 use Rattle.puffin_frames.specs.declared.frame_data.frame.FrameData.{FrameData}
-use Rattle.puffin_frames.specs.Contents.{Streams, holding_of, frame_meta, frame_says}
+use Rattle.puffin_frames.specs.declared.frame_data.held.Held.{Held}
+use Rattle.puffin_frames.specs.declared.frame_data.held.Held.TheVariants.{Own, Shared, Packed, Both}
+use Rattle.puffin_frames.specs.Contents.{Streams, holding_of, held_as, frame_meta, frame_says}
 use Rattle.puffin_frames.specs.Holding.{Packing, packing, as_packed}
 use Rattle.puffin.specs.Frames.{Frame, packed, ram_of}
 use Rattle.std.specs.Arc.{arc_value}
@@ -205,3 +207,13 @@ ram_says f = ram_at (holding_of f).packed (holding_of f).unpacked (frame_meta f)
 -- a packed copy
 pub packed_copied : (f g : FrameData) → holding_of g ≡ as_packed (holding_of f) → frame_says g ≡ frame_says f → frame_of g ≡ packed (frame_of f)
 packed_copied f g held says = λ i. record { contents = says i; is_unpacked = is_some (held i).unpacked; is_packed = is_some (held i).packed }
+
+held_packed : (h : Held) → is_some (held_as h).unpacked ≡ false → is_some (held_as h).packed ≡ true
+held_packed (Own u) e = absurd cc
+held_packed (Shared u) e = absurd cc
+held_packed (Packed p) e = refl
+held_packed (Both b) e = refl
+
+-- a frame that isn't held unpacked
+pub packed_alone : (f : FrameData) → is_some (holding_of f).unpacked ≡ false → frame_of f ≡ packed (frame_of f)
+packed_alone f e = λ j. record { contents = frame_says f; is_unpacked = e j; is_packed = held_packed f.held e j }

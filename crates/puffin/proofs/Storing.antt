@@ -532,6 +532,22 @@ stored-packed held recent slow last R S f h newest =
       at q true none some = let both : None ≡ Some f = sym none ∙ some refl in cc
       at q false none some = none
 
+-- an insertion of what is there changes nothing
+insert_same : (held : Held) (i : ℕ) (f : Frame) → fin.get held i ≡ Some f → fin.insert held i f ≡ held
+insert_same held i f there =
+    fin.same_map nat_cmp_total fin.nat_cmp-IsAntisymmetric (fin.insert held i f) held (λ q. fin.get-insert nat_cmp_total held i f q ∙ ap (λ b. cond b (Some f) (fin.get held q)) (is_at q i) ∙ at q (nat_eq q i) refl) where
+      at : (q : ℕ) (b : Bool) → nat_eq q i ≡ b → cond b (Some f) (fin.get held q) ≡ fin.get held q
+      at q true e = sym (ap (fin.get held) (equal_to q i e) ∙ there)
+      at q false e = refl
+
+-- a newest frame that is packed alone already
+pub stored-already : (held : Held) (recent : List ℕ) (slow : List SlowRank) (last : Option ℕ) (R S : List Frame) (f : Frame) → AreStored held recent slow last R S → last_in R ≡ Some f → f ≡ packed f
+    → AreStored held recent slow last (map (packed_at (index_of f)) R) (map (packed_at (index_of f)) S)
+stored-already held recent slow last R S f h newest same =
+    let there : fin.get held (index_of f) ≡ Some f = all_last (λ g. fin.get held (index_of g) ≡ Some g) R f h.recent_held newest in
+    let P : Held → Type 0 = λ m. AreStored m recent slow last (map (packed_at (index_of f)) R) (map (packed_at (index_of f)) S) in
+    subst P (ap (fin.insert held (index_of f)) (sym same) ∙ insert_same held (index_of f) f there) (stored-packed held recent slow last R S f h newest)
+
 -- a rank whose index is above another's comes before it where it is longer
 longer_before : (r s : SlowRank) → s.frame_index < r.frame_index → is_before r s ≡ int_lt s.duration_ns.0 r.duration_ns.0
 longer_before r s low = at (int_lt s.duration_ns.0 r.duration_ns.0) (int_lt r.duration_ns.0 s.duration_ns.0) where

@@ -208,7 +208,7 @@ impl FrameStore {
         }
     }
 
-    /// Packs the newest frame.
+    /// Packs the newest frame. One that is packed already is left as it is, and not copied.
     fn pack_newest(&mut self) -> Result<()>
         ensures ok { OnOk result (self.new ≡ with_newest_packed self.old) }
         ensures err { OnErr result (self.new ≡ self.old) }
@@ -218,6 +218,9 @@ impl FrameStore {
         let Some(newest) = self.latest_frame() else {
             return Ok(());
         };
+        if !newest.has_unpacked() {
+            return Ok(());
+        }
         let packed = Arc::new(alloc, newest.packed_copy()?)?;
         self.held.insert(packed)?;
         Ok(())
