@@ -6,8 +6,6 @@
 pub mod global_profiler;
 pub mod merge;
 pub mod profile_view;
-#[cfg(test)]
-mod tests;
 
 pub use puffin_data::{Error, FileError, NanoSecond, Result, data};
 pub use puffin_frames::{frame_data, scope_details, thread_profiler};

@@ -12,8 +12,6 @@ mod scope;
 mod starts;
 mod stream;
 mod table;
-#[cfg(test)]
-mod tests;
 mod tree;
 
 use crate::frame_data::UnpackedFrameData;

@@ -1,8 +1,6 @@
 //! The last frames and the slowest ones.
 
 mod file;
-#[cfg(test)]
-mod file_tests;
 mod frame_store;
 mod frame_view;
 mod held_frames;
@@ -12,8 +10,6 @@ mod select;
 mod slow_rank;
 mod stats;
 mod sums;
-#[cfg(test)]
-mod tests;
 
 pub use frame_view::FrameView;
 pub use listings::{AllFrames, RecentFrames, SlowestFrames};

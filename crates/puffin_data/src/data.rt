@@ -24,6 +24,3 @@ pub use stream::Stream;
 pub use transfer::{read_to_end, write_all};
 pub use visit::{Visitor, walk_with};
 pub use walk::Walk;
-
-#[cfg(test)]
-mod tests;

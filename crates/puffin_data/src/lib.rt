@@ -9,6 +9,3 @@ pub mod wire;
 
 pub use error::{Error, NanoSecond, Result};
 pub use file_error::FileError;
-
-#[cfg(test)]
-mod tests;

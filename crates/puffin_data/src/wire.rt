@@ -7,6 +7,3 @@ mod put;
 
 pub use cursor::Cursor;
 pub use put::{put_bytes, put_i64, put_text, put_u8, put_u32, put_u64};
-
-#[cfg(test)]
-mod tests;

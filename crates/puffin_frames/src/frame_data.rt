@@ -11,8 +11,6 @@ mod pack;
 mod packing;
 mod reading;
 mod shared;
-#[cfg(test)]
-mod tests;
 mod unpacked;
 mod writing;
 

@@ -4,6 +4,4 @@
 pub mod frame_data;
 pub mod laws;
 pub mod scope_details;
-#[cfg(test)]
-mod tests;
 pub mod thread_profiler;

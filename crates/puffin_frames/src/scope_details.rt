@@ -5,8 +5,6 @@ mod details;
 mod ids;
 pub mod laws;
 mod scope_type;
-#[cfg(test)]
-mod tests;
 
 pub use collection::ScopeCollection;
 pub use details::ScopeDetails;

@@ -5,8 +5,6 @@ pub mod laws;
 mod profiler;
 mod recording;
 mod reporter;
-#[cfg(test)]
-mod tests;
 mod thread_info;
 
 pub use clock::{NsSource, ScriptClock, SystemClock};

@@ -2,24 +2,14 @@
 
 mod command;
 mod count;
-#[cfg(test)]
-mod details_tests;
 mod fault;
 mod profiled;
-#[cfg(test)]
-mod record_tests;
 mod recorder;
 mod reply_line;
 mod script;
-#[cfg(test)]
-mod script_tests;
 mod session;
-#[cfg(test)]
-mod session_tests;
 mod statement;
 mod summary;
-#[cfg(test)]
-mod summary_tests;
 mod task;
 
 pub use command::{Command, Reply};

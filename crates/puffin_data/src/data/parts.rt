@@ -137,6 +137,3 @@ pub fn read_counted_part<S: Source>(alloc: Global, source: &mut S) -> Result<Vec
     let len = read_length(source)?;
     read_part(alloc, source, len)
 }
-
-#[cfg(test)]
-mod tests;

@@ -1,5 +1,5 @@
-use crate::replay::session_tests::Outcome;
-use crate::replay::summary::{Summary, summarize};
+use crate::session::Outcome;
+use puffin_replay::replay::{Summary, summarize};
 use puffin_data::data::Counted;
 use puffin_data::{Error, FileError, NanoSecond};
 use puffin_frames::thread_profiler::ThreadInfo;

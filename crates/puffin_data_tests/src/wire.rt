@@ -1,4 +1,4 @@
-use crate::wire::{Cursor, put_bytes, put_i64, put_text, put_u8, put_u32, put_u64};
+use puffin_data::wire::{Cursor, put_bytes, put_i64, put_text, put_u8, put_u32, put_u64};
 use std::alloc::Global;
 use std::process::Abort;
 use std::test::Fail;
@@ -102,7 +102,7 @@ fn other_spellings_of_a_number_are_refused(rt: HostRuntime) -> Result<(), Fail> 
 }
 
 /// The details of a scope, as their kinds are written one behind the other.
-fn details(alloc: Global) -> crate::Result<Vec<u8>> {
+fn details(alloc: Global) -> puffin_data::Result<Vec<u8>> {
     let mut out = Vec::new(alloc);
     put_u64(&mut out, 1)?;
     put_u8(&mut out, 1)?;

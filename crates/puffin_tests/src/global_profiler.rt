@@ -2,12 +2,12 @@ ghost use Rattle.std.specs.Prelude.{IfOk};
 ghost use Rattle.puffin_data.specs.Forest.{Forest};
 ghost use Rattle.puffin_data.specs.Honesty.{IsHonest, IsHonestRef};
 
-use crate::data::{ScopeId, Stream, StreamInfo, StreamInfoRef};
-use crate::frame_data::FrameData;
-use crate::global_profiler::{Collector, GlobalProfiler, Totals};
-use crate::scope_details::{ScopeDetails, ScopeIds};
-use crate::thread_profiler::{Reporter, ThreadInfo};
-use crate::{Error, NanoSecond, Result};
+use puffin::data::{ScopeId, Stream, StreamInfo, StreamInfoRef};
+use puffin::frame_data::FrameData;
+use puffin::global_profiler::{Collector, GlobalProfiler, Totals};
+use puffin::scope_details::{ScopeDetails, ScopeIds};
+use puffin::thread_profiler::{Reporter, ThreadInfo};
+use puffin::{Error, NanoSecond, Result};
 use std::borrow::CowStr;
 use std::sync::Arc;
 use std::test::Fail;

@@ -1,5 +1,5 @@
-use crate::replay::command::{Command, Reply};
-use crate::replay::session::Session;
+use puffin_replay::replay::{Command, Reply};
+use puffin_replay::replay::Session;
 use puffin_data::data::{ScopeId, Stream};
 use puffin_data::{Error, NanoSecond};
 use puffin_frames::thread_profiler::{Closed, ThreadInfo};

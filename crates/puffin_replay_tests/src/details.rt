@@ -1,5 +1,5 @@
-use crate::replay::command::{Command, Reply};
-use crate::replay::session_tests::{Outcome, begin, end, is_no_frame, session};
+use puffin_replay::replay::{Command, Reply};
+use crate::session::{Outcome, begin, end, is_no_frame, session};
 use puffin_data::Error;
 use puffin_data::data::ScopeId;
 use std::test::Fail;

@@ -1,5 +1,5 @@
-use crate::data::{Reader, Scope, ScopeId, Stream};
-use crate::error::{Error, Result};
+use puffin_data::data::{Reader, Scope, ScopeId, Stream};
+use puffin_data::{Error, Result};
 use std::test::Fail;
 
 /// A scope of id 1 from 100 to 300 with the text `data`.

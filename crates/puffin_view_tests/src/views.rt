@@ -1,8 +1,8 @@
-use crate::data::{Stream, StreamInfo};
-use crate::frame_data::{FrameData, FrameIndex};
-use crate::profile_view::{FrameStats, FrameView, select_slowest};
-use crate::thread_profiler::ThreadInfo;
-use crate::{NanoSecond, Result};
+use puffin::data::{Stream, StreamInfo};
+use puffin::frame_data::{FrameData, FrameIndex};
+use puffin::profile_view::{FrameStats, FrameView, select_slowest};
+use puffin::thread_profiler::ThreadInfo;
+use puffin::{NanoSecond, Result};
 use std::collections::BTreeMap;
 use std::sync::Arc;
 use std::test::Fail;

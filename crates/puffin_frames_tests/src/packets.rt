@@ -1,6 +1,6 @@
-use crate::frame_data::{FrameData, UnpackedFrameData};
-use crate::scope_details::{ScopeCollection, ScopeDetails};
-use crate::thread_profiler::ThreadInfo;
+use puffin_frames::frame_data::{FrameData, UnpackedFrameData};
+use puffin_frames::scope_details::{ScopeCollection, ScopeDetails};
+use puffin_frames::thread_profiler::ThreadInfo;
 use puffin_data::FileError;
 use puffin_data::data::{Counted, ScopeId, Stream, StreamInfo};
 use std::alloc::Global;

@@ -1,10 +1,10 @@
-use crate::data::{Counted, ScopeId, Stream, StreamInfo};
-use crate::frame_data::UnpackedFrameData;
-use crate::merge::{MergeScope, merge_scopes_counted, merge_scopes_for_thread};
-use crate::profile_view::FrameView;
-use crate::scope_details::ScopeCollection;
-use crate::thread_profiler::ThreadInfo;
-use crate::{Error, FileError, NanoSecond, Result};
+use puffin::data::{Counted, ScopeId, Stream, StreamInfo};
+use puffin::frame_data::UnpackedFrameData;
+use puffin::merge::{MergeScope, merge_scopes_counted, merge_scopes_for_thread};
+use puffin::profile_view::FrameView;
+use puffin::scope_details::ScopeCollection;
+use puffin::thread_profiler::ThreadInfo;
+use puffin::{Error, FileError, NanoSecond, Result};
 use std::alloc::Global;
 use std::collections::BTreeMap;
 use std::sync::Arc;

@@ -1,5 +1,5 @@
-use crate::scope_details::{ScopeDetails, ScopeIds};
-use crate::thread_profiler::{
+use puffin_frames::scope_details::{ScopeDetails, ScopeIds};
+use puffin_frames::thread_profiler::{
     Closed, NsSource, Reporter, ScriptClock, SystemClock, ThreadInfo, ThreadProfiler,
 };
 use puffin_data::data::{Reader, ScopeId, Stream, StreamInfo, StreamInfoRef};

@@ -1,6 +1,6 @@
 ghost use Rattle.std.specs.Prelude.{◌≡◌, ◌+◌, ◌-◌, ◌^◌, ◌<◌, if◌then◌else◌};
 
-use crate::replay::*;
+use puffin_replay::replay::*;
 use puffin_data::data::{Counted, Drain, Source};
 use puffin_data::{Error, FileError};
 use std::io;

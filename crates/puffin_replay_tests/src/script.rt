@@ -1,8 +1,8 @@
-use crate::replay::command::Command;
-use crate::replay::fault::ToolFault;
-use crate::replay::recorder::run_script;
-use crate::replay::script::{Script, read_script};
-use crate::tests::{NEVER, device};
+use puffin_replay::replay::Command;
+use puffin_replay::replay::ToolFault;
+use puffin_replay::replay::run_script;
+use puffin_replay::replay::{Script, read_script};
+use crate::count::{NEVER, device};
 use puffin_data::FileError;
 use puffin_data::data::{Counted, Source};
 use std::io;

@@ -1,4 +1,4 @@
-use crate::scope_details::{ScopeCollection, ScopeDetails, ScopeIds, ScopeType};
+use puffin_frames::scope_details::{ScopeCollection, ScopeDetails, ScopeIds, ScopeType};
 use puffin_data::data::ScopeId;
 use puffin_data::{Error, Result};
 use std::alloc::Global;

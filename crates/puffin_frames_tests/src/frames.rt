@@ -1,5 +1,5 @@
-use crate::frame_data::{FrameData, ThreadStreams, UnpackedFrameData, report_to};
-use crate::thread_profiler::ThreadInfo;
+use puffin_frames::frame_data::{FrameData, ThreadStreams, UnpackedFrameData, report_to};
+use puffin_frames::thread_profiler::ThreadInfo;
 use puffin_data::data::{Stream, StreamInfo};
 use puffin_data::{Error, NanoSecond};
 use std::alloc::Global;

@@ -1,7 +1,7 @@
-use crate::data::{Counted, Drain, Source};
-use crate::frame_data::FrameIndex;
-use crate::profile_view::FrameView;
-use crate::{Error, FileError};
+use puffin::data::{Counted, Drain, Source};
+use puffin::frame_data::FrameIndex;
+use puffin::profile_view::FrameView;
+use puffin::{Error, FileError};
 use std::io;
 use std::io::{Read, Write};
 use std::test::Fail;

@@ -1,8 +1,8 @@
-use crate::replay::command::{Command, Reply};
-use crate::replay::recorder::{record, run_script};
-use crate::replay::script::Script;
-use crate::replay::session_tests::{Outcome, begin, end, is_no_frame};
-use crate::tests::{NEVER, device};
+use puffin_replay::replay::{Command, Reply};
+use puffin_replay::replay::{record, run_script};
+use puffin_replay::replay::Script;
+use crate::session::{Outcome, begin, end, is_no_frame};
+use crate::count::{NEVER, device};
 use puffin::profile_view::FrameView;
 use puffin_data::FileError;
 use puffin_data::data::Stream;

@@ -1,0 +1,7 @@
+//! The profiler and merging, tested over the public calls of `puffin` alone.
+#![tactic(auto)]
+
+#[cfg(test)]
+mod global_profiler;
+#[cfg(test)]
+mod merge;

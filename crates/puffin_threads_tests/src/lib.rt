@@ -1,0 +1,7 @@
+//! Thread profilers and details of scopes, tested over the public calls of `puffin_frames` alone.
+#![tactic(auto)]
+
+#[cfg(test)]
+mod scope_details;
+#[cfg(test)]
+mod thread_profiler;

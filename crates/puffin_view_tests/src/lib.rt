@@ -1,0 +1,7 @@
+//! Views and their files, tested over the public calls of `puffin` alone.
+#![tactic(auto)]
+
+#[cfg(test)]
+mod files;
+#[cfg(test)]
+mod views;
