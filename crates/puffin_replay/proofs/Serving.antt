@@ -23,7 +23,6 @@ use Rattle.puffin_frames.specs.Threads.{Thread, after_begin, after_end, after_ha
 use Rattle.puffin_frames.specs.Details.{Details, AllHaveIds, shared_details}
 use Rattle.puffin_frames.specs.Collection.{Collection, inserted_all}
 use Rattle.puffin_frames.specs.Contents.{Streams}
-use Rattle.puffin_frames.specs.Holding.{held_contents}
 use Rattle.puffin_frames.specs.Measures.{total_scopes}
 use Rattle.puffin_frames.specs.declared.frame_data.frame.FrameData.{FrameData}
 use Rattle.puffin_frames.specs.declared.thread_profiler.thread_info.ThreadInfo.{ThreadInfo}
@@ -297,7 +296,7 @@ Continues-framed now f more holds some = (
           refl,
           subst (λ (n : ℕ). n ≢ 2 ^ 64 - 1) before.stands.index more,
           (
-            SpellsFrame-taken (arc_value f) now.collected.index (index_after o done) now.collected.streams (due o done) (ap held_contents holds.held) holds.meta before.stands.index some before.stands.collected,
+            SpellsFrame-taken (arc_value f) now.collected.index (index_after o done) now.collected.streams (due o done) holds.held holds.meta before.stands.index some before.stands.collected,
             tells_scopes o done now.collected (arc_value f) tells holds.delta holds.full,
           ),
         ),
