@@ -1,5 +1,5 @@
 -- What is kept beside the pending streams, with one report more.
-use Rattle.std.proofs.Common.{◌≡◌, ℕ, ◌+◌, ◌^◌, ◌<◌, ◌≤◌, ◌⊎◌, inl, inr, length, ◌∷◌, List, Bool, true, false, MatchBool, ap, ◌∙◌, subst, arith, ℤ, Result, Ok, Err, OnOk, is_err}
+use Rattle.std.proofs.Common.{◌≡◌, ℕ, ◌+◌, ◌^◌, ◌<◌, ◌≤◌, ◌⊎◌, inl, inr, length, ◌∷◌, List, Bool, true, false, MatchBool, ap, ◌∙◌, subst, arith, ℤ}
 use Rattle.std.specs.Int.{int_min, int_max}
 use Rattle.std.specs.FinMap as map
 use Rattle.std.proofs.lemmas.Int.{ints, clamps}
@@ -110,7 +110,3 @@ duration_fits false range test is = test
 
 pub not_too_long : (answer : Bool) (range other : ℤ × ℤ) → range ≡ other → MatchBool answer (IsTooLong range) (IsOrdered range → DurationFits range) → answer ≡ false → ¬ IsTooLong other
 not_too_long answer range other same test is = subst (λ x. ¬ IsTooLong x) same (λ t. t.1 (duration_fits answer range test is t.0))
-
-pub on_ok : {A E P : Type 0} (result : Result A E) → OnOk result P → is_err result ≡ false → P
-on_ok (Ok x) h is = h
-on_ok (Err e) h is = absurd cc

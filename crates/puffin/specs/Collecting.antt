@@ -10,13 +10,13 @@ use Rattle.puffin_frames.specs.Info.{Info}
 use Rattle.puffin_frames.specs.Details.{Details, shared_details, AllHaveIds}
 use Rattle.puffin_frames.specs.declared.frame_data.frame.FrameData.{FrameData}
 use Rattle.puffin_frames.specs.declared.frame_data.meta.FrameMeta.{FrameMeta}
-use Rattle.puffin_frames.specs.Contents.{Streams, AreHonest, frame_contents, frame_meta, frame_details}
+use Rattle.puffin_frames.specs.Contents.{Streams, AreHonest, holding_of, frame_meta, frame_details}
 use Rattle.puffin_frames.specs.Measures.{total_bytes, total_scopes, meta_of, IsOrdered, DurationFits}
 use Rattle.puffin.specs.Collected.{Collected, range_with, delta_of, after_frame, after_no_frame, after_learning}
 
--- The frame holds all that is pending, under the next index. It tells of the new details, and of all that were known where that was wanted.
+-- The frame holds all that is pending, as it is and not packed, under the next index. It tells of the new details, and of all that were known where that was wanted.
 pub record HoldsAll (c : Collected) (frame : FrameData) : Type 0 where
-  pub contents : frame_contents frame ≡ Some c.streams
+  pub held : holding_of frame ≡ record { packed = None; unpacked = Some c.streams }
   pub meta : frame_meta frame ≡ meta_of c.index (map.values c.streams)
   pub delta : shared_details frame.scope_delta.items ≡ delta_of c.collection c.new_details c.wants_all
   pub full : frame.full_delta ≡ c.wants_all

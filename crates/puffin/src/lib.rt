@@ -7,5 +7,5 @@ pub mod global_profiler;
 pub mod merge;
 pub mod profile_view;
 
-pub use puffin_data::{Error, FileError, NanoSecond, Result, data};
+pub use puffin_data::{Error, FileError, FrameIndex, NanoSecond, Result, data, wire};
 pub use puffin_frames::{frame_data, scope_details, thread_profiler};

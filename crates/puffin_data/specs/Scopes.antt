@@ -1,8 +1,18 @@
 -- The code's scopes as they were read: the same without where their texts lie in memory.
-use Rattle.std.specs.Prelude.{◌≡◌, List, [], ◌∷◌, ◌++◌, map, Option, Some, None, Result, Ok, Err}
+use Rattle.std.specs.Prelude.{◌≡◌, ℕ, ℤ, List, [], ◌∷◌, ◌++◌, map, Option, Some, None, Result, Ok, Err}
 use Rattle.puffin_data.specs.declared.error.Error.{Error}
 use Rattle.puffin_data.specs.declared.data.record.Scope.{Scope}
+use Rattle.puffin_data.specs.declared.data.record.ScopeRecord.{ScopeRecord}
 use Rattle.puffin_data.specs.Lenient.{ReadScope, Place, next_read, Reads}
+
+-- a record without where its text lies in memory
+pub record SeenRecord : Type 0 where
+  pub start : ℤ
+  pub duration : ℤ
+  pub text : List ℕ
+
+abbrev pub record_seen : ScopeRecord → SeenRecord
+record_seen r = record { start = r.start_ns; duration = r.duration_ns; text = r.text.now }
 
 abbrev pub scope_seen : Scope → ReadScope
 scope_seen s = record {

@@ -8,6 +8,9 @@ use std::fmt;
 /// A moment, or a length of time, in nanoseconds.
 pub type NanoSecond = i64;
 
+/// The number of a frame, counted from 0.
+pub type FrameIndex = u64;
+
 /// What a call of this crate and of those above it answers.
 pub type Result<T> = std::result::Result<T, Error>;
 

@@ -1,7 +1,7 @@
 //! Laws of forests, their spellings and their walks, and of layouts, as contracts of functions that do nothing. A proof of another crate
 //! cites them by calling the function.
 
-ghost use Rattle.std.specs.Prelude.{Result, Ok, map, List, ℕ, ℤ, ◌≡◌, ◌⊎◌, ◌+◌, ◌-◌, ◌++◌, ◌∷◌, [], ◌<◌, ◌≤◌, ◌^◌, ◌≤ℤ◌, ◌-ℤ◌, pos, negsuc, FitsSigned, length, max};
+ghost use Rattle.std.specs.Prelude.{Result, Ok, map, IsTrue, ◌↔◌, List, ℕ, ℤ, ◌≡◌, ◌⊎◌, ◌+◌, ◌-◌, ◌++◌, ◌∷◌, [], ◌<◌, ◌≤◌, ◌^◌, ◌≤ℤ◌, ◌-ℤ◌, pos, negsuc, FitsSigned, length, max};
 ghost use Rattle.std.specs.List.{All};
 ghost use Rattle.std.specs.List.Sorted.{IsStrictlyIncreasing};
 ghost use Rattle.std.specs.Str.{IsUtf8};
@@ -19,6 +19,11 @@ ghost use Rattle.puffin_data.specs.Lenient.{ReadScope, Reads, top_scopes};
 ghost use Rattle.puffin_data.specs.Opens.{Opened, IsOpened, open_spelling, open_word, size_place, ended_bytes, with_ended};
 ghost use Rattle.puffin_data.specs.Layout.{NoneBeginsAnother, byte, number, signed, flag, block, IsByte, IsLong, IsSigned, IsAny, IsBlock};
 ghost use Rattle.puffin_data.specs.declared.error.Error.{Error};
+ghost use Rattle.puffin_data.specs.declared.data.record.Scope.{Scope};
+ghost use Rattle.puffin_data.specs.declared.data.record.ScopeRecord.{ScopeRecord};
+ghost use Rattle.puffin_data.specs.Scopes.{record_seen, scope_seen};
+
+use crate::data::{Scope, ScopeRecord};
 
 /// A forest has one spelling, and it is no other forest's. The spellings of two forests one after the other are joined.
 pub fn one_forest()
@@ -162,6 +167,12 @@ pub fn one_reading()
     ensures one { (bytes : List ℕ) (p : ℕ) (a b : List (Result ReadScope Error)) → Reads bytes p a → Reads bytes p b → a ≡ b }
     ensures end { (bytes : List ℕ) (items : List (Result ReadScope Error)) → Reads bytes (length bytes) items → items ≡ [] }
     ensures spelled { (bytes : List ℕ) (f : Forest) → Spells bytes f → length bytes < 2 ^ 63 → Reads bytes 0 (map (λ s. Ok s) (top_scopes 0 f)) }
+{}
+
+/// Scopes that were read, and their records, are equal just where all their fields are.
+pub fn scopes_by_fields()
+    ensures records { (a b : ScopeRecord) → IsTrue (⟦<ScopeRecord<'static> as PartialEq>⟧.eq a b) ↔ (record_seen a ≡ record_seen b) }
+    ensures scopes { (a b : Scope) → IsTrue (⟦<Scope<'static> as PartialEq>⟧.eq a b) ↔ (scope_seen a ≡ scope_seen b) }
 {}
 
 /// No layout of a value begins another of its kind. A number of fewer bits is one of 64, and a text is a block of bytes.

@@ -7,5 +7,5 @@ mod file_error;
 pub mod laws;
 pub mod wire;
 
-pub use error::{Error, NanoSecond, Result};
+pub use error::{Error, FrameIndex, NanoSecond, Result};
 pub use file_error::FileError;

@@ -1,5 +1,5 @@
 -- What a report does to what is said of the streams of a map together.
-use Rattle.std.proofs.Common.{◌≡◌, ℕ, ◌+◌, length, List, [], ◌∷◌, map, Bool, true, false, ◌&&◌, T, cond, None, Some, refl, sym, ap, ◌∙◌, arith}
+use Rattle.std.proofs.Common.{◌≡◌, ℕ, ◌+◌, ◌≤◌, Option, length, List, [], ◌∷◌, map, Bool, true, false, ◌&&◌, T, cond, None, Some, refl, sym, ap, ◌∙◌, arith}
 use Rattle.std.specs.declared.cmp.Ordering.{Ordering}
 use Rattle.std.specs.declared.cmp.Ordering.TheVariants.{Less, Equal, Greater}
 use Rattle.std.specs.Ordering.{is_eq, is_lt}
@@ -11,7 +11,7 @@ use Rattle.std.proofs.lemmas.Int.{ints, clamps}
 use Rattle.std.proofs.lemmas.List.{length-append}
 use Rattle.puffin_data.specs.Honesty.{Recorded, joined}
 use Rattle.puffin_frames.specs.Info.{Info, info_cmp}
-use Rattle.puffin_frames.specs.Contents.{Streams, reported_to, no_scopes}
+use Rattle.puffin_frames.specs.Contents.{Streams, stream_under, reported_to, no_scopes}
 use Rattle.puffin_frames.specs.Measures.{total_bytes, total_scopes, least_start, greatest_stop}
 use Rattle.puffin_frames.proofs.Infos.{info_cmp_total}
 use Rattle.puffin_frames.proofs.Joining.{bytes_from, scopes_from}
@@ -126,3 +126,20 @@ stops_measure = record {
   swap = λ a b c. omega (arith, ints, clamps);
   assoc = λ a b c. omega (arith, ints, clamps);
 }
+
+-- ---- the scopes under one info
+at_test_least : (b : Bool) (e : Info × Recorded) (o : Option Recorded) (rest : ℕ) → (unwrap_or o no_scopes).num_scopes ≤ rest → (unwrap_or (cond b (Some e.1) o) no_scopes).num_scopes ≤ e.1.num_scopes + rest
+at_test_least true e o rest least = omega arith
+at_test_least false e o rest least = omega arith
+
+found_least : (i : Info) (es : List (Info × Recorded)) → (unwrap_or (find info_cmp i es) no_scopes).num_scopes ≤ total_scopes (map (λ e. e.1) es)
+found_least i [] = omega arith
+found_least i (e ∷ es) =
+    let sum = total_scopes-one e.1 (map (λ f. f.1) es) in
+    let here = at_test_least (is_eq (info_cmp i e.0)) e (find info_cmp i es) (total_scopes (map (λ f. f.1) es)) (found_least i es) in
+    omega (arith, sum, here)
+
+pub under_one : (streams : Streams) (i : Info) → (stream_under streams i).num_scopes ≤ total_scopes (values streams)
+under_one streams i =
+    let least = found_least i (entries streams) in
+    omega (arith, ap (λ o. (unwrap_or o no_scopes).num_scopes) (get-entries streams i), least)

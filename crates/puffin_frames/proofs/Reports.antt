@@ -1,5 +1,5 @@
 -- Appending what is reported to the streams of a map.
-use Rattle.std.proofs.Common.{◌≡◌, List, [], ◌∷◌, Bool, true, false, cond, None, Some, refl, sym, ap, ◌∙◌}
+use Rattle.std.proofs.Common.{◌≡◌, List, [], ◌∷◌, Bool, true, false, cond, None, Some, Result, Ok, Err, IsErrAnd, ℕ, ◌+◌, ◌^◌, ◌≤◌, ◌↔◌, ◌≢◌, refl, sym, ap, subst, ◌∙◌, arith}
 use Rattle.std.specs.declared.cmp.Ordering.{Ordering}
 use Rattle.std.specs.declared.cmp.Ordering.TheVariants.{Less, Equal, Greater}
 use Rattle.std.specs.Ordering.{is_eq, match_ordering}
@@ -14,12 +14,14 @@ use Rattle.std.proofs.lemmas.Map.{lookup-none}
 use Rattle.std.proofs.lemmas.Map.Keys.{sorted_tail}
 use Rattle.std.proofs.lemmas.Map.Entries.{none_below_head}
 use Rattle.std.proofs.lemmas.Map.Made.{lookup-map_values}
+use Rattle.puffin_data.specs.declared.error.Error.{Error}
+use Rattle.puffin_data.specs.declared.error.Error.TheVariants.{TooLarge, Memory}
 use Rattle.puffin_data.specs.Forest.{empty}
 use Rattle.puffin_data.specs.Honesty.{Recorded, IsHonest, recorded, joined}
 use Rattle.puffin_data.specs.declared.data.info.StreamInfo.{StreamInfo}
 use Rattle.puffin_frames.specs.declared.thread_profiler.thread_info.ThreadInfo.{ThreadInfo}
 use Rattle.puffin_frames.specs.Info.{Info, info_of, info_cmp, thread_cmp, same_info, keyed, by_info}
-use Rattle.puffin_frames.specs.Contents.{records, unshared, shared_streams, reported_to, no_scopes}
+use Rattle.puffin_frames.specs.Contents.{records, unshared, shared_streams, stream_under, reported_to, no_scopes}
 use Rattle.puffin_frames.proofs.Infos.{info_cmp_total, info_cmp-one, same_info-one, thread_cmp_total}
 use Rattle.puffin_frames.proofs.Keyed.{read-insert, streams_of-insert}
 
@@ -70,6 +72,13 @@ module _ {A : Type 0} where
   shared-insert : (es : List (ThreadInfo × Arc StreamInfo A)) (k : ThreadInfo) (arc : Arc StreamInfo A) → shared_streams (insert_entry thread_cmp es k arc) ≡ insert (shared_streams es) (info_of k) (recorded (arc_value arc))
   shared-insert es k arc = ap (λ fs. by_info (records fs)) (read-insert arc_value es k arc) ∙ streams_of-insert (unshared es) k (arc_value arc)
 
+  -- what is under a key that is there, and under one that isn't
+  pub under_there : (es : List (ThreadInfo × Arc StreamInfo A)) (k : ThreadInfo) (old : Arc StreamInfo A) → lookup (is_at (thread_cmp k)) es ≡ Some old → stream_under (shared_streams es) (info_of k) ≡ recorded (arc_value old)
+  under_there es k old found = ap (λ o. unwrap_or o no_scopes) (get-shared es k ∙ ap (λ o. option_map recorded (option_map arc_value o)) found)
+
+  pub none_under : (es : List (ThreadInfo × Arc StreamInfo A)) (k : ThreadInfo) → lookup (is_at (thread_cmp k)) es ≡ None → (stream_under (shared_streams es) (info_of k)).num_scopes ≡ 0
+  none_under es k none = ap (λ o. (unwrap_or o no_scopes).num_scopes) (get-shared es k ∙ ap (λ o. option_map recorded (option_map arc_value o)) none)
+
   -- a write through what was lent for a key
   pub record WritesAt (es : List (ThreadInfo × Arc StreamInfo A)) (k : ThreadInfo) (old w : Arc StreamInfo A) (fs : List (ThreadInfo × Arc StreamInfo A)) : Type 0 where
     pub sorted : IsStrictlySortedBy thread_cmp (keys_of es)
@@ -96,3 +105,25 @@ module _ {A : Type 0} where
       let absent = get-shared es k ∙ ap (λ o. option_map recorded (option_map arc_value o)) none in
       ap shared_streams after ∙ shared-insert es k arc
       ∙ ap (insert (shared_streams es) (info_of k)) (more ∙ ap (λ n. joined n r) (recorded-none fresh honest) ∙ ap (λ o. joined (unwrap_or o no_scopes) r) (sym absent))
+
+-- ---- when a report is too large
+module _ {A : Type 0} where
+  pub same_cause : (r : Result A Error) (cause : Error) → IsErrAnd r (λ e. e ≡ cause) → r ≡ Err cause
+  same_cause (Ok x) cause is = absurd is
+  same_cause (Err e) cause is = ap Err is
+
+  pub other_cause : (r : Result A Error) → IsErrAnd r (λ e. e ≡ Memory) → r ≢ Err TooLarge
+  other_cause (Ok x) is same = absurd is
+  other_cause (Err e) is same = cc
+
+  -- the number of scopes fits where nothing was refused
+  pub fits_after : (x : A) (sum : ℕ) → (Ok x ≡ Err TooLarge) ↔ (2 ^ 64 ≤ sum) → ¬ (2 ^ 64 ≤ sum)
+  fits_after x sum h over = let refused = h.1 over in absurd cc
+
+  pub too_large_as : (r answer : Result A Error) (n under times : ℕ) → r ≡ answer → n ≡ under → (answer ≡ Err TooLarge) ↔ (2 ^ 64 ≤ n + times) → (r ≡ Err TooLarge) ↔ (2 ^ 64 ≤ under + times)
+  too_large_as r answer n under times is same h =
+      let there = subst (λ (s : Result A Error). (s ≡ Err TooLarge) ↔ (2 ^ 64 ≤ n + times)) (sym is) h in
+      subst (λ (m : ℕ). (r ≡ Err TooLarge) ↔ (2 ^ 64 ≤ m + times)) same there
+
+  pub not_too_large : (r : Result A Error) (n under times : ℕ) → r ≢ Err TooLarge → n ≡ under → ¬ (2 ^ 64 ≤ n + times) → (r ≡ Err TooLarge) ↔ (2 ^ 64 ≤ under + times)
+  not_too_large r n under times other same fits = (λ is. absurd (other is), λ over. absurd (fits (omega (arith, same, over))))

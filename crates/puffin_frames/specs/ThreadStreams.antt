@@ -54,9 +54,13 @@ listed entries = keyed (records (unshared entries))
 abbrev pub no_scopes : Recorded
 no_scopes = record { bytes = []; num_scopes = 0; depth = 0; range_ns = (pos (2 ^ 63 - 1), negsuc (2 ^ 63 - 1)) }
 
+-- what is recorded under an info
+abbrev pub stream_under : Streams → Info → Recorded
+stream_under streams i = unwrap_or (map.get streams i) no_scopes
+
 -- what is reported comes after what is there under its info
 abbrev pub reported_to : Streams → Info → Recorded → Streams
-reported_to streams i r = map.insert streams i (joined (unwrap_or (map.get streams i) no_scopes) r)
+reported_to streams i r = map.insert streams i (joined (stream_under streams i) r)
 
 -- each stream spells a forest, and its numbers are that forest's measures
 abbrev pub AreHonest : Streams → Type 0

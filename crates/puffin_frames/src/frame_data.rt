@@ -15,7 +15,8 @@ mod unpacked;
 mod writing;
 
 pub use frame::FrameData;
-pub use meta::{FrameIndex, FrameMeta};
+pub use meta::FrameMeta;
 pub use packing::PackingInfo;
+pub use puffin_data::FrameIndex;
 pub use shared::{ThreadStreams, report_to};
 pub use unpacked::UnpackedFrameData;

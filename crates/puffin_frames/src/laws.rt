@@ -1,7 +1,7 @@
 //! Laws of infos and of what is said of them together, as contracts of functions that do nothing. A proof of another
 //! crate cites them by calling the function.
 
-ghost use Rattle.std.specs.Prelude.{List, ℤ, ◌≡◌, ◌<ℤ◌, ◌∷◌, ◌++◌, ◌+◌, [], ◌<◌, length, IsTrue};
+ghost use Rattle.std.specs.Prelude.{List, ℤ, ◌≡◌, ◌<ℤ◌, ◌∷◌, ◌++◌, ◌+◌, [], ◌<◌, ◌≤◌, length, IsTrue};
 ghost use Rattle.std.specs.declared.cmp.Ordering.TheVariants.{Less};
 ghost use Rattle.std.specs.Ordering.{nat_cmp};
 ghost use Rattle.std.specs.Cmp.{IsTotalOrder};
@@ -14,7 +14,7 @@ ghost use Rattle.std.specs.Int.{int_min, int_max};
 ghost use Rattle.puffin_data.specs.declared.data.info.StreamInfo.{StreamInfo};
 ghost use Rattle.puffin_frames.specs.declared.thread_profiler.thread_info.ThreadInfo.{ThreadInfo};
 ghost use Rattle.puffin_frames.specs.Info.{Info, info_of, info_cmp, same_info, thread_cmp, keyed};
-ghost use Rattle.puffin_frames.specs.Contents.{Streams, streams_of, records, all_recorded, reported_to, AreHonest};
+ghost use Rattle.puffin_frames.specs.Contents.{Streams, streams_of, records, all_recorded, stream_under, reported_to, AreHonest};
 ghost use Rattle.puffin_data.specs.Forest.{Forest};
 ghost use Rattle.puffin_data.specs.Honesty.{Recorded, recorded, IsHonestRecord};
 ghost use Rattle.puffin_frames.specs.Measures.{total_bytes, total_scopes, least_start, greatest_stop, joined_range, IsOrdered};
@@ -64,6 +64,8 @@ pub fn reported_streams()
     ensures start { (streams : Streams) (i : Info) (r : Recorded) → least_start (map.values (reported_to streams i r)) ≡ int_min (least_start (map.values streams)) r.range_ns.0 }
     ensures stop { (streams : Streams) (i : Info) (r : Recorded) → greatest_stop (map.values (reported_to streams i r)) ≡ int_max (greatest_stop (map.values streams)) r.range_ns.1 }
     ensures none { map.values {X = Recorded} {R = info_cmp} map.empty ≡ [] }
+    // The scopes under one info are among all.
+    ensures under_one { (streams : Streams) (i : Info) → (stream_under streams i).num_scopes ≤ total_scopes (map.values streams) }
 {}
 
 /// What a report does to honest streams. Where there is a scope among them, their joined range isn't reversed, and where

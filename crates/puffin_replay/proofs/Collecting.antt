@@ -11,7 +11,7 @@ use Rattle.puffin_data.specs.Words.{num_begun}
 use Rattle.puffin_frames.specs.Info.{Info, info_cmp, same_info}
 use Rattle.puffin_frames.specs.Contents.{Streams}
 use Rattle.puffin_frames.specs.Measures.{meta_of, total_scopes}
-use Rattle.puffin_frames.specs.Contents.{frame_contents, frame_meta}
+use Rattle.puffin_frames.specs.Contents.{holding_of, frame_meta}
 use Rattle.puffin_frames.specs.declared.frame_data.frame.FrameData.{FrameData}
 use Rattle.puffin.specs.Collected.{no_scopes, reported_to}
 use Rattle.puffin_replay.specs.Handed.{Delivery, under}
@@ -59,7 +59,7 @@ SpellsDue-none j = rw (get-empty {X = Recorded} info_cmp j) tt
 -- ---- a frame
 
 -- a frame of just what was collected spells what was due
-pub SpellsFrame-taken : (frame : FrameData) (number index : ℕ) (streams : Streams) (ds : List Delivery) → frame_contents frame ≡ Some streams → frame_meta frame ≡ meta_of number (values streams) → number ≡ index
+pub SpellsFrame-taken : (frame : FrameData) (number index : ℕ) (streams : Streams) (ds : List Delivery) → holding_of frame ≡ record { packed = None; unpacked = Some streams } → frame_meta frame ≡ meta_of number (values streams) → number ≡ index
     → 0 < total_scopes (values streams) → SpellsDue streams ds → SpellsFrame frame index ds
 SpellsFrame-taken frame number index streams ds same meta numbered some spells = record {
   streams = streams;

@@ -296,7 +296,7 @@ Continues-framed now f more holds some = (
           refl,
           subst (λ (n : ℕ). n ≢ 2 ^ 64 - 1) before.stands.index more,
           (
-            SpellsFrame-taken (arc_value f) now.collected.index (index_after o done) now.collected.streams (due o done) holds.contents holds.meta before.stands.index some before.stands.collected,
+            SpellsFrame-taken (arc_value f) now.collected.index (index_after o done) now.collected.streams (due o done) holds.held holds.meta before.stands.index some before.stands.collected,
             tells_scopes o done now.collected (arc_value f) tells holds.delta holds.full,
           ),
         ),

@@ -1,5 +1,5 @@
 -- Which replies a session's commands may get, what they did by these, and what a run of them gives.
-use Rattle.std.specs.Prelude.{◌≡◌, ◌≢◌, ℕ, ℤ, pos, ◌+◌, ◌-◌, ◌^◌, ◌<◌, ◌≤◌, ◌⊎◌, List, [], ◌∷◌, ◌++◌, length, map, Option, Some, is_some, Bool, true, false, MatchOption}
+use Rattle.std.specs.Prelude.{◌≡◌, ◌≢◌, ℕ, ℤ, pos, ◌+◌, ◌-◌, ◌^◌, ◌<◌, ◌≤◌, ◌⊎◌, List, [], ◌∷◌, ◌++◌, length, map, Option, Some, None, is_some, Bool, true, false, MatchOption}
 use Rattle.std.specs.String.{string_bytes}
 use Rattle.std.specs.List.{flat_map}
 use Rattle.std.specs.Option.{option_map}
@@ -18,7 +18,7 @@ use Rattle.std.specs.Int.{int_max}
 use Rattle.puffin_frames.specs.Info.{info_of}
 use Rattle.puffin_frames.specs.Threads.{after_end}
 use Rattle.puffin_frames.specs.Measures.{meta_of}
-use Rattle.puffin_frames.specs.Contents.{Streams, frame_contents, frame_meta}
+use Rattle.puffin_frames.specs.Contents.{Streams, holding_of, frame_meta}
 use Rattle.puffin_frames.specs.declared.frame_data.frame.FrameData.{FrameData}
 use Rattle.puffin_frames.specs.declared.thread_profiler.reporter.Closed.{Closed}
 use Rattle.puffin_frames.specs.declared.thread_profiler.reporter.Closed.TheVariants as closed
@@ -74,10 +74,10 @@ actions_of _ _ _ = []
 
 -- ---- which reply may be given
 
--- The frame with this index spells what was due, and its meta is that of its streams, which have some scope.
+-- The frame with this index spells what was due, and its meta is that of its streams, which have some scope. It holds them as they are, and not packed.
 pub record SpellsFrame (frame : FrameData) (index : ℕ) (ds : List Delivery) : Type 0 where
   pub streams : Streams
-  pub held : frame_contents frame ≡ Some streams
+  pub held : holding_of frame ≡ record { packed = None; unpacked = Some streams }
   pub spelled : SpellsDue streams ds
   pub meta : frame_meta frame ≡ meta_of index (values streams)
   pub some : 0 < (frame_meta frame).num_scopes

@@ -101,10 +101,7 @@ impl Collector {
         let (meta, reported) = self.with_report(details, times)?;
         let mut fresh = copies(self.alloc, details)?;
         self.new_details.reserve(fresh.len())?;
-        // The scopes of one stream fit, as those of all do.
-        if report_to(self.alloc, &mut self.pending, info, times).is_err() {
-            return Err(Error::Memory);
-        }
+        report_to(self.alloc, &mut self.pending, info, times)?;
         match self.new_details.append(&mut fresh) {
             Ok(()) => {}
             Err(_) => unreachable!(),

@@ -9,7 +9,7 @@ ghost use Rattle.puffin_frames.specs.Contents.{AreHonest};
 ghost use Rattle.puffin_frames.specs.Measures.{total_scopes};
 ghost use Rattle.puffin.specs.Collected.{Accepts, Refuses, after_wanting};
 ghost use Rattle.puffin.specs.Registering.{Adds, AddsSome};
-ghost use Rattle.puffin.specs.Collecting.{Collects, KeepsPending};
+ghost use Rattle.puffin.specs.Collecting.{Collects, TellsIds, KeepsPending};
 ghost use Rattle.puffin.specs.Profiled.{collected};
 
 use crate::global_profiler::collector::Collector;
@@ -92,6 +92,8 @@ impl GlobalProfiler {
     /// Hands out all that is pending, by one call of [`Collector::collect_frame`], refused as that is.
     pub fn collect_frame(&mut self) -> Result<Option<Arc<FrameData>>>
         ensures ok { IfOk result (λ frame. Collects (collected self.old) frame (collected self.new)) }
+        // What a frame tells of has ids.
+        ensures ids { IfOk result TellsIds }
         ensures honest { AreHonest (collected self.old).streams }
         ensures exhausted { (result ≡ Err Error.IndexExhausted) ↔ ((collected self.old).index ≡ 2 ^ 64 - 1) }
         ensures err { IfErr result (λ e. KeepsPending (collected self.old) e (collected self.new)) }
@@ -102,6 +104,8 @@ impl GlobalProfiler {
     /// The same, as [`Collector::collect_frame`] answers it, for the sinks too. There are none yet.
     pub fn new_frame(&mut self) -> Result<Emitted>
         ensures ok { IfOk result (λ emitted. Collects (collected self.old) emitted.frame (collected self.new)) }
+        // What a frame tells of has ids.
+        ensures ids { IfOk result (λ emitted. TellsIds emitted.frame) }
         ensures refused { IfOk result (λ emitted. emitted.refused ≡ 0) }
         ensures honest { AreHonest (collected self.old).streams }
         ensures exhausted { (result ≡ Err Error.IndexExhausted) ↔ ((collected self.old).index ≡ 2 ^ 64 - 1) }

@@ -1,4 +1,4 @@
-ghost use Rattle.std.specs.Prelude.{◌≡◌, ◌+◌, ◌≤◌, ◌^◌, ◌↔◌, ◌⊎◌, IfOk, IfErr, OnOk, OnErr, MatchResult};
+ghost use Rattle.std.specs.Prelude.{◌≡◌, ◌+◌, ◌≤◌, ◌<◌, ◌^◌, ◌↔◌, ◌⊎◌, length, IfOk, IfErr, IsOk, OnOk, OnErr, MatchResult};
 ghost use Rattle.std.specs.Int.{int_min, int_max};
 ghost use Rattle.puffin_data.specs.Forest.{Forest, empty, append};
 ghost use Rattle.puffin_data.specs.Spelling.{Spells};
@@ -83,7 +83,8 @@ impl StreamInfo {
 
     /// Takes all scopes away. The stream keeps its memory.
     pub fn clear(&mut self)
-        ensures { IsHonest self.new empty }
+        ensures honest { IsHonest self.new empty }
+        ensures room { self.new.stream.room ≡ self.old.stream.room + length self.old.stream.bytes }
     {
         let walk = Walk::empty();
         self.stream.clear();
@@ -93,7 +94,8 @@ impl StreamInfo {
     }
 
     /// Appends another info's scopes. Refused with `TooLarge` where the number of scopes wouldn't fit, else with `Memory`;
-    /// nothing is changed then.
+    /// nothing is changed then. Within the stream's room it is never refused with `Memory`, and takes no more of it than the
+    /// bytes that are appended.
     pub fn extend(&mut self, other: &StreamInfoRef) -> Result<()>
         ensures ok { OnOk result (recorded self.new ≡ joined (recorded self.old) (recorded_ref other.now)) }
         // Two honest infos make an honest one.
@@ -101,6 +103,10 @@ impl StreamInfo {
         ensures too_large { (result ≡ Err Error.TooLarge) ↔ (2 ^ 64 ≤ self.old.num_scopes + other.now.num_scopes) }
         ensures err { OnErr result (recorded self.new ≡ recorded self.old) }
         ensures cause { IfErr result (λ e. (e ≡ Error.TooLarge) ⊎ (e ≡ Error.Memory)) }
+        // What the room takes is appended in it.
+        ensures succeeds { self.old.num_scopes + other.now.num_scopes < 2 ^ 64 →
+            length other.now.stream.now ≤ self.old.stream.room → IsOk result }
+        ensures room { self.old.stream.room ≤ self.new.stream.room + length other.now.stream.now }
     {
         let Some(num_scopes) = self.num_scopes.checked_add(other.num_scopes) else {
             return Err(Error::TooLarge);

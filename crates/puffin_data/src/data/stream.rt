@@ -54,7 +54,7 @@ impl Stream {
     /// Takes the bytes away. Their memory is kept.
     pub fn clear(&mut self)
         ensures bytes { self.new.bytes ≡ [] }
-        ensures room { self.old.room ≤ self.new.room }
+        ensures room { self.new.room ≡ self.old.room + length self.old.bytes }
     {
         self.bytes.clear()
     }

@@ -6,12 +6,12 @@ ghost use Rattle.puffin_frames.specs.Measures.{joined_range, TotalsFit, IsOrdere
 ghost use Rattle.puffin_frames.specs.Contents.{streams_of, all_recorded, contents, holding_of, frame_contents, frame_meta, is_alone};
 
 use crate::frame_data::held::Held;
-use crate::frame_data::meta::{FrameIndex, FrameMeta};
+use crate::frame_data::meta::FrameMeta;
 use crate::frame_data::unpacked::UnpackedFrameData;
 use crate::scope_details::ScopeDetails;
 use crate::thread_profiler::ThreadInfo;
 use puffin_data::data::StreamInfo;
-use puffin_data::{Error, NanoSecond, Result};
+use puffin_data::{Error, FrameIndex, NanoSecond, Result};
 use std::alloc::Global;
 use std::collections::BTreeMap;
 use std::sync::Arc;

@@ -10,11 +10,8 @@ ghost use Rattle.puffin_data.specs.Honesty.{recorded_ref};
 
 use crate::thread_profiler::ThreadInfo;
 use puffin_data::data::{StreamInfo, StreamInfoRef};
-use puffin_data::{Error, NanoSecond, Result};
+use puffin_data::{Error, FrameIndex, NanoSecond, Result};
 use std::collections::BTreeMap;
-
-/// The number of a frame, counted from 0.
-pub type FrameIndex = u64;
 
 /// What is said of a frame's streams together. A plain record: made by hand it may say anything.
 #[derive(Clone, Copy, Debug)]

@@ -1,8 +1,8 @@
-ghost use Rattle.std.specs.Prelude.{◌≡◌, ◌⊎◌, IfOk, IfErr, OnOk, OnErr};
+ghost use Rattle.std.specs.Prelude.{◌≡◌, ◌⊎◌, ◌↔◌, ◌+◌, ◌^◌, ◌≤◌, IfOk, IfErr, OnOk, OnErr};
 ghost use Rattle.std.specs.Arc.{arc_value};
 ghost use Rattle.puffin_data.specs.Honesty.{recorded, recorded_ref, joined};
 ghost use Rattle.puffin_data.specs.declared.error.Error.{Error};
-ghost use Rattle.puffin_frames.specs.Contents.{unshared, shared_streams, reported_to};
+ghost use Rattle.puffin_frames.specs.Contents.{unshared, shared_streams, stream_under, reported_to};
 ghost use Rattle.puffin_frames.specs.Info.{info_of};
 
 use crate::thread_profiler::ThreadInfo;
@@ -32,15 +32,19 @@ pub(crate) fn shared(
 
 /// Appends an info's scopes to a shared one. Where it has another owner, that one keeps what it had.
 ///
-/// Refused only with `Memory`, or with `TooLarge` where the number of scopes wouldn't fit `usize`; what is recorded is then
-/// as before.
+/// Refused with `TooLarge` where the number of scopes wouldn't fit `usize`, else only with `Memory`; what is recorded is
+/// then as before.
 fn extend_shared(alloc: Global, shared: &mut Arc<StreamInfo>, times: &StreamInfoRef) -> Result<()>
     ensures ok { OnOk result (recorded (arc_value shared.new) ≡ joined (recorded (arc_value shared.old)) (recorded_ref times.now)) }
+    ensures too_large { (result ≡ Err Error.TooLarge) ↔ (2 ^ 64 ≤ (arc_value shared.old).num_scopes + times.now.num_scopes) }
     ensures err { OnErr result (recorded (arc_value shared.new) ≡ recorded (arc_value shared.old)) }
     ensures cause { IfErr result (λ e. (e ≡ Error.TooLarge) ⊎ (e ≡ Error.Memory)) }
 {
     if let Some(alone) = Arc::get_mut(shared) {
         return alone.extend(times);
+    }
+    if shared.num_scopes.checked_add(times.num_scopes).is_none() {
+        return Err(Error::TooLarge);
     }
     let mut copy = StreamInfo::clone(shared)?;
     copy.extend(times)?;
@@ -50,8 +54,8 @@ fn extend_shared(alloc: Global, shared: &mut Arc<StreamInfo>, times: &StreamInfo
 
 /// Appends an info's scopes to those that a map has under their thread.
 ///
-/// Refused only with `Memory`, or with `TooLarge` where the number of scopes wouldn't fit `usize`; what the map has under each
-/// thread is then as before. Other owners of a stream of the map keep what they had.
+/// Refused with `TooLarge` where the number of scopes under that thread wouldn't fit `usize`, else only with `Memory`; what
+/// the map has under each thread is then as before. Other owners of a stream of the map keep what they had.
 pub fn report_to(
     alloc: Global,
     streams: &mut ThreadStreams,
@@ -59,6 +63,8 @@ pub fn report_to(
     times: &StreamInfoRef,
 ) -> Result<()>
     ensures ok { OnOk result (shared_streams streams.new.entries ≡ reported_to (shared_streams streams.old.entries) (info_of info) (recorded_ref times.now)) }
+    ensures too_large { (result ≡ Err Error.TooLarge)
+        ↔ (2 ^ 64 ≤ (stream_under (shared_streams streams.old.entries) (info_of info)).num_scopes + times.now.num_scopes) }
     ensures err { OnErr result (shared_streams streams.new.entries ≡ shared_streams streams.old.entries) }
     ensures cause { IfErr result (λ e. (e ≡ Error.TooLarge) ⊎ (e ≡ Error.Memory)) }
 {

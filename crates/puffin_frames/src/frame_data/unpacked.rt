@@ -1,11 +1,11 @@
 ghost use Rattle.std.specs.Prelude.{◌≡◌, ◌^◌, ◌<◌, ◌-ℤ◌, ◌≤ℤ◌, FitsSigned};
 ghost use Rattle.std.specs.Int.{w64};
 
-use crate::frame_data::meta::{FrameIndex, FrameMeta};
+use crate::frame_data::meta::FrameMeta;
 use crate::frame_data::shared::{ThreadStreams, shared};
 use crate::thread_profiler::ThreadInfo;
 use puffin_data::data::StreamInfo;
-use puffin_data::{Error, NanoSecond, Result};
+use puffin_data::{Error, FrameIndex, NanoSecond, Result};
 use std::alloc::Global;
 use std::collections::BTreeMap;
 

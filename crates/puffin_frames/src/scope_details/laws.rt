@@ -10,11 +10,12 @@ ghost use Rattle.std.specs.Cmp.{IsTotalOrder};
 ghost use Rattle.std.specs.Map.{keys_of};
 ghost use Rattle.std.specs.List.Sorted.{IsStrictlySortedBy};
 ghost use Rattle.std.specs.FinMap as map;
+ghost use Rattle.std.specs.Hash as fed;
 ghost use Rattle.puffin_data.specs.declared.data.scope_id.ScopeId.{ScopeId};
 ghost use Rattle.puffin_frames.specs.declared.scope_details.details.ScopeDetails.{ScopeDetails};
 ghost use Rattle.puffin_frames.specs.declared.scope_details.scope_type.ScopeType.{ScopeType};
 ghost use Rattle.puffin_frames.specs.Details.{Details, details_of, details_cmp, texts_cmp, same_details};
-ghost use Rattle.puffin_frames.specs.ScopeTypes.{type_cmp};
+ghost use Rattle.puffin_frames.specs.ScopeTypes.{type_cmp, type_place};
 ghost use Rattle.puffin_frames.specs.Collection.{Collection, inserted, inserted_all, no_details, first_with_id, last_id_of, KeepsOwnIds, by_ids, by_names, ids_seen, names_seen};
 
 use crate::scope_details::{ScopeDetails, ScopeType};
@@ -40,13 +41,17 @@ pub fn order_of_details()
     ensures same { (a b : Details) → IsTrue (same_details a b) → a ≡ b }
 {}
 
-/// How the types of scopes and ids are compared: functions before named scopes, ids by their numbers.
+/// How the types of scopes and ids are compared: functions before named scopes, ids by their numbers. They are hashed as
+/// they are compared.
 pub fn types_and_ids()
     ensures types { (a b : ScopeType) → ⟦<ScopeType as Ord>⟧.cmp a b ≡ type_cmp a b }
     ensures same_types { (a b : ScopeType) → ⟦<ScopeType as PartialEq>⟧.eq a b ≡ eq_by_cmp type_cmp a b }
     ensures one_type { (a b : ScopeType) → type_cmp a b ≡ Equal → a ≡ b }
     ensures ids { (a b : ScopeId) → ⟦<ScopeId as Ord>⟧.cmp a b ≡ nat_cmp a b }
     ensures same_ids { (a b : ScopeId) → ⟦<ScopeId as PartialEq>⟧.eq a b ≡ eq_by_cmp nat_cmp a b }
+    // A type is hashed as its place, and an id as its number.
+    ensures type_hashes { (a : ScopeType) → ⟦<ScopeType as Hash>⟧.hash_input a ≡ fed.usize (type_place a) }
+    ensures id_hashes { (a : ScopeId) → ⟦<ScopeId as Hash>⟧.hash_input a ≡ fed.u32 a }
 {}
 
 /// A collection of a list of details has under each id the first details with it, and under each name the last id that was

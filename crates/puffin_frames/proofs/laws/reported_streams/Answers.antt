@@ -1,7 +1,7 @@
 use Rattle.puffin_frames.specs.Info.{info_cmp}
 use Rattle.puffin_frames.proofs.Seen.{entries-empty}
 use Rattle.std.proofs.Common.{ap, map}
-use Rattle.puffin_frames.proofs.Measured.{after_report, bytes_measure, scopes_measure, starts_measure, stops_measure}
+use Rattle.puffin_frames.proofs.Measured.{after_report, bytes_measure, scopes_measure, starts_measure, stops_measure, under_one}
 use Rattle.puffin_frames.proofs.laws.reported_streams.Goals as goal
 
 pub returns-clause-bytes : goal.returns-clause-bytes
@@ -18,3 +18,6 @@ returns-clause-stop c = after_report stops_measure
 
 pub returns-clause-none : goal.returns-clause-none
 returns-clause-none c = ap (map (λ e. e.1)) (entries-empty info_cmp)
+
+pub returns-clause-under_one : goal.returns-clause-under_one
+returns-clause-under_one c = under_one

@@ -8,7 +8,7 @@ use Rattle.puffin_frames.specs.Details.{shared_details, AllHaveIds}
 use Rattle.puffin.specs.Collected.{Collected}
 use Rattle.puffin.specs.Collecting.{IsKept, AddsUp}
 use Rattle.puffin.proofs.Knowing.{ids_after}
-use Rattle.puffin.proofs.Reporting.{Laws, kept_after, on_ok}
+use Rattle.puffin.proofs.Reporting.{Laws, kept_after}
 use Rattle.puffin.proofs.global_profiler.collector.Collector.report.Goals as goal
 
 pub invariant_of-self-2 : goal.invariant_of-self-2
@@ -34,7 +34,7 @@ invariant_of-self-2 c =
     } in
     let adds : AddsUp seen c.in_ok-meta.meta r = subst (λ (v : Collected). AddsUp v c.in_ok-meta.meta r) (sym c.self.view_is) c.in_ok-meta.ensures.sums.0 in
     let reported : c.in_ok-meta.reported ≡ seen.reported + r.num_scopes = subst (λ (v : Collected). c.in_ok-meta.reported ≡ v.reported + r.num_scopes) (sym c.self.view_is) c.in_ok-meta.ensures.sums.1 in
-    let put = on_ok c.report_to.result c.report_to.ensures.ok (sym c.is_err.ensures.value ∙ c.if-is_err.false) in (
+    let put = c.in_ok-report_to.ensures.ok in (
       subst (λ (s : Streams). IsKept s c.in_ok-meta.meta c.in_ok-meta.reported inside.emitted) (sym put)
           (kept_after seen _ _ i r c.requires.0 _ laws adds (c.joined_ranges.ensures.start_of_one_more r (map.values seen.streams)) (c.joined_ranges.ensures.stop_of_one_more r (map.values seen.streams)) c.self.invariant.0 c.requires.1 reported),
       ids_after _ _ _ (c.in-Ok.ensures.items ∙ ap (λ (ds : _). ds ++ c.in_ok-fresh.fresh.items) c.in_ok-reserve.ensures.items) c.self.invariant.1 (subst AllHaveIds (sym c.in_ok-fresh.ensures.ok) c.in_ok-meta.ensures.ids),
