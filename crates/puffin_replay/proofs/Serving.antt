@@ -103,9 +103,9 @@ Continues-began now t at id text offset there place = (
       let within : t < length o.threads = omega (arith, before.stands.num_threads) in
       let changed = after_begin (thread_in now t) id (cut_text (string_bytes text)) (clock_time at) in
       let new = with_thread now t changed now.collected in
-      let a : Action = calls t (record { at = at; mark = begun id (cut_text (string_bytes text)) }) in (
+      let a : Action = calls t (record { at = at; mark = begun id (string_bytes text) }) in (
         record {
-          stands = StandsAfter-begun o done now new before.stands t at id (cut_text (string_bytes text)) within (changes now new t changed 0 there refl refl (omega arith)) refl
+          stands = StandsAfter-begun o done now new before.stands t at id (string_bytes text) within (changes now new t changed 0 there refl refl (omega arith)) refl
               (tells_same o done a now.collected now.collected before.stands.tells refl refl (λ w. refl) (same_told now.collected now.collected refl));
           sums = sums_same o done a now.collected.streams now.collected.streams before.sums refl refl;
         },

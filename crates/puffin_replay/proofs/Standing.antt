@@ -7,6 +7,7 @@ use Rattle.std.specs.List.{slice_index_or, flat_map}
 use Rattle.std.specs.FinMap.{empty}
 use Rattle.std.proofs.lemmas.List.Concat.{flat_map-append}
 use Rattle.puffin_data.specs.Honesty.{Recorded}
+use Rattle.puffin_data.specs.Text.{cut_text}
 use Rattle.puffin_data.specs.Tour.{Event, Close}
 use Rattle.puffin_data.specs.Words.{num_begun}
 use Rattle.puffin_frames.specs.Info.{Info}
@@ -27,7 +28,7 @@ use Rattle.puffin_replay.proofs.Collecting.{SpellsDue-report, SpellsDue-none}
 
 -- a thread after a call of it; an accepted report leaves no events
 abbrev pub after_call : Thread → ℤ → Mark → Thread
-after_call thread at (begun id text) = after_begin thread id text (int_max (pos 0) at)
+after_call thread at (begun id text) = after_begin thread id (cut_text text) (int_max (pos 0) at)
 after_call thread at (ended false) = after_end thread (int_max (pos 0) at)
 after_call thread at (ended true) = after_handing (after_end thread (int_max (pos 0) at))
 

@@ -57,7 +57,7 @@ user_details names = map (λ name. record default_details { scope_name = Some (s
 
 -- What a command did, by its reply, and by what was learnt of scopes, where these two don't say it: the details of the user scopes that were new, and those that a refused frame's collection has taken in.
 abbrev pub action_of : Command → Reply → List Details → Action
-action_of (Begin thread at id text) (reply.Began offset) learnt = calls thread (record { at = at; mark = begun id (cut_text (string_bytes text)) })
+action_of (Begin thread at id text) (reply.Began offset) learnt = calls thread (record { at = at; mark = begun id (string_bytes text) })
 action_of (End thread at back) (reply.Ended closed) learnt = calls thread (record { at = at; mark = ended (is_reported closed) })
 action_of (Register thread name function file line) (reply.Registered id) learnt = registers thread (details_given (option_map string_bytes name) (string_bytes function) (string_bytes file) line id)
 action_of (RegisterUser names) (reply.RegisteredUser ids) learnt = adds learnt
