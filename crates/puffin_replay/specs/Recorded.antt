@@ -88,7 +88,7 @@ file_of_view view = file_of (contents_in (view_of view))
 abbrev pub IsWriteFault : FileError → Type 0
 IsWriteFault fault = (fault ≡ file.PartTooLong) ⊎ (fault ≡ file.Memory) ⊎ (fault ≡ file.Io)
 
--- What a recording that failed has left: a session ran these commands or none, from start to end, of the view stands new, and of what is written after.
+-- What a recording that failed has left: its session went from start to end, its view from old to new, and what is written from before to after.
 module _ (start end : SessionState) (commands : List Command) (old new : FrameView) (before after : Option (List ℕ)) where
   -- there was no memory to run the commands, and nothing is changed or written
   abbrev pub HasNotRun : FileError → Type 0
@@ -102,6 +102,7 @@ module _ (start end : SessionState) (commands : List Command) (old new : FrameVi
   abbrev pub HasNotWritten : FileError → Type 0
   HasNotWritten fault = (replies : List Reply) × Records start end commands replies × Takes (frames_emitted replies) old new × WritesBeginning before after (file_of_view new) × IsWriteFault fault
 
+  -- why a recording failed, and what it left
   abbrev pub IsBroken : FileError → Type 0
   IsBroken fault = HasNotRun fault ⊎ HasNotTaken fault ⊎ HasNotWritten fault
 
