@@ -45,7 +45,7 @@ after_last : (v : View) (fs : List Frame) (f : Frame) → after_all v (fs ++ f �
 after_last v [] f = refl
 after_last v (g ∷ fs) f = after_last (after_taking v g) fs f
 
-took_all : (fs : List Frame) → Took (map contents_of fs) (after_all read_view fs)
+pub took_all : (fs : List Frame) → Took (map contents_of fs) (after_all read_view fs)
 took_all fs = Took-all read_view [] fs tt (Took-none read_view refl refl refl)
 
 pub view_of_frames : (stored : List Stored) (v : FrameView) → view_of v ≡ after_all read_view (map frame_stored stored) → collection_of v ≡ inserted_all no_details (flat_map details_stored stored) → IsViewOf stored v

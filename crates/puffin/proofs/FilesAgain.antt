@@ -118,10 +118,10 @@ rising_by [] keys sorted = refl
 rising_by (e ∷ es) keys sorted =
     rises_by (index_of e.1) es keys.1 (subst (λ (i : ℕ). T (below_all nat_cmp i es)) (sym keys.0) (first (below_all nat_cmp e.0 es) (is_sorted nat_cmp es) sorted)) (second (below_all nat_cmp e.0 es) (is_sorted nat_cmp es) sorted)
 
-contents_rise : (v : View) → is_rising (contents_in v) ≡ true
+pub contents_rise : (v : View) → is_rising (contents_in v) ≡ true
 contents_rise v = let fs = v.recent ++ v.slow in rising_by (fin.entries (frames_by_index fs)) (keyed fs) (fin.entries_sorted (frames_by_index fs))
 
-all_taken : (cs : List Said) → is_rising cs ≡ true → taken cs ≡ cs
+pub all_taken : (cs : List Said) → is_rising cs ≡ true → taken cs ≡ cs
 all_taken [] h = refl
 all_taken (c ∷ cs) h = ap (λ (b : Bool). cond b (c ∷ cs) (taken cs)) h
 
@@ -139,14 +139,14 @@ ready_keeps false false v = refl
 taking_keeps : (v : View) (f : Frame) → (after_taking v f).max_recent ≡ v.max_recent
 taking_keeps v f = ready_keeps (is_past v (index_of f)) v.packs v
 
-all_keep : (v : View) (fs : List Frame) → (after_all v fs).max_recent ≡ v.max_recent
+pub all_keep : (v : View) (fs : List Frame) → (after_all v fs).max_recent ≡ v.max_recent
 all_keep v [] = refl
 all_keep v (f ∷ fs) = all_keep (after_taking v f) fs ∙ taking_keeps v f
 
-last_of_all : (n : ℕ) (cs : List Said) → length cs ≤ n → last_of n cs ≡ cs
+pub last_of_all : (n : ℕ) (cs : List Said) → length cs ≤ n → last_of n cs ≡ cs
 last_of_all n cs h = let none : length cs - n ≡ 0 = omega arith in ap (λ (k : ℕ). drop k cs) none
 
-said_again : (cs : List Said) → map contents_of (map frame_stored (map packed cs)) ≡ cs
+pub said_again : (cs : List Said) → map contents_of (map frame_stored (map packed cs)) ≡ cs
 said_again [] = refl
 said_again (c ∷ cs) = ap (λ (ds : List Said). c ∷ ds) (said_again cs)
 

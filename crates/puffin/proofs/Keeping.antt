@@ -19,12 +19,12 @@ all_take P zero xs h = tt
 all_take P (suc k) [] h = tt
 all_take P (suc k) (x ∷ xs) h = (h.0, all_take P k xs h.1)
 
-all_drop : (P : Frame → Type 0) (k : ℕ) (xs : List Frame) → AllByRecursion P xs → AllByRecursion P (drop k xs)
+pub all_drop : (P : Frame → Type 0) (k : ℕ) (xs : List Frame) → AllByRecursion P xs → AllByRecursion P (drop k xs)
 all_drop P zero xs h = h
 all_drop P (suc k) [] h = tt
 all_drop P (suc k) (x ∷ xs) h = all_drop P k xs h.1
 
-all_more : (P : Frame → Type 0) (xs : List Frame) (f : Frame) → AllByRecursion P xs → P f → AllByRecursion P (xs ++ f ∷ [])
+pub all_more : (P : Frame → Type 0) (xs : List Frame) (f : Frame) → AllByRecursion P xs → P f → AllByRecursion P (xs ++ f ∷ [])
 all_more P [] f h p = (p, tt)
 all_more P (x ∷ xs) f h p = (h.0, all_more P xs f h.1 p)
 
@@ -107,13 +107,13 @@ all_so_far P (x ∷ xs) zero d b h p = (p, tt)
 all_so_far P (x ∷ xs) (suc k) d b h p = (h.0, all_so_far P xs k d (omega arith) h.1 p)
 
 -- what packing keeps
-index_packed_at : (i : ℕ) (f : Frame) → index_of (packed_at i f) ≡ index_of f
+pub index_packed_at : (i : ℕ) (f : Frame) → index_of (packed_at i f) ≡ index_of f
 index_packed_at i f = at (nat_eq (index_of f) i) where
   at : (b : Bool) → index_of (cond b (packed f) f) ≡ index_of f
   at true = refl
   at false = refl
 
-all_packed : (P Q : Frame → Type 0) (i : ℕ) → ((f : Frame) → P f → Q (packed_at i f)) → (fs : List Frame) → AllByRecursion P fs → AllByRecursion Q (map (packed_at i) fs)
+pub all_packed : (P Q : Frame → Type 0) (i : ℕ) → ((f : Frame) → P f → Q (packed_at i f)) → (fs : List Frame) → AllByRecursion P fs → AllByRecursion Q (map (packed_at i) fs)
 all_packed P Q i k [] h = tt
 all_packed P Q i k (f ∷ fs) h = (k f h.0, all_packed P Q i k fs h.1)
 
@@ -156,7 +156,7 @@ slow_choice : (k : ℕ) (f : Frame) (slow : List Frame) (b : Bool) → AllByRecu
 slow_choice k f slow true h a = apart_take k (place is_slower_frame f slow) (apart_place f slow a h)
 slow_choice k f slow false h a = a
 
-all_choice : (P : Frame → Type 0) (k : ℕ) (f : Frame) (slow : List Frame) (b : Bool) → P f → AllByRecursion P slow → AllByRecursion P (cond b (take k (place is_slower_frame f slow)) slow)
+pub all_choice : (P : Frame → Type 0) (k : ℕ) (f : Frame) (slow : List Frame) (b : Bool) → P f → AllByRecursion P slow → AllByRecursion P (cond b (take k (place is_slower_frame f slow)) slow)
 all_choice P k f slow true p h = all_take P k (place is_slower_frame f slow) (all_place P f slow p h)
 all_choice P k f slow false p h = h
 

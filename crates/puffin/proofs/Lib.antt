@@ -41,3 +41,4 @@ pub mod Copied
 pub mod OneMerge
 pub mod OneOutcome
 pub mod FilesAgain
+pub mod FramesHeld

@@ -48,7 +48,7 @@ pub has-index_of : (q : ℕ) (fs : List Frame) → has q (map index_of fs) ≡ h
 has-index_of q [] = refl
 has-index_of q (f ∷ fs) = ap (λ b. nat_eq q (index_of f) || b) (has-index_of q fs)
 
-has_all : (P : Frame → Type 0) (fs : List Frame) → ((g : Frame) → has_index (index_of g) fs ≡ true → P g) → AllByRecursion P fs
+pub has_all : (P : Frame → Type 0) (fs : List Frame) → ((g : Frame) → has_index (index_of g) fs ≡ true → P g) → AllByRecursion P fs
 has_all P [] h = tt
 has_all P (f ∷ fs) h = (h f (ap (λ b. b || has_index (index_of f) fs) (same (index_of f) (index_of f) refl)), has_all P fs (λ g e. h g (later (nat_eq (index_of g) (index_of f)) (has_index (index_of g) fs) e))) where
   same : (a b : ℕ) → a ≡ b → nat_eq a b ≡ true
@@ -131,7 +131,7 @@ LetsGo-none held stays q = at (has q stays) where
   at true = refl
   at false = refl
 
-is_at : (q i : ℕ) → eq_by_cmp nat_cmp q i ≡ nat_eq q i
+pub is_at : (q i : ℕ) → eq_by_cmp nat_cmp q i ≡ nat_eq q i
 is_at q i = grind arith
 
 either_last : (a b : Bool) → (a || (b || false)) ≡ (a || b)

@@ -27,6 +27,10 @@ magic = 80 ∷ 85 ∷ 70 ∷ 48 ∷ []
 abbrev pub file_of : List Said → List ℕ
 file_of cs = magic ++ flat_map packet cs
 
+-- what the frames of both lists of a view say
+abbrev pub contents_held : View → List Said
+contents_held v = map contents_of (v.recent ++ v.slow)
+
 -- what the frames of a view say, each once, by rising index
 abbrev pub contents_in : View → List Said
 contents_in v = map contents_of (all_uniq v)

@@ -7,7 +7,7 @@ use Rattle.puffin_frames.specs.Events.{events_in}
 use Rattle.puffin_frames.proofs.Events.{events_open}
 pub use Rattle.puffin_data.proofs.Tours.{tour-append}
 pub use Rattle.puffin_data.proofs.Extended.{honest_joined}
-pub use Rattle.puffin_data.proofs.WordMeasures.{word_size-append, num_begun-append, least_open-append, greatest_close-append, word_size-tour, num_begun-tour, least_open-tour, greatest_close-tour}
+pub use Rattle.puffin_data.proofs.WordMeasures.{least_open-append, greatest_close-append, word_size-tour, num_begun-tour, least_open-tour, greatest_close-tour}
 pub use Rattle.puffin_frames.proofs.Infos.{info_cmp_total, same_info-one, same_info-itself}
 pub use Rattle.puffin_frames.proofs.Measured.{after_report, bytes_measure, scopes_measure, starts_measure, stops_measure, total_bytes-one, total_scopes-one}
 pub use Rattle.puffin_frames.proofs.Ranges.{least_start-one, greatest_stop-one}

@@ -1,11 +1,12 @@
 -- What a view makes of the frames of replies, one after another.
-use Rattle.std.proofs.Common.{◌≡◌, ◌⊎◌, inl, inr, ℕ, ◌+◌, ◌<◌, List, [], ◌∷◌, ◌++◌, length, take, drop, get_or, map, refl, sym, ap, ◌∙◌, subst, append_assoc, append-nil, Option, Result, Ok, Err, string_bytes, String, All, arith, length-append}
-use Rattle.std.specs.Prelude.{IsSome, OnErr, IfErr}
-use Rattle.std.specs.List.{flat_map, AllByRecursion, Any, AllZip}
+use Rattle.std.proofs.Common.{◌≡◌, ◌⊎◌, inl, inr, ℕ, ◌+◌, ◌<◌, List, [], ◌∷◌, ◌++◌, length, take, drop, get_or, map, refl, sym, ap, ◌∙◌, subst, append_assoc, append-nil, Option, None, Some, Result, Ok, Err, string_bytes, String, All, arith, length-append}
+use Rattle.std.specs.Prelude.{Bool, false, is_none, IsSome, OnErr, IfErr}
+use Rattle.std.specs.List.{flat_map, list_any, AllByRecursion, Any, AllZip}
+use Rattle.std.proofs.lemmas.List.Folds.{list_any-append}
 use Rattle.std.proofs.lemmas.Grind.{flat_map-append}
 use Rattle.std.proofs.lemmas.List.{take_more, drop_more, take-append-drop, map-append}
 use Rattle.std.proofs.Math.Seq.{get_or-append_seam}
-use Rattle.std.proofs.lemmas.List.Elements.{All-get_or}
+use Rattle.std.proofs.lemmas.List.Elements.{All-get_or, recursion_from_All}
 use Rattle.std.proofs.lemmas.List.Sums.{fold-append}
 use Rattle.std.specs.Io.KnownBytes.{Appends}
 use Rattle.puffin_data.specs.declared.error.Error.{Error}
@@ -15,20 +16,21 @@ use Rattle.puffin_data.specs.declared.file_error.FileError.TheVariants as file
 use Rattle.puffin_data.specs.Devices.{IsOutside, WritesBeginning}
 use Rattle.puffin_frames.specs.Steps.{IsPacked}
 use Rattle.puffin_frames.specs.Writes.{HasLongPart}
-use Rattle.puffin_frames.specs.Details.{Details, AllHaveIds}
+use Rattle.puffin_frames.specs.Details.{Details, lacks_id, AllHaveIds}
 use Rattle.puffin_frames.specs.Collection.{Collection, inserted, inserted_all}
 use Rattle.puffin_frames.specs.Stored.{Said}
 use Rattle.puffin.specs.declared.profile_view.frame_view.FrameView.{FrameView}
 use Rattle.puffin.specs.Frames.{Frame, contents_of}
 use Rattle.puffin.specs.FrameOf.{told}
 use Rattle.puffin.specs.Views.{View, Took, empty_view, after_taking, after_all, with_newest_packed}
-use Rattle.puffin.specs.FrameViews.{view_of, collection_of, FirstLacksId, LearnsSome}
-use Rattle.puffin.specs.Files.{file_of, contents_in}
+use Rattle.puffin.specs.FrameViews.{view_of, collection_of, lacks_ids, FirstLacksId, LearnsSome}
+use Rattle.puffin.specs.Files.{file_of, contents_held, contents_in}
 use Rattle.puffin_replay.specs.declared.replay.command.Command.{Command}
 use Rattle.puffin_replay.specs.declared.replay.script.Script.{Script}
 use Rattle.puffin_replay.specs.declared.replay.command.Reply.{Reply}
-use Rattle.puffin_replay.specs.Recorded.{HasIds, emitted_by, frames_emitted, Takes, TakesSome, AreReplies, AreAnswers, file_of_view, view_after, IsBroken, IsReplayed, IsUnfinished}
+use Rattle.puffin_replay.specs.Recorded.{HasIds, NoneLacksIds, emitted_by, frames_emitted, Takes, TakesSome, AreReplies, AreAnswers, file_of_view, view_after, IsBroken, IsReplayed, IsUnfinished}
 use Rattle.puffin_replay.specs.Lines.{reply_lines}
+use Rattle.puffin_replay.specs.Sessions.{SessionState, new_session}
 use Rattle.puffin_replay.proofs.Writing.{nothing_written}
 
 -- ---- lists
@@ -53,6 +55,44 @@ none_at learnt (d ∷ rest) all lacks =
 
 memory_alone : (old new : Collection) (ds : List Details) (e : Error) → AllHaveIds ds → LearnsSome old ds e new → e ≡ Memory
 memory_alone old new ds e all learns = elim learns.4 [ inl missing ↦ absurd (none_at learns.0 learns.1 (subst AllHaveIds learns.2 all) missing.1) | inr memory ↦ memory ]
+
+-- ---- ids
+
+has_id : (id : Option ℕ) → IsSome id → is_none id ≡ false
+has_id None some = cc
+has_id (Some n) some = refl
+
+none_lack : (ds : List Details) → AllByRecursion (λ (d : Details). IsSome d.id) ds → list_any lacks_id ds ≡ false
+none_lack [] all = refl
+none_lack (d ∷ ds) all = rw (has_id d.id all.0) (none_lack ds all.1)
+
+both_none : (cs ds : List Said) → NoneLacksIds cs → NoneLacksIds ds → NoneLacksIds (cs ++ ds)
+both_none cs ds p q = list_any-append lacks_ids cs ds ∙ rw (p, q) refl
+
+all_first : {X : Type 0} (P : X → Type 0) (xs ys : List X) → AllByRecursion P (xs ++ ys) → AllByRecursion P xs
+all_first P [] ys all = tt
+all_first P (x ∷ xs) ys all = (all.0, all_first P xs ys all.1)
+
+all_rest : {X : Type 0} (P : X → Type 0) (xs ys : List X) → AllByRecursion P (xs ++ ys) → AllByRecursion P ys
+all_rest P [] ys all = all
+all_rest P (x ∷ xs) ys all = all_rest P xs ys all.1
+
+frames_lack_none : (fs : List Frame) → AllByRecursion (λ (d : Details). IsSome d.id) (flat_map told fs) → NoneLacksIds (map contents_of fs)
+frames_lack_none [] all = refl
+frames_lack_none (f ∷ fs) all =
+    rw (none_lack (told f) (all_first (λ d. IsSome d.id) (told f) (flat_map told fs) all)) (frames_lack_none fs (all_rest (λ d. IsSome d.id) (told f) (flat_map told fs) all))
+
+replies_lack_none : (rs : List Reply) → AllByRecursion HasIds rs → NoneLacksIds (map contents_of (frames_emitted rs))
+replies_lack_none [] all = refl
+replies_lack_none (r ∷ rs) all =
+    let one = frames_lack_none (emitted_by r) (recursion_from_All (λ (d : Details). IsSome d.id) (flat_map told (emitted_by r)) all.0) in
+    subst NoneLacksIds (sym (map-append contents_of (emitted_by r) (frames_emitted rs))) (both_none (map contents_of (emitted_by r)) (map contents_of (frames_emitted rs)) one (replies_lack_none rs all.1))
+
+-- what a view holds after it took the frames of these replies
+pub ids_kept : ((p : Said → Bool) (v : View) (fs : List Frame) → list_any p (contents_held v) ≡ false → list_any p (map contents_of fs) ≡ false → list_any p (contents_held (after_all v fs)) ≡ false)
+    → (rs : List Reply) (old new : FrameView) → All HasIds rs → Takes (frames_emitted rs) old new → NoneLacksIds (contents_held (view_of old)) → NoneLacksIds (contents_held (view_of new))
+ids_kept held rs old new ids takes before =
+    subst (λ (v : View). NoneLacksIds (contents_held v)) (sym takes.taken) (held lacks_ids (view_of old) (frames_emitted rs) before (replies_lack_none rs (recursion_from_All HasIds rs ids)))
 
 -- a view that took a list took these frames besides
 abbrev pub TookAlso : List Frame → View → View → Type 0
@@ -143,23 +183,24 @@ told-cut X Q (Ok x) step part io = tt
 told-cut X Q (Err e) step part io = step e io.0 part
 
 module _ (script : Script) (names : List (List ℕ)) (commands : List Command) (same_names : names ≡ map string_bytes script.names.items) (same_commands : commands ≡ script.commands.items) where
-  pub answers : (replies : List Reply) → AreReplies names commands replies → AreAnswers script replies
-  answers replies run = subst (λ (ns : List (List ℕ)). AreReplies ns script.commands.items replies) same_names (subst (λ (cs : List Command). AreReplies names cs replies) same_commands run)
+  pub answers : (replies : List Reply) (end : SessionState) → AreReplies names commands replies end → AreAnswers script replies end
+  answers replies end run = subst (λ (ns : List (List ℕ)). AreReplies ns script.commands.items replies end) same_names (subst (λ (cs : List Command). AreReplies names cs replies end) same_commands run)
 
   module _ (old new : FrameView) (empty : view_of old ≡ empty_view) where
     pub view-after : (replies : List Reply) → Takes (frames_emitted replies) old new → view_of new ≡ view_after replies
     view-after replies takes = takes.taken ∙ ap (λ (v : View). after_all v (frames_emitted replies)) empty
 
     -- the file wasn't written whole
-    pub unfinished : (fault : FileError) (file_before file_after lines : Option (List ℕ)) → IsBroken names commands fault old new file_before file_after → (fault ≡ file.PartTooLong → Any HasLongPart (contents_in (view_of new)))
+    pub unfinished : (fault : FileError) (file_before file_after lines : Option (List ℕ)) → (end : SessionState) × IsBroken (new_session names) end commands old new file_before file_after fault → (fault ≡ file.PartTooLong → Any HasLongPart (contents_in (view_of new)))
         → IsUnfinished script fault file_before file_after lines lines
-    unfinished fault file_before file_after lines (inl none) long = inl (none.0, none.2, nothing_written lines)
-    unfinished fault file_before file_after lines (inr (inl some)) long = inl (some.3, some.4, nothing_written lines)
-    unfinished fault file_before file_after lines (inr (inr all)) long =
+    unfinished fault file_before file_after lines (end, inl none) long = inl (none.0, none.3, nothing_written lines)
+    unfinished fault file_before file_after lines (end, inr (inl some)) long = inl (some.3, some.4, nothing_written lines)
+    unfinished fault file_before file_after lines (end, inr (inr all)) long =
         let same = view-after all.0 all.2 in
         inr (inl (
           all.0,
-          answers all.0 all.1,
+          end,
+          answers all.0 end all.1,
           subst (λ (v : View). WritesBeginning file_before file_after (file_of (contents_in v))) same all.3,
           nothing_written lines,
           all.4,
@@ -167,7 +208,7 @@ module _ (script : Script) (names : List (List ℕ)) (commands : List Command) (
         ))
 
     -- the file was written
-    module _ (replies : List Reply) (run : AreReplies names commands replies) (takes : Takes (frames_emitted replies) old new) (file_before file_after : Option (List ℕ)) (written : Appends file_before file_after (file_of_view new)) where
+    module _ (replies : List Reply) (run : (end : SessionState) × AreReplies names commands replies end) (takes : Takes (frames_emitted replies) old new) (file_before file_after : Option (List ℕ)) (written : Appends file_before file_after (file_of_view new)) where
       written-after : Appends file_before file_after (file_of (contents_in (view_after replies)))
       written-after = subst (λ (v : View). Appends file_before file_after (file_of (contents_in v))) (view-after replies takes) written
 
@@ -175,21 +216,23 @@ module _ (script : Script) (names : List (List ℕ)) (commands : List Command) (
       pub cut_lines : (fault : FileError) (bytes : List ℕ) (lines_before lines_after : Option (List ℕ)) → bytes ≡ reply_lines script.lines.items replies → WritesBeginning lines_before lines_after bytes → IsOutside fault
           → IsUnfinished script fault file_before file_after lines_before lines_after
       cut_lines fault bytes lines_before lines_after same part outside =
-          inr (inr (replies, answers replies run, written-after, subst (λ (bs : List ℕ). WritesBeginning lines_before lines_after bs) same part, outside))
+          inr (inr (replies, run.0, answers replies run.0 run.1, written-after, subst (λ (bs : List ℕ). WritesBeginning lines_before lines_after bs) same part, outside))
 
       -- and no line, for want of memory
       pub no_lines : (fault : FileError) (lines : Option (List ℕ)) → fault ≡ file.Memory → IsUnfinished script fault file_before file_after lines lines
       no_lines fault lines memory = cut_lines fault (reply_lines script.lines.items replies) lines lines refl ([], reply_lines script.lines.items replies, refl, nothing_written lines) (inr memory)
 
       -- and the lines
-      pub replayed : (bytes : List ℕ) (lines_before lines_after : Option (List ℕ)) → TookAlso (frames_emitted replies) (view_of old) (view_of new) → Took [] (view_of old) → bytes ≡ reply_lines script.lines.items replies → AllByRecursion IsPacked (contents_in (view_of new)) → Appends lines_before lines_after bytes
+      pub replayed : (bytes : List ℕ) (lines_before lines_after : Option (List ℕ)) → TookAlso (frames_emitted replies) (view_of old) (view_of new) → Took [] (view_of old) → bytes ≡ reply_lines script.lines.items replies → AllByRecursion IsPacked (contents_in (view_of new)) → NoneLacksIds (contents_in (view_of new)) → Appends lines_before lines_after bytes
           → IsReplayed script file_before file_after lines_before lines_after
-      replayed bytes lines_before lines_after took none same packed told = record {
+      replayed bytes lines_before lines_after took none same packed ids told = record {
         replies = replies;
-        run = answers replies run;
+        end = run.0;
+        run = answers replies run.0 run.1;
         took = subst (λ (v : View). Took (map contents_of (frames_emitted replies)) v) (view-after replies takes) (took [] none);
         written = written-after;
         packed = subst (λ (v : View). AllByRecursion IsPacked (contents_in v)) (view-after replies takes) packed;
+        ids = subst (λ (v : View). NoneLacksIds (contents_in v)) (view-after replies takes) ids;
         told = subst (λ (bs : List ℕ). Appends lines_before lines_after bs) same told;
       }
 

@@ -2,10 +2,9 @@
 use Rattle.std.proofs.Common.{◌≡◌, List, [], ◌∷◌, ◌++◌, length, refl, sym, ap, subst, append_assoc, append-nil, length-append, arith}
 use Rattle.puffin_replay.specs.declared.replay.command.Command.{Command}
 use Rattle.puffin_replay.specs.declared.replay.command.Reply.{Reply}
-use Rattle.std.specs.List.{flat_map}
 use Rattle.puffin_frames.specs.Details.{Details}
 use Rattle.puffin_replay.specs.History.{Opening, Action}
-use Rattle.puffin_replay.specs.Due.{due, events_of}
+use Rattle.puffin_replay.specs.Due.{due}
 use Rattle.puffin_replay.specs.Sessions.{SessionState, opening_of, StandsAfter}
 use Rattle.puffin_replay.specs.Replies.{action_of, actions_of, MayReply, EachReply}
 use Rattle.puffin_replay.specs.Serving.{SumsTo, Continues, RunsTo}
@@ -33,7 +32,7 @@ EachReply-more o done (d ∷ cs) (q ∷ rs) (k ∷ ls) c r l e f each last = (
 )
 
 -- before any command
-pub RunsTo-none : (s : SessionState) → StandsAfter (opening_of s) [] s → SumsTo s.collected.streams (flat_map events_of (due (opening_of s) [])) → RunsTo s s [] []
+pub RunsTo-none : (s : SessionState) → StandsAfter (opening_of s) [] s → SumsTo s.collected.streams (due (opening_of s) []) → RunsTo s s [] []
 RunsTo-none s stands sums = record {
   recorded = record { num_replies = refl; learnt = []; num_learnt = refl; opened = stands; replies_stand = tt; stands = stands };
   sums = sums;
@@ -55,5 +54,5 @@ RunsTo-more old now new cs rs c r before continues =
         replies_stand = EachReply-more (opening_of old) [] cs rs records.learnt c r l records.num_replies records.num_learnt records.replies_stand step.1;
         stands = subst (λ done. StandsAfter (opening_of old) done new) (sym actions) step.0.stands;
       };
-      sums = subst (λ (done : List Action). SumsTo new.collected.streams (flat_map events_of (due (opening_of old) done))) (sym actions) step.0.sums;
+      sums = subst (λ (done : List Action). SumsTo new.collected.streams (due (opening_of old) done)) (sym actions) step.0.sums;
     }

@@ -1,14 +1,13 @@
 -- What single commands do to a session continues its history.
 use Rattle.std.proofs.Common.{◌≡◌, ◌≢◌, ℕ, ◌+◌, ◌-◌, ◌^◌, ◌<◌, ◌≤◌, ◌⊎◌, inl, inr, ℤ, Bool, true, false, fold, List, [], ◌∷◌, ◌++◌, length, set, Option, Some, None, String, Global, refl, sym, ap, ◌∙◌, subst, arith, append-nil}
 use Rattle.std.specs.String.{string_bytes}
-use Rattle.std.specs.List.{slice_index_or, flat_map}
+use Rattle.std.specs.List.{slice_index_or}
 use Rattle.std.specs.FinMap.{get, values, empty}
 use Rattle.std.specs.Arc.{arc_value}
 use Rattle.std.specs.Option.{option_map}
 use Rattle.std.specs.Global.{Vec}
 use Rattle.std.specs.declared.sync.Arc.{Arc}
 use Rattle.std.proofs.lemmas.List.{length-set, get_or-set_same, get_or-set_other}
-use Rattle.std.proofs.lemmas.List.Concat.{flat_map-append}
 use Rattle.puffin_data.specs.declared.error.Error.{Error}
 use Rattle.puffin_data.specs.declared.error.Error.TheVariants.{NoThread, MismatchedEnd, IdsExhausted, IndexExhausted, Memory}
 use Rattle.puffin_data.specs.Forest.{Forest}
@@ -38,8 +37,8 @@ use Rattle.puffin_replay.specs.declared.replay.command.Reply.{Reply}
 use Rattle.puffin_replay.specs.declared.replay.command.Reply.TheVariants as reply
 use Rattle.puffin_frames.specs.Events.{events_in}
 use Rattle.puffin_replay.specs.History.{Opening, begun, ended, Action, calls, hands, frames, registers, adds, learns, wants, nothing, nobody, call_of}
-use Rattle.puffin_replay.specs.Handed.{under, taken, handed_at}
-use Rattle.puffin_replay.specs.Due.{due, events_of, index_after, is_numbered}
+use Rattle.puffin_replay.specs.Handed.{Delivery, under, taken, handed_at}
+use Rattle.puffin_replay.specs.Due.{due, index_after, is_numbered}
 use Rattle.puffin_replay.specs.Told.{notes_at, told_at, learnt_at, due_details, known_after, is_wanted, wanted_at}
 use Rattle.puffin_replay.specs.Sessions.{SessionState, thread_after, SpellsWord, TellsAfter}
 use Rattle.puffin_replay.specs.Replies.{action_of, details_given, user_details, MayReply, TellsScopes, ending_word}
@@ -53,18 +52,16 @@ use Rattle.puffin_replay.proofs.Sums.{SumsTo-reported, SumsTo-none, scopes_of, M
 
 -- ---- sums
 
-module _ (o : Opening) (done : List Action) (a : Action) (old new : Streams) (before : SumsTo old (flat_map events_of (due o done))) where
-  sums_same : handed_at o done a ≡ [] → new ≡ old → SumsTo new (flat_map events_of (due o (done ++ (a ∷ []))))
+module _ (o : Opening) (done : List Action) (a : Action) (old new : Streams) (before : SumsTo old (due o done)) where
+  sums_same : handed_at o done a ≡ [] → new ≡ old → SumsTo new (due o (done ++ (a ∷ [])))
   sums_same none same = rw (same, due-same o done a none) before
 
-  sums_more : (i : Info) (r : Recorded) (word : List Event) → handed_at o done a ≡ under i word ∷ [] → new ≡ reported_to old i r → SpellsWord r word → SumsTo new (flat_map events_of (due o (done ++ (a ∷ []))))
+  sums_more : (i : Info) (r : Recorded) (word : List Event) → handed_at o done a ≡ under i word ∷ [] → new ≡ reported_to old i r → SpellsWord r word → SumsTo new (due o (done ++ (a ∷ [])))
   sums_more i r word one same spells =
-      let events = flat_map events_of (due o done) in
-      let all : flat_map events_of (due o (done ++ (a ∷ []))) ≡ events ++ word = ap (flat_map events_of) (due-more o done a i word one) ∙ flat_map-append events_of (due o done) (under i word ∷ []) ∙ ap (λ (w : List Event). events ++ w) (append-nil word) in
-      subst (λ (s : Streams). SumsTo s (flat_map events_of (due o (done ++ (a ∷ []))))) (sym same)
-      (subst (λ (w : List Event). SumsTo (reported_to old i r) w) (sym all) (SumsTo-reported old events i r word before spells))
+      subst (λ (s : Streams). SumsTo s (due o (done ++ (a ∷ [])))) (sym same)
+      (subst (λ (ds : List Delivery). SumsTo (reported_to old i r) ds) (sym (due-more o done a i word one)) (SumsTo-reported old (due o done) i r word before spells))
 
-  sums_anew : handed_at o done a ≡ taken ∷ [] → new ≡ empty → SumsTo new (flat_map events_of (due o (done ++ (a ∷ []))))
+  sums_anew : handed_at o done a ≡ taken ∷ [] → new ≡ empty → SumsTo new (due o (done ++ (a ∷ [])))
   sums_anew frame same = rw (same, due-anew o done a frame) SumsTo-none
 
 -- ---- what is told of scopes
@@ -103,9 +100,9 @@ Continues-began now t at id text offset there place = (
       let within : t < length o.threads = omega (arith, before.stands.num_threads) in
       let changed = after_begin (thread_in now t) id (cut_text (string_bytes text)) (clock_time at) in
       let new = with_thread now t changed now.collected in
-      let a : Action = calls t (record { at = at; mark = begun id (cut_text (string_bytes text)) }) in (
+      let a : Action = calls t (record { at = at; mark = begun id (string_bytes text) }) in (
         record {
-          stands = StandsAfter-begun o done now new before.stands t at id (cut_text (string_bytes text)) within (changes now new t changed 0 there refl refl (omega arith)) refl
+          stands = StandsAfter-begun o done now new before.stands t at id (string_bytes text) within (changes now new t changed 0 there refl refl (omega arith)) refl
               (tells_same o done a now.collected now.collected before.stands.tells refl refl (λ w. refl) (same_told now.collected now.collected refl));
           sums = sums_same o done a now.collected.streams now.collected.streams before.sums refl refl;
         },

@@ -1,12 +1,12 @@
 -- What single calls do to a session keeps it where its history leaves it.
-use Rattle.std.proofs.Common.{◌≡◌, ◌≢◌, ℕ, ◌+◌, ◌<◌, ◌==◌, ℤ, pos, Bool, true, false, cond, fold, List, [], ◌∷◌, ◌++◌, length, Option, Some, None, refl, sym, ap, ◌∙◌, subst, append-nil, arith, inl, inr}
+use Rattle.std.proofs.Common.{◌≡◌, ◌≢◌, ℕ, ◌+◌, ◌<◌, ◌==◌, ℤ, pos, Bool, true, false, cond, fold, List, [], ◌∷◌, ◌++◌, length, Option, Some, None, refl, sym, ap, ◌∙◌, subst, zero-add, arith, inl, inr}
 use Rattle.std.proofs.lemmas.List.Sums.{sum_by-append}
 use Rattle.std.proofs.lemmas.Bool.{cases_eq}
 use Rattle.std.specs.Int.{int_max}
-use Rattle.std.specs.List.{slice_index_or, flat_map}
+use Rattle.std.specs.List.{slice_index_or, sum_by}
 use Rattle.std.specs.FinMap.{empty}
-use Rattle.std.proofs.lemmas.List.Concat.{flat_map-append}
 use Rattle.puffin_data.specs.Honesty.{Recorded}
+use Rattle.puffin_data.specs.Text.{cut_text}
 use Rattle.puffin_data.specs.Tour.{Event, Close}
 use Rattle.puffin_data.specs.Words.{num_begun}
 use Rattle.puffin_frames.specs.Info.{Info}
@@ -15,10 +15,9 @@ use Rattle.puffin_frames.specs.Details.{Details}
 use Rattle.puffin.specs.Collected.{reported_to}
 use Rattle.puffin_replay.specs.History.{Opening, Mark, begun, ended, Call, Action, calls, hands, frames, registers, nobody, thread_at, call_of}
 use Rattle.puffin_replay.specs.Handed.{under, unreported, info_under, handed_at, handed_after}
-use Rattle.puffin_replay.specs.Due.{due, events_of, is_numbered, index_after, reported_after}
+use Rattle.puffin_replay.specs.Due.{due, scopes_delivered, is_numbered, index_after, reported_after}
 use Rattle.puffin_replay.specs.Told.{Note, noted, sent, notes_at, registered}
 use Rattle.puffin_replay.specs.Sessions.{SessionState, opening_of, SpellsWord, SpellsDue, StandsAfter, TellsAfter, thread_after}
-use Rattle.puffin_replay.proofs.Laws.{num_begun-append}
 use Rattle.puffin_replay.proofs.Histories.{latest_of-same, latest_of-more, unreported-same, unreported-begun, unreported-ended, unreported-reported, first_start_of-same, first_start_of-begun, first_start_of-ended, handed_after-more, due-same, due-more, due-anew}
 use Rattle.puffin_replay.proofs.Telling.{waiting_with, registered-more}
 use Rattle.puffin_replay.proofs.Collecting.{SpellsDue-report, SpellsDue-none}
@@ -27,7 +26,7 @@ use Rattle.puffin_replay.proofs.Collecting.{SpellsDue-report, SpellsDue-none}
 
 -- a thread after a call of it; an accepted report leaves no events
 abbrev pub after_call : Thread → ℤ → Mark → Thread
-after_call thread at (begun id text) = after_begin thread id text (int_max (pos 0) at)
+after_call thread at (begun id text) = after_begin thread id (cut_text text) (int_max (pos 0) at)
 after_call thread at (ended false) = after_end thread (int_max (pos 0) at)
 after_call thread at (ended true) = after_handing (after_end thread (int_max (pos 0) at))
 
@@ -111,16 +110,15 @@ pub record ChangesPending (now new : SessionState) (index scopes : ℕ) : Type 0
 pub index_after-more : (o : Opening) (done : List Action) (a : Action) → index_after o (done ++ (a ∷ [])) ≡ index_after o done + cond (is_numbered a) 1 0
 index_after-more o done a = omega (arith, sum_by-append (λ b. cond (is_numbered b) 1 0) done (a ∷ []))
 
-pub reported_after-more : (o : Opening) (done : List Action) (a : Action) → reported_after o (done ++ (a ∷ [])) ≡ reported_after o done + num_begun (flat_map events_of (handed_at o done a))
+pub reported_after-more : (o : Opening) (done : List Action) (a : Action) → reported_after o (done ++ (a ∷ [])) ≡ reported_after o done + sum_by scopes_delivered (handed_at o done a)
 reported_after-more o done a =
-    ap (λ ds. o.reported + num_begun (flat_map events_of ds)) (handed_after-more o [] done a)
-    ∙ ap (λ w. o.reported + num_begun w) (flat_map-append events_of (handed_after o [] done) (handed_at o done a))
-    ∙ omega (arith, num_begun-append (flat_map events_of (handed_after o [] done)) (flat_map events_of (handed_at o done a)))
+    ap (λ ds. o.reported + sum_by scopes_delivered ds) (handed_after-more o [] done a)
+    ∙ omega (arith, sum_by-append scopes_delivered (handed_after o [] done) (handed_at o done a))
 
 module _ (o : Opening) (done : List Action) (now new : SessionState) (before : StandsAfter o done now) where
   -- an action that changes one thread
   at_thread : (t : ℕ) (a : Action) (f : Thread → Thread) → t < length o.threads → thread_after o (done ++ (a ∷ [])) t ≡ f (thread_after o done t) → ((u : ℕ) → u ≢ t → (call_of u a ≡ None) × (notes_at u a ≡ [])) → is_numbered a ≡ false
-      → ChangesThread now new t (f (thread_at (opening_of now) t)) (num_begun (flat_map events_of (handed_at o done a))) → SpellsDue new.collected.streams (due o (done ++ (a ∷ []))) → TellsAfter o (done ++ (a ∷ [])) new.collected
+      → ChangesThread now new t (f (thread_at (opening_of now) t)) (sum_by scopes_delivered (handed_at o done a)) → SpellsDue new.collected.streams (due o (done ++ (a ∷ []))) → TellsAfter o (done ++ (a ∷ [])) new.collected
       → StandsAfter o (done ++ (a ∷ [])) new
   at_thread t a f within there others numbered change collected tells = record {
     num_threads = change.num_threads ∙ before.num_threads;
@@ -131,11 +129,11 @@ module _ (o : Opening) (done : List Action) (now new : SessionState) (before : S
     ];
     collected = collected;
     index = change.index ∙ before.index ∙ sym (index_after-more o done a ∙ ap (λ (b : Bool). index_after o done + cond b 1 0) numbered ∙ omega arith);
-    reported = change.reported ∙ ap (λ n. n + num_begun (flat_map events_of (handed_at o done a))) before.reported ∙ sym (reported_after-more o done a);
+    reported = change.reported ∙ ap (λ n. n + sum_by scopes_delivered (handed_at o done a)) before.reported ∙ sym (reported_after-more o done a);
     tells = tells;
   }
 
-  called : (t : ℕ) (at : ℤ) (m : Mark) → t < length o.threads → ChangesThread now new t (after_call (thread_at (opening_of now) t) at m) (num_begun (flat_map events_of (handed_at o done (calls t (record { at = at; mark = m })))))
+  called : (t : ℕ) (at : ℤ) (m : Mark) → t < length o.threads → ChangesThread now new t (after_call (thread_at (opening_of now) t) at m) (sum_by scopes_delivered (handed_at o done (calls t (record { at = at; mark = m }))))
       → SpellsDue new.collected.streams (due o (done ++ (calls t (record { at = at; mark = m }) ∷ []))) → TellsAfter o (done ++ (calls t (record { at = at; mark = m }) ∷ [])) new.collected
       → StandsAfter o (done ++ (calls t (record { at = at; mark = m }) ∷ [])) new
   called t at m within change collected tells =
@@ -159,9 +157,9 @@ module _ (o : Opening) (done : List Action) (now new : SessionState) (before : S
       called t at (ended false) within change (rw (same, due-same o done (calls t (record { at = at; mark = ended false })) refl) before.collected) tells
 
   scopes_reported : (t : ℕ) (at : ℤ) → thread_at (opening_of now) t ≡ thread_after o done t
-      → num_begun (handed_at_end (thread_at (opening_of now) t) at) ≡ num_begun (flat_map events_of (handed_at o done (calls t (record { at = at; mark = ended true }))))
+      → num_begun (handed_at_end (thread_at (opening_of now) t) at) ≡ sum_by scopes_delivered (handed_at o done (calls t (record { at = at; mark = ended true })))
   scopes_reported t at th =
-      ap (λ v. num_begun (handed_at_end v at)) th ∙ ap num_begun (sym (append-nil (handed_at_end (thread_after o done t) at))) ∙ ap (λ ds. num_begun (flat_map events_of ds)) (sym (handed_at-reported o t done at))
+      ap (λ v. num_begun (handed_at_end v at)) th ∙ sym (zero-add (num_begun (handed_at_end (thread_after o done t) at))) ∙ ap (λ ds. sum_by scopes_delivered ds) (sym (handed_at-reported o t done at))
 
   pub StandsAfter-reported : (t : ℕ) (at : ℤ) (s : Recorded) → t < length o.threads → ChangesThread now new t (after_call (thread_at (opening_of now) t) at (ended true)) (num_begun (handed_at_end (thread_at (opening_of now) t) at))
       → SpellsWord s (handed_at_end (thread_at (opening_of now) t) at) → new.collected.streams ≡ reported_to now.collected.streams (info_of_thread (thread_at (opening_of now) t)) s
@@ -175,21 +173,21 @@ module _ (o : Opening) (done : List Action) (now new : SessionState) (before : S
       (subst (λ ds. SpellsDue new.collected.streams ds) (sym more) (subst (λ ss. SpellsDue ss (due o done ++ (under (info_of_thread (thread_after o done t)) (handed_at_end (thread_after o done t) at) ∷ []))) (sym (same ∙ ap (λ v. reported_to now.collected.streams (info_of_thread v) s) th)) ready)) tells
 
   -- an action that is no thread's
-  unthreaded : (a : Action) → ((t : ℕ) → (call_of t a ≡ None) × (notes_at t a ≡ [])) → ChangesPending now new (now.collected.index + cond (is_numbered a) 1 0) (num_begun (flat_map events_of (handed_at o done a))) → SpellsDue new.collected.streams (due o (done ++ (a ∷ []))) → TellsAfter o (done ++ (a ∷ [])) new.collected
+  unthreaded : (a : Action) → ((t : ℕ) → (call_of t a ≡ None) × (notes_at t a ≡ [])) → ChangesPending now new (now.collected.index + cond (is_numbered a) 1 0) (sum_by scopes_delivered (handed_at o done a)) → SpellsDue new.collected.streams (due o (done ++ (a ∷ []))) → TellsAfter o (done ++ (a ∷ [])) new.collected
       → StandsAfter o (done ++ (a ∷ [])) new
   unthreaded a none change collected tells = record {
     num_threads = ap length change.threads ∙ before.num_threads;
     threads = λ u lt. ap (λ ts. slice_index_or ts u nobody) change.threads ∙ before.threads u lt ∙ sym (thread_after-same o u done a (none u).0 (none u).1);
     collected = collected;
     index = change.raised ∙ ap (λ n. n + cond (is_numbered a) 1 0) before.index ∙ sym (index_after-more o done a);
-    reported = change.reported ∙ ap (λ n. n + num_begun (flat_map events_of (handed_at o done a))) before.reported ∙ sym (reported_after-more o done a);
+    reported = change.reported ∙ ap (λ n. n + sum_by scopes_delivered (handed_at o done a)) before.reported ∙ sym (reported_after-more o done a);
     tells = tells;
   }
 
   pub StandsAfter-handed : (i : Info) (s : Recorded) (word : List Event) → ChangesPending now new now.collected.index (num_begun word) → SpellsWord s word → new.collected.streams ≡ reported_to now.collected.streams i s
       → TellsAfter o (done ++ (hands i word ∷ [])) new.collected → StandsAfter o (done ++ (hands i word ∷ [])) new
   StandsAfter-handed i s word change spells same tells =
-      unthreaded (hands i word) (λ t. (refl, refl)) (record { threads = change.threads; raised = omega (arith, change.raised); reported = change.reported ∙ ap (λ w. now.collected.reported + num_begun w) (sym (append-nil word)) })
+      unthreaded (hands i word) (λ t. (refl, refl)) (record { threads = change.threads; raised = omega (arith, change.raised); reported = change.reported ∙ ap (λ n. now.collected.reported + n) (sym (zero-add (num_begun word))) })
       (rw (same, due-more o done (hands i word) i word refl) (SpellsDue-report now.collected.streams (due o done) i s word before.collected spells)) tells
 
   -- a frame took all that was collected
@@ -207,6 +205,6 @@ module _ (o : Opening) (done : List Action) (now new : SessionState) (before : S
       unthreaded a none (record {
         threads = change.threads;
         raised = change.raised ∙ omega arith ∙ ap (λ (b : Bool). now.collected.index + cond b 1 0) (sym numbered);
-        reported = change.reported ∙ ap (λ ds. now.collected.reported + num_begun (flat_map events_of ds)) (sym silent);
+        reported = change.reported ∙ ap (λ ds. now.collected.reported + sum_by scopes_delivered ds) (sym silent);
       })
       (rw (same, due-same o done a silent) before.collected) tells

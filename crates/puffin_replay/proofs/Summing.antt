@@ -1,31 +1,34 @@
 -- Frames that are unpacked one after the other, and what a file of them is summed up as.
-use Rattle.std.proofs.Common.{◌≡◌, ℕ, suc, List, [], ◌∷◌, ◌++◌, length, map, Result, Ok, Err, Bool, true, false, ◌⊎◌, inl, inr, refl, sym, ap, subst, ◌∙◌, arith, append_assoc}
+use Rattle.std.proofs.Common.{◌≡◌, ℕ, suc, ◌-◌, ◌^◌, ◌<◌, List, [], ◌∷◌, ◌++◌, length, map, Result, Ok, Err, Bool, true, false, ◌⊎◌, inl, inr, refl, sym, ap, subst, ◌∙◌, arith, append_assoc}
 use Rattle.std.specs.Prelude.{Option, Some, None, if◌then◌else◌, ◌==◌}
 use Rattle.std.specs.Arc.{arc_value}
+use Rattle.std.specs.List.{list_any, flat_map}
 use Rattle.std.proofs.lemmas.List.{map-append, append-nil}
 use Rattle.std.specs.declared.sync.Arc.{Arc}
 use Rattle.std.specs.declared.alloc.Global.{Global}
 use Rattle.puffin_data.specs.declared.error.Error.{Error}
-use Rattle.puffin_data.specs.declared.error.Error.TheVariants.{Memory}
+use Rattle.puffin_data.specs.declared.error.Error.TheVariants.{Memory, MissingId}
 use Rattle.puffin_data.specs.declared.file_error.FileError.{FileError}
 use Rattle.puffin_data.specs.declared.file_error.FileError.TheVariants as file
-use Rattle.puffin_data.specs.Devices.{failures_after}
+use Rattle.puffin_data.specs.Devices.{IsOutside, failures_after}
 use Rattle.puffin_frames.specs.declared.frame_data.unpacked.UnpackedFrameData.{UnpackedFrameData}
 use Rattle.puffin_frames.specs.Info.{Info}
 use Rattle.puffin_frames.specs.ThreadStreams.{Streams}
-use Rattle.puffin_frames.specs.Holding.{Packing, or_bad, unpacking}
-use Rattle.puffin_frames.specs.Stored.{Said, Stored}
+use Rattle.puffin_frames.specs.Holding.{Packing, streams_in, or_bad, unpacking}
+use Rattle.puffin_frames.specs.Details.{Details}
+use Rattle.puffin_frames.specs.Stored.{Said, Stored, packed}
 use Rattle.puffin.specs.declared.merge.scope.MergeScope.{MergeScope}
 use Rattle.puffin.specs.declared.profile_view.frame_view.FrameView.{FrameView}
-use Rattle.puffin.specs.Files.{contents_in, file_at, TookFrames, FailsToRead, IsViewOf}
+use Rattle.puffin.specs.Files.{file_of, contents_in, details_stored, file_at, TookFrames, FailsToRead, IsViewOf}
 use Rattle.puffin.specs.FrameStreams.{FrameBytes}
 use Rattle.puffin.specs.Frames.{Frame, contents_of}
-use Rattle.puffin.specs.FrameViews.{view_of, collection_of}
+use Rattle.puffin.specs.FrameViews.{view_of, collection_of, lacks_ids}
 use Rattle.puffin.specs.Refusals.{IsRefusal, AreMerged}
 use Rattle.puffin.specs.Seen.{frame_bytes, frames_bytes, forest_in}
 use Rattle.puffin.specs.Views.{View, all_uniq}
 use Rattle.puffin_replay.specs.declared.replay.summary.Summary.{Summary}
-use Rattle.puffin_replay.specs.Summaries.{bytes_under, bytes_in, followed_by, all_bytes_in, said_by, IsSummary, FailsToSumUp}
+use Rattle.puffin_replay.specs.Recorded.{NoneLacksIds}
+use Rattle.puffin_replay.specs.Summaries.{bytes_under, bytes_in, followed_by, all_bytes_in, said_by, SumsUp, IsSummary, details_said, IsHindered, FailsToSumUp}
 
 -- ---- scopes that are made their own
 
@@ -187,3 +190,44 @@ merge_fails info old new v frames cause fault stored took of read refusal memory
     | inr refuses ↦ inr (stored, took, inr (frames_bytes info frames, cause, ap (all_bytes_in info) (sym (said_of stored v of)) ∙ read, other differs, differs, refuses))
   ]
 ]
+
+-- ---- what was written
+
+details_again : (cs : List Said) → flat_map details_stored (map packed cs) ≡ details_said cs
+details_again [] = refl
+details_again (c ∷ cs) = ap (λ (ds : List Details). c.details ++ ds) (details_again cs)
+
+abbrev pub SaidAgain : Type 0
+SaidAgain = (v : View) → length (contents_in v) < 2 ^ 64 - 1 → said_by (map packed (contents_in v)) ≡ contents_in v
+
+-- the frames that are read are those that were written
+pub summed_again : (info : Info) (v : View) (stored : List Stored) (summary : Summary) → SaidAgain → length (contents_in v) < 2 ^ 64 - 1 → stored ≡ map packed (contents_in v) → IsSummary info stored summary
+    → SumsUp info (contents_in v) (details_said (contents_in v)) summary
+summed_again info v stored summary again few is sums =
+    subst (λ (ds : List Details). SumsUp info (contents_in v) ds summary) (details_again (contents_in v))
+    (subst (λ (cs : List Said). SumsUp info cs (flat_map details_stored (map packed (contents_in v))) summary) (again v few) (subst (λ (ss : List Stored). IsSummary info ss summary) is sums))
+
+abbrev pub FailsForIds : View → Option (List ℕ) → FileError → Type 0
+FailsForIds v new e = FailsToRead file_at (Some (file_of (contents_in v))) new e → (IsOutside e → ⊥) → (e ≡ file.Refused MissingId) × (list_any lacks_ids (contents_in v) ≡ true)
+
+lack_none : (b : Bool) → b ≡ true → b ≡ false → ⊥
+lack_none b lacks none = cc
+
+pub hindered_again : (info : Info) (v : View) (new : Option (List ℕ)) (e : FileError) → SaidAgain → length (contents_in v) < 2 ^ 64 - 1 → NoneLacksIds (contents_in v) → FailsForIds v new e
+    → ((stored : List Stored) → TookFrames file_at (Some (file_of (contents_in v))) new stored → stored ≡ map packed (contents_in v))
+    → FailsToSumUp info (Some (file_of (contents_in v))) new e → (IsOutside e → ⊥) → IsHindered info (contents_in v) e
+hindered_again info v new e again few ids for_ids frames (inl fails) inside = absurd (lack_none (list_any lacks_ids (contents_in v)) (for_ids fails inside).1 ids)
+hindered_again info v new e again few ids for_ids frames (inr (stored, took, hindered)) inside =
+    subst (λ (cs : List Said). IsHindered info cs e) (ap said_by (frames stored took) ∙ again v few) hindered
+
+-- what packed bytes hold is what they are unpacked to
+held_unpacked : (o : Option Streams) (s : Streams) → o ≡ Some s → or_bad o ≡ Ok s
+held_unpacked None s is = cc
+held_unpacked (Some t) s is = let same : t ≡ s = cc in ap (λ (x : Streams). Ok x) same
+
+of_kind : (b : Bool) (k : ℕ) (o : Option Streams) (s : Streams) → (if b then o else None) ≡ Some s → (if b then or_bad o else Err (file.Compressed k)) ≡ Ok s
+of_kind true k o s is = held_unpacked o s is
+of_kind false k o s is = cc
+
+pub unpacked_again : (p : Packing) (s : Streams) → streams_in p ≡ Some s → unpacking p ≡ Ok s
+unpacked_again p s is = of_kind (p.kind == 0) p.kind _ s is

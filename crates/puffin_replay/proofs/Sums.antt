@@ -1,9 +1,11 @@
 -- The sums over all that is collected are those of all that is due, so that a report's refusal is one in the history's words.
-use Rattle.std.proofs.Common.{◌≡◌, ℕ, inl, inr, ℤ, ◌<ℤ◌, Bool, true, false, cond, ◌&&◌, T, List, [], ◌∷◌, ◌++◌, length, map, Option, Some, None, refl, sym, ap, ◌∙◌, subst, arith}
+use Rattle.std.proofs.Common.{◌≡◌, ℕ, inl, inr, ℤ, ◌<ℤ◌, Bool, true, false, cond, ◌&&◌, T, List, [], ◌∷◌, ◌++◌, length, map, Option, Some, None, refl, sym, ap, ◌∙◌, subst, arith, append-nil}
 use Rattle.std.specs.declared.cmp.Ordering.{Ordering}
 use Rattle.std.specs.declared.cmp.Ordering.TheVariants.{Less, Equal, Greater}
 use Rattle.std.specs.Ordering.{is_lt, is_eq}
-use Rattle.std.specs.List.{flat_map}
+use Rattle.std.specs.List.{flat_map, sum_by}
+use Rattle.std.proofs.lemmas.List.Concat.{flat_map-append}
+use Rattle.std.proofs.lemmas.List.Sums.{sum_by-cons, sum_by_push}
 use Rattle.std.specs.Int.{int_min, int_max}
 use Rattle.std.specs.FinMap.{entries, entries_sorted, get-entries, values, empty, find, is_sorted, len-entries, len-empty}
 use Rattle.std.specs.FinMap.Entries.{below_all}
@@ -23,11 +25,12 @@ use Rattle.puffin_frames.specs.Contents.{Streams, AreHonest, reported_to}
 use Rattle.puffin_frames.specs.Measures.{total_bytes, total_scopes, least_start, greatest_stop}
 use Rattle.puffin.specs.Collected.{SumsFit, range_with, IsTooLong, IsReportRefusal}
 use Rattle.puffin_replay.specs.History.{Opening, Action}
-use Rattle.puffin_replay.specs.Due.{due, events_of}
+use Rattle.puffin_replay.specs.Handed.{Delivery, under}
+use Rattle.puffin_replay.specs.Due.{due, events_of, bytes_delivered, scopes_delivered}
 use Rattle.puffin_replay.specs.Sessions.{SessionState, opening_of, StandsAfter, SpellsWord}
 use Rattle.puffin_replay.specs.Replies.{DueFits, MayReport, IsRefusal}
 use Rattle.puffin_replay.specs.Serving.{SumsTo}
-use Rattle.puffin_replay.proofs.Laws.{word_size-append, num_begun-append, least_open-append, greatest_close-append, word_size-tour, num_begun-tour, least_open-tour, greatest_close-tour, same_info-one, same_info-itself, events_in-spelling, after_report, bytes_measure, scopes_measure, starts_measure, stops_measure, total_bytes-one, total_scopes-one, least_start-one, greatest_stop-one}
+use Rattle.puffin_replay.proofs.Laws.{least_open-append, greatest_close-append, word_size-tour, num_begun-tour, least_open-tour, greatest_close-tour, same_info-one, same_info-itself, events_in-spelling, after_report, bytes_measure, scopes_measure, starts_measure, stops_measure, total_bytes-one, total_scopes-one, least_start-one, greatest_stop-one}
 use Rattle.puffin_replay.proofs.Openings.{due_of, due-opening}
 
 -- ---- one stream
@@ -46,13 +49,18 @@ stop_of r word h = h.honest.counts.greatest_stop ∙ sym (greatest_close-tour h.
 
 -- ---- one more report
 
-pub SumsTo-reported : (streams : Streams) (events : List Event) (i : Info) (r : Recorded) (word : List Event) → SumsTo streams events → SpellsWord r word → SumsTo (reported_to streams i r) (events ++ word)
-SumsTo-reported streams events i r word before spells = record {
-  bytes = omega (arith, after_report bytes_measure streams i r, before.bytes, size_of r word spells, word_size-append events word);
-  scopes = omega (arith, after_report scopes_measure streams i r, before.scopes, scopes_of r word spells, num_begun-append events word);
-  start = after_report starts_measure streams i r ∙ ap (λ x. int_min x r.range_ns.0) before.start ∙ ap (int_min (least_open events)) (start_of r word spells) ∙ sym (least_open-append events word);
-  stop = after_report stops_measure streams i r ∙ ap (λ x. int_max x r.range_ns.1) before.stop ∙ ap (int_max (greatest_close events)) (stop_of r word spells) ∙ sym (greatest_close-append events word);
-}
+events_with : (ds : List Delivery) (i : Info) (word : List Event) → flat_map events_of (ds ++ (under i word ∷ [])) ≡ flat_map events_of ds ++ word
+events_with ds i word = flat_map-append events_of ds (under i word ∷ []) ∙ ap (λ (w : List Event). flat_map events_of ds ++ w) (append-nil word)
+
+pub SumsTo-reported : (streams : Streams) (ds : List Delivery) (i : Info) (r : Recorded) (word : List Event) → SumsTo streams ds → SpellsWord r word → SumsTo (reported_to streams i r) (ds ++ (under i word ∷ []))
+SumsTo-reported streams ds i r word before spells =
+    let events = flat_map events_of ds in
+    record {
+      bytes = omega (arith, after_report bytes_measure streams i r, before.bytes, size_of r word spells, sum_by_push bytes_delivered ds (under i word));
+      scopes = omega (arith, after_report scopes_measure streams i r, before.scopes, scopes_of r word spells, sum_by_push scopes_delivered ds (under i word));
+      start = after_report starts_measure streams i r ∙ ap (λ x. int_min x r.range_ns.0) before.start ∙ ap (int_min (least_open events)) (start_of r word spells) ∙ sym (ap least_open (events_with ds i word) ∙ least_open-append events word);
+      stop = after_report stops_measure streams i r ∙ ap (λ x. int_max x r.range_ns.1) before.stop ∙ ap (int_max (greatest_close events)) (stop_of r word spells) ∙ sym (ap greatest_close (events_with ds i word) ∙ greatest_close-append events word);
+    }
 
 -- ---- before any report
 
@@ -139,8 +147,8 @@ records_of es = map (λ e. e.1) es
 
 -- the sums over entries, each by itself
 record EntriesSum (es : List (Info × Recorded)) : Type 0 where
-  bytes : total_bytes (records_of es) ≡ word_size (events_at es)
-  scopes : total_scopes (records_of es) ≡ num_begun (events_at es)
+  bytes : total_bytes (records_of es) ≡ sum_by bytes_delivered (due_of es)
+  scopes : total_scopes (records_of es) ≡ sum_by scopes_delivered (due_of es)
   start : least_start (records_of es) ≡ least_open (events_at es)
   stop : greatest_stop (records_of es) ≡ greatest_close (events_at es)
 
@@ -156,18 +164,18 @@ entries_sum (e ∷ es) h =
     let start = same_time_there e.1.range_ns.0 (least_open word) spells (start_of e.1 word) in
     let stop = same_time_there e.1.range_ns.1 (greatest_close word) spells (stop_of e.1 word) in
     record {
-      bytes = omega (arith, total_bytes-one e.1 (records_of es), later.bytes, size, word_size-append word (events_at es));
-      scopes = omega (arith, total_scopes-one e.1 (records_of es), later.scopes, scopes, num_begun-append word (events_at es));
+      bytes = omega (arith, total_bytes-one e.1 (records_of es), later.bytes, size, sum_by-cons bytes_delivered (under e.0 word) (due_of es));
+      scopes = omega (arith, total_scopes-one e.1 (records_of es), later.scopes, scopes, sum_by-cons scopes_delivered (under e.0 word) (due_of es));
       start = least_start-one e.1 (records_of es) ∙ ap (λ x. int_min x (least_start (records_of es))) start ∙ ap (int_min (least_open word)) later.start ∙ sym (least_open-append word (events_at es));
       stop = greatest_stop-one e.1 (records_of es) ∙ ap (λ x. int_max x (greatest_stop (records_of es))) stop ∙ ap (int_max (greatest_close word)) later.stop ∙ sym (greatest_close-append word (events_at es));
     }
 
-pub SumsTo-opening : (s : SessionState) → AreHonest s.collected.streams → SumsTo s.collected.streams (flat_map events_of (due (opening_of s) []))
+pub SumsTo-opening : (s : SessionState) → AreHonest s.collected.streams → SumsTo s.collected.streams (due (opening_of s) [])
 SumsTo-opening s honest =
     let streams = s.collected.streams in
     let es = entries streams in
     let sums = entries_sum es (each_honest es (entries_sorted streams) (λ i r found. honest i r (get-entries streams i ∙ found))) in
-    subst (λ ds. SumsTo streams (flat_map events_of ds)) (sym (due-opening s))
+    subst (λ (ds : List Delivery). SumsTo streams ds) (sym (due-opening s))
     (record { bytes = sums.bytes; scopes = sums.scopes; start = sums.start; stop = sums.stop })
 
 -- ---- refusals in the history's words
@@ -178,21 +186,21 @@ min_comm x y = omega (arith, ints, clamps)
 max_comm : (x y : ℤ) → int_max x y ≡ int_max y x
 max_comm x y = omega (arith, ints, clamps)
 
-module _ (o : Opening) (done : List Action) (now : SessionState) (r : Recorded) (word : List Event) (stands : StandsAfter o done now) (sums : SumsTo now.collected.streams (flat_map events_of (due o done))) (spells : SpellsWord r word) where
+module _ (o : Opening) (done : List Action) (now : SessionState) (r : Recorded) (word : List Event) (stands : StandsAfter o done now) (sums : SumsTo now.collected.streams (due o done)) (spells : SpellsWord r word) where
   abbrev events : List Event
   events = flat_map events_of (due o done)
 
   fits : SumsFit now.collected r → DueFits o done word
   fits h = record {
-    bytes = omega (arith, h.bytes, sums.bytes, size_of r word spells, word_size-append events word);
-    scopes = omega (arith, h.scopes, sums.scopes, scopes_of r word spells, num_begun-append events word);
+    bytes = omega (arith, h.bytes, sums.bytes, size_of r word spells);
+    scopes = omega (arith, h.scopes, sums.scopes, scopes_of r word spells);
     reported = omega (arith, h.reported, stands.reported, scopes_of r word spells);
   }
 
   fits_back : DueFits o done word → SumsFit now.collected r
   fits_back h = record {
-    bytes = omega (arith, h.bytes, sums.bytes, size_of r word spells, word_size-append events word);
-    scopes = omega (arith, h.scopes, sums.scopes, scopes_of r word spells, num_begun-append events word);
+    bytes = omega (arith, h.bytes, sums.bytes, size_of r word spells);
+    scopes = omega (arith, h.scopes, sums.scopes, scopes_of r word spells);
     reported = omega (arith, h.reported, stands.reported, scopes_of r word spells);
   }
 

@@ -1,8 +1,8 @@
 -- What is due for the next frame: all that was handed over since the frame before.
 use Rattle.std.specs.Prelude.{◌≡◌, ℕ, ◌+◌, Bool, true, false, if◌then◌else◌, List, [], ◌++◌, map, Option, Some, None}
-use Rattle.std.specs.List.{list_any, flat_map, count_by}
+use Rattle.std.specs.List.{list_any, flat_map, count_by, sum_by}
 use Rattle.puffin_data.specs.Tour.{Event}
-use Rattle.puffin_data.specs.Words.{num_begun}
+use Rattle.puffin_data.specs.Words.{word_size, num_begun}
 use Rattle.puffin_frames.specs.Info.{Info, same_info}
 use Rattle.puffin_replay.specs.History.{Opening, Action, calls, hands, frames, registers, adds, learns, wants, nothing, since_last}
 use Rattle.puffin_replay.specs.Handed.{Delivery, under, taken, handed}
@@ -54,6 +54,15 @@ is_numbered nothing = false
 abbrev pub index_after : Opening → List Action → ℕ
 index_after o done = o.index + count_by is_numbered done
 
+-- the bytes and the scopes of what was handed over
+abbrev pub bytes_delivered : Delivery → ℕ
+bytes_delivered (under i word) = word_size word
+bytes_delivered taken = 0
+
+abbrev pub scopes_delivered : Delivery → ℕ
+scopes_delivered (under i word) = num_begun word
+scopes_delivered taken = 0
+
 -- how many scopes were ever reported
 abbrev pub reported_after : Opening → List Action → ℕ
-reported_after o done = o.reported + num_begun (flat_map events_of (handed o done))
+reported_after o done = o.reported + sum_by scopes_delivered (handed o done)

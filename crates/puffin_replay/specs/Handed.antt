@@ -1,6 +1,7 @@
 -- A thread's word, cut after each accepted report: what was handed over, and what is unreported.
 use Rattle.std.specs.Prelude.{ℕ, ℤ, Bool, false, if◌then◌else◌, List, [], ◌∷◌, ◌++◌, map, Option, Some, None}
 use Rattle.std.specs.Option.{option_or}
+use Rattle.puffin_data.specs.Text.{cut_text}
 use Rattle.puffin_data.specs.Tour.{Event, Open, Close}
 use Rattle.puffin_frames.specs.Info.{Info}
 use Rattle.puffin_replay.specs.History.{Opening, Mark, begun, ended, Call, Action, calls, hands, frames, registers, adds, learns, wants, nothing, thread_at, calls_of, greatest, latest_of, since_last}
@@ -10,8 +11,9 @@ pub record Marked : Type 0 where
   pub event : Event
   pub reported : Bool
 
+-- of a scope's text a word has what is stored
 abbrev pub marked_at : ℤ → Mark → Marked
-marked_at time (begun id text) = record { event = Open id text time; reported = false }
+marked_at time (begun id text) = record { event = Open id (cut_text text) time; reported = false }
 marked_at time (ended reported) = record { event = Close time; reported = reported }
 
 -- each call at the greatest time up to it, after the calls of the past

@@ -18,7 +18,7 @@ pub record Opening : Type 0 where
   pub new_details : List Details
   pub wants_all : Bool
 
--- a scope that was begun, or one that was ended, perhaps with a report that was accepted
+-- a scope that was begun, with its whole text, or one that was ended, perhaps with a report that was accepted
 pub data Mark : Type 0 where
   begun : (id : ℕ) → (text : List ℕ) → Mark
   ended : (reported : Bool) → Mark

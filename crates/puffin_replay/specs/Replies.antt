@@ -1,7 +1,7 @@
 -- Which replies a session's commands may get, what they did by these, and what a run of them gives.
 use Rattle.std.specs.Prelude.{◌≡◌, ◌≢◌, ℕ, ℤ, pos, ◌+◌, ◌-◌, ◌^◌, ◌<◌, ◌≤◌, ◌⊎◌, List, [], ◌∷◌, ◌++◌, length, map, Option, Some, None, is_some, Bool, true, false, MatchOption}
 use Rattle.std.specs.String.{string_bytes}
-use Rattle.std.specs.List.{flat_map}
+use Rattle.std.specs.List.{flat_map, sum_by}
 use Rattle.std.specs.Option.{option_map}
 use Rattle.std.specs.declared.string.String.{String}
 use Rattle.std.specs.Arc.{arc_value}
@@ -35,7 +35,7 @@ use Rattle.puffin_replay.specs.declared.replay.command.Reply.TheVariants as repl
 use Rattle.puffin_frames.specs.Events.{events_in}
 use Rattle.puffin_replay.specs.History.{Opening, begun, ended, Action, calls, hands, frames, registers, adds, learns, wants, nothing}
 use Rattle.puffin_replay.specs.Handed.{Delivery, unreported}
-use Rattle.puffin_replay.specs.Due.{due, events_of, index_after, reported_after, NoneDue}
+use Rattle.puffin_replay.specs.Due.{due, events_of, bytes_delivered, scopes_delivered, index_after, reported_after, NoneDue}
 use Rattle.puffin_replay.specs.Told.{due_details, known_after, is_wanted}
 use Rattle.puffin_replay.specs.Sessions.{SessionState, opening_of, thread_after, StandsAfter, SpellsDue}
 
@@ -57,7 +57,7 @@ user_details names = map (λ name. record default_details { scope_name = Some (s
 
 -- What a command did, by its reply, and by what was learnt of scopes, where these two don't say it: the details of the user scopes that were new, and those that a refused frame's collection has taken in.
 abbrev pub action_of : Command → Reply → List Details → Action
-action_of (Begin thread at id text) (reply.Began offset) learnt = calls thread (record { at = at; mark = begun id (cut_text (string_bytes text)) })
+action_of (Begin thread at id text) (reply.Began offset) learnt = calls thread (record { at = at; mark = begun id (string_bytes text) })
 action_of (End thread at back) (reply.Ended closed) learnt = calls thread (record { at = at; mark = ended (is_reported closed) })
 action_of (Register thread name function file line) (reply.Registered id) learnt = registers thread (details_given (option_map string_bytes name) (string_bytes function) (string_bytes file) line id)
 action_of (RegisterUser names) (reply.RegisteredUser ids) learnt = adds learnt
@@ -101,15 +101,15 @@ module _ (o : Opening) (done : List Action) where
   abbrev pub ending_word : ℕ → ℤ → List Event
   ending_word t at = (after_end (thread_after o done t) (int_max (pos 0) at)).word
 
-  -- all that is due, with these events
+  -- with these events more, the sums over all that is due have 64 bits, and so has that over all that was ever reported
+  pub record DueFits (word : List Event) : Type 0 where
+    pub bytes : sum_by bytes_delivered (due o done) + word_size word < 2 ^ 64
+    pub scopes : sum_by scopes_delivered (due o done) + num_begun word < 2 ^ 64
+    pub reported : reported_after o done + num_begun word < 2 ^ 64
+
+  -- all events that are due, and these
   abbrev pub due_with : List Event → List Event
   due_with word = flat_map events_of (due o done) ++ word
-
-  -- with these events more, all that is due has sums of 64 bits, and so has all that was ever reported
-  pub record DueFits (word : List Event) : Type 0 where
-    pub bytes : word_size (due_with word) < 2 ^ 64
-    pub scopes : num_begun (due_with word) < 2 ^ 64
-    pub reported : reported_after o done + num_begun word < 2 ^ 64
 
   -- with these events more, the range of all that is due isn't reversed, and its duration is no i64
   abbrev pub DueIsTooLong : List Event → Type 0

@@ -1,10 +1,9 @@
 -- What single commands do to a session: what the proof of a run stands on.
 use Rattle.std.specs.Prelude.{◌≡◌, ℕ, ℤ, pos, List, [], ◌∷◌, ◌++◌, slice_set}
-use Rattle.std.specs.List.{slice_index_or, flat_map}
+use Rattle.std.specs.List.{slice_index_or, flat_map, sum_by}
 use Rattle.std.specs.Int.{int_max}
 use Rattle.std.specs.FinMap.{values}
-use Rattle.puffin_data.specs.Tour.{Event}
-use Rattle.puffin_data.specs.Words.{word_size, num_begun, least_open, greatest_close}
+use Rattle.puffin_data.specs.Words.{least_open, greatest_close}
 use Rattle.puffin_frames.specs.Threads.{Thread}
 use Rattle.puffin_frames.specs.Details.{Details}
 use Rattle.puffin_frames.specs.Closing.{Closes}
@@ -15,7 +14,8 @@ use Rattle.puffin.specs.Collected.{Collected, Accepts, Refuses}
 use Rattle.puffin_replay.specs.declared.replay.command.Command.{Command}
 use Rattle.puffin_replay.specs.declared.replay.command.Reply.{Reply}
 use Rattle.puffin_replay.specs.History.{Opening, Action, nobody}
-use Rattle.puffin_replay.specs.Due.{due, events_of}
+use Rattle.puffin_replay.specs.Handed.{Delivery}
+use Rattle.puffin_replay.specs.Due.{due, events_of, bytes_delivered, scopes_delivered}
 use Rattle.puffin_replay.specs.Sessions.{SessionState, opening_of, StandsAfter}
 use Rattle.puffin_replay.specs.Replies.{action_of, actions_of, MayReply, Records}
 
@@ -41,17 +41,17 @@ Ends old new at before after closed = Closes Accepts Refuses old new at before a
 
 -- ---- what a run keeps
 
--- The sums over these streams are those of the events.
-pub record SumsTo (streams : Streams) (events : List Event) : Type 0 where
-  pub bytes : total_bytes (values streams) ≡ word_size events
-  pub scopes : total_scopes (values streams) ≡ num_begun events
-  pub start : least_start (values streams) ≡ least_open events
-  pub stop : greatest_stop (values streams) ≡ greatest_close events
+-- The sums over these streams are those of what was handed over, and their range is that of all its events.
+pub record SumsTo (streams : Streams) (ds : List Delivery) : Type 0 where
+  pub bytes : total_bytes (values streams) ≡ sum_by bytes_delivered ds
+  pub scopes : total_scopes (values streams) ≡ sum_by scopes_delivered ds
+  pub start : least_start (values streams) ≡ least_open (flat_map events_of ds)
+  pub stop : greatest_stop (values streams) ≡ greatest_close (flat_map events_of ds)
 
 -- a session stands after a history, and the sums over what is collected are those of what is due
 pub record Continued (o : Opening) (done : List Action) (now : SessionState) : Type 0 where
   pub stands : StandsAfter o done now
-  pub sums : SumsTo now.collected.streams (flat_map events_of (due o done))
+  pub sums : SumsTo now.collected.streams (due o done)
 
 -- One command and its reply: something was learnt, and whatever history the session stood after, it stands after that history and what the command did.
 abbrev pub ContinuesBy : SessionState → SessionState → Command → Reply → List Details → Type 0
@@ -63,4 +63,4 @@ Continues old new c r = (learnt : List Details) × ContinuesBy old new c r learn
 -- a run so far, and the sums over what is collected
 pub record RunsTo (old now : SessionState) (commands : List Command) (replies : List Reply) : Type 0 where
   pub recorded : Records old now commands replies
-  pub sums : SumsTo now.collected.streams (flat_map events_of (due (opening_of old) (actions_of commands replies recorded.learnt)))
+  pub sums : SumsTo now.collected.streams (due (opening_of old) (actions_of commands replies recorded.learnt))

@@ -10,6 +10,7 @@ use Rattle.puffin_data.specs.declared.file_error.FileError.TheVariants.{Refused}
 use Rattle.puffin_data.specs.Honesty.{Recorded}
 use Rattle.puffin_frames.specs.Info.{Info}
 use Rattle.puffin_frames.specs.ThreadStreams.{Streams}
+use Rattle.puffin_frames.specs.Details.{Details}
 use Rattle.puffin_frames.specs.Collection.{no_details, inserted_all}
 use Rattle.puffin_frames.specs.Holding.{unpacking}
 use Rattle.puffin_frames.specs.Stored.{Said, Stored}
@@ -25,9 +26,13 @@ abbrev pub bytes_under : Info → Said → Result Streams FileError → Result F
 bytes_under info c (Ok streams) = Ok (record { start = c.meta.range_ns.0; stream = option_map (λ (r : Recorded). r.bytes) (tree.get streams info) })
 bytes_under info c (Err cause) = Err cause
 
--- the same of a frame whose streams are packed, or why they aren't unpacked
+-- the streams that a frame's packed copy is unpacked to, or why it isn't
+abbrev pub streams_said : Said → Result Streams FileError
+streams_said c = unpacking (record { kind = c.kind; bytes = c.streams })
+
+-- what merging reads of a frame whose streams are packed, or why they aren't unpacked
 abbrev pub bytes_in : Info → Said → Result FrameBytes FileError
-bytes_in info c = bytes_under info c (unpacking (record { kind = c.kind; bytes = c.streams }))
+bytes_in info c = bytes_under info c (streams_said c)
 
 abbrev pub followed_by : Result FrameBytes FileError → Result (List FrameBytes) FileError → Result (List FrameBytes) FileError
 followed_by (Err cause) others = Err cause
@@ -43,13 +48,21 @@ all_bytes_in info (c ∷ cs) = followed_by (bytes_in info c) (all_bytes_in info 
 abbrev pub said_by : List Stored → List Said
 said_by stored = contents_in (after_all read_view (map frame_stored stored))
 
--- the number of a read view's frames, their merge under an info, and the details of all frames of the file, in order
-pub record IsSummary (info : Info) (stored : List Stored) (summary : Summary) : Type 0 where
-  pub frames : summary.frames ≡ length (said_by stored)
+-- the number of frames, their merge under an info, and these details, in order
+pub record SumsUp (info : Info) (cs : List Said) (told : List Details) (summary : Summary) : Type 0 where
+  pub frames : summary.frames ≡ length cs
   pub streams : List FrameBytes
-  pub unpacked : all_bytes_in info (said_by stored) ≡ Ok streams
+  pub unpacked : all_bytes_in info cs ≡ Ok streams
   pub merged : AreMerged streams (forest_in summary.merged.items)
-  pub scopes : summary.scopes ≡ inserted_all no_details (flat_map details_stored stored)
+  pub scopes : summary.scopes ≡ inserted_all no_details told
+
+-- the frames of a view that reads a file, and the details of all frames of the file
+abbrev pub IsSummary : Info → List Stored → Summary → Type 0
+IsSummary info stored summary = SumsUp info (said_by stored) (flat_map details_stored stored) summary
+
+-- the details that frames tell
+abbrev pub details_said : List Said → List Details
+details_said cs = flat_map (λ c. c.details) cs
 
 -- why frames aren't summed up: the first that isn't unpacked, or what refuses their merge, which isn't want of memory
 abbrev pub IsHindered : Info → List Said → FileError → Type 0

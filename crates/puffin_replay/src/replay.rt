@@ -3,6 +3,7 @@
 mod command;
 mod count;
 mod fault;
+pub mod laws;
 mod profiled;
 mod recorder;
 mod reply_line;

@@ -1,7 +1,7 @@
 //! Laws of views and their files, as contracts of functions that do nothing. A proof of another crate cites them by calling
 //! the function.
 
-ghost use Rattle.std.specs.Prelude.{ℕ, List, ◌≡◌, ◌↔◌, ◌<◌, ◌<ℤ◌, false, Option, Some, ◌++◌, ◌-◌, ◌^◌, true, Ok, Err, length, map, drop};
+ghost use Rattle.std.specs.Prelude.{ℕ, Bool, List, ◌≡◌, ◌↔◌, ◌<◌, ◌<ℤ◌, false, Option, Some, ◌++◌, ◌-◌, ◌^◌, true, Ok, Err, length, map, drop};
 ghost use Rattle.std.specs.List.{AllPairs, AllByRecursion, list_any};
 ghost use Rattle.std.specs.declared.cmp.Ordering.TheVariants.{Less, Equal};
 ghost use Rattle.std.specs.Ordering.{eq_by_cmp};
@@ -16,9 +16,9 @@ ghost use Rattle.puffin_data.specs.declared.file_error.FileError.{FileError};
 ghost use Rattle.puffin_data.specs.Devices.{IsOutside};
 ghost use Rattle.puffin_frames.specs.Steps.{IsPacked, is_end};
 ghost use Rattle.puffin.specs.declared.profile_view.frame_view.FrameView.{FrameView};
-ghost use Rattle.puffin.specs.Views.{View};
+ghost use Rattle.puffin.specs.Views.{View, after_all};
 ghost use Rattle.puffin.specs.FrameViews.{view_of, lacks_ids};
-ghost use Rattle.puffin.specs.Files.{file_of, contents_in, file_at, TookFrames, FailsToRead, ReadsView};
+ghost use Rattle.puffin.specs.Files.{file_of, contents_held, contents_in, frame_stored, read_view, file_at, TookFrames, FailsToRead, ReadsView};
 
 use crate::profile_view::slow_rank::SlowRank;
 use puffin_frames::frame_data::laws::written_is_read;
@@ -54,6 +54,14 @@ pub fn ranks_by_duration()
     ensures one { (r s : SlowRank) → rank_cmp r s ≡ Equal → r ≡ s }
 {}
 
+/// A view holds no frame but those that it held before and those that it took: what no test finds among these it doesn't
+/// find in the view after, nor in what is written of it.
+pub fn views_hold_what_they_took()
+    ensures held { (p : Said → Bool) (v : View) (fs : List Frame) → list_any p (contents_held v) ≡ false → list_any p (map contents_of fs) ≡ false
+        → list_any p (contents_held (after_all v fs)) ≡ false }
+    ensures listed { (p : Said → Bool) (v : View) → list_any p (contents_held v) ≡ false → list_any p (contents_in v) ≡ false }
+{}
+
 /// A file that was written is read again as its frames and no others, where the end follows; or it is refused, where one of
 /// their details has no id. A file has one list of frames.
 pub fn written_files_are_read()
@@ -76,6 +84,9 @@ pub fn what_was_written_is_read()
         → FailsToRead file_at (Some (file_of cs)) new e → ¬ IsOutside e → (e ≡ FileError.Refused Error.MissingId) × (list_any lacks_ids cs ≡ true) }
     ensures view { (v : View) (new : Option (List ℕ)) (view : FrameView) → AllByRecursion IsPacked (contents_in v) → length (contents_in v) < 2 ^ 64 - 1
         → ReadsView file_at (Some (file_of (contents_in v))) new (Ok view) → map contents_of (view_of view).recent ≡ contents_in v }
+    // The view that takes these frames has no others.
+    ensures all { (v : View) → length (contents_in v) < 2 ^ 64 - 1
+        → contents_in (after_all read_view (map frame_stored (map packed (contents_in v)))) ≡ contents_in v }
 {
     written_is_read();
 }

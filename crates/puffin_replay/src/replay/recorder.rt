@@ -11,29 +11,22 @@ ghost use Rattle.puffin_frames.specs.Writes.{HasLongPart};
 ghost use Rattle.puffin.specs.Frames.{contents_of};
 ghost use Rattle.puffin.specs.Views.{Took};
 ghost use Rattle.puffin.specs.FrameViews.{view_of};
-ghost use Rattle.puffin.specs.Files.{contents_in};
-ghost use Rattle.puffin_replay.specs.Recorded.{AreReplies, HasIds, frame_in, emitted_by, frames_emitted, file_of_view, Takes, TakesSome, IsBroken, IsReplayed, IsUnfinished};
+ghost use Rattle.puffin.specs.Files.{contents_held, contents_in};
+ghost use Rattle.puffin_replay.specs.Sessions.{SessionState, new_session};
+ghost use Rattle.puffin_replay.specs.Replies.{Records};
+ghost use Rattle.puffin_replay.specs.Recorded.{AreReplies, HasIds, NoneLacksIds, frame_in, emitted_by, frames_emitted, file_of_view, Takes, TakesSome, IsBroken, IsReplayed, IsUnfinished};
 
 use crate::replay::command::{Command, Reply};
 use crate::replay::reply_line::reply_lines;
 use crate::replay::script::Script;
 use crate::replay::session::Session;
 use puffin::profile_view::FrameView;
+use puffin::profile_view::laws::views_hold_what_they_took;
 use puffin_data::data::{Drain, write_all};
 use puffin_data::{Error, FileError, Result as Answer};
 use puffin_frames::frame_data::FrameData;
 use std::alloc::Global;
 use std::sync::Arc;
-
-/// What a new session answers to commands. Refused only with `Memory`.
-fn replies_to(alloc: Global, names: Vec<String>, commands: &[Command]) -> Answer<Vec<Reply>>
-    ensures ok { IfOk result (λ replies. AreReplies (map string_bytes names.items) commands.now replies.items) }
-    ensures ids { IfOk result (λ replies. All HasIds replies.items) }
-    ensures memory { IfErr result (λ e. e ≡ Error.Memory) }
-{
-    let mut session = Session::new(alloc, names)?;
-    session.run(commands)
-}
 
 /// The frame that a reply tells of, if any.
 fn emitted_by(reply: &Reply) -> Option<&Arc<FrameData>>
@@ -60,6 +53,44 @@ fn add_frames(view: &mut FrameView, replies: &[Reply]) -> Answer<()>
     Ok(())
 }
 
+/// Runs commands in a session, adds each emitted frame to a view, in order, and writes the view's file. Answers one reply to
+/// each command.
+///
+/// Fails with `Memory`, and as [`FrameView::write`] with `PartTooLong` and `Io`. The session may then have run the commands,
+/// or none of them, and the view have taken a beginning of the frames, but nothing is written before it took all of them.
+fn record_session<D: Drain>(
+    session: &mut Session,
+    commands: &[Command],
+    view: &mut FrameView,
+    drain: &mut D,
+) -> Result<Vec<Reply>, FileError>
+    requires { D.failures drain.old < 2 ^ 64 - 1 }
+    ensures run { IfOk result (λ replies. Records session.old session.new commands.now replies.items) }
+    ensures view { IfOk result (λ replies. Takes (frames_emitted replies.items) view.old view.new) }
+    ensures took { IfOk result (λ replies. (cs : List Said) → Took cs (view_of view.old) → Took (cs ++ map contents_of (frames_emitted replies.items)) (view_of view.new)) }
+    ensures written { OnOk result (Appends (D.contents drain.old) (D.contents drain.new) (file_of_view view.new)) }
+    ensures packed { OnOk result (AllByRecursion IsPacked (contents_in (view_of view.new))) }
+    ensures held_ids { OnOk result (NoneLacksIds (contents_held (view_of view.old)) → NoneLacksIds (contents_held (view_of view.new))) }
+    ensures ids { OnOk result (NoneLacksIds (contents_held (view_of view.old)) → NoneLacksIds (contents_in (view_of view.new))) }
+    ensures failures { OnOk result (D.failures drain.new ≡ D.failures drain.old) }
+
+    ensures broken { IfErr result (λ e. IsBroken session.old session.new commands.now view.old view.new (D.contents drain.old) (D.contents drain.new) e) }
+    ensures io { (result ≡ Err FileError.Io) → (D.failures drain.new ≡ D.failures drain.old + 1) ⊎ TookNothing D.takes drain.new }
+    ensures too_long { (result ≡ Err FileError.PartTooLong) → Any HasLongPart (contents_in (view_of view.new)) }
+{
+    views_hold_what_they_took();
+    let replies = match session.run(commands) {
+        Ok(replies) => replies,
+        Err(_) => return Err(FileError::Memory),
+    };
+    match add_frames(view, &replies) {
+        Ok(()) => {}
+        Err(_) => return Err(FileError::Memory),
+    }
+    view.write(drain)?;
+    Ok(replies)
+}
+
 /// Runs commands in a new session of threads with these names, adds each emitted frame to a view, in order, and writes the
 /// view's file. Answers one reply to each command.
 ///
@@ -74,29 +105,26 @@ pub fn record<D: Drain>(
 ) -> Result<Vec<Reply>, FileError>
     requires { D.failures drain.old < 2 ^ 64 - 1 }
     // The commands were run, and the view took the frames of that run.
-    ensures run { IfOk result (λ replies. AreReplies (map string_bytes names.items) commands.now replies.items) }
+    ensures run { IfOk result (λ replies. (end : SessionState) × AreReplies (map string_bytes names.items) commands.now replies.items end) }
     ensures view { IfOk result (λ replies. Takes (frames_emitted replies.items) view.old view.new) }
     ensures took { IfOk result (λ replies. (cs : List Said) → Took cs (view_of view.old) → Took (cs ++ map contents_of (frames_emitted replies.items)) (view_of view.new)) }
     ensures written { OnOk result (Appends (D.contents drain.old) (D.contents drain.new) (file_of_view view.new)) }
-    // What is written is read again.
+    // What is written is read again: it has packets, and, where the view's frames had ids in all details, so has it.
     ensures packed { OnOk result (AllByRecursion IsPacked (contents_in (view_of view.new))) }
+    ensures held_ids { OnOk result (NoneLacksIds (contents_held (view_of view.old)) → NoneLacksIds (contents_held (view_of view.new))) }
+    ensures ids { OnOk result (NoneLacksIds (contents_held (view_of view.old)) → NoneLacksIds (contents_in (view_of view.new))) }
     ensures failures { OnOk result (D.failures drain.new ≡ D.failures drain.old) }
 
-    ensures broken { IfErr result (λ e. IsBroken (map string_bytes names.items) commands.now e view.old view.new (D.contents drain.old) (D.contents drain.new)) }
+    ensures broken { IfErr result (λ e. (end : SessionState)
+        × IsBroken (new_session (map string_bytes names.items)) end commands.now view.old view.new (D.contents drain.old) (D.contents drain.new) e) }
     // The writer failed in this call, or took nothing.
     ensures io { (result ≡ Err FileError.Io) → (D.failures drain.new ≡ D.failures drain.old + 1) ⊎ TookNothing D.takes drain.new }
     ensures too_long { (result ≡ Err FileError.PartTooLong) → Any HasLongPart (contents_in (view_of view.new)) }
 {
-    let replies = match replies_to(alloc, names, commands) {
-        Ok(replies) => replies,
-        Err(_) => return Err(FileError::Memory),
-    };
-    match add_frames(view, &replies) {
-        Ok(()) => {}
-        Err(_) => return Err(FileError::Memory),
+    match Session::new(alloc, names) {
+        Ok(mut session) => record_session(&mut session, commands, view, drain),
+        Err(_) => Err(FileError::Memory),
     }
-    view.write(drain)?;
-    Ok(replies)
 }
 
 /// Runs a script in a new session, and writes two things: first the file of a new view that took each frame of the run,

@@ -1,17 +1,24 @@
--- What a recording that failed has left.
-use Rattle.std.proofs.Common.{refl, subst, inl, inr}
-use Rattle.std.proofs.lemmas.Result.{err_from_is_err_and}
-use Rattle.puffin_replay.specs.Recorded.{frames_emitted, Takes, TakesSome}
+-- The session is new before the run; or there is none.
+use Rattle.std.proofs.Common.{refl, subst, inl, map, string_bytes}
+use Rattle.std.proofs.lemmas.Result.{IfOk-weaker, IfErr-weaker}
+use Rattle.puffin_replay.specs.Replies.{Records}
+use Rattle.puffin_replay.specs.Recorded.{IsBroken}
+use Rattle.puffin_replay.specs.Sessions.{SessionState, new_session}
 use Rattle.puffin_replay.proofs.Writing.{nothing_written}
 use Rattle.puffin_replay.proofs.replay.recorder.record.Goals as goal
 
-pub returns-in-Err-add_frames-clause-broken : goal.returns-in-Err-add_frames-clause-broken
-returns-in-Err-add_frames-clause-broken g c =
-    let some = subst (λ rs. TakesSome (frames_emitted rs) c.args.view.now c.add_frames.new.view) c.deref.ensures.value c.in-Err-add_frames.ensures.refusal.1 in
-    inr (inl (c.in-Ok.replies.items, c.in-Ok.ensures.ok, some, refl, nothing_written (g.D.Drain.contents c.args.drain.now)))
+pub returns-in-Ok-clause-run : goal.returns-in-Ok-clause-run
+returns-in-Ok-clause-run g c =
+    let end = c.record_session.new.session in
+    IfOk-weaker c.record_session.result _ _ (λ replies run. (end, subst (λ (s : SessionState). Records s end c.args.commands.now replies.items) c.in-Ok.ensures.new run)) c.record_session.ensures.run
 
-pub returns-in_err-write-clause-broken : goal.returns-in_err-write-clause-broken
-returns-in_err-write-clause-broken g c =
-    let p = err_from_is_err_and c.from_residual.result c.from_residual.ensures.1 in
-    let taken = subst (λ rs. Takes (frames_emitted rs) c.args.view.now c.add_frames.new.view) c.deref.ensures.value c.in-Ok-add_frames.ensures.ok in
-    rw (p.1, p.2) (inr (inr (c.in-Ok.replies.items, c.in-Ok.ensures.ok, taken, c.in_err-write.ensures.begun, c.in_err-write.ensures.cause)))
+pub returns-in-Ok-clause-broken : goal.returns-in-Ok-clause-broken
+returns-in-Ok-clause-broken g c =
+    let end = c.record_session.new.session in
+    IfErr-weaker c.record_session.result _ _
+    (λ e broken.
+    (end, subst (λ (s : SessionState). IsBroken s end c.args.commands.now c.args.view.now c.record_session.new.view (g.D.Drain.contents c.args.drain.now) (g.D.Drain.contents c.record_session.new.drain) e) c.in-Ok.ensures.new broken))
+    c.record_session.ensures.broken
+
+pub returns-in-Err-clause-broken : goal.returns-in-Err-clause-broken
+returns-in-Err-clause-broken g c = (new_session (map string_bytes c.args.names.items), inl (refl, refl, record { taken = refl; details = refl }, nothing_written (g.D.Drain.contents c.args.drain.now)))

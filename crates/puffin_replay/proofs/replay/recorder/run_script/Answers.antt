@@ -1,8 +1,11 @@
 -- What a script's run has written where it ends.
-use Rattle.std.proofs.Common.{List, ℕ, Err, map, string_bytes, ap, ◌∙◌, inl}
+use Rattle.std.proofs.Common.{List, ℕ, Err, map, string_bytes, refl, sym, subst, ap, ◌∙◌, inl}
 use Rattle.std.proofs.lemmas.Result.{err_from_is_err_and, on_ok_weaker}
 use Rattle.puffin_replay.specs.declared.replay.command.Reply.{Reply}
+use Rattle.puffin.specs.Views.{View}
+use Rattle.puffin.specs.Files.{contents_held}
 use Rattle.puffin_replay.specs.Lines.{reply_lines}
+use Rattle.puffin_replay.specs.Recorded.{NoneLacksIds}
 use Rattle.puffin_replay.proofs.Recording.{same_texts, unfinished, no_lines, cut_lines, replayed, told-cut}
 use Rattle.puffin_replay.proofs.replay.recorder.run_script.Goals as goal
 
@@ -33,7 +36,8 @@ returns-clause-ok g c =
     let lines = c.as_bytes.ensures.value ∙ c.in_ok-text.ensures ∙ ap (λ (ns : List ℕ). reply_lines ns c.deref-3.result.now) c.deref-2.ensures.value ∙ ap (λ (rs : List Reply). reply_lines script.lines.items rs) c.deref-3.ensures.value in
     on_ok_weaker c.write_all.result
     (replayed script (map string_bytes c.in_ok-names.names.items) c.deref.result.now names c.deref.ensures.value c.new-view.result c.record.new.view c.new-view.ensures.frames c.in_ok-replies.replies.items recorded.run recorded.view
-    (g.D.Drain.contents c.args.out.now) (g.D.Drain.contents c.record.new.drain) recorded.written c.as_bytes.result.now (g.E.Drain.contents c.args.lines.now) (g.E.Drain.contents c.write_all.new.drain) recorded.took c.new-view.ensures.took lines recorded.packed)
+    (g.D.Drain.contents c.args.out.now) (g.D.Drain.contents c.record.new.drain) recorded.written c.as_bytes.result.now (g.E.Drain.contents c.args.lines.now) (g.E.Drain.contents c.write_all.new.drain) recorded.took c.new-view.ensures.took lines recorded.packed
+    (recorded.ids (subst (λ (v : View). NoneLacksIds (contents_held v)) (sym c.new-view.ensures.frames) refl)))
     c.write_all.ensures.ok
 
 pub returns-clause-fails : goal.returns-clause-fails
