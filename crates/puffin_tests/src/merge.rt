@@ -206,9 +206,10 @@ fn no_frames_and_no_stream(rt: HostRuntime) -> Outcome {
         start_time_ns: None,
         name: String::from_str(alloc, "main")?,
     };
+    let collection = ScopeCollection::new(alloc);
     let mut tries = 7;
     assert_eq!(rt;
-        merge_scopes_counted(alloc, frames.as_slice(), &other, &mut tries)?.len(),
+        merge_scopes_counted(alloc, &collection, frames.as_slice(), &other, &mut tries)?.len(),
         0
     );
     assert_eq!(rt; tries, 0);
@@ -242,8 +243,15 @@ fn tries_are_counted(rt: HostRuntime) -> Outcome {
         end(&mut stream, offset, 300)?;
         frames.push(frame(alloc, stream)?)?;
     }
+    let collection = ScopeCollection::new(alloc);
     let mut tries = 0;
-    let merged = merge_scopes_counted(alloc, frames.as_slice(), &thread(alloc)?, &mut tries)?;
+    let merged = merge_scopes_counted(
+        alloc,
+        &collection,
+        frames.as_slice(),
+        &thread(alloc)?,
+        &mut tries,
+    )?;
     assert_eq!(rt; merged.len(), 1);
     assert_eq!(rt; tries, 3);
     Ok(())
