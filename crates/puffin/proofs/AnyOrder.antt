@@ -39,7 +39,7 @@ merged-reordered {xs = xs} {ys = ys} r =
     let least = least-reordered r in
     λ i. record { number = number i; total = total i; greatest = greatest i; own_start = least i }
 
-merged_at-reordered : {xs ys : List Occurrence} → Reordered xs ys → merged_at xs ≡ merged_at ys
+pub merged_at-reordered : {xs ys : List Occurrence} → Reordered xs ys → merged_at xs ≡ merged_at ys
 merged_at-reordered r = λ i path. merged-reordered (filter-reordered (λ o. is_path o.path path) r) i
 
 row-reordered : (xs ys : List Occurrence) → IsPermutation xs ys → (frames : ℕ) (path : Path) (nodes : List Node) → IsRow xs frames path nodes → IsRow ys frames path nodes

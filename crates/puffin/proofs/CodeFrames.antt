@@ -16,7 +16,7 @@ use Rattle.puffin.specs.Occurrences.{Occurrence, occurrences}
 use Rattle.puffin.specs.MergedForests.{MergedForest}
 use Rattle.puffin.specs.Merges.{IsMerge}
 use Rattle.puffin.specs.FrameStreams.{FrameBytes, bytes_of, start_of, most_tries_of, most_tries}
-use Rattle.puffin.specs.Refusals.{IsRefusal, EndsFit, AreMerged}
+use Rattle.puffin.specs.Refusals.{IsRefusalAfter, EndsFit, AreMerged}
 use Rattle.puffin.specs.Seen.{frame_bytes, frames_bytes, forest_in}
 use Rattle.puffin.specs.Tables.{IsTableOf}
 use Rattle.puffin.specs.Merging.{TakesScopes, RefusesScope}
@@ -53,7 +53,7 @@ more_read info frames i x z frame first t w tried made lt ex ez ef eg r all shor
     (subst (λ (y : UnpackedFrameData). length (bytes_of (frame_bytes info y)) < 2 ^ 63) ef short)
 
 pub refused_read : (info : Info) (frames : List Held) (i : ℕ) (x z : Held) (frame first : UnpackedFrameData) (t : Table) (w : Merging) (tried made : ℕ) (e : Error) → i < length frames → x ≡ get_or frames i x → z ≡ get_or frames 0 z → frame ≡ arc_value x → first ≡ arc_value z
-    → HasRead (frames_bytes info frames) i t tried → (e ≡ Memory) ⊎ StopsEarly TakesScopes RefusesScope (from t frame first) w (bytes_of (frame_bytes info frame)) made e → (e ≡ Memory) ⊎ IsRefusal (frames_bytes info frames) e
+    → HasRead (frames_bytes info frames) i t tried → (e ≡ Memory) ⊎ StopsEarly TakesScopes RefusesScope (from t frame first) w (bytes_of (frame_bytes info frame)) made e → (e ≡ Memory) ⊎ IsRefusalAfter (frames_bytes info frames) (tried + made) e
 refused_read info frames i x z frame first t w tried made e lt ex ez ef eg r (inl memory) = inl memory
 refused_read info frames i x z frame first t w tried made e lt ex ez ef eg r (inr stops) =
     inr (read_refused (frames_bytes info frames) i (bytes_in info x) (from t frame first) w tried made e (split_at (bytes_in info) frames i x lt ex) (origin_is info frames i x z frame first lt ez ef eg) r
@@ -73,7 +73,7 @@ merged_whole info frames i t tried items e r merge =
     read_whole (frames_bytes info frames) i t tried (forest_in items) (e ∙ sym size) r (λ all table. let m = merge all table in (subst (λ (n : ℕ). IsMerge all n (forest_in items)) (sym size) m.0, m.1))
 
 pub merged_refused : (info : Info) (frames : List Held) (i : ℕ) (t : Table) (tried : ℕ) (e : Error) → i ≡ length frames → HasRead (frames_bytes info frames) i t tried
-    → (e ≡ Memory) ⊎ ((e ≡ TooLarge) × ((all : List Occurrence) → IsTableOf all t → (f : MergedForest) × IsMerge all (length frames) f × (EndsFit f → ⊥))) → (e ≡ Memory) ⊎ IsRefusal (frames_bytes info frames) e
+    → (e ≡ Memory) ⊎ ((e ≡ TooLarge) × ((all : List Occurrence) → IsTableOf all t → (f : MergedForest) × IsMerge all (length frames) f × (EndsFit f → ⊥))) → (e ≡ Memory) ⊎ IsRefusalAfter (frames_bytes info frames) tried e
 merged_refused info frames i t tried e at r (inl memory) = inl memory
 merged_refused info frames i t tried e at r (inr ends) =
     let size = size_mapped (bytes_in info) frames in
@@ -90,6 +90,6 @@ made_whole info frames i t tried (Err e) at r h = tt
 made_whole info frames i t tried (Ok merged) at r h = merged_whole info frames i t tried merged.items at r h
 
 pub made_refused : (info : Info) (frames : List Held) (i : ℕ) (t : Table) (tried : ℕ) (r : Result (Vec MergeScope Global) Error) → i ≡ length frames → HasRead (frames_bytes info frames) i t tried
-    → IfErr r (λ e. (e ≡ Memory) ⊎ ((e ≡ TooLarge) × ((all : List Occurrence) → IsTableOf all t → (f : MergedForest) × IsMerge all (length frames) f × (EndsFit f → ⊥)))) → IfErr r (λ e. (e ≡ Memory) ⊎ IsRefusal (frames_bytes info frames) e)
+    → IfErr r (λ e. (e ≡ Memory) ⊎ ((e ≡ TooLarge) × ((all : List Occurrence) → IsTableOf all t → (f : MergedForest) × IsMerge all (length frames) f × (EndsFit f → ⊥)))) → IfErr r (λ e. (e ≡ Memory) ⊎ IsRefusalAfter (frames_bytes info frames) tried e)
 made_refused info frames i t tried (Ok merged) at r h = tt
 made_refused info frames i t tried (Err e) at r h = merged_refused info frames i t tried e at r h

@@ -14,7 +14,7 @@ use Rattle.puffin.specs.Occurrences.{Occurrence, FrameScopes, occurrence_of, occ
 use Rattle.puffin.specs.MergedForests.{MergedForest, no_node}
 use Rattle.puffin.specs.Merges.{IsMerge}
 use Rattle.puffin.specs.FrameStreams.{FrameBytes, bytes_of, start_of, HasScopes, HaveScopes, most_tries_of, most_tries}
-use Rattle.puffin.specs.Refusals.{IsRefusedFor, AreAccepted, faulty, refused, IsRefusal, in_frame, at_end, EndsFit, AreMerged, ReadsFew}
+use Rattle.puffin.specs.Refusals.{IsRefusedFor, AreAccepted, faulty, refused, IsRefusalAfter, in_frame, at_end, EndsFit, AreMerged, ReadsFew}
 use Rattle.puffin.specs.Tables.{IsTableOf}
 use Rattle.puffin.specs.Merging.{TakesScopes, RefusesScope, accepted-append, append-nil}
 use Rattle.puffin.proofs.Starting.{earliest-is_least}
@@ -74,22 +74,27 @@ read_more frames i f v w tried made split origin r all short =
     (subst (λ (o : ℤ). AreAccepted done (occurrences_in o scopes)) origin (all.taken.accepted done r.table))
     (subst (λ (o : ℤ). IsTableOf (done ++ occurrences_in o scopes) w.table) origin (all.taken.table done r.table)) all.tries
 
+both_counted : {a b c d : ℕ} → a ≡ c → b ≡ d → a + b ≡ c + d
+both_counted p q i = p i + q i
+
 -- a frame that is refused
 pub read_refused : (frames : List FrameBytes) (i : ℕ) (f : FrameBytes) (v w : Merging) (tried made : ℕ) (e : Error) → frames ≡ take i frames ++ (f ∷ drop (i + 1) frames) → v.origin ≡ f.start -ℤ start_of frames → HasRead frames i v.table tried
-    → StopsEarly TakesScopes RefusesScope v w (bytes_of f) made e → IsRefusal frames e
+    → StopsEarly TakesScopes RefusesScope v w (bytes_of f) made e → IsRefusalAfter frames (tried + made) e
 read_refused frames i f v w tried made e split origin r (inl s) =
     let done = occurrences_from (start_of frames) r.scopes in
-    in_frame (take i frames) (drop (i + 1) frames) f r.scopes split r.have r.accepted
-    (faulty s.first s.sees (subst (λ (o : ℤ). AreAccepted done (occurrences_in o (scopes_of (before s.place s.sights)))) origin (s.taken.accepted done r.table)))
+    subst (λ (n : ℕ). IsRefusalAfter frames n e) (sym (both_counted r.tries s.tries))
+    (in_frame (take i frames) (drop (i + 1) frames) f r.scopes split r.have r.accepted
+    (faulty s.first s.sees (subst (λ (o : ℤ). AreAccepted done (occurrences_in o (scopes_of (before s.place s.sights)))) origin (s.taken.accepted done r.table))))
 read_refused frames i f v w tried made e split origin r (inr s) =
     let done = occurrences_from (start_of frames) r.scopes in
     let later = s.taken in
     let same : s.to.origin ≡ f.start -ℤ start_of frames = later.origin ∙ origin in
-    in_frame (take i frames) (drop (i + 1) frames) f r.scopes split r.have r.accepted
+    subst (λ (n : ℕ). IsRefusalAfter frames n e) (sym (both_counted r.tries s.tries))
+    (in_frame (take i frames) (drop (i + 1) frames) f r.scopes split r.have r.accepted
     (refused s.earlier s.later s.sight s.sees
     (subst (λ (o : ℤ). AreAccepted done (occurrences_in o (scopes_of s.earlier))) origin (later.accepted done r.table))
     (refused_from s.to.origin v.origin (f.start -ℤ start_of frames) done (scopes_of s.earlier) s.sight.scope e same origin (s.refused (done ++ occurrences_in v.origin (scopes_of s.earlier)) (later.table done r.table)))
-    s.first)
+    s.first))
   where
     refused_from : (a b o : ℤ) (done : List Occurrence) (scopes : List Nested) (n : Nested) (e : Error) → a ≡ o → b ≡ o → IsRefusedFor (done ++ occurrences_in b scopes) (occurrence_of a n) e → IsRefusedFor (done ++ occurrences_in o scopes) (occurrence_of o n) e
     refused_from a b o done scopes n e ea eb h =
@@ -130,13 +135,13 @@ read_whole frames i t tried f e r merge =
     )
 
 pub ends_refused : (frames : List FrameBytes) (i : ℕ) (t : Table) (tried : ℕ) (e : Error) → i ≡ length frames → HasRead frames i t tried
-    → (e ≡ Memory) ⊎ ((e ≡ TooLarge) × ((all : List Occurrence) → IsTableOf all t → (f : MergedForest) × IsMerge all (length frames) f × (EndsFit f → ⊥))) → (e ≡ Memory) ⊎ IsRefusal frames e
+    → (e ≡ Memory) ⊎ ((e ≡ TooLarge) × ((all : List Occurrence) → IsTableOf all t → (f : MergedForest) × IsMerge all (length frames) f × (EndsFit f → ⊥))) → (e ≡ Memory) ⊎ IsRefusalAfter frames tried e
 ends_refused frames i t tried e at r (inl memory) = inl memory
 ends_refused frames i t tried e at r (inr ends) =
     let have = have_all frames r.scopes i at r.have in
     let same : occurrences_from (start_of frames) r.scopes ≡ occurrences r.scopes = ap (λ (s : ℤ). occurrences_from s r.scopes) (starts_same frames r.scopes have) in
     let m = ends.1 (occurrences r.scopes) (subst (λ (xs : List Occurrence). IsTableOf xs t) same r.table) in
-    inr (subst (IsRefusal frames) (sym ends.0) (at_end r.scopes m.0 have (subst (λ (xs : List Occurrence). AreAccepted [] xs) same r.accepted) m.1 m.2))
+    inr (subst (IsRefusalAfter frames tried) (sym ends.0) (subst (λ (n : ℕ). IsRefusalAfter frames n TooLarge) (sym (r.tries ∙ ap length same)) (at_end r.scopes m.0 have (subst (λ (xs : List Occurrence). AreAccepted [] xs) same r.accepted) m.1 m.2)))
 
 -- without frames there is nothing to merge
 no_scopes : (frames : List FrameBytes) (scopes : List FrameScopes) → length frames ≡ 0 → HaveScopes frames scopes → scopes ≡ []

@@ -2,6 +2,7 @@ pub mod Reporting
 pub mod Starting
 pub mod Reordering
 pub mod AnyOrder
+pub mod FramesReordered
 pub mod Growing
 pub mod Assembling
 pub mod Examples

@@ -10,7 +10,7 @@ use Rattle.puffin.specs.Occurrences.{Occurrence, FrameScopes, occurrence_of, occ
 use Rattle.puffin.specs.MergedForests.{MergedForest}
 use Rattle.puffin.specs.Merges.{IsMerge}
 use Rattle.puffin.specs.FrameStreams.{FrameBytes, bytes_of, start_of, HasScopes, HaveScopes}
-use Rattle.puffin.specs.Refusals.{IsRefusedFor, AreAccepted, IsFrameRefusal, faulty, refused, IsRefusal, in_frame, at_end, EndsFit, AreMerged}
+use Rattle.puffin.specs.Refusals.{IsRefusedFor, AreAccepted, IsFrameRefusal, faulty, refused, IsRefusal, IsRefusalAfter, in_frame, at_end, EndsFit, AreMerged}
 use Rattle.puffin.specs.Merging.{append-nil}
 use Rattle.puffin.proofs.FramesRead.{starts_same}
 use Rattle.puffin.proofs.OneMerge.{one_merge}
@@ -76,10 +76,10 @@ not_refused done more o refusal a (inr large) = large.1 a.1
 
 -- ---- a frame whose scopes are accepted isn't refused
 
-frame_fine : Walks → (frame : FrameBytes) (this : FrameScopes) (done more : List Occurrence) (origin : ℤ) (refusal : Error) → HasScopes frame this → AreAccepted done (occurrences_in origin (nested_in [] this.forest) ++ more) → IsFrameRefusal done origin (bytes_of frame) refusal → ⊥
-frame_fine w frame this done more origin refusal has a (faulty {place = place} {fault = fault} first sees accepted) =
+frame_fine : Walks → (frame : FrameBytes) (this : FrameScopes) (done more : List Occurrence) (origin : ℤ) (refusal : Error) (tries : ℕ) → HasScopes frame this → AreAccepted done (occurrences_in origin (nested_in [] this.forest) ++ more) → IsFrameRefusal done origin (bytes_of frame) tries refusal → ⊥
+frame_fine w frame this done more origin refusal tries has a (faulty {place = place} {fault = fault} first sees accepted) =
     let short = has.short in w.no_fault (bytes_of frame) this.forest fault (omega arith) has.spells (place, first)
-frame_fine w frame this done more origin refusal has a (refused earlier later s {refusal = cause} sees accepted is_refused first) =
+frame_fine w frame this done more origin refusal tries has a (refused earlier later s {refusal = cause} sees accepted is_refused first) =
     let short = has.short in
     let scopes : nested_in [] this.forest ≡ scopes_of earlier ++ (s.scope ∷ scopes_of later) =
     sym (w.sees (bytes_of frame) this.forest (earlier ++ (s ∷ later)) (omega arith) has.spells sees) ∙ map-append (λ (x : Sight). x.scope) earlier (s ∷ later) in
@@ -92,16 +92,16 @@ frame_fine w frame this done more origin refusal has a (refused earlier later s 
 
 -- ---- the frames
 
-not_in_frame : Walks → (frames earlier later : List FrameBytes) (frame : FrameBytes) (early : List FrameScopes) (f : MergedForest) (refusal : Error) → frames ≡ earlier ++ (frame ∷ later) → HaveScopes earlier early → AreMerged frames f
-    → IsFrameRefusal (occurrences_from (start_of frames) early) (frame.start -ℤ start_of frames) (bytes_of frame) refusal → ⊥
-not_in_frame w frames earlier later frame early f refusal split have m is =
+not_in_frame : Walks → (frames earlier later : List FrameBytes) (frame : FrameBytes) (early : List FrameScopes) (f : MergedForest) (refusal : Error) (tries : ℕ) → frames ≡ earlier ++ (frame ∷ later) → HaveScopes earlier early → AreMerged frames f
+    → IsFrameRefusal (occurrences_from (start_of frames) early) (frame.start -ℤ start_of frames) (bytes_of frame) tries refusal → ⊥
+not_in_frame w frames earlier later frame early f refusal tries split have m is =
     let at = has_at w earlier later frame early m.scopes have (subst (λ (xs : List FrameBytes). HaveScopes xs m.scopes) split m.have) in
     let first = start_of frames in
     let this = at.this in
     let all : occurrences m.scopes ≡ occurrences_from first early ++ (occurrences_of first this ++ occurrences_from first at.later) =
     ap (λ (s : ℤ). occurrences_from s m.scopes) (sym (starts_same frames m.scopes m.have)) ∙ ap (occurrences_from first) at.are ∙ from_append first early (this ∷ at.later) in
     let accepted = accepted_after (occurrences_from first early) (occurrences_of first this ++ occurrences_from first at.later) [] (subst (AreAccepted []) all m.accepted) in
-    frame_fine w frame this (occurrences_from first early) (occurrences_from first at.later) (frame.start -ℤ first) refusal at.has
+    frame_fine w frame this (occurrences_from first early) (occurrences_from first at.later) (frame.start -ℤ first) refusal tries at.has
     (subst (λ (s : ℤ). AreAccepted (occurrences_from first early) (occurrences_in (s -ℤ first) (nested_in [] this.forest) ++ occurrences_from first at.later)) at.has.start accepted) is
 
 pub merged_once : Walks → (frames : List FrameBytes) (f g : MergedForest) → AreMerged frames f → AreMerged frames g → f ≡ g
@@ -109,9 +109,12 @@ merged_once w frames f g a b =
     let same = one_list w frames a.scopes b.scopes a.have b.have in
     one_merge (occurrences a.scopes) (length frames) f g a.merge (subst (λ (xs : List FrameScopes). IsMerge (occurrences xs) (length frames) g) (sym same) b.merge)
 
-pub not_both : Walks → (frames : List FrameBytes) (f : MergedForest) (refusal : Error) → AreMerged frames f → IsRefusal frames refusal → ⊥
-not_both w frames f refusal m (in_frame earlier later frame early split have accepted is) = not_in_frame w frames earlier later frame early f _ split have m is
-not_both w frames f refusal m (at_end scopes g have accepted merge unfit) =
+not_after : Walks → (frames : List FrameBytes) (f : MergedForest) (tries : ℕ) (refusal : Error) → AreMerged frames f → IsRefusalAfter frames tries refusal → ⊥
+not_after w frames f tries refusal m (in_frame earlier later frame early split have accepted is) = not_in_frame w frames earlier later frame early f _ _ split have m is
+not_after w frames f tries refusal m (at_end scopes g have accepted merge unfit) =
     let same = one_list w frames m.scopes scopes m.have have in
     let one = one_merge (occurrences scopes) (length frames) f g (subst (λ (xs : List FrameScopes). IsMerge (occurrences xs) (length frames) f) same m.merge) merge in
     unfit (subst EndsFit one m.ends)
+
+pub not_both : Walks → (frames : List FrameBytes) (f : MergedForest) (refusal : Error) → AreMerged frames f → IsRefusal frames refusal → ⊥
+not_both w frames f refusal m (tries, is) = not_after w frames f tries refusal m is

@@ -7,13 +7,14 @@ use Rattle.std.proofs.lemmas.Int.{ints}
 use Rattle.std.proofs.lemmas.List.Sorted.{ranks_by}
 use Rattle.puffin.specs.Ranking.{place, last_from}
 use Rattle.puffin_frames.specs.Stored.{Said}
-use Rattle.puffin.specs.Frames.{Frame, frame_index, duration, by_duration, by_index, is_slower, contents_of, index_of, packed_at, packed}
+use Rattle.puffin.specs.Selection.{Rank, older_cmp}
+use Rattle.puffin.specs.Frames.{Frame, frame_index, duration, by_duration, is_slower, contents_of, index_of, packed_at, packed}
 
 pub by_duration_total : IsTotalOrder by_duration
 by_duration_total = then_total (on_total duration (back_total int_cmp_total)) (on_total frame_index nat_cmp_total)
 
-pub by_index_total : IsTotalOrder by_index
-by_index_total = then_total (on_total frame_index nat_cmp_total) (on_total duration int_cmp_total)
+pub older_total : IsTotalOrder older_cmp
+older_total = then_total (on_total (λ (r : Rank). r.index) nat_cmp_total) (then_total (on_total (λ (r : Rank). r.place) nat_cmp_total) (on_total (λ (r : Rank). r.duration) int_cmp_total))
 
 pub slower_order : IsStrictWeakOrder is_slower
 slower_order = ranks_by by_duration_total (λ (c : Said). c)

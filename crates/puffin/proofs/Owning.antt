@@ -1,18 +1,17 @@
 -- Details that stand under their own ids have ids.
-use Rattle.std.proofs.Common.{◌≡◌, ℕ, List, [], ◌∷◌, map, Bool, true, false, if◌then◌else◌, T, cond, Option, None, Some, All, refl, sym, ap, subst, ◌∙◌}
+use Rattle.std.proofs.Common.{◌≡◌, ℕ, List, [], ◌∷◌, map, T, cond, Option, None, Some, refl, sym, ap, subst, ◌∙◌}
 use Rattle.std.specs.Prelude.{IsSome}
 use Rattle.std.specs.declared.cmp.Ordering.{Ordering}
 use Rattle.std.specs.declared.cmp.Ordering.TheVariants.{Less, Equal, Greater}
 use Rattle.std.specs.Ordering.{nat_cmp, is_eq, is_lt}
-use Rattle.std.specs.FinMap.{entries, values, find, is_sorted, entries_sorted, get-entries, nat_cmp-IsAntisymmetric}
+use Rattle.std.specs.FinMap.{entries, find, is_sorted, entries_sorted, get-entries, nat_cmp-IsAntisymmetric}
 use Rattle.std.specs.FinMap.Entries.{below_all}
 use Rattle.std.proofs.lemmas.Cmp.{nat_cmp_total, tied_itself}
-use Rattle.std.proofs.lemmas.List.{append-nil}
-use Rattle.std.proofs.lemmas.List.Elements.{All-append, All-cons, All-nil}
+use Rattle.std.proofs.lemmas.List.Elements.{All-cons, All-nil}
 use Rattle.puffin_frames.specs.Details.{Details, AllHaveIds}
 use Rattle.puffin_frames.specs.Collection.{Collection, KeepsOwnIds}
 use Rattle.puffin_frames.proofs.Measured.{first, second, less}
-use Rattle.puffin.specs.Collected.{all_details, delta_of}
+use Rattle.puffin.specs.Collected.{all_details}
 
 -- each of these entries is the one that is found under its key
 abbrev pub Owned : List (ℕ × Details) → Type 0

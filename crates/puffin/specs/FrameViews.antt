@@ -1,12 +1,11 @@
 -- What contracts see of a view of frames.
-use Rattle.std.specs.Prelude.{◌≡◌, ◌⊎◌, Bool, List, [], ◌∷◌, ◌++◌, None}
+use Rattle.std.specs.Prelude.{◌≡◌, Bool, List}
 use Rattle.std.specs.List.{list_any}
-use Rattle.puffin_data.specs.declared.error.Error.{Error}
-use Rattle.puffin_data.specs.declared.error.Error.TheVariants.{MissingId, Memory}
 use Rattle.puffin_frames.specs.Details.{Details, lacks_id}
 use Rattle.puffin_frames.specs.Stored.{Said}
 use Rattle.puffin_frames.specs.Collection.{Collection, inserted_all}
 use Rattle.puffin.specs.declared.profile_view.frame_view.FrameView.{FrameView}
+use Rattle.puffin.specs.Collecting.{Begins}
 use Rattle.puffin.specs.Views.{View}
 
 abbrev pub view_of : FrameView → View
@@ -19,10 +18,6 @@ collection_of view = view.scope_collection
 abbrev pub lacks_ids : Said → Bool
 lacks_ids c = list_any lacks_id c.details
 
-abbrev pub FirstLacksId : List Details → Type 0
-FirstLacksId [] = ⊥
-FirstLacksId (d ∷ rest) = d.id ≡ None
-
--- Why not all details were learnt: a beginning of them was, and the next lacks its id, or there was no memory.
-abbrev pub LearnsSome : Collection → List Details → Error → Collection → Type 0
-LearnsSome old ds e new = (learnt rest : List Details) × (ds ≡ learnt ++ rest) × (new ≡ inserted_all old learnt) × (((e ≡ MissingId) × FirstLacksId rest) ⊎ (e ≡ Memory))
+-- a beginning of details is learnt
+abbrev pub LearnsSome : Collection → List Details → Collection → Type 0
+LearnsSome old ds new = (learnt : List Details) × Begins learnt ds × (new ≡ inserted_all old learnt)

@@ -1,5 +1,5 @@
 -- What a view sees of a frame, and the orders of frames.
-use Rattle.std.specs.Prelude.{ℕ, ◌+◌, ◌-◌, ◌^◌, ℤ, ◌-ℤ◌, Bool, true, false, cond, min, List, [], ◌∷◌, nat_lt, nat_eq, ◌&&◌, ◌≡◌, length, map}
+use Rattle.std.specs.Prelude.{ℕ, ◌+◌, ◌-◌, ◌^◌, ℤ, ◌-ℤ◌, Bool, true, false, cond, min, List, [], ◌∷◌, nat_lt, nat_eq, ◌&&◌, length, map}
 use Rattle.std.specs.declared.cmp.Ordering.{Ordering}
 use Rattle.std.specs.Ordering.{nat_cmp, int_cmp, is_lt, on, then_cmp, flip_args}
 use Rattle.std.specs.FinMap as map
@@ -32,10 +32,6 @@ duration_of f = duration f.contents
 abbrev pub by_duration : Said → Said → Ordering
 by_duration = then_cmp (on duration (flip_args int_cmp)) (on frame_index nat_cmp)
 
--- by rising index, then rising duration
-abbrev pub by_index : Said → Said → Ordering
-by_index = then_cmp (on frame_index nat_cmp) (on duration int_cmp)
-
 abbrev pub is_slower : Said → Said → Bool
 is_slower c d = is_lt (by_duration c d)
 
@@ -59,10 +55,6 @@ is_rising (c ∷ cs) = rises_above (frame_index c) cs
 abbrev pub taken : List Said → List Said
 taken [] = []
 taken (c ∷ cs) = cond (is_rising (c ∷ cs)) (c ∷ cs) (taken cs)
-
--- frames that count as the same, however they are held
-abbrev pub IsSame : Frame → Frame → Type 0
-IsSame f g = f.contents ≡ g.contents
 
 -- a frame held packed alone
 abbrev pub packed : Frame → Frame

@@ -1,5 +1,5 @@
 -- What contracts see of a view.
-use Rattle.std.specs.Prelude.{ℕ, ◌≤◌, Bool, true, false, cond, List, [], ◌∷◌, ◌++◌, Option, Some, None, nat_lt, nat_le, int_lt, ◌||◌, ◌≡◌, map, length, take}
+use Rattle.std.specs.Prelude.{ℕ, ◌≤◌, Bool, true, false, cond, List, [], ◌∷◌, ◌++◌, Option, Some, None, nat_lt, nat_le, int_lt, ◌||◌, ◌≡◌, ◌⊎◌, map, length, take}
 use Rattle.std.specs.Option.{option_map_or, option_map}
 use Rattle.std.specs.List.{AllByRecursion}
 use Rattle.puffin.specs.Ranking.{place, last_of, last_in}
@@ -68,6 +68,11 @@ joined_by v f = record {
 -- the view after it took a frame
 abbrev pub after_taking : View → Frame → View
 after_taking v f = joined_by (ready_for v (index_of f)) f
+
+-- what a view is that had no memory for a frame of an index: as it was, or with its newest frame packed, where it packs and
+-- that index is above the last one taken
+abbrev pub KeepsFrames : View → ℕ → View → Type 0
+KeepsFrames old i new = (new ≡ old) ⊎ ((is_past old i ≡ false) × (old.packs ≡ true) × (new ≡ with_newest_packed old))
 
 -- after frames that it took in order
 abbrev pub after_all : View → List Frame → View

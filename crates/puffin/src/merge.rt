@@ -4,7 +4,7 @@ ghost use Rattle.std.specs.Prelude.{◌≡◌, ◌≤◌, ◌⊎◌, length, IfO
 ghost use Rattle.puffin_frames.specs.Info.{info_of};
 ghost use Rattle.puffin.specs.Occurrences.{occurrences};
 ghost use Rattle.puffin.specs.FrameStreams.{most_tries};
-ghost use Rattle.puffin.specs.Refusals.{IsRefusal, AreMerged, ReadsFew};
+ghost use Rattle.puffin.specs.Refusals.{IsRefusal, IsRefusalAfter, AreMerged, ReadsFew};
 ghost use Rattle.puffin.specs.Seen.{frames_bytes, forest_in};
 
 pub mod laws;
@@ -38,7 +38,7 @@ use std::sync::Arc;
 /// The collection is not read: a scope's details change neither what is merged nor in which order.
 pub fn merge_scopes_for_thread<'s>(
     alloc: Global,
-    _collection: &ScopeCollection,
+    collection: &ScopeCollection,
     frames: &'s [Arc<UnpackedFrameData>],
     info: &ThreadInfo,
 ) -> Result<Vec<MergeScope<'s>>>
@@ -48,20 +48,23 @@ pub fn merge_scopes_for_thread<'s>(
     ensures refused { IfErr result (λ e. (e ≡ Error.Memory) ⊎ IsRefusal (frames_bytes (info_of info.now) frames.now) e) }
 {
     let mut tries = 0;
-    merge_scopes_counted(alloc, frames, info, &mut tries)
+    merge_scopes_counted(alloc, collection, frames, info, &mut tries)
 }
 
-/// The same, and no collection is wanted. `tries` is set to the number of readings made at a byte `(`, also where merging is refused.
+/// The same. `tries` is set to the number of readings made at a byte `(`, also where merging is refused: those of the frames
+/// that are accepted before, and those up to the refusal in its own.
 pub fn merge_scopes_counted<'s>(
     alloc: Global,
+    _collection: &ScopeCollection,
     frames: &'s [Arc<UnpackedFrameData>],
     info: &ThreadInfo,
     tries: &mut u128,
 ) -> Result<Vec<MergeScope<'s>>>
     // What it gives is the frames' merge, with one try for each scope.
     ensures merged { IfOk result (λ merged. (m : AreMerged (frames_bytes (info_of info.now) frames.now) (forest_in merged.items)) × (tries.new ≡ length (occurrences m.scopes))) }
-    // What it is refused with, if not for want of memory, is the frames' refusal.
-    ensures refused { IfErr result (λ e. (e ≡ Error.Memory) ⊎ IsRefusal (frames_bytes (info_of info.now) frames.now) e) }
+    // What it is refused with, if not for want of memory, is the frames' refusal after just these tries.
+    ensures refused { IfErr result (λ e. (e ≡ Error.Memory)
+        ⊎ IsRefusalAfter (frames_bytes (info_of info.now) frames.now) tries.new e) }
     // No frame is read after one that isn't accepted.
     ensures read { ReadsFew (frames_bytes (info_of info.now) frames.now) tries.new }
     ensures few { tries.new ≤ most_tries (frames_bytes (info_of info.now) frames.now) }

@@ -79,7 +79,7 @@ pub fails : {V W : Type 0} {enters : V → W → Span → W → V → Type 0} {r
 fails outers w v n p e fault at = early_end outers w v n p e _ tt (meets_fault at)
 
 pub refusing : {V W : Type 0} {enters : V → W → Span → W → V → Type 0} {refuses : V → W → Span → Error → Type 0} {bytes : List ℕ} (outers : List (Region W)) (w : W) (v : V) (n p e : ℕ) (s : Found) (cause : Error)
-    → IsSoundAt bytes p e s → refuses v w s.span cause → Resumes enters refuses bytes outers w v n p e (at_refusal p cause)
+    → IsSoundAt bytes p e s → refuses v w s.span cause → Resumes enters refuses bytes outers w v n p e (at_refusal p cause (n + 1))
 refusing outers w v n p e s cause sound refused = early_end outers w v n p e _ tt (is_refused sound refused)
 
 -- without open scopes, a walk from here is all that is left

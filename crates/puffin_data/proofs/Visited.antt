@@ -155,7 +155,7 @@ meets {takes = takes} refuses laws bytes around w v z n o p e place fault fits h
 
 -- ---- a walk that is refused
 
-pub record Refused {V : Type 0} (takes : V → List Nested → V → Type 0) (refuses : V → Nested → Error → Type 0) (bytes : List ℕ) (around : List Span) (v : V) (p e : ℕ) (cause : Error) : Type 0 where
+pub record Refused {V : Type 0} (takes : V → List Nested → V → Type 0) (refuses : V → Nested → Error → Type 0) (bytes : List ℕ) (around : List Span) (v : V) (n m p e : ℕ) (cause : Error) : Type 0 where
   pub earlier : List Sight
   pub sight : Sight
   pub later : List Sight
@@ -166,6 +166,7 @@ pub record Refused {V : Type 0} (takes : V → List Nested → V → Type 0) (re
   pub first : (q f : ℕ) (fault : Error) → Reaches bytes p e q f → IsFaultAt bytes q f fault → sight.place ≤ q
   pub low : p ≤ sight.place
   pub high : sight.place ≤ e
+  pub tries : m ≡ n + (length earlier + 1)
 
 regroup_inner : (s t : Sight) (earlier later rest : List Sight) → s ∷ ((earlier ++ (t ∷ later)) ++ rest) ≡ (s ∷ earlier) ++ (t ∷ (later ++ rest))
 regroup_inner s t earlier later rest = ap (λ (xs : List Sight). s ∷ xs) (append_assoc earlier (t ∷ later) rest)
@@ -173,9 +174,9 @@ regroup_inner s t earlier later rest = ap (λ (xs : List Sight). s ∷ xs) (appe
 regroup_later : (s t : Sight) (inner earlier later : List Sight) → s ∷ (inner ++ (earlier ++ (t ∷ later))) ≡ (s ∷ (inner ++ earlier)) ++ (t ∷ later)
 regroup_later s t inner earlier later = ap (λ (xs : List Sight). s ∷ xs) (sym (append_assoc inner earlier (t ∷ later)))
 
-pub refused_at : {V W : Type 0} {takes : V → List Nested → V → Type 0} (refuses : V → Nested → Error → Type 0) {stands_for : V → W → List Span → Type 0} (laws : Visits takes stands_for) (bytes : List ℕ) (around : List Span) (w : W) (v : V) (n p e place : ℕ) (cause : Error)
-    → IsBytes bytes → p ≤ e → e ≤ length bytes → stands_for v w around → Goes (Entering takes stands_for) (Refusing refuses stands_for) bytes w v n p e (at_refusal place cause) → Refused takes refuses bytes around v p e cause
-refused_at refuses laws bytes around w v n p e place cause fits h k stands (is_refused {s = s} sound refused) =
+pub refused_at : {V W : Type 0} {takes : V → List Nested → V → Type 0} (refuses : V → Nested → Error → Type 0) {stands_for : V → W → List Span → Type 0} (laws : Visits takes stands_for) (bytes : List ℕ) (around : List Span) (w : W) (v : V) (n m p e place : ℕ) (cause : Error)
+    → IsBytes bytes → p ≤ e → e ≤ length bytes → stands_for v w around → Goes (Entering takes stands_for) (Refusing refuses stands_for) bytes w v n p e (at_refusal place cause m) → Refused takes refuses bytes around v n m p e cause
+refused_at refuses laws bytes around w v n m p e place cause fits h k stands (is_refused {s = s} sound refused) =
     let at = found_places bytes p e s sound h k in
     let a = sights_in bytes (around ++ (s.span ∷ [])) (p + s.child_begin) (p + s.child_end) (omega (arith, at)) (omega (arith, at)) in
     let b = sights_in bytes around (p + s.next_sibling) e (omega (arith, at)) k in
@@ -190,11 +191,12 @@ refused_at refuses laws bytes around w v n p e place cause fits h k stands (is_r
       first = λ q f fault r x. (between bytes p e q f h k r).low;
       low = omega arith;
       high = h;
+      tries = omega arith;
     }
-refused_at {takes = takes} refuses laws bytes around w v n p e place cause fits h k stands (stops_within {x = x} {u = u} {s = s} sound enter early inner) =
+refused_at {takes = takes} refuses laws bytes around w v n m p e place cause fits h k stands (stops_within {x = x} {u = u} {s = s} sound enter early inner) =
     let at = found_places bytes p e s sound h k in
     let first = enter around stands in
-    let a = refused_at refuses laws bytes (around ++ (s.span ∷ [])) x u (n + 1) (p + s.child_begin) (p + s.child_end) place cause fits (omega (arith, at)) (omega (arith, at)) first.1 inner in
+    let a = refused_at refuses laws bytes (around ++ (s.span ∷ [])) x u (n + 1) m (p + s.child_begin) (p + s.child_end) place cause fits (omega (arith, at)) (omega (arith, at)) first.1 inner in
     let b = sights_in bytes around (p + s.next_sibling) e (omega (arith, at)) k in
     let a-low = a.low in
     let a-high = a.high in
@@ -209,12 +211,13 @@ refused_at {takes = takes} refuses laws bytes around w v n p e place cause fits 
       first = λ q f fault r y. by_parts bytes p e q f a.sight.place s fault sound (λ c. a.first q f fault c y) (λ c. let d = between bytes (p + s.next_sibling) e q f (omega (arith, at)) k c in omega (arith, at, a-high, d)) r y;
       low = omega (arith, at, a-low);
       high = omega (arith, at, a-high);
+      tries = omega (arith, a.tries);
     }
-refused_at {takes = takes} refuses laws bytes around w v n p e place cause fits h k stands (goes_on {x = x} {u = u} {t = t} {m = m} {s = s} sound enter inner later) =
+refused_at {takes = takes} refuses laws bytes around w v n o p e place cause fits h k stands (goes_on {x = x} {u = u} {t = t} {m = m} {s = s} sound enter inner later) =
     let at = found_places bytes p e s sound h k in
     let first = enter around stands in
     let a = done refuses laws bytes (around ++ (s.span ∷ [])) x u t (n + 1) m (p + s.child_begin) (p + s.child_end) fits (omega (arith, at)) (omega (arith, at)) first.1 inner in
-    let b = refused_at refuses laws bytes around w t m (p + s.next_sibling) e place cause fits (omega (arith, at)) k (still_after laws v u t _ _ w around first.0 a.taken stands) later in
+    let b = refused_at refuses laws bytes around w t m o (p + s.next_sibling) e place cause fits (omega (arith, at)) k (still_after laws v u t _ _ w around first.0 a.taken stands) later in
     let b-low = b.low in
     let b-high = b.high in
     record {
@@ -228,6 +231,7 @@ refused_at {takes = takes} refuses laws bytes around w v n p e place cause fits 
       first = λ q f fault r y. by_parts bytes p e q f b.sight.place s fault sound (λ c. absurd (a.faultless q f fault c y)) (λ c. b.first q f fault c y) r y;
       low = omega (arith, at, b-low);
       high = omega (arith, b-high);
+      tries = omega (arith, a.tries, b.tries, length-append a.sights b.earlier);
     }
 
 -- ---- told of the whole bytes
@@ -264,10 +268,10 @@ stops_at_fault refuses laws bytes w v u m place fault fits stands g =
       tries = omega (arith, s.tries, last);
     }
 
-pub stops_at_refusal : {V W : Type 0} {takes : V → List Nested → V → Type 0} (refuses : V → Nested → Error → Type 0) {stands_for : V → W → List Span → Type 0} (laws : Visits takes stands_for) (bytes : List ℕ) (w : W) (v : V) (place : ℕ) (cause : Error)
-    → IsBytes bytes → stands_for v w [] → Goes (Entering takes stands_for) (Refusing refuses stands_for) bytes w v 0 0 (length bytes) (at_refusal place cause) → StopsAtRefusal takes refuses v bytes cause
-stops_at_refusal refuses laws bytes w v place cause fits stands g =
-    let s = refused_at refuses laws bytes [] w v 0 0 (length bytes) place cause fits (omega arith) (omega arith) stands g in
+pub stops_at_refusal : {V W : Type 0} {takes : V → List Nested → V → Type 0} (refuses : V → Nested → Error → Type 0) {stands_for : V → W → List Span → Type 0} (laws : Visits takes stands_for) (bytes : List ℕ) (w : W) (v : V) (m place : ℕ) (cause : Error)
+    → IsBytes bytes → stands_for v w [] → Goes (Entering takes stands_for) (Refusing refuses stands_for) bytes w v 0 0 (length bytes) (at_refusal place cause m) → StopsAtRefusal takes refuses v bytes m cause
+stops_at_refusal refuses laws bytes w v m place cause fits stands g =
+    let s = refused_at refuses laws bytes [] w v 0 m 0 (length bytes) place cause fits (omega arith) (omega arith) stands g in
     record {
       earlier = s.earlier;
       sight = s.sight;
@@ -277,4 +281,5 @@ stops_at_refusal refuses laws bytes w v place cause fits stands g =
       taken = s.taken;
       refused = s.refused;
       first = s.first;
+      tries = omega (arith, s.tries);
     }

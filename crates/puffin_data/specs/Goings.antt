@@ -7,16 +7,16 @@ use Rattle.puffin_data.specs.Walk.{region, IsSoundAt, IsFaultAt}
 use Rattle.puffin_data.specs.Walking.{tries_in}
 use Rattle.puffin_data.specs.Sights.{Nested}
 
--- How a walk ends: over its whole region, with the visitor's state and the tries; at a fault, with the tries; or at a scope that the visitor refuses.
+-- How a walk ends: over its whole region, with the visitor's state and the tries; at a fault, with the tries; or at a scope that the visitor refuses, with the tries.
 pub data End (V : Type 0) : Type 0 where
   whole : (to : V) → (tries : ℕ) → End V
   at_fault : (to : V) → (place : ℕ) → (fault : Error) → (tries : ℕ) → End V
-  at_refusal : (place : ℕ) → (cause : Error) → End V
+  at_refusal : (place : ℕ) → (cause : Error) → (tries : ℕ) → End V
 
 abbrev pub IsEarly : {V : Type 0} → End V → Type 0
 IsEarly (whole to tries) = ⊥
 IsEarly (at_fault to place fault tries) = Unit {0}
-IsEarly (at_refusal place cause) = Unit {0}
+IsEarly (at_refusal place cause tries) = Unit {0}
 
 -- A visitor that keeps w of the scope around one takes it, and keeps x of it.
 abbrev pub Entering : {V W : Type 0} → (V → List Nested → V → Type 0) → (V → W → List Span → Type 0) → V → W → Span → W → V → Type 0
@@ -31,7 +31,7 @@ Refusing refuses stands_for v w span cause =
 pub data Goes {V W : Type 0} (enters : V → W → Span → W → V → Type 0) (refuses : V → W → Span → Error → Type 0) (bytes : List ℕ) : W → V → ℕ → ℕ → ℕ → End V → Type 0 where
   ends : {w : W} {v : V} {n p : ℕ} → Goes enters refuses bytes w v n p p (whole v n)
   meets_fault : {w : W} {v : V} {n p e : ℕ} {fault : Error} → IsFaultAt bytes p e fault → Goes enters refuses bytes w v n p e (at_fault v p fault (n + tries_in (region bytes p e)))
-  is_refused : {w : W} {v : V} {n p e : ℕ} {cause : Error} {s : Found} → IsSoundAt bytes p e s → refuses v w s.span cause → Goes enters refuses bytes w v n p e (at_refusal p cause)
+  is_refused : {w : W} {v : V} {n p e : ℕ} {cause : Error} {s : Found} → IsSoundAt bytes p e s → refuses v w s.span cause → Goes enters refuses bytes w v n p e (at_refusal p cause (n + 1))
   stops_within : {w x : W} {v u : V} {n p e : ℕ} {s : Found} {out : End V} → IsSoundAt bytes p e s → enters v w s.span x u → IsEarly out → Goes enters refuses bytes x u (n + 1) (p + s.child_begin) (p + s.child_end) out → Goes enters refuses bytes w v n p e out
   goes_on : {w x : W} {v u t : V} {n m p e : ℕ} {s : Found} {out : End V} → IsSoundAt bytes p e s → enters v w s.span x u → Goes enters refuses bytes x u (n + 1) (p + s.child_begin) (p + s.child_end) (whole t m) → Goes enters refuses bytes w t m (p + s.next_sibling) e out → Goes enters refuses bytes w v n p e out
 

@@ -22,8 +22,8 @@ pub record StopsAtFault {V : Type 0} (takes : V → List Nested → V → Type 0
   pub taken : takes from (scopes_of (before place sights)) to
   pub tries : tried ≡ length (before place sights) + (if slice_index bytes place == 40 then 1 else 0)
 
--- The visitor has taken the sound scopes before one that it refuses, and no fault stands before that.
-pub record StopsAtRefusal {V : Type 0} (takes : V → List Nested → V → Type 0) (refuses : V → Nested → Error → Type 0) (from : V) (bytes : List ℕ) (cause : Error) : Type 0 where
+-- The visitor has taken the sound scopes before one that it refuses, and no fault stands before that. These are the tries, and the one that is refused.
+pub record StopsAtRefusal {V : Type 0} (takes : V → List Nested → V → Type 0) (refuses : V → Nested → Error → Type 0) (from : V) (bytes : List ℕ) (tried : ℕ) (cause : Error) : Type 0 where
   pub earlier : List Sight
   pub sight : Sight
   pub later : List Sight
@@ -32,7 +32,8 @@ pub record StopsAtRefusal {V : Type 0} (takes : V → List Nested → V → Type
   pub taken : takes from (scopes_of earlier) to
   pub refused : refuses to sight.scope cause
   pub first : (p e : ℕ) (fault : Error) → Reaches bytes 0 (length bytes) p e → IsFaultAt bytes p e fault → sight.place ≤ p
+  pub tries : tried ≡ length earlier + 1
 
 abbrev pub StopsEarly : {V : Type 0} → (V → List Nested → V → Type 0) → (V → Nested → Error → Type 0) → V → V → List ℕ → ℕ → Error → Type 0
 StopsEarly takes refuses from to bytes tries cause =
-    StopsAtFault takes from to bytes tries cause ⊎ StopsAtRefusal takes refuses from bytes cause
+    StopsAtFault takes from to bytes tries cause ⊎ StopsAtRefusal takes refuses from bytes tries cause

@@ -1,8 +1,8 @@
 -- What a view makes of the frames of replies, one after another.
-use Rattle.std.proofs.Common.{◌≡◌, ◌⊎◌, inl, inr, ℕ, ◌+◌, ◌<◌, List, [], ◌∷◌, ◌++◌, length, take, drop, get_or, map, refl, sym, ap, ◌∙◌, subst, append_assoc, append-nil, Option, None, Some, Result, Ok, Err, string_bytes, String, All, arith, length-append}
+use Rattle.std.proofs.Common.{◌≡◌, ◌⊎◌, inl, inr, ℕ, ◌+◌, ◌<◌, List, [], ◌∷◌, ◌++◌, length, take, drop, get_or, map, refl, sym, ap, ◌∙◌, subst, append_assoc, append-nil, Option, None, Some, Result, Ok, Err, string_bytes, String, All, arith, length-append, ◌↔◌, true, false}
 use Rattle.std.specs.Prelude.{Bool, false, is_none, IsSome, OnErr, IfErr}
 use Rattle.std.specs.List.{flat_map, list_any, AllByRecursion, Any, AllZip}
-use Rattle.std.proofs.lemmas.List.Folds.{list_any-append}
+use Rattle.std.proofs.lemmas.List.Folds.{list_any-append, list_any_none}
 use Rattle.std.proofs.lemmas.Grind.{flat_map-append}
 use Rattle.std.proofs.lemmas.List.{take_more, drop_more, take-append-drop, map-append}
 use Rattle.std.proofs.Math.Seq.{get_or-append_seam}
@@ -10,7 +10,7 @@ use Rattle.std.proofs.lemmas.List.Elements.{All-get_or, recursion_from_All}
 use Rattle.std.proofs.lemmas.List.Sums.{fold-append}
 use Rattle.std.specs.Io.KnownBytes.{Appends}
 use Rattle.puffin_data.specs.declared.error.Error.{Error}
-use Rattle.puffin_data.specs.declared.error.Error.TheVariants.{Memory}
+use Rattle.puffin_data.specs.declared.error.Error.TheVariants.{MissingId, Memory}
 use Rattle.puffin_data.specs.declared.file_error.FileError.{FileError}
 use Rattle.puffin_data.specs.declared.file_error.FileError.TheVariants as file
 use Rattle.puffin_data.specs.Devices.{IsOutside, WritesBeginning}
@@ -20,10 +20,10 @@ use Rattle.puffin_frames.specs.Details.{Details, lacks_id, AllHaveIds}
 use Rattle.puffin_frames.specs.Collection.{Collection, inserted, inserted_all}
 use Rattle.puffin_frames.specs.Stored.{Said}
 use Rattle.puffin.specs.declared.profile_view.frame_view.FrameView.{FrameView}
-use Rattle.puffin.specs.Frames.{Frame, contents_of}
+use Rattle.puffin.specs.Frames.{Frame, contents_of, index_of}
 use Rattle.puffin.specs.FrameOf.{told}
-use Rattle.puffin.specs.Views.{View, Took, empty_view, after_taking, after_all, with_newest_packed}
-use Rattle.puffin.specs.FrameViews.{view_of, collection_of, lacks_ids, FirstLacksId, LearnsSome}
+use Rattle.puffin.specs.Views.{View, Took, empty_view, after_taking, after_all, KeepsFrames}
+use Rattle.puffin.specs.FrameViews.{view_of, collection_of, lacks_ids, LearnsSome}
 use Rattle.puffin.specs.Files.{file_of, contents_held, contents_in}
 use Rattle.puffin_replay.specs.declared.replay.command.Command.{Command}
 use Rattle.puffin_replay.specs.declared.replay.script.Script.{Script}
@@ -46,21 +46,18 @@ told-more : (fs : List Frame) (f : Frame) → flat_map told (fs ++ (f ∷ [])) �
 told-more fs f = flat_map-append told fs (f ∷ []) ∙ ap (λ ds. flat_map told fs ++ ds) (append-nil (told f))
 
 -- Details that have ids are refused for want of memory alone.
-none_at : (learnt rest : List Details) → AllHaveIds (learnt ++ rest) → FirstLacksId rest → ⊥
-none_at learnt [] all lacks = lacks
-none_at learnt (d ∷ rest) all lacks =
-    let at : IsSome (get_or (learnt ++ (d ∷ rest)) (length learnt) d).id = All-get_or (λ (e : Details). IsSome e.id) (learnt ++ (d ∷ rest)) (length learnt) d (omega (arith, length-append learnt (d ∷ rest))) all in
-    let some : IsSome d.id = subst (λ (e : Details). IsSome e.id) (get_or-append_seam learnt d rest d) at in
-    cc
-
-memory_alone : (old new : Collection) (ds : List Details) (e : Error) → AllHaveIds ds → LearnsSome old ds e new → e ≡ Memory
-memory_alone old new ds e all learns = elim learns.4 [ inl missing ↦ absurd (none_at learns.0 learns.1 (subst AllHaveIds learns.2 all) missing.1) | inr memory ↦ memory ]
-
--- ---- ids
-
 has_id : (id : Option ℕ) → IsSome id → is_none id ≡ false
 has_id None some = cc
 has_id (Some n) some = refl
+
+memory_alone : {T : Type 0} (r : Result T Error) (e : Error) (ds : List Details) → AllHaveIds ds → r ≡ Err e → ((r ≡ Err MissingId) ↔ (list_any lacks_id ds ≡ true)) → (e ≡ MissingId) ⊎ (e ≡ Memory) → e ≡ Memory
+memory_alone r e ds all was missing (inl lacks) =
+    let none = list_any_none lacks_id ds (λ k d lt. has_id _ (all k d lt)) in
+    let some = missing.0 (was ∙ ap Err lacks) in
+    absurd (cc)
+memory_alone r e ds all was missing (inr memory) = memory
+
+-- ---- ids
 
 none_lack : (ds : List Details) → AllByRecursion (λ (d : Details). IsSome d.id) ds → list_any lacks_id ds ≡ false
 none_lack [] all = refl
@@ -157,23 +154,23 @@ module _ (rs : List Reply) (i : ℕ) (r : Reply) (h : i < length rs) (is : r ≡
     have_ids : HasIds r → AllHaveIds (told f)
     have_ids ids = subst AllHaveIds (ap (flat_map told) some ∙ append-nil (told f)) ids
 
-    pub refused_for_memory : All HasIds rs → (now new : FrameView) (e : Error) → LearnsSome (collection_of now) (told f) e (collection_of new) → e ≡ Memory
-    refused_for_memory ids now new e learns = memory_alone (collection_of now) (collection_of new) (told f) e (have_ids (subst HasIds (sym is) (All-get_or HasIds rs i r h ids))) learns
+    pub refused_for_memory : {T : Type 0} (answer : Result T Error) (e : Error) → All HasIds rs → answer ≡ Err e → ((answer ≡ Err MissingId) ↔ (lacks_ids (contents_of f) ≡ true)) → (e ≡ MissingId) ⊎ (e ≡ Memory) → e ≡ Memory
+    refused_for_memory answer e ids was missing cause = memory_alone answer e (told f) (have_ids (subst HasIds (sym is) (All-get_or HasIds rs i r h ids))) was missing cause
 
-    pub TakesSome-refused : (old now new : FrameView) → Takes (frames_emitted (take i rs)) old now → (view_of new ≡ view_of now) ⊎ (view_of new ≡ with_newest_packed (view_of now))
-        → LearnsSome (collection_of now) (told f) Memory (collection_of new) → TakesSome (frames_emitted rs) old new
+    pub TakesSome-refused : (old now new : FrameView) → Takes (frames_emitted (take i rs)) old now → KeepsFrames (view_of now) (index_of f) (view_of new)
+        → LearnsSome (collection_of now) (told f) (collection_of new) → TakesSome (frames_emitted rs) old new
     TakesSome-refused old now new takes kept learns = record {
       front = frames_emitted (take i rs);
       next = f;
       rest = frames_emitted (drop (i + 1) rs);
       split = split;
-      taken = elim kept [ inl same ↦ inl (same ∙ takes.taken) | inr same ↦ inr (same ∙ ap with_newest_packed takes.taken) ];
-      details = subst (λ (c : Collection). LearnsSome c (told f) Memory (collection_of new)) takes.details learns;
+      taken = subst (λ (v : View). KeepsFrames v (index_of f) (view_of new)) takes.taken kept;
+      details = subst (λ (c : Collection). LearnsSome c (told f) (collection_of new)) takes.details learns;
     }
 
     -- there was no copy of it
     pub TakesSome-memory : (old now : FrameView) → Takes (frames_emitted (take i rs)) old now → TakesSome (frames_emitted rs) old now
-    TakesSome-memory old now takes = TakesSome-refused old now now takes (inl refl) ([], told f, refl, refl, inr refl)
+    TakesSome-memory old now takes = TakesSome-refused old now now takes (inl refl) ([], (told f, refl), refl)
 
 -- ---- a script's run
 

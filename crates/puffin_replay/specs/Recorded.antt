@@ -5,7 +5,6 @@ use Rattle.std.specs.String.{string_bytes}
 use Rattle.std.specs.declared.sync.Arc.{Arc}
 use Rattle.std.specs.declared.alloc.Global.{Global}
 use Rattle.std.specs.Io.KnownBytes.{Appends}
-use Rattle.puffin_data.specs.declared.error.Error.TheVariants as error
 use Rattle.puffin_data.specs.declared.file_error.FileError.{FileError}
 use Rattle.puffin_data.specs.declared.file_error.FileError.TheVariants as file
 use Rattle.puffin_data.specs.Devices.{IsOutside, WritesBeginning}
@@ -16,9 +15,9 @@ use Rattle.puffin_frames.specs.Stored.{Said}
 use Rattle.puffin_frames.specs.Steps.{IsPacked}
 use Rattle.puffin_frames.specs.Writes.{HasLongPart}
 use Rattle.puffin.specs.declared.profile_view.frame_view.FrameView.{FrameView}
-use Rattle.puffin.specs.Frames.{Frame, contents_of}
+use Rattle.puffin.specs.Frames.{Frame, contents_of, index_of}
 use Rattle.puffin.specs.FrameOf.{shared_frame, told}
-use Rattle.puffin.specs.Views.{View, Took, empty_view, with_newest_packed, after_all}
+use Rattle.puffin.specs.Views.{View, Took, empty_view, after_all, KeepsFrames}
 use Rattle.puffin.specs.FrameViews.{view_of, collection_of, lacks_ids, LearnsSome}
 use Rattle.puffin.specs.Files.{file_of, contents_in}
 use Rattle.puffin_replay.specs.declared.replay.command.Command.{Command}
@@ -69,14 +68,14 @@ pub record Takes (frames : List Frame) (old new : FrameView) : Type 0 where
   pub taken : view_of new ≡ after_all (view_of old) frames
   pub details : collection_of new ≡ inserted_all (collection_of old) (flat_map told frames)
 
--- The view took a beginning of these frames, and there was no memory for the next: it knows a beginning of what that tells, and its newest frame may be packed.
+-- The view took a beginning of these frames, and there was no memory for the next: it knows a beginning of what that tells, and its newest frame may be packed, where it would have been.
 pub record TakesSome (frames : List Frame) (old new : FrameView) : Type 0 where
   pub front : List Frame
   pub next : Frame
   pub rest : List Frame
   pub split : frames ≡ front ++ (next ∷ rest)
-  pub taken : (view_of new ≡ after_all (view_of old) front) ⊎ (view_of new ≡ with_newest_packed (after_all (view_of old) front))
-  pub details : LearnsSome (inserted_all (collection_of old) (flat_map told front)) (told next) error.Memory (collection_of new)
+  pub taken : KeepsFrames (after_all (view_of old) front) (index_of next) (view_of new)
+  pub details : LearnsSome (inserted_all (collection_of old) (flat_map told front)) (told next) (collection_of new)
 
 -- ---- recording
 

@@ -206,9 +206,10 @@ fn no_frames_and_no_stream(rt: HostRuntime) -> Outcome {
         start_time_ns: None,
         name: String::from_str(alloc, "main")?,
     };
+    let collection = ScopeCollection::new(alloc);
     let mut tries = 7;
     assert_eq!(rt;
-        merge_scopes_counted(alloc, frames.as_slice(), &other, &mut tries)?.len(),
+        merge_scopes_counted(alloc, &collection, frames.as_slice(), &other, &mut tries)?.len(),
         0
     );
     assert_eq!(rt; tries, 0);
@@ -242,10 +243,65 @@ fn tries_are_counted(rt: HostRuntime) -> Outcome {
         end(&mut stream, offset, 300)?;
         frames.push(frame(alloc, stream)?)?;
     }
+    let collection = ScopeCollection::new(alloc);
     let mut tries = 0;
-    let merged = merge_scopes_counted(alloc, frames.as_slice(), &thread(alloc)?, &mut tries)?;
+    let merged = merge_scopes_counted(
+        alloc,
+        &collection,
+        frames.as_slice(),
+        &thread(alloc)?,
+        &mut tries,
+    )?;
     assert_eq!(rt; merged.len(), 1);
     assert_eq!(rt; tries, 3);
+    Ok(())
+}
+
+/// The readings made until merging is refused, and the cause.
+fn refused_after(alloc: Global, frames: &Frames) -> Result<(Option<Error>, u128)> {
+    let collection = ScopeCollection::new(alloc);
+    let mut tries = 77;
+    let refused = merge_scopes_counted(
+        alloc,
+        &collection,
+        frames.as_slice(),
+        &thread(alloc)?,
+        &mut tries,
+    );
+    Ok((refused.err(), tries))
+}
+
+#[test]
+fn tries_of_refused_merges(rt: HostRuntime) -> Outcome {
+    let alloc = rt.alloc();
+    // Two frames of one scope each, then one whose third scope's sum doesn't fit, then one that isn't read.
+    let mut frames = Vec::new(alloc);
+    frames.push(one_scope(alloc, 1, 0, 10)?)?;
+    frames.push(one_scope(alloc, 1, 0, 10)?)?;
+    let mut stream = Stream::new(alloc);
+    for stop in [1, 2, i64::MAX, 3] {
+        leaf(&mut stream, 1, 0, stop)?;
+    }
+    frames.push(frame(alloc, stream)?)?;
+    frames.push(one_scope(alloc, 1, 0, 10)?)?;
+    assert_eq!(rt; refused_after(alloc, &frames)?, (Some(Error::TooLarge), 5));
+    // The scope at depth 1,025 is the last that is read.
+    let deep = one_frame(alloc, nested(alloc, 2000)?)?;
+    assert_eq!(rt; refused_after(alloc, &deep)?, (Some(Error::TooDeep), 1025));
+    Ok(())
+}
+
+#[test]
+fn an_end_that_does_not_fit(rt: HostRuntime) -> Outcome {
+    let alloc = rt.alloc();
+    let mut stream = Stream::new(alloc);
+    leaf(&mut stream, 1, 0, i64::MAX)?;
+    let frames = one_frame(alloc, stream.clone()?)?;
+    assert_eq!(rt; merged(alloc, &frames)?.len(), 1);
+    // The second starts at the greatest time, where the first ends, and would end after it. Both are read before.
+    leaf(&mut stream, 2, 0, 1)?;
+    let frames = one_frame(alloc, stream)?;
+    assert_eq!(rt; refused_after(alloc, &frames)?, (Some(Error::TooLarge), 2));
     Ok(())
 }
 

@@ -1,8 +1,10 @@
-use puffin::data::{Stream, StreamInfo};
+use puffin::data::{ScopeId, Stream, StreamInfo};
 use puffin::frame_data::{FrameData, FrameIndex};
 use puffin::profile_view::{FrameStats, FrameView, select_slowest};
+use puffin::scope_details::ScopeDetails;
 use puffin::thread_profiler::ThreadInfo;
-use puffin::{NanoSecond, Result};
+use puffin::{Error, NanoSecond, Result};
+use std::borrow::CowStr;
 use std::collections::BTreeMap;
 use std::sync::Arc;
 use std::test::Fail;
@@ -11,6 +13,16 @@ type Outcome = std::result::Result<(), Fail>;
 
 /// One scope without a text, as long as is asked, in the stream of a thread.
 fn frame(rt: &HostRuntime, index: FrameIndex, duration: NanoSecond) -> Result<Arc<FrameData>> {
+    telling_frame(rt, index, duration, Vec::new(rt.alloc()))
+}
+
+/// The same, with details that it tells.
+fn telling_frame(
+    rt: &HostRuntime,
+    index: FrameIndex,
+    duration: NanoSecond,
+    details: Vec<Arc<ScopeDetails>>,
+) -> Result<Arc<FrameData>> {
     let alloc = rt.alloc();
     let mut bytes = Vec::from_slice(alloc, b"(\x01\0\0\0\0\0\0\0\0\0\0\0\0\0\0\0\0\0\0\0\0)")?;
     bytes.extend_from_slice(&duration.to_le_bytes())?;
@@ -20,7 +32,7 @@ fn frame(rt: &HostRuntime, index: FrameIndex, duration: NanoSecond) -> Result<Ar
         name: String::from_str(alloc, "main")?,
     };
     let _none = streams.insert(thread, StreamInfo::parse(alloc, Stream::from(bytes))?)?;
-    let frame = FrameData::new(alloc, index, streams, Vec::new(alloc), false)?;
+    let frame = FrameData::new(alloc, index, streams, details, false)?;
     Ok(Arc::new(alloc, frame)?)
 }
 
@@ -118,6 +130,11 @@ fn an_index_that_does_not_rise_empties_the_view(rt: HostRuntime) -> Outcome {
         frames.add_frame(frame(&rt, index, 1)?)?;
     }
     assert!(rt; all(&rt, &frames)?.as_slice() == [6].as_slice());
+    // The index of a frame that emptied the view is the last one taken.
+    for index in [3, 2] {
+        frames.add_frame(frame(&rt, index, 1)?)?;
+        assert!(rt; all(&rt, &frames)?.as_slice() == [index].as_slice());
+    }
     let mut slow_only = FrameView::new(rt.alloc());
     slow_only.set_max_recent(0);
     slow_only.add_frame(frame(&rt, 3, 1)?)?;
@@ -203,5 +220,29 @@ fn selections_are_by_index(rt: HostRuntime) -> Outcome {
     assert_eq!(rt; chosen[1].frame_index(), 2);
     assert_eq!(rt; chosen[2].frame_index(), 3);
     assert!(rt; select_slowest(rt.alloc(), &frames, 0)?.is_empty());
+    Ok(())
+}
+
+#[test]
+fn details_without_an_id_change_nothing(rt: HostRuntime) -> Outcome {
+    let alloc = rt.alloc();
+    let mut frames = view(&rt, 1000, 256, &[1])?;
+    let mut details = Vec::new(alloc);
+    let id = ScopeId::new(7).ok_or(Error::MissingId)?;
+    let known = ScopeDetails::from_scope_name(CowStr::Borrowed("a")).with_scope_id(id);
+    details.push(Arc::new(alloc, known)?)?;
+    let no_id = ScopeDetails::from_scope_name(CowStr::Borrowed("b"));
+    details.push(Arc::new(alloc, no_id)?)?;
+    for index in [0, 1] {
+        let refused = frames.add_frame(telling_frame(&rt, index, 1, details.clone()?)?);
+        assert!(rt; refused.err() == Some(Error::MissingId));
+        assert!(rt; all(&rt, &frames)?.as_slice() == [0].as_slice());
+        assert_eq!(rt; numbers(frames.stats()), (1, 1, 31));
+        assert!(rt; frames.scope_collection().scopes_by_id().is_empty());
+        assert!(rt; frames.scope_collection().scopes_by_name().is_empty());
+    }
+    let _no_id = details.pop();
+    frames.add_frame(telling_frame(&rt, 1, 1, details)?)?;
+    assert_eq!(rt; frames.scope_collection().scopes_by_id().len(), 1);
     Ok(())
 }

@@ -1,14 +1,18 @@
 //! Laws of merging, as contracts of functions that do nothing. A proof of another crate cites them by calling the function.
 
 ghost use Rattle.std.specs.Prelude.{◌≡◌, ℕ, pos, List, [], ◌∷◌, ◌++◌, IsPermutation};
+ghost use Rattle.std.specs.declared.sync.Arc.{Arc};
+ghost use Rattle.std.specs.declared.alloc.Global.{Global};
 ghost use Rattle.puffin_data.specs.declared.error.Error.{Error};
+ghost use Rattle.puffin_frames.specs.declared.frame_data.unpacked.UnpackedFrameData.{UnpackedFrameData};
+ghost use Rattle.puffin_frames.specs.Info.{Info};
 ghost use Rattle.puffin.specs.Occurrences.{FrameScopes, occurrences};
 ghost use Rattle.puffin.specs.MergedForests.{MergedForest};
 ghost use Rattle.puffin.specs.Starts.{Sibling, IsLeastFeasible, earliest};
 ghost use Rattle.puffin.specs.Merges.{IsMerge};
 ghost use Rattle.puffin.specs.FrameStreams.{FrameBytes};
 ghost use Rattle.puffin.specs.Refusals.{IsRefusal, AreMerged};
-ghost use Rattle.puffin.specs.Seen.{forest_in};
+ghost use Rattle.puffin.specs.Seen.{frames_bytes, forest_in};
 ghost use Rattle.puffin.specs.declared.merge.scope.MergeScope.{MergeScope};
 
 /// Siblings that each start as early as they can have the least feasible starts.
@@ -16,9 +20,14 @@ pub fn earliest_starts()
     ensures { (siblings : List Sibling) → IsLeastFeasible siblings (earliest (pos 0) siblings) }
 {}
 
-/// What is merged doesn't depend on the order of the frames after the first.
+/// What is merged doesn't depend on the order of the frames after the first. So where some frames have a merge, the same
+/// frames with the first one first have it in any order, and merging these gives it, or is refused for want of memory.
 pub fn frames_in_any_order()
-    ensures { (first : FrameScopes) (others again : List FrameScopes) → IsPermutation others again →
+    ensures frames { (info : Info) (first : Arc UnpackedFrameData Global)
+        (others again : List (Arc UnpackedFrameData Global)) → IsPermutation others again →
+        (f : MergedForest) → AreMerged (frames_bytes info (first ∷ others)) f
+        → AreMerged (frames_bytes info (first ∷ again)) f }
+    ensures scopes { (first : FrameScopes) (others again : List FrameScopes) → IsPermutation others again →
         (frames : ℕ) (f : MergedForest) → IsMerge (occurrences (first ∷ others)) frames f → IsMerge (occurrences (first ∷ again)) frames f }
 {}
 

@@ -1,4 +1,4 @@
-ghost use Rattle.std.specs.Prelude.{◌≡◌, ◌⊎◌, ◌↔◌, IsTrue, IfOk, ◌-◌, ◌<◌, ◌≤◌, OnOk, OnErr, IfErr, IfSome, [], false, take, drop, map, length, Some, vec_len, vec_capacity, insert, nat_eq};
+ghost use Rattle.std.specs.Prelude.{◌≡◌, ◌↔◌, IsTrue, IfOk, ◌-◌, ◌<◌, ◌≤◌, OnOk, OnErr, IfErr, IfSome, [], false, take, drop, map, length, Some, vec_len, vec_capacity, insert, nat_eq};
 ghost use Rattle.std.specs.Ordering.{nat_cmp};
 ghost use Rattle.std.specs.List.{list_any};
 ghost use Rattle.std.specs.FinMap as map;
@@ -10,7 +10,7 @@ ghost use Rattle.puffin.specs.Ranking.{last_of, last_in};
 ghost use Rattle.puffin.specs.Ranks.{rank_index, rank_cmp, ranks_after, ranks_gone, AreRanked, LetsGo};
 ghost use Rattle.puffin.specs.Frames.{index_of, chronological};
 ghost use Rattle.puffin.specs.Listings.{recent_left, all_left, slowest_left};
-ghost use Rattle.puffin.specs.Views.{empty_view, emptied, with_newest_packed, is_past, joined_by, after_taking, all_uniq, IsSteady};
+ghost use Rattle.puffin.specs.Views.{empty_view, emptied, with_newest_packed, is_past, joined_by, after_taking, KeepsFrames, all_uniq, IsSteady};
 ghost use Rattle.puffin.specs.Stats.{stats_of};
 
 use crate::profile_view::held_frames::HeldFrames;
@@ -258,7 +258,7 @@ impl FrameStore {
     /// Takes a frame. Where its index isn't above the last one taken, only that frame is left.
     pub fn take(&mut self, frame: Arc<FrameData>) -> Result<()>
         ensures ok { OnOk result (self.new ≡ after_taking self.old (shared_frame frame)) }
-        ensures err { OnErr result ((self.new ≡ self.old) ⊎ (self.new ≡ with_newest_packed self.old)) }
+        ensures err { OnErr result (KeepsFrames self.old (index_of (shared_frame frame)) self.new) }
         ensures cause { IfErr result (λ e. e ≡ Error.Memory) }
         ensures steady { IsSteady self.old }
     {

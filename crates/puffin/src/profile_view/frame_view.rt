@@ -2,13 +2,14 @@ ghost use Rattle.std.specs.Prelude.{◌≡◌, ◌⊎◌, ◌↔◌, ◌++◌, �
 ghost use Rattle.std.specs.Option.{option_map};
 ghost use Rattle.std.specs.List.{list_any};
 ghost use Rattle.puffin_data.specs.declared.error.Error.{Error};
-ghost use Rattle.puffin_frames.specs.Details.{shared_details, lacks_id};
+ghost use Rattle.std.specs.Arc.{arc_value};
+ghost use Rattle.puffin_frames.specs.Details.{details_of, shared_details, lacks_id, AllHaveIds};
 ghost use Rattle.puffin_frames.specs.Collection.{no_details, inserted_all};
 ghost use Rattle.puffin.specs.Ranking.{last_of, last_in};
 ghost use Rattle.puffin_frames.specs.Stored.{Said};
 ghost use Rattle.puffin.specs.Frames.{contents_of, index_of, chronological};
 ghost use Rattle.puffin.specs.FrameOf.{shared_frame, told};
-ghost use Rattle.puffin.specs.Views.{empty_view, with_newest_packed, is_past, after_taking, all_uniq, Holds, Took};
+ghost use Rattle.puffin.specs.Views.{empty_view, is_past, after_taking, KeepsFrames, all_uniq, Holds, Took};
 ghost use Rattle.puffin.specs.Stats.{stats_of};
 ghost use Rattle.puffin.specs.Listings.{recent_left, all_left, slowest_left};
 ghost use Rattle.puffin.specs.FrameViews.{view_of, collection_of, lacks_ids, LearnsSome};
@@ -16,7 +17,7 @@ ghost use Rattle.puffin.specs.FrameViews.{view_of, collection_of, lacks_ids, Lea
 use crate::profile_view::frame_store::FrameStore;
 use crate::profile_view::listings::{AllFrames, RecentFrames, SlowestFrames};
 use crate::profile_view::stats::FrameStats;
-use puffin_data::Result;
+use puffin_data::{Error, Result};
 use puffin_frames::frame_data::FrameData;
 use puffin_frames::scope_details::{ScopeCollection, ScopeDetails};
 use std::alloc::Global;
@@ -59,14 +60,21 @@ impl FrameView {
     /// Adds a frame, and learns the details that it tells. Where its index isn't above that of the frame added last, all
     /// others are dropped. Where frames are packed, the newest one until now is packed first.
     ///
-    /// Refused with `MissingId` where some of the frame's details have no id, and else only with `Memory`. A beginning of
-    /// the details may be known then, and the newest frame be packed; else nothing is changed.
+    /// Refused with `MissingId` just where some of the frame's details have no id, and nothing is changed then. Else refused
+    /// only with `Memory`: a beginning of the details may be known then, and where frames are packed and none would have been
+    /// dropped, the newest may be packed.
     pub fn add_frame(&mut self, frame: Arc<FrameData>) -> Result<()>
         ensures ok { OnOk result (view_of self.new ≡ after_taking (view_of self.old) (shared_frame frame)) }
         ensures learnt { OnOk result (collection_of self.new ≡ inserted_all (collection_of self.old) (told (shared_frame frame))) }
-        ensures err { OnErr result ((view_of self.new ≡ view_of self.old) ⊎ (view_of self.new ≡ with_newest_packed (view_of self.old))) }
         ensures ids { OnOk result (lacks_ids (contents_of (shared_frame frame)) ≡ false) }
-        ensures refusal { IfErr result (λ e. LearnsSome (collection_of self.old) (told (shared_frame frame)) e (collection_of self.new)) }
+        ensures missing { (result ≡ Err Error.MissingId)
+            ↔ (lacks_ids (contents_of (shared_frame frame)) ≡ true) }
+        ensures unchanged { (result ≡ Err Error.MissingId)
+            → (view_of self.new ≡ view_of self.old) × (collection_of self.new ≡ collection_of self.old) }
+        ensures cause { IfErr result (λ e. (e ≡ Error.MissingId) ⊎ (e ≡ Error.Memory)) }
+        // What a refusal for memory may leave.
+        ensures err { OnErr result (KeepsFrames (view_of self.old) (index_of (shared_frame frame)) (view_of self.new)) }
+        ensures known { OnErr result (LearnsSome (collection_of self.old) (told (shared_frame frame)) (collection_of self.new)) }
 
         // What the view holds of any two lists, it holds of them with the frame.
         ensures more { OnOk result ((cs ds : List Said) → is_past (view_of self.old) (index_of (shared_frame frame)) ≡ false → Holds cs ds (view_of self.old)
@@ -75,6 +83,9 @@ impl FrameView {
             → Holds (contents_of (shared_frame frame) ∷ []) (contents_of (shared_frame frame) ∷ []) (view_of self.new)) }
         ensures took { OnOk result ((cs : List Said) → Took cs (view_of self.old) → Took (cs ++ contents_of (shared_frame frame) ∷ []) (view_of self.new)) }
     {
+        if any_lacks_id(&frame.scope_delta) {
+            return Err(Error::MissingId);
+        }
         learn(&mut self.scope_collection, &frame.scope_delta)?;
         self.frames.take(frame)
     }
@@ -195,12 +206,19 @@ impl FrameView {
     }
 }
 
-/// Puts details into a collection, in order. Refused with `MissingId` at the first that has no id, and else only with
-/// `Memory`; those before it are then in the collection.
+/// Whether some of these details have no id.
+fn any_lacks_id(details: &[Arc<ScopeDetails>]) -> bool
+    ensures { result ≡ list_any (λ d. lacks_id (details_of (arc_value d))) details.now }
+{
+    details.iter().any(|details| details.scope_id().is_none())
+}
+
+/// Puts details into a collection, in order. Refused only with `Memory`, after which a beginning of them is in it.
 fn learn(collection: &mut ScopeCollection, details: &[Arc<ScopeDetails>]) -> Result<()>
+    requires { AllHaveIds (shared_details details.now) }
     ensures ok { OnOk result (collection.new ≡ inserted_all collection.old (shared_details details.now)) }
-    ensures ids { OnOk result (list_any lacks_id (shared_details details.now) ≡ false) }
-    ensures refusal { IfErr result (λ e. LearnsSome collection.old (shared_details details.now) e collection.new) }
+    ensures err { OnErr result (LearnsSome collection.old (shared_details details.now) collection.new) }
+    ensures cause { IfErr result (λ e. e ≡ Error.Memory) }
 {
     for details in details {
         let _kept = collection.insert(details.clone()?)?;

@@ -9,8 +9,11 @@ ghost use Rattle.std.specs.Cmp.{IsTotalOrder};
 ghost use Rattle.puffin_frames.specs.Stored.{Said, Stored, packed};
 ghost use Rattle.puffin.specs.declared.profile_view.slow_rank.SlowRank.{SlowRank};
 ghost use Rattle.puffin.specs.Ranking.{AreFirst};
-ghost use Rattle.puffin.specs.Frames.{Frame, contents_of, duration, frame_index, by_duration, by_index, is_slower, slowest};
+ghost use Rattle.puffin.specs.Frames.{Frame, contents_of, duration, frame_index, by_duration, is_slower, slowest};
 ghost use Rattle.puffin.specs.Ranks.{rank_of, rank_cmp};
+ghost use Rattle.puffin.specs.declared.profile_view.select.OldPlace.{OldPlace};
+ghost use Rattle.puffin.specs.Selection.{Rank, older_cmp};
+ghost use Rattle.puffin.specs.Selections.{old_place};
 ghost use Rattle.puffin_data.specs.declared.error.Error.{Error};
 ghost use Rattle.puffin_data.specs.declared.file_error.FileError.{FileError};
 ghost use Rattle.puffin_data.specs.Devices.{IsOutside};
@@ -20,6 +23,7 @@ ghost use Rattle.puffin.specs.Views.{View, after_all};
 ghost use Rattle.puffin.specs.FrameViews.{view_of, lacks_ids};
 ghost use Rattle.puffin.specs.Files.{file_of, contents_held, contents_in, frame_stored, read_view, file_at, TookFrames, FailsToRead, ReadsView};
 
+use crate::profile_view::select::OldPlace;
 use crate::profile_view::slow_rank::SlowRank;
 use puffin_frames::frame_data::laws::written_is_read;
 
@@ -38,12 +42,18 @@ pub fn order_by_duration()
     ensures total { IsTotalOrder by_duration }
 {}
 
-/// The order by rising index, then rising duration. It is total, and ties just what has the same duration and index.
+/// The order by rising index, then place in a list. It is total; a selection is sorted by places of frames, whose equality
+/// and order agree with it.
 pub fn order_by_index()
-    ensures lower_first { (c d : Said) → frame_index c < frame_index d → by_index c d ≡ Less }
-    ensures then_by_duration { (c d : Said) → frame_index c ≡ frame_index d → duration c <ℤ duration d → by_index c d ≡ Less }
-    ensures ties { (c d : Said) → by_index c d ≡ Equal ↔ ((duration c ≡ duration d) × (frame_index c ≡ frame_index d)) }
-    ensures total { IsTotalOrder by_index }
+    ensures lower_first { (r s : Rank) → r.index < s.index → older_cmp r s ≡ Less }
+    ensures then_by_place { (r s : Rank) → r.index ≡ s.index → r.place < s.place
+        → older_cmp r s ≡ Less }
+    ensures total { IsTotalOrder older_cmp }
+    ensures order { (p q : OldPlace) → ⟦<OldPlace as Ord>⟧.cmp p q
+        ≡ older_cmp (old_place p) (old_place q) }
+    ensures equality { (p q : OldPlace) → ⟦<OldPlace as PartialEq>⟧.eq p q
+        ≡ eq_by_cmp older_cmp (old_place p) (old_place q) }
+    ensures one { (p q : OldPlace) → older_cmp (old_place p) (old_place q) ≡ Equal → p ≡ q }
 {}
 
 /// A view compares frames by their ranks: these are ordered as their frames are by duration, and equality, order and

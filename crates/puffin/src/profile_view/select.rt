@@ -34,7 +34,7 @@ impl SlowPlace {
 
 /// A place in a list of frames: by rising index of the frame there, then the place, which is another for each.
 #[derive(Clone, Copy, Debug, PartialEq, Eq, PartialOrd, Ord)]
-struct OldPlace {
+pub(super) struct OldPlace {
     frame_index: FrameIndex,
     place: usize,
     duration_ns: NanoSecond,

@@ -1,5 +1,5 @@
 -- The new details have ids, and so have those of the collection.
-use Rattle.std.proofs.Common.{◌≡◌, List, sym, ap, ◌∙◌, subst, arith, take_all}
+use Rattle.std.proofs.Common.{◌≡◌, sym, ap, ◌∙◌, subst, arith, take_all}
 use Rattle.std.specs.Prelude.{IsSome}
 use Rattle.std.proofs.lemmas.List.Elements.{All-append}
 use Rattle.puffin_frames.specs.Details.{Details, shared_details, AllHaveIds}

@@ -7,7 +7,7 @@ use Rattle.puffin_data.specs.Forest.{Span}
 use Rattle.puffin_data.specs.Walk.{region}
 use Rattle.puffin_data.specs.Sightings.{found_of}
 use Rattle.puffin_data.specs.Walking.{tries_in}
-use Rattle.puffin_data.specs.Visiting.{StopsAtFault}
+use Rattle.puffin_data.specs.Visiting.{StopsAtFault, StopsAtRefusal}
 use Rattle.puffin_data.specs.Goings.{Visits}
 use Rattle.puffin_data.proofs.Numbers.{IsBytes, IsBytes-drop, IsBytes-take}
 use Rattle.puffin_data.proofs.Found.{passes}
@@ -34,11 +34,18 @@ returns-in_err-within-clause-err g c =
     let laws : Visits g.V.Visitor.takes g.V.Visitor.stands_for = record { none = (g.met.V.Visitor c.lifetimes assumption).takes_none; more = (g.met.V.Visitor c.lifetimes assumption).takes_more; still = (g.met.V.Visitor c.lifetimes assumption).still_stands } in
     let fits : IsBytes bytes = λ i. omega (arith, c.type_inv.bytes i) in
     let p = err_from_is_err_and c.from_residual-in_err-within.result c.from_residual-in_err-within.ensures.1 in
+    let s = found_of c.in_ok-scope.scope in
+    let sound = c.in_ok-scope.ensures.sound in
+    let begins : get_or (region bytes c.scopes.at c.scopes.region.end) 0 0 ≡ 40 = (passes (region bytes c.scopes.at c.scopes.region.end) s sound).begins in
+    let tried : c.next_scope.new.tries ≡ c.scopes.tries + tries_in (region bytes c.scopes.at c.scopes.region.end) = c.next_scope.ensures.tried in
+    let one_try : tries_in (region bytes c.scopes.at c.scopes.region.end) ≡ 1 = ap (λ (b : ℕ). cond (eqb b 40) 1 0) begins in
+    let one_more : c.next_scope.new.tries ≡ c.scopes.tries + 1 = omega (arith, tried, one_try) in
     rw (p.1, p.2) (elim (c.in_err-within.ensures.err) [
       | inl memory ↦ inl memory
-      | inr refused ↦ inr (inr (stops_at_refusal g.V.Visitor.refuses laws bytes c.args.outside c.args.visitor.now c.scopes.at c.in_err-within.field-0.0 fits c.requires
+      | inr refused ↦ inr (inr (subst (λ (n : ℕ). StopsAtRefusal g.V.Visitor.takes g.V.Visitor.refuses c.args.visitor.now bytes n c.in_err-within.field-0.0) (sym one_more)
+          (stops_at_refusal g.V.Visitor.refuses laws bytes c.args.outside c.args.visitor.now (c.scopes.tries + 1) c.scopes.at c.in_err-within.field-0.0 fits c.requires
           (all_of_it c.args.outside c.args.visitor.now 0 0 (length bytes) _ (c.scopes.invariant.resumes _
-          (refusing (reverse c.scopes.outers.items) c.scopes.region.within c.scopes.visitor c.scopes.tries c.scopes.at c.scopes.region.end (found_of c.in_ok-scope.scope) c.in_err-within.field-0.0 c.in_ok-scope.ensures.sound refused)))))
+          (refusing (reverse c.scopes.outers.items) c.scopes.region.within c.scopes.visitor c.scopes.tries c.scopes.at c.scopes.region.end s c.in_err-within.field-0.0 sound refused))))))
     ])
 
 pub enter-requires : goal.enter-requires

@@ -1,10 +1,8 @@
 -- The view takes the frames of the replies one after another, up to one that isn't copied or is refused.
 use Rattle.std.proofs.Common.{◌+◌, [], ◌∷◌, take, sym, ap, ◌∙◌, subst, option_map}
 use Rattle.std.proofs.lemmas.Result.{err_from_is_err_and}
-use Rattle.puffin_data.specs.declared.error.Error.{Error}
 use Rattle.puffin.specs.declared.profile_view.frame_view.FrameView.{FrameView}
-use Rattle.puffin.specs.FrameOf.{frame_of, shared_frame, told}
-use Rattle.puffin.specs.FrameViews.{collection_of, LearnsSome}
+use Rattle.puffin.specs.FrameOf.{frame_of, shared_frame}
 use Rattle.puffin_replay.specs.Recorded.{frame_in, frames_emitted}
 use Rattle.puffin_replay.proofs.Recording.{TakesAll, TakesAll-same, TakesAll-more, refused_for_memory, TakesSome-refused, TakesSome-memory}
 use Rattle.puffin_replay.proofs.replay.recorder.add_frames.Goals.{in-Some+in_ok-clone+in_ok-add_frame, in_default}
@@ -24,12 +22,10 @@ returns-in_err-add_frame-clause-refusal c =
     let rs = c.args.replies.now in
     let i = c.loop-reply.reply-index in
     let r = c.reply-item.result in
-    let now = c.loop-reply.view in
-    let new = c.add_frame.new.self in
-    let refusal = c.in_err-add_frame.ensures.refusal in
-    let memory = refused_for_memory rs i r c.loop-reply-test.true c.reply-item.is frame some c.requires now new c.in_err-add_frame.field-0.0 refusal in
+    let refusal = c.in_err-add_frame.ensures in
+    let memory = refused_for_memory rs i r c.loop-reply-test.true c.reply-item.is frame some c.add_frame.result c.in_err-add_frame.field-0.0 c.requires c.in_err-add_frame.was c.add_frame.ensures.missing refusal.cause in
     rw (p.1, p.2)
-    (memory, TakesSome-refused rs i r c.loop-reply-test.true c.reply-item.is frame some c.args.view.now now new c.loop-reply.invariant.takes c.in_err-add_frame.ensures.err (subst (λ (e : Error). LearnsSome (collection_of now) (told frame) e (collection_of new)) memory refusal))
+    (memory, TakesSome-refused rs i r c.loop-reply-test.true c.reply-item.is frame some c.args.view.now c.loop-reply.view c.add_frame.new.self c.loop-reply.invariant.takes refusal.err refusal.known)
 
 pub loop-reply-preserved : goal.loop-reply-preserved
 loop-reply-preserved c =
