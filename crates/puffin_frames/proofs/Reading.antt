@@ -22,7 +22,7 @@ use Rattle.puffin_frames.specs.Steps.{as_stored, stored_after, is_end, next_at}
 
 -- ---- behind a header
 
-after_header : (header xs : List ℕ) → length header ≡ 4 → is_end header ≡ false → next_at (header ++ xs) ≡ stored_after header xs
+pub after_header : (header xs : List ℕ) → length header ≡ 4 → is_end header ≡ false → next_at (header ++ xs) ≡ stored_after header xs
 unfolding next_at
 after_header [] xs e h = absurd (omega arith)
 after_header (a ∷ []) xs e h = absurd (omega arith)
