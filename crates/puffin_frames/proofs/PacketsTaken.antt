@@ -2,19 +2,20 @@
 use Rattle.std.proofs.Common.{◌≡◌, ℕ, ◌^◌, ◌<◌, ◌≤◌, ◌⊎◌, inl, inr, Bool, true, false, cond, ltb, eqb, ◌||◌, List, [], ◌∷◌, ◌++◌, length, take, drop, Option, Some, None, Result, Ok, Err, refl, sym, ap, subst, ◌∙◌, append_assoc, arith}
 use Rattle.std.specs.Prelude.{◌↔◌, nat_lt, slice_index}
 use Rattle.std.proofs.lemmas.Bool.{ltb-false, eqb-true}
-use Rattle.std.proofs.lemmas.List.{take_all, take-append-drop, length-take, length-append}
+use Rattle.std.proofs.lemmas.List.{append-nil, take_all, take-append-drop, length-take, length-append}
 use Rattle.byteorder.specs.Endian.{little_bytes, little_number}
 use Rattle.puffin_data.specs.declared.file_error.FileError.{FileError}
 use Rattle.puffin_data.specs.declared.file_error.FileError.TheVariants as file
 use Rattle.puffin_data.specs.Layout.{IsBytes, number}
+use Rattle.puffin_data.specs.Devices.{FromDevice}
 use Rattle.puffin_data.specs.Parts.{◌>>=◌, part_of, length_at}
-use Rattle.puffin_data.proofs.Numbers.{IsBytes-take, IsBytes-drop, bytes_4, below_4}
+use Rattle.puffin_data.proofs.Numbers.{IsBytes-take, IsBytes-drop, IsBytes-nil, IsBytes-append, bytes_4, below_4}
 use Rattle.puffin_data.proofs.Readers.{IsBytes-after}
 use Rattle.puffin_frames.specs.Details.{Details}
 use Rattle.puffin_frames.specs.Values.{meta_layout, details_layout, Legacy, legacy_layout}
 use Rattle.puffin_frames.specs.Stored.{Said, Stored, packed, legacy}
 use Rattle.puffin_frames.specs.Steps.{meta_part_at, kind_at, streams_part_at, details_part_at, packed_at, legacy_part_at, is_packet, form_at, as_stored, stored_after, is_end, next_at, counted, packet_head, packet, IsPacked}
-use Rattle.puffin_frames.specs.Packets.{packet_without_details, packet_without_kind, legacy_bytes, Stores}
+use Rattle.puffin_frames.specs.Packets.{packet_without_details, packet_without_kind, legacy_bytes, Stores, TookStored}
 use Rattle.puffin_frames.proofs.Listed.{and-first, and-second}
 use Rattle.puffin_frames.proofs.Writing.{number_short}
 use Rattle.puffin_frames.proofs.PartsTaken.{bind_ok, same_ok, part_taken, length_taken, meta_taken, given_kind_at, kind_taken, details_taken, LegacyTaken, legacy_taken}
@@ -244,11 +245,14 @@ stored_is {A = A} form (Ok p) s rest given =
 legacy_from_bytes : (header bytes xs : List ℕ) (l : Legacy) (rest : List ℕ) → length header ≡ 4 → IsBytes header → is_packet header ≡ false → bytes ≡ header ++ xs → LegacyTaken (little_number 4 header) xs l rest → little_number 4 header < 2 ^ 32 → StoredFrom bytes (legacy l) rest
 unfolding StoredFrom
 legacy_from_bytes header bytes xs l rest four is other text t small =
-    let same : little_bytes 4 (length (legacy_layout l)) ≡ header = ap (little_bytes 4) t.size ∙ (bytes_4 header (omega (arith, four)) is ∙ take_all 4 header (omega (arith, four))) in
-    (legacy_bytes l, (
-      record { layout = t.fits; range = t.range; short = rw t.size small; no_packet = ap is_packet same ∙ other },
-      refl,
-    ), text ∙ (ap (λ (x : List ℕ). header ++ x) t.text ∙ (sym (append_assoc header (legacy_layout l) rest) ∙ ap (λ (h : List ℕ). (h ++ legacy_layout l) ++ rest) (sym same))))
+    let same : little_bytes 4 (length (legacy_layout l)) ≡ header = ap (little_bytes 4) t.size ∙ (bytes_4 header (omega (arith, four)) is ∙ take_all 4 header (omega (arith, four))) in (
+      legacy_bytes l,
+      (
+        record { layout = t.fits; range = t.range; short = rw t.size small; no_packet = ap is_packet same ∙ other },
+        refl,
+      ),
+      text ∙ (ap (λ (x : List ℕ). header ++ x) t.text ∙ (sym (append_assoc header (legacy_layout l) rest) ∙ ap (λ (h : List ℕ). (h ++ legacy_layout l) ++ rest) (sym same))),
+    )
 
 not_none : (b : Bool) (xs : List ℕ) (r : Result (Option Stored × List ℕ) FileError) (s : Stored) (rest : List ℕ) → Gave (cond b (Ok (None, xs)) r) s rest → (b ≡ false) × Gave r s rest
 unfolding Gave
@@ -307,3 +311,10 @@ stores_again front rest (legacy l) h = ap (λ (t : List ℕ). next_at (t ++ rest
 
 pub stored_at_front : (bytes rest : List ℕ) (s : Stored) → IsBytes bytes → (next_at bytes ≡ Ok (Some s, rest)) ↔ ((front : List ℕ) × Stores front s × (bytes ≡ front ++ rest))
 stored_at_front bytes rest s is = (stored_taken bytes rest s is, λ h. ap next_at h.2 ∙ stores_again h.0 rest s h.1)
+
+-- what a device gave of a frame stores it
+pub took_stored : {X : Type 0} (view : X → Stored) (x : X) (old new : Option (List ℕ)) → FromDevice (λ (y : X). Some (view y)) old new (Ok x) next_at → TookStored old new (view x)
+took_stored view x old new h =
+    let t = stored_taken (h.0 ++ []) [] (view x) (IsBytes-append h.0 [] h.3 IsBytes-nil) (h.2 []) in
+    let whole : t.0 ≡ h.0 = sym (sym (append-nil h.0) ∙ (t.2 ∙ append-nil t.0)) in
+    (h.0, h.1, subst (λ (front : List ℕ). Stores front (view x)) whole t.1)
