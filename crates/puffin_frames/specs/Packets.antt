@@ -11,7 +11,7 @@ abbrev pub packet_without_details : Said → List ℕ
 packet_without_details p =
     (80 ∷ 70 ∷ 68 ∷ 51 ∷ []) ++ (counted (meta_layout p.meta) ++ (little_bytes 4 (length p.streams) ++ (p.kind ∷ p.streams)))
 
--- the second form: `PFD2`, and neither details nor a kind
+-- the second form: `PFD2`, and neither details nor a kind, as its streams are all of kind 2
 abbrev pub packet_without_kind : Said → List ℕ
 packet_without_kind p = (80 ∷ 70 ∷ 68 ∷ 50 ∷ []) ++ (counted (meta_layout p.meta) ++ counted p.streams)
 
