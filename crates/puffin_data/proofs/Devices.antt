@@ -7,6 +7,7 @@ use Rattle.puffin_data.specs.declared.file_error.FileError.{FileError}
 use Rattle.puffin_data.specs.declared.file_error.FileError.TheVariants as file
 use Rattle.puffin_data.specs.Devices.{FromDevice, FailsAt, IsOutside}
 use Rattle.puffin_data.specs.Parts.{◌>>=◌}
+use Rattle.puffin_data.proofs.Numbers.{IsBytes-nil, IsBytes-append}
 
 -- a fault of the device itself is no answer of a reading
 pub outside : {A : Type 0} (e : FileError) (old new : Option (List ℕ)) (read : List ℕ → Result (A × List ℕ) FileError) → IsOutside e → FailsAt e old new read
@@ -33,7 +34,7 @@ fails_after _ a old mid new read next taken c first h =
 pub goes_on : {Y A B : Type 0} (view : Y → B) (a : A) (old mid new : Option (List ℕ)) (read : List ℕ → Result (A × List ℕ) FileError) (next : A → List ℕ → Result (B × List ℕ) FileError) (r : Result Y FileError)
     → FromDevice (λ (x : A). x) old mid (Ok a) read → FromDevice view mid new r (next a) → FromDevice view old new r (λ bytes. read bytes >>= λ x. next x.0 x.1)
 goes_on view a old mid new read next (Ok y) p q =
-    (p.0 ++ q.0, Consumes-trans old mid new p.0 q.0 p.1 q.1, λ rest. after_again a p.0 q.0 read next p.2 rest ∙ q.2 rest)
+    (p.0 ++ q.0, Consumes-trans old mid new p.0 q.0 p.1 q.1, λ rest. after_again a p.0 q.0 read next p.2 rest ∙ q.2 rest, IsBytes-append p.0 q.0 p.3 q.3)
 goes_on view a old mid new read next (Err e) p q = fails_after e a old mid new read next p.0 p.1 p.2 q
 
 -- a first reading that failed
@@ -46,7 +47,7 @@ stops _ old new read next h = (h.0, h.1, λ rest. rw (h.2 rest) refl)
 
 -- a reading that takes nothing and always gives this value
 pub given : {A : Type 0} (a : A) (old : Option (List ℕ)) → FromDevice (λ (x : A). x) old old (Ok a) (λ bytes. Ok (a, bytes))
-given a old = ([], Consumes-nil old, λ rest. refl)
+given a old = ([], Consumes-nil old, λ rest. refl, IsBytes-nil)
 
 -- the same two for what a whole chain gives, without a view: for a chain that failed later, and for one that succeeded
 pub fails_on : {A B : Type 0} (e : FileError) (a : A) (old mid new : Option (List ℕ)) (read : List ℕ → Result (A × List ℕ) FileError) (next : A → List ℕ → Result (B × List ℕ) FileError)
@@ -65,7 +66,7 @@ same_fault file.Truncated old new read other same h = (h.0, h.1, h.2, same h.0 �
 same_fault _ old new read other same h = (h.0, h.1, λ rest. same (h.0 ++ rest) ∙ h.2 rest)
 
 pub same_reading : {X A : Type 0} (view : X → A) (r : Result X FileError) (old new : Option (List ℕ)) (read other : List ℕ → Result (A × List ℕ) FileError) → ((bytes : List ℕ) → other bytes ≡ read bytes) → FromDevice view old new r read → FromDevice view old new r other
-same_reading view (Ok x) old new read other same h = (h.0, h.1, λ rest. same (h.0 ++ rest) ∙ h.2 rest)
+same_reading view (Ok x) old new read other same h = (h.0, h.1, λ rest. same (h.0 ++ rest) ∙ h.2 rest, h.3)
 same_reading view (Err e) old new read other same h = same_fault e old new read other same h
 
 -- ---- devices whose bytes are known

@@ -4,7 +4,7 @@ use Rattle.std.specs.List.{flat_map, AllByRecursion}
 use Rattle.std.proofs.lemmas.Bool.{eqb-true}
 use Rattle.std.proofs.lemmas.List.{get_or-append_right, append-nil, nil_from_length}
 use Rattle.std.proofs.lemmas.Option.{same_Some, some_pair_parts, cond_some}
-use Rattle.puffin_data.specs.Layout.{IsBytes, number, optional, pair, items, IsLong, IfAny, AreItems, NoneBeginsAnother, Reads, ReadsWithRest}
+use Rattle.puffin_data.specs.Layout.{IsBytes, number, optional, pair, items, IsLong, IfAny, AreItems, NoneBeginsAnother, ReadsLayouts, Reads, ReadsWithRest}
 use Rattle.puffin_data.specs.Front.{◌>>=◌, checked, seen_as, optional_at, pair_at, times_at, whole, Gives, GivesWithRest}
 
 pub IsBytes-rest : (b : ℕ) (bytes : List ℕ) → IsBytes (b ∷ bytes) → IsBytes bytes
@@ -44,6 +44,9 @@ reads view fits layout read r old None new bytes given = (none_begins fits layou
 pub reads_with_rest : {X A : Type 0} (view : X → A × List ℕ) (fits : A → Type 0) (layout : A → List ℕ) (read : List ℕ → Option (A × List ℕ)) → IsReader fits layout read → (old : List ℕ) (o : Option X) → IsBytes old → GivesWithRest view o (read old) → ReadsWithRest view fits layout old o
 reads_with_rest view fits layout read r old (Some x) bytes given = r.taken old (view x).0 (view x).1 bytes given
 reads_with_rest view fits layout read r old None bytes given = none_begins fits layout read r old given
+
+pub reads_layouts : {A : Type 0} (fits : A → Type 0) (layout : A → List ℕ) (read : List ℕ → Option (A × List ℕ)) → IsReader fits layout read → ReadsLayouts fits layout read
+reads_layouts fits layout read r bytes a rest is = (r.taken bytes a rest is, λ h. ap read h.1 ∙ r.again a rest h.0)
 
 -- ---- steps
 

@@ -1,6 +1,7 @@
 -- What a call that reads or writes a device promises of it.
 use Rattle.std.specs.Prelude.{◌≡◌, ℕ, ◌+◌, ◌<◌, ◌≤◌, Bool, true, false, List, ◌++◌, length, take, drop, Option, Result, Ok, Err, if◌then◌else◌, ◌⊎◌}
 use Rattle.std.specs.Io.KnownBytes.{Appends, Consumes, IsAtEnd}
+use Rattle.puffin_data.specs.Layout.{IsBytes}
 use Rattle.puffin_data.specs.declared.file_error.FileError.{FileError}
 use Rattle.puffin_data.specs.declared.file_error.FileError.TheVariants as file
 
@@ -29,6 +30,7 @@ WritesBeginning old new bytes = (front rest : List ℕ) × (bytes ≡ front ++ r
 -- at most so many bytes were taken, fewer only at the end
 pub record TookUpTo (old new : Option (List ℕ)) (n : ℕ) (taken : List ℕ) : Type 0 where
   pub consumed : Consumes old new taken
+  pub bytes : IsBytes taken
   pub most : length taken ≤ n
   pub fewer : length taken < n → IsAtEnd new
 
@@ -52,5 +54,5 @@ FailsAt e old new read = (taken : List ℕ) × Consumes old new taken × ((rest 
 
 -- A call took bytes from a device, and what it returned, seen by view, is what the reading gives of them, whatever follows. Of a device whose bytes aren't known, some bytes are those.
 abbrev pub FromDevice : {X A : Type 0} → (X → A) → Option (List ℕ) → Option (List ℕ) → Result X FileError → (List ℕ → Result (A × List ℕ) FileError) → Type 0
-FromDevice view old new (Ok x) read = (taken : List ℕ) × Consumes old new taken × ((rest : List ℕ) → read (taken ++ rest) ≡ Ok (view x, rest))
+FromDevice view old new (Ok x) read = (taken : List ℕ) × Consumes old new taken × ((rest : List ℕ) → read (taken ++ rest) ≡ Ok (view x, rest)) × IsBytes taken
 FromDevice view old new (Err e) read = FailsAt e old new read

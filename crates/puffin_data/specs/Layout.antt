@@ -1,5 +1,5 @@
 -- The bytes of the values that a packet holds. Numbers have their lowest byte first.
-use Rattle.std.specs.Prelude.{◌≡◌, ℕ, ◌+◌, ◌*◌, ◌<◌, ◌^◌, ℤ, pos, negsuc, FitsSigned, Bool, true, List, [], ◌∷◌, ◌++◌, length, get_or, Option, Some, None, nat_lt, if◌then◌else◌}
+use Rattle.std.specs.Prelude.{◌≡◌, ℕ, ◌+◌, ◌*◌, ◌<◌, ◌^◌, ◌↔◌, ℤ, pos, negsuc, FitsSigned, Bool, true, List, [], ◌∷◌, ◌++◌, length, get_or, Option, Some, None, nat_lt, if◌then◌else◌}
 use Rattle.std.specs.List.{flat_map, AllByRecursion}
 use Rattle.std.specs.Int.{w64}
 use Rattle.std.specs.Str.{is_utf8}
@@ -84,6 +84,11 @@ IsAny a = Unit {0}
 -- any two values with a layout have different ones, and neither begins the other
 abbrev pub NoneBeginsAnother : {A : Type 0} → (A → Type 0) → (A → List ℕ) → Type 0
 NoneBeginsAnother {A = A} fits layout = (a b : A) (x y : List ℕ) → fits a → fits b → layout a ++ x ≡ layout b ++ y → (a ≡ b) × (x ≡ y)
+
+-- A reading reads layouts and nothing else: it gives a value, and the bytes after it, exactly where the value's layout stands before these.
+abbrev pub ReadsLayouts : {A : Type 0} → (A → Type 0) → (A → List ℕ) → (List ℕ → Option (A × List ℕ)) → Type 0
+ReadsLayouts {A = A} fits layout read =
+    (bytes : List ℕ) (a : A) (rest : List ℕ) → IsBytes bytes → (read bytes ≡ Some (a, rest)) ↔ (fits a × (bytes ≡ layout a ++ rest))
 
 -- Of the bytes old either a value was read, seen by view, whose layout begins them, and new follow it; or nothing was, where no layout begins them, and they stay.
 abbrev pub Reads : {X A : Type 0} → (X → A) → (A → Type 0) → (A → List ℕ) → List ℕ → Option X → List ℕ → Type 0

@@ -17,7 +17,8 @@ ghost use Rattle.puffin_data.specs.Words.{word_size, num_begun, open_after, most
 ghost use Rattle.puffin_data.specs.Text.{cut_text, IsCut, text_in};
 ghost use Rattle.puffin_data.specs.Lenient.{ReadScope, Reads, top_scopes};
 ghost use Rattle.puffin_data.specs.Opens.{Opened, IsOpened, open_spelling, open_word, size_place, ended_bytes, with_ended};
-ghost use Rattle.puffin_data.specs.Layout.{NoneBeginsAnother, byte, number, signed, flag, block, IsByte, IsLong, IsSigned, IsAny, IsBlock};
+ghost use Rattle.puffin_data.specs.Layout.{NoneBeginsAnother, ReadsLayouts, byte, number, signed, flag, block, IsByte, IsWord, IsLong, IsSigned, IsAny, IsBlock, IsText};
+ghost use Rattle.puffin_data.specs.Front.{byte_at, number_at, word_at, signed_at, flag_at, bytes_at, text_at};
 ghost use Rattle.puffin_data.specs.declared.error.Error.{Error};
 ghost use Rattle.puffin_data.specs.declared.data.record.Scope.{Scope};
 ghost use Rattle.puffin_data.specs.declared.data.record.ScopeRecord.{ScopeRecord};
@@ -182,4 +183,15 @@ pub fn no_layout_begins_another()
     ensures signed { NoneBeginsAnother IsSigned signed }
     ensures flags { NoneBeginsAnother IsAny flag }
     ensures blocks { NoneBeginsAnother IsBlock block }
+{}
+
+/// What is read off the front of bytes is the layout of the value that is given, and each layout is read.
+pub fn only_layouts_are_read()
+    ensures bytes { ReadsLayouts IsByte byte byte_at }
+    ensures numbers { ReadsLayouts IsLong number number_at }
+    ensures words { ReadsLayouts IsWord number word_at }
+    ensures signed { ReadsLayouts IsSigned signed signed_at }
+    ensures flags { ReadsLayouts IsAny flag flag_at }
+    ensures blocks { ReadsLayouts IsBlock block bytes_at }
+    ensures texts { ReadsLayouts IsText block text_at }
 {}

@@ -429,4 +429,5 @@ fn laws_are_called() {
     laws::joined_measures();
     laws::one_fault();
     laws::sounds_rise();
+    laws::only_layouts_are_read();
 }

@@ -5,6 +5,9 @@ pub mod Structs
 pub mod Reading
 pub mod Writing
 pub mod Packets
+pub mod OlderPackets
+pub mod PartsTaken
+pub mod PacketsTaken
 pub mod Packings
 pub mod Joining
 pub mod Sharing

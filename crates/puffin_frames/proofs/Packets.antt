@@ -14,21 +14,21 @@ use Rattle.puffin_frames.specs.Steps.{meta_part_at, streams_part_at, details_par
 use Rattle.puffin_frames.proofs.Structs.{meta_reader, details_reader}
 use Rattle.puffin_frames.proofs.Writing.{meta_short}
 
-part_again : (n : ℕ) (t rest : List ℕ) → length t ≡ n → part_of n (t ++ rest) ≡ Ok (t, rest)
+pub part_again : (n : ℕ) (t rest : List ℕ) → length t ≡ n → part_of n (t ++ rest) ≡ Ok (t, rest)
 part_again n t rest len =
     let long : ltb (length (t ++ rest)) n ≡ false = le-ltb _ _ (omega (arith, length-append t rest, len)) in
     rw (long, take_at t rest n len, drop_at t rest n len) refl
 
-length_again : (n : ℕ) (rest : List ℕ) → n < 2 ^ 32 → length_at (little_bytes 4 n ++ rest) ≡ Ok (n, rest)
+pub length_again : (n : ℕ) (rest : List ℕ) → n < 2 ^ 32 → length_at (little_bytes 4 n ++ rest) ≡ Ok (n, rest)
 length_again n rest h =
     let back : little_number 4 (little_bytes 4 n ++ []) ≡ n = little_number-reads_back 4 n [] (omega arith) in
     rw (part_again 4 (little_bytes 4 n) rest refl) (ap (λ (k : ℕ). Ok (k, rest)) back)
 
-counted_again : (t rest : List ℕ) → length t < 2 ^ 32 → counted_part_at (counted t ++ rest) ≡ Ok (t, rest)
+pub counted_again : (t rest : List ℕ) → length t < 2 ^ 32 → counted_part_at (counted t ++ rest) ≡ Ok (t, rest)
 counted_again t rest h =
     ap counted_part_at (append_assoc (little_bytes 4 (length t)) t rest) ∙ rw (length_again (length t) (t ++ rest) h) (part_again (length t) t rest refl)
 
-meta_again : (p : Said) (rest : List ℕ) → IsPacked p → meta_part_at (counted (meta_layout p.meta) ++ rest) ≡ Ok (p.meta, rest)
+pub meta_again : (p : Said) (rest : List ℕ) → IsPacked p → meta_part_at (counted (meta_layout p.meta) ++ rest) ≡ Ok (p.meta, rest)
 meta_again p rest h =
     rw (counted_again (meta_layout p.meta) rest (meta_short p.meta), whole_again IsMeta meta_layout meta_at meta_reader p.meta h.meta, h.range) refl
 
@@ -53,7 +53,7 @@ after_letters xs =
     rw long refl
 
 -- a packet with its parts in a row
-in_a_row : (m l s d rest : List ℕ) (kind : ℕ) → ((((80 ∷ 70 ∷ 68 ∷ 52 ∷ []) ++ (m ++ (l ++ (kind ∷ [])))) ++ s) ++ d) ++ rest ≡ 80 ∷ 70 ∷ 68 ∷ 52 ∷ (m ++ (l ++ (kind ∷ (s ++ (d ++ rest)))))
+pub in_a_row : (m l s d rest : List ℕ) (kind : ℕ) → ((((80 ∷ 70 ∷ 68 ∷ 52 ∷ []) ++ (m ++ (l ++ (kind ∷ [])))) ++ s) ++ d) ++ rest ≡ 80 ∷ 70 ∷ 68 ∷ 52 ∷ (m ++ (l ++ (kind ∷ (s ++ (d ++ rest)))))
 in_a_row m l s d rest kind = simp append_assoc
 
 pub packet_again : (p : Said) (rest : List ℕ) → IsPacked p → next_at (packet p ++ rest) ≡ Ok (Some (packed p), rest)

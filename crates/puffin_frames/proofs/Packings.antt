@@ -1,13 +1,27 @@
 -- Packing and unpacking keep what a frame holds.
-use Rattle.std.proofs.Common.{◌≡◌, Option, Some, None, refl, ap, ◌∙◌}
+use Rattle.std.proofs.Common.{◌≡◌, ℕ, Bool, true, false, cond, eqb, List, Option, Some, None, Result, Ok, Err, IfOk, refl, sym, ap, subst, ◌∙◌}
+use Rattle.std.specs.Prelude.{◌↔◌, IfSome}
 use Rattle.std.specs.Option.{option_map}
 use Rattle.std.specs.FinMap.{entries, entries_sorted, from_sorted, entries-from_sorted, same_entries_map}
-use Rattle.puffin_data.proofs.Readers.{whole_again}
-use Rattle.puffin_frames.specs.Info.{info_cmp}
+use Rattle.std.proofs.lemmas.Bool.{eqb-true}
+use Rattle.std.proofs.lemmas.Option.{same_Some}
+use Rattle.puffin_data.specs.declared.file_error.FileError.{FileError}
+use Rattle.puffin_data.specs.declared.file_error.FileError.TheVariants as file
+use Rattle.puffin_data.specs.Honesty.{Recorded}
+use Rattle.puffin_data.specs.Layout.{IsBytes}
+use Rattle.puffin_data.specs.Front.{whole}
+use Rattle.puffin_data.proofs.Readers.{whole_again, whole_taken}
+use Rattle.puffin_frames.specs.declared.frame_data.held.Held.{Held}
+use Rattle.puffin_frames.specs.declared.frame_data.held.Held.TheVariants.{Own, Shared, Packed, Both}
+use Rattle.puffin_frames.specs.Contents.{packed_as, held_as}
+use Rattle.puffin_frames.specs.Tries.{DecidedInMemory}
+use Rattle.puffin_frames.specs.Info.{Info, info_cmp}
 use Rattle.puffin_frames.specs.ThreadStreams.{Streams}
 use Rattle.puffin_frames.specs.Values.{AreStreams, streams_layout, streams_at}
-use Rattle.puffin_frames.specs.Holding.{Packing, Holding, streams_in, if_packed, either_content, held_contents, Agree, IsHolding, packing, plainly_packed, as_packed, as_unpacked}
+use Rattle.puffin_frames.specs.Holding.{Packing, HoldsStreams, or_bad, unpacked_from, Holding, streams_in, if_packed, either_content, held_contents, Agree, IsHolding, packing, plainly_packed, as_packed, as_unpacked}
 use Rattle.puffin_frames.proofs.Structs.{streams_reader}
+use Rattle.puffin_frames.proofs.Listed.{holds}
+use Rattle.puffin_frames.proofs.PartsTaken.{same_ok}
 
 from_entries_back : (m : Streams) → from_sorted {R = info_cmp} (entries m) ≡ m
 from_entries_back m = same_entries_map (from_sorted (entries m)) m (entries-from_sorted info_cmp (entries m) (entries_sorted m))
@@ -36,3 +50,66 @@ unpacking-keeps (Some p) None = kept (Some p) (streams_in p) refl
 
 pub unpack-keeps : (h : Holding) → held_contents (as_unpacked h) ≡ held_contents h
 unpack-keeps h = unpacking-keeps h.packed h.unpacked
+
+-- ---- packed bytes and the streams whose layout they are
+
+streams_from : (o : Option (List (Info × Recorded))) (streams : Streams) → option_map from_sorted o ≡ Some streams → (es : List (Info × Recorded)) × (o ≡ Some es) × (from_sorted es ≡ streams)
+streams_from None streams e = absurd cc
+streams_from (Some es) streams e = (es, refl, same_Some (from_sorted es) streams e)
+
+streams_taken : (p : Packing) (streams : Streams) → IsBytes p.bytes → streams_in p ≡ Some streams → HoldsStreams p streams
+streams_taken p streams is e =
+    let g = cond_option (eqb p.kind 0) (option_map from_sorted (whole streams_at p.bytes)) streams e in
+    let o = streams_from (whole streams_at p.bytes) streams g.1 in
+    let w = whole_taken AreStreams streams_layout streams_at streams_reader p.bytes o.0 is o.1 in
+    let back : entries streams ≡ o.0 = ap entries (sym o.2) ∙ entries-from_sorted info_cmp o.0 (holds _ w.0.1) in
+    (eqb-true _ _ g.0, rw back w.0, w.1 ∙ ap streams_layout (sym back))
+  where
+    cond_option : (b : Bool) (o : Option Streams) (streams : Streams) → cond b o None ≡ Some streams → (b ≡ true) × (o ≡ Some streams)
+    cond_option true o streams e = (refl, e)
+    cond_option false o streams e = absurd cc
+
+streams_given : (p : Packing) (streams : Streams) → HoldsStreams p streams → streams_in p ≡ Some streams
+streams_given p streams h =
+    let same : p ≡ plainly_packed streams = ap (λ (k : ℕ). record p { kind = k }) h.0 ∙ ap (λ (bytes : List ℕ). record { kind = 0; bytes = bytes }) h.2 in
+    ap streams_in same ∙ packed_again streams h.1
+
+pub holds_streams : (p : Packing) (streams : Streams) → IsBytes p.bytes → (streams_in p ≡ Some streams) ↔ HoldsStreams p streams
+holds_streams p streams is = (streams_taken p streams is, streams_given p streams)
+
+-- ---- what unpacking gives
+
+unpacked_so : (b : Bool) (kind : ℕ) (o : Option Streams) (streams : Streams) → cond b (or_bad o) (Err (file.Compressed kind)) ≡ Ok streams → cond b o None ≡ Some streams
+unpacked_so true kind None streams e = absurd cc
+unpacked_so true kind (Some x) streams e = ap Some (same_ok x streams e)
+unpacked_so false kind o streams e = absurd cc
+
+bad_so : (b : Bool) (kind : ℕ) (o : Option Streams) (streams : Streams) → cond b (or_bad o) (Err (file.Compressed kind)) ≡ Err file.BadStreams → cond b o None ≡ Some streams → ⊥
+bad_so true kind None streams e some = absurd cc
+bad_so true kind (Some x) streams e some = absurd cc
+bad_so false kind o streams e some = absurd cc
+
+-- the streams that are handed out are those whose layout the packed bytes are
+layout_of : (h : Held) (streams : Streams) → unpacked_from (held_as h) ≡ Ok streams → IfSome (held_as h).packed (λ p. HoldsStreams p streams)
+layout_of (Own u) streams e = tt
+layout_of (Shared u) streams e = tt
+layout_of (Packed p) streams e =
+    let o : Option Streams = option_map from_sorted (whole streams_at p.streams.bytes.items) in
+    streams_taken (packed_as p.streams) streams p.streams.are_bytes (unpacked_so (eqb p.streams.kind 0) p.streams.kind o streams e)
+layout_of (Both b) streams e =
+    streams_taken (packed_as b.packed) streams b.packed.are_bytes (b.same ∙ ap Some (same_ok _ streams e))
+
+pub unpacked_layout : {X : Type 0} (view : X → Streams) (h : Held) (r : Result X FileError) → DecidedInMemory view r (unpacked_from (held_as h)) → IfOk r (λ x. IfSome (held_as h).packed (λ p. HoldsStreams p (view x)))
+unpacked_layout view h (Ok x) d = layout_of h (view x) d
+unpacked_layout view h (Err e) d = tt
+
+bad_of : (h : Held) → unpacked_from (held_as h) ≡ Err file.BadStreams → IfSome (held_as h).packed (λ p. (streams : Streams) → HoldsStreams p streams → ⊥)
+bad_of (Own u) e = tt
+bad_of (Shared u) e = tt
+bad_of (Packed p) e = λ streams held.
+    let o : Option Streams = option_map from_sorted (whole streams_at p.streams.bytes.items) in
+    bad_so (eqb p.streams.kind 0) p.streams.kind o streams e (streams_given (packed_as p.streams) streams held)
+bad_of (Both b) e = absurd cc
+
+pub unpacked_no_layout : {X : Type 0} (view : X → Streams) (h : Held) (r : Result X FileError) → DecidedInMemory view r (unpacked_from (held_as h)) → r ≡ Err file.BadStreams → IfSome (held_as h).packed (λ p. (streams : Streams) → HoldsStreams p streams → ⊥)
+unpacked_no_layout view h r d e = bad_of h (subst (λ (x : Result _ FileError). DecidedInMemory view x (unpacked_from (held_as h))) e d)

@@ -10,6 +10,8 @@ use Rattle.byteorder.specs.Endian.{little_number}
 use Rattle.puffin_data.specs.declared.file_error.FileError.{FileError}
 use Rattle.puffin_data.specs.declared.file_error.FileError.TheVariants as file
 use Rattle.puffin_data.specs.Devices.{FromDevice, FailsAt}
+use Rattle.puffin_data.specs.Layout.{IsBytes}
+use Rattle.puffin_data.proofs.Numbers.{IsBytes-append}
 use Rattle.puffin_frames.specs.declared.frame_data.frame.FrameData.{FrameData}
 use Rattle.puffin_frames.specs.Holding.{Packing}
 use Rattle.puffin_frames.specs.Contents.{holding_of, frame_says}
@@ -20,7 +22,7 @@ use Rattle.puffin_frames.specs.Steps.{as_stored, stored_after, is_end, next_at}
 
 -- ---- behind a header
 
-after_header : (header xs : List ℕ) → length header ≡ 4 → is_end header ≡ false → next_at (header ++ xs) ≡ stored_after header xs
+pub after_header : (header xs : List ℕ) → length header ≡ 4 → is_end header ≡ false → next_at (header ++ xs) ≡ stored_after header xs
 unfolding next_at
 after_header [] xs e h = absurd (omega arith)
 after_header (a ∷ []) xs e h = absurd (omega arith)
@@ -38,10 +40,14 @@ fails_after_header file.Truncated old mid new header four more c h = (header ++ 
 fails_after_header _ old mid new header four more c h =
     (header ++ h.0, Consumes-trans old mid new header h.0 c h.1, λ rest. ap next_at (append_assoc header h.0 rest) ∙ (after_header header (h.0 ++ rest) four more ∙ h.2 rest))
 
-pub given_after_header : {X : Type 0} (view : X → Option Stored) (r : Result X FileError) (old mid new : Option (List ℕ)) (header : List ℕ) → length header ≡ 4 → is_end header ≡ false → Consumes old mid header → FromDevice view mid new r (stored_after header) → FromDevice view old new r next_at
-given_after_header view (Ok x) old mid new header four more c h =
-    (header ++ h.0, Consumes-trans old mid new header h.0 c h.1, λ rest. ap next_at (append_assoc header h.0 rest) ∙ (after_header header (h.0 ++ rest) four more ∙ h.2 rest))
-given_after_header view (Err e) old mid new header four more c h = fails_after_header e old mid new header four more c h
+pub given_after_header : {X : Type 0} (view : X → Option Stored) (r : Result X FileError) (old mid new : Option (List ℕ)) (header : List ℕ) → length header ≡ 4 → is_end header ≡ false → Consumes old mid header → IsBytes header → FromDevice view mid new r (stored_after header) → FromDevice view old new r next_at
+given_after_header view (Ok x) old mid new header four more c is h = (
+  header ++ h.0,
+  Consumes-trans old mid new header h.0 c h.1,
+  λ rest. ap next_at (append_assoc header h.0 rest) ∙ (after_header header (h.0 ++ rest) four more ∙ h.2 rest),
+  IsBytes-append header h.0 is h.3,
+)
+given_after_header view (Err e) old mid new header four more c is h = fails_after_header e old mid new header four more c h
 
 -- ---- the end
 
@@ -79,7 +85,7 @@ packed_so frame None e = absurd cc
 
 pub if_packed_so : (r : Result FrameData FileError) (old new : Option (List ℕ)) (read : List ℕ → Result (Said × List ℕ) FileError) → IfOk r (λ frame. is_some (holding_of frame).packed ≡ true) → FromDevice frame_says old new r read → FromDevice (λ frame. Some (stored_of frame)) old new r (λ bytes. as_stored packed (read bytes))
 if_packed_so (Ok frame) old new read is h =
-    (h.0, h.1, λ rest. ap (as_stored packed) (h.2 rest) ∙ ap (λ (s : Stored). Ok (Some s, rest)) (sym (packed_so frame (holding_of frame).packed is)))
+    (h.0, h.1, λ rest. ap (as_stored packed) (h.2 rest) ∙ ap (λ (s : Stored). Ok (Some s, rest)) (sym (packed_so frame (holding_of frame).packed is)), h.3)
 if_packed_so (Err e) old new read is h = fails_as packed e old new read h
 
 legacy_so : (frame : FrameData) (o : Option Packing) → o ≡ None → stored_as frame o ≡ legacy (legacy_of frame)
@@ -87,5 +93,5 @@ legacy_so frame o e = ap (stored_as frame) e
 
 pub if_legacy_so : (r : Result FrameData FileError) (old new : Option (List ℕ)) (read : List ℕ → Result (Legacy × List ℕ) FileError) → IfOk r (λ frame. (holding_of frame).packed ≡ None) → FromDevice legacy_of old new r read → FromDevice (λ frame. Some (stored_of frame)) old new r (λ bytes. as_stored legacy (read bytes))
 if_legacy_so (Ok frame) old new read is h =
-    (h.0, h.1, λ rest. ap (as_stored legacy) (h.2 rest) ∙ ap (λ (s : Stored). Ok (Some s, rest)) (sym (legacy_so frame (holding_of frame).packed is)))
+    (h.0, h.1, λ rest. ap (as_stored legacy) (h.2 rest) ∙ ap (λ (s : Stored). Ok (Some s, rest)) (sym (legacy_so frame (holding_of frame).packed is)), h.3)
 if_legacy_so (Err e) old new read is h = fails_as legacy e old new read h

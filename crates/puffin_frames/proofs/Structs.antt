@@ -1,15 +1,12 @@
 -- The structs that packets hold are read back, and nothing else is read.
-use Rattle.std.proofs.Common.{◌≡◌, ℕ, true, cond, eqb, List, length, Some, None, refl, subst}
+use Rattle.std.proofs.Common.{refl}
 use Rattle.std.specs.Prelude.{nat_lt}
 use Rattle.std.specs.FinMap.{is_sorted}
-use Rattle.std.proofs.lemmas.Option.{cond_some}
 use Rattle.puffin_data.specs.Layout.{number}
-use Rattle.puffin_data.specs.Honesty.{Recorded}
-use Rattle.puffin_data.specs.Front.{whole, items_at}
-use Rattle.puffin_data.proofs.Readers.{IsReader, bind_some, pair_reader, form_reader, checked_reader, optional_reader, items_reader}
+use Rattle.puffin_data.proofs.Readers.{IsReader, pair_reader, form_reader, checked_reader, optional_reader, items_reader}
 use Rattle.puffin_data.proofs.ValueReaders.{number_reader, word_reader, signed_reader, bytes_reader, text_reader}
-use Rattle.puffin_frames.specs.Info.{Info, info_cmp}
-use Rattle.puffin_frames.specs.Values.{meta_layout, IsMeta, made_meta, meta_at, thread_layout, IsThread, made_thread, thread_at, recorded_layout, IsRecorded, made_recorded, recorded_at, stream_at, streams_layout, AreStreams, streams_at, IsId, id_at, detail_layout, IsDetail, made_detail, detail_at, details_layout, AreDetails, details_at, legacy_layout, IsLegacy, made_legacy, legacy_at}
+use Rattle.puffin_frames.specs.Info.{info_cmp}
+use Rattle.puffin_frames.specs.Values.{meta_layout, IsMeta, made_meta, meta_at, thread_layout, IsThread, made_thread, thread_at, recorded_layout, IsRecorded, made_recorded, recorded_at, streams_layout, AreStreams, streams_at, IsId, id_at, detail_layout, IsDetail, made_detail, detail_at, details_layout, AreDetails, details_at, legacy_layout, IsLegacy, made_legacy, legacy_at}
 
 pub meta_reader : IsReader IsMeta meta_layout meta_at
 unfolding meta_at
@@ -52,17 +49,3 @@ unfolding legacy_at
 legacy_reader =
     let p = pair_reader _ _ _ _ _ _ number_reader (pair_reader _ _ _ _ _ _ streams_reader (pair_reader _ _ _ _ _ _ signed_reader (pair_reader _ _ _ _ _ _ signed_reader (pair_reader _ _ _ _ _ _ number_reader number_reader)))) in
     form_reader _ _ _ made_legacy (λ l. (l.meta.frame_index, (l.streams, (l.meta.range_ns.0, (l.meta.range_ns.1, (l.meta.num_bytes, l.meta.num_scopes)))))) (λ _. refl) (λ _. refl) p
-
--- streams that are read have rising keys
-pub sorted_when_read : (bytes : List ℕ) (es : List (Info × Recorded)) (rest : List ℕ) → streams_at bytes ≡ Some (es, rest) → is_sorted info_cmp es ≡ true
-unfolding streams_at
-sorted_when_read bytes es rest e =
-    let y = bind_some (items_at stream_at bytes) (λ a. cond (is_sorted info_cmp a.0) (Some a) None) (es, rest) e in
-    let k = cond_some (is_sorted info_cmp y.0.0) y.0 (es, rest) y.2 in
-    subst (λ (p : List (Info × Recorded) × List ℕ). is_sorted info_cmp p.0 ≡ true) k.1 k.0
-
-pub sorted_when_whole : (bytes : List ℕ) (es : List (Info × Recorded)) → whole streams_at bytes ≡ Some es → is_sorted info_cmp es ≡ true
-sorted_when_whole bytes es e =
-    let x = bind_some (streams_at bytes) (λ x. cond (eqb (length x.1) 0) (Some x.0) None) es e in
-    let g = cond_some (eqb (length x.0.1) 0) x.0.0 es x.2 in
-    subst (λ (l : List (Info × Recorded)). is_sorted info_cmp l ≡ true) g.1 (sorted_when_read bytes x.0.0 x.0.1 x.1)

@@ -45,7 +45,7 @@ short_if : (b : Bool) (x y : List ℕ) → length x ≤ 9 → length y ≤ 9 →
 short_if true x y p q = p
 short_if false x y p q = q
 
-number_short : (n : ℕ) → length (number n) ≤ 9
+pub number_short : (n : ℕ) → length (number n) ≤ 9
 unfolding number
 number_short n =
     let eight : List ℕ = 253 ∷ little_bytes 8 n in
@@ -53,6 +53,19 @@ number_short n =
     let two : List ℕ = 251 ∷ little_bytes 2 n in
     short_if (nat_lt n 251) (n ∷ []) (cond (nat_lt n (2 ^ 16)) two (cond (nat_lt n (2 ^ 32)) four eight)) (omega arith)
     (short_if (nat_lt n (2 ^ 16)) two (cond (nat_lt n (2 ^ 32)) four eight) (omega arith) (short_if (nat_lt n (2 ^ 32)) four eight (omega arith) (omega arith)))
+
+pub number_long : (n : ℕ) → 0 < length (number n)
+unfolding number
+number_long n =
+    let eight : List ℕ = 253 ∷ little_bytes 8 n in
+    let four : List ℕ = 252 ∷ little_bytes 4 n in
+    let two : List ℕ = 251 ∷ little_bytes 2 n in
+    long_if (nat_lt n 251) (n ∷ []) (cond (nat_lt n (2 ^ 16)) two (cond (nat_lt n (2 ^ 32)) four eight)) (omega arith)
+    (long_if (nat_lt n (2 ^ 16)) two (cond (nat_lt n (2 ^ 32)) four eight) (omega arith) (long_if (nat_lt n (2 ^ 32)) four eight (omega arith) (omega arith)))
+  where
+    long_if : (b : Bool) (x y : List ℕ) → 0 < length x → 0 < length y → 0 < length (cond b x y)
+    long_if true x y p q = p
+    long_if false x y p q = q
 
 sum_short : (a b c d e : List ℕ) → length a ≤ 9 → length b ≤ 9 → length c ≤ 9 → length d ≤ 9 → length e ≤ 9 → length (a ++ (b ++ (c ++ (d ++ e)))) < 2 ^ 32
 sum_short a b c d e f g h i j = omega (arith, length-append a (b ++ (c ++ (d ++ e))), length-append b (c ++ (d ++ e)), length-append c (d ++ e), length-append d e)

@@ -8,6 +8,7 @@ pub mod Holding
 pub mod Stored
 pub mod Tries
 pub mod Steps
+pub mod Packets
 pub mod Reads
 pub mod Writes
 pub mod Forms

@@ -3,6 +3,7 @@ use Rattle.std.specs.Prelude.{◌≡◌, ℕ, false, not, List, [], length, is_s
 use Rattle.std.specs.FinMap.{entries}
 use Rattle.std.specs.Io.KnownBytes.{Consumes}
 use Rattle.puffin_data.specs.Honesty.{Recorded}
+use Rattle.puffin_data.specs.Layout.{IsBytes}
 use Rattle.puffin_data.specs.Devices.{FromDevice, FailsAt}
 use Rattle.puffin_data.specs.declared.file_error.FileError.{FileError}
 use Rattle.puffin_frames.specs.declared.frame_data.frame.FrameData.{FrameData}
@@ -37,7 +38,7 @@ pub record IsFresh (frame : FrameData) : Type 0 where
 
 -- four bytes that aren't four zeros, or the end
 abbrev pub HeaderFrom : Option (List ℕ) → Option (List ℕ) → Option (List ℕ) → Type 0
-HeaderFrom old new (Some header) = (length header ≡ 4) × Consumes old new header × (is_end header ≡ false)
+HeaderFrom old new (Some header) = (length header ≡ 4) × Consumes old new header × (is_end header ≡ false) × IsBytes header
 HeaderFrom old new None = AtEnd old new
 
 -- A call took bytes from a device: those of the frame that it returned, whatever follows; or the device is at its end; or the bytes that were taken have this fault.

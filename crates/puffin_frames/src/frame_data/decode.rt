@@ -169,7 +169,8 @@ fn read_streams(alloc: Global, cursor: &mut Cursor) -> Result<ThreadStreams, Sto
 
 /// The streams whose layout the bytes are, all of them.
 pub(crate) fn streams_in(alloc: Global, bytes: &[u8]) -> Result<ThreadStreams, Stop>
-    ensures { Tries (λ m. listed m.entries) result (whole streams_at bytes.now) }
+    ensures given { Tries (λ m. listed m.entries) result (whole streams_at bytes.now) }
+    ensures sorted { IfOk result (λ m. is_sorted info_cmp (listed m.entries) ≡ true) }
 {
     let mut cursor = Cursor::new(bytes);
     let streams = read_streams(alloc, &mut cursor)?;

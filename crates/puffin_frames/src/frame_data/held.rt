@@ -4,6 +4,7 @@ ghost use Rattle.std.specs.Prelude.{◌≡◌, ◌≤◌, ◌-ℤ◌, ◌≤ℤ�
 ghost use Rattle.std.specs.Int.{w64};
 ghost use Rattle.std.specs.Arc.{arc_value};
 ghost use Rattle.std.specs.Coded.{Coded-set, coded_option};
+ghost use Rattle.puffin_data.specs.Layout.{IsBytes};
 ghost use Rattle.puffin_frames.specs.ThreadStreams.{contents, streams_code};
 ghost use Rattle.puffin_frames.specs.Holding.{streams_in};
 
@@ -17,6 +18,7 @@ pub(crate) struct PackedStreams {
     pub(crate) kind: u8,
     pub(crate) bytes: Vec<u8>,
     ghost known: { kind ≤ 2 },
+    ghost are_bytes: { IsBytes bytes.items },
 }
 
 /// A frame whose streams are packed.

@@ -1,12 +1,14 @@
 //! Laws of frames and packets, as contracts of functions that do nothing. A proof of another crate cites them by calling
 //! the function.
 
-ghost use Rattle.std.specs.Prelude.{List, ℕ, ◌≡◌, ◌++◌, Some, Ok};
-ghost use Rattle.puffin_data.specs.Layout.{NoneBeginsAnother};
-ghost use Rattle.puffin_frames.specs.Values.{meta_layout, IsMeta, thread_layout, IsThread, recorded_layout, IsRecorded, streams_layout, AreStreams, details_layout, AreDetails, legacy_layout, IsLegacy};
-ghost use Rattle.puffin_frames.specs.Holding.{Holding, IsHolding, held_contents, as_packed, as_unpacked};
-ghost use Rattle.puffin_frames.specs.Stored.{Said, packed};
+ghost use Rattle.std.specs.Prelude.{List, ℕ, ◌≡◌, ◌↔◌, ◌++◌, Some, Ok};
+ghost use Rattle.puffin_data.specs.Layout.{IsBytes, NoneBeginsAnother, ReadsLayouts};
+ghost use Rattle.puffin_frames.specs.Values.{meta_layout, IsMeta, meta_at, thread_layout, IsThread, thread_at, recorded_layout, IsRecorded, recorded_at, streams_layout, AreStreams, streams_at, details_layout, AreDetails, details_at, legacy_layout, IsLegacy, legacy_at};
+ghost use Rattle.puffin_frames.specs.ThreadStreams.{Streams};
+ghost use Rattle.puffin_frames.specs.Holding.{Packing, HoldsStreams, streams_in, Holding, IsHolding, held_contents, as_packed, as_unpacked};
+ghost use Rattle.puffin_frames.specs.Stored.{Said, Stored, packed};
 ghost use Rattle.puffin_frames.specs.Steps.{next_at, packet, IsPacked};
+ghost use Rattle.puffin_frames.specs.Packets.{Stores};
 
 /// No layout of a value begins another of its type.
 pub fn no_layout_begins_another()
@@ -16,6 +18,28 @@ pub fn no_layout_begins_another()
     ensures streams { NoneBeginsAnother AreStreams streams_layout }
     ensures details { NoneBeginsAnother AreDetails details_layout }
     ensures legacy { NoneBeginsAnother IsLegacy legacy_layout }
+{}
+
+/// What is read off the front of bytes is the layout of the value that is given, and each layout is read.
+pub fn only_layouts_are_read()
+    ensures metas { ReadsLayouts IsMeta meta_layout meta_at }
+    ensures threads { ReadsLayouts IsThread thread_layout thread_at }
+    ensures infos { ReadsLayouts IsRecorded recorded_layout recorded_at }
+    ensures streams { ReadsLayouts AreStreams streams_layout streams_at }
+    ensures details { ReadsLayouts AreDetails details_layout details_at }
+    ensures legacy { ReadsLayouts IsLegacy legacy_layout legacy_at }
+{}
+
+/// A frame is read exactly from bytes that store it, whatever follows them: a packet that says it, of the form that is written
+/// or an older one, or a frame as it was written at first.
+pub fn only_packets_are_read()
+    ensures { (bytes rest : List ℕ) (s : Stored) → IsBytes bytes →
+        (next_at bytes ≡ Ok (Some s, rest)) ↔ ((front : List ℕ) × Stores front s × (bytes ≡ front ++ rest)) }
+{}
+
+/// Packed bytes hold the streams whose layout they are, and no others.
+pub fn packed_contents()
+    ensures { (p : Packing) (streams : Streams) → IsBytes p.bytes → (streams_in p ≡ Some streams) ↔ HoldsStreams p streams }
 {}
 
 /// A packet that was written is read again, whatever follows it, and no packet begins another.

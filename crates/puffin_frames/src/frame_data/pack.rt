@@ -1,6 +1,6 @@
 //! From one way of holding a frame to another.
 
-ghost use Rattle.std.specs.Prelude.{◌≡◌, ◌-ℤ◌, ◌≤ℤ◌, Some, None, IfOk, IfErr, OnOk, OnErr};
+ghost use Rattle.std.specs.Prelude.{◌≡◌, ◌≤◌, ◌-ℤ◌, ◌≤ℤ◌, Some, None, IfOk, IfErr, OnOk, OnErr};
 ghost use Rattle.std.specs.Arc.{arc_value};
 ghost use Rattle.puffin_data.specs.declared.error.Error.{Error};
 ghost use Rattle.puffin_data.specs.declared.file_error.FileError.{FileError};
@@ -19,6 +19,14 @@ use std::alloc::Global;
 use std::sync::Arc;
 
 impl PackedStreams {
+    /// Streams as they are packed. Takes no memory.
+    pub(crate) fn new(kind: u8, bytes: Vec<u8>) -> PackedStreams
+        requires { kind ≤ 2 }
+        ensures { packed_as result ≡ record { kind = kind; bytes = bytes.items } }
+    {
+        PackedStreams { kind, bytes }
+    }
+
     /// Streams as they are, as bytes. Refused only with `Memory`.
     pub(crate) fn of(alloc: Global, streams: &ThreadStreams) -> Result<PackedStreams>
         ensures ok { IfOk result (λ packed. packed_as packed ≡ plainly_packed (shared_streams streams.now.entries)) }
@@ -27,7 +35,7 @@ impl PackedStreams {
     {
         let mut bytes = Vec::new(alloc);
         put_streams(&mut bytes, streams)?;
-        Ok(PackedStreams { kind: 0, bytes })
+        Ok(PackedStreams::new(0, bytes))
     }
 
     /// A copy. Refused only with `Memory`.
@@ -36,10 +44,7 @@ impl PackedStreams {
         ensures memory { IfErr result (λ e. e ≡ Error.Memory) }
     {
         let bytes = Vec::from_slice(*self.bytes.allocator(), self.bytes.as_slice())?;
-        Ok(PackedStreams {
-            kind: self.kind,
-            bytes,
-        })
+        Ok(PackedStreams::new(self.kind, bytes))
     }
 
     /// The streams. Refused with `Compressed` where the kind isn't 0, with `BadStreams` where the bytes aren't a layout of
@@ -68,10 +73,7 @@ impl PackedFrame {
                 num_bytes: 0,
                 num_scopes: 0,
             },
-            streams: PackedStreams {
-                kind: 0,
-                bytes: Vec::new(alloc),
-            },
+            streams: PackedStreams::new(0, Vec::new(alloc)),
         }
     }
 

@@ -1,11 +1,12 @@
 //! The ways to hold a frame, and their sizes.
 
-ghost use Rattle.std.specs.Prelude.{◌≡◌, ◌+◌, ◌-◌, ◌^◌, min, length, is_some, Some, None, IfOk, IfErr, OnOk, OnErr};
+ghost use Rattle.std.specs.Prelude.{◌≡◌, ◌+◌, ◌-◌, ◌^◌, min, length, is_some, Some, None, Err, IfSome, IfOk, IfErr, OnOk, OnErr};
 ghost use Rattle.std.specs.Option.{option_map, unwrap_or};
 ghost use Rattle.std.specs.Arc.{arc_value};
 ghost use Rattle.puffin_data.specs.declared.error.Error.{Error};
-ghost use Rattle.puffin_frames.specs.Contents.{contents, holding_of, frame_contents, frame_meta, frame_details, frame_says};
-ghost use Rattle.puffin_frames.specs.Holding.{as_packed, as_unpacked, unpacked_from};
+ghost use Rattle.puffin_data.specs.declared.file_error.FileError.{FileError};
+ghost use Rattle.puffin_frames.specs.Contents.{Streams, contents, holding_of, frame_contents, frame_meta, frame_details, frame_says};
+ghost use Rattle.puffin_frames.specs.Holding.{as_packed, as_unpacked, unpacked_from, HoldsStreams};
 ghost use Rattle.puffin_frames.specs.Tries.{DecidedInMemory};
 
 use crate::frame_data::copies::shared_copy;
@@ -81,6 +82,11 @@ impl FrameData {
     /// aren't a layout of streams, and with `Memory`; the frame is then held as before.
     pub fn unpacked(&mut self) -> std::result::Result<Arc<UnpackedFrameData>, FileError>
         ensures unpacked { DecidedInMemory (λ frame. contents (arc_value frame)) result (unpacked_from (holding_of self.old)) }
+        // of packed streams: those whose layout the bytes are
+        ensures layout { IfOk result (λ frame.
+            IfSome (holding_of self.old).packed (λ p. HoldsStreams p (contents (arc_value frame)))) }
+        ensures no_layout { result ≡ Err FileError.BadStreams →
+            IfSome (holding_of self.old).packed (λ p. (streams : Streams) → HoldsStreams p streams → ⊥) }
         ensures meta { IfOk result (λ frame. (arc_value frame).meta ≡ frame_meta self.old) }
         ensures ok { OnOk result (holding_of self.new ≡ as_unpacked (holding_of self.old)) }
         ensures contents { frame_contents self.new ≡ frame_contents self.old }

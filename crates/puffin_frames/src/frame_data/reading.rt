@@ -11,6 +11,7 @@ ghost use Rattle.puffin_frames.specs.Contents.{holding_of, frame_says};
 ghost use Rattle.puffin_frames.specs.Tries.{Decided, DecidedInMemory};
 ghost use Rattle.puffin_frames.specs.Forms.{IsFormOf};
 ghost use Rattle.puffin_frames.specs.Steps.{is_range_at, meta_from, meta_part_at, kind_from, kind_at, details_from, details_part_at, streams_part_at, packed_at, form_at, legacy_from, legacy_part_at, is_packet, stored_after};
+ghost use Rattle.puffin_frames.specs.Packets.{TookStored};
 ghost use Rattle.puffin_frames.specs.Reads.{HeaderFrom, legacy_of, stored_of, IsFresh, ReadsNext};
 
 use crate::frame_data::decode::{Stop, details_in, legacy_in, meta_in};
@@ -149,7 +150,7 @@ fn read_packed<S: Source>(alloc: Global, source: &mut S, letter: u8) -> Result<F
         full_delta: false,
         held: Held::Packed(PackedFrame {
             meta,
-            streams: PackedStreams { kind, bytes },
+            streams: PackedStreams::new(kind, bytes),
         }),
     })
 }
@@ -283,6 +284,9 @@ impl FrameData {
     ) -> Result<Option<FrameData>, FileError>
         requires { S.failures source.old < 2 ^ 64 - 1 }
         ensures next { ReadsNext (S.remaining source.old) (S.remaining source.new) result }
+        // the bytes that were taken store the frame: they are its packet, or those of a frame of the first form
+        ensures took { IfOk result (λ next. IfSome next (λ frame.
+            TookStored (S.remaining source.old) (S.remaining source.new) (stored_of frame))) }
         ensures fresh { IfOk result (λ next. IfSome next IsFresh) }
         ensures failures { S.failures source.new ≡ failures_after (S.failures source.old) result }
     {

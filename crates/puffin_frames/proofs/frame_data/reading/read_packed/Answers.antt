@@ -1,12 +1,14 @@
-use Rattle.std.proofs.Common.{ℕ, List, Result, Ok}
+use Rattle.std.proofs.Common.{◌≡◌, sym, ap, subst, ℕ, List, Result, Ok}
 use Rattle.std.proofs.lemmas.Result.{err_from_is_err_and}
 use Rattle.puffin_data.specs.declared.file_error.FileError.{FileError}
 use Rattle.puffin_frames.specs.Details.{Details}
 use Rattle.puffin_frames.specs.declared.frame_data.meta.FrameMeta.{FrameMeta}
 use Rattle.puffin_frames.specs.Stored.{Said}
 use Rattle.puffin_frames.specs.Details.{shared_details}
+use Rattle.puffin_data.specs.Devices.{FromDevice}
+use Rattle.puffin_frames.specs.Holding.{Packing}
 use Rattle.puffin_data.specs.Parts.{◌>>=◌}
-use Rattle.puffin_frames.specs.Steps.{meta_part_at, streams_part_at, details_part_at}
+use Rattle.puffin_frames.specs.Steps.{meta_part_at, streams_part_at, details_part_at, packed_at}
 use Rattle.puffin_data.proofs.Devices.{fails_on, gives_on, stops, given}
 use Rattle.puffin_frames.proofs.frame_data.reading.read_packed.Goals as goal
 
@@ -51,7 +53,11 @@ returns-clause-part g c =
     let s : (ℕ × List ℕ) = (c.in_ok-kind.kind, c.in_ok-kind.bytes.items) in
     let d = shared_details c.in_ok-scope_delta.scope_delta.items in
     let out : Said = made m s d in
-    gives_on m out _ _ _ meta_part_at (after_meta letter) c.in_ok-meta.ensures.part
+    let same : made m (c.new.result.kind, c.new.result.bytes.items) d ≡ out = ap (λ (p : Packing). made m (p.kind, p.bytes) d) c.new.ensures in
+    let old = g.S.Source.remaining c.args.source.now in
+    let now = g.S.Source.remaining c.read_details_part.new.source in
+    subst (λ (said : Said). FromDevice (λ (x : Said). x) old now (Ok said) (packed_at letter)) (sym same)
+    (gives_on m out _ _ _ meta_part_at (after_meta letter) c.in_ok-meta.ensures.part
     (gives_on s out _ _ _ (streams_part_at letter) (after_streams letter m) c.in_ok-kind.ensures.part
     (gives_on d out _ _ _ (details_part_at letter) (λ x bytes. Ok (made m s x, bytes)) c.in_ok-scope_delta.ensures.part
-    (given out _)))
+    (given out _))))

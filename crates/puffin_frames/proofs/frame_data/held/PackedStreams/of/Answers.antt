@@ -4,6 +4,7 @@ use Rattle.std.specs.FinMap.{from_sorted}
 use Rattle.puffin_data.specs.Front.{whole}
 use Rattle.puffin_data.proofs.Readers.{whole_again}
 use Rattle.puffin_frames.specs.Contents.{listed}
+use Rattle.puffin_frames.specs.Holding.{streams_in}
 use Rattle.puffin_frames.specs.Values.{AreStreams, streams_layout, streams_at}
 use Rattle.puffin_frames.proofs.Structs.{streams_reader}
 use Rattle.puffin_frames.proofs.Listed.{streams-listed, entries-listed}
@@ -13,7 +14,7 @@ pub returns-clause-ok : goal.returns-clause-ok
 returns-clause-ok c =
     let es = c.args.streams.now.entries in
     let put = rw c.new-bytes.ensures.items at c.in_ok-put_streams.ensures.ok in
-    ap (λ bytes. record { kind = 0; bytes = bytes }) (put ∙ ap streams_layout (sym (entries-listed es c.in_ok-put_streams.ensures.fit.1)))
+    c.new.ensures ∙ ap (λ bytes. record { kind = 0; bytes = bytes }) (put ∙ ap streams_layout (sym (entries-listed es c.in_ok-put_streams.ensures.fit.1)))
 
 pub returns-clause-content : goal.returns-clause-content
 returns-clause-content c =
@@ -21,4 +22,4 @@ returns-clause-content c =
     let put = rw c.new-bytes.ensures.items at c.in_ok-put_streams.ensures.ok in
     let read : whole streams_at c.put_streams.new.out.items ≡ Some (listed es) =
     ap (whole streams_at) put ∙ whole_again AreStreams streams_layout streams_at streams_reader (listed es) c.in_ok-put_streams.ensures.fit in
-    ap (option_map from_sorted) read ∙ ap Some (streams-listed es c.in_ok-put_streams.ensures.fit.1)
+    ap streams_in c.new.ensures ∙ ap (option_map from_sorted) read ∙ ap Some (streams-listed es c.in_ok-put_streams.ensures.fit.1)

@@ -5,7 +5,6 @@ use Rattle.puffin_data.specs.Front.{whole}
 use Rattle.puffin_frames.specs.Contents.{listed}
 use Rattle.puffin_frames.specs.Holding.{or_bad}
 use Rattle.puffin_frames.specs.Values.{streams_at}
-use Rattle.puffin_frames.proofs.Structs.{sorted_when_whole}
 use Rattle.puffin_frames.proofs.Listed.{streams-listed}
 use Rattle.puffin_frames.proofs.frame_data.held.PackedStreams.unpack.Goals as goal
 
@@ -14,6 +13,5 @@ returns-in-Ok c =
     let es = c.in-Ok.streams.entries in
     let bytes = c.args.self.now.bytes.items in
     let h = c.if-self-ne0.false in
-    let read : whole streams_at bytes ≡ Some (listed es) = rw c.deref.ensures.value at c.in-Ok.ensures in
-    let sorted = sorted_when_whole bytes (listed es) read in
-    rw (h) (ap or_bad (ap (option_map from_sorted) read) ∙ ap Ok (streams-listed es sorted))
+    let read : whole streams_at bytes ≡ Some (listed es) = rw c.deref.ensures.value at c.in-Ok.ensures.given in
+    rw (h) (ap or_bad (ap (option_map from_sorted) read) ∙ ap Ok (streams-listed es c.in-Ok.ensures.sorted))

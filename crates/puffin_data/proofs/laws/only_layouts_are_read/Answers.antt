@@ -1,0 +1,26 @@
+use Rattle.puffin_data.specs.Layout.{byte, number, signed, flag, block, IsByte, IsWord, IsLong, IsSigned, IsAny, IsBlock, IsText}
+use Rattle.puffin_data.specs.Front.{byte_at, number_at, word_at, signed_at, flag_at, bytes_at, text_at}
+use Rattle.puffin_data.proofs.Readers.{reads_layouts}
+use Rattle.puffin_data.proofs.ValueReaders.{byte_reader, number_reader, word_reader, signed_reader, flag_reader, bytes_reader, text_reader}
+use Rattle.puffin_data.proofs.laws.only_layouts_are_read.Goals as goal
+
+pub returns-clause-bytes : goal.returns-clause-bytes
+returns-clause-bytes c b x r = reads_layouts IsByte byte byte_at byte_reader b x r
+
+pub returns-clause-numbers : goal.returns-clause-numbers
+returns-clause-numbers c b x r = reads_layouts IsLong number number_at number_reader b x r
+
+pub returns-clause-words : goal.returns-clause-words
+returns-clause-words c b x r = reads_layouts IsWord number word_at word_reader b x r
+
+pub returns-clause-signed : goal.returns-clause-signed
+returns-clause-signed c b x r = reads_layouts IsSigned signed signed_at signed_reader b x r
+
+pub returns-clause-flags : goal.returns-clause-flags
+returns-clause-flags c b x r = reads_layouts IsAny flag flag_at flag_reader b x r
+
+pub returns-clause-blocks : goal.returns-clause-blocks
+returns-clause-blocks c b x r = reads_layouts IsBlock block bytes_at bytes_reader b x r
+
+pub returns-clause-texts : goal.returns-clause-texts
+returns-clause-texts c b x r = reads_layouts IsText block text_at text_reader b x r

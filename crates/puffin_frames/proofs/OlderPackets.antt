@@ -1,0 +1,97 @@
+-- Frames in older forms are read again, whatever follows them.
+use Rattle.std.proofs.Common.{◌≡◌, ℕ, ◌<◌, false, ltb, List, [], ◌∷◌, ◌++◌, length, Some, Ok, refl, sym, ap, ◌∙◌, append_assoc, arith}
+use Rattle.std.proofs.lemmas.Bool.{le-ltb}
+use Rattle.std.proofs.lemmas.List.{length-append}
+use Rattle.byteorder.specs.Endian.{little_bytes, little_number}
+use Rattle.byteorder.specs.Numbers.{little_number-reads_back}
+use Rattle.puffin_data.specs.Layout.{number, signed}
+use Rattle.puffin_data.proofs.Readers.{whole_again}
+use Rattle.puffin_frames.specs.Details.{Details}
+use Rattle.puffin_frames.specs.Values.{meta_layout, streams_layout, Legacy, IsLegacy, legacy_layout, legacy_at}
+use Rattle.puffin_frames.specs.Stored.{Said, packed, legacy}
+use Rattle.puffin_frames.specs.Steps.{streams_part_at, packed_at, legacy_part_at, is_packet, is_end, stored_after, next_at, counted, IsPacked, as_stored}
+use Rattle.puffin_frames.specs.Packets.{packet_without_details, packet_without_kind, legacy_bytes, IsFirstForm}
+use Rattle.puffin_frames.proofs.Structs.{legacy_reader}
+use Rattle.puffin_frames.proofs.Writing.{number_long}
+use Rattle.puffin_frames.proofs.Reading.{after_header, not_end}
+use Rattle.puffin_frames.proofs.Packets.{part_again, length_again, meta_again}
+
+-- ---- without details
+
+streams_51 : (p : Said) (rest : List ℕ) → IsPacked p → streams_part_at 51 (little_bytes 4 (length p.streams) ++ (p.kind ∷ (p.streams ++ rest))) ≡ Ok ((p.kind, p.streams), rest)
+streams_51 p rest h =
+    rw (length_again (length p.streams) (p.kind ∷ (p.streams ++ rest)) h.short, part_again 1 (p.kind ∷ []) (p.streams ++ rest) refl, h.kind, part_again (length p.streams) p.streams rest refl) refl
+
+parts_51 : (p : Said) (rest : List ℕ) → IsPacked p → p.details ≡ []
+    → packed_at 51 (counted (meta_layout p.meta) ++ (little_bytes 4 (length p.streams) ++ (p.kind ∷ (p.streams ++ rest)))) ≡ Ok (p, rest)
+parts_51 p rest h none =
+    rw (meta_again p (little_bytes 4 (length p.streams) ++ (p.kind ∷ (p.streams ++ rest))) h, streams_51 p rest h) (ap (λ (ds : List Details). Ok (record p { details = ds }, rest)) (sym none))
+
+after_51 : (xs : List ℕ) → next_at (80 ∷ 70 ∷ 68 ∷ 51 ∷ xs) ≡ as_stored packed (packed_at 51 xs)
+unfolding next_at
+after_51 xs =
+    let long : ltb (length (80 ∷ 70 ∷ 68 ∷ 51 ∷ xs)) 4 ≡ false = le-ltb _ _ (omega arith) in
+    rw long refl
+
+pub row_51 : (m l s rest : List ℕ) (kind : ℕ) → ((80 ∷ 70 ∷ 68 ∷ 51 ∷ []) ++ (m ++ (l ++ (kind ∷ s)))) ++ rest ≡ 80 ∷ 70 ∷ 68 ∷ 51 ∷ (m ++ (l ++ (kind ∷ (s ++ rest))))
+row_51 m l s rest kind = simp append_assoc
+
+pub without_details_again : (p : Said) (rest : List ℕ) → IsPacked p → p.details ≡ [] → next_at (packet_without_details p ++ rest) ≡ Ok (Some (packed p), rest)
+without_details_again p rest h none =
+    let m = counted (meta_layout p.meta) in
+    let l = little_bytes 4 (length p.streams) in
+    ap next_at (row_51 m l p.streams rest p.kind) ∙ (after_51 (m ++ (l ++ (p.kind ∷ (p.streams ++ rest)))) ∙ ap (as_stored packed) (parts_51 p rest h none))
+
+-- ---- without a kind
+
+streams_50 : (p : Said) (rest : List ℕ) → IsPacked p → streams_part_at 50 (little_bytes 4 (length p.streams) ++ (p.streams ++ rest)) ≡ Ok ((2, p.streams), rest)
+streams_50 p rest h =
+    rw (length_again (length p.streams) (p.streams ++ rest) h.short, part_again (length p.streams) p.streams rest refl) refl
+
+older : (p : Said) → p.kind ≡ 2 → p.details ≡ [] → record p { kind = 2; details = [] } ≡ p
+older p two none = ap (λ (k : ℕ). record p { kind = k; details = [] }) (sym two) ∙ ap (λ (ds : List Details). record p { details = ds }) (sym none)
+
+parts_50 : (p : Said) (rest : List ℕ) → IsPacked p → p.kind ≡ 2 → p.details ≡ []
+    → packed_at 50 (counted (meta_layout p.meta) ++ (little_bytes 4 (length p.streams) ++ (p.streams ++ rest))) ≡ Ok (p, rest)
+parts_50 p rest h two none =
+    rw (meta_again p (little_bytes 4 (length p.streams) ++ (p.streams ++ rest)) h, streams_50 p rest h) (ap (λ (s : Said). Ok (s, rest)) (older p two none))
+
+after_50 : (xs : List ℕ) → next_at (80 ∷ 70 ∷ 68 ∷ 50 ∷ xs) ≡ as_stored packed (packed_at 50 xs)
+unfolding next_at
+after_50 xs =
+    let long : ltb (length (80 ∷ 70 ∷ 68 ∷ 50 ∷ xs)) 4 ≡ false = le-ltb _ _ (omega arith) in
+    rw long refl
+
+pub row_50 : (m l s rest : List ℕ) → ((80 ∷ 70 ∷ 68 ∷ 50 ∷ []) ++ (m ++ (l ++ s))) ++ rest ≡ 80 ∷ 70 ∷ 68 ∷ 50 ∷ (m ++ (l ++ (s ++ rest)))
+row_50 m l s rest = simp append_assoc
+
+pub without_kind_again : (p : Said) (rest : List ℕ) → IsPacked p → p.kind ≡ 2 → p.details ≡ [] → next_at (packet_without_kind p ++ rest) ≡ Ok (Some (packed p), rest)
+without_kind_again p rest h two none =
+    let m = counted (meta_layout p.meta) in
+    let l = little_bytes 4 (length p.streams) in
+    ap next_at (row_50 m l p.streams rest) ∙ (after_50 (m ++ (l ++ (p.streams ++ rest))) ∙ ap (as_stored packed) (parts_50 p rest h two none))
+
+-- ---- the first form
+
+legacy_long : (l : Legacy) → 0 < length (legacy_layout l)
+legacy_long l =
+    let index = number l.meta.frame_index in
+    let rest = streams_layout l.streams ++ (signed l.meta.range_ns.0 ++ (signed l.meta.range_ns.1 ++ (number l.meta.num_bytes ++ number l.meta.num_scopes))) in
+    omega (arith, length-append index rest, number_long l.meta.frame_index)
+
+legacy_part_again : (l : Legacy) (rest : List ℕ) → IsFirstForm l → legacy_part_at (length (legacy_layout l)) (legacy_layout l ++ rest) ≡ Ok (l, rest)
+legacy_part_again l rest h =
+    rw (part_again (length (legacy_layout l)) (legacy_layout l) rest refl, whole_again IsLegacy legacy_layout legacy_at legacy_reader l h.layout, h.range) refl
+
+-- the letters aren't those of a packet, so they are a length
+by_length : (header xs : List ℕ) (n : ℕ) → is_packet header ≡ false → little_number 4 header ≡ n → stored_after header xs ≡ as_stored legacy (legacy_part_at n xs)
+by_length header xs n other size = rw (other, size) refl
+
+pub legacy_again : (l : Legacy) (rest : List ℕ) → IsFirstForm l → next_at (legacy_bytes l ++ rest) ≡ Ok (Some (legacy l), rest)
+legacy_again l rest h =
+    let n = length (legacy_layout l) in
+    let header = little_bytes 4 n in
+    let xs = legacy_layout l ++ rest in
+    let size : little_number 4 header ≡ n = little_number-reads_back 4 n [] (omega (arith, h.short)) in
+    let more : is_end header ≡ false = not_end header refl (λ zero_. absurd (omega (arith, size, zero_, legacy_long l))) in
+    ap next_at (append_assoc header (legacy_layout l) rest) ∙ (after_header header xs refl more ∙ (by_length header xs n h.no_packet size ∙ ap (as_stored legacy) (legacy_part_again l rest h)))

@@ -1,0 +1,320 @@
+-- A frame is read from bytes that store it, and from no others.
+use Rattle.std.proofs.Common.{◌≡◌, ℕ, ◌^◌, ◌<◌, ◌≤◌, ◌⊎◌, inl, inr, Bool, true, false, cond, ltb, eqb, ◌||◌, List, [], ◌∷◌, ◌++◌, length, take, drop, Option, Some, None, Result, Ok, Err, refl, sym, ap, subst, ◌∙◌, append_assoc, arith}
+use Rattle.std.specs.Prelude.{◌↔◌, nat_lt, slice_index}
+use Rattle.std.proofs.lemmas.Bool.{ltb-false, eqb-true}
+use Rattle.std.proofs.lemmas.List.{append-nil, take_all, take-append-drop, length-take, length-append}
+use Rattle.byteorder.specs.Endian.{little_bytes, little_number}
+use Rattle.puffin_data.specs.declared.file_error.FileError.{FileError}
+use Rattle.puffin_data.specs.declared.file_error.FileError.TheVariants as file
+use Rattle.puffin_data.specs.Layout.{IsBytes, number}
+use Rattle.puffin_data.specs.Devices.{FromDevice}
+use Rattle.puffin_data.specs.Parts.{◌>>=◌, part_of, length_at}
+use Rattle.puffin_data.proofs.Numbers.{IsBytes-take, IsBytes-drop, IsBytes-nil, IsBytes-append, bytes_4, below_4}
+use Rattle.puffin_data.proofs.Readers.{IsBytes-after}
+use Rattle.puffin_frames.specs.Details.{Details}
+use Rattle.puffin_frames.specs.Values.{meta_layout, details_layout, Legacy, legacy_layout}
+use Rattle.puffin_frames.specs.Stored.{Said, Stored, packed, legacy}
+use Rattle.puffin_frames.specs.Steps.{meta_part_at, kind_at, streams_part_at, details_part_at, packed_at, legacy_part_at, is_packet, form_at, as_stored, stored_after, is_end, next_at, counted, packet_head, packet, IsPacked}
+use Rattle.puffin_frames.specs.Packets.{packet_without_details, packet_without_kind, legacy_bytes, Stores, TookStored}
+use Rattle.puffin_frames.proofs.Listed.{and-first, and-second}
+use Rattle.puffin_frames.proofs.Writing.{number_short}
+use Rattle.puffin_frames.proofs.PartsTaken.{bind_ok, same_ok, part_taken, length_taken, meta_taken, given_kind_at, kind_taken, details_taken, LegacyTaken, legacy_taken}
+use Rattle.puffin_frames.proofs.OlderPackets.{row_51, row_50, without_details_again, without_kind_again, legacy_again}
+use Rattle.puffin_frames.proofs.Packets.{packet_again, in_a_row}
+
+-- ---- streams
+
+record StreamsTaken (bytes : List ℕ) (k : ℕ) (s rest : List ℕ) : Type 0 where
+  known : nat_lt 2 k ≡ false
+  short : length s < 2 ^ 32
+  text : bytes ≡ little_bytes 4 (length s) ++ (k ∷ (s ++ rest))
+
+otherwise : {A : Type 0} (b : Bool) (x y z : A) → b ≡ false → cond b x y ≡ z → y ≡ z
+otherwise b x y z fails e = rw fails at e
+
+streams_taken : (letter : ℕ) (bytes : List ℕ) (ks : ℕ × List ℕ) (rest : List ℕ) → eqb letter 50 ≡ false → IsBytes bytes → streams_part_at letter bytes ≡ Ok (ks, rest) → StreamsTaken bytes ks.0 ks.1 rest
+streams_taken letter bytes ks rest other is e =
+    let a = bind_ok (length_at bytes) (λ n. kind_at letter n.1 >>= λ kind. part_of n.0 kind.1 >>= λ streams. Ok ((kind.0, streams.0), streams.1)) (ks, rest) e in
+    let b = bind_ok (kind_at letter a.0.1) (λ kind. part_of a.0.0 kind.1 >>= λ streams. Ok ((kind.0, streams.0), streams.1)) (ks, rest) a.2 in
+    let d = bind_ok (part_of a.0.0 b.0.1) (λ streams. Ok ((b.0.0, streams.0), streams.1)) (ks, rest) b.2 in
+    let l = length_taken bytes a.0.0 a.0.1 is a.1 in
+    let k = kind_taken a.0.1 b.0.0 b.0.1 (otherwise (eqb letter 50) (Ok (2, a.0.1)) (given_kind_at a.0.1) (Ok b.0) other b.1) in
+    let p = part_taken a.0.0 b.0.1 d.0.0 d.0.1 d.1 in
+    let made : ((ℕ × List ℕ) × List ℕ) = ((b.0.0, d.0.0), d.0.1) in
+    let text : bytes ≡ little_bytes 4 a.0.0 ++ (b.0.0 ∷ (d.0.0 ++ d.0.1)) = l.1 ∙ ap (λ (t : List ℕ). little_bytes 4 a.0.0 ++ t) (k.1 ∙ ap (λ (t : List ℕ). b.0.0 ∷ t) p.1) in
+    let taken : StreamsTaken bytes b.0.0 d.0.0 d.0.1 = record { known = k.0; short = rw p.0 l.0; text = rw p.0 text } in
+    subst (λ (y : (ℕ × List ℕ) × List ℕ). StreamsTaken bytes y.0.0 y.0.1 y.1) (same_ok made (ks, rest) d.2) taken
+
+record PlainTaken (bytes : List ℕ) (k : ℕ) (s rest : List ℕ) : Type 0 where
+  two : k ≡ 2
+  short : length s < 2 ^ 32
+  text : bytes ≡ little_bytes 4 (length s) ++ (s ++ rest)
+
+-- without a kind
+plain_taken : (bytes : List ℕ) (ks : ℕ × List ℕ) (rest : List ℕ) → IsBytes bytes → streams_part_at 50 bytes ≡ Ok (ks, rest) → PlainTaken bytes ks.0 ks.1 rest
+plain_taken bytes ks rest is e =
+    let a = bind_ok (length_at bytes) (λ n. part_of n.0 n.1 >>= λ streams. Ok ((2, streams.0), streams.1)) (ks, rest) e in
+    let d = bind_ok (part_of a.0.0 a.0.1) (λ streams. Ok ((2, streams.0), streams.1)) (ks, rest) a.2 in
+    let l = length_taken bytes a.0.0 a.0.1 is a.1 in
+    let p = part_taken a.0.0 a.0.1 d.0.0 d.0.1 d.1 in
+    let made : ((ℕ × List ℕ) × List ℕ) = ((2, d.0.0), d.0.1) in
+    let text : bytes ≡ little_bytes 4 a.0.0 ++ (d.0.0 ++ d.0.1) = l.1 ∙ ap (λ (t : List ℕ). little_bytes 4 a.0.0 ++ t) p.1 in
+    let taken : PlainTaken bytes 2 d.0.0 d.0.1 = record { two = refl; short = rw p.0 l.0; text = rw p.0 text } in
+    subst (λ (y : (ℕ × List ℕ) × List ℕ). PlainTaken bytes y.0.0 y.0.1 y.1) (same_ok made (ks, rest) d.2) taken
+
+-- ---- what follows the letters
+
+none_short : length (details_layout []) < 2 ^ 32
+none_short = omega (arith, number_short 0, length-append (number 0) [])
+
+record FullTaken (bytes : List ℕ) (p : Said) (rest : List ℕ) : Type 0 where
+  is_packed : IsPacked p
+  text : bytes ≡ counted (meta_layout p.meta) ++ (little_bytes 4 (length p.streams) ++ (p.kind ∷ (p.streams ++ (counted (details_layout p.details) ++ rest))))
+
+full_taken : (bytes : List ℕ) (p : Said) (rest : List ℕ) → IsBytes bytes → packed_at 52 bytes ≡ Ok (p, rest) → FullTaken bytes p rest
+full_taken bytes p rest is e =
+    let a = bind_ok (meta_part_at bytes) (λ meta. streams_part_at 52 meta.1 >>= λ streams. details_part_at 52 streams.1 >>= λ details. Ok (record { meta = meta.0; kind = streams.0.0; streams = streams.0.1; details = details.0 }, details.1)) (p, rest) e in
+    let b = bind_ok (streams_part_at 52 a.0.1) (λ streams. details_part_at 52 streams.1 >>= λ details. Ok (record { meta = a.0.0; kind = streams.0.0; streams = streams.0.1; details = details.0 }, details.1)) (p, rest) a.2 in
+    let d = bind_ok (details_part_at 52 b.0.1) (λ details. Ok (record { meta = a.0.0; kind = b.0.0.0; streams = b.0.0.1; details = details.0 }, details.1)) (p, rest) b.2 in
+    let m = meta_taken bytes a.0.0 a.0.1 is a.1 in
+    let after_meta : IsBytes a.0.1 = IsBytes-after bytes (counted (meta_layout a.0.0)) a.0.1 m.text is in
+    let s = streams_taken 52 a.0.1 b.0.0 b.0.1 refl after_meta b.1 in
+    let after_streams : IsBytes b.0.1 = IsBytes-after (b.0.0.1 ++ b.0.1) b.0.0.1 b.0.1 refl (IsBytes-after a.0.1 (little_bytes 4 (length b.0.0.1) ++ (b.0.0.0 ∷ [])) (b.0.0.1 ++ b.0.1) (s.text ∙ sym (append_assoc (little_bytes 4 (length b.0.0.1)) (b.0.0.0 ∷ []) (b.0.0.1 ++ b.0.1))) after_meta) in
+    let t = details_taken b.0.1 d.0.0 d.0.1 after_streams d.1 in
+    let said : Said = record { meta = a.0.0; kind = b.0.0.0; streams = b.0.0.1; details = d.0.0 } in
+    let made : (Said × List ℕ) = (said, d.0.1) in
+    let taken : FullTaken bytes said d.0.1 = record {
+      is_packed = record { meta = m.fits; range = m.range; kind = s.known; short = s.short; details = t.fits; details_short = t.short };
+      text = m.text ∙ ap (λ (x : List ℕ). counted (meta_layout a.0.0) ++ x) (s.text ∙ ap (λ (x : List ℕ). little_bytes 4 (length b.0.0.1) ++ (b.0.0.0 ∷ (b.0.0.1 ++ x))) t.text);
+    } in
+    subst (λ (y : Said × List ℕ). FullTaken bytes y.0 y.1) (same_ok made (p, rest) d.2) taken
+
+record KindTaken (bytes : List ℕ) (p : Said) (rest : List ℕ) : Type 0 where
+  is_packed : IsPacked p
+  none : p.details ≡ []
+  text : bytes ≡ counted (meta_layout p.meta) ++ (little_bytes 4 (length p.streams) ++ (p.kind ∷ (p.streams ++ rest)))
+
+without_details_taken : (bytes : List ℕ) (p : Said) (rest : List ℕ) → IsBytes bytes → packed_at 51 bytes ≡ Ok (p, rest) → KindTaken bytes p rest
+without_details_taken bytes p rest is e =
+    let none : List Details = [] in
+    let a = bind_ok (meta_part_at bytes) (λ meta. streams_part_at 51 meta.1 >>= λ streams. Ok (record { meta = meta.0; kind = streams.0.0; streams = streams.0.1; details = none }, streams.1)) (p, rest) e in
+    let b = bind_ok (streams_part_at 51 a.0.1) (λ streams. Ok (record { meta = a.0.0; kind = streams.0.0; streams = streams.0.1; details = none }, streams.1)) (p, rest) a.2 in
+    let m = meta_taken bytes a.0.0 a.0.1 is a.1 in
+    let after_meta : IsBytes a.0.1 = IsBytes-after bytes (counted (meta_layout a.0.0)) a.0.1 m.text is in
+    let s = streams_taken 51 a.0.1 b.0.0 b.0.1 refl after_meta b.1 in
+    let said : Said = record { meta = a.0.0; kind = b.0.0.0; streams = b.0.0.1; details = none } in
+    let made : (Said × List ℕ) = (said, b.0.1) in
+    let taken : KindTaken bytes said b.0.1 = record {
+      is_packed = record { meta = m.fits; range = m.range; kind = s.known; short = s.short; details = (omega arith, tt); details_short = none_short };
+      none = refl;
+      text = m.text ∙ ap (λ (x : List ℕ). counted (meta_layout a.0.0) ++ x) s.text;
+    } in
+    subst (λ (y : Said × List ℕ). KindTaken bytes y.0 y.1) (same_ok made (p, rest) b.2) taken
+
+record NoKindTaken (bytes : List ℕ) (p : Said) (rest : List ℕ) : Type 0 where
+  is_packed : IsPacked p
+  two : p.kind ≡ 2
+  none : p.details ≡ []
+  text : bytes ≡ counted (meta_layout p.meta) ++ (little_bytes 4 (length p.streams) ++ (p.streams ++ rest))
+
+two_known : (k : ℕ) → k ≡ 2 → nat_lt 2 k ≡ false
+two_known k e = ap (nat_lt 2) e
+
+without_kind_taken : (bytes : List ℕ) (p : Said) (rest : List ℕ) → IsBytes bytes → packed_at 50 bytes ≡ Ok (p, rest) → NoKindTaken bytes p rest
+without_kind_taken bytes p rest is e =
+    let none : List Details = [] in
+    let a = bind_ok (meta_part_at bytes) (λ meta. streams_part_at 50 meta.1 >>= λ streams. Ok (record { meta = meta.0; kind = streams.0.0; streams = streams.0.1; details = none }, streams.1)) (p, rest) e in
+    let b = bind_ok (streams_part_at 50 a.0.1) (λ streams. Ok (record { meta = a.0.0; kind = streams.0.0; streams = streams.0.1; details = none }, streams.1)) (p, rest) a.2 in
+    let m = meta_taken bytes a.0.0 a.0.1 is a.1 in
+    let after_meta : IsBytes a.0.1 = IsBytes-after bytes (counted (meta_layout a.0.0)) a.0.1 m.text is in
+    let s = plain_taken a.0.1 b.0.0 b.0.1 after_meta b.1 in
+    let said : Said = record { meta = a.0.0; kind = b.0.0.0; streams = b.0.0.1; details = none } in
+    let made : (Said × List ℕ) = (said, b.0.1) in
+    let taken : NoKindTaken bytes said b.0.1 = record {
+      is_packed = record { meta = m.fits; range = m.range; kind = two_known b.0.0.0 s.two; short = s.short; details = (omega arith, tt); details_short = none_short };
+      two = s.two;
+      none = refl;
+      text = m.text ∙ ap (λ (x : List ℕ). counted (meta_layout a.0.0) ++ x) s.text;
+    } in
+    subst (λ (y : Said × List ℕ). NoKindTaken bytes y.0 y.1) (same_ok made (p, rest) b.2) taken
+
+-- ---- the letters
+
+-- bytes before the rest store the frame
+StoredFrom : List ℕ → Stored → List ℕ → Type 0
+StoredFrom bytes s rest = (front : List ℕ) × Stores front s × (bytes ≡ front ++ rest)
+
+full_from : (bytes xs : List ℕ) (p : Said) (rest : List ℕ) → bytes ≡ 80 ∷ 70 ∷ 68 ∷ 52 ∷ xs → FullTaken xs p rest → StoredFrom bytes (packed p) rest
+unfolding packet_head StoredFrom
+full_from bytes xs p rest e t =
+    let m = counted (meta_layout p.meta) in
+    let l = little_bytes 4 (length p.streams) in
+    let d = counted (details_layout p.details) in
+    (packet p, (t.is_packed, inl refl), e ∙ (ap (λ (x : List ℕ). 80 ∷ 70 ∷ 68 ∷ 52 ∷ x) t.text ∙ sym (in_a_row m l p.streams d rest p.kind)))
+
+without_details_from : (bytes xs : List ℕ) (p : Said) (rest : List ℕ) → bytes ≡ 80 ∷ 70 ∷ 68 ∷ 51 ∷ xs → KindTaken xs p rest → StoredFrom bytes (packed p) rest
+unfolding StoredFrom
+without_details_from bytes xs p rest e t =
+    let m = counted (meta_layout p.meta) in
+    let l = little_bytes 4 (length p.streams) in
+    (packet_without_details p, (t.is_packed, inr (inl (refl, t.none))), e ∙ (ap (λ (x : List ℕ). 80 ∷ 70 ∷ 68 ∷ 51 ∷ x) t.text ∙ sym (row_51 m l p.streams rest p.kind)))
+
+without_kind_from : (bytes xs : List ℕ) (p : Said) (rest : List ℕ) → bytes ≡ 80 ∷ 70 ∷ 68 ∷ 50 ∷ xs → NoKindTaken xs p rest → StoredFrom bytes (packed p) rest
+unfolding StoredFrom
+without_kind_from bytes xs p rest e t =
+    let m = counted (meta_layout p.meta) in
+    let l = little_bytes 4 (length p.streams) in
+    (packet_without_kind p, (t.is_packed, inr (inr (refl, t.two, t.none))), e ∙ (ap (λ (x : List ℕ). 80 ∷ 70 ∷ 68 ∷ 50 ∷ x) t.text ∙ sym (row_50 m l p.streams rest)))
+
+either_so : (a b : Bool) → (a || b) ≡ true → (a ≡ true) ⊎ (b ≡ true)
+either_so true b e = inl refl
+either_so false b e = inr e
+
+chosen : {A : Type 0} (b : Bool) (x y z : A) → cond b x y ≡ z → ((b ≡ true) × (x ≡ z)) ⊎ ((b ≡ false) × (y ≡ z))
+chosen true x y z e = inl (refl, e)
+chosen false x y z e = inr (refl, e)
+
+no_fault : {A : Type 0} (fault : FileError) (x : A) → ◌≡◌ {A = Result A FileError} (Err fault) (Ok x) → ⊥
+no_fault fault x e = absurd cc
+
+record FormTaken (letter : ℕ) (xs : List ℕ) (p : Said) (rest : List ℕ) : Type 0 where
+  known : ((eqb letter 50 || eqb letter 51) || eqb letter 52) ≡ true
+  read : packed_at letter xs ≡ Ok (p, rest)
+
+form_taken : (letter : ℕ) (xs : List ℕ) (p : Said) (rest : List ℕ) → form_at letter xs ≡ Ok (p, rest) → FormTaken letter xs p rest
+form_taken letter xs p rest e =
+    let out : Result (Said × List ℕ) FileError = Ok (p, rest) in
+    let newer : Result (Said × List ℕ) FileError = Err file.Newer in
+    let old : Result (Said × List ℕ) FileError = Err file.Legacy in
+    let read : Bool = (eqb letter 50 || eqb letter 51) || eqb letter 52 in
+    elim (chosen (eqb letter 48 || eqb letter 49) old (cond read (packed_at letter xs) newer) out e) [
+      | inl h ↦ absurd (no_fault file.Legacy (p, rest) h.1)
+      | inr h ↦ elim (chosen read (packed_at letter xs) newer out h.1) [
+        | inl k ↦ record { known = k.0; read = k.1 }
+        | inr k ↦ absurd (no_fault file.Newer (p, rest) k.1)
+      ]
+    ]
+
+at_letter : (letter n : ℕ) (bytes xs : List ℕ) (p : Said) (rest : List ℕ) → letter ≡ n → bytes ≡ 80 ∷ 70 ∷ 68 ∷ letter ∷ xs → packed_at letter xs ≡ Ok (p, rest) → (bytes ≡ 80 ∷ 70 ∷ 68 ∷ n ∷ xs) × (packed_at n xs ≡ Ok (p, rest))
+at_letter letter n bytes xs p rest same text read =
+    subst (λ (k : ℕ). (bytes ≡ 80 ∷ 70 ∷ 68 ∷ k ∷ xs) × (packed_at k xs ≡ Ok (p, rest))) same (text, read)
+
+packed_from : (letter : ℕ) (bytes xs : List ℕ) (p : Said) (rest : List ℕ) → IsBytes xs → bytes ≡ 80 ∷ 70 ∷ 68 ∷ letter ∷ xs → FormTaken letter xs p rest → StoredFrom bytes (packed p) rest
+packed_from letter bytes xs p rest is text t =
+    elim (either_so (eqb letter 50 || eqb letter 51) (eqb letter 52) t.known) [
+      | inl older ↦ elim (either_so (eqb letter 50) (eqb letter 51) older) [
+        | inl h ↦ (let k = at_letter letter 50 bytes xs p rest (eqb-true _ _ h) text t.read in without_kind_from bytes xs p rest k.0 (without_kind_taken xs p rest is k.1))
+        | inr h ↦ (let k = at_letter letter 51 bytes xs p rest (eqb-true _ _ h) text t.read in without_details_from bytes xs p rest k.0 (without_details_taken xs p rest is k.1))
+      ]
+      | inr h ↦ (let k = at_letter letter 52 bytes xs p rest (eqb-true _ _ h) text t.read in full_from bytes xs p rest k.0 (full_taken xs p rest is k.1))
+    ]
+
+-- ---- the header
+
+four_items : (xs : List ℕ) → length xs ≡ 4 → xs ≡ slice_index xs 0 ∷ slice_index xs 1 ∷ slice_index xs 2 ∷ slice_index xs 3 ∷ []
+four_items [] e = absurd (omega arith)
+four_items (a ∷ []) e = absurd (omega arith)
+four_items (a ∷ b ∷ []) e = absurd (omega arith)
+four_items (a ∷ b ∷ c ∷ []) e = absurd (omega arith)
+four_items (a ∷ b ∷ c ∷ d ∷ []) e = refl
+four_items (a ∷ b ∷ c ∷ d ∷ f ∷ more) e = absurd (omega arith)
+
+letters_are : (header : List ℕ) → length header ≡ 4 → is_packet header ≡ true → header ≡ 80 ∷ 70 ∷ 68 ∷ slice_index header 3 ∷ []
+letters_are header four so =
+    let first : slice_index header 0 ≡ 80 = eqb-true _ _ (and-first _ _ (and-first _ _ so)) in
+    let second : slice_index header 1 ≡ 70 = eqb-true _ _ (and-second _ _ (and-first _ _ so)) in
+    let third : slice_index header 2 ≡ 68 = eqb-true _ _ (and-second _ _ so) in
+    four_items header four ∙ (ap (λ (x : ℕ). x ∷ slice_index header 1 ∷ slice_index header 2 ∷ slice_index header 3 ∷ []) first
+    ∙ (ap (λ (x : ℕ). 80 ∷ x ∷ slice_index header 2 ∷ slice_index header 3 ∷ []) second ∙ ap (λ (x : ℕ). 80 ∷ 70 ∷ x ∷ slice_index header 3 ∷ []) third))
+
+Gave : Result (Option Stored × List ℕ) FileError → Stored → List ℕ → Type 0
+Gave r s rest = r ≡ Ok (Some s, rest)
+
+stored_is : {A : Type 0} (form : A → Stored) (r : Result (A × List ℕ) FileError) (s : Stored) (rest : List ℕ) → Gave (as_stored form r) s rest → (x : A) × (r ≡ Ok (x, rest)) × (form x ≡ s)
+unfolding Gave
+stored_is form (Err e) s rest given = absurd (no_fault e (Some s, rest) given)
+stored_is {A = A} form (Ok p) s rest given =
+    let made : (Option Stored × List ℕ) = (Some (form p.0), p.1) in
+    let same = same_ok made (Some s, rest) given in
+    let again : Result (A × List ℕ) FileError = Ok p in
+    (p.0, ap (λ (t : List ℕ). Ok (p.0, t)) (ap (λ (q : Option Stored × List ℕ). q.1) same), same_some (form p.0) s (ap (λ (q : Option Stored × List ℕ). q.0) same))
+  where
+    same_some : (x y : Stored) → Some x ≡ Some y → x ≡ y
+    same_some x y e = cc
+
+legacy_from_bytes : (header bytes xs : List ℕ) (l : Legacy) (rest : List ℕ) → length header ≡ 4 → IsBytes header → is_packet header ≡ false → bytes ≡ header ++ xs → LegacyTaken (little_number 4 header) xs l rest → little_number 4 header < 2 ^ 32 → StoredFrom bytes (legacy l) rest
+unfolding StoredFrom
+legacy_from_bytes header bytes xs l rest four is other text t small =
+    let same : little_bytes 4 (length (legacy_layout l)) ≡ header = ap (little_bytes 4) t.size ∙ (bytes_4 header (omega (arith, four)) is ∙ take_all 4 header (omega (arith, four))) in (
+      legacy_bytes l,
+      (
+        record { layout = t.fits; range = t.range; short = rw t.size small; no_packet = ap is_packet same ∙ other },
+        refl,
+      ),
+      text ∙ (ap (λ (x : List ℕ). header ++ x) t.text ∙ (sym (append_assoc header (legacy_layout l) rest) ∙ ap (λ (h : List ℕ). (h ++ legacy_layout l) ++ rest) (sym same))),
+    )
+
+not_none : (b : Bool) (xs : List ℕ) (r : Result (Option Stored × List ℕ) FileError) (s : Stored) (rest : List ℕ) → Gave (cond b (Ok (None, xs)) r) s rest → (b ≡ false) × Gave r s rest
+unfolding Gave
+not_none true xs r s rest e =
+    let made : (Option Stored × List ℕ) = (None, xs) in
+    absurd (nothing s (ap (λ (q : Option Stored × List ℕ). q.0) (same_ok made (Some s, rest) e)))
+  where
+    nothing : (s : Stored) → None ≡ Some s → ⊥
+    nothing s e = absurd cc
+not_none false xs r s rest e = (refl, e)
+
+neither : (a b : Bool) → (a || b) ≡ false → a ≡ false
+neither true b e = absurd cc
+neither false b e = refl
+
+packed_read : (header bytes xs : List ℕ) (s : Stored) (rest : List ℕ) → length header ≡ 4 → IsBytes xs → bytes ≡ header ++ xs → is_packet header ≡ true → Gave (as_stored packed (form_at (slice_index header 3) xs)) s rest → StoredFrom bytes s rest
+packed_read header bytes xs s rest four is text so e =
+    let k = stored_is packed (form_at (slice_index header 3) xs) s rest e in
+    let letters : bytes ≡ 80 ∷ 70 ∷ 68 ∷ slice_index header 3 ∷ xs = text ∙ ap (λ (h : List ℕ). h ++ xs) (letters_are header four so) in
+    subst (λ (x : Stored). StoredFrom bytes x rest) k.2 (packed_from (slice_index header 3) bytes xs k.0 rest is letters (form_taken (slice_index header 3) xs k.0 rest k.1))
+
+legacy_read : (header bytes xs : List ℕ) (s : Stored) (rest : List ℕ) → length header ≡ 4 → IsBytes header → IsBytes xs → bytes ≡ header ++ xs → is_packet header ≡ false → Gave (as_stored legacy (legacy_part_at (little_number 4 header) xs)) s rest → StoredFrom bytes s rest
+legacy_read header bytes xs s rest four front is text other e =
+    let k = stored_is legacy (legacy_part_at (little_number 4 header) xs) s rest e in
+    subst (λ (x : Stored). StoredFrom bytes x rest) k.2 (legacy_from_bytes header bytes xs k.0 rest four front other text (legacy_taken (little_number 4 header) xs k.0 rest is k.1) (below_4 header front))
+
+pub stored_taken : (bytes rest : List ℕ) (s : Stored) → IsBytes bytes → next_at bytes ≡ Ok (Some s, rest) → (front : List ℕ) × Stores front s × (bytes ≡ front ++ rest)
+unfolding next_at Gave StoredFrom
+stored_taken bytes rest s is e =
+    let header = take 4 bytes in
+    let xs = drop 4 bytes in
+    let first : Result (Option Stored × List ℕ) FileError = as_stored packed (form_at (slice_index header 3) xs) in
+    let second : Result (Option Stored × List ℕ) FileError = as_stored legacy (legacy_part_at (little_number 4 header) xs) in
+    let out : Result (Option Stored × List ℕ) FileError = Ok (Some s, rest) in
+    let goes = not_none (is_end bytes) xs (stored_after header xs) s rest e in
+    let long : 4 ≤ length bytes = ltb-false _ _ (neither (ltb (length bytes) 4) (eqb (little_number 4 bytes) 0) goes.0) in
+    let four : length header ≡ 4 = omega (arith, length-take 4 bytes) in
+    let text : bytes ≡ header ++ xs = sym (take-append-drop 4 bytes) in
+    elim (chosen (is_packet header) first second out goes.1) [
+      | inl h ↦ packed_read header bytes xs s rest four (IsBytes-drop 4 bytes is) text h.0 h.1
+      | inr h ↦ legacy_read header bytes xs s rest four (IsBytes-take 4 bytes is) (IsBytes-drop 4 bytes is) text h.0 h.1
+    ]
+
+-- ---- and the other way
+
+pub stores_again : (front rest : List ℕ) (s : Stored) → Stores front s → next_at (front ++ rest) ≡ Ok (Some s, rest)
+stores_again front rest (packed p) h =
+    elim (h.1) [
+      | inl now ↦ ap (λ (t : List ℕ). next_at (t ++ rest)) now ∙ packet_again p rest h.0
+      | inr older ↦ elim older [
+        | inl k ↦ ap (λ (t : List ℕ). next_at (t ++ rest)) k.0 ∙ without_details_again p rest h.0 k.1
+        | inr k ↦ ap (λ (t : List ℕ). next_at (t ++ rest)) k.0 ∙ without_kind_again p rest h.0 k.1 k.2
+      ]
+    ]
+stores_again front rest (legacy l) h = ap (λ (t : List ℕ). next_at (t ++ rest)) h.1 ∙ legacy_again l rest h.0
+
+pub stored_at_front : (bytes rest : List ℕ) (s : Stored) → IsBytes bytes → (next_at bytes ≡ Ok (Some s, rest)) ↔ ((front : List ℕ) × Stores front s × (bytes ≡ front ++ rest))
+stored_at_front bytes rest s is = (stored_taken bytes rest s is, λ h. ap next_at h.2 ∙ stores_again h.0 rest s h.1)
+
+-- what a device gave of a frame stores it
+pub took_stored : {X : Type 0} (view : X → Stored) (x : X) (old new : Option (List ℕ)) → FromDevice (λ (y : X). Some (view y)) old new (Ok x) next_at → TookStored old new (view x)
+took_stored view x old new h =
+    let t = stored_taken (h.0 ++ []) [] (view x) (IsBytes-append h.0 [] h.3 IsBytes-nil) (h.2 []) in
+    let whole : t.0 ≡ h.0 = sym (sym (append-nil h.0) ∙ (t.2 ∙ append-nil t.0)) in
+    (h.0, h.1, subst (λ (front : List ℕ). Stores front (view x)) whole t.1)

@@ -1,0 +1,22 @@
+use Rattle.puffin_data.proofs.Readers.{reads_layouts}
+use Rattle.puffin_frames.specs.Values.{meta_layout, IsMeta, meta_at, thread_layout, IsThread, thread_at, recorded_layout, IsRecorded, recorded_at, streams_layout, AreStreams, streams_at, details_layout, AreDetails, details_at, legacy_layout, IsLegacy, legacy_at}
+use Rattle.puffin_frames.proofs.Structs.{meta_reader, thread_reader, recorded_reader, streams_reader, details_reader, legacy_reader}
+use Rattle.puffin_frames.proofs.frame_data.laws.only_layouts_are_read.Goals as goal
+
+pub returns-clause-metas : goal.returns-clause-metas
+returns-clause-metas c b x r = reads_layouts IsMeta meta_layout meta_at meta_reader b x r
+
+pub returns-clause-threads : goal.returns-clause-threads
+returns-clause-threads c b x r = reads_layouts IsThread thread_layout thread_at thread_reader b x r
+
+pub returns-clause-infos : goal.returns-clause-infos
+returns-clause-infos c b x r = reads_layouts IsRecorded recorded_layout recorded_at recorded_reader b x r
+
+pub returns-clause-streams : goal.returns-clause-streams
+returns-clause-streams c b x r = reads_layouts AreStreams streams_layout streams_at streams_reader b x r
+
+pub returns-clause-details : goal.returns-clause-details
+returns-clause-details c b x r = reads_layouts AreDetails details_layout details_at details_reader b x r
+
+pub returns-clause-legacy : goal.returns-clause-legacy
+returns-clause-legacy c b x r = reads_layouts IsLegacy legacy_layout legacy_at legacy_reader b x r

@@ -1,0 +1,5 @@
+use Rattle.puffin_frames.proofs.Packings.{holds_streams}
+use Rattle.puffin_frames.proofs.frame_data.laws.packed_contents.Goals as goal
+
+pub returns : goal.returns
+returns c p streams is = holds_streams p streams is
