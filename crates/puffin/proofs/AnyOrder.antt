@@ -3,11 +3,11 @@ use Rattle.std.proofs.Common.{◌≡◌, ℕ, ◌+◌, ℤ, max, List, [], ◌�
 use Rattle.std.specs.Int.{int_min}
 use Rattle.std.proofs.lemmas.Int.{ints, clamps}
 use Rattle.std.proofs.lemmas.List.Sorted.{All-permutation}
-use Rattle.puffin.specs.Occurrences.{Label, Path, Occurrence, FrameScopes, is_path, occurrences_of, occurrences}
-use Rattle.puffin.specs.Pieces.{Merged, total_of, greatest_of, least_start_of, merged_of, merged_at}
-use Rattle.puffin.specs.Starts.{IsLeastFeasible}
-use Rattle.puffin.specs.MergedForests.{Node, MergedForest, no_node, merged, row}
-use Rattle.puffin.specs.Merges.{below, TellsOf, sibling_cmp, IsRising, sibling_of, IsRow, AreBelow, IsMerge}
+use Rattle.puffin.specs.Merge.Occurrences.{Label, Path, Occurrence, FrameScopes, is_path, occurrences_of, occurrences}
+use Rattle.puffin.specs.Merge.Pieces.{Merged, total_of, greatest_of, least_start_of, merged_of, merged_at}
+use Rattle.puffin.specs.Merge.Starts.{IsLeastFeasible}
+use Rattle.puffin.specs.Merge.MergedForest.{Node, MergedForest, no_node, merged, row}
+use Rattle.puffin.specs.Merge.{below, TellsOf, sibling_cmp, IsRising, sibling_of, IsRow, AreBelow, IsMerge}
 use Rattle.puffin.proofs.Reordering.{Reordered, none_left, keeps, turns, goes_on, from_permutation, to_permutation, fold-reordered, length-reordered, filter-reordered, append-reordered, flat_map-reordered}
 
 max-swap : (b x y : ℕ) → max (max b x) y ≡ max (max b y) x

@@ -4,12 +4,12 @@ use Rattle.std.specs.List.{AllByRecursion}
 use Rattle.std.specs.declared.cmp.Ordering.TheVariants.{Less}
 use Rattle.std.proofs.lemmas.Bool.Decides.{nat_tests}
 use Rattle.std.proofs.lemmas.List.Elements.{All-from_recursion}
-use Rattle.puffin.specs.Occurrences.{Label, Path, Occurrence}
-use Rattle.puffin.specs.Pieces.{Merged, merged_at}
-use Rattle.puffin.specs.Starts.{Sibling, IsLeastFeasible}
-use Rattle.puffin.specs.MergedForests.{Node, merged, row}
-use Rattle.puffin.specs.Merges.{below, TellsOf, sibling_cmp, IsRising, sibling_of, IsRow, AreBelow, IsMerge}
-use Rattle.puffin.specs.Assembled.{Entry, node_of, children_of, forest_below, Each, Some_of, StandsBefore, InOrder, IsEntry, IsTable}
+use Rattle.puffin.specs.Merge.Occurrences.{Label, Path, Occurrence}
+use Rattle.puffin.specs.Merge.Pieces.{Merged, merged_at}
+use Rattle.puffin.specs.Merge.Starts.{Sibling, IsLeastFeasible}
+use Rattle.puffin.specs.Merge.MergedForest.{Node, merged, row}
+use Rattle.puffin.specs.Merge.{below, TellsOf, sibling_cmp, IsRising, sibling_of, IsRow, AreBelow, IsMerge}
+use Rattle.puffin.specs.inner.merge.Assembled.{Entry, node_of, children_of, forest_below, Each, Some_of, StandsBefore, InOrder, IsEntry, IsTable}
 use Rattle.puffin.proofs.Starting.{earliest-is_least}
 
 -- ---- lists

@@ -14,15 +14,15 @@ use Rattle.puffin.specs.declared.merge.table.Table.{Table}
 use Rattle.puffin.specs.declared.merge.table.Node.{Node}
 use Rattle.puffin.specs.declared.merge.tree.Place.{Place}
 use Rattle.puffin.specs.declared.merge.tree.Drawn.{Drawn}
-use Rattle.puffin.specs.Occurrences.{Occurrence}
-use Rattle.puffin.specs.MergedForests.{MergedForest, no_node, merged}
-use Rattle.puffin.specs.MergedForests as forests
-use Rattle.puffin.specs.Refusals.{EndsFit}
-use Rattle.puffin.specs.Seen.{scope_then, children_in, forest_in}
-use Rattle.puffin.specs.Assembled.{Entry, node_of, forest_below}
-use Rattle.puffin.specs.Tables.{IsTableOf}
-use Rattle.puffin.specs.Places.{EachOf, AreApart, EndFits, ArePlacesOf, above_all, drawn_after, drawn_from, drawn_node, entry_of, entries_from}
-use Rattle.puffin.specs.Merges.{IsMerge}
+use Rattle.puffin.specs.Merge.Occurrences.{Occurrence}
+use Rattle.puffin.specs.Merge.MergedForest.{MergedForest, no_node, merged}
+use Rattle.puffin.specs.Merge.MergedForest as forests
+use Rattle.puffin.specs.Merge.Refusals.{EndsFit}
+use Rattle.puffin.specs.Merge.Scopes.{scope_then, children_in, forest_in}
+use Rattle.puffin.specs.inner.merge.Assembled.{Entry, node_of, forest_below}
+use Rattle.puffin.specs.inner.merge.Tables.{IsTableOf}
+use Rattle.puffin.specs.inner.merge.Places.{EachOf, AreApart, EndFits, ArePlacesOf, above_all, drawn_after, drawn_from, drawn_node, entry_of, entries_from}
+use Rattle.puffin.specs.Merge.{IsMerge}
 use Rattle.puffin.proofs.PlaceEntries.{forest_merged}
 use Rattle.puffin.proofs.Finding.{same_at}
 use Rattle.puffin.proofs.Ending.{blank, Usable}

@@ -8,10 +8,10 @@ use Rattle.std.specs.Cmp.{nat_cmp_total}
 use Rattle.std.specs.FinMap as fin
 use Rattle.std.specs.FinMap.Entries.{by_order, where_key, is_sorted-where_key, find-where_key, same_entries}
 use Rattle.puffin.specs.declared.profile_view.slow_rank.SlowRank.{SlowRank}
-use Rattle.puffin.specs.Frames.{Frame, index_of, frames_by_index, chronological}
-use Rattle.puffin.specs.Held.{Held}
-use Rattle.puffin.specs.Ranks.{rank_index, has}
-use Rattle.puffin.specs.Stored.{AreStored}
+use Rattle.puffin.specs.View.ViewedFrames.{Frame, index_of, frames_by_index, chronological}
+use Rattle.puffin.specs.inner.view.Held.{Held}
+use Rattle.puffin.specs.inner.view.Ranks.{rank_index, has}
+use Rattle.puffin.specs.inner.view.Store.{AreStored}
 use Rattle.puffin.proofs.Storing.{held_whole, find_held, has-index_of, index-rank_of}
 
 -- each frame stands under its index

@@ -6,20 +6,20 @@ use Rattle.std.specs.declared.sync.Arc.{Arc}
 use Rattle.std.specs.declared.alloc.Global.{Global}
 use Rattle.puffin_data.specs.declared.error.Error.{Error}
 use Rattle.puffin_data.specs.declared.error.Error.TheVariants.{Memory, TooLarge}
-use Rattle.puffin_data.specs.Visiting.{TakesAll, StopsEarly}
+use Rattle.puffin_data.specs.Walk.Visitor.{TakesAll, StopsEarly}
 use Rattle.puffin_frames.specs.declared.frame_data.unpacked.UnpackedFrameData.{UnpackedFrameData}
-use Rattle.puffin_frames.specs.Info.{Info}
+use Rattle.puffin_frames.specs.Thread.Info.{Info}
 use Rattle.puffin.specs.declared.merge.table.Table.{Table}
 use Rattle.puffin.specs.declared.merge.stream.Merging.{Merging}
 use Rattle.puffin.specs.declared.merge.scope.MergeScope.{MergeScope}
-use Rattle.puffin.specs.Occurrences.{Occurrence, occurrences}
-use Rattle.puffin.specs.MergedForests.{MergedForest}
-use Rattle.puffin.specs.Merges.{IsMerge}
-use Rattle.puffin.specs.FrameStreams.{FrameBytes, bytes_of, start_of, most_tries_of, most_tries}
-use Rattle.puffin.specs.Refusals.{IsRefusalAfter, EndsFit, AreMerged}
-use Rattle.puffin.specs.Seen.{frame_bytes, frames_bytes, forest_in}
-use Rattle.puffin.specs.Tables.{IsTableOf}
-use Rattle.puffin.specs.Merging.{TakesScopes, RefusesScope}
+use Rattle.puffin.specs.Merge.Occurrences.{Occurrence, occurrences}
+use Rattle.puffin.specs.Merge.MergedForest.{MergedForest}
+use Rattle.puffin.specs.Merge.{IsMerge}
+use Rattle.puffin.specs.Merge.FrameBytes.{FrameBytes, bytes_of, start_of, most_tries_of, most_tries}
+use Rattle.puffin.specs.Merge.Refusals.{IsRefusalAfter, EndsFit, AreMerged}
+use Rattle.puffin.specs.Merge.Scopes.{frame_bytes, frames_bytes, forest_in}
+use Rattle.puffin.specs.inner.merge.Tables.{IsTableOf}
+use Rattle.puffin.specs.inner.merge.Merging.{TakesScopes, RefusesScope}
 use Rattle.puffin.proofs.FramesRead.{HasRead, read_more, read_refused, tries_more, take_push, split_at, size_mapped, read_whole, ends_refused}
 
 abbrev Held : Type 0

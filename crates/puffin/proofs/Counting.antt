@@ -5,9 +5,9 @@ use Rattle.std.specs.declared.sync.Arc.{Arc}
 use Rattle.std.proofs.lemmas.List.Sums.{sum_by-cons}
 use Rattle.puffin_frames.specs.declared.frame_data.frame.FrameData.{FrameData}
 use Rattle.puffin.specs.declared.profile_view.stats.FrameStats.{FrameStats}
-use Rattle.puffin.specs.Frames.{Frame, ram_of}
-use Rattle.puffin.specs.FrameOf.{shared_frame, lent_frames}
-use Rattle.puffin.specs.Stats.{cut, stats_of, with_frame}
+use Rattle.puffin.specs.View.ViewedFrames.{Frame, ram_of}
+use Rattle.puffin.specs.View.FrameOf.{shared_frame, lent_frames}
+use Rattle.puffin.specs.View.Stats.{cut, stats_of, with_frame}
 
 cut-more : (a b : ℕ) → cut (cut a + b) ≡ cut (a + b)
 cut-more a b = omega arith

@@ -5,9 +5,9 @@ use Rattle.puffin.specs.declared.merge.table.Table.{Table}
 use Rattle.puffin.specs.declared.merge.table.Node.{Node}
 use Rattle.puffin.specs.declared.merge.tree.Place.{Place}
 use Rattle.puffin.specs.declared.merge.tree.Drawn.{Drawn}
-use Rattle.puffin.specs.Occurrences.{Occurrence}
-use Rattle.puffin.specs.Tables.{IsTableOf}
-use Rattle.puffin.specs.Places.{ArePlacesOf, EachOf, EndFits, above_all, drawn_after, drawn_from}
+use Rattle.puffin.specs.Merge.Occurrences.{Occurrence}
+use Rattle.puffin.specs.inner.merge.Tables.{IsTableOf}
+use Rattle.puffin.specs.inner.merge.Places.{ArePlacesOf, EachOf, EndFits, above_all, drawn_after, drawn_from}
 use Rattle.puffin.proofs.Finding.{same_at}
 
 -- what stands nowhere

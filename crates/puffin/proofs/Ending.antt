@@ -8,13 +8,13 @@ use Rattle.puffin.specs.declared.merge.table.Table.{Table}
 use Rattle.puffin.specs.declared.merge.table.Node.{Node}
 use Rattle.puffin.specs.declared.merge.tree.Place.{Place}
 use Rattle.puffin.specs.declared.merge.tree.Drawn.{Drawn}
-use Rattle.puffin.specs.Occurrences.{Occurrence}
-use Rattle.puffin.specs.MergedForests.{MergedForest, merged}
-use Rattle.puffin.specs.Refusals.{EndsFit}
-use Rattle.puffin.specs.Assembled.{node_of, forest_below}
-use Rattle.puffin.specs.Tables.{IsTableOf}
-use Rattle.puffin.specs.Places.{IsPlaceOf, SomeOf, EachOf, EndFits, ArePlacesOf, above_all, drawn_after, drawn_from, entry_of, entries_from}
-use Rattle.puffin.specs.Merges.{IsMerge}
+use Rattle.puffin.specs.Merge.Occurrences.{Occurrence}
+use Rattle.puffin.specs.Merge.MergedForest.{MergedForest, merged}
+use Rattle.puffin.specs.Merge.Refusals.{EndsFit}
+use Rattle.puffin.specs.inner.merge.Assembled.{node_of, forest_below}
+use Rattle.puffin.specs.inner.merge.Tables.{IsTableOf}
+use Rattle.puffin.specs.inner.merge.Places.{IsPlaceOf, SomeOf, EachOf, EndFits, ArePlacesOf, above_all, drawn_after, drawn_from, entry_of, entries_from}
+use Rattle.puffin.specs.Merge.{IsMerge}
 use Rattle.puffin.proofs.PlaceEntries.{InRow, in_row, each_at_least, forest_merged}
 
 -- each parent is known, or stands before

@@ -7,18 +7,18 @@ use Rattle.std.proofs.lemmas.List.{map-append, length_push, length-map}
 use Rattle.puffin_data.specs.declared.error.Error.{Error}
 use Rattle.puffin_data.specs.declared.error.Error.TheVariants.{Memory, TooLarge}
 use Rattle.puffin_data.specs.Forest.{Span}
-use Rattle.puffin_data.specs.Goings.{Entering, Refusing}
+use Rattle.puffin_data.specs.Walk.Going.{Entering, Refusing}
 use Rattle.puffin.specs.declared.merge.table.Table.{Table}
 use Rattle.puffin.specs.declared.merge.table.Key.{Key}
 use Rattle.puffin.specs.declared.merge.table.NodeNumber.{NodeNumber}
 use Rattle.puffin.specs.declared.merge.stream.Merging.{Merging}
 use Rattle.puffin.specs.declared.merge.stream.Open.{Open}
-use Rattle.puffin.specs.Occurrences.{Occurrence, Path, label_of, path_of, origin_in, occurrence_of}
-use Rattle.puffin.specs.Origins.{IsOrigin, fits_i64}
-use Rattle.puffin.specs.Merges.{below}
-use Rattle.puffin.specs.Refusals.{SumsFit, Fits}
-use Rattle.puffin.specs.Tables.{label_in, path_at, IsTableOf, occurrence_at, AddsAt}
-use Rattle.puffin.specs.Merging.{TakesScopes, RefusesScope, StandsFor}
+use Rattle.puffin.specs.Merge.Occurrences.{Occurrence, Path, label_of, path_of, origin_in, occurrence_of}
+use Rattle.puffin.specs.inner.merge.Origins.{IsOrigin, fits_i64}
+use Rattle.puffin.specs.Merge.{below}
+use Rattle.puffin.specs.Merge.Refusals.{SumsFit, Fits}
+use Rattle.puffin.specs.inner.merge.Tables.{label_in, path_at, IsTableOf, occurrence_at, AddsAt}
+use Rattle.puffin.specs.inner.merge.Merging.{TakesScopes, RefusesScope, StandsFor}
 
 fits_test : (t : ℤ) → FitsSigned w64 t → fits_i64 t ≡ true
 fits_test t h = grind (arith, ints)

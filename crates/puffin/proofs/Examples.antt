@@ -1,9 +1,9 @@
 -- Worked values of the definitions.
 use Rattle.std.proofs.Common.{◌≡◌, ℕ, ◌+◌, pos, negsuc, List, [], ◌∷◌, take, zero, suc, refl}
 use Rattle.puffin_data.specs.Forest.{Forest, empty, node}
-use Rattle.puffin.specs.Occurrences.{Label, Occurrence, FrameScopes, occurrences}
-use Rattle.puffin.specs.Pieces.{merged_at}
-use Rattle.puffin.specs.Starts.{earliest}
+use Rattle.puffin.specs.Merge.Occurrences.{Label, Occurrence, FrameScopes, occurrences}
+use Rattle.puffin.specs.Merge.Pieces.{merged_at}
+use Rattle.puffin.specs.Merge.Starts.{earliest}
 
 -- a scope without a text
 no_text : (n : ℕ) → take {A = ℕ} n [] ≡ []

@@ -8,15 +8,15 @@ use Rattle.puffin_frames.specs.declared.frame_data.meta.FrameMeta.{FrameMeta}
 use Rattle.puffin_frames.specs.declared.frame_data.held.Held.{Held}
 use Rattle.puffin_frames.specs.declared.frame_data.held.Held.TheVariants.{Own, Shared, Packed, Both}
 use Rattle.puffin_frames.specs.Details.{Details}
-use Rattle.puffin_frames.specs.Collection.{Collection, no_details, inserted, inserted_all}
-use Rattle.puffin_frames.specs.Stored.{Stored}
-use Rattle.puffin_frames.specs.Reads.{stored_of, IsFresh}
+use Rattle.puffin_frames.specs.Details.Collection.{Collection, no_details, inserted, inserted_all}
+use Rattle.puffin_frames.specs.Packet.Stored.{Stored}
+use Rattle.puffin_frames.specs.Packet.Next.{stored_of, IsFresh}
 use Rattle.puffin.specs.declared.profile_view.frame_view.FrameView.{FrameView}
-use Rattle.puffin.specs.Frames.{Frame, contents_of}
-use Rattle.puffin.specs.FrameOf.{frame_of, told}
-use Rattle.puffin.specs.Views.{View, after_taking, after_all, Took}
-use Rattle.puffin.specs.FrameViews.{view_of, collection_of}
-use Rattle.puffin.specs.Files.{frame_stored, details_stored, read_view, IsViewOf}
+use Rattle.puffin.specs.View.ViewedFrames.{Frame, contents_of}
+use Rattle.puffin.specs.View.FrameOf.{frame_of, told}
+use Rattle.puffin.specs.View.{View, after_taking, after_all, Took}
+use Rattle.puffin.specs.View.Known.{view_of, collection_of}
+use Rattle.puffin.specs.View.File.{frame_stored, details_stored, read_view, IsViewOf}
 use Rattle.puffin.proofs.Taking.{Took-all, Took-none}
 
 -- ---- a frame that was read, as a view sees it

@@ -12,15 +12,15 @@ use Rattle.std.proofs.lemmas.List.{append-nil}
 use Rattle.puffin_data.specs.declared.error.Error.TheVariants.{MissingId}
 use Rattle.puffin_data.specs.declared.file_error.FileError.{FileError}
 use Rattle.puffin_data.specs.declared.file_error.FileError.TheVariants as file
-use Rattle.puffin_data.specs.Devices.{IsOutside}
-use Rattle.puffin_frames.specs.Stored.{Said, Stored, packed}
-use Rattle.puffin_frames.specs.Steps.{IsPacked}
+use Rattle.puffin_data.specs.Device.{IsOutside}
+use Rattle.puffin_frames.specs.Packet.Stored.{Said, Stored, packed}
+use Rattle.puffin_frames.specs.Packet.Steps.{IsPacked}
 use Rattle.puffin.specs.declared.profile_view.frame_view.FrameView.{FrameView}
-use Rattle.puffin.specs.Ranking.{last_of, last_in}
-use Rattle.puffin.specs.Frames.{Frame, contents_of, index_of, taken, is_rising, rises_above, frames_by_index}
-use Rattle.puffin.specs.Views.{View, emptied, with_packed, with_newest_packed, is_past, after_taking, after_all}
-use Rattle.puffin.specs.FrameViews.{view_of, lacks_ids}
-use Rattle.puffin.specs.Files.{file_of, contents_in, frame_stored, file_at, read_view, FramesReading, TookFrames, TookFault, FailsToRead, ReadsView, IsViewOf}
+use Rattle.puffin.specs.View.Ranking.{last_of, last_in}
+use Rattle.puffin.specs.View.ViewedFrames.{Frame, contents_of, index_of, taken, is_rising, rises_above, frames_by_index}
+use Rattle.puffin.specs.View.{View, emptied, with_packed, with_newest_packed, is_past, after_taking, after_all}
+use Rattle.puffin.specs.View.Known.{view_of, lacks_ids}
+use Rattle.puffin.specs.View.File.{file_of, contents_in, frame_stored, file_at, read_view, FramesReading, TookFrames, TookFault, FailsToRead, ReadsView, IsViewOf}
 use Rattle.puffin.proofs.Chronology.{AreKeyed, keyed}
 use Rattle.puffin.proofs.FilesWritten.{Again, Answer, unless_missing, file_again}
 

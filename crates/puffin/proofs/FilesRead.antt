@@ -8,14 +8,14 @@ use Rattle.std.proofs.lemmas.List.{append-nil}
 use Rattle.puffin_data.specs.declared.error.Error.TheVariants.{MissingId}
 use Rattle.puffin_data.specs.declared.file_error.FileError.{FileError}
 use Rattle.puffin_data.specs.declared.file_error.FileError.TheVariants as file
-use Rattle.puffin_data.specs.Devices.{FailsAt}
-use Rattle.puffin_data.specs.Parts.{◌>>=◌}
-use Rattle.puffin_frames.specs.Stored.{Stored, packed, legacy}
-use Rattle.puffin_frames.specs.Steps.{as_stored, is_packet, stored_after, is_end, next_at, AtEnd}
+use Rattle.puffin_data.specs.Device.{FailsAt}
+use Rattle.puffin_data.specs.Part.{◌>>=◌}
+use Rattle.puffin_frames.specs.Packet.Stored.{Stored, packed, legacy}
+use Rattle.puffin_frames.specs.Packet.Steps.{as_stored, is_packet, stored_after, is_end, next_at, AtEnd}
 use Rattle.puffin.specs.declared.profile_view.frame_view.FrameView.{FrameView}
-use Rattle.puffin.specs.Frames.{contents_of}
-use Rattle.puffin.specs.FrameViews.{lacks_ids}
-use Rattle.puffin.specs.Files.{magic, frame_stored, with_ids, frames_from, frames_at, most_packets, file_at, TookFrames, TookFault, FailsToRead, ReadsView}
+use Rattle.puffin.specs.View.ViewedFrames.{contents_of}
+use Rattle.puffin.specs.View.Known.{lacks_ids}
+use Rattle.puffin.specs.View.File.{magic, frame_stored, with_ids, frames_from, frames_at, most_packets, file_at, TookFrames, TookFault, FailsToRead, ReadsView}
 
 -- ---- frames before others
 

@@ -7,16 +7,16 @@ use Rattle.std.proofs.lemmas.List.{append_cancel_left, flat_map_more}
 use Rattle.std.proofs.lemmas.Grind.{flat_map-append}
 use Rattle.puffin_data.specs.declared.file_error.FileError.{FileError}
 use Rattle.puffin_data.specs.declared.file_error.FileError.TheVariants as file
-use Rattle.puffin_data.specs.Parts.{◌>>=◌}
-use Rattle.puffin_data.specs.Layout.{NoneBeginsAnother}
-use Rattle.puffin_data.specs.Devices.{WritesBeginning}
+use Rattle.puffin_data.specs.Part.{◌>>=◌}
+use Rattle.puffin_data.specs.Value.Layout.{NoneBeginsAnother}
+use Rattle.puffin_data.specs.Device.{WritesBeginning}
 use Rattle.puffin_data.specs.declared.error.Error.TheVariants.{MissingId}
-use Rattle.puffin_frames.specs.Stored.{Said, Stored, packed}
-use Rattle.puffin_frames.specs.Steps.{next_at, is_end, packet_head, packet, IsPacked}
-use Rattle.puffin_frames.specs.Writes.{HasLongPart}
-use Rattle.puffin.specs.Frames.{Frame, contents_of}
-use Rattle.puffin.specs.FrameViews.{lacks_ids}
-use Rattle.puffin.specs.Files.{magic, file_of, with_ids, frames_from, frames_at, most_packets, file_at}
+use Rattle.puffin_frames.specs.Packet.Stored.{Said, Stored, packed}
+use Rattle.puffin_frames.specs.Packet.Steps.{next_at, is_end, packet_head, packet, IsPacked}
+use Rattle.puffin_frames.specs.Packet.Writing.{HasLongPart}
+use Rattle.puffin.specs.View.ViewedFrames.{Frame, contents_of}
+use Rattle.puffin.specs.View.Known.{lacks_ids}
+use Rattle.puffin.specs.View.File.{magic, file_of, with_ids, frames_from, frames_at, most_packets, file_at}
 
 -- ---- a file grows
 

@@ -15,7 +15,7 @@ use Rattle.puffin.specs.declared.merge.table.Table.{Table}
 use Rattle.puffin.specs.declared.merge.table.Node.{Node}
 use Rattle.puffin.specs.declared.merge.table.Key.{Key}
 use Rattle.puffin.specs.declared.merge.table.NodeNumber.{NodeNumber}
-use Rattle.puffin.specs.Tables.{key_cmp, IsSameKey, HasKey, IsFound}
+use Rattle.puffin.specs.inner.merge.Tables.{key_cmp, IsSameKey, HasKey, IsFound}
 use Rattle.puffin.proofs.Paths.{ties}
 
 -- ---- keys

@@ -5,18 +5,18 @@ use Rattle.std.proofs.lemmas.List.Sums.{sum_by-append}
 use Rattle.puffin_data.specs.declared.error.Error.{Error}
 use Rattle.puffin_data.specs.declared.error.Error.TheVariants.{Memory, TooLarge}
 use Rattle.puffin_data.specs.Forest.{Forest}
-use Rattle.puffin_data.specs.Spelling.{Spells}
-use Rattle.puffin_data.specs.Sights.{Nested, nested_in, scopes_of, before}
-use Rattle.puffin_data.specs.Visiting.{TakesAll, StopsEarly}
+use Rattle.puffin_data.specs.Forest.Spelling.{Spells}
+use Rattle.puffin_data.specs.Walk.Sights.{Nested, nested_in, scopes_of, before}
+use Rattle.puffin_data.specs.Walk.Visitor.{TakesAll, StopsEarly}
 use Rattle.puffin.specs.declared.merge.table.Table.{Table}
 use Rattle.puffin.specs.declared.merge.stream.Merging.{Merging}
-use Rattle.puffin.specs.Occurrences.{Occurrence, FrameScopes, occurrence_of, occurrences_in, occurrences_of, occurrences_from, first_start, occurrences}
-use Rattle.puffin.specs.MergedForests.{MergedForest, no_node}
-use Rattle.puffin.specs.Merges.{IsMerge}
-use Rattle.puffin.specs.FrameStreams.{FrameBytes, bytes_of, start_of, HasScopes, HaveScopes, most_tries_of, most_tries}
-use Rattle.puffin.specs.Refusals.{IsRefusedFor, AreAccepted, faulty, refused, IsRefusalAfter, in_frame, at_end, EndsFit, AreMerged, ReadsFew}
-use Rattle.puffin.specs.Tables.{IsTableOf}
-use Rattle.puffin.specs.Merging.{TakesScopes, RefusesScope, accepted-append, append-nil}
+use Rattle.puffin.specs.Merge.Occurrences.{Occurrence, FrameScopes, occurrence_of, occurrences_in, occurrences_of, occurrences_from, first_start, occurrences}
+use Rattle.puffin.specs.Merge.MergedForest.{MergedForest, no_node}
+use Rattle.puffin.specs.Merge.{IsMerge}
+use Rattle.puffin.specs.Merge.FrameBytes.{FrameBytes, bytes_of, start_of, HasScopes, HaveScopes, most_tries_of, most_tries}
+use Rattle.puffin.specs.Merge.Refusals.{IsRefusedFor, AreAccepted, faulty, refused, IsRefusalAfter, in_frame, at_end, EndsFit, AreMerged, ReadsFew}
+use Rattle.puffin.specs.inner.merge.Tables.{IsTableOf}
+use Rattle.puffin.specs.inner.merge.Merging.{TakesScopes, RefusesScope, accepted-append, append-nil}
 use Rattle.puffin.proofs.Starting.{earliest-is_least}
 
 -- the first frames have scopes that are accepted and stand in the table, each with one try

@@ -6,14 +6,14 @@ use Rattle.std.specs.declared.alloc.Global.{Global}
 use Rattle.std.proofs.lemmas.List.Sums.{sum_by-append}
 use Rattle.std.proofs.lemmas.List.Sorted.{IsPermutation-map}
 use Rattle.puffin_frames.specs.declared.frame_data.unpacked.UnpackedFrameData.{UnpackedFrameData}
-use Rattle.puffin_frames.specs.Info.{Info}
-use Rattle.puffin.specs.Occurrences.{Path, Occurrence, FrameScopes, is_path, occurrences_of, occurrences}
-use Rattle.puffin.specs.Pieces.{Merged, pieces_at, merged_of, merged_at}
-use Rattle.puffin.specs.MergedForests.{MergedForest}
-use Rattle.puffin.specs.Merges.{IsMerge}
-use Rattle.puffin.specs.FrameStreams.{FrameBytes, HaveScopes}
-use Rattle.puffin.specs.Refusals.{SumsFit, AreAccepted, EndsFit, AreMerged}
-use Rattle.puffin.specs.Seen.{frame_bytes, frames_bytes}
+use Rattle.puffin_frames.specs.Thread.Info.{Info}
+use Rattle.puffin.specs.Merge.Occurrences.{Path, Occurrence, FrameScopes, is_path, occurrences_of, occurrences}
+use Rattle.puffin.specs.Merge.Pieces.{Merged, pieces_at, merged_of, merged_at}
+use Rattle.puffin.specs.Merge.MergedForest.{MergedForest}
+use Rattle.puffin.specs.Merge.{IsMerge}
+use Rattle.puffin.specs.Merge.FrameBytes.{FrameBytes, HaveScopes}
+use Rattle.puffin.specs.Merge.Refusals.{SumsFit, AreAccepted, EndsFit, AreMerged}
+use Rattle.puffin.specs.Merge.Scopes.{frame_bytes, frames_bytes}
 use Rattle.puffin.proofs.Paths.{one_path}
 use Rattle.puffin.proofs.AnyOrder.{merged_at-reordered, merge-reordered}
 use Rattle.puffin.proofs.Reordering.{Reordered, none_left, keeps, turns, goes_on, inserted, append-reordered, reordered-append, flat_map-reordered, length-reordered, from_permutation, to_permutation}

@@ -18,16 +18,16 @@ use Rattle.std.proofs.lemmas.List.Sums.{sum_by-cons}
 use Rattle.puffin_frames.specs.declared.frame_data.frame.FrameData.{FrameData}
 use Rattle.puffin_frames.specs.declared.frame_data.held.Held.{Held}
 use Rattle.puffin_frames.specs.declared.frame_data.held.Held.TheVariants.{Own, Shared, Packed, Both}
-use Rattle.puffin_frames.specs.Contents.{Streams, holding_of, held_as, frame_meta, frame_says}
-use Rattle.puffin_frames.specs.Holding.{Packing, packing, as_packed}
-use Rattle.puffin.specs.Frames.{Frame, packed, ram_of}
+use Rattle.puffin_frames.specs.Frame.Contents.{Streams, holding_of, held_as, frame_meta, frame_says}
+use Rattle.puffin_frames.specs.Frame.Holding.{Packing, packing, as_packed}
+use Rattle.puffin.specs.View.ViewedFrames.{Frame, packed, ram_of}
 use Rattle.std.specs.Arc.{arc_value}
-use Rattle.puffin.specs.FrameOf.{frame_of, shared_frame}
+use Rattle.puffin.specs.View.FrameOf.{frame_of, shared_frame}
 use Rattle.std.specs.Option.{option_copied}
 use Rattle.puffin.specs.declared.profile_view.sums.Sums.{Sums}
-use Rattle.puffin.specs.Stats.{stats_of, cut}
+use Rattle.puffin.specs.View.Stats.{stats_of, cut}
 use Rattle.puffin.specs.declared.profile_view.stats.FrameStats.{FrameStats}
-use Rattle.puffin.specs.Held.{IsSummed, seen, held_of, number_if, unpacked_number, ram_taken}
+use Rattle.puffin.specs.inner.view.Held.{IsSummed, seen, held_of, number_if, unpacked_number, ram_taken}
 
 turned : (k q : ℕ) → is_at (nat_cmp k) q ≡ eq_by_cmp nat_cmp q k
 turned k q = grind arith

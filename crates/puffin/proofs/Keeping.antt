@@ -4,10 +4,10 @@ use Rattle.std.proofs.Math.ListN.{set}
 use Rattle.std.proofs.lemmas.Bool.{ne_eqb}
 use Rattle.std.specs.Prelude.{nat_eq, ◌≢◌}
 use Rattle.std.specs.List.{AllByRecursion}
-use Rattle.puffin.specs.Ranking.{place, last_from}
-use Rattle.puffin.specs.Frames.{Frame, index_of, is_slower_frame, packed_at, packed}
-use Rattle.puffin.specs.Views.{View, enters, joined_by, IsUpTo}
-use Rattle.puffin.specs.Kept.{AreRising, AreApart, IsKept}
+use Rattle.puffin.specs.View.Ranking.{place, last_from}
+use Rattle.puffin.specs.View.ViewedFrames.{Frame, index_of, is_slower_frame, packed_at, packed}
+use Rattle.puffin.specs.View.{View, enters, joined_by, IsUpTo}
+use Rattle.puffin.specs.inner.view.Kept.{AreRising, AreApart, IsKept}
 
 -- of lists
 pub all_map : (P Q : Frame → Type 0) → ((f : Frame) → P f → Q f) → (fs : List Frame) → AllByRecursion P fs → AllByRecursion Q fs

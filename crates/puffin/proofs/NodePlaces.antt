@@ -4,7 +4,7 @@ use Rattle.std.specs.List.Sorted.{IsSorted}
 use Rattle.std.proofs.lemmas.List.Sorted.{All-permutation}
 use Rattle.puffin.specs.declared.merge.table.Node.{Node}
 use Rattle.puffin.specs.declared.merge.tree.Place.{Place}
-use Rattle.puffin.specs.Places.{IsPlaceAt, IsPlaceOf, SomeOf, EachOf, AreApart, place_cmp, ArePlacesOf}
+use Rattle.puffin.specs.inner.merge.Places.{IsPlaceAt, IsPlaceOf, SomeOf, EachOf, AreApart, place_cmp, ArePlacesOf}
 use Rattle.puffin.proofs.Reordering.{Reordered, none_left, keeps, turns, goes_on, from_permutation, length-reordered}
 
 some-reordered : {A : Type 0} (P : A → Type 0) → {xs ys : List A} → Reordered xs ys → SomeOf P xs → SomeOf P ys

@@ -7,11 +7,11 @@ use Rattle.std.specs.Ordering.{ordering_reverse}
 use Rattle.std.specs.Cmp.{IsTotalOrder, int_cmp_total, on_total, then_total}
 use Rattle.std.proofs.lemmas.Int.{ints}
 use Rattle.std.proofs.lemmas.List.Elements.{recursion_from_All}
-use Rattle.puffin.specs.Occurrences.{Label, Path, Occurrence, is_path}
-use Rattle.puffin.specs.Pieces.{Merged, pieces_at, merged_at}
-use Rattle.puffin.specs.Starts.{Sibling, IsNowhereAbove, IsLeastFeasible}
-use Rattle.puffin.specs.MergedForests.{Node, MergedForest, no_node, merged, row}
-use Rattle.puffin.specs.Merges.{below, TellsOf, sibling_cmp, IsRising, sibling_of, IsRow, AreBelow, IsMerge}
+use Rattle.puffin.specs.Merge.Occurrences.{Label, Path, Occurrence, is_path}
+use Rattle.puffin.specs.Merge.Pieces.{Merged, pieces_at, merged_at}
+use Rattle.puffin.specs.Merge.Starts.{Sibling, IsNowhereAbove, IsLeastFeasible}
+use Rattle.puffin.specs.Merge.MergedForest.{Node, MergedForest, no_node, merged, row}
+use Rattle.puffin.specs.Merge.{below, TellsOf, sibling_cmp, IsRising, sibling_of, IsRow, AreBelow, IsMerge}
 use Rattle.puffin.proofs.Paths.{one_path, label_cmp_total}
 
 -- ---- labels in order

@@ -3,15 +3,15 @@ use Rattle.std.proofs.Common.{◌≡◌, ℕ, ◌<◌, ◌^◌, ℤ, ◌-ℤ◌,
 use Rattle.std.proofs.lemmas.List.{map-append}
 use Rattle.puffin_data.specs.declared.error.Error.{Error}
 use Rattle.puffin_data.specs.Forest.{Forest, IsForest}
-use Rattle.puffin_data.specs.Spelling.{spelling, Spells}
+use Rattle.puffin_data.specs.Forest.Spelling.{spelling, Spells}
 use Rattle.puffin_data.specs.Walk.{IsFault}
-use Rattle.puffin_data.specs.Sights.{Nested, nested_in, Sight, Sees, scopes_of}
-use Rattle.puffin.specs.Occurrences.{Occurrence, FrameScopes, occurrence_of, occurrences_in, occurrences_of, occurrences_from, occurrences}
-use Rattle.puffin.specs.MergedForests.{MergedForest}
-use Rattle.puffin.specs.Merges.{IsMerge}
-use Rattle.puffin.specs.FrameStreams.{FrameBytes, bytes_of, start_of, HasScopes, HaveScopes}
-use Rattle.puffin.specs.Refusals.{IsRefusedFor, AreAccepted, IsFrameRefusal, faulty, refused, IsRefusal, IsRefusalAfter, in_frame, at_end, EndsFit, AreMerged}
-use Rattle.puffin.specs.Merging.{append-nil}
+use Rattle.puffin_data.specs.Walk.Sights.{Nested, nested_in, Sight, Sees, scopes_of}
+use Rattle.puffin.specs.Merge.Occurrences.{Occurrence, FrameScopes, occurrence_of, occurrences_in, occurrences_of, occurrences_from, occurrences}
+use Rattle.puffin.specs.Merge.MergedForest.{MergedForest}
+use Rattle.puffin.specs.Merge.{IsMerge}
+use Rattle.puffin.specs.Merge.FrameBytes.{FrameBytes, bytes_of, start_of, HasScopes, HaveScopes}
+use Rattle.puffin.specs.Merge.Refusals.{IsRefusedFor, AreAccepted, IsFrameRefusal, faulty, refused, IsRefusal, IsRefusalAfter, in_frame, at_end, EndsFit, AreMerged}
+use Rattle.puffin.specs.inner.merge.Merging.{append-nil}
 use Rattle.puffin.proofs.FramesRead.{starts_same}
 use Rattle.puffin.proofs.OneMerge.{one_merge}
 

@@ -5,10 +5,10 @@ use Rattle.std.specs.Prelude.{nat_eq, int_lt, ◌↔◌}
 use Rattle.std.specs.declared.cmp.Ordering.TheVariants.{Equal}
 use Rattle.std.proofs.lemmas.Int.{ints}
 use Rattle.std.proofs.lemmas.List.Sorted.{ranks_by}
-use Rattle.puffin.specs.Ranking.{place, last_from}
-use Rattle.puffin_frames.specs.Stored.{Said}
-use Rattle.puffin.specs.Selection.{Rank, older_cmp}
-use Rattle.puffin.specs.Frames.{Frame, frame_index, duration, by_duration, is_slower, contents_of, index_of, packed_at, packed}
+use Rattle.puffin.specs.View.Ranking.{place, last_from}
+use Rattle.puffin_frames.specs.Packet.Stored.{Said}
+use Rattle.puffin.specs.View.Selection.{Rank, older_cmp}
+use Rattle.puffin.specs.View.ViewedFrames.{Frame, frame_index, duration, by_duration, is_slower, contents_of, index_of, packed_at, packed}
 
 pub by_duration_total : IsTotalOrder by_duration
 by_duration_total = then_total (on_total duration (back_total int_cmp_total)) (on_total frame_index nat_cmp_total)

@@ -9,9 +9,9 @@ use Rattle.std.specs.FinMap.Entries.{below_all}
 use Rattle.std.proofs.lemmas.Cmp.{nat_cmp_total, tied_itself}
 use Rattle.std.proofs.lemmas.List.Elements.{All-cons, All-nil}
 use Rattle.puffin_frames.specs.Details.{Details, AllHaveIds}
-use Rattle.puffin_frames.specs.Collection.{Collection, KeepsOwnIds}
+use Rattle.puffin_frames.specs.Details.Collection.{Collection, KeepsOwnIds}
 use Rattle.puffin_frames.proofs.Measured.{first, second, less}
-use Rattle.puffin.specs.Collected.{all_details}
+use Rattle.puffin.specs.Profiler.Collected.{all_details}
 
 -- each of these entries is the one that is found under its key
 abbrev pub Owned : List (ℕ × Details) → Type 0

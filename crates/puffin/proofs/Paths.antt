@@ -9,9 +9,9 @@ use Rattle.std.specs.FinMap.{IsAntisymmetric, nat_cmp-IsAntisymmetric, slice_cmp
 use Rattle.std.proofs.lemmas.List.{length_push, map-append, length-map, get_or_append_left, get_or_push}
 use Rattle.puffin.specs.declared.merge.table.Node.{Node}
 use Rattle.puffin.specs.declared.merge.table.Key.{Key}
-use Rattle.puffin.specs.Occurrences.{Label, Path, label_cmp, is_path}
-use Rattle.puffin.specs.Merges.{below}
-use Rattle.puffin.specs.Tables.{label_in, with_path, paths_of, keys_in, path_at}
+use Rattle.puffin.specs.Merge.Occurrences.{Label, Path, label_cmp, is_path}
+use Rattle.puffin.specs.Merge.{below}
+use Rattle.puffin.specs.inner.merge.Tables.{label_in, with_path, paths_of, keys_in, path_at}
 
 -- ---- one path
 

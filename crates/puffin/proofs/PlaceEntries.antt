@@ -15,13 +15,13 @@ use Rattle.puffin.specs.declared.merge.table.Table.{Table}
 use Rattle.puffin.specs.declared.merge.table.Node.{Node}
 use Rattle.puffin.specs.declared.merge.tree.Place.{Place}
 use Rattle.puffin.specs.declared.merge.tree.Drawn.{Drawn}
-use Rattle.puffin.specs.Occurrences.{Label, Path, Occurrence}
-use Rattle.puffin.specs.Pieces.{Merged, merged_at}
-use Rattle.puffin.specs.Starts.{Sibling, earliest, earliest_start, end_from}
-use Rattle.puffin.specs.Merges.{below, sibling_of, IsMerge}
-use Rattle.puffin.specs.Assembled.{Entry, children_of, forest_below, Each, Some_of, StandsBefore, InOrder, IsEntry}
-use Rattle.puffin.specs.Tables.{label_in, merged_in, path_at, IsTableOf}
-use Rattle.puffin.specs.Places.{IsPlaceOf, SomeOf, EachOf, AreApart, place_cmp, ArePlacesOf, above_all, drawn_after, entry_of, entries_from}
+use Rattle.puffin.specs.Merge.Occurrences.{Label, Path, Occurrence}
+use Rattle.puffin.specs.Merge.Pieces.{Merged, merged_at}
+use Rattle.puffin.specs.Merge.Starts.{Sibling, earliest, earliest_start, end_from}
+use Rattle.puffin.specs.Merge.{below, sibling_of, IsMerge}
+use Rattle.puffin.specs.inner.merge.Assembled.{Entry, children_of, forest_below, Each, Some_of, StandsBefore, InOrder, IsEntry}
+use Rattle.puffin.specs.inner.merge.Tables.{label_in, merged_in, path_at, IsTableOf}
+use Rattle.puffin.specs.inner.merge.Places.{IsPlaceOf, SomeOf, EachOf, AreApart, place_cmp, ArePlacesOf, above_all, drawn_after, entry_of, entries_from}
 use Rattle.std.proofs.lemmas.Cmp.{tied_itself}
 use Rattle.puffin.proofs.Assembling.{table-merged}
 use Rattle.puffin.proofs.Paths.{ties, top_path}

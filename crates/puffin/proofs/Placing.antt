@@ -10,8 +10,8 @@ use Rattle.std.specs.Ordering.{is_le, is_lt, ordering_reverse}
 use Rattle.std.specs.Cmp.{IsTotalOrder, nat_cmp_total, int_cmp_total, on_total, then_total, back_total, alike_right}
 use Rattle.std.proofs.lemmas.Map.Keys.{Less-from_sorted}
 use Rattle.puffin.specs.declared.profile_view.slow_rank.SlowRank.{SlowRank}
-use Rattle.puffin.specs.Ranking.{place, last_in}
-use Rattle.puffin.specs.Ranks.{rank_cmp, is_before, rank_enters}
+use Rattle.puffin.specs.View.Ranking.{place, last_in}
+use Rattle.puffin.specs.inner.view.Ranks.{rank_cmp, is_before, rank_enters}
 
 pub rank_cmp_total : IsTotalOrder rank_cmp
 rank_cmp_total = then_total (on_total (λ (r : SlowRank). r.duration_ns.0) (back_total int_cmp_total)) (on_total (λ (r : SlowRank). r.frame_index) nat_cmp_total)

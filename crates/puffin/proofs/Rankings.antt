@@ -6,7 +6,7 @@ use Rattle.std.proofs.lemmas.List.Sorted.{IsPermutation-refl, IsPermutation-tran
 use Rattle.std.specs.Cmp.{IsStrictWeakOrder}
 use Rattle.std.specs.List.{AllByRecursion, AllPairs}
 use Rattle.std.proofs.lemmas.List.{take-append-le, drop-append-le, drop-drop}
-use Rattle.puffin.specs.Ranking.{AreFirst, place, place_first, in_order, first_in_order, last_of, last_from, last_in}
+use Rattle.puffin.specs.View.Ranking.{AreFirst, place, place_first, in_order, first_in_order, last_of, last_from, last_in}
 
 true≢false : true ≡ false → ⊥
 true≢false e = cc

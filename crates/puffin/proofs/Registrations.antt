@@ -5,9 +5,9 @@ use Rattle.puffin_data.specs.declared.error.Error.{Error}
 use Rattle.puffin_data.specs.declared.error.Error.TheVariants.{IdsExhausted, Memory}
 use Rattle.puffin_frames.specs.declared.scope_details.details.ScopeDetails.{ScopeDetails}
 use Rattle.puffin_frames.specs.Details.{Details, details_of, details_seen, with_id}
-use Rattle.puffin_frames.specs.Collection.{Collection, inserted, inserted_all}
-use Rattle.puffin.specs.Collected.{Collected, after_adding}
-use Rattle.puffin.specs.Registering.{known_id, none_asked, known_name, new_name, Adds, AddsSome}
+use Rattle.puffin_frames.specs.Details.Collection.{Collection, inserted, inserted_all}
+use Rattle.puffin.specs.Profiler.Collected.{Collected, after_adding}
+use Rattle.puffin.specs.Profiler.Registering.{known_id, none_asked, known_name, new_name, Adds, AddsSome}
 
 inserted_all-append : (c : Collection) (xs ys : List Details) → inserted_all c (xs ++ ys) ≡ inserted_all (inserted_all c xs) ys
 inserted_all-append c [] ys = refl

@@ -5,12 +5,12 @@ use Rattle.std.specs.FinMap as map
 use Rattle.std.proofs.lemmas.Int.{ints, clamps}
 use Rattle.puffin_data.specs.Forest.{Forest}
 use Rattle.puffin_data.specs.Honesty.{Recorded, IsHonestRecord}
-use Rattle.puffin_frames.specs.Info.{Info}
-use Rattle.puffin_frames.specs.Contents.{Streams, reported_to, AreHonest}
-use Rattle.puffin_frames.specs.Measures.{total_bytes, total_scopes, least_start, greatest_stop, meta_of, IsOrdered, DurationFits}
+use Rattle.puffin_frames.specs.Thread.Info.{Info}
+use Rattle.puffin_frames.specs.Frame.Contents.{Streams, reported_to, AreHonest}
+use Rattle.puffin_frames.specs.Frame.Sums.{total_bytes, total_scopes, least_start, greatest_stop, meta_of, IsOrdered, DurationFits}
 use Rattle.puffin_frames.specs.declared.frame_data.meta.FrameMeta.{FrameMeta}
-use Rattle.puffin.specs.Collected.{Collected, SumsFit, range_with, IsTooLong}
-use Rattle.puffin.specs.Collecting.{IsKept, AddsUp}
+use Rattle.puffin.specs.Profiler.Collected.{Collected, SumsFit, range_with, IsTooLong}
+use Rattle.puffin.specs.Profiler.Collecting.{IsKept, AddsUp}
 
 -- what a frame of all that is pending would say, and what it says once joined with one info more
 pub record Joins (c : Collected) (meta more : FrameMeta) (r : Recorded) : Type 0 where

@@ -13,11 +13,11 @@ use Rattle.std.specs.FinMap as fin
 use Rattle.std.proofs.lemmas.List.Folds.{list_any_at}
 use Rattle.std.proofs.lemmas.Map.Keys.{Less-from_sorted}
 use Rattle.puffin.specs.declared.profile_view.slow_rank.SlowRank.{SlowRank}
-use Rattle.puffin.specs.Frames.{Frame, index_of, duration_of}
-use Rattle.puffin.specs.Held.{Held}
-use Rattle.puffin.specs.Ranks.{rank_of, rank_index, rank_cmp, AreRanked, LetsGo, has}
-use Rattle.puffin.specs.Kept.{AreRising}
-use Rattle.puffin.specs.Stored.{AreHeld, AreStored}
+use Rattle.puffin.specs.View.ViewedFrames.{Frame, index_of, duration_of}
+use Rattle.puffin.specs.inner.view.Held.{Held}
+use Rattle.puffin.specs.inner.view.Ranks.{rank_of, rank_index, rank_cmp, AreRanked, LetsGo, has}
+use Rattle.puffin.specs.inner.view.Kept.{AreRising}
+use Rattle.puffin.specs.inner.view.Store.{AreHeld, AreStored}
 use Rattle.puffin.proofs.Placing.{rank_cmp_total}
 
 true≢false : true ≡ false → ⊥

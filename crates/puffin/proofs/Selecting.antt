@@ -4,8 +4,8 @@ use Rattle.std.specs.Prelude.{slice_get, filter_map}
 use Rattle.std.specs.Option.{option_map, option_to_list}
 use Rattle.std.specs.List.{cons_option}
 use Rattle.std.specs.List.Sorted.{IsSortedBy}
-use Rattle.puffin.specs.Frames.{Frame, index_of, duration_of}
-use Rattle.puffin.specs.Selection.{Rank, ranks_from}
+use Rattle.puffin.specs.View.ViewedFrames.{Frame, index_of, duration_of}
+use Rattle.puffin.specs.View.Selection.{Rank, ranks_from}
 use Rattle.puffin.proofs.Orders.{map-more, map-length}
 
 get_map : {F G : Type 0} (g : F → G) (xs : List F) (k : ℕ) (d : F) → get_or (map g xs) k (g d) ≡ g (get_or xs k d)

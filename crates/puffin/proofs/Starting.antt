@@ -1,7 +1,7 @@
 -- Starting each sibling as early as it can gives the least feasible starts.
 use Rattle.std.proofs.Common.{ℤ, pos, ◌≤ℤ◌, List, [], ◌∷◌, arith}
 use Rattle.std.proofs.lemmas.Int.{ints, clamps}
-use Rattle.puffin.specs.Starts.{Sibling, end_from, IsFree, IsFeasible, IsNowhereAbove, IsLeastFeasible, earliest_start, earliest}
+use Rattle.puffin.specs.Merge.Starts.{Sibling, end_from, IsFree, IsFeasible, IsNowhereAbove, IsLeastFeasible, earliest_start, earliest}
 
 own_below : (free : ℤ) (s : Sibling) → s.own_start ≤ℤ earliest_start free s
 own_below free s = omega (arith, ints, clamps)

@@ -11,13 +11,13 @@ use Rattle.std.specs.Cmp.{nat_cmp_total}
 use Rattle.std.specs.FinMap as fin
 use Rattle.std.proofs.lemmas.List.{drop-drop, length-drop}
 use Rattle.puffin.specs.declared.profile_view.slow_rank.SlowRank.{SlowRank}
-use Rattle.puffin.specs.Ranking.{place, last_from, last_in}
-use Rattle.puffin.specs.Frames.{Frame, index_of, duration_of, is_slower_frame, packed, packed_at, frames_by_index}
-use Rattle.puffin.specs.Held.{Held}
-use Rattle.puffin.specs.Ranks.{rank_of, rank_index, rank_cmp, is_before, rank_enters, has, LetsGo}
-use Rattle.puffin.specs.Kept.{AreRising, AreApart}
-use Rattle.puffin.specs.Views.{View, IsUpTo, enters_among}
-use Rattle.puffin.specs.Stored.{frames_at, AreHeld, has_index, AreStored}
+use Rattle.puffin.specs.View.Ranking.{place, last_from, last_in}
+use Rattle.puffin.specs.View.ViewedFrames.{Frame, index_of, duration_of, is_slower_frame, packed, packed_at, frames_by_index}
+use Rattle.puffin.specs.inner.view.Held.{Held}
+use Rattle.puffin.specs.inner.view.Ranks.{rank_of, rank_index, rank_cmp, is_before, rank_enters, has, LetsGo}
+use Rattle.puffin.specs.inner.view.Kept.{AreRising, AreApart}
+use Rattle.puffin.specs.View.{View, IsUpTo, enters_among}
+use Rattle.puffin.specs.inner.view.Store.{frames_at, AreHeld, has_index, AreStored}
 use Rattle.puffin.proofs.Keeping.{IsKept-packed}
 use Rattle.puffin.proofs.Placing.{rank_cmp_total}
 

@@ -15,16 +15,16 @@ use Rattle.puffin_data.specs.declared.error.Error.TheVariants.{Memory}
 use Rattle.puffin_data.specs.declared.data.info.StreamInfo.{StreamInfo}
 use Rattle.puffin_data.specs.Forest.{empty}
 use Rattle.puffin_data.specs.Honesty.{Recorded, recorded}
-use Rattle.puffin_data.specs.Visiting.{TakesAll, StopsEarly}
+use Rattle.puffin_data.specs.Walk.Visitor.{TakesAll, StopsEarly}
 use Rattle.puffin_frames.specs.declared.thread_profiler.thread_info.ThreadInfo.{ThreadInfo}
 use Rattle.puffin_frames.specs.declared.frame_data.unpacked.UnpackedFrameData.{UnpackedFrameData}
-use Rattle.puffin_frames.specs.Info.{info_of, info_cmp, thread_cmp, keyed}
-use Rattle.puffin_frames.specs.Contents.{records, unshared}
+use Rattle.puffin_frames.specs.Thread.Info.{info_of, info_cmp, thread_cmp, keyed}
+use Rattle.puffin_frames.specs.Frame.Contents.{records, unshared}
 use Rattle.puffin.specs.declared.merge.table.Table.{Table}
 use Rattle.puffin.specs.declared.merge.stream.Merging.{Merging}
-use Rattle.puffin.specs.FrameStreams.{bytes_of, most_tries_of}
-use Rattle.puffin.specs.Seen.{frame_bytes}
-use Rattle.puffin.specs.Merging.{TakesScopes, RefusesScope, takes_none}
+use Rattle.puffin.specs.Merge.FrameBytes.{bytes_of, most_tries_of}
+use Rattle.puffin.specs.Merge.Scopes.{frame_bytes}
+use Rattle.puffin.specs.inner.merge.Merging.{TakesScopes, RefusesScope, takes_none}
 
 abbrev Shared : Type 0
 Shared = Arc StreamInfo Global

@@ -7,12 +7,12 @@ use Rattle.std.specs.List.{AllByRecursion}
 use Rattle.puffin.specs.declared.merge.table.Table.{Table}
 use Rattle.puffin.specs.declared.merge.table.Node.{Node}
 use Rattle.puffin.specs.declared.merge.table.Key.{Key}
-use Rattle.puffin.specs.Occurrences.{Label, Path, Occurrence, is_path}
-use Rattle.puffin.specs.Pieces.{Merged, pieces_at, merged_at}
-use Rattle.puffin.specs.Merges.{below}
-use Rattle.puffin.specs.Refusals.{SumsFit}
-use Rattle.puffin.specs.Steps.{with_piece, one_piece}
-use Rattle.puffin.specs.Tables.{label_in, merged_in, path_at, IsSameKey, HasKey, IsFound, made_node, grown_node, IsNodeOf, IsTableOf, occurrence_at, FitsOneMore, AddsAt}
+use Rattle.puffin.specs.Merge.Occurrences.{Label, Path, Occurrence, is_path}
+use Rattle.puffin.specs.Merge.Pieces.{Merged, pieces_at, merged_at}
+use Rattle.puffin.specs.Merge.{below}
+use Rattle.puffin.specs.Merge.Refusals.{SumsFit}
+use Rattle.puffin.specs.inner.merge.OnePiece.{with_piece, one_piece}
+use Rattle.puffin.specs.inner.merge.Tables.{label_in, merged_in, path_at, IsSameKey, HasKey, IsFound, made_node, grown_node, IsNodeOf, IsTableOf, occurrence_at, FitsOneMore, AddsAt}
 use Rattle.puffin.proofs.Paths.{same_path, other_path, path_at-kept, path_at-new, path_at-set, top_path}
 use Rattle.puffin.proofs.Finding.{some_of, same_at, key_at-set, found_kept}
 use Rattle.puffin.proofs.Growing.{merged_at-other, merged_at-more, merged_at-first}

@@ -4,10 +4,10 @@ use Rattle.std.specs.Prelude.{nat_lt, nat_le, nat_eq, int_lt}
 use Rattle.std.specs.List.{AllByRecursion}
 use Rattle.std.specs.Option.{IfSome, option_map_or}
 use Rattle.std.proofs.Math.Seq.{drop-nil}
-use Rattle.puffin.specs.Ranking.{place, last_of, last_from, last_in}
-use Rattle.puffin_frames.specs.Stored.{Said}
-use Rattle.puffin.specs.Frames.{Frame, frame_index, contents_of, index_of, duration_of, is_slower, is_slower_frame, slowest, packed_at, packed, taken, rises_above}
-use Rattle.puffin.specs.Views.{View, emptied, with_packed, with_newest_packed, is_past, enters, joined_by, after_taking, after_all, Holds, IsUpTo, IsSteady, Took}
+use Rattle.puffin.specs.View.Ranking.{place, last_of, last_from, last_in}
+use Rattle.puffin_frames.specs.Packet.Stored.{Said}
+use Rattle.puffin.specs.View.ViewedFrames.{Frame, frame_index, contents_of, index_of, duration_of, is_slower, is_slower_frame, slowest, packed_at, packed, taken, rises_above}
+use Rattle.puffin.specs.View.{View, emptied, with_packed, with_newest_packed, is_past, enters, joined_by, after_taking, after_all, Holds, IsUpTo, IsSteady, Took}
 use Rattle.puffin.proofs.Rankings.{last_of-more, first_in_order-more, first_in_order-same}
 use Rattle.puffin.proofs.Orders.{slower_order, later_behind, map-place, map-take, map-drop, map-more, map-length, map-last_from, packed_at_says}
 

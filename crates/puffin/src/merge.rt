@@ -1,11 +1,11 @@
 //! Scopes of many frames, merged by their paths of ids and texts.
 
 ghost use Rattle.std.specs.Prelude.{◌≡◌, ◌≤◌, ◌⊎◌, length, IfOk, IfErr};
-ghost use Rattle.puffin_frames.specs.Info.{info_of};
-ghost use Rattle.puffin.specs.Occurrences.{occurrences};
-ghost use Rattle.puffin.specs.FrameStreams.{most_tries};
-ghost use Rattle.puffin.specs.Refusals.{IsRefusal, IsRefusalAfter, AreMerged, ReadsFew};
-ghost use Rattle.puffin.specs.Seen.{frames_bytes, forest_in};
+ghost use Rattle.puffin_frames.specs.Thread.Info.{info_of};
+ghost use Rattle.puffin.specs.Merge.Occurrences.{occurrences};
+ghost use Rattle.puffin.specs.Merge.FrameBytes.{most_tries};
+ghost use Rattle.puffin.specs.Merge.Refusals.{IsRefusal, IsRefusalAfter, AreMerged, ReadsFew};
+ghost use Rattle.puffin.specs.Merge.Scopes.{frames_bytes, forest_in};
 
 pub mod laws;
 mod scope;

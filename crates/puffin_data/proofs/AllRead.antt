@@ -3,8 +3,8 @@ use Rattle.std.proofs.Common.{◌≡◌, ℕ, List, [], ◌∷◌, ◌++◌, map
 use Rattle.std.proofs.lemmas.List.{map-append}
 use Rattle.puffin_data.specs.declared.error.Error.{Error}
 use Rattle.puffin_data.specs.declared.data.record.Scope.{Scope}
-use Rattle.puffin_data.specs.Lenient.{ReadScope, Place, next_after, scope_read, Reads, ends, stops, goes_on}
-use Rattle.puffin_data.specs.Scopes.{scope_seen, IsNextRead, ReadsScopes, ReadsFault}
+use Rattle.puffin_data.specs.Reader.{ReadScope, Place, next_after, scope_read, Reads, ends, stops, goes_on}
+use Rattle.puffin_data.specs.Reader.Scopes.{scope_seen, IsNextRead, ReadsScopes, ReadsFault}
 
 abbrev items : List Scope → List (Result ReadScope Error)
 items scopes = map (λ s. Ok s) (map scope_seen scopes)

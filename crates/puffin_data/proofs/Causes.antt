@@ -3,7 +3,7 @@ use Rattle.std.specs.Prelude.{◌≡◌, ℕ, ◌+◌, ◌-◌, ◌^◌, ◌⊎�
 use Rattle.std.proofs.Common.{true, false, inl, inr}
 use Rattle.puffin_data.specs.declared.error.Error.{Error}
 use Rattle.puffin_data.specs.declared.error.Error.TheVariants.{PrematureEnd, InvalidStream, ScopeNeverEnded}
-use Rattle.puffin_data.specs.Reading.{Found, reading, found_in, id_in, time_in, size_in, child_begin_in, child_end_in}
+use Rattle.puffin_data.specs.Walk.Reading.{Found, reading, found_in, id_in, time_in, size_in, child_begin_in, child_end_in}
 use Rattle.puffin_data.specs.Walk.{region, IsFault}
 
 abbrev Answer : Type 0

@@ -6,11 +6,11 @@ use Rattle.std.specs.Int.{int_min, int_max}
 use Rattle.puffin_data.specs.declared.error.Error.{Error}
 use Rattle.puffin_data.specs.declared.data.walk.Walk.{Walk}
 use Rattle.puffin_data.specs.Forest.{Span, Forest, empty, node, IsForest}
-use Rattle.puffin_data.specs.Measures.{scope_count, height, least_start, greatest_stop}
-use Rattle.puffin_data.specs.Spelling.{spelling, begin_bytes, end_bytes}
-use Rattle.puffin_data.specs.Reading.{Found}
+use Rattle.puffin_data.specs.Forest.Measures.{scope_count, height, least_start, greatest_stop}
+use Rattle.puffin_data.specs.Forest.Spelling.{spelling, begin_bytes, end_bytes}
+use Rattle.puffin_data.specs.Walk.Reading.{Found}
 use Rattle.puffin_data.specs.Walk.{region, IsSoundAt, IsFaultAt, Reaches, here, child, sibling, Sounds, no_more, one_more}
-use Rattle.puffin_data.specs.Walking.{counted, Visits, ends, goes_on}
+use Rattle.puffin_data.specs.inner.Walking.{counted, Visits, ends, goes_on}
 use Rattle.puffin_data.proofs.Numbers.{IsBytes, IsBytes-drop, IsBytes-take}
 use Rattle.puffin_data.proofs.Spelled.{spelt}
 use Rattle.puffin_data.proofs.Resuming.{found_places}

@@ -5,8 +5,8 @@ use Rattle.std.proofs.KnownBytes.{Consumes-nil, Consumes-trans}
 use Rattle.std.proofs.lemmas.List.{append-nil}
 use Rattle.puffin_data.specs.declared.file_error.FileError.{FileError}
 use Rattle.puffin_data.specs.declared.file_error.FileError.TheVariants as file
-use Rattle.puffin_data.specs.Devices.{FromDevice, FailsAt, IsOutside}
-use Rattle.puffin_data.specs.Parts.{◌>>=◌}
+use Rattle.puffin_data.specs.Device.{FromDevice, FailsAt, IsOutside}
+use Rattle.puffin_data.specs.Part.{◌>>=◌}
 use Rattle.puffin_data.proofs.Numbers.{IsBytes-nil, IsBytes-append}
 
 -- a fault of the device itself is no answer of a reading

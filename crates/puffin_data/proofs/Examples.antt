@@ -6,9 +6,9 @@ use Rattle.std.proofs.lemmas.List.Elements.{All-from_recursion}
 use Rattle.puffin_data.specs.declared.error.Error.{Error}
 use Rattle.puffin_data.specs.declared.error.Error.TheVariants.{PrematureEnd, InvalidStream, ScopeNeverEnded}
 use Rattle.puffin_data.specs.Forest.{Span, Forest, empty, node, IsSpan, IsForest}
-use Rattle.puffin_data.specs.Measures.{scope_count, height, least_start, greatest_stop}
-use Rattle.puffin_data.specs.Spelling.{spelling, begin_bytes, end_bytes}
-use Rattle.puffin_data.specs.Reading.{Found, reading, found_in, id_in, time_in, size_in}
+use Rattle.puffin_data.specs.Forest.Measures.{scope_count, height, least_start, greatest_stop}
+use Rattle.puffin_data.specs.Forest.Spelling.{spelling, begin_bytes, end_bytes}
+use Rattle.puffin_data.specs.Walk.Reading.{Found, reading, found_in, id_in, time_in, size_in}
 use Rattle.puffin_data.specs.Walk.{region, IsSoundAt, IsFaultAt, Reaches, here, child, sibling, IsFirstFault, no_more, one_more, Refuses}
 use Rattle.puffin_data.proofs.Regions.{whole_region, between, one_sound, sound_is_no_fault, nothing_is_no_fault, nothing_is_not_sound, ok_is_not_err}
 

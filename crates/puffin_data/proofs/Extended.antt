@@ -3,8 +3,8 @@ use Rattle.std.proofs.Common.{◌≡◌, ℕ, ◌+◌, List, ◌++◌, max, sym,
 use Rattle.std.specs.Int.{int_min, int_max}
 use Rattle.std.proofs.lemmas.Int.{ints, clamps}
 use Rattle.puffin_data.specs.Forest.{Forest, IsForest, empty, node, append}
-use Rattle.puffin_data.specs.Measures.{scope_count, height, least_start, greatest_stop}
-use Rattle.puffin_data.specs.Spelling.{spelling}
+use Rattle.puffin_data.specs.Forest.Measures.{scope_count, height, least_start, greatest_stop}
+use Rattle.puffin_data.specs.Forest.Spelling.{spelling}
 use Rattle.puffin_data.specs.Honesty.{Recorded, IsHonestRecord, joined}
 use Rattle.puffin_data.proofs.Unique.{spelling-append}
 use Rattle.puffin_data.proofs.Told.{least_in_range, greatest_in_range, from_most, from_least}

@@ -4,10 +4,10 @@ use Rattle.std.proofs.lemmas.List.{reverse-append, map-append, length-map}
 use Rattle.puffin_data.specs.declared.error.Error.{Error}
 use Rattle.puffin_data.specs.declared.data.visit.Region.{Region}
 use Rattle.puffin_data.specs.Forest.{Span}
-use Rattle.puffin_data.specs.Reading.{Found}
+use Rattle.puffin_data.specs.Walk.Reading.{Found}
 use Rattle.puffin_data.specs.Walk.{region, IsSoundAt, IsFaultAt}
-use Rattle.puffin_data.specs.Walking.{tries_in}
-use Rattle.puffin_data.specs.Goings.{End, whole, at_fault, at_refusal, IsEarly, Goes, ends, meets_fault, is_refused, stops_within, goes_on}
+use Rattle.puffin_data.specs.inner.Walking.{tries_in}
+use Rattle.puffin_data.specs.Walk.Going.{End, whole, at_fault, at_refusal, IsEarly, Goes, ends, meets_fault, is_refused, stops_within, goes_on}
 use Rattle.puffin_data.proofs.Resuming.{IsNested, nested_push, nested_pop, nested_low}
 
 pub data Resumes {V W : Type 0} (enters : V → W → Span → W → V → Type 0) (refuses : V → W → Span → Error → Type 0) (bytes : List ℕ) : List (Region W) → W → V → ℕ → ℕ → ℕ → End V → Type 0 where

@@ -6,11 +6,11 @@ use Rattle.std.specs.Str.{IsUtf8}
 use Rattle.std.proofs.lemmas.Str.{utf8_valid_len-IsUtf8}
 use Rattle.puffin_data.specs.declared.error.Error.{Error}
 use Rattle.puffin_data.specs.Text.{text_in}
-use Rattle.puffin_data.specs.Reading.{Found, reading, found_in}
+use Rattle.puffin_data.specs.Walk.Reading.{Found, reading, found_in}
 use Rattle.puffin_data.specs.Walk.{region, IsSoundAt}
 use Rattle.puffin_data.specs.declared.data.scope.Sighting.{Sighting}
-use Rattle.puffin_data.specs.Sightings.{found_of, seen}
-use Rattle.puffin_data.specs.Lenient.{ReadScope, read_scope, read_from, scope_read}
+use Rattle.puffin_data.specs.inner.Sightings.{found_of, seen}
+use Rattle.puffin_data.specs.Reader.{ReadScope, read_scope, read_from, scope_read}
 use Rattle.puffin_data.proofs.Found.{passes}
 use Rattle.puffin_data.proofs.Regions.{empty_region, nothing_is_no_fault}
 use Rattle.puffin_data.proofs.Resuming.{found_places}

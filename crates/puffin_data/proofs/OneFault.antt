@@ -1,7 +1,7 @@
 -- A place is reached with one end, so bytes have one first fault.
 use Rattle.std.proofs.Common.{◌≡◌, ℕ, ◌+◌, ◌≤◌, List, length, refl, sym, subst, ◌∙◌, arith, None, Err, inl, inr}
 use Rattle.puffin_data.specs.declared.error.Error.{Error}
-use Rattle.puffin_data.specs.Reading.{Found, IsFaultIn}
+use Rattle.puffin_data.specs.Walk.Reading.{Found, IsFaultIn}
 use Rattle.puffin_data.specs.Walk.{region, IsFaultAt, Reaches, here, child, sibling, IsFirstFault}
 use Rattle.puffin_data.proofs.Resuming.{found_places}
 use Rattle.puffin_data.proofs.Regions.{between, one_sound, ok_is_not_err, Answer}

@@ -1,7 +1,7 @@
 -- From each place on a reader gives one list.
 use Rattle.std.proofs.Common.{◌≡◌, ℕ, zero, suc, ◌-◌, ◌<◌, ◌≤◌, List, [], ◌∷◌, length, Option, Some, None, Result, Ok, Err, refl, sym, ap, ◌∙◌, subst, arith}
 use Rattle.puffin_data.specs.declared.error.Error.{Error}
-use Rattle.puffin_data.specs.Lenient.{ReadScope, scope_read, Reads, ends, stops, goes_on}
+use Rattle.puffin_data.specs.Reader.{ReadScope, scope_read, Reads, ends, stops, goes_on}
 use Rattle.puffin_data.proofs.Lenience.{next_within, fault_within}
 
 abbrev Answer : Type 0

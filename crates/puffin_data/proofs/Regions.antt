@@ -2,7 +2,7 @@
 use Rattle.std.proofs.Common.{◌≡◌, ℕ, ◌+◌, ◌-◌, ◌≤◌, List, [], length, take, drop, refl, sym, ap, ◌∙◌, arith, Option, Some, None, Result, Ok, Err, inl, inr}
 use Rattle.std.proofs.lemmas.List.{length-take, length-drop, take-take, drop-take, drop-drop, take_all}
 use Rattle.puffin_data.specs.declared.error.Error.{Error}
-use Rattle.puffin_data.specs.Reading.{Found, reading, IsFaultIn}
+use Rattle.puffin_data.specs.Walk.Reading.{Found, reading, IsFaultIn}
 use Rattle.puffin_data.specs.Walk.{region, Reaches, here, child, sibling}
 use Rattle.puffin_data.proofs.Resuming.{found_places}
 

@@ -4,9 +4,9 @@ use Rattle.std.proofs.lemmas.List.{length-take, length-drop, length-reverse, rev
 use Rattle.puffin_data.proofs.Found.{Places, places}
 use Rattle.puffin_data.specs.declared.error.Error.{Error}
 use Rattle.puffin_data.specs.declared.data.walk.Walk.{Walk}
-use Rattle.puffin_data.specs.Reading.{Found}
+use Rattle.puffin_data.specs.Walk.Reading.{Found}
 use Rattle.puffin_data.specs.Walk.{IsSoundAt, IsFaultAt}
-use Rattle.puffin_data.specs.Walking.{uncounted, Stopped, Stop, Visits, ends, stops, stops_within, goes_on, counted, tries_in}
+use Rattle.puffin_data.specs.inner.Walking.{uncounted, Stopped, Stop, Visits, ends, stops, stops_within, goes_on, counted, tries_in}
 use Rattle.puffin_data.specs.Walk.{region}
 
 pub data Resumes (bytes : List ℕ) : List ℕ → Walk → ℕ → ℕ → Result Walk Stop → Type 0 where

@@ -3,9 +3,9 @@ use Rattle.std.proofs.Common.{◌≡◌, ℕ, zero, suc, ◌+◌, ◌-◌, ◌<�
 use Rattle.std.specs.Prelude.{nat_lt}
 use Rattle.std.proofs.lemmas.List.Elements.{filter-append}
 use Rattle.puffin_data.specs.Forest.{Span}
-use Rattle.puffin_data.specs.Reading.{Found, reading}
+use Rattle.puffin_data.specs.Walk.Reading.{Found, reading}
 use Rattle.puffin_data.specs.Walk.{region}
-use Rattle.puffin_data.specs.Sights.{Sight, Sees, no_sight, one_sight, before}
+use Rattle.puffin_data.specs.Walk.Sights.{Sight, Sees, no_sight, one_sight, before}
 use Rattle.puffin_data.proofs.Resuming.{found_places}
 use Rattle.puffin_data.proofs.Regions.{one_sound, ok_is_not_err, none_is_not_some, Answer}
 

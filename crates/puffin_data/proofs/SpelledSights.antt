@@ -1,10 +1,10 @@
 -- In the spelling of a forest a walk meets its scopes, in their order.
 use Rattle.std.proofs.Common.{◌≡◌, ℕ, ◌+◌, ◌-◌, ◌≤◌, ◌<◌, ◌^◌, List, [], ◌∷◌, ◌++◌, length, take, drop, refl, ap, subst, ◌∙◌, arith}
 use Rattle.puffin_data.specs.Forest.{Span, Forest, empty, node, IsForest}
-use Rattle.puffin_data.specs.Spelling.{spelling, Spells}
-use Rattle.puffin_data.specs.Reading.{Found, reading}
+use Rattle.puffin_data.specs.Forest.Spelling.{spelling, Spells}
+use Rattle.puffin_data.specs.Walk.Reading.{Found, reading}
 use Rattle.puffin_data.specs.Walk.{region}
-use Rattle.puffin_data.specs.Sights.{Nested, nested_in, Sight, Sees, no_sight, one_sight, scopes_of}
+use Rattle.puffin_data.specs.Walk.Sights.{Nested, nested_in, Sight, Sees, no_sight, one_sight, scopes_of}
 use Rattle.puffin_data.proofs.Again.{found_at, reads_again}
 use Rattle.puffin_data.proofs.Regions.{length-region, part_of_region, rest_of_region, whole_region, nothing_is_not_sound, one_sound}
 use Rattle.puffin_data.proofs.Resuming.{found_places}

@@ -1,10 +1,10 @@
 -- A reader of a forest's spelling gives its top scopes.
 use Rattle.std.proofs.Common.{◌≡◌, ℕ, ◌+◌, ◌<◌, ◌≤◌, ◌^◌, List, map, length, drop, Ok, ap, ◌∙◌, arith}
 use Rattle.puffin_data.specs.Forest.{Forest, empty, node, IsForest}
-use Rattle.puffin_data.specs.Spelling.{spelling, Spells}
-use Rattle.puffin_data.specs.Reading.{reading}
+use Rattle.puffin_data.specs.Forest.Spelling.{spelling, Spells}
+use Rattle.puffin_data.specs.Walk.Reading.{reading}
 use Rattle.puffin_data.specs.Walk.{region}
-use Rattle.puffin_data.specs.Lenient.{read_from, Reads, ends, goes_on, top_scopes}
+use Rattle.puffin_data.specs.Reader.{read_from, Reads, ends, goes_on, top_scopes}
 use Rattle.puffin_data.proofs.Again.{found_at, reads_again}
 use Rattle.puffin_data.proofs.Regions.{length-region, rest_of_region, whole_region}
 use Rattle.puffin_data.proofs.Resuming.{found_places}

@@ -2,7 +2,7 @@
 use Rattle.std.proofs.Common.{◌≡◌, ℕ, ℤ, List, [], ◌∷◌, ◌++◌, refl, sym, ap, ◌∙◌, append_assoc}
 use Rattle.std.proofs.lemmas.List.{append-nil}
 use Rattle.puffin_data.specs.Forest.{Span, Forest, empty, node, append}
-use Rattle.puffin_data.specs.Tour.{Event, Open, Close, tour}
+use Rattle.puffin_data.specs.Forest.Tour.{Event, Open, Close, tour}
 
 pub tour-append : (f g : Forest) → tour (append f g) ≡ tour f ++ tour g
 tour-append empty g = refl

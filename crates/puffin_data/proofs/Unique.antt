@@ -4,8 +4,8 @@ use Rattle.std.proofs.lemmas.List.{length-append, take_at, drop_at, drop-drop}
 use Rattle.byteorder.specs.Endian.{little_bytes}
 use Rattle.puffin_data.specs.declared.error.Error.{Error}
 use Rattle.puffin_data.specs.Forest.{Span, Forest, empty, node, append, IsForest}
-use Rattle.puffin_data.specs.Spelling.{spelling, begin_bytes, end_bytes}
-use Rattle.puffin_data.specs.Reading.{Found, reading}
+use Rattle.puffin_data.specs.Forest.Spelling.{spelling, begin_bytes, end_bytes}
+use Rattle.puffin_data.specs.Walk.Reading.{Found, reading}
 use Rattle.puffin_data.specs.Walk.{region, IsFaultAt, Reaches, here, child, sibling}
 use Rattle.puffin_data.proofs.Again.{found_at, reads_again}
 use Rattle.puffin_data.proofs.Regions.{length-region, part_of_region, rest_of_region, sound_is_no_fault, nothing_is_no_fault, nothing_is_not_sound, one_sound}

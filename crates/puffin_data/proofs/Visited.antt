@@ -3,13 +3,13 @@ use Rattle.std.proofs.Common.{◌≡◌, ℕ, ◌+◌, ◌-◌, ◌≤◌, List,
 use Rattle.std.proofs.lemmas.List.{length-append, get_or-take, get_or-drop, map-append}
 use Rattle.puffin_data.specs.declared.error.Error.{Error}
 use Rattle.puffin_data.specs.Forest.{Span, Forest, empty, node, IsForest}
-use Rattle.puffin_data.specs.Spelling.{spelling}
-use Rattle.puffin_data.specs.Reading.{Found}
+use Rattle.puffin_data.specs.Forest.Spelling.{spelling}
+use Rattle.puffin_data.specs.Walk.Reading.{Found}
 use Rattle.puffin_data.specs.Walk.{region, IsFaultAt, Reaches, here, child, sibling}
-use Rattle.puffin_data.specs.Walking.{tries_in}
-use Rattle.puffin_data.specs.Sights.{Nested, nested_in, Sight, Sees, no_sight, one_sight, scopes_of, before}
-use Rattle.puffin_data.specs.Visiting.{TakesAll, StopsAtFault, StopsAtRefusal}
-use Rattle.puffin_data.specs.Goings.{whole, at_fault, at_refusal, Entering, Refusing, Goes, ends, meets_fault, is_refused, stops_within, goes_on, Visits}
+use Rattle.puffin_data.specs.inner.Walking.{tries_in}
+use Rattle.puffin_data.specs.Walk.Sights.{Nested, nested_in, Sight, Sees, no_sight, one_sight, scopes_of, before}
+use Rattle.puffin_data.specs.Walk.Visitor.{TakesAll, StopsAtFault, StopsAtRefusal}
+use Rattle.puffin_data.specs.Walk.Going.{whole, at_fault, at_refusal, Entering, Refusing, Goes, ends, meets_fault, is_refused, stops_within, goes_on, Visits}
 use Rattle.puffin_data.proofs.Numbers.{IsBytes, IsBytes-drop, IsBytes-take}
 use Rattle.puffin_data.proofs.Spelled.{spelt}
 use Rattle.puffin_data.proofs.Resuming.{found_places}

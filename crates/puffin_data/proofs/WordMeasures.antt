@@ -5,10 +5,10 @@ use Rattle.std.proofs.lemmas.Int.{ints, clamps}
 use Rattle.byteorder.specs.Endian.{little_bytes}
 use Rattle.byteorder.specs.Numbers.{length-bytes_low_first}
 use Rattle.puffin_data.specs.Forest.{Forest, empty, node}
-use Rattle.puffin_data.specs.Measures.{scope_count, height, least_start, greatest_stop}
-use Rattle.puffin_data.specs.Spelling.{spelling, begin_bytes, end_bytes, time_bytes}
-use Rattle.puffin_data.specs.Tour.{Event, Open, Close, tour}
-use Rattle.puffin_data.specs.Words.{word_size, num_begun, open_after, most_open, least_open, greatest_close}
+use Rattle.puffin_data.specs.Forest.Measures.{scope_count, height, least_start, greatest_stop}
+use Rattle.puffin_data.specs.Forest.Spelling.{spelling, begin_bytes, end_bytes, time_bytes}
+use Rattle.puffin_data.specs.Forest.Tour.{Event, Open, Close, tour}
+use Rattle.puffin_data.specs.Forest.Words.{word_size, num_begun, open_after, most_open, least_open, greatest_close}
 
 min_assoc : (x y z : ℤ) → int_min x (int_min y z) ≡ int_min (int_min x y) z
 min_assoc x y z = omega (arith, ints, clamps)

@@ -1,7 +1,7 @@
 -- What stands in a stream after one piece was put after another.
 use Rattle.std.proofs.Common.{◌≡◌, ℕ, ◌+◌, ◌-◌, ℤ, List, [], ◌∷◌, ◌++◌, length, take, drop, ap, ◌∙◌, append_assoc}
 use Rattle.byteorder.specs.Endian.{little_bytes}
-use Rattle.puffin_data.specs.Spelling.{begin_bytes, end_bytes, time_bytes}
+use Rattle.puffin_data.specs.Forest.Spelling.{begin_bytes, end_bytes, time_bytes}
 
 three : (old a b c : List ℕ) → ((old ++ a) ++ b) ++ c ≡ old ++ (a ++ (b ++ c))
 three old a b c = simp append_assoc

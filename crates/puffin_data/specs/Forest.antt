@@ -1,4 +1,9 @@
 -- Profiled scopes as a forest, and when it can be written.
+pub mod Measures
+pub mod Spelling
+pub mod Tour
+pub mod Words
+pub mod Open
 use Rattle.std.specs.Prelude.{ℕ, ◌<◌, ◌^◌, ℤ, ◌-ℤ◌, ◌≤ℤ◌, FitsSigned, List, length}
 use Rattle.std.specs.List.{All}
 use Rattle.std.specs.Int.{w64}

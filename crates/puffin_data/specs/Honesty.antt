@@ -5,8 +5,8 @@ use Rattle.puffin_data.specs.declared.data.walk.Walk.{Walk}
 use Rattle.puffin_data.specs.declared.data.info.StreamInfo.{StreamInfo}
 use Rattle.puffin_data.specs.declared.data.info.StreamInfoRef.{StreamInfoRef}
 use Rattle.puffin_data.specs.Forest.{Forest}
-use Rattle.puffin_data.specs.Measures.{scope_count, height, least_start, greatest_stop}
-use Rattle.puffin_data.specs.Spelling.{Spells}
+use Rattle.puffin_data.specs.Forest.Measures.{scope_count, height, least_start, greatest_stop}
+use Rattle.puffin_data.specs.Forest.Spelling.{Spells}
 
 -- these numbers are the measures of a forest
 pub record Counts (w : Walk) (f : Forest) : Type 0 where

@@ -1,8 +1,12 @@
 -- What a walk over bytes reaches, where its first fault stands, and how many scopes it tries to read.
+pub mod Reading
+pub mod Sights
+pub mod Visitor
+pub mod Going
 use Rattle.std.specs.Prelude.{◌≡◌, ℕ, ◌+◌, ◌-◌, ◌≤◌, List, [], ◌∷◌, ◌++◌, length, take, drop, slice_index, nat_lt, ◌==◌, if◌then◌else◌, Some, Ok}
 use Rattle.std.specs.List.{count_by}
 use Rattle.puffin_data.specs.declared.error.Error.{Error}
-use Rattle.puffin_data.specs.Reading.{Found, reading, IsFaultIn}
+use Rattle.puffin_data.specs.Walk.Reading.{Found, reading, IsFaultIn}
 
 -- the bytes from place p to place e
 abbrev pub region : List ℕ → ℕ → ℕ → List ℕ

@@ -1,6 +1,6 @@
 ghost use Rattle.std.specs.Prelude.{◌≡◌};
 ghost use Rattle.puffin_data.specs.declared.error.Error.TheVariants.{Memory};
-ghost use Rattle.puffin_data.specs.Errors.{error_number, error_name};
+ghost use Rattle.puffin_data.specs.Cause.{error_number, error_name};
 
 use std::alloc::{AllocError, AllocFailed};
 use std::fmt;
@@ -86,7 +86,7 @@ impl Error {
 
 impl fmt::Display for Error {
     ghost use Rattle.std.specs.Prelude.{Some};
-    ghost use Rattle.puffin_data.specs.Errors.{error_name};
+    ghost use Rattle.puffin_data.specs.Cause.{error_name};
 
     ghost output = { λ e. Some (error_name e) };
 

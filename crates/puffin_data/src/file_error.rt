@@ -1,6 +1,6 @@
 ghost use Rattle.std.specs.Prelude.{◌≡◌};
 ghost use Rattle.puffin_data.specs.declared.file_error.FileError.TheVariants.{Memory};
-ghost use Rattle.puffin_data.specs.Errors.{file_error_number, file_error_name};
+ghost use Rattle.puffin_data.specs.Cause.{file_error_number, file_error_name};
 
 use crate::error::Error;
 use std::alloc::{AllocError, AllocFailed};
@@ -88,7 +88,7 @@ impl FileError {
 
 impl fmt::Display for FileError {
     ghost use Rattle.std.specs.Prelude.{Some};
-    ghost use Rattle.puffin_data.specs.Errors.{file_error_text};
+    ghost use Rattle.puffin_data.specs.Cause.{file_error_text};
 
     ghost output = { λ e. Some (file_error_text e) };
 

@@ -1,5 +1,5 @@
 ghost use Rattle.std.specs.Prelude.{◌≡◌};
-ghost use Rattle.puffin_data.specs.Counting.{failed_calls};
+ghost use Rattle.puffin_data.specs.Device.Counting.{failed_calls};
 
 use puffin_data::data::{
     Counted, Source, read_byte, read_counted_part, read_length, read_part, read_up_to,

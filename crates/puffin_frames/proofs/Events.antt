@@ -7,14 +7,14 @@ use Rattle.std.proofs.Math.Facts.{Fits-of_z}
 use Rattle.byteorder.specs.Endian.{little_bytes, little_number}
 use Rattle.byteorder.specs.Numbers.{little_number-reads_back, length-bytes_low_first}
 use Rattle.puffin_data.specs.Forest.{Forest, IsForest, empty, node}
-use Rattle.puffin_data.specs.Spelling.{spelling, begin_bytes, end_bytes, time_bytes}
-use Rattle.puffin_data.specs.Reading.{id_in, time_in, text_size_in, child_begin_in}
-use Rattle.puffin_data.specs.Tour.{Event, Open, Close, tour}
-use Rattle.puffin_data.specs.Words.{word_size}
-use Rattle.puffin_data.specs.Opens.{Opened, opening_bytes, open_spelling, opening_word, open_word}
+use Rattle.puffin_data.specs.Forest.Spelling.{spelling, begin_bytes, end_bytes, time_bytes}
+use Rattle.puffin_data.specs.Walk.Reading.{id_in, time_in, text_size_in, child_begin_in}
+use Rattle.puffin_data.specs.Forest.Tour.{Event, Open, Close, tour}
+use Rattle.puffin_data.specs.Forest.Words.{word_size}
+use Rattle.puffin_data.specs.Forest.Open.{Opened, opening_bytes, open_spelling, opening_word, open_word}
 use Rattle.puffin_data.proofs.Opening.{open_size}
-use Rattle.puffin_frames.specs.Events.{open_in, events_from, events_in}
-use Rattle.puffin_frames.specs.Recordings.{StartedBy}
+use Rattle.puffin_frames.specs.Thread.Events.{open_in, events_from, events_in}
+use Rattle.puffin_frames.specs.inner.ThreadRecording.{StartedBy}
 
 test_eq : (a b : ℕ) → a ≡ b → eqb a b ≡ true
 test_eq a b h = grind arith

@@ -13,11 +13,11 @@ use Rattle.std.proofs.lemmas.Int.{ints, clamps}
 use Rattle.std.proofs.lemmas.Grind.{merely, not_there}
 use Rattle.puffin_data.specs.Forest.{Forest, IsForest, append}
 use Rattle.puffin_data.specs.Forest as forest
-use Rattle.puffin_data.specs.Measures as measure
+use Rattle.puffin_data.specs.Forest.Measures as measure
 use Rattle.puffin_data.specs.Honesty.{Recorded, IsHonestRecord, joined}
-use Rattle.puffin_frames.specs.Info.{Info, info_cmp, same_info}
-use Rattle.puffin_frames.specs.Contents.{Streams, reported_to, no_scopes, AreHonest}
-use Rattle.puffin_frames.specs.Measures.{total_scopes, least_start, greatest_stop, joined_range, IsOrdered}
+use Rattle.puffin_frames.specs.Thread.Info.{Info, info_cmp, same_info}
+use Rattle.puffin_frames.specs.Frame.Contents.{Streams, reported_to, no_scopes, AreHonest}
+use Rattle.puffin_frames.specs.Frame.Sums.{total_scopes, least_start, greatest_stop, joined_range, IsOrdered}
 use Rattle.puffin_frames.proofs.Infos.{info_cmp_total, info_cmp-one}
 use Rattle.puffin_frames.proofs.Measured.{first, second, less, total_scopes-one}
 use Rattle.puffin_frames.proofs.Ranges.{least_start-one, greatest_stop-one}

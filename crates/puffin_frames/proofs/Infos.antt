@@ -10,7 +10,7 @@ use Rattle.std.specs.Option.{option_cmp, option_eq}
 use Rattle.std.specs.Cmp.{IsTotalOrder, then_total, on_total, int_cmp_total, Equal-is, eq_by_cmp_equiv}
 use Rattle.std.specs.Cmp.Lexicographic.{slice_cmp, options_total, nat_list_cmp_total, texts_ties}
 use Rattle.std.specs.FinMap.{IsAntisymmetric, nat_cmp-IsAntisymmetric, int_cmp-IsAntisymmetric, slice_cmp-IsAntisymmetric}
-use Rattle.puffin_frames.specs.Info.{Info, info_of, info_cmp, thread_cmp, same_info}
+use Rattle.puffin_frames.specs.Thread.Info.{Info, info_of, info_cmp, thread_cmp, same_info}
 
 pub info_cmp_total : IsTotalOrder info_cmp
 info_cmp_total = then_total (on_total (λ (i : Info). i.start) (options_total int_cmp_total)) (on_total (λ (i : Info). i.name) nat_list_cmp_total)

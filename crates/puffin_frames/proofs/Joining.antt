@@ -4,7 +4,7 @@ use Rattle.std.specs.List.{fold}
 use Rattle.std.specs.Int.{int_min, int_max}
 use Rattle.puffin_data.specs.Honesty.{Recorded}
 use Rattle.puffin_frames.specs.declared.frame_data.meta.FrameMeta.{FrameMeta}
-use Rattle.puffin_frames.specs.Measures.{total_bytes, total_scopes, least_start, greatest_stop, meta_of, TotalsFit}
+use Rattle.puffin_frames.specs.Frame.Sums.{total_bytes, total_scopes, least_start, greatest_stop, meta_of, TotalsFit}
 
 -- the bytes, scopes, starts and stops of infos, joined to what is there already
 abbrev pub bytes_from : ℕ → List Recorded → ℕ

@@ -11,8 +11,8 @@ use Rattle.puffin_frames.specs.declared.thread_profiler.thread_info.ThreadInfo.{
 use Rattle.std.proofs.lemmas.Map.Made.{keys_of-map_values}
 use Rattle.puffin_data.specs.Honesty.{recorded}
 use Rattle.puffin_data.specs.declared.data.info.StreamInfo.{StreamInfo}
-use Rattle.puffin_frames.specs.Contents.{records, streams_of}
-use Rattle.puffin_frames.specs.Info.{info_cmp, info_of, thread_cmp, keyed, by_info}
+use Rattle.puffin_frames.specs.Frame.Contents.{records, streams_of}
+use Rattle.puffin_frames.specs.Thread.Info.{info_cmp, info_of, thread_cmp, keyed, by_info}
 use Rattle.puffin_frames.proofs.Infos.{info_cmp_total, info_cmp-one}
 use Rattle.puffin_frames.proofs.Seen.{insert-seen, entries-seen}
 

@@ -4,13 +4,13 @@ use Rattle.std.proofs.lemmas.Bool.{le-ltb}
 use Rattle.std.proofs.lemmas.List.{length-append}
 use Rattle.byteorder.specs.Endian.{little_bytes, little_number}
 use Rattle.byteorder.specs.Numbers.{little_number-reads_back}
-use Rattle.puffin_data.specs.Layout.{number, signed}
+use Rattle.puffin_data.specs.Value.Layout.{number, signed}
 use Rattle.puffin_data.proofs.Readers.{whole_again}
 use Rattle.puffin_frames.specs.Details.{Details}
-use Rattle.puffin_frames.specs.Values.{meta_layout, streams_layout, Legacy, IsLegacy, legacy_layout, legacy_at}
-use Rattle.puffin_frames.specs.Stored.{Said, packed, legacy}
-use Rattle.puffin_frames.specs.Steps.{streams_part_at, packed_at, legacy_part_at, is_packet, is_end, stored_after, next_at, counted, IsPacked, as_stored}
-use Rattle.puffin_frames.specs.Packets.{packet_without_details, packet_without_kind, legacy_bytes, IsFirstForm}
+use Rattle.puffin_frames.specs.Packet.Structs.{meta_layout, streams_layout, Legacy, IsLegacy, legacy_layout, legacy_at}
+use Rattle.puffin_frames.specs.Packet.Stored.{Said, packed, legacy}
+use Rattle.puffin_frames.specs.Packet.Steps.{streams_part_at, packed_at, legacy_part_at, is_packet, is_end, stored_after, next_at, counted, IsPacked, as_stored}
+use Rattle.puffin_frames.specs.Packet.Grammar.{packet_without_details, packet_without_kind, legacy_bytes, IsFirstForm}
 use Rattle.puffin_frames.proofs.Structs.{legacy_reader}
 use Rattle.puffin_frames.proofs.Writing.{number_long}
 use Rattle.puffin_frames.proofs.Reading.{after_header, not_end}

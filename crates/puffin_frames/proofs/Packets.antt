@@ -5,12 +5,12 @@ use Rattle.std.proofs.lemmas.List.{take_at, drop_at, length-append}
 use Rattle.byteorder.specs.Endian.{little_bytes, little_number}
 use Rattle.byteorder.specs.Numbers.{little_number-reads_back}
 use Rattle.puffin_data.specs.declared.file_error.FileError.{FileError}
-use Rattle.puffin_data.specs.Parts.{part_of, length_at, counted_part_at}
-use Rattle.puffin_data.specs.Layout.{NoneBeginsAnother}
+use Rattle.puffin_data.specs.Part.{part_of, length_at, counted_part_at}
+use Rattle.puffin_data.specs.Value.Layout.{NoneBeginsAnother}
 use Rattle.puffin_data.proofs.Readers.{whole_again}
-use Rattle.puffin_frames.specs.Values.{IsMeta, meta_layout, meta_at, AreDetails, details_layout, details_at}
-use Rattle.puffin_frames.specs.Stored.{Said, Stored, packed}
-use Rattle.puffin_frames.specs.Steps.{meta_part_at, streams_part_at, details_part_at, packed_at, next_at, counted, packet_head, packet, IsPacked, as_stored}
+use Rattle.puffin_frames.specs.Packet.Structs.{IsMeta, meta_layout, meta_at, AreDetails, details_layout, details_at}
+use Rattle.puffin_frames.specs.Packet.Stored.{Said, Stored, packed}
+use Rattle.puffin_frames.specs.Packet.Steps.{meta_part_at, streams_part_at, details_part_at, packed_at, next_at, counted, packet_head, packet, IsPacked, as_stored}
 use Rattle.puffin_frames.proofs.Structs.{meta_reader, details_reader}
 use Rattle.puffin_frames.proofs.Writing.{meta_short}
 

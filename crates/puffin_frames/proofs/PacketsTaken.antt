@@ -6,16 +6,16 @@ use Rattle.std.proofs.lemmas.List.{append-nil, take_all, take-append-drop, lengt
 use Rattle.byteorder.specs.Endian.{little_bytes, little_number}
 use Rattle.puffin_data.specs.declared.file_error.FileError.{FileError}
 use Rattle.puffin_data.specs.declared.file_error.FileError.TheVariants as file
-use Rattle.puffin_data.specs.Layout.{IsBytes, number}
-use Rattle.puffin_data.specs.Devices.{FromDevice}
-use Rattle.puffin_data.specs.Parts.{◌>>=◌, part_of, length_at}
+use Rattle.puffin_data.specs.Value.Layout.{IsBytes, number}
+use Rattle.puffin_data.specs.Device.{FromDevice}
+use Rattle.puffin_data.specs.Part.{◌>>=◌, part_of, length_at}
 use Rattle.puffin_data.proofs.Numbers.{IsBytes-take, IsBytes-drop, IsBytes-nil, IsBytes-append, bytes_4, below_4}
 use Rattle.puffin_data.proofs.Readers.{IsBytes-after}
 use Rattle.puffin_frames.specs.Details.{Details}
-use Rattle.puffin_frames.specs.Values.{meta_layout, details_layout, Legacy, legacy_layout}
-use Rattle.puffin_frames.specs.Stored.{Said, Stored, packed, legacy}
-use Rattle.puffin_frames.specs.Steps.{meta_part_at, kind_at, streams_part_at, details_part_at, packed_at, legacy_part_at, is_packet, form_at, as_stored, stored_after, is_end, next_at, counted, packet_head, packet, IsPacked}
-use Rattle.puffin_frames.specs.Packets.{packet_without_details, packet_without_kind, legacy_bytes, Stores, TookStored}
+use Rattle.puffin_frames.specs.Packet.Structs.{meta_layout, details_layout, Legacy, legacy_layout}
+use Rattle.puffin_frames.specs.Packet.Stored.{Said, Stored, packed, legacy}
+use Rattle.puffin_frames.specs.Packet.Steps.{meta_part_at, kind_at, streams_part_at, details_part_at, packed_at, legacy_part_at, is_packet, form_at, as_stored, stored_after, is_end, next_at, counted, packet_head, packet, IsPacked}
+use Rattle.puffin_frames.specs.Packet.Grammar.{packet_without_details, packet_without_kind, legacy_bytes, Stores, TookStored}
 use Rattle.puffin_frames.proofs.Listed.{and-first, and-second}
 use Rattle.puffin_frames.proofs.Writing.{number_short}
 use Rattle.puffin_frames.proofs.PartsTaken.{bind_ok, same_ok, part_taken, length_taken, meta_taken, given_kind_at, kind_taken, details_taken, LegacyTaken, legacy_taken}

@@ -8,17 +8,17 @@ use Rattle.std.proofs.lemmas.Option.{same_Some}
 use Rattle.puffin_data.specs.declared.file_error.FileError.{FileError}
 use Rattle.puffin_data.specs.declared.file_error.FileError.TheVariants as file
 use Rattle.puffin_data.specs.Honesty.{Recorded}
-use Rattle.puffin_data.specs.Layout.{IsBytes}
-use Rattle.puffin_data.specs.Front.{whole}
+use Rattle.puffin_data.specs.Value.Layout.{IsBytes}
+use Rattle.puffin_data.specs.Value.Decoding.{whole}
 use Rattle.puffin_data.proofs.Readers.{whole_again, whole_taken}
 use Rattle.puffin_frames.specs.declared.frame_data.held.Held.{Held}
 use Rattle.puffin_frames.specs.declared.frame_data.held.Held.TheVariants.{Own, Shared, Packed, Both}
-use Rattle.puffin_frames.specs.Contents.{packed_as, held_as}
-use Rattle.puffin_frames.specs.Tries.{DecidedInMemory}
-use Rattle.puffin_frames.specs.Info.{Info, info_cmp}
-use Rattle.puffin_frames.specs.ThreadStreams.{Streams}
-use Rattle.puffin_frames.specs.Values.{AreStreams, streams_layout, streams_at}
-use Rattle.puffin_frames.specs.Holding.{Packing, HoldsStreams, or_bad, unpacked_from, Holding, streams_in, if_packed, either_content, held_contents, Agree, IsHolding, packing, plainly_packed, as_packed, as_unpacked}
+use Rattle.puffin_frames.specs.Frame.Contents.{packed_as, held_as}
+use Rattle.puffin_frames.specs.inner.Tries.{DecidedInMemory}
+use Rattle.puffin_frames.specs.Thread.Info.{Info, info_cmp}
+use Rattle.puffin_frames.specs.Frame.Streams.{Streams}
+use Rattle.puffin_frames.specs.Packet.Structs.{AreStreams, streams_layout, streams_at}
+use Rattle.puffin_frames.specs.Frame.Holding.{Packing, HoldsStreams, or_bad, unpacked_from, Holding, streams_in, if_packed, either_content, held_contents, Agree, IsHolding, packing, plainly_packed, as_packed, as_unpacked}
 use Rattle.puffin_frames.proofs.Structs.{streams_reader}
 use Rattle.puffin_frames.proofs.Listed.{holds}
 use Rattle.puffin_frames.proofs.PartsTaken.{same_ok}

@@ -6,15 +6,15 @@ use Rattle.std.proofs.lemmas.List.{take_at, take_all, take-append-drop, length-t
 use Rattle.byteorder.specs.Endian.{little_bytes, little_number}
 use Rattle.puffin_data.specs.declared.file_error.FileError.{FileError}
 use Rattle.puffin_data.specs.declared.file_error.FileError.TheVariants as file
-use Rattle.puffin_data.specs.Layout.{IsBytes}
-use Rattle.puffin_data.specs.Front.{whole}
-use Rattle.puffin_data.specs.Parts.{◌>>=◌, part_of, first_at, length_at, counted_part_at}
+use Rattle.puffin_data.specs.Value.Layout.{IsBytes}
+use Rattle.puffin_data.specs.Value.Decoding.{whole}
+use Rattle.puffin_data.specs.Part.{◌>>=◌, part_of, first_at, length_at, counted_part_at}
 use Rattle.puffin_data.proofs.Numbers.{IsBytes-take, bytes_4, below_4}
 use Rattle.puffin_data.proofs.Readers.{IsBytes-after, whole_taken}
 use Rattle.puffin_frames.specs.declared.frame_data.meta.FrameMeta.{FrameMeta}
 use Rattle.puffin_frames.specs.Details.{Details}
-use Rattle.puffin_frames.specs.Values.{IsMeta, meta_layout, meta_at, AreDetails, details_layout, details_at, Legacy, IsLegacy, legacy_layout, legacy_at}
-use Rattle.puffin_frames.specs.Steps.{is_range_at, meta_with_range, meta_from, meta_part_at, kind_from, details_from, given_details_at, legacy_with_range, legacy_from, legacy_part_at, counted}
+use Rattle.puffin_frames.specs.Packet.Structs.{IsMeta, meta_layout, meta_at, AreDetails, details_layout, details_at, Legacy, IsLegacy, legacy_layout, legacy_at}
+use Rattle.puffin_frames.specs.Packet.Steps.{is_range_at, meta_with_range, meta_from, meta_part_at, kind_from, details_from, given_details_at, legacy_with_range, legacy_from, legacy_part_at, counted}
 use Rattle.puffin_frames.proofs.Structs.{meta_reader, details_reader, legacy_reader}
 
 -- ---- steps

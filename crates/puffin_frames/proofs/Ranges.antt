@@ -3,7 +3,7 @@ use Rattle.std.proofs.Common.{◌≡◌, List, [], ◌∷◌, ◌++◌, sym, ap,
 use Rattle.std.specs.Int.{int_min, int_max}
 use Rattle.std.proofs.lemmas.Int.{ints, clamps}
 use Rattle.puffin_data.specs.Honesty.{Recorded}
-use Rattle.puffin_frames.specs.Measures.{least_start, greatest_stop}
+use Rattle.puffin_frames.specs.Frame.Sums.{least_start, greatest_stop}
 use Rattle.puffin_frames.proofs.Joining.{start_from, stop_from}
 
 -- what is there already is joined like a start of its own

@@ -9,16 +9,16 @@ use Rattle.std.proofs.lemmas.List.{drop_all}
 use Rattle.byteorder.specs.Endian.{little_number}
 use Rattle.puffin_data.specs.declared.file_error.FileError.{FileError}
 use Rattle.puffin_data.specs.declared.file_error.FileError.TheVariants as file
-use Rattle.puffin_data.specs.Devices.{FromDevice, FailsAt}
-use Rattle.puffin_data.specs.Layout.{IsBytes}
+use Rattle.puffin_data.specs.Device.{FromDevice, FailsAt}
+use Rattle.puffin_data.specs.Value.Layout.{IsBytes}
 use Rattle.puffin_data.proofs.Numbers.{IsBytes-append}
 use Rattle.puffin_frames.specs.declared.frame_data.frame.FrameData.{FrameData}
-use Rattle.puffin_frames.specs.Holding.{Packing}
-use Rattle.puffin_frames.specs.Contents.{holding_of, frame_says}
-use Rattle.puffin_frames.specs.Stored.{Said, Stored, packed, legacy}
-use Rattle.puffin_frames.specs.Values.{Legacy}
-use Rattle.puffin_frames.specs.Reads.{legacy_of, stored_as, stored_of}
-use Rattle.puffin_frames.specs.Steps.{as_stored, stored_after, is_end, next_at}
+use Rattle.puffin_frames.specs.Frame.Holding.{Packing}
+use Rattle.puffin_frames.specs.Frame.Contents.{holding_of, frame_says}
+use Rattle.puffin_frames.specs.Packet.Stored.{Said, Stored, packed, legacy}
+use Rattle.puffin_frames.specs.Packet.Structs.{Legacy}
+use Rattle.puffin_frames.specs.Packet.Next.{legacy_of, stored_as, stored_of}
+use Rattle.puffin_frames.specs.Packet.Steps.{as_stored, stored_after, is_end, next_at}
 
 -- ---- behind a header
 

@@ -20,8 +20,8 @@ use Rattle.puffin_data.specs.Forest.{empty}
 use Rattle.puffin_data.specs.Honesty.{Recorded, IsHonest, recorded, joined}
 use Rattle.puffin_data.specs.declared.data.info.StreamInfo.{StreamInfo}
 use Rattle.puffin_frames.specs.declared.thread_profiler.thread_info.ThreadInfo.{ThreadInfo}
-use Rattle.puffin_frames.specs.Info.{Info, info_of, info_cmp, thread_cmp, same_info, keyed, by_info}
-use Rattle.puffin_frames.specs.Contents.{records, unshared, shared_streams, stream_under, reported_to, no_scopes}
+use Rattle.puffin_frames.specs.Thread.Info.{Info, info_of, info_cmp, thread_cmp, same_info, keyed, by_info}
+use Rattle.puffin_frames.specs.Frame.Contents.{records, unshared, shared_streams, stream_under, reported_to, no_scopes}
 use Rattle.puffin_frames.proofs.Infos.{info_cmp_total, info_cmp-one, same_info-one, thread_cmp_total}
 use Rattle.puffin_frames.proofs.Keyed.{read-insert, streams_of-insert}
 

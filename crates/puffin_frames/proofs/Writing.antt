@@ -7,11 +7,11 @@ use Rattle.std.specs.Io.KnownBytes.{Appends}
 use Rattle.std.proofs.KnownBytes.{Appends-trans}
 use Rattle.puffin_data.specs.declared.file_error.FileError.{FileError}
 use Rattle.puffin_data.specs.declared.file_error.FileError.TheVariants as file
-use Rattle.puffin_data.specs.Devices.{WritesBeginning}
-use Rattle.puffin_data.specs.Layout.{number, signed, zigzag}
+use Rattle.puffin_data.specs.Device.{WritesBeginning}
+use Rattle.puffin_data.specs.Value.Layout.{number, signed, zigzag}
 use Rattle.puffin_frames.specs.declared.frame_data.meta.FrameMeta.{FrameMeta}
-use Rattle.puffin_frames.specs.Values.{meta_layout}
-use Rattle.puffin_frames.specs.Steps.{is_range_at}
+use Rattle.puffin_frames.specs.Packet.Structs.{meta_layout}
+use Rattle.puffin_frames.specs.Packet.Steps.{is_range_at}
 use Rattle.std.specs.Prelude.{map}
 use Rattle.std.specs.declared.cmp.Ordering.TheVariants.{Less}
 use Rattle.std.specs.declared.sync.Arc.{Arc}
@@ -26,7 +26,7 @@ use Rattle.std.specs.FinMap.Entries.{below_all}
 use Rattle.std.proofs.lemmas.Map.Keys.{sorted_head, sorted_tail}
 use Rattle.puffin_frames.specs.declared.scope_details.details.ScopeDetails.{ScopeDetails}
 use Rattle.puffin_frames.specs.Details.{Details, details_of, shared_details}
-use Rattle.puffin_frames.specs.Collection.{ids_seen, by_ids}
+use Rattle.puffin_frames.specs.Details.Collection.{ids_seen, by_ids}
 use Rattle.puffin_frames.proofs.Listed.{and-both, entries-sorted_list, no_entries}
 
 pub beginning_more : (old new : Option (List ℕ)) (a b : List ℕ) → WritesBeginning old new a → WritesBeginning old new (a ++ b)

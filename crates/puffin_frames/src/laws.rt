@@ -13,11 +13,11 @@ ghost use Rattle.std.specs.FinMap as map;
 ghost use Rattle.std.specs.Int.{int_min, int_max};
 ghost use Rattle.puffin_data.specs.declared.data.info.StreamInfo.{StreamInfo};
 ghost use Rattle.puffin_frames.specs.declared.thread_profiler.thread_info.ThreadInfo.{ThreadInfo};
-ghost use Rattle.puffin_frames.specs.Info.{Info, info_of, info_cmp, same_info, thread_cmp, keyed};
-ghost use Rattle.puffin_frames.specs.Contents.{Streams, streams_of, records, all_recorded, stream_under, reported_to, AreHonest};
+ghost use Rattle.puffin_frames.specs.Thread.Info.{Info, info_of, info_cmp, same_info, thread_cmp, keyed};
+ghost use Rattle.puffin_frames.specs.Frame.Contents.{Streams, streams_of, records, all_recorded, stream_under, reported_to, AreHonest};
 ghost use Rattle.puffin_data.specs.Forest.{Forest};
 ghost use Rattle.puffin_data.specs.Honesty.{Recorded, recorded, IsHonestRecord};
-ghost use Rattle.puffin_frames.specs.Measures.{total_bytes, total_scopes, least_start, greatest_stop, joined_range, IsOrdered};
+ghost use Rattle.puffin_frames.specs.Frame.Sums.{total_bytes, total_scopes, least_start, greatest_stop, joined_range, IsOrdered};
 
 use crate::thread_profiler::ThreadInfo;
 use std::hash::Hash;

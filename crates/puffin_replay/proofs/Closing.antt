@@ -9,18 +9,18 @@ use Rattle.puffin_data.specs.Forest.{Forest}
 use Rattle.puffin_data.specs.Honesty.{Recorded, IsHonestRecord}
 use Rattle.puffin_data.specs.Walk.{IsFault}
 use Rattle.std.proofs.lemmas.List.{get_or-set_same}
-use Rattle.puffin_replay.specs.History.{nobody}
-use Rattle.puffin_frames.specs.Info.{Info}
+use Rattle.puffin_replay.specs.Session.History.{nobody}
+use Rattle.puffin_frames.specs.Thread.Info.{Info}
 use Rattle.puffin_frames.specs.Details.{Details, AllHaveIds}
-use Rattle.puffin_frames.specs.Threads.{Thread}
-use Rattle.puffin_frames.specs.Closing.{Closes}
+use Rattle.puffin_frames.specs.Thread.Calls.{Thread}
+use Rattle.puffin_frames.specs.Thread.Closing.{Closes}
 use Rattle.puffin_frames.specs.declared.frame_data.frame.FrameData.{FrameData}
 use Rattle.puffin_frames.specs.declared.thread_profiler.reporter.Closed.{Closed}
 use Rattle.puffin_frames.specs.declared.thread_profiler.reporter.Closed.TheVariants.{Inner, Reported, Kept}
-use Rattle.puffin.specs.Collected.{Collected, Accepts, Refuses, after_report, after_wanting, SumsFit, range_with, IsTooLong, IsReportRefusal}
-use Rattle.puffin.specs.Collecting.{Collects, KeepsPending}
-use Rattle.puffin_replay.specs.Sessions.{SessionState}
-use Rattle.puffin_replay.specs.Serving.{clock_time, thread_in, with_thread, with_collected, Ends}
+use Rattle.puffin.specs.Profiler.Collected.{Collected, Accepts, Refuses, after_report, after_wanting, SumsFit, range_with, IsTooLong, IsReportRefusal}
+use Rattle.puffin.specs.Profiler.Collecting.{Collects, KeepsPending}
+use Rattle.puffin_replay.specs.Session.{SessionState}
+use Rattle.puffin_replay.specs.inner.Serving.{clock_time, thread_in, with_thread, with_collected, Ends}
 
 abbrev session : List Thread → Collected → SessionState
 session threads collected = record { threads = threads; collected = collected }

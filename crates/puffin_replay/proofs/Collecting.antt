@@ -4,20 +4,20 @@ use mathlib.Core.Logic.{∥∥₁_map}
 use Rattle.std.proofs.lemmas.Grind.{merely, not_there}
 use Rattle.std.specs.FinMap.{get, empty, values, get-insert, get-empty}
 use Rattle.puffin_data.specs.Forest.{Forest, append}
-use Rattle.puffin_data.specs.Measures.{scope_count}
+use Rattle.puffin_data.specs.Forest.Measures.{scope_count}
 use Rattle.puffin_data.specs.Honesty.{Recorded, IsHonestRecord, joined}
-use Rattle.puffin_data.specs.Tour.{Event, tour}
-use Rattle.puffin_data.specs.Words.{num_begun}
-use Rattle.puffin_frames.specs.Info.{Info, info_cmp, same_info}
-use Rattle.puffin_frames.specs.Contents.{Streams}
-use Rattle.puffin_frames.specs.Measures.{meta_of, total_scopes}
-use Rattle.puffin_frames.specs.Contents.{holding_of, frame_meta}
+use Rattle.puffin_data.specs.Forest.Tour.{Event, tour}
+use Rattle.puffin_data.specs.Forest.Words.{num_begun}
+use Rattle.puffin_frames.specs.Thread.Info.{Info, info_cmp, same_info}
+use Rattle.puffin_frames.specs.Frame.Contents.{Streams}
+use Rattle.puffin_frames.specs.Frame.Sums.{meta_of, total_scopes}
+use Rattle.puffin_frames.specs.Frame.Contents.{holding_of, frame_meta}
 use Rattle.puffin_frames.specs.declared.frame_data.frame.FrameData.{FrameData}
-use Rattle.puffin.specs.Collected.{no_scopes, reported_to}
-use Rattle.puffin_replay.specs.Handed.{Delivery, under}
-use Rattle.puffin_replay.specs.Due.{total_under, NoneDue}
-use Rattle.puffin_replay.specs.Sessions.{SpellsWord, SpellsIfAny, SpellsDue}
-use Rattle.puffin_replay.specs.Replies.{SpellsFrame}
+use Rattle.puffin.specs.Profiler.Collected.{no_scopes, reported_to}
+use Rattle.puffin_replay.specs.Session.Deliveries.{Delivery, under}
+use Rattle.puffin_replay.specs.Session.Due.{total_under, NoneDue}
+use Rattle.puffin_replay.specs.Session.{SpellsWord, SpellsIfAny, SpellsDue}
+use Rattle.puffin_replay.specs.Session.Replies.{SpellsFrame}
 use Rattle.puffin_replay.proofs.Laws.{tour-append, honest_joined, num_begun-tour, info_cmp_total, same_info-one}
 use Rattle.puffin_replay.proofs.Histories.{total_under-itself, total_under-other}
 

@@ -8,11 +8,11 @@ use Rattle.std.proofs.lemmas.List.Elements.{filter_map-append}
 use Rattle.std.proofs.lemmas.List.Concat.{flat_map-append}
 use Rattle.std.proofs.lemmas.List.Folds.{list_any-append}
 use Rattle.puffin_data.specs.Text.{cut_text}
-use Rattle.puffin_data.specs.Tour.{Event, Open, Close}
-use Rattle.puffin_frames.specs.Info.{Info, same_info}
-use Rattle.puffin_replay.specs.History.{Opening, begun, ended, Call, Action, since_last, thread_at, call_of, calls_of, greatest, latest_of}
-use Rattle.puffin_replay.specs.Handed.{Marked, marked_at, marked, first_open, word_of, unreported, first_start_of, Delivery, under, taken, handed_at, handed_after}
-use Rattle.puffin_replay.specs.Due.{is_taken, due, is_under, events_under, total_under}
+use Rattle.puffin_data.specs.Forest.Tour.{Event, Open, Close}
+use Rattle.puffin_frames.specs.Thread.Info.{Info, same_info}
+use Rattle.puffin_replay.specs.Session.History.{Opening, begun, ended, Call, Action, since_last, thread_at, call_of, calls_of, greatest, latest_of}
+use Rattle.puffin_replay.specs.Session.Deliveries.{Marked, marked_at, marked, first_open, word_of, unreported, first_start_of, Delivery, under, taken, handed_at, handed_after}
+use Rattle.puffin_replay.specs.Session.Due.{is_taken, due, is_under, events_under, total_under}
 
 -- ---- the part since the last that passes
 

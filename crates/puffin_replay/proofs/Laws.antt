@@ -1,9 +1,9 @@
 -- The lemmas of the crates below that the proofs here stand on.
 use Rattle.std.proofs.Common.{◌≡◌, pos, []}
 use Rattle.puffin_data.specs.Forest.{Forest, IsForest}
-use Rattle.puffin_data.specs.Spelling.{spelling}
-use Rattle.puffin_data.specs.Tour.{tour}
-use Rattle.puffin_frames.specs.Events.{events_in}
+use Rattle.puffin_data.specs.Forest.Spelling.{spelling}
+use Rattle.puffin_data.specs.Forest.Tour.{tour}
+use Rattle.puffin_frames.specs.Thread.Events.{events_in}
 use Rattle.puffin_frames.proofs.Events.{events_open}
 pub use Rattle.puffin_data.proofs.Tours.{tour-append}
 pub use Rattle.puffin_data.proofs.Extended.{honest_joined}

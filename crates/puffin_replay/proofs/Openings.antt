@@ -9,14 +9,14 @@ use Rattle.std.specs.Option.{option_map, option_or}
 use Rattle.std.specs.FinMap.{get, entries, entries_sorted, get-entries, find, is_sorted}
 use Rattle.std.specs.FinMap.Entries.{below_all}
 use Rattle.puffin_data.specs.Honesty.{Recorded}
-use Rattle.puffin_data.specs.Tour.{Event}
-use Rattle.puffin_frames.specs.Info.{Info, info_cmp, same_info}
-use Rattle.puffin_frames.specs.Contents.{Streams, AreHonest}
-use Rattle.puffin_frames.specs.Events.{events_in}
-use Rattle.puffin_replay.specs.History.{since_last, thread_at}
-use Rattle.puffin_replay.specs.Handed.{Marked, Delivery, under}
-use Rattle.puffin_replay.specs.Due.{due, is_taken, is_under, total_under}
-use Rattle.puffin_replay.specs.Sessions.{SessionState, opening_of, StandsAfter, SpellsIfAny, SpellsDue}
+use Rattle.puffin_data.specs.Forest.Tour.{Event}
+use Rattle.puffin_frames.specs.Thread.Info.{Info, info_cmp, same_info}
+use Rattle.puffin_frames.specs.Frame.Contents.{Streams, AreHonest}
+use Rattle.puffin_frames.specs.Thread.Events.{events_in}
+use Rattle.puffin_replay.specs.Session.History.{since_last, thread_at}
+use Rattle.puffin_replay.specs.Session.Deliveries.{Marked, Delivery, under}
+use Rattle.puffin_replay.specs.Session.Due.{due, is_taken, is_under, total_under}
+use Rattle.puffin_replay.specs.Session.{SessionState, opening_of, StandsAfter, SpellsIfAny, SpellsDue}
 use Rattle.puffin_replay.proofs.Laws.{same_info-one}
 use Rattle.puffin_replay.proofs.Histories.{none_under}
 use Rattle.puffin_replay.proofs.Telling.{registered-opening, due_details-opening}

@@ -13,24 +13,24 @@ use Rattle.puffin_data.specs.declared.error.Error.{Error}
 use Rattle.puffin_data.specs.declared.error.Error.TheVariants.{MissingId, Memory}
 use Rattle.puffin_data.specs.declared.file_error.FileError.{FileError}
 use Rattle.puffin_data.specs.declared.file_error.FileError.TheVariants as file
-use Rattle.puffin_data.specs.Devices.{IsOutside, WritesBeginning}
-use Rattle.puffin_frames.specs.Steps.{IsPacked}
-use Rattle.puffin_frames.specs.Writes.{HasLongPart}
+use Rattle.puffin_data.specs.Device.{IsOutside, WritesBeginning}
+use Rattle.puffin_frames.specs.Packet.Steps.{IsPacked}
+use Rattle.puffin_frames.specs.Packet.Writing.{HasLongPart}
 use Rattle.puffin_frames.specs.Details.{Details, lacks_id, AllHaveIds}
-use Rattle.puffin_frames.specs.Collection.{Collection, inserted, inserted_all}
-use Rattle.puffin_frames.specs.Stored.{Said}
+use Rattle.puffin_frames.specs.Details.Collection.{Collection, inserted, inserted_all}
+use Rattle.puffin_frames.specs.Packet.Stored.{Said}
 use Rattle.puffin.specs.declared.profile_view.frame_view.FrameView.{FrameView}
-use Rattle.puffin.specs.Frames.{Frame, contents_of, index_of}
-use Rattle.puffin.specs.FrameOf.{told}
-use Rattle.puffin.specs.Views.{View, Took, empty_view, after_taking, after_all, KeepsFrames}
-use Rattle.puffin.specs.FrameViews.{view_of, collection_of, lacks_ids, LearnsSome}
-use Rattle.puffin.specs.Files.{file_of, contents_held, contents_in}
+use Rattle.puffin.specs.View.ViewedFrames.{Frame, contents_of, index_of}
+use Rattle.puffin.specs.View.FrameOf.{told}
+use Rattle.puffin.specs.View.{View, Took, empty_view, after_taking, after_all, KeepsFrames}
+use Rattle.puffin.specs.View.Known.{view_of, collection_of, lacks_ids, LearnsSome}
+use Rattle.puffin.specs.View.File.{file_of, contents_held, contents_in}
 use Rattle.puffin_replay.specs.declared.replay.command.Command.{Command}
 use Rattle.puffin_replay.specs.declared.replay.script.Script.{Script}
 use Rattle.puffin_replay.specs.declared.replay.command.Reply.{Reply}
-use Rattle.puffin_replay.specs.Recorded.{HasIds, NoneLacksIds, emitted_by, frames_emitted, Takes, TakesSome, AreReplies, AreAnswers, file_of_view, view_after, IsBroken, IsReplayed, IsUnfinished}
-use Rattle.puffin_replay.specs.Lines.{reply_lines}
-use Rattle.puffin_replay.specs.Sessions.{SessionState, new_session}
+use Rattle.puffin_replay.specs.Program.Recording.{HasIds, NoneLacksIds, emitted_by, frames_emitted, Takes, TakesSome, AreReplies, AreAnswers, file_of_view, view_after, IsBroken, IsReplayed, IsUnfinished}
+use Rattle.puffin_replay.specs.Program.Lines.{reply_lines}
+use Rattle.puffin_replay.specs.Session.{SessionState, new_session}
 use Rattle.puffin_replay.proofs.Writing.{nothing_written}
 
 -- ---- lists

@@ -3,11 +3,11 @@ use Rattle.std.proofs.Common.{◌≡◌, List, [], ◌∷◌, ◌++◌, length, 
 use Rattle.puffin_replay.specs.declared.replay.command.Command.{Command}
 use Rattle.puffin_replay.specs.declared.replay.command.Reply.{Reply}
 use Rattle.puffin_frames.specs.Details.{Details}
-use Rattle.puffin_replay.specs.History.{Opening, Action}
-use Rattle.puffin_replay.specs.Due.{due}
-use Rattle.puffin_replay.specs.Sessions.{SessionState, opening_of, StandsAfter}
-use Rattle.puffin_replay.specs.Replies.{action_of, actions_of, MayReply, EachReply}
-use Rattle.puffin_replay.specs.Serving.{SumsTo, Continues, RunsTo}
+use Rattle.puffin_replay.specs.Session.History.{Opening, Action}
+use Rattle.puffin_replay.specs.Session.Due.{due}
+use Rattle.puffin_replay.specs.Session.{SessionState, opening_of, StandsAfter}
+use Rattle.puffin_replay.specs.Session.Replies.{action_of, actions_of, MayReply, EachReply}
+use Rattle.puffin_replay.specs.inner.Serving.{SumsTo, Continues, RunsTo}
 
 pub actions_of-more : (cs : List Command) (rs : List Reply) (ls : List (List Details)) (c : Command) (r : Reply) (l : List Details) → length rs ≡ length cs → length ls ≡ length cs
     → actions_of (cs ++ (c ∷ [])) (rs ++ (r ∷ [])) (ls ++ (l ∷ [])) ≡ actions_of cs rs ls ++ (action_of c r l ∷ [])

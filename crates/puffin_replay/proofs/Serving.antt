@@ -12,37 +12,37 @@ use Rattle.puffin_data.specs.declared.error.Error.{Error}
 use Rattle.puffin_data.specs.declared.error.Error.TheVariants.{NoThread, MismatchedEnd, IdsExhausted, IndexExhausted, Memory}
 use Rattle.puffin_data.specs.Forest.{Forest}
 use Rattle.puffin_data.specs.Honesty.{Recorded, IsHonestRecord}
-use Rattle.puffin_data.specs.Streams.{Held}
+use Rattle.puffin_data.specs.Stream.{Held}
 use Rattle.puffin_data.specs.Text.{cut_text}
-use Rattle.puffin_data.specs.Tour.{Event, tour}
+use Rattle.puffin_data.specs.Forest.Tour.{Event, tour}
 use Rattle.puffin_data.specs.Walk.{IsFault}
-use Rattle.puffin_data.specs.Words.{word_size, num_begun, open_after}
-use Rattle.puffin_frames.specs.Info.{Info, info_of}
-use Rattle.puffin_frames.specs.Threads.{Thread, after_begin, after_end, after_handing, after_registering, info_of_thread}
+use Rattle.puffin_data.specs.Forest.Words.{word_size, num_begun, open_after}
+use Rattle.puffin_frames.specs.Thread.Info.{Info, info_of}
+use Rattle.puffin_frames.specs.Thread.Calls.{Thread, after_begin, after_end, after_handing, after_registering, info_of_thread}
 use Rattle.puffin_frames.specs.Details.{Details, AllHaveIds, shared_details}
-use Rattle.puffin_frames.specs.Collection.{Collection, inserted_all}
-use Rattle.puffin_frames.specs.Contents.{Streams}
-use Rattle.puffin_frames.specs.Measures.{total_scopes}
+use Rattle.puffin_frames.specs.Details.Collection.{Collection, inserted_all}
+use Rattle.puffin_frames.specs.Frame.Contents.{Streams}
+use Rattle.puffin_frames.specs.Frame.Sums.{total_scopes}
 use Rattle.puffin_frames.specs.declared.frame_data.frame.FrameData.{FrameData}
 use Rattle.puffin_frames.specs.declared.thread_profiler.thread_info.ThreadInfo.{ThreadInfo}
 use Rattle.puffin_frames.specs.declared.thread_profiler.reporter.Closed.{Closed}
 use Rattle.puffin_frames.specs.declared.thread_profiler.reporter.Closed.TheVariants.{Inner, Reported, Kept}
-use Rattle.puffin.specs.Collected.{Collected, Accepts, after_frame, after_no_frame, after_adding, after_learning, after_wanting, reported_to, IsReportRefusal, delta_of}
-use Rattle.puffin.specs.Registering.{Registers, RegistersSome, Adds, AddsSome}
-use Rattle.puffin.specs.Collecting.{Collects, HoldsAll, Begins, KeepsPending}
-use Rattle.puffin_frames.specs.Closing.{IsReportOf}
+use Rattle.puffin.specs.Profiler.Collected.{Collected, Accepts, after_frame, after_no_frame, after_adding, after_learning, after_wanting, reported_to, IsReportRefusal, delta_of}
+use Rattle.puffin.specs.Profiler.Registering.{Registers, RegistersSome, Adds, AddsSome}
+use Rattle.puffin.specs.Profiler.Collecting.{Collects, HoldsAll, Begins, KeepsPending}
+use Rattle.puffin_frames.specs.Thread.Closing.{IsReportOf}
 use Rattle.puffin_replay.specs.declared.replay.command.Command.{Command}
 use Rattle.puffin_replay.specs.declared.replay.command.Command.TheVariants.{Begin, End, Register, RegisterUser, ReportUser, Snapshot, NewFrame}
 use Rattle.puffin_replay.specs.declared.replay.command.Reply.{Reply}
 use Rattle.puffin_replay.specs.declared.replay.command.Reply.TheVariants as reply
-use Rattle.puffin_frames.specs.Events.{events_in}
-use Rattle.puffin_replay.specs.History.{Opening, begun, ended, Action, calls, hands, frames, registers, adds, learns, wants, nothing, nobody, call_of}
-use Rattle.puffin_replay.specs.Handed.{Delivery, under, taken, handed_at}
-use Rattle.puffin_replay.specs.Due.{due, index_after, is_numbered}
-use Rattle.puffin_replay.specs.Told.{notes_at, told_at, learnt_at, due_details, known_after, is_wanted, wanted_at}
-use Rattle.puffin_replay.specs.Sessions.{SessionState, thread_after, SpellsWord, TellsAfter}
-use Rattle.puffin_replay.specs.Replies.{action_of, details_given, user_details, MayReply, TellsScopes, ending_word}
-use Rattle.puffin_replay.specs.Serving.{clock_time, thread_in, with_thread, with_collected, Ends, SumsTo, Continued, ContinuesBy, Continues}
+use Rattle.puffin_frames.specs.Thread.Events.{events_in}
+use Rattle.puffin_replay.specs.Session.History.{Opening, begun, ended, Action, calls, hands, frames, registers, adds, learns, wants, nothing, nobody, call_of}
+use Rattle.puffin_replay.specs.Session.Deliveries.{Delivery, under, taken, handed_at}
+use Rattle.puffin_replay.specs.Session.Due.{due, index_after, is_numbered}
+use Rattle.puffin_replay.specs.Session.Notes.{notes_at, told_at, learnt_at, due_details, known_after, is_wanted, wanted_at}
+use Rattle.puffin_replay.specs.Session.{SessionState, thread_after, SpellsWord, TellsAfter}
+use Rattle.puffin_replay.specs.Session.Replies.{action_of, details_given, user_details, MayReply, TellsScopes, ending_word}
+use Rattle.puffin_replay.specs.inner.Serving.{clock_time, thread_in, with_thread, with_collected, Ends, SumsTo, Continued, ContinuesBy, Continues}
 use Rattle.puffin_replay.proofs.Histories.{due-same, due-more, due-anew}
 use Rattle.puffin_replay.proofs.Collecting.{SpellsFrame-taken, NoneDue-untaken}
 use Rattle.puffin_replay.proofs.Laws.{events_in-spelling}

@@ -7,17 +7,17 @@ use Rattle.std.specs.List.{slice_index_or, sum_by}
 use Rattle.std.specs.FinMap.{empty}
 use Rattle.puffin_data.specs.Honesty.{Recorded}
 use Rattle.puffin_data.specs.Text.{cut_text}
-use Rattle.puffin_data.specs.Tour.{Event, Close}
-use Rattle.puffin_data.specs.Words.{num_begun}
-use Rattle.puffin_frames.specs.Info.{Info}
-use Rattle.puffin_frames.specs.Threads.{Thread, after_begin, after_end, after_handing, after_registering, info_of_thread}
+use Rattle.puffin_data.specs.Forest.Tour.{Event, Close}
+use Rattle.puffin_data.specs.Forest.Words.{num_begun}
+use Rattle.puffin_frames.specs.Thread.Info.{Info}
+use Rattle.puffin_frames.specs.Thread.Calls.{Thread, after_begin, after_end, after_handing, after_registering, info_of_thread}
 use Rattle.puffin_frames.specs.Details.{Details}
-use Rattle.puffin.specs.Collected.{reported_to}
-use Rattle.puffin_replay.specs.History.{Opening, Mark, begun, ended, Call, Action, calls, hands, frames, registers, nobody, thread_at, call_of}
-use Rattle.puffin_replay.specs.Handed.{under, unreported, info_under, handed_at, handed_after}
-use Rattle.puffin_replay.specs.Due.{due, scopes_delivered, is_numbered, index_after, reported_after}
-use Rattle.puffin_replay.specs.Told.{Note, noted, sent, notes_at, registered}
-use Rattle.puffin_replay.specs.Sessions.{SessionState, opening_of, SpellsWord, SpellsDue, StandsAfter, TellsAfter, thread_after}
+use Rattle.puffin.specs.Profiler.Collected.{reported_to}
+use Rattle.puffin_replay.specs.Session.History.{Opening, Mark, begun, ended, Call, Action, calls, hands, frames, registers, nobody, thread_at, call_of}
+use Rattle.puffin_replay.specs.Session.Deliveries.{under, unreported, info_under, handed_at, handed_after}
+use Rattle.puffin_replay.specs.Session.Due.{due, scopes_delivered, is_numbered, index_after, reported_after}
+use Rattle.puffin_replay.specs.Session.Notes.{Note, noted, sent, notes_at, registered}
+use Rattle.puffin_replay.specs.Session.{SessionState, opening_of, SpellsWord, SpellsDue, StandsAfter, TellsAfter, thread_after}
 use Rattle.puffin_replay.proofs.Histories.{latest_of-same, latest_of-more, unreported-same, unreported-begun, unreported-ended, unreported-reported, first_start_of-same, first_start_of-begun, first_start_of-ended, handed_after-more, due-same, due-more, due-anew}
 use Rattle.puffin_replay.proofs.Telling.{waiting_with, registered-more}
 use Rattle.puffin_replay.proofs.Collecting.{SpellsDue-report, SpellsDue-none}

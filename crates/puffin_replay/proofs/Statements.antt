@@ -8,7 +8,7 @@ use Rattle.std.proofs.lemmas.List.Splits.{slice_split_first}
 use Rattle.std.specs.Str.Parse.{ParsesUnsigned, digits_value}
 use Rattle.std.proofs.lemmas.Str.Parse.{IsNumeralModel, numerals_by_value, tells_all_ascii_digits, parse_plain}
 use Rattle.std.proofs.lemmas.Bool.Decides.{nat_tests}
-use Rattle.puffin_replay.specs.Statements.{number_of, if_below, is_blank, words_in}
+use Rattle.puffin_replay.specs.Script.Statements.{number_of, if_below, is_blank, words_in}
 
 -- ---- words
 

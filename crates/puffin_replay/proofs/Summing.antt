@@ -10,25 +10,25 @@ use Rattle.puffin_data.specs.declared.error.Error.{Error}
 use Rattle.puffin_data.specs.declared.error.Error.TheVariants.{Memory, MissingId}
 use Rattle.puffin_data.specs.declared.file_error.FileError.{FileError}
 use Rattle.puffin_data.specs.declared.file_error.FileError.TheVariants as file
-use Rattle.puffin_data.specs.Devices.{IsOutside, failures_after}
+use Rattle.puffin_data.specs.Device.{IsOutside, failures_after}
 use Rattle.puffin_frames.specs.declared.frame_data.unpacked.UnpackedFrameData.{UnpackedFrameData}
-use Rattle.puffin_frames.specs.Info.{Info}
-use Rattle.puffin_frames.specs.ThreadStreams.{Streams}
-use Rattle.puffin_frames.specs.Holding.{Packing, streams_in, or_bad, unpacking}
+use Rattle.puffin_frames.specs.Thread.Info.{Info}
+use Rattle.puffin_frames.specs.Frame.Streams.{Streams}
+use Rattle.puffin_frames.specs.Frame.Holding.{Packing, streams_in, or_bad, unpacking}
 use Rattle.puffin_frames.specs.Details.{Details}
-use Rattle.puffin_frames.specs.Stored.{Said, Stored, packed}
+use Rattle.puffin_frames.specs.Packet.Stored.{Said, Stored, packed}
 use Rattle.puffin.specs.declared.merge.scope.MergeScope.{MergeScope}
 use Rattle.puffin.specs.declared.profile_view.frame_view.FrameView.{FrameView}
-use Rattle.puffin.specs.Files.{file_of, contents_in, details_stored, file_at, TookFrames, FailsToRead, IsViewOf}
-use Rattle.puffin.specs.FrameStreams.{FrameBytes}
-use Rattle.puffin.specs.Frames.{Frame, contents_of}
-use Rattle.puffin.specs.FrameViews.{view_of, collection_of, lacks_ids}
-use Rattle.puffin.specs.Refusals.{IsRefusal, AreMerged}
-use Rattle.puffin.specs.Seen.{frame_bytes, frames_bytes, forest_in}
-use Rattle.puffin.specs.Views.{View, all_uniq}
+use Rattle.puffin.specs.View.File.{file_of, contents_in, details_stored, file_at, TookFrames, FailsToRead, IsViewOf}
+use Rattle.puffin.specs.Merge.FrameBytes.{FrameBytes}
+use Rattle.puffin.specs.View.ViewedFrames.{Frame, contents_of}
+use Rattle.puffin.specs.View.Known.{view_of, collection_of, lacks_ids}
+use Rattle.puffin.specs.Merge.Refusals.{IsRefusal, AreMerged}
+use Rattle.puffin.specs.Merge.Scopes.{frame_bytes, frames_bytes, forest_in}
+use Rattle.puffin.specs.View.{View, all_uniq}
 use Rattle.puffin_replay.specs.declared.replay.summary.Summary.{Summary}
-use Rattle.puffin_replay.specs.Recorded.{NoneLacksIds}
-use Rattle.puffin_replay.specs.Summaries.{bytes_under, bytes_in, followed_by, all_bytes_in, said_by, SumsUp, IsSummary, details_said, IsHindered, FailsToSumUp}
+use Rattle.puffin_replay.specs.Program.Recording.{NoneLacksIds}
+use Rattle.puffin_replay.specs.Program.Summary.{bytes_under, bytes_in, followed_by, all_bytes_in, said_by, SumsUp, IsSummary, details_said, IsHindered, FailsToSumUp}
 
 -- ---- scopes that are made their own
 

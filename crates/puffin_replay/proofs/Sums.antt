@@ -16,20 +16,20 @@ use mathlib.Core.Logic.{∥∥₁_map}
 use Rattle.puffin_data.specs.declared.error.Error.{Error}
 use Rattle.puffin_data.specs.Forest.{Forest}
 use Rattle.puffin_data.specs.Honesty.{Recorded, IsHonestRecord}
-use Rattle.puffin_data.specs.Tour.{Event}
-use Rattle.puffin_data.specs.Words.{word_size, num_begun, least_open, greatest_close}
-use Rattle.puffin_frames.specs.Events.{events_in}
-use Rattle.puffin_frames.specs.Info.{Info, info_cmp, same_info}
+use Rattle.puffin_data.specs.Forest.Tour.{Event}
+use Rattle.puffin_data.specs.Forest.Words.{word_size, num_begun, least_open, greatest_close}
+use Rattle.puffin_frames.specs.Thread.Events.{events_in}
+use Rattle.puffin_frames.specs.Thread.Info.{Info, info_cmp, same_info}
 use Rattle.puffin_frames.specs.Details.{Details, AllHaveIds}
-use Rattle.puffin_frames.specs.Contents.{Streams, AreHonest, reported_to}
-use Rattle.puffin_frames.specs.Measures.{total_bytes, total_scopes, least_start, greatest_stop}
-use Rattle.puffin.specs.Collected.{SumsFit, range_with, IsTooLong, IsReportRefusal}
-use Rattle.puffin_replay.specs.History.{Opening, Action}
-use Rattle.puffin_replay.specs.Handed.{Delivery, under}
-use Rattle.puffin_replay.specs.Due.{due, events_of, bytes_delivered, scopes_delivered}
-use Rattle.puffin_replay.specs.Sessions.{SessionState, opening_of, StandsAfter, SpellsWord}
-use Rattle.puffin_replay.specs.Replies.{DueFits, MayReport, IsRefusal}
-use Rattle.puffin_replay.specs.Serving.{SumsTo}
+use Rattle.puffin_frames.specs.Frame.Contents.{Streams, AreHonest, reported_to}
+use Rattle.puffin_frames.specs.Frame.Sums.{total_bytes, total_scopes, least_start, greatest_stop}
+use Rattle.puffin.specs.Profiler.Collected.{SumsFit, range_with, IsTooLong, IsReportRefusal}
+use Rattle.puffin_replay.specs.Session.History.{Opening, Action}
+use Rattle.puffin_replay.specs.Session.Deliveries.{Delivery, under}
+use Rattle.puffin_replay.specs.Session.Due.{due, events_of, bytes_delivered, scopes_delivered}
+use Rattle.puffin_replay.specs.Session.{SessionState, opening_of, StandsAfter, SpellsWord}
+use Rattle.puffin_replay.specs.Session.Replies.{DueFits, MayReport, IsRefusal}
+use Rattle.puffin_replay.specs.inner.Serving.{SumsTo}
 use Rattle.puffin_replay.proofs.Laws.{least_open-append, greatest_close-append, word_size-tour, num_begun-tour, least_open-tour, greatest_close-tour, same_info-one, same_info-itself, events_in-spelling, after_report, bytes_measure, scopes_measure, starts_measure, stops_measure, total_bytes-one, total_scopes-one, least_start-one, greatest_stop-one}
 use Rattle.puffin_replay.proofs.Openings.{due_of, due-opening}
 

@@ -3,11 +3,11 @@ use Rattle.std.proofs.Common.{◌≡◌, ℕ, Bool, List, [], ◌∷◌, ◌++�
 use Rattle.std.specs.List.{flat_map}
 use Rattle.std.proofs.lemmas.List.Concat.{flat_map-append}
 use Rattle.puffin_frames.specs.Details.{Details}
-use Rattle.puffin_frames.specs.Collection.{Collection, inserted, inserted_all}
-use Rattle.puffin.specs.Collected.{Collected}
-use Rattle.puffin_replay.specs.History.{Opening, Action, thread_at, since_last}
-use Rattle.puffin_replay.specs.Told.{Note, noted, sent, is_sent, details_in, waiting, notes_at, registered, told_at, told_after, due_details, learnt_at, learnt_after, known_after, wanted_at}
-use Rattle.puffin_replay.specs.Sessions.{TellsAfter}
+use Rattle.puffin_frames.specs.Details.Collection.{Collection, inserted, inserted_all}
+use Rattle.puffin.specs.Profiler.Collected.{Collected}
+use Rattle.puffin_replay.specs.Session.History.{Opening, Action, thread_at, since_last}
+use Rattle.puffin_replay.specs.Session.Notes.{Note, noted, sent, is_sent, details_in, waiting, notes_at, registered, told_at, told_after, due_details, learnt_at, learnt_after, known_after, wanted_at}
+use Rattle.puffin_replay.specs.Session.{TellsAfter}
 use Rattle.puffin_replay.proofs.Histories.{since_last-yes, since_last-no}
 
 -- ---- lists of notes

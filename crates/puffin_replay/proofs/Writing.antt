@@ -4,7 +4,7 @@ use Rattle.std.specs.Prelude.{OnOk, OnErr}
 use Rattle.std.specs.Io.KnownBytes.{Appends}
 use Rattle.std.proofs.lemmas.List.{append-nil}
 use Rattle.puffin_data.specs.declared.file_error.FileError.{FileError}
-use Rattle.puffin_data.specs.Devices.{WritesBeginning}
+use Rattle.puffin_data.specs.Device.{WritesBeginning}
 
 pub beginning_written : {T : Type 0} (r : Result T FileError) (old new : Option (List ℕ)) (bytes text : List ℕ) → bytes ≡ text → OnOk r (Appends old new bytes) → OnErr r (WritesBeginning old new bytes) → WritesBeginning old new text
 beginning_written (Ok x) old new bytes text same whole part = (text, [], sym (append-nil text), subst (Appends old new) same whole)

@@ -3,14 +3,14 @@ ghost use Rattle.std.specs.Bool.{MatchBool};
 ghost use Rattle.std.specs.FinMap as map;
 ghost use Rattle.puffin_data.specs.Forest.{Forest};
 ghost use Rattle.puffin_data.specs.Honesty.{IsHonestRef, recorded_ref};
-ghost use Rattle.puffin_frames.specs.Info.{info_of};
+ghost use Rattle.puffin_frames.specs.Thread.Info.{info_of};
 ghost use Rattle.puffin_frames.specs.Details.{details_of, details_seen, with_id, AllHaveIds};
-ghost use Rattle.puffin_frames.specs.Collection.{no_details};
-ghost use Rattle.puffin_frames.specs.Contents.{AreHonest};
-ghost use Rattle.puffin_frames.specs.Measures.{total_scopes, IsOrdered, DurationFits};
-ghost use Rattle.puffin.specs.Collected.{after_report, after_adding, after_wanting, SumsFit, range_with, IsTooLong, IsReportRefusal};
-ghost use Rattle.puffin.specs.Registering.{known_id, Adds, AddsSome};
-ghost use Rattle.puffin.specs.Collecting.{Collects, TellsIds, KeepsPending, AddsUp};
+ghost use Rattle.puffin_frames.specs.Details.Collection.{no_details};
+ghost use Rattle.puffin_frames.specs.Frame.Contents.{AreHonest};
+ghost use Rattle.puffin_frames.specs.Frame.Sums.{total_scopes, IsOrdered, DurationFits};
+ghost use Rattle.puffin.specs.Profiler.Collected.{after_report, after_adding, after_wanting, SumsFit, range_with, IsTooLong, IsReportRefusal};
+ghost use Rattle.puffin.specs.Profiler.Registering.{known_id, Adds, AddsSome};
+ghost use Rattle.puffin.specs.Profiler.Collecting.{Collects, TellsIds, KeepsPending, AddsUp};
 
 use crate::global_profiler::delta::{all_have_ids, copies, learn, scope_delta};
 use crate::global_profiler::totals::Totals;
@@ -42,15 +42,15 @@ pub struct Collector {
 }
 
 impl Model for Collector {
-    ghost use Rattle.puffin.specs.Collected.{Collected, collected_code};
+    ghost use Rattle.puffin.specs.Profiler.Collected.{Collected, collected_code};
 
     ghost Value = { Collected };
 
     ghost coded = { collected_code };
 
-    ghost use Rattle.puffin_frames.specs.Contents.{shared_streams};
+    ghost use Rattle.puffin_frames.specs.Frame.Contents.{shared_streams};
     ghost use Rattle.puffin_frames.specs.Details.{shared_details, AllHaveIds};
-    ghost use Rattle.puffin.specs.Collecting.{IsKept};
+    ghost use Rattle.puffin.specs.Profiler.Collecting.{IsKept};
 
     ghost view = { λ c. record { index = c.meta.frame_index; reported = c.reported; emitted = c.emitted; streams = shared_streams c.pending.entries; collection = c.collection; new_details = shared_details c.new_details.items; wants_all = c.wants_all } };
 
@@ -271,7 +271,7 @@ impl Collector {
 
 impl Reporter for Collector {
     ghost use Rattle.std.specs.Prelude.{◌≡◌};
-    ghost use Rattle.puffin.specs.Collected.{Accepts, Refuses};
+    ghost use Rattle.puffin.specs.Profiler.Collected.{Accepts, Refuses};
 
     ghost accepts = { Accepts };
 

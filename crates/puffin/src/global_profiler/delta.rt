@@ -1,8 +1,8 @@
 ghost use Rattle.std.specs.Prelude.{◌≡◌, ◌++◌, ◌↔◌, OnOk, OnErr, IfOk, IfErr, List, All, IsTrue, IsSome};
 ghost use Rattle.puffin_frames.specs.Details.{Details, details_of, details_seen, shared_details, AllHaveIds};
-ghost use Rattle.puffin_frames.specs.Collection.{inserted_all, KeepsOwnIds};
-ghost use Rattle.puffin.specs.Collected.{all_details, delta_of};
-ghost use Rattle.puffin.specs.Collecting.{Begins};
+ghost use Rattle.puffin_frames.specs.Details.Collection.{inserted_all, KeepsOwnIds};
+ghost use Rattle.puffin.specs.Profiler.Collected.{all_details, delta_of};
+ghost use Rattle.puffin.specs.Profiler.Collecting.{Begins};
 
 use puffin_data::{Error, Result};
 use puffin_frames::scope_details::{ScopeCollection, ScopeDetails};

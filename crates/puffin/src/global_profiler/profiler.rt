@@ -2,15 +2,15 @@ ghost use Rattle.std.specs.Prelude.{◌≡◌, ◌+◌, ◌-◌, ◌^◌, ◌⊎
 ghost use Rattle.std.specs.FinMap as map;
 ghost use Rattle.puffin_data.specs.Forest.{Forest};
 ghost use Rattle.puffin_data.specs.Honesty.{IsHonestRef, recorded_ref};
-ghost use Rattle.puffin_frames.specs.Info.{info_of};
+ghost use Rattle.puffin_frames.specs.Thread.Info.{info_of};
 ghost use Rattle.puffin_frames.specs.Details.{details_seen};
-ghost use Rattle.puffin_frames.specs.Collection.{no_details};
-ghost use Rattle.puffin_frames.specs.Contents.{AreHonest};
-ghost use Rattle.puffin_frames.specs.Measures.{total_scopes};
-ghost use Rattle.puffin.specs.Collected.{Accepts, Refuses, after_wanting};
-ghost use Rattle.puffin.specs.Registering.{Adds, AddsSome};
-ghost use Rattle.puffin.specs.Collecting.{Collects, TellsIds, KeepsPending};
-ghost use Rattle.puffin.specs.Profiled.{collected};
+ghost use Rattle.puffin_frames.specs.Details.Collection.{no_details};
+ghost use Rattle.puffin_frames.specs.Frame.Contents.{AreHonest};
+ghost use Rattle.puffin_frames.specs.Frame.Sums.{total_scopes};
+ghost use Rattle.puffin.specs.Profiler.Collected.{Accepts, Refuses, after_wanting};
+ghost use Rattle.puffin.specs.Profiler.Registering.{Adds, AddsSome};
+ghost use Rattle.puffin.specs.Profiler.Collecting.{Collects, TellsIds, KeepsPending};
+ghost use Rattle.puffin.specs.Profiler.{collected};
 
 use crate::global_profiler::collector::Collector;
 use crate::global_profiler::totals::Totals;
@@ -129,8 +129,8 @@ impl GlobalProfiler {
 }
 
 impl Reporter for GlobalProfiler {
-    ghost use Rattle.puffin.specs.Collected.{Accepts, Refuses};
-    ghost use Rattle.puffin.specs.Profiled.{collected};
+    ghost use Rattle.puffin.specs.Profiler.Collected.{Accepts, Refuses};
+    ghost use Rattle.puffin.specs.Profiler.{collected};
 
     ghost accepts = { λ old i ds r new. Accepts (collected old) i ds r (collected new) };
 

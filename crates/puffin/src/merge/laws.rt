@@ -5,14 +5,14 @@ ghost use Rattle.std.specs.declared.sync.Arc.{Arc};
 ghost use Rattle.std.specs.declared.alloc.Global.{Global};
 ghost use Rattle.puffin_data.specs.declared.error.Error.{Error};
 ghost use Rattle.puffin_frames.specs.declared.frame_data.unpacked.UnpackedFrameData.{UnpackedFrameData};
-ghost use Rattle.puffin_frames.specs.Info.{Info};
-ghost use Rattle.puffin.specs.Occurrences.{FrameScopes, occurrences};
-ghost use Rattle.puffin.specs.MergedForests.{MergedForest};
-ghost use Rattle.puffin.specs.Starts.{Sibling, IsLeastFeasible, earliest};
-ghost use Rattle.puffin.specs.Merges.{IsMerge};
-ghost use Rattle.puffin.specs.FrameStreams.{FrameBytes};
-ghost use Rattle.puffin.specs.Refusals.{IsRefusal, AreMerged};
-ghost use Rattle.puffin.specs.Seen.{frames_bytes, forest_in};
+ghost use Rattle.puffin_frames.specs.Thread.Info.{Info};
+ghost use Rattle.puffin.specs.Merge.Occurrences.{FrameScopes, occurrences};
+ghost use Rattle.puffin.specs.Merge.MergedForest.{MergedForest};
+ghost use Rattle.puffin.specs.Merge.Starts.{Sibling, IsLeastFeasible, earliest};
+ghost use Rattle.puffin.specs.Merge.{IsMerge};
+ghost use Rattle.puffin.specs.Merge.FrameBytes.{FrameBytes};
+ghost use Rattle.puffin.specs.Merge.Refusals.{IsRefusal, AreMerged};
+ghost use Rattle.puffin.specs.Merge.Scopes.{frames_bytes, forest_in};
 ghost use Rattle.puffin.specs.declared.merge.scope.MergeScope.{MergeScope};
 
 /// Siblings that each start as early as they can have the least feasible starts.

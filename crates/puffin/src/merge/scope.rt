@@ -1,5 +1,5 @@
 ghost use Rattle.std.specs.Prelude.{◌≡◌, [], ◌∷◌, IfOk, IfErr};
-ghost use Rattle.puffin.specs.Seen.{forest_in};
+ghost use Rattle.puffin.specs.Merge.Scopes.{forest_in};
 
 use puffin_data::data::ScopeId;
 use puffin_data::{Error, NanoSecond, Result};

@@ -1,14 +1,14 @@
 //! Taking the scopes of a stream into the table.
 
 ghost use Rattle.std.specs.Prelude.{◌≡◌, ◌<◌, ◌≤◌, ◌^◌, ◌⊎◌, ◌-ℤ◌, List, [], length, if◌then◌else◌, Ok, Err, IfOk, IfErr};
-ghost use Rattle.puffin_data.specs.Visiting.{TakesAll, StopsEarly};
-ghost use Rattle.puffin_frames.specs.Info.{info_of};
-ghost use Rattle.puffin.specs.Occurrences.{Occurrence};
-ghost use Rattle.puffin.specs.FrameStreams.{bytes_of, most_tries_of};
-ghost use Rattle.puffin.specs.Seen.{frame_bytes};
-ghost use Rattle.puffin.specs.Merging.{TakesScopes, RefusesScope};
-ghost use Rattle.puffin.specs.Tables.{IsTableOf};
-ghost use Rattle.puffin.specs.Origins.{IsOrigin, fits_i64};
+ghost use Rattle.puffin_data.specs.Walk.Visitor.{TakesAll, StopsEarly};
+ghost use Rattle.puffin_frames.specs.Thread.Info.{info_of};
+ghost use Rattle.puffin.specs.Merge.Occurrences.{Occurrence};
+ghost use Rattle.puffin.specs.Merge.FrameBytes.{bytes_of, most_tries_of};
+ghost use Rattle.puffin.specs.Merge.Scopes.{frame_bytes};
+ghost use Rattle.puffin.specs.inner.merge.Merging.{TakesScopes, RefusesScope};
+ghost use Rattle.puffin.specs.inner.merge.Tables.{IsTableOf};
+ghost use Rattle.puffin.specs.inner.merge.Origins.{IsOrigin, fits_i64};
 
 use crate::frame_data::UnpackedFrameData;
 use crate::merge::table::{Key, NodeNumber, Table};
@@ -75,8 +75,8 @@ fn own_start(start: NanoSecond, origin: i128) -> Result<NanoSecond>
 }
 
 impl<'s> Visitor<'s> for Merging<'s> {
-    ghost use Rattle.puffin.specs.Merging.{TakesScopes, RefusesScope, StandsFor};
-    ghost use Rattle.puffin.specs.Merging as steps;
+    ghost use Rattle.puffin.specs.inner.merge.Merging.{TakesScopes, RefusesScope, StandsFor};
+    ghost use Rattle.puffin.specs.inner.merge.Merging as steps;
 
     type Within = Open;
 

@@ -2,9 +2,9 @@
 
 ghost use Rattle.std.specs.Prelude.{◌≡◌, ◌<◌, ◌≤◌, ◌+◌, ◌-◌, ◌^◌, ◌⊎◌, ◌++◌, ◌∷◌, [], List, ℕ, vec_len, max, slice_set, slice_index_or, IfOk, IfErr, IfSome, IfNone, OnOk};
 ghost use Rattle.std.specs.Int.{int_min};
-ghost use Rattle.puffin.specs.Occurrences.{Occurrence};
-ghost use Rattle.puffin.specs.Refusals.{SumsFit};
-ghost use Rattle.puffin.specs.Tables.{IsTableOf, HasKey, IsFound, made_node, grown_node, occurrence_at, FitsOneMore, AddsAt};
+ghost use Rattle.puffin.specs.Merge.Occurrences.{Occurrence};
+ghost use Rattle.puffin.specs.Merge.Refusals.{SumsFit};
+ghost use Rattle.puffin.specs.inner.merge.Tables.{IsTableOf, HasKey, IsFound, made_node, grown_node, occurrence_at, FitsOneMore, AddsAt};
 ghost use Rattle.puffin.specs.declared.merge.table.Node.{Node};
 
 use puffin_data::{Error, NanoSecond, Result};

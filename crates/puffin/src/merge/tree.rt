@@ -2,13 +2,13 @@
 
 ghost use Rattle.std.specs.Prelude.{◌≡◌, ℕ, ◌<◌, ◌≤◌, ◌^◌, ◌/◌, ◌⊎◌, pos, FitsSigned, List, IfOk, IfErr};
 ghost use Rattle.std.specs.Int.{w64};
-ghost use Rattle.puffin.specs.Occurrences.{Occurrence};
-ghost use Rattle.puffin.specs.Merges.{IsMerge};
-ghost use Rattle.puffin.specs.MergedForests.{MergedForest, merged};
-ghost use Rattle.puffin.specs.Refusals.{EndsFit};
-ghost use Rattle.puffin.specs.Seen.{forest_in, scope_then};
-ghost use Rattle.puffin.specs.Tables.{IsTableOf};
-ghost use Rattle.puffin.specs.Places.{ArePlacesOf, EachOf, EndFits, above_all, drawn_after, drawn_from, drawn_node};
+ghost use Rattle.puffin.specs.Merge.Occurrences.{Occurrence};
+ghost use Rattle.puffin.specs.Merge.{IsMerge};
+ghost use Rattle.puffin.specs.Merge.MergedForest.{MergedForest, merged};
+ghost use Rattle.puffin.specs.Merge.Refusals.{EndsFit};
+ghost use Rattle.puffin.specs.Merge.Scopes.{forest_in, scope_then};
+ghost use Rattle.puffin.specs.inner.merge.Tables.{IsTableOf};
+ghost use Rattle.puffin.specs.inner.merge.Places.{ArePlacesOf, EachOf, EndFits, above_all, drawn_after, drawn_from, drawn_node};
 ghost use Rattle.puffin.specs.declared.merge.table.Node.{Node};
 
 use crate::merge::scope::MergeScope;

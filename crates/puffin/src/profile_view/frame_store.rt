@@ -5,13 +5,13 @@ ghost use Rattle.std.specs.FinMap as map;
 ghost use Rattle.std.specs.Option.{option_map};
 ghost use Rattle.std.specs.List.Sorted.{IsStrictlySortedBy};
 ghost use Rattle.puffin_data.specs.declared.error.Error.{Error};
-ghost use Rattle.puffin.specs.FrameOf.{shared_frame};
-ghost use Rattle.puffin.specs.Ranking.{last_of, last_in};
-ghost use Rattle.puffin.specs.Ranks.{rank_index, rank_cmp, ranks_after, ranks_gone, AreRanked, LetsGo};
-ghost use Rattle.puffin.specs.Frames.{index_of, chronological};
-ghost use Rattle.puffin.specs.Listings.{recent_left, all_left, slowest_left};
-ghost use Rattle.puffin.specs.Views.{empty_view, emptied, with_newest_packed, is_past, joined_by, after_taking, KeepsFrames, all_uniq, IsSteady};
-ghost use Rattle.puffin.specs.Stats.{stats_of};
+ghost use Rattle.puffin.specs.View.FrameOf.{shared_frame};
+ghost use Rattle.puffin.specs.View.Ranking.{last_of, last_in};
+ghost use Rattle.puffin.specs.inner.view.Ranks.{rank_index, rank_cmp, ranks_after, ranks_gone, AreRanked, LetsGo};
+ghost use Rattle.puffin.specs.View.ViewedFrames.{index_of, chronological};
+ghost use Rattle.puffin.specs.View.Listings.{recent_left, all_left, slowest_left};
+ghost use Rattle.puffin.specs.View.{empty_view, emptied, with_newest_packed, is_past, joined_by, after_taking, KeepsFrames, all_uniq, IsSteady};
+ghost use Rattle.puffin.specs.View.Stats.{stats_of};
 
 use crate::profile_view::held_frames::HeldFrames;
 use crate::profile_view::listings::{AllFrames, RecentFrames, SlowestFrames};
@@ -39,15 +39,15 @@ pub(crate) struct FrameStore {
 
 impl Model for FrameStore {
     ghost use Rattle.std.specs.Prelude.{map};
-    ghost use Rattle.puffin.specs.Views.{View};
-    ghost use Rattle.puffin.specs.Codes.{view_code};
+    ghost use Rattle.puffin.specs.View.{View};
+    ghost use Rattle.puffin.specs.inner.view.Codes.{view_code};
 
     ghost Value = { View };
 
     ghost coded = { view_code };
 
-    ghost use Rattle.puffin.specs.Ranks.{rank_index};
-    ghost use Rattle.puffin.specs.Stored.{frames_at, IsStored};
+    ghost use Rattle.puffin.specs.inner.view.Ranks.{rank_index};
+    ghost use Rattle.puffin.specs.inner.view.Store.{frames_at, IsStored};
 
     ghost view = { λ s. record { recent = frames_at s.held s.recent.items; slow = frames_at s.held (map rank_index s.slow.items); last = s.last; max_recent = s.max_recent; max_slow = s.max_slow; packs = s.pack_frames } };
 

@@ -2,9 +2,9 @@ ghost use Rattle.std.specs.Prelude.{◌≡◌, OnOk, OnErr, IfOk, IfErr};
 ghost use Rattle.std.specs.FinMap as map;
 ghost use Rattle.std.specs.Option.{option_map};
 ghost use Rattle.puffin_data.specs.declared.error.Error.{Error};
-ghost use Rattle.puffin.specs.Frames.{index_of};
-ghost use Rattle.puffin.specs.FrameOf.{shared_frame, frames_of};
-ghost use Rattle.puffin.specs.Stats.{stats_of};
+ghost use Rattle.puffin.specs.View.ViewedFrames.{index_of};
+ghost use Rattle.puffin.specs.View.FrameOf.{shared_frame, frames_of};
+ghost use Rattle.puffin.specs.View.Stats.{stats_of};
 
 use crate::profile_view::stats::FrameStats;
 use crate::profile_view::sums::Sums;
@@ -24,13 +24,13 @@ pub(crate) struct HeldFrames {
 }
 
 impl Model for HeldFrames {
-    ghost use Rattle.puffin.specs.Held.{Held, held_code};
+    ghost use Rattle.puffin.specs.inner.view.Held.{Held, held_code};
 
     ghost Value = { Held };
 
     ghost coded = { held_code };
 
-    ghost use Rattle.puffin.specs.Held.{held_of, IsSummed};
+    ghost use Rattle.puffin.specs.inner.view.Held.{held_of, IsSummed};
 
     ghost view = { λ h. held_of h.frames.entries };
 

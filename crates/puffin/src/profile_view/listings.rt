@@ -1,6 +1,6 @@
 ghost use Rattle.std.specs.Prelude.{◌≡◌};
 ghost use Rattle.std.specs.Iterator.{YieldsFirstBy, item_count};
-ghost use Rattle.puffin.specs.FrameOf.{shared_frame};
+ghost use Rattle.puffin.specs.View.FrameOf.{shared_frame};
 
 use crate::profile_view::held_frames::HeldFrames;
 use crate::profile_view::slow_rank::{SlowRank, has_index};
@@ -25,7 +25,7 @@ impl<'a> RecentFrames<'a> {
 }
 
 impl<'a> Iterator for RecentFrames<'a> {
-    ghost use Rattle.puffin.specs.Listings.{recent_left};
+    ghost use Rattle.puffin.specs.View.Listings.{recent_left};
 
     type Item = &'a Arc<FrameData>;
 
@@ -59,7 +59,7 @@ impl<'a> AllFrames<'a> {
 }
 
 impl<'a> Iterator for AllFrames<'a> {
-    ghost use Rattle.puffin.specs.Listings.{all_left};
+    ghost use Rattle.puffin.specs.View.Listings.{all_left};
 
     type Item = &'a Arc<FrameData>;
 
@@ -92,7 +92,7 @@ impl<'a> SlowestFrames<'a> {
 }
 
 impl<'a> Iterator for SlowestFrames<'a> {
-    ghost use Rattle.puffin.specs.Listings.{slowest_left};
+    ghost use Rattle.puffin.specs.View.Listings.{slowest_left};
 
     type Item = &'a Arc<FrameData>;
 

@@ -1,9 +1,9 @@
 ghost use Rattle.std.specs.Prelude.{◌≡◌, ◌++◌, IfOk, IfErr, OnOk, map, filter_map, slice_get};
 ghost use Rattle.std.specs.Option.{option_to_list};
 ghost use Rattle.puffin_data.specs.declared.error.Error.{Error};
-ghost use Rattle.puffin.specs.FrameOf.{frame_of, frames_of};
-ghost use Rattle.puffin.specs.Selection.{rank_at, ranks_from, IsSelection};
-ghost use Rattle.puffin.specs.Selections.{slow_place, old_place};
+ghost use Rattle.puffin.specs.View.FrameOf.{frame_of, frames_of};
+ghost use Rattle.puffin.specs.View.Selection.{rank_at, ranks_from, IsSelection};
+ghost use Rattle.puffin.specs.inner.view.Selections.{slow_place, old_place};
 
 use itertools::Itertools;
 use puffin_data::{NanoSecond, Result};

@@ -2,9 +2,9 @@ ghost use Rattle.std.specs.Prelude.{◌≡◌, ◌≤◌, nat_eq, length, insert
 ghost use Rattle.std.specs.List.{list_any};
 ghost use Rattle.std.specs.Ordering.{is_eq};
 ghost use Rattle.std.specs.List.Sorted.{IsStrictlySortedBy};
-ghost use Rattle.puffin.specs.FrameOf.{frame_of};
-ghost use Rattle.puffin.specs.Ranking.{place};
-ghost use Rattle.puffin.specs.Ranks.{rank_of, rank_cmp, is_before, rank_enters};
+ghost use Rattle.puffin.specs.View.FrameOf.{frame_of};
+ghost use Rattle.puffin.specs.View.Ranking.{place};
+ghost use Rattle.puffin.specs.inner.view.Ranks.{rank_of, rank_cmp, is_before, rank_enters};
 
 use puffin_data::NanoSecond;
 use puffin_frames::frame_data::{FrameData, FrameIndex};

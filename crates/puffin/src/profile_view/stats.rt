@@ -1,8 +1,8 @@
 ghost use Rattle.std.specs.Prelude.{◌≡◌, ◌+◌, []};
 ghost use Rattle.std.specs.Iterator.{IsFinite};
 ghost use Rattle.std.specs.Iterator.Runs.{WholeRun};
-ghost use Rattle.puffin.specs.FrameOf.{frame_of, lent_frames};
-ghost use Rattle.puffin.specs.Stats.{stats_of, with_frame};
+ghost use Rattle.puffin.specs.View.FrameOf.{frame_of, lent_frames};
+ghost use Rattle.puffin.specs.View.Stats.{stats_of, with_frame};
 
 use puffin_frames::frame_data::FrameData;
 use std::fmt::Debug;

@@ -1,6 +1,6 @@
 ghost use Rattle.std.specs.Prelude.{◌≡◌, ◌+◌, ◌^◌, ◌<◌, ◌≤◌};
-ghost use Rattle.puffin.specs.Stats.{cut};
-ghost use Rattle.puffin.specs.Held.{number_if, ram_if, unpacked_if};
+ghost use Rattle.puffin.specs.View.Stats.{cut};
+ghost use Rattle.puffin.specs.inner.view.Held.{number_if, ram_if, unpacked_if};
 
 use crate::profile_view::stats::FrameStats;
 use puffin_frames::frame_data::FrameData;

@@ -61,7 +61,7 @@ pub struct Counted<D> {
 }
 
 impl<D> Counted<D> {
-    ghost use Rattle.puffin_data.specs.Counting.{counted_device, failed_calls};
+    ghost use Rattle.puffin_data.specs.Device.Counting.{counted_device, failed_calls};
 
     /// Counts the failures of a reader or writer from 0.
     pub fn new(device: D) -> Counted<D>

@@ -1,7 +1,7 @@
 ghost use Rattle.std.specs.Prelude.{◌≡◌, ◌+◌, ◌≤◌, ◌<◌, ◌^◌, ◌↔◌, ◌⊎◌, length, IfOk, IfErr, IsOk, OnOk, OnErr, MatchResult};
 ghost use Rattle.std.specs.Int.{int_min, int_max};
 ghost use Rattle.puffin_data.specs.Forest.{Forest, empty, append};
-ghost use Rattle.puffin_data.specs.Spelling.{Spells};
+ghost use Rattle.puffin_data.specs.Forest.Spelling.{Spells};
 ghost use Rattle.puffin_data.specs.Walk.{IsFault};
 ghost use Rattle.puffin_data.specs.Honesty.{IsHonest, IsHonestRef, recorded, recorded_ref, joined};
 

@@ -2,8 +2,8 @@
 
 ghost use Rattle.std.specs.Prelude.{◌≡◌, ◌-◌, ◌+◌, ◌^◌, ◌<◌, ◌≤◌, ◌++◌, ◌⊎◌, ℕ, List, IfOk, IfErr, OnOk, length, take, drop};
 ghost use Rattle.std.specs.Io.KnownBytes.{Consumes, IsAtEnd};
-ghost use Rattle.puffin_data.specs.Devices.{FromDevice, TookUpTo, IsFilled, IsOutside, failures_after};
-ghost use Rattle.puffin_data.specs.Parts.{part_of, first_at, length_at, counted_part_at};
+ghost use Rattle.puffin_data.specs.Device.{FromDevice, TookUpTo, IsFilled, IsOutside, failures_after};
+ghost use Rattle.puffin_data.specs.Part.{part_of, first_at, length_at, counted_part_at};
 
 use crate::data::device::Source;
 use crate::data::transfer::PIECE_SIZE;

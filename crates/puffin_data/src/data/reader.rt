@@ -2,14 +2,14 @@ ghost use Rattle.std.specs.Prelude.{◌≡◌, ℕ, ℤ, ◌+◌, ◌-◌, ◌/�
 ghost use Rattle.std.specs.Int.{w64};
 ghost use Rattle.std.specs.Iterator.{at_most};
 ghost use Rattle.puffin_data.specs.Forest.{Forest};
-ghost use Rattle.puffin_data.specs.Measures.{scope_count, height};
-ghost use Rattle.puffin_data.specs.Spelling.{Spells};
+ghost use Rattle.puffin_data.specs.Forest.Measures.{scope_count, height};
+ghost use Rattle.puffin_data.specs.Forest.Spelling.{Spells};
 ghost use Rattle.puffin_data.specs.Honesty.{Counts};
 ghost use Rattle.puffin_data.specs.Walk.{IsFault, Refuses};
 ghost use Rattle.puffin_data.specs.Text.{text_in};
-ghost use Rattle.puffin_data.specs.Sightings.{found_of};
-ghost use Rattle.puffin_data.specs.Lenient.{Place, read_scope, scope_read};
-ghost use Rattle.puffin_data.specs.Scopes.{scope_seen, scope_answer, IsNextRead, ReadsScopes, ReadsFault};
+ghost use Rattle.puffin_data.specs.inner.Sightings.{found_of};
+ghost use Rattle.puffin_data.specs.Reader.{Place, read_scope, scope_read};
+ghost use Rattle.puffin_data.specs.Reader.Scopes.{scope_seen, scope_answer, IsNextRead, ReadsScopes, ReadsFault};
 
 use crate::data::record::{Scope, ScopeRecord};
 use crate::data::scope::{Sighting, scope_in};

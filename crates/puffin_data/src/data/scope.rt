@@ -1,8 +1,8 @@
 //! Reading one scope.
 
 ghost use Rattle.std.specs.Prelude.{◌≡◌, ◌+◌, ◌≤◌, length};
-ghost use Rattle.puffin_data.specs.Reading.{reading, id_in, time_in, size_in, child_begin_in};
-ghost use Rattle.puffin_data.specs.Sightings.{seen};
+ghost use Rattle.puffin_data.specs.Walk.Reading.{reading, id_in, time_in, size_in, child_begin_in};
+ghost use Rattle.puffin_data.specs.inner.Sightings.{seen};
 
 use crate::error::{Error, NanoSecond, Result};
 use byteorder::{ByteOrder, LittleEndian};
@@ -36,7 +36,7 @@ pub struct Sighting<'s> {
 }
 
 /// The id that stands in a region.
-#[tactic(auto, unfolding(crate::specs::Reading::id_in))]
+#[tactic(auto, unfolding(crate::specs::Walk::Reading::id_in))]
 fn id_of(region: &[u8]) -> u32
     requires { 5 ≤ length region.now }
     ensures { result ≡ id_in region.now }
@@ -45,7 +45,7 @@ fn id_of(region: &[u8]) -> u32
 }
 
 /// The time at a place of a region.
-#[tactic(auto, unfolding(crate::specs::Reading::time_in))]
+#[tactic(auto, unfolding(crate::specs::Walk::Reading::time_in))]
 fn time_at(region: &[u8], place: usize) -> NanoSecond
     requires { place + 8 ≤ length region.now }
     ensures { result ≡ time_in region.now place }
@@ -54,7 +54,7 @@ fn time_at(region: &[u8], place: usize) -> NanoSecond
 }
 
 /// The number of bytes of the children, as a region says it.
-#[tactic(auto, unfolding(crate::specs::Reading::size_in))]
+#[tactic(auto, unfolding(crate::specs::Walk::Reading::size_in))]
 fn size_of_children(region: &[u8]) -> u64
     requires { child_begin_in region.now ≤ length region.now }
     ensures { result ≡ size_in region.now }
@@ -63,7 +63,7 @@ fn size_of_children(region: &[u8]) -> u64
 }
 
 /// Reads one scope at the front of a region. `None` where none begins there.
-#[tactic(auto, unfolding(crate::specs::Reading::reading, crate::specs::Reading::found_in))]
+#[tactic(auto, unfolding(crate::specs::Walk::Reading::reading, crate::specs::Walk::Reading::found_in))]
 pub(crate) fn scope_in(region: &[u8]) -> Result<Option<Sighting<'_>>>
     ensures { seen result ≡ reading region.now }
 {

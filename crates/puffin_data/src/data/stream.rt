@@ -1,6 +1,6 @@
 ghost use Rattle.std.specs.Prelude.{◌≡◌, ◌==◌, ◌+◌, ◌-◌, ◌≤◌, [], ◌++◌, length, take, drop, IfOk, OnOk, OnErr, IfErr, IsOk, vec_len};
 ghost use Rattle.std.specs.Vec.{vec_capacity};
-ghost use Rattle.puffin_data.specs.Streams.{Held};
+ghost use Rattle.puffin_data.specs.Stream.{Held};
 
 use crate::error::{Error, Result};
 use std::alloc::Global;

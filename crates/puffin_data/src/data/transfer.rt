@@ -2,7 +2,7 @@
 
 ghost use Rattle.std.specs.Prelude.{◌≡◌, ◌++◌, ◌+◌, ◌-◌, ◌^◌, ◌<◌, ◌≤◌, List, ℕ, IfOk, IfErr, OnOk, OnErr, length, ◌⊎◌};
 ghost use Rattle.std.specs.Io.KnownBytes.{Consumes, Appends, IsAtEnd};
-ghost use Rattle.puffin_data.specs.Devices.{IsOutside, TookNothing, WritesBeginning, failures_after};
+ghost use Rattle.puffin_data.specs.Device.{IsOutside, TookNothing, WritesBeginning, failures_after};
 
 use crate::data::device::{Drain, Source};
 use crate::file_error::FileError;

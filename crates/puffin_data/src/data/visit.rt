@@ -2,10 +2,10 @@
 
 ghost use Rattle.std.specs.Prelude.{◌≡◌, ℕ, ◌+◌, ◌*◌, ◌≤◌, List, [], ◌∷◌, ◌++◌, length, IfOk, IfErr, ◌⊎◌};
 ghost use Rattle.puffin_data.specs.Forest.{Span, IsSpan};
-ghost use Rattle.puffin_data.specs.Sightings.{found_of};
-ghost use Rattle.puffin_data.specs.Sights.{Nested};
-ghost use Rattle.puffin_data.specs.Visiting.{TakesAll, StopsEarly};
-ghost use Rattle.puffin_data.specs.Goings.{Entering, Refusing};
+ghost use Rattle.puffin_data.specs.inner.Sightings.{found_of};
+ghost use Rattle.puffin_data.specs.Walk.Sights.{Nested};
+ghost use Rattle.puffin_data.specs.Walk.Visitor.{TakesAll, StopsEarly};
+ghost use Rattle.puffin_data.specs.Walk.Going.{Entering, Refusing};
 
 use crate::data::scope::{END_SIZE, Sighting};
 use crate::data::walk::next_scope;

@@ -1,9 +1,9 @@
 //! The strict walk: one pass over the bytes of a stream, which have to be a forest of scopes.
 
 ghost use Rattle.std.specs.Prelude.{◌≡◌, ℕ, ◌+◌, ◌*◌, ◌≤◌, ◌<◌, ◌^◌, ◌==◌, if◌then◌else◌, length, slice_index, IfOk, IfErr, MatchResult};
-ghost use Rattle.puffin_data.specs.Reading.{reading, IsFaultIn};
-ghost use Rattle.puffin_data.specs.Sightings.{found_of};
-ghost use Rattle.puffin_data.specs.Walking.{uncounted, counted, Walked, Stopped};
+ghost use Rattle.puffin_data.specs.Walk.Reading.{reading, IsFaultIn};
+ghost use Rattle.puffin_data.specs.inner.Sightings.{found_of};
+ghost use Rattle.puffin_data.specs.inner.Walking.{uncounted, counted, Walked, Stopped};
 
 use crate::data::scope::{END_SIZE, SCOPE_BEGIN, Sighting, scope_in};
 use crate::error::{Error, NanoSecond, Result};

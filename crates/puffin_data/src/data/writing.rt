@@ -2,8 +2,8 @@
 
 ghost use Rattle.std.specs.Prelude.{◌≡◌, ◌+◌, ◌-◌, ◌^◌, ◌≤◌, ◌∷◌, [], ◌++◌, length, IfOk, OnOk, OnErr, IfErr, IsOk};
 ghost use Rattle.byteorder.specs.Endian.{little_bytes};
-ghost use Rattle.puffin_data.specs.Spelling.{begin_bytes, time_bytes};
-ghost use Rattle.puffin_data.specs.Opens.{ended_bytes};
+ghost use Rattle.puffin_data.specs.Forest.Spelling.{begin_bytes, time_bytes};
+ghost use Rattle.puffin_data.specs.Forest.Open.{ended_bytes};
 ghost use Rattle.puffin_data.specs.Text.{cut_text};
 
 use crate::data::scope::{END_SIZE, HEAD_SIZE, SCOPE_BEGIN, SCOPE_END};

@@ -2,12 +2,12 @@
 
 ghost use Rattle.std.specs.Prelude.{◌≡◌, ◌^◌, true, false, MatchOption};
 ghost use Rattle.std.specs.Str.{is_utf8};
-ghost use Rattle.puffin_data.specs.Layout.{number, signed, byte, block, flag, ReadsWithRest, IsAny, IsByte, IsWord, IsLong, IsSigned, IsBlock, IsText};
-ghost use Rattle.puffin_data.specs.Front.{byte_at, wide_at, number_at, word_at, signed_at, unzigzag, flag_at, bytes_at, text_at, GivesWithRest};
+ghost use Rattle.puffin_data.specs.Value.Layout.{number, signed, byte, block, flag, ReadsWithRest, IsAny, IsByte, IsWord, IsLong, IsSigned, IsBlock, IsText};
+ghost use Rattle.puffin_data.specs.Value.Decoding.{byte_at, wide_at, number_at, word_at, signed_at, unzigzag, flag_at, bytes_at, text_at, GivesWithRest};
 
 use byteorder::{ByteOrder, LittleEndian};
 
-#[tactic(auto, unfolding(crate::specs::Front::wide_at))]
+#[tactic(auto, unfolding(crate::specs::Value::Decoding::wide_at))]
 fn two_bytes_in(bytes: &[u8]) -> Option<(u64, &[u8])>
     ensures { GivesWithRest (λ x. (x.0, x.1.now)) result (wide_at 2 251 bytes.now) }
 {
@@ -21,7 +21,7 @@ fn two_bytes_in(bytes: &[u8]) -> Option<(u64, &[u8])>
     Some((n, bytes.split_at(2).1))
 }
 
-#[tactic(auto, unfolding(crate::specs::Front::wide_at))]
+#[tactic(auto, unfolding(crate::specs::Value::Decoding::wide_at))]
 fn four_bytes_in(bytes: &[u8]) -> Option<(u64, &[u8])>
     ensures { GivesWithRest (λ x. (x.0, x.1.now)) result (wide_at 4 (2 ^ 16) bytes.now) }
 {
@@ -35,7 +35,7 @@ fn four_bytes_in(bytes: &[u8]) -> Option<(u64, &[u8])>
     Some((n, bytes.split_at(4).1))
 }
 
-#[tactic(auto, unfolding(crate::specs::Front::wide_at))]
+#[tactic(auto, unfolding(crate::specs::Value::Decoding::wide_at))]
 fn eight_bytes_in(bytes: &[u8]) -> Option<(u64, &[u8])>
     ensures { GivesWithRest (λ x. (x.0, x.1.now)) result (wide_at 8 (2 ^ 32) bytes.now) }
 {
@@ -49,7 +49,7 @@ fn eight_bytes_in(bytes: &[u8]) -> Option<(u64, &[u8])>
     Some((n, bytes.split_at(8).1))
 }
 
-#[tactic(auto, unfolding(crate::specs::Front::number_after))]
+#[tactic(auto, unfolding(crate::specs::Value::Decoding::number_after))]
 fn number_in(bytes: &[u8]) -> Option<(u64, &[u8])>
     ensures { GivesWithRest (λ x. (x.0, x.1.now)) result (number_at bytes.now) }
 {

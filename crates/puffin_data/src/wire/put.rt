@@ -1,12 +1,12 @@
 //! Values written one after the other. Each call is refused with `Memory` alone, and then appends nothing.
 
 ghost use Rattle.std.specs.Prelude.{◌≡◌, ◌++◌, OnOk, OnErr, IfErr};
-ghost use Rattle.puffin_data.specs.Layout.{number, signed, byte, block, zigzag};
+ghost use Rattle.puffin_data.specs.Value.Layout.{number, signed, byte, block, zigzag};
 
 use crate::error::{Error, Result};
 
 /// Appends a number of 64 bits in its shortest spelling. Refused with `Memory`; nothing is then appended.
-#[tactic(auto, unfolding(crate::specs::Layout::number))]
+#[tactic(auto, unfolding(crate::specs::Value::Layout::number))]
 pub fn put_u64(out: &mut Vec<u8>, n: u64) -> Result<()>
     ensures ok { OnOk result (out.new.items ≡ out.old.items ++ number n) }
     ensures err { OnErr result (out.new.items ≡ out.old.items) }

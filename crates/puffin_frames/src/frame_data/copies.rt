@@ -2,7 +2,7 @@
 
 ghost use Rattle.std.specs.Prelude.{◌≡◌, IfOk, IfErr};
 ghost use Rattle.puffin_data.specs.declared.error.Error.{Error};
-ghost use Rattle.puffin_frames.specs.Contents.{contents, listed};
+ghost use Rattle.puffin_frames.specs.Frame.Contents.{contents, listed};
 ghost use Rattle.puffin_frames.specs.Details.{shared_details};
 
 use crate::frame_data::shared::ThreadStreams;

@@ -5,13 +5,13 @@ ghost use Rattle.std.specs.Option.{option_map};
 ghost use Rattle.std.specs.Cow.{cow_str_bytes};
 ghost use Rattle.std.specs.FinMap.{is_sorted};
 ghost use Rattle.puffin_data.specs.Honesty.{Recorded, recorded};
-ghost use Rattle.puffin_data.specs.Front.{IfSomeGives, SeenAs, whole, optional_at, signed_at, text_at, times_at};
+ghost use Rattle.puffin_data.specs.Value.Decoding.{IfSomeGives, SeenAs, whole, optional_at, signed_at, text_at, times_at};
 ghost use Rattle.puffin_frames.specs.declared.frame_data.decode.Stop.TheVariants.{Memory};
-ghost use Rattle.puffin_frames.specs.Info.{Info, info_of, info_cmp};
+ghost use Rattle.puffin_frames.specs.Thread.Info.{Info, info_of, info_cmp};
 ghost use Rattle.puffin_frames.specs.Details.{details_of, shared_details};
-ghost use Rattle.puffin_frames.specs.Contents.{listed};
-ghost use Rattle.puffin_frames.specs.Values.{meta_at, thread_at, recorded_at, stream_at, rising, streams_at, id_at, detail_at, details_at, legacy_at, Legacy};
-ghost use Rattle.puffin_frames.specs.Tries.{TriesToGive, Tries};
+ghost use Rattle.puffin_frames.specs.Frame.Contents.{listed};
+ghost use Rattle.puffin_frames.specs.Packet.Structs.{meta_at, thread_at, recorded_at, stream_at, rising, streams_at, id_at, detail_at, details_at, legacy_at, Legacy};
+ghost use Rattle.puffin_frames.specs.inner.Tries.{TriesToGive, Tries};
 
 use crate::frame_data::meta::FrameMeta;
 use crate::frame_data::shared::ThreadStreams;
@@ -50,7 +50,7 @@ impl<T: Drop> From<AllocFailed<T>> for Stop {
     }
 }
 
-#[tactic(auto, unfolding(crate::specs::Values::meta_at))]
+#[tactic(auto, unfolding(crate::specs::Packet::Structs::meta_at))]
 fn read_meta(cursor: &mut Cursor) -> Option<FrameMeta>
     ensures { IfSomeGives (λ m. m) result cursor.new (meta_at cursor.old) }
 {
@@ -94,7 +94,7 @@ fn read_start(cursor: &mut Cursor) -> Result<Option<NanoSecond>, Stop>
     Ok(Some(start))
 }
 
-#[tactic(auto, unfolding(crate::specs::Values::thread_at))]
+#[tactic(auto, unfolding(crate::specs::Packet::Structs::thread_at))]
 fn read_thread(alloc: Global, cursor: &mut Cursor) -> Result<ThreadInfo, Stop>
     ensures { TriesToGive info_of result cursor.new (thread_at cursor.old) }
 {
@@ -107,7 +107,7 @@ fn read_thread(alloc: Global, cursor: &mut Cursor) -> Result<ThreadInfo, Stop>
 }
 
 /// What is recorded of a thread, its stream copied as one block.
-#[tactic(auto, unfolding(crate::specs::Values::recorded_at))]
+#[tactic(auto, unfolding(crate::specs::Packet::Structs::recorded_at))]
 fn read_recorded(alloc: Global, cursor: &mut Cursor) -> Result<StreamInfo, Stop>
     ensures { TriesToGive recorded result cursor.new (recorded_at cursor.old) }
 {
@@ -158,7 +158,7 @@ fn read_streams_times(alloc: Global, cursor: &mut Cursor, count: u64) -> Result<
     Ok(streams)
 }
 
-#[tactic(auto, unfolding(crate::specs::Values::streams_at))]
+#[tactic(auto, unfolding(crate::specs::Packet::Structs::streams_at))]
 fn read_streams(alloc: Global, cursor: &mut Cursor) -> Result<ThreadStreams, Stop>
     ensures given { TriesToGive (λ m. listed m.entries) result cursor.new (streams_at cursor.old) }
     ensures sorted { IfOk result (λ m. is_sorted info_cmp (listed m.entries) ≡ true) }
@@ -204,7 +204,7 @@ fn read_name(alloc: Global, cursor: &mut Cursor) -> Result<Option<CowStr<'static
     Ok(Some(CowStr::Owned(name)))
 }
 
-#[tactic(auto, unfolding(crate::specs::Values::detail_at))]
+#[tactic(auto, unfolding(crate::specs::Packet::Structs::detail_at))]
 fn read_detail(alloc: Global, cursor: &mut Cursor) -> Result<ScopeDetails, Stop>
     ensures { TriesToGive details_of result cursor.new (detail_at cursor.old) }
 {
@@ -237,7 +237,7 @@ fn read_details_times(
     Ok(all)
 }
 
-#[tactic(auto, unfolding(crate::specs::Values::details_at))]
+#[tactic(auto, unfolding(crate::specs::Packet::Structs::details_at))]
 fn read_details(alloc: Global, cursor: &mut Cursor) -> Result<Vec<Arc<ScopeDetails>>, Stop>
     ensures { TriesToGive (λ v. shared_details v.items) result cursor.new (details_at cursor.old) }
 {
@@ -258,7 +258,7 @@ pub(crate) fn details_in(alloc: Global, bytes: &[u8]) -> Result<Vec<Arc<ScopeDet
     }
 }
 
-#[tactic(auto, unfolding(crate::specs::Values::legacy_at))]
+#[tactic(auto, unfolding(crate::specs::Packet::Structs::legacy_at))]
 fn read_legacy(alloc: Global, cursor: &mut Cursor) -> Result<(FrameMeta, ThreadStreams), Stop>
     ensures given { TriesToGive (λ p. record { meta = p.0; streams = listed p.1.entries }) result cursor.new (legacy_at cursor.old) }
     ensures sorted { IfOk result (λ p. is_sorted info_cmp (listed p.1.entries) ≡ true) }

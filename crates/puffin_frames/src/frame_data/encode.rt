@@ -9,11 +9,11 @@ ghost use Rattle.std.specs.Option.{option_map};
 ghost use Rattle.std.specs.Cow.{cow_str_bytes};
 ghost use Rattle.puffin_data.specs.declared.error.Error.{Error};
 ghost use Rattle.puffin_data.specs.Honesty.{recorded};
-ghost use Rattle.puffin_data.specs.Layout.{optional, number, block, signed, IsBlock, IsText, IfAny};
-ghost use Rattle.puffin_frames.specs.Info.{info_of, thread_cmp};
+ghost use Rattle.puffin_data.specs.Value.Layout.{optional, number, block, signed, IsBlock, IsText, IfAny};
+ghost use Rattle.puffin_frames.specs.Thread.Info.{info_of, thread_cmp};
 ghost use Rattle.puffin_frames.specs.Details.{details_of, shared_details};
-ghost use Rattle.puffin_frames.specs.Contents.{listed};
-ghost use Rattle.puffin_frames.specs.Values.{meta_layout, IsMeta, thread_layout, IsThread, recorded_layout, IsRecorded, streams_layout, AreStreams, detail_layout, IsDetail, details_layout, AreDetails, IsId};
+ghost use Rattle.puffin_frames.specs.Frame.Contents.{listed};
+ghost use Rattle.puffin_frames.specs.Packet.Structs.{meta_layout, IsMeta, thread_layout, IsThread, recorded_layout, IsRecorded, streams_layout, AreStreams, detail_layout, IsDetail, details_layout, AreDetails, IsId};
 
 use crate::frame_data::meta::FrameMeta;
 use crate::frame_data::shared::ThreadStreams;

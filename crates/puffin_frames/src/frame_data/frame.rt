@@ -2,8 +2,8 @@ ghost use Rattle.std.specs.Prelude.{◌≡◌, ◌↔◌, ◌⊎◌, ◌-ℤ◌,
 ghost use Rattle.std.specs.Option.{option_map};
 ghost use Rattle.std.specs.FinMap as map;
 ghost use Rattle.puffin_data.specs.declared.error.Error.{Error};
-ghost use Rattle.puffin_frames.specs.Measures.{joined_range, TotalsFit, IsOrdered, DurationFits, MakeFrame, meta_of};
-ghost use Rattle.puffin_frames.specs.Contents.{streams_of, all_recorded, contents, holding_of, frame_contents, frame_meta, is_alone};
+ghost use Rattle.puffin_frames.specs.Frame.Sums.{joined_range, TotalsFit, IsOrdered, DurationFits, MakeFrame, meta_of};
+ghost use Rattle.puffin_frames.specs.Frame.Contents.{streams_of, all_recorded, contents, holding_of, frame_contents, frame_meta, is_alone};
 
 use crate::frame_data::held::Held;
 use crate::frame_data::meta::FrameMeta;

@@ -4,9 +4,9 @@ ghost use Rattle.std.specs.Prelude.{◌≡◌, ◌≤◌, ◌-ℤ◌, ◌≤ℤ�
 ghost use Rattle.std.specs.Int.{w64};
 ghost use Rattle.std.specs.Arc.{arc_value};
 ghost use Rattle.std.specs.Coded.{Coded-set, coded_option};
-ghost use Rattle.puffin_data.specs.Layout.{IsBytes};
-ghost use Rattle.puffin_frames.specs.ThreadStreams.{contents, streams_code};
-ghost use Rattle.puffin_frames.specs.Holding.{streams_in};
+ghost use Rattle.puffin_data.specs.Value.Layout.{IsBytes};
+ghost use Rattle.puffin_frames.specs.Frame.Streams.{contents, streams_code};
+ghost use Rattle.puffin_frames.specs.Frame.Holding.{streams_in};
 
 use crate::frame_data::meta::FrameMeta;
 use crate::frame_data::unpacked::UnpackedFrameData;

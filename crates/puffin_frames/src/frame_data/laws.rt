@@ -2,13 +2,13 @@
 //! the function.
 
 ghost use Rattle.std.specs.Prelude.{List, ℕ, ◌≡◌, ◌↔◌, ◌++◌, Some, Ok};
-ghost use Rattle.puffin_data.specs.Layout.{IsBytes, NoneBeginsAnother, ReadsLayouts};
-ghost use Rattle.puffin_frames.specs.Values.{meta_layout, IsMeta, meta_at, thread_layout, IsThread, thread_at, recorded_layout, IsRecorded, recorded_at, streams_layout, AreStreams, streams_at, details_layout, AreDetails, details_at, legacy_layout, IsLegacy, legacy_at};
-ghost use Rattle.puffin_frames.specs.ThreadStreams.{Streams};
-ghost use Rattle.puffin_frames.specs.Holding.{Packing, HoldsStreams, streams_in, Holding, IsHolding, held_contents, as_packed, as_unpacked};
-ghost use Rattle.puffin_frames.specs.Stored.{Said, Stored, packed};
-ghost use Rattle.puffin_frames.specs.Steps.{next_at, packet, IsPacked};
-ghost use Rattle.puffin_frames.specs.Packets.{Stores};
+ghost use Rattle.puffin_data.specs.Value.Layout.{IsBytes, NoneBeginsAnother, ReadsLayouts};
+ghost use Rattle.puffin_frames.specs.Packet.Structs.{meta_layout, IsMeta, meta_at, thread_layout, IsThread, thread_at, recorded_layout, IsRecorded, recorded_at, streams_layout, AreStreams, streams_at, details_layout, AreDetails, details_at, legacy_layout, IsLegacy, legacy_at};
+ghost use Rattle.puffin_frames.specs.Frame.Streams.{Streams};
+ghost use Rattle.puffin_frames.specs.Frame.Holding.{Packing, HoldsStreams, streams_in, Holding, IsHolding, held_contents, as_packed, as_unpacked};
+ghost use Rattle.puffin_frames.specs.Packet.Stored.{Said, Stored, packed};
+ghost use Rattle.puffin_frames.specs.Packet.Steps.{next_at, packet, IsPacked};
+ghost use Rattle.puffin_frames.specs.Packet.Grammar.{Stores};
 
 /// No layout of a value begins another of its type.
 pub fn no_layout_begins_another()

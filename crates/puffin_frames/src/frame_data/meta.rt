@@ -3,9 +3,9 @@ ghost use Rattle.std.specs.Int.{int_min, int_max};
 ghost use Rattle.puffin_data.specs.declared.error.Error.{Error};
 ghost use Rattle.std.specs.Map.{keys_of};
 ghost use Rattle.std.specs.List.Sorted.{IsStrictlySortedBy};
-ghost use Rattle.puffin_frames.specs.Info.{thread_cmp};
-ghost use Rattle.puffin_frames.specs.Contents.{all_recorded};
-ghost use Rattle.puffin_frames.specs.Measures.{meta_of, TotalsFit};
+ghost use Rattle.puffin_frames.specs.Thread.Info.{thread_cmp};
+ghost use Rattle.puffin_frames.specs.Frame.Contents.{all_recorded};
+ghost use Rattle.puffin_frames.specs.Frame.Sums.{meta_of, TotalsFit};
 ghost use Rattle.puffin_data.specs.Honesty.{recorded_ref};
 
 use crate::thread_profiler::ThreadInfo;

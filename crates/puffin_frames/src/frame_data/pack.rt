@@ -4,9 +4,9 @@ ghost use Rattle.std.specs.Prelude.{◌≡◌, ◌≤◌, ◌-ℤ◌, ◌≤ℤ�
 ghost use Rattle.std.specs.Arc.{arc_value};
 ghost use Rattle.puffin_data.specs.declared.error.Error.{Error};
 ghost use Rattle.puffin_data.specs.declared.file_error.FileError.{FileError};
-ghost use Rattle.puffin_frames.specs.Contents.{contents, shared_streams, packed_as, held_as, held_meta};
-ghost use Rattle.puffin_frames.specs.Holding.{plainly_packed, packing_of, unpacking, unpacked_from, held_contents, as_packed, as_unpacked, streams_in};
-ghost use Rattle.puffin_frames.specs.Tries.{DecidedInMemory};
+ghost use Rattle.puffin_frames.specs.Frame.Contents.{contents, shared_streams, packed_as, held_as, held_meta};
+ghost use Rattle.puffin_frames.specs.Frame.Holding.{plainly_packed, packing_of, unpacking, unpacked_from, held_contents, as_packed, as_unpacked, streams_in};
+ghost use Rattle.puffin_frames.specs.inner.Tries.{DecidedInMemory};
 
 use crate::frame_data::decode::{self, Stop};
 use crate::frame_data::encode::put_streams;

@@ -5,9 +5,9 @@ ghost use Rattle.std.specs.Option.{option_map, unwrap_or};
 ghost use Rattle.std.specs.Arc.{arc_value};
 ghost use Rattle.puffin_data.specs.declared.error.Error.{Error};
 ghost use Rattle.puffin_data.specs.declared.file_error.FileError.{FileError};
-ghost use Rattle.puffin_frames.specs.Contents.{Streams, contents, holding_of, frame_contents, frame_meta, frame_details, frame_says};
-ghost use Rattle.puffin_frames.specs.Holding.{as_packed, as_unpacked, unpacked_from, HoldsStreams};
-ghost use Rattle.puffin_frames.specs.Tries.{DecidedInMemory};
+ghost use Rattle.puffin_frames.specs.Frame.Contents.{Streams, contents, holding_of, frame_contents, frame_meta, frame_details, frame_says};
+ghost use Rattle.puffin_frames.specs.Frame.Holding.{as_packed, as_unpacked, unpacked_from, HoldsStreams};
+ghost use Rattle.puffin_frames.specs.inner.Tries.{DecidedInMemory};
 
 use crate::frame_data::copies::shared_copy;
 use crate::frame_data::frame::FrameData;

@@ -3,16 +3,16 @@
 ghost use Rattle.std.specs.Prelude.{◌≡◌, ◌-◌, ◌+◌, ◌^◌, ◌<◌, ◌≤◌, ◌-ℤ◌, ◌≤ℤ◌, FitsSigned, Some, None, true, is_some, IfOk, IfErr, IfSome};
 ghost use Rattle.std.specs.Int.{w64};
 ghost use Rattle.puffin_data.specs.declared.file_error.FileError.{FileError};
-ghost use Rattle.puffin_data.specs.Devices.{FromDevice, failures_after};
-ghost use Rattle.puffin_data.specs.Front.{whole};
-ghost use Rattle.puffin_frames.specs.Values.{details_at};
+ghost use Rattle.puffin_data.specs.Device.{FromDevice, failures_after};
+ghost use Rattle.puffin_data.specs.Value.Decoding.{whole};
+ghost use Rattle.puffin_frames.specs.Packet.Structs.{details_at};
 ghost use Rattle.puffin_frames.specs.Details.{shared_details};
-ghost use Rattle.puffin_frames.specs.Contents.{holding_of, frame_says};
-ghost use Rattle.puffin_frames.specs.Tries.{Decided, DecidedInMemory};
-ghost use Rattle.puffin_frames.specs.Forms.{IsFormOf};
-ghost use Rattle.puffin_frames.specs.Steps.{is_range_at, meta_from, meta_part_at, kind_from, kind_at, details_from, details_part_at, streams_part_at, packed_at, form_at, legacy_from, legacy_part_at, is_packet, stored_after};
-ghost use Rattle.puffin_frames.specs.Packets.{TookStored};
-ghost use Rattle.puffin_frames.specs.Reads.{HeaderFrom, legacy_of, stored_of, IsFresh, ReadsNext};
+ghost use Rattle.puffin_frames.specs.Frame.Contents.{holding_of, frame_says};
+ghost use Rattle.puffin_frames.specs.inner.Tries.{Decided, DecidedInMemory};
+ghost use Rattle.puffin_frames.specs.inner.Form.{IsFormOf};
+ghost use Rattle.puffin_frames.specs.Packet.Steps.{is_range_at, meta_from, meta_part_at, kind_from, kind_at, details_from, details_part_at, streams_part_at, packed_at, form_at, legacy_from, legacy_part_at, is_packet, stored_after};
+ghost use Rattle.puffin_frames.specs.Packet.Grammar.{TookStored};
+ghost use Rattle.puffin_frames.specs.Packet.Next.{HeaderFrom, legacy_of, stored_of, IsFresh, ReadsNext};
 
 use crate::frame_data::decode::{Stop, details_in, legacy_in, meta_in};
 use crate::frame_data::frame::FrameData;

@@ -2,8 +2,8 @@ ghost use Rattle.std.specs.Prelude.{◌≡◌, ◌⊎◌, ◌↔◌, ◌+◌, �
 ghost use Rattle.std.specs.Arc.{arc_value};
 ghost use Rattle.puffin_data.specs.Honesty.{recorded, recorded_ref, joined};
 ghost use Rattle.puffin_data.specs.declared.error.Error.{Error};
-ghost use Rattle.puffin_frames.specs.Contents.{unshared, shared_streams, stream_under, reported_to};
-ghost use Rattle.puffin_frames.specs.Info.{info_of};
+ghost use Rattle.puffin_frames.specs.Frame.Contents.{unshared, shared_streams, stream_under, reported_to};
+ghost use Rattle.puffin_frames.specs.Thread.Info.{info_of};
 
 use crate::thread_profiler::ThreadInfo;
 use puffin_data::data::{StreamInfo, StreamInfoRef};

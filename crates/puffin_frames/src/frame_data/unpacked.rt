@@ -27,8 +27,8 @@ impl UnpackedFrameData {
     ghost use Rattle.std.specs.Prelude.{◌↔◌, ◌⊎◌, IfOk, IfErr};
     ghost use Rattle.std.specs.FinMap as map;
     ghost use Rattle.puffin_data.specs.declared.error.Error.{Error};
-    ghost use Rattle.puffin_frames.specs.Measures.{joined_range, TotalsFit, IsOrdered, DurationFits, MakeFrame, meta_of};
-    ghost use Rattle.puffin_frames.specs.Contents.{unshared, streams_of, all_recorded, contents};
+    ghost use Rattle.puffin_frames.specs.Frame.Sums.{joined_range, TotalsFit, IsOrdered, DurationFits, MakeFrame, meta_of};
+    ghost use Rattle.puffin_frames.specs.Frame.Contents.{unshared, streams_of, all_recorded, contents};
 
     /// The frame with this number of these streams, each of which is moved into an `Arc`.
     ///

@@ -3,14 +3,14 @@
 ghost use Rattle.std.specs.Prelude.{◌≡◌, ◌≢◌, ◌-◌, ◌+◌, ◌++◌, ◌^◌, ◌<◌, ◌≤◌, ◌⊎◌, List, ℕ, Some, None, IfOk, IfErr, OnOk, OnErr, option_map, length};
 ghost use Rattle.std.specs.Io.KnownBytes.{Appends};
 ghost use Rattle.puffin_data.specs.declared.file_error.FileError.{FileError};
-ghost use Rattle.puffin_data.specs.Devices.{TookNothing, WritesBeginning};
+ghost use Rattle.puffin_data.specs.Device.{TookNothing, WritesBeginning};
 ghost use Rattle.std.specs.FinMap.{values};
 ghost use Rattle.puffin_frames.specs.Details.{shared_details};
-ghost use Rattle.puffin_frames.specs.Values.{meta_layout, IsMeta, details_layout, AreDetails};
-ghost use Rattle.puffin_frames.specs.Contents.{frame_details, packed_as, contents};
-ghost use Rattle.puffin_frames.specs.Holding.{plainly_packed};
-ghost use Rattle.puffin_frames.specs.Steps.{counted, packet_head, packet_with, packet, IsPacked};
-ghost use Rattle.puffin_frames.specs.Writes.{details_or, says_with, HasLongPart};
+ghost use Rattle.puffin_frames.specs.Packet.Structs.{meta_layout, IsMeta, details_layout, AreDetails};
+ghost use Rattle.puffin_frames.specs.Frame.Contents.{frame_details, packed_as, contents};
+ghost use Rattle.puffin_frames.specs.Frame.Holding.{plainly_packed};
+ghost use Rattle.puffin_frames.specs.Packet.Steps.{counted, packet_head, packet_with, packet, IsPacked};
+ghost use Rattle.puffin_frames.specs.Packet.Writing.{details_or, says_with, HasLongPart};
 
 use crate::frame_data::encode::{put_details, put_details_by_id, put_meta};
 use crate::frame_data::frame::FrameData;
@@ -55,7 +55,7 @@ fn meta_part(alloc: Global, meta: FrameMeta) -> Result<Vec<u8>, FileError>
 }
 
 /// A packet's letters, its meta part, and the length and the kind of its streams.
-#[tactic(auto, unfolding(crate::specs::Steps::packet_head))]
+#[tactic(auto, unfolding(crate::specs::Packet::Steps::packet_head))]
 fn head(alloc: Global, meta: &FrameMeta, kind: u8, len: u32) -> Result<Vec<u8>, FileError>
     ensures ok { IfOk result (λ bytes. bytes.items ≡ packet_head meta.now kind len) }
     ensures fits { IsMeta meta.now }

@@ -3,7 +3,7 @@ ghost use Rattle.std.specs.Arc.{arc_value};
 ghost use Rattle.std.specs.FinMap as map;
 ghost use Rattle.puffin_data.specs.declared.error.Error.{Error};
 ghost use Rattle.puffin_frames.specs.Details.{details_of};
-ghost use Rattle.puffin_frames.specs.Collection.{no_details, inserted, kept_for, KeepsOwnIds, by_ids, by_names};
+ghost use Rattle.puffin_frames.specs.Details.Collection.{no_details, inserted, kept_for, KeepsOwnIds, by_ids, by_names};
 
 use crate::scope_details::details::ScopeDetails;
 use puffin_data::data::ScopeId;
@@ -22,13 +22,13 @@ pub struct ScopeCollection {
 }
 
 impl Model for ScopeCollection {
-    ghost use Rattle.puffin_frames.specs.Collection.{Collection, collection_code};
+    ghost use Rattle.puffin_frames.specs.Details.Collection.{Collection, collection_code};
 
     ghost Value = { Collection };
 
     ghost coded = { collection_code };
 
-    ghost use Rattle.puffin_frames.specs.HeldCollection.{collection_in, IsCollection};
+    ghost use Rattle.puffin_frames.specs.inner.HeldCollection.{collection_in, IsCollection};
 
     ghost view = { collection_in };
 

@@ -15,8 +15,8 @@ ghost use Rattle.puffin_data.specs.declared.data.scope_id.ScopeId.{ScopeId};
 ghost use Rattle.puffin_frames.specs.declared.scope_details.details.ScopeDetails.{ScopeDetails};
 ghost use Rattle.puffin_frames.specs.declared.scope_details.scope_type.ScopeType.{ScopeType};
 ghost use Rattle.puffin_frames.specs.Details.{Details, details_of, details_cmp, texts_cmp, same_details};
-ghost use Rattle.puffin_frames.specs.ScopeTypes.{type_cmp, type_place};
-ghost use Rattle.puffin_frames.specs.Collection.{Collection, inserted, inserted_all, no_details, first_with_id, last_id_of, KeepsOwnIds, by_ids, by_names, ids_seen, names_seen};
+ghost use Rattle.puffin_frames.specs.Details.Type.{type_cmp, type_place};
+ghost use Rattle.puffin_frames.specs.Details.Collection.{Collection, inserted, inserted_all, no_details, first_with_id, last_id_of, KeepsOwnIds, by_ids, by_names, ids_seen, names_seen};
 
 use crate::scope_details::{ScopeDetails, ScopeType};
 use puffin_data::data::ScopeId;

@@ -40,7 +40,7 @@ pub struct SystemClock<R> {
 
 impl<R: Clock + Drop> SystemClock<R> {
     ghost use Rattle.std.specs.Prelude.{IfOk};
-    ghost use Rattle.puffin_frames.specs.Clocks.{clock_start, last_answer};
+    ghost use Rattle.puffin_frames.specs.Thread.Clock.{clock_start, last_answer};
 
     /// Takes the start: nanoseconds since 1970, 0 before, and at most the greatest that fits. Refused with the system's
     /// error where a clock can't be read.
@@ -66,7 +66,7 @@ impl<R: Clock + Drop> SystemClock<R> {
 
 impl<R: Clock> NsSource for SystemClock<R> {
     ghost use Rattle.std.specs.Prelude.{◌≡◌, ◌≤ℤ◌};
-    ghost use Rattle.puffin_frames.specs.Clocks.{clock_start, last_answer};
+    ghost use Rattle.puffin_frames.specs.Thread.Clock.{clock_start, last_answer};
 
     // The start stays, and no answer is below it.
     ghost answers = { λ old at new. (clock_start new ≡ clock_start old) × (last_answer new ≡ at) × (clock_start old ≤ℤ at) };

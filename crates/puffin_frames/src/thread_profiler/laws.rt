@@ -4,9 +4,9 @@
 ghost use Rattle.std.specs.Prelude.{ℕ, ℤ, List, ◌≡◌, ◌+◌, ◌<◌, ◌^◌, ◌∷◌, ◌++◌, [], length, drop};
 ghost use Rattle.puffin_data.specs.Forest.{Forest};
 ghost use Rattle.puffin_data.specs.Honesty.{Recorded, IsHonestRecord};
-ghost use Rattle.puffin_data.specs.Tour.{Event, Open, Close};
-ghost use Rattle.puffin_data.specs.Words.{word_size, open_after};
-ghost use Rattle.puffin_frames.specs.Threads.{open_offsets};
+ghost use Rattle.puffin_data.specs.Forest.Tour.{Event, Open, Close};
+ghost use Rattle.puffin_data.specs.Forest.Words.{word_size, open_after};
+ghost use Rattle.puffin_frames.specs.Thread.Calls.{open_offsets};
 
 /// All that is honest of the same bytes is the same. So what a thread reports is what a successful
 /// [`puffin_data::data::StreamInfo::parse`] of the bytes gives.

@@ -22,10 +22,10 @@ impl<C: NsSource> ThreadProfiler<C> {
     ghost use Rattle.puffin_data.specs.declared.error.Error.{Error};
     ghost use Rattle.std.specs.Cow.{cow_str_bytes};
     ghost use Rattle.puffin_data.specs.Text.{cut_text};
-    ghost use Rattle.puffin_data.specs.Words.{word_size, open_after};
-    ghost use Rattle.puffin_frames.specs.Threads.{after_begin, after_registering, open_offsets};
-    ghost use Rattle.puffin_frames.specs.Closing.{Closes, Reports};
-    ghost use Rattle.puffin_frames.specs.Profilers.{thread_of, clock_of, with_clock};
+    ghost use Rattle.puffin_data.specs.Forest.Words.{word_size, open_after};
+    ghost use Rattle.puffin_frames.specs.Thread.Calls.{after_begin, after_registering, open_offsets};
+    ghost use Rattle.puffin_frames.specs.Thread.Closing.{Closes, Reports};
+    ghost use Rattle.puffin_frames.specs.Thread.ThreadProfiler.{thread_of, clock_of, with_clock};
     ghost use Rattle.puffin_frames.specs.contracts.thread_profiler.profiler.ThreadProfiler.{the_row};
     ghost use Rattle.std.specs.Borrow.{Lends, sem};
 

@@ -2,11 +2,11 @@
 
 ghost use Rattle.std.specs.Prelude.{◌≡◌, ◌+◌, ◌-◌, ◌*◌, ◌^◌, ◌<◌, ◌≤◌, ◌++◌, ◌⊎◌, ℤ, pos, ◌≤ℤ◌, [], ◌==◌, length, None, OnOk, OnErr, IfOk, IfErr, IfSome, IfNone, string_bytes, slice_get, unwrap_or, option_map};
 ghost use Rattle.puffin_data.specs.declared.error.Error.{Error};
-ghost use Rattle.puffin_data.specs.Spelling.{begin_bytes};
+ghost use Rattle.puffin_data.specs.Forest.Spelling.{begin_bytes};
 ghost use Rattle.puffin_data.specs.Text.{cut_text};
-ghost use Rattle.puffin_data.specs.Words.{word_size, open_after};
-ghost use Rattle.puffin_frames.specs.Threads.{after_begin, after_end, after_handing, after_registering, open_offsets};
-ghost use Rattle.puffin_frames.specs.Closing.{GoesTo};
+ghost use Rattle.puffin_data.specs.Forest.Words.{word_size, open_after};
+ghost use Rattle.puffin_frames.specs.Thread.Calls.{after_begin, after_end, after_handing, after_registering, open_offsets};
+ghost use Rattle.puffin_frames.specs.Thread.Closing.{GoesTo};
 ghost use Rattle.puffin_frames.specs.Details.{details_of, with_id};
 
 use crate::scope_details::{ScopeDetails, ScopeIds};
@@ -39,11 +39,11 @@ pub struct Recording {
 }
 
 impl Model for Recording {
-    ghost use Rattle.puffin_frames.specs.Threads.{Thread};
+    ghost use Rattle.puffin_frames.specs.Thread.Calls.{Thread};
 
     ghost Value = { Thread };
 
-    ghost use Rattle.puffin_frames.specs.Recordings.{thread_in, IsRecording};
+    ghost use Rattle.puffin_frames.specs.inner.ThreadRecording.{thread_in, IsRecording};
 
     ghost view = { thread_in };
 

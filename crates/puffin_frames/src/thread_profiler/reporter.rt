@@ -4,7 +4,7 @@ ghost use Rattle.std.specs.Prelude.{OnOk, IfErr};
 ghost use Rattle.puffin_data.specs.Forest.{Forest};
 ghost use Rattle.puffin_data.specs.Honesty.{IsHonestRef, recorded_ref};
 ghost use Rattle.puffin_frames.specs.Details.{details_seen};
-ghost use Rattle.puffin_frames.specs.Info.{info_of};
+ghost use Rattle.puffin_frames.specs.Thread.Info.{info_of};
 
 use crate::scope_details::ScopeDetails;
 use crate::thread_profiler::thread_info::ThreadInfo;
@@ -15,7 +15,7 @@ use puffin_data::{Error, Result};
 pub trait Reporter {
     ghost use Rattle.puffin_data.specs.declared.error.Error.{Error};
     ghost use Rattle.puffin_data.specs.Honesty.{Recorded};
-    ghost use Rattle.puffin_frames.specs.Info.{Info};
+    ghost use Rattle.puffin_frames.specs.Thread.Info.{Info};
     ghost use Rattle.puffin_frames.specs.Details.{Details};
     ghost use Rattle.std.specs.Prelude.{List};
 

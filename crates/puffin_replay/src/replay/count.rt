@@ -2,9 +2,9 @@ ghost use Rattle.std.specs.Prelude.{◌≡◌, ◌+◌, ◌-◌, ◌^◌, ◌<�
 ghost use Rattle.std.specs.String.{string_bytes};
 ghost use Rattle.puffin_data.specs.Forest.{Forest};
 ghost use Rattle.puffin_data.specs.Honesty.{IsHonest};
-ghost use Rattle.puffin_data.specs.Devices.{IsOutside, TookNothing};
-ghost use Rattle.puffin_replay.specs.Lines.{count_line, measures_line, sums_text, range_text, meta_line, none_line, outcome_line, frame_of_forest, refusal_of};
-ghost use Rattle.puffin_replay.specs.Counted.{ReadsAll, IsCounted, IsCutShort};
+ghost use Rattle.puffin_data.specs.Device.{IsOutside, TookNothing};
+ghost use Rattle.puffin_replay.specs.Program.Lines.{count_line, measures_line, sums_text, range_text, meta_line, none_line, outcome_line, frame_of_forest, refusal_of};
+ghost use Rattle.puffin_replay.specs.Program.Count.{ReadsAll, IsCounted, IsCutShort};
 
 use puffin_data::data::{Drain, Source, Stream, StreamInfo, read_to_end, write_all};
 use puffin_data::laws::range_of_a_forest;

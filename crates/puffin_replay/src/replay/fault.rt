@@ -1,11 +1,11 @@
 ghost use Rattle.std.specs.Prelude.{◌≡◌, ◌++◌, ◌+◌, ◌-◌, ◌^◌, ◌<◌, ◌≤◌, ◌⊎◌};
 ghost use Rattle.std.specs.Io.KnownBytes.{Appends};
 ghost use Rattle.arrayvec.specs.ArrayString.{array_string_len};
-ghost use Rattle.puffin_data.specs.Errors.{file_error_text};
-ghost use Rattle.puffin_data.specs.Devices.{TookNothing, WritesBeginning};
+ghost use Rattle.puffin_data.specs.Cause.{file_error_text};
+ghost use Rattle.puffin_data.specs.Device.{TookNothing, WritesBeginning};
 ghost use Rattle.puffin_data.specs.declared.file_error.FileError.TheVariants.{Memory};
 ghost use Rattle.puffin_replay.specs.declared.replay.fault.ToolFault.TheVariants.{File};
-ghost use Rattle.puffin_replay.specs.Faults.{fault_line, fault_text, status_of};
+ghost use Rattle.puffin_replay.specs.Program.Faults.{fault_line, fault_text, status_of};
 
 use arrayvec::ArrayString;
 use itoa::Buffer;

@@ -3,18 +3,18 @@
 ghost use Rattle.std.specs.Prelude.{ℕ, List, ◌≡◌, ◌<◌, ◌-◌, ◌^◌, Option, Some, Ok, length};
 ghost use Rattle.std.specs.List.{AllByRecursion};
 ghost use Rattle.puffin_data.specs.declared.file_error.FileError.{FileError};
-ghost use Rattle.puffin_data.specs.Devices.{IsOutside};
+ghost use Rattle.puffin_data.specs.Device.{IsOutside};
 ghost use Rattle.puffin_frames.specs.declared.frame_data.frame.FrameData.{FrameData};
-ghost use Rattle.puffin_frames.specs.Info.{Info};
-ghost use Rattle.puffin_frames.specs.Contents.{Streams, holding_of, frame_contents, frame_says};
-ghost use Rattle.puffin_frames.specs.Holding.{IsHolding, as_packed};
-ghost use Rattle.puffin_frames.specs.Stored.{Stored};
-ghost use Rattle.puffin_frames.specs.Steps.{IsPacked};
-ghost use Rattle.puffin.specs.Views.{View};
-ghost use Rattle.puffin.specs.Files.{file_of, contents_in, file_at, TookFrames};
+ghost use Rattle.puffin_frames.specs.Thread.Info.{Info};
+ghost use Rattle.puffin_frames.specs.Frame.Contents.{Streams, holding_of, frame_contents, frame_says};
+ghost use Rattle.puffin_frames.specs.Frame.Holding.{IsHolding, as_packed};
+ghost use Rattle.puffin_frames.specs.Packet.Stored.{Stored};
+ghost use Rattle.puffin_frames.specs.Packet.Steps.{IsPacked};
+ghost use Rattle.puffin.specs.View.{View};
+ghost use Rattle.puffin.specs.View.File.{file_of, contents_in, file_at, TookFrames};
 ghost use Rattle.puffin_replay.specs.declared.replay.summary.Summary.{Summary};
-ghost use Rattle.puffin_replay.specs.Recorded.{NoneLacksIds};
-ghost use Rattle.puffin_replay.specs.Summaries.{streams_said, details_said, SumsUp, IsSummary, IsHindered, FailsToSumUp};
+ghost use Rattle.puffin_replay.specs.Program.Recording.{NoneLacksIds};
+ghost use Rattle.puffin_replay.specs.Program.Summary.{streams_said, details_said, SumsUp, IsSummary, IsHindered, FailsToSumUp};
 
 use puffin::profile_view::laws::what_was_written_is_read;
 use puffin_frames::frame_data::laws::packing_keeps;

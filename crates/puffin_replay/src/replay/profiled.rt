@@ -1,12 +1,12 @@
 ghost use Rattle.std.specs.Prelude.{◌≡◌, ◌+◌, ◌-◌, ◌<◌, ◌⊎◌, length, option_map, IfOk, IfErr, OnOk, OnErr};
 ghost use Rattle.std.specs.String.{string_bytes};
 ghost use Rattle.puffin_data.specs.Text.{cut_text};
-ghost use Rattle.puffin_data.specs.Words.{word_size, open_after};
+ghost use Rattle.puffin_data.specs.Forest.Words.{word_size, open_after};
 ghost use Rattle.puffin_frames.specs.Details.{AllHaveIds};
-ghost use Rattle.puffin_frames.specs.Threads.{after_begin, after_registering};
-ghost use Rattle.puffin_replay.specs.Sessions.{named};
-ghost use Rattle.puffin_replay.specs.Replies.{details_given};
-ghost use Rattle.puffin_replay.specs.Serving.{clock_time, Ends};
+ghost use Rattle.puffin_frames.specs.Thread.Calls.{after_begin, after_registering};
+ghost use Rattle.puffin_replay.specs.Session.{named};
+ghost use Rattle.puffin_replay.specs.Session.Replies.{details_given};
+ghost use Rattle.puffin_replay.specs.inner.Serving.{clock_time, Ends};
 
 use puffin::global_profiler::Collector;
 use puffin_data::data::ScopeId;
@@ -27,8 +27,8 @@ pub(crate) struct Profiled {
 impl Model for Profiled {
     ghost use Rattle.std.specs.Prelude.{◌≡◌, reverse};
     ghost use Rattle.puffin_frames.specs.Details.{AllHaveIds};
-    ghost use Rattle.puffin_frames.specs.Threads.{Thread, open_offsets};
-    ghost use Rattle.puffin_frames.specs.Profilers.{thread_of};
+    ghost use Rattle.puffin_frames.specs.Thread.Calls.{Thread, open_offsets};
+    ghost use Rattle.puffin_frames.specs.Thread.ThreadProfiler.{thread_of};
 
     ghost Value = { Thread };
 

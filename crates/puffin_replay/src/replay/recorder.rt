@@ -4,17 +4,17 @@ ghost use Rattle.std.specs.Prelude.{◌≡◌, ◌⊎◌, ◌+◌, ◌-◌, ◌^
 ghost use Rattle.std.specs.List.{AllByRecursion, Any};
 ghost use Rattle.std.specs.String.{string_bytes};
 ghost use Rattle.std.specs.Io.KnownBytes.{Appends};
-ghost use Rattle.puffin_data.specs.Devices.{TookNothing};
-ghost use Rattle.puffin_frames.specs.Stored.{Said};
-ghost use Rattle.puffin_frames.specs.Steps.{IsPacked};
-ghost use Rattle.puffin_frames.specs.Writes.{HasLongPart};
-ghost use Rattle.puffin.specs.Frames.{contents_of};
-ghost use Rattle.puffin.specs.Views.{Took};
-ghost use Rattle.puffin.specs.FrameViews.{view_of};
-ghost use Rattle.puffin.specs.Files.{contents_held, contents_in};
-ghost use Rattle.puffin_replay.specs.Sessions.{SessionState, new_session};
-ghost use Rattle.puffin_replay.specs.Replies.{Records};
-ghost use Rattle.puffin_replay.specs.Recorded.{AreReplies, HasIds, NoneLacksIds, frame_in, emitted_by, frames_emitted, file_of_view, Takes, TakesSome, IsBroken, IsReplayed, IsUnfinished};
+ghost use Rattle.puffin_data.specs.Device.{TookNothing};
+ghost use Rattle.puffin_frames.specs.Packet.Stored.{Said};
+ghost use Rattle.puffin_frames.specs.Packet.Steps.{IsPacked};
+ghost use Rattle.puffin_frames.specs.Packet.Writing.{HasLongPart};
+ghost use Rattle.puffin.specs.View.ViewedFrames.{contents_of};
+ghost use Rattle.puffin.specs.View.{Took};
+ghost use Rattle.puffin.specs.View.Known.{view_of};
+ghost use Rattle.puffin.specs.View.File.{contents_held, contents_in};
+ghost use Rattle.puffin_replay.specs.Session.{SessionState, new_session};
+ghost use Rattle.puffin_replay.specs.Session.Replies.{Records};
+ghost use Rattle.puffin_replay.specs.Program.Recording.{AreReplies, HasIds, NoneLacksIds, frame_in, emitted_by, frames_emitted, file_of_view, Takes, TakesSome, IsBroken, IsReplayed, IsUnfinished};
 
 use crate::replay::command::{Command, Reply};
 use crate::replay::reply_line::reply_lines;

@@ -4,17 +4,17 @@ ghost use Rattle.puffin_data.specs.Forest.{Forest};
 ghost use Rattle.puffin_data.specs.Honesty.{Recorded, IsHonestRecord};
 ghost use Rattle.puffin_data.specs.Text.{cut_text};
 ghost use Rattle.puffin_data.specs.Walk.{IsFault};
-ghost use Rattle.puffin_data.specs.Words.{word_size, open_after};
-ghost use Rattle.puffin_frames.specs.Info.{info_of};
+ghost use Rattle.puffin_data.specs.Forest.Words.{word_size, open_after};
+ghost use Rattle.puffin_frames.specs.Thread.Info.{info_of};
 ghost use Rattle.puffin_frames.specs.Details.{AllHaveIds, details_seen};
-ghost use Rattle.puffin_frames.specs.Threads.{after_begin, after_registering};
-ghost use Rattle.puffin.specs.Collected.{Accepts, IsReportRefusal, after_wanting};
-ghost use Rattle.puffin.specs.Collecting.{Collects, TellsIds, KeepsPending};
-ghost use Rattle.puffin.specs.Registering.{Adds, AddsSome};
-ghost use Rattle.puffin_replay.specs.Sessions.{new_session};
-ghost use Rattle.puffin_replay.specs.Replies.{Records, details_given, user_details};
-ghost use Rattle.puffin_replay.specs.Recorded.{HasIds};
-ghost use Rattle.puffin_replay.specs.Serving.{clock_time, thread_in, with_thread, with_collected, Ends, Continues};
+ghost use Rattle.puffin_frames.specs.Thread.Calls.{after_begin, after_registering};
+ghost use Rattle.puffin.specs.Profiler.Collected.{Accepts, IsReportRefusal, after_wanting};
+ghost use Rattle.puffin.specs.Profiler.Collecting.{Collects, TellsIds, KeepsPending};
+ghost use Rattle.puffin.specs.Profiler.Registering.{Adds, AddsSome};
+ghost use Rattle.puffin_replay.specs.Session.{new_session};
+ghost use Rattle.puffin_replay.specs.Session.Replies.{Records, details_given, user_details};
+ghost use Rattle.puffin_replay.specs.Program.Recording.{HasIds};
+ghost use Rattle.puffin_replay.specs.inner.Serving.{clock_time, thread_in, with_thread, with_collected, Ends, Continues};
 
 use crate::replay::command::{Command, Reply};
 use crate::replay::profiled::Profiled;
@@ -41,7 +41,7 @@ pub struct Session {
 }
 
 impl Model for Session {
-    ghost use Rattle.puffin_replay.specs.Sessions.{SessionState};
+    ghost use Rattle.puffin_replay.specs.Session.{SessionState};
     ghost use Rattle.puffin_replay.specs.contracts.replay.profiled.Profiled as t;
     ghost use Rattle.puffin.specs.contracts.global_profiler.collector.Collector as c;
     ghost use Rattle.std.specs.Coded.{code_by, coded×, coded_list};

@@ -1,7 +1,7 @@
 //! What a line of a script says, with its words as they stand there.
 
 ghost use Rattle.std.specs.Prelude.{◌≡◌, ◌^◌, List, ℕ, [], ◌∷◌, Some, None, option_map, MatchOption};
-ghost use Rattle.puffin_replay.specs.Statements.{said, said_by, words_in, words_left, joined_words, number_of, time_of, id_of, line_of, name_of, begin_of, end_of, details_of, function_of, scope_of, user_of};
+ghost use Rattle.puffin_replay.specs.Script.Statements.{said, said_by, words_in, words_left, joined_words, number_of, time_of, id_of, line_of, name_of, begin_of, end_of, details_of, function_of, scope_of, user_of};
 
 use puffin_data::NanoSecond;
 use puffin_data::data::ScopeId;

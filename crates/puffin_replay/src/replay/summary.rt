@@ -1,14 +1,14 @@
 ghost use Rattle.std.specs.Prelude.{◌≡◌, ◌⊎◌, ◌<◌, ◌-◌, ◌^◌, [], ◌∷◌, List, Ok, Err, IfOk, IfErr, map};
 ghost use Rattle.std.specs.Arc.{arc_value};
-ghost use Rattle.puffin_data.specs.Devices.{failures_after};
-ghost use Rattle.puffin_frames.specs.Info.{Info, info_of};
-ghost use Rattle.puffin_frames.specs.Stored.{Stored};
-ghost use Rattle.puffin_frames.specs.Contents.{frame_says};
-ghost use Rattle.puffin.specs.Files.{file_at, contents_in, TookFrames};
-ghost use Rattle.puffin.specs.FrameViews.{view_of};
-ghost use Rattle.puffin.specs.Seen.{frame_bytes, frames_bytes, forest_in};
-ghost use Rattle.puffin.specs.Refusals.{IsRefusal, AreMerged};
-ghost use Rattle.puffin_replay.specs.Summaries.{bytes_in, all_bytes_in, IsSummary, FailsToSumUp};
+ghost use Rattle.puffin_data.specs.Device.{failures_after};
+ghost use Rattle.puffin_frames.specs.Thread.Info.{Info, info_of};
+ghost use Rattle.puffin_frames.specs.Packet.Stored.{Stored};
+ghost use Rattle.puffin_frames.specs.Frame.Contents.{frame_says};
+ghost use Rattle.puffin.specs.View.File.{file_at, contents_in, TookFrames};
+ghost use Rattle.puffin.specs.View.Known.{view_of};
+ghost use Rattle.puffin.specs.Merge.Scopes.{frame_bytes, frames_bytes, forest_in};
+ghost use Rattle.puffin.specs.Merge.Refusals.{IsRefusal, AreMerged};
+ghost use Rattle.puffin_replay.specs.Program.Summary.{bytes_in, all_bytes_in, IsSummary, FailsToSumUp};
 
 use puffin::frame_data::{FrameData, UnpackedFrameData};
 use puffin::merge::{MergeScope, merge_scopes_for_thread};

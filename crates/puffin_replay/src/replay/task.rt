@@ -1,6 +1,6 @@
 ghost use Rattle.std.specs.Prelude.{◌≡◌, option_map, map, IfOk, IfErr};
 ghost use Rattle.std.specs.String.{string_bytes};
-ghost use Rattle.puffin_replay.specs.Words.{asked, asked_by, HasPaths};
+ghost use Rattle.puffin_replay.specs.Program.Arguments.{asked, asked_by, HasPaths};
 
 use puffin_data::{Error, Result};
 

@@ -1,8 +1,8 @@
 -- The scopes of the frames so far are accepted and stand in the table.
 use Rattle.std.proofs.Common.{◌≤◌, ◌*◌, ◌^◌, take}
-use Rattle.puffin_frames.specs.Info.{info_of}
-use Rattle.puffin.specs.FrameStreams.{most_tries}
-use Rattle.puffin.specs.Seen.{frames_bytes}
+use Rattle.puffin_frames.specs.Thread.Info.{info_of}
+use Rattle.puffin.specs.Merge.FrameBytes.{most_tries}
+use Rattle.puffin.specs.Merge.Scopes.{frames_bytes}
 use Rattle.puffin.proofs.FramesRead.{HasRead}
 use Rattle.puffin.proofs.merge.merge_scopes_counted.Given as goal
 

@@ -1,5 +1,5 @@
-use Rattle.puffin_data.specs.Layout.{byte, number, signed, flag, block, IsByte, IsWord, IsLong, IsSigned, IsAny, IsBlock, IsText}
-use Rattle.puffin_data.specs.Front.{byte_at, number_at, word_at, signed_at, flag_at, bytes_at, text_at}
+use Rattle.puffin_data.specs.Value.Layout.{byte, number, signed, flag, block, IsByte, IsWord, IsLong, IsSigned, IsAny, IsBlock, IsText}
+use Rattle.puffin_data.specs.Value.Decoding.{byte_at, number_at, word_at, signed_at, flag_at, bytes_at, text_at}
 use Rattle.puffin_data.proofs.Readers.{reads_layouts}
 use Rattle.puffin_data.proofs.ValueReaders.{byte_reader, number_reader, word_reader, signed_reader, flag_reader, bytes_reader, text_reader}
 use Rattle.puffin_data.proofs.laws.only_layouts_are_read.Goals as goal

@@ -2,7 +2,7 @@
 use Rattle.std.proofs.Common.{ap}
 use Rattle.std.proofs.lemmas.Bool.Decides.{Decides-and, Decides-like, Decides-eqb, Decides-int_eq}
 use Rattle.std.specs.Cmp.Lexicographic.{bytes_decides}
-use Rattle.puffin_data.specs.Lenient.{ReadScope}
+use Rattle.puffin_data.specs.Reader.{ReadScope}
 use Rattle.puffin_data.proofs.laws.scopes_by_fields.Goals as goal
 
 pub returns-clause-scopes : goal.returns-clause-scopes

@@ -1,4 +1,4 @@
-use Rattle.puffin_frames.specs.Info.{info_cmp}
+use Rattle.puffin_frames.specs.Thread.Info.{info_cmp}
 use Rattle.puffin_frames.proofs.Seen.{entries-empty}
 use Rattle.std.proofs.Common.{ap, map}
 use Rattle.puffin_frames.proofs.Measured.{after_report, bytes_measure, scopes_measure, starts_measure, stops_measure, under_one}

@@ -1,4 +1,4 @@
-use Rattle.puffin_frames.specs.Info.{info_of}
+use Rattle.puffin_frames.specs.Thread.Info.{info_of}
 use Rattle.puffin_frames.proofs.Infos.{same_parts}
 use Rattle.puffin_frames.proofs.laws.threads_by_info.Goals as goal
 

@@ -1,7 +1,7 @@
 -- The details so far are known.
 use Rattle.std.proofs.Common.{◌≡◌, take}
 use Rattle.puffin_frames.specs.Details.{shared_details}
-use Rattle.puffin_frames.specs.Collection.{inserted_all}
+use Rattle.puffin_frames.specs.Details.Collection.{inserted_all}
 use Rattle.puffin.proofs.global_profiler.delta.learn.Given as goal
 
 abbrev pub invariant-loop-details : goal.invariant-loop-details

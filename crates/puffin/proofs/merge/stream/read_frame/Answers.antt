@@ -3,8 +3,8 @@ use Rattle.std.proofs.Common.{◌∙◌, ℤ, length, refl, sym, ap, subst, arit
 use mir.Syntax.{w128}
 use mir.Val.{to_z, of_z}
 use Rattle.puffin.specs.declared.merge.stream.Open.{Open}
-use Rattle.puffin.specs.Merging.{StandsFor}
-use Rattle.puffin.specs.Origins.{IsOrigin}
+use Rattle.puffin.specs.inner.merge.Merging.{StandsFor}
+use Rattle.puffin.specs.inner.merge.Origins.{IsOrigin}
 use Rattle.puffin.proofs.Paths.{top_path}
 use Rattle.puffin.proofs.Entering.{origin_fits, passed_128}
 use Rattle.puffin.proofs.Streams.{no_bytes, some_bytes, some_tries, nothing_taken, taken_of_frame, refused_of_frame}

@@ -1,7 +1,7 @@
 -- What is drawn so far is the beginning of all, and its ends fit.
 use Rattle.std.proofs.Common.{◌≡◌, ◌++◌, drop}
 use Rattle.puffin.specs.declared.merge.table.Node.{Node}
-use Rattle.puffin.specs.Places.{above_all, drawn_from, EachOf, EndFits}
+use Rattle.puffin.specs.inner.merge.Places.{above_all, drawn_from, EachOf, EndFits}
 use Rattle.puffin.proofs.merge.tree.draw_all.Given as goal
 
 abbrev pub invariant-loop-place : goal.invariant-loop-place

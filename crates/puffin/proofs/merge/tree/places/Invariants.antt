@@ -1,6 +1,6 @@
 use Rattle.std.proofs.Common.{◌≡◌, ℕ, ◌<◌, length, get_or}
 use Rattle.puffin.specs.declared.merge.tree.Place.{Place}
-use Rattle.puffin.specs.Places.{IsPlaceAt}
+use Rattle.puffin.specs.inner.merge.Places.{IsPlaceAt}
 use Rattle.puffin.proofs.merge.tree.places.Given as goal
 
 abbrev pub invariant-loop-i : goal.invariant-loop-i

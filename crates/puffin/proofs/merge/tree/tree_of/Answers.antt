@@ -3,7 +3,7 @@ use Rattle.std.proofs.Common.{◌-◌, refl, inl, inr, ◌≡◌, ℕ, List, sub
 use Rattle.std.proofs.lemmas.Result.{err_from_is_err_and}
 use Rattle.puffin.specs.declared.merge.table.Node.{Node}
 use Rattle.puffin.specs.declared.merge.tree.Place.{Place}
-use Rattle.puffin.specs.Places.{EachOf, EndFits, above_all, drawn_from}
+use Rattle.puffin.specs.inner.merge.Places.{EachOf, EndFits, above_all, drawn_from}
 use Rattle.puffin.proofs.Ending.{drawn_some, blank, usable, drawn_size}
 use Rattle.puffin.proofs.Attaching.{Siblings, HoldForests, hold_next, top_merged}
 use Rattle.puffin.proofs.merge.tree.tree_of.Goals as goal

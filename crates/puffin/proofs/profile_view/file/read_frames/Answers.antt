@@ -1,11 +1,11 @@
 use Rattle.std.proofs.Common.{List, [], ◌∷◌, ◌++◌, ◌-◌, ◌^◌, refl, sym, ap, ◌∙◌, arith, length-append}
 use Rattle.std.proofs.lemmas.Result.{err_from_is_err_and}
-use Rattle.puffin_frames.specs.Stored.{Stored}
-use Rattle.puffin_frames.specs.Reads.{stored_of}
-use Rattle.puffin.specs.Frames.{Frame, contents_of}
-use Rattle.puffin.specs.FrameOf.{frame_of}
-use Rattle.puffin.specs.FrameViews.{lacks_ids}
-use Rattle.puffin.specs.Views.{View}
+use Rattle.puffin_frames.specs.Packet.Stored.{Stored}
+use Rattle.puffin_frames.specs.Packet.Next.{stored_of}
+use Rattle.puffin.specs.View.ViewedFrames.{Frame, contents_of}
+use Rattle.puffin.specs.View.FrameOf.{frame_of}
+use Rattle.puffin.specs.View.Known.{lacks_ids}
+use Rattle.puffin.specs.View.{View}
 use Rattle.puffin.proofs.FilesRead.{none_taken, takes_one, takes_all, fails_next, refused, spent, room_left, none_left}
 use Rattle.puffin.proofs.FileFrames.{fresh_frame, view_of_frames, view_of_more}
 use Rattle.puffin.proofs.profile_view.file.read_frames.Goals as goal

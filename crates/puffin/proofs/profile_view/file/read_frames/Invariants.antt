@@ -1,6 +1,6 @@
 use Rattle.std.proofs.Common.{◌≡◌, List, length}
-use Rattle.puffin_frames.specs.Stored.{Stored}
-use Rattle.puffin.specs.Files.{IsViewOf}
+use Rattle.puffin_frames.specs.Packet.Stored.{Stored}
+use Rattle.puffin.specs.View.File.{IsViewOf}
 use Rattle.puffin.proofs.FilesRead.{HasTaken}
 use Rattle.puffin.proofs.profile_view.file.read_frames.Given as goal
 

@@ -1,5 +1,5 @@
 use Rattle.std.proofs.Common.{map, take}
-use Rattle.puffin.specs.Ranks.{rank_index, LetsGo}
+use Rattle.puffin.specs.inner.view.Ranks.{rank_index, LetsGo}
 use Rattle.puffin.proofs.profile_view.frame_store.cut_slow.Given as goal
 
 -- those so far are let go

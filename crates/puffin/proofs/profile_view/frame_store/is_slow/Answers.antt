@@ -1,6 +1,6 @@
 use Rattle.std.proofs.Common.{◌∙◌, sym, ap, refl, rules, FitsSigned, w64}
-use Rattle.puffin.specs.Frames.{duration_of}
-use Rattle.puffin.specs.FrameOf.{frame_of, shared_frame}
+use Rattle.puffin.specs.View.ViewedFrames.{duration_of}
+use Rattle.puffin.specs.View.FrameOf.{frame_of, shared_frame}
 use Rattle.puffin.proofs.Entering.{passed_64}
 use Rattle.puffin.proofs.Searching.{any_at_index, none_at_index}
 use Rattle.puffin.proofs.profile_view.frame_store.is_slow.Goals as goal

@@ -1,4 +1,4 @@
-use Rattle.puffin.specs.Frames.{is_slower}
+use Rattle.puffin.specs.View.ViewedFrames.{is_slower}
 use Rattle.puffin.proofs.Orders.{slower_order}
 use Rattle.puffin.proofs.Rankings.{are_first, first_in_pairs}
 use Rattle.puffin.proofs.profile_view.laws.slowest_first.Goals as goal

@@ -1,5 +1,5 @@
 use Rattle.std.proofs.Common.{Bool, map, drop, ap, ◌∙◌}
-use Rattle.puffin_frames.specs.Stored.{packed}
+use Rattle.puffin_frames.specs.Packet.Stored.{packed}
 use Rattle.puffin.proofs.FilesWritten.{unless_missing, file_again, files_apart}
 use Rattle.puffin.proofs.profile_view.laws.written_files_are_read.Goals as goal
 

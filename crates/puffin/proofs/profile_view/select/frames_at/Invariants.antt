@@ -1,6 +1,6 @@
 use Rattle.std.proofs.Common.{◌≡◌, ◌++◌, map, drop, filter_map, slice_get}
-use Rattle.puffin.specs.FrameOf.{frames_of}
-use Rattle.puffin.specs.Selections.{old_place}
+use Rattle.puffin.specs.View.FrameOf.{frames_of}
+use Rattle.puffin.specs.inner.view.Selections.{old_place}
 use Rattle.puffin.proofs.profile_view.select.frames_at.Given as goal
 
 abbrev pub invariant-loop-k : goal.invariant-loop-k

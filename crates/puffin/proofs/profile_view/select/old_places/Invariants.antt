@@ -1,5 +1,5 @@
 use Rattle.std.proofs.Common.{◌≡◌, ◌++◌, map, drop}
-use Rattle.puffin.specs.Selections.{slow_place, old_place}
+use Rattle.puffin.specs.inner.view.Selections.{slow_place, old_place}
 use Rattle.puffin.proofs.profile_view.select.old_places.Given as goal
 
 abbrev pub invariant-loop-k : goal.invariant-loop-k

@@ -1,5 +1,5 @@
 use Rattle.std.proofs.Common.{ap}
-use Rattle.puffin.specs.FrameOf.{shared_frame, frame_of}
+use Rattle.puffin.specs.View.FrameOf.{shared_frame, frame_of}
 use Rattle.puffin.proofs.Selecting.{pushed_at, not_pushed_at, get_past, get_within}
 use Rattle.puffin.proofs.profile_view.select.push_at.Goals as goal
 

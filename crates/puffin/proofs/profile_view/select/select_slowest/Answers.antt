@@ -1,5 +1,5 @@
 use Rattle.std.proofs.Common.{◌≡◌, List, map, take, length, ap, ◌∙◌, subst, refl, rules, arith, Ok}
-use Rattle.puffin.specs.FrameOf.{frames_of}
+use Rattle.puffin.specs.View.FrameOf.{frames_of}
 use Rattle.std.specs.Prelude.{IsPermutation, filter_map, slice_get}
 use Rattle.std.specs.Vec.Iter.{into_iter_items, into_iter_len}
 use Rattle.std.proofs.lemmas.Result.{IfOk-weaker}
@@ -9,8 +9,8 @@ use Rattle.std.proofs.lemmas.Iterator.{YieldsList, YieldsList-from_take, items_f
 use Rattle.std.proofs.lemmas.Iterator.Adapters.{YieldsList-from_vec}
 use Rattle.std.proofs.lemmas.List.Sorted.{IsPermutation-map}
 use Rattle.itertools.proofs.SortedLemmas.{IsPermutation-sorted}
-use Rattle.puffin.specs.Selection.{Rank, slower_rank, older_rank}
-use Rattle.puffin.specs.Selections.{slow_place, old_place}
+use Rattle.puffin.specs.View.Selection.{Rank, slower_rank, older_rank}
+use Rattle.puffin.specs.inner.view.Selections.{slow_place, old_place}
 use Rattle.puffin.proofs.Orders.{map-take}
 use Rattle.puffin.proofs.Selecting.{map_sorted}
 use Rattle.puffin.proofs.profile_view.select.select_slowest.Goals as goal

@@ -1,7 +1,7 @@
 use Rattle.std.proofs.Common.{ap, ◌∙◌, arith}
-use Rattle.puffin.specs.FrameOf.{frame_of, shared_frame}
-use Rattle.puffin.specs.Selection.{rank_at, ranks_from}
-use Rattle.puffin.specs.Selections.{slow_place}
+use Rattle.puffin.specs.View.FrameOf.{frame_of, shared_frame}
+use Rattle.puffin.specs.View.Selection.{rank_at, ranks_from}
+use Rattle.puffin.specs.inner.view.Selections.{slow_place}
 use Rattle.puffin.proofs.Selecting.{ranked_more}
 use Rattle.puffin.proofs.profile_view.select.slow_places.Goals as goal
 

@@ -1,7 +1,7 @@
 use Rattle.std.proofs.Common.{◌≡◌, ◌++◌, map, drop}
-use Rattle.puffin.specs.FrameOf.{frames_of}
-use Rattle.puffin.specs.Selection.{ranks_from}
-use Rattle.puffin.specs.Selections.{slow_place}
+use Rattle.puffin.specs.View.FrameOf.{frames_of}
+use Rattle.puffin.specs.View.Selection.{ranks_from}
+use Rattle.puffin.specs.inner.view.Selections.{slow_place}
 use Rattle.puffin.proofs.profile_view.select.slow_places.Given as goal
 
 abbrev pub invariant-loop-place : goal.invariant-loop-place

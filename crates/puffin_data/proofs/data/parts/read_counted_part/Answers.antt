@@ -1,4 +1,4 @@
-use Rattle.puffin_data.specs.Parts.{part_of, length_at}
+use Rattle.puffin_data.specs.Part.{part_of, length_at}
 use Rattle.puffin_data.proofs.Devices.{goes_on}
 use Rattle.puffin_data.proofs.data.parts.read_counted_part.Goals as goal
 

@@ -1,6 +1,6 @@
 use Rattle.std.proofs.Common.{◌≡◌, ◌-◌, ◌≤◌, length, vec_len}
 use Rattle.std.specs.Io.KnownBytes.{Consumes}
-use Rattle.puffin_data.specs.Layout.{IsBytes}
+use Rattle.puffin_data.specs.Value.Layout.{IsBytes}
 use Rattle.puffin_data.proofs.data.parts.read_part.Given as goal
 
 abbrev pub invariant-pieces : goal.invariant-pieces

@@ -2,7 +2,7 @@
 use Rattle.std.proofs.Common.{FitsSigned, w64, rules, ◌∙◌}
 use Rattle.std.proofs.lemmas.Int.{to_z-of_z}
 use Rattle.std.proofs.lemmas.List.{take_rest}
-use Rattle.puffin_data.specs.Reading.{time_in}
+use Rattle.puffin_data.specs.Walk.Reading.{time_in}
 use Rattle.puffin_data.proofs.data.scope.time_at.Goals as goal
 
 pub returns : goal.returns

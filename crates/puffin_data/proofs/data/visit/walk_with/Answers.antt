@@ -5,10 +5,10 @@ use Rattle.std.proofs.lemmas.Result.{err_from_is_err_and}
 use Rattle.puffin_data.specs.declared.data.visit.Region.{Region}
 use Rattle.puffin_data.specs.Forest.{Span}
 use Rattle.puffin_data.specs.Walk.{region}
-use Rattle.puffin_data.specs.Sightings.{found_of}
-use Rattle.puffin_data.specs.Walking.{tries_in}
-use Rattle.puffin_data.specs.Visiting.{StopsAtFault, StopsAtRefusal}
-use Rattle.puffin_data.specs.Goings.{Visits}
+use Rattle.puffin_data.specs.inner.Sightings.{found_of}
+use Rattle.puffin_data.specs.inner.Walking.{tries_in}
+use Rattle.puffin_data.specs.Walk.Visitor.{StopsAtFault, StopsAtRefusal}
+use Rattle.puffin_data.specs.Walk.Going.{Visits}
 use Rattle.puffin_data.proofs.Numbers.{IsBytes, IsBytes-drop, IsBytes-take}
 use Rattle.puffin_data.proofs.Found.{passes}
 use Rattle.puffin_data.proofs.Resuming.{found_places, IsNested}

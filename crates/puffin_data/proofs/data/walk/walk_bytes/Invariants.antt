@@ -1,6 +1,6 @@
 use Rattle.std.proofs.Common.{◌-◌, ◌≡◌, ◌+◌, ◌*◌, ◌≤◌, [], length, reverse, Result}
 use Rattle.puffin_data.specs.declared.data.walk.Walk.{Walk}
-use Rattle.puffin_data.specs.Walking.{uncounted, Stop}
+use Rattle.puffin_data.specs.inner.Walking.{uncounted, Stop}
 use Rattle.puffin_data.proofs.Resuming.{Resumes, IsNested}
 use Rattle.puffin_data.proofs.data.walk.walk_bytes.Given as goal
 

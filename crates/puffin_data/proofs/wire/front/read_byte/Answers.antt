@@ -1,6 +1,6 @@
 use Rattle.std.proofs.Common.{arith}
-use Rattle.puffin_data.specs.Layout.{IsByte, byte}
-use Rattle.puffin_data.specs.Front.{byte_at}
+use Rattle.puffin_data.specs.Value.Layout.{IsByte, byte}
+use Rattle.puffin_data.specs.Value.Decoding.{byte_at}
 use Rattle.puffin_data.proofs.Readers.{reads_with_rest}
 use Rattle.puffin_data.proofs.ValueReaders.{byte_reader}
 use Rattle.puffin_data.proofs.wire.front.read_byte.Goals as goal

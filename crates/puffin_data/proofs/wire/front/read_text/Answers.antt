@@ -1,6 +1,6 @@
 use Rattle.std.proofs.Common.{arith}
-use Rattle.puffin_data.specs.Layout.{IsText, block}
-use Rattle.puffin_data.specs.Front.{text_at}
+use Rattle.puffin_data.specs.Value.Layout.{IsText, block}
+use Rattle.puffin_data.specs.Value.Decoding.{text_at}
 use Rattle.puffin_data.proofs.Readers.{reads_with_rest}
 use Rattle.puffin_data.proofs.ValueReaders.{text_reader}
 use Rattle.puffin_data.proofs.wire.front.read_text.Goals as goal

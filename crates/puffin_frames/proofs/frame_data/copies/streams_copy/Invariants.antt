@@ -1,5 +1,5 @@
 use Rattle.std.proofs.Common.{◌≡◌, ◌++◌}
-use Rattle.puffin_frames.specs.Contents.{listed}
+use Rattle.puffin_frames.specs.Frame.Contents.{listed}
 use Rattle.puffin_frames.proofs.frame_data.copies.streams_copy.Given as goal
 
 abbrev pub invariant-streams : goal.invariant-streams

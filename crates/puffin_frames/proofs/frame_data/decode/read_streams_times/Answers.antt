@@ -2,11 +2,11 @@ use Rattle.std.proofs.Common.{◌≡◌, ◌++◌, ◌∷◌, [], true, ap, ◌�
 use Rattle.std.specs.Arc.{arc_value}
 use Rattle.std.specs.FinMap.{is_sorted}
 use Rattle.puffin_data.specs.Honesty.{Recorded, recorded}
-use Rattle.puffin_data.specs.Front.{times_at}
+use Rattle.puffin_data.specs.Value.Decoding.{times_at}
 use Rattle.puffin_data.proofs.Loops.{one_more}
-use Rattle.puffin_frames.specs.Info.{info_of, info_cmp}
-use Rattle.puffin_frames.specs.Values.{stream_at}
-use Rattle.puffin_frames.specs.Contents.{listed}
+use Rattle.puffin_frames.specs.Thread.Info.{info_of, info_cmp}
+use Rattle.puffin_frames.specs.Packet.Structs.{stream_at}
+use Rattle.puffin_frames.specs.Frame.Contents.{listed}
 use Rattle.puffin_frames.proofs.Listed.{insert-last, listed-push}
 use Rattle.puffin_frames.proofs.frame_data.decode.read_streams_times.Goals as goal
 

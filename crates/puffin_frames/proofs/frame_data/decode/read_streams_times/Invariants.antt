@@ -1,10 +1,10 @@
 use Rattle.std.proofs.Common.{◌≡◌, ◌-◌, true}
 use Rattle.std.specs.FinMap.{is_sorted}
-use Rattle.puffin_data.specs.Front.{times_at}
+use Rattle.puffin_data.specs.Value.Decoding.{times_at}
 use Rattle.puffin_data.proofs.Loops.{with_front}
-use Rattle.puffin_frames.specs.Values.{stream_at}
-use Rattle.puffin_frames.specs.Info.{info_cmp}
-use Rattle.puffin_frames.specs.Contents.{listed}
+use Rattle.puffin_frames.specs.Packet.Structs.{stream_at}
+use Rattle.puffin_frames.specs.Thread.Info.{info_cmp}
+use Rattle.puffin_frames.specs.Frame.Contents.{listed}
 use Rattle.puffin_frames.proofs.frame_data.decode.read_streams_times.Given as goal
 
 abbrev pub invariant-streams : goal.invariant-streams

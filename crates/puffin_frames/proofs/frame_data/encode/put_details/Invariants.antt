@@ -1,5 +1,5 @@
 use Rattle.std.proofs.Common.{drop}
-use Rattle.puffin_frames.specs.Values.{detail_layout, IsDetail}
+use Rattle.puffin_frames.specs.Packet.Structs.{detail_layout, IsDetail}
 use Rattle.puffin_frames.specs.Details.{shared_details}
 use Rattle.puffin_frames.proofs.Appending.{Writes}
 use Rattle.puffin_frames.proofs.frame_data.encode.put_details.Given as goal

@@ -4,11 +4,11 @@ use Rattle.std.proofs.lemmas.Map.Iter.{rest_more}
 use Rattle.std.specs.Map.{keys_of}
 use Rattle.std.specs.Map.Iter.{deref_pair}
 use Rattle.std.specs.List.Sorted.{IsStrictlySortedBy}
-use Rattle.puffin_data.specs.Layout.{pair}
+use Rattle.puffin_data.specs.Value.Layout.{pair}
 use Rattle.puffin_data.specs.Honesty.{Recorded}
-use Rattle.puffin_frames.specs.Info.{Info, thread_cmp}
-use Rattle.puffin_frames.specs.Contents.{listed}
-use Rattle.puffin_frames.specs.Values.{thread_layout, recorded_layout, IsThread, IsRecorded}
+use Rattle.puffin_frames.specs.Thread.Info.{Info, thread_cmp}
+use Rattle.puffin_frames.specs.Frame.Contents.{listed}
+use Rattle.puffin_frames.specs.Packet.Structs.{thread_layout, recorded_layout, IsThread, IsRecorded}
 use Rattle.puffin_frames.proofs.Appending.{one_more, next_of, two, all_written}
 use Rattle.puffin_frames.proofs.Listed.{listed-sorted}
 use Rattle.puffin_frames.proofs.frame_data.encode.put_streams.Goals as goal

@@ -1,8 +1,8 @@
-use Rattle.puffin_data.specs.Layout.{pair}
+use Rattle.puffin_data.specs.Value.Layout.{pair}
 use Rattle.puffin_data.specs.Honesty.{Recorded}
-use Rattle.puffin_frames.specs.Info.{Info}
-use Rattle.puffin_frames.specs.Values.{thread_layout, recorded_layout, IsThread, IsRecorded}
-use Rattle.puffin_frames.specs.Contents.{listed}
+use Rattle.puffin_frames.specs.Thread.Info.{Info}
+use Rattle.puffin_frames.specs.Packet.Structs.{thread_layout, recorded_layout, IsThread, IsRecorded}
+use Rattle.puffin_frames.specs.Frame.Contents.{listed}
 use Rattle.puffin_frames.proofs.Appending.{Writes}
 use Rattle.puffin_frames.proofs.frame_data.encode.put_streams.Given as goal
 

@@ -2,12 +2,12 @@ use Rattle.std.proofs.Common.{◌≡◌, Bool, cond, List, Ok, Err, ap, sym, ◌
 use Rattle.puffin_data.specs.Honesty.{Recorded}
 use Rattle.puffin_data.specs.declared.file_error.FileError.TheVariants as file
 use Rattle.puffin_frames.specs.declared.frame_data.meta.FrameMeta.{FrameMeta}
-use Rattle.puffin_frames.specs.Info.{Info}
-use Rattle.puffin_frames.specs.Holding.{Holding}
-use Rattle.puffin_frames.specs.Contents.{listed, holding_of}
-use Rattle.puffin_frames.specs.Values.{Legacy}
-use Rattle.puffin_frames.specs.Reads.{entries_if_any, legacy_of}
-use Rattle.puffin_frames.specs.Steps.{legacy_from, legacy_with_range}
+use Rattle.puffin_frames.specs.Thread.Info.{Info}
+use Rattle.puffin_frames.specs.Frame.Holding.{Holding}
+use Rattle.puffin_frames.specs.Frame.Contents.{listed, holding_of}
+use Rattle.puffin_frames.specs.Packet.Structs.{Legacy}
+use Rattle.puffin_frames.specs.Packet.Next.{entries_if_any, legacy_of}
+use Rattle.puffin_frames.specs.Packet.Steps.{legacy_from, legacy_with_range}
 use Rattle.puffin_frames.proofs.Listed.{entries-listed}
 use Rattle.puffin_frames.proofs.frame_data.reading.parsed_legacy.Goals as goal
 

@@ -1,7 +1,7 @@
 use Rattle.std.proofs.Common.{[], refl}
 use Rattle.std.proofs.KnownBytes.{Consumes-nil}
-use Rattle.puffin_frames.specs.Contents.{frame_says}
-use Rattle.puffin_frames.specs.Steps.{packed_at, form_at}
+use Rattle.puffin_frames.specs.Frame.Contents.{frame_says}
+use Rattle.puffin_frames.specs.Packet.Steps.{packed_at, form_at}
 use Rattle.puffin_data.proofs.Devices.{same_reading}
 use Rattle.puffin_frames.proofs.frame_data.reading.read_form.Goals as goal
 

@@ -3,12 +3,12 @@ use Rattle.std.proofs.lemmas.Result.{err_from_is_err_and}
 use Rattle.puffin_data.specs.declared.file_error.FileError.{FileError}
 use Rattle.puffin_frames.specs.Details.{Details}
 use Rattle.puffin_frames.specs.declared.frame_data.meta.FrameMeta.{FrameMeta}
-use Rattle.puffin_frames.specs.Stored.{Said}
+use Rattle.puffin_frames.specs.Packet.Stored.{Said}
 use Rattle.puffin_frames.specs.Details.{shared_details}
-use Rattle.puffin_data.specs.Devices.{FromDevice}
-use Rattle.puffin_frames.specs.Holding.{Packing}
-use Rattle.puffin_data.specs.Parts.{◌>>=◌}
-use Rattle.puffin_frames.specs.Steps.{meta_part_at, streams_part_at, details_part_at, packed_at}
+use Rattle.puffin_data.specs.Device.{FromDevice}
+use Rattle.puffin_frames.specs.Frame.Holding.{Packing}
+use Rattle.puffin_data.specs.Part.{◌>>=◌}
+use Rattle.puffin_frames.specs.Packet.Steps.{meta_part_at, streams_part_at, details_part_at, packed_at}
 use Rattle.puffin_data.proofs.Devices.{fails_on, gives_on, stops, given}
 use Rattle.puffin_frames.proofs.frame_data.reading.read_packed.Goals as goal
 

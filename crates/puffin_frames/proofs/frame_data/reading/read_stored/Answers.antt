@@ -2,10 +2,10 @@ use Rattle.std.proofs.Common.{◌≡◌, Bool, cond, false, ℕ, Some, ap, sym, 
 use Rattle.byteorder.specs.Endian.{little_number}
 use Rattle.puffin_data.proofs.Devices.{same_reading}
 use Rattle.puffin_frames.specs.declared.frame_data.frame.FrameData.{FrameData}
-use Rattle.puffin_frames.specs.Stored.{packed, legacy}
-use Rattle.puffin_frames.specs.Reads.{stored_of}
+use Rattle.puffin_frames.specs.Packet.Stored.{packed, legacy}
+use Rattle.puffin_frames.specs.Packet.Next.{stored_of}
 use Rattle.std.specs.Prelude.{slice_index}
-use Rattle.puffin_frames.specs.Steps.{as_stored, form_at, legacy_part_at, is_packet, stored_after}
+use Rattle.puffin_frames.specs.Packet.Steps.{as_stored, form_at, legacy_part_at, is_packet, stored_after}
 use Rattle.puffin_frames.proofs.Reading.{if_packed_so, if_legacy_so}
 use Rattle.puffin_frames.proofs.frame_data.reading.read_stored.Goals as goal
 

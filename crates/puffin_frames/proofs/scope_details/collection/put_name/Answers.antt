@@ -2,7 +2,7 @@ use Rattle.std.proofs.Common.{ap, sym, ◌∙◌, string_bytes}
 use Rattle.std.specs.Option.{option_copied_mut}
 use Rattle.std.specs.BTreeMap.{insert_entry}
 use Rattle.std.specs.FinMap.{insert}
-use Rattle.puffin_frames.specs.Collection.{bytes_cmp, by_names}
+use Rattle.puffin_frames.specs.Details.Collection.{bytes_cmp, by_names}
 use Rattle.puffin_frames.proofs.Inserting.{by_names-insert, by_names-write}
 use Rattle.puffin_frames.proofs.scope_details.collection.put_name.Goals as goal
 

@@ -1,9 +1,9 @@
 -- A write that failed has written a beginning of the lines of the forest that was read.
 use Rattle.std.proofs.Common.{◌≡◌, List, ℕ, ◌++◌, ap, subst, ◌∙◌, inr}
-use Rattle.puffin_data.specs.Spelling.{Spells}
-use Rattle.puffin_data.specs.Devices.{WritesBeginning}
-use Rattle.puffin_data.specs.Streams.{Held}
-use Rattle.puffin_replay.specs.Lines.{count_line}
+use Rattle.puffin_data.specs.Forest.Spelling.{Spells}
+use Rattle.puffin_data.specs.Device.{WritesBeginning}
+use Rattle.puffin_data.specs.Stream.{Held}
+use Rattle.puffin_replay.specs.Program.Lines.{count_line}
 use Rattle.puffin_replay.proofs.Writing.{at_an_error}
 use Rattle.puffin_replay.proofs.replay.count.count_stream.Goals as goal
 

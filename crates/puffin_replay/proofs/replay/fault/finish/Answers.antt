@@ -1,6 +1,6 @@
 -- The line, or a beginning of it, was written.
 use Rattle.std.proofs.Common.{◌∙◌, sym, ap}
-use Rattle.puffin_replay.specs.Faults.{fault_text}
+use Rattle.puffin_replay.specs.Program.Faults.{fault_text}
 use Rattle.puffin_replay.proofs.Writing.{beginning_written}
 use Rattle.puffin_replay.proofs.replay.fault.finish.Goals as goal
 

@@ -1,7 +1,7 @@
 use Rattle.std.proofs.Common.{◌∙◌, sym, ap}
-use Rattle.puffin.specs.Files.{contents_in}
-use Rattle.puffin_frames.specs.Contents.{holding_of}
-use Rattle.puffin_frames.specs.Holding.{packing_of, held_contents}
+use Rattle.puffin.specs.View.File.{contents_in}
+use Rattle.puffin_frames.specs.Frame.Contents.{holding_of}
+use Rattle.puffin_frames.specs.Frame.Holding.{packing_of, held_contents}
 use Rattle.puffin_replay.proofs.Summing.{summed_again, hindered_again, unpacked_again}
 use Rattle.puffin_replay.proofs.replay.laws.what_was_recorded_is_summed_up.Goals as goal
 

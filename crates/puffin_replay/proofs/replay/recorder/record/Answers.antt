@@ -1,9 +1,9 @@
 -- The session is new before the run; or there is none.
 use Rattle.std.proofs.Common.{refl, subst, inl, map, string_bytes}
 use Rattle.std.proofs.lemmas.Result.{IfOk-weaker, IfErr-weaker}
-use Rattle.puffin_replay.specs.Replies.{Records}
-use Rattle.puffin_replay.specs.Recorded.{IsBroken}
-use Rattle.puffin_replay.specs.Sessions.{SessionState, new_session}
+use Rattle.puffin_replay.specs.Session.Replies.{Records}
+use Rattle.puffin_replay.specs.Program.Recording.{IsBroken}
+use Rattle.puffin_replay.specs.Session.{SessionState, new_session}
 use Rattle.puffin_replay.proofs.Writing.{nothing_written}
 use Rattle.puffin_replay.proofs.replay.recorder.record.Goals as goal
 

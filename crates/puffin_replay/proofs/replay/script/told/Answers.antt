@@ -1,5 +1,5 @@
 use Rattle.std.proofs.Common.{List, ℕ, refl, ap, ◌∙◌}
-use Rattle.puffin_replay.specs.Statements.{said_by, words_in}
+use Rattle.puffin_replay.specs.Script.Statements.{said_by, words_in}
 use Rattle.puffin_replay.proofs.Scripts.{told_no_text, told_skipped, told_known}
 use Rattle.puffin_replay.proofs.replay.script.told.Goals as goal
 

@@ -1,10 +1,10 @@
 -- What was read is unpacked and merged.
 use Rattle.std.proofs.Common.{◌≡◌, List, Ok, length, sym, ap, ◌∙◌, arith}
 use Rattle.std.proofs.lemmas.Result.{err_from_is_err_and}
-use Rattle.puffin_frames.specs.Info.{info_of}
-use Rattle.puffin.specs.Files.{contents_in}
-use Rattle.puffin.specs.FrameViews.{view_of}
-use Rattle.puffin.specs.Seen.{frames_bytes}
+use Rattle.puffin_frames.specs.Thread.Info.{info_of}
+use Rattle.puffin.specs.View.File.{contents_in}
+use Rattle.puffin.specs.View.Known.{view_of}
+use Rattle.puffin.specs.Merge.Scopes.{frames_bytes}
 use Rattle.puffin_replay.specs.declared.replay.summary.Summary.{Summary}
 use Rattle.puffin_replay.proofs.Summing.{Unpacked, frames_fail, merge_fails, summed}
 use Rattle.puffin_replay.proofs.replay.summary.summarize.Goals as goal

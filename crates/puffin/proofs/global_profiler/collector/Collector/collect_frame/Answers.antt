@@ -2,12 +2,12 @@
 use Rattle.std.proofs.Common.{◌≡◌, [], Some, inr, refl, sym, ap, subst, ◌∙◌}
 use Rattle.std.proofs.lemmas.List.{append-nil}
 use Rattle.puffin_data.specs.declared.error.Error.TheVariants.{Memory}
-use Rattle.puffin_frames.specs.Contents.{Streams, frame_contents, shared_streams}
+use Rattle.puffin_frames.specs.Frame.Contents.{Streams, frame_contents, shared_streams}
 use Rattle.puffin_frames.specs.Details.{shared_details}
-use Rattle.puffin_frames.specs.Collection.{inserted_all}
-use Rattle.puffin_frames.specs.Holding.{held_contents}
-use Rattle.puffin.specs.Collected.{Collected}
-use Rattle.puffin.specs.Collecting.{KeepsPending}
+use Rattle.puffin_frames.specs.Details.Collection.{inserted_all}
+use Rattle.puffin_frames.specs.Frame.Holding.{held_contents}
+use Rattle.puffin.specs.Profiler.Collected.{Collected}
+use Rattle.puffin.specs.Profiler.Collecting.{KeepsPending}
 use Rattle.puffin.proofs.global_profiler.collector.Collector.collect_frame.Goals as goal
 
 same_streams : (a b : Streams) → Some a ≡ Some b → a ≡ b

@@ -2,11 +2,11 @@
 use Rattle.std.proofs.Common.{◌≡◌, ◌+◌, ◌++◌, sym, subst, ◌∙◌, ap}
 use Rattle.std.specs.FinMap as map
 use Rattle.puffin_data.specs.Honesty.{recorded_ref}
-use Rattle.puffin_frames.specs.Info.{info_of}
-use Rattle.puffin_frames.specs.Contents.{Streams, shared_streams}
+use Rattle.puffin_frames.specs.Thread.Info.{info_of}
+use Rattle.puffin_frames.specs.Frame.Contents.{Streams, shared_streams}
 use Rattle.puffin_frames.specs.Details.{shared_details, AllHaveIds}
-use Rattle.puffin.specs.Collected.{Collected}
-use Rattle.puffin.specs.Collecting.{IsKept, AddsUp}
+use Rattle.puffin.specs.Profiler.Collected.{Collected}
+use Rattle.puffin.specs.Profiler.Collecting.{IsKept, AddsUp}
 use Rattle.puffin.proofs.Knowing.{ids_after}
 use Rattle.puffin.proofs.Reporting.{Laws, kept_after}
 use Rattle.puffin.proofs.global_profiler.collector.Collector.report.Goals as goal

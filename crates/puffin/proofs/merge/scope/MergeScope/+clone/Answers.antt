@@ -2,7 +2,7 @@
 use Rattle.std.proofs.Common.{take, sym, ap, ◌∙◌, arith, refl}
 use Rattle.std.proofs.lemmas.Int.{ints}
 use Rattle.puffin.specs.declared.merge.scope.MergeScope.TheViews.{out-MergeScope}
-use Rattle.puffin.specs.Seen.{forest_in}
+use Rattle.puffin.specs.Merge.Scopes.{forest_in}
 use Rattle.puffin.proofs.Copied.{same_push, same_scope, one_more, all_taken}
 use Rattle.puffin.proofs.Entering.{passed_64}
 use Rattle.puffin.proofs.merge.scope.MergeScope.+clone.Goals as goal

@@ -2,7 +2,7 @@
 use Rattle.std.proofs.Common.{◌≡◌, ◌++◌}
 use Rattle.std.specs.Cow.{cow_str_bytes}
 use Rattle.puffin.specs.declared.merge.scope.MergeScope.TheViews.{out-MergeScope}
-use Rattle.puffin.specs.Seen.{forest_in}
+use Rattle.puffin.specs.Merge.Scopes.{forest_in}
 use Rattle.puffin.proofs.merge.scope.MergeScope.+into_owned.Given as goal
 
 abbrev pub invariant-loop-child : goal.invariant-loop-child

@@ -3,8 +3,8 @@ use Rattle.std.proofs.Common.{◌≡◌, ◌∙◌, ◌-ℤ◌, nat_abs, ℤ, re
 use Rattle.std.proofs.lemmas.Result.{err_from_is_err_and}
 use mir.Syntax.{w128}
 use mir.Val.{to_z, of_z}
-use Rattle.puffin_data.specs.Sightings.{found_of}
-use Rattle.puffin.specs.Occurrences.{Label}
+use Rattle.puffin_data.specs.inner.Sightings.{found_of}
+use Rattle.puffin.specs.Merge.Occurrences.{Label}
 use Rattle.puffin.proofs.Entering.{ok_start, start_refused, sums_refused, scope_taken, origin_fits, time_fits, passed_64, passed_128}
 use Rattle.puffin.proofs.merge.stream.MergingVisitor.enter.Goals as goal
 

@@ -6,7 +6,7 @@ use Rattle.puffin_data.specs.declared.error.Error.{Error}
 use Rattle.puffin.specs.declared.merge.table.Table.{Table}
 use Rattle.puffin.specs.declared.merge.table.Key.{Key}
 use Rattle.puffin.specs.declared.merge.table.NodeNumber.{NodeNumber}
-use Rattle.puffin.specs.Tables.{HasKey, IsFound, made_node, AddsAt}
+use Rattle.puffin.specs.inner.merge.Tables.{HasKey, IsFound, made_node, AddsAt}
 use Rattle.puffin.proofs.Tabling.{adds_grown, grown_refused, adds_started}
 use Rattle.puffin.proofs.merge.table.Table.add.Goals as goal
 

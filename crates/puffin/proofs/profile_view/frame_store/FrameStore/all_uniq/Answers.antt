@@ -1,7 +1,7 @@
 use Rattle.std.proofs.Common.{ap, ◌∙◌}
 use Rattle.std.specs.FinMap as fin
-use Rattle.puffin.specs.FrameOf.{frames_of}
-use Rattle.puffin.specs.Views.{all_uniq}
+use Rattle.puffin.specs.View.FrameOf.{frames_of}
+use Rattle.puffin.specs.View.{all_uniq}
 use Rattle.puffin.proofs.Storing.{held_whole}
 use Rattle.puffin.proofs.profile_view.frame_store.FrameStore.all_uniq.Goals as goal
 

@@ -1,6 +1,6 @@
 use Rattle.std.proofs.Common.{refl, ap, ◌∙◌, []}
-use Rattle.puffin.specs.Views.{View}
-use Rattle.puffin.specs.Stored.{AreStored, frames_at}
+use Rattle.puffin.specs.View.{View}
+use Rattle.puffin.specs.inner.view.Store.{AreStored, frames_at}
 use Rattle.puffin.proofs.Joining.{slow_cut}
 use Rattle.puffin.proofs.Searching.{stored_rising}
 use Rattle.puffin.proofs.Storing.{stored_as, view_as}

@@ -1,6 +1,6 @@
 use Rattle.std.proofs.Common.{◌≡◌, ◌<◌, length, arith, refl, ap, ◌∙◌}
 use Rattle.std.specs.VecDeque.{deque_len}
-use Rattle.puffin.specs.Ranking.{last_in}
+use Rattle.puffin.specs.View.Ranking.{last_in}
 use Rattle.puffin.proofs.Storing.{newest_held}
 use Rattle.puffin.proofs.Placing.{last_or_of}
 use Rattle.puffin.proofs.profile_view.frame_store.FrameStore.latest_frame.Goals as goal

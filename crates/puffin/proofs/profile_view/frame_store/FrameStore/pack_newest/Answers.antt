@@ -1,13 +1,13 @@
 use Rattle.std.proofs.Common.{◌≡◌, refl, sym, ap, ◌∙◌, map, Some}
 use Rattle.std.specs.Arc.{arc_value}
 use Rattle.std.specs.Option.{option_map, is_some}
-use Rattle.puffin_frames.specs.Contents.{holding_of}
-use Rattle.puffin.specs.Ranking.{last_in}
-use Rattle.puffin.specs.Views.{View, with_packed}
-use Rattle.puffin.specs.Frames.{Frame, index_of, packed}
-use Rattle.puffin.specs.FrameOf.{frame_of, shared_frame}
-use Rattle.puffin.specs.Ranks.{rank_index}
-use Rattle.puffin.specs.Stored.{AreStored, frames_at}
+use Rattle.puffin_frames.specs.Frame.Contents.{holding_of}
+use Rattle.puffin.specs.View.Ranking.{last_in}
+use Rattle.puffin.specs.View.{View, with_packed}
+use Rattle.puffin.specs.View.ViewedFrames.{Frame, index_of, packed}
+use Rattle.puffin.specs.View.FrameOf.{frame_of, shared_frame}
+use Rattle.puffin.specs.inner.view.Ranks.{rank_index}
+use Rattle.puffin.specs.inner.view.Store.{AreStored, frames_at}
 use Rattle.puffin.proofs.Holding.{packed_copied, packed_alone}
 use Rattle.puffin.proofs.Joining.{packed_newest, newest_is_packed}
 use Rattle.puffin.proofs.Storing.{stored_as, stored-already, view_as}

@@ -1,7 +1,7 @@
 use Rattle.std.proofs.Common.{ap, ◌∙◌}
 use Rattle.std.specs.FinMap as fin
-use Rattle.puffin.specs.Stats.{stats_of}
-use Rattle.puffin.specs.Views.{all_uniq}
+use Rattle.puffin.specs.View.Stats.{stats_of}
+use Rattle.puffin.specs.View.{all_uniq}
 use Rattle.puffin.proofs.Storing.{held_whole}
 use Rattle.puffin.proofs.profile_view.frame_store.FrameStore.stats.Goals as goal
 

@@ -1,10 +1,10 @@
 use Rattle.std.proofs.Common.{◌≡◌, List, false, Err, refl, subst, sym, ap, ◌∙◌, ◌++◌, ◌∷◌, []}
 use Rattle.std.proofs.lemmas.Result.{on_ok_weaker, err_from_is_err_and}
 use Rattle.puffin_frames.specs.Details.{Details, shared_details, AllHaveIds}
-use Rattle.puffin.specs.Frames.{contents_of}
-use Rattle.puffin.specs.FrameOf.{shared_frame, told, frame_of}
-use Rattle.puffin.specs.Views.{View, Holds, Took}
-use Rattle.puffin.specs.FrameViews.{LearnsSome, view_of, collection_of, lacks_ids}
+use Rattle.puffin.specs.View.ViewedFrames.{contents_of}
+use Rattle.puffin.specs.View.FrameOf.{shared_frame, told, frame_of}
+use Rattle.puffin.specs.View.{View, Holds, Took}
+use Rattle.puffin.specs.View.Known.{LearnsSome, view_of, collection_of, lacks_ids}
 use Rattle.puffin.proofs.Learning.{none_lacks, tested, never_missing, anyhow_ok}
 use Rattle.puffin.proofs.Taking.{Holds-more, Took-more}
 use Rattle.puffin.proofs.profile_view.frame_view.FrameView.add_frame.Goals as goal

@@ -3,13 +3,13 @@ use Rattle.std.specs.Io.KnownBytes.{Appends}
 use Rattle.std.proofs.KnownBytes.{Appends-trans}
 use Rattle.std.proofs.lemmas.Result.{err_from_is_err_and}
 use Rattle.std.proofs.lemmas.Map.Iter.{rest_more}
-use Rattle.puffin_frames.specs.Stored.{Said}
-use Rattle.puffin_frames.specs.Contents.{frame_says}
-use Rattle.puffin.specs.Frames.{contents_of}
-use Rattle.puffin.specs.FrameOf.{shared_frame}
-use Rattle.puffin.specs.Listings.{all_left}
-use Rattle.puffin.specs.FrameViews.{view_of}
-use Rattle.puffin.specs.Files.{contents_in}
+use Rattle.puffin_frames.specs.Packet.Stored.{Said}
+use Rattle.puffin_frames.specs.Frame.Contents.{frame_says}
+use Rattle.puffin.specs.View.ViewedFrames.{contents_of}
+use Rattle.puffin.specs.View.FrameOf.{shared_frame}
+use Rattle.puffin.specs.View.Listings.{all_left}
+use Rattle.puffin.specs.View.Known.{view_of}
+use Rattle.puffin.specs.View.File.{contents_in}
 use Rattle.puffin.proofs.FilesWritten.{file_more, all_more, one_left, magic_begins, begun, any_of}
 use Rattle.puffin.proofs.profile_view.frame_view.FrameView.write.Goals as goal
 

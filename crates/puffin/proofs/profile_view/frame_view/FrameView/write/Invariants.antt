@@ -1,12 +1,12 @@
 use Rattle.std.proofs.Common.{◌≡◌, ◌++◌, List, map}
 use Rattle.std.specs.List.{AllByRecursion}
 use Rattle.std.specs.Io.KnownBytes.{Appends}
-use Rattle.puffin_frames.specs.Stored.{Said}
-use Rattle.puffin_frames.specs.Steps.{IsPacked}
-use Rattle.puffin.specs.Frames.{contents_of}
-use Rattle.puffin.specs.Listings.{all_left}
-use Rattle.puffin.specs.FrameViews.{view_of}
-use Rattle.puffin.specs.Files.{file_of, contents_in}
+use Rattle.puffin_frames.specs.Packet.Stored.{Said}
+use Rattle.puffin_frames.specs.Packet.Steps.{IsPacked}
+use Rattle.puffin.specs.View.ViewedFrames.{contents_of}
+use Rattle.puffin.specs.View.Listings.{all_left}
+use Rattle.puffin.specs.View.Known.{view_of}
+use Rattle.puffin.specs.View.File.{file_of, contents_in}
 use Rattle.puffin.proofs.profile_view.frame_view.FrameView.write.Given as goal
 
 -- the file of the frames so far is written, and the others are left

@@ -1,5 +1,5 @@
 use Rattle.std.proofs.Common.{ap, ◌∙◌}
-use Rattle.puffin.specs.Stats.{stats_of}
+use Rattle.puffin.specs.View.Stats.{stats_of}
 use Rattle.puffin.proofs.Holding.{stats_summed}
 use Rattle.puffin.proofs.profile_view.held_frames.HeldFrames.stats.Goals as goal
 

@@ -1,8 +1,8 @@
 use Rattle.std.proofs.Common.{◌≡◌, ◌∷◌}
 use Rattle.std.specs.FinMap as fin
 use Rattle.std.specs.VecDeque.Iter.{deque_iter_rest}
-use Rattle.puffin.specs.FrameOf.{shared_frame}
-use Rattle.puffin.specs.Listings.{recent_left}
+use Rattle.puffin.specs.View.FrameOf.{shared_frame}
+use Rattle.puffin.specs.View.Listings.{recent_left}
 use Rattle.puffin.proofs.Listing.{given, passed, made, got_some, got_none}
 use Rattle.puffin.proofs.profile_view.listings.RecentFramesIterator.next.Goals as goal
 

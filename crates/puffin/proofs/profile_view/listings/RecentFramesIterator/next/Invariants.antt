@@ -1,6 +1,6 @@
 use Rattle.std.proofs.Common.{◌≡◌, length}
 use Rattle.std.specs.VecDeque.Iter.{deque_iter_rest}
-use Rattle.puffin.specs.Listings.{recent_left}
+use Rattle.puffin.specs.View.Listings.{recent_left}
 use Rattle.puffin.proofs.profile_view.listings.RecentFramesIterator.next.Given as goal
 
 -- an index that holds no frame is passed over

@@ -1,5 +1,5 @@
 use Rattle.std.proofs.Common.{◌≡◌, length}
-use Rattle.puffin.specs.Listings.{slowest_left}
+use Rattle.puffin.specs.View.Listings.{slowest_left}
 use Rattle.puffin.proofs.profile_view.listings.SlowestFramesIterator.next.Given as goal
 
 -- a frame that isn't slow is passed over

@@ -1,5 +1,5 @@
 use Rattle.std.proofs.Common.{◌≡◌, rules, arith, ◌∙◌}
-use Rattle.puffin.specs.Ranks.{is_before}
+use Rattle.puffin.specs.inner.view.Ranks.{is_before}
 use Rattle.puffin.proofs.Placing.{enters_before}
 use Rattle.puffin.proofs.profile_view.slow_rank.SlowRank.enters.Goals as goal
 

@@ -1,7 +1,7 @@
 -- The pieces of a scope's beginning, put one after another.
 use Rattle.std.proofs.Common.{◌∙◌, ap, List, ℕ, ℤ, ◌++◌, ◌∷◌, [], length, to_z, of_z, w64}
 use Rattle.byteorder.specs.Endian.{little_bytes}
-use Rattle.puffin_data.specs.Spelling.{begin_bytes, time_bytes}
+use Rattle.puffin_data.specs.Forest.Spelling.{begin_bytes, time_bytes}
 use Rattle.puffin_data.proofs.Written.{begun}
 use Rattle.puffin_data.proofs.data.stream.Stream.begin_scope_by.Goals as goal
 

@@ -1,7 +1,7 @@
 -- The size written over the unfinished one, and the end put behind all bytes.
 use Rattle.std.proofs.Common.{◌∙◌, ap, ℤ, ◌∷◌, w64}
 use Rattle.std.proofs.lemmas.Int.{to_z-of_z}
-use Rattle.puffin_data.specs.Spelling.{end_bytes, time_bytes}
+use Rattle.puffin_data.specs.Forest.Spelling.{end_bytes, time_bytes}
 use Rattle.puffin_data.proofs.Written.{ended}
 use Rattle.puffin_data.proofs.data.stream.Stream.end_scope.Goals as goal
 

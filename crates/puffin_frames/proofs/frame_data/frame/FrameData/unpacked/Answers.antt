@@ -1,5 +1,5 @@
 use Rattle.std.specs.Arc.{arc_value}
-use Rattle.puffin_frames.specs.Contents.{contents}
+use Rattle.puffin_frames.specs.Frame.Contents.{contents}
 use Rattle.puffin_frames.proofs.Packings.{unpacked_layout, unpacked_no_layout}
 use Rattle.puffin_frames.proofs.frame_data.frame.FrameData.unpacked.Goals as goal
 

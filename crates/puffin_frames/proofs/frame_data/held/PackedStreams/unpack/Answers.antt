@@ -1,10 +1,10 @@
 use Rattle.std.proofs.Common.{◌≡◌, Some, Ok, ap, ◌∙◌}
 use Rattle.std.specs.Option.{option_map}
 use Rattle.std.specs.FinMap.{from_sorted}
-use Rattle.puffin_data.specs.Front.{whole}
-use Rattle.puffin_frames.specs.Contents.{listed}
-use Rattle.puffin_frames.specs.Holding.{or_bad}
-use Rattle.puffin_frames.specs.Values.{streams_at}
+use Rattle.puffin_data.specs.Value.Decoding.{whole}
+use Rattle.puffin_frames.specs.Frame.Contents.{listed}
+use Rattle.puffin_frames.specs.Frame.Holding.{or_bad}
+use Rattle.puffin_frames.specs.Packet.Structs.{streams_at}
 use Rattle.puffin_frames.proofs.Listed.{streams-listed}
 use Rattle.puffin_frames.proofs.frame_data.held.PackedStreams.unpack.Goals as goal
 

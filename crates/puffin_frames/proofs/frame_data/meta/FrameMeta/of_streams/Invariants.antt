@@ -1,6 +1,6 @@
 use Rattle.std.proofs.Common.{map}
 use Rattle.puffin_data.specs.Honesty.{recorded}
-use Rattle.puffin_frames.specs.Contents.{all_recorded}
+use Rattle.puffin_frames.specs.Frame.Contents.{all_recorded}
 use Rattle.puffin_frames.proofs.Joining.{ComesTo}
 use Rattle.puffin_frames.proofs.frame_data.meta.FrameMeta.of_streams.Given as goal
 

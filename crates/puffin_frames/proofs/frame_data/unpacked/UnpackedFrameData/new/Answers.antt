@@ -1,8 +1,8 @@
 -- What a frame holds, by infos, is what was given.
 use Rattle.std.proofs.Common.{sym, ap, ◌∙◌}
 use Rattle.std.specs.FinMap as map
-use Rattle.puffin_frames.specs.Contents.{streams_of}
-use Rattle.puffin_frames.specs.Measures.{meta_of}
+use Rattle.puffin_frames.specs.Frame.Contents.{streams_of}
+use Rattle.puffin_frames.specs.Frame.Sums.{meta_of}
 use Rattle.puffin_frames.proofs.Keyed.{values-streams_of}
 use Rattle.puffin_frames.proofs.frame_data.unpacked.UnpackedFrameData.new.Goals as goal
 

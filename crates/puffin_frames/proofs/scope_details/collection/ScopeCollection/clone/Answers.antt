@@ -3,7 +3,7 @@ use Rattle.std.specs.Ordering.{nat_cmp}
 use Rattle.std.specs.FinMap.{FinMap, get, from_entries}
 use Rattle.std.specs.Arc.{arc_value}
 use Rattle.puffin_frames.specs.Details.{Details, details_of}
-use Rattle.puffin_frames.specs.Collection.{by_ids, by_names}
+use Rattle.puffin_frames.specs.Details.Collection.{by_ids, by_names}
 use Rattle.puffin_frames.proofs.Seen.{seen_from_clone}
 use Rattle.puffin_frames.proofs.scope_details.collection.ScopeCollection.clone.Goals as goal
 

@@ -2,7 +2,7 @@ use Rattle.std.proofs.Common.{ap, sym, ◌∙◌, option_map}
 use Rattle.std.specs.FinMap.{get}
 use Rattle.std.specs.Arc.{arc_value}
 use Rattle.puffin_frames.specs.Details.{details_of}
-use Rattle.puffin_frames.specs.Collection.{Collection}
+use Rattle.puffin_frames.specs.Details.Collection.{Collection}
 use Rattle.puffin_frames.proofs.Inserting.{get-by_ids}
 use Rattle.puffin_frames.proofs.scope_details.collection.ScopeCollection.fetch_by_id.Goals as goal
 

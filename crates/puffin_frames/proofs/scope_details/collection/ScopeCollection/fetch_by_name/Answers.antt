@@ -1,6 +1,6 @@
 use Rattle.std.proofs.Common.{ap, sym, ◌∙◌}
 use Rattle.std.specs.FinMap.{get}
-use Rattle.puffin_frames.specs.Collection.{Collection}
+use Rattle.puffin_frames.specs.Details.Collection.{Collection}
 use Rattle.puffin_frames.proofs.Inserting.{get-by_names}
 use Rattle.puffin_frames.proofs.scope_details.collection.ScopeCollection.fetch_by_name.Goals as goal
 

@@ -3,8 +3,8 @@ use Rattle.std.specs.Ordering.{nat_cmp}
 use Rattle.std.specs.FinMap.{FinMap, get, insert}
 use Rattle.std.specs.Arc.{arc_value}
 use Rattle.puffin_frames.specs.Details.{Details, details_of, name_of}
-use Rattle.puffin_frames.specs.Collection.{Collection, inserted, by_ids, by_names}
-use Rattle.puffin_frames.specs.HeldCollection.{collection_in}
+use Rattle.puffin_frames.specs.Details.Collection.{Collection, inserted, by_ids, by_names}
+use Rattle.puffin_frames.specs.inner.HeldCollection.{collection_in}
 use Rattle.puffin_frames.proofs.Inserting.{get-by_ids, by_ids-insert, own_ids_put, kept_inserted, fresh_inserted, kept_is, get-put, undone}
 use Rattle.puffin_frames.proofs.scope_details.collection.ScopeCollection.insert.Goals as goal
 

@@ -1,6 +1,6 @@
 use Rattle.std.proofs.Common.{ap, sym, ◌∙◌}
 use Rattle.std.specs.FinMap.{get}
-use Rattle.puffin_frames.specs.Collection.{by_ids}
+use Rattle.puffin_frames.specs.Details.Collection.{by_ids}
 use Rattle.puffin_frames.proofs.Inserting.{own_ids_none}
 use Rattle.puffin_frames.proofs.scope_details.collection.ScopeCollection.new.Goals as goal
 

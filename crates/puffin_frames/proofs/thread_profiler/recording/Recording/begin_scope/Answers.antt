@@ -4,14 +4,14 @@ use Rattle.std.specs.Int.{int_max}
 use Rattle.std.proofs.lemmas.Int.{ints, to_z-of_z, clamps}
 use Rattle.std.proofs.lemmas.List.{length-append}
 use Rattle.std.proofs.lemmas.List.Elements.{All-from_get_or}
-use Rattle.puffin_data.specs.Spelling.{begin_bytes}
+use Rattle.puffin_data.specs.Forest.Spelling.{begin_bytes}
 use Rattle.puffin_data.specs.Text.{cut_text}
-use Rattle.puffin_data.specs.Tour.{Open}
-use Rattle.puffin_data.specs.Words.{word_size}
+use Rattle.puffin_data.specs.Forest.Tour.{Open}
+use Rattle.puffin_data.specs.Forest.Words.{word_size}
 use Rattle.puffin_data.proofs.Cuts.{cut_text-short, cut_text-bytes}
 use Rattle.puffin_data.proofs.WordMeasures.{length-begin}
-use Rattle.puffin_frames.specs.Events.{events_in}
-use Rattle.puffin_frames.specs.Threads.{Thread, time_of}
+use Rattle.puffin_frames.specs.Thread.Events.{events_in}
+use Rattle.puffin_frames.specs.Thread.Calls.{Thread, time_of}
 use Rattle.puffin_frames.proofs.Recordings.{begun_in, holds_in, offset_in, scopes_fit, same_thread}
 use Rattle.puffin_frames.proofs.Holding.{begins_held}
 use Rattle.puffin_frames.proofs.thread_profiler.recording.Recording.begin_scope.Goals as goal

@@ -4,10 +4,10 @@ use Rattle.std.specs.Int.{int_max}
 use Rattle.std.proofs.lemmas.Bool.Decides.{nat_tests}
 use Rattle.std.proofs.lemmas.Int.{ints, to_z-of_z, clamps}
 use Rattle.std.proofs.lemmas.List.{length-append}
-use Rattle.puffin_data.specs.Tour.{Close}
-use Rattle.puffin_data.specs.Words.{open_after}
-use Rattle.puffin_frames.specs.Events.{events_in}
-use Rattle.puffin_frames.specs.Threads.{Thread, time_of}
+use Rattle.puffin_data.specs.Forest.Tour.{Close}
+use Rattle.puffin_data.specs.Forest.Words.{open_after}
+use Rattle.puffin_frames.specs.Thread.Events.{events_in}
+use Rattle.puffin_frames.specs.Thread.Calls.{Thread, time_of}
 use Rattle.puffin_frames.proofs.Recordings.{ended_in, ended_goes, place_in, depth_in, nothing, same_thread}
 use Rattle.puffin_frames.proofs.thread_profiler.recording.Recording.close.Goals as goal
 

@@ -1,6 +1,6 @@
 use Rattle.std.proofs.Common.{ap, arith}
-use Rattle.puffin_data.specs.Words.{open_after}
-use Rattle.puffin_frames.specs.Threads.{Thread}
+use Rattle.puffin_data.specs.Forest.Words.{open_after}
+use Rattle.puffin_frames.specs.Thread.Calls.{Thread}
 use Rattle.puffin_frames.proofs.Recordings.{depth_in}
 use Rattle.puffin_frames.proofs.thread_profiler.recording.Recording.depth.Goals as goal
 

@@ -1,11 +1,11 @@
 use Rattle.std.proofs.Common.{◌≡◌, List, ◌∙◌, ap, sym, subst, refl, string_bytes}
 use Rattle.std.proofs.lemmas.Result.{err_from_is_err_and}
 use Rattle.puffin_data.specs.Honesty.{Recorded, IsHonestRecord, recorded}
-use Rattle.puffin_data.specs.Words.{open_after}
-use Rattle.puffin_frames.specs.Closing.{IsReportOf}
+use Rattle.puffin_data.specs.Forest.Words.{open_after}
+use Rattle.puffin_frames.specs.Thread.Closing.{IsReportOf}
 use Rattle.puffin_frames.specs.Details.{Details, details_seen}
-use Rattle.puffin_frames.specs.Info.{Info}
-use Rattle.puffin_frames.specs.Threads.{Thread, info_of_thread}
+use Rattle.puffin_frames.specs.Thread.Info.{Info}
+use Rattle.puffin_frames.specs.Thread.Calls.{Thread, info_of_thread}
 use Rattle.puffin_frames.proofs.Recordings.{report_in, cleared_in, none_in, none_open_in, same_thread}
 use Rattle.puffin_frames.proofs.thread_profiler.recording.Recording.hand_over.Goals as goal
 

@@ -1,5 +1,5 @@
 use Rattle.std.proofs.Common.{◌-◌, ℕ, List, length, ap, ◌∙◌, slice_get}
-use Rattle.puffin_frames.specs.Threads.{Thread, open_offsets}
+use Rattle.puffin_frames.specs.Thread.Calls.{Thread, open_offsets}
 use Rattle.puffin_frames.proofs.Recordings.{innermost_in}
 use Rattle.puffin_frames.proofs.thread_profiler.recording.Recording.innermost.Goals as goal
 

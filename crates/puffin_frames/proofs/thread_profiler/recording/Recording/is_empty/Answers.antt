@@ -1,5 +1,5 @@
 use Rattle.std.proofs.Common.{◌==◌, length, ap, ◌∙◌}
-use Rattle.puffin_frames.specs.Threads.{Thread}
+use Rattle.puffin_frames.specs.Thread.Calls.{Thread}
 use Rattle.puffin_frames.proofs.Recordings.{empty_in}
 use Rattle.puffin_frames.proofs.thread_profiler.recording.Recording.is_empty.Goals as goal
 

@@ -1,7 +1,7 @@
 -- The scope's place is put last.
 use Rattle.std.proofs.Common.{◌∙◌, subst, sym}
 use Rattle.puffin_frames.specs.Details.{AllHaveIds}
-use Rattle.puffin_frames.specs.Threads.{Thread}
+use Rattle.puffin_frames.specs.Thread.Calls.{Thread}
 use Rattle.puffin_replay.proofs.Offsets.{pushed}
 use Rattle.puffin_replay.proofs.replay.profiled.Profiled.begin.Goals as goal
 

@@ -1,10 +1,10 @@
 -- Only the innermost scope's place ends one.
 use Rattle.std.proofs.Common.{◌∙◌, ap, length, w64, rules, ◌≡◌, ◌-◌, ℕ, get_or, take, vec_len, reverse, refl, inl, arith}
 use Rattle.std.proofs.lemmas.Result.{err_from_is_err_and}
-use Rattle.puffin_frames.specs.Threads.{Thread, open_offsets}
+use Rattle.puffin_frames.specs.Thread.Calls.{Thread, open_offsets}
 use Rattle.std.proofs.lemmas.Int.{to_z-of_z}
 use Rattle.puffin_replay.proofs.Offsets.{innermost_last, outer_or_none, past_all, closed_places}
-use Rattle.puffin.specs.Collected.{Accepts, Refuses}
+use Rattle.puffin.specs.Profiler.Collected.{Accepts, Refuses}
 use Rattle.puffin_replay.proofs.Closing.{Ends-from, kept_ids}
 use Rattle.puffin_replay.proofs.replay.profiled.Profiled.end.Goals as goal
 

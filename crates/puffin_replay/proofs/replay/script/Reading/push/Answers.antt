@@ -1,5 +1,5 @@
 use Rattle.std.proofs.Common.{ℕ}
-use Rattle.puffin_replay.specs.Statements.{Said, said}
+use Rattle.puffin_replay.specs.Script.Statements.{Said, said}
 use Rattle.puffin_replay.proofs.Scripts.{lines_more, names_more, commands_more}
 use Rattle.puffin_replay.proofs.replay.script.Reading.push.Goals as goal
 

@@ -2,10 +2,10 @@
 use Rattle.std.proofs.Common.{◌≡◌, ◌+◌, [], ◌∷◌, ◌++◌, take, sym, ap, ◌∙◌, subst, arith}
 use Rattle.std.proofs.lemmas.List.{take_more}
 use Rattle.std.proofs.lemmas.List.Elements.{All-nil, All-push}
-use Rattle.puffin_replay.specs.Recorded.{HasIds}
+use Rattle.puffin_replay.specs.Program.Recording.{HasIds}
 use Rattle.puffin_replay.specs.declared.replay.command.Command.{Command}
-use Rattle.puffin_replay.specs.Sessions.{SessionState}
-use Rattle.puffin_frames.specs.Contents.{AreHonest}
+use Rattle.puffin_replay.specs.Session.{SessionState}
+use Rattle.puffin_frames.specs.Frame.Contents.{AreHonest}
 use Rattle.puffin_replay.proofs.Openings.{StandsAfter-opening}
 use Rattle.puffin_replay.proofs.Running.{RunsTo-none, RunsTo-more}
 use Rattle.puffin_replay.proofs.Sums.{SumsTo-opening}

@@ -1,7 +1,7 @@
 -- The replies so far belong to the commands so far, and there is room for the others.
 use Rattle.std.proofs.Common.{◌≡◌, ◌≤◌, length, take, All, vec_len, vec_capacity}
-use Rattle.puffin_replay.specs.Recorded.{HasIds}
-use Rattle.puffin_replay.specs.Serving.{RunsTo}
+use Rattle.puffin_replay.specs.Program.Recording.{HasIds}
+use Rattle.puffin_replay.specs.inner.Serving.{RunsTo}
 use Rattle.puffin_replay.proofs.replay.session.Session.run.Given as goal
 
 abbrev pub invariant-loop-command : goal.invariant-loop-command

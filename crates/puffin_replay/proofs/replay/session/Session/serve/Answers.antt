@@ -2,13 +2,13 @@
 use Rattle.std.proofs.Common.{◌+◌, ℕ, List, length, ◌∙◌, ap, subst, ℤ, rules, w64, String, Global}
 use Rattle.std.proofs.lemmas.Int.{to_z-of_z}
 use Rattle.puffin_data.specs.Text.{cut_text}
-use Rattle.puffin_data.specs.Words.{word_size}
-use Rattle.puffin_frames.specs.Threads.{after_begin}
+use Rattle.puffin_data.specs.Forest.Words.{word_size}
+use Rattle.puffin_frames.specs.Thread.Calls.{after_begin}
 use Rattle.puffin_replay.specs.declared.replay.command.Command.TheVariants.{End}
-use Rattle.puffin_replay.specs.Serving.{clock_time, thread_in, with_thread, Ends}
+use Rattle.puffin_replay.specs.inner.Serving.{clock_time, thread_in, with_thread, Ends}
 use Rattle.puffin_replay.proofs.Serving.{Continues-began, Continues-ended, Continues-handed, Continues-taken, Continues-registered, Continues-not_registered, Continues-added, Continues-not_added, Continues-wanted, Continues-not_begun, Continues-not_ended, Continues-not_reported, Continues-not_framed, same}
-use Rattle.puffin_replay.specs.Replies.{user_details}
-use Rattle.puffin.specs.Registering.{Adds, AddsSome}
+use Rattle.puffin_replay.specs.Session.Replies.{user_details}
+use Rattle.puffin.specs.Profiler.Registering.{Adds, AddsSome}
 use Rattle.puffin_replay.proofs.Closing.{wanted-from}
 use Rattle.puffin_replay.proofs.replay.session.Session.serve.Goals as goal
 

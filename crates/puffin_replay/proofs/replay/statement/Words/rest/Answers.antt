@@ -1,6 +1,6 @@
 use Rattle.std.proofs.Common.{ap, ◌∙◌, sym}
 use Rattle.std.proofs.lemmas.List.Splits.{join_with_byte-slice_split}
-use Rattle.puffin_replay.specs.Statements.{words_behind, joined_words}
+use Rattle.puffin_replay.specs.Script.Statements.{words_behind, joined_words}
 use Rattle.puffin_replay.proofs.replay.statement.Words.rest.Goals as goal
 
 pub returns-in-Some : goal.returns-in-Some

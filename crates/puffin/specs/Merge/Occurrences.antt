@@ -1,0 +1,72 @@
+-- The scopes of frames under one info, each as merging sees it.
+use Rattle.std.specs.Prelude.{ℕ, ℤ, ◌-ℤ◌, nat_abs, pos, Bool, List, [], ◌∷◌, ◌++◌, map, flat_map}
+use Rattle.std.specs.declared.cmp.Ordering.{Ordering}
+use Rattle.std.specs.Ordering.{nat_cmp, on, then_cmp, eq_by_cmp}
+use Rattle.std.specs.Cmp.Lexicographic.{slice_cmp}
+use Rattle.puffin_data.specs.Forest.{Span, Forest}
+use Rattle.puffin_data.specs.Walk.Sights.{Nested, nested_in}
+use Rattle.puffin_data.specs.Text.{text_in}
+
+-- what tells a scope from its siblings: its id, and its text's bytes
+pub record Label : Type 0 where
+  pub id : ℕ
+  pub text : List ℕ
+
+-- by id, and then by the text's bytes
+abbrev pub label_cmp : Label → Label → Ordering
+label_cmp = then_cmp (on (λ l. l.id) nat_cmp) (on (λ l. l.text) (slice_cmp nat_cmp))
+
+-- the labels from the top down to a scope, its own the last
+abbrev pub Path : Type 0
+Path = List Label
+
+abbrev pub is_path : Path → Path → Bool
+is_path = eq_by_cmp (slice_cmp label_cmp)
+
+abbrev pub label_of : Span → Label
+label_of s = record { id = s.id; text = text_in s.text }
+
+abbrev pub path_of : List Span → Path
+path_of spans = map label_of spans
+
+-- One scope in one frame. Its own start is counted from its parent's start, a top scope's from the first frame's range.
+pub record Occurrence : Type 0 where
+  pub path : Path
+  pub own_start : ℤ
+  pub duration : ℕ
+
+-- what is counted from within these scopes: the start of the innermost
+abbrev pub origin_in : ℤ → List Span → ℤ
+origin_in origin [] = origin
+origin_in origin (s ∷ around) = origin_in s.start around
+
+-- a scope of a forest whose top scopes' starts are counted from an origin
+abbrev pub occurrence_of : ℤ → Nested → Occurrence
+occurrence_of origin scope = record {
+  path = path_of scope.around ++ (label_of scope.span ∷ []);
+  own_start = scope.span.start -ℤ origin_in origin scope.around;
+  duration = nat_abs (scope.span.stop -ℤ scope.span.start);
+}
+
+abbrev pub occurrences_in : ℤ → List Nested → List Occurrence
+occurrences_in origin scopes = map (occurrence_of origin) scopes
+
+-- what merging reads of a frame: where its range starts, and the scopes under the info, none where there is no stream
+pub record FrameScopes : Type 0 where
+  pub start : ℤ
+  pub forest : Forest
+
+-- all scopes of a frame, a top scope's start counted as if the frame's range started where the first frame's does
+abbrev pub occurrences_of : ℤ → FrameScopes → List Occurrence
+occurrences_of first frame = occurrences_in (frame.start -ℤ first) (nested_in [] frame.forest)
+
+abbrev pub occurrences_from : ℤ → List FrameScopes → List Occurrence
+occurrences_from first frames = flat_map (occurrences_of first) frames
+
+abbrev pub first_start : List FrameScopes → ℤ
+first_start [] = pos 0
+first_start (frame ∷ frames) = frame.start
+
+-- all scopes of all frames
+abbrev pub occurrences : List FrameScopes → List Occurrence
+occurrences frames = occurrences_from (first_start frames) frames

@@ -1,0 +1,9 @@
+-- What a profiler collects, whatever else it has.
+pub mod Collected
+pub mod Collecting
+pub mod Registering
+use Rattle.puffin.specs.Profiler.Collected.{Collected}
+use Rattle.puffin.specs.declared.global_profiler.profiler.GlobalProfiler.{GlobalProfiler}
+
+abbrev pub collected : GlobalProfiler → Collected
+collected profiler = profiler.collector

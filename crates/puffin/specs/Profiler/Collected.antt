@@ -1,0 +1,96 @@
+-- What a profiler collects for its next frame, and what its calls make of it.
+pub use Rattle.puffin_frames.specs.Frame.Contents.{no_scopes, reported_to}
+use Rattle.std.specs.Prelude.{◌≡◌, ℕ, ◌+◌, ◌^◌, ◌<◌, ℤ, List, [], ◌∷◌, ◌++◌, Bool, true, false, if◌then◌else◌, length, ◌⊎◌, refl}
+use Rattle.std.specs.FinMap as map
+use Rattle.std.specs.Coded.{Coded, code_by, coded×, coded_ℕ, coded_list, coded_bool}
+use Rattle.puffin_data.specs.declared.error.Error.{Error}
+use Rattle.puffin_data.specs.declared.error.Error.TheVariants.{MissingId, TooLarge, RangeTooLong, Memory}
+use Rattle.puffin_data.specs.Honesty.{Recorded}
+use Rattle.puffin_frames.specs.Thread.Info.{Info}
+use Rattle.puffin_frames.specs.Details.{Details, details_code, AllHaveIds}
+use Rattle.puffin_frames.specs.Details.Collection.{Collection, collection_code, inserted_all}
+use Rattle.puffin_frames.specs.Frame.Contents.{Streams, streams_code}
+use Rattle.puffin_frames.specs.Frame.Sums.{total_bytes, total_scopes, joined_range, IsOrdered, DurationFits}
+
+-- The index of the next frame, how many scopes were ever reported, how many of them were handed out in frames, and the streams that the next frame will hold; the details that it knows of scopes, those that are new in the next frame, in order, and whether the next frame is to tell of all.
+pub record Collected : Type 0 where
+  pub index : ℕ
+  pub reported : ℕ
+  pub emitted : ℕ
+  pub streams : Streams
+  pub collection : Collection
+  pub new_details : List Details
+  pub wants_all : Bool
+
+-- it is stored as the tuple of its fields
+abbrev pub collected_code : Coded Collected
+collected_code =
+    code_by (ℕ × (ℕ × (ℕ × (Streams × (Collection × (List Details × Bool))))))
+    (coded× coded_ℕ (coded× coded_ℕ (coded× coded_ℕ (coded× streams_code (coded× collection_code (coded× (coded_list details_code) coded_bool))))))
+    (λ c. (c.index, (c.reported, (c.emitted, (c.streams, (c.collection, (c.new_details, c.wants_all)))))))
+    (λ p. record { index = p.0; reported = p.1.0; emitted = p.1.1.0; streams = p.1.1.1.0; collection = p.1.1.1.1.0; new_details = p.1.1.1.1.1.0; wants_all = p.1.1.1.1.1.1 })
+    (λ _. refl)
+
+-- ---- reports
+
+abbrev pub after_report : Collected → Info → List Details → Recorded → Collected
+after_report c i ds r = record c { reported = c.reported + r.num_scopes; streams = reported_to c.streams i r; new_details = c.new_details ++ ds }
+
+-- what is pending, with one info more, has sums of 64 bits
+pub record SumsFit (c : Collected) (r : Recorded) : Type 0 where
+  pub bytes : total_bytes (map.values c.streams) + length r.bytes < 2 ^ 64
+  pub scopes : total_scopes (map.values c.streams) + r.num_scopes < 2 ^ 64
+  pub reported : c.reported + r.num_scopes < 2 ^ 64
+
+-- the joined range of all that is pending, with one info more
+abbrev pub range_with : Collected → Recorded → ℤ × ℤ
+range_with c r = joined_range (r ∷ map.values c.streams)
+
+-- that range is too long: it isn't reversed, and its duration is no i64
+abbrev pub IsTooLong : ℤ × ℤ → Type 0
+IsTooLong range = IsOrdered range × ¬ DurationFits range
+
+-- Why a report is refused: the first that applies.
+abbrev pub IsReportRefusal : Collected → List Details → Recorded → Error → Type 0
+IsReportRefusal c ds r e =
+    ((e ≡ MissingId) × ¬ AllHaveIds ds)
+    ⊎ ((e ≡ TooLarge) × AllHaveIds ds × ¬ SumsFit c r)
+    ⊎ ((e ≡ RangeTooLong) × AllHaveIds ds × SumsFit c r × IsTooLong (range_with c r))
+    ⊎ ((e ≡ Memory) × AllHaveIds ds × SumsFit c r × ¬ IsTooLong (range_with c r))
+
+-- what a call of `report` that isn't refused makes of it, and what one that is refused leaves
+abbrev pub Accepts : Collected → Info → List Details → Recorded → Collected → Type 0
+Accepts old i ds r new = (new ≡ after_report old i ds r) × AllHaveIds ds × SumsFit old r × ¬ IsTooLong (range_with old r)
+
+abbrev pub Refuses : Collected → Info → List Details → Recorded → Error → Collected → Type 0
+Refuses old i ds r e new = IsReportRefusal old ds r e × (new ≡ old)
+
+-- ---- frames
+
+-- all details of a collection, by rising id
+abbrev pub all_details : Collection → List Details
+all_details collection = map.values collection.by_id
+
+-- what a frame tells of scopes: the new details, and then all that were known where that is wanted
+abbrev pub delta_of : Collection → List Details → Bool → List Details
+delta_of collection new wanted = new ++ (if wanted then all_details collection else [])
+
+-- after a frame that held all that was pending, and after a call that found no scope
+abbrev pub after_frame : Collected → Collected
+after_frame c = record c { index = c.index + 1; emitted = c.reported; streams = map.empty; collection = inserted_all c.collection c.new_details; new_details = []; wants_all = false }
+
+abbrev pub after_no_frame : Collected → Collected
+after_no_frame c = record c { index = c.index + 1 }
+
+-- after a call that learnt of these details and was refused, and after one that wants all details in the next frame
+abbrev pub after_learning : Collected → List Details → Collected
+after_learning c learnt = record c { collection = inserted_all c.collection learnt }
+
+abbrev pub after_wanting : Collected → Collected
+after_wanting c = record c { wants_all = true }
+
+-- ---- scopes of the caller's own
+
+-- after these details were learnt, which are new in the next frame
+abbrev pub after_adding : Collected → List Details → Collected
+after_adding c new = record c { collection = inserted_all c.collection new; new_details = c.new_details ++ new }

@@ -1,0 +1,3 @@
+-- What contracts of private functions and proofs alone cite.
+pub mod view
+pub mod merge

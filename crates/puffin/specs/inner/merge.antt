@@ -1,0 +1,7 @@
+-- How merging goes: steps of the proof.
+pub mod Tables
+pub mod Merging
+pub mod Places
+pub mod Assembled
+pub mod OnePiece
+pub mod Origins

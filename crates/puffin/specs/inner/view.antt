@@ -1,0 +1,7 @@
+-- How a view keeps its frames.
+pub mod Codes
+pub mod Held
+pub mod Ranks
+pub mod Store
+pub mod Kept
+pub mod Selections

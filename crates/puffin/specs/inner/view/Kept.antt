@@ -1,0 +1,21 @@
+-- What is true of the lists of every view.
+use Rattle.std.specs.Prelude.{ℕ, ◌<◌, List, [], ◌∷◌, Option, ◌≢◌}
+use Rattle.std.specs.List.{AllByRecursion}
+use Rattle.puffin.specs.View.ViewedFrames.{Frame, index_of}
+use Rattle.puffin.specs.View.{IsUpTo}
+
+-- indices rise strictly
+abbrev pub AreRising : List Frame → Type 0
+AreRising [] = Unit {0}
+AreRising (f ∷ fs) = AllByRecursion (λ g. index_of f < index_of g) fs × AreRising fs
+
+-- no two have one index
+abbrev pub AreApart : List Frame → Type 0
+AreApart [] = Unit {0}
+AreApart (f ∷ fs) = AllByRecursion (λ g. index_of g ≢ index_of f) fs × AreApart fs
+
+pub record IsKept (recent slow : List Frame) (last : Option ℕ) : Type 0 where
+  pub recent_taken : AllByRecursion (λ f. IsUpTo last (index_of f)) recent
+  pub slow_taken : AllByRecursion (λ f. IsUpTo last (index_of f)) slow
+  pub rising : AreRising recent
+  pub apart : AreApart slow

@@ -1,0 +1,40 @@
+-- The measures of a word of events.
+use Rattle.std.specs.Prelude.{ℕ, ◌+◌, ◌-◌, ◌^◌, max, ℤ, pos, negsuc, List, [], ◌∷◌, length}
+use Rattle.std.specs.Int.{int_min, int_max}
+use Rattle.puffin_data.specs.Forest.Tour.{Event, Open, Close}
+
+-- how many bytes its scopes take
+abbrev pub word_size : List Event → ℕ
+word_size [] = 0
+word_size (Open id text start ∷ word) = 22 + length text + word_size word
+word_size (Close stop ∷ word) = 9 + word_size word
+
+-- how many scopes open
+abbrev pub num_begun : List Event → ℕ
+num_begun [] = 0
+num_begun (Open id text start ∷ word) = 1 + num_begun word
+num_begun (Close stop ∷ word) = num_begun word
+
+-- how many scopes are open after the word, where n were open before
+abbrev pub open_after : ℕ → List Event → ℕ
+open_after n [] = n
+open_after n (Open id text start ∷ word) = open_after (n + 1) word
+open_after n (Close stop ∷ word) = open_after (n - 1) word
+
+-- how many scopes are open at once, at most, where n were open before
+abbrev pub most_open : ℕ → List Event → ℕ
+most_open n [] = n
+most_open n (Open id text start ∷ word) = max n (most_open (n + 1) word)
+most_open n (Close stop ∷ word) = max n (most_open (n - 1) word)
+
+-- the least start of all scopes that open, and i64's greatest number where there is none
+abbrev pub least_open : List Event → ℤ
+least_open [] = pos (2 ^ 63 - 1)
+least_open (Open id text start ∷ word) = int_min start (least_open word)
+least_open (Close stop ∷ word) = least_open word
+
+-- the greatest stop of all scopes that close, and i64's least number where there is none
+abbrev pub greatest_close : List Event → ℤ
+greatest_close [] = negsuc (2 ^ 63 - 1)
+greatest_close (Open id text start ∷ word) = greatest_close word
+greatest_close (Close stop ∷ word) = int_max stop (greatest_close word)

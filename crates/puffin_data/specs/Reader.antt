@@ -1,0 +1,74 @@
+-- Reading one scope after another, up to a place where none begins, and without looking at their children.
+pub mod Scopes
+use Rattle.std.specs.Prelude.{◌≡◌, ℕ, ◌+◌, ℤ, ◌-ℤ◌, List, [], ◌∷◌, length, Option, Some, None, Result, Ok, Err}
+use Rattle.puffin_data.specs.declared.error.Error.{Error}
+use Rattle.puffin_data.specs.Forest.{Forest, empty, node}
+use Rattle.puffin_data.specs.Forest.Spelling.{spelling}
+use Rattle.puffin_data.specs.Text.{text_in}
+use Rattle.puffin_data.specs.Walk.Reading.{Found, reading}
+use Rattle.puffin_data.specs.Walk.{region}
+
+-- a scope as a reader tells it: the text of its stored bytes, and places that count from the stream's first byte
+pub record ReadScope : Type 0 where
+  pub id : ℕ
+  pub start : ℤ
+  pub duration : ℤ
+  pub text : List ℕ
+  pub child_begin : ℕ
+  pub child_end : ℕ
+  pub next_sibling : ℕ
+
+-- the sound scope that stands at place p
+abbrev pub read_scope : ℕ → Found → ReadScope
+read_scope p s = record {
+  id = s.span.id;
+  start = s.span.start;
+  duration = s.span.stop -ℤ s.span.start;
+  text = text_in s.span.text;
+  child_begin = p + s.child_begin;
+  child_end = p + s.child_end;
+  next_sibling = p + s.next_sibling;
+}
+
+abbrev pub read_from : ℕ → Result (Option Found) Error → Result (Option ReadScope) Error
+read_from p (Ok None) = Ok None
+read_from p (Ok (Some s)) = Ok (Some (read_scope p s))
+read_from p (Err fault) = Err fault
+
+-- what stands at place p, in the region that ends at e: no scope, a sound scope or a fault
+abbrev pub scope_read : List ℕ → ℕ → ℕ → Result (Option ReadScope) Error
+scope_read bytes p e = read_from p (reading (region bytes p e))
+
+-- where a reader stands in a stream's bytes
+pub record Place : Type 0 where
+  pub bytes : List ℕ
+  pub at : ℕ
+
+-- what a reader gives next, and where it stands then: after a fault at the end of all bytes
+abbrev pub next_after : Place → Result (Option ReadScope) Error → Option (Result ReadScope Error) × ℕ
+next_after from (Ok None) = (None, from.at)
+next_after from (Ok (Some s)) = (Some (Ok s), s.next_sibling)
+next_after from (Err fault) = (Some (Err fault), length from.bytes)
+
+abbrev pub next_read : Place → Option (Result ReadScope Error) × ℕ
+next_read from = next_after from (scope_read from.bytes from.at (length from.bytes))
+
+-- All that a reader gives from place p on: the sound scopes one after the other, and behind them the fault where there is one.
+pub data Reads (bytes : List ℕ) : ℕ → List (Result ReadScope Error) → Type 0 where
+  ends : {p : ℕ} → scope_read bytes p (length bytes) ≡ Ok None → Reads bytes p []
+  stops : {p : ℕ} {fault : Error} → scope_read bytes p (length bytes) ≡ Err fault → Reads bytes p (Err fault ∷ [])
+  goes_on : {p : ℕ} {s : ReadScope} {later : List (Result ReadScope Error)} → scope_read bytes p (length bytes) ≡ Ok (Some s) → Reads bytes s.next_sibling later → Reads bytes p (Ok s ∷ later)
+
+-- the top scopes of a forest whose spelling begins at place p
+abbrev pub top_scopes : ℕ → Forest → List ReadScope
+top_scopes p empty = []
+top_scopes p (node s children others) =
+    record {
+      id = s.id;
+      start = s.start;
+      duration = s.stop -ℤ s.start;
+      text = text_in s.text;
+      child_begin = p + (22 + length s.text);
+      child_end = p + (22 + length s.text + length (spelling children));
+      next_sibling = p + (22 + length s.text + length (spelling children) + 9);
+    } ∷ top_scopes (p + (22 + length s.text + length (spelling children) + 9)) others

@@ -1,0 +1,3 @@
+-- Values of packets: their bytes, and how they are read.
+pub mod Layout
+pub mod Decoding

@@ -1,0 +1,18 @@
+-- What the code's reading of a scope shows: the same without where the text lies in memory.
+use Rattle.std.specs.Prelude.{Option, Some, None, Result, Ok, Err}
+use Rattle.puffin_data.specs.declared.error.Error.{Error}
+use Rattle.puffin_data.specs.declared.data.scope.Sighting.{Sighting}
+use Rattle.puffin_data.specs.Walk.Reading.{Found}
+
+abbrev pub found_of : Sighting → Found
+found_of s = record {
+  span = record { id = s.id; start = s.start; stop = s.stop; text = s.text.now };
+  child_begin = s.child_begin;
+  child_end = s.child_end;
+  next_sibling = s.next_sibling;
+}
+
+abbrev pub seen : Result (Option Sighting) Error → Result (Option Found) Error
+seen (Ok None) = Ok None
+seen (Ok (Some s)) = Ok (Some (found_of s))
+seen (Err e) = Err e

@@ -1,0 +1,60 @@
+-- What a frame holds, and how.
+use Rattle.std.specs.Prelude.{Bool, true, false, List, Option, Some, None}
+use Rattle.std.specs.Arc.{arc_value}
+use Rattle.puffin_frames.specs.declared.frame_data.frame.FrameData.{FrameData}
+use Rattle.puffin_frames.specs.declared.frame_data.held.PackedStreams.{PackedStreams}
+use Rattle.puffin_frames.specs.declared.frame_data.held.Held.{Held}
+use Rattle.puffin_frames.specs.declared.frame_data.held.Held.TheVariants.{Own, Shared, Packed, Both}
+use Rattle.puffin_frames.specs.declared.frame_data.meta.FrameMeta.{FrameMeta}
+use Rattle.puffin_frames.specs.Details.{Details, shared_details}
+use Rattle.puffin_frames.specs.Frame.Holding.{Packing, Holding, packing_of, held_contents}
+use Rattle.puffin_frames.specs.Packet.Stored.{Said}
+pub use Rattle.puffin_frames.specs.Frame.Streams.{Streams, recorded_code, streams_code, records, all_recorded, streams_of, unshared, shared_streams, listed, no_scopes, stream_under, reported_to, AreHonest, contents}
+
+abbrev pub packed_as : PackedStreams → Packing
+packed_as p = record { kind = p.kind; bytes = p.bytes.items }
+
+abbrev pub held_as : Held → Holding
+held_as (Own u) = record { packed = None; unpacked = Some (contents u) }
+held_as (Shared u) = record { packed = None; unpacked = Some (contents (arc_value u)) }
+held_as (Packed p) = record { packed = Some (packed_as p.streams); unpacked = None }
+held_as (Both b) = record { packed = Some (packed_as b.packed); unpacked = Some (contents (arc_value b.unpacked)) }
+
+abbrev pub held_meta : Held → FrameMeta
+held_meta (Own u) = u.meta
+held_meta (Shared u) = (arc_value u).meta
+held_meta (Packed p) = p.meta
+held_meta (Both b) = (arc_value b.unpacked).meta
+
+abbrev pub is_own : Held → Bool
+is_own (Own u) = true
+is_own _ = false
+
+-- how a frame's streams are held
+abbrev pub holding_of : FrameData → Holding
+holding_of frame = held_as frame.held
+
+-- the streams of a frame, however they are held; none where they are packed in a way that isn't unpacked here, or the
+-- packed bytes aren't streams
+abbrev pub frame_contents : FrameData → Option Streams
+frame_contents frame = held_contents (holding_of frame)
+
+-- what is said of all streams together
+abbrev pub frame_meta : FrameData → FrameMeta
+frame_meta frame = held_meta frame.held
+
+abbrev pub frame_details : FrameData → List Details
+frame_details frame = shared_details frame.scope_delta.items
+
+-- what a frame says, however it is held
+abbrev pub frame_says : FrameData → Said
+frame_says frame = record {
+  meta = frame_meta frame;
+  kind = (packing_of (holding_of frame)).kind;
+  streams = (packing_of (holding_of frame)).bytes;
+  details = frame_details frame;
+}
+
+-- whether a frame holds its data as it is, and no other frame does
+abbrev pub is_alone : FrameData → Bool
+is_alone frame = is_own frame.held

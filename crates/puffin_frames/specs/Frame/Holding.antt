@@ -1,0 +1,86 @@
+-- How the streams of a frame are held, and its one content.
+use Rattle.std.specs.Prelude.{◌≡◌, ℕ, List, [], Option, Some, None, Result, Ok, Err, ◌==◌, if◌then◌else◌}
+use Rattle.std.specs.FinMap.{entries, from_sorted}
+use Rattle.std.specs.Option.{option_map}
+use Rattle.puffin_data.specs.declared.file_error.FileError.{FileError}
+use Rattle.puffin_data.specs.declared.file_error.FileError.TheVariants as file
+use Rattle.puffin_data.specs.Value.Decoding.{whole}
+use Rattle.puffin_frames.specs.Frame.Streams.{Streams}
+use Rattle.puffin_frames.specs.Packet.Structs.{streams_layout, streams_at, AreStreams}
+
+-- streams as they are packed: the kind, and the bytes
+pub record Packing : Type 0 where
+  pub kind : ℕ
+  pub bytes : List ℕ
+
+-- packed, or as they are, or both
+pub record Holding : Type 0 where
+  pub packed : Option Packing
+  pub unpacked : Option Streams
+
+-- the bytes are the layout of these streams, packed as they are
+abbrev pub HoldsStreams : Packing → Streams → Type 0
+HoldsStreams p streams = (p.kind ≡ 0) × AreStreams (entries streams) × (p.bytes ≡ streams_layout (entries streams))
+
+-- the streams whose layout packed bytes are; bytes of another kind hold none here
+abbrev pub streams_in : Packing → Option Streams
+streams_in p = if p.kind == 0 then option_map from_sorted (whole streams_at p.bytes) else None
+
+abbrev pub if_packed : Option Packing → Option Streams
+if_packed None = None
+if_packed (Some p) = streams_in p
+
+abbrev pub either_content : Option Packing → Option Streams → Option Streams
+either_content p None = if_packed p
+either_content p (Some streams) = Some streams
+
+-- the one content
+abbrev pub held_contents : Holding → Option Streams
+held_contents h = either_content h.packed h.unpacked
+
+-- a frame held both ways has one content, and a frame is held in some way
+abbrev pub Agree : Option Packing → Option Streams → Type 0
+Agree None None = ⊥
+Agree (Some p) None = Unit {0}
+Agree None (Some streams) = AreStreams (entries streams)
+Agree (Some p) (Some streams) = streams_in p ≡ Some streams
+
+abbrev pub IsHolding : Holding → Type 0
+IsHolding h = Agree h.packed h.unpacked
+
+-- streams packed as they are
+abbrev pub plainly_packed : Streams → Packing
+plainly_packed streams = record { kind = 0; bytes = streams_layout (entries streams) }
+
+-- the streams as a packet has them: what is packed stays as it is
+abbrev pub packing : Option Packing → Option Streams → Packing
+packing (Some p) u = p
+packing None (Some streams) = plainly_packed streams
+packing None None = record { kind = 0; bytes = [] }
+
+abbrev pub packing_of : Holding → Packing
+packing_of h = packing h.packed h.unpacked
+
+-- held packed only
+abbrev pub as_packed : Holding → Holding
+as_packed h = record { packed = Some (packing_of h); unpacked = None }
+
+-- also held as it is, where there are contents
+abbrev pub as_unpacked : Holding → Holding
+as_unpacked h = record { packed = h.packed; unpacked = held_contents h }
+
+-- what unpacking gives: streams, or why there are none
+abbrev pub or_bad : Option Streams → Result Streams FileError
+or_bad None = Err file.BadStreams
+or_bad (Some streams) = Ok streams
+
+abbrev pub unpacking : Packing → Result Streams FileError
+unpacking p = if p.kind == 0 then or_bad (option_map from_sorted (whole streams_at p.bytes)) else Err (file.Compressed p.kind)
+
+abbrev pub unpacked_of : Option Packing → Option Streams → Result Streams FileError
+unpacked_of p (Some streams) = Ok streams
+unpacked_of (Some p) None = unpacking p
+unpacked_of None None = Err file.BadStreams
+
+abbrev pub unpacked_from : Holding → Result Streams FileError
+unpacked_from h = unpacked_of h.packed h.unpacked

@@ -1,0 +1,71 @@
+-- What threads recorded, by their infos.
+use Rattle.std.specs.Prelude.{◌≡◌, Some, ℕ, ℤ, ◌-◌, ◌^◌, pos, negsuc, List, [], map, unwrap_or, refl}
+use Rattle.std.specs.FinMap as map
+use Rattle.std.specs.Coded.{Coded, code_by, coded×, coded_list, coded_ℕ, coded_ℤ}
+use Rattle.std.specs.Arc.{arc_value}
+use Rattle.std.specs.BTreeMap.{BTreeMap, values}
+use Rattle.std.specs.declared.sync.Arc.{Arc}
+use Rattle.puffin_data.specs.Honesty.{Recorded, recorded, joined, IsHonestRecord}
+use Rattle.puffin_data.specs.Forest.{Forest}
+use Rattle.puffin_data.specs.declared.data.info.StreamInfo.{StreamInfo}
+use Rattle.puffin_frames.specs.declared.thread_profiler.thread_info.ThreadInfo.{ThreadInfo}
+use Rattle.puffin_frames.specs.declared.frame_data.unpacked.UnpackedFrameData.{UnpackedFrameData}
+use Rattle.puffin_frames.specs.Thread.Info.{Info, info_cmp, info_code, by_info, keyed}
+
+-- what threads recorded, by their infos
+abbrev pub Streams : Type 0
+Streams = map.FinMap info_cmp Recorded
+
+-- what is recorded is stored as the tuple of its fields
+abbrev pub recorded_code : Coded Recorded
+recorded_code =
+    code_by (List ℕ × (ℕ × (ℕ × (ℤ × ℤ))))
+    (coded× (coded_list coded_ℕ) (coded× coded_ℕ (coded× coded_ℕ (coded× coded_ℤ coded_ℤ))))
+    (λ r. (r.bytes, (r.num_scopes, (r.depth, r.range_ns))))
+    (λ p. record { bytes = p.0; num_scopes = p.1.0; depth = p.1.1.0; range_ns = p.1.1.1 })
+    (λ _. refl)
+
+abbrev pub streams_code : Coded Streams
+streams_code = map.code info_code recorded_code
+
+-- what the streams of a map hold, each under its thread, and without the threads
+abbrev pub records : List (ThreadInfo × StreamInfo) → List (ThreadInfo × Recorded)
+records entries = map (λ e. (e.0, recorded e.1)) entries
+
+abbrev pub all_recorded : BTreeMap ThreadInfo StreamInfo → List Recorded
+all_recorded streams = map recorded (values streams)
+
+-- the streams of a map's entries
+abbrev pub streams_of : List (ThreadInfo × StreamInfo) → Streams
+streams_of entries = by_info (records entries)
+
+-- the entries of a map of shared streams, without the sharing
+abbrev pub unshared : {A : Type 0} → List (ThreadInfo × Arc StreamInfo A) → List (ThreadInfo × StreamInfo)
+unshared entries = map (λ e. (e.0, arc_value e.1)) entries
+
+abbrev pub shared_streams : {A : Type 0} → List (ThreadInfo × Arc StreamInfo A) → Streams
+shared_streams entries = streams_of (unshared entries)
+
+-- the same as the list of their pairs, in the order of the map's entries
+abbrev pub listed : {A : Type 0} → List (ThreadInfo × Arc StreamInfo A) → List (Info × Recorded)
+listed entries = keyed (records (unshared entries))
+
+-- what is recorded where there is no scope
+abbrev pub no_scopes : Recorded
+no_scopes = record { bytes = []; num_scopes = 0; depth = 0; range_ns = (pos (2 ^ 63 - 1), negsuc (2 ^ 63 - 1)) }
+
+-- what is recorded under an info
+abbrev pub stream_under : Streams → Info → Recorded
+stream_under streams i = unwrap_or (map.get streams i) no_scopes
+
+-- what is reported comes after what is there under its info
+abbrev pub reported_to : Streams → Info → Recorded → Streams
+reported_to streams i r = map.insert streams i (joined (stream_under streams i) r)
+
+-- each stream spells a forest, and its numbers are that forest's measures
+abbrev pub AreHonest : Streams → Type 0
+AreHonest streams = (i : Info) (r : Recorded) → map.get streams i ≡ Some r → ∥ ((f : Forest) × IsHonestRecord r f) ∥₁
+
+-- the streams of a frame as it is
+abbrev pub contents : UnpackedFrameData → Streams
+contents frame = shared_streams frame.thread_streams.entries

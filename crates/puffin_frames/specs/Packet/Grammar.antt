@@ -1,0 +1,41 @@
+-- The bytes that store a frame: a packet, of the form that is written or an older one, or a frame as it was written at first.
+use Rattle.std.specs.Prelude.{◌≡◌, ◌^◌, ◌<◌, ◌⊎◌, ℕ, true, false, List, [], ◌∷◌, ◌++◌, length, Option}
+use Rattle.std.specs.Io.KnownBytes.{Consumes}
+use Rattle.byteorder.specs.Endian.{little_bytes}
+use Rattle.puffin_frames.specs.Packet.Structs.{meta_layout, Legacy, IsLegacy, legacy_layout}
+use Rattle.puffin_frames.specs.Packet.Stored.{Said, Stored, packed, legacy}
+use Rattle.puffin_frames.specs.Packet.Steps.{is_range_at, is_packet, counted, packet, IsPacked}
+
+-- the third form: `PFD3`, and no details
+abbrev pub packet_without_details : Said → List ℕ
+packet_without_details p =
+    (80 ∷ 70 ∷ 68 ∷ 51 ∷ []) ++ (counted (meta_layout p.meta) ++ (little_bytes 4 (length p.streams) ++ (p.kind ∷ p.streams)))
+
+-- the second form: `PFD2`, and neither details nor a kind, as its streams are all of kind 2
+abbrev pub packet_without_kind : Said → List ℕ
+packet_without_kind p = (80 ∷ 70 ∷ 68 ∷ 50 ∷ []) ++ (counted (meta_layout p.meta) ++ counted p.streams)
+
+-- the first form: meta and streams in one, behind their length
+abbrev pub legacy_bytes : Legacy → List ℕ
+legacy_bytes l = counted (legacy_layout l)
+
+-- a packet in one of the three forms that says this, of which the older ones leave out what they can't say
+abbrev pub IsPacketFor : Said → List ℕ → Type 0
+IsPacketFor p bytes =
+    (bytes ≡ packet p) ⊎ (((bytes ≡ packet_without_details p) × (p.details ≡ [])) ⊎ ((bytes ≡ packet_without_kind p) × (p.kind ≡ 2) × (p.details ≡ [])))
+
+-- what can be stored in the first form: its length isn't taken for the letters of a packet
+pub record IsFirstForm (l : Legacy) : Type 0 where
+  pub layout : IsLegacy l
+  pub range : is_range_at l.meta.range_ns.0 l.meta.range_ns.1 ≡ true
+  pub short : length (legacy_layout l) < 2 ^ 32
+  pub no_packet : is_packet (little_bytes 4 (length (legacy_layout l))) ≡ false
+
+-- the bytes store this frame
+abbrev pub Stores : List ℕ → Stored → Type 0
+Stores bytes (packed p) = IsPacked p × IsPacketFor p bytes
+Stores bytes (legacy l) = IsFirstForm l × (bytes ≡ legacy_bytes l)
+
+-- a call took from a device the bytes that store this frame, and no others
+abbrev pub TookStored : Option (List ℕ) → Option (List ℕ) → Stored → Type 0
+TookStored old new s = (taken : List ℕ) × Consumes old new taken × Stores taken s

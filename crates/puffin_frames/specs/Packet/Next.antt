@@ -1,0 +1,48 @@
+-- What reading the next frame promises.
+use Rattle.std.specs.Prelude.{◌≡◌, ℕ, false, not, List, [], length, is_some, Option, Some, None, Result, Ok, Err}
+use Rattle.std.specs.FinMap.{entries}
+use Rattle.std.specs.Io.KnownBytes.{Consumes}
+use Rattle.puffin_data.specs.Honesty.{Recorded}
+use Rattle.puffin_data.specs.Value.Layout.{IsBytes}
+use Rattle.puffin_data.specs.Device.{FromDevice, FailsAt}
+use Rattle.puffin_data.specs.declared.file_error.FileError.{FileError}
+use Rattle.puffin_frames.specs.declared.frame_data.frame.FrameData.{FrameData}
+use Rattle.puffin_frames.specs.Thread.Info.{Info}
+use Rattle.puffin_frames.specs.Packet.Structs.{Legacy}
+use Rattle.puffin_frames.specs.Frame.Holding.{Packing}
+use Rattle.puffin_frames.specs.Packet.Stored.{Stored, packed, legacy}
+use Rattle.puffin_frames.specs.Frame.Contents.{Streams, holding_of, frame_meta, frame_details, frame_says}
+use Rattle.puffin_frames.specs.Packet.Steps.{is_end, next_at, AtEnd}
+
+abbrev pub entries_if_any : Option Streams → List (Info × Recorded)
+entries_if_any None = []
+entries_if_any (Some streams) = entries streams
+
+-- a frame that is held unpacked, as it was written at first
+abbrev pub legacy_of : FrameData → Legacy
+legacy_of frame = record { meta = frame_meta frame; streams = entries_if_any (holding_of frame).unpacked }
+
+abbrev pub stored_as : FrameData → Option Packing → Stored
+stored_as frame (Some p) = packed (frame_says frame)
+stored_as frame None = legacy (legacy_of frame)
+
+-- a frame as it is stored
+abbrev pub stored_of : FrameData → Stored
+stored_of frame = stored_as frame (holding_of frame).packed
+
+-- a frame that was read: it is held in one way, not all of its details are told, and one that was written at first has none
+pub record IsFresh (frame : FrameData) : Type 0 where
+  pub one_way : is_some (holding_of frame).packed ≡ not (is_some (holding_of frame).unpacked)
+  pub full_delta : frame.full_delta ≡ false
+  pub no_details : (holding_of frame).packed ≡ None → frame_details frame ≡ []
+
+-- four bytes that aren't four zeros, or the end
+abbrev pub HeaderFrom : Option (List ℕ) → Option (List ℕ) → Option (List ℕ) → Type 0
+HeaderFrom old new (Some header) = (length header ≡ 4) × Consumes old new header × (is_end header ≡ false) × IsBytes header
+HeaderFrom old new None = AtEnd old new
+
+-- A call took bytes from a device: those of the frame that it returned, whatever follows; or the device is at its end; or the bytes that were taken have this fault.
+abbrev pub ReadsNext : Option (List ℕ) → Option (List ℕ) → Result (Option FrameData) FileError → Type 0
+ReadsNext old new (Ok (Some frame)) = FromDevice {X = FrameData} (λ f. Some (stored_of f)) old new (Ok frame) next_at
+ReadsNext old new (Ok None) = AtEnd old new
+ReadsNext old new (Err e) = FailsAt e old new next_at

@@ -1,0 +1,17 @@
+-- Frames as packets store them.
+use Rattle.std.specs.Prelude.{ℕ, List}
+use Rattle.puffin_frames.specs.declared.frame_data.meta.FrameMeta.{FrameMeta}
+use Rattle.puffin_frames.specs.Details.{Details}
+use Rattle.puffin_frames.specs.Packet.Structs.{Legacy}
+
+-- what a frame says, however it is held: its meta, its streams as they are packed, and its details
+pub record Said : Type 0 where
+  pub meta : FrameMeta
+  pub kind : ℕ
+  pub streams : List ℕ
+  pub details : List Details
+
+-- a frame whose streams are packed, or one as it was written at first
+pub data Stored : Type 0 where
+  packed : Said → Stored
+  legacy : Legacy → Stored

@@ -1,0 +1,7 @@
+-- One thread: its calls, its clock and what it reports.
+pub mod Calls
+pub mod ThreadProfiler
+pub mod Closing
+pub mod Events
+pub mod Clock
+pub mod Info

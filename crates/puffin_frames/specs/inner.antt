@@ -1,0 +1,5 @@
+-- What contracts of private functions and proofs alone cite.
+pub mod ThreadRecording
+pub mod HeldCollection
+pub mod Tries
+pub mod Form

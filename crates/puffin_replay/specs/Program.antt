@@ -1,0 +1,7 @@
+-- What the program reads, writes and prints.
+pub mod Recording
+pub mod Summary
+pub mod Arguments
+pub mod Faults
+pub mod Lines
+pub mod Count

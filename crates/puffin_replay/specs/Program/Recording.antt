@@ -1,0 +1,135 @@
+-- What a run of commands from a new session emits, and what recording it makes of a view and of the view's file.
+use Rattle.std.specs.Prelude.{◌≡◌, ◌⊎◌, ℕ, false, List, [], ◌∷◌, ◌++◌, Option, Some, None, map}
+use Rattle.std.specs.List.{flat_map, list_any, AllByRecursion, Any}
+use Rattle.std.specs.String.{string_bytes}
+use Rattle.std.specs.declared.sync.Arc.{Arc}
+use Rattle.std.specs.declared.alloc.Global.{Global}
+use Rattle.std.specs.Io.KnownBytes.{Appends}
+use Rattle.puffin_data.specs.declared.file_error.FileError.{FileError}
+use Rattle.puffin_data.specs.declared.file_error.FileError.TheVariants as file
+use Rattle.puffin_data.specs.Device.{IsOutside, WritesBeginning}
+use Rattle.puffin_frames.specs.declared.frame_data.frame.FrameData.{FrameData}
+use Rattle.puffin_frames.specs.Details.{AllHaveIds}
+use Rattle.puffin_frames.specs.Details.Collection.{inserted_all}
+use Rattle.puffin_frames.specs.Packet.Stored.{Said}
+use Rattle.puffin_frames.specs.Packet.Steps.{IsPacked}
+use Rattle.puffin_frames.specs.Packet.Writing.{HasLongPart}
+use Rattle.puffin.specs.declared.profile_view.frame_view.FrameView.{FrameView}
+use Rattle.puffin.specs.View.ViewedFrames.{Frame, contents_of, index_of}
+use Rattle.puffin.specs.View.FrameOf.{shared_frame, told}
+use Rattle.puffin.specs.View.{View, Took, empty_view, after_all, KeepsFrames}
+use Rattle.puffin.specs.View.Known.{view_of, collection_of, lacks_ids, LearnsSome}
+use Rattle.puffin.specs.View.File.{file_of, contents_in}
+use Rattle.puffin_replay.specs.declared.replay.command.Command.{Command}
+use Rattle.puffin_replay.specs.declared.replay.command.Reply.{Reply}
+use Rattle.puffin_replay.specs.declared.replay.command.Reply.TheVariants as reply
+use Rattle.puffin_replay.specs.declared.replay.script.Script.{Script}
+use Rattle.puffin_replay.specs.Program.Lines.{reply_lines}
+use Rattle.puffin_replay.specs.Session.{SessionState, new_session}
+use Rattle.puffin_replay.specs.Session.Replies.{Records}
+
+-- ---- the frames of a run
+
+-- These replies are those of a run of the commands from a new session with these threads, which ends in this state.
+abbrev pub AreReplies : List (List ℕ) → List Command → List Reply → SessionState → Type 0
+AreReplies names commands replies end = Records (new_session names) end commands replies
+
+abbrev pub frame_in : Option (Arc FrameData Global) → List Frame
+frame_in None = []
+frame_in (Some frame) = shared_frame frame ∷ []
+
+-- the frame that a reply tells of, if any
+abbrev pub emitted_by : Reply → List Frame
+emitted_by (reply.Frame emitted) = frame_in emitted.frame
+emitted_by (reply.Began offset) = []
+emitted_by (reply.Ended closed) = []
+emitted_by (reply.Registered id) = []
+emitted_by (reply.RegisteredUser ids) = []
+emitted_by reply.Reported = []
+emitted_by reply.Snapshot = []
+emitted_by (reply.Refused cause) = []
+
+-- what a reply's frame tells of has ids
+abbrev pub HasIds : Reply → Type 0
+HasIds reply = AllHaveIds (flat_map told (emitted_by reply))
+
+-- the emitted frames, in order
+abbrev pub frames_emitted : List Reply → List Frame
+frames_emitted replies = flat_map emitted_by replies
+
+-- all details that frames tell have ids
+abbrev pub NoneLacksIds : List Said → Type 0
+NoneLacksIds cs = list_any lacks_ids cs ≡ false
+
+-- ---- what a view makes of them
+
+-- The view took these frames, in order, and knows the details that they tell.
+pub record Takes (frames : List Frame) (old new : FrameView) : Type 0 where
+  pub taken : view_of new ≡ after_all (view_of old) frames
+  pub details : collection_of new ≡ inserted_all (collection_of old) (flat_map told frames)
+
+-- The view took a beginning of these frames, and there was no memory for the next: it knows a beginning of what that tells, and its newest frame may be packed, where it would have been.
+pub record TakesSome (frames : List Frame) (old new : FrameView) : Type 0 where
+  pub front : List Frame
+  pub next : Frame
+  pub rest : List Frame
+  pub split : frames ≡ front ++ (next ∷ rest)
+  pub taken : KeepsFrames (after_all (view_of old) front) (index_of next) (view_of new)
+  pub details : LearnsSome (inserted_all (collection_of old) (flat_map told front)) (told next) (collection_of new)
+
+-- ---- recording
+
+-- the file of a view
+abbrev pub file_of_view : FrameView → List ℕ
+file_of_view view = file_of (contents_in (view_of view))
+
+-- a file is refused for a part that is too long, for want of memory, or by its writer
+abbrev pub IsWriteFault : FileError → Type 0
+IsWriteFault fault = (fault ≡ file.PartTooLong) ⊎ (fault ≡ file.Memory) ⊎ (fault ≡ file.Io)
+
+-- What a recording that failed has left: its session went from start to end, its view from old to new, and what is written from before to after.
+module _ (start end : SessionState) (commands : List Command) (old new : FrameView) (before after : Option (List ℕ)) where
+  -- there was no memory to run the commands, and nothing is changed or written
+  abbrev pub HasNotRun : FileError → Type 0
+  HasNotRun fault = (fault ≡ file.Memory) × (end ≡ start) × Takes [] old new × Appends before after []
+
+  -- the commands were run, but there was no memory for the view to take all frames of the run, and nothing is written
+  abbrev pub HasNotTaken : FileError → Type 0
+  HasNotTaken fault = (replies : List Reply) × Records start end commands replies × TakesSome (frames_emitted replies) old new × (fault ≡ file.Memory) × Appends before after []
+
+  -- the commands were run and the view took all frames of the run, but only a beginning of its file is written
+  abbrev pub HasNotWritten : FileError → Type 0
+  HasNotWritten fault = (replies : List Reply) × Records start end commands replies × Takes (frames_emitted replies) old new × WritesBeginning before after (file_of_view new) × IsWriteFault fault
+
+  -- why a recording failed, and what it left
+  abbrev pub IsBroken : FileError → Type 0
+  IsBroken fault = HasNotRun fault ⊎ HasNotTaken fault ⊎ HasNotWritten fault
+
+-- ---- running a script
+
+abbrev pub AreAnswers : Script → List Reply → SessionState → Type 0
+AreAnswers script replies end = AreReplies (map string_bytes script.names.items) script.commands.items replies end
+
+-- a new view that took the frames of replies, and no others
+abbrev pub view_after : List Reply → View
+view_after replies = after_all empty_view (frames_emitted replies)
+
+-- One writer got the file of a view that took the frames of a run of the script, and the other the lines of the run's replies.
+pub record IsReplayed (script : Script) (file_before file_after lines_before lines_after : Option (List ℕ)) : Type 0 where
+  pub replies : List Reply
+  pub end : SessionState
+  pub run : AreAnswers script replies end
+  pub took : Took (map contents_of (frames_emitted replies)) (view_after replies)
+  pub written : Appends file_before file_after (file_of (contents_in (view_after replies)))
+  pub packed : AllByRecursion IsPacked (contents_in (view_after replies))
+  pub ids : NoneLacksIds (contents_in (view_after replies))
+  pub told : Appends lines_before lines_after (reply_lines script.lines.items replies)
+
+-- Why a script's run failed, and what it wrote: there was no memory, and nothing is written; or a beginning of the file is, and no line; or the file is, and a beginning of the lines.
+abbrev pub IsUnfinished : Script → FileError → Option (List ℕ) → Option (List ℕ) → Option (List ℕ) → Option (List ℕ) → Type 0
+IsUnfinished script fault file_before file_after lines_before lines_after =
+    ((fault ≡ file.Memory) × Appends file_before file_after [] × Appends lines_before lines_after [])
+    ⊎ ((replies : List Reply) × (end : SessionState) × AreAnswers script replies end × WritesBeginning file_before file_after (file_of (contents_in (view_after replies))) × Appends lines_before lines_after []
+    × IsWriteFault fault × (fault ≡ file.PartTooLong → Any HasLongPart (contents_in (view_after replies))))
+    ⊎ ((replies : List Reply) × (end : SessionState) × AreAnswers script replies end × Appends file_before file_after (file_of (contents_in (view_after replies))) × WritesBeginning lines_before lines_after (reply_lines script.lines.items replies)
+    × IsOutside fault)

@@ -1,0 +1,82 @@
+-- What a session held before its commands, and what its accepted commands did.
+use Rattle.std.specs.Prelude.{ℕ, ◌==◌, ℤ, pos, Bool, if◌then◌else◌, List, [], ◌∷◌, fold, Option, Some, None}
+use Rattle.std.specs.List.{list_any, filter_map, slice_index_or}
+use Rattle.std.specs.Int.{int_max}
+use Rattle.puffin_data.specs.Forest.Tour.{Event}
+use Rattle.puffin_frames.specs.Thread.Info.{Info}
+use Rattle.puffin_frames.specs.Thread.Calls.{Thread}
+use Rattle.puffin_frames.specs.Details.{Details}
+use Rattle.puffin_frames.specs.Details.Collection.{Collection}
+
+-- What stood before: the threads; what is due, events under an info in the order in which they were handed over; the next frame's index; how many scopes were ever reported; what is known of scopes, what of them is new in the next frame, in order, and whether the next frame is to tell of all.
+pub record Opening : Type 0 where
+  pub threads : List Thread
+  pub due : List (Info × List Event)
+  pub index : ℕ
+  pub reported : ℕ
+  pub collection : Collection
+  pub new_details : List Details
+  pub wants_all : Bool
+
+-- a scope that was begun, with its whole text, or one that was ended, perhaps with a report that was accepted
+pub data Mark : Type 0 where
+  begun : (id : ℕ) → (text : List ℕ) → Mark
+  ended : (reported : Bool) → Mark
+
+-- a mark, and the time that its command gave
+pub record Call : Type 0 where
+  pub at : ℤ
+  pub mark : Mark
+
+-- What a command with its reply did. A refused one did nothing, but some of what it was to learn may be known.
+pub data Action : Type 0 where
+  calls : (thread : ℕ) → Call → Action
+  hands : Info → List Event → Action
+  -- the frame index rose, with a frame or without
+  frames : (emitted : Bool) → Action
+  -- a thread registered details
+  registers : (thread : ℕ) → Details → Action
+  -- details were learnt at once, and are new in the next frame
+  adds : List Details → Action
+  -- details were learnt for a frame that was refused
+  learns : List Details → Action
+  -- the next frame is to tell of all
+  wants : Action
+  nothing : Action
+
+-- ---- the calls of one thread
+
+abbrev pub nobody : Thread
+nobody = record { name = []; first_start = None; latest = pos 0; word = []; details = [] }
+
+abbrev pub thread_at : Opening → ℕ → Thread
+thread_at o t = slice_index_or o.threads t nobody
+
+-- an action as a call of a thread, if it is one; a time below 0 counts as 0
+abbrev pub call_of : ℕ → Action → Option Call
+call_of t (calls u c) = if t == u then Some (record { at = int_max (pos 0) c.at; mark = c.mark }) else None
+call_of t (hands i word) = None
+call_of t (frames emitted) = None
+call_of t (registers u d) = None
+call_of t (adds new) = None
+call_of t (learns some) = None
+call_of t wants = None
+call_of t nothing = None
+
+abbrev pub calls_of : ℕ → List Action → List Call
+calls_of t done = filter_map (call_of t) done
+
+-- the greatest time of these calls, and of those before
+abbrev pub greatest : ℤ → List Call → ℤ
+greatest latest cs = fold (λ time c. int_max time c.at) latest cs
+
+-- a thread's greatest time so far
+abbrev pub latest_of : Opening → ℕ → List Action → ℤ
+latest_of o t done = greatest (thread_at o t).latest (calls_of t done)
+
+-- ---- lists
+
+-- what stands after the last element that passes a test, or all where none does
+abbrev pub since_last : {X : Type 0} → (X → Bool) → List X → List X
+since_last p [] = []
+since_last p (x ∷ xs) = if list_any p xs then since_last p xs else if p x then xs else x ∷ xs

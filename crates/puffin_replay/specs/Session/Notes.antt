@@ -1,0 +1,91 @@
+-- What is told of scopes: the details that a thread has registered, those that are new in the next frame, and those that are known.
+use Rattle.std.specs.Prelude.{ℕ, ◌==◌, Bool, true, false, if◌then◌else◌, List, [], ◌∷◌, ◌++◌, map, fold}
+use Rattle.std.specs.List.{flat_map}
+use Rattle.puffin_frames.specs.Details.{Details}
+use Rattle.puffin_frames.specs.Details.Collection.{Collection, inserted_all}
+use Rattle.puffin_replay.specs.Session.History.{Opening, begun, ended, Action, calls, hands, frames, registers, adds, learns, wants, nothing, thread_at, since_last}
+
+-- details one after another, and where all before went on
+pub data Note : Type 0 where
+  noted : Details → Note
+  sent : Note
+
+abbrev pub is_sent : Note → Bool
+is_sent (noted d) = false
+is_sent sent = true
+
+abbrev pub details_in : Note → List Details
+details_in (noted d) = d ∷ []
+details_in sent = []
+
+-- the details since all before went on
+abbrev pub waiting : List Note → List Details
+waiting notes = flat_map details_in (since_last is_sent notes)
+
+-- what an action notes of a thread: details that it registered, which go on with its next accepted report
+abbrev pub notes_at : ℕ → Action → List Note
+notes_at t (calls u c) = if t == u then elim c.mark [ begun id text ↦ [] | ended reported ↦ if reported then sent ∷ [] else [] ] else []
+notes_at t (hands i word) = []
+notes_at t (frames emitted) = []
+notes_at t (registers u d) = if t == u then noted d ∷ [] else []
+notes_at t (adds new) = []
+notes_at t (learns some) = []
+notes_at t wants = []
+notes_at t nothing = []
+
+module _ (o : Opening) where
+  -- the details that a thread has registered since its last accepted report
+  abbrev pub registered : ℕ → List Action → List Details
+  registered t done = waiting (map noted (thread_at o t).details ++ flat_map (notes_at t) done)
+
+  -- What an action, after those before it, notes for the next frame: a thread's registered details where its report is accepted, and those of the user's new scopes. An emitted frame takes all.
+  abbrev pub told_at : List Action → Action → List Note
+  told_at done (calls t c) = elim c.mark [ begun id text ↦ [] | ended reported ↦ if reported then map noted (registered t done) else [] ]
+  told_at done (hands i word) = []
+  told_at done (frames emitted) = if emitted then sent ∷ [] else []
+  told_at done (registers t d) = []
+  told_at done (adds new) = map noted new
+  told_at done (learns some) = []
+  told_at done wants = []
+  told_at done nothing = []
+
+  abbrev pub told_after : List Action → List Action → List Note
+  told_after past [] = []
+  told_after past (a ∷ later) = told_at past a ++ told_after (past ++ (a ∷ [])) later
+
+  -- the details that are new in the next frame, in order
+  abbrev pub due_details : List Action → List Details
+  due_details done = waiting (map noted o.new_details ++ told_after [] done)
+
+  -- What an action, after those before it, lets be known: a frame's new details where it is emitted, and those of the user's new scopes at once.
+  abbrev pub learnt_at : List Action → Action → List Details
+  learnt_at done (calls t c) = []
+  learnt_at done (hands i word) = []
+  learnt_at done (frames emitted) = if emitted then due_details done else []
+  learnt_at done (registers t d) = []
+  learnt_at done (adds new) = new
+  learnt_at done (learns some) = some
+  learnt_at done wants = []
+  learnt_at done nothing = []
+
+  abbrev pub learnt_after : List Action → List Action → List Details
+  learnt_after past [] = []
+  learnt_after past (a ∷ later) = learnt_at past a ++ learnt_after (past ++ (a ∷ [])) later
+
+  -- what is known of scopes
+  abbrev pub known_after : List Action → Collection
+  known_after done = inserted_all o.collection (learnt_after [] done)
+
+-- whether the next frame is to tell of all that is known: since an action wanted it, until a frame is emitted
+abbrev pub wanted_at : Bool → Action → Bool
+wanted_at wanted (calls t c) = wanted
+wanted_at wanted (hands i word) = wanted
+wanted_at wanted (frames emitted) = if emitted then false else wanted
+wanted_at wanted (registers t d) = wanted
+wanted_at wanted (adds new) = wanted
+wanted_at wanted (learns some) = wanted
+wanted_at wanted wants = true
+wanted_at wanted nothing = wanted
+
+abbrev pub is_wanted : Opening → List Action → Bool
+is_wanted o done = fold wanted_at o.wants_all done
