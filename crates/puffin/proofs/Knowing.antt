@@ -15,7 +15,7 @@ use Rattle.puffin_data.specs.declared.error.Error.TheVariants.{MissingId, Memory
 use Rattle.puffin_frames.specs.declared.scope_details.details.ScopeDetails.{ScopeDetails}
 use Rattle.puffin_frames.specs.Details.{Details, details_of, details_seen, shared_details, AllHaveIds}
 use Rattle.puffin_frames.specs.Details.Collection.{Collection, inserted_all, by_ids, ids_seen}
-use Rattle.puffin_frames.proofs.Seen.{entries-seen}
+use Rattle.puffin_frames.proofs.lemmas.EntriesSeen.{entries-seen}
 use Rattle.puffin.specs.Profiler.Collecting.{Begins}
 
 -- ---- ids

@@ -1,45 +1,45 @@
-pub mod Reporting
-pub mod Starting
-pub mod Reordering
-pub mod AnyOrder
-pub mod FramesReordered
-pub mod Growing
-pub mod Assembling
-pub mod Examples
-pub mod Paths
-pub mod Finding
-pub mod Tabling
-pub mod Entering
-pub mod FramesRead
-pub mod Streams
-pub mod CodeFrames
-pub mod NodePlaces
-pub mod Drawing
-pub mod PlaceEntries
-pub mod Ending
-pub mod Attaching
-pub mod Rankings
-pub mod Orders
-pub mod Taking
-pub mod Keeping
-pub mod Holding
-pub mod Placing
-pub mod Storing
-pub mod Joining
-pub mod Knowing
-pub mod Registrations
-pub mod Listing
-pub mod Chronology
-pub mod Learning
-pub mod Counting
-pub mod Selecting
-pub mod Owning
-pub mod FilesRead
-pub mod FileFrames
-pub mod FilesWritten
-pub mod Searching
-pub mod Copied
-pub mod OneMerge
-pub mod OneOutcome
-pub mod FilesAgain
-pub mod FramesHeld
+pub mod lemmas
+mod Reporting
+mod Starting
+mod Reordering
+mod AnyOrder
+mod FramesReordered
+mod Growing
+mod Assembling
+mod Examples
+mod Paths
+mod Finding
+mod Tabling
+mod Entering
+mod FramesRead
+mod StreamsMerged
+mod CodeFrames
+mod NodePlaces
+mod Drawing
+mod PlaceEntries
+mod Ending
+mod Attaching
+mod Rankings
+mod Orders
+mod Taking
+mod Keeping
+mod HoldingViews
+mod Placing
+mod Storing
+mod JoiningPending
+mod Knowing
+mod Listing
+mod Chronology
+mod Learning
+mod CountingPieces
+mod Selecting
+mod Owning
+mod FilesRead
+mod FileFrames
+mod FilesWritten
+mod Searching
+mod Copied
+mod OneMerge
+mod OneOutcome
+mod FilesAgain
+mod FramesHeld

@@ -10,7 +10,7 @@ use Rattle.std.proofs.lemmas.Cmp.{nat_cmp_total, tied_itself}
 use Rattle.std.proofs.lemmas.List.Elements.{All-cons, All-nil}
 use Rattle.puffin_frames.specs.Details.{Details, AllHaveIds}
 use Rattle.puffin_frames.specs.Details.Collection.{Collection, KeepsOwnIds}
-use Rattle.puffin_frames.proofs.Measured.{first, second, less}
+use Rattle.puffin_frames.proofs.lemmas.Measured.{first, second, less}
 use Rattle.puffin.specs.Profiler.Collected.{all_details}
 
 -- each of these entries is the one that is found under its key

@@ -11,7 +11,7 @@ use Rattle.puffin_data.specs.Forest.Spelling.{spelling, begin_bytes, end_bytes}
 use Rattle.puffin_data.specs.Walk.Reading.{Found}
 use Rattle.puffin_data.specs.Walk.{region, IsSoundAt, IsFaultAt, Reaches, here, child, sibling, Sounds, no_more, one_more}
 use Rattle.puffin_data.specs.inner.Walking.{counted, Visits, ends, goes_on}
-use Rattle.puffin_data.proofs.Numbers.{IsBytes, IsBytes-drop, IsBytes-take}
+use Rattle.puffin_data.proofs.lemmas.Numbers.{IsBytes, IsBytes-drop, IsBytes-take}
 use Rattle.puffin_data.proofs.Spelled.{spelt}
 use Rattle.puffin_data.proofs.Resuming.{found_places}
 use Rattle.puffin_data.proofs.Regions.{length-region, part_of_region, rest_of_region, empty_region, sound_is_no_fault, nothing_is_no_fault, nothing_is_not_sound, one_sound}

@@ -1,34 +1,23 @@
-pub mod Examples
-pub mod Found
-pub mod Resuming
-pub mod Numbers
-pub mod Spelled
-pub mod Again
-pub mod Regions
-pub mod Completes
-pub mod Faults
-pub mod Unique
-pub mod Told
-pub mod Extended
-pub mod OneFault
-pub mod Sounds
-pub mod Tours
-pub mod Written
-pub mod Opening
-pub mod Cuts
-pub mod WordMeasures
-pub mod Lenience
-pub mod AllRead
-pub mod OneReading
-pub mod TopScopes
-pub mod SightsSeen
-pub mod Going
-pub mod Visited
-pub mod SpelledSights
-pub mod Causes
-pub mod Readers
-pub mod ValueReaders
-pub mod Texts
-pub mod Loops
-pub mod Devices
-pub mod Filled
+pub mod lemmas
+mod Examples
+mod Found
+mod Resuming
+mod Spelled
+mod Again
+mod Regions
+mod Completes
+mod FirstFaults
+mod RangesTold
+mod OneFault
+mod Sounds
+mod Written
+mod Lenience
+mod AllRead
+mod OneReading
+mod TopScopes
+mod SightsSeen
+mod Going
+mod Visited
+mod SpelledSights
+mod Causes
+mod Filled

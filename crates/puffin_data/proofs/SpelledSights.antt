@@ -8,7 +8,7 @@ use Rattle.puffin_data.specs.Walk.Sights.{Nested, nested_in, Sight, Sees, no_sig
 use Rattle.puffin_data.proofs.Again.{found_at, reads_again}
 use Rattle.puffin_data.proofs.Regions.{length-region, part_of_region, rest_of_region, whole_region, nothing_is_not_sound, one_sound}
 use Rattle.puffin_data.proofs.Resuming.{found_places}
-use Rattle.puffin_data.proofs.Unique.{long, children_at, rest_at}
+use Rattle.puffin_data.proofs.lemmas.Unique.{long, children_at, rest_at}
 use Rattle.puffin_data.proofs.Visited.{same_scopes}
 
 sights_of : (f : Forest) (bytes : List ℕ) (around : List Span) (p e : ℕ) (sights : List Sight) → IsForest f → p ≤ e → e ≤ length bytes → length bytes < 2 ^ 64 → region bytes p e ≡ spelling f → Sees bytes around p e sights → scopes_of sights ≡ nested_in around f

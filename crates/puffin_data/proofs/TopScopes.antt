@@ -8,7 +8,7 @@ use Rattle.puffin_data.specs.Reader.{read_from, Reads, ends, goes_on, top_scopes
 use Rattle.puffin_data.proofs.Again.{found_at, reads_again}
 use Rattle.puffin_data.proofs.Regions.{length-region, rest_of_region, whole_region}
 use Rattle.puffin_data.proofs.Resuming.{found_places}
-use Rattle.puffin_data.proofs.Unique.{long, rest_at}
+use Rattle.puffin_data.proofs.lemmas.Unique.{long, rest_at}
 
 reads_top : (f : Forest) (bytes : List ℕ) (p : ℕ) → IsForest f → p ≤ length bytes → length bytes < 2 ^ 64 → region bytes p (length bytes) ≡ spelling f → Reads bytes p (map (λ s. Ok s) (top_scopes p f))
 unfolding reading

@@ -10,14 +10,14 @@ use Rattle.puffin_data.specs.inner.Walking.{tries_in}
 use Rattle.puffin_data.specs.Walk.Sights.{Nested, nested_in, Sight, Sees, no_sight, one_sight, scopes_of, before}
 use Rattle.puffin_data.specs.Walk.Visitor.{TakesAll, StopsAtFault, StopsAtRefusal}
 use Rattle.puffin_data.specs.Walk.Going.{whole, at_fault, at_refusal, Entering, Refusing, Goes, ends, meets_fault, is_refused, stops_within, goes_on, Visits}
-use Rattle.puffin_data.proofs.Numbers.{IsBytes, IsBytes-drop, IsBytes-take}
+use Rattle.puffin_data.proofs.lemmas.Numbers.{IsBytes, IsBytes-drop, IsBytes-take}
 use Rattle.puffin_data.proofs.Spelled.{spelt}
 use Rattle.puffin_data.proofs.Resuming.{found_places}
 use Rattle.puffin_data.proofs.Regions.{length-region, part_of_region, rest_of_region, empty_region, whole_region, sound_is_no_fault, nothing_is_not_sound, between}
 use Rattle.puffin_data.proofs.Completes.{nothing_reached, after_sound, joined}
-use Rattle.puffin_data.proofs.Faults.{by_parts}
+use Rattle.puffin_data.proofs.FirstFaults.{by_parts}
 use Rattle.puffin_data.proofs.SightsSeen.{sights_in, before-first, all_before, none_before}
-use Rattle.puffin_data.proofs.Told.{fault_inside}
+use Rattle.puffin_data.proofs.RangesTold.{fault_inside}
 
 abbrev sight_at : ℕ → List Span → Found → Sight
 sight_at p around s = record { place = p; scope = record { around = around; span = s.span } }

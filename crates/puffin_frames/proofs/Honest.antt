@@ -18,9 +18,9 @@ use Rattle.puffin_data.specs.Honesty.{Recorded, IsHonestRecord, joined}
 use Rattle.puffin_frames.specs.Thread.Info.{Info, info_cmp, same_info}
 use Rattle.puffin_frames.specs.Frame.Contents.{Streams, reported_to, no_scopes, AreHonest}
 use Rattle.puffin_frames.specs.Frame.Sums.{total_scopes, least_start, greatest_stop, joined_range, IsOrdered}
-use Rattle.puffin_frames.proofs.Infos.{info_cmp_total, info_cmp-one}
-use Rattle.puffin_frames.proofs.Measured.{first, second, less, total_scopes-one}
-use Rattle.puffin_frames.proofs.Ranges.{least_start-one, greatest_stop-one}
+use Rattle.puffin_frames.proofs.lemmas.Infos.{info_cmp_total, info_cmp-one}
+use Rattle.puffin_frames.proofs.lemmas.Measured.{first, second, less, total_scopes-one}
+use Rattle.puffin_frames.proofs.lemmas.Ranges.{least_start-one, greatest_stop-one}
 
 abbrev pub IsHonestSomehow : Recorded → Type 0
 IsHonestSomehow r = ∥ ((f : Forest) × IsHonestRecord r f) ∥₁

@@ -12,7 +12,7 @@ use Rattle.std.specs.declared.sync.Arc.{Arc}
 use Rattle.puffin_frames.specs.declared.scope_details.details.ScopeDetails.{ScopeDetails}
 use Rattle.puffin_frames.specs.Details.{Details, details_of, name_of}
 use Rattle.puffin_frames.specs.Details.Collection.{Collection, bytes_cmp, inserted, inserted_at, kept_for, kept_or, no_details, KeepsOwnIds, by_ids, by_names}
-use Rattle.puffin_frames.proofs.Seen.{get-seen, insert-seen, write-seen}
+use Rattle.puffin_frames.proofs.lemmas.EntriesSeen.{get-seen, insert-seen, write-seen}
 use Rattle.std.proofs.lemmas.Option.{same_Some, none-some}
 
 module _ {A : Type 0} where

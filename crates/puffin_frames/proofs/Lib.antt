@@ -1,25 +1,20 @@
-pub mod Infos
-pub mod Appending
-pub mod Listed
-pub mod Structs
-pub mod Reading
-pub mod Writing
-pub mod Packets
-pub mod OlderPackets
-pub mod PartsTaken
-pub mod PacketsTaken
-pub mod Packings
-pub mod Joining
-pub mod Sharing
-pub mod Keyed
-pub mod Ranges
-pub mod Reports
-pub mod Measured
-pub mod Honest
-pub mod Events
-pub mod Holding
-pub mod Recordings
-pub mod Seen
-pub mod Inserting
-pub mod Comparing
-pub mod Collected
+pub mod lemmas
+mod Appending
+mod Listed
+mod Structs
+mod PacketsRead
+mod Writing
+mod Packets
+mod OlderPackets
+mod PartsTaken
+mod PacketsTaken
+mod Packings
+mod Joining
+mod Sharing
+mod Reports
+mod Honest
+mod RecordedScopes
+mod Recordings
+mod Inserting
+mod Comparing
+mod CollectionsBuilt

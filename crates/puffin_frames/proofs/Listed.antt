@@ -20,7 +20,7 @@ use Rattle.puffin_data.specs.declared.data.info.StreamInfo.{StreamInfo}
 use Rattle.puffin_frames.specs.declared.thread_profiler.thread_info.ThreadInfo.{ThreadInfo}
 use Rattle.puffin_frames.specs.Frame.Contents.{listed, shared_streams}
 use Rattle.puffin_frames.specs.Thread.Info.{Info, info_cmp, info_of, thread_cmp}
-use Rattle.puffin_frames.proofs.Infos.{info_cmp_total, thread_cmp_total}
+use Rattle.puffin_frames.proofs.lemmas.Infos.{info_cmp_total, thread_cmp_total}
 
 pub and-first : (a b : Bool) → (a && b) ≡ true → a ≡ true
 and-first true b e = refl

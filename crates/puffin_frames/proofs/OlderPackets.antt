@@ -5,7 +5,7 @@ use Rattle.std.proofs.lemmas.List.{length-append}
 use Rattle.byteorder.specs.Endian.{little_bytes, little_number}
 use Rattle.byteorder.specs.Numbers.{little_number-reads_back}
 use Rattle.puffin_data.specs.Value.Layout.{number, signed}
-use Rattle.puffin_data.proofs.Readers.{whole_again}
+use Rattle.puffin_data.proofs.lemmas.Readers.{whole_again}
 use Rattle.puffin_frames.specs.Details.{Details}
 use Rattle.puffin_frames.specs.Packet.Structs.{meta_layout, streams_layout, Legacy, IsLegacy, legacy_layout, legacy_at}
 use Rattle.puffin_frames.specs.Packet.Stored.{Said, packed, legacy}
@@ -13,7 +13,7 @@ use Rattle.puffin_frames.specs.Packet.Steps.{streams_part_at, packed_at, legacy_
 use Rattle.puffin_frames.specs.Packet.Grammar.{packet_without_details, packet_without_kind, legacy_bytes, IsFirstForm}
 use Rattle.puffin_frames.proofs.Structs.{legacy_reader}
 use Rattle.puffin_frames.proofs.Writing.{number_long}
-use Rattle.puffin_frames.proofs.Reading.{after_header, not_end}
+use Rattle.puffin_frames.proofs.PacketsRead.{after_header, not_end}
 use Rattle.puffin_frames.proofs.Packets.{part_again, length_again, meta_again}
 
 -- ---- without details

@@ -7,7 +7,7 @@ use Rattle.byteorder.specs.Numbers.{little_number-reads_back}
 use Rattle.puffin_data.specs.declared.file_error.FileError.{FileError}
 use Rattle.puffin_data.specs.Part.{part_of, length_at, counted_part_at}
 use Rattle.puffin_data.specs.Value.Layout.{NoneBeginsAnother}
-use Rattle.puffin_data.proofs.Readers.{whole_again}
+use Rattle.puffin_data.proofs.lemmas.Readers.{whole_again}
 use Rattle.puffin_frames.specs.Packet.Structs.{IsMeta, meta_layout, meta_at, AreDetails, details_layout, details_at}
 use Rattle.puffin_frames.specs.Packet.Stored.{Said, Stored, packed}
 use Rattle.puffin_frames.specs.Packet.Steps.{meta_part_at, streams_part_at, details_part_at, packed_at, next_at, counted, packet_head, packet, IsPacked, as_stored}

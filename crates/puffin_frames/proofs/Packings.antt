@@ -10,7 +10,7 @@ use Rattle.puffin_data.specs.declared.file_error.FileError.TheVariants as file
 use Rattle.puffin_data.specs.Honesty.{Recorded}
 use Rattle.puffin_data.specs.Value.Layout.{IsBytes}
 use Rattle.puffin_data.specs.Value.Decoding.{whole}
-use Rattle.puffin_data.proofs.Readers.{whole_again, whole_taken}
+use Rattle.puffin_data.proofs.lemmas.Readers.{whole_again, whole_taken}
 use Rattle.puffin_frames.specs.declared.frame_data.held.Held.{Held}
 use Rattle.puffin_frames.specs.declared.frame_data.held.Held.TheVariants.{Own, Shared, Packed, Both}
 use Rattle.puffin_frames.specs.Frame.Contents.{packed_as, held_as}

@@ -9,8 +9,8 @@ use Rattle.puffin_data.specs.declared.file_error.FileError.TheVariants as file
 use Rattle.puffin_data.specs.Value.Layout.{IsBytes}
 use Rattle.puffin_data.specs.Value.Decoding.{whole}
 use Rattle.puffin_data.specs.Part.{◌>>=◌, part_of, first_at, length_at, counted_part_at}
-use Rattle.puffin_data.proofs.Numbers.{IsBytes-take, bytes_4, below_4}
-use Rattle.puffin_data.proofs.Readers.{IsBytes-after, whole_taken}
+use Rattle.puffin_data.proofs.lemmas.Numbers.{IsBytes-take, bytes_4, below_4}
+use Rattle.puffin_data.proofs.lemmas.Readers.{IsBytes-after, whole_taken}
 use Rattle.puffin_frames.specs.declared.frame_data.meta.FrameMeta.{FrameMeta}
 use Rattle.puffin_frames.specs.Details.{Details}
 use Rattle.puffin_frames.specs.Packet.Structs.{IsMeta, meta_layout, meta_at, AreDetails, details_layout, details_at, Legacy, IsLegacy, legacy_layout, legacy_at}

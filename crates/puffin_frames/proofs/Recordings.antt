@@ -12,14 +12,14 @@ use Rattle.puffin_data.specs.Forest.Open.{ended_bytes}
 use Rattle.puffin_data.specs.Forest.Spelling.{begin_bytes}
 use Rattle.puffin_data.specs.Forest.Tour.{Event, Open, Close}
 use Rattle.puffin_data.specs.Forest.Words.{word_size, num_begun, open_after, most_open, least_open, greatest_close}
-use Rattle.puffin_data.proofs.WordMeasures.{num_begun-append, most_open-opened, most_open-closed, least_open-opened, least_open-kept, greatest_close-closed, greatest_close-kept, length-begin, num_begun-tour, most_open-tour, least_open-tour, greatest_close-tour}
+use Rattle.puffin_data.proofs.lemmas.WordMeasures.{num_begun-append, most_open-opened, most_open-closed, least_open-opened, least_open-kept, greatest_close-closed, greatest_close-kept, length-begin, num_begun-tour, most_open-tour, least_open-tour, greatest_close-tour}
 use Rattle.puffin_frames.specs.declared.thread_profiler.recording.Recording.TheInside.{Inside}
 use Rattle.puffin_frames.specs.Thread.Closing.{IsReportOf}
 use Rattle.puffin_frames.specs.Thread.Events.{events_in}
 use Rattle.puffin_frames.specs.inner.ThreadRecording.{IsRecording, Holds, Counted, scopes_in, spare_name, thread_in}
 use Rattle.puffin_frames.specs.Thread.Calls.{Thread, open_offsets}
-use Rattle.puffin_frames.proofs.Events.{events_of_none}
-use Rattle.puffin_frames.proofs.Holding.{Goes, held, length-open_offsets, size_held, begins_held, ends_held, place_held, closed_held, nothing_held, offsets_opened, offsets_closed}
+use Rattle.puffin_frames.proofs.lemmas.Events.{events_of_none}
+use Rattle.puffin_frames.proofs.RecordedScopes.{Goes, held, length-open_offsets, size_held, begins_held, ends_held, place_held, closed_held, nothing_held, offsets_opened, offsets_closed}
 
 pub same_thread : (a b : Thread) → a.name ≡ b.name → a.first_start ≡ b.first_start → a.latest ≡ b.latest → a.word ≡ b.word → a.details ≡ b.details → a ≡ b
 same_thread a b e1 e2 e3 e4 e5 = λ i. record { name = e1 i; first_start = e2 i; latest = e3 i; word = e4 i; details = e5 i }

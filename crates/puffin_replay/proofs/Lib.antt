@@ -1,17 +1,17 @@
-pub mod Writing
-pub mod Statements
-pub mod Scripts
-pub mod Counting
-pub mod Laws
-pub mod Histories
-pub mod Telling
-pub mod Collecting
-pub mod Standing
-pub mod Running
-pub mod Openings
-pub mod Sums
-pub mod Serving
-pub mod Offsets
-pub mod Closing
-pub mod Recording
-pub mod Summing
+mod WrittenLines
+mod Statements
+mod Scripts
+mod CountedLines
+mod Laws
+mod Histories
+mod Telling
+mod SessionCollects
+mod Standing
+mod Running
+mod Openings
+mod Sums
+mod Serving
+mod Offsets
+mod SessionCloses
+mod Recording
+mod Summing

@@ -31,7 +31,7 @@ use Rattle.puffin_replay.specs.declared.replay.command.Reply.{Reply}
 use Rattle.puffin_replay.specs.Program.Recording.{HasIds, NoneLacksIds, emitted_by, frames_emitted, Takes, TakesSome, AreReplies, AreAnswers, file_of_view, view_after, IsBroken, IsReplayed, IsUnfinished}
 use Rattle.puffin_replay.specs.Program.Lines.{reply_lines}
 use Rattle.puffin_replay.specs.Session.{SessionState, new_session}
-use Rattle.puffin_replay.proofs.Writing.{nothing_written}
+use Rattle.puffin_replay.proofs.WrittenLines.{nothing_written}
 
 -- ---- lists
 

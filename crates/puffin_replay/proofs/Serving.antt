@@ -44,7 +44,7 @@ use Rattle.puffin_replay.specs.Session.{SessionState, thread_after, SpellsWord, 
 use Rattle.puffin_replay.specs.Session.Replies.{action_of, details_given, user_details, MayReply, TellsScopes, ending_word}
 use Rattle.puffin_replay.specs.inner.Serving.{clock_time, thread_in, with_thread, with_collected, Ends, SumsTo, Continued, ContinuesBy, Continues}
 use Rattle.puffin_replay.proofs.Histories.{due-same, due-more, due-anew}
-use Rattle.puffin_replay.proofs.Collecting.{SpellsFrame-taken, NoneDue-untaken}
+use Rattle.puffin_replay.proofs.SessionCollects.{SpellsFrame-taken, NoneDue-untaken}
 use Rattle.puffin_replay.proofs.Laws.{events_in-spelling}
 use Rattle.puffin_replay.proofs.Telling.{waiting_with, waiting-noted, TellsAfter-more}
 use Rattle.puffin_replay.proofs.Standing.{handed_at_end, handed_at-reported, ChangesThread, StandsAfter-begun, StandsAfter-ended, StandsAfter-reported, StandsAfter-registered, StandsAfter-handed, StandsAfter-framed, StandsAfter-unframed, StandsAfter-quiet}

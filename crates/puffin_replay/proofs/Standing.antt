@@ -20,7 +20,7 @@ use Rattle.puffin_replay.specs.Session.Notes.{Note, noted, sent, notes_at, regis
 use Rattle.puffin_replay.specs.Session.{SessionState, opening_of, SpellsWord, SpellsDue, StandsAfter, TellsAfter, thread_after}
 use Rattle.puffin_replay.proofs.Histories.{latest_of-same, latest_of-more, unreported-same, unreported-begun, unreported-ended, unreported-reported, first_start_of-same, first_start_of-begun, first_start_of-ended, handed_after-more, due-same, due-more, due-anew}
 use Rattle.puffin_replay.proofs.Telling.{waiting_with, registered-more}
-use Rattle.puffin_replay.proofs.Collecting.{SpellsDue-report, SpellsDue-none}
+use Rattle.puffin_replay.proofs.SessionCollects.{SpellsDue-report, SpellsDue-none}
 
 -- ---- threads
 

@@ -110,7 +110,7 @@ fn bytes_in(bytes: &[u8]) -> Option<(&[u8], &[u8])>
     Some(rest.split_at(n as usize))
 }
 
-#[tactic(auto, using(crate::proofs::Texts::utf8_tests))]
+#[tactic(auto, using(crate::proofs::lemmas::Texts::utf8_tests))]
 fn text_of(stored: &[u8]) -> Option<&str>
     ensures { MatchOption result (is_utf8 stored.now ≡ false) (λ t. (t.now ≡ stored.now) × (is_utf8 stored.now ≡ true)) }
 {

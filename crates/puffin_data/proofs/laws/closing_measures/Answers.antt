@@ -1,6 +1,6 @@
 use Rattle.std.proofs.Common.{◌∷◌, [], arith}
 use Rattle.puffin_data.specs.Forest.Tour.{Close}
-use Rattle.puffin_data.proofs.WordMeasures.{word_size-append, num_begun-append, open_after-append, most_open-closed, least_open-kept, greatest_close-closed}
+use Rattle.puffin_data.proofs.lemmas.WordMeasures.{word_size-append, num_begun-append, open_after-append, most_open-closed, least_open-kept, greatest_close-closed}
 use Rattle.puffin_data.proofs.laws.closing_measures.Goals as goal
 
 pub returns-clause-size : goal.returns-clause-size

@@ -1,4 +1,4 @@
-use Rattle.puffin_data.proofs.Cuts as Cuts
+use Rattle.puffin_data.proofs.lemmas.Cuts as Cuts
 use Rattle.puffin_data.proofs.laws.cut_texts.Goals as goal
 
 pub returns-clause-is_cut : goal.returns-clause-is_cut

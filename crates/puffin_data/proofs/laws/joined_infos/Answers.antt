@@ -1,4 +1,4 @@
-use Rattle.puffin_data.proofs.Extended.{honest_joined}
+use Rattle.puffin_data.proofs.lemmas.Extended.{honest_joined}
 use Rattle.puffin_data.proofs.laws.joined_infos.Goals as goal
 
 pub returns : goal.returns

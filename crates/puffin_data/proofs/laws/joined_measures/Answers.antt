@@ -1,4 +1,4 @@
-use Rattle.puffin_data.proofs.Extended.{scope_count-append, height-append, least_start-append, greatest_stop-append, IsForest-append}
+use Rattle.puffin_data.proofs.lemmas.Extended.{scope_count-append, height-append, least_start-append, greatest_stop-append, IsForest-append}
 use Rattle.puffin_data.proofs.laws.joined_measures.Goals as goal
 
 pub returns-clause-scope_count : goal.returns-clause-scope_count

@@ -1,6 +1,6 @@
 use Rattle.std.proofs.Common.{length, ◌∙◌, arith}
 use Rattle.puffin_data.proofs.Regions.{whole_region}
-use Rattle.puffin_data.proofs.Unique.{faultless}
+use Rattle.puffin_data.proofs.lemmas.Unique.{faultless}
 use Rattle.puffin_data.proofs.laws.no_fault_in_a_spelling.Goals as goal
 
 pub returns : goal.returns

@@ -1,7 +1,7 @@
 use Rattle.puffin_data.specs.Value.Layout.{byte, number, signed, flag, block, IsByte, IsLong, IsSigned, IsAny, IsBlock}
 use Rattle.puffin_data.specs.Value.Decoding.{byte_at, number_at, signed_at, flag_at, bytes_at}
-use Rattle.puffin_data.proofs.Readers.{begins_no_other}
-use Rattle.puffin_data.proofs.ValueReaders.{byte_reader, number_reader, signed_reader, flag_reader, bytes_reader}
+use Rattle.puffin_data.proofs.lemmas.Readers.{begins_no_other}
+use Rattle.puffin_data.proofs.lemmas.ValueReaders.{byte_reader, number_reader, signed_reader, flag_reader, bytes_reader}
 use Rattle.puffin_data.proofs.laws.no_layout_begins_another.Goals as goal
 
 pub returns-clause-bytes : goal.returns-clause-bytes

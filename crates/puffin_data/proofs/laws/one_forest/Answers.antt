@@ -1,5 +1,5 @@
 use Rattle.std.proofs.Common.{arith}
-use Rattle.puffin_data.proofs.Unique.{same_forest, spelling-append}
+use Rattle.puffin_data.proofs.lemmas.Unique.{same_forest, spelling-append}
 use Rattle.puffin_data.proofs.laws.one_forest.Goals as goal
 
 pub returns-clause-spelling : goal.returns-clause-spelling

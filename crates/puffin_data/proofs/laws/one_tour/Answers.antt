@@ -1,5 +1,5 @@
 use Rattle.std.proofs.Common.{◌∙◌, sym}
-use Rattle.puffin_data.proofs.Tours.{one_tour, tour-append}
+use Rattle.puffin_data.proofs.lemmas.Tours.{one_tour, tour-append}
 use Rattle.puffin_data.proofs.laws.one_tour.Goals as goal
 
 pub returns-clause-tour : goal.returns-clause-tour

@@ -1,7 +1,7 @@
 use Rattle.puffin_data.specs.Value.Layout.{byte, number, signed, flag, block, IsByte, IsWord, IsLong, IsSigned, IsAny, IsBlock, IsText}
 use Rattle.puffin_data.specs.Value.Decoding.{byte_at, number_at, word_at, signed_at, flag_at, bytes_at, text_at}
-use Rattle.puffin_data.proofs.Readers.{reads_layouts}
-use Rattle.puffin_data.proofs.ValueReaders.{byte_reader, number_reader, word_reader, signed_reader, flag_reader, bytes_reader, text_reader}
+use Rattle.puffin_data.proofs.lemmas.Readers.{reads_layouts}
+use Rattle.puffin_data.proofs.lemmas.ValueReaders.{byte_reader, number_reader, word_reader, signed_reader, flag_reader, bytes_reader, text_reader}
 use Rattle.puffin_data.proofs.laws.only_layouts_are_read.Goals as goal
 
 pub returns-clause-bytes : goal.returns-clause-bytes

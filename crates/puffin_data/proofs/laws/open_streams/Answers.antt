@@ -1,5 +1,5 @@
 use Rattle.std.proofs.Common.{refl}
-use Rattle.puffin_data.proofs.Opening as Opening
+use Rattle.puffin_data.proofs.lemmas.Opening as Opening
 use Rattle.puffin_data.proofs.laws.open_streams.Goals as goal
 
 pub returns-clause-begins : goal.returns-clause-begins

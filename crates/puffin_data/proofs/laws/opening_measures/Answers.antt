@@ -1,6 +1,6 @@
 use Rattle.std.proofs.Common.{◌∷◌, [], arith}
 use Rattle.puffin_data.specs.Forest.Tour.{Open}
-use Rattle.puffin_data.proofs.WordMeasures.{word_size-append, num_begun-append, open_after-append, most_open-opened, least_open-opened, greatest_close-kept}
+use Rattle.puffin_data.proofs.lemmas.WordMeasures.{word_size-append, num_begun-append, open_after-append, most_open-opened, least_open-opened, greatest_close-kept}
 use Rattle.puffin_data.proofs.laws.opening_measures.Goals as goal
 
 pub returns-clause-size : goal.returns-clause-size

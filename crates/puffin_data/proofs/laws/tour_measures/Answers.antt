@@ -1,5 +1,5 @@
 use Rattle.std.proofs.Common.{arith}
-use Rattle.puffin_data.proofs.WordMeasures.{word_size-tour, num_begun-tour, open_after-tour, most_open-tour, least_open-tour, greatest_close-tour}
+use Rattle.puffin_data.proofs.lemmas.WordMeasures.{word_size-tour, num_begun-tour, open_after-tour, most_open-tour, least_open-tour, greatest_close-tour}
 use Rattle.puffin_data.proofs.laws.tour_measures.Goals as goal
 
 pub returns-clause-size : goal.returns-clause-size

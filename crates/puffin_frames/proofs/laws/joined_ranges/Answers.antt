@@ -1,4 +1,4 @@
-use Rattle.puffin_frames.proofs.Ranges.{least_start-one, greatest_stop-one, least_start-append, greatest_stop-append}
+use Rattle.puffin_frames.proofs.lemmas.Ranges.{least_start-one, greatest_stop-one, least_start-append, greatest_stop-append}
 use Rattle.puffin_frames.proofs.laws.joined_ranges.Goals as goal
 
 pub returns-clause-start_of_one_more : goal.returns-clause-start_of_one_more

@@ -1,4 +1,4 @@
-use Rattle.puffin_frames.proofs.Infos.{info_cmp_total, info_cmp-one, same_info-one, none_first, earlier_first, then_by_name}
+use Rattle.puffin_frames.proofs.lemmas.Infos.{info_cmp_total, info_cmp-one, same_info-one, none_first, earlier_first, then_by_name}
 use Rattle.puffin_frames.proofs.laws.order_of_infos.Goals as goal
 
 pub returns-clause-none_first : goal.returns-clause-none_first

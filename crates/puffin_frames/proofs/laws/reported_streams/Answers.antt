@@ -1,7 +1,7 @@
 use Rattle.puffin_frames.specs.Thread.Info.{info_cmp}
-use Rattle.puffin_frames.proofs.Seen.{entries-empty}
+use Rattle.puffin_frames.proofs.lemmas.EntriesSeen.{entries-empty}
 use Rattle.std.proofs.Common.{ap, map}
-use Rattle.puffin_frames.proofs.Measured.{after_report, bytes_measure, scopes_measure, starts_measure, stops_measure, under_one}
+use Rattle.puffin_frames.proofs.lemmas.Measured.{after_report, bytes_measure, scopes_measure, starts_measure, stops_measure, under_one}
 use Rattle.puffin_frames.proofs.laws.reported_streams.Goals as goal
 
 pub returns-clause-bytes : goal.returns-clause-bytes

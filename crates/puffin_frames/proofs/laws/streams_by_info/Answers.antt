@@ -1,4 +1,4 @@
-use Rattle.puffin_frames.proofs.Keyed.{entries-streams_of, values-streams_of, streams_of-insert}
+use Rattle.puffin_frames.proofs.lemmas.Keyed.{entries-streams_of, values-streams_of, streams_of-insert}
 use Rattle.puffin_frames.proofs.laws.streams_by_info.Goals as goal
 
 pub returns-clause-entries : goal.returns-clause-entries

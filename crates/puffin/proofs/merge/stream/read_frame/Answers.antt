@@ -7,7 +7,7 @@ use Rattle.puffin.specs.inner.merge.Merging.{StandsFor}
 use Rattle.puffin.specs.inner.merge.Origins.{IsOrigin}
 use Rattle.puffin.proofs.Paths.{top_path}
 use Rattle.puffin.proofs.Entering.{origin_fits, passed_128}
-use Rattle.puffin.proofs.Streams.{no_bytes, some_bytes, some_tries, nothing_taken, taken_of_frame, refused_of_frame}
+use Rattle.puffin.proofs.StreamsMerged.{no_bytes, some_bytes, some_tries, nothing_taken, taken_of_frame, refused_of_frame}
 use Rattle.puffin.proofs.merge.stream.read_frame.Goals as goal
 
 pub walk_with-requires : goal.walk_with-requires

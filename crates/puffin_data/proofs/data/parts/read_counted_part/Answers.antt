@@ -1,5 +1,5 @@
 use Rattle.puffin_data.specs.Part.{part_of, length_at}
-use Rattle.puffin_data.proofs.Devices.{goes_on}
+use Rattle.puffin_data.proofs.lemmas.Devices.{goes_on}
 use Rattle.puffin_data.proofs.data.parts.read_counted_part.Goals as goal
 
 pub returns-clause-part : goal.returns-clause-part

@@ -9,7 +9,7 @@ use Rattle.puffin_data.specs.inner.Sightings.{found_of}
 use Rattle.puffin_data.specs.inner.Walking.{tries_in}
 use Rattle.puffin_data.specs.Walk.Visitor.{StopsAtFault, StopsAtRefusal}
 use Rattle.puffin_data.specs.Walk.Going.{Visits}
-use Rattle.puffin_data.proofs.Numbers.{IsBytes, IsBytes-drop, IsBytes-take}
+use Rattle.puffin_data.proofs.lemmas.Numbers.{IsBytes, IsBytes-drop, IsBytes-take}
 use Rattle.puffin_data.proofs.Found.{passes}
 use Rattle.puffin_data.proofs.Resuming.{found_places, IsNested}
 use Rattle.puffin_data.proofs.Spelled.{spelt}

@@ -1,8 +1,8 @@
 use Rattle.std.proofs.Common.{arith}
 use Rattle.puffin_data.specs.Value.Layout.{IsByte, byte}
 use Rattle.puffin_data.specs.Value.Decoding.{byte_at}
-use Rattle.puffin_data.proofs.Readers.{reads_with_rest}
-use Rattle.puffin_data.proofs.ValueReaders.{byte_reader}
+use Rattle.puffin_data.proofs.lemmas.Readers.{reads_with_rest}
+use Rattle.puffin_data.proofs.lemmas.ValueReaders.{byte_reader}
 use Rattle.puffin_data.proofs.wire.front.read_byte.Goals as goal
 
 pub returns-clause-reads : goal.returns-clause-reads

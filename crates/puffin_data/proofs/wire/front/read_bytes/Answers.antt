@@ -1,8 +1,8 @@
 use Rattle.std.proofs.Common.{arith}
 use Rattle.puffin_data.specs.Value.Layout.{IsBlock, block}
 use Rattle.puffin_data.specs.Value.Decoding.{bytes_at}
-use Rattle.puffin_data.proofs.Readers.{reads_with_rest}
-use Rattle.puffin_data.proofs.ValueReaders.{bytes_reader}
+use Rattle.puffin_data.proofs.lemmas.Readers.{reads_with_rest}
+use Rattle.puffin_data.proofs.lemmas.ValueReaders.{bytes_reader}
 use Rattle.puffin_data.proofs.wire.front.read_bytes.Goals as goal
 
 pub returns-clause-reads : goal.returns-clause-reads

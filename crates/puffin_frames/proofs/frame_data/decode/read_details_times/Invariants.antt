@@ -1,6 +1,6 @@
 use Rattle.std.proofs.Common.{◌≡◌, ◌-◌}
 use Rattle.puffin_data.specs.Value.Decoding.{times_at}
-use Rattle.puffin_data.proofs.Loops.{with_front}
+use Rattle.puffin_data.proofs.lemmas.Loops.{with_front}
 use Rattle.puffin_frames.specs.Packet.Structs.{detail_at}
 use Rattle.puffin_frames.specs.Details.{shared_details}
 use Rattle.puffin_frames.proofs.frame_data.decode.read_details_times.Given as goal

@@ -3,7 +3,7 @@ use Rattle.std.specs.Arc.{arc_value}
 use Rattle.std.specs.FinMap.{is_sorted}
 use Rattle.puffin_data.specs.Honesty.{Recorded, recorded}
 use Rattle.puffin_data.specs.Value.Decoding.{times_at}
-use Rattle.puffin_data.proofs.Loops.{one_more}
+use Rattle.puffin_data.proofs.lemmas.Loops.{one_more}
 use Rattle.puffin_frames.specs.Thread.Info.{info_of, info_cmp}
 use Rattle.puffin_frames.specs.Packet.Structs.{stream_at}
 use Rattle.puffin_frames.specs.Frame.Contents.{listed}

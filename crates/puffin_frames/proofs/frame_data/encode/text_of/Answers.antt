@@ -1,5 +1,5 @@
 use Rattle.std.proofs.Common.{arith, rules}
-use Rattle.puffin_data.proofs.Texts.{is_utf8_yes}
+use Rattle.puffin_data.proofs.lemmas.Texts.{is_utf8_yes}
 use Rattle.puffin_frames.proofs.frame_data.encode.text_of.Goals as goal
 
 pub returns-clause-text : goal.returns-clause-text

@@ -1,4 +1,4 @@
-use Rattle.puffin_data.proofs.Readers.{begins_no_other}
+use Rattle.puffin_data.proofs.lemmas.Readers.{begins_no_other}
 use Rattle.puffin_frames.specs.Packet.Structs.{meta_layout, IsMeta, meta_at, thread_layout, IsThread, thread_at, recorded_layout, IsRecorded, recorded_at, streams_layout, AreStreams, streams_at, details_layout, AreDetails, details_at, legacy_layout, IsLegacy, legacy_at}
 use Rattle.puffin_frames.proofs.Structs.{meta_reader, thread_reader, recorded_reader, streams_reader, details_reader, legacy_reader}
 use Rattle.puffin_frames.proofs.frame_data.laws.no_layout_begins_another.Goals as goal

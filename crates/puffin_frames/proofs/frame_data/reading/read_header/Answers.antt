@@ -1,6 +1,6 @@
 use Rattle.std.proofs.Common.{◌≡◌, ◌<◌, length, take, inl, inr, arith, length-take, take_all, subst, sym, ◌∙◌}
 use Rattle.std.specs.Io.KnownBytes.{Consumes}
-use Rattle.puffin_frames.proofs.Reading.{short_end, zeros_end}
+use Rattle.puffin_frames.proofs.PacketsRead.{short_end, zeros_end}
 use Rattle.puffin_frames.proofs.frame_data.reading.read_header.Goals as goal
 
 pub returns-then-branch-lt4-clause-header : goal.returns-then-branch-lt4-clause-header

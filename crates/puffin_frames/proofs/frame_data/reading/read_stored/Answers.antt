@@ -1,12 +1,12 @@
 use Rattle.std.proofs.Common.{◌≡◌, Bool, cond, false, ℕ, Some, ap, sym, ◌∙◌}
 use Rattle.byteorder.specs.Endian.{little_number}
-use Rattle.puffin_data.proofs.Devices.{same_reading}
+use Rattle.puffin_data.proofs.lemmas.Devices.{same_reading}
 use Rattle.puffin_frames.specs.declared.frame_data.frame.FrameData.{FrameData}
 use Rattle.puffin_frames.specs.Packet.Stored.{packed, legacy}
 use Rattle.puffin_frames.specs.Packet.Next.{stored_of}
 use Rattle.std.specs.Prelude.{slice_index}
 use Rattle.puffin_frames.specs.Packet.Steps.{as_stored, form_at, legacy_part_at, is_packet, stored_after}
-use Rattle.puffin_frames.proofs.Reading.{if_packed_so, if_legacy_so}
+use Rattle.puffin_frames.proofs.PacketsRead.{if_packed_so, if_legacy_so}
 use Rattle.puffin_frames.proofs.frame_data.reading.read_stored.Goals as goal
 
 pub returns-then-is_packet_header-clause-part : goal.returns-then-is_packet_header-clause-part

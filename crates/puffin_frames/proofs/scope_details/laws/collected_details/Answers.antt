@@ -1,4 +1,4 @@
-use Rattle.puffin_frames.proofs.Collected.{first_in, last_in, none_in_none}
+use Rattle.puffin_frames.proofs.CollectionsBuilt.{first_in, last_in, none_in_none}
 use Rattle.puffin_frames.proofs.Inserting.{own_ids_inserted, own_ids_none}
 use Rattle.puffin_frames.proofs.scope_details.laws.collected_details.Goals as goal
 

@@ -5,7 +5,7 @@ use Rattle.std.specs.Cmp.Lexicographic.{nat_list_cmp_total}
 use Rattle.std.specs.Arc.{arc_value}
 use Rattle.puffin_frames.specs.Details.{details_of}
 use Rattle.puffin_frames.specs.Details.Collection.{bytes_cmp}
-use Rattle.puffin_frames.proofs.Seen.{entries-seen}
+use Rattle.puffin_frames.proofs.lemmas.EntriesSeen.{entries-seen}
 use Rattle.puffin_frames.proofs.scope_details.laws.entries_of_collections.Goals as goal
 
 pub returns-clause-ids : goal.returns-clause-ids

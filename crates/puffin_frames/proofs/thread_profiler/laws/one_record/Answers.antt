@@ -1,7 +1,7 @@
 use Rattle.std.proofs.Common.{◌≡◌, length, sym, ap, subst, ◌∙◌, arith}
 use Rattle.puffin_data.specs.Forest.{Forest}
 use Rattle.puffin_data.specs.Honesty.{Recorded, IsHonestRecord}
-use Rattle.puffin_data.proofs.Unique.{same_forest}
+use Rattle.puffin_data.proofs.lemmas.Unique.{same_forest}
 use Rattle.puffin_frames.proofs.thread_profiler.laws.one_record.Goals as goal
 
 same_record : (a b : Recorded) (f : Forest) → IsHonestRecord a f → IsHonestRecord b f → a.bytes ≡ b.bytes → a ≡ b

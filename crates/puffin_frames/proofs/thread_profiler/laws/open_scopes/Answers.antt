@@ -1,4 +1,4 @@
-use Rattle.puffin_frames.proofs.Holding.{length-open_offsets, offsets_opened, offsets_closed}
+use Rattle.puffin_frames.proofs.RecordedScopes.{length-open_offsets, offsets_opened, offsets_closed}
 use Rattle.puffin_frames.proofs.thread_profiler.laws.open_scopes.Goals as goal
 
 pub returns-clause-count : goal.returns-clause-count

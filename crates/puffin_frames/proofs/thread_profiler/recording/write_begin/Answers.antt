@@ -1,5 +1,5 @@
 use Rattle.std.proofs.Common.{arith}
-use Rattle.puffin_data.proofs.Cuts.{cut_text-short}
+use Rattle.puffin_data.proofs.lemmas.Cuts.{cut_text-short}
 use Rattle.puffin_frames.proofs.thread_profiler.recording.write_begin.Goals as goal
 
 pub unwrap-offset-requires : goal.unwrap-offset-requires

@@ -4,7 +4,7 @@ use Rattle.puffin_data.specs.Forest.Spelling.{Spells}
 use Rattle.puffin_data.specs.Device.{WritesBeginning}
 use Rattle.puffin_data.specs.Stream.{Held}
 use Rattle.puffin_replay.specs.Program.Lines.{count_line}
-use Rattle.puffin_replay.proofs.Writing.{at_an_error}
+use Rattle.puffin_replay.proofs.WrittenLines.{at_an_error}
 use Rattle.puffin_replay.proofs.replay.count.count_stream.Goals as goal
 
 pub returns-in_err-write_all-clause-written : goal.returns-in_err-write_all-clause-written

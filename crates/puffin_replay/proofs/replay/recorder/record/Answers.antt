@@ -4,7 +4,7 @@ use Rattle.std.proofs.lemmas.Result.{IfOk-weaker, IfErr-weaker}
 use Rattle.puffin_replay.specs.Session.Replies.{Records}
 use Rattle.puffin_replay.specs.Program.Recording.{IsBroken}
 use Rattle.puffin_replay.specs.Session.{SessionState, new_session}
-use Rattle.puffin_replay.proofs.Writing.{nothing_written}
+use Rattle.puffin_replay.proofs.WrittenLines.{nothing_written}
 use Rattle.puffin_replay.proofs.replay.recorder.record.Goals as goal
 
 pub returns-in-Ok-clause-run : goal.returns-in-Ok-clause-run

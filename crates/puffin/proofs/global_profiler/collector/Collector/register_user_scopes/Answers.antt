@@ -5,7 +5,7 @@ use Rattle.std.proofs.lemmas.List.{take_more, map-append}
 use Rattle.puffin_frames.specs.declared.scope_details.details.ScopeDetails.{ScopeDetails}
 use Rattle.puffin_frames.specs.Details.{Details, details_of, details_seen}
 use Rattle.puffin.specs.Profiler.Registering.{Adds}
-use Rattle.puffin.proofs.Registrations.{Adds-none, Adds-more, AddsSome-none, AddsSome-at}
+use Rattle.puffin.proofs.lemmas.Registrations.{Adds-none, Adds-more, AddsSome-none, AddsSome-at}
 use Rattle.puffin.proofs.global_profiler.collector.Collector.register_user_scopes.Goals as goal
 
 pub returns-in_err-scope_ids-clause-err : goal.returns-in_err-scope_ids-clause-err

@@ -1,7 +1,7 @@
 use Rattle.std.proofs.Common.{refl, ap, ◌∙◌, []}
 use Rattle.puffin.specs.View.{View}
 use Rattle.puffin.specs.inner.view.Store.{AreStored, frames_at}
-use Rattle.puffin.proofs.Joining.{slow_cut}
+use Rattle.puffin.proofs.JoiningPending.{slow_cut}
 use Rattle.puffin.proofs.Searching.{stored_rising}
 use Rattle.puffin.proofs.Storing.{stored_as, view_as}
 use Rattle.puffin.proofs.profile_view.frame_store.FrameStore.clear_slowest.Goals as goal

@@ -5,7 +5,7 @@ use Rattle.puffin.specs.View.ViewedFrames.{Frame, index_of}
 use Rattle.puffin.specs.View.FrameOf.{frame_of, shared_frame}
 use Rattle.puffin.specs.inner.view.Ranks.{rank_of, rank_index, ranks_after, ranks_gone, rank_cmp, AreRanked}
 use Rattle.puffin.specs.inner.view.Store.{AreStored, frames_at}
-use Rattle.puffin.proofs.Joining.{stored_joined, pushed_rising, entered_in_order, entered_ranked, lets_as}
+use Rattle.puffin.proofs.JoiningPending.{stored_joined, pushed_rising, entered_in_order, entered_ranked, lets_as}
 use Rattle.puffin.proofs.Storing.{stored_as, view_as}
 use Rattle.puffin.proofs.profile_view.frame_store.FrameStore.join.Goals as goal
 

@@ -4,7 +4,7 @@ use Rattle.std.specs.List.{filter_map}
 use Rattle.std.specs.VecDeque.{deque_len}
 use Rattle.std.specs.VecDeque.Iter.{deque_iter_rest}
 use Rattle.puffin.specs.View.Ranking.{last_of}
-use Rattle.puffin.proofs.Joining.{last_frames, range_last}
+use Rattle.puffin.proofs.JoiningPending.{last_frames, range_last}
 use Rattle.puffin.proofs.profile_view.frame_store.FrameStore.latest_frames.Goals as goal
 
 pub returns : goal.returns

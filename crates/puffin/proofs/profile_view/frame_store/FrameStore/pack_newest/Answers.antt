@@ -8,8 +8,8 @@ use Rattle.puffin.specs.View.ViewedFrames.{Frame, index_of, packed}
 use Rattle.puffin.specs.View.FrameOf.{frame_of, shared_frame}
 use Rattle.puffin.specs.inner.view.Ranks.{rank_index}
 use Rattle.puffin.specs.inner.view.Store.{AreStored, frames_at}
-use Rattle.puffin.proofs.Holding.{packed_copied, packed_alone}
-use Rattle.puffin.proofs.Joining.{packed_newest, newest_is_packed}
+use Rattle.puffin.proofs.HoldingViews.{packed_copied, packed_alone}
+use Rattle.puffin.proofs.JoiningPending.{packed_newest, newest_is_packed}
 use Rattle.puffin.proofs.Storing.{stored_as, stored-already, view_as}
 use Rattle.puffin.proofs.profile_view.frame_store.FrameStore.pack_newest.Goals as goal
 

@@ -1,6 +1,6 @@
 use Rattle.std.proofs.Common.{ap, ◌∙◌}
 use Rattle.std.specs.FinMap as fin
-use Rattle.puffin.proofs.Holding.{seen_cloned, summed_cloned}
+use Rattle.puffin.proofs.HoldingViews.{seen_cloned, summed_cloned}
 use Rattle.puffin.proofs.profile_view.held_frames.HeldFrames.clone.Goals as goal
 
 pub invariant_of-result : goal.invariant_of-result

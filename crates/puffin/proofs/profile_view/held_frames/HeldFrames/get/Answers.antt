@@ -1,5 +1,5 @@
 use Rattle.std.proofs.Common.{sym, ap, ◌∙◌}
-use Rattle.puffin.proofs.Holding.{seen_copied, get-held_of}
+use Rattle.puffin.proofs.HoldingViews.{seen_copied, get-held_of}
 use Rattle.puffin.proofs.profile_view.held_frames.HeldFrames.get.Goals as goal
 
 pub returns : goal.returns

@@ -3,7 +3,7 @@ use Rattle.std.specs.FinMap as fin
 use Rattle.puffin.specs.View.ViewedFrames.{index_of, ram_of}
 use Rattle.puffin.specs.View.FrameOf.{frame_of, shared_frame}
 use Rattle.puffin.specs.inner.view.Held.{unpacked_number, ram_taken, number_if}
-use Rattle.puffin.proofs.Holding.{one_of_sum, few_before, numbers_below, ram_below, sum_inserted, held_of-inserted, ram_says}
+use Rattle.puffin.proofs.HoldingViews.{one_of_sum, few_before, numbers_below, ram_below, sum_inserted, held_of-inserted, ram_says}
 use Rattle.puffin.proofs.profile_view.held_frames.HeldFrames.insert.Goals as goal
 
 pub lower-requires-clause-unpacked_frames : goal.lower-requires-clause-unpacked_frames

@@ -1,7 +1,7 @@
 use Rattle.std.proofs.Common.{ap, ◌∙◌}
 use Rattle.std.specs.FinMap as fin
 use Rattle.puffin.specs.inner.view.Held.{unpacked_number, ram_taken}
-use Rattle.puffin.proofs.Holding.{one_of_sum, sum_removed, held_of-removed}
+use Rattle.puffin.proofs.HoldingViews.{one_of_sum, sum_removed, held_of-removed}
 use Rattle.puffin.proofs.profile_view.held_frames.HeldFrames.remove.Goals as goal
 
 pub lower-requires-clause-unpacked_frames : goal.lower-requires-clause-unpacked_frames

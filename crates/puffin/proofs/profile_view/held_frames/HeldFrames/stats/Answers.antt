@@ -1,6 +1,6 @@
 use Rattle.std.proofs.Common.{ap, ◌∙◌}
 use Rattle.puffin.specs.View.Stats.{stats_of}
-use Rattle.puffin.proofs.Holding.{stats_summed}
+use Rattle.puffin.proofs.HoldingViews.{stats_summed}
 use Rattle.puffin.proofs.profile_view.held_frames.HeldFrames.stats.Goals as goal
 
 pub returns : goal.returns

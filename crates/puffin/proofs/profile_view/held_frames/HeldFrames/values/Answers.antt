@@ -1,7 +1,7 @@
 use Rattle.std.proofs.Common.{sym, ap, ◌∙◌}
 use Rattle.std.specs.FinMap as fin
 use Rattle.puffin.specs.View.FrameOf.{frames_of}
-use Rattle.puffin.proofs.Holding.{values-held_of}
+use Rattle.puffin.proofs.HoldingViews.{values-held_of}
 use Rattle.puffin.proofs.profile_view.held_frames.HeldFrames.values.Goals as goal
 
 pub returns : goal.returns

@@ -1,6 +1,6 @@
 use Rattle.std.proofs.Common.{◌≡◌, rules, of_calls, [], ◌∙◌}
 use Rattle.puffin.specs.View.Stats.{stats_of}
-use Rattle.puffin.proofs.Counting.{with_lent, counted}
+use Rattle.puffin.proofs.CountingPieces.{with_lent, counted}
 use Rattle.puffin.proofs.profile_view.stats.FrameStats.from_frames.Goals as goal
 
 pub returns : goal.returns

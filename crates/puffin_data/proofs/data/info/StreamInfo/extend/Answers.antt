@@ -1,6 +1,6 @@
 -- Two honest infos make an honest one.
 use Rattle.puffin_data.specs.Honesty.{recorded, recorded_ref}
-use Rattle.puffin_data.proofs.Extended.{extended}
+use Rattle.puffin_data.proofs.lemmas.Extended.{extended}
 use Rattle.puffin_data.proofs.data.info.StreamInfo.extend.Goals as goal
 
 pub returns-clause-honest : goal.returns-clause-honest

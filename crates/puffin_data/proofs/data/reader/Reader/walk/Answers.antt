@@ -1,5 +1,5 @@
 -- The walk of the stream's bytes, told of the stream.
-use Rattle.puffin_data.proofs.Told.{gave_forest, gave_fault, gave_only}
+use Rattle.puffin_data.proofs.RangesTold.{gave_forest, gave_fault, gave_only}
 use Rattle.puffin_data.proofs.data.reader.Reader.walk.Goals as goal
 
 pub returns-clause-forest : goal.returns-clause-forest

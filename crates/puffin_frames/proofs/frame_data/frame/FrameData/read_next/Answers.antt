@@ -2,7 +2,7 @@ use Rattle.std.proofs.Common.{Some, Ok, Err}
 use Rattle.std.proofs.lemmas.Result.{err_from_is_err_and}
 use Rattle.puffin_frames.specs.declared.frame_data.frame.FrameData.{FrameData}
 use Rattle.puffin_frames.specs.Packet.Next.{stored_of}
-use Rattle.puffin_frames.proofs.Reading.{given_after_header}
+use Rattle.puffin_frames.proofs.PacketsRead.{given_after_header}
 use Rattle.puffin_frames.proofs.PacketsTaken.{took_stored}
 use Rattle.puffin_frames.proofs.frame_data.frame.FrameData.read_next.Goals as goal
 

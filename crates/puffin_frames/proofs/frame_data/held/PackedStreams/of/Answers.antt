@@ -2,7 +2,7 @@ use Rattle.std.proofs.Common.{◌≡◌, Some, ap, sym, ◌∙◌}
 use Rattle.std.specs.Option.{option_map}
 use Rattle.std.specs.FinMap.{from_sorted}
 use Rattle.puffin_data.specs.Value.Decoding.{whole}
-use Rattle.puffin_data.proofs.Readers.{whole_again}
+use Rattle.puffin_data.proofs.lemmas.Readers.{whole_again}
 use Rattle.puffin_frames.specs.Frame.Contents.{listed}
 use Rattle.puffin_frames.specs.Frame.Holding.{streams_in}
 use Rattle.puffin_frames.specs.Packet.Structs.{AreStreams, streams_layout, streams_at}

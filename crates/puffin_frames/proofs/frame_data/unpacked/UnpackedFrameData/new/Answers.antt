@@ -3,7 +3,7 @@ use Rattle.std.proofs.Common.{sym, ap, ◌∙◌}
 use Rattle.std.specs.FinMap as map
 use Rattle.puffin_frames.specs.Frame.Contents.{streams_of}
 use Rattle.puffin_frames.specs.Frame.Sums.{meta_of}
-use Rattle.puffin_frames.proofs.Keyed.{values-streams_of}
+use Rattle.puffin_frames.proofs.lemmas.Keyed.{values-streams_of}
 use Rattle.puffin_frames.proofs.frame_data.unpacked.UnpackedFrameData.new.Goals as goal
 
 pub returns-clause-own_meta : goal.returns-clause-own_meta

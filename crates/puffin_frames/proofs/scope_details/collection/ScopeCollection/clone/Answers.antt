@@ -4,7 +4,7 @@ use Rattle.std.specs.FinMap.{FinMap, get, from_entries}
 use Rattle.std.specs.Arc.{arc_value}
 use Rattle.puffin_frames.specs.Details.{Details, details_of}
 use Rattle.puffin_frames.specs.Details.Collection.{by_ids, by_names}
-use Rattle.puffin_frames.proofs.Seen.{seen_from_clone}
+use Rattle.puffin_frames.proofs.lemmas.EntriesSeen.{seen_from_clone}
 use Rattle.puffin_frames.proofs.scope_details.collection.ScopeCollection.clone.Goals as goal
 
 ids : (c : goal.After-result-2-1) → by_ids c.in_ok-clone.field-0.entries ≡ by_ids c.self.inside.by_id.entries

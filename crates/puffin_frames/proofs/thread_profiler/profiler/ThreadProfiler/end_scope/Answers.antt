@@ -2,9 +2,9 @@ use Rattle.std.proofs.Common.{rules, ◌≡◌, ◌∷◌, [], Some, ap, arith, 
 use Rattle.std.proofs.lemmas.Option.{slice_get_within}
 use Rattle.puffin_data.specs.Forest.Tour.{Close}
 use Rattle.puffin_data.specs.Forest.Words.{open_after}
-use Rattle.puffin_data.proofs.WordMeasures.{open_after-append}
+use Rattle.puffin_data.proofs.lemmas.WordMeasures.{open_after-append}
 use Rattle.puffin_frames.specs.Thread.Calls.{Thread, open_offsets, time_of}
-use Rattle.puffin_frames.proofs.Holding.{length-open_offsets}
+use Rattle.puffin_frames.proofs.RecordedScopes.{length-open_offsets}
 use Rattle.puffin_frames.proofs.thread_profiler.profiler.ThreadProfiler.end_scope.Goals as goal
 
 pub close-requires : goal.close-requires

@@ -8,12 +8,12 @@ use Rattle.puffin_data.specs.Forest.Spelling.{begin_bytes}
 use Rattle.puffin_data.specs.Text.{cut_text}
 use Rattle.puffin_data.specs.Forest.Tour.{Open}
 use Rattle.puffin_data.specs.Forest.Words.{word_size}
-use Rattle.puffin_data.proofs.Cuts.{cut_text-short, cut_text-bytes}
-use Rattle.puffin_data.proofs.WordMeasures.{length-begin}
+use Rattle.puffin_data.proofs.lemmas.Cuts.{cut_text-short, cut_text-bytes}
+use Rattle.puffin_data.proofs.lemmas.WordMeasures.{length-begin}
 use Rattle.puffin_frames.specs.Thread.Events.{events_in}
 use Rattle.puffin_frames.specs.Thread.Calls.{Thread, time_of}
 use Rattle.puffin_frames.proofs.Recordings.{begun_in, holds_in, offset_in, scopes_fit, same_thread}
-use Rattle.puffin_frames.proofs.Holding.{begins_held}
+use Rattle.puffin_frames.proofs.RecordedScopes.{begins_held}
 use Rattle.puffin_frames.proofs.thread_profiler.recording.Recording.begin_scope.Goals as goal
 
 pub overflow_add-self : goal.overflow_add-self

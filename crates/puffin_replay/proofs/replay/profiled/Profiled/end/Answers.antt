@@ -5,7 +5,7 @@ use Rattle.puffin_frames.specs.Thread.Calls.{Thread, open_offsets}
 use Rattle.std.proofs.lemmas.Int.{to_z-of_z}
 use Rattle.puffin_replay.proofs.Offsets.{innermost_last, outer_or_none, past_all, closed_places}
 use Rattle.puffin.specs.Profiler.Collected.{Accepts, Refuses}
-use Rattle.puffin_replay.proofs.Closing.{Ends-from, kept_ids}
+use Rattle.puffin_replay.proofs.SessionCloses.{Ends-from, kept_ids}
 use Rattle.puffin_replay.proofs.replay.profiled.Profiled.end.Goals as goal
 
 pub returns-clause-back : goal.returns-clause-back

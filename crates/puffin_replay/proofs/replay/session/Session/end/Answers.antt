@@ -3,7 +3,7 @@ use Rattle.std.proofs.Common.{◌<◌, length, rules, ℤ, w64, subst}
 use Rattle.std.specs.Prelude.{IfOk}
 use Rattle.std.proofs.lemmas.Int.{to_z-of_z}
 use Rattle.puffin_replay.specs.inner.Serving.{clock_time, Ends}
-use Rattle.puffin_replay.proofs.Closing.{Ends-there}
+use Rattle.puffin_replay.proofs.SessionCloses.{Ends-there}
 use Rattle.puffin_replay.proofs.replay.session.Session.end.Goals as goal
 
 pub returns-in-Some-clause-ok : goal.returns-in-Some-clause-ok

@@ -1,5 +1,5 @@
 -- What the collector takes.
-use Rattle.puffin_replay.proofs.Closing.{Collects-from, KeepsPending-from, last-from}
+use Rattle.puffin_replay.proofs.SessionCloses.{Collects-from, KeepsPending-from, last-from}
 use Rattle.puffin_replay.proofs.replay.session.Session.new_frame.Goals as goal
 
 pub returns-clause-ok : goal.returns-clause-ok

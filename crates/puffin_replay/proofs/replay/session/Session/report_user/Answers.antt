@@ -1,7 +1,7 @@
 -- What was parsed is honest for the forest that the stream spells.
 use Rattle.std.proofs.Common.{◌∙◌, ap}
 use Rattle.puffin_data.specs.Stream.{Held}
-use Rattle.puffin_replay.proofs.Closing.{Accepts-from, Refuses-from}
+use Rattle.puffin_replay.proofs.SessionCloses.{Accepts-from, Refuses-from}
 use Rattle.puffin_replay.proofs.replay.session.Session.report_user.Goals as goal
 
 pub returns-clause-ok : goal.returns-clause-ok

@@ -13,9 +13,9 @@ use Rattle.puffin_data.specs.Honesty.{Recorded, joined}
 use Rattle.puffin_frames.specs.Thread.Info.{Info, info_cmp}
 use Rattle.puffin_frames.specs.Frame.Contents.{Streams, stream_under, reported_to, no_scopes}
 use Rattle.puffin_frames.specs.Frame.Sums.{total_bytes, total_scopes, least_start, greatest_stop}
-use Rattle.puffin_frames.proofs.Infos.{info_cmp_total}
+use Rattle.puffin_frames.proofs.lemmas.Infos.{info_cmp_total}
 use Rattle.puffin_frames.proofs.Joining.{bytes_from, scopes_from}
-use Rattle.puffin_frames.proofs.Ranges.{least_start-one, greatest_stop-one, least_in_range, greatest_in_range}
+use Rattle.puffin_frames.proofs.lemmas.Ranges.{least_start-one, greatest_stop-one, least_in_range, greatest_in_range}
 
 pub first : (a b : Bool) → T (a && b) → T a
 first true b p = tt

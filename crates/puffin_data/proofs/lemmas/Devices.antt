@@ -7,7 +7,7 @@ use Rattle.puffin_data.specs.declared.file_error.FileError.{FileError}
 use Rattle.puffin_data.specs.declared.file_error.FileError.TheVariants as file
 use Rattle.puffin_data.specs.Device.{FromDevice, FailsAt, IsOutside}
 use Rattle.puffin_data.specs.Part.{◌>>=◌}
-use Rattle.puffin_data.proofs.Numbers.{IsBytes-nil, IsBytes-append}
+use Rattle.puffin_data.proofs.lemmas.Numbers.{IsBytes-nil, IsBytes-append}
 
 -- a fault of the device itself is no answer of a reading
 pub outside : {A : Type 0} (e : FileError) (old new : Option (List ℕ)) (read : List ℕ → Result (A × List ℕ) FileError) → IsOutside e → FailsAt e old new read

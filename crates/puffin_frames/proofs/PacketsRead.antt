@@ -11,7 +11,7 @@ use Rattle.puffin_data.specs.declared.file_error.FileError.{FileError}
 use Rattle.puffin_data.specs.declared.file_error.FileError.TheVariants as file
 use Rattle.puffin_data.specs.Device.{FromDevice, FailsAt}
 use Rattle.puffin_data.specs.Value.Layout.{IsBytes}
-use Rattle.puffin_data.proofs.Numbers.{IsBytes-append}
+use Rattle.puffin_data.proofs.lemmas.Numbers.{IsBytes-append}
 use Rattle.puffin_frames.specs.declared.frame_data.frame.FrameData.{FrameData}
 use Rattle.puffin_frames.specs.Frame.Holding.{Packing}
 use Rattle.puffin_frames.specs.Frame.Contents.{holding_of, frame_says}

@@ -10,8 +10,8 @@ use Rattle.byteorder.specs.Endian.{little_bytes, little_number}
 use Rattle.byteorder.specs.Numbers.{little_from-lt, little_from-take, length-bytes_low_first, little_number-reads_back}
 use Rattle.puffin_data.specs.Value.Layout.{IsBytes, byte, number, signed, zigzag, flag, block, IsByte, IsWord, IsLong, IsSigned, IsBlock, IsText, IsAny}
 use Rattle.puffin_data.specs.Value.Decoding.{byte_at, wide_at, number_after, number_at, word_at, unzigzag, signed_at, flag_at, split_after, bytes_at, text_at}
-use Rattle.puffin_data.proofs.Numbers.{IsBytes-take, bytes_4, bytes_8}
-use Rattle.puffin_data.proofs.Readers.{IsReader, IsBytes-rest, IsBytes-after, bind_some, checked_reader, form_reader}
+use Rattle.puffin_data.proofs.lemmas.Numbers.{IsBytes-take, bytes_4, bytes_8}
+use Rattle.puffin_data.proofs.lemmas.Readers.{IsReader, IsBytes-rest, IsBytes-after, bind_some, checked_reader, form_reader}
 
 -- ---- bytes of a number
 

@@ -13,8 +13,8 @@ use Rattle.puffin_data.specs.Honesty.{recorded}
 use Rattle.puffin_data.specs.declared.data.info.StreamInfo.{StreamInfo}
 use Rattle.puffin_frames.specs.Frame.Contents.{records, streams_of}
 use Rattle.puffin_frames.specs.Thread.Info.{info_cmp, info_of, thread_cmp, keyed, by_info}
-use Rattle.puffin_frames.proofs.Infos.{info_cmp_total, info_cmp-one}
-use Rattle.puffin_frames.proofs.Seen.{insert-seen, entries-seen}
+use Rattle.puffin_frames.proofs.lemmas.Infos.{info_cmp_total, info_cmp-one}
+use Rattle.puffin_frames.proofs.lemmas.EntriesSeen.{insert-seen, entries-seen}
 
 module _ {X : Type 0} where
   -- an insertion into the map is one by infos

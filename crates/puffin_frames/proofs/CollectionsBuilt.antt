@@ -6,7 +6,7 @@ use Rattle.std.specs.Cmp.{nat_cmp_total, eq_by_cmp_equiv, unsigned_ties, Equal-i
 use Rattle.std.specs.Cmp.Lexicographic.{nat_list_cmp_total}
 use Rattle.std.specs.FinMap.{get, get-insert, get-empty, values, nat_cmp-IsAntisymmetric}
 use Rattle.puffin_frames.specs.Details.{Details, name_of}
-use Rattle.puffin_frames.proofs.Seen.{entries-empty}
+use Rattle.puffin_frames.proofs.lemmas.EntriesSeen.{entries-empty}
 use Rattle.puffin_frames.specs.Details.Collection.{Collection, bytes_cmp, no_details, inserted, inserted_at, inserted_all, kept_or, first_with_id, id_under, last_id_of}
 
 or_assoc : {A : Type 0} (a b c : Option A) → option_or (option_or a b) c ≡ option_or a (option_or b c)

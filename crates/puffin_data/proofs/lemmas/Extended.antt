@@ -6,8 +6,8 @@ use Rattle.puffin_data.specs.Forest.{Forest, IsForest, empty, node, append}
 use Rattle.puffin_data.specs.Forest.Measures.{scope_count, height, least_start, greatest_stop}
 use Rattle.puffin_data.specs.Forest.Spelling.{spelling}
 use Rattle.puffin_data.specs.Honesty.{Recorded, IsHonestRecord, joined}
-use Rattle.puffin_data.proofs.Unique.{spelling-append}
-use Rattle.puffin_data.proofs.Told.{least_in_range, greatest_in_range, from_most, from_least}
+use Rattle.puffin_data.proofs.lemmas.Unique.{spelling-append}
+use Rattle.puffin_data.proofs.RangesTold.{least_in_range, greatest_in_range, from_most, from_least}
 
 pub scope_count-append : (f g : Forest) → scope_count (append f g) ≡ scope_count f + scope_count g
 scope_count-append empty g = omega arith

@@ -14,11 +14,11 @@ use Rattle.puffin_data.specs.Walk.{region, IsFaultAt, Refuses}
 use Rattle.puffin_data.specs.Forest.Spelling.{Spells}
 use Rattle.puffin_data.specs.Honesty.{Counts}
 use Rattle.puffin_data.specs.inner.Walking.{uncounted, tries_in, Walked, Stopped}
-use Rattle.puffin_data.proofs.Numbers.{IsBytes}
+use Rattle.puffin_data.proofs.lemmas.Numbers.{IsBytes}
 use Rattle.puffin_data.proofs.Regions.{whole_region, empty_region, nothing_is_no_fault, between}
 use Rattle.puffin_data.proofs.Completes.{completed, tallied, tallies}
-use Rattle.puffin_data.proofs.Faults.{stopped_at}
-use Rattle.puffin_data.proofs.Unique.{faultless, same_forest}
+use Rattle.puffin_data.proofs.FirstFaults.{stopped_at}
+use Rattle.puffin_data.proofs.lemmas.Unique.{faultless, same_forest}
 
 pub least_in_range : (f : Forest) → least_start f ≤ℤ pos (2 ^ 63 - 1)
 least_in_range empty = omega (arith, ints)

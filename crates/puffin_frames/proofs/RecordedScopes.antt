@@ -11,11 +11,11 @@ use Rattle.puffin_data.specs.Forest.Spelling.{spelling, begin_bytes}
 use Rattle.puffin_data.specs.Forest.Tour.{Event, Open, Close, tour}
 use Rattle.puffin_data.specs.Forest.Words.{word_size, open_after}
 use Rattle.puffin_data.specs.Forest.Open.{Opened, IsOpened, open_spelling, open_word, size_place, ended_bytes, with_ended}
-use Rattle.puffin_data.proofs.Opening.{begins, begins-word, finishes, finishes-word, ended-written, open_size, size_within}
+use Rattle.puffin_data.proofs.lemmas.Opening.{begins, begins-word, finishes, finishes-word, ended-written, open_size, size_within}
 use Rattle.puffin_frames.specs.Thread.Events.{events_in}
 use Rattle.puffin_frames.specs.inner.ThreadRecording.{scopes_closed, scopes_with, scopes_in, size_places, StartedBy, Holds}
 use Rattle.puffin_frames.specs.Thread.Calls.{opened_after, open_offsets}
-use Rattle.puffin_frames.proofs.Events.{events_open, events_of_none}
+use Rattle.puffin_frames.proofs.lemmas.Events.{events_open, events_of_none}
 
 -- the facts have one proof each
 

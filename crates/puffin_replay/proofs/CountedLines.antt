@@ -9,7 +9,7 @@ use Rattle.puffin_data.specs.declared.data.info.StreamInfo.{StreamInfo}
 use Rattle.puffin_frames.specs.declared.thread_profiler.thread_info.ThreadInfo.{ThreadInfo}
 use Rattle.puffin_frames.specs.Frame.Contents.{unshared, records, shared_streams}
 use Rattle.puffin_frames.specs.Thread.Info.{thread_cmp}
-use Rattle.puffin_frames.proofs.Keyed.{entries-streams_of}
+use Rattle.puffin_frames.proofs.lemmas.Keyed.{entries-streams_of}
 
 same_keys : {A : Type 0} (es : List (ThreadInfo × Arc StreamInfo A)) → keys_of (unshared es) ≡ keys_of es
 same_keys [] = refl

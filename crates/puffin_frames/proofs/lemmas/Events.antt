@@ -12,7 +12,7 @@ use Rattle.puffin_data.specs.Walk.Reading.{id_in, time_in, text_size_in, child_b
 use Rattle.puffin_data.specs.Forest.Tour.{Event, Open, Close, tour}
 use Rattle.puffin_data.specs.Forest.Words.{word_size}
 use Rattle.puffin_data.specs.Forest.Open.{Opened, opening_bytes, open_spelling, opening_word, open_word}
-use Rattle.puffin_data.proofs.Opening.{open_size}
+use Rattle.puffin_data.proofs.lemmas.Opening.{open_size}
 use Rattle.puffin_frames.specs.Thread.Events.{open_in, events_from, events_in}
 use Rattle.puffin_frames.specs.inner.ThreadRecording.{StartedBy}
 

@@ -11,7 +11,7 @@ use Rattle.puffin_data.specs.Forest.Measures.{scope_count}
 use Rattle.puffin_data.specs.Walk.Reading.{Found}
 use Rattle.puffin_data.specs.Walk.{region, IsSoundAt, IsFaultAt, Reaches, here, child, sibling, Sounds, no_more, one_more}
 use Rattle.puffin_data.specs.inner.Walking.{counted, Stop, tries_in, Visits, stops, stops_within, goes_on}
-use Rattle.puffin_data.proofs.Numbers.{IsBytes}
+use Rattle.puffin_data.proofs.lemmas.Numbers.{IsBytes}
 use Rattle.puffin_data.proofs.Resuming.{found_places}
 use Rattle.puffin_data.proofs.Regions.{sound_is_no_fault, one_sound, between}
 use Rattle.puffin_data.proofs.Completes.{tallied, completed}
