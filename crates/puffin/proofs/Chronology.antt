@@ -9,7 +9,7 @@ use Rattle.std.specs.FinMap as fin
 use Rattle.std.specs.FinMap.Entries.{by_order, where_key, is_sorted-where_key, find-where_key, same_entries}
 use Rattle.puffin.specs.declared.profile_view.slow_rank.SlowRank.{SlowRank}
 use Rattle.puffin.specs.View.ViewedFrames.{Frame, index_of, frames_by_index, chronological}
-use Rattle.puffin.specs.inner.view.Held.{Held}
+use Rattle.puffin.specs.inner.view.Held.{HeldFrames}
 use Rattle.puffin.specs.inner.view.Ranks.{rank_index, has}
 use Rattle.puffin.specs.inner.view.Store.{AreStored}
 use Rattle.puffin.proofs.Storing.{held_whole, find_held, has-index_of, index-rank_of}
@@ -52,11 +52,11 @@ values-where p (e ∷ es) h = ap (λ b. map (λ e. e.1) (cond b (e ∷ where_key
   at false later = later
 
 -- those of the frames that are slow, as they stand by their indices
-pub slow_listed : (held : Held) (recent : List ℕ) (slow : List SlowRank) (last : Option ℕ) (R S : List Frame) → AreStored held recent slow last R S → filter (λ f. has (index_of f) (map rank_index slow)) (fin.values held) ≡ chronological S
+pub slow_listed : (held : HeldFrames) (recent : List ℕ) (slow : List SlowRank) (last : Option ℕ) (R S : List Frame) → AreStored held recent slow last R S → filter (λ f. has (index_of f) (map rank_index slow)) (fin.values held) ≡ chronological S
 slow_listed held recent slow last R S h =
     let p : ℕ → Bool = λ q. has q (map rank_index slow) in
     let indices : map rank_index slow ≡ map index_of S = ap (map rank_index) h.slow_at ∙ index-rank_of S in
-    let all : AreKeyed (fin.entries held) = subst (λ (m : Held). AreKeyed (fin.entries m)) (sym (held_whole held recent slow last R S h)) (keyed (R ++ S)) in
+    let all : AreKeyed (fin.entries held) = subst (λ (m : HeldFrames). AreKeyed (fin.entries m)) (sym (held_whole held recent slow last R S h)) (keyed (R ++ S)) in
     sym (values-where p (fin.entries held) all)
     ∙ ap (map (λ e. e.1)) (same_entries nat_cmp nat_cmp_total fin.nat_cmp-IsAntisymmetric (where_key nat_cmp p (fin.entries held)) (fin.entries (frames_by_index S)) (is_sorted-where_key nat_cmp p (fin.entries held) (fin.entries_sorted held)) (fin.entries_sorted (frames_by_index S))
     (λ q. find-where_key nat_cmp p q (λ x t. ap p (sym (tied q x t))) (fin.entries held) ∙ ap (λ o. cond (p q) o None) (sym (fin.get-entries held q)) ∙ ap (λ b. cond b (fin.get held q) None) (ap (has q) indices ∙ has-index_of q S)

@@ -3,7 +3,7 @@ use Rattle.std.proofs.Common.{◌≡◌, ℕ, ◌+◌, pos, negsuc, List, [], �
 use Rattle.puffin_data.specs.Forest.{Forest, empty, node}
 use Rattle.puffin.specs.Merge.Occurrences.{Label, Occurrence, FrameScopes, occurrences}
 use Rattle.puffin.specs.Merge.Pieces.{merged_at}
-use Rattle.puffin.specs.Merge.Starts.{earliest}
+use Rattle.puffin.specs.Merge.Starts.{earliest_starts}
 
 -- a scope without a text
 no_text : (n : ℕ) → take {A = ℕ} n [] ≡ []
@@ -37,7 +37,7 @@ grandchild : merged_at two_rounds (label 2 ∷ label 4 ∷ label 5 ∷ []) ≡ r
 grandchild = simp (no_text)
 
 -- the second starts where the first ends: 100 and 200 long, then 300
-top_starts : earliest (pos 0) (record { own_start = pos 100; duration = 200 } ∷ record { own_start = pos 200; duration = 1400 } ∷ []) ≡ pos 100 ∷ pos 300 ∷ []
+top_starts : earliest_starts (pos 0) (record { own_start = pos 100; duration = 200 } ∷ record { own_start = pos 200; duration = 1400 } ∷ []) ≡ pos 100 ∷ pos 300 ∷ []
 top_starts = refl
 
 -- a child that starts before its parent
@@ -48,7 +48,7 @@ early_start : (merged_at early (label 1 ∷ label 2 ∷ [])).own_start ≡ negsu
 unfolding early
 early_start = simp (no_text)
 
-early_drawn : earliest (pos 0) (record { own_start = negsuc 4; duration = 55 } ∷ []) ≡ pos 0 ∷ []
+early_drawn : earliest_starts (pos 0) (record { own_start = negsuc 4; duration = 55 } ∷ []) ≡ pos 0 ∷ []
 early_drawn = refl
 
 -- three frames: the last has an earlier own start once its range is taken off

@@ -8,12 +8,12 @@ use Rattle.puffin_frames.specs.declared.frame_data.meta.FrameMeta.{FrameMeta}
 use Rattle.puffin_frames.specs.declared.frame_data.held.Held.{Held}
 use Rattle.puffin_frames.specs.declared.frame_data.held.Held.TheVariants.{Own, Shared, Packed, Both}
 use Rattle.puffin_frames.specs.Details.{Details}
-use Rattle.puffin_frames.specs.Details.Collection.{Collection, no_details, inserted, inserted_all}
+use Rattle.puffin_frames.specs.Details.Collection.{Collection, no_details, with_details, with_all_details}
 use Rattle.puffin_frames.specs.Packet.Stored.{Stored}
 use Rattle.puffin_frames.specs.Packet.Next.{stored_of, IsFresh}
 use Rattle.puffin.specs.declared.profile_view.frame_view.FrameView.{FrameView}
 use Rattle.puffin.specs.View.ViewedFrames.{Frame, contents_of}
-use Rattle.puffin.specs.View.FrameOf.{frame_of, told}
+use Rattle.puffin.specs.View.FrameOf.{frame_of, details_of_frame}
 use Rattle.puffin.specs.View.{View, after_taking, after_all, Took}
 use Rattle.puffin.specs.View.Known.{view_of, collection_of}
 use Rattle.puffin.specs.View.File.{frame_stored, details_stored, read_view, IsViewOf}
@@ -48,7 +48,7 @@ after_last v (g ∷ fs) f = after_last (after_taking v g) fs f
 pub took_all : (fs : List Frame) → Took (map contents_of fs) (after_all read_view fs)
 took_all fs = Took-all read_view [] fs tt (Took-none read_view refl refl refl)
 
-pub view_of_frames : (stored : List Stored) (v : FrameView) → view_of v ≡ after_all read_view (map frame_stored stored) → collection_of v ≡ inserted_all no_details (flat_map details_stored stored) → IsViewOf stored v
+pub view_of_frames : (stored : List Stored) (v : FrameView) → view_of v ≡ after_all read_view (map frame_stored stored) → collection_of v ≡ with_all_details no_details (flat_map details_stored stored) → IsViewOf stored v
 view_of_frames stored v frames details = record {
   frames = frames;
   took = subst (λ (w : View). Took (map contents_of (map frame_stored stored)) w) (sym frames) (took_all (map frame_stored stored));
@@ -56,10 +56,10 @@ view_of_frames stored v frames details = record {
 }
 
 pub view_of_more : (stored : List Stored) (s : Stored) (f : Frame) (v w : FrameView) → f ≡ frame_stored s → IsViewOf stored v → view_of w ≡ after_taking (view_of v) f
-    → collection_of w ≡ inserted_all (collection_of v) (told f) → IsViewOf (stored ++ s ∷ []) w
+    → collection_of w ≡ with_all_details (collection_of v) (details_of_frame f) → IsViewOf (stored ++ s ∷ []) w
 view_of_more stored s f v w is h taken learnt =
     let frames = map frame_stored stored in
     view_of_frames (stored ++ s ∷ []) w
     (taken ∙ (ap (λ (u : View). after_taking u f) h.frames ∙ (ap (after_taking (after_all read_view frames)) is ∙ (sym (after_last read_view frames (frame_stored s)) ∙ ap (after_all read_view) (sym (map-append frame_stored stored (s ∷ [])))))))
-    (learnt ∙ (ap (λ (c : Collection). inserted_all c (told f)) h.details ∙ (ap (λ (g : Frame). inserted_all (inserted_all no_details (flat_map details_stored stored)) (told g)) is
-    ∙ (sym (fold-append inserted no_details (flat_map details_stored stored) (details_stored s)) ∙ ap (inserted_all no_details) (flat_map_more details_stored [] stored s)))))
+    (learnt ∙ (ap (λ (c : Collection). with_all_details c (details_of_frame f)) h.details ∙ (ap (λ (g : Frame). with_all_details (with_all_details no_details (flat_map details_stored stored)) (details_of_frame g)) is
+    ∙ (sym (fold-append with_details no_details (flat_map details_stored stored) (details_stored s)) ∙ ap (with_all_details no_details) (flat_map_more details_stored [] stored s)))))

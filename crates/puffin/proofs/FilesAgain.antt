@@ -17,7 +17,7 @@ use Rattle.puffin_frames.specs.Packet.Stored.{Said, Stored, packed}
 use Rattle.puffin_frames.specs.Packet.Steps.{IsPacked}
 use Rattle.puffin.specs.declared.profile_view.frame_view.FrameView.{FrameView}
 use Rattle.puffin.specs.View.Ranking.{last_of, last_in}
-use Rattle.puffin.specs.View.ViewedFrames.{Frame, contents_of, index_of, taken, is_rising, rises_above, frames_by_index}
+use Rattle.puffin.specs.View.ViewedFrames.{Frame, contents_of, index_of, rising_end, is_rising, rises_above, frames_by_index}
 use Rattle.puffin.specs.View.{View, emptied, with_packed, with_newest_packed, is_past, after_taking, after_all}
 use Rattle.puffin.specs.View.Known.{view_of, lacks_ids}
 use Rattle.puffin.specs.View.File.{file_of, contents_in, frame_stored, file_at, read_view, FramesReading, TookFrames, TookFault, FailsToRead, ReadsView, IsViewOf}
@@ -26,9 +26,9 @@ use Rattle.puffin.proofs.FilesWritten.{Again, Answer, unless_missing, file_again
 
 -- ---- devices whose bytes are known
 
-known_answer : (read : FramesReading) (taken rest : List ℕ) (now : Answer) (old : List ℕ) (then : Answer) → old ≡ taken ++ rest → read taken ≡ now → rest ≡ [] → now ≡ then → read old ≡ then
-known_answer read taken rest now old then c given end same =
-    ap read (c ∙ (ap (λ (t : List ℕ). taken ++ t) end ∙ append-nil taken)) ∙ (given ∙ same)
+known_answer : (read : FramesReading) (rising_end rest : List ℕ) (now : Answer) (old : List ℕ) (then : Answer) → old ≡ rising_end ++ rest → read rising_end ≡ now → rest ≡ [] → now ≡ then → read old ≡ then
+known_answer read rising_end rest now old then c given end same =
+    ap read (c ∙ (ap (λ (t : List ℕ). rising_end ++ t) end ∙ append-nil rising_end)) ∙ (given ∙ same)
 
 known_frames : (read : FramesReading) (old : List ℕ) (new : Option (List ℕ)) (frames : List Stored) → TookFrames read (Some old) new frames → (rest : List ℕ) × (read old ≡ Ok (frames, rest))
 known_frames read old None frames h = absurd h.consumed
@@ -121,9 +121,9 @@ rising_by (e ∷ es) keys sorted =
 pub contents_rise : (v : View) → is_rising (contents_in v) ≡ true
 contents_rise v = let fs = v.recent ++ v.slow in rising_by (fin.entries (frames_by_index fs)) (keyed fs) (fin.entries_sorted (frames_by_index fs))
 
-pub all_taken : (cs : List Said) → is_rising cs ≡ true → taken cs ≡ cs
+pub all_taken : (cs : List Said) → is_rising cs ≡ true → rising_end cs ≡ cs
 all_taken [] h = refl
-all_taken (c ∷ cs) h = ap (λ (b : Bool). cond b (c ∷ cs) (taken cs)) h
+all_taken (c ∷ cs) h = ap (λ (b : Bool). cond b (c ∷ cs) (rising_end cs)) h
 
 -- ---- a view that keeps all frames
 
@@ -154,7 +154,7 @@ view_by : (cs : List Said) (frames : List Stored) (view : FrameView) → is_risi
 view_by cs frames view rising few is h =
     let said : map contents_of (map frame_stored frames) ≡ cs = ap (λ (fs : List Stored). map contents_of (map frame_stored fs)) is ∙ said_again cs in
     let most : (view_of view).max_recent ≡ 2 ^ 64 - 1 = ap (λ (v : View). v.max_recent) h.frames ∙ all_keep read_view (map frame_stored frames) in
-    h.took.holds.recent ∙ (ap (λ (n : ℕ). last_of n (taken (map contents_of (map frame_stored frames)))) most ∙ (ap (λ (ds : List Said). last_of (2 ^ 64 - 1) (taken ds)) said
+    h.took.holds.recent ∙ (ap (λ (n : ℕ). last_of n (rising_end (map contents_of (map frame_stored frames)))) most ∙ (ap (λ (ds : List Said). last_of (2 ^ 64 - 1) (rising_end ds)) said
     ∙ (ap (last_of (2 ^ 64 - 1)) (all_taken cs rising) ∙ last_of_all (2 ^ 64 - 1) cs (omega (arith, few)))))
 
 pub view_again : (v : View) (new : Option (List ℕ)) (view : FrameView) → Again → AllByRecursion IsPacked (contents_in v) → length (contents_in v) < 2 ^ 64 - 1 → ReadsView file_at (Some (file_of (contents_in v))) new (Ok view)

@@ -11,7 +11,7 @@ use Rattle.std.specs.FinMap as fin
 use Rattle.std.specs.FinMap.Entries.{by_order, below_all, is_sorted, same_entries}
 use Rattle.puffin_frames.specs.Packet.Stored.{Said, packed}
 use Rattle.puffin.specs.View.Ranking.{last_of, last_in}
-use Rattle.puffin.specs.View.ViewedFrames.{Frame, contents_of, index_of, frame_index, packed_at, taken, is_rising, rises_above, frames_by_index, chronological}
+use Rattle.puffin.specs.View.ViewedFrames.{Frame, contents_of, index_of, frame_index, packed_under, rising_end, is_rising, rises_above, frames_by_index, chronological}
 use Rattle.puffin.specs.View.{View, emptied, with_packed, with_newest_packed, is_past, enters, joined_by, after_taking, after_all, Took}
 use Rattle.puffin.specs.View.File.{contents_held, contents_in, frame_stored, read_view}
 use Rattle.puffin.specs.inner.view.Store.{has_index}
@@ -28,7 +28,7 @@ record AllHeld (P : Frame → Type 0) (v : View) : Type 0 where
   slow : AllByRecursion P v.slow
 
 -- a fact that packing keeps
-module _ (P : Frame → Type 0) (keeps : (i : ℕ) (f : Frame) → P f → P (packed_at i f)) where
+module _ (P : Frame → Type 0) (keeps : (i : ℕ) (f : Frame) → P f → P (packed_under i f)) where
   newest_held : (o : Option Frame) (v : View) → AllHeld P v → AllHeld P (option_map_or (λ f. with_packed (index_of f) v) o v)
   newest_held None v h = h
   newest_held (Some f) v h = record { recent = all_packed P P (index_of f) (keeps (index_of f)) v.recent h.recent; slow = all_packed P P (index_of f) (keeps (index_of f)) v.slow h.slow }
@@ -69,7 +69,7 @@ all_append : (P : Frame → Type 0) (fs gs : List Frame) → AllByRecursion P fs
 all_append P [] gs h k = k
 all_append P (f ∷ fs) gs h k = (h.0, all_append P fs gs h.1 k)
 
-says_same : (i : ℕ) (f : Frame) → contents_of (packed_at i f) ≡ contents_of f
+says_same : (i : ℕ) (f : Frame) → contents_of (packed_under i f) ≡ contents_of f
 says_same i f = at (nat_eq (index_of f) i) where
   at : (b : Bool) → contents_of (cond b (record { contents = f.contents; is_unpacked = false; is_packed = true }) f) ≡ contents_of f
   at true = refl
@@ -213,7 +213,7 @@ read_in_place cs rising few =
     let said : map contents_of fs ≡ cs = said_again cs in
     let took : Took (map contents_of fs) v = took_all fs in
     let recent : map contents_of v.recent ≡ cs =
-    took.holds.recent ∙ (ap (λ (n : ℕ). last_of n (taken (map contents_of fs))) (all_keep read_view fs) ∙ (ap (λ (ds : List Said). last_of (2 ^ 64 - 1) (taken ds)) said
+    took.holds.recent ∙ (ap (λ (n : ℕ). last_of n (rising_end (map contents_of fs))) (all_keep read_view fs) ∙ (ap (λ (ds : List Said). last_of (2 ^ 64 - 1) (rising_end ds)) said
     ∙ (ap (last_of (2 ^ 64 - 1)) (all_taken cs rising) ∙ last_of_all (2 ^ 64 - 1) cs (omega (arith, few))))) in
     let slow : AllByRecursion (λ g. has_index (index_of g) fs ≡ true) v.slow =
     (all_held (λ g. has_index (index_of g) fs ≡ true) (λ i f h. ap (λ (k : ℕ). has_index k fs) (index_packed_at i f) ∙ h) read_view fs (has_all (λ g. has_index (index_of g) fs ≡ true) fs (λ g h. h)) (record { recent = tt; slow = tt })).slow in

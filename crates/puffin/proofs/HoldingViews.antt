@@ -20,14 +20,14 @@ use Rattle.puffin_frames.specs.declared.frame_data.held.Held.{Held}
 use Rattle.puffin_frames.specs.declared.frame_data.held.Held.TheVariants.{Own, Shared, Packed, Both}
 use Rattle.puffin_frames.specs.Frame.Contents.{Streams, holding_of, held_as, frame_meta, frame_says}
 use Rattle.puffin_frames.specs.Frame.Holding.{Packing, packing, as_packed}
-use Rattle.puffin.specs.View.ViewedFrames.{Frame, packed, ram_of}
+use Rattle.puffin.specs.View.ViewedFrames.{Frame, packed_alone, ram_of}
 use Rattle.std.specs.Arc.{arc_value}
 use Rattle.puffin.specs.View.FrameOf.{frame_of, shared_frame}
 use Rattle.std.specs.Option.{option_copied}
 use Rattle.puffin.specs.declared.profile_view.sums.Sums.{Sums}
 use Rattle.puffin.specs.View.Stats.{stats_of, cut}
 use Rattle.puffin.specs.declared.profile_view.stats.FrameStats.{FrameStats}
-use Rattle.puffin.specs.inner.view.Held.{IsSummed, seen, held_of, number_if, unpacked_number, ram_taken}
+use Rattle.puffin.specs.inner.view.Held.{IsSummed, frames_seen, held_of, number_if, unpacked_number, ram_taken}
 
 turned : (k q : ℕ) → is_at (nat_cmp k) q ≡ eq_by_cmp nat_cmp q k
 turned k q = grind arith
@@ -41,12 +41,12 @@ module _ {A : Type 0} where
   at_head true a o = refl
   at_head false a o = refl
 
-  find-seen : (q : ℕ) (es : List (ℕ × Arc FrameData A)) → fin.find nat_cmp q (seen es) ≡ option_map shared_frame (lookup (is_at (nat_cmp q)) es)
+  find-seen : (q : ℕ) (es : List (ℕ × Arc FrameData A)) → fin.find nat_cmp q (frames_seen es) ≡ option_map shared_frame (lookup (is_at (nat_cmp q)) es)
   find-seen q [] = refl
   find-seen q (e ∷ es) = ap (λ o. cond (is_eq (nat_cmp q e.0)) (Some (shared_frame e.1)) o) (find-seen q es) ∙ at_head (is_eq (nat_cmp q e.0)) e.1 (lookup (is_at (nat_cmp q)) es)
 
   pub get-held_of : (es : List (ℕ × Arc FrameData A)) (q : ℕ) → fin.get (held_of es) q ≡ option_map shared_frame (lookup (is_at (nat_cmp q)) es)
-  get-held_of es q = fin.get-from_entries nat_cmp_total (seen es) q ∙ find-seen q es
+  get-held_of es q = fin.get-from_entries nat_cmp_total (frames_seen es) q ∙ find-seen q es
 
   mapped : (b : Bool) (w o : Option (Arc FrameData A)) → option_map shared_frame (cond b w o) ≡ cond b (option_map shared_frame w) (option_map shared_frame o)
   mapped true w o = refl
@@ -67,16 +67,16 @@ module _ {A : Type 0} where
   held_of-removed es fs k h = fin.same_map nat_cmp_total fin.nat_cmp-IsAntisymmetric (held_of fs) (fin.remove (held_of es) k) (λ q. updated es fs k None h q ∙ sym (fin.get-remove nat_cmp_total (held_of es) k q))
 
   -- the frames, in the order of their indices
-  put_first : (k : ℕ) (v : Frame) (es : List (ℕ × Arc FrameData A)) → AllByRecursion (λ y. nat_cmp k y ≡ Less) (keys_of es) → fin.put nat_cmp k v (seen es) ≡ (k, v) ∷ seen es
+  put_first : (k : ℕ) (v : Frame) (es : List (ℕ × Arc FrameData A)) → AllByRecursion (λ y. nat_cmp k y ≡ Less) (keys_of es) → fin.put nat_cmp k v (frames_seen es) ≡ (k, v) ∷ frames_seen es
   put_first k v [] below = refl
-  put_first k v (e ∷ es) below = ap (λ r. by_order r ((k, v) ∷ (e.0, shared_frame e.1) ∷ seen es) ((e.0, v) ∷ seen es) ((e.0, shared_frame e.1) ∷ fin.put nat_cmp k v (seen es))) below.0
+  put_first k v (e ∷ es) below = ap (λ r. by_order r ((k, v) ∷ (e.0, shared_frame e.1) ∷ frames_seen es) ((e.0, v) ∷ frames_seen es) ((e.0, shared_frame e.1) ∷ fin.put nat_cmp k v (frames_seen es))) below.0
 
-  entries-held_of : (es : List (ℕ × Arc FrameData A)) → IsStrictlySortedBy nat_cmp (keys_of es) → fin.entries (held_of es) ≡ seen es
+  entries-held_of : (es : List (ℕ × Arc FrameData A)) → IsStrictlySortedBy nat_cmp (keys_of es) → fin.entries (held_of es) ≡ frames_seen es
   entries-held_of [] sorted = no_length (fin.entries (held_of (let none : List (ℕ × Arc FrameData A) = [] in none))) (sym (fin.len-entries (held_of (let none : List (ℕ × Arc FrameData A) = [] in none))) ∙ fin.len-empty nat_cmp Frame)
   entries-held_of (e ∷ es) sorted =
       fin.entries-insert nat_cmp_total (held_of es) e.0 (shared_frame e.1) ∙ ap (fin.put nat_cmp e.0 (shared_frame e.1)) (entries-held_of es (sorted_tail nat_cmp e.0 _ sorted)) ∙ put_first e.0 (shared_frame e.1) es (sorted_head nat_cmp e.0 _ sorted)
 
-  values-seen : (es : List (ℕ × Arc FrameData A)) → map (λ e. e.1) (seen es) ≡ map shared_frame (values_of es)
+  values-seen : (es : List (ℕ × Arc FrameData A)) → map (λ e. e.1) (frames_seen es) ≡ map shared_frame (values_of es)
   values-seen [] = refl
   values-seen (e ∷ es) = ap (λ fs. shared_frame e.1 ∷ fs) (values-seen es)
 
@@ -174,7 +174,7 @@ module _ {A : Type 0} where
   keys_cloned (e ∷ es) [] h = absurd h
   keys_cloned (e ∷ es) (f ∷ fs) h = λ i. h.0.0 i ∷ keys_cloned es fs h.1 i
 
-  pub seen_cloned : (es fs : List (ℕ × Arc FrameData A)) → AllZip (λ p q. (q.0 ≡ p.0) × (arc_value q.1 ≡ arc_value p.1)) es fs → seen fs ≡ seen es
+  pub seen_cloned : (es fs : List (ℕ × Arc FrameData A)) → AllZip (λ p q. (q.0 ≡ p.0) × (arc_value q.1 ≡ arc_value p.1)) es fs → frames_seen fs ≡ frames_seen es
   seen_cloned [] [] h = refl
   seen_cloned [] (f ∷ fs) h = absurd h
   seen_cloned (e ∷ es) [] h = absurd h
@@ -205,7 +205,7 @@ pub ram_says : (f : FrameData) → min (unwrap_or (option_map (λ _. (frame_meta
 ram_says f = ram_at (holding_of f).packed (holding_of f).unpacked (frame_meta f).num_bytes
 
 -- a packed copy
-pub packed_copied : (f g : FrameData) → holding_of g ≡ as_packed (holding_of f) → frame_says g ≡ frame_says f → frame_of g ≡ packed (frame_of f)
+pub packed_copied : (f g : FrameData) → holding_of g ≡ as_packed (holding_of f) → frame_says g ≡ frame_says f → frame_of g ≡ packed_alone (frame_of f)
 packed_copied f g held says = λ i. record { contents = says i; is_unpacked = is_some (held i).unpacked; is_packed = is_some (held i).packed }
 
 held_packed : (h : Held) → is_some (held_as h).unpacked ≡ false → is_some (held_as h).packed ≡ true
@@ -215,5 +215,5 @@ held_packed (Packed p) e = refl
 held_packed (Both b) e = refl
 
 -- a frame that isn't held unpacked
-pub packed_alone : (f : FrameData) → is_some (holding_of f).unpacked ≡ false → frame_of f ≡ packed (frame_of f)
+pub packed_alone : (f : FrameData) → is_some (holding_of f).unpacked ≡ false → frame_of f ≡ packed_alone (frame_of f)
 packed_alone f e = λ j. record { contents = frame_says f; is_unpacked = e j; is_packed = held_packed f.held e j }

@@ -8,17 +8,17 @@ use Rattle.std.specs.FinMap as fin
 use Rattle.std.proofs.lemmas.List.{take-append-drop, take_rest}
 use Rattle.puffin.specs.declared.profile_view.slow_rank.SlowRank.{SlowRank}
 use Rattle.puffin.specs.View.Ranking.{place, last_of, last_in}
-use Rattle.puffin.specs.View.ViewedFrames.{Frame, index_of, is_slower_frame, packed, packed_at}
-use Rattle.puffin.specs.inner.view.Held.{Held}
+use Rattle.puffin.specs.View.ViewedFrames.{Frame, index_of, is_slower_frame, packed_alone, packed_under}
+use Rattle.puffin.specs.inner.view.Held.{HeldFrames}
 use Rattle.puffin.specs.inner.view.Ranks.{rank_of, rank_index, rank_cmp, is_before, rank_enters, ranks_after, ranks_gone, AreRanked, LetsGo}
 use Rattle.puffin.specs.View.{View, is_past, joined_by, slow_after, with_packed, with_newest_packed}
-use Rattle.puffin.specs.inner.view.Store.{frames_at, AreHeld, AreStored}
+use Rattle.puffin.specs.inner.view.Store.{frames_under, AreHeld, AreStored}
 use Rattle.puffin.proofs.Orders.{map-take, map-drop, map-length}
 use Rattle.puffin.proofs.Taking.{steady_before}
 use Rattle.puffin.proofs.Searching.{stored_rising, stored_ranked}
 use Rattle.puffin.proofs.Storing.{held_back, stored-cut_slow, stored-cut_recent, stored-added, stored-placed, stored-packed, enters_same, index-rank_of, got_itself}
 
-pub lets_as : (old new : Held) (a b c d : List ℕ) → a ≡ b → c ≡ d → LetsGo old a c new → LetsGo old b d new
+pub lets_as : (old new : HeldFrames) (a b c d : List ℕ) → a ≡ b → c ≡ d → LetsGo old a c new → LetsGo old b d new
 lets_as old new a b c d e p h =
     let P : List ℕ → Type 0 = λ is. LetsGo old is d new in
     let Q : List ℕ → Type 0 = λ is. LetsGo old a is new in
@@ -27,7 +27,7 @@ lets_as old new a b c d e p h =
 ranks_dropped : (max : ℕ) (slow : List SlowRank) (S : List Frame) → slow ≡ map rank_of S → map rank_index (drop max slow) ≡ map index_of (drop max S)
 ranks_dropped max slow S e = ap (λ rs. map rank_index (drop max rs)) e ∙ ap (map rank_index) (sym (map-drop rank_of max S)) ∙ index-rank_of (drop max S)
 
-pub slow_cut : (held new : Held) (recent : List ℕ) (slow slow' : List SlowRank) (last : Option ℕ) (max : ℕ) (R S : List Frame) → AreStored held recent slow last R S → LetsGo held recent (map rank_index (drop max slow)) new → slow' ≡ take max slow
+pub slow_cut : (held new : HeldFrames) (recent : List ℕ) (slow slow' : List SlowRank) (last : Option ℕ) (max : ℕ) (R S : List Frame) → AreStored held recent slow last R S → LetsGo held recent (map rank_index (drop max slow)) new → slow' ≡ take max slow
     → AreStored new recent slow' last R (take max S)
 slow_cut held new recent slow slow' last max R S h go e =
     let P : List Frame → Type 0 = λ fs. AreStored held recent slow last R fs in
@@ -39,7 +39,7 @@ slow_cut held new recent slow slow' last max R S h go e =
 ranks_of_all : (slow : List SlowRank) (S : List Frame) → slow ≡ map rank_of S → map rank_index slow ≡ map index_of S
 ranks_of_all slow S e = ap (map rank_index) e ∙ index-rank_of S
 
-pub recent_cut : (held new : Held) (recent recent' : List ℕ) (slow : List SlowRank) (last : Option ℕ) (max : ℕ) (R S : List Frame) → AreStored held recent slow last R S → LetsGo held (map rank_index slow) (take (length recent - max) recent) new → recent' ≡ last_of max recent
+pub recent_cut : (held new : HeldFrames) (recent recent' : List ℕ) (slow : List SlowRank) (last : Option ℕ) (max : ℕ) (R S : List Frame) → AreStored held recent slow last R S → LetsGo held (map rank_index slow) (take (length recent - max) recent) new → recent' ≡ last_of max recent
     → AreStored new recent' slow last (last_of max R) S
 recent_cut held new recent recent' slow last max R S h go e =
     let n : ℕ = length R - max in
@@ -53,7 +53,7 @@ recent_cut held new recent recent' slow last max R S h go e =
     (lets_as held new (map rank_index slow) (map index_of S) (take (length recent - max) recent) (map index_of (take n R)) (ranks_of_all slow S h.slow_at) gone go))
 
 -- a frame enters the slow ones, or not
-entered : (held new : Held) (recent : List ℕ) (slow : List SlowRank) (max : ℕ) (f : Frame) (R S : List Frame) (b : Bool) → AreStored held recent slow (Some (index_of f)) R S → fin.get held (index_of f) ≡ Some f → AllByRecursion (λ g. index_of g < index_of f) S
+entered : (held new : HeldFrames) (recent : List ℕ) (slow : List SlowRank) (max : ℕ) (f : Frame) (R S : List Frame) (b : Bool) → AreStored held recent slow (Some (index_of f)) R S → fin.get held (index_of f) ≡ Some f → AllByRecursion (λ g. index_of g < index_of f) S
     → LetsGo held recent (map rank_index (cond b (drop max (place is_before (rank_of f) slow)) [])) new → AreStored new recent (cond b (take max (place is_before (rank_of f) slow)) slow) (Some (index_of f)) R (cond b (take max (place is_slower_frame f S)) S)
 entered held new recent slow max f R S true h there before go =
     slow_cut held new recent (place is_before (rank_of f) slow) (take max (place is_before (rank_of f) slow)) (Some (index_of f)) max R (place is_slower_frame f S) (stored-placed held recent slow f R S h there before) go refl
@@ -71,7 +71,7 @@ entered held new recent slow max f R S false h there before go =
       all_taken (x ∷ xs) = ap (λ l. x ∷ l) (all_taken xs)
 
 -- the whole way of one frame
-module _ (v : View) (f : Frame) (held held1 : Held) (recent recent1 : List ℕ) (slow : List SlowRank) (h : AreStored held recent slow v.last v.recent v.slow) (later : is_past v (index_of f) ≡ false) (inserted : held1 ≡ fin.insert held (index_of f) f)
+module _ (v : View) (f : Frame) (held held1 : HeldFrames) (recent recent1 : List ℕ) (slow : List SlowRank) (h : AreStored held recent slow v.last v.recent v.slow) (later : is_past v (index_of f) ≡ false) (inserted : held1 ≡ fin.insert held (index_of f) f)
     (pushed : recent1 ≡ recent ++ index_of f ∷ []) where
   slow_before : AllByRecursion (λ g. index_of g < index_of f) v.slow
   slow_before = steady_before v.last (index_of f) v.slow later h.kept.slow_taken
@@ -79,14 +79,14 @@ module _ (v : View) (f : Frame) (held held1 : Held) (recent recent1 : List ℕ) 
   stored_pushed : AreStored held1 recent1 slow (Some (index_of f)) (v.recent ++ f ∷ []) v.slow
   stored_pushed =
       let before : AllByRecursion (λ g. index_of g < index_of f) v.recent = steady_before v.last (index_of f) v.recent later h.kept.recent_taken in
-      let P : Held → Type 0 = λ m. AreStored m recent1 slow (Some (index_of f)) (v.recent ++ f ∷ []) v.slow in
+      let P : HeldFrames → Type 0 = λ m. AreStored m recent1 slow (Some (index_of f)) (v.recent ++ f ∷ []) v.slow in
       let Q : List ℕ → Type 0 = λ is. AreStored (fin.insert held (index_of f) f) is slow (Some (index_of f)) (v.recent ++ f ∷ []) v.slow in
       subst P (sym inserted) (subst Q (sym pushed) (stored-added held recent slow v.last f v.recent v.slow h before slow_before))
 
   pub pushed_rising : IsStrictlySortedBy nat_cmp recent1
   pushed_rising = stored_rising held1 recent1 slow (Some (index_of f)) (v.recent ++ f ∷ []) v.slow stored_pushed
 
-  module _ (held2 : Held) (slow1 : List SlowRank) (entered_is : slow1 ≡ ranks_after v.max_slow slow (rank_of f)) (go : LetsGo held1 recent1 (map rank_index (ranks_gone v.max_slow slow (rank_of f))) held2) where
+  module _ (held2 : HeldFrames) (slow1 : List SlowRank) (entered_is : slow1 ≡ ranks_after v.max_slow slow (rank_of f)) (go : LetsGo held1 recent1 (map rank_index (ranks_gone v.max_slow slow (rank_of f))) held2) where
     stored_entered : AreStored held2 recent1 slow1 (Some (index_of f)) (v.recent ++ f ∷ []) (slow_after v.max_slow v.slow f)
     stored_entered =
         let there : fin.get held1 (index_of f) ≡ Some f = ap (λ m. fin.get m (index_of f)) inserted ∙ got_itself held f in
@@ -101,26 +101,26 @@ module _ (v : View) (f : Frame) (held held1 : Held) (recent recent1 : List ℕ) 
     pub entered_ranked : AreRanked held2 slow1
     entered_ranked = stored_ranked held2 recent1 slow1 (Some (index_of f)) (v.recent ++ f ∷ []) (slow_after v.max_slow v.slow f) stored_entered
 
-    pub stored_joined : (held3 : Held) (recent2 : List ℕ) → recent2 ≡ last_of v.max_recent recent1 → LetsGo held2 (map rank_index slow1) (take (length recent1 - v.max_recent) recent1) held3
+    pub stored_joined : (held3 : HeldFrames) (recent2 : List ℕ) → recent2 ≡ last_of v.max_recent recent1 → LetsGo held2 (map rank_index slow1) (take (length recent1 - v.max_recent) recent1) held3
         → AreStored held3 recent2 slow1 (Some (index_of f)) (joined_by v f).recent (joined_by v f).slow
     stored_joined held3 recent2 cut_is went = recent_cut held2 held3 recent1 recent2 slow1 (Some (index_of f)) v.max_recent (v.recent ++ f ∷ []) (slow_after v.max_slow v.slow f) stored_entered went cut_is
 
 -- the newest frame packed
-pub packed_newest : (held new : Held) (recent : List ℕ) (slow : List SlowRank) (last : Option ℕ) (R S : List Frame) (f g : Frame) → AreStored held recent slow last R S → last_in R ≡ Some f → g ≡ packed f → new ≡ fin.insert held (index_of g) g
-    → AreStored new recent slow last (map (packed_at (index_of f)) R) (map (packed_at (index_of f)) S)
+pub packed_newest : (held new : HeldFrames) (recent : List ℕ) (slow : List SlowRank) (last : Option ℕ) (R S : List Frame) (f g : Frame) → AreStored held recent slow last R S → last_in R ≡ Some f → g ≡ packed_alone f → new ≡ fin.insert held (index_of g) g
+    → AreStored new recent slow last (map (packed_under (index_of f)) R) (map (packed_under (index_of f)) S)
 packed_newest held new recent slow last R S f g h newest e is =
-    let P : Held → Type 0 = λ m. AreStored m recent slow last (map (packed_at (index_of f)) R) (map (packed_at (index_of f)) S) in
+    let P : HeldFrames → Type 0 = λ m. AreStored m recent slow last (map (packed_under (index_of f)) R) (map (packed_under (index_of f)) S) in
     subst P (sym (is ∙ ap (λ k. fin.insert held (index_of k) k) e)) (stored-packed held recent slow last R S f h newest)
 
 pub newest_is_packed : (v w : View) (f : Frame) → last_in v.recent ≡ Some f → w ≡ v → with_packed (index_of f) w ≡ with_newest_packed v
 newest_is_packed v w f newest e = ap (with_packed (index_of f)) e ∙ ap (λ o. option_map_or (λ g. with_packed (index_of g) v) o v) (sym newest)
 
 -- the last of the indices are those of the last of the frames
-pub last_frames : (held : Held) (recent : List ℕ) (slow : List SlowRank) (last : Option ℕ) (n : ℕ) (R S : List Frame) → AreStored held recent slow last R S → frames_at held (last_of n recent) ≡ last_of n R
+pub last_frames : (held : HeldFrames) (recent : List ℕ) (slow : List SlowRank) (last : Option ℕ) (n : ℕ) (R S : List Frame) → AreStored held recent slow last R S → frames_under held (last_of n recent) ≡ last_of n R
 last_frames held recent slow last n R S h =
     let m : ℕ = length R - n in
     let as_many : length recent - n ≡ m = ap (λ is. length is - n) h.recent_at ∙ ap (λ k. k - n) (map-length index_of R) in
-    ap (λ k. frames_at held (drop k recent)) as_many ∙ ap (λ is. frames_at held (drop m is)) h.recent_at ∙ ap (frames_at held) (sym (map-drop index_of m R)) ∙ held_back (fin.get held) (drop m R) (held_dropped m R h.recent_held) where
+    ap (λ k. frames_under held (drop k recent)) as_many ∙ ap (λ is. frames_under held (drop m is)) h.recent_at ∙ ap (frames_under held) (sym (map-drop index_of m R)) ∙ held_back (fin.get held) (drop m R) (held_dropped m R h.recent_held) where
       held_dropped : (k : ℕ) (fs : List Frame) → AreHeld (fin.get held) fs → AreHeld (fin.get held) (drop k fs)
       held_dropped zero fs h = h
       held_dropped (suc k) [] h = tt

@@ -5,9 +5,9 @@ use Rattle.std.proofs.lemmas.Bool.{ne_eqb}
 use Rattle.std.specs.Prelude.{nat_eq, ◌≢◌}
 use Rattle.std.specs.List.{AllByRecursion}
 use Rattle.puffin.specs.View.Ranking.{place, last_from}
-use Rattle.puffin.specs.View.ViewedFrames.{Frame, index_of, is_slower_frame, packed_at, packed}
+use Rattle.puffin.specs.View.ViewedFrames.{Frame, index_of, is_slower_frame, packed_under, packed_alone}
 use Rattle.puffin.specs.View.{View, enters, joined_by, IsUpTo}
-use Rattle.puffin.specs.inner.view.Kept.{AreRising, AreApart, IsKept}
+use Rattle.puffin.specs.inner.view.Kept.{AreRising, HaveOwnIndices, AreViewLists}
 
 -- of lists
 pub all_map : (P Q : Frame → Type 0) → ((f : Frame) → P f → Q f) → (fs : List Frame) → AllByRecursion P fs → AllByRecursion Q fs
@@ -54,16 +54,16 @@ rising_last (x ∷ xs) f h = (last_all (λ g. index_of x < index_of g) xs h.0, r
   last_all P (y ∷ ys) k = last_all P ys k.1
 
 -- apart
-apart_take : (k : ℕ) (xs : List Frame) → AreApart xs → AreApart (take k xs)
+apart_take : (k : ℕ) (xs : List Frame) → HaveOwnIndices xs → HaveOwnIndices (take k xs)
 apart_take zero xs h = tt
 apart_take (suc k) [] h = tt
 apart_take (suc k) (x ∷ xs) h = (all_take (λ g. index_of g ≢ index_of x) k xs h.0, apart_take k xs h.1)
 
-apart_place_at : (f x : Frame) (xs : List Frame) (b : Bool) → AreApart (x ∷ xs) → AllByRecursion (λ g. index_of g < index_of f) (x ∷ xs) → AreApart (place is_slower_frame f xs) → AreApart (cond b (f ∷ (x ∷ xs)) (x ∷ place is_slower_frame f xs))
+apart_place_at : (f x : Frame) (xs : List Frame) (b : Bool) → HaveOwnIndices (x ∷ xs) → AllByRecursion (λ g. index_of g < index_of f) (x ∷ xs) → HaveOwnIndices (place is_slower_frame f xs) → HaveOwnIndices (cond b (f ∷ (x ∷ xs)) (x ∷ place is_slower_frame f xs))
 apart_place_at f x xs true h p later = (all_map (λ g. index_of g < index_of f) (λ g. index_of g ≢ index_of f) (λ g k e. omega arith) (x ∷ xs) p, h)
 apart_place_at f x xs false h p later = let below = p.0 in (all_place (λ g. index_of g ≢ index_of x) f xs (λ e. omega arith) h.0, later)
 
-apart_place : (f : Frame) (xs : List Frame) → AreApart xs → AllByRecursion (λ g. index_of g < index_of f) xs → AreApart (place is_slower_frame f xs)
+apart_place : (f : Frame) (xs : List Frame) → HaveOwnIndices xs → AllByRecursion (λ g. index_of g < index_of f) xs → HaveOwnIndices (place is_slower_frame f xs)
 apart_place f [] h p = (tt, tt)
 apart_place f (x ∷ xs) h p = apart_place_at f x xs (is_slower_frame f x) h p (apart_place f xs h.1 p.1)
 
@@ -71,16 +71,16 @@ apart_place f (x ∷ xs) h p = apart_place_at f x xs (is_slower_frame f x) h p (
 cons : {X : Type 0} {x y : X} {xs ys : List X} → x ≡ y → xs ≡ ys → x ∷ xs ≡ y ∷ ys
 cons p q i = p i ∷ q i
 
-apart_packed : (i : ℕ) (f : Frame) → index_of f ≢ i → packed_at i f ≡ f
+apart_packed : (i : ℕ) (f : Frame) → index_of f ≢ i → packed_under i f ≡ f
 apart_packed i f h = rw (ne_eqb (index_of f) i h) refl
 
 eqb-same : (a b : ℕ) → a ≡ b → nat_eq a b ≡ true
 eqb-same a b h = grind arith
 
-pub same_packed : (i : ℕ) (f : Frame) → index_of f ≡ i → packed_at i f ≡ packed f
+pub same_packed : (i : ℕ) (f : Frame) → index_of f ≡ i → packed_under i f ≡ packed_alone f
 same_packed i f h = rw (eqb-same (index_of f) i h) refl
 
-pub apart_from_packed : (i : ℕ) (fs : List Frame) → AllByRecursion (λ g. index_of g ≢ i) fs → map (packed_at i) fs ≡ fs
+pub apart_from_packed : (i : ℕ) (fs : List Frame) → AllByRecursion (λ g. index_of g ≢ i) fs → map (packed_under i) fs ≡ fs
 apart_from_packed i [] h = refl
 apart_from_packed i (f ∷ fs) h = cons (apart_packed i f h.0) (apart_from_packed i fs h.1)
 
@@ -92,7 +92,7 @@ all_at P [] k d b h = absurd (no_below k b)
 all_at P (x ∷ xs) zero d b h = h.0
 all_at P (x ∷ xs) (suc k) d b h = all_at P xs k d (omega arith) h.1
 
-pub set_packed : (i : ℕ) (xs : List Frame) (k : ℕ) (y d : Frame) → k < length xs → index_of (get_or xs k d) ≡ i → packed (get_or xs k d) ≡ y → AreApart xs → set xs k y ≡ map (packed_at i) xs
+pub set_packed : (i : ℕ) (xs : List Frame) (k : ℕ) (y d : Frame) → k < length xs → index_of (get_or xs k d) ≡ i → packed_alone (get_or xs k d) ≡ y → HaveOwnIndices xs → set xs k y ≡ map (packed_under i) xs
 set_packed i [] k y d b e p h = absurd (no_below k b)
 set_packed i (x ∷ xs) zero y d b e p h =
     let P : ℕ → Type 0 = λ j. AllByRecursion (λ g. index_of g ≢ j) xs in
@@ -107,31 +107,31 @@ all_so_far P (x ∷ xs) zero d b h p = (p, tt)
 all_so_far P (x ∷ xs) (suc k) d b h p = (h.0, all_so_far P xs k d (omega arith) h.1 p)
 
 -- what packing keeps
-pub index_packed_at : (i : ℕ) (f : Frame) → index_of (packed_at i f) ≡ index_of f
+pub index_packed_at : (i : ℕ) (f : Frame) → index_of (packed_under i f) ≡ index_of f
 index_packed_at i f = at (nat_eq (index_of f) i) where
-  at : (b : Bool) → index_of (cond b (packed f) f) ≡ index_of f
+  at : (b : Bool) → index_of (cond b (packed_alone f) f) ≡ index_of f
   at true = refl
   at false = refl
 
-pub all_packed : (P Q : Frame → Type 0) (i : ℕ) → ((f : Frame) → P f → Q (packed_at i f)) → (fs : List Frame) → AllByRecursion P fs → AllByRecursion Q (map (packed_at i) fs)
+pub all_packed : (P Q : Frame → Type 0) (i : ℕ) → ((f : Frame) → P f → Q (packed_under i f)) → (fs : List Frame) → AllByRecursion P fs → AllByRecursion Q (map (packed_under i) fs)
 all_packed P Q i k [] h = tt
 all_packed P Q i k (f ∷ fs) h = (k f h.0, all_packed P Q i k fs h.1)
 
-rising_packed : (i : ℕ) (fs : List Frame) → AreRising fs → AreRising (map (packed_at i) fs)
+rising_packed : (i : ℕ) (fs : List Frame) → AreRising fs → AreRising (map (packed_under i) fs)
 rising_packed i [] h = tt
 rising_packed i (f ∷ fs) h =
-    (all_packed (λ g. index_of f < index_of g) (λ g. index_of (packed_at i f) < index_of g) i (λ g k. rw (index_packed_at i f, index_packed_at i g) k) fs h.0, rising_packed i fs h.1)
+    (all_packed (λ g. index_of f < index_of g) (λ g. index_of (packed_under i f) < index_of g) i (λ g k. rw (index_packed_at i f, index_packed_at i g) k) fs h.0, rising_packed i fs h.1)
 
-apart_packed_all : (i : ℕ) (fs : List Frame) → AreApart fs → AreApart (map (packed_at i) fs)
+apart_packed_all : (i : ℕ) (fs : List Frame) → HaveOwnIndices fs → HaveOwnIndices (map (packed_under i) fs)
 apart_packed_all i [] h = tt
 apart_packed_all i (f ∷ fs) h =
-    (all_packed (λ g. index_of g ≢ index_of f) (λ g. index_of g ≢ index_of (packed_at i f)) i (λ g k e. k (sym (index_packed_at i g) ∙ e ∙ index_packed_at i f)) fs h.0, apart_packed_all i fs h.1)
+    (all_packed (λ g. index_of g ≢ index_of f) (λ g. index_of g ≢ index_of (packed_under i f)) i (λ g k e. k (sym (index_packed_at i g) ∙ e ∙ index_packed_at i f)) fs h.0, apart_packed_all i fs h.1)
 
-last_packed_from : (i : ℕ) (x : Frame) (xs : List Frame) → last_from (packed_at i x) (map (packed_at i) xs) ≡ packed_at i (last_from x xs)
+last_packed_from : (i : ℕ) (x : Frame) (xs : List Frame) → last_from (packed_under i x) (map (packed_under i) xs) ≡ packed_under i (last_from x xs)
 last_packed_from i x [] = refl
 last_packed_from i x (y ∷ ys) = last_packed_from i y ys
 
-pub IsKept-packed : (i : ℕ) (recent slow : List Frame) (last : Option ℕ) → IsKept recent slow last → IsKept (map (packed_at i) recent) (map (packed_at i) slow) last
+pub IsKept-packed : (i : ℕ) (recent slow : List Frame) (last : Option ℕ) → AreViewLists recent slow last → AreViewLists (map (packed_under i) recent) (map (packed_under i) slow) last
 IsKept-packed i recent slow last h =
     let P : ℕ → Type 0 = λ j. IsUpTo last j in
     record {
@@ -141,18 +141,18 @@ IsKept-packed i recent slow last h =
       apart = apart_packed_all i slow h.apart;
     }
 
-pub IsKept-none : (last : Option ℕ) → IsKept [] [] last
+pub IsKept-none : (last : Option ℕ) → AreViewLists [] [] last
 IsKept-none last = record { recent_taken = tt; slow_taken = tt; rising = tt; apart = tt }
 
-pub IsKept-cleared : (recent slow : List Frame) (last : Option ℕ) → IsKept recent slow last → IsKept recent [] last
+pub IsKept-cleared : (recent slow : List Frame) (last : Option ℕ) → AreViewLists recent slow last → AreViewLists recent [] last
 IsKept-cleared recent slow last h = record { recent_taken = h.recent_taken; slow_taken = tt; rising = h.rising; apart = tt }
 
 -- one frame more
 below_at_most : (f : Frame) (fs : List Frame) → AllByRecursion (λ g. index_of g < index_of f) fs → AllByRecursion (λ g. index_of g ≤ index_of f) fs
 below_at_most f fs h = all_map (λ g. index_of g < index_of f) (λ g. index_of g ≤ index_of f) (λ g k. omega arith) fs h
 
-slow_choice : (k : ℕ) (f : Frame) (slow : List Frame) (b : Bool) → AllByRecursion (λ g. index_of g < index_of f) slow → AreApart slow
-    → AreApart (cond b (take k (place is_slower_frame f slow)) slow)
+slow_choice : (k : ℕ) (f : Frame) (slow : List Frame) (b : Bool) → AllByRecursion (λ g. index_of g < index_of f) slow → HaveOwnIndices slow
+    → HaveOwnIndices (cond b (take k (place is_slower_frame f slow)) slow)
 slow_choice k f slow true h a = apart_take k (place is_slower_frame f slow) (apart_place f slow a h)
 slow_choice k f slow false h a = a
 
@@ -160,7 +160,7 @@ pub all_choice : (P : Frame → Type 0) (k : ℕ) (f : Frame) (slow : List Frame
 all_choice P k f slow true p h = all_take P k (place is_slower_frame f slow) (all_place P f slow p h)
 all_choice P k f slow false p h = h
 
-pub IsKept-joined : (v : View) (f : Frame) → IsKept v.recent v.slow v.last → AllByRecursion (λ g. index_of g < index_of f) v.recent → AllByRecursion (λ g. index_of g < index_of f) v.slow → IsKept (joined_by v f).recent (joined_by v f).slow (Some (index_of f))
+pub IsKept-joined : (v : View) (f : Frame) → AreViewLists v.recent v.slow v.last → AllByRecursion (λ g. index_of g < index_of f) v.recent → AllByRecursion (λ g. index_of g < index_of f) v.slow → AreViewLists (joined_by v f).recent (joined_by v f).slow (Some (index_of f))
 IsKept-joined v f h r s = record {
   recent_taken = all_drop (λ g. index_of g ≤ index_of f) (length (v.recent ++ f ∷ []) - v.max_recent) (v.recent ++ f ∷ []) (all_more (λ g. index_of g ≤ index_of f) v.recent f (below_at_most f v.recent r) (omega arith));
   slow_taken = all_choice (λ g. index_of g ≤ index_of f) v.max_slow f v.slow (enters v f) (omega arith) (below_at_most f v.slow s);

@@ -14,7 +14,7 @@ use Rattle.puffin_data.specs.declared.error.Error.{Error}
 use Rattle.puffin_data.specs.declared.error.Error.TheVariants.{MissingId, Memory}
 use Rattle.puffin_frames.specs.declared.scope_details.details.ScopeDetails.{ScopeDetails}
 use Rattle.puffin_frames.specs.Details.{Details, details_of, details_seen, shared_details, AllHaveIds}
-use Rattle.puffin_frames.specs.Details.Collection.{Collection, inserted_all, by_ids, ids_seen}
+use Rattle.puffin_frames.specs.Details.Collection.{Collection, with_all_details, by_ids, ids_seen}
 use Rattle.puffin_frames.proofs.lemmas.EntriesSeen.{entries-seen}
 use Rattle.puffin.specs.Profiler.Collecting.{Begins}
 
@@ -53,8 +53,8 @@ pub beginning : {A : Type 0} (ds : List (Arc ScopeDetails A)) (i : ℕ) → Begi
 beginning ds i = (shared_details (drop i ds), ap shared_details (sym (take-append-drop i ds)) ∙ map-append (λ d. details_of (arc_value d)) (take i ds) (drop i ds))
 
 -- what was learnt so far is a beginning of all
-pub learnt_so_far : {A T E : Type 0} (r : Result T E) (ds : List (Arc ScopeDetails A)) (i : ℕ) (old new : Collection) → new ≡ inserted_all old (shared_details (take i ds))
-    → OnErr r ((learnt : List Details) × Begins learnt (shared_details ds) × (new ≡ inserted_all old learnt))
+pub learnt_so_far : {A T E : Type 0} (r : Result T E) (ds : List (Arc ScopeDetails A)) (i : ℕ) (old new : Collection) → new ≡ with_all_details old (shared_details (take i ds))
+    → OnErr r ((learnt : List Details) × Begins learnt (shared_details ds) × (new ≡ with_all_details old learnt))
 learnt_so_far (Ok x) ds i old new is = tt
 learnt_so_far (Err e) ds i old new is = (shared_details (take i ds), beginning ds i, is)
 

@@ -10,7 +10,7 @@ use Rattle.puffin.specs.Merge.Occurrences.{Occurrence, FrameScopes, occurrence_o
 use Rattle.puffin.specs.Merge.MergedForest.{MergedForest}
 use Rattle.puffin.specs.Merge.{IsMerge}
 use Rattle.puffin.specs.Merge.FrameBytes.{FrameBytes, bytes_of, start_of, HasScopes, HaveScopes}
-use Rattle.puffin.specs.Merge.Refusals.{IsRefusedFor, AreAccepted, IsFrameRefusal, faulty, refused, IsRefusal, IsRefusalAfter, in_frame, at_end, EndsFit, AreMerged}
+use Rattle.puffin.specs.Merge.Refusals.{IsRefusedFor, AreAccepted, IsFrameRefusal, faulty, refused, IsMergeRefusal, IsRefusalAfter, in_frame, at_end, EndsFit, AreMerged}
 use Rattle.puffin.specs.inner.merge.Merging.{append-nil}
 use Rattle.puffin.proofs.FramesRead.{starts_same}
 use Rattle.puffin.proofs.OneMerge.{one_merge}
@@ -116,5 +116,5 @@ not_after w frames f tries refusal m (at_end scopes g have accepted merge unfit)
     let one = one_merge (occurrences scopes) (length frames) f g (subst (λ (xs : List FrameScopes). IsMerge (occurrences xs) (length frames) f) same m.merge) merge in
     unfit (subst EndsFit one m.ends)
 
-pub not_both : Walks → (frames : List FrameBytes) (f : MergedForest) (refusal : Error) → AreMerged frames f → IsRefusal frames refusal → ⊥
+pub not_both : Walks → (frames : List FrameBytes) (f : MergedForest) (refusal : Error) → AreMerged frames f → IsMergeRefusal frames refusal → ⊥
 not_both w frames f refusal m (tries, is) = not_after w frames f tries refusal m is

@@ -8,7 +8,7 @@ use Rattle.std.proofs.lemmas.List.Sorted.{ranks_by}
 use Rattle.puffin.specs.View.Ranking.{place, last_from}
 use Rattle.puffin_frames.specs.Packet.Stored.{Said}
 use Rattle.puffin.specs.View.Selection.{Rank, older_cmp}
-use Rattle.puffin.specs.View.ViewedFrames.{Frame, frame_index, duration, by_duration, is_slower, contents_of, index_of, packed_at, packed}
+use Rattle.puffin.specs.View.ViewedFrames.{Frame, frame_index, duration, by_duration, is_slower, contents_of, index_of, packed_under, packed_alone}
 
 pub by_duration_total : IsTotalOrder by_duration
 by_duration_total = then_total (on_total duration (back_total int_cmp_total)) (on_total frame_index nat_cmp_total)
@@ -69,13 +69,13 @@ map-last_from g x [] = refl
 map-last_from g x (y ∷ ys) = map-last_from g y ys
 
 -- packing changes nothing of what frames say
-packed_says : (f : Frame) (b : Bool) → contents_of (cond b (packed f) f) ≡ contents_of f
+packed_says : (f : Frame) (b : Bool) → contents_of (cond b (packed_alone f) f) ≡ contents_of f
 packed_says f true = refl
 packed_says f false = refl
 
 cons : {X : Type 0} {x y : X} {xs ys : List X} → x ≡ y → xs ≡ ys → x ∷ xs ≡ y ∷ ys
 cons p q i = p i ∷ q i
 
-pub packed_at_says : (i : ℕ) (fs : List Frame) → map contents_of (map (packed_at i) fs) ≡ map contents_of fs
+pub packed_at_says : (i : ℕ) (fs : List Frame) → map contents_of (map (packed_under i) fs) ≡ map contents_of fs
 packed_at_says i [] = refl
 packed_at_says i (f ∷ fs) = cons (packed_says f (nat_eq (index_of f) i)) (packed_at_says i fs)

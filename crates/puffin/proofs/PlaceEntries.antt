@@ -17,7 +17,7 @@ use Rattle.puffin.specs.declared.merge.tree.Place.{Place}
 use Rattle.puffin.specs.declared.merge.tree.Drawn.{Drawn}
 use Rattle.puffin.specs.Merge.Occurrences.{Label, Path, Occurrence}
 use Rattle.puffin.specs.Merge.Pieces.{Merged, merged_at}
-use Rattle.puffin.specs.Merge.Starts.{Sibling, earliest, earliest_start, end_from}
+use Rattle.puffin.specs.Merge.Starts.{Sibling, earliest_starts, earliest_start, end_from}
 use Rattle.puffin.specs.Merge.{below, sibling_of, IsMerge}
 use Rattle.puffin.specs.inner.merge.Assembled.{Entry, children_of, forest_below, Each, Some_of, StandsBefore, InOrder, IsEntry}
 use Rattle.puffin.specs.inner.merge.Tables.{label_in, merged_in, path_at, IsTableOf}
@@ -165,11 +165,11 @@ own_is nodes p d of =
 
 -- the starts of a parent's children are the earliest
 abbrev Earliest : ℕ → ℕ → List Entry → Drawn → Type 0
-Earliest frames parent entries before = starts_of (children_of parent entries) ≡ earliest (free_of parent before) (siblings_of frames (children_of parent entries))
+Earliest frames parent entries before = starts_of (children_of parent entries) ≡ earliest_starts (free_of parent before) (siblings_of frames (children_of parent entries))
 
 -- without children, whatever is free
 earliest_of_none : (frames parent : ℕ) (entries : List Entry) (a b : Drawn) → children_of parent entries ≡ [] → Earliest frames parent entries a → Earliest frames parent entries b
-earliest_of_none frames parent entries a b none h = ap starts_of none ∙ ap (λ (es : List Entry). earliest (free_of parent b) (siblings_of frames es)) (sym none)
+earliest_of_none frames parent entries a b none h = ap starts_of none ∙ ap (λ (es : List Entry). earliest_starts (free_of parent b) (siblings_of frames es)) (sym none)
 
 not_child : (nodes : List Node) (frames parent : ℕ) (p : Place) (places : List Place) (before : Drawn) (d : Node) → EachOf (λ q. p.parent.number ≤ q.parent.number) places → before.parent ≤ p.parent.number → eqb p.parent.number parent ≡ false
     → Earliest frames parent (rest_of nodes frames before p places d) (drawn_after frames (get_or nodes (p.number.number - 1) d).sums p before) → Earliest frames parent (entries_from nodes frames before (p ∷ places) d) before
@@ -182,11 +182,11 @@ not_child nodes frames parent p places before d later low e h =
           earliest_of_none frames parent rest (drawn_after frames (get_or nodes (p.number.number - 1) d).sums p before) before
           (none_of nodes frames parent p.parent.number places (drawn_after frames (get_or nodes (p.number.number - 1) d).sums p before) d (strictly before.parent p.parent.number parent low (sym same) apart) later) h
       | inr other ↦
-          h ∙ ap (λ (t : ℤ). earliest t (siblings_of frames (children_of parent rest)))
+          h ∙ ap (λ (t : ℤ). earliest_starts t (siblings_of frames (children_of parent rest)))
           (ap (λ (b : Bool). cond b (drawn_after frames (get_or nodes (p.number.number - 1) d).sums p before).end (pos 0)) (eqb_other parent p.parent.number (λ f. apart (sym f)))
           ∙ sym (ap (λ (b : Bool). cond b before.end (pos 0)) (eqb_other parent before.parent other)))
     ] in
-    ap starts_of skip ∙ moved ∙ ap (λ (es : List Entry). earliest (free_of parent before) (siblings_of frames es)) (sym skip)
+    ap starts_of skip ∙ moved ∙ ap (λ (es : List Entry). earliest_starts (free_of parent before) (siblings_of frames es)) (sym skip)
   where
     strictly : (low here parent : ℕ) → low ≤ here → low ≡ parent → (here ≡ parent → ⊥) → parent < here
     strictly low here parent h e apart = elim (cases_eq here parent) [
@@ -210,8 +210,8 @@ is_child nodes frames parent p places before d of e h =
     ap (λ (b : Bool). cond b x.end (pos 0)) (eqb_same parent p.parent.number (sym same)) ∙ ap (λ (t : ℤ). end_from t s) start in
     ap starts_of take
     ∙ ap (λ (t : ℤ). t ∷ starts_of (children_of parent rest)) start
-    ∙ ap (λ (ts : List ℤ). earliest_start (free_of parent before) s ∷ ts) (h ∙ ap (λ (t : ℤ). earliest t (siblings_of frames (children_of parent rest))) free)
-    ∙ ap (λ (es : List Entry). earliest (free_of parent before) (siblings_of frames es)) (sym take)
+    ∙ ap (λ (ts : List ℤ). earliest_start (free_of parent before) s ∷ ts) (h ∙ ap (λ (t : ℤ). earliest_starts t (siblings_of frames (children_of parent rest))) free)
+    ∙ ap (λ (es : List Entry). earliest_starts (free_of parent before) (siblings_of frames es)) (sym take)
 
 pub starts_earliest : (nodes : List Node) (frames parent : ℕ) (places : List Place) (before : Drawn) (d : Node) → AllByRecursion (IsPlaceOf nodes) places → InRow places → EachOf (λ q. before.parent ≤ q.parent.number) places
     → Earliest frames parent (entries_from nodes frames before places d) before
@@ -316,7 +316,7 @@ forest_merged all t frames places d table are =
       each = each_entry all t frames places above_all d table each;
       whole = whole_entries all t frames above_all places d table are;
       order = entries_in_order all t frames places above_all d table each row are.apart;
-      starts = λ p h. starts_earliest t.nodes.items frames p places above_all d each row (low_enough places) ∙ ap (λ (s : ℤ). earliest s (siblings_of frames (children_of p (entries_from t.nodes.items frames above_all places d)))) (nothing_free p);
+      starts = λ p h. starts_earliest t.nodes.items frames p places above_all d each row (low_enough places) ∙ ap (λ (s : ℤ). earliest_starts s (siblings_of frames (children_of p (entries_from t.nodes.items frames above_all places d)))) (nothing_free p);
     })
   where
     nothing_free : (p : ℕ) → free_of p above_all ≡ pos 0

@@ -14,7 +14,7 @@ use Rattle.std.proofs.lemmas.List.Folds.{list_any_at}
 use Rattle.std.proofs.lemmas.Map.Keys.{Less-from_sorted}
 use Rattle.puffin.specs.declared.profile_view.slow_rank.SlowRank.{SlowRank}
 use Rattle.puffin.specs.View.ViewedFrames.{Frame, index_of, duration_of}
-use Rattle.puffin.specs.inner.view.Held.{Held}
+use Rattle.puffin.specs.inner.view.Held.{HeldFrames}
 use Rattle.puffin.specs.inner.view.Ranks.{rank_of, rank_index, rank_cmp, AreRanked, LetsGo, has}
 use Rattle.puffin.specs.inner.view.Kept.{AreRising}
 use Rattle.puffin.specs.inner.view.Store.{AreHeld, AreStored}
@@ -95,7 +95,7 @@ other_index a b i j e = at (int_cmp b a) where
   at Equal = eq_numbers i j ∙ e
   at Greater = refl
 
-by_index : (held : Held) (f : Frame) (i : ℕ) (x s : SlowRank) → fin.get held i ≡ Some f → x.duration_ns.0 ≡ duration_of f → x.frame_index ≡ i → option_map rank_of (fin.get held (rank_index s)) ≡ Some s → is_eq (rank_cmp s x) ≡ nat_eq s.frame_index i
+by_index : (held : HeldFrames) (f : Frame) (i : ℕ) (x s : SlowRank) → fin.get held i ≡ Some f → x.duration_ns.0 ≡ duration_of f → x.frame_index ≡ i → option_map rank_of (fin.get held (rank_index s)) ≡ Some s → is_eq (rank_cmp s x) ≡ nat_eq s.frame_index i
 by_index held f i x s there long at_i ranked = by (nat_eq s.frame_index i) refl where
   whole : rank_of f ≡ s → s.frame_index ≡ i → x ≡ s
   whole same e = (λ j. record { duration_ns = record { 0 = long j }; frame_index = (at_i ∙ sym e ∙ ap rank_index (sym same)) j }) ∙ same
@@ -106,11 +106,11 @@ by_index held f i x s there long at_i ranked = by (nat_eq s.frame_index i) refl 
       ap is_eq (ap (rank_cmp s) (whole same (equal_to s.frame_index i e)) ∙ tied_itself rank_cmp_total s)
   by false e = other_index s.duration_ns.0 x.duration_ns.0 s.frame_index x.frame_index (ap (nat_eq s.frame_index) at_i ∙ e)
 
-pub any_at_index : (held : Held) (f : Frame) (i : ℕ) (x : SlowRank) (slow : List SlowRank) → AreRanked held slow → fin.get held i ≡ Some f → x.duration_ns.0 ≡ duration_of f → x.frame_index ≡ i → list_any (λ s. is_eq (rank_cmp s x)) slow ≡ list_any (λ s. nat_eq s.frame_index i) slow
+pub any_at_index : (held : HeldFrames) (f : Frame) (i : ℕ) (x : SlowRank) (slow : List SlowRank) → AreRanked held slow → fin.get held i ≡ Some f → x.duration_ns.0 ≡ duration_of f → x.frame_index ≡ i → list_any (λ s. is_eq (rank_cmp s x)) slow ≡ list_any (λ s. nat_eq s.frame_index i) slow
 any_at_index held f i x slow ranked there long at_i =
     any_alike (λ s. is_eq (rank_cmp s x)) (λ s. nat_eq s.frame_index i) (λ s. option_map rank_of (fin.get held (rank_index s)) ≡ Some s) (λ s h. by_index held f i x s there long at_i h) slow ranked
 
-pub none_at_index : (held : Held) (i : ℕ) (slow : List SlowRank) → AreRanked held slow → fin.get held i ≡ None → false ≡ list_any (λ s. nat_eq s.frame_index i) slow
+pub none_at_index : (held : HeldFrames) (i : ℕ) (slow : List SlowRank) → AreRanked held slow → fin.get held i ≡ None → false ≡ list_any (λ s. nat_eq s.frame_index i) slow
 none_at_index held i [] ranked gone = refl
 none_at_index held i (s ∷ slow) ranked gone = by (nat_eq s.frame_index i) refl (none_at_index held i slow ranked.1 gone) where
   none_is : None ≡ Some s → ⊥
@@ -132,11 +132,11 @@ indices_rise (f ∷ fs) h = (above fs h.0, indices_rise fs h.1) where
   above [] h = tt
   above (g ∷ gs) h = (less (index_of f) (index_of g) h.0, above gs h.1)
 
-frames_ranked : (held : Held) (fs : List Frame) → AreHeld (fin.get held) fs → AreRanked held (map rank_of fs)
+frames_ranked : (held : HeldFrames) (fs : List Frame) → AreHeld (fin.get held) fs → AreRanked held (map rank_of fs)
 frames_ranked held [] h = tt
 frames_ranked held (f ∷ fs) h = (ap (option_map rank_of) h.0, frames_ranked held fs h.1)
 
-module _ (held : Held) (recent : List ℕ) (slow : List SlowRank) (last : Option ℕ) (R S : List Frame) (h : AreStored held recent slow last R S) where
+module _ (held : HeldFrames) (recent : List ℕ) (slow : List SlowRank) (last : Option ℕ) (R S : List Frame) (h : AreStored held recent slow last R S) where
   pub stored_rising : IsStrictlySortedBy nat_cmp recent
   stored_rising = subst (IsStrictlySortedBy nat_cmp) (sym h.recent_at) (indices_rise R h.kept.rising)
 
@@ -156,7 +156,7 @@ all_kept P Q (r ∷ slow) k h = (k r (has_itself r slow) h.0, all_kept P Q slow 
   later true b e = refl
   later false b e = e
 
-pub still_ranked : (old new : Held) (slow : List SlowRank) (gone : List ℕ) → LetsGo old (map rank_index slow) gone new → AreRanked old slow → AreRanked new slow
+pub still_ranked : (old new : HeldFrames) (slow : List SlowRank) (gone : List ℕ) → LetsGo old (map rank_index slow) gone new → AreRanked old slow → AreRanked new slow
 still_ranked old new slow gone go ranked =
     all_kept (λ r. option_map rank_of (fin.get old (rank_index r)) ≡ Some r) (λ r. option_map rank_of (fin.get new (rank_index r)) ≡ Some r) slow
     (λ r there h. ap (option_map rank_of) (go (rank_index r) ∙ ap (λ b. cond b (fin.get old (rank_index r)) (cond (has (rank_index r) gone) None (fin.get old (rank_index r)))) there) ∙ h) ranked

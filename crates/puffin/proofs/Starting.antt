@@ -1,7 +1,7 @@
 -- Starting each sibling as early as it can gives the least feasible starts.
 use Rattle.std.proofs.Common.{ℤ, pos, ◌≤ℤ◌, List, [], ◌∷◌, arith}
 use Rattle.std.proofs.lemmas.Int.{ints, clamps}
-use Rattle.puffin.specs.Merge.Starts.{Sibling, end_from, IsFree, IsFeasible, IsNowhereAbove, IsLeastFeasible, earliest_start, earliest}
+use Rattle.puffin.specs.Merge.Starts.{Sibling, end_from, IsFree, IsFeasible, IsNowhereAbove, IsLeastFeasible, earliest_start, earliest_starts}
 
 own_below : (free : ℤ) (s : Sibling) → s.own_start ≤ℤ earliest_start free s
 own_below free s = omega (arith, ints, clamps)
@@ -22,11 +22,11 @@ ends_above t u s h = omega (arith, ints, clamps)
 le-trans : (a b c : ℤ) → a ≤ℤ b → b ≤ℤ c → a ≤ℤ c
 le-trans a b c h k = omega (arith, ints, clamps)
 
-earliest-free : (free : ℤ) (siblings : List Sibling) → IsFree free (earliest free siblings)
+earliest-free : (free : ℤ) (siblings : List Sibling) → IsFree free (earliest_starts free siblings)
 earliest-free free [] = tt
 earliest-free free (s ∷ siblings) = free_below free s
 
-earliest-feasible : (free : ℤ) (siblings : List Sibling) → IsFeasible siblings (earliest free siblings)
+earliest-feasible : (free : ℤ) (siblings : List Sibling) → IsFeasible siblings (earliest_starts free siblings)
 earliest-feasible free [] = tt
 earliest-feasible free (s ∷ siblings) =
     let t : ℤ = earliest_start free s in
@@ -36,7 +36,7 @@ free-below : (low high : ℤ) → low ≤ℤ high → (starts : List ℤ) → Is
 free-below low high h [] k = tt
 free-below low high h (t ∷ starts) k = le-trans low high t h k
 
-earliest-least : (siblings : List Sibling) (others : List ℤ) (free : ℤ) → IsFree free others → IsFeasible siblings others → IsNowhereAbove (earliest free siblings) others
+earliest-least : (siblings : List Sibling) (others : List ℤ) (free : ℤ) → IsFree free others → IsFeasible siblings others → IsNowhereAbove (earliest_starts free siblings) others
 earliest-least [] [] free h k = tt
 earliest-least [] (u ∷ others) free h k = k
 earliest-least (s ∷ siblings) [] free h k = k
@@ -50,7 +50,7 @@ feasible-free [] (u ∷ others) k = absurd k
 feasible-free (s ∷ siblings) [] k = tt
 feasible-free (s ∷ siblings) (u ∷ others) k = k.1
 
-pub earliest-is_least : (siblings : List Sibling) → IsLeastFeasible siblings (earliest (pos 0) siblings)
+pub earliest-is_least : (siblings : List Sibling) → IsLeastFeasible siblings (earliest_starts (pos 0) siblings)
 earliest-is_least siblings = record {
   feasible = earliest-feasible (pos 0) siblings;
   least = λ others k. earliest-least siblings others (pos 0) (feasible-free siblings others k) k;

@@ -12,12 +12,12 @@ use Rattle.std.specs.FinMap as fin
 use Rattle.std.proofs.lemmas.List.{drop-drop, length-drop}
 use Rattle.puffin.specs.declared.profile_view.slow_rank.SlowRank.{SlowRank}
 use Rattle.puffin.specs.View.Ranking.{place, last_from, last_in}
-use Rattle.puffin.specs.View.ViewedFrames.{Frame, index_of, duration_of, is_slower_frame, packed, packed_at, frames_by_index}
-use Rattle.puffin.specs.inner.view.Held.{Held}
+use Rattle.puffin.specs.View.ViewedFrames.{Frame, index_of, duration_of, is_slower_frame, packed_alone, packed_under, frames_by_index}
+use Rattle.puffin.specs.inner.view.Held.{HeldFrames}
 use Rattle.puffin.specs.inner.view.Ranks.{rank_of, rank_index, rank_cmp, is_before, rank_enters, has, LetsGo}
-use Rattle.puffin.specs.inner.view.Kept.{AreRising, AreApart}
+use Rattle.puffin.specs.inner.view.Kept.{AreRising, HaveOwnIndices}
 use Rattle.puffin.specs.View.{View, IsUpTo, enters_among}
-use Rattle.puffin.specs.inner.view.Store.{frames_at, AreHeld, has_index, AreStored}
+use Rattle.puffin.specs.inner.view.Store.{frames_under, AreHeld, has_index, AreStored}
 use Rattle.puffin.proofs.Keeping.{IsKept-packed}
 use Rattle.puffin.proofs.Placing.{rank_cmp_total}
 
@@ -99,7 +99,7 @@ all_place P f (x ∷ xs) p h = at (is_slower_frame f x) (all_place P f xs p h.1)
   at true later = (p, h)
   at false later = (h.0, later)
 
-apart_first : (xs ys : List Frame) → AreApart (xs ++ ys) → AreApart xs
+apart_first : (xs ys : List Frame) → HaveOwnIndices (xs ++ ys) → HaveOwnIndices xs
 apart_first [] ys h = tt
 apart_first (x ∷ xs) ys h = (all_first (λ g. index_of g ≢ index_of x) xs ys h.0, apart_first xs ys h.1)
 
@@ -125,7 +125,7 @@ held_back h (f ∷ fs) held = rw held.0 (ap (λ gs. f ∷ gs) (held_back h fs he
 
 -- letting go
 
-pub LetsGo-none : (held : Held) (stays : List ℕ) → LetsGo held stays [] held
+pub LetsGo-none : (held : HeldFrames) (stays : List ℕ) → LetsGo held stays [] held
 LetsGo-none held stays q = at (has q stays) where
   at : (b : Bool) → fin.get held q ≡ cond b (fin.get held q) (fin.get held q)
   at true = refl
@@ -139,7 +139,7 @@ either_last true b = refl
 either_last false true = refl
 either_last false false = refl
 
-pub LetsGo-more : (old mid new : Held) (stays gone : List ℕ) (i : ℕ) → LetsGo old stays gone mid → new ≡ fin.remove mid i → has i stays ≡ false → LetsGo old stays (gone ++ i ∷ []) new
+pub LetsGo-more : (old mid new : HeldFrames) (stays gone : List ℕ) (i : ℕ) → LetsGo old stays gone mid → new ≡ fin.remove mid i → has i stays ≡ false → LetsGo old stays (gone ++ i ∷ []) new
 LetsGo-more old mid new stays gone i h is out q =
     ap (λ m. fin.get m q) is ∙ fin.get-remove nat_cmp_total mid i q ∙ ap (λ b. cond b None (fin.get mid q)) (is_at q i)
     ∙ at (nat_eq q i) (has q stays) (has q gone) (h q) (λ e. ap (λ k. has k stays) (equal_to q i e) ∙ out)
@@ -152,7 +152,7 @@ LetsGo-more old mid new stays gone i h is out q =
       at false false true e out = e
       at false false false e out = e
 
-pub LetsGo-kept : (old mid : Held) (stays gone : List ℕ) (i : ℕ) → LetsGo old stays gone mid → has i stays ≡ true → LetsGo old stays (gone ++ i ∷ []) mid
+pub LetsGo-kept : (old mid : HeldFrames) (stays gone : List ℕ) (i : ℕ) → LetsGo old stays gone mid → has i stays ≡ true → LetsGo old stays (gone ++ i ∷ []) mid
 LetsGo-kept old mid stays gone i h among q =
     at (nat_eq q i) (has q stays) (has q gone) (h q) (λ e. ap (λ k. has k stays) (equal_to q i e) ∙ among)
     ∙ ap (λ b. cond (has q stays) (fin.get old q) (cond b None (fin.get old q))) (sym (has-append q gone (i ∷ []) ∙ either_last (has q gone) (nat_eq q i))) where
@@ -178,7 +178,7 @@ gone_for_all false true o out none = refl
 gone_for_all false false o out none = none refl
 
 -- of the slow frames, the first ones stay
-pub stored-cut_slow : (held new : Held) (recent : List ℕ) (slow : List SlowRank) (last : Option ℕ) (R S gone : List Frame) → AreStored held recent slow last R (S ++ gone) → LetsGo held (map index_of R) (map index_of gone) new → AreStored new recent (map rank_of S) last R S
+pub stored-cut_slow : (held new : HeldFrames) (recent : List ℕ) (slow : List SlowRank) (last : Option ℕ) (R S gone : List Frame) → AreStored held recent slow last R (S ++ gone) → LetsGo held (map index_of R) (map index_of gone) new → AreStored new recent (map rank_of S) last R S
 stored-cut_slow held new recent slow last R S gone h go =
     let stays : ℕ → Bool = λ q. has q (map index_of R) in
     let away : ℕ → Bool = λ q. has q (map index_of gone) in
@@ -200,7 +200,7 @@ stored-cut_slow held new recent slow last R S gone h go =
       };
       in_order = ordered;
     } where
-      others : (S : List Frame) → AreApart (S ++ gone) → AllByRecursion (λ f. has_index (index_of f) gone ≡ false) S
+      others : (S : List Frame) → HaveOwnIndices (S ++ gone) → AllByRecursion (λ f. has_index (index_of f) gone ≡ false) S
       others [] apart = tt
       others (f ∷ S) apart = (none_has (index_of f) gone (all_rest (λ g. index_of g ≢ index_of f) S gone apart.0), others S apart.1)
 
@@ -212,7 +212,7 @@ stored-cut_slow held new recent slow last R S gone h go =
       ordered = sorted_first rank_cmp (map rank_of S) (map rank_of gone) (subst (λ rs. IsStrictlySortedBy rank_cmp rs) (h.slow_at ∙ ranks-append S) h.in_order)
 
 -- of the recent frames, the last ones stay
-pub stored-cut_recent : (held new : Held) (recent : List ℕ) (slow : List SlowRank) (last : Option ℕ) (gone R S : List Frame) → AreStored held recent slow last (gone ++ R) S → LetsGo held (map index_of S) (map index_of gone) new → AreStored new (map index_of R) slow last R S
+pub stored-cut_recent : (held new : HeldFrames) (recent : List ℕ) (slow : List SlowRank) (last : Option ℕ) (gone R S : List Frame) → AreStored held recent slow last (gone ++ R) S → LetsGo held (map index_of S) (map index_of gone) new → AreStored new (map index_of R) slow last R S
 stored-cut_recent held new recent slow last gone R S h go =
     let stays : ℕ → Bool = λ q. has q (map index_of S) in
     let away : ℕ → Bool = λ q. has q (map index_of gone) in
@@ -252,29 +252,29 @@ stored-cut_recent held new recent slow last gone R S h go =
 below_apart : (a b : ℕ) → a < b → a ≡ b → ⊥
 below_apart a b low e = omega arith
 
-got_more : (held : Held) (f g : Frame) → index_of g ≢ index_of f → fin.get held (index_of g) ≡ Some g → fin.get (fin.insert held (index_of f) f) (index_of g) ≡ Some g
+got_more : (held : HeldFrames) (f g : Frame) → index_of g ≢ index_of f → fin.get held (index_of g) ≡ Some g → fin.get (fin.insert held (index_of f) f) (index_of g) ≡ Some g
 got_more held f g out is = fin.get-insert nat_cmp_total held (index_of f) f (index_of g) ∙ ap (λ b. cond b (Some f) (fin.get held (index_of g))) (is_at (index_of g) (index_of f) ∙ apart_to (index_of g) (index_of f) out) ∙ is
 
-pub got_itself : (held : Held) (f : Frame) → fin.get (fin.insert held (index_of f) f) (index_of f) ≡ Some f
+pub got_itself : (held : HeldFrames) (f : Frame) → fin.get (fin.insert held (index_of f) f) (index_of f) ≡ Some f
 got_itself held f = fin.get-insert nat_cmp_total held (index_of f) f (index_of f) ∙ ap (λ b. cond b (Some f) (fin.get held (index_of f))) (is_at (index_of f) (index_of f) ∙ equals (index_of f) (index_of f) refl)
 
-got_less : (held : Held) (f : Frame) (q : ℕ) → nat_eq q (index_of f) ≡ false → fin.get held q ≡ None → fin.get (fin.insert held (index_of f) f) q ≡ None
+got_less : (held : HeldFrames) (f : Frame) (q : ℕ) → nat_eq q (index_of f) ≡ false → fin.get held q ≡ None → fin.get (fin.insert held (index_of f) f) q ≡ None
 got_less held f q out is = fin.get-insert nat_cmp_total held (index_of f) f q ∙ ap (λ b. cond b (Some f) (fin.get held q)) (is_at q (index_of f) ∙ out) ∙ is
 
 AreBefore : Frame → List Frame → Type 0
 AreBefore f fs = AllByRecursion (λ g. index_of g < index_of f) fs
 
-held_more : (held : Held) (f : Frame) (fs : List Frame) → AllByRecursion (λ g. index_of g < index_of f) fs → AreHeld (fin.get held) fs → AreHeld (fin.get (fin.insert held (index_of f) f)) fs
+held_more : (held : HeldFrames) (f : Frame) (fs : List Frame) → AllByRecursion (λ g. index_of g < index_of f) fs → AreHeld (fin.get held) fs → AreHeld (fin.get (fin.insert held (index_of f) f)) fs
 held_more held f fs before is = all_both (λ g. index_of g < index_of f) (λ g. fin.get held (index_of g) ≡ Some g) (λ g. fin.get (fin.insert held (index_of f) f) (index_of g) ≡ Some g) (λ g low there. got_more held f g (below_apart (index_of g) (index_of f) low) there) fs before is
 
 rising_more : (xs : List Frame) (f : Frame) → AreRising xs → AllByRecursion (λ g. index_of g < index_of f) xs → AreRising (xs ++ f ∷ [])
 rising_more [] f h p = (tt, tt)
 rising_more (x ∷ xs) f h p = (all_more (λ g. index_of x < index_of g) xs f h.0 p.0, rising_more xs f h.1 p.1)
 
-apart_place : (f : Frame) (xs : List Frame) → AreApart xs → AllByRecursion (λ g. index_of g < index_of f) xs → AreApart (place is_slower_frame f xs)
+apart_place : (f : Frame) (xs : List Frame) → HaveOwnIndices xs → AllByRecursion (λ g. index_of g < index_of f) xs → HaveOwnIndices (place is_slower_frame f xs)
 apart_place f [] h p = (tt, tt)
 apart_place f (x ∷ xs) h p = at (is_slower_frame f x) (apart_place f xs h.1 p.1) where
-  at : (b : Bool) → AreApart (place is_slower_frame f xs) → AreApart (cond b (f ∷ (x ∷ xs)) (x ∷ place is_slower_frame f xs))
+  at : (b : Bool) → HaveOwnIndices (place is_slower_frame f xs) → HaveOwnIndices (cond b (f ∷ (x ∷ xs)) (x ∷ place is_slower_frame f xs))
   at true later = (all_map (λ g. index_of g < index_of f) (λ g. index_of g ≢ index_of f) (λ g low. below_apart (index_of g) (index_of f) low) (x ∷ xs) p, h)
   at false later = let below = p.0 in (all_place (λ g. index_of g ≢ index_of x) f xs (λ e. omega arith) h.0, later)
 
@@ -336,7 +336,7 @@ first_false : {a b : Bool} → a ≡ false → b ≡ false → (a || b) ≡ fals
 first_false {a} {b} e p = rw (e, p) refl
 
 -- with the slow ones as they were
-pub stored-added : (held : Held) (recent : List ℕ) (slow : List SlowRank) (last : Option ℕ) (f : Frame) (R S : List Frame) → AreStored held recent slow last R S
+pub stored-added : (held : HeldFrames) (recent : List ℕ) (slow : List SlowRank) (last : Option ℕ) (f : Frame) (R S : List Frame) → AreStored held recent slow last R S
     → AllByRecursion (λ g. index_of g < index_of f) R → AllByRecursion (λ g. index_of g < index_of f) S → AreStored (fin.insert held (index_of f) f) (recent ++ index_of f ∷ []) slow (Some (index_of f)) (R ++ f ∷ []) S
 stored-added held recent slow last f R S h before slow_before = record {
   recent_at = ap (λ is. is ++ index_of f ∷ []) h.recent_at ∙ index-more R f;
@@ -359,7 +359,7 @@ stored-added held recent slow last f R S h before slow_before = record {
   below fs low = all_map (λ g. index_of g < index_of f) (λ g. index_of g ≤ index_of f) (λ g k. omega arith) fs low
 
 -- and with it among the slow ones
-pub stored-placed : (held : Held) (recent : List ℕ) (slow : List SlowRank) (f : Frame) (R S : List Frame) → AreStored held recent slow (Some (index_of f)) R S → fin.get held (index_of f) ≡ Some f
+pub stored-placed : (held : HeldFrames) (recent : List ℕ) (slow : List SlowRank) (f : Frame) (R S : List Frame) → AreStored held recent slow (Some (index_of f)) R S → fin.get held (index_of f) ≡ Some f
     → AllByRecursion (λ g. index_of g < index_of f) S → AreStored held recent (place is_before (rank_of f) slow) (Some (index_of f)) R (place is_slower_frame f S)
 stored-placed held recent slow f R S h there before = record {
   recent_at = h.recent_at;
@@ -378,12 +378,12 @@ stored-placed held recent slow f R S h there before = record {
 }
 
 -- nothing is kept at first
-pub stored-none : (held : Held) (recent : List ℕ) (slow : List SlowRank) → held ≡ fin.empty → recent ≡ [] → slow ≡ [] → AreStored held recent slow None (frames_at held recent) (frames_at held (map rank_index slow))
+pub stored-none : (held : HeldFrames) (recent : List ℕ) (slow : List SlowRank) → held ≡ fin.empty → recent ≡ [] → slow ≡ [] → AreStored held recent slow None (frames_under held recent) (frames_under held (map rank_index slow))
 unfolding IsStrictlySortedBy
 stored-none held recent slow e r s =
-    let P : Held → Type 0 = λ m. AreStored m recent slow None (frames_at m recent) (frames_at m (map rank_index slow)) in
-    let Q : List ℕ → Type 0 = λ is. AreStored fin.empty is slow None (frames_at fin.empty is) (frames_at fin.empty (map rank_index slow)) in
-    let R : List SlowRank → Type 0 = λ rs. AreStored fin.empty [] rs None [] (frames_at fin.empty (map rank_index rs)) in
+    let P : HeldFrames → Type 0 = λ m. AreStored m recent slow None (frames_under m recent) (frames_under m (map rank_index slow)) in
+    let Q : List ℕ → Type 0 = λ is. AreStored fin.empty is slow None (frames_under fin.empty is) (frames_under fin.empty (map rank_index slow)) in
+    let R : List SlowRank → Type 0 = λ rs. AreStored fin.empty [] rs None [] (frames_under fin.empty (map rank_index rs)) in
     subst P (sym e) (subst Q (sym r) (subst R (sym s) (record {
       recent_at = refl;
       slow_at = refl;
@@ -401,23 +401,23 @@ pub index-rank_of : (fs : List Frame) → map rank_index (map rank_of fs) ≡ ma
 index-rank_of [] = refl
 index-rank_of (f ∷ fs) = ap (λ is. index_of f ∷ is) (index-rank_of fs)
 
-pub recent_back : (held : Held) (recent : List ℕ) (slow : List SlowRank) (last : Option ℕ) (R S : List Frame) → AreStored held recent slow last R S → frames_at held recent ≡ R
-recent_back held recent slow last R S h = ap (frames_at held) h.recent_at ∙ held_back (fin.get held) R h.recent_held
+pub recent_back : (held : HeldFrames) (recent : List ℕ) (slow : List SlowRank) (last : Option ℕ) (R S : List Frame) → AreStored held recent slow last R S → frames_under held recent ≡ R
+recent_back held recent slow last R S h = ap (frames_under held) h.recent_at ∙ held_back (fin.get held) R h.recent_held
 
-pub slow_back : (held : Held) (recent : List ℕ) (slow : List SlowRank) (last : Option ℕ) (R S : List Frame) → AreStored held recent slow last R S → frames_at held (map rank_index slow) ≡ S
-slow_back held recent slow last R S h = ap (λ rs. frames_at held (map rank_index rs)) h.slow_at ∙ ap (frames_at held) (index-rank_of S) ∙ held_back (fin.get held) S h.slow_held
+pub slow_back : (held : HeldFrames) (recent : List ℕ) (slow : List SlowRank) (last : Option ℕ) (R S : List Frame) → AreStored held recent slow last R S → frames_under held (map rank_index slow) ≡ S
+slow_back held recent slow last R S h = ap (λ rs. frames_under held (map rank_index rs)) h.slow_at ∙ ap (frames_under held) (index-rank_of S) ∙ held_back (fin.get held) S h.slow_held
 
-pub stored_as : (held : Held) (recent : List ℕ) (slow : List SlowRank) (last : Option ℕ) (R S : List Frame) → AreStored held recent slow last R S → AreStored held recent slow last (frames_at held recent) (frames_at held (map rank_index slow))
+pub stored_as : (held : HeldFrames) (recent : List ℕ) (slow : List SlowRank) (last : Option ℕ) (R S : List Frame) → AreStored held recent slow last R S → AreStored held recent slow last (frames_under held recent) (frames_under held (map rank_index slow))
 stored_as held recent slow last R S h =
-    let P : List Frame → Type 0 = λ fs. AreStored held recent slow last fs (frames_at held (map rank_index slow)) in
+    let P : List Frame → Type 0 = λ fs. AreStored held recent slow last fs (frames_under held (map rank_index slow)) in
     let Q : List Frame → Type 0 = λ fs. AreStored held recent slow last R fs in
     subst P (sym (recent_back held recent slow last R S h)) (subst Q (sym (slow_back held recent slow last R S h)) h)
 
-pub view_as : (held : Held) (recent : List ℕ) (slow : List SlowRank) (last : Option ℕ) (max_recent max_slow : ℕ) (packs : Bool) (v : View) → AreStored held recent slow last v.recent v.slow → last ≡ v.last → max_recent ≡ v.max_recent → max_slow ≡ v.max_slow → packs ≡ v.packs
-    → record { recent = frames_at held recent; slow = frames_at held (map rank_index slow); last = last; max_recent = max_recent; max_slow = max_slow; packs = packs } ≡ v
+pub view_as : (held : HeldFrames) (recent : List ℕ) (slow : List SlowRank) (last : Option ℕ) (max_recent max_slow : ℕ) (packs : Bool) (v : View) → AreStored held recent slow last v.recent v.slow → last ≡ v.last → max_recent ≡ v.max_recent → max_slow ≡ v.max_slow → packs ≡ v.packs
+    → record { recent = frames_under held recent; slow = frames_under held (map rank_index slow); last = last; max_recent = max_recent; max_slow = max_slow; packs = packs } ≡ v
 view_as held recent slow last max_recent max_slow packs v h l m n p =
-    let r : frames_at held recent ≡ v.recent = recent_back held recent slow last v.recent v.slow h in
-    let s : frames_at held (map rank_index slow) ≡ v.slow = slow_back held recent slow last v.recent v.slow h in
+    let r : frames_under held recent ≡ v.recent = recent_back held recent slow last v.recent v.slow h in
+    let s : frames_under held (map rank_index slow) ≡ v.slow = slow_back held recent slow last v.recent v.slow h in
     λ j. record { recent = r j; slow = s j; last = l j; max_recent = m j; max_slow = n j; packs = p j }
 
 -- all that is held is the frames, by their indices
@@ -433,7 +433,7 @@ held_append : (h : ℕ → Option Frame) (fs gs : List Frame) → AreHeld h fs �
 held_append h [] gs p q = q
 held_append h (f ∷ fs) gs p q = (p.0, held_append h fs gs p.1 q)
 
-pub held_whole : (held : Held) (recent : List ℕ) (slow : List SlowRank) (last : Option ℕ) (R S : List Frame) → AreStored held recent slow last R S → held ≡ frames_by_index (R ++ S)
+pub held_whole : (held : HeldFrames) (recent : List ℕ) (slow : List SlowRank) (last : Option ℕ) (R S : List Frame) → AreStored held recent slow last R S → held ≡ frames_by_index (R ++ S)
 held_whole held recent slow last R S h =
     fin.same_map nat_cmp_total fin.nat_cmp-IsAntisymmetric held (frames_by_index (R ++ S))
     (λ q. at q (has_index q (R ++ S)) (h.only q) ∙ sym (fin.get-from_entries nat_cmp_total (map (λ f. (index_of f, f)) (R ++ S)) q ∙ find_held (fin.get held) q (R ++ S) (held_append (fin.get held) R S h.recent_held h.slow_held))) where
@@ -462,7 +462,7 @@ all_last : {A : Type 0} (P : A → Type 0) (xs : List A) (a : A) → AllByRecurs
 all_last P [] a h e = cc
 all_last P (x ∷ xs) a h e = subst P (one_some (last_from x xs) a e) (all_last_from P x xs h)
 
-pub newest_held : (held : Held) (recent : List ℕ) (slow : List SlowRank) (last : Option ℕ) (R S : List Frame) (i : ℕ) → AreStored held recent slow last R S → last_in recent ≡ Some i → fin.get held i ≡ last_in R
+pub newest_held : (held : HeldFrames) (recent : List ℕ) (slow : List SlowRank) (last : Option ℕ) (R S : List Frame) (i : ℕ) → AreStored held recent slow last R S → last_in recent ≡ Some i → fin.get held i ≡ last_in R
 newest_held held recent slow last R S i h newest =
     let found = last_map index_of R i (ap last_in (sym h.recent_at) ∙ newest) in
     ap (fin.get held) (sym found.2) ∙ all_last (λ f. fin.get held (index_of f) ≡ Some f) R found.0 h.recent_held found.1 ∙ sym found.1
@@ -475,45 +475,45 @@ none_newest recent (f ∷ R) e n = absurd (some (ap length (sym e) ∙ n)) where
 
 -- packing
 
-packed_held : (held : Held) (f : Frame) (fs : List Frame) → fin.get held (index_of f) ≡ Some f → AreHeld (fin.get held) fs → AreHeld (fin.get (fin.insert held (index_of f) (packed f))) (map (packed_at (index_of f)) fs)
+packed_held : (held : HeldFrames) (f : Frame) (fs : List Frame) → fin.get held (index_of f) ≡ Some f → AreHeld (fin.get held) fs → AreHeld (fin.get (fin.insert held (index_of f) (packed_alone f))) (map (packed_under (index_of f)) fs)
 packed_held held f [] is h = tt
 packed_held held f (g ∷ fs) is h = (at (nat_eq (index_of g) (index_of f)) refl, packed_held held f fs is h.1) where
-  got : (q : ℕ) (b : Bool) → nat_eq q (index_of f) ≡ b → fin.get (fin.insert held (index_of f) (packed f)) q ≡ cond b (Some (packed f)) (fin.get held q)
-  got q b e = fin.get-insert nat_cmp_total held (index_of f) (packed f) q ∙ ap (λ b. cond b (Some (packed f)) (fin.get held q)) (is_at q (index_of f) ∙ e)
+  got : (q : ℕ) (b : Bool) → nat_eq q (index_of f) ≡ b → fin.get (fin.insert held (index_of f) (packed_alone f)) q ≡ cond b (Some (packed_alone f)) (fin.get held q)
+  got q b e = fin.get-insert nat_cmp_total held (index_of f) (packed_alone f) q ∙ ap (λ b. cond b (Some (packed_alone f)) (fin.get held q)) (is_at q (index_of f) ∙ e)
 
   same : nat_eq (index_of g) (index_of f) ≡ true → g ≡ f
   same e = one_some g f (sym h.0 ∙ ap (fin.get held) (equal_to (index_of g) (index_of f) e) ∙ is)
 
-  at : (b : Bool) → nat_eq (index_of g) (index_of f) ≡ b → fin.get (fin.insert held (index_of f) (packed f)) (index_of (packed_at (index_of f) g)) ≡ Some (packed_at (index_of f) g)
-  at true e = rw e (got (index_of g) true e ∙ ap (λ h. Some (packed h)) (sym (same e)))
+  at : (b : Bool) → nat_eq (index_of g) (index_of f) ≡ b → fin.get (fin.insert held (index_of f) (packed_alone f)) (index_of (packed_under (index_of f) g)) ≡ Some (packed_under (index_of f) g)
+  at true e = rw e (got (index_of g) true e ∙ ap (λ h. Some (packed_alone h)) (sym (same e)))
   at false e = rw e (got (index_of g) false e ∙ h.0)
 
-index-packed_at : (i : ℕ) (f : Frame) → index_of (packed_at i f) ≡ index_of f
+index-packed_at : (i : ℕ) (f : Frame) → index_of (packed_under i f) ≡ index_of f
 index-packed_at i f = at (nat_eq (index_of f) i) where
-  at : (b : Bool) → index_of (cond b (packed f) f) ≡ index_of f
+  at : (b : Bool) → index_of (cond b (packed_alone f) f) ≡ index_of f
   at true = refl
   at false = refl
 
-rank-packed_at : (i : ℕ) (f : Frame) → rank_of (packed_at i f) ≡ rank_of f
+rank-packed_at : (i : ℕ) (f : Frame) → rank_of (packed_under i f) ≡ rank_of f
 rank-packed_at i f = at (nat_eq (index_of f) i) where
-  at : (b : Bool) → rank_of (cond b (packed f) f) ≡ rank_of f
+  at : (b : Bool) → rank_of (cond b (packed_alone f) f) ≡ rank_of f
   at true = refl
   at false = refl
 
-indices-packed : (i : ℕ) (fs : List Frame) → map index_of (map (packed_at i) fs) ≡ map index_of fs
+indices-packed : (i : ℕ) (fs : List Frame) → map index_of (map (packed_under i) fs) ≡ map index_of fs
 indices-packed i [] = refl
 indices-packed i (f ∷ fs) = λ j. index-packed_at i f j ∷ indices-packed i fs j
 
-ranks-packed : (i : ℕ) (fs : List Frame) → map rank_of (map (packed_at i) fs) ≡ map rank_of fs
+ranks-packed : (i : ℕ) (fs : List Frame) → map rank_of (map (packed_under i) fs) ≡ map rank_of fs
 ranks-packed i [] = refl
 ranks-packed i (f ∷ fs) = λ j. rank-packed_at i f j ∷ ranks-packed i fs j
 
-has_index-packed : (q i : ℕ) (fs : List Frame) → has_index q (map (packed_at i) fs) ≡ has_index q fs
+has_index-packed : (q i : ℕ) (fs : List Frame) → has_index q (map (packed_under i) fs) ≡ has_index q fs
 has_index-packed q i [] = refl
 has_index-packed q i (f ∷ fs) = λ j. nat_eq q (index-packed_at i f j) || has_index-packed q i fs j
 
-pub stored-packed : (held : Held) (recent : List ℕ) (slow : List SlowRank) (last : Option ℕ) (R S : List Frame) (f : Frame) → AreStored held recent slow last R S → last_in R ≡ Some f
-    → AreStored (fin.insert held (index_of f) (packed f)) recent slow last (map (packed_at (index_of f)) R) (map (packed_at (index_of f)) S)
+pub stored-packed : (held : HeldFrames) (recent : List ℕ) (slow : List SlowRank) (last : Option ℕ) (R S : List Frame) (f : Frame) → AreStored held recent slow last R S → last_in R ≡ Some f
+    → AreStored (fin.insert held (index_of f) (packed_alone f)) recent slow last (map (packed_under (index_of f)) R) (map (packed_under (index_of f)) S)
 stored-packed held recent slow last R S f h newest =
     let i : ℕ = index_of f in
     let there : fin.get held i ≡ Some f = all_last (λ g. fin.get held (index_of g) ≡ Some g) R f h.recent_held newest in
@@ -523,17 +523,17 @@ stored-packed held recent slow last R S f h newest =
       recent_held = packed_held held f R there h.recent_held;
       slow_held = packed_held held f S there h.slow_held;
       only = λ q out.
-          let none : fin.get held q ≡ None = h.only q (has_index-append q R S ∙ (λ j. sym (has_index-packed q i R) j || sym (has_index-packed q i S) j) ∙ sym (has_index-append q (map (packed_at i) R) (map (packed_at i) S)) ∙ out) in
-          fin.get-insert nat_cmp_total held i (packed f) q ∙ ap (λ b. cond b (Some (packed f)) (fin.get held q)) (is_at q i) ∙ at q (nat_eq q i) none (λ e. ap (fin.get held) (equal_to q i e) ∙ there);
+          let none : fin.get held q ≡ None = h.only q (has_index-append q R S ∙ (λ j. sym (has_index-packed q i R) j || sym (has_index-packed q i S) j) ∙ sym (has_index-append q (map (packed_under i) R) (map (packed_under i) S)) ∙ out) in
+          fin.get-insert nat_cmp_total held i (packed_alone f) q ∙ ap (λ b. cond b (Some (packed_alone f)) (fin.get held q)) (is_at q i) ∙ at q (nat_eq q i) none (λ e. ap (fin.get held) (equal_to q i e) ∙ there);
       kept = IsKept-packed i R S last h.kept;
       in_order = h.in_order;
     } where
-      at : (q : ℕ) (b : Bool) → fin.get held q ≡ None → (b ≡ true → fin.get held q ≡ Some f) → cond b (Some (packed f)) (fin.get held q) ≡ None
+      at : (q : ℕ) (b : Bool) → fin.get held q ≡ None → (b ≡ true → fin.get held q ≡ Some f) → cond b (Some (packed_alone f)) (fin.get held q) ≡ None
       at q true none some = let both : None ≡ Some f = sym none ∙ some refl in cc
       at q false none some = none
 
 -- an insertion of what is there changes nothing
-insert_same : (held : Held) (i : ℕ) (f : Frame) → fin.get held i ≡ Some f → fin.insert held i f ≡ held
+insert_same : (held : HeldFrames) (i : ℕ) (f : Frame) → fin.get held i ≡ Some f → fin.insert held i f ≡ held
 insert_same held i f there =
     fin.same_map nat_cmp_total fin.nat_cmp-IsAntisymmetric (fin.insert held i f) held (λ q. fin.get-insert nat_cmp_total held i f q ∙ ap (λ b. cond b (Some f) (fin.get held q)) (is_at q i) ∙ at q (nat_eq q i) refl) where
       at : (q : ℕ) (b : Bool) → nat_eq q i ≡ b → cond b (Some f) (fin.get held q) ≡ fin.get held q
@@ -541,11 +541,11 @@ insert_same held i f there =
       at q false e = refl
 
 -- a newest frame that is packed alone already
-pub stored-already : (held : Held) (recent : List ℕ) (slow : List SlowRank) (last : Option ℕ) (R S : List Frame) (f : Frame) → AreStored held recent slow last R S → last_in R ≡ Some f → f ≡ packed f
-    → AreStored held recent slow last (map (packed_at (index_of f)) R) (map (packed_at (index_of f)) S)
+pub stored-already : (held : HeldFrames) (recent : List ℕ) (slow : List SlowRank) (last : Option ℕ) (R S : List Frame) (f : Frame) → AreStored held recent slow last R S → last_in R ≡ Some f → f ≡ packed_alone f
+    → AreStored held recent slow last (map (packed_under (index_of f)) R) (map (packed_under (index_of f)) S)
 stored-already held recent slow last R S f h newest same =
     let there : fin.get held (index_of f) ≡ Some f = all_last (λ g. fin.get held (index_of g) ≡ Some g) R f h.recent_held newest in
-    let P : Held → Type 0 = λ m. AreStored m recent slow last (map (packed_at (index_of f)) R) (map (packed_at (index_of f)) S) in
+    let P : HeldFrames → Type 0 = λ m. AreStored m recent slow last (map (packed_under (index_of f)) R) (map (packed_under (index_of f)) S) in
     subst P (ap (fin.insert held (index_of f)) (sym same) ∙ insert_same held (index_of f) f there) (stored-packed held recent slow last R S f h newest)
 
 -- a rank whose index is above another's comes before it where it is longer
@@ -595,14 +595,14 @@ any_has i (x ∷ is) = λ j. flips x i j || any_has i is j where
   flips a b = grind arith
 
 -- one more rank, whose frame is let go where it isn't recent
-pub slow_step : (old mid new : Held) (recent : List ℕ) (rs : List SlowRank) (k : ℕ) (d : SlowRank) (b : Bool) → k < length rs → LetsGo old recent (map rank_index (take k rs)) mid → b ≡ list_any (λ y. nat_eq y (rank_index (get_or rs k d))) recent
+pub slow_step : (old mid new : HeldFrames) (recent : List ℕ) (rs : List SlowRank) (k : ℕ) (d : SlowRank) (b : Bool) → k < length rs → LetsGo old recent (map rank_index (take k rs)) mid → b ≡ list_any (λ y. nat_eq y (rank_index (get_or rs k d))) recent
     → (b ≡ false → new ≡ fin.remove mid (rank_index (get_or rs k d))) → (b ≡ true → new ≡ mid) → LetsGo old recent (map rank_index (take (k + 1) rs)) new
 slow_step old mid new recent rs k d b h go is off on =
     let i : ℕ = rank_index (get_or rs k d) in
     let P : List ℕ → Type 0 = λ gone. LetsGo old recent gone new in
     subst P (ranks_next rs k d h) (at b is off on) where
       at : (b : Bool) → b ≡ list_any (λ y. nat_eq y (rank_index (get_or rs k d))) recent → (b ≡ false → new ≡ fin.remove mid (rank_index (get_or rs k d))) → (b ≡ true → new ≡ mid) → LetsGo old recent (map rank_index (take k rs) ++ rank_index (get_or rs k d) ∷ []) new
-      at true is off on = let Q : Held → Type 0 = λ m. LetsGo old recent (map rank_index (take k rs) ++ rank_index (get_or rs k d) ∷ []) m in
+      at true is off on = let Q : HeldFrames → Type 0 = λ m. LetsGo old recent (map rank_index (take k rs) ++ rank_index (get_or rs k d) ∷ []) m in
           subst Q (sym (on refl)) (LetsGo-kept old mid recent (map rank_index (take k rs)) (rank_index (get_or rs k d)) go (sym (any_has (rank_index (get_or rs k d)) recent) ∙ sym is))
       at false is off on = LetsGo-more old mid new recent (map rank_index (take k rs)) (rank_index (get_or rs k d)) go (off refl) (sym (any_has (rank_index (get_or rs k d)) recent) ∙ sym is)
 
@@ -620,13 +620,13 @@ indices_next is k i h e = ap (λ j. take k is ++ j ∷ []) e ∙ sym (take_next 
   more : (k : ℕ) → k + 1 ≡ suc k
   more k = omega arith
 
-pub recent_step : (old mid new : Held) (slow : List SlowRank) (is : List ℕ) (k i : ℕ) (b : Bool) → k < length is → i ≡ get_or is k i → LetsGo old (map rank_index slow) (take k is) mid → b ≡ list_any (λ r. nat_eq r.frame_index i) slow
+pub recent_step : (old mid new : HeldFrames) (slow : List SlowRank) (is : List ℕ) (k i : ℕ) (b : Bool) → k < length is → i ≡ get_or is k i → LetsGo old (map rank_index slow) (take k is) mid → b ≡ list_any (λ r. nat_eq r.frame_index i) slow
     → (b ≡ false → new ≡ fin.remove mid i) → (b ≡ true → new ≡ mid) → LetsGo old (map rank_index slow) (take (k + 1) is) new
 recent_step old mid new slow is k i b h e go ensured off on =
     let P : List ℕ → Type 0 = λ gone. LetsGo old (map rank_index slow) gone new in
     subst P (indices_next is k i h e) (at b ensured off on) where
       at : (b : Bool) → b ≡ list_any (λ r. nat_eq r.frame_index i) slow → (b ≡ false → new ≡ fin.remove mid i) → (b ≡ true → new ≡ mid) → LetsGo old (map rank_index slow) (take k is ++ i ∷ []) new
-      at true ensured off on = let Q : Held → Type 0 = λ m. LetsGo old (map rank_index slow) (take k is ++ i ∷ []) m in subst Q (sym (on refl)) (LetsGo-kept old mid (map rank_index slow) (take k is) i go (sym (any_ranks i slow) ∙ sym ensured))
+      at true ensured off on = let Q : HeldFrames → Type 0 = λ m. LetsGo old (map rank_index slow) (take k is ++ i ∷ []) m in subst Q (sym (on refl)) (LetsGo-kept old mid (map rank_index slow) (take k is) i go (sym (any_ranks i slow) ∙ sym ensured))
       at false ensured off on = LetsGo-more old mid new (map rank_index slow) (take k is) i go (off refl) (sym (any_ranks i slow) ∙ sym ensured)
 
 drop_next : {A : Type 0} (xs : List A) (k : ℕ) → drop 1 (drop k xs) ≡ drop (k + 1) xs

@@ -14,12 +14,12 @@ use Rattle.puffin_data.specs.declared.error.Error.{Error}
 use Rattle.puffin_data.specs.declared.error.Error.TheVariants.{Memory}
 use Rattle.puffin_data.specs.declared.data.info.StreamInfo.{StreamInfo}
 use Rattle.puffin_data.specs.Forest.{empty}
-use Rattle.puffin_data.specs.Honesty.{Recorded, recorded}
+use Rattle.puffin_data.specs.Honesty.{Recorded, record_of}
 use Rattle.puffin_data.specs.Walk.Visitor.{TakesAll, StopsEarly}
 use Rattle.puffin_frames.specs.declared.thread_profiler.thread_info.ThreadInfo.{ThreadInfo}
 use Rattle.puffin_frames.specs.declared.frame_data.unpacked.UnpackedFrameData.{UnpackedFrameData}
 use Rattle.puffin_frames.specs.Thread.Info.{info_of, info_cmp, thread_cmp, keyed}
-use Rattle.puffin_frames.specs.Frame.Contents.{records, unshared}
+use Rattle.puffin_frames.specs.Frame.Contents.{records, without_sharing}
 use Rattle.puffin.specs.declared.merge.table.Table.{Table}
 use Rattle.puffin.specs.declared.merge.stream.Merging.{Merging}
 use Rattle.puffin.specs.Merge.FrameBytes.{bytes_of, most_tries_of}
@@ -30,20 +30,20 @@ abbrev Shared : Type 0
 Shared = Arc StreamInfo Global
 
 abbrev held : Shared → Recorded
-held x = recorded (arc_value x)
+held x = record_of (arc_value x)
 
 at_test : (b : Bool) (x : Shared) (f : Option Recorded) (l : Option Shared) → f ≡ option_map held l → cond b (Some (held x)) f ≡ option_map held (cond b (Some x) l)
 at_test true x f l e = refl
 at_test false x f l e = e
 
-find_is : (info : ThreadInfo) (entries : List (ThreadInfo × Shared)) → find info_cmp (info_of info) (keyed (records (unshared entries))) ≡ option_map held (lookup (is_at (thread_cmp info)) entries)
+find_is : (info : ThreadInfo) (entries : List (ThreadInfo × Shared)) → find info_cmp (info_of info) (keyed (records (without_sharing entries))) ≡ option_map held (lookup (is_at (thread_cmp info)) entries)
 find_is info [] = refl
 find_is info (e ∷ entries) = at_test (is_at (thread_cmp info) e.0) e.1 _ (lookup (is_at (thread_cmp info)) entries) (find_is info entries)
 
 stream_is : IsTotalOrder info_cmp → (info : ThreadInfo) (frame : UnpackedFrameData) (r : Option Shared) → r ≡ lookup (is_at (thread_cmp info)) frame.thread_streams.entries
     → (frame_bytes (info_of info) frame).stream ≡ option_map (λ (x : Shared). (arc_value x).stream.bytes) r
 stream_is total info frame r e =
-    ap (option_map (λ (x : Recorded). x.bytes)) (tree.get-from_entries total (keyed (records (unshared frame.thread_streams.entries))) (info_of info) ∙ find_is info frame.thread_streams.entries ∙ ap (option_map held) (sym e)) ∙ twice r
+    ap (option_map (λ (x : Recorded). x.bytes)) (tree.get-from_entries total (keyed (records (without_sharing frame.thread_streams.entries))) (info_of info) ∙ find_is info frame.thread_streams.entries ∙ ap (option_map held) (sym e)) ∙ twice r
   where
     twice : (r : Option Shared) → option_map (λ (x : Recorded). x.bytes) (option_map held r) ≡ option_map (λ (x : Shared). (arc_value x).stream.bytes) r
     twice None = refl

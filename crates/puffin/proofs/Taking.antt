@@ -6,7 +6,7 @@ use Rattle.std.specs.Option.{IfSome, option_map_or}
 use Rattle.std.proofs.Math.Seq.{drop-nil}
 use Rattle.puffin.specs.View.Ranking.{place, last_of, last_from, last_in}
 use Rattle.puffin_frames.specs.Packet.Stored.{Said}
-use Rattle.puffin.specs.View.ViewedFrames.{Frame, frame_index, contents_of, index_of, duration_of, is_slower, is_slower_frame, slowest, packed_at, packed, taken, rises_above}
+use Rattle.puffin.specs.View.ViewedFrames.{Frame, frame_index, contents_of, index_of, duration_of, is_slower, is_slower_frame, slowest, packed_under, packed_alone, rising_end, rises_above}
 use Rattle.puffin.specs.View.{View, emptied, with_packed, with_newest_packed, is_past, enters, joined_by, after_taking, after_all, Holds, IsUpTo, IsSteady, Took}
 use Rattle.puffin.proofs.Rankings.{last_of-more, first_in_order-more, first_in_order-same}
 use Rattle.puffin.proofs.Orders.{slower_order, later_behind, map-place, map-take, map-drop, map-more, map-length, map-last_from, packed_at_says}
@@ -83,11 +83,11 @@ steady_before (Some l) i (f ∷ fs) p h = (at_most (index_of f) i l h.0 p, stead
   at_most : (a i l : ℕ) → a ≤ l → nat_le i l ≡ false → a < i
   at_most a i l q e = grind arith
 
-index_packed : (i : ℕ) (f : Frame) (b : Bool) → index_of (cond b (packed f) f) ≡ index_of f
+index_packed : (i : ℕ) (f : Frame) (b : Bool) → index_of (cond b (packed_alone f) f) ≡ index_of f
 index_packed i f true = refl
 index_packed i f false = refl
 
-all_packed : (P : ℕ → Type 0) (i : ℕ) (fs : List Frame) → AllByRecursion (λ f. P (index_of f)) fs → AllByRecursion (λ f. P (index_of f)) (map (packed_at i) fs)
+all_packed : (P : ℕ → Type 0) (i : ℕ) (fs : List Frame) → AllByRecursion (λ f. P (index_of f)) fs → AllByRecursion (λ f. P (index_of f)) (map (packed_under i) fs)
 all_packed P i [] h = tt
 all_packed P i (f ∷ fs) h = (subst P (sym (index_packed i f (nat_eq (index_of f) i))) h.0, all_packed P i fs h.1)
 
@@ -169,17 +169,17 @@ more_taken_at : (whole later rest : List Said) (c : Said) (b d l : Bool) → d �
 more_taken_at whole later rest c true d l e p ih = rw (e, p) refl
 more_taken_at whole later rest c false d l e p ih = rw e ih
 
-pub taken-more : (x : Said) (xs : List Said) (c : Said) → nat_lt (frame_index (last_from x xs)) (frame_index c) ≡ true → taken ((x ∷ xs) ++ c ∷ []) ≡ taken (x ∷ xs) ++ c ∷ []
+pub taken-more : (x : Said) (xs : List Said) (c : Said) → nat_lt (frame_index (last_from x xs)) (frame_index c) ≡ true → rising_end ((x ∷ xs) ++ c ∷ []) ≡ rising_end (x ∷ xs) ++ c ∷ []
 taken-more x [] c p = rw p refl
-taken-more x (y ∷ ys) c p = more_taken_at (x ∷ (y ∷ ys)) (taken ((y ∷ ys) ++ c ∷ [])) (taken (y ∷ ys)) c (rises_above (frame_index x) (y ∷ ys)) (rises_above (frame_index x) ((y ∷ ys) ++ c ∷ [])) (nat_lt (frame_index (last_from x (y ∷ ys))) (frame_index c)) (rises-more x (y ∷ ys) c) p (taken-more y ys c p)
+taken-more x (y ∷ ys) c p = more_taken_at (x ∷ (y ∷ ys)) (rising_end ((y ∷ ys) ++ c ∷ [])) (rising_end (y ∷ ys)) c (rises_above (frame_index x) (y ∷ ys)) (rises_above (frame_index x) ((y ∷ ys) ++ c ∷ [])) (nat_lt (frame_index (last_from x (y ∷ ys))) (frame_index c)) (rises-more x (y ∷ ys) c) p (taken-more y ys c p)
 
 none_taken_at : (whole later : List Said) (c : Said) (b d l : Bool) → d ≡ (b && l) → l ≡ false → later ≡ c ∷ [] → cond d whole later ≡ c ∷ []
 none_taken_at whole later c true d l e p ih = rw (e, p) ih
 none_taken_at whole later c false d l e p ih = rw e ih
 
-pub taken-anew : (x : Said) (xs : List Said) (c : Said) → nat_lt (frame_index (last_from x xs)) (frame_index c) ≡ false → taken ((x ∷ xs) ++ c ∷ []) ≡ c ∷ []
+pub taken-anew : (x : Said) (xs : List Said) (c : Said) → nat_lt (frame_index (last_from x xs)) (frame_index c) ≡ false → rising_end ((x ∷ xs) ++ c ∷ []) ≡ c ∷ []
 taken-anew x [] c p = rw p refl
-taken-anew x (y ∷ ys) c p = none_taken_at ((x ∷ (y ∷ ys)) ++ c ∷ []) (taken ((y ∷ ys) ++ c ∷ [])) c (rises_above (frame_index x) (y ∷ ys)) (rises_above (frame_index x) ((y ∷ ys) ++ c ∷ [])) (nat_lt (frame_index (last_from x (y ∷ ys))) (frame_index c)) (rises-more x (y ∷ ys) c) p (taken-anew y ys c p)
+taken-anew x (y ∷ ys) c p = none_taken_at ((x ∷ (y ∷ ys)) ++ c ∷ []) (rising_end ((y ∷ ys) ++ c ∷ [])) c (rises_above (frame_index x) (y ∷ ys)) (rises_above (frame_index x) ((y ∷ ys) ++ c ∷ [])) (nat_lt (frame_index (last_from x (y ∷ ys))) (frame_index c)) (rises-more x (y ∷ ys) c) p (taken-anew y ys c p)
 
 last-more : (x : Said) (xs : List Said) (c : Said) → last_from x (xs ++ c ∷ []) ≡ c
 last-more x [] c = refl
@@ -189,17 +189,17 @@ opposite : (i l : ℕ) (b : Bool) → nat_le i l ≡ b → nat_lt l i ≡ (cond 
 opposite i l true h = grind arith
 opposite i l false h = grind arith
 
-took_at : (v : View) (f : Frame) (x : Said) (xs : List Said) (b : Bool) → is_past v (index_of f) ≡ b → v.last ≡ Some (frame_index (last_from x xs)) → IsSteady v → Holds (taken (x ∷ xs)) (taken (x ∷ xs)) v
-    → Holds (taken ((x ∷ xs) ++ contents_of f ∷ [])) (taken ((x ∷ xs) ++ contents_of f ∷ [])) (after_taking v f)
+took_at : (v : View) (f : Frame) (x : Said) (xs : List Said) (b : Bool) → is_past v (index_of f) ≡ b → v.last ≡ Some (frame_index (last_from x xs)) → IsSteady v → Holds (rising_end (x ∷ xs)) (rising_end (x ∷ xs)) v
+    → Holds (rising_end ((x ∷ xs) ++ contents_of f ∷ [])) (rising_end ((x ∷ xs) ++ contents_of f ∷ [])) (after_taking v f)
 took_at v f x xs b p last steady h =
     let was : nat_le (index_of f) (frame_index (last_from x xs)) ≡ b = ap (λ o. option_map_or (λ l. nat_le (index_of f) l) o false) (sym last) ∙ p in
     choose b p was where
       H : List Said → Type 0
       H cs = Holds cs cs (after_taking v f)
 
-      choose : (b : Bool) → is_past v (index_of f) ≡ b → nat_le (index_of f) (frame_index (last_from x xs)) ≡ b → Holds (taken ((x ∷ xs) ++ contents_of f ∷ [])) (taken ((x ∷ xs) ++ contents_of f ∷ [])) (after_taking v f)
+      choose : (b : Bool) → is_past v (index_of f) ≡ b → nat_le (index_of f) (frame_index (last_from x xs)) ≡ b → Holds (rising_end ((x ∷ xs) ++ contents_of f ∷ [])) (rising_end ((x ∷ xs) ++ contents_of f ∷ [])) (after_taking v f)
       choose true p q = subst H (sym (taken-anew x xs (contents_of f) (opposite (index_of f) (frame_index (last_from x xs)) true q))) (Holds-anew v f p)
-      choose false p q = subst H (sym (taken-more x xs (contents_of f) (opposite (index_of f) (frame_index (last_from x xs)) false q))) (Holds-more v f (taken (x ∷ xs)) (taken (x ∷ xs)) steady p h)
+      choose false p q = subst H (sym (taken-more x xs (contents_of f) (opposite (index_of f) (frame_index (last_from x xs)) false q))) (Holds-more v f (rising_end (x ∷ xs)) (rising_end (x ∷ xs)) steady p h)
 
 -- a view that took some frames, and takes one more
 pub Took-more : (v : View) (f : Frame) (cs : List Said) → IsSteady v → Took cs v → Took (cs ++ contents_of f ∷ []) (after_taking v f)

@@ -5,5 +5,5 @@ pub mod Registering
 use Rattle.puffin.specs.Profiler.Collected.{Collected}
 use Rattle.puffin.specs.declared.global_profiler.profiler.GlobalProfiler.{GlobalProfiler}
 
-abbrev pub collected : GlobalProfiler → Collected
-collected profiler = profiler.collector
+abbrev pub collected_of : GlobalProfiler → Collected
+collected_of profiler = profiler.collector

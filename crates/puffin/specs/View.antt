@@ -12,7 +12,7 @@ use Rattle.std.specs.Option.{option_map_or, option_map}
 use Rattle.std.specs.List.{AllByRecursion}
 use Rattle.puffin.specs.View.Ranking.{place, last_of, last_in}
 use Rattle.puffin_frames.specs.Packet.Stored.{Said}
-use Rattle.puffin.specs.View.ViewedFrames.{Frame, is_slower_frame, slowest, contents_of, frame_index, index_of, duration_of, packed_at, taken, chronological}
+use Rattle.puffin.specs.View.ViewedFrames.{Frame, is_slower_frame, slowest, contents_of, frame_index, index_of, duration_of, packed_under, rising_end, chronological}
 
 pub record View : Type 0 where
   -- the last frames, oldest first
@@ -36,7 +36,7 @@ emptied v = record { recent = []; slow = []; last = None; max_recent = v.max_rec
 
 -- the view with the frame of an index packed, in both lists
 abbrev pub with_packed : ℕ → View → View
-with_packed i v = record { recent = map (packed_at i) v.recent; slow = map (packed_at i) v.slow; last = v.last; max_recent = v.max_recent; max_slow = v.max_slow; packs = v.packs }
+with_packed i v = record { recent = map (packed_under i) v.recent; slow = map (packed_under i) v.slow; last = v.last; max_recent = v.max_recent; max_slow = v.max_slow; packs = v.packs }
 
 -- the view with its newest frame packed
 abbrev pub with_newest_packed : View → View
@@ -107,7 +107,7 @@ last_index cs = option_map frame_index (last_in cs)
 
 -- a view that took frames that say cs, and whose limits weren't changed since its first frame
 pub record Took (cs : List Said) (v : View) : Type 0 where
-  pub holds : Holds (taken cs) (taken cs) v
+  pub holds : Holds (rising_end cs) (rising_end cs) v
   pub last : v.last ≡ last_index cs
 
 -- all frames of the view, each once, by rising index

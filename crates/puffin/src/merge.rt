@@ -4,7 +4,7 @@ ghost use Rattle.std.specs.Prelude.{◌≡◌, ◌≤◌, ◌⊎◌, length, IfO
 ghost use Rattle.puffin_frames.specs.Thread.Info.{info_of};
 ghost use Rattle.puffin.specs.Merge.Occurrences.{occurrences};
 ghost use Rattle.puffin.specs.Merge.FrameBytes.{most_tries};
-ghost use Rattle.puffin.specs.Merge.Refusals.{IsRefusal, IsRefusalAfter, AreMerged, ReadsFew};
+ghost use Rattle.puffin.specs.Merge.Refusals.{IsMergeRefusal, IsRefusalAfter, AreMerged, ReadsFew};
 ghost use Rattle.puffin.specs.Merge.Scopes.{frames_bytes, forest_in};
 
 pub mod laws;
@@ -43,9 +43,11 @@ pub fn merge_scopes_for_thread<'s>(
     info: &ThreadInfo,
 ) -> Result<Vec<MergeScope<'s>>>
     // What it gives is the frames' merge.
-    ensures merged { IfOk result (λ merged. AreMerged (frames_bytes (info_of info.now) frames.now) (forest_in merged.items)) }
+    ensures merged { IfOk result (λ merged.
+        AreMerged (frames_bytes (info_of info.now) frames.now) (forest_in merged.items)) }
     // What it is refused with, if not for want of memory, is the frames' refusal.
-    ensures refused { IfErr result (λ e. (e ≡ Error.Memory) ⊎ IsRefusal (frames_bytes (info_of info.now) frames.now) e) }
+    ensures refused { IfErr result (λ e.
+        (e ≡ Error.Memory) ⊎ IsMergeRefusal (frames_bytes (info_of info.now) frames.now) e) }
 {
     let mut tries = 0;
     merge_scopes_counted(alloc, collection, frames, info, &mut tries)
@@ -61,7 +63,9 @@ pub fn merge_scopes_counted<'s>(
     tries: &mut u128,
 ) -> Result<Vec<MergeScope<'s>>>
     // What it gives is the frames' merge, with one try for each scope.
-    ensures merged { IfOk result (λ merged. (m : AreMerged (frames_bytes (info_of info.now) frames.now) (forest_in merged.items)) × (tries.new ≡ length (occurrences m.scopes))) }
+    ensures merged { IfOk result (λ merged.
+        (m : AreMerged (frames_bytes (info_of info.now) frames.now) (forest_in merged.items))
+        × (tries.new ≡ length (occurrences m.scopes))) }
     // What it is refused with, if not for want of memory, is the frames' refusal after just these tries.
     ensures refused { IfErr result (λ e. (e ≡ Error.Memory)
         ⊎ IsRefusalAfter (frames_bytes (info_of info.now) frames.now) tries.new e) }

@@ -3,8 +3,8 @@ use Rattle.std.proofs.Common.{◌≡◌, ℕ, List, [], ◌∷◌, ◌++◌, map
 use Rattle.std.proofs.lemmas.List.{map-append}
 use Rattle.puffin_data.specs.declared.error.Error.{Error}
 use Rattle.puffin_data.specs.declared.data.record.Scope.{Scope}
-use Rattle.puffin_data.specs.Reader.{ReadScope, Place, next_after, scope_read, Reads, ends, stops, goes_on}
-use Rattle.puffin_data.specs.Reader.Scopes.{scope_seen, IsNextRead, ReadsScopes, ReadsFault}
+use Rattle.puffin_data.specs.Reader.{ReadScope, Place, next_after, scope_read, ReaderGives, ends, stops, goes_on}
+use Rattle.puffin_data.specs.Reader.ReadScopes.{scope_seen, IsNextRead, ReadsScopes, ReadsFault}
 
 abbrev items : List Scope → List (Result ReadScope Error)
 items scopes = map (λ s. Ok s) (map scope_seen scopes)
@@ -12,7 +12,7 @@ items scopes = map (λ s. Ok s) (map scope_seen scopes)
 -- after these scopes a reader stands at a place, and gives what is given from there
 pub record HasRead (from now : Place) (scopes : List Scope) : Type 0 where
   pub same_bytes : now.bytes ≡ from.bytes
-  pub reads : (later : List (Result ReadScope Error)) → Reads from.bytes now.at later → Reads from.bytes from.at (items scopes ++ later)
+  pub reads : (later : List (Result ReadScope Error)) → ReaderGives from.bytes now.at later → ReaderGives from.bytes from.at (items scopes ++ later)
 
 pub nothing_read : (from : Place) → HasRead from from []
 nothing_read from = record { same_bytes = refl; reads = λ later r. r }
@@ -71,14 +71,14 @@ one_more from now to scopes all s h step grown =
     record {
       same_bytes = step.same_bytes ∙ h.same_bytes;
       reads = λ later r.
-          let whole = h.reads (Ok (scope_seen s) ∷ later) (goes_on there (subst (λ (p : ℕ). Reads from.bytes p later) told.1 r)) in
-          subst (Reads from.bytes from.at) (sym (ap (λ (xs : List (Result ReadScope Error)). xs ++ later) split ∙ append_assoc (items scopes) (Ok (scope_seen s) ∷ []) later)) whole;
+          let whole = h.reads (Ok (scope_seen s) ∷ later) (goes_on there (subst (λ (p : ℕ). ReaderGives from.bytes p later) told.1 r)) in
+          subst (ReaderGives from.bytes from.at) (sym (ap (λ (xs : List (Result ReadScope Error)). xs ++ later) split ∙ append_assoc (items scopes) (Ok (scope_seen s) ∷ []) later)) whole;
     }
 
 pub all_read : (from now to : Place) (scopes : List Scope) → HasRead from now scopes → IsNextRead now None to → ReadsScopes from scopes
 all_read from now to scopes h step =
     let there = read_there from now (Ok None) h.same_bytes (after_none now (scope_read now.bytes now.at (length now.bytes)) to.at step.next) in
-    subst (Reads from.bytes from.at) (append-nil (items scopes)) (h.reads [] (ends there))
+    subst (ReaderGives from.bytes from.at) (append-nil (items scopes)) (h.reads [] (ends there))
 
 pub fault_read : (from now to : Place) (scopes : List Scope) (fault : Error) → HasRead from now scopes → IsNextRead now (Some (Err fault)) to → ReadsFault from fault
 fault_read from now to scopes fault h step =

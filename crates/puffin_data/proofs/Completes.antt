@@ -10,7 +10,7 @@ use Rattle.puffin_data.specs.Forest.Measures.{scope_count, height, least_start, 
 use Rattle.puffin_data.specs.Forest.Spelling.{spelling, begin_bytes, end_bytes}
 use Rattle.puffin_data.specs.Walk.Reading.{Found}
 use Rattle.puffin_data.specs.Walk.{region, IsSoundAt, IsFaultAt, Reaches, here, child, sibling, Sounds, no_more, one_more}
-use Rattle.puffin_data.specs.inner.Walking.{counted, Visits, ends, goes_on}
+use Rattle.puffin_data.specs.inner.Walking.{with_scope, WalksTo, ends, goes_on}
 use Rattle.puffin_data.proofs.lemmas.Numbers.{IsBytes, IsBytes-drop, IsBytes-take}
 use Rattle.puffin_data.proofs.Spelled.{spelt}
 use Rattle.puffin_data.proofs.Resuming.{found_places}
@@ -19,7 +19,7 @@ use Rattle.puffin_data.proofs.Regions.{length-region, part_of_region, rest_of_re
 -- a walk's numbers after a forest within so many open scopes
 abbrev pub tallied : ℕ → Walk → Forest → Walk
 tallied level w empty = w
-tallied level w (node s children others) = tallied level (tallied (suc level) (counted w (suc level) s) children) others
+tallied level w (node s children others) = tallied level (tallied (suc level) (with_scope w (suc level) s) children) others
 
 -- what a completed walk of a region says
 pub record Completed (bytes : List ℕ) (level : ℕ) (w v : Walk) (p e : ℕ) : Type 0 where
@@ -51,7 +51,7 @@ pub joined : (part inner rest : List ℕ) (s : Span) (size : ℕ) (f g : Forest)
 joined part inner rest s size f g e len ef eg =
     e ∙ ap (λ (n : ℕ). begin_bytes s.id s.start s.text n ++ (inner ++ (end_bytes s.stop ++ rest))) (sym len) ∙ ap (λ (x : List ℕ). begin_bytes s.id s.start s.text (length x) ++ (x ++ (end_bytes s.stop ++ rest))) ef ∙ ap (λ (x : List ℕ). begin_bytes s.id s.start s.text (length (spelling f)) ++ (spelling f ++ (end_bytes s.stop ++ x))) eg
 
-pub completed : (bytes : List ℕ) (level : ℕ) (w v : Walk) (p e : ℕ) → IsBytes bytes → p ≤ e → e ≤ length bytes → Visits bytes level w p e (Ok v) → Completed bytes level w v p e
+pub completed : (bytes : List ℕ) (level : ℕ) (w v : Walk) (p e : ℕ) → IsBytes bytes → p ≤ e → e ≤ length bytes → WalksTo bytes level w p e (Ok v) → Completed bytes level w v p e
 completed bytes level w v p e fits h k ends =
     record {
       forest = empty;
@@ -65,7 +65,7 @@ completed bytes level w v p e fits h k ends =
     }
 completed bytes level w v p e fits h k (goes_on {v = u} {s = s} sound inner later) =
     let at = found_places bytes p e s sound h k in
-    let a = completed bytes (suc level) (counted w (suc level) s.span) u (p + s.child_begin) (p + s.child_end) fits (omega (arith, at)) (omega (arith, at)) inner in
+    let a = completed bytes (suc level) (with_scope w (suc level) s.span) u (p + s.child_begin) (p + s.child_end) fits (omega (arith, at)) (omega (arith, at)) inner in
     let b = completed bytes level u v (p + s.next_sibling) e fits (omega (arith, at)) k later in
     let part = region bytes p e in
     let t = spelt part s (IsBytes-take (e - p) (drop p bytes) (IsBytes-drop p bytes fits)) sound in
@@ -123,7 +123,7 @@ tallies level w empty o = record {
   stop = sym (greatest_of_none w.range_ns.1 o.stop);
 }
 tallies level w (node s children others) o =
-    let x = counted w (suc level) s in
+    let x = with_scope w (suc level) s in
     let y = tallied (suc level) x children in
     let a = tallies (suc level) x children (record { depth = omega arith; start = least_low w.range_ns.0 s.start _ o.start; stop = greatest_high w.range_ns.1 s.stop _ o.stop }) in
     let open_y : IsOpen level y = record {

@@ -10,7 +10,7 @@ use Rattle.puffin_data.specs.Forest.{Forest, empty, node}
 use Rattle.puffin_data.specs.Forest.Measures.{scope_count}
 use Rattle.puffin_data.specs.Walk.Reading.{Found}
 use Rattle.puffin_data.specs.Walk.{region, IsSoundAt, IsFaultAt, Reaches, here, child, sibling, Sounds, no_more, one_more}
-use Rattle.puffin_data.specs.inner.Walking.{counted, Stop, tries_in, Visits, stops, stops_within, goes_on}
+use Rattle.puffin_data.specs.inner.Walking.{with_scope, Stop, tries_in, WalksTo, stops, stops_within, goes_on}
 use Rattle.puffin_data.proofs.lemmas.Numbers.{IsBytes}
 use Rattle.puffin_data.proofs.Resuming.{found_places}
 use Rattle.puffin_data.proofs.Regions.{sound_is_no_fault, one_sound, between}
@@ -68,7 +68,7 @@ none_below bytes p e place xs h k le (one_more {s = s} {inner = inner} {later = 
 tallied_num : (level : ℕ) (w : Walk) (f : Forest) → (tallied level w f).num_scopes ≡ w.num_scopes + scope_count f
 tallied_num level w empty = omega arith
 tallied_num level w (node s children others) =
-    omega (arith, tallied_num (suc level) (counted w (suc level) s) children, tallied_num level (tallied (suc level) (counted w (suc level) s) children) others)
+    omega (arith, tallied_num (suc level) (with_scope w (suc level) s) children, tallied_num level (tallied (suc level) (with_scope w (suc level) s) children) others)
 
 -- what a stopped walk of a region says
 pub record Stops (bytes : List ℕ) (w : Walk) (p e : ℕ) (stop : Stop) : Type 0 where
@@ -89,7 +89,7 @@ by_parts bytes p e q f place s fault sound inner later (child {s = t} other r) a
 by_parts bytes p e q f place s fault sound inner later (sibling {s = t} other r) at =
     later (subst (λ (x : Found). Reaches bytes (p + x.next_sibling) e q f) (one_sound (region bytes p e) t s other sound) r)
 
-pub stopped_at : (bytes : List ℕ) (level : ℕ) (w : Walk) (p e : ℕ) (stop : Stop) → IsBytes bytes → p ≤ e → e ≤ length bytes → Visits bytes level w p e (Err stop) → Stops bytes w p e stop
+pub stopped_at : (bytes : List ℕ) (level : ℕ) (w : Walk) (p e : ℕ) (stop : Stop) → IsBytes bytes → p ≤ e → e ≤ length bytes → WalksTo bytes level w p e (Err stop) → Stops bytes w p e stop
 stopped_at bytes level w p e stop fits h k (stops {fault = fault} at) =
     record {
       end = e;
@@ -102,7 +102,7 @@ stopped_at bytes level w p e stop fits h k (stops {fault = fault} at) =
     }
 stopped_at bytes level w p e stop fits h k (stops_within {s = s} sound inner) =
     let at = found_places bytes p e s sound h k in
-    let a = stopped_at bytes (suc level) (counted w (suc level) s.span) (p + s.child_begin) (p + s.child_end) stop fits (omega (arith, at)) (omega (arith, at)) inner in
+    let a = stopped_at bytes (suc level) (with_scope w (suc level) s.span) (p + s.child_begin) (p + s.child_end) stop fits (omega (arith, at)) (omega (arith, at)) inner in
     let inside = between bytes (p + s.child_begin) (p + s.child_end) stop.place a.end (omega (arith, at)) (omega (arith, at)) a.reached in
     let b = has_sounds bytes (suc e) (p + s.next_sibling) e (omega arith) (omega (arith, at)) k in
     let none = none_below bytes (p + s.next_sibling) e stop.place b.0 (omega (arith, at)) k (omega (arith, at, inside)) b.1 in
@@ -117,11 +117,11 @@ stopped_at bytes level w p e stop fits h k (stops_within {s = s} sound inner) =
     }
 stopped_at bytes level w p e stop fits h k (goes_on {v = v} {s = s} sound inner later) =
     let at = found_places bytes p e s sound h k in
-    let a = completed bytes (suc level) (counted w (suc level) s.span) v (p + s.child_begin) (p + s.child_end) fits (omega (arith, at)) (omega (arith, at)) inner in
+    let a = completed bytes (suc level) (with_scope w (suc level) s.span) v (p + s.child_begin) (p + s.child_end) fits (omega (arith, at)) (omega (arith, at)) inner in
     let b = stopped_at bytes level v (p + s.next_sibling) e stop fits (omega (arith, at)) k later in
     let after = between bytes (p + s.next_sibling) e stop.place b.end (omega (arith, at)) k b.reached in
     let all = all_below bytes (p + s.child_begin) (p + s.child_end) stop.place a.places (omega (arith, at)) (omega (arith, at)) (omega (arith, at, after)) a.sounds in
-    let so_far : v.num_scopes ≡ w.num_scopes + 1 + length a.places = omega (arith, ap (λ (x : Walk). x.num_scopes) a.numbers, tallied_num (suc level) (counted w (suc level) s.span) a.forest, a.number_of_places) in
+    let so_far : v.num_scopes ≡ w.num_scopes + 1 + length a.places = omega (arith, ap (λ (x : Walk). x.num_scopes) a.numbers, tallied_num (suc level) (with_scope w (suc level) s.span) a.forest, a.number_of_places) in
     record {
       end = b.end;
       reached = sibling sound b.reached;

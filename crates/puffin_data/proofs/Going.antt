@@ -7,12 +7,12 @@ use Rattle.puffin_data.specs.Forest.{Span}
 use Rattle.puffin_data.specs.Walk.Reading.{Found}
 use Rattle.puffin_data.specs.Walk.{region, IsSoundAt, IsFaultAt}
 use Rattle.puffin_data.specs.inner.Walking.{tries_in}
-use Rattle.puffin_data.specs.Walk.Going.{End, whole, at_fault, at_refusal, IsEarly, Goes, ends, meets_fault, is_refused, stops_within, goes_on}
+use Rattle.puffin_data.specs.Walk.Going.{End, over_all, at_fault, at_refusal, IsEarly, Goes, ends, meets_fault, is_refused, stops_within, goes_on}
 use Rattle.puffin_data.proofs.Resuming.{IsNested, nested_push, nested_pop, nested_low}
 
 pub data Resumes {V W : Type 0} (enters : V → W → Span → W → V → Type 0) (refuses : V → W → Span → Error → Type 0) (bytes : List ℕ) : List (Region W) → W → V → ℕ → ℕ → ℕ → End V → Type 0 where
   outermost : {w : W} {v : V} {n p e : ℕ} {out : End V} → Goes enters refuses bytes w v n p e out → Resumes enters refuses bytes [] w v n p e out
-  leaves : {o : Region W} {outers : List (Region W)} {w : W} {v t : V} {n m p e : ℕ} {out : End V} → Goes enters refuses bytes w v n p e (whole t m) → Resumes enters refuses bytes outers o.within t m (e + 9) o.end out → Resumes enters refuses bytes (o ∷ outers) w v n p e out
+  leaves : {o : Region W} {outers : List (Region W)} {w : W} {v t : V} {n m p e : ℕ} {out : End V} → Goes enters refuses bytes w v n p e (over_all t m) → Resumes enters refuses bytes outers o.within t m (e + 9) o.end out → Resumes enters refuses bytes (o ∷ outers) w v n p e out
   breaks : {o : Region W} {outers : List (Region W)} {w : W} {v : V} {n p e : ℕ} {out : End V} → IsEarly out → Goes enters refuses bytes w v n p e out → Resumes enters refuses bytes (o ∷ outers) w v n p e out
 
 -- what a walk does first, put before the rest of it
@@ -69,10 +69,10 @@ leaves_region {V = V} {W = W} {enters = enters} {refuses = refuses} {bytes = byt
     subst (λ (q : ℕ). Resumes enters refuses bytes (reverse all) w v n q e out) (sym at)
     (subst (λ (rs : List (Region W)). Resumes enters refuses bytes rs w v n e e out) (sym (turned items all o h)) (leaves ends r))
 
-pub ended : {V W : Type 0} {enters : V → W → Span → W → V → Type 0} {refuses : V → W → Span → Error → Type 0} {bytes : List ℕ} (items : List (Region W)) (w : W) (v : V) (n p e : ℕ) → items ≡ [] → p ≡ e → Resumes enters refuses bytes (reverse items) w v n p e (whole v n)
+pub ended : {V W : Type 0} {enters : V → W → Span → W → V → Type 0} {refuses : V → W → Span → Error → Type 0} {bytes : List ℕ} (items : List (Region W)) (w : W) (v : V) (n p e : ℕ) → items ≡ [] → p ≡ e → Resumes enters refuses bytes (reverse items) w v n p e (over_all v n)
 ended {V = V} {W = W} {enters = enters} {refuses = refuses} {bytes = bytes} items w v n p e nothing at =
-    subst (λ (rs : List (Region W)). Resumes enters refuses bytes (reverse rs) w v n p e (whole v n)) (sym nothing)
-    (subst (λ (q : ℕ). Resumes enters refuses bytes [] w v n q e (whole v n)) (sym at) (outermost ends))
+    subst (λ (rs : List (Region W)). Resumes enters refuses bytes (reverse rs) w v n p e (over_all v n)) (sym nothing)
+    (subst (λ (q : ℕ). Resumes enters refuses bytes [] w v n q e (over_all v n)) (sym at) (outermost ends))
 
 pub fails : {V W : Type 0} {enters : V → W → Span → W → V → Type 0} {refuses : V → W → Span → Error → Type 0} {bytes : List ℕ} (outers : List (Region W)) (w : W) (v : V) (n p e : ℕ) (fault : Error)
     → IsFaultAt bytes p e fault → Resumes enters refuses bytes outers w v n p e (at_fault v p fault (n + tries_in (region bytes p e)))

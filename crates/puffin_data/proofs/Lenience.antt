@@ -9,7 +9,7 @@ use Rattle.puffin_data.specs.Text.{text_in}
 use Rattle.puffin_data.specs.Walk.Reading.{Found, reading, found_in}
 use Rattle.puffin_data.specs.Walk.{region, IsSoundAt}
 use Rattle.puffin_data.specs.declared.data.scope.Sighting.{Sighting}
-use Rattle.puffin_data.specs.inner.Sightings.{found_of, seen}
+use Rattle.puffin_data.specs.inner.Sightings.{found_of, reading_of}
 use Rattle.puffin_data.specs.Reader.{ReadScope, read_scope, read_from, scope_read}
 use Rattle.puffin_data.proofs.Found.{passes}
 use Rattle.puffin_data.proofs.Regions.{empty_region, nothing_is_no_fault}
@@ -43,9 +43,9 @@ can_be_told bytes p e s low high sound =
     record { id = m.id; fits = m.fits; begins = at.inside; ends = omega (arith, at.next); within = omega (arith, at.fits) }
 
 -- the same of the code's reading
-pub found_told : (bytes : List ℕ) (p e : ℕ) (seen_there : Option Sighting) (found : Sighting) → p ≤ e → e ≤ length bytes → seen (Ok seen_there) ≡ reading (region bytes p e) → seen_there ≡ Some found → CanBeTold p e (found_of found)
+pub found_told : (bytes : List ℕ) (p e : ℕ) (seen_there : Option Sighting) (found : Sighting) → p ≤ e → e ≤ length bytes → reading_of (Ok seen_there) ≡ reading (region bytes p e) → seen_there ≡ Some found → CanBeTold p e (found_of found)
 found_told bytes p e seen_there found low high read is =
-    can_be_told bytes p e (found_of found) low high (sym read ∙ ap (λ (o : Option Sighting). seen (Ok o)) is)
+    can_be_told bytes p e (found_of found) low high (sym read ∙ ap (λ (o : Option Sighting). reading_of (Ok o)) is)
 
 -- a scope that was read is a sound one
 pub sound_from : (p : ℕ) (x : Result (Option Found) Error) (r : ReadScope) → read_from p x ≡ Ok (Some r) → (s : Found) × (x ≡ Ok (Some s)) × (r ≡ read_scope p s)

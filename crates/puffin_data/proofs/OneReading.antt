@@ -1,7 +1,7 @@
 -- From each place on a reader gives one list.
 use Rattle.std.proofs.Common.{◌≡◌, ℕ, zero, suc, ◌-◌, ◌<◌, ◌≤◌, List, [], ◌∷◌, length, Option, Some, None, Result, Ok, Err, refl, sym, ap, ◌∙◌, subst, arith}
 use Rattle.puffin_data.specs.declared.error.Error.{Error}
-use Rattle.puffin_data.specs.Reader.{ReadScope, scope_read, Reads, ends, stops, goes_on}
+use Rattle.puffin_data.specs.Reader.{ReadScope, scope_read, ReaderGives, ends, stops, goes_on}
 use Rattle.puffin_data.proofs.Lenience.{next_within, fault_within}
 
 abbrev Answer : Type 0
@@ -22,24 +22,24 @@ same_scope x s t a b = let e : ◌≡◌ {A = Answer} (Ok (Some s)) (Ok (Some t)
 same_fault : (x : Answer) (s t : Error) → x ≡ Err s → x ≡ Err t → s ≡ t
 same_fault x s t a b = let e : ◌≡◌ {A = Answer} (Err s) (Err t) = sym a ∙ b in cc
 
-ended : (bytes : List ℕ) (p : ℕ) (items : List (Result ReadScope Error)) → scope_read bytes p (length bytes) ≡ Ok None → Reads bytes p items → items ≡ []
+ended : (bytes : List ℕ) (p : ℕ) (items : List (Result ReadScope Error)) → scope_read bytes p (length bytes) ≡ Ok None → ReaderGives bytes p items → items ≡ []
 ended bytes p items e (ends f) = refl
 ended bytes p items e (stops {fault = x} f) = absurd (none_err _ x e f)
 ended bytes p items e (goes_on {s = s} f r) = absurd (none_some _ s e f)
 
-stopped : (bytes : List ℕ) (p : ℕ) (fault : Error) (items : List (Result ReadScope Error)) → scope_read bytes p (length bytes) ≡ Err fault → Reads bytes p items → items ≡ Err fault ∷ []
+stopped : (bytes : List ℕ) (p : ℕ) (fault : Error) (items : List (Result ReadScope Error)) → scope_read bytes p (length bytes) ≡ Err fault → ReaderGives bytes p items → items ≡ Err fault ∷ []
 stopped bytes p fault items e (ends f) = absurd (none_err _ fault f e)
 stopped bytes p fault items e (stops {fault = x} f) = ap (λ (y : Error). Err y ∷ []) (same_fault _ x fault f e)
 stopped bytes p fault items e (goes_on {s = s} f r) = absurd (some_err _ s fault f e)
 
-went_on : (bytes : List ℕ) (p : ℕ) (s : ReadScope) (items : List (Result ReadScope Error)) → scope_read bytes p (length bytes) ≡ Ok (Some s) → Reads bytes p items → (later : List (Result ReadScope Error)) × Reads bytes s.next_sibling later × (items ≡ Ok s ∷ later)
+went_on : (bytes : List ℕ) (p : ℕ) (s : ReadScope) (items : List (Result ReadScope Error)) → scope_read bytes p (length bytes) ≡ Ok (Some s) → ReaderGives bytes p items → (later : List (Result ReadScope Error)) × ReaderGives bytes s.next_sibling later × (items ≡ Ok s ∷ later)
 went_on bytes p s items e (ends f) = absurd (none_some _ s f e)
 went_on bytes p s items e (stops {fault = x} f) = absurd (some_err _ s x e f)
 went_on bytes p s items e (goes_on {s = t} {later = later} f r) =
     let same = same_scope _ t s f e in
-    (later, subst (λ (x : ReadScope). Reads bytes x.next_sibling later) same r, ap (λ (x : ReadScope). Ok x ∷ later) same)
+    (later, subst (λ (x : ReadScope). ReaderGives bytes x.next_sibling later) same r, ap (λ (x : ReadScope). Ok x ∷ later) same)
 
-pub one_reading : (bytes : List ℕ) (p : ℕ) (a b : List (Result ReadScope Error)) → Reads bytes p a → Reads bytes p b → a ≡ b
+pub one_reading : (bytes : List ℕ) (p : ℕ) (a b : List (Result ReadScope Error)) → ReaderGives bytes p a → ReaderGives bytes p b → a ≡ b
 one_reading bytes p a b (ends e) r = sym (ended bytes p b e r)
 one_reading bytes p a b (stops {fault = fault} e) r = sym (stopped bytes p fault b e r)
 one_reading bytes p a b (goes_on {s = s} {later = later} e x) r =
@@ -47,7 +47,7 @@ one_reading bytes p a b (goes_on {s = s} {later = later} e x) r =
     ap (λ (xs : List (Result ReadScope Error)). Ok s ∷ xs) (one_reading bytes s.next_sibling later w.0 x w.1) ∙ sym w.2
 
 abbrev AreRead : List ℕ → ℕ → Type 0
-AreRead bytes p = (items : List (Result ReadScope Error)) × Reads bytes p items
+AreRead bytes p = (items : List (Result ReadScope Error)) × ReaderGives bytes p items
 
 read_so : (bytes : List ℕ) (p : ℕ) (x : Answer) → scope_read bytes p (length bytes) ≡ x → ((s : ReadScope) → scope_read bytes p (length bytes) ≡ Ok (Some s) → AreRead bytes s.next_sibling) → AreRead bytes p
 read_so bytes p (Ok None) e later = ([], ends e)
@@ -66,10 +66,10 @@ read_up_to (suc n) bytes p low few =
 pub all_are_read : (bytes : List ℕ) (p : ℕ) → p ≤ length bytes → AreRead bytes p
 all_are_read bytes p low = read_up_to (suc (length bytes - p)) bytes p low (omega arith)
 
-at_end : (bytes : List ℕ) (items : List (Result ReadScope Error)) (p : ℕ) → p ≡ length bytes → Reads bytes p items → items ≡ []
+at_end : (bytes : List ℕ) (items : List (Result ReadScope Error)) (p : ℕ) → p ≡ length bytes → ReaderGives bytes p items → items ≡ []
 at_end bytes items p e (ends f) = refl
 at_end bytes items p e (stops {fault = fault} f) = absurd (omega (arith, fault_within bytes p (length bytes) fault (omega arith) f))
 at_end bytes items p e (goes_on {s = s} f r) = absurd (omega (arith, next_within bytes p (length bytes) s (omega arith) (omega arith) f))
 
-pub nothing_at_end : (bytes : List ℕ) (items : List (Result ReadScope Error)) → Reads bytes (length bytes) items → items ≡ []
+pub nothing_at_end : (bytes : List ℕ) (items : List (Result ReadScope Error)) → ReaderGives bytes (length bytes) items → items ≡ []
 nothing_at_end bytes items r = at_end bytes items (length bytes) refl r

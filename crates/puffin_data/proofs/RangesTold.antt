@@ -13,7 +13,7 @@ use Rattle.puffin_data.specs.Forest.Measures.{scope_count, least_start, greatest
 use Rattle.puffin_data.specs.Walk.{region, IsFaultAt, Refuses}
 use Rattle.puffin_data.specs.Forest.Spelling.{Spells}
 use Rattle.puffin_data.specs.Honesty.{Counts}
-use Rattle.puffin_data.specs.inner.Walking.{uncounted, tries_in, Walked, Stopped}
+use Rattle.puffin_data.specs.inner.Walking.{no_scope_counted, tries_in, Walked, Stopped}
 use Rattle.puffin_data.proofs.lemmas.Numbers.{IsBytes}
 use Rattle.puffin_data.proofs.Regions.{whole_region, empty_region, nothing_is_no_fault, between}
 use Rattle.puffin_data.proofs.Completes.{completed, tallied, tallies}
@@ -38,9 +38,9 @@ from_most z h = omega (arith, ints, clamps)
 pub from_least : (z : ℤ) → negsuc (2 ^ 63 - 1) ≤ℤ z → int_max (negsuc (2 ^ 63 - 1)) z ≡ z
 from_least z h = omega (arith, ints, clamps)
 
-counts : (f : Forest) → Counts (tallied 0 uncounted f) f
+counts : (f : Forest) → Counts (tallied 0 no_scope_counted f) f
 counts f =
-    let t = tallies 0 uncounted f (record { depth = omega arith; start = omega (arith, ints); stop = omega (arith, ints) }) in
+    let t = tallies 0 no_scope_counted f (record { depth = omega arith; start = omega (arith, ints); stop = omega (arith, ints) }) in
     record {
       num_scopes = t.num_scopes ∙ omega arith;
       depth = t.depth ∙ omega arith;
@@ -50,7 +50,7 @@ counts f =
 
 pub told_forest : (bytes : List ℕ) (tries : ℕ) (w : Walk) → IsBytes bytes → Walked bytes tries w → (f : Forest) × Spells bytes f × Counts w f
 told_forest bytes tries w fits walked =
-    let c = completed bytes 0 uncounted w 0 (length bytes) fits (omega arith) (omega arith) walked.0 in
+    let c = completed bytes 0 no_scope_counted w 0 (length bytes) fits (omega arith) (omega arith) walked.0 in
     (c.forest, record { whole = sym (whole_region bytes) ∙ c.spelled; fits = c.fits }, subst (λ (x : Walk). Counts x c.forest) (sym c.numbers) (counts c.forest))
 
 -- a fault stands on a byte of its region
@@ -64,7 +64,7 @@ fault_inside bytes p e fault h at =
 pub told_fault : (bytes : List ℕ) (tries : ℕ) (e : Error) → IsBytes bytes → Stopped bytes tries e → (e ≡ Memory) ⊎ Refuses bytes e tries
 told_fault bytes tries e fits (inl memory) = inl memory
 told_fault bytes tries e fits (inr stopped) =
-    let s = stopped_at bytes 0 uncounted 0 (length bytes) _ fits (omega arith) (omega arith) stopped.1 in
+    let s = stopped_at bytes 0 no_scope_counted 0 (length bytes) _ fits (omega arith) (omega arith) stopped.1 in
     let within = between bytes 0 (length bytes) stopped.0 s.end (omega arith) (omega arith) s.reached in
     let inside = fault_inside bytes stopped.0 s.end e within.middle s.stands in
     let first : get_or (region bytes stopped.0 s.end) 0 0 ≡ get_or bytes stopped.0 0 = get_or-take (s.end - stopped.0) (drop stopped.0 bytes) 0 0 (omega (arith, inside)) ∙ get_or-drop stopped.0 bytes 0 0 ∙ ap (λ (n : ℕ). get_or bytes n 0) (omega arith) in
@@ -83,7 +83,7 @@ told_only bytes tries (Ok w) fits small walked f spells =
     subst (λ (g : Forest). Counts w g) (same_forest t.0 f t.1.fits spells.fits (omega (arith, ap length t.1.whole)) (sym t.1.whole ∙ spells.whole)) t.2
 told_only bytes tries (Err e) fits small (inl memory) f spells = memory
 told_only bytes tries (Err e) fits small (inr stopped) f spells =
-    let s = stopped_at bytes 0 uncounted 0 (length bytes) _ fits (omega arith) (omega arith) stopped.1 in
+    let s = stopped_at bytes 0 no_scope_counted 0 (length bytes) _ fits (omega arith) (omega arith) stopped.1 in
     absurd (faultless f bytes 0 (length bytes) stopped.0 s.end e spells.fits (omega arith) (omega arith) small (whole_region bytes ∙ spells.whole) s.reached s.stands)
 
 -- ---- the same for what the walk of some bytes gave, at bytes that are equal to these

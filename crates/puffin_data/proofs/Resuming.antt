@@ -6,13 +6,13 @@ use Rattle.puffin_data.specs.declared.error.Error.{Error}
 use Rattle.puffin_data.specs.declared.data.walk.Walk.{Walk}
 use Rattle.puffin_data.specs.Walk.Reading.{Found}
 use Rattle.puffin_data.specs.Walk.{IsSoundAt, IsFaultAt}
-use Rattle.puffin_data.specs.inner.Walking.{uncounted, Stopped, Stop, Visits, ends, stops, stops_within, goes_on, counted, tries_in}
+use Rattle.puffin_data.specs.inner.Walking.{no_scope_counted, Stopped, Stop, WalksTo, ends, stops, stops_within, goes_on, with_scope, tries_in}
 use Rattle.puffin_data.specs.Walk.{region}
 
 pub data Resumes (bytes : List ℕ) : List ℕ → Walk → ℕ → ℕ → Result Walk Stop → Type 0 where
-  outermost : {w : Walk} {p e : ℕ} {out : Result Walk Stop} → Visits bytes 0 w p e out → Resumes bytes [] w p e out
-  leaves : {outer : ℕ} {outers : List ℕ} {w v : Walk} {p e : ℕ} {out : Result Walk Stop} → Visits bytes (suc (length outers)) w p e (Ok v) → Resumes bytes outers v (e + 9) outer out → Resumes bytes (outer ∷ outers) w p e out
-  breaks : {outer : ℕ} {outers : List ℕ} {w : Walk} {p e : ℕ} {stop : Stop} → Visits bytes (suc (length outers)) w p e (Err stop) → Resumes bytes (outer ∷ outers) w p e (Err stop)
+  outermost : {w : Walk} {p e : ℕ} {out : Result Walk Stop} → WalksTo bytes 0 w p e out → Resumes bytes [] w p e out
+  leaves : {outer : ℕ} {outers : List ℕ} {w v : Walk} {p e : ℕ} {out : Result Walk Stop} → WalksTo bytes (suc (length outers)) w p e (Ok v) → Resumes bytes outers v (e + 9) outer out → Resumes bytes (outer ∷ outers) w p e out
+  breaks : {outer : ℕ} {outers : List ℕ} {w : Walk} {p e : ℕ} {stop : Stop} → WalksTo bytes (suc (length outers)) w p e (Err stop) → Resumes bytes (outer ∷ outers) w p e (Err stop)
 
 -- each region ends nine bytes or more before the one around it does
 abbrev pub IsNested : ℕ → List ℕ → ℕ → Type 0
@@ -28,29 +28,29 @@ pub leave : (bytes : List ℕ) (outer : ℕ) (outers : List ℕ) (w : Walk) (e :
 leave bytes outer outers w e out r = leaves ends r
 
 -- the same walk, at equal numbers and places
-moved : (bytes : List ℕ) (level : ℕ) (w x : Walk) (a b p e : ℕ) (out : Result Walk Stop) → w ≡ x → a ≡ p → b ≡ e → Visits bytes level w a b out → Visits bytes level x p e out
+moved : (bytes : List ℕ) (level : ℕ) (w x : Walk) (a b p e : ℕ) (out : Result Walk Stop) → w ≡ x → a ≡ p → b ≡ e → WalksTo bytes level w a b out → WalksTo bytes level x p e out
 moved bytes level w x a b p e out ew ep ee v =
-    subst (λ (n : ℕ). Visits bytes level x p n out) ee (subst (λ (n : ℕ). Visits bytes level x n b out) ep (subst (λ (y : Walk). Visits bytes level y a b out) ew v))
+    subst (λ (n : ℕ). WalksTo bytes level x p n out) ee (subst (λ (n : ℕ). WalksTo bytes level x n b out) ep (subst (λ (y : Walk). WalksTo bytes level y a b out) ew v))
 
 -- what a walk does first, put before the rest of it
-before : (bytes : List ℕ) (outers : List ℕ) (w v : Walk) (p q e : ℕ) (out : Result Walk Stop) → ((end : Result Walk Stop) → Visits bytes (length outers) v q e end → Visits bytes (length outers) w p e end) → Resumes bytes outers v q e out → Resumes bytes outers w p e out
+before : (bytes : List ℕ) (outers : List ℕ) (w v : Walk) (p q e : ℕ) (out : Result Walk Stop) → ((end : Result Walk Stop) → WalksTo bytes (length outers) v q e end → WalksTo bytes (length outers) w p e end) → Resumes bytes outers v q e out → Resumes bytes outers w p e out
 before bytes [] w v p q e out step (outermost rest) = outermost (step _ rest)
 before bytes (outer ∷ outers) w v p q e out step (leaves rest r) = leaves (step _ rest) r
 before bytes (outer ∷ outers) w v p q e out step (breaks rest) = breaks (step _ rest)
 
 -- a walk that stops in its region stops as a whole
-stopped : (bytes : List ℕ) (outers : List ℕ) (w : Walk) (p e : ℕ) (stop : Stop) → Visits bytes (length outers) w p e (Err stop) → Resumes bytes outers w p e (Err stop)
+stopped : (bytes : List ℕ) (outers : List ℕ) (w : Walk) (p e : ℕ) (stop : Stop) → WalksTo bytes (length outers) w p e (Err stop) → Resumes bytes outers w p e (Err stop)
 stopped bytes [] w p e stop v = outermost v
 stopped bytes (outer ∷ outers) w p e stop v = breaks v
 
-entered : (bytes : List ℕ) (outers : List ℕ) (w x : Walk) (p e : ℕ) (s : Found) (a b : ℕ) (out : Result Walk Stop) → IsSoundAt bytes p e s → x ≡ counted w (suc (length outers)) s.span → a ≡ p + s.child_begin → b ≡ p + s.child_end → b + 9 ≡ p + s.next_sibling → Resumes bytes (e ∷ outers) x a b out → Resumes bytes outers w p e out
+entered : (bytes : List ℕ) (outers : List ℕ) (w x : Walk) (p e : ℕ) (s : Found) (a b : ℕ) (out : Result Walk Stop) → IsSoundAt bytes p e s → x ≡ with_scope w (suc (length outers)) s.span → a ≡ p + s.child_begin → b ≡ p + s.child_end → b + 9 ≡ p + s.next_sibling → Resumes bytes (e ∷ outers) x a b out → Resumes bytes outers w p e out
 entered bytes outers w x p e s a b out sound ex ea eb next (leaves {v = y} v r) =
-    before bytes outers w y p (b + 9) e out (λ end rest. goes_on sound (moved bytes (suc (length outers)) x _ a b _ _ _ ex ea eb v) (subst (λ (n : ℕ). Visits bytes (length outers) y n e end) next rest)) r
+    before bytes outers w y p (b + 9) e out (λ end rest. goes_on sound (moved bytes (suc (length outers)) x _ a b _ _ _ ex ea eb v) (subst (λ (n : ℕ). WalksTo bytes (length outers) y n e end) next rest)) r
 entered bytes outers w x p e s a b out sound ex ea eb next (breaks v) =
     stopped bytes outers w p e _ (stops_within sound (moved bytes (suc (length outers)) x _ a b _ _ _ ex ea eb v))
 
 -- a sound scope is entered
-pub enter : (bytes : List ℕ) (outers : List ℕ) (w : Walk) (p e : ℕ) (s : Found) (out : Result Walk Stop) → IsSoundAt bytes p e s → s.child_end + 9 ≡ s.next_sibling → Resumes bytes (e ∷ outers) (counted w (suc (length outers)) s.span) (p + s.child_begin) (p + s.child_end) out → Resumes bytes outers w p e out
+pub enter : (bytes : List ℕ) (outers : List ℕ) (w : Walk) (p e : ℕ) (s : Found) (out : Result Walk Stop) → IsSoundAt bytes p e s → s.child_end + 9 ≡ s.next_sibling → Resumes bytes (e ∷ outers) (with_scope w (suc (length outers)) s.span) (p + s.child_begin) (p + s.child_end) out → Resumes bytes outers w p e out
 enter bytes outers w p e s out sound next r =
     entered bytes outers w _ p e s _ _ out sound refl refl refl (omega arith) r
 
@@ -63,7 +63,7 @@ pub finish : (bytes : List ℕ) (w : Walk) (e : ℕ) → Resumes bytes [] w e e 
 finish bytes w e = outermost ends
 
 -- without open scopes, a walk from here is all that is left
-pub whole : (bytes : List ℕ) (w : Walk) (p e : ℕ) (out : Result Walk Stop) → Resumes bytes [] w p e out → Visits bytes 0 w p e out
+pub whole : (bytes : List ℕ) (w : Walk) (p e : ℕ) (out : Result Walk Stop) → Resumes bytes [] w p e out → WalksTo bytes 0 w p e out
 whole bytes w p e out (outermost v) = v
 
 -- ---- the same for the list of open scopes' ends as the walk keeps it, the innermost last
@@ -88,11 +88,11 @@ pub nested_pop : (items all : List ℕ) (e outer size : ℕ) → all ≡ items +
 nested_pop items all e outer size h nested =
     subst (λ (xs : List ℕ). IsNested e xs size) (turned items all outer h) nested
 
-pub enters : (bytes items all : List ℕ) (w v : Walk) (depth p e : ℕ) (s : Found) (out : Result Walk Stop) → IsSoundAt bytes p e s → s.child_end + 9 ≡ s.next_sibling → all ≡ items ++ e ∷ [] → depth ≡ length all → v ≡ counted w depth s.span
+pub enters : (bytes items all : List ℕ) (w v : Walk) (depth p e : ℕ) (s : Found) (out : Result Walk Stop) → IsSoundAt bytes p e s → s.child_end + 9 ≡ s.next_sibling → all ≡ items ++ e ∷ [] → depth ≡ length all → v ≡ with_scope w depth s.span
     → Resumes bytes (reverse all) v (p + s.child_begin) (p + s.child_end) out → Resumes bytes (reverse items) w p e out
 enters bytes items all w v depth p e s out sound next h d ev r =
     let deep : depth ≡ suc (length (reverse items)) = omega (arith, ap length (turned items all e h), length-reverse all) in
-    let v-is : v ≡ counted w (suc (length (reverse items))) s.span = ev ∙ ap (λ (n : ℕ). counted w n s.span) deep in
+    let v-is : v ≡ with_scope w (suc (length (reverse items))) s.span = ev ∙ ap (λ (n : ℕ). with_scope w n s.span) deep in
     let r1 = subst (λ (xs : List ℕ). Resumes bytes xs v (p + s.child_begin) (p + s.child_end) out) (turned items all e h) r in
     entered bytes (reverse items) w v p e s _ _ out sound v-is refl refl (omega arith) r1
 
@@ -106,6 +106,6 @@ done bytes items w p e nothing at =
 
 -- a walk that stopped, as its caller is told
 pub stops_at : (bytes items : List ℕ) (w : Walk) (p e tries : ℕ) (fault : Error) → IsFaultAt bytes p e fault → tries ≡ w.num_scopes + tries_in (region bytes p e)
-    → ((out : Result Walk Stop) → Resumes bytes (reverse items) w p e out → Resumes bytes [] uncounted 0 (length bytes) out) → Stopped bytes tries fault
+    → ((out : Result Walk Stop) → Resumes bytes (reverse items) w p e out → Resumes bytes [] no_scope_counted 0 (length bytes) out) → Stopped bytes tries fault
 stops_at bytes items w p e tries fault at tried resumes =
-    subst (λ (n : ℕ). Stopped bytes n fault) (sym tried) (inr (p, whole bytes uncounted 0 (length bytes) _ (resumes _ (fail bytes (reverse items) w p e fault at))))
+    subst (λ (n : ℕ). Stopped bytes n fault) (sym tried) (inr (p, whole bytes no_scope_counted 0 (length bytes) _ (resumes _ (fail bytes (reverse items) w p e fault at))))

@@ -9,7 +9,7 @@ use Rattle.puffin_data.specs.Walk.{region, IsFaultAt, Reaches, here, child, sibl
 use Rattle.puffin_data.specs.inner.Walking.{tries_in}
 use Rattle.puffin_data.specs.Walk.Sights.{Nested, nested_in, Sight, Sees, no_sight, one_sight, scopes_of, before}
 use Rattle.puffin_data.specs.Walk.Visitor.{TakesAll, StopsAtFault, StopsAtRefusal}
-use Rattle.puffin_data.specs.Walk.Going.{whole, at_fault, at_refusal, Entering, Refusing, Goes, ends, meets_fault, is_refused, stops_within, goes_on, Visits}
+use Rattle.puffin_data.specs.Walk.Going.{over_all, at_fault, at_refusal, Entering, Refusing, Goes, ends, meets_fault, is_refused, stops_within, goes_on, VisitorLaws}
 use Rattle.puffin_data.proofs.lemmas.Numbers.{IsBytes, IsBytes-drop, IsBytes-take}
 use Rattle.puffin_data.proofs.Spelled.{spelt}
 use Rattle.puffin_data.proofs.Resuming.{found_places}
@@ -43,19 +43,19 @@ pub same_scopes : (s : Sight) (inner later : List Sight) (a b : List Nested) →
 same_scopes s inner later a b x y =
     scopes_split s inner later ∙ ap (λ (xs : List Nested). s.scope ∷ (xs ++ scopes_of later)) x ∙ ap (λ (xs : List Nested). s.scope ∷ (a ++ xs)) y
 
-taken_more : {V : Type 0} {W : Type 0} {takes : V → List Nested → V → Type 0} {stands_for : V → W → List Span → Type 0} (laws : Visits takes stands_for) (v u t z : V) (s : Sight) (inner later : List Sight)
+taken_more : {V : Type 0} {W : Type 0} {takes : V → List Nested → V → Type 0} {stands_for : V → W → List Span → Type 0} (laws : VisitorLaws takes stands_for) (v u t z : V) (s : Sight) (inner later : List Sight)
     → takes v (s.scope ∷ []) u → takes u (scopes_of inner) t → takes t (scopes_of later) z → takes v (scopes_of (s ∷ (inner ++ later))) z
 taken_more {V = V} {takes = takes} laws v u t z s inner later a b c =
     subst (λ (xs : List Nested). takes v xs z) (sym (scopes_split s inner later))
     (laws.more v u z (s.scope ∷ []) (scopes_of inner ++ scopes_of later) a (laws.more u t z (scopes_of inner) (scopes_of later) b c))
 
 -- what is kept around a scope still stands after it
-still_after : {V : Type 0} {W : Type 0} {takes : V → List Nested → V → Type 0} {stands_for : V → W → List Span → Type 0} (laws : Visits takes stands_for) (v u t : V) (s : Nested) (inner : List Nested) (w : W) (around : List Span)
+still_after : {V : Type 0} {W : Type 0} {takes : V → List Nested → V → Type 0} {stands_for : V → W → List Span → Type 0} (laws : VisitorLaws takes stands_for) (v u t : V) (s : Nested) (inner : List Nested) (w : W) (around : List Span)
     → takes v (s ∷ []) u → takes u inner t → stands_for v w around → stands_for t w around
 still_after laws v u t s inner w around a b stands = laws.still u t inner w around b (laws.still v u (s ∷ []) w around a stands)
 
-pub done : {V W : Type 0} {takes : V → List Nested → V → Type 0} (refuses : V → Nested → Error → Type 0) {stands_for : V → W → List Span → Type 0} (laws : Visits takes stands_for) (bytes : List ℕ) (around : List Span) (w : W) (v u : V) (n m p e : ℕ)
-    → IsBytes bytes → p ≤ e → e ≤ length bytes → stands_for v w around → Goes (Entering takes stands_for) (Refusing refuses stands_for) bytes w v n p e (whole u m) → Done takes bytes around v u n m p e
+pub done : {V W : Type 0} {takes : V → List Nested → V → Type 0} (refuses : V → Nested → Error → Type 0) {stands_for : V → W → List Span → Type 0} (laws : VisitorLaws takes stands_for) (bytes : List ℕ) (around : List Span) (w : W) (v u : V) (n m p e : ℕ)
+    → IsBytes bytes → p ≤ e → e ≤ length bytes → stands_for v w around → Goes (Entering takes stands_for) (Refusing refuses stands_for) bytes w v n p e (over_all u m) → Done takes bytes around v u n m p e
 done refuses laws bytes around w v u n m p e fits h k stands ends =
     record {
       forest = empty;
@@ -103,7 +103,7 @@ pub record Meets {V : Type 0} (takes : V → List Nested → V → Type 0) (byte
   pub taken : takes v (scopes_of (before place sights)) u
   pub tries : m ≡ n + length (before place sights) + tries_in (region bytes place end)
 
-pub meets : {V W : Type 0} {takes : V → List Nested → V → Type 0} (refuses : V → Nested → Error → Type 0) {stands_for : V → W → List Span → Type 0} (laws : Visits takes stands_for) (bytes : List ℕ) (around : List Span) (w : W) (v u : V) (n m p e place : ℕ) (fault : Error)
+pub meets : {V W : Type 0} {takes : V → List Nested → V → Type 0} (refuses : V → Nested → Error → Type 0) {stands_for : V → W → List Span → Type 0} (laws : VisitorLaws takes stands_for) (bytes : List ℕ) (around : List Span) (w : W) (v u : V) (n m p e place : ℕ) (fault : Error)
     → IsBytes bytes → p ≤ e → e ≤ length bytes → stands_for v w around → Goes (Entering takes stands_for) (Refusing refuses stands_for) bytes w v n p e (at_fault u place fault m) → Meets takes bytes around v u n m p e place fault
 meets refuses laws bytes around w v u n m p e place fault fits h k stands (meets_fault at) =
     record {
@@ -174,7 +174,7 @@ regroup_inner s t earlier later rest = ap (λ (xs : List Sight). s ∷ xs) (appe
 regroup_later : (s t : Sight) (inner earlier later : List Sight) → s ∷ (inner ++ (earlier ++ (t ∷ later))) ≡ (s ∷ (inner ++ earlier)) ++ (t ∷ later)
 regroup_later s t inner earlier later = ap (λ (xs : List Sight). s ∷ xs) (sym (append_assoc inner earlier (t ∷ later)))
 
-pub refused_at : {V W : Type 0} {takes : V → List Nested → V → Type 0} (refuses : V → Nested → Error → Type 0) {stands_for : V → W → List Span → Type 0} (laws : Visits takes stands_for) (bytes : List ℕ) (around : List Span) (w : W) (v : V) (n m p e place : ℕ) (cause : Error)
+pub refused_at : {V W : Type 0} {takes : V → List Nested → V → Type 0} (refuses : V → Nested → Error → Type 0) {stands_for : V → W → List Span → Type 0} (laws : VisitorLaws takes stands_for) (bytes : List ℕ) (around : List Span) (w : W) (v : V) (n m p e place : ℕ) (cause : Error)
     → IsBytes bytes → p ≤ e → e ≤ length bytes → stands_for v w around → Goes (Entering takes stands_for) (Refusing refuses stands_for) bytes w v n p e (at_refusal place cause m) → Refused takes refuses bytes around v n m p e cause
 refused_at refuses laws bytes around w v n m p e place cause fits h k stands (is_refused {s = s} sound refused) =
     let at = found_places bytes p e s sound h k in
@@ -236,8 +236,8 @@ refused_at {takes = takes} refuses laws bytes around w v n o p e place cause fit
 
 -- ---- told of the whole bytes
 
-pub all_taken : {V W : Type 0} {takes : V → List Nested → V → Type 0} (refuses : V → Nested → Error → Type 0) {stands_for : V → W → List Span → Type 0} (laws : Visits takes stands_for) (bytes : List ℕ) (w : W) (v u : V) (m : ℕ)
-    → IsBytes bytes → stands_for v w [] → Goes (Entering takes stands_for) (Refusing refuses stands_for) bytes w v 0 0 (length bytes) (whole u m) → TakesAll takes v u bytes m
+pub all_taken : {V W : Type 0} {takes : V → List Nested → V → Type 0} (refuses : V → Nested → Error → Type 0) {stands_for : V → W → List Span → Type 0} (laws : VisitorLaws takes stands_for) (bytes : List ℕ) (w : W) (v u : V) (m : ℕ)
+    → IsBytes bytes → stands_for v w [] → Goes (Entering takes stands_for) (Refusing refuses stands_for) bytes w v 0 0 (length bytes) (over_all u m) → TakesAll takes v u bytes m
 all_taken {takes = takes} refuses laws bytes w v u m fits stands g =
     let d = done refuses laws bytes [] w v u 0 m 0 (length bytes) fits (omega arith) (omega arith) stands g in
     record {
@@ -251,7 +251,7 @@ all_taken {takes = takes} refuses laws bytes w v u m fits stands g =
     map_length f [] = refl
     map_length f (x ∷ xs) = let e = map_length f xs in omega arith
 
-pub stops_at_fault : {V W : Type 0} {takes : V → List Nested → V → Type 0} (refuses : V → Nested → Error → Type 0) {stands_for : V → W → List Span → Type 0} (laws : Visits takes stands_for) (bytes : List ℕ) (w : W) (v u : V) (m place : ℕ) (fault : Error)
+pub stops_at_fault : {V W : Type 0} {takes : V → List Nested → V → Type 0} (refuses : V → Nested → Error → Type 0) {stands_for : V → W → List Span → Type 0} (laws : VisitorLaws takes stands_for) (bytes : List ℕ) (w : W) (v u : V) (m place : ℕ) (fault : Error)
     → IsBytes bytes → stands_for v w [] → Goes (Entering takes stands_for) (Refusing refuses stands_for) bytes w v 0 0 (length bytes) (at_fault u place fault m) → StopsAtFault takes v u bytes m fault
 stops_at_fault refuses laws bytes w v u m place fault fits stands g =
     let s = meets refuses laws bytes [] w v u 0 m 0 (length bytes) place fault fits (omega arith) (omega arith) stands g in
@@ -268,7 +268,7 @@ stops_at_fault refuses laws bytes w v u m place fault fits stands g =
       tries = omega (arith, s.tries, last);
     }
 
-pub stops_at_refusal : {V W : Type 0} {takes : V → List Nested → V → Type 0} (refuses : V → Nested → Error → Type 0) {stands_for : V → W → List Span → Type 0} (laws : Visits takes stands_for) (bytes : List ℕ) (w : W) (v : V) (m place : ℕ) (cause : Error)
+pub stops_at_refusal : {V W : Type 0} {takes : V → List Nested → V → Type 0} (refuses : V → Nested → Error → Type 0) {stands_for : V → W → List Span → Type 0} (laws : VisitorLaws takes stands_for) (bytes : List ℕ) (w : W) (v : V) (m place : ℕ) (cause : Error)
     → IsBytes bytes → stands_for v w [] → Goes (Entering takes stands_for) (Refusing refuses stands_for) bytes w v 0 0 (length bytes) (at_refusal place cause m) → StopsAtRefusal takes refuses v bytes m cause
 stops_at_refusal refuses laws bytes w v m place cause fits stands g =
     let s = refused_at refuses laws bytes [] w v 0 m 0 (length bytes) place cause fits (omega arith) (omega arith) stands g in

@@ -22,11 +22,11 @@ pub record Recorded : Type 0 where
   pub depth : ℕ
   pub range_ns : ℤ × ℤ
 
-abbrev pub recorded : StreamInfo → Recorded
-recorded info = record { bytes = info.stream.bytes; num_scopes = info.num_scopes; depth = info.depth; range_ns = info.range_ns }
+abbrev pub record_of : StreamInfo → Recorded
+record_of info = record { bytes = info.stream.bytes; num_scopes = info.num_scopes; depth = info.depth; range_ns = info.range_ns }
 
-abbrev pub recorded_ref : StreamInfoRef → Recorded
-recorded_ref info = record { bytes = info.stream.now; num_scopes = info.num_scopes; depth = info.depth; range_ns = info.range_ns }
+abbrev pub record_of_ref : StreamInfoRef → Recorded
+record_of_ref info = record { bytes = info.stream.now; num_scopes = info.num_scopes; depth = info.depth; range_ns = info.range_ns }
 
 -- the bytes spell the forest, and the other fields are its measures
 pub record IsHonestRecord (r : Recorded) (f : Forest) : Type 0 where
@@ -34,14 +34,14 @@ pub record IsHonestRecord (r : Recorded) (f : Forest) : Type 0 where
   pub counts : Counts (record { num_scopes = r.num_scopes; depth = r.depth; range_ns = r.range_ns }) f
 
 abbrev pub IsHonest : StreamInfo → Forest → Type 0
-IsHonest info f = IsHonestRecord (recorded info) f
+IsHonest info f = IsHonestRecord (record_of info) f
 
 abbrev pub IsHonestRef : StreamInfoRef → Forest → Type 0
-IsHonestRef info f = IsHonestRecord (recorded_ref info) f
+IsHonestRef info f = IsHonestRecord (record_of_ref info) f
 
 -- one info after another
-abbrev pub joined : Recorded → Recorded → Recorded
-joined a b = record {
+abbrev pub joined_record : Recorded → Recorded → Recorded
+joined_record a b = record {
   bytes = a.bytes ++ b.bytes;
   num_scopes = a.num_scopes + b.num_scopes;
   depth = max a.depth b.depth;

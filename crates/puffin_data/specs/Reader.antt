@@ -1,5 +1,5 @@
 -- Reading one scope after another, up to a place where none begins, and without looking at their children.
-pub mod Scopes
+pub mod ReadScopes
 use Rattle.std.specs.Prelude.{◌≡◌, ℕ, ◌+◌, ℤ, ◌-ℤ◌, List, [], ◌∷◌, length, Option, Some, None, Result, Ok, Err}
 use Rattle.puffin_data.specs.declared.error.Error.{Error}
 use Rattle.puffin_data.specs.Forest.{Forest, empty, node}
@@ -54,10 +54,10 @@ abbrev pub next_read : Place → Option (Result ReadScope Error) × ℕ
 next_read from = next_after from (scope_read from.bytes from.at (length from.bytes))
 
 -- All that a reader gives from place p on: the sound scopes one after the other, and behind them the fault where there is one.
-pub data Reads (bytes : List ℕ) : ℕ → List (Result ReadScope Error) → Type 0 where
-  ends : {p : ℕ} → scope_read bytes p (length bytes) ≡ Ok None → Reads bytes p []
-  stops : {p : ℕ} {fault : Error} → scope_read bytes p (length bytes) ≡ Err fault → Reads bytes p (Err fault ∷ [])
-  goes_on : {p : ℕ} {s : ReadScope} {later : List (Result ReadScope Error)} → scope_read bytes p (length bytes) ≡ Ok (Some s) → Reads bytes s.next_sibling later → Reads bytes p (Ok s ∷ later)
+pub data ReaderGives (bytes : List ℕ) : ℕ → List (Result ReadScope Error) → Type 0 where
+  ends : {p : ℕ} → scope_read bytes p (length bytes) ≡ Ok None → ReaderGives bytes p []
+  stops : {p : ℕ} {fault : Error} → scope_read bytes p (length bytes) ≡ Err fault → ReaderGives bytes p (Err fault ∷ [])
+  goes_on : {p : ℕ} {s : ReadScope} {later : List (Result ReadScope Error)} → scope_read bytes p (length bytes) ≡ Ok (Some s) → ReaderGives bytes s.next_sibling later → ReaderGives bytes p (Ok s ∷ later)
 
 -- the top scopes of a forest whose spelling begins at place p
 abbrev pub top_scopes : ℕ → Forest → List ReadScope

@@ -9,35 +9,39 @@ ghost use Rattle.std.specs.Int.{int_min, int_max, w64};
 ghost use Rattle.puffin_data.specs.Forest.{Forest, IsForest, empty, append};
 ghost use Rattle.puffin_data.specs.Forest.Measures.{scope_count, height, least_start, greatest_stop};
 ghost use Rattle.puffin_data.specs.Forest.Spelling.{spelling, Spells, begin_bytes};
-ghost use Rattle.puffin_data.specs.Honesty.{Recorded, IsHonestRecord, joined};
+ghost use Rattle.puffin_data.specs.Honesty.{Recorded, IsHonestRecord, joined_record};
 ghost use Rattle.puffin_data.specs.Walk.{IsFault, IsFirstFault, Sounds};
 ghost use Rattle.puffin_data.specs.Walk.Sights.{nested_in, Sight, Sees, scopes_of};
 ghost use Rattle.puffin_data.specs.Forest.Tour.{Event, Open, Close, tour, IsBalanced};
 ghost use Rattle.puffin_data.specs.Forest.Words.{word_size, num_begun, open_after, most_open, least_open, greatest_close};
 ghost use Rattle.puffin_data.specs.Text.{cut_text, IsCut, text_in};
-ghost use Rattle.puffin_data.specs.Reader.{ReadScope, Reads, top_scopes};
+ghost use Rattle.puffin_data.specs.Reader.{ReadScope, ReaderGives, top_scopes};
 ghost use Rattle.puffin_data.specs.Forest.Open.{Opened, IsOpened, open_spelling, open_word, size_place, ended_bytes, with_ended};
 ghost use Rattle.puffin_data.specs.Value.Layout.{NoneBeginsAnother, ReadsLayouts, byte, number, signed, flag, block, IsByte, IsWord, IsLong, IsSigned, IsAny, IsBlock, IsText};
 ghost use Rattle.puffin_data.specs.Value.Decoding.{byte_at, number_at, word_at, signed_at, flag_at, bytes_at, text_at};
 ghost use Rattle.puffin_data.specs.declared.error.Error.{Error};
 ghost use Rattle.puffin_data.specs.declared.data.record.Scope.{Scope};
 ghost use Rattle.puffin_data.specs.declared.data.record.ScopeRecord.{ScopeRecord};
-ghost use Rattle.puffin_data.specs.Reader.Scopes.{record_seen, scope_seen};
+ghost use Rattle.puffin_data.specs.Reader.ReadScopes.{record_seen, scope_seen};
 
 use crate::data::{Scope, ScopeRecord};
 
 /// A forest has one spelling, and it is no other forest's. The spellings of two forests one after the other are joined.
 pub fn one_forest()
-    ensures spelling { (f g : Forest) → IsForest f → IsForest g → length (spelling f) < 2 ^ 63 → spelling f ≡ spelling g → f ≡ g }
+    ensures spelling { (f g : Forest) → IsForest f → IsForest g → length (spelling f) < 2 ^ 63 →
+        spelling f ≡ spelling g → f ≡ g }
     ensures joined { (f g : Forest) → spelling (append f g) ≡ spelling f ++ spelling g }
 {}
 
 /// The measures of two forests one after the other. They can be written where both can.
 pub fn joined_measures()
-    ensures scope_count { (f g : Forest) → scope_count (append f g) ≡ scope_count f + scope_count g }
+    ensures scope_count { (f g : Forest) →
+        scope_count (append f g) ≡ scope_count f + scope_count g }
     ensures height { (f g : Forest) → height (append f g) ≡ max (height f) (height g) }
-    ensures least_start { (f g : Forest) → least_start (append f g) ≡ int_min (least_start f) (least_start g) }
-    ensures greatest_stop { (f g : Forest) → greatest_stop (append f g) ≡ int_max (greatest_stop f) (greatest_stop g) }
+    ensures least_start { (f g : Forest) →
+        least_start (append f g) ≡ int_min (least_start f) (least_start g) }
+    ensures greatest_stop { (f g : Forest) →
+        greatest_stop (append f g) ≡ int_max (greatest_stop f) (greatest_stop g) }
     ensures written { (f g : Forest) → IsForest f → IsForest g → IsForest (append f g) }
 {}
 
@@ -46,41 +50,53 @@ pub fn joined_measures()
 pub fn range_of_a_forest()
     ensures start { (f : Forest) → least_start f ≤ℤ pos (2 ^ 63 - 1) }
     ensures stop { (f : Forest) → negsuc (2 ^ 63 - 1) ≤ℤ greatest_stop f }
-    ensures ordered { (f : Forest) → IsForest f → 0 < scope_count f → least_start f ≤ℤ greatest_stop f }
+    ensures ordered { (f : Forest) → IsForest f → 0 < scope_count f →
+        least_start f ≤ℤ greatest_stop f }
 {}
 
 /// Two honest infos, one after the other, are an honest one.
 pub fn joined_infos()
-    ensures { (a b : Recorded) (f g : Forest) → IsHonestRecord a f → IsHonestRecord b g → IsHonestRecord (joined a b) (append f g) }
+    ensures { (a b : Recorded) (f g : Forest) → IsHonestRecord a f → IsHonestRecord b g →
+        IsHonestRecord (joined_record a b) (append f g) }
 {}
 
 /// Bytes have at most one first fault, at one place.
 pub fn one_fault()
-    ensures { (bytes : List ℕ) (p q : ℕ) (a b : Error) → IsFirstFault bytes p a → IsFirstFault bytes q b → (p ≡ q) × (a ≡ b) }
+    ensures { (bytes : List ℕ) (p q : ℕ) (a b : Error) → IsFirstFault bytes p a →
+        IsFirstFault bytes q b → (p ≡ q) × (a ≡ b) }
 {}
 
 /// Bytes that spell a forest have no fault.
 pub fn no_fault_in_a_spelling()
-    ensures { (bytes : List ℕ) (f : Forest) (fault : Error) → length bytes < 2 ^ 64 → Spells bytes f → IsFault bytes fault → ⊥ }
+    ensures { (bytes : List ℕ) (f : Forest) (fault : Error) → length bytes < 2 ^ 64 →
+        Spells bytes f → IsFault bytes fault → ⊥ }
 {}
 
 /// Each stream has one list of the places of its sound scopes, and these places rise strictly.
 pub fn sounds_rise()
     ensures has { (bytes : List ℕ) → (places : List ℕ) × Sounds bytes 0 (length bytes) places }
-    ensures one { (bytes places others : List ℕ) → Sounds bytes 0 (length bytes) places → Sounds bytes 0 (length bytes) others → places ≡ others }
-    ensures rise { (bytes places : List ℕ) → Sounds bytes 0 (length bytes) places → IsStrictlyIncreasing places }
+    ensures one { (bytes places others : List ℕ) → Sounds bytes 0 (length bytes) places →
+        Sounds bytes 0 (length bytes) others → places ≡ others }
+    ensures rise { (bytes places : List ℕ) → Sounds bytes 0 (length bytes) places →
+        IsStrictlyIncreasing places }
 {}
 
 /// A walk has one list of the scopes that it meets, and in a forest's spelling these are its scopes.
 pub fn sights_of_a_walk()
     ensures has { (bytes : List ℕ) → (sights : List Sight) × Sees bytes [] 0 (length bytes) sights }
-    ensures one { (bytes : List ℕ) (sights others : List Sight) → Sees bytes [] 0 (length bytes) sights → Sees bytes [] 0 (length bytes) others → sights ≡ others }
-    ensures spelled { (bytes : List ℕ) (f : Forest) (sights : List Sight) → length bytes < 2 ^ 64 → Spells bytes f → Sees bytes [] 0 (length bytes) sights → scopes_of sights ≡ nested_in [] f }
+    ensures one { (bytes : List ℕ) (sights others : List Sight) →
+        Sees bytes [] 0 (length bytes) sights → Sees bytes [] 0 (length bytes) others →
+        sights ≡ others }
+    ensures spelled { (bytes : List ℕ) (f : Forest) (sights : List Sight) → length bytes < 2 ^ 64 →
+        Spells bytes f → Sees bytes [] 0 (length bytes) sights → scopes_of sights ≡ nested_in [] f }
 {}
 
 /// A fault is one of three.
 pub fn faults_of_a_walk()
-    ensures { (bytes : List ℕ) (fault : Error) → IsFault bytes fault → (fault ≡ Error.PrematureEnd) ⊎ (fault ≡ Error.InvalidStream) ⊎ (fault ≡ Error.ScopeNeverEnded) }
+    ensures { (bytes : List ℕ) (fault : Error) → IsFault bytes fault →
+        (fault ≡ Error.PrematureEnd)
+        ⊎ (fault ≡ Error.InvalidStream)
+        ⊎ (fault ≡ Error.ScopeNeverEnded) }
 {}
 
 /// A balanced word is the tour of one forest alone. The tours of two forests one after the other are joined.
@@ -109,8 +125,10 @@ pub fn opening_measures()
     ensures open { (word : List Event) (id : ℕ) (text : List ℕ) (start : ℤ) →
         open_after 0 (word ++ (Open id text start ∷ [])) ≡ open_after 0 word + 1 }
     ensures most_open { (word : List Event) (id : ℕ) (text : List ℕ) (start : ℤ) →
-        most_open 0 (word ++ (Open id text start ∷ [])) ≡ max (most_open 0 word) (open_after 0 word + 1) }
-    ensures least_open { (word : List Event) (id : ℕ) (text : List ℕ) (start : ℤ) → FitsSigned w64 start →
+        most_open 0 (word ++ (Open id text start ∷ []))
+        ≡ max (most_open 0 word) (open_after 0 word + 1) }
+    ensures least_open { (word : List Event) (id : ℕ) (text : List ℕ) (start : ℤ) →
+        FitsSigned w64 start →
         least_open (word ++ (Open id text start ∷ [])) ≡ int_min (least_open word) start }
     ensures greatest_close { (word : List Event) (id : ℕ) (text : List ℕ) (start : ℤ) →
         greatest_close (word ++ (Open id text start ∷ [])) ≡ greatest_close word }
@@ -118,11 +136,16 @@ pub fn opening_measures()
 
 /// What a scope that closes does to the measures of a word.
 pub fn closing_measures()
-    ensures size { (word : List Event) (stop : ℤ) → word_size (word ++ (Close stop ∷ [])) ≡ word_size word + 9 }
-    ensures begun { (word : List Event) (stop : ℤ) → num_begun (word ++ (Close stop ∷ [])) ≡ num_begun word }
-    ensures open { (word : List Event) (stop : ℤ) → open_after 0 (word ++ (Close stop ∷ [])) ≡ open_after 0 word - 1 }
-    ensures most_open { (word : List Event) (stop : ℤ) → most_open 0 (word ++ (Close stop ∷ [])) ≡ most_open 0 word }
-    ensures least_open { (word : List Event) (stop : ℤ) → least_open (word ++ (Close stop ∷ [])) ≡ least_open word }
+    ensures size { (word : List Event) (stop : ℤ) →
+        word_size (word ++ (Close stop ∷ [])) ≡ word_size word + 9 }
+    ensures begun { (word : List Event) (stop : ℤ) →
+        num_begun (word ++ (Close stop ∷ [])) ≡ num_begun word }
+    ensures open { (word : List Event) (stop : ℤ) →
+        open_after 0 (word ++ (Close stop ∷ [])) ≡ open_after 0 word - 1 }
+    ensures most_open { (word : List Event) (stop : ℤ) →
+        most_open 0 (word ++ (Close stop ∷ [])) ≡ most_open 0 word }
+    ensures least_open { (word : List Event) (stop : ℤ) →
+        least_open (word ++ (Close stop ∷ [])) ≡ least_open word }
     ensures greatest_close { (word : List Event) (stop : ℤ) → FitsSigned w64 stop →
         greatest_close (word ++ (Close stop ∷ [])) ≡ int_max (greatest_close word) stop }
 {}
@@ -142,38 +165,53 @@ pub fn cut_texts()
 pub fn open_streams()
     ensures begins { (opened : List Opened) (closed : Forest) (id : ℕ) (start : ℤ) (text : List ℕ) →
         open_spelling opened closed ++ begin_bytes id start text (2 ^ 64 - 1)
-        ≡ open_spelling (record { before = closed; id = id; start = start; text = text } ∷ opened) empty }
-    ensures begins_word { (opened : List Opened) (closed : Forest) (id : ℕ) (start : ℤ) (text : List ℕ) →
+        ≡ open_spelling (record { before = closed; id = id; start = start; text = text } ∷ opened)
+        empty }
+    ensures begins_word { (opened : List Opened) (closed : Forest) (id : ℕ) (start : ℤ) (
+        text : List ℕ) →
         open_word opened closed ++ (Open id text start ∷ [])
-        ≡ open_word (record { before = closed; id = id; start = start; text = text } ∷ opened) empty }
-    ensures begins_place { (o : Opened) (outer : List Opened) → size_place o outer + 8 ≡ length (open_spelling (o ∷ outer) empty) }
+        ≡ open_word (record { before = closed; id = id; start = start; text = text } ∷ opened)
+        empty }
+    ensures begins_place { (o : Opened) (outer : List Opened) →
+        size_place o outer + 8 ≡ length (open_spelling (o ∷ outer) empty) }
     ensures place_within { (o : Opened) (outer : List Opened) (closed : Forest) →
         size_place o outer + 8 ≤ length (open_spelling (o ∷ outer) closed) }
     ensures ends { (o : Opened) (outer : List Opened) (closed : Forest) (stop : ℤ) →
-        ended_bytes (open_spelling (o ∷ outer) closed) (size_place o outer) stop ≡ open_spelling outer (with_ended o closed stop) }
+        ended_bytes (open_spelling (o ∷ outer) closed) (size_place o outer) stop
+        ≡ open_spelling outer (with_ended o closed stop) }
     ensures ends_word { (o : Opened) (outer : List Opened) (closed : Forest) (stop : ℤ) →
-        open_word (o ∷ outer) closed ++ (Close stop ∷ []) ≡ open_word outer (with_ended o closed stop) }
-    ensures ends_written { (o : Opened) (closed : Forest) (stop : ℤ) → IsOpened o → IsForest closed →
-        FitsSigned w64 stop → o.start ≤ℤ stop → FitsSigned w64 (stop -ℤ o.start) → IsForest (with_ended o closed stop) }
+        open_word (o ∷ outer) closed ++ (Close stop ∷ [])
+        ≡ open_word outer (with_ended o closed stop) }
+    ensures ends_written { (o : Opened) (closed : Forest) (stop : ℤ) → IsOpened o →
+        IsForest closed → FitsSigned w64 stop → o.start ≤ℤ stop → FitsSigned w64 (stop -ℤ o.start) →
+        IsForest (with_ended o closed stop) }
     ensures none_open { (closed : Forest) → open_spelling [] closed ≡ spelling closed }
     ensures none_open_word { (closed : Forest) → open_word [] closed ≡ tour closed }
-    ensures size { (opened : List Opened) (closed : Forest) → length (open_spelling opened closed) ≡ word_size (open_word opened closed) }
-    ensures open { (opened : List Opened) (closed : Forest) → open_after 0 (open_word opened closed) ≡ length opened }
+    ensures size { (opened : List Opened) (closed : Forest) →
+        length (open_spelling opened closed) ≡ word_size (open_word opened closed) }
+    ensures open { (opened : List Opened) (closed : Forest) →
+        open_after 0 (open_word opened closed) ≡ length opened }
 {}
 
 /// From each place of a stream on a reader gives one list of scopes and faults, and nothing at the stream's end, which is
 /// where it stands after a fault. Of a forest's spelling it gives the top scopes.
 pub fn one_reading()
-    ensures read { (bytes : List ℕ) (p : ℕ) → p ≤ length bytes → (items : List (Result ReadScope Error)) × Reads bytes p items }
-    ensures one { (bytes : List ℕ) (p : ℕ) (a b : List (Result ReadScope Error)) → Reads bytes p a → Reads bytes p b → a ≡ b }
-    ensures end { (bytes : List ℕ) (items : List (Result ReadScope Error)) → Reads bytes (length bytes) items → items ≡ [] }
-    ensures spelled { (bytes : List ℕ) (f : Forest) → Spells bytes f → length bytes < 2 ^ 63 → Reads bytes 0 (map (λ s. Ok s) (top_scopes 0 f)) }
+    ensures read { (bytes : List ℕ) (p : ℕ) → p ≤ length bytes →
+        (items : List (Result ReadScope Error)) × ReaderGives bytes p items }
+    ensures one { (bytes : List ℕ) (p : ℕ) (a b : List (Result ReadScope Error)) →
+        ReaderGives bytes p a → ReaderGives bytes p b → a ≡ b }
+    ensures end { (bytes : List ℕ) (items : List (Result ReadScope Error)) →
+        ReaderGives bytes (length bytes) items → items ≡ [] }
+    ensures spelled { (bytes : List ℕ) (f : Forest) → Spells bytes f → length bytes < 2 ^ 63 →
+        ReaderGives bytes 0 (map (λ s. Ok s) (top_scopes 0 f)) }
 {}
 
 /// Scopes that were read, and their records, are equal just where all their fields are.
 pub fn scopes_by_fields()
-    ensures records { (a b : ScopeRecord) → IsTrue (⟦<ScopeRecord<'static> as PartialEq>⟧.eq a b) ↔ (record_seen a ≡ record_seen b) }
-    ensures scopes { (a b : Scope) → IsTrue (⟦<Scope<'static> as PartialEq>⟧.eq a b) ↔ (scope_seen a ≡ scope_seen b) }
+    ensures records { (a b : ScopeRecord) →
+        IsTrue (⟦<ScopeRecord<'static> as PartialEq>⟧.eq a b) ↔ (record_seen a ≡ record_seen b) }
+    ensures scopes { (a b : Scope) →
+        IsTrue (⟦<Scope<'static> as PartialEq>⟧.eq a b) ↔ (scope_seen a ≡ scope_seen b) }
 {}
 
 /// No layout of a value begins another of its kind. A number of fewer bits is one of 64, and a text is a block of bytes.

@@ -1,10 +1,10 @@
 ghost use Rattle.std.specs.Prelude.{◌≡◌};
 ghost use Rattle.puffin_data.specs.Device.Counting.{failed_calls};
 
+use puffin_data::FileError;
 use puffin_data::data::{
     Counted, Source, read_byte, read_counted_part, read_length, read_part, read_up_to,
 };
-use puffin_data::FileError;
 use std::io;
 use std::io::Read;
 use std::process::Abort;

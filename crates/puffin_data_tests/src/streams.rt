@@ -1,7 +1,7 @@
 ghost use Rattle.std.specs.Prelude.{◌≡◌};
 
-use puffin_data::{Error, FileError, NanoSecond, Result, laws};
 use puffin_data::data::{Counted, Drain, Reader, ScopeId, Source, Stream, StreamInfo};
+use puffin_data::{Error, FileError, NanoSecond, Result, laws};
 use std::alloc::Global;
 use std::io;
 use std::io::{Read, Write};

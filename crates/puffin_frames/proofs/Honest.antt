@@ -14,10 +14,10 @@ use Rattle.std.proofs.lemmas.Grind.{merely, not_there}
 use Rattle.puffin_data.specs.Forest.{Forest, IsForest, append}
 use Rattle.puffin_data.specs.Forest as forest
 use Rattle.puffin_data.specs.Forest.Measures as measure
-use Rattle.puffin_data.specs.Honesty.{Recorded, IsHonestRecord, joined}
+use Rattle.puffin_data.specs.Honesty.{Recorded, IsHonestRecord, joined_record}
 use Rattle.puffin_frames.specs.Thread.Info.{Info, info_cmp, same_info}
 use Rattle.puffin_frames.specs.Frame.Contents.{Streams, reported_to, no_scopes, AreHonest}
-use Rattle.puffin_frames.specs.Frame.Sums.{total_scopes, least_start, greatest_stop, joined_range, IsOrdered}
+use Rattle.puffin_frames.specs.Frame.Sums.{total_scopes, joined_start, joined_stop, joined_range, IsOrdered}
 use Rattle.puffin_frames.proofs.lemmas.Infos.{info_cmp_total, info_cmp-one}
 use Rattle.puffin_frames.proofs.lemmas.Measured.{first, second, less, total_scopes-one}
 use Rattle.puffin_frames.proofs.lemmas.Ranges.{least_start-one, greatest_stop-one}
@@ -27,7 +27,7 @@ IsHonestSomehow r = ∥ ((f : Forest) × IsHonestRecord r f) ∥₁
 
 -- the law of joined infos
 abbrev pub Joins : Type 0
-Joins = (a b : Recorded) (f g : Forest) → IsHonestRecord a f → IsHonestRecord b g → IsHonestRecord (joined a b) (append f g)
+Joins = (a b : Recorded) (f g : Forest) → IsHonestRecord a f → IsHonestRecord b g → IsHonestRecord (joined_record a b) (append f g)
 
 none_honest : IsHonestRecord no_scopes forest.empty
 none_honest = record {
@@ -38,7 +38,7 @@ none_honest = record {
 pub honest-none : AreHonest empty
 honest-none i r found = let none = get-empty {X = Recorded} info_cmp i in absurd cc
 
-joined_honest : Joins → (o : Option Recorded) (r : Recorded) (f : Forest) → IsHonestRecord r f → ((x : Recorded) → o ≡ Some x → IsHonestSomehow x) → IsHonestSomehow (joined (unwrap_or o no_scopes) r)
+joined_honest : Joins → (o : Option Recorded) (r : Recorded) (f : Forest) → IsHonestRecord r f → ((x : Recorded) → o ≡ Some x → IsHonestSomehow x) → IsHonestSomehow (joined_record (unwrap_or o no_scopes) r)
 joined_honest joins None r f h before = merely (append forest.empty f, joins no_scopes r forest.empty f none_honest h)
 joined_honest joins (Some x) r f h before = ∥∥₁_map (before x refl) (λ p. (append p.0 f, joins x r p.0 f p.1 h))
 
@@ -48,7 +48,7 @@ at_test false j x o h before found = before found
 
 pub honest-report : Joins → (streams : Streams) (i : Info) (r : Recorded) (f : Forest) → AreHonest streams → IsHonestRecord r f → AreHonest (reported_to streams i r)
 honest-report joins streams i r f honest h q x found =
-    let more = joined (unwrap_or (get streams i) no_scopes) r in
+    let more = joined_record (unwrap_or (get streams i) no_scopes) r in
     at_test (same_info q i) more x (get streams q) (joined_honest joins (get streams i) r f h (λ y. honest i y)) (honest q x) (sym (get-insert info_cmp_total streams i more q) ∙ found)
 
 -- ---- what holds at each info holds of each stream
@@ -87,7 +87,7 @@ one_ordered law x honest some reversed =
 not_above : (a b : ℤ) → ¬ (b <ℤ a) → a ≤ℤ b
 not_above a b h = grind (arith, ints)
 
-ordered_from : Ordered → (n : ℕ) (x : Recorded) (xs : List Recorded) → x.num_scopes ≡ n → IsHonestSomehow x → 0 < total_scopes (x ∷ xs) → (0 < total_scopes xs → least_start xs ≤ℤ greatest_stop xs) → least_start (x ∷ xs) ≤ℤ greatest_stop (x ∷ xs)
+ordered_from : Ordered → (n : ℕ) (x : Recorded) (xs : List Recorded) → x.num_scopes ≡ n → IsHonestSomehow x → 0 < total_scopes (x ∷ xs) → (0 < total_scopes xs → joined_start xs ≤ℤ joined_stop xs) → joined_start (x ∷ xs) ≤ℤ joined_stop (x ∷ xs)
 ordered_from law zero x xs is honest some later =
     let rest = later (omega (arith, total_scopes-one x xs)) in
     omega (arith, ints, clamps, least_start-one x xs, greatest_stop-one x xs, rest)
@@ -95,7 +95,7 @@ ordered_from law (suc n) x xs is honest some later =
     let here : x.range_ns.0 ≤ℤ x.range_ns.1 = not_above _ _ (one_ordered law x honest (omega arith)) in
     omega (arith, ints, clamps, least_start-one x xs, greatest_stop-one x xs, here)
 
-all_ordered : Ordered → (xs : List Recorded) → AllByRecursion IsHonestSomehow xs → 0 < total_scopes xs → least_start xs ≤ℤ greatest_stop xs
+all_ordered : Ordered → (xs : List Recorded) → AllByRecursion IsHonestSomehow xs → 0 < total_scopes xs → joined_start xs ≤ℤ joined_stop xs
 all_ordered law [] all some = absurd (omega arith)
 all_ordered law (x ∷ xs) all some = ordered_from law x.num_scopes x xs refl all.0 some (all_ordered law xs all.1)
 

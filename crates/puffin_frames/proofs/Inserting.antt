@@ -11,7 +11,7 @@ use Rattle.std.specs.Arc.{arc_value}
 use Rattle.std.specs.declared.sync.Arc.{Arc}
 use Rattle.puffin_frames.specs.declared.scope_details.details.ScopeDetails.{ScopeDetails}
 use Rattle.puffin_frames.specs.Details.{Details, details_of, name_of}
-use Rattle.puffin_frames.specs.Details.Collection.{Collection, bytes_cmp, inserted, inserted_at, kept_for, kept_or, no_details, KeepsOwnIds, by_ids, by_names}
+use Rattle.puffin_frames.specs.Details.Collection.{Collection, bytes_cmp, with_details, with_details_under, kept_for, kept_or, no_details, KeepsOwnIds, by_ids, by_names}
 use Rattle.puffin_frames.proofs.lemmas.EntriesSeen.{get-seen, insert-seen, write-seen}
 use Rattle.std.proofs.lemmas.Option.{same_Some, none-some}
 
@@ -56,26 +56,26 @@ own_or : (o : Option Details) (c : Collection) (d : Details) (id : ℕ) → d.id
 own_or (Some kept) c d id is own q x found = own q x found
 own_or None c d id is own q x found = own_ids_put c.by_id id d own is q x found
 
-own_ids_at : (c : Collection) (d : Details) (o : Option ℕ) → d.id ≡ o → KeepsOwnIds c → KeepsOwnIds (inserted_at c d o)
+own_ids_at : (c : Collection) (d : Details) (o : Option ℕ) → d.id ≡ o → KeepsOwnIds c → KeepsOwnIds (with_details_under c d o)
 own_ids_at c d None is own = own
 own_ids_at c d (Some id) is own = own_or (get c.by_id id) c d id is own
 
 pub own_ids_none : KeepsOwnIds no_details
 own_ids_none id d found = absurd (none-some d (sym (get-empty nat_cmp id) ∙ found))
 
-pub own_ids_inserted : (c : Collection) (d : Details) → KeepsOwnIds c → KeepsOwnIds (inserted c d)
+pub own_ids_inserted : (c : Collection) (d : Details) → KeepsOwnIds c → KeepsOwnIds (with_details c d)
 own_ids_inserted c d own = own_ids_at c d d.id refl own
 
 -- ---- what an insertion leaves
 
-pub kept_inserted : (c : Collection) (d : Details) (id : ℕ) (old : Details) (names : FinMap bytes_cmp ℕ) → d.id ≡ Some id → get c.by_id id ≡ Some old → names ≡ insert c.by_name (name_of d) id → ◌≡◌ {A = Collection} (record { by_id = c.by_id; by_name = names }) (inserted c d)
-kept_inserted c d id old names is there named = (λ i. record { by_id = kept_or (sym there i) c.by_id id d; by_name = named i }) ∙ ap (inserted_at c d) (sym is)
+pub kept_inserted : (c : Collection) (d : Details) (id : ℕ) (old : Details) (names : FinMap bytes_cmp ℕ) → d.id ≡ Some id → get c.by_id id ≡ Some old → names ≡ insert c.by_name (name_of d) id → ◌≡◌ {A = Collection} (record { by_id = c.by_id; by_name = names }) (with_details c d)
+kept_inserted c d id old names is there named = (λ i. record { by_id = kept_or (sym there i) c.by_id id d; by_name = named i }) ∙ ap (with_details_under c d) (sym is)
 
 pub fresh_inserted : (c : Collection) (d : Details) (id : ℕ) (ids : FinMap nat_cmp Details) (names : FinMap bytes_cmp ℕ) → d.id ≡ Some id → get c.by_id id ≡ None → ids ≡ insert c.by_id id d → names ≡ insert c.by_name (name_of d) id
-    → ◌≡◌ {A = Collection} (record { by_id = ids; by_name = names }) (inserted c d)
+    → ◌≡◌ {A = Collection} (record { by_id = ids; by_name = names }) (with_details c d)
 fresh_inserted c d id ids names is none put named =
     let fresh : ids ≡ kept_or (get c.by_id id) c.by_id id d = put ∙ ap (λ o. kept_or o c.by_id id d) (sym none) in
-    (λ i. record { by_id = fresh i; by_name = named i }) ∙ ap (inserted_at c d) (sym is)
+    (λ i. record { by_id = fresh i; by_name = named i }) ∙ ap (with_details_under c d) (sym is)
 
 pub kept_is : (c : Collection) (d : Details) (id : ℕ) (kept : Details) → d.id ≡ Some id → get c.by_id id ≡ Some kept → kept_for c d ≡ Some kept
 kept_is c d id kept is there = ap (option_and_then (λ id. get c.by_id id)) is ∙ there

@@ -4,7 +4,7 @@ use Rattle.std.specs.List.{fold}
 use Rattle.std.specs.Int.{int_min, int_max}
 use Rattle.puffin_data.specs.Honesty.{Recorded}
 use Rattle.puffin_frames.specs.declared.frame_data.meta.FrameMeta.{FrameMeta}
-use Rattle.puffin_frames.specs.Frame.Sums.{total_bytes, total_scopes, least_start, greatest_stop, meta_of, TotalsFit}
+use Rattle.puffin_frames.specs.Frame.Sums.{total_bytes, total_scopes, joined_start, joined_stop, meta_of, TotalsFit}
 
 -- the bytes, scopes, starts and stops of infos, joined to what is there already
 abbrev pub bytes_from : ℕ → List Recorded → ℕ
@@ -24,8 +24,8 @@ pub record ComesTo (meta : FrameMeta) (rest : List Recorded) (index : ℕ) (all 
   pub frame_index : meta.frame_index ≡ index
   pub num_bytes : bytes_from meta.num_bytes rest ≡ total_bytes all
   pub num_scopes : scopes_from meta.num_scopes rest ≡ total_scopes all
-  pub start : start_from meta.range_ns.0 rest ≡ least_start all
-  pub stop : stop_from meta.range_ns.1 rest ≡ greatest_stop all
+  pub start : start_from meta.range_ns.0 rest ≡ joined_start all
+  pub stop : stop_from meta.range_ns.1 rest ≡ joined_stop all
   pub fit : (meta.num_bytes < 2 ^ 64) × (meta.num_scopes < 2 ^ 64)
 
 pub bytes_above : (n : ℕ) (infos : List Recorded) → n ≤ bytes_from n infos

@@ -15,10 +15,10 @@ use Rattle.std.specs.declared.sync.Arc.{Arc}
 use Rattle.std.specs.FinMap.{is_sorted, entries, from_entries, from_sorted, entries-insert, entries-from_sorted, same_entries_map, put, empty, len-entries, len-empty}
 use Rattle.std.specs.FinMap.Entries.{below_all, by_order}
 use Rattle.std.proofs.lemmas.Map.Keys.{sorted_head, sorted_tail}
-use Rattle.puffin_data.specs.Honesty.{Recorded, recorded}
+use Rattle.puffin_data.specs.Honesty.{Recorded, record_of}
 use Rattle.puffin_data.specs.declared.data.info.StreamInfo.{StreamInfo}
 use Rattle.puffin_frames.specs.declared.thread_profiler.thread_info.ThreadInfo.{ThreadInfo}
-use Rattle.puffin_frames.specs.Frame.Contents.{listed, shared_streams}
+use Rattle.puffin_frames.specs.Frame.Contents.{pairs_of, shared_streams}
 use Rattle.puffin_frames.specs.Thread.Info.{Info, info_cmp, info_of, thread_cmp}
 use Rattle.puffin_frames.proofs.lemmas.Infos.{info_cmp_total, thread_cmp_total}
 
@@ -46,19 +46,19 @@ is_less Equal e = absurd cc
 is_less Greater e = absurd cc
 
 module _ {A : Type 0} where
-  listed-below : (x : ThreadInfo) (es : List (ThreadInfo × Arc StreamInfo A)) → AllByRecursion (λ y. thread_cmp x y ≡ Less) (keys_of es) → below_all info_cmp (info_of x) (listed es) ≡ true
+  listed-below : (x : ThreadInfo) (es : List (ThreadInfo × Arc StreamInfo A)) → AllByRecursion (λ y. thread_cmp x y ≡ Less) (keys_of es) → below_all info_cmp (info_of x) (pairs_of es) ≡ true
   listed-below x [] h = refl
-  listed-below x (e ∷ es) h = and-both (is_lt (thread_cmp x e.0)) (below_all info_cmp (info_of x) (listed es)) (ap is_lt h.0) (listed-below x es h.1)
+  listed-below x (e ∷ es) h = and-both (is_lt (thread_cmp x e.0)) (below_all info_cmp (info_of x) (pairs_of es)) (ap is_lt h.0) (listed-below x es h.1)
 
   -- entries in the order of their threads are listed in order
-  pub listed-sorted : (es : List (ThreadInfo × Arc StreamInfo A)) → IsStrictlySortedBy thread_cmp (keys_of es) → is_sorted info_cmp (listed es) ≡ true
+  pub listed-sorted : (es : List (ThreadInfo × Arc StreamInfo A)) → IsStrictlySortedBy thread_cmp (keys_of es) → is_sorted info_cmp (pairs_of es) ≡ true
   listed-sorted [] sorted = refl
   listed-sorted (e ∷ es) sorted =
-      and-both (below_all info_cmp (info_of e.0) (listed es)) (is_sorted info_cmp (listed es)) (listed-below e.0 es (sorted_head thread_cmp e.0 _ sorted)) (listed-sorted es (sorted_tail thread_cmp e.0 _ sorted))
+      and-both (below_all info_cmp (info_of e.0) (pairs_of es)) (is_sorted info_cmp (pairs_of es)) (listed-below e.0 es (sorted_head thread_cmp e.0 _ sorted)) (listed-sorted es (sorted_tail thread_cmp e.0 _ sorted))
 
-  pub listed-push : (es : List (ThreadInfo × Arc StreamInfo A)) (k : ThreadInfo) (a : Arc StreamInfo A) → listed (es ++ (k, a) ∷ []) ≡ listed es ++ (info_of k, recorded (arc_value a)) ∷ []
+  pub listed-push : (es : List (ThreadInfo × Arc StreamInfo A)) (k : ThreadInfo) (a : Arc StreamInfo A) → pairs_of (es ++ (k, a) ∷ []) ≡ pairs_of es ++ (info_of k, record_of (arc_value a)) ∷ []
   listed-push [] k a = refl
-  listed-push (e ∷ es) k a = ap (λ (l : List (Info × Recorded)). (info_of e.0, recorded (arc_value e.1)) ∷ l) (listed-push es k a)
+  listed-push (e ∷ es) k a = ap (λ (l : List (Info × Recorded)). (info_of e.0, record_of (arc_value e.1)) ∷ l) (listed-push es k a)
 
 below_at : (x k : Info) (r : Recorded) (es rest : List (Info × Recorded)) → below_all info_cmp x (es ++ (k, r) ∷ rest) ≡ true → info_cmp x k ≡ Less
 below_at x k r [] rest h = is_less _ (and-first _ _ h)
@@ -70,10 +70,10 @@ below_middle x k r (e ∷ es) h lt = and-both _ _ (and-first _ _ h) (below_middl
 
 module _ {A : Type 0} where
   -- a thread above all others goes to the end
-  pub insert-last : (es : List (ThreadInfo × Arc StreamInfo A)) (k : ThreadInfo) (v : Arc StreamInfo A) (r : Recorded) (rest : List (Info × Recorded)) → is_sorted info_cmp (listed es ++ (info_of k, r) ∷ rest) ≡ true → insert_entry thread_cmp es k v ≡ es ++ (k, v) ∷ []
+  pub insert-last : (es : List (ThreadInfo × Arc StreamInfo A)) (k : ThreadInfo) (v : Arc StreamInfo A) (r : Recorded) (rest : List (Info × Recorded)) → is_sorted info_cmp (pairs_of es ++ (info_of k, r) ∷ rest) ≡ true → insert_entry thread_cmp es k v ≡ es ++ (k, v) ∷ []
   insert-last [] k v r rest sorted = refl
   insert-last (e ∷ es) k v r rest sorted =
-      let below : thread_cmp e.0 k ≡ Less = below_at (info_of e.0) (info_of k) r (listed es) rest (and-first _ _ sorted) in
+      let below : thread_cmp e.0 k ≡ Less = below_at (info_of e.0) (info_of k) r (pairs_of es) rest (and-first _ _ sorted) in
       let above : thread_cmp k e.0 ≡ Greater = thread_cmp_total.antisymm k e.0 ∙ ap ordering_reverse below in
       ap (λ o. match_ordering o ((k, v) ∷ e ∷ es) ((e.0, v) ∷ es) (e ∷ insert_entry thread_cmp es k v)) above ∙ ap (λ l. e ∷ l) (insert-last es k v r rest (and-second _ _ sorted))
 
@@ -100,11 +100,11 @@ module _ {K X : Type 0} {R : K → K → Ordering} (total : IsTotalOrder R) (not
   from_entries-sorted_list es sorted = same_entries_map (from_sorted es) (from_entries es) (entries-from_sorted R es (holds _ sorted) ∙ sym (entries-sorted_list es sorted))
 
 -- the streams of a map are those of its list
-pub streams-listed : {A : Type 0} (es : List (ThreadInfo × Arc StreamInfo A)) → is_sorted info_cmp (listed es) ≡ true → from_sorted {R = info_cmp} (listed es) ≡ shared_streams es
-streams-listed es sorted = from_entries-sorted_list info_cmp_total (no_entries info_cmp) (listed es) sorted
+pub streams-listed : {A : Type 0} (es : List (ThreadInfo × Arc StreamInfo A)) → is_sorted info_cmp (pairs_of es) ≡ true → from_sorted {R = info_cmp} (pairs_of es) ≡ shared_streams es
+streams-listed es sorted = from_entries-sorted_list info_cmp_total (no_entries info_cmp) (pairs_of es) sorted
 
-pub entries-listed : {A : Type 0} (es : List (ThreadInfo × Arc StreamInfo A)) → is_sorted info_cmp (listed es) ≡ true → entries (shared_streams es) ≡ listed es
-entries-listed es sorted = entries-sorted_list info_cmp_total (no_entries info_cmp) (listed es) sorted
+pub entries-listed : {A : Type 0} (es : List (ThreadInfo × Arc StreamInfo A)) → is_sorted info_cmp (pairs_of es) ≡ true → entries (shared_streams es) ≡ pairs_of es
+entries-listed es sorted = entries-sorted_list info_cmp_total (no_entries info_cmp) (pairs_of es) sorted
 
 -- ---- one more thread
 
@@ -136,39 +136,39 @@ not_so false h = refl
 
 module _ {A : Type 0} where
   -- the last entry of a map, as the last of its list
-  listed-last : (es : List (ThreadInfo × Arc StreamInfo A)) (last : ThreadInfo) (v : Arc StreamInfo A) → slice_get es (length es - 1) ≡ Some (last, v) → (front : List (Info × Recorded)) × (listed es ≡ front ++ (info_of last, recorded (arc_value v)) ∷ [])
+  listed-last : (es : List (ThreadInfo × Arc StreamInfo A)) (last : ThreadInfo) (v : Arc StreamInfo A) → slice_get es (length es - 1) ≡ Some (last, v) → (front : List (Info × Recorded)) × (pairs_of es ≡ front ++ (info_of last, record_of (arc_value v)) ∷ [])
   listed-last es last v e =
       let split = last_split es (last, v) e in
-      (listed split.0, ap listed split.1 ∙ listed-push split.0 last v)
+      (pairs_of split.0, ap pairs_of split.1 ∙ listed-push split.0 last v)
 
   -- a thread above the last one comes last
-  pub rises_after : (es : List (ThreadInfo × Arc StreamInfo A)) (last : ThreadInfo) (v : Arc StreamInfo A) (k : ThreadInfo) (r : Recorded) → is_sorted info_cmp (listed es) ≡ true → slice_get es (length es - 1) ≡ Some (last, v) → is_lt (thread_cmp last k) ≡ true → is_sorted info_cmp (listed es ++ (info_of k, r) ∷ []) ≡ true
+  pub rises_after : (es : List (ThreadInfo × Arc StreamInfo A)) (last : ThreadInfo) (v : Arc StreamInfo A) (k : ThreadInfo) (r : Recorded) → is_sorted info_cmp (pairs_of es) ≡ true → slice_get es (length es - 1) ≡ Some (last, v) → is_lt (thread_cmp last k) ≡ true → is_sorted info_cmp (pairs_of es ++ (info_of k, r) ∷ []) ≡ true
   rises_after es last v k r sorted at lt =
       let split = listed-last es last v at in
       let P : List (Info × Recorded) → Type 0 = λ (l : List (Info × Recorded)). is_sorted info_cmp l ≡ true → is_sorted info_cmp (l ++ (info_of k, r) ∷ []) ≡ true in
-      subst P (sym split.1) (λ h. sorted-push split.0 (info_of last) (info_of k) (recorded (arc_value v)) r h (is_less _ lt)) sorted
+      subst P (sym split.1) (λ h. sorted-push split.0 (info_of last) (info_of k) (record_of (arc_value v)) r h (is_less _ lt)) sorted
 
   -- and another one doesn't
-  pub falls_after : (es : List (ThreadInfo × Arc StreamInfo A)) (last : ThreadInfo) (v : Arc StreamInfo A) (k : ThreadInfo) (r : Recorded) (rest : List (Info × Recorded)) → slice_get es (length es - 1) ≡ Some (last, v) → is_lt (thread_cmp last k) ≡ false → is_sorted info_cmp (listed es ++ (info_of k, r) ∷ rest) ≡ false
+  pub falls_after : (es : List (ThreadInfo × Arc StreamInfo A)) (last : ThreadInfo) (v : Arc StreamInfo A) (k : ThreadInfo) (r : Recorded) (rest : List (Info × Recorded)) → slice_get es (length es - 1) ≡ Some (last, v) → is_lt (thread_cmp last k) ≡ false → is_sorted info_cmp (pairs_of es ++ (info_of k, r) ∷ rest) ≡ false
   falls_after es last v k r rest at not =
       let split = listed-last es last v at in
       not_so _ (λ h.
-      let lt : info_cmp (info_of last) (info_of k) ≡ Less = is_above split.0 rest (info_of last) (info_of k) (recorded (arc_value v)) r (subst (λ (l : List (Info × Recorded)). is_sorted info_cmp (l ++ (info_of k, r) ∷ rest) ≡ true) split.1 h) in
+      let lt : info_cmp (info_of last) (info_of k) ≡ Less = is_above split.0 rest (info_of last) (info_of k) (record_of (arc_value v)) r (subst (λ (l : List (Info × Recorded)). is_sorted info_cmp (l ++ (info_of k, r) ∷ rest) ≡ true) split.1 h) in
       two_ways (sym (ap is_lt lt) ∙ not))
     where
       two_ways : true ≡ false → ⊥
       two_ways e = absurd cc
 
 -- a copy of the next stream goes to the end of the copies
-pub copy_more : {A B : Type 0} (es fs : List (ThreadInfo × Arc StreamInfo A)) (k copy : ThreadInfo) (a : Arc StreamInfo B) (b : Arc StreamInfo A) (left rest all : List (ThreadInfo × Arc StreamInfo B)) → IsStrictlySortedBy thread_cmp (keys_of all) → listed es ++ listed left ≡ listed all → left ≡ (k, a) ∷ rest → info_of copy ≡ info_of k → arc_value b ≡ arc_value a → fs ≡ insert_entry thread_cmp es copy b → listed fs ++ listed rest ≡ listed all
+pub copy_more : {A B : Type 0} (es fs : List (ThreadInfo × Arc StreamInfo A)) (k copy : ThreadInfo) (a : Arc StreamInfo B) (b : Arc StreamInfo A) (left rest all : List (ThreadInfo × Arc StreamInfo B)) → IsStrictlySortedBy thread_cmp (keys_of all) → pairs_of es ++ pairs_of left ≡ pairs_of all → left ≡ (k, a) ∷ rest → info_of copy ≡ info_of k → arc_value b ≡ arc_value a → fs ≡ insert_entry thread_cmp es copy b → pairs_of fs ++ pairs_of rest ≡ pairs_of all
 copy_more es fs k copy a b left rest all sorted whole next same value put =
-    let one : (Info × Recorded) = (info_of copy, recorded (arc_value b)) in
-    let there : listed es ++ one ∷ listed rest ≡ listed all =
-    ap (λ (x : Info). listed es ++ (x, recorded (arc_value b)) ∷ listed rest) same ∙ (ap (λ (x : StreamInfo). listed es ++ (info_of k, recorded x) ∷ listed rest) value ∙ (ap (λ l. listed es ++ listed l) (sym next) ∙ whole)) in
+    let one : (Info × Recorded) = (info_of copy, record_of (arc_value b)) in
+    let there : pairs_of es ++ one ∷ pairs_of rest ≡ pairs_of all =
+    ap (λ (x : Info). pairs_of es ++ (x, record_of (arc_value b)) ∷ pairs_of rest) same ∙ (ap (λ (x : StreamInfo). pairs_of es ++ (info_of k, record_of x) ∷ pairs_of rest) value ∙ (ap (λ l. pairs_of es ++ pairs_of l) (sym next) ∙ whole)) in
     let order = subst (λ (l : List (Info × Recorded)). is_sorted info_cmp l ≡ true) (sym there) (listed-sorted all sorted) in
-    let last = insert-last es copy b (recorded (arc_value b)) (listed rest) order in
-    let grown : listed fs ≡ listed es ++ one ∷ [] = ap listed (put ∙ last) ∙ listed-push es copy b in
-    ap (λ (l : List (Info × Recorded)). l ++ listed rest) grown ∙ (regrouped (listed es) one (listed rest) ∙ there)
+    let last = insert-last es copy b (record_of (arc_value b)) (pairs_of rest) order in
+    let grown : pairs_of fs ≡ pairs_of es ++ one ∷ [] = ap pairs_of (put ∙ last) ∙ listed-push es copy b in
+    ap (λ (l : List (Info × Recorded)). l ++ pairs_of rest) grown ∙ (regrouped (pairs_of es) one (pairs_of rest) ∙ there)
   where
     regrouped : (xs : List (Info × Recorded)) (x : Info × Recorded) (ys : List (Info × Recorded)) → (xs ++ x ∷ []) ++ ys ≡ xs ++ x ∷ ys
     regrouped xs x ys = simp append_assoc

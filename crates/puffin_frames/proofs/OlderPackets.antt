@@ -9,7 +9,7 @@ use Rattle.puffin_data.proofs.lemmas.Readers.{whole_again}
 use Rattle.puffin_frames.specs.Details.{Details}
 use Rattle.puffin_frames.specs.Packet.Structs.{meta_layout, streams_layout, Legacy, IsLegacy, legacy_layout, legacy_at}
 use Rattle.puffin_frames.specs.Packet.Stored.{Said, packed, legacy}
-use Rattle.puffin_frames.specs.Packet.Steps.{streams_part_at, packed_at, legacy_part_at, is_packet, is_end, stored_after, next_at, counted, IsPacked, as_stored}
+use Rattle.puffin_frames.specs.Packet.Steps.{streams_part_at, packet_at, legacy_part_at, is_packet, is_end, stored_after, next_at, counted_part, IsPacked, as_stored}
 use Rattle.puffin_frames.specs.Packet.Grammar.{packet_without_details, packet_without_kind, legacy_bytes, IsFirstForm}
 use Rattle.puffin_frames.proofs.Structs.{legacy_reader}
 use Rattle.puffin_frames.proofs.Writing.{number_long}
@@ -23,11 +23,11 @@ streams_51 p rest h =
     rw (length_again (length p.streams) (p.kind ∷ (p.streams ++ rest)) h.short, part_again 1 (p.kind ∷ []) (p.streams ++ rest) refl, h.kind, part_again (length p.streams) p.streams rest refl) refl
 
 parts_51 : (p : Said) (rest : List ℕ) → IsPacked p → p.details ≡ []
-    → packed_at 51 (counted (meta_layout p.meta) ++ (little_bytes 4 (length p.streams) ++ (p.kind ∷ (p.streams ++ rest)))) ≡ Ok (p, rest)
+    → packet_at 51 (counted_part (meta_layout p.meta) ++ (little_bytes 4 (length p.streams) ++ (p.kind ∷ (p.streams ++ rest)))) ≡ Ok (p, rest)
 parts_51 p rest h none =
     rw (meta_again p (little_bytes 4 (length p.streams) ++ (p.kind ∷ (p.streams ++ rest))) h, streams_51 p rest h) (ap (λ (ds : List Details). Ok (record p { details = ds }, rest)) (sym none))
 
-after_51 : (xs : List ℕ) → next_at (80 ∷ 70 ∷ 68 ∷ 51 ∷ xs) ≡ as_stored packed (packed_at 51 xs)
+after_51 : (xs : List ℕ) → next_at (80 ∷ 70 ∷ 68 ∷ 51 ∷ xs) ≡ as_stored packed (packet_at 51 xs)
 unfolding next_at
 after_51 xs =
     let long : ltb (length (80 ∷ 70 ∷ 68 ∷ 51 ∷ xs)) 4 ≡ false = le-ltb _ _ (omega arith) in
@@ -38,7 +38,7 @@ row_51 m l s rest kind = simp append_assoc
 
 pub without_details_again : (p : Said) (rest : List ℕ) → IsPacked p → p.details ≡ [] → next_at (packet_without_details p ++ rest) ≡ Ok (Some (packed p), rest)
 without_details_again p rest h none =
-    let m = counted (meta_layout p.meta) in
+    let m = counted_part (meta_layout p.meta) in
     let l = little_bytes 4 (length p.streams) in
     ap next_at (row_51 m l p.streams rest p.kind) ∙ (after_51 (m ++ (l ++ (p.kind ∷ (p.streams ++ rest)))) ∙ ap (as_stored packed) (parts_51 p rest h none))
 
@@ -52,11 +52,11 @@ older : (p : Said) → p.kind ≡ 2 → p.details ≡ [] → record p { kind = 2
 older p two none = ap (λ (k : ℕ). record p { kind = k; details = [] }) (sym two) ∙ ap (λ (ds : List Details). record p { details = ds }) (sym none)
 
 parts_50 : (p : Said) (rest : List ℕ) → IsPacked p → p.kind ≡ 2 → p.details ≡ []
-    → packed_at 50 (counted (meta_layout p.meta) ++ (little_bytes 4 (length p.streams) ++ (p.streams ++ rest))) ≡ Ok (p, rest)
+    → packet_at 50 (counted_part (meta_layout p.meta) ++ (little_bytes 4 (length p.streams) ++ (p.streams ++ rest))) ≡ Ok (p, rest)
 parts_50 p rest h two none =
     rw (meta_again p (little_bytes 4 (length p.streams) ++ (p.streams ++ rest)) h, streams_50 p rest h) (ap (λ (s : Said). Ok (s, rest)) (older p two none))
 
-after_50 : (xs : List ℕ) → next_at (80 ∷ 70 ∷ 68 ∷ 50 ∷ xs) ≡ as_stored packed (packed_at 50 xs)
+after_50 : (xs : List ℕ) → next_at (80 ∷ 70 ∷ 68 ∷ 50 ∷ xs) ≡ as_stored packed (packet_at 50 xs)
 unfolding next_at
 after_50 xs =
     let long : ltb (length (80 ∷ 70 ∷ 68 ∷ 50 ∷ xs)) 4 ≡ false = le-ltb _ _ (omega arith) in
@@ -67,7 +67,7 @@ row_50 m l s rest = simp append_assoc
 
 pub without_kind_again : (p : Said) (rest : List ℕ) → IsPacked p → p.kind ≡ 2 → p.details ≡ [] → next_at (packet_without_kind p ++ rest) ≡ Ok (Some (packed p), rest)
 without_kind_again p rest h two none =
-    let m = counted (meta_layout p.meta) in
+    let m = counted_part (meta_layout p.meta) in
     let l = little_bytes 4 (length p.streams) in
     ap next_at (row_50 m l p.streams rest) ∙ (after_50 (m ++ (l ++ (p.streams ++ rest))) ∙ ap (as_stored packed) (parts_50 p rest h two none))
 

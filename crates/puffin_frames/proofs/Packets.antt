@@ -10,7 +10,7 @@ use Rattle.puffin_data.specs.Value.Layout.{NoneBeginsAnother}
 use Rattle.puffin_data.proofs.lemmas.Readers.{whole_again}
 use Rattle.puffin_frames.specs.Packet.Structs.{IsMeta, meta_layout, meta_at, AreDetails, details_layout, details_at}
 use Rattle.puffin_frames.specs.Packet.Stored.{Said, Stored, packed}
-use Rattle.puffin_frames.specs.Packet.Steps.{meta_part_at, streams_part_at, details_part_at, packed_at, next_at, counted, packet_head, packet, IsPacked, as_stored}
+use Rattle.puffin_frames.specs.Packet.Steps.{meta_part_at, streams_part_at, details_part_at, packet_at, next_at, counted_part, packet_head, packet, IsPacked, as_stored}
 use Rattle.puffin_frames.proofs.Structs.{meta_reader, details_reader}
 use Rattle.puffin_frames.proofs.Writing.{meta_short}
 
@@ -24,11 +24,11 @@ length_again n rest h =
     let back : little_number 4 (little_bytes 4 n ++ []) ≡ n = little_number-reads_back 4 n [] (omega arith) in
     rw (part_again 4 (little_bytes 4 n) rest refl) (ap (λ (k : ℕ). Ok (k, rest)) back)
 
-pub counted_again : (t rest : List ℕ) → length t < 2 ^ 32 → counted_part_at (counted t ++ rest) ≡ Ok (t, rest)
+pub counted_again : (t rest : List ℕ) → length t < 2 ^ 32 → counted_part_at (counted_part t ++ rest) ≡ Ok (t, rest)
 counted_again t rest h =
     ap counted_part_at (append_assoc (little_bytes 4 (length t)) t rest) ∙ rw (length_again (length t) (t ++ rest) h) (part_again (length t) t rest refl)
 
-pub meta_again : (p : Said) (rest : List ℕ) → IsPacked p → meta_part_at (counted (meta_layout p.meta) ++ rest) ≡ Ok (p.meta, rest)
+pub meta_again : (p : Said) (rest : List ℕ) → IsPacked p → meta_part_at (counted_part (meta_layout p.meta) ++ rest) ≡ Ok (p.meta, rest)
 meta_again p rest h =
     rw (counted_again (meta_layout p.meta) rest (meta_short p.meta), whole_again IsMeta meta_layout meta_at meta_reader p.meta h.meta, h.range) refl
 
@@ -36,17 +36,17 @@ streams_again : (p : Said) (rest : List ℕ) → IsPacked p → streams_part_at 
 streams_again p rest h =
     rw (length_again (length p.streams) (p.kind ∷ (p.streams ++ rest)) h.short, part_again 1 (p.kind ∷ []) (p.streams ++ rest) refl, h.kind, part_again (length p.streams) p.streams rest refl) refl
 
-details_again : (p : Said) (rest : List ℕ) → IsPacked p → details_part_at 52 (counted (details_layout p.details) ++ rest) ≡ Ok (p.details, rest)
+details_again : (p : Said) (rest : List ℕ) → IsPacked p → details_part_at 52 (counted_part (details_layout p.details) ++ rest) ≡ Ok (p.details, rest)
 details_again p rest h =
     rw (counted_again (details_layout p.details) rest h.details_short, whole_again AreDetails details_layout details_at details_reader p.details h.details) refl
 
 parts_again : (p : Said) (rest : List ℕ) → IsPacked p
-    → packed_at 52 (counted (meta_layout p.meta) ++ (little_bytes 4 (length p.streams) ++ (p.kind ∷ (p.streams ++ (counted (details_layout p.details) ++ rest))))) ≡ Ok (p, rest)
+    → packet_at 52 (counted_part (meta_layout p.meta) ++ (little_bytes 4 (length p.streams) ++ (p.kind ∷ (p.streams ++ (counted_part (details_layout p.details) ++ rest))))) ≡ Ok (p, rest)
 parts_again p rest h =
-    let d = counted (details_layout p.details) ++ rest in
+    let d = counted_part (details_layout p.details) ++ rest in
     rw (meta_again p (little_bytes 4 (length p.streams) ++ (p.kind ∷ (p.streams ++ d))) h, streams_again p d h, details_again p rest h) refl
 
-after_letters : (xs : List ℕ) → next_at (80 ∷ 70 ∷ 68 ∷ 52 ∷ xs) ≡ as_stored packed (packed_at 52 xs)
+after_letters : (xs : List ℕ) → next_at (80 ∷ 70 ∷ 68 ∷ 52 ∷ xs) ≡ as_stored packed (packet_at 52 xs)
 unfolding next_at
 after_letters xs =
     let long : ltb (length (80 ∷ 70 ∷ 68 ∷ 52 ∷ xs)) 4 ≡ false = le-ltb _ _ (omega arith) in
@@ -59,9 +59,9 @@ in_a_row m l s d rest kind = simp append_assoc
 pub packet_again : (p : Said) (rest : List ℕ) → IsPacked p → next_at (packet p ++ rest) ≡ Ok (Some (packed p), rest)
 unfolding packet_head
 packet_again p rest h =
-    let m = counted (meta_layout p.meta) in
+    let m = counted_part (meta_layout p.meta) in
     let l = little_bytes 4 (length p.streams) in
-    let d = counted (details_layout p.details) in
+    let d = counted_part (details_layout p.details) in
     ap next_at (in_a_row m l p.streams d rest p.kind) ∙ (after_letters (m ++ (l ++ (p.kind ∷ (p.streams ++ (d ++ rest))))) ∙ ap (as_stored packed) (parts_again p rest h))
 
 said_is : (a b : Said) → packed a ≡ packed b → a ≡ b

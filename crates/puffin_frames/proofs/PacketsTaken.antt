@@ -14,7 +14,7 @@ use Rattle.puffin_data.proofs.lemmas.Readers.{IsBytes-after}
 use Rattle.puffin_frames.specs.Details.{Details}
 use Rattle.puffin_frames.specs.Packet.Structs.{meta_layout, details_layout, Legacy, legacy_layout}
 use Rattle.puffin_frames.specs.Packet.Stored.{Said, Stored, packed, legacy}
-use Rattle.puffin_frames.specs.Packet.Steps.{meta_part_at, kind_at, streams_part_at, details_part_at, packed_at, legacy_part_at, is_packet, form_at, as_stored, stored_after, is_end, next_at, counted, packet_head, packet, IsPacked}
+use Rattle.puffin_frames.specs.Packet.Steps.{meta_part_at, kind_at, streams_part_at, details_part_at, packet_at, legacy_part_at, is_packet, form_at, as_stored, stored_after, is_end, next_at, counted_part, packet_head, packet, IsPacked}
 use Rattle.puffin_frames.specs.Packet.Grammar.{packet_without_details, packet_without_kind, legacy_bytes, Stores, TookStored}
 use Rattle.puffin_frames.proofs.Listed.{and-first, and-second}
 use Rattle.puffin_frames.proofs.Writing.{number_short}
@@ -69,15 +69,15 @@ none_short = omega (arith, number_short 0, length-append (number 0) [])
 
 record FullTaken (bytes : List ℕ) (p : Said) (rest : List ℕ) : Type 0 where
   is_packed : IsPacked p
-  text : bytes ≡ counted (meta_layout p.meta) ++ (little_bytes 4 (length p.streams) ++ (p.kind ∷ (p.streams ++ (counted (details_layout p.details) ++ rest))))
+  text : bytes ≡ counted_part (meta_layout p.meta) ++ (little_bytes 4 (length p.streams) ++ (p.kind ∷ (p.streams ++ (counted_part (details_layout p.details) ++ rest))))
 
-full_taken : (bytes : List ℕ) (p : Said) (rest : List ℕ) → IsBytes bytes → packed_at 52 bytes ≡ Ok (p, rest) → FullTaken bytes p rest
+full_taken : (bytes : List ℕ) (p : Said) (rest : List ℕ) → IsBytes bytes → packet_at 52 bytes ≡ Ok (p, rest) → FullTaken bytes p rest
 full_taken bytes p rest is e =
     let a = bind_ok (meta_part_at bytes) (λ meta. streams_part_at 52 meta.1 >>= λ streams. details_part_at 52 streams.1 >>= λ details. Ok (record { meta = meta.0; kind = streams.0.0; streams = streams.0.1; details = details.0 }, details.1)) (p, rest) e in
     let b = bind_ok (streams_part_at 52 a.0.1) (λ streams. details_part_at 52 streams.1 >>= λ details. Ok (record { meta = a.0.0; kind = streams.0.0; streams = streams.0.1; details = details.0 }, details.1)) (p, rest) a.2 in
     let d = bind_ok (details_part_at 52 b.0.1) (λ details. Ok (record { meta = a.0.0; kind = b.0.0.0; streams = b.0.0.1; details = details.0 }, details.1)) (p, rest) b.2 in
     let m = meta_taken bytes a.0.0 a.0.1 is a.1 in
-    let after_meta : IsBytes a.0.1 = IsBytes-after bytes (counted (meta_layout a.0.0)) a.0.1 m.text is in
+    let after_meta : IsBytes a.0.1 = IsBytes-after bytes (counted_part (meta_layout a.0.0)) a.0.1 m.text is in
     let s = streams_taken 52 a.0.1 b.0.0 b.0.1 refl after_meta b.1 in
     let after_streams : IsBytes b.0.1 = IsBytes-after (b.0.0.1 ++ b.0.1) b.0.0.1 b.0.1 refl (IsBytes-after a.0.1 (little_bytes 4 (length b.0.0.1) ++ (b.0.0.0 ∷ [])) (b.0.0.1 ++ b.0.1) (s.text ∙ sym (append_assoc (little_bytes 4 (length b.0.0.1)) (b.0.0.0 ∷ []) (b.0.0.1 ++ b.0.1))) after_meta) in
     let t = details_taken b.0.1 d.0.0 d.0.1 after_streams d.1 in
@@ -85,29 +85,29 @@ full_taken bytes p rest is e =
     let made : (Said × List ℕ) = (said, d.0.1) in
     let taken : FullTaken bytes said d.0.1 = record {
       is_packed = record { meta = m.fits; range = m.range; kind = s.known; short = s.short; details = t.fits; details_short = t.short };
-      text = m.text ∙ ap (λ (x : List ℕ). counted (meta_layout a.0.0) ++ x) (s.text ∙ ap (λ (x : List ℕ). little_bytes 4 (length b.0.0.1) ++ (b.0.0.0 ∷ (b.0.0.1 ++ x))) t.text);
+      text = m.text ∙ ap (λ (x : List ℕ). counted_part (meta_layout a.0.0) ++ x) (s.text ∙ ap (λ (x : List ℕ). little_bytes 4 (length b.0.0.1) ++ (b.0.0.0 ∷ (b.0.0.1 ++ x))) t.text);
     } in
     subst (λ (y : Said × List ℕ). FullTaken bytes y.0 y.1) (same_ok made (p, rest) d.2) taken
 
 record KindTaken (bytes : List ℕ) (p : Said) (rest : List ℕ) : Type 0 where
   is_packed : IsPacked p
   none : p.details ≡ []
-  text : bytes ≡ counted (meta_layout p.meta) ++ (little_bytes 4 (length p.streams) ++ (p.kind ∷ (p.streams ++ rest)))
+  text : bytes ≡ counted_part (meta_layout p.meta) ++ (little_bytes 4 (length p.streams) ++ (p.kind ∷ (p.streams ++ rest)))
 
-without_details_taken : (bytes : List ℕ) (p : Said) (rest : List ℕ) → IsBytes bytes → packed_at 51 bytes ≡ Ok (p, rest) → KindTaken bytes p rest
+without_details_taken : (bytes : List ℕ) (p : Said) (rest : List ℕ) → IsBytes bytes → packet_at 51 bytes ≡ Ok (p, rest) → KindTaken bytes p rest
 without_details_taken bytes p rest is e =
     let none : List Details = [] in
     let a = bind_ok (meta_part_at bytes) (λ meta. streams_part_at 51 meta.1 >>= λ streams. Ok (record { meta = meta.0; kind = streams.0.0; streams = streams.0.1; details = none }, streams.1)) (p, rest) e in
     let b = bind_ok (streams_part_at 51 a.0.1) (λ streams. Ok (record { meta = a.0.0; kind = streams.0.0; streams = streams.0.1; details = none }, streams.1)) (p, rest) a.2 in
     let m = meta_taken bytes a.0.0 a.0.1 is a.1 in
-    let after_meta : IsBytes a.0.1 = IsBytes-after bytes (counted (meta_layout a.0.0)) a.0.1 m.text is in
+    let after_meta : IsBytes a.0.1 = IsBytes-after bytes (counted_part (meta_layout a.0.0)) a.0.1 m.text is in
     let s = streams_taken 51 a.0.1 b.0.0 b.0.1 refl after_meta b.1 in
     let said : Said = record { meta = a.0.0; kind = b.0.0.0; streams = b.0.0.1; details = none } in
     let made : (Said × List ℕ) = (said, b.0.1) in
     let taken : KindTaken bytes said b.0.1 = record {
       is_packed = record { meta = m.fits; range = m.range; kind = s.known; short = s.short; details = (omega arith, tt); details_short = none_short };
       none = refl;
-      text = m.text ∙ ap (λ (x : List ℕ). counted (meta_layout a.0.0) ++ x) s.text;
+      text = m.text ∙ ap (λ (x : List ℕ). counted_part (meta_layout a.0.0) ++ x) s.text;
     } in
     subst (λ (y : Said × List ℕ). KindTaken bytes y.0 y.1) (same_ok made (p, rest) b.2) taken
 
@@ -115,18 +115,18 @@ record NoKindTaken (bytes : List ℕ) (p : Said) (rest : List ℕ) : Type 0 wher
   is_packed : IsPacked p
   two : p.kind ≡ 2
   none : p.details ≡ []
-  text : bytes ≡ counted (meta_layout p.meta) ++ (little_bytes 4 (length p.streams) ++ (p.streams ++ rest))
+  text : bytes ≡ counted_part (meta_layout p.meta) ++ (little_bytes 4 (length p.streams) ++ (p.streams ++ rest))
 
 two_known : (k : ℕ) → k ≡ 2 → nat_lt 2 k ≡ false
 two_known k e = ap (nat_lt 2) e
 
-without_kind_taken : (bytes : List ℕ) (p : Said) (rest : List ℕ) → IsBytes bytes → packed_at 50 bytes ≡ Ok (p, rest) → NoKindTaken bytes p rest
+without_kind_taken : (bytes : List ℕ) (p : Said) (rest : List ℕ) → IsBytes bytes → packet_at 50 bytes ≡ Ok (p, rest) → NoKindTaken bytes p rest
 without_kind_taken bytes p rest is e =
     let none : List Details = [] in
     let a = bind_ok (meta_part_at bytes) (λ meta. streams_part_at 50 meta.1 >>= λ streams. Ok (record { meta = meta.0; kind = streams.0.0; streams = streams.0.1; details = none }, streams.1)) (p, rest) e in
     let b = bind_ok (streams_part_at 50 a.0.1) (λ streams. Ok (record { meta = a.0.0; kind = streams.0.0; streams = streams.0.1; details = none }, streams.1)) (p, rest) a.2 in
     let m = meta_taken bytes a.0.0 a.0.1 is a.1 in
-    let after_meta : IsBytes a.0.1 = IsBytes-after bytes (counted (meta_layout a.0.0)) a.0.1 m.text is in
+    let after_meta : IsBytes a.0.1 = IsBytes-after bytes (counted_part (meta_layout a.0.0)) a.0.1 m.text is in
     let s = plain_taken a.0.1 b.0.0 b.0.1 after_meta b.1 in
     let said : Said = record { meta = a.0.0; kind = b.0.0.0; streams = b.0.0.1; details = none } in
     let made : (Said × List ℕ) = (said, b.0.1) in
@@ -134,7 +134,7 @@ without_kind_taken bytes p rest is e =
       is_packed = record { meta = m.fits; range = m.range; kind = two_known b.0.0.0 s.two; short = s.short; details = (omega arith, tt); details_short = none_short };
       two = s.two;
       none = refl;
-      text = m.text ∙ ap (λ (x : List ℕ). counted (meta_layout a.0.0) ++ x) s.text;
+      text = m.text ∙ ap (λ (x : List ℕ). counted_part (meta_layout a.0.0) ++ x) s.text;
     } in
     subst (λ (y : Said × List ℕ). NoKindTaken bytes y.0 y.1) (same_ok made (p, rest) b.2) taken
 
@@ -147,22 +147,22 @@ StoredFrom bytes s rest = (front : List ℕ) × Stores front s × (bytes ≡ fro
 full_from : (bytes xs : List ℕ) (p : Said) (rest : List ℕ) → bytes ≡ 80 ∷ 70 ∷ 68 ∷ 52 ∷ xs → FullTaken xs p rest → StoredFrom bytes (packed p) rest
 unfolding packet_head StoredFrom
 full_from bytes xs p rest e t =
-    let m = counted (meta_layout p.meta) in
+    let m = counted_part (meta_layout p.meta) in
     let l = little_bytes 4 (length p.streams) in
-    let d = counted (details_layout p.details) in
+    let d = counted_part (details_layout p.details) in
     (packet p, (t.is_packed, inl refl), e ∙ (ap (λ (x : List ℕ). 80 ∷ 70 ∷ 68 ∷ 52 ∷ x) t.text ∙ sym (in_a_row m l p.streams d rest p.kind)))
 
 without_details_from : (bytes xs : List ℕ) (p : Said) (rest : List ℕ) → bytes ≡ 80 ∷ 70 ∷ 68 ∷ 51 ∷ xs → KindTaken xs p rest → StoredFrom bytes (packed p) rest
 unfolding StoredFrom
 without_details_from bytes xs p rest e t =
-    let m = counted (meta_layout p.meta) in
+    let m = counted_part (meta_layout p.meta) in
     let l = little_bytes 4 (length p.streams) in
     (packet_without_details p, (t.is_packed, inr (inl (refl, t.none))), e ∙ (ap (λ (x : List ℕ). 80 ∷ 70 ∷ 68 ∷ 51 ∷ x) t.text ∙ sym (row_51 m l p.streams rest p.kind)))
 
 without_kind_from : (bytes xs : List ℕ) (p : Said) (rest : List ℕ) → bytes ≡ 80 ∷ 70 ∷ 68 ∷ 50 ∷ xs → NoKindTaken xs p rest → StoredFrom bytes (packed p) rest
 unfolding StoredFrom
 without_kind_from bytes xs p rest e t =
-    let m = counted (meta_layout p.meta) in
+    let m = counted_part (meta_layout p.meta) in
     let l = little_bytes 4 (length p.streams) in
     (packet_without_kind p, (t.is_packed, inr (inr (refl, t.two, t.none))), e ∙ (ap (λ (x : List ℕ). 80 ∷ 70 ∷ 68 ∷ 50 ∷ x) t.text ∙ sym (row_50 m l p.streams rest)))
 
@@ -179,7 +179,7 @@ no_fault fault x e = absurd cc
 
 record FormTaken (letter : ℕ) (xs : List ℕ) (p : Said) (rest : List ℕ) : Type 0 where
   known : ((eqb letter 50 || eqb letter 51) || eqb letter 52) ≡ true
-  read : packed_at letter xs ≡ Ok (p, rest)
+  read : packet_at letter xs ≡ Ok (p, rest)
 
 form_taken : (letter : ℕ) (xs : List ℕ) (p : Said) (rest : List ℕ) → form_at letter xs ≡ Ok (p, rest) → FormTaken letter xs p rest
 form_taken letter xs p rest e =
@@ -187,17 +187,17 @@ form_taken letter xs p rest e =
     let newer : Result (Said × List ℕ) FileError = Err file.Newer in
     let old : Result (Said × List ℕ) FileError = Err file.Legacy in
     let read : Bool = (eqb letter 50 || eqb letter 51) || eqb letter 52 in
-    elim (chosen (eqb letter 48 || eqb letter 49) old (cond read (packed_at letter xs) newer) out e) [
+    elim (chosen (eqb letter 48 || eqb letter 49) old (cond read (packet_at letter xs) newer) out e) [
       | inl h ↦ absurd (no_fault file.Legacy (p, rest) h.1)
-      | inr h ↦ elim (chosen read (packed_at letter xs) newer out h.1) [
+      | inr h ↦ elim (chosen read (packet_at letter xs) newer out h.1) [
         | inl k ↦ record { known = k.0; read = k.1 }
         | inr k ↦ absurd (no_fault file.Newer (p, rest) k.1)
       ]
     ]
 
-at_letter : (letter n : ℕ) (bytes xs : List ℕ) (p : Said) (rest : List ℕ) → letter ≡ n → bytes ≡ 80 ∷ 70 ∷ 68 ∷ letter ∷ xs → packed_at letter xs ≡ Ok (p, rest) → (bytes ≡ 80 ∷ 70 ∷ 68 ∷ n ∷ xs) × (packed_at n xs ≡ Ok (p, rest))
+at_letter : (letter n : ℕ) (bytes xs : List ℕ) (p : Said) (rest : List ℕ) → letter ≡ n → bytes ≡ 80 ∷ 70 ∷ 68 ∷ letter ∷ xs → packet_at letter xs ≡ Ok (p, rest) → (bytes ≡ 80 ∷ 70 ∷ 68 ∷ n ∷ xs) × (packet_at n xs ≡ Ok (p, rest))
 at_letter letter n bytes xs p rest same text read =
-    subst (λ (k : ℕ). (bytes ≡ 80 ∷ 70 ∷ 68 ∷ k ∷ xs) × (packed_at k xs ≡ Ok (p, rest))) same (text, read)
+    subst (λ (k : ℕ). (bytes ≡ 80 ∷ 70 ∷ 68 ∷ k ∷ xs) × (packet_at k xs ≡ Ok (p, rest))) same (text, read)
 
 packed_from : (letter : ℕ) (bytes xs : List ℕ) (p : Said) (rest : List ℕ) → IsBytes xs → bytes ≡ 80 ∷ 70 ∷ 68 ∷ letter ∷ xs → FormTaken letter xs p rest → StoredFrom bytes (packed p) rest
 packed_from letter bytes xs p rest is text t =

@@ -14,7 +14,7 @@ use Rattle.puffin_data.proofs.lemmas.Readers.{IsBytes-after, whole_taken}
 use Rattle.puffin_frames.specs.declared.frame_data.meta.FrameMeta.{FrameMeta}
 use Rattle.puffin_frames.specs.Details.{Details}
 use Rattle.puffin_frames.specs.Packet.Structs.{IsMeta, meta_layout, meta_at, AreDetails, details_layout, details_at, Legacy, IsLegacy, legacy_layout, legacy_at}
-use Rattle.puffin_frames.specs.Packet.Steps.{is_range_at, meta_with_range, meta_from, meta_part_at, kind_from, details_from, given_details_at, legacy_with_range, legacy_from, legacy_part_at, counted}
+use Rattle.puffin_frames.specs.Packet.Steps.{is_range_at, meta_with_range, meta_from, meta_part_at, kind_from, details_from, given_details_at, legacy_with_range, legacy_from, legacy_part_at, counted_part}
 use Rattle.puffin_frames.proofs.Structs.{meta_reader, details_reader, legacy_reader}
 
 -- ---- steps
@@ -60,7 +60,7 @@ length_taken bytes n rest is e =
     let text : bytes ≡ little_bytes 4 (little_number 4 b.0.0) ++ b.0.1 = p.1 ∙ ap (λ (t : List ℕ). t ++ b.0.1) (sym same) in
     subst (λ (y : ℕ × List ℕ). (y.0 < 2 ^ 32) × (bytes ≡ little_bytes 4 y.0 ++ y.1)) (same_ok made (n, rest) b.2) (below_4 b.0.0 four, text)
 
-pub counted_taken : (bytes t rest : List ℕ) → IsBytes bytes → counted_part_at bytes ≡ Ok (t, rest) → (length t < 2 ^ 32) × (bytes ≡ counted t ++ rest)
+pub counted_taken : (bytes t rest : List ℕ) → IsBytes bytes → counted_part_at bytes ≡ Ok (t, rest) → (length t < 2 ^ 32) × (bytes ≡ counted_part t ++ rest)
 counted_taken bytes t rest is e =
     let a = bind_ok (length_at bytes) (λ n. part_of n.0 n.1) (t, rest) e in
     let l = length_taken bytes a.0.0 a.0.1 is a.1 in
@@ -80,18 +80,18 @@ ranged (Some x) m e =
 pub record MetaTaken (bytes : List ℕ) (m : FrameMeta) (rest : List ℕ) : Type 0 where
   pub fits : IsMeta m
   pub range : is_range_at m.range_ns.0 m.range_ns.1 ≡ true
-  pub text : bytes ≡ counted (meta_layout m) ++ rest
+  pub text : bytes ≡ counted_part (meta_layout m) ++ rest
 
 pub meta_taken : (bytes : List ℕ) (m : FrameMeta) (rest : List ℕ) → IsBytes bytes → meta_part_at bytes ≡ Ok (m, rest) → MetaTaken bytes m rest
 meta_taken bytes m rest is e =
     let a = bind_ok (counted_part_at bytes) (λ part. meta_from part.0 >>= λ meta. Ok (meta, part.1)) (m, rest) e in
     let b = bind_ok (meta_from a.0.0) (λ meta. Ok (meta, a.0.1)) (m, rest) a.2 in
     let c = counted_taken bytes a.0.0 a.0.1 is a.1 in
-    let part : IsBytes a.0.0 = IsBytes-after (counted a.0.0) (little_bytes 4 (length a.0.0)) a.0.0 refl (IsBytes-before bytes (counted a.0.0) a.0.1 c.1 is) in
+    let part : IsBytes a.0.0 = IsBytes-after (counted_part a.0.0) (little_bytes 4 (length a.0.0)) a.0.0 refl (IsBytes-before bytes (counted_part a.0.0) a.0.1 c.1 is) in
     let r = ranged (whole meta_at a.0.0) b.0 b.1 in
     let w = whole_taken IsMeta meta_layout meta_at meta_reader a.0.0 b.0 part r.0 in
     let made : (FrameMeta × List ℕ) = (b.0, a.0.1) in
-    let text : bytes ≡ counted (meta_layout b.0) ++ a.0.1 = c.1 ∙ ap (λ (t : List ℕ). counted t ++ a.0.1) w.1 in
+    let text : bytes ≡ counted_part (meta_layout b.0) ++ a.0.1 = c.1 ∙ ap (λ (t : List ℕ). counted_part t ++ a.0.1) w.1 in
     subst (λ (y : FrameMeta × List ℕ). MetaTaken bytes y.0 y.1) (same_ok made (m, rest) b.2) (record { fits = w.0; range = r.1; text = text })
 
 -- ---- the kind
@@ -131,17 +131,17 @@ given_from (Some x) ds e = ap Some (same_ok x ds e)
 pub record DetailsTaken (bytes : List ℕ) (ds : List Details) (rest : List ℕ) : Type 0 where
   pub fits : AreDetails ds
   pub short : length (details_layout ds) < 2 ^ 32
-  pub text : bytes ≡ counted (details_layout ds) ++ rest
+  pub text : bytes ≡ counted_part (details_layout ds) ++ rest
 
 pub details_taken : (bytes : List ℕ) (ds : List Details) (rest : List ℕ) → IsBytes bytes → given_details_at bytes ≡ Ok (ds, rest) → DetailsTaken bytes ds rest
 details_taken bytes ds rest is e =
     let a = bind_ok (counted_part_at bytes) (λ part. details_from (whole details_at part.0) >>= λ ds. Ok (ds, part.1)) (ds, rest) e in
     let b = bind_ok (details_from (whole details_at a.0.0)) (λ ds. Ok (ds, a.0.1)) (ds, rest) a.2 in
     let c = counted_taken bytes a.0.0 a.0.1 is a.1 in
-    let part : IsBytes a.0.0 = IsBytes-after (counted a.0.0) (little_bytes 4 (length a.0.0)) a.0.0 refl (IsBytes-before bytes (counted a.0.0) a.0.1 c.1 is) in
+    let part : IsBytes a.0.0 = IsBytes-after (counted_part a.0.0) (little_bytes 4 (length a.0.0)) a.0.0 refl (IsBytes-before bytes (counted_part a.0.0) a.0.1 c.1 is) in
     let w = whole_taken AreDetails details_layout details_at details_reader a.0.0 b.0 part (given_from (whole details_at a.0.0) b.0 b.1) in
     let made : (List Details × List ℕ) = (b.0, a.0.1) in
-    let text : bytes ≡ counted (details_layout b.0) ++ a.0.1 = c.1 ∙ ap (λ (t : List ℕ). counted t ++ a.0.1) w.1 in
+    let text : bytes ≡ counted_part (details_layout b.0) ++ a.0.1 = c.1 ∙ ap (λ (t : List ℕ). counted_part t ++ a.0.1) w.1 in
     let short : length (details_layout b.0) < 2 ^ 32 = rw (← w.1) c.0 in
     subst (λ (y : List Details × List ℕ). DetailsTaken bytes y.0 y.1) (same_ok made (ds, rest) b.2) (record { fits = w.0; short = short; text = text })
 

@@ -13,7 +13,7 @@ use Rattle.puffin_data.specs.Forest.Words.{word_size, open_after}
 use Rattle.puffin_data.specs.Forest.Open.{Opened, IsOpened, open_spelling, open_word, size_place, ended_bytes, with_ended}
 use Rattle.puffin_data.proofs.lemmas.Opening.{begins, begins-word, finishes, finishes-word, ended-written, open_size, size_within}
 use Rattle.puffin_frames.specs.Thread.Events.{events_in}
-use Rattle.puffin_frames.specs.inner.ThreadRecording.{scopes_closed, scopes_with, scopes_in, size_places, StartedBy, Holds}
+use Rattle.puffin_frames.specs.inner.ThreadRecording.{scopes_closed, scopes_with, scopes_in, size_places, StartedBy, HoldsScopes}
 use Rattle.puffin_frames.specs.Thread.Calls.{opened_after, open_offsets}
 use Rattle.puffin_frames.proofs.lemmas.Events.{events_open, events_of_none}
 
@@ -33,13 +33,13 @@ StartedBy-prop : (latest : ℤ) (opened : List Opened) → IsProp (StartedBy lat
 StartedBy-prop latest [] = Prim.hlevel props
 StartedBy-prop latest (o ∷ outer) = Prim.hlevel (props, IsOpened-prop o, StartedBy-prop latest outer)
 
-pub Holds-prop : (bytes : List ℕ) (latest : ℤ) → IsProp (Holds bytes latest)
+pub Holds-prop : (bytes : List ℕ) (latest : ℤ) → IsProp (HoldsScopes bytes latest)
 Holds-prop bytes latest =
     let opened = (scopes_in (events_in bytes)).0 in
     let closed = (scopes_in (events_in bytes)).1 in
     Prim.hlevel (props, StartedBy-prop latest opened, IsForest-prop closed)
 
-pub held : (bytes : List ℕ) (latest : ℤ) → ∥ Holds bytes latest ∥₁ → Holds bytes latest
+pub held : (bytes : List ℕ) (latest : ℤ) → ∥ HoldsScopes bytes latest ∥₁ → HoldsScopes bytes latest
 held bytes latest h = ∥∥₁_elim h (Holds-prop bytes latest) (λ x. x)
 
 -- the same with the scopes named
@@ -51,10 +51,10 @@ record Parts (bytes : List ℕ) (latest : ℤ) (opened : List Opened) (closed : 
   written : IsForest closed
   places : open_offsets (events_in bytes) ≡ size_places opened
 
-parts : (bytes : List ℕ) (latest : ℤ) → Holds bytes latest → Parts bytes latest (scopes_in (events_in bytes)).0 (scopes_in (events_in bytes)).1
+parts : (bytes : List ℕ) (latest : ℤ) → HoldsScopes bytes latest → Parts bytes latest (scopes_in (events_in bytes)).0 (scopes_in (events_in bytes)).1
 parts bytes latest h = record { is_opened = refl; is_closed = refl; whole = h.whole; started = h.opened; written = h.closed; places = h.places }
 
-holds : (bytes : List ℕ) (latest : ℤ) (opened : List Opened) (closed : Forest) → Parts bytes latest opened closed → Holds bytes latest
+holds : (bytes : List ℕ) (latest : ℤ) (opened : List Opened) (closed : Forest) → Parts bytes latest opened closed → HoldsScopes bytes latest
 holds bytes latest opened closed p = record {
   whole = p.whole ∙ ap (λ (os : List Opened). open_spelling os closed) (sym p.is_opened) ∙ ap (λ (f : Forest). open_spelling (scopes_in (events_in bytes)).0 f) (sym p.is_closed);
   opened = subst (λ (os : List Opened). StartedBy latest os) (sym p.is_opened) p.started;
@@ -101,7 +101,7 @@ length-open_offsets w = offsets_count 0 [] w
 
 -- what a call makes of the bytes: they hold the scopes of one event more
 pub record Goes (bytes next : List ℕ) (at : ℤ) (e : Event) : Type 0 where
-  pub holds : Holds next at
+  pub holds : HoldsScopes next at
   pub word : events_in next ≡ events_in bytes ++ (e ∷ [])
 
 begins_parts : (bytes next : List ℕ) (latest at : ℤ) (id : ℕ) (text : List ℕ) (opened : List Opened) (closed : Forest) → Parts bytes latest opened closed
@@ -130,7 +130,7 @@ begins_parts bytes next latest at id text opened closed p le low fits id_low id_
       word = word;
     }
 
-pub begins_held : (bytes next : List ℕ) (latest at : ℤ) (id : ℕ) (text : List ℕ) → Holds bytes latest
+pub begins_held : (bytes next : List ℕ) (latest at : ℤ) (id : ℕ) (text : List ℕ) → HoldsScopes bytes latest
     → latest ≤ℤ at → pos 0 ≤ℤ at → FitsSigned w64 at → 0 < id → id < 2 ^ 32 → length text < 256 → All (λ b. b < 256) text
     → next ≡ bytes ++ begin_bytes id at text (2 ^ 64 - 1) → Goes bytes next at (Open id text at)
 begins_held bytes next latest at id text h = begins_parts bytes next latest at id text _ _ (parts bytes latest h)
@@ -162,7 +162,7 @@ ends_parts bytes next latest at place rest (o ∷ outer) closed p le fits is e =
       word = word;
     }
 
-pub ends_held : (bytes next : List ℕ) (latest at : ℤ) (place : ℕ) (rest : List ℕ) → Holds bytes latest
+pub ends_held : (bytes next : List ℕ) (latest at : ℤ) (place : ℕ) (rest : List ℕ) → HoldsScopes bytes latest
     → latest ≤ℤ at → FitsSigned w64 at → open_offsets (events_in bytes) ≡ place ∷ rest → next ≡ ended_bytes bytes place at → Goes bytes next at (Close at)
 ends_held bytes next latest at place rest h le fits is e = ends_parts bytes next latest at place rest _ _ (parts bytes latest h) le fits (sym h.places ∙ is) e
 
@@ -172,7 +172,7 @@ place_parts bytes latest place rest (o ∷ outer) closed p is =
     let same : place ≡ size_place o outer = cc in
     omega (arith, same, ap length p.whole, size_within o outer closed)
 
-pub place_held : (bytes : List ℕ) (latest : ℤ) (place : ℕ) (rest : List ℕ) → Holds bytes latest → open_offsets (events_in bytes) ≡ place ∷ rest → place + 8 ≤ length bytes
+pub place_held : (bytes : List ℕ) (latest : ℤ) (place : ℕ) (rest : List ℕ) → HoldsScopes bytes latest → open_offsets (events_in bytes) ≡ place ∷ rest → place + 8 ≤ length bytes
 place_held bytes latest place rest h is = place_parts bytes latest place rest _ _ (parts bytes latest h) (sym h.places ∙ is)
 
 -- the counts of what is held
@@ -181,7 +181,7 @@ length-size_places : (opened : List Opened) → length (size_places opened) ≡ 
 length-size_places [] = refl
 length-size_places (o ∷ outer) = omega (arith, length-size_places outer)
 
-pub size_held : (bytes : List ℕ) (latest : ℤ) → Holds bytes latest → length bytes ≡ word_size (events_in bytes)
+pub size_held : (bytes : List ℕ) (latest : ℤ) → HoldsScopes bytes latest → length bytes ≡ word_size (events_in bytes)
 size_held bytes latest h =
     let opened = (scopes_in (events_in bytes)).0 in
     let closed = (scopes_in (events_in bytes)).1 in
@@ -197,13 +197,13 @@ closed_parts : (bytes : List ℕ) (latest : ℤ) (opened : List Opened) (closed 
 closed_parts bytes latest [] closed p none = record { whole = p.whole; written = p.written; word = word_is bytes latest [] closed p }
 closed_parts bytes latest (o ∷ outer) closed p none = absurd (omega arith)
 
-pub closed_held : (bytes : List ℕ) (latest : ℤ) → Holds bytes latest → open_after 0 (events_in bytes) ≡ 0 → Closes bytes (scopes_in (events_in bytes)).1
+pub closed_held : (bytes : List ℕ) (latest : ℤ) → HoldsScopes bytes latest → open_after 0 (events_in bytes) ≡ 0 → Closes bytes (scopes_in (events_in bytes)).1
 closed_held bytes latest h none =
     let opened = (scopes_in (events_in bytes)).0 in
     closed_parts bytes latest opened (scopes_in (events_in bytes)).1 (parts bytes latest h) (omega (arith, length-open_offsets (events_in bytes), ap length h.places, length-size_places opened))
 
 -- a stream without bytes
-pub nothing_held : (bytes : List ℕ) (latest : ℤ) → bytes ≡ [] → Holds bytes latest
+pub nothing_held : (bytes : List ℕ) (latest : ℤ) → bytes ≡ [] → HoldsScopes bytes latest
 unfolding scopes_in
 nothing_held bytes latest e =
     let word : events_in bytes ≡ [] = ap events_in e ∙ events_of_none in

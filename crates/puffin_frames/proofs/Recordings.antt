@@ -7,7 +7,7 @@ use Rattle.std.proofs.lemmas.List.{length-append, length-reverse, reverse-append
 use Rattle.std.proofs.lemmas.Option.{slice_get-get_or}
 use Rattle.puffin_data.specs.declared.data.info.StreamInfo.{StreamInfo}
 use Rattle.puffin_data.specs.Forest.{empty}
-use Rattle.puffin_data.specs.Honesty.{IsHonest, recorded}
+use Rattle.puffin_data.specs.Honesty.{IsHonest, record_of}
 use Rattle.puffin_data.specs.Forest.Open.{ended_bytes}
 use Rattle.puffin_data.specs.Forest.Spelling.{begin_bytes}
 use Rattle.puffin_data.specs.Forest.Tour.{Event, Open, Close}
@@ -16,7 +16,7 @@ use Rattle.puffin_data.proofs.lemmas.WordMeasures.{num_begun-append, most_open-o
 use Rattle.puffin_frames.specs.declared.thread_profiler.recording.Recording.TheInside.{Inside}
 use Rattle.puffin_frames.specs.Thread.Closing.{IsReportOf}
 use Rattle.puffin_frames.specs.Thread.Events.{events_in}
-use Rattle.puffin_frames.specs.inner.ThreadRecording.{IsRecording, Holds, Counted, scopes_in, spare_name, thread_in}
+use Rattle.puffin_frames.specs.inner.ThreadRecording.{IsRecording, HoldsScopes, Counted, scopes_in, spare_name, thread_in}
 use Rattle.puffin_frames.specs.Thread.Calls.{Thread, open_offsets}
 use Rattle.puffin_frames.proofs.lemmas.Events.{events_of_none}
 use Rattle.puffin_frames.proofs.RecordedScopes.{Goes, held, length-open_offsets, size_held, begins_held, ends_held, place_held, closed_held, nothing_held, offsets_opened, offsets_closed}
@@ -24,7 +24,7 @@ use Rattle.puffin_frames.proofs.RecordedScopes.{Goes, held, length-open_offsets,
 pub same_thread : (a b : Thread) → a.name ≡ b.name → a.first_start ≡ b.first_start → a.latest ≡ b.latest → a.word ≡ b.word → a.details ≡ b.details → a ≡ b
 same_thread a b e1 e2 e3 e4 e5 = λ i. record { name = e1 i; first_start = e2 i; latest = e3 i; word = e4 i; details = e5 i }
 
-pub holds_in : (r : Inside) → IsRecording r → Holds r.info.stream.bytes r.latest
+pub holds_in : (r : Inside) → IsRecording r → HoldsScopes r.info.stream.bytes r.latest
 holds_in r h = held r.info.stream.bytes r.latest h.scopes
 
 pub depth_in : (r : Inside) → IsRecording r → length r.offsets.items ≡ open_after 0 (events_in r.info.stream.bytes)
@@ -129,7 +129,7 @@ begun_in r next id text at offset h b =
     let deep : length next.offsets.items ≡ open_after 0 w + 1 = omega (arith, depth_in r h, ap length b.items, length-append r.offsets.items (offset ∷ [])) in
     record {
       latest = subst (λ (t : ℤ). pos 0 ≤ℤ t) (sym b.latest) nonneg;
-      scopes = ∣ subst (λ (t : ℤ). Holds next.info.stream.bytes t) (sym b.latest) goes.holds ∣₁;
+      scopes = ∣ subst (λ (t : ℤ). HoldsScopes next.info.stream.bytes t) (sym b.latest) goes.holds ∣₁;
       counted = record {
         num_scopes = omega (arith, b.num_scopes, h.counted.num_scopes, num_begun-append w (Open id text at ∷ []), ap num_begun goes.word);
         depth = omega (arith, b.depth, h.counted.depth, deep, most_open-opened w id text at, ap (most_open 0) goes.word);
@@ -187,7 +187,7 @@ ended_in r next at offset h e =
     let nonneg : pos 0 ≤ℤ at = omega (arith, ints) in
     record {
       latest = subst (λ (t : ℤ). pos 0 ≤ℤ t) (sym e.latest) nonneg;
-      scopes = ∣ subst (λ (t : ℤ). Holds next.info.stream.bytes t) (sym e.latest) goes.holds ∣₁;
+      scopes = ∣ subst (λ (t : ℤ). HoldsScopes next.info.stream.bytes t) (sym e.latest) goes.holds ∣₁;
       counted = record {
         num_scopes = omega (arith, e.num_scopes, h.counted.num_scopes, num_begun-append w (Close at ∷ []), ap num_begun goes.word);
         depth = omega (arith, e.depth, h.counted.depth, most_open-closed w at, ap (most_open 0) goes.word);
@@ -202,7 +202,7 @@ ended_in r next at offset h e =
 
 -- all scopes are closed
 
-pub report_in : (r : Inside) → IsRecording r → open_after 0 (events_in r.info.stream.bytes) ≡ 0 → IsReportOf (thread_in r) (recorded r.info)
+pub report_in : (r : Inside) → IsRecording r → open_after 0 (events_in r.info.stream.bytes) ≡ 0 → IsReportOf (thread_in r) (record_of r.info)
 report_in r h none =
     let closed = closed_held r.info.stream.bytes r.latest (holds_in r h) none in
     let f = (scopes_in (events_in r.info.stream.bytes)).1 in

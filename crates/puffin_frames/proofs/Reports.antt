@@ -17,11 +17,11 @@ use Rattle.std.proofs.lemmas.Map.Made.{lookup-map_values}
 use Rattle.puffin_data.specs.declared.error.Error.{Error}
 use Rattle.puffin_data.specs.declared.error.Error.TheVariants.{TooLarge, Memory}
 use Rattle.puffin_data.specs.Forest.{empty}
-use Rattle.puffin_data.specs.Honesty.{Recorded, IsHonest, recorded, joined}
+use Rattle.puffin_data.specs.Honesty.{Recorded, IsHonest, record_of, joined_record}
 use Rattle.puffin_data.specs.declared.data.info.StreamInfo.{StreamInfo}
 use Rattle.puffin_frames.specs.declared.thread_profiler.thread_info.ThreadInfo.{ThreadInfo}
 use Rattle.puffin_frames.specs.Thread.Info.{Info, info_of, info_cmp, thread_cmp, same_info, keyed, by_info}
-use Rattle.puffin_frames.specs.Frame.Contents.{records, unshared, shared_streams, stream_under, reported_to, no_scopes}
+use Rattle.puffin_frames.specs.Frame.Contents.{records, without_sharing, shared_streams, stream_under, reported_to, no_scopes}
 use Rattle.puffin_frames.proofs.lemmas.Infos.{info_cmp_total, info_cmp-one, same_info-one, thread_cmp_total}
 use Rattle.puffin_frames.proofs.lemmas.Keyed.{read-insert, streams_of-insert}
 
@@ -53,7 +53,7 @@ module _ {X : Type 0} where
   insert-same : (m : FinMap info_cmp X) (i : Info) (v : X) → get m i ≡ Some v → insert m i v ≡ m
   insert-same m i v found = same_map info_cmp_total info_cmp-one (insert m i v) m (λ q. get-insert info_cmp_total m i v q ∙ at_test m i q v (same_info q i) refl found)
 
-recorded-none : (fresh : StreamInfo) → IsHonest fresh empty → recorded fresh ≡ no_scopes
+recorded-none : (fresh : StreamInfo) → IsHonest fresh empty → record_of fresh ≡ no_scopes
 recorded-none fresh h = λ i. record {
   bytes = h.stream.whole i;
   num_scopes = h.counts.num_scopes i;
@@ -62,22 +62,22 @@ recorded-none fresh h = λ i. record {
 }
 
 module _ {A : Type 0} where
-  get-shared : (es : List (ThreadInfo × Arc StreamInfo A)) (k : ThreadInfo) → get (shared_streams es) (info_of k) ≡ option_map recorded (option_map arc_value (lookup (is_at (thread_cmp k)) es))
+  get-shared : (es : List (ThreadInfo × Arc StreamInfo A)) (k : ThreadInfo) → get (shared_streams es) (info_of k) ≡ option_map record_of (option_map arc_value (lookup (is_at (thread_cmp k)) es))
   get-shared es k =
-      get-from_entries info_cmp_total (keyed (records (unshared es))) (info_of k)
-      ∙ find-keyed (records (unshared es)) k
-      ∙ lookup-map_values recorded (is_at (thread_cmp k)) (unshared es)
-      ∙ ap (option_map recorded) (lookup-map_values arc_value (is_at (thread_cmp k)) es)
+      get-from_entries info_cmp_total (keyed (records (without_sharing es))) (info_of k)
+      ∙ find-keyed (records (without_sharing es)) k
+      ∙ lookup-map_values record_of (is_at (thread_cmp k)) (without_sharing es)
+      ∙ ap (option_map record_of) (lookup-map_values arc_value (is_at (thread_cmp k)) es)
 
-  shared-insert : (es : List (ThreadInfo × Arc StreamInfo A)) (k : ThreadInfo) (arc : Arc StreamInfo A) → shared_streams (insert_entry thread_cmp es k arc) ≡ insert (shared_streams es) (info_of k) (recorded (arc_value arc))
-  shared-insert es k arc = ap (λ fs. by_info (records fs)) (read-insert arc_value es k arc) ∙ streams_of-insert (unshared es) k (arc_value arc)
+  shared-insert : (es : List (ThreadInfo × Arc StreamInfo A)) (k : ThreadInfo) (arc : Arc StreamInfo A) → shared_streams (insert_entry thread_cmp es k arc) ≡ insert (shared_streams es) (info_of k) (record_of (arc_value arc))
+  shared-insert es k arc = ap (λ fs. by_info (records fs)) (read-insert arc_value es k arc) ∙ streams_of-insert (without_sharing es) k (arc_value arc)
 
   -- what is under a key that is there, and under one that isn't
-  pub under_there : (es : List (ThreadInfo × Arc StreamInfo A)) (k : ThreadInfo) (old : Arc StreamInfo A) → lookup (is_at (thread_cmp k)) es ≡ Some old → stream_under (shared_streams es) (info_of k) ≡ recorded (arc_value old)
-  under_there es k old found = ap (λ o. unwrap_or o no_scopes) (get-shared es k ∙ ap (λ o. option_map recorded (option_map arc_value o)) found)
+  pub under_there : (es : List (ThreadInfo × Arc StreamInfo A)) (k : ThreadInfo) (old : Arc StreamInfo A) → lookup (is_at (thread_cmp k)) es ≡ Some old → stream_under (shared_streams es) (info_of k) ≡ record_of (arc_value old)
+  under_there es k old found = ap (λ o. unwrap_or o no_scopes) (get-shared es k ∙ ap (λ o. option_map record_of (option_map arc_value o)) found)
 
   pub none_under : (es : List (ThreadInfo × Arc StreamInfo A)) (k : ThreadInfo) → lookup (is_at (thread_cmp k)) es ≡ None → (stream_under (shared_streams es) (info_of k)).num_scopes ≡ 0
-  none_under es k none = ap (λ o. (unwrap_or o no_scopes).num_scopes) (get-shared es k ∙ ap (λ o. option_map recorded (option_map arc_value o)) none)
+  none_under es k none = ap (λ o. (unwrap_or o no_scopes).num_scopes) (get-shared es k ∙ ap (λ o. option_map record_of (option_map arc_value o)) none)
 
   -- a write through what was lent for a key
   pub record WritesAt (es : List (ThreadInfo × Arc StreamInfo A)) (k : ThreadInfo) (old w : Arc StreamInfo A) (fs : List (ThreadInfo × Arc StreamInfo A)) : Type 0 where
@@ -85,26 +85,26 @@ module _ {A : Type 0} where
     pub found : lookup (is_at (thread_cmp k)) es ≡ Some old
     pub after : fs ≡ set_value (is_at (thread_cmp k)) es w
 
-  written : (es : List (ThreadInfo × Arc StreamInfo A)) (k : ThreadInfo) (old w : Arc StreamInfo A) (fs : List (ThreadInfo × Arc StreamInfo A)) → WritesAt es k old w fs → shared_streams fs ≡ insert (shared_streams es) (info_of k) (recorded (arc_value w))
+  written : (es : List (ThreadInfo × Arc StreamInfo A)) (k : ThreadInfo) (old w : Arc StreamInfo A) (fs : List (ThreadInfo × Arc StreamInfo A)) → WritesAt es k old w fs → shared_streams fs ≡ insert (shared_streams es) (info_of k) (record_of (arc_value w))
   written es k old w fs h = ap shared_streams (h.after ∙ set_is_insert es k old w h.sorted h.found) ∙ shared-insert es k w
 
-  there : (es : List (ThreadInfo × Arc StreamInfo A)) (k : ThreadInfo) (old w : Arc StreamInfo A) (fs : List (ThreadInfo × Arc StreamInfo A)) → WritesAt es k old w fs → get (shared_streams es) (info_of k) ≡ Some (recorded (arc_value old))
-  there es k old w fs h = get-shared es k ∙ ap (λ o. option_map recorded (option_map arc_value o)) h.found
+  there : (es : List (ThreadInfo × Arc StreamInfo A)) (k : ThreadInfo) (old w : Arc StreamInfo A) (fs : List (ThreadInfo × Arc StreamInfo A)) → WritesAt es k old w fs → get (shared_streams es) (info_of k) ≡ Some (record_of (arc_value old))
+  there es k old w fs h = get-shared es k ∙ ap (λ o. option_map record_of (option_map arc_value o)) h.found
 
-  pub reported_over : (es : List (ThreadInfo × Arc StreamInfo A)) (k : ThreadInfo) (old w : Arc StreamInfo A) (fs : List (ThreadInfo × Arc StreamInfo A)) (r : Recorded) → WritesAt es k old w fs → recorded (arc_value w) ≡ joined (recorded (arc_value old)) r → shared_streams fs ≡ reported_to (shared_streams es) (info_of k) r
+  pub reported_over : (es : List (ThreadInfo × Arc StreamInfo A)) (k : ThreadInfo) (old w : Arc StreamInfo A) (fs : List (ThreadInfo × Arc StreamInfo A)) (r : Recorded) → WritesAt es k old w fs → record_of (arc_value w) ≡ joined_record (record_of (arc_value old)) r → shared_streams fs ≡ reported_to (shared_streams es) (info_of k) r
   reported_over es k old w fs r h more =
-      written es k old w fs h ∙ ap (insert (shared_streams es) (info_of k)) (more ∙ ap (λ o. joined (unwrap_or o no_scopes) r) (sym (there es k old w fs h)))
+      written es k old w fs h ∙ ap (insert (shared_streams es) (info_of k)) (more ∙ ap (λ o. joined_record (unwrap_or o no_scopes) r) (sym (there es k old w fs h)))
 
-  pub refused_over : (es : List (ThreadInfo × Arc StreamInfo A)) (k : ThreadInfo) (old w : Arc StreamInfo A) (fs : List (ThreadInfo × Arc StreamInfo A)) → WritesAt es k old w fs → recorded (arc_value w) ≡ recorded (arc_value old) → shared_streams fs ≡ shared_streams es
+  pub refused_over : (es : List (ThreadInfo × Arc StreamInfo A)) (k : ThreadInfo) (old w : Arc StreamInfo A) (fs : List (ThreadInfo × Arc StreamInfo A)) → WritesAt es k old w fs → record_of (arc_value w) ≡ record_of (arc_value old) → shared_streams fs ≡ shared_streams es
   refused_over es k old w fs h same =
-      written es k old w fs h ∙ ap (insert (shared_streams es) (info_of k)) same ∙ insert-same (shared_streams es) (info_of k) (recorded (arc_value old)) (there es k old w fs h)
+      written es k old w fs h ∙ ap (insert (shared_streams es) (info_of k)) same ∙ insert-same (shared_streams es) (info_of k) (record_of (arc_value old)) (there es k old w fs h)
 
-  pub reported_first : (es : List (ThreadInfo × Arc StreamInfo A)) (k : ThreadInfo) (arc : Arc StreamInfo A) (fs : List (ThreadInfo × Arc StreamInfo A)) (fresh : StreamInfo) (r : Recorded) → lookup (is_at (thread_cmp k)) es ≡ None → fs ≡ insert_entry thread_cmp es k arc → IsHonest fresh empty → recorded (arc_value arc) ≡ joined (recorded fresh) r
+  pub reported_first : (es : List (ThreadInfo × Arc StreamInfo A)) (k : ThreadInfo) (arc : Arc StreamInfo A) (fs : List (ThreadInfo × Arc StreamInfo A)) (fresh : StreamInfo) (r : Recorded) → lookup (is_at (thread_cmp k)) es ≡ None → fs ≡ insert_entry thread_cmp es k arc → IsHonest fresh empty → record_of (arc_value arc) ≡ joined_record (record_of fresh) r
       → shared_streams fs ≡ reported_to (shared_streams es) (info_of k) r
   reported_first es k arc fs fresh r none after honest more =
-      let absent = get-shared es k ∙ ap (λ o. option_map recorded (option_map arc_value o)) none in
+      let absent = get-shared es k ∙ ap (λ o. option_map record_of (option_map arc_value o)) none in
       ap shared_streams after ∙ shared-insert es k arc
-      ∙ ap (insert (shared_streams es) (info_of k)) (more ∙ ap (λ n. joined n r) (recorded-none fresh honest) ∙ ap (λ o. joined (unwrap_or o no_scopes) r) (sym absent))
+      ∙ ap (insert (shared_streams es) (info_of k)) (more ∙ ap (λ n. joined_record n r) (recorded-none fresh honest) ∙ ap (λ o. joined_record (unwrap_or o no_scopes) r) (sym absent))
 
 -- ---- when a report is too large
 module _ {A : Type 0} where

@@ -13,7 +13,7 @@ use Rattle.std.specs.declared.sync.Arc.{Arc}
 use Rattle.std.proofs.lemmas.Map.Keys.{sorted_head, sorted_tail}
 use Rattle.puffin_data.specs.declared.data.info.StreamInfo.{StreamInfo}
 use Rattle.puffin_frames.specs.declared.thread_profiler.thread_info.ThreadInfo.{ThreadInfo}
-use Rattle.puffin_frames.specs.Frame.Contents.{unshared}
+use Rattle.puffin_frames.specs.Frame.Contents.{without_sharing}
 use Rattle.puffin_frames.specs.Thread.Info.{thread_cmp}
 use Rattle.puffin_frames.proofs.lemmas.Infos.{thread_cmp_total}
 
@@ -29,25 +29,25 @@ insert_last {cmp = cmp} total (e ∷ es) k v rest sorted =
     let above : cmp k e.0 ≡ Greater = total.antisymm k e.0 ∙ ap ordering_reverse below in
     ap (λ r. match_ordering r ((k, v) ∷ e ∷ es) ((e.0, v) ∷ es) (e ∷ insert_entry cmp es k v)) above ∙ ap (λ l. e ∷ l) (insert_last total es k v rest (sorted_tail cmp e.0 _ sorted))
 
-keys_of-unshared : {A : Type 0} (es : List (ThreadInfo × Arc StreamInfo A)) (k : ThreadInfo) (info : StreamInfo) (rest : List (ThreadInfo × StreamInfo)) → keys_of (unshared es ++ (k, info) ∷ rest) ≡ keys_of es ++ k ∷ keys_of rest
+keys_of-unshared : {A : Type 0} (es : List (ThreadInfo × Arc StreamInfo A)) (k : ThreadInfo) (info : StreamInfo) (rest : List (ThreadInfo × StreamInfo)) → keys_of (without_sharing es ++ (k, info) ∷ rest) ≡ keys_of es ++ k ∷ keys_of rest
 keys_of-unshared [] k info rest = refl
 keys_of-unshared (e ∷ es) k info rest = ap (λ l. e.0 ∷ l) (keys_of-unshared es k info rest)
 
-unshared-last : {A : Type 0} (es : List (ThreadInfo × Arc StreamInfo A)) (k : ThreadInfo) (arc : Arc StreamInfo A) (rest : List (ThreadInfo × StreamInfo)) → unshared (es ++ (k, arc) ∷ []) ++ rest ≡ unshared es ++ (k, arc_value arc) ∷ rest
+unshared-last : {A : Type 0} (es : List (ThreadInfo × Arc StreamInfo A)) (k : ThreadInfo) (arc : Arc StreamInfo A) (rest : List (ThreadInfo × StreamInfo)) → without_sharing (es ++ (k, arc) ∷ []) ++ rest ≡ without_sharing es ++ (k, arc_value arc) ∷ rest
 unshared-last [] k arc rest = refl
 unshared-last (e ∷ es) k arc rest = ap (λ l. (e.0, arc_value e.1) ∷ l) (unshared-last es k arc rest)
 
 -- what is shared so far, with what is left, is what there was, in order
 pub record SharesInOrder {A : Type 0} (es : List (ThreadInfo × Arc StreamInfo A)) (rest all : List (ThreadInfo × StreamInfo)) : Type 0 where
-  pub whole : unshared es ++ rest ≡ all
+  pub whole : without_sharing es ++ rest ≡ all
   pub sorted : IsStrictlySortedBy thread_cmp (keys_of all)
 
 pub one_more : {A : Type 0} (es fs : List (ThreadInfo × Arc StreamInfo A)) (k : ThreadInfo) (info : StreamInfo) (arc : Arc StreamInfo A) (left rest all : List (ThreadInfo × StreamInfo)) → SharesInOrder es left all → left ≡ (k, info) ∷ rest → arc_value arc ≡ info → fs ≡ insert_entry thread_cmp es k arc → SharesInOrder fs rest all
 one_more es fs k info arc left rest all h next same put =
-    let whole : unshared es ++ (k, info) ∷ rest ≡ all = ap (λ l. unshared es ++ l) (sym next) ∙ h.whole in
+    let whole : without_sharing es ++ (k, info) ∷ rest ≡ all = ap (λ l. without_sharing es ++ l) (sym next) ∙ h.whole in
     let sorted = subst (λ (ks : List ThreadInfo). IsStrictlySortedBy thread_cmp ks) (ap keys_of (sym whole) ∙ keys_of-unshared es k info rest) h.sorted in
     let last = insert_last thread_cmp_total es k arc (keys_of rest) sorted in
     record {
-      whole = ap (λ l. unshared l ++ rest) (put ∙ last) ∙ unshared-last es k arc rest ∙ ap (λ x. unshared es ++ (k, x) ∷ rest) same ∙ whole;
+      whole = ap (λ l. without_sharing l ++ rest) (put ∙ last) ∙ unshared-last es k arc rest ∙ ap (λ x. without_sharing es ++ (k, x) ∷ rest) same ∙ whole;
       sorted = h.sorted;
     }

@@ -6,7 +6,7 @@ use Rattle.puffin_data.specs.Value.Layout.{number}
 use Rattle.puffin_data.proofs.lemmas.Readers.{IsReader, pair_reader, form_reader, checked_reader, optional_reader, items_reader}
 use Rattle.puffin_data.proofs.lemmas.ValueReaders.{number_reader, word_reader, signed_reader, bytes_reader, text_reader}
 use Rattle.puffin_frames.specs.Thread.Info.{info_cmp}
-use Rattle.puffin_frames.specs.Packet.Structs.{meta_layout, IsMeta, made_meta, meta_at, thread_layout, IsThread, made_thread, thread_at, recorded_layout, IsRecorded, made_recorded, recorded_at, streams_layout, AreStreams, streams_at, IsId, id_at, detail_layout, IsDetail, made_detail, detail_at, details_layout, AreDetails, details_at, legacy_layout, IsLegacy, made_legacy, legacy_at}
+use Rattle.puffin_frames.specs.Packet.Structs.{meta_layout, IsMeta, made_meta, meta_at, info_layout, IsInfo, made_info, info_at, recorded_layout, IsRecorded, made_recorded, recorded_at, streams_layout, AreStreams, streams_at, IsId, id_at, detail_layout, IsDetail, made_detail, detail_at, details_layout, AreDetails, details_at, legacy_layout, IsLegacy, made_legacy, legacy_at}
 
 pub meta_reader : IsReader IsMeta meta_layout meta_at
 unfolding meta_at
@@ -14,11 +14,11 @@ meta_reader =
     let p = pair_reader _ _ _ _ _ _ number_reader (pair_reader _ _ _ _ _ _ signed_reader (pair_reader _ _ _ _ _ _ signed_reader (pair_reader _ _ _ _ _ _ number_reader number_reader))) in
     form_reader _ _ _ made_meta (λ m. (m.frame_index, (m.range_ns.0, (m.range_ns.1, (m.num_bytes, m.num_scopes))))) (λ _. refl) (λ _. refl) p
 
-pub thread_reader : IsReader IsThread thread_layout thread_at
-unfolding thread_at
+pub thread_reader : IsReader IsInfo info_layout info_at
+unfolding info_at
 thread_reader =
     let p = pair_reader _ _ _ _ _ _ (optional_reader _ _ _ signed_reader) text_reader in
-    form_reader _ _ _ made_thread (λ t. (t.start, t.name)) (λ _. refl) (λ _. refl) p
+    form_reader _ _ _ made_info (λ t. (t.start, t.name)) (λ _. refl) (λ _. refl) p
 
 pub recorded_reader : IsReader IsRecorded recorded_layout recorded_at
 unfolding recorded_at

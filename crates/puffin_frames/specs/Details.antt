@@ -1,6 +1,6 @@
 -- What contracts see of scope details, and their order.
 pub mod Collection
-pub mod Type
+pub mod Kind
 use Rattle.std.specs.Prelude.{ℕ, Bool, List, Option, Some, None, ◌++◌, ◌∷◌, [], map, refl, is_some, is_none, IsSome, All, decimal, if◌then◌else◌, ◌==◌}
 use Rattle.std.specs.declared.cmp.Ordering.{Ordering}
 use Rattle.std.specs.declared.sync.Arc.{Arc}

@@ -16,26 +16,33 @@ ghost use Rattle.puffin_frames.specs.declared.thread_profiler.thread_info.Thread
 ghost use Rattle.puffin_frames.specs.Thread.Info.{Info, info_of, info_cmp, same_info, thread_cmp, keyed};
 ghost use Rattle.puffin_frames.specs.Frame.Contents.{Streams, streams_of, records, all_recorded, stream_under, reported_to, AreHonest};
 ghost use Rattle.puffin_data.specs.Forest.{Forest};
-ghost use Rattle.puffin_data.specs.Honesty.{Recorded, recorded, IsHonestRecord};
-ghost use Rattle.puffin_frames.specs.Frame.Sums.{total_bytes, total_scopes, least_start, greatest_stop, joined_range, IsOrdered};
+ghost use Rattle.puffin_data.specs.Honesty.{Recorded, record_of, IsHonestRecord};
+ghost use Rattle.puffin_frames.specs.Frame.Sums.{total_bytes, total_scopes, joined_start, joined_stop, joined_range, IsOrdered};
 
 use crate::thread_profiler::ThreadInfo;
 use std::hash::Hash;
 
 /// How threads are compared: by their infos alone. Equality, order and hash agree.
 pub fn threads_by_info()
-    ensures order { (a b : ThreadInfo) → ⟦<ThreadInfo as Ord>⟧.cmp a b ≡ info_cmp (info_of a) (info_of b) }
-    ensures partial_order { (a b : ThreadInfo) → ⟦<ThreadInfo as PartialOrd>⟧.partial_cmp a b ≡ Some (info_cmp (info_of a) (info_of b)) }
-    ensures equality { (a b : ThreadInfo) → ⟦<ThreadInfo as PartialEq>⟧.eq a b ≡ same_info (info_of a) (info_of b) }
-    ensures hash { (a b : ThreadInfo) → info_of a ≡ info_of b → ⟦<ThreadInfo as Hash>⟧.hash_input a ≡ ⟦<ThreadInfo as Hash>⟧.hash_input b }
+    ensures order { (a b : ThreadInfo) →
+        ⟦<ThreadInfo as Ord>⟧.cmp a b ≡ info_cmp (info_of a) (info_of b) }
+    ensures partial_order { (a b : ThreadInfo) →
+        ⟦<ThreadInfo as PartialOrd>⟧.partial_cmp a b ≡ Some (info_cmp (info_of a) (info_of b)) }
+    ensures equality { (a b : ThreadInfo) →
+        ⟦<ThreadInfo as PartialEq>⟧.eq a b ≡ same_info (info_of a) (info_of b) }
+    ensures hash { (a b : ThreadInfo) → info_of a ≡ info_of b →
+        ⟦<ThreadInfo as Hash>⟧.hash_input a ≡ ⟦<ThreadInfo as Hash>⟧.hash_input b }
 {}
 
 /// The order of infos: those without a start first, then by the start, and then by the name's bytes. It is total, and
 /// only equal infos tie.
 pub fn order_of_infos()
-    ensures none_first { (a b : Info) → a.start ≡ None → (t : ℤ) → b.start ≡ Some t → info_cmp a b ≡ Less }
-    ensures earlier_first { (a b : Info) (t u : ℤ) → a.start ≡ Some t → b.start ≡ Some u → t <ℤ u → info_cmp a b ≡ Less }
-    ensures then_by_name { (a b : Info) → a.start ≡ b.start → info_cmp a b ≡ slice_cmp nat_cmp a.name b.name }
+    ensures none_first { (a b : Info) → a.start ≡ None → (t : ℤ) → b.start ≡ Some t →
+        info_cmp a b ≡ Less }
+    ensures earlier_first { (a b : Info) (t u : ℤ) → a.start ≡ Some t → b.start ≡ Some u → t <ℤ u →
+        info_cmp a b ≡ Less }
+    ensures then_by_name { (a b : Info) → a.start ≡ b.start →
+        info_cmp a b ≡ slice_cmp nat_cmp a.name b.name }
     ensures total { IsTotalOrder info_cmp }
     ensures one { map.IsAntisymmetric info_cmp }
     ensures same { (a b : Info) → IsTrue (same_info a b) → a ≡ b }
@@ -43,38 +50,60 @@ pub fn order_of_infos()
 
 /// Entries in their order are the entries of the map by infos, and an insertion among them is one into that map.
 pub fn streams_by_info()
-    ensures entries { (entries : List (ThreadInfo × StreamInfo)) → IsStrictlySortedBy thread_cmp (keys_of entries) → map.entries (streams_of entries) ≡ keyed (records entries) }
-    ensures values { (streams : BTreeMap ThreadInfo StreamInfo) → IsStrictlySortedBy thread_cmp (keys_of streams.entries) → map.values (streams_of streams.entries) ≡ all_recorded streams }
-    ensures inserted { (entries : List (ThreadInfo × StreamInfo)) (thread : ThreadInfo) (info : StreamInfo)
-        → streams_of (insert_entry thread_cmp entries thread info) ≡ map.insert (streams_of entries) (info_of thread) (recorded info) }
+    ensures entries { (entries : List (ThreadInfo × StreamInfo)) →
+        IsStrictlySortedBy thread_cmp (keys_of entries) →
+        map.entries (streams_of entries) ≡ keyed (records entries) }
+    ensures values { (streams : BTreeMap ThreadInfo StreamInfo) →
+        IsStrictlySortedBy thread_cmp (keys_of streams.entries) →
+        map.values (streams_of streams.entries) ≡ all_recorded streams }
+    ensures inserted { (entries : List (ThreadInfo × StreamInfo)) (thread : ThreadInfo) (
+        info : StreamInfo) →
+        streams_of (insert_entry thread_cmp entries thread info)
+        ≡ map.insert (streams_of entries) (info_of thread) (record_of info) }
 {}
 
 /// The joined range of one info more, and of infos one after the other.
 pub fn joined_ranges()
-    ensures start_of_one_more { (info : Recorded) (infos : List Recorded) → least_start (info ∷ infos) ≡ int_min info.range_ns.0 (least_start infos) }
-    ensures stop_of_one_more { (info : Recorded) (infos : List Recorded) → greatest_stop (info ∷ infos) ≡ int_max info.range_ns.1 (greatest_stop infos) }
-    ensures start { (xs ys : List Recorded) → least_start (xs ++ ys) ≡ int_min (least_start xs) (least_start ys) }
-    ensures stop { (xs ys : List Recorded) → greatest_stop (xs ++ ys) ≡ int_max (greatest_stop xs) (greatest_stop ys) }
+    ensures start_of_one_more { (info : Recorded) (infos : List Recorded) →
+        joined_start (info ∷ infos) ≡ int_min info.range_ns.0 (joined_start infos) }
+    ensures stop_of_one_more { (info : Recorded) (infos : List Recorded) →
+        joined_stop (info ∷ infos) ≡ int_max info.range_ns.1 (joined_stop infos) }
+    ensures start { (xs ys : List Recorded) →
+        joined_start (xs ++ ys) ≡ int_min (joined_start xs) (joined_start ys) }
+    ensures stop { (xs ys : List Recorded) →
+        joined_stop (xs ++ ys) ≡ int_max (joined_stop xs) (joined_stop ys) }
 {}
 
 /// What a report does to what is said of all streams together.
 pub fn reported_streams()
-    ensures bytes { (streams : Streams) (i : Info) (r : Recorded) → total_bytes (map.values (reported_to streams i r)) ≡ total_bytes (map.values streams) + length r.bytes }
-    ensures scopes { (streams : Streams) (i : Info) (r : Recorded) → total_scopes (map.values (reported_to streams i r)) ≡ total_scopes (map.values streams) + r.num_scopes }
-    ensures start { (streams : Streams) (i : Info) (r : Recorded) → least_start (map.values (reported_to streams i r)) ≡ int_min (least_start (map.values streams)) r.range_ns.0 }
-    ensures stop { (streams : Streams) (i : Info) (r : Recorded) → greatest_stop (map.values (reported_to streams i r)) ≡ int_max (greatest_stop (map.values streams)) r.range_ns.1 }
+    ensures bytes { (streams : Streams) (i : Info) (r : Recorded) →
+        total_bytes (map.values (reported_to streams i r))
+        ≡ total_bytes (map.values streams) + length r.bytes }
+    ensures scopes { (streams : Streams) (i : Info) (r : Recorded) →
+        total_scopes (map.values (reported_to streams i r))
+        ≡ total_scopes (map.values streams) + r.num_scopes }
+    ensures start { (streams : Streams) (i : Info) (r : Recorded) →
+        joined_start (map.values (reported_to streams i r))
+        ≡ int_min (joined_start (map.values streams)) r.range_ns.0 }
+    ensures stop { (streams : Streams) (i : Info) (r : Recorded) →
+        joined_stop (map.values (reported_to streams i r))
+        ≡ int_max (joined_stop (map.values streams)) r.range_ns.1 }
     ensures none { map.values {X = Recorded} {R = info_cmp} map.empty ≡ [] }
     // The scopes under one info are among all.
-    ensures under_one { (streams : Streams) (i : Info) → (stream_under streams i).num_scopes ≤ total_scopes (map.values streams) }
+    ensures under_one { (streams : Streams) (i : Info) →
+        (stream_under streams i).num_scopes ≤ total_scopes (map.values streams) }
 {}
 
 /// What a report does to honest streams. Where there is a scope among them, their joined range isn't reversed, and where
 /// there is none, no stream has one.
 pub fn honest_streams()
     ensures none { AreHonest map.empty }
-    ensures report { (streams : Streams) (i : Info) (r : Recorded) (f : Forest) → AreHonest streams → IsHonestRecord r f → AreHonest (reported_to streams i r) }
-    ensures ordered { (streams : Streams) → AreHonest streams → 0 < total_scopes (map.values streams) → IsOrdered (joined_range (map.values streams)) }
-    ensures no_scopes { (streams : Streams) (i : Info) (r : Recorded) → total_scopes (map.values streams) ≡ 0 → map.get streams i ≡ Some r → r.num_scopes ≡ 0 }
+    ensures report { (streams : Streams) (i : Info) (r : Recorded) (f : Forest) →
+        AreHonest streams → IsHonestRecord r f → AreHonest (reported_to streams i r) }
+    ensures ordered { (streams : Streams) → AreHonest streams →
+        0 < total_scopes (map.values streams) → IsOrdered (joined_range (map.values streams)) }
+    ensures no_scopes { (streams : Streams) (i : Info) (r : Recorded) →
+        total_scopes (map.values streams) ≡ 0 → map.get streams i ≡ Some r → r.num_scopes ≡ 0 }
 {
     puffin_data::laws::joined_infos();
     puffin_data::laws::range_of_a_forest();

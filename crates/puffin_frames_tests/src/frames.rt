@@ -1,7 +1,7 @@
-use puffin_frames::frame_data::{FrameData, ThreadStreams, UnpackedFrameData, report_to};
-use puffin_frames::thread_profiler::ThreadInfo;
 use puffin_data::data::{Stream, StreamInfo};
 use puffin_data::{Error, NanoSecond};
+use puffin_frames::frame_data::{FrameData, ThreadStreams, UnpackedFrameData, report_to};
+use puffin_frames::thread_profiler::ThreadInfo;
 use std::alloc::Global;
 use std::collections::BTreeMap;
 use std::test::Fail;

@@ -1,8 +1,8 @@
+use puffin_data::FileError;
+use puffin_data::data::{Counted, ScopeId, Stream, StreamInfo};
 use puffin_frames::frame_data::{FrameData, UnpackedFrameData};
 use puffin_frames::scope_details::{ScopeCollection, ScopeDetails};
 use puffin_frames::thread_profiler::ThreadInfo;
-use puffin_data::FileError;
-use puffin_data::data::{Counted, ScopeId, Stream, StreamInfo};
 use std::alloc::Global;
 use std::borrow::CowStr;
 use std::collections::BTreeMap;

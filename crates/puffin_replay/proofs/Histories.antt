@@ -11,7 +11,7 @@ use Rattle.puffin_data.specs.Text.{cut_text}
 use Rattle.puffin_data.specs.Forest.Tour.{Event, Open, Close}
 use Rattle.puffin_frames.specs.Thread.Info.{Info, same_info}
 use Rattle.puffin_replay.specs.Session.History.{Opening, begun, ended, Call, Action, since_last, thread_at, call_of, calls_of, greatest, latest_of}
-use Rattle.puffin_replay.specs.Session.Deliveries.{Marked, marked_at, marked, first_open, word_of, unreported, first_start_of, Delivery, under, taken, handed_at, handed_after}
+use Rattle.puffin_replay.specs.Session.Deliveries.{Marked, marked_call, marked_calls, first_open, word_of, unreported, first_start_of, Delivery, under, all_taken, deliveries_at, deliveries_after}
 use Rattle.puffin_replay.specs.Session.Due.{is_taken, due, is_under, events_under, total_under}
 
 -- ---- the part since the last that passes
@@ -52,11 +52,11 @@ pub greatest-more : (latest : ℤ) (cs : List Call) (c : Call) → greatest late
 greatest-more latest [] c = refl
 greatest-more latest (d ∷ cs) c = greatest-more (int_max latest d.at) cs c
 
-pub marked-more : (latest : ℤ) (past cs : List Call) (c : Call) → marked latest past (cs ++ (c ∷ [])) ≡ marked latest past cs ++ (marked_at (int_max (greatest latest (past ++ cs)) c.at) c.mark ∷ [])
-marked-more latest past [] c = ap (λ time. marked_at time c.mark ∷ []) (greatest-more latest past c ∙ ap (λ cs. int_max (greatest latest cs) c.at) (sym (append-nil past)))
+pub marked-more : (latest : ℤ) (past cs : List Call) (c : Call) → marked_calls latest past (cs ++ (c ∷ [])) ≡ marked_calls latest past cs ++ (marked_call (int_max (greatest latest (past ++ cs)) c.at) c.mark ∷ [])
+marked-more latest past [] c = ap (λ time. marked_call time c.mark ∷ []) (greatest-more latest past c ∙ ap (λ cs. int_max (greatest latest cs) c.at) (sym (append-nil past)))
 marked-more latest past (d ∷ cs) c =
-    ap (λ ms. marked_at (greatest latest (past ++ (d ∷ []))) d.mark ∷ ms)
-    (marked-more latest (past ++ (d ∷ [])) cs c ∙ ap (λ ds. marked latest (past ++ (d ∷ [])) cs ++ (marked_at (int_max (greatest latest ds) c.at) c.mark ∷ [])) (append_assoc past (d ∷ []) cs))
+    ap (λ ms. marked_call (greatest latest (past ++ (d ∷ []))) d.mark ∷ ms)
+    (marked-more latest (past ++ (d ∷ [])) cs c ∙ ap (λ ds. marked_calls latest (past ++ (d ∷ [])) cs ++ (marked_call (int_max (greatest latest ds) c.at) c.mark ∷ [])) (append_assoc past (d ∷ []) cs))
 
 pub first_open-append : (ms ns : List Marked) → first_open (ms ++ ns) ≡ option_or (first_open ms) (first_open ns)
 first_open-append [] ns = refl
@@ -102,16 +102,16 @@ module _ (o : Opening) (t : ℕ) (done : List Action) (a : Action) where
   pub latest_of-more : (c : Call) → call_of t a ≡ Some c → latest_of o t (done ++ (a ∷ [])) ≡ int_max (latest_of o t done) c.at
   latest_of-more c e = rw (calls_of-more c e) (greatest-more (thread_at o t).latest (calls_of t done) c)
 
-  pub word_of-more : (c : Call) → call_of t a ≡ Some c → word_of o t (done ++ (a ∷ [])) ≡ word_of o t done ++ (marked_at (int_max (latest_of o t done) c.at) c.mark ∷ [])
+  pub word_of-more : (c : Call) → call_of t a ≡ Some c → word_of o t (done ++ (a ∷ [])) ≡ word_of o t done ++ (marked_call (int_max (latest_of o t done) c.at) c.mark ∷ [])
   word_of-more c e = rw (calls_of-more c e, marked-more (thread_at o t).latest [] (calls_of t done) c)
-      (sym (append_assoc (map (λ e. record { event = e; reported = false }) (thread_at o t).word) (marked (thread_at o t).latest [] (calls_of t done)) (marked_at (int_max (latest_of o t done) c.at) c.mark ∷ [])))
+      (sym (append_assoc (map (λ e. record { event = e; reported = false }) (thread_at o t).word) (marked_calls (thread_at o t).latest [] (calls_of t done)) (marked_call (int_max (latest_of o t done) c.at) c.mark ∷ [])))
 
-  unreported_kept : (c : Call) → call_of t a ≡ Some c → (marked_at (int_max (latest_of o t done) c.at) c.mark).reported ≡ false →
-      unreported o t (done ++ (a ∷ [])) ≡ unreported o t done ++ ((marked_at (int_max (latest_of o t done) c.at) c.mark).event ∷ [])
+  unreported_kept : (c : Call) → call_of t a ≡ Some c → (marked_call (int_max (latest_of o t done) c.at) c.mark).reported ≡ false →
+      unreported o t (done ++ (a ∷ [])) ≡ unreported o t done ++ ((marked_call (int_max (latest_of o t done) c.at) c.mark).event ∷ [])
   unreported_kept c e goes_on =
       ap (λ w. map (λ m. m.event) (since_last (λ m. m.reported) w)) (word_of-more c e)
-      ∙ ap (map (λ m. m.event)) (since_last-no (λ m. m.reported) (word_of o t done) (marked_at (int_max (latest_of o t done) c.at) c.mark) goes_on)
-      ∙ map-append (λ m. m.event) (since_last (λ m. m.reported) (word_of o t done)) (marked_at (int_max (latest_of o t done) c.at) c.mark ∷ [])
+      ∙ ap (map (λ m. m.event)) (since_last-no (λ m. m.reported) (word_of o t done) (marked_call (int_max (latest_of o t done) c.at) c.mark) goes_on)
+      ∙ map-append (λ m. m.event) (since_last (λ m. m.reported) (word_of o t done)) (marked_call (int_max (latest_of o t done) c.at) c.mark ∷ [])
 
   pub unreported-begun : (at : ℤ) (id : ℕ) (text : List ℕ) → call_of t a ≡ Some (record { at = at; mark = begun id text }) →
       unreported o t (done ++ (a ∷ [])) ≡ unreported o t done ++ (Open id (cut_text text) (int_max (latest_of o t done) at) ∷ [])
@@ -125,45 +125,45 @@ module _ (o : Opening) (t : ℕ) (done : List Action) (a : Action) where
   unreported-reported at e =
       let c : Call = record { at = at; mark = ended true } in
       ap (λ w. map (λ m. m.event) (since_last (λ m. m.reported) w)) (word_of-more c e)
-      ∙ ap (map (λ m. m.event)) (since_last-yes (λ m. m.reported) (word_of o t done) (marked_at (int_max (latest_of o t done) at) (ended true)) refl)
+      ∙ ap (map (λ m. m.event)) (since_last-yes (λ m. m.reported) (word_of o t done) (marked_call (int_max (latest_of o t done) at) (ended true)) refl)
 
   first_start_more : (c : Call) → call_of t a ≡ Some c →
-      first_start_of o t (done ++ (a ∷ [])) ≡ option_or (thread_at o t).first_start (option_or (first_open (marked (thread_at o t).latest [] (calls_of t done))) (first_open (marked_at (int_max (latest_of o t done) c.at) c.mark ∷ [])))
+      first_start_of o t (done ++ (a ∷ [])) ≡ option_or (thread_at o t).first_start (option_or (first_open (marked_calls (thread_at o t).latest [] (calls_of t done))) (first_open (marked_call (int_max (latest_of o t done) c.at) c.mark ∷ [])))
   first_start_more c e =
-      ap (λ cs. option_or (thread_at o t).first_start (first_open (marked (thread_at o t).latest [] cs))) (calls_of-more c e)
+      ap (λ cs. option_or (thread_at o t).first_start (first_open (marked_calls (thread_at o t).latest [] cs))) (calls_of-more c e)
       ∙ ap (λ ms. option_or (thread_at o t).first_start (first_open ms)) (marked-more (thread_at o t).latest [] (calls_of t done) c)
-      ∙ ap (option_or (thread_at o t).first_start) (first_open-append (marked (thread_at o t).latest [] (calls_of t done)) (marked_at (int_max (latest_of o t done) c.at) c.mark ∷ []))
+      ∙ ap (option_or (thread_at o t).first_start) (first_open-append (marked_calls (thread_at o t).latest [] (calls_of t done)) (marked_call (int_max (latest_of o t done) c.at) c.mark ∷ []))
 
   pub first_start_of-begun : (at : ℤ) (id : ℕ) (text : List ℕ) → call_of t a ≡ Some (record { at = at; mark = begun id text }) →
       first_start_of o t (done ++ (a ∷ [])) ≡ option_or (first_start_of o t done) (Some (int_max (latest_of o t done) at))
-  first_start_of-begun at id text e = first_start_more (record { at = at; mark = begun id text }) e ∙ option_or-assoc (thread_at o t).first_start (first_open (marked (thread_at o t).latest [] (calls_of t done))) (Some (int_max (latest_of o t done) at))
+  first_start_of-begun at id text e = first_start_more (record { at = at; mark = begun id text }) e ∙ option_or-assoc (thread_at o t).first_start (first_open (marked_calls (thread_at o t).latest [] (calls_of t done))) (Some (int_max (latest_of o t done) at))
 
   pub first_start_of-ended : (at : ℤ) (reported : Bool) → call_of t a ≡ Some (record { at = at; mark = ended reported }) →
       first_start_of o t (done ++ (a ∷ [])) ≡ first_start_of o t done
-  first_start_of-ended at reported e = first_start_more (record { at = at; mark = ended reported }) e ∙ ap (option_or (thread_at o t).first_start) (option_or-none (first_open (marked (thread_at o t).latest [] (calls_of t done))))
+  first_start_of-ended at reported e = first_start_more (record { at = at; mark = ended reported }) e ∙ ap (option_or (thread_at o t).first_start) (option_or-none (first_open (marked_calls (thread_at o t).latest [] (calls_of t done))))
 
 -- ---- what is due after one more action
 
-pub handed_after-more : (o : Opening) (past later : List Action) (a : Action) → handed_after o past (later ++ (a ∷ [])) ≡ handed_after o past later ++ handed_at o (past ++ later) a
-handed_after-more o past [] a = append-nil (handed_at o past a) ∙ ap (λ d. handed_at o d a) (sym (append-nil past))
+pub handed_after-more : (o : Opening) (past later : List Action) (a : Action) → deliveries_after o past (later ++ (a ∷ [])) ≡ deliveries_after o past later ++ deliveries_at o (past ++ later) a
+handed_after-more o past [] a = append-nil (deliveries_at o past a) ∙ ap (λ d. deliveries_at o d a) (sym (append-nil past))
 handed_after-more o past (b ∷ later) a =
-    ap (λ ds. handed_at o past b ++ ds) (handed_after-more o (past ++ (b ∷ [])) later a ∙ ap (λ d. handed_after o (past ++ (b ∷ [])) later ++ handed_at o d a) (append_assoc past (b ∷ []) later))
-    ∙ sym (append_assoc (handed_at o past b) (handed_after o (past ++ (b ∷ [])) later) (handed_at o (past ++ (b ∷ later)) a))
+    ap (λ ds. deliveries_at o past b ++ ds) (handed_after-more o (past ++ (b ∷ [])) later a ∙ ap (λ d. deliveries_after o (past ++ (b ∷ [])) later ++ deliveries_at o d a) (append_assoc past (b ∷ []) later))
+    ∙ sym (append_assoc (deliveries_at o past b) (deliveries_after o (past ++ (b ∷ [])) later) (deliveries_at o (past ++ (b ∷ later)) a))
 
 module _ (o : Opening) (done : List Action) (a : Action) where
-  all_more : map (λ d. under d.0 d.1) o.due ++ handed_after o [] (done ++ (a ∷ [])) ≡ (map (λ d. under d.0 d.1) o.due ++ handed_after o [] done) ++ handed_at o done a
-  all_more = ap (λ ds. map (λ d. under d.0 d.1) o.due ++ ds) (handed_after-more o [] done a) ∙ sym (append_assoc (map (λ d. under d.0 d.1) o.due) (handed_after o [] done) (handed_at o done a))
+  all_more : map (λ d. under d.0 d.1) o.due ++ deliveries_after o [] (done ++ (a ∷ [])) ≡ (map (λ d. under d.0 d.1) o.due ++ deliveries_after o [] done) ++ deliveries_at o done a
+  all_more = ap (λ ds. map (λ d. under d.0 d.1) o.due ++ ds) (handed_after-more o [] done a) ∙ sym (append_assoc (map (λ d. under d.0 d.1) o.due) (deliveries_after o [] done) (deliveries_at o done a))
 
-  pub due-same : handed_at o done a ≡ [] → due o (done ++ (a ∷ [])) ≡ due o done
-  due-same e = ap (since_last is_taken) (all_more ∙ ap (λ d. (map (λ d. under d.0 d.1) o.due ++ handed_after o [] done) ++ d) e ∙ append-nil (map (λ d. under d.0 d.1) o.due ++ handed_after o [] done))
+  pub due-same : deliveries_at o done a ≡ [] → due o (done ++ (a ∷ [])) ≡ due o done
+  due-same e = ap (since_last is_taken) (all_more ∙ ap (λ d. (map (λ d. under d.0 d.1) o.due ++ deliveries_after o [] done) ++ d) e ∙ append-nil (map (λ d. under d.0 d.1) o.due ++ deliveries_after o [] done))
 
-  pub due-more : (i : Info) (word : List Event) → handed_at o done a ≡ under i word ∷ [] → due o (done ++ (a ∷ [])) ≡ due o done ++ (under i word ∷ [])
-  due-more i word e = ap (since_last is_taken) (all_more ∙ ap (λ d. (map (λ d. under d.0 d.1) o.due ++ handed_after o [] done) ++ d) e)
-      ∙ since_last-no is_taken (map (λ d. under d.0 d.1) o.due ++ handed_after o [] done) (under i word) refl
+  pub due-more : (i : Info) (word : List Event) → deliveries_at o done a ≡ under i word ∷ [] → due o (done ++ (a ∷ [])) ≡ due o done ++ (under i word ∷ [])
+  due-more i word e = ap (since_last is_taken) (all_more ∙ ap (λ d. (map (λ d. under d.0 d.1) o.due ++ deliveries_after o [] done) ++ d) e)
+      ∙ since_last-no is_taken (map (λ d. under d.0 d.1) o.due ++ deliveries_after o [] done) (under i word) refl
 
-  pub due-anew : handed_at o done a ≡ taken ∷ [] → due o (done ++ (a ∷ [])) ≡ []
-  due-anew e = ap (since_last is_taken) (all_more ∙ ap (λ d. (map (λ d. under d.0 d.1) o.due ++ handed_after o [] done) ++ d) e)
-      ∙ since_last-yes is_taken (map (λ d. under d.0 d.1) o.due ++ handed_after o [] done) taken refl
+  pub due-anew : deliveries_at o done a ≡ all_taken ∷ [] → due o (done ++ (a ∷ [])) ≡ []
+  due-anew e = ap (since_last is_taken) (all_more ∙ ap (λ d. (map (λ d. under d.0 d.1) o.due ++ deliveries_after o [] done) ++ d) e)
+      ∙ since_last-yes is_taken (map (λ d. under d.0 d.1) o.due ++ deliveries_after o [] done) all_taken refl
 
 -- ---- what is delivered under an info, after one more handed_at
 
@@ -173,7 +173,7 @@ not_under false c h = (refl, h)
 
 pub none_under : (j : Info) (ds : List Delivery) → list_any (is_under j) ds ≡ false → flat_map (events_under j) ds ≡ []
 none_under j [] e = refl
-none_under j (taken ∷ ds) e = none_under j ds e
+none_under j (all_taken ∷ ds) e = none_under j ds e
 none_under j (under i word ∷ ds) e =
     let parts = not_under (same_info j i) (list_any (is_under j) ds) e in
     rw parts.0 (none_under j ds parts.1)

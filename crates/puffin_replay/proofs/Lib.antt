@@ -9,7 +9,7 @@ mod SessionCollects
 mod Standing
 mod Running
 mod Openings
-mod Sums
+mod DueSums
 mod Serving
 mod Offsets
 mod SessionCloses

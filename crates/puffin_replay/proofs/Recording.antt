@@ -17,11 +17,11 @@ use Rattle.puffin_data.specs.Device.{IsOutside, WritesBeginning}
 use Rattle.puffin_frames.specs.Packet.Steps.{IsPacked}
 use Rattle.puffin_frames.specs.Packet.Writing.{HasLongPart}
 use Rattle.puffin_frames.specs.Details.{Details, lacks_id, AllHaveIds}
-use Rattle.puffin_frames.specs.Details.Collection.{Collection, inserted, inserted_all}
+use Rattle.puffin_frames.specs.Details.Collection.{Collection, with_details, with_all_details}
 use Rattle.puffin_frames.specs.Packet.Stored.{Said}
 use Rattle.puffin.specs.declared.profile_view.frame_view.FrameView.{FrameView}
 use Rattle.puffin.specs.View.ViewedFrames.{Frame, contents_of, index_of}
-use Rattle.puffin.specs.View.FrameOf.{told}
+use Rattle.puffin.specs.View.FrameOf.{details_of_frame}
 use Rattle.puffin.specs.View.{View, Took, empty_view, after_taking, after_all, KeepsFrames}
 use Rattle.puffin.specs.View.Known.{view_of, collection_of, lacks_ids, LearnsSome}
 use Rattle.puffin.specs.View.File.{file_of, contents_held, contents_in}
@@ -39,11 +39,11 @@ after_all-append : (v : View) (fs gs : List Frame) → after_all v (fs ++ gs) �
 after_all-append v [] gs = refl
 after_all-append v (f ∷ fs) gs = after_all-append (after_taking v f) fs gs
 
-inserted_all-append : (c : Collection) (ds es : List Details) → inserted_all c (ds ++ es) ≡ inserted_all (inserted_all c ds) es
-inserted_all-append c ds es = fold-append inserted c ds es
+inserted_all-append : (c : Collection) (ds es : List Details) → with_all_details c (ds ++ es) ≡ with_all_details (with_all_details c ds) es
+inserted_all-append c ds es = fold-append with_details c ds es
 
-told-more : (fs : List Frame) (f : Frame) → flat_map told (fs ++ (f ∷ [])) ≡ flat_map told fs ++ told f
-told-more fs f = flat_map-append told fs (f ∷ []) ∙ ap (λ ds. flat_map told fs ++ ds) (append-nil (told f))
+told-more : (fs : List Frame) (f : Frame) → flat_map details_of_frame (fs ++ (f ∷ [])) ≡ flat_map details_of_frame fs ++ details_of_frame f
+told-more fs f = flat_map-append details_of_frame fs (f ∷ []) ∙ ap (λ ds. flat_map details_of_frame fs ++ ds) (append-nil (details_of_frame f))
 
 -- Details that have ids are refused for want of memory alone.
 has_id : (id : Option ℕ) → IsSome id → is_none id ≡ false
@@ -74,15 +74,15 @@ all_rest : {X : Type 0} (P : X → Type 0) (xs ys : List X) → AllByRecursion P
 all_rest P [] ys all = all
 all_rest P (x ∷ xs) ys all = all_rest P xs ys all.1
 
-frames_lack_none : (fs : List Frame) → AllByRecursion (λ (d : Details). IsSome d.id) (flat_map told fs) → NoneLacksIds (map contents_of fs)
+frames_lack_none : (fs : List Frame) → AllByRecursion (λ (d : Details). IsSome d.id) (flat_map details_of_frame fs) → NoneLacksIds (map contents_of fs)
 frames_lack_none [] all = refl
 frames_lack_none (f ∷ fs) all =
-    rw (none_lack (told f) (all_first (λ d. IsSome d.id) (told f) (flat_map told fs) all)) (frames_lack_none fs (all_rest (λ d. IsSome d.id) (told f) (flat_map told fs) all))
+    rw (none_lack (details_of_frame f) (all_first (λ d. IsSome d.id) (details_of_frame f) (flat_map details_of_frame fs) all)) (frames_lack_none fs (all_rest (λ d. IsSome d.id) (details_of_frame f) (flat_map details_of_frame fs) all))
 
 replies_lack_none : (rs : List Reply) → AllByRecursion HasIds rs → NoneLacksIds (map contents_of (frames_emitted rs))
 replies_lack_none [] all = refl
 replies_lack_none (r ∷ rs) all =
-    let one = frames_lack_none (emitted_by r) (recursion_from_All (λ (d : Details). IsSome d.id) (flat_map told (emitted_by r)) all.0) in
+    let one = frames_lack_none (emitted_by r) (recursion_from_All (λ (d : Details). IsSome d.id) (flat_map details_of_frame (emitted_by r)) all.0) in
     subst NoneLacksIds (sym (map-append contents_of (emitted_by r) (frames_emitted rs))) (both_none (map contents_of (emitted_by r)) (map contents_of (frames_emitted rs)) one (replies_lack_none rs all.1))
 
 -- what a view holds after it took the frames of these replies
@@ -123,15 +123,15 @@ module _ (rs : List Reply) (i : ℕ) (r : Reply) (h : i < length rs) (is : r ≡
     one_more : frames_emitted (take (i + 1) rs) ≡ frames_emitted (take i rs) ++ (f ∷ [])
     one_more = frames-more ∙ ap (λ (fs : List Frame). frames_emitted (take i rs) ++ fs) some
 
-    Takes-more : (old now new : FrameView) → Takes (frames_emitted (take i rs)) old now → view_of new ≡ after_taking (view_of now) f → collection_of new ≡ inserted_all (collection_of now) (told f)
+    Takes-more : (old now new : FrameView) → Takes (frames_emitted (take i rs)) old now → view_of new ≡ after_taking (view_of now) f → collection_of new ≡ with_all_details (collection_of now) (details_of_frame f)
         → Takes (frames_emitted (take (i + 1) rs)) old new
     Takes-more old now new takes taken learnt =
         let fs = frames_emitted (take i rs) in
         subst (λ (gs : List Frame). Takes gs old new) (sym one_more)
         (record {
           taken = taken ∙ ap (λ (v : View). after_taking v f) takes.taken ∙ sym (after_all-append (view_of old) fs (f ∷ []));
-          details = learnt ∙ ap (λ (c : Collection). inserted_all c (told f)) takes.details ∙ sym (inserted_all-append (collection_of old) (flat_map told fs) (told f))
-              ∙ ap (λ (ds : List Details). inserted_all (collection_of old) ds) (sym (told-more fs f));
+          details = learnt ∙ ap (λ (c : Collection). with_all_details c (details_of_frame f)) takes.details ∙ sym (inserted_all-append (collection_of old) (flat_map details_of_frame fs) (details_of_frame f))
+              ∙ ap (λ (ds : List Details). with_all_details (collection_of old) ds) (sym (told-more fs f));
         })
 
     Took-more : (old now new : View) → TookAlso (frames_emitted (take i rs)) old now → TookAlso (f ∷ []) now new → TookAlso (frames_emitted (take (i + 1) rs)) old new
@@ -142,7 +142,7 @@ module _ (rs : List Reply) (i : ℕ) (r : Reply) (h : i < length rs) (is : r ≡
         ∙ sym (append_assoc cs (map contents_of fs) (contents_of f ∷ [])) in
         subst (λ (ds : List Said). Took ds new) (sym joined) (step (cs ++ map contents_of fs) (before cs took))
 
-    pub TakesAll-more : (old now new : FrameView) → TakesAll (frames_emitted (take i rs)) old now → view_of new ≡ after_taking (view_of now) f → collection_of new ≡ inserted_all (collection_of now) (told f)
+    pub TakesAll-more : (old now new : FrameView) → TakesAll (frames_emitted (take i rs)) old now → view_of new ≡ after_taking (view_of now) f → collection_of new ≡ with_all_details (collection_of now) (details_of_frame f)
         → TookAlso (f ∷ []) (view_of now) (view_of new) → TakesAll (frames_emitted (take (i + 1) rs)) old new
     TakesAll-more old now new before taken learnt took = (Takes-more old now new before.0 taken learnt, Took-more (view_of old) (view_of now) (view_of new) before.1 took)
 
@@ -151,26 +151,26 @@ module _ (rs : List Reply) (i : ℕ) (r : Reply) (h : i < length rs) (is : r ≡
     split : frames_emitted rs ≡ frames_emitted (take i rs) ++ (f ∷ frames_emitted (drop (i + 1) rs))
     split = frames-split ∙ ap (λ (fs : List Frame). frames_emitted (take i rs) ++ (fs ++ frames_emitted (drop (i + 1) rs))) some
 
-    have_ids : HasIds r → AllHaveIds (told f)
-    have_ids ids = subst AllHaveIds (ap (flat_map told) some ∙ append-nil (told f)) ids
+    have_ids : HasIds r → AllHaveIds (details_of_frame f)
+    have_ids ids = subst AllHaveIds (ap (flat_map details_of_frame) some ∙ append-nil (details_of_frame f)) ids
 
     pub refused_for_memory : {T : Type 0} (answer : Result T Error) (e : Error) → All HasIds rs → answer ≡ Err e → ((answer ≡ Err MissingId) ↔ (lacks_ids (contents_of f) ≡ true)) → (e ≡ MissingId) ⊎ (e ≡ Memory) → e ≡ Memory
-    refused_for_memory answer e ids was missing cause = memory_alone answer e (told f) (have_ids (subst HasIds (sym is) (All-get_or HasIds rs i r h ids))) was missing cause
+    refused_for_memory answer e ids was missing cause = memory_alone answer e (details_of_frame f) (have_ids (subst HasIds (sym is) (All-get_or HasIds rs i r h ids))) was missing cause
 
     pub TakesSome-refused : (old now new : FrameView) → Takes (frames_emitted (take i rs)) old now → KeepsFrames (view_of now) (index_of f) (view_of new)
-        → LearnsSome (collection_of now) (told f) (collection_of new) → TakesSome (frames_emitted rs) old new
+        → LearnsSome (collection_of now) (details_of_frame f) (collection_of new) → TakesSome (frames_emitted rs) old new
     TakesSome-refused old now new takes kept learns = record {
       front = frames_emitted (take i rs);
       next = f;
       rest = frames_emitted (drop (i + 1) rs);
       split = split;
       taken = subst (λ (v : View). KeepsFrames v (index_of f) (view_of new)) takes.taken kept;
-      details = subst (λ (c : Collection). LearnsSome c (told f) (collection_of new)) takes.details learns;
+      details = subst (λ (c : Collection). LearnsSome c (details_of_frame f) (collection_of new)) takes.details learns;
     }
 
     -- there was no copy of it
     pub TakesSome-memory : (old now : FrameView) → Takes (frames_emitted (take i rs)) old now → TakesSome (frames_emitted rs) old now
-    TakesSome-memory old now takes = TakesSome-refused old now now takes (inl refl) ([], (told f, refl), refl)
+    TakesSome-memory old now takes = TakesSome-refused old now now takes (inl refl) ([], (details_of_frame f, refl), refl)
 
 -- ---- a script's run
 
@@ -222,7 +222,7 @@ module _ (script : Script) (names : List (List ℕ)) (commands : List Command) (
       -- and the lines
       pub replayed : (bytes : List ℕ) (lines_before lines_after : Option (List ℕ)) → TookAlso (frames_emitted replies) (view_of old) (view_of new) → Took [] (view_of old) → bytes ≡ reply_lines script.lines.items replies → AllByRecursion IsPacked (contents_in (view_of new)) → NoneLacksIds (contents_in (view_of new)) → Appends lines_before lines_after bytes
           → IsReplayed script file_before file_after lines_before lines_after
-      replayed bytes lines_before lines_after took none same packed ids told = record {
+      replayed bytes lines_before lines_after took none same packed ids details_of_frame = record {
         replies = replies;
         end = run.0;
         run = answers replies run.0 run.1;
@@ -230,7 +230,7 @@ module _ (script : Script) (names : List (List ℕ)) (commands : List Command) (
         written = written-after;
         packed = subst (λ (v : View). AllByRecursion IsPacked (contents_in v)) (view-after replies takes) packed;
         ids = subst (λ (v : View). NoneLacksIds (contents_in v)) (view-after replies takes) ids;
-        told = subst (λ (bs : List ℕ). Appends lines_before lines_after bs) same told;
+        told = subst (λ (bs : List ℕ). Appends lines_before lines_after bs) same details_of_frame;
       }
 
 -- copies of texts have their bytes

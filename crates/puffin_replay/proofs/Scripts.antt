@@ -11,8 +11,8 @@ use Rattle.std.specs.String.{string_bytes}
 use Rattle.std.specs.declared.string.String.{String}
 use Rattle.std.proofs.lemmas.Bool.{false_from_ne_true}
 use Rattle.std.proofs.lemmas.Bool.Decides.{nat_tests}
-use Rattle.puffin_replay.specs.Script.Statements.{Said, said, said_by, words_in}
-use Rattle.puffin_replay.specs.Script.{is_line_feed, lines_in, is_skipped, known, told_by, onto, statements_from, with_name, with_if_named, with_thread, thread_in, threads_after, command_said}
+use Rattle.puffin_replay.specs.Script.Statements.{Meaning, meaning_of, line_meaning, words_in}
+use Rattle.puffin_replay.specs.Script.{is_line_feed, lines_in, is_skipped, known, told_by, onto, statements_from, with_name, with_if_named, with_thread_of, thread_named_by, threads_after, command_said}
 use Rattle.std.proofs.lemmas.List.Folds.{list_any-append}
 use Rattle.std.proofs.lemmas.Slice.Eq.{bytes_eq-Decides}
 use Rattle.std.specs.Str.{bytes_eq}
@@ -55,11 +55,11 @@ told_skipped number line text skipped =
     let yes = is_utf8-from_IsUtf8 line text in
     rw (yes, sym skipped) refl
 
-pub told_known : (number : ℕ) (line : List ℕ) (what : Option Said) → IsUtf8 line → false ≡ is_skipped line → what ≡ said_by (words_in line) → told_by number line ≡ known number what
+pub told_known : (number : ℕ) (line : List ℕ) (what : Option Meaning) → IsUtf8 line → false ≡ is_skipped line → what ≡ line_meaning (words_in line) → told_by number line ≡ known number what
 unfolding told_by
-told_known number line what text kept said =
+told_known number line what text kept meaning_of =
     let yes = is_utf8-from_IsUtf8 line text in
-    rw (yes, sym kept, sym said) refl
+    rw (yes, sym kept, sym meaning_of) refl
 
 -- ---- threads
 
@@ -135,7 +135,7 @@ kept_if true f names more i x h = kept_map f names more i x h
 kept_if false f names more i x h = h
 
 -- further names change nothing of what a command says
-said_still : (names more : List (List ℕ)) (c : Command) (x : Said) → command_said names c ≡ Some x → command_said (names ++ more) c ≡ Some x
+said_still : (names more : List (List ℕ)) (c : Command) (x : Meaning) → command_said names c ≡ Some x → command_said (names ++ more) c ≡ Some x
 said_still names more (command.Begin thread at id text) x h = kept_map _ names more thread x h
 said_still names more (command.End thread at back) x h = kept_if (back == 0) _ names more thread x h
 said_still names more (command.Register thread name function file line) x h = kept_map _ names more thread x h
@@ -144,15 +144,15 @@ said_still names more (command.ReportUser info stream) x h = h
 said_still names more command.Snapshot x h = h
 said_still names more command.NewFrame x h = h
 
-said_with_name : (b : Bool) (names : List (List ℕ)) (name : List ℕ) (c : Command) (x : Said) → command_said names c ≡ Some x → command_said (if b then names else names ++ name ∷ []) c ≡ Some x
+said_with_name : (b : Bool) (names : List (List ℕ)) (name : List ℕ) (c : Command) (x : Meaning) → command_said names c ≡ Some x → command_said (if b then names else names ++ name ∷ []) c ≡ Some x
 said_with_name true names name c x h = h
 said_with_name false names name c x h = said_still names (name ∷ []) c x h
 
-said_with : (names : List (List ℕ)) (o : Option (List ℕ)) (c : Command) (x : Said) → command_said names c ≡ Some x → command_said (with_if_named names o) c ≡ Some x
+said_with : (names : List (List ℕ)) (o : Option (List ℕ)) (c : Command) (x : Meaning) → command_said names c ≡ Some x → command_said (with_if_named names o) c ≡ Some x
 said_with names None c x h = h
 said_with names (Some name) c x h = said_with_name (list_any (bytes_eq name) names) names name c x h
 
-pub all_said_with : (names : List (List ℕ)) (o : Option (List ℕ)) (cs : List Command) (ss : List (ℕ × Said)) → map (command_said names) cs ≡ map (λ s. Some s.1) ss → map (command_said (with_if_named names o)) cs ≡ map (λ s. Some s.1) ss
+pub all_said_with : (names : List (List ℕ)) (o : Option (List ℕ)) (cs : List Command) (ss : List (ℕ × Meaning)) → map (command_said names) cs ≡ map (λ s. Some s.1) ss → map (command_said (with_if_named names o)) cs ≡ map (λ s. Some s.1) ss
 all_said_with names o [] ss h = h
 all_said_with names o (c ∷ cs) [] h = absurd cc
 all_said_with names o (c ∷ cs) (s ∷ ss) h =
@@ -162,41 +162,41 @@ all_said_with names o (c ∷ cs) (s ∷ ss) h =
     let later_still = all_said_with names o cs ss later in
     cc
 
-pub threads_after-append : (names : List (List ℕ)) (ss : List (ℕ × Said)) (s : ℕ × Said) → threads_after names (ss ++ s ∷ []) ≡ with_thread (threads_after names ss) s.1
+pub threads_after-append : (names : List (List ℕ)) (ss : List (ℕ × Meaning)) (s : ℕ × Meaning) → threads_after names (ss ++ s ∷ []) ≡ with_thread_of (threads_after names ss) s.1
 threads_after-append names [] s = refl
-threads_after-append names (x ∷ ss) s = threads_after-append (with_thread names x.1) ss s
+threads_after-append names (x ∷ ss) s = threads_after-append (with_thread_of names x.1) ss s
 
 -- ---- one more command
 
-pub lines_more : (lines lines' : List ℕ) (before : List (ℕ × Said)) (s : ℕ × Said) → lines' ≡ lines ++ s.0 ∷ [] → lines ≡ map (λ x. x.0) before → lines' ≡ map (λ x. x.0) (before ++ s ∷ [])
+pub lines_more : (lines lines' : List ℕ) (before : List (ℕ × Meaning)) (s : ℕ × Meaning) → lines' ≡ lines ++ s.0 ∷ [] → lines ≡ map (λ x. x.0) before → lines' ≡ map (λ x. x.0) (before ++ s ∷ [])
 lines_more lines lines' before s more same = rw (more, same, map-append) refl
 
-pub names_more : (names names' : List (List ℕ)) (before : List (ℕ × Said)) (s : ℕ × Said) → names' ≡ with_thread names s.1 → names ≡ threads_after [] before → names' ≡ threads_after [] (before ++ s ∷ [])
-names_more names names' before s more same = more ∙ ap (λ (ns : List (List ℕ)). with_thread ns s.1) same ∙ sym (threads_after-append [] before s)
+pub names_more : (names names' : List (List ℕ)) (before : List (ℕ × Meaning)) (s : ℕ × Meaning) → names' ≡ with_thread_of names s.1 → names ≡ threads_after [] before → names' ≡ threads_after [] (before ++ s ∷ [])
+names_more names names' before s more same = more ∙ ap (λ (ns : List (List ℕ)). with_thread_of ns s.1) same ∙ sym (threads_after-append [] before s)
 
-pub commands_more : (names names' : List (List ℕ)) (cs cs' : List Command) (c : Command) (before : List (ℕ × Said)) (s : ℕ × Said) → names' ≡ with_thread names s.1 → cs' ≡ cs ++ c ∷ []
+pub commands_more : (names names' : List (List ℕ)) (cs cs' : List Command) (c : Command) (before : List (ℕ × Meaning)) (s : ℕ × Meaning) → names' ≡ with_thread_of names s.1 → cs' ≡ cs ++ c ∷ []
     → map (command_said names) cs ≡ map (λ x. Some x.1) before → command_said names' c ≡ Some s.1 → map (command_said names') cs' ≡ map (λ x. Some x.1) (before ++ s ∷ [])
 commands_more names names' cs cs' c before s named more same new =
-    let still = all_said_with names (thread_in s.1) cs before same in
-    let old : map (command_said names') cs ≡ map (λ (x : ℕ × Said). Some x.1) before = ap (λ (ns : List (List ℕ)). map (command_said ns) cs) named ∙ still in
+    let still = all_said_with names (thread_named_by s.1) cs before same in
+    let old : map (command_said names') cs ≡ map (λ (x : ℕ × Meaning). Some x.1) before = ap (λ (ns : List (List ℕ)). map (command_said ns) cs) named ∙ still in
     rw (more, map-append, map-append, old, new) refl
 
 -- ---- reading on
 
 -- statements before those of later lines
-abbrev pub after : List (ℕ × Said) → Result (List (ℕ × Said)) ℕ → Result (List (ℕ × Said)) ℕ
+abbrev pub after : List (ℕ × Meaning) → Result (List (ℕ × Meaning)) ℕ → Result (List (ℕ × Meaning)) ℕ
 after before (Ok later) = Ok (before ++ later)
 after before (Err wrong) = Err wrong
 
-after_onto : (before : List (ℕ × Said)) (s : ℕ × Said) (later : Result (List (ℕ × Said)) ℕ) → after before (onto s later) ≡ after (before ++ s ∷ []) later
-after_onto before s (Ok later) = ap (λ (xs : List (ℕ × Said)). Ok xs) (sym (append_assoc before (s ∷ []) later))
+after_onto : (before : List (ℕ × Meaning)) (s : ℕ × Meaning) (later : Result (List (ℕ × Meaning)) ℕ) → after before (onto s later) ≡ after (before ++ s ∷ []) later
+after_onto before s (Ok later) = ap (λ (xs : List (ℕ × Meaning)). Ok xs) (sym (append_assoc before (s ∷ []) later))
 after_onto before s (Err wrong) = refl
 
-pub after_skipped : (before : List (ℕ × Said)) (number : ℕ) (line : List ℕ) (lines left : List (List ℕ)) → left ≡ line ∷ lines → told_by number line ≡ Ok None → after before (statements_from number left) ≡ after before (statements_from (number + 1) lines)
+pub after_skipped : (before : List (ℕ × Meaning)) (number : ℕ) (line : List ℕ) (lines left : List (List ℕ)) → left ≡ line ∷ lines → told_by number line ≡ Ok None → after before (statements_from number left) ≡ after before (statements_from (number + 1) lines)
 after_skipped before number line lines left e told = rw (e, told) refl
 
-pub after_said : (before : List (ℕ × Said)) (number : ℕ) (line : List ℕ) (lines left : List (List ℕ)) (s : Said) → left ≡ line ∷ lines → told_by number line ≡ Ok (Some s) → after before (statements_from number left) ≡ after (before ++ (number, s) ∷ []) (statements_from (number + 1) lines)
+pub after_said : (before : List (ℕ × Meaning)) (number : ℕ) (line : List ℕ) (lines left : List (List ℕ)) (s : Meaning) → left ≡ line ∷ lines → told_by number line ≡ Ok (Some s) → after before (statements_from number left) ≡ after (before ++ (number, s) ∷ []) (statements_from (number + 1) lines)
 after_said before number line lines left s e told = rw (e, told) (after_onto before (number, s) (statements_from (number + 1) lines))
 
-pub after_wrong : (before : List (ℕ × Said)) (number : ℕ) (line : List ℕ) (lines left : List (List ℕ)) → left ≡ line ∷ lines → told_by number line ≡ Err number → after before (statements_from number left) ≡ Err number
+pub after_wrong : (before : List (ℕ × Meaning)) (number : ℕ) (line : List ℕ) (lines left : List (List ℕ)) → left ≡ line ∷ lines → told_by number line ≡ Err number → after before (statements_from number left) ≡ Err number
 after_wrong before number line lines left e told = rw (e, told) refl

@@ -12,7 +12,7 @@ use Rattle.puffin_data.specs.declared.error.Error.{Error}
 use Rattle.puffin_data.specs.declared.error.Error.TheVariants.{NoThread, MismatchedEnd, IdsExhausted, IndexExhausted, Memory}
 use Rattle.puffin_data.specs.Forest.{Forest}
 use Rattle.puffin_data.specs.Honesty.{Recorded, IsHonestRecord}
-use Rattle.puffin_data.specs.Stream.{Held}
+use Rattle.puffin_data.specs.Stream.{StreamState}
 use Rattle.puffin_data.specs.Text.{cut_text}
 use Rattle.puffin_data.specs.Forest.Tour.{Event, tour}
 use Rattle.puffin_data.specs.Walk.{IsFault}
@@ -20,14 +20,14 @@ use Rattle.puffin_data.specs.Forest.Words.{word_size, num_begun, open_after}
 use Rattle.puffin_frames.specs.Thread.Info.{Info, info_of}
 use Rattle.puffin_frames.specs.Thread.Calls.{Thread, after_begin, after_end, after_handing, after_registering, info_of_thread}
 use Rattle.puffin_frames.specs.Details.{Details, AllHaveIds, shared_details}
-use Rattle.puffin_frames.specs.Details.Collection.{Collection, inserted_all}
+use Rattle.puffin_frames.specs.Details.Collection.{Collection, with_all_details}
 use Rattle.puffin_frames.specs.Frame.Contents.{Streams}
 use Rattle.puffin_frames.specs.Frame.Sums.{total_scopes}
 use Rattle.puffin_frames.specs.declared.frame_data.frame.FrameData.{FrameData}
 use Rattle.puffin_frames.specs.declared.thread_profiler.thread_info.ThreadInfo.{ThreadInfo}
 use Rattle.puffin_frames.specs.declared.thread_profiler.reporter.Closed.{Closed}
 use Rattle.puffin_frames.specs.declared.thread_profiler.reporter.Closed.TheVariants.{Inner, Reported, Kept}
-use Rattle.puffin.specs.Profiler.Collected.{Collected, Accepts, after_frame, after_no_frame, after_adding, after_learning, after_wanting, reported_to, IsReportRefusal, delta_of}
+use Rattle.puffin.specs.Profiler.Collected.{Collected, AcceptsReport, after_frame, after_no_frame, after_adding, after_learning, after_wanting, reported_to, IsReportRefusal, delta_of}
 use Rattle.puffin.specs.Profiler.Registering.{Registers, RegistersSome, Adds, AddsSome}
 use Rattle.puffin.specs.Profiler.Collecting.{Collects, HoldsAll, Begins, KeepsPending}
 use Rattle.puffin_frames.specs.Thread.Closing.{IsReportOf}
@@ -37,31 +37,31 @@ use Rattle.puffin_replay.specs.declared.replay.command.Reply.{Reply}
 use Rattle.puffin_replay.specs.declared.replay.command.Reply.TheVariants as reply
 use Rattle.puffin_frames.specs.Thread.Events.{events_in}
 use Rattle.puffin_replay.specs.Session.History.{Opening, begun, ended, Action, calls, hands, frames, registers, adds, learns, wants, nothing, nobody, call_of}
-use Rattle.puffin_replay.specs.Session.Deliveries.{Delivery, under, taken, handed_at}
+use Rattle.puffin_replay.specs.Session.Deliveries.{Delivery, under, all_taken, deliveries_at}
 use Rattle.puffin_replay.specs.Session.Due.{due, index_after, is_numbered}
-use Rattle.puffin_replay.specs.Session.Notes.{notes_at, told_at, learnt_at, due_details, known_after, is_wanted, wanted_at}
+use Rattle.puffin_replay.specs.Session.Notes.{notes_at, due_notes_at, details_learnt_at, due_details, known_after, is_wanted, wanted_at}
 use Rattle.puffin_replay.specs.Session.{SessionState, thread_after, SpellsWord, TellsAfter}
 use Rattle.puffin_replay.specs.Session.Replies.{action_of, details_given, user_details, MayReply, TellsScopes, ending_word}
-use Rattle.puffin_replay.specs.inner.Serving.{clock_time, thread_in, with_thread, with_collected, Ends, SumsTo, Continued, ContinuesBy, Continues}
+use Rattle.puffin_replay.specs.inner.Serving.{clock_time, session_thread, session_with_thread, session_with_collected, Ends, SumsTo, Continued, ContinuesBy, Continues}
 use Rattle.puffin_replay.proofs.Histories.{due-same, due-more, due-anew}
 use Rattle.puffin_replay.proofs.SessionCollects.{SpellsFrame-taken, NoneDue-untaken}
 use Rattle.puffin_replay.proofs.Laws.{events_in-spelling}
 use Rattle.puffin_replay.proofs.Telling.{waiting_with, waiting-noted, TellsAfter-more}
 use Rattle.puffin_replay.proofs.Standing.{handed_at_end, handed_at-reported, ChangesThread, StandsAfter-begun, StandsAfter-ended, StandsAfter-reported, StandsAfter-registered, StandsAfter-handed, StandsAfter-framed, StandsAfter-unframed, StandsAfter-quiet}
-use Rattle.puffin_replay.proofs.Sums.{SumsTo-reported, SumsTo-none, scopes_of, MayReport-from, IsRefusal-from}
+use Rattle.puffin_replay.proofs.DueSums.{SumsTo-reported, SumsTo-none, scopes_of, MayReport-from, IsRefusal-from}
 
 -- ---- sums
 
 module _ (o : Opening) (done : List Action) (a : Action) (old new : Streams) (before : SumsTo old (due o done)) where
-  sums_same : handed_at o done a ≡ [] → new ≡ old → SumsTo new (due o (done ++ (a ∷ [])))
+  sums_same : deliveries_at o done a ≡ [] → new ≡ old → SumsTo new (due o (done ++ (a ∷ [])))
   sums_same none same = rw (same, due-same o done a none) before
 
-  sums_more : (i : Info) (r : Recorded) (word : List Event) → handed_at o done a ≡ under i word ∷ [] → new ≡ reported_to old i r → SpellsWord r word → SumsTo new (due o (done ++ (a ∷ [])))
+  sums_more : (i : Info) (r : Recorded) (word : List Event) → deliveries_at o done a ≡ under i word ∷ [] → new ≡ reported_to old i r → SpellsWord r word → SumsTo new (due o (done ++ (a ∷ [])))
   sums_more i r word one same spells =
       subst (λ (s : Streams). SumsTo s (due o (done ++ (a ∷ [])))) (sym same)
       (subst (λ (ds : List Delivery). SumsTo (reported_to old i r) ds) (sym (due-more o done a i word one)) (SumsTo-reported old (due o done) i r word before spells))
 
-  sums_anew : handed_at o done a ≡ taken ∷ [] → new ≡ empty → SumsTo new (due o (done ++ (a ∷ [])))
+  sums_anew : deliveries_at o done a ≡ all_taken ∷ [] → new ≡ empty → SumsTo new (due o (done ++ (a ∷ [])))
   sums_anew frame same = rw (same, due-anew o done a frame) SumsTo-none
 
 -- ---- what is told of scopes
@@ -76,9 +76,9 @@ same_told : (old new : Collected) → new ≡ old → TellsSame old new
 same_told old new is = record { collection = ap (λ (c : Collected). c.collection) is; new_details = ap (λ (c : Collected). c.new_details) is; wants_all = ap (λ (c : Collected). c.wants_all) is }
 
 module _ (o : Opening) (done : List Action) (a : Action) (old new : Collected) (before : TellsAfter o done old) where
-  tells_same : learnt_at o done a ≡ [] → told_at o done a ≡ [] → ((wanted : Bool) → wanted_at wanted a ≡ wanted) → TellsSame old new → TellsAfter o (done ++ (a ∷ [])) new
+  tells_same : details_learnt_at o done a ≡ [] → due_notes_at o done a ≡ [] → ((wanted : Bool) → wanted_at wanted a ≡ wanted) → TellsSame old new → TellsAfter o (done ++ (a ∷ [])) new
   tells_same none silent kept same =
-      TellsAfter-more o done a old new before (same.collection ∙ ap (inserted_all old.collection) (sym none)) (same.new_details ∙ ap (fold waiting_with old.new_details) (sym silent)) (same.wants_all ∙ sym (kept old.wants_all))
+      TellsAfter-more o done a old new before (same.collection ∙ ap (with_all_details old.collection) (sym none)) (same.new_details ∙ ap (fold waiting_with old.new_details) (sym silent)) (same.wants_all ∙ sym (kept old.wants_all))
 
 -- ---- one thread
 
@@ -92,14 +92,14 @@ changes now new t changed scopes within same index reported = record {
 }
 
 pub Continues-began : (now : SessionState) (t : ℕ) (at : ℤ) (id : ℕ) (text : String Global) (offset : ℕ) → t < length now.threads
-    → offset ≡ word_size (thread_in now t).word + 14 + length (cut_text (string_bytes text))
-    → Continues now (with_thread now t (after_begin (thread_in now t) id (cut_text (string_bytes text)) (clock_time at)) now.collected) (Begin t at id text) (reply.Began offset)
+    → offset ≡ word_size (session_thread now t).word + 14 + length (cut_text (string_bytes text))
+    → Continues now (session_with_thread now t (after_begin (session_thread now t) id (cut_text (string_bytes text)) (clock_time at)) now.collected) (Begin t at id text) (reply.Began offset)
 Continues-began now t at id text offset there place = (
   [],
   λ o done before.
       let within : t < length o.threads = omega (arith, before.stands.num_threads) in
-      let changed = after_begin (thread_in now t) id (cut_text (string_bytes text)) (clock_time at) in
-      let new = with_thread now t changed now.collected in
+      let changed = after_begin (session_thread now t) id (cut_text (string_bytes text)) (clock_time at) in
+      let new = session_with_thread now t changed now.collected in
       let a : Action = calls t (record { at = at; mark = begun id (string_bytes text) }) in (
         record {
           stands = StandsAfter-begun o done now new before.stands t at id (string_bytes text) within (changes now new t changed 0 there refl refl (omega arith)) refl
@@ -111,14 +111,14 @@ Continues-began now t at id text offset there place = (
 )
 
 pub Continues-registered : (now : SessionState) (t : ℕ) (name : Option (String Global)) (function file : String Global) (line id : ℕ) → t < length now.threads
-    → Continues now (with_thread now t (after_registering (thread_in now t) (details_given (option_map string_bytes name) (string_bytes function) (string_bytes file) line id)) now.collected) (Register t name function file line) (reply.Registered id)
+    → Continues now (session_with_thread now t (after_registering (session_thread now t) (details_given (option_map string_bytes name) (string_bytes function) (string_bytes file) line id)) now.collected) (Register t name function file line) (reply.Registered id)
 Continues-registered now t name function file line id there = (
   [],
   λ o done before.
       let within : t < length o.threads = omega (arith, before.stands.num_threads) in
       let d = details_given (option_map string_bytes name) (string_bytes function) (string_bytes file) line id in
-      let changed = after_registering (thread_in now t) d in
-      let new = with_thread now t changed now.collected in (
+      let changed = after_registering (session_thread now t) d in
+      let new = session_with_thread now t changed now.collected in (
         record {
           stands = StandsAfter-registered o done now new before.stands t d within (changes now new t changed 0 there refl refl (omega arith)) refl
               (tells_same o done (registers t d) now.collected now.collected before.stands.tells refl refl (λ w. refl) (same_told now.collected now.collected refl));
@@ -135,14 +135,14 @@ reported_word r h = record { forest = h.forest; honest = h.honest; toured = sym 
 
 module _ (now : SessionState) (t : ℕ) (at : ℤ) (there : t < length now.threads) where
   -- the innermost scope was an inner one
-  ended_inner : (new : SessionState) → 1 < open_after 0 (thread_in now t).word → new.threads ≡ set now.threads t (after_end (thread_in now t) (clock_time at)) → new.collected ≡ now.collected → ContinuesBy now new (End t at 0) (reply.Ended Inner) []
+  ended_inner : (new : SessionState) → 1 < open_after 0 (session_thread now t).word → new.threads ≡ set now.threads t (after_end (session_thread now t) (clock_time at)) → new.collected ≡ now.collected → ContinuesBy now new (End t at 0) (reply.Ended Inner) []
   ended_inner new inner same kept o done before =
       let within : t < length o.threads = omega (arith, before.stands.num_threads) in
       let word = ap (λ (th : Thread). open_after 0 th.word) (before.stands.threads t within) in
       let a : Action = calls t (record { at = at; mark = ended false }) in
       let streams = ap (λ (c : Collected). c.streams) kept in (
         record {
-          stands = StandsAfter-ended o done now new before.stands t at within (changes now new t (after_end (thread_in now t) (clock_time at)) 0 there same (ap (λ (c : Collected). c.index) kept) (ap (λ (c : Collected). c.reported) kept ∙ omega arith)) streams
+          stands = StandsAfter-ended o done now new before.stands t at within (changes now new t (after_end (session_thread now t) (clock_time at)) 0 there same (ap (λ (c : Collected). c.index) kept) (ap (λ (c : Collected). c.reported) kept ∙ omega arith)) streams
               (tells_same o done a now.collected new.collected before.stands.tells refl refl (λ w. refl) (same_told now.collected new.collected kept));
           sums = sums_same o done a now.collected.streams new.collected.streams before.sums refl streams;
         },
@@ -150,14 +150,14 @@ module _ (now : SessionState) (t : ℕ) (at : ℤ) (there : t < length now.threa
       )
 
   -- the last open scope, and its report was accepted
-  ended_reported : (new : SessionState) (r : Recorded) → open_after 0 (thread_in now t).word ≡ 1 → new.threads ≡ set now.threads t (after_handing (after_end (thread_in now t) (clock_time at)))
-      → SpellsWord r (after_end (thread_in now t) (clock_time at)).word → Accepts now.collected (info_of_thread (thread_in now t)) (thread_in now t).details r new.collected → ContinuesBy now new (End t at 0) (reply.Ended Reported) []
+  ended_reported : (new : SessionState) (r : Recorded) → open_after 0 (session_thread now t).word ≡ 1 → new.threads ≡ set now.threads t (after_handing (after_end (session_thread now t) (clock_time at)))
+      → SpellsWord r (after_end (session_thread now t) (clock_time at)).word → AcceptsReport now.collected (info_of_thread (session_thread now t)) (session_thread now t).details r new.collected → ContinuesBy now new (End t at 0) (reply.Ended Reported) []
   ended_reported new r last same spells accepts o done before =
       let within : t < length o.threads = omega (arith, before.stands.num_threads) in
       let th = before.stands.threads t within in
       let word = ap (λ (th : Thread). open_after 0 th.word) th in
-      let handing = after_handing (after_end (thread_in now t) (clock_time at)) in
-      let scopes = scopes_of r (after_end (thread_in now t) (clock_time at)).word spells in
+      let handing = after_handing (after_end (session_thread now t) (clock_time at)) in
+      let scopes = scopes_of r (after_end (session_thread now t) (clock_time at)).word spells in
       let a : Action = calls t (record { at = at; mark = ended true }) in
       let streams = ap (λ (c : Collected). c.streams) accepts.0 in
       let index = ap (λ (c : Collected). c.index) accepts.0 in
@@ -166,7 +166,7 @@ module _ (now : SessionState) (t : ℕ) (at : ℤ) (there : t < length now.threa
       let due_there : new.collected.streams ≡ reported_to now.collected.streams (info_of_thread (thread_after o done t)) r = streams ∙ ap (λ (v : Thread). reported_to now.collected.streams (info_of_thread v) r) th in
       let details = ap (λ (c : Collected). c.new_details) accepts.0 ∙ ap (λ (v : Thread). now.collected.new_details ++ v.details) th ∙ sym (waiting-noted now.collected.new_details (thread_after o done t).details) in (
         record {
-          stands = StandsAfter-reported o done now new before.stands t at r within (changes now new t handing (num_begun (handed_at_end (thread_in now t) at)) there same index reported) spells streams
+          stands = StandsAfter-reported o done now new before.stands t at r within (changes now new t handing (num_begun (handed_at_end (session_thread now t) at)) there same index reported) spells streams
               (TellsAfter-more o done a now.collected new.collected before.stands.tells (ap (λ (c : Collected). c.collection) accepts.0) details (ap (λ (c : Collected). c.wants_all) accepts.0));
           sums = sums_more o done a now.collected.streams new.collected.streams before.sums (info_of_thread (thread_after o done t)) r (handed_at_end (thread_after o done t) at) (handed_at-reported o t done at) due_there here;
         },
@@ -174,8 +174,8 @@ module _ (now : SessionState) (t : ℕ) (at : ℤ) (there : t < length now.threa
       )
 
   -- the last open scope, and its report was refused
-  ended_kept : (new : SessionState) (r : Recorded) (e : Error) → open_after 0 (thread_in now t).word ≡ 1 → new.threads ≡ set now.threads t (after_end (thread_in now t) (clock_time at))
-      → SpellsWord r (after_end (thread_in now t) (clock_time at)).word → new.collected ≡ now.collected → AllHaveIds (thread_in now t).details → IsReportRefusal now.collected (thread_in now t).details r e → ContinuesBy now new (End t at 0) (reply.Ended (Kept e)) []
+  ended_kept : (new : SessionState) (r : Recorded) (e : Error) → open_after 0 (session_thread now t).word ≡ 1 → new.threads ≡ set now.threads t (after_end (session_thread now t) (clock_time at))
+      → SpellsWord r (after_end (session_thread now t) (clock_time at)).word → new.collected ≡ now.collected → AllHaveIds (session_thread now t).details → IsReportRefusal now.collected (session_thread now t).details r e → ContinuesBy now new (End t at 0) (reply.Ended (Kept e)) []
   ended_kept new r e last same spells kept ids refusal o done before =
       let within : t < length o.threads = omega (arith, before.stands.num_threads) in
       let th = before.stands.threads t within in
@@ -184,34 +184,34 @@ module _ (now : SessionState) (t : ℕ) (at : ℤ) (there : t < length now.threa
       let streams = ap (λ (c : Collected). c.streams) kept in
       let here : SpellsWord r (handed_at_end (thread_after o done t) at) = subst (λ (v : Thread). SpellsWord r (handed_at_end v at)) th spells in (
         record {
-          stands = StandsAfter-ended o done now new before.stands t at within (changes now new t (after_end (thread_in now t) (clock_time at)) 0 there same (ap (λ (c : Collected). c.index) kept) (ap (λ (c : Collected). c.reported) kept ∙ omega arith)) streams
+          stands = StandsAfter-ended o done now new before.stands t at within (changes now new t (after_end (session_thread now t) (clock_time at)) 0 there same (ap (λ (c : Collected). c.index) kept) (ap (λ (c : Collected). c.reported) kept ∙ omega arith)) streams
               (tells_same o done a now.collected new.collected before.stands.tells refl refl (λ w. refl) (same_told now.collected new.collected kept));
           sums = sums_same o done a now.collected.streams new.collected.streams before.sums refl streams;
         },
-        (within, refl, (sym word ∙ last, IsRefusal-from o done now r (ending_word o done t at) before.stands before.sums here (thread_in now t).details e ids refusal)),
+        (within, refl, (sym word ∙ last, IsRefusal-from o done now r (ending_word o done t at) before.stands before.sums here (session_thread now t).details e ids refusal)),
       )
 
-  pub Continues-ended : (thread : Thread) (collected : Collected) (closed : Closed) → AllHaveIds (thread_in now t).details → Ends (thread_in now t) thread (clock_time at) now.collected collected closed
-      → Continues now (with_thread now t thread collected) (End t at 0) (reply.Ended closed)
-  Continues-ended thread collected Inner ids ends = ([], ended_inner (with_thread now t thread collected) ends.0 (ap (set now.threads t) ends.1) ends.2)
+  pub Continues-ended : (thread : Thread) (collected : Collected) (closed : Closed) → AllHaveIds (session_thread now t).details → Ends (session_thread now t) thread (clock_time at) now.collected collected closed
+      → Continues now (session_with_thread now t thread collected) (End t at 0) (reply.Ended closed)
+  Continues-ended thread collected Inner ids ends = ([], ended_inner (session_with_thread now t thread collected) ends.0 (ap (set now.threads t) ends.1) ends.2)
   Continues-ended thread collected Reported ids ends =
       let it = ends.2 in
-      ([], ended_reported (with_thread now t thread collected) it.0 ends.0 (ap (set now.threads t) ends.1) (reported_word it.0 it.1) it.2)
+      ([], ended_reported (session_with_thread now t thread collected) it.0 ends.0 (ap (set now.threads t) ends.1) (reported_word it.0 it.1) it.2)
   Continues-ended thread collected (Kept e) ids ends =
       let it = ends.2 in
-      ([], ended_kept (with_thread now t thread collected) it.0 e ends.0 (ap (set now.threads t) ends.1) (reported_word it.0 it.1) it.2.1 ids it.2.0)
+      ([], ended_kept (session_with_thread now t thread collected) it.0 e ends.0 (ap (set now.threads t) ends.1) (reported_word it.0 it.1) it.2.1 ids it.2.0)
 
 -- ---- a user's report
 
-pub Continues-handed : (now : SessionState) (collected : Collected) (info : ThreadInfo) (stream : Held) (r : Recorded) (f : Forest) → IsHonestRecord r f → r.bytes ≡ stream.bytes
-    → Accepts now.collected (info_of info) [] r collected → Continues now (with_collected now collected) (ReportUser info stream) reply.Reported
+pub Continues-handed : (now : SessionState) (collected : Collected) (info : ThreadInfo) (stream : StreamState) (r : Recorded) (f : Forest) → IsHonestRecord r f → r.bytes ≡ stream.bytes
+    → AcceptsReport now.collected (info_of info) [] r collected → Continues now (session_with_collected now collected) (ReportUser info stream) reply.Reported
 Continues-handed now collected info stream r f honest same accepts = (
   [],
   λ o done before.
       let word = events_in stream.bytes in
       let toured : tour f ≡ word = sym (ap events_in (sym same ∙ honest.stream.whole) ∙ events_in-spelling f honest.stream.fits) in
       let spells : SpellsWord r word = record { forest = f; honest = honest; toured = toured } in
-      let new = with_collected now collected in
+      let new = session_with_collected now collected in
       let a : Action = hands (info_of info) word in
       let streams = ap (λ (c : Collected). c.streams) accepts.0 in
       let told : TellsSame now.collected collected = record {
@@ -233,32 +233,32 @@ Continues-handed now collected info stream r f honest same accepts = (
 -- ---- calls that hand over no scopes
 
 -- an action of no thread that hands over no scopes and raises no index, where what is pending stayed
-quiet : (now : SessionState) (c : Collected) (o : Opening) (done : List Action) (a : Action) → Continued o done now → ((t : ℕ) → (call_of t a ≡ None) × (notes_at t a ≡ [])) → is_numbered a ≡ false → handed_at o done a ≡ []
-    → c.index ≡ now.collected.index → c.reported ≡ now.collected.reported → c.streams ≡ now.collected.streams → TellsAfter o (done ++ (a ∷ [])) c → Continued o (done ++ (a ∷ [])) (with_collected now c)
+quiet : (now : SessionState) (c : Collected) (o : Opening) (done : List Action) (a : Action) → Continued o done now → ((t : ℕ) → (call_of t a ≡ None) × (notes_at t a ≡ [])) → is_numbered a ≡ false → deliveries_at o done a ≡ []
+    → c.index ≡ now.collected.index → c.reported ≡ now.collected.reported → c.streams ≡ now.collected.streams → TellsAfter o (done ++ (a ∷ [])) c → Continued o (done ++ (a ∷ [])) (session_with_collected now c)
 quiet now c o done a before none numbered silent index reported streams tells = record {
-  stands = StandsAfter-quiet o done now (with_collected now c) before.stands a none numbered silent (record { threads = refl; raised = index; reported = reported ∙ omega arith }) streams tells;
+  stands = StandsAfter-quiet o done now (session_with_collected now c) before.stands a none numbered silent (record { threads = refl; raised = index; reported = reported ∙ omega arith }) streams tells;
   sums = sums_same o done a now.collected.streams c.streams before.sums silent streams;
 }
 
 -- details were learnt, which are new in the next frame
-adding : (now : SessionState) (new : List Details) (o : Opening) (done : List Action) → Continued o done now → Continued o (done ++ (adds new ∷ [])) (with_collected now (after_adding now.collected new))
+adding : (now : SessionState) (new : List Details) (o : Opening) (done : List Action) → Continued o done now → Continued o (done ++ (adds new ∷ [])) (session_with_collected now (after_adding now.collected new))
 adding now new o done before =
     quiet now (after_adding now.collected new) o done (adds new) before (λ t. (refl, refl)) refl refl refl refl refl
     (TellsAfter-more o done (adds new) now.collected (after_adding now.collected new) before.stands.tells refl (sym (waiting-noted now.collected.new_details new)) refl)
 
 pub Continues-added : (now : SessionState) (collected : Collected) (names : Vec (String Global)) (ids : Vec ℕ) → Adds now.collected (user_details names.items) ids.items collected
-    → Continues now (with_collected now collected) (RegisterUser names) (reply.RegisteredUser ids)
+    → Continues now (session_with_collected now collected) (RegisterUser names) (reply.RegisteredUser ids)
 Continues-added now collected names ids (new, registers_all, is) =
-    subst (λ (c : Collected). Continues now (with_collected now c) (RegisterUser names) (reply.RegisteredUser ids)) (sym is)
+    subst (λ (c : Collected). Continues now (session_with_collected now c) (RegisterUser names) (reply.RegisteredUser ids)) (sym is)
     (new, λ o done before. (adding now new o done before, subst (λ (k : Collection). Registers k (user_details names.items) ids.items new) before.stands.tells.collection registers_all))
 
 pub Continues-not_added : (now : SessionState) (collected : Collected) (names : Vec (String Global)) (e : Error) → AddsSome now.collected (user_details names.items) e collected
-    → Continues now (with_collected now collected) (RegisterUser names) (reply.Refused e)
+    → Continues now (session_with_collected now collected) (RegisterUser names) (reply.Refused e)
 Continues-not_added now collected names e (new, registers_some, is) =
-    subst (λ (c : Collected). Continues now (with_collected now c) (RegisterUser names) (reply.Refused e)) (sym is)
+    subst (λ (c : Collected). Continues now (session_with_collected now c) (RegisterUser names) (reply.Refused e)) (sym is)
     (new, λ o done before. (adding now new o done before, subst (λ (k : Collection). RegistersSome k (user_details names.items) e new) before.stands.tells.collection registers_some))
 
-pub Continues-wanted : (now : SessionState) → Continues now (with_collected now (after_wanting now.collected)) Snapshot reply.Snapshot
+pub Continues-wanted : (now : SessionState) → Continues now (session_with_collected now (after_wanting now.collected)) Snapshot reply.Snapshot
 Continues-wanted now = (
   [],
   λ o done before. (
@@ -278,15 +278,15 @@ tells_scopes o done c frame tells delta full = record {
 
 -- a frame was taken
 pub Continues-framed : (now : SessionState) (f : Arc FrameData Global) → now.collected.index ≢ 2 ^ 64 - 1 → HoldsAll now.collected (arc_value f)
-    → 0 < total_scopes (values now.collected.streams) → Continues now (with_collected now (after_frame now.collected)) NewFrame (reply.Frame (record { frame = Some f; refused = 0 }))
+    → 0 < total_scopes (values now.collected.streams) → Continues now (session_with_collected now (after_frame now.collected)) NewFrame (reply.Frame (record { frame = Some f; refused = 0 }))
 Continues-framed now f more holds some = (
   [],
   λ o done before.
-      let new = with_collected now (after_frame now.collected) in
+      let new = session_with_collected now (after_frame now.collected) in
       let tells = before.stands.tells in (
         record {
           stands = StandsAfter-framed o done now new before.stands (record { threads = refl; raised = refl; reported = omega arith }) refl
-              (TellsAfter-more o done (frames true) now.collected (after_frame now.collected) tells (ap (inserted_all now.collected.collection) tells.new_details) refl refl);
+              (TellsAfter-more o done (frames true) now.collected (after_frame now.collected) tells (ap (with_all_details now.collected.collection) tells.new_details) refl refl);
           sums = sums_anew o done (frames true) now.collected.streams empty before.sums refl refl;
         },
         (
@@ -302,11 +302,11 @@ Continues-framed now f more holds some = (
 
 -- no scope was collected
 pub Continues-unframed : (now : SessionState) → now.collected.index ≢ 2 ^ 64 - 1 → ((i : Info) (r : Recorded) → get now.collected.streams i ≡ Some r → r.num_scopes ≡ 0)
-    → Continues now (with_collected now (after_no_frame now.collected)) NewFrame (reply.Frame (record { frame = None; refused = 0 }))
+    → Continues now (session_with_collected now (after_no_frame now.collected)) NewFrame (reply.Frame (record { frame = None; refused = 0 }))
 Continues-unframed now more none = (
   [],
   λ o done before.
-      let new = with_collected now (after_no_frame now.collected) in (
+      let new = session_with_collected now (after_no_frame now.collected) in (
         record {
           stands = StandsAfter-unframed o done now new before.stands (record { threads = refl; raised = refl; reported = omega arith }) refl
               (TellsAfter-more o done (frames false) now.collected (after_no_frame now.collected) before.stands.tells refl refl refl);
@@ -317,16 +317,16 @@ Continues-unframed now more none = (
 )
 
 pub Continues-taken : (now : SessionState) (new : Collected) (frame : Option (Arc FrameData Global)) → now.collected.index ≢ 2 ^ 64 - 1 → Collects now.collected frame new
-    → Continues now (with_collected now new) NewFrame (reply.Frame (record { frame = frame; refused = 0 }))
+    → Continues now (session_with_collected now new) NewFrame (reply.Frame (record { frame = frame; refused = 0 }))
 Continues-taken now new None more collects =
-    subst (λ (c : Collected). Continues now (with_collected now c) NewFrame (reply.Frame (record { frame = None; refused = 0 }))) (sym collects.1) (Continues-unframed now more collects.0)
+    subst (λ (c : Collected). Continues now (session_with_collected now c) NewFrame (reply.Frame (record { frame = None; refused = 0 }))) (sym collects.1) (Continues-unframed now more collects.0)
 Continues-taken now new (Some f) more collects =
-    subst (λ (c : Collected). Continues now (with_collected now c) NewFrame (reply.Frame (record { frame = Some f; refused = 0 }))) (sym collects.2) (Continues-framed now f more collects.0 collects.1)
+    subst (λ (c : Collected). Continues now (session_with_collected now c) NewFrame (reply.Frame (record { frame = Some f; refused = 0 }))) (sym collects.2) (Continues-framed now f more collects.0 collects.1)
 
 -- a refused frame: nothing is learnt, or a beginning of the new details
-pub Continues-not_framed : (now : SessionState) (collected : Collected) (e : Error) → (e ≡ IndexExhausted → now.collected.index ≡ 2 ^ 64 - 1) → KeepsPending now.collected e collected → Continues now (with_collected now collected) NewFrame (reply.Refused e)
+pub Continues-not_framed : (now : SessionState) (collected : Collected) (e : Error) → (e ≡ IndexExhausted → now.collected.index ≡ 2 ^ 64 - 1) → KeepsPending now.collected e collected → Continues now (session_with_collected now collected) NewFrame (reply.Refused e)
 Continues-not_framed now collected e last (inl exhausted) =
-    subst (λ (c : Collected). Continues now (with_collected now c) NewFrame (reply.Refused e)) (sym exhausted.1) (
+    subst (λ (c : Collected). Continues now (session_with_collected now c) NewFrame (reply.Refused e)) (sym exhausted.1) (
       [],
       λ o done before. (
         quiet now now.collected o done (learns []) before (λ t. (refl, refl)) refl refl refl refl refl (TellsAfter-more o done (learns []) now.collected now.collected before.stands.tells refl refl refl),
@@ -334,7 +334,7 @@ Continues-not_framed now collected e last (inl exhausted) =
       ),
     )
 Continues-not_framed now collected e last (inr (memory, (some, begins, is))) =
-    subst (λ (c : Collected). Continues now (with_collected now c) NewFrame (reply.Refused e)) (sym is) (
+    subst (λ (c : Collected). Continues now (session_with_collected now c) NewFrame (reply.Refused e)) (sym is) (
       some,
       λ o done before. (
         quiet now (after_learning now.collected some) o done (learns some) before (λ t. (refl, refl)) refl refl refl refl refl (TellsAfter-more o done (learns some) now.collected (after_learning now.collected some) before.stands.tells refl refl refl),
@@ -369,7 +369,7 @@ Continues-not_registered now t name function file line e why = Continues-refused
 ])
 
 pub Continues-not_ended : (now : SessionState) (t : ℕ) (at : ℤ) (back : ℕ) (e : Error)
-    → ((e ≡ NoThread) × (length now.threads ≤ t)) ⊎ ((e ≡ MismatchedEnd) × (t < length now.threads) × ((0 < back) ⊎ (open_after 0 (thread_in now t).word ≡ 0))) → Continues now now (End t at back) (reply.Refused e)
+    → ((e ≡ NoThread) × (length now.threads ≤ t)) ⊎ ((e ≡ MismatchedEnd) × (t < length now.threads) × ((0 < back) ⊎ (open_after 0 (session_thread now t).word ≡ 0))) → Continues now now (End t at back) (reply.Refused e)
 Continues-not_ended now t at back e why = Continues-refused now (End t at back) e refl (λ o done before. elim why [
   | inl none ↦ inl (none.0, omega (arith, none.1, before.stands.num_threads))
   | inr other ↦
@@ -384,7 +384,7 @@ Continues-not_ended now t at back e why = Continues-refused now (End t at back) 
       )
 ])
 
-pub Continues-not_reported : (now : SessionState) (info : ThreadInfo) (stream : Held) (e : Error) → (e ≡ Memory) ⊎ IsFault stream.bytes e ⊎ ((r : Recorded) × (f : Forest) × IsHonestRecord r f × (r.bytes ≡ stream.bytes) × IsReportRefusal now.collected [] r e)
+pub Continues-not_reported : (now : SessionState) (info : ThreadInfo) (stream : StreamState) (e : Error) → (e ≡ Memory) ⊎ IsFault stream.bytes e ⊎ ((r : Recorded) × (f : Forest) × IsHonestRecord r f × (r.bytes ≡ stream.bytes) × IsReportRefusal now.collected [] r e)
     → Continues now now (ReportUser info stream) (reply.Refused e)
 Continues-not_reported now info stream e (inl memory) = Continues-refused now (ReportUser info stream) e refl (λ o done before. inl memory)
 Continues-not_reported now info stream e (inr (inl fault)) = Continues-refused now (ReportUser info stream) e refl (λ o done before. inr (inl fault))

@@ -17,20 +17,20 @@ use Rattle.puffin_frames.specs.Thread.Closing.{Closes}
 use Rattle.puffin_frames.specs.declared.frame_data.frame.FrameData.{FrameData}
 use Rattle.puffin_frames.specs.declared.thread_profiler.reporter.Closed.{Closed}
 use Rattle.puffin_frames.specs.declared.thread_profiler.reporter.Closed.TheVariants.{Inner, Reported, Kept}
-use Rattle.puffin.specs.Profiler.Collected.{Collected, Accepts, Refuses, after_report, after_wanting, SumsFit, range_with, IsTooLong, IsReportRefusal}
+use Rattle.puffin.specs.Profiler.Collected.{Collected, AcceptsReport, RefusesReport, after_report, after_wanting, PendingFits, range_with, IsTooLong, IsReportRefusal}
 use Rattle.puffin.specs.Profiler.Collecting.{Collects, KeepsPending}
 use Rattle.puffin_replay.specs.Session.{SessionState}
-use Rattle.puffin_replay.specs.inner.Serving.{clock_time, thread_in, with_thread, with_collected, Ends}
+use Rattle.puffin_replay.specs.inner.Serving.{clock_time, session_thread, session_with_thread, session_with_collected, Ends}
 
 abbrev session : List Thread → Collected → SessionState
 session threads collected = record { threads = threads; collected = collected }
 
 -- what a profiler's end gives, where its clock was set to the command's time
-pub Ends-from : (old there new : Thread) (at clock t : ℤ) (before after : Collected) (closed : Closed) → there ≡ old → clock ≡ at → t ≡ int_max (pos 0) clock → Closes Accepts Refuses there new t before after closed
+pub Ends-from : (old there new : Thread) (at clock t : ℤ) (before after : Collected) (closed : Closed) → there ≡ old → clock ≡ at → t ≡ int_max (pos 0) clock → Closes AcceptsReport RefusesReport there new t before after closed
     → Ends old new (clock_time at) before after closed
 Ends-from old there new at clock t before after closed same set answered closes =
-    subst (λ (th : Thread). Closes Accepts Refuses th new (clock_time at) before after closed) same
-    (subst (λ (x : ℤ). Closes Accepts Refuses there new x before after closed) (answered ∙ ap (int_max (pos 0)) set) closes)
+    subst (λ (th : Thread). Closes AcceptsReport RefusesReport th new (clock_time at) before after closed) same
+    (subst (λ (x : ℤ). Closes AcceptsReport RefusesReport there new x before after closed) (answered ∙ ap (int_max (pos 0)) set) closes)
 
 no_details_lack : AllHaveIds []
 no_details_lack k d lt = absurd (omega arith)
@@ -44,18 +44,18 @@ kept_ids accepts refuses old new t before after (Kept e) closes ids = subst (λ 
 
 -- what a new frame gives
 pub Collects-from : (now seen : SessionState) (new : Collected) (result : Result (Option (Arc FrameData Global)) Error) → seen ≡ now → ((result ≡ Err IndexExhausted) ↔ (seen.collected.index ≡ 2 ^ 64 - 1)) → IfOk result (λ frame. Collects seen.collected frame new)
-    → IfOk result (λ frame. (now.collected.index ≢ 2 ^ 64 - 1) × (with_collected seen new ≡ with_collected now new) × Collects now.collected frame new)
+    → IfOk result (λ frame. (now.collected.index ≢ 2 ^ 64 - 1) × (session_with_collected seen new ≡ session_with_collected now new) × Collects now.collected frame new)
 Collects-from now seen new (Err e) same exhausted took = tt
 Collects-from now seen new (Ok frame) same exhausted took =
-    subst (λ (s : SessionState). (s.collected.index ≢ 2 ^ 64 - 1) × (with_collected seen new ≡ with_collected s new) × Collects s.collected frame new) same ((λ last. no_error (exhausted.1 last)), refl, took)
+    subst (λ (s : SessionState). (s.collected.index ≢ 2 ^ 64 - 1) × (session_with_collected seen new ≡ session_with_collected s new) × Collects s.collected frame new) same ((λ last. no_error (exhausted.1 last)), refl, took)
   where
     no_error : ◌≡◌ {A = Result (Option (Arc FrameData Global)) Error} (Ok frame) (Err IndexExhausted) → ⊥
     no_error e = cc
 
 pub KeepsPending-from : (now seen : SessionState) (new : Collected) (result : Result (Option (Arc FrameData Global)) Error) → seen ≡ now → IfErr result (λ e. KeepsPending seen.collected e new)
-    → IfErr result (λ e. (with_collected seen new ≡ with_collected now new) × KeepsPending now.collected e new)
+    → IfErr result (λ e. (session_with_collected seen new ≡ session_with_collected now new) × KeepsPending now.collected e new)
 KeepsPending-from now seen new (Ok frame) same keeps = tt
-KeepsPending-from now seen new (Err e) same keeps = subst (λ (s : SessionState). (with_collected seen new ≡ with_collected s new) × KeepsPending s.collected e new) same (refl, keeps)
+KeepsPending-from now seen new (Err e) same keeps = subst (λ (s : SessionState). (session_with_collected seen new ≡ session_with_collected s new) × KeepsPending s.collected e new) same (refl, keeps)
 
 pub last-from : (now seen : SessionState) (result : Result (Option (Arc FrameData Global)) Error) → seen ≡ now → ((result ≡ Err IndexExhausted) ↔ (seen.collected.index ≡ 2 ^ 64 - 1)) → IfErr result (λ e. e ≡ IndexExhausted → now.collected.index ≡ 2 ^ 64 - 1)
 last-from now seen (Ok frame) same exhausted = tt
@@ -69,13 +69,13 @@ same_default (x ∷ xs) (suc t) d e lt = same_default xs t d e (omega arith)
 -- what ending a scope of one thread gives for its session
 pub Ends-there : (now : SessionState) (threads : List Thread) (collected after : Collected) (t : ℕ) (thread new : Thread) (at : ℤ) (back : ℕ) (result : Result Closed Error) → session threads collected ≡ now → t < length threads → thread ≡ get_or threads t thread
     → OnOk result (back ≡ 0) → IfOk result (λ closed. Ends thread new at collected after closed)
-    → IfOk result (λ closed. (t < length now.threads) × (back ≡ 0) × (session (set threads t new) after ≡ with_thread now t (get_or (set threads t new) t nobody) after) × Ends (thread_in now t) (get_or (set threads t new) t nobody) at now.collected after closed)
+    → IfOk result (λ closed. (t < length now.threads) × (back ≡ 0) × (session (set threads t new) after ≡ session_with_thread now t (get_or (set threads t new) t nobody) after) × Ends (session_thread now t) (get_or (set threads t new) t nobody) at now.collected after closed)
 Ends-there now threads collected after t thread new at back (Err e) same lt read innermost ends = tt
 Ends-there now threads collected after t thread new at back (Ok closed) same lt read innermost ends =
     let there : get_or (set threads t new) t nobody ≡ new = get_or-set_same threads t new nobody lt in
     let was : thread ≡ get_or threads t nobody = read ∙ same_default threads t thread nobody lt in
     subst
-    (λ (s : SessionState). (t < length s.threads) × (back ≡ 0) × (session (set threads t new) after ≡ with_thread s t (get_or (set threads t new) t nobody) after) × Ends (thread_in s t) (get_or (set threads t new) t nobody) at s.collected after closed)
+    (λ (s : SessionState). (t < length s.threads) × (back ≡ 0) × (session (set threads t new) after ≡ session_with_thread s t (get_or (set threads t new) t nobody) after) × Ends (session_thread s t) (get_or (set threads t new) t nobody) at s.collected after closed)
     same (
       lt,
       innermost,
@@ -85,13 +85,13 @@ Ends-there now threads collected after t thread new at back (Ok closed) same lt 
 
 -- what an accepted report of a user's scopes gives, and a refused one
 pub Accepts-from : (now seen : SessionState) (after : Collected) (i given : Info) (r lent : Recorded) (f : Forest) (bytes : List ℕ) (result : Result (Unit {0}) Error) → seen ≡ now → IsHonestRecord r f → r.bytes ≡ bytes → lent ≡ r → given ≡ i
-    → OnOk result (after ≡ after_report seen.collected given [] lent) → OnOk result (SumsFit seen.collected lent × ¬ IsTooLong (range_with seen.collected lent))
-    → OnOk result ((r : Recorded) × (f : Forest) × IsHonestRecord r f × (r.bytes ≡ bytes) × Accepts now.collected i [] r after × (with_collected seen after ≡ with_collected now after))
+    → OnOk result (after ≡ after_report seen.collected given [] lent) → OnOk result (PendingFits seen.collected lent × ¬ IsTooLong (range_with seen.collected lent))
+    → OnOk result ((r : Recorded) × (f : Forest) × IsHonestRecord r f × (r.bytes ≡ bytes) × AcceptsReport now.collected i [] r after × (session_with_collected seen after ≡ session_with_collected now after))
 Accepts-from now seen after i given r lent f bytes (Err e) same honest read lends names took fits = tt
 Accepts-from now seen after i given r lent f bytes (Ok x) same honest read lends names took fits =
-    let given_there : Accepts seen.collected given [] lent after = (took, no_details_lack, fits.0, fits.1) in
-    let here : Accepts seen.collected i [] r after = subst (λ (q : Recorded). Accepts seen.collected i [] q after) lends (subst (λ (j : Info). Accepts seen.collected j [] lent after) names given_there) in
-    (r, f, honest, read, subst (λ (s : SessionState). Accepts s.collected i [] r after) same here, ap (λ (s : SessionState). with_collected s after) same)
+    let given_there : AcceptsReport seen.collected given [] lent after = (took, no_details_lack, fits.0, fits.1) in
+    let here : AcceptsReport seen.collected i [] r after = subst (λ (q : Recorded). AcceptsReport seen.collected i [] q after) lends (subst (λ (j : Info). AcceptsReport seen.collected j [] lent after) names given_there) in
+    (r, f, honest, read, subst (λ (s : SessionState). AcceptsReport s.collected i [] r after) same here, ap (λ (s : SessionState). session_with_collected s after) same)
 
 pub Refuses-from : (now seen : SessionState) (r lent : Recorded) (f : Forest) (bytes : List ℕ) (result : Result (Unit {0}) Error) → seen ≡ now → IsHonestRecord r f → r.bytes ≡ bytes → lent ≡ r
     → IfErr result (λ e. IsReportRefusal seen.collected [] lent e) → IfErr result (λ e. (e ≡ Memory) ⊎ IsFault bytes e ⊎ ((r : Recorded) × (f : Forest) × IsHonestRecord r f × (r.bytes ≡ bytes) × IsReportRefusal now.collected [] r e))
@@ -100,5 +100,5 @@ Refuses-from now seen r lent f bytes (Err e) same honest read lends refused =
     inr (inr (r, f, honest, read, subst (λ (s : SessionState). IsReportRefusal s.collected [] r e) same (subst (λ (q : Recorded). IsReportRefusal seen.collected [] q e) lends refused)))
 
 -- what a wanted snapshot gives
-pub wanted-from : (now seen : SessionState) (new : Collected) → seen ≡ now → new ≡ after_wanting seen.collected → with_collected seen new ≡ with_collected now (after_wanting now.collected)
-wanted-from now seen new same is = ap (with_collected seen) is ∙ ap (λ (s : SessionState). with_collected s (after_wanting s.collected)) same
+pub wanted-from : (now seen : SessionState) (new : Collected) → seen ≡ now → new ≡ after_wanting seen.collected → session_with_collected seen new ≡ session_with_collected now (after_wanting now.collected)
+wanted-from now seen new same is = ap (session_with_collected seen) is ∙ ap (λ (s : SessionState). session_with_collected s (after_wanting s.collected)) same

@@ -5,7 +5,7 @@ use Rattle.std.proofs.lemmas.Grind.{merely, not_there}
 use Rattle.std.specs.FinMap.{get, empty, values, get-insert, get-empty}
 use Rattle.puffin_data.specs.Forest.{Forest, append}
 use Rattle.puffin_data.specs.Forest.Measures.{scope_count}
-use Rattle.puffin_data.specs.Honesty.{Recorded, IsHonestRecord, joined}
+use Rattle.puffin_data.specs.Honesty.{Recorded, IsHonestRecord, joined_record}
 use Rattle.puffin_data.specs.Forest.Tour.{Event, tour}
 use Rattle.puffin_data.specs.Forest.Words.{num_begun}
 use Rattle.puffin_frames.specs.Thread.Info.{Info, info_cmp, same_info}
@@ -21,7 +21,7 @@ use Rattle.puffin_replay.specs.Session.Replies.{SpellsFrame}
 use Rattle.puffin_replay.proofs.Laws.{tour-append, honest_joined, num_begun-tour, info_cmp_total, same_info-one}
 use Rattle.puffin_replay.proofs.Histories.{total_under-itself, total_under-other}
 
-joined_word : (a s : Recorded) (old word : List Event) → SpellsWord a old → SpellsWord s word → SpellsWord (joined a s) (old ++ word)
+joined_word : (a s : Recorded) (old word : List Event) → SpellsWord a old → SpellsWord s word → SpellsWord (joined_record a s) (old ++ word)
 joined_word a s old word h k = record {
   forest = append h.forest k.forest;
   honest = honest_joined a s h.forest k.forest h.honest k.honest;
@@ -34,7 +34,7 @@ honest_none = record { stream = record { whole = refl; fits = tt }; counts = rec
 spells_none : SpellsWord no_scopes []
 spells_none = record { forest = Forest.empty; honest = honest_none; toured = refl }
 
-spells_anew : (a : Option Recorded) (old : Option (List Event)) (s : Recorded) (word : List Event) → SpellsIfAny a old → SpellsWord s word → ∥ SpellsWord (joined (unwrap_or a no_scopes) s) (unwrap_or old [] ++ word) ∥₁
+spells_anew : (a : Option Recorded) (old : Option (List Event)) (s : Recorded) (word : List Event) → SpellsIfAny a old → SpellsWord s word → ∥ SpellsWord (joined_record (unwrap_or a no_scopes) s) (unwrap_or old [] ++ word) ∥₁
 spells_anew None None s word h k = merely (joined_word no_scopes s [] word spells_none k)
 spells_anew (Some a) (Some old) s word h k = ∥∥₁_map h (λ x. joined_word a s old word x k)
 spells_anew None (Some old) s word h k = absurd h
@@ -47,10 +47,10 @@ module _ (streams : Streams) (ds : List Delivery) (i : Info) where
     where
       at_test : (b : Bool) → same_info j i ≡ b → SpellsIfAny (get (reported_to streams i s) j) (total_under (ds ++ (under i word ∷ [])) j)
       at_test true e =
-          let there : get (reported_to streams i s) j ≡ Some (joined (unwrap_or (get streams i) no_scopes) s) = get-insert info_cmp_total streams i (joined (unwrap_or (get streams i) no_scopes) s) j ∙ rw e in
+          let there : get (reported_to streams i s) j ≡ Some (joined_record (unwrap_or (get streams i) no_scopes) s) = get-insert info_cmp_total streams i (joined_record (unwrap_or (get streams i) no_scopes) s) j ∙ rw e in
           rw (there, total_under-itself ds i j word e, same_info-one j i e) (spells_anew (get streams i) (total_under ds i) s word (before i) more)
       at_test false e =
-          let there : get (reported_to streams i s) j ≡ get streams j = get-insert info_cmp_total streams i (joined (unwrap_or (get streams i) no_scopes) s) j ∙ rw e in
+          let there : get (reported_to streams i s) j ≡ get streams j = get-insert info_cmp_total streams i (joined_record (unwrap_or (get streams i) no_scopes) s) j ∙ rw e in
           rw (there, total_under-other ds i j word e) (before j)
 
 pub SpellsDue-none : SpellsDue empty []

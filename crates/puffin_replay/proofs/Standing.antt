@@ -14,9 +14,9 @@ use Rattle.puffin_frames.specs.Thread.Calls.{Thread, after_begin, after_end, aft
 use Rattle.puffin_frames.specs.Details.{Details}
 use Rattle.puffin.specs.Profiler.Collected.{reported_to}
 use Rattle.puffin_replay.specs.Session.History.{Opening, Mark, begun, ended, Call, Action, calls, hands, frames, registers, nobody, thread_at, call_of}
-use Rattle.puffin_replay.specs.Session.Deliveries.{under, unreported, info_under, handed_at, handed_after}
+use Rattle.puffin_replay.specs.Session.Deliveries.{under, unreported, info_under, deliveries_at, deliveries_after}
 use Rattle.puffin_replay.specs.Session.Due.{due, scopes_delivered, is_numbered, index_after, reported_after}
-use Rattle.puffin_replay.specs.Session.Notes.{Note, noted, sent, notes_at, registered}
+use Rattle.puffin_replay.specs.Session.Notes.{Note, noted, sent, notes_at, details_registered}
 use Rattle.puffin_replay.specs.Session.{SessionState, opening_of, SpellsWord, SpellsDue, StandsAfter, TellsAfter, thread_after}
 use Rattle.puffin_replay.proofs.Histories.{latest_of-same, latest_of-more, unreported-same, unreported-begun, unreported-ended, unreported-reported, first_start_of-same, first_start_of-begun, first_start_of-ended, handed_after-more, due-same, due-more, due-anew}
 use Rattle.puffin_replay.proofs.Telling.{waiting_with, registered-more}
@@ -58,8 +58,8 @@ foreign_details t u d h = rw (other t u h) refl
 
 module _ (o : Opening) (t : ℕ) (done : List Action) where
   -- what is registered after an action of which this is noted
-  notes_with : (a : Action) (notes : List Note) → notes_at t a ≡ notes → registered o t (done ++ (a ∷ [])) ≡ fold waiting_with (registered o t done) notes
-  notes_with a notes is = registered-more o t done a ∙ ap (fold waiting_with (registered o t done)) is
+  notes_with : (a : Action) (notes : List Note) → notes_at t a ≡ notes → details_registered o t (done ++ (a ∷ [])) ≡ fold waiting_with (details_registered o t done) notes
+  notes_with a notes is = registered-more o t done a ∙ ap (fold waiting_with (details_registered o t done)) is
 
   -- an action that is no call of a thread, and of which it notes nothing, leaves it
   pub thread_after-same : (a : Action) → call_of t a ≡ None → notes_at t a ≡ [] → thread_after o (done ++ (a ∷ [])) t ≡ thread_after o done t
@@ -87,7 +87,7 @@ module _ (o : Opening) (t : ℕ) (done : List Action) where
       same_thread refl (first_start_of-ended o t done a (int_max (pos 0) at) true e) (latest_of-more o t done a (record { at = int_max (pos 0) at; mark = ended true }) e) (unreported-reported o t done a (int_max (pos 0) at) e) (notes_with a (sent ∷ []) (rw (itself t) refl))
 
   -- what an accepted report delivers
-  pub handed_at-reported : (at : ℤ) → handed_at o done (calls t (record { at = at; mark = ended true })) ≡ under (info_of_thread (thread_after o done t)) (handed_at_end (thread_after o done t) at) ∷ []
+  pub handed_at-reported : (at : ℤ) → deliveries_at o done (calls t (record { at = at; mark = ended true })) ≡ under (info_of_thread (thread_after o done t)) (handed_at_end (thread_after o done t) at) ∷ []
   handed_at-reported at = ap (λ time. under (info_under o t done) (unreported o t done ++ (Close time ∷ [])) ∷ [])
       (latest_of-more o t done (calls t (record { at = at; mark = ended true })) (record { at = int_max (pos 0) at; mark = ended true }) (own_call t (record { at = at; mark = ended true })))
 
@@ -110,15 +110,15 @@ pub record ChangesPending (now new : SessionState) (index scopes : ℕ) : Type 0
 pub index_after-more : (o : Opening) (done : List Action) (a : Action) → index_after o (done ++ (a ∷ [])) ≡ index_after o done + cond (is_numbered a) 1 0
 index_after-more o done a = omega (arith, sum_by-append (λ b. cond (is_numbered b) 1 0) done (a ∷ []))
 
-pub reported_after-more : (o : Opening) (done : List Action) (a : Action) → reported_after o (done ++ (a ∷ [])) ≡ reported_after o done + sum_by scopes_delivered (handed_at o done a)
+pub reported_after-more : (o : Opening) (done : List Action) (a : Action) → reported_after o (done ++ (a ∷ [])) ≡ reported_after o done + sum_by scopes_delivered (deliveries_at o done a)
 reported_after-more o done a =
     ap (λ ds. o.reported + sum_by scopes_delivered ds) (handed_after-more o [] done a)
-    ∙ omega (arith, sum_by-append scopes_delivered (handed_after o [] done) (handed_at o done a))
+    ∙ omega (arith, sum_by-append scopes_delivered (deliveries_after o [] done) (deliveries_at o done a))
 
 module _ (o : Opening) (done : List Action) (now new : SessionState) (before : StandsAfter o done now) where
   -- an action that changes one thread
   at_thread : (t : ℕ) (a : Action) (f : Thread → Thread) → t < length o.threads → thread_after o (done ++ (a ∷ [])) t ≡ f (thread_after o done t) → ((u : ℕ) → u ≢ t → (call_of u a ≡ None) × (notes_at u a ≡ [])) → is_numbered a ≡ false
-      → ChangesThread now new t (f (thread_at (opening_of now) t)) (sum_by scopes_delivered (handed_at o done a)) → SpellsDue new.collected.streams (due o (done ++ (a ∷ []))) → TellsAfter o (done ++ (a ∷ [])) new.collected
+      → ChangesThread now new t (f (thread_at (opening_of now) t)) (sum_by scopes_delivered (deliveries_at o done a)) → SpellsDue new.collected.streams (due o (done ++ (a ∷ []))) → TellsAfter o (done ++ (a ∷ [])) new.collected
       → StandsAfter o (done ++ (a ∷ [])) new
   at_thread t a f within there others numbered change collected tells = record {
     num_threads = change.num_threads ∙ before.num_threads;
@@ -129,11 +129,11 @@ module _ (o : Opening) (done : List Action) (now new : SessionState) (before : S
     ];
     collected = collected;
     index = change.index ∙ before.index ∙ sym (index_after-more o done a ∙ ap (λ (b : Bool). index_after o done + cond b 1 0) numbered ∙ omega arith);
-    reported = change.reported ∙ ap (λ n. n + sum_by scopes_delivered (handed_at o done a)) before.reported ∙ sym (reported_after-more o done a);
+    reported = change.reported ∙ ap (λ n. n + sum_by scopes_delivered (deliveries_at o done a)) before.reported ∙ sym (reported_after-more o done a);
     tells = tells;
   }
 
-  called : (t : ℕ) (at : ℤ) (m : Mark) → t < length o.threads → ChangesThread now new t (after_call (thread_at (opening_of now) t) at m) (sum_by scopes_delivered (handed_at o done (calls t (record { at = at; mark = m }))))
+  called : (t : ℕ) (at : ℤ) (m : Mark) → t < length o.threads → ChangesThread now new t (after_call (thread_at (opening_of now) t) at m) (sum_by scopes_delivered (deliveries_at o done (calls t (record { at = at; mark = m }))))
       → SpellsDue new.collected.streams (due o (done ++ (calls t (record { at = at; mark = m }) ∷ []))) → TellsAfter o (done ++ (calls t (record { at = at; mark = m }) ∷ [])) new.collected
       → StandsAfter o (done ++ (calls t (record { at = at; mark = m }) ∷ [])) new
   called t at m within change collected tells =
@@ -157,7 +157,7 @@ module _ (o : Opening) (done : List Action) (now new : SessionState) (before : S
       called t at (ended false) within change (rw (same, due-same o done (calls t (record { at = at; mark = ended false })) refl) before.collected) tells
 
   scopes_reported : (t : ℕ) (at : ℤ) → thread_at (opening_of now) t ≡ thread_after o done t
-      → num_begun (handed_at_end (thread_at (opening_of now) t) at) ≡ sum_by scopes_delivered (handed_at o done (calls t (record { at = at; mark = ended true })))
+      → num_begun (handed_at_end (thread_at (opening_of now) t) at) ≡ sum_by scopes_delivered (deliveries_at o done (calls t (record { at = at; mark = ended true })))
   scopes_reported t at th =
       ap (λ v. num_begun (handed_at_end v at)) th ∙ sym (zero-add (num_begun (handed_at_end (thread_after o done t) at))) ∙ ap (λ ds. sum_by scopes_delivered ds) (sym (handed_at-reported o t done at))
 
@@ -173,14 +173,14 @@ module _ (o : Opening) (done : List Action) (now new : SessionState) (before : S
       (subst (λ ds. SpellsDue new.collected.streams ds) (sym more) (subst (λ ss. SpellsDue ss (due o done ++ (under (info_of_thread (thread_after o done t)) (handed_at_end (thread_after o done t) at) ∷ []))) (sym (same ∙ ap (λ v. reported_to now.collected.streams (info_of_thread v) s) th)) ready)) tells
 
   -- an action that is no thread's
-  unthreaded : (a : Action) → ((t : ℕ) → (call_of t a ≡ None) × (notes_at t a ≡ [])) → ChangesPending now new (now.collected.index + cond (is_numbered a) 1 0) (sum_by scopes_delivered (handed_at o done a)) → SpellsDue new.collected.streams (due o (done ++ (a ∷ []))) → TellsAfter o (done ++ (a ∷ [])) new.collected
+  unthreaded : (a : Action) → ((t : ℕ) → (call_of t a ≡ None) × (notes_at t a ≡ [])) → ChangesPending now new (now.collected.index + cond (is_numbered a) 1 0) (sum_by scopes_delivered (deliveries_at o done a)) → SpellsDue new.collected.streams (due o (done ++ (a ∷ []))) → TellsAfter o (done ++ (a ∷ [])) new.collected
       → StandsAfter o (done ++ (a ∷ [])) new
   unthreaded a none change collected tells = record {
     num_threads = ap length change.threads ∙ before.num_threads;
     threads = λ u lt. ap (λ ts. slice_index_or ts u nobody) change.threads ∙ before.threads u lt ∙ sym (thread_after-same o u done a (none u).0 (none u).1);
     collected = collected;
     index = change.raised ∙ ap (λ n. n + cond (is_numbered a) 1 0) before.index ∙ sym (index_after-more o done a);
-    reported = change.reported ∙ ap (λ n. n + sum_by scopes_delivered (handed_at o done a)) before.reported ∙ sym (reported_after-more o done a);
+    reported = change.reported ∙ ap (λ n. n + sum_by scopes_delivered (deliveries_at o done a)) before.reported ∙ sym (reported_after-more o done a);
     tells = tells;
   }
 
@@ -199,7 +199,7 @@ module _ (o : Opening) (done : List Action) (now new : SessionState) (before : S
   StandsAfter-unframed change same tells = unthreaded (frames false) (λ t. (refl, refl)) change (rw (same, due-same o done (frames false) refl) before.collected) tells
 
   -- an action that hands over no scopes and raises no index
-  pub StandsAfter-quiet : (a : Action) → ((t : ℕ) → (call_of t a ≡ None) × (notes_at t a ≡ [])) → is_numbered a ≡ false → handed_at o done a ≡ [] → ChangesPending now new now.collected.index 0 → new.collected.streams ≡ now.collected.streams
+  pub StandsAfter-quiet : (a : Action) → ((t : ℕ) → (call_of t a ≡ None) × (notes_at t a ≡ [])) → is_numbered a ≡ false → deliveries_at o done a ≡ [] → ChangesPending now new now.collected.index 0 → new.collected.streams ≡ now.collected.streams
       → TellsAfter o (done ++ (a ∷ [])) new.collected → StandsAfter o (done ++ (a ∷ [])) new
   StandsAfter-quiet a none numbered silent change same tells =
       unthreaded a none (record {

@@ -23,12 +23,12 @@ use Rattle.puffin.specs.View.File.{file_of, contents_in, details_stored, file_at
 use Rattle.puffin.specs.Merge.FrameBytes.{FrameBytes}
 use Rattle.puffin.specs.View.ViewedFrames.{Frame, contents_of}
 use Rattle.puffin.specs.View.Known.{view_of, collection_of, lacks_ids}
-use Rattle.puffin.specs.Merge.Refusals.{IsRefusal, AreMerged}
+use Rattle.puffin.specs.Merge.Refusals.{IsMergeRefusal, AreMerged}
 use Rattle.puffin.specs.Merge.Scopes.{frame_bytes, frames_bytes, forest_in}
 use Rattle.puffin.specs.View.{View, all_uniq}
 use Rattle.puffin_replay.specs.declared.replay.summary.Summary.{Summary}
 use Rattle.puffin_replay.specs.Program.Recording.{NoneLacksIds}
-use Rattle.puffin_replay.specs.Program.Summary.{bytes_under, bytes_in, followed_by, all_bytes_in, said_by, SumsUp, IsSummary, details_said, IsHindered, FailsToSumUp}
+use Rattle.puffin_replay.specs.Program.Summary.{bytes_under, bytes_in, followed_by, all_bytes_in, contents_read, SumsUp, IsSummary, details_said, IsHindered, FailsToSumUp}
 
 -- ---- scopes that are made their own
 
@@ -153,16 +153,16 @@ failures_kept A n e other = refl
 
 -- ---- a summary
 
-said_of : (stored : List Stored) (v : FrameView) → IsViewOf stored v → contents_in (view_of v) ≡ said_by stored
+said_of : (stored : List Stored) (v : FrameView) → IsViewOf stored v → contents_in (view_of v) ≡ contents_read stored
 said_of stored v of = ap contents_in of.frames
 
 pub summed : (info : Info) (stored : List Stored) (v : FrameView) (frames : List Unpacked) (summary : Summary) → IsViewOf stored v → summary.frames ≡ length frames → all_bytes_in info (contents_in (view_of v)) ≡ Ok (frames_bytes info frames)
     → AreMerged (frames_bytes info frames) (forest_in summary.merged.items) → summary.scopes ≡ collection_of v → IsSummary info stored summary
 summed info stored v frames summary of number read merged scopes =
     let said = said_of stored v of in
-    let unpacked : all_bytes_in info (said_by stored) ≡ Ok (frames_bytes info frames) = ap (all_bytes_in info) (sym said) ∙ read in
+    let unpacked : all_bytes_in info (contents_read stored) ≡ Ok (frames_bytes info frames) = ap (all_bytes_in info) (sym said) ∙ read in
     record {
-      frames = number ∙ sym (size_of_frames info frames) ∙ size_of_all info (said_by stored) (frames_bytes info frames) unpacked;
+      frames = number ∙ sym (size_of_frames info frames) ∙ size_of_all info (contents_read stored) (frames_bytes info frames) unpacked;
       streams = frames_bytes info frames;
       unpacked = unpacked;
       merged = merged;
@@ -181,7 +181,7 @@ is_memory Memory = inl refl
 is_memory e = inr (λ h. cc)
 
 pub merge_fails : (info : Info) (old new : Option (List ℕ)) (v : FrameView) (frames : List Unpacked) (cause : Error) (fault : FileError) (stored : List Stored) → TookFrames file_at old new stored → IsViewOf stored v
-    → all_bytes_in info (contents_in (view_of v)) ≡ Ok (frames_bytes info frames) → (cause ≡ Memory) ⊎ IsRefusal (frames_bytes info frames) cause
+    → all_bytes_in info (contents_in (view_of v)) ≡ Ok (frames_bytes info frames) → (cause ≡ Memory) ⊎ IsMergeRefusal (frames_bytes info frames) cause
     → (cause ≡ Memory → fault ≡ file.Memory) → ((cause ≡ Memory → ⊥) → fault ≡ file.Refused cause) → FailsToSumUp info old new fault
 merge_fails info old new v frames cause fault stored took of read refusal memory other = elim (is_memory cause) [
   | inl is ↦ inl (subst (FailsToRead file_at old new) (sym (memory is)) tt)
@@ -198,7 +198,7 @@ details_again [] = refl
 details_again (c ∷ cs) = ap (λ (ds : List Details). c.details ++ ds) (details_again cs)
 
 abbrev pub SaidAgain : Type 0
-SaidAgain = (v : View) → length (contents_in v) < 2 ^ 64 - 1 → said_by (map packed (contents_in v)) ≡ contents_in v
+SaidAgain = (v : View) → length (contents_in v) < 2 ^ 64 - 1 → contents_read (map packed (contents_in v)) ≡ contents_in v
 
 -- the frames that are read are those that were written
 pub summed_again : (info : Info) (v : View) (stored : List Stored) (summary : Summary) → SaidAgain → length (contents_in v) < 2 ^ 64 - 1 → stored ≡ map packed (contents_in v) → IsSummary info stored summary
@@ -218,7 +218,7 @@ pub hindered_again : (info : Info) (v : View) (new : Option (List ℕ)) (e : Fil
     → FailsToSumUp info (Some (file_of (contents_in v))) new e → (IsOutside e → ⊥) → IsHindered info (contents_in v) e
 hindered_again info v new e again few ids for_ids frames (inl fails) inside = absurd (lack_none (list_any lacks_ids (contents_in v)) (for_ids fails inside).1 ids)
 hindered_again info v new e again few ids for_ids frames (inr (stored, took, hindered)) inside =
-    subst (λ (cs : List Said). IsHindered info cs e) (ap said_by (frames stored took) ∙ again v few) hindered
+    subst (λ (cs : List Said). IsHindered info cs e) (ap contents_read (frames stored took) ∙ again v few) hindered
 
 -- what packed bytes hold is what they are unpacked to
 held_unpacked : (o : Option Streams) (s : Streams) → o ≡ Some s → or_bad o ≡ Ok s

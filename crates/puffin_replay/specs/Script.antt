@@ -8,7 +8,7 @@ use Rattle.std.specs.BTreeMap.{get_by}
 use Rattle.std.specs.Str.{bytes_eq, is_utf8}
 use Rattle.std.specs.String.{string_bytes}
 use Rattle.std.specs.Borrow.{Bor}
-use Rattle.puffin_replay.specs.Script.Statements.{Said, begins, ends, registers, registers_user, tells_all, takes_frame, words_in, said_by}
+use Rattle.puffin_replay.specs.Script.Statements.{Meaning, begins, ends, registers, registers_user, tells_all, takes_frame, words_in, line_meaning}
 use Rattle.puffin_replay.specs.declared.replay.command.Command.{Command}
 use Rattle.puffin_replay.specs.declared.replay.command.Command.TheVariants as command
 use Rattle.puffin_replay.specs.declared.replay.fault.ToolFault.{ToolFault}
@@ -32,38 +32,38 @@ abbrev pub is_skipped : List ℕ → Bool
 is_skipped [] = true
 is_skipped (byte ∷ bytes) = byte == 35
 
-abbrev pub known : ℕ → Option Said → Result (Option Said) ℕ
+abbrev pub known : ℕ → Option Meaning → Result (Option Meaning) ℕ
 known number None = Err number
 known number (Some s) = Ok (Some s)
 
 -- what a line with this number says, unless it is skipped; or the number, where it isn't text or says nothing that is known
-unfoldable pub told_by : ℕ → List ℕ → Result (Option Said) ℕ
-told_by number line = if is_utf8 line then (if is_skipped line then Ok None else known number (said_by (words_in line))) else Err number
+unfoldable pub told_by : ℕ → List ℕ → Result (Option Meaning) ℕ
+told_by number line = if is_utf8 line then (if is_skipped line then Ok None else known number (line_meaning (words_in line))) else Err number
 
-abbrev pub onto : ℕ × Said → Result (List (ℕ × Said)) ℕ → Result (List (ℕ × Said)) ℕ
+abbrev pub onto : ℕ × Meaning → Result (List (ℕ × Meaning)) ℕ → Result (List (ℕ × Meaning)) ℕ
 onto first (Ok later) = Ok (first ∷ later)
 onto first (Err wrong) = Err wrong
 
 -- what a line says, before what the later ones say
-abbrev pub with_first : ℕ → Result (Option Said) ℕ → Result (List (ℕ × Said)) ℕ → Result (List (ℕ × Said)) ℕ
+abbrev pub with_first : ℕ → Result (Option Meaning) ℕ → Result (List (ℕ × Meaning)) ℕ → Result (List (ℕ × Meaning)) ℕ
 with_first number (Err wrong) later = Err wrong
 with_first number (Ok None) later = later
 with_first number (Ok (Some s)) later = onto (number, s) later
 
 -- what the lines from this number on say, in order, each with its number; or the number of the first that says nothing that is known
-abbrev pub statements_from : ℕ → List (List ℕ) → Result (List (ℕ × Said)) ℕ
+abbrev pub statements_from : ℕ → List (List ℕ) → Result (List (ℕ × Meaning)) ℕ
 statements_from number [] = Ok []
 statements_from number (line ∷ lines) = with_first number (told_by number line) (statements_from (number + 1) lines)
 
 -- ---- threads
 
-abbrev pub thread_in : Said → Option (List ℕ)
-thread_in (begins thread at id text) = Some thread
-thread_in (ends thread at) = Some thread
-thread_in (registers thread name function file line) = Some thread
-thread_in (registers_user name) = None
-thread_in tells_all = None
-thread_in takes_frame = None
+abbrev pub thread_named_by : Meaning → Option (List ℕ)
+thread_named_by (begins thread at id text) = Some thread
+thread_named_by (ends thread at) = Some thread
+thread_named_by (registers thread name function file line) = Some thread
+thread_named_by (registers_user name) = None
+thread_named_by tells_all = None
+thread_named_by takes_frame = None
 
 -- a name comes behind the others where it is new
 abbrev pub with_name : List (List ℕ) → List ℕ → List (List ℕ)
@@ -73,22 +73,22 @@ abbrev pub with_if_named : List (List ℕ) → Option (List ℕ) → List (List 
 with_if_named names None = names
 with_if_named names (Some name) = with_name names name
 
-abbrev pub with_thread : List (List ℕ) → Said → List (List ℕ)
-with_thread names s = with_if_named names (thread_in s)
+abbrev pub with_thread_of : List (List ℕ) → Meaning → List (List ℕ)
+with_thread_of names s = with_if_named names (thread_named_by s)
 
 -- the threads' names in the order in which they appear first, behind those that were there
-abbrev pub threads_after : List (List ℕ) → List (ℕ × Said) → List (List ℕ)
+abbrev pub threads_after : List (List ℕ) → List (ℕ × Meaning) → List (List ℕ)
 threads_after names [] = names
-threads_after names (s ∷ ss) = threads_after (with_thread names s.1) ss
+threads_after names (s ∷ ss) = threads_after (with_thread_of names s.1) ss
 
 -- ---- commands
 
-abbrev pub user_said : List (List ℕ) → Option Said
+abbrev pub user_said : List (List ℕ) → Option Meaning
 user_said (name ∷ []) = Some (registers_user name)
 user_said _ = None
 
 -- what a command says, where threads have these names
-abbrev pub command_said : List (List ℕ) → Command → Option Said
+abbrev pub command_said : List (List ℕ) → Command → Option Meaning
 command_said names (command.Begin thread at id text) = option_map (λ t. begins t at id (string_bytes text)) (slice_get names thread)
 command_said names (command.End thread at back) = if back == 0 then option_map (λ t. ends t at) (slice_get names thread) else None
 command_said names (command.Register thread name function file line) =
@@ -100,7 +100,7 @@ command_said names command.NewFrame = Some takes_frame
 
 -- The lines say what the commands do, by threads that are numbered as they appear, and each command has its line's number.
 pub record IsScript (bytes : List ℕ) (script : Script) : Type 0 where
-  pub statements : List (ℕ × Said)
+  pub statements : List (ℕ × Meaning)
   pub told : statements_from 1 (lines_in bytes) ≡ Ok statements
   pub lines : script.lines.items ≡ map (λ s. s.0) statements
   pub names : map string_bytes script.names.items ≡ threads_after [] statements
@@ -129,7 +129,7 @@ IsNumbered threads = (name : List ℕ) → MatchOption (get_by (λ k. slice_cmp 
     (λ number. slice_get (names_in threads) number ≡ Some name)
 
 -- what was read so far
-pub record IsReading (reading : Reading) (statements : List (ℕ × Said)) : Type 0 where
+pub record IsReading (reading : Reading) (statements : List (ℕ × Meaning)) : Type 0 where
   pub numbered : IsNumbered reading.threads
   pub lines : reading.lines.items ≡ map (λ s. s.0) statements
   pub names : names_in reading.threads ≡ threads_after [] statements

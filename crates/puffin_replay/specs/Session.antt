@@ -18,7 +18,7 @@ use Rattle.puffin.specs.Profiler.Collected.{Collected}
 use Rattle.puffin_frames.specs.Thread.Events.{events_in}
 use Rattle.puffin_replay.specs.Session.History.{Opening, Action, nobody, thread_at, latest_of}
 use Rattle.puffin_replay.specs.Session.Deliveries.{Delivery, unreported, first_start_of}
-use Rattle.puffin_replay.specs.Session.Notes.{registered, due_details, known_after, is_wanted}
+use Rattle.puffin_replay.specs.Session.Notes.{details_registered, due_details, known_after, is_wanted}
 use Rattle.puffin_replay.specs.Session.Due.{due, total_under, index_after, reported_after}
 
 -- its threads, and what is collected for the next frame
@@ -66,7 +66,7 @@ SpellsDue streams ds = (i : Info) → SpellsIfAny (get streams i) (total_under d
 
 -- a thread after these actions
 abbrev pub thread_after : Opening → List Action → ℕ → Thread
-thread_after o done t = record { name = (thread_at o t).name; first_start = first_start_of o t done; latest = latest_of o t done; word = unreported o t done; details = registered o t done }
+thread_after o done t = record { name = (thread_at o t).name; first_start = first_start_of o t done; latest = latest_of o t done; word = unreported o t done; details = details_registered o t done }
 
 -- what is known of scopes, what of them is new in the next frame, and whether that is to tell of all
 pub record TellsAfter (o : Opening) (done : List Action) (now : Collected) : Type 0 where

@@ -1,8 +1,8 @@
 ghost use Rattle.std.specs.Prelude.{◌≡◌, ◌+◌, ◌-◌, ◌^◌, ◌<◌, if◌then◌else◌};
 
-use puffin_replay::replay::*;
 use puffin_data::data::{Counted, Drain, Source};
 use puffin_data::{Error, FileError};
+use puffin_replay::replay::*;
 use std::io;
 use std::test::Fail;
 
@@ -38,7 +38,8 @@ pub(crate) struct Failing<'a> {
 impl Failing<'_> {
     fn fails(&mut self) -> bool
         requires { self.old.faults < 2 ^ 64 - 1 }
-        ensures faults { self.new.faults ≡ (if result then self.old.faults + 1 else self.old.faults) }
+        ensures faults { self.new.faults
+            ≡ (if result then self.old.faults + 1 else self.old.faults) }
         ensures bytes { self.new.bytes.now ≡ self.old.bytes.now }
     {
         let fails = self.calls == self.fails_at;

@@ -1,7 +1,7 @@
-use puffin_replay::replay::{Command, Reply};
 use crate::session::{Outcome, begin, end, is_no_frame, session};
 use puffin_data::Error;
 use puffin_data::data::ScopeId;
+use puffin_replay::replay::{Command, Reply};
 use std::test::Fail;
 
 fn text(rt: &HostRuntime, text: &str) -> Outcome<String> {

@@ -1,12 +1,10 @@
-use puffin_replay::replay::{Command, Reply};
-use puffin_replay::replay::{record, run_script};
-use puffin_replay::replay::Script;
-use crate::session::{Outcome, begin, end, is_no_frame};
 use crate::count::{NEVER, device};
+use crate::session::{Outcome, begin, end, is_no_frame};
 use puffin::profile_view::FrameView;
 use puffin_data::FileError;
 use puffin_data::data::Stream;
 use puffin_frames::thread_profiler::ThreadInfo;
+use puffin_replay::replay::{Command, Reply, Script, record, run_script};
 use std::test::Fail;
 
 /// The file of one frame: the thread `main`, which started at 100, with the scope `data` from 100 to 300.

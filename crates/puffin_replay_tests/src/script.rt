@@ -1,10 +1,7 @@
-use puffin_replay::replay::Command;
-use puffin_replay::replay::ToolFault;
-use puffin_replay::replay::run_script;
-use puffin_replay::replay::{Script, read_script};
 use crate::count::{NEVER, device};
 use puffin_data::FileError;
 use puffin_data::data::{Counted, Source};
+use puffin_replay::replay::{Command, Script, ToolFault, read_script, run_script};
 use std::io;
 use std::test::Fail;
 

@@ -1,8 +1,7 @@
-use puffin_replay::replay::{Command, Reply};
-use puffin_replay::replay::Session;
 use puffin_data::data::{ScopeId, Stream};
 use puffin_data::{Error, NanoSecond};
 use puffin_frames::thread_profiler::{Closed, ThreadInfo};
+use puffin_replay::replay::{Command, Reply, Session};
 use std::test::Fail;
 
 pub(crate) type Outcome<T> = Result<T, Fail>;

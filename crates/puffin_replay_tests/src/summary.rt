@@ -1,8 +1,8 @@
 use crate::session::Outcome;
-use puffin_replay::replay::{Summary, summarize};
 use puffin_data::data::Counted;
 use puffin_data::{Error, FileError, NanoSecond};
 use puffin_frames::thread_profiler::ThreadInfo;
+use puffin_replay::replay::{Summary, summarize};
 use std::test::Fail;
 
 /// The file that the Rust crate writes of one frame of the thread `main`: one scope `data` of id 1 from 100 to 300.

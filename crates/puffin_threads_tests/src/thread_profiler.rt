@@ -1,9 +1,9 @@
+use puffin_data::data::{Reader, ScopeId, Stream, StreamInfo, StreamInfoRef};
+use puffin_data::{Error, NanoSecond, Result};
 use puffin_frames::scope_details::{ScopeDetails, ScopeIds};
 use puffin_frames::thread_profiler::{
     Closed, NsSource, Reporter, ScriptClock, SystemClock, ThreadInfo, ThreadProfiler,
 };
-use puffin_data::data::{Reader, ScopeId, Stream, StreamInfo, StreamInfoRef};
-use puffin_data::{Error, NanoSecond, Result};
 use std::alloc::Global;
 use std::borrow::CowStr;
 use std::cell::Cell;

@@ -5,13 +5,13 @@ use Rattle.puffin_data.specs.declared.error.Error.{Error}
 use Rattle.puffin_data.specs.declared.error.Error.TheVariants.{IdsExhausted, Memory}
 use Rattle.puffin_frames.specs.declared.scope_details.details.ScopeDetails.{ScopeDetails}
 use Rattle.puffin_frames.specs.Details.{Details, details_of, details_seen, with_id}
-use Rattle.puffin_frames.specs.Details.Collection.{Collection, inserted, inserted_all}
+use Rattle.puffin_frames.specs.Details.Collection.{Collection, with_details, with_all_details}
 use Rattle.puffin.specs.Profiler.Collected.{Collected, after_adding}
 use Rattle.puffin.specs.Profiler.Registering.{known_id, none_asked, known_name, new_name, Adds, AddsSome}
 
-inserted_all-append : (c : Collection) (xs ys : List Details) → inserted_all c (xs ++ ys) ≡ inserted_all (inserted_all c xs) ys
+inserted_all-append : (c : Collection) (xs ys : List Details) → with_all_details c (xs ++ ys) ≡ with_all_details (with_all_details c xs) ys
 inserted_all-append c [] ys = refl
-inserted_all-append c (x ∷ xs) ys = inserted_all-append (inserted c x) xs ys
+inserted_all-append c (x ∷ xs) ys = inserted_all-append (with_details c x) xs ys
 
 adding_none : (c : Collected) → c ≡ after_adding c []
 adding_none c i = record c { new_details = sym (append-nil c.new_details) i }
@@ -50,6 +50,6 @@ pub AddsSome-at : (old now new : Collected) (ds : List ScopeDetails) (i : ℕ) (
 AddsSome-at old now new ds i d ids e lt at (added, registers, is) same cause =
     (added, (details_seen (take i ds), details_of d ∷ details_seen (drop (i + 1) ds), ids, split_at ds i d lt at, registers, causes cause), same ∙ is)
   where
-    causes : (e ≡ Memory) ⊎ ((e ≡ IdsExhausted) × (known_id now.collection (details_of d) ≡ None)) → (e ≡ Memory) ⊎ ((e ≡ IdsExhausted) × (known_id (inserted_all old.collection added) (details_of d) ≡ None))
+    causes : (e ≡ Memory) ⊎ ((e ≡ IdsExhausted) × (known_id now.collection (details_of d) ≡ None)) → (e ≡ Memory) ⊎ ((e ≡ IdsExhausted) × (known_id (with_all_details old.collection added) (details_of d) ≡ None))
     causes (inl memory) = inl memory
     causes (inr none) = inr (none.0, subst (λ (c : Collected). known_id c.collection (details_of d) ≡ None) is none.1)

@@ -52,8 +52,8 @@ pub data IsRefusalAfter (frames : List FrameBytes) : ℕ → Error → Type 0 wh
   at_end : (scopes : List FrameScopes) (f : MergedForest) → HaveScopes frames scopes → AreAccepted [] (occurrences scopes) → IsMerge (occurrences scopes) (length frames) f → (EndsFit f → ⊥) → IsRefusalAfter frames (length (occurrences scopes)) TooLarge
 
 -- what merging is refused with
-abbrev pub IsRefusal : List FrameBytes → Error → Type 0
-IsRefusal frames refusal = (tries : ℕ) × IsRefusalAfter frames tries refusal
+abbrev pub IsMergeRefusal : List FrameBytes → Error → Type 0
+IsMergeRefusal frames refusal = (tries : ℕ) × IsRefusalAfter frames tries refusal
 
 -- The frames are merged: each stream is of scopes, and the forest is their merge.
 pub record AreMerged (frames : List FrameBytes) (f : MergedForest) : Type 0 where

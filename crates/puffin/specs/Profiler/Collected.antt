@@ -8,7 +8,7 @@ use Rattle.puffin_data.specs.declared.error.Error.TheVariants.{MissingId, TooLar
 use Rattle.puffin_data.specs.Honesty.{Recorded}
 use Rattle.puffin_frames.specs.Thread.Info.{Info}
 use Rattle.puffin_frames.specs.Details.{Details, details_code, AllHaveIds}
-use Rattle.puffin_frames.specs.Details.Collection.{Collection, collection_code, inserted_all}
+use Rattle.puffin_frames.specs.Details.Collection.{Collection, collection_code, with_all_details}
 use Rattle.puffin_frames.specs.Frame.Contents.{Streams, streams_code}
 use Rattle.puffin_frames.specs.Frame.Sums.{total_bytes, total_scopes, joined_range, IsOrdered, DurationFits}
 
@@ -37,7 +37,7 @@ abbrev pub after_report : Collected → Info → List Details → Recorded → C
 after_report c i ds r = record c { reported = c.reported + r.num_scopes; streams = reported_to c.streams i r; new_details = c.new_details ++ ds }
 
 -- what is pending, with one info more, has sums of 64 bits
-pub record SumsFit (c : Collected) (r : Recorded) : Type 0 where
+pub record PendingFits (c : Collected) (r : Recorded) : Type 0 where
   pub bytes : total_bytes (map.values c.streams) + length r.bytes < 2 ^ 64
   pub scopes : total_scopes (map.values c.streams) + r.num_scopes < 2 ^ 64
   pub reported : c.reported + r.num_scopes < 2 ^ 64
@@ -54,16 +54,16 @@ IsTooLong range = IsOrdered range × ¬ DurationFits range
 abbrev pub IsReportRefusal : Collected → List Details → Recorded → Error → Type 0
 IsReportRefusal c ds r e =
     ((e ≡ MissingId) × ¬ AllHaveIds ds)
-    ⊎ ((e ≡ TooLarge) × AllHaveIds ds × ¬ SumsFit c r)
-    ⊎ ((e ≡ RangeTooLong) × AllHaveIds ds × SumsFit c r × IsTooLong (range_with c r))
-    ⊎ ((e ≡ Memory) × AllHaveIds ds × SumsFit c r × ¬ IsTooLong (range_with c r))
+    ⊎ ((e ≡ TooLarge) × AllHaveIds ds × ¬ PendingFits c r)
+    ⊎ ((e ≡ RangeTooLong) × AllHaveIds ds × PendingFits c r × IsTooLong (range_with c r))
+    ⊎ ((e ≡ Memory) × AllHaveIds ds × PendingFits c r × ¬ IsTooLong (range_with c r))
 
 -- what a call of `report` that isn't refused makes of it, and what one that is refused leaves
-abbrev pub Accepts : Collected → Info → List Details → Recorded → Collected → Type 0
-Accepts old i ds r new = (new ≡ after_report old i ds r) × AllHaveIds ds × SumsFit old r × ¬ IsTooLong (range_with old r)
+abbrev pub AcceptsReport : Collected → Info → List Details → Recorded → Collected → Type 0
+AcceptsReport old i ds r new = (new ≡ after_report old i ds r) × AllHaveIds ds × PendingFits old r × ¬ IsTooLong (range_with old r)
 
-abbrev pub Refuses : Collected → Info → List Details → Recorded → Error → Collected → Type 0
-Refuses old i ds r e new = IsReportRefusal old ds r e × (new ≡ old)
+abbrev pub RefusesReport : Collected → Info → List Details → Recorded → Error → Collected → Type 0
+RefusesReport old i ds r e new = IsReportRefusal old ds r e × (new ≡ old)
 
 -- ---- frames
 
@@ -77,14 +77,14 @@ delta_of collection new wanted = new ++ (if wanted then all_details collection e
 
 -- after a frame that held all that was pending, and after a call that found no scope
 abbrev pub after_frame : Collected → Collected
-after_frame c = record c { index = c.index + 1; emitted = c.reported; streams = map.empty; collection = inserted_all c.collection c.new_details; new_details = []; wants_all = false }
+after_frame c = record c { index = c.index + 1; emitted = c.reported; streams = map.empty; collection = with_all_details c.collection c.new_details; new_details = []; wants_all = false }
 
 abbrev pub after_no_frame : Collected → Collected
 after_no_frame c = record c { index = c.index + 1 }
 
 -- after a call that learnt of these details and was refused, and after one that wants all details in the next frame
 abbrev pub after_learning : Collected → List Details → Collected
-after_learning c learnt = record c { collection = inserted_all c.collection learnt }
+after_learning c learnt = record c { collection = with_all_details c.collection learnt }
 
 abbrev pub after_wanting : Collected → Collected
 after_wanting c = record c { wants_all = true }
@@ -93,4 +93,4 @@ after_wanting c = record c { wants_all = true }
 
 -- after these details were learnt, which are new in the next frame
 abbrev pub after_adding : Collected → List Details → Collected
-after_adding c new = record c { collection = inserted_all c.collection new; new_details = c.new_details ++ new }
+after_adding c new = record c { collection = with_all_details c.collection new; new_details = c.new_details ++ new }

@@ -54,7 +54,7 @@ pub record AddsUp (c : Collected) (more : FrameMeta) (r : Recorded) : Type 0 whe
   pub duration : IsOrdered more.range_ns → DurationFits more.range_ns
 
 -- what is kept beside the pending streams: what a frame of all of them would say, and the totals
-pub record IsKept (streams : Streams) (meta : FrameMeta) (reported emitted : ℕ) : Type 0 where
+pub record IsTallied (streams : Streams) (meta : FrameMeta) (reported emitted : ℕ) : Type 0 where
   pub sums : meta ≡ meta_of meta.frame_index (map.values streams)
   pub counted : reported ≡ emitted + meta.num_scopes
   pub honest : AreHonest streams

@@ -7,13 +7,13 @@ use Rattle.puffin_data.specs.declared.file_error.FileError.{FileError}
 use Rattle.puffin_data.specs.declared.file_error.FileError.TheVariants as file
 use Rattle.puffin_data.specs.Part.{◌>>=◌}
 use Rattle.puffin_frames.specs.Details.{Details}
-use Rattle.puffin_frames.specs.Details.Collection.{no_details, inserted_all}
+use Rattle.puffin_frames.specs.Details.Collection.{no_details, with_all_details}
 use Rattle.puffin_frames.specs.Packet.Structs.{Legacy, streams_layout}
 use Rattle.puffin_frames.specs.Packet.Stored.{Said, Stored, packed, legacy}
 use Rattle.puffin_frames.specs.Packet.Steps.{packet, next_at}
 use Rattle.puffin.specs.declared.profile_view.frame_view.FrameView.{FrameView}
 use Rattle.puffin.specs.View.ViewedFrames.{Frame, contents_of}
-use Rattle.puffin.specs.View.FrameOf.{told}
+use Rattle.puffin.specs.View.FrameOf.{details_of_frame}
 use Rattle.puffin.specs.View.{View, empty_view, after_all, all_uniq, Took}
 use Rattle.puffin.specs.View.Known.{view_of, collection_of, lacks_ids}
 
@@ -48,7 +48,7 @@ frame_stored (legacy l) = record { contents = said_at_first l; is_unpacked = tru
 
 -- the details that it tells
 abbrev pub details_stored : Stored → List Details
-details_stored s = told (frame_stored s)
+details_stored s = details_of_frame (frame_stored s)
 
 -- a frame all of whose details have an id
 abbrev pub with_ids : Stored → Result Stored FileError
@@ -116,7 +116,7 @@ read_view = record empty_view { max_recent = 2 ^ 64 - 1 }
 pub record IsViewOf (stored : List Stored) (v : FrameView) : Type 0 where
   pub frames : view_of v ≡ after_all read_view (map frame_stored stored)
   pub took : Took (map contents_of (map frame_stored stored)) (view_of v)
-  pub details : collection_of v ≡ inserted_all no_details (flat_map details_stored stored)
+  pub details : collection_of v ≡ with_all_details no_details (flat_map details_stored stored)
 
 -- A call read a view from a device: it is the view of the frames that were taken.
 abbrev pub ReadsView : FramesReading → Option (List ℕ) → Option (List ℕ) → Result FrameView FileError → Type 0

@@ -18,8 +18,8 @@ abbrev pub frames_of : {A : Type 0} → List (Arc FrameData A) → List Frame
 frames_of arcs = map shared_frame arcs
 
 -- the details that a frame tells
-abbrev pub told : Frame → List Details
-told f = f.contents.details
+abbrev pub details_of_frame : Frame → List Details
+details_of_frame f = f.contents.details
 
 -- the same of borrowed ones
 abbrev pub lent_frames : {A : Type 0} → List (Bor (Arc FrameData A)) → List Frame

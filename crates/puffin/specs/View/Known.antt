@@ -3,7 +3,7 @@ use Rattle.std.specs.Prelude.{◌≡◌, Bool, List}
 use Rattle.std.specs.List.{list_any}
 use Rattle.puffin_frames.specs.Details.{Details, lacks_id}
 use Rattle.puffin_frames.specs.Packet.Stored.{Said}
-use Rattle.puffin_frames.specs.Details.Collection.{Collection, inserted_all}
+use Rattle.puffin_frames.specs.Details.Collection.{Collection, with_all_details}
 use Rattle.puffin.specs.declared.profile_view.frame_view.FrameView.{FrameView}
 use Rattle.puffin.specs.Profiler.Collecting.{Begins}
 use Rattle.puffin.specs.View.{View}
@@ -20,4 +20,4 @@ lacks_ids c = list_any lacks_id c.details
 
 -- a beginning of details is learnt
 abbrev pub LearnsSome : Collection → List Details → Collection → Type 0
-LearnsSome old ds new = (learnt : List Details) × Begins learnt ds × (new ≡ inserted_all old learnt)
+LearnsSome old ds new = (learnt : List Details) × Begins learnt ds × (new ≡ with_all_details old learnt)

@@ -52,17 +52,17 @@ is_rising [] = true
 is_rising (c ∷ cs) = rises_above (frame_index c) cs
 
 -- the longest end of a list along which indices rise strictly: the frames since a view was last emptied by an index that didn't rise
-abbrev pub taken : List Said → List Said
-taken [] = []
-taken (c ∷ cs) = cond (is_rising (c ∷ cs)) (c ∷ cs) (taken cs)
+abbrev pub rising_end : List Said → List Said
+rising_end [] = []
+rising_end (c ∷ cs) = cond (is_rising (c ∷ cs)) (c ∷ cs) (rising_end cs)
 
 -- a frame held packed alone
-abbrev pub packed : Frame → Frame
-packed f = record { contents = f.contents; is_unpacked = false; is_packed = true }
+abbrev pub packed_alone : Frame → Frame
+packed_alone f = record { contents = f.contents; is_unpacked = false; is_packed = true }
 
 -- the frame of an index packed, another as it is
-abbrev pub packed_at : ℕ → Frame → Frame
-packed_at i f = cond (nat_eq (index_of f) i) (packed f) f
+abbrev pub packed_under : ℕ → Frame → Frame
+packed_under i f = cond (nat_eq (index_of f) i) (packed_alone f) f
 
 -- how many bytes a frame takes, as it is held
 abbrev pub ram_of : Frame → ℕ

@@ -2,13 +2,13 @@ ghost use Rattle.std.specs.Prelude.{◌≡◌, ◌+◌, ◌-◌, ◌^◌, ◌<�
 ghost use Rattle.std.specs.Bool.{MatchBool};
 ghost use Rattle.std.specs.FinMap as map;
 ghost use Rattle.puffin_data.specs.Forest.{Forest};
-ghost use Rattle.puffin_data.specs.Honesty.{IsHonestRef, recorded_ref};
+ghost use Rattle.puffin_data.specs.Honesty.{IsHonestRef, record_of_ref};
 ghost use Rattle.puffin_frames.specs.Thread.Info.{info_of};
 ghost use Rattle.puffin_frames.specs.Details.{details_of, details_seen, with_id, AllHaveIds};
 ghost use Rattle.puffin_frames.specs.Details.Collection.{no_details};
 ghost use Rattle.puffin_frames.specs.Frame.Contents.{AreHonest};
 ghost use Rattle.puffin_frames.specs.Frame.Sums.{total_scopes, IsOrdered, DurationFits};
-ghost use Rattle.puffin.specs.Profiler.Collected.{after_report, after_adding, after_wanting, SumsFit, range_with, IsTooLong, IsReportRefusal};
+ghost use Rattle.puffin.specs.Profiler.Collected.{after_report, after_adding, after_wanting, PendingFits, range_with, IsTooLong, IsReportRefusal};
 ghost use Rattle.puffin.specs.Profiler.Registering.{known_id, Adds, AddsSome};
 ghost use Rattle.puffin.specs.Profiler.Collecting.{Collects, TellsIds, KeepsPending, AddsUp};
 
@@ -50,17 +50,36 @@ impl Model for Collector {
 
     ghost use Rattle.puffin_frames.specs.Frame.Contents.{shared_streams};
     ghost use Rattle.puffin_frames.specs.Details.{shared_details, AllHaveIds};
-    ghost use Rattle.puffin.specs.Profiler.Collecting.{IsKept};
+    ghost use Rattle.puffin.specs.Profiler.Collecting.{IsTallied};
 
-    ghost view = { λ c. record { index = c.meta.frame_index; reported = c.reported; emitted = c.emitted; streams = shared_streams c.pending.entries; collection = c.collection; new_details = shared_details c.new_details.items; wants_all = c.wants_all } };
+    ghost view = { λ c.
+        record {
+          index = c.meta.frame_index;
+          reported = c.reported;
+          emitted = c.emitted;
+          streams = shared_streams c.pending.entries;
+          collection = c.collection;
+          new_details = shared_details c.new_details.items;
+          wants_all = c.wants_all;
+        } };
 
-    ghost invariant = { λ c. IsKept (shared_streams c.pending.entries) c.meta c.reported c.emitted × AllHaveIds (shared_details c.new_details.items) };
+    ghost invariant = { λ c.
+        IsTallied (shared_streams c.pending.entries) c.meta c.reported c.emitted
+        × AllHaveIds (shared_details c.new_details.items) };
 }
 
 impl Collector {
     /// With nothing reported, and this index for the next frame.
     pub fn new(alloc: Global, frame_index: FrameIndex) -> Collector
-        ensures { result ≡ record { index = frame_index; reported = 0; emitted = 0; streams = map.empty; collection = no_details; new_details = []; wants_all = false } }
+        ensures { result ≡ record {
+          index = frame_index;
+          reported = 0;
+          emitted = 0;
+          streams = map.empty;
+          collection = no_details;
+          new_details = [];
+          wants_all = false;
+        } }
     {
         laws::reported_streams();
         laws::honest_streams();
@@ -89,10 +108,15 @@ impl Collector {
         times: &StreamInfoRef,
     ) -> Result<()>
         requires { (f : Forest) × IsHonestRef times.now f }
-        ensures ok { OnOk result (self.new ≡ after_report self.old (info_of info) (details_seen details.now) (recorded_ref times.now)) }
+        ensures ok { OnOk result (
+            self.new ≡ after_report self.old (info_of info) (details_seen details.now) (
+            record_of_ref times.now)) }
         ensures ids { OnOk result (AllHaveIds (details_seen details.now)) }
-        ensures fits { OnOk result (SumsFit self.old (recorded_ref times.now) × ¬ IsTooLong (range_with self.old (recorded_ref times.now))) }
-        ensures refusal { IfErr result (λ e. IsReportRefusal self.old (details_seen details.now) (recorded_ref times.now) e) }
+        ensures fits { OnOk result (
+            PendingFits self.old (record_of_ref times.now)
+            × ¬ IsTooLong (range_with self.old (record_of_ref times.now))) }
+        ensures refusal { IfErr result (λ e.
+            IsReportRefusal self.old (details_seen details.now) (record_of_ref times.now) e) }
         ensures err { OnErr result (self.new ≡ self.old) }
     {
         laws::joined_ranges();
@@ -118,10 +142,15 @@ impl Collector {
         details: &[ScopeDetails],
         times: &StreamInfoRef,
     ) -> Result<(FrameMeta, u64)>
-        ensures sums { IfOk result (λ sums. AddsUp self.now sums.0 (recorded_ref times.now) × (sums.1 ≡ self.now.reported + times.now.num_scopes)) }
+        ensures sums { IfOk result (λ sums.
+            AddsUp self.now sums.0 (record_of_ref times.now)
+            × (sums.1 ≡ self.now.reported + times.now.num_scopes)) }
         ensures ids { OnOk result (AllHaveIds (details_seen details.now)) }
-        ensures fits { OnOk result (SumsFit self.now (recorded_ref times.now) × ¬ IsTooLong (range_with self.now (recorded_ref times.now))) }
-        ensures refusal { IfErr result (λ e. IsReportRefusal self.now (details_seen details.now) (recorded_ref times.now) e) }
+        ensures fits { OnOk result (
+            PendingFits self.now (record_of_ref times.now)
+            × ¬ IsTooLong (range_with self.now (record_of_ref times.now))) }
+        ensures refusal { IfErr result (λ e.
+            IsReportRefusal self.now (details_seen details.now) (record_of_ref times.now) e) }
     {
         laws::joined_ranges();
         if !all_have_ids(details) {
@@ -142,9 +171,13 @@ impl Collector {
     /// Appends scopes of the caller's own, as [`Collector::report`] does, refused as it is.
     pub fn report_user_scopes(&mut self, info: ThreadInfo, times: &StreamInfoRef) -> Result<()>
         requires { (f : Forest) × IsHonestRef times.now f }
-        ensures ok { OnOk result (self.new ≡ after_report self.old (info_of info) [] (recorded_ref times.now)) }
-        ensures fits { OnOk result (SumsFit self.old (recorded_ref times.now) × ¬ IsTooLong (range_with self.old (recorded_ref times.now))) }
-        ensures refusal { IfErr result (λ e. IsReportRefusal self.old [] (recorded_ref times.now) e) }
+        ensures ok { OnOk result (
+            self.new ≡ after_report self.old (info_of info) [] (record_of_ref times.now)) }
+        ensures fits { OnOk result (
+            PendingFits self.old (record_of_ref times.now)
+            × ¬ IsTooLong (range_with self.old (record_of_ref times.now))) }
+        ensures refusal { IfErr result (λ e.
+            IsReportRefusal self.old [] (record_of_ref times.now) e) }
         ensures err { OnErr result (self.new ≡ self.old) }
     {
         self.report(info, &[], times)
@@ -159,7 +192,8 @@ impl Collector {
         ids: &ScopeIds,
         details: &[ScopeDetails],
     ) -> Result<Vec<ScopeId>>
-        ensures ok { IfOk result (λ scope_ids. Adds self.old (details_seen details.now) scope_ids.items self.new) }
+        ensures ok { IfOk result (λ scope_ids.
+            Adds self.old (details_seen details.now) scope_ids.items self.new) }
         ensures err { IfErr result (λ e. AddsSome self.old (details_seen details.now) e self.new) }
     {
         let mut scope_ids = Vec::with_capacity(self.alloc, details.len())?;
@@ -176,10 +210,16 @@ impl Collector {
     /// One scope. Nothing is changed where it is refused.
     fn register_user_scope(&mut self, ids: &ScopeIds, details: &ScopeDetails) -> Result<ScopeId>
         ensures ok { IfOk result (λ id.
-            ((known_id self.old.collection (details_of details.now) ≡ Some id) × (self.new ≡ self.old))
-            ⊎ ((known_id self.old.collection (details_of details.now) ≡ None) × (self.new ≡ after_adding self.old (with_id (details_of details.now) id ∷ [])))) }
+            ((known_id self.old.collection (details_of details.now) ≡ Some id)
+            × (self.new ≡ self.old))
+            ⊎ ((known_id self.old.collection (details_of details.now) ≡ None)
+            × (self.new
+            ≡ after_adding self.old (with_id (details_of details.now) id ∷ [])))) }
         ensures err { OnErr result (self.new ≡ self.old) }
-        ensures cause { IfErr result (λ e. (e ≡ Error.Memory) ⊎ ((e ≡ Error.IdsExhausted) × (known_id self.old.collection (details_of details.now) ≡ None))) }
+        ensures cause { IfErr result (λ e.
+            (e ≡ Error.Memory)
+            ⊎ ((e ≡ Error.IdsExhausted)
+            × (known_id self.old.collection (details_of details.now) ≡ None))) }
     {
         if let Some(id) = self.collection.fetch_by_name(details.name().as_str()) {
             return Ok(*id);
@@ -271,11 +311,11 @@ impl Collector {
 
 impl Reporter for Collector {
     ghost use Rattle.std.specs.Prelude.{◌≡◌};
-    ghost use Rattle.puffin.specs.Profiler.Collected.{Accepts, Refuses};
+    ghost use Rattle.puffin.specs.Profiler.Collected.{AcceptsReport, RefusesReport};
 
-    ghost accepts = { Accepts };
+    ghost accepts = { AcceptsReport };
 
-    ghost refuses = { Refuses };
+    ghost refuses = { RefusesReport };
 
     fn report(
         &mut self,

@@ -1,6 +1,6 @@
 ghost use Rattle.std.specs.Prelude.{◌≡◌, ◌++◌, ◌↔◌, OnOk, OnErr, IfOk, IfErr, List, All, IsTrue, IsSome};
 ghost use Rattle.puffin_frames.specs.Details.{Details, details_of, details_seen, shared_details, AllHaveIds};
-ghost use Rattle.puffin_frames.specs.Details.Collection.{inserted_all, KeepsOwnIds};
+ghost use Rattle.puffin_frames.specs.Details.Collection.{with_all_details, KeepsOwnIds};
 ghost use Rattle.puffin.specs.Profiler.Collected.{all_details, delta_of};
 ghost use Rattle.puffin.specs.Profiler.Collecting.{Begins};
 
@@ -37,7 +37,9 @@ pub(crate) fn scope_delta(
     wants_all: bool,
 ) -> Result<Vec<Arc<ScopeDetails>>>
     requires { AllHaveIds (shared_details new_details.now) }
-    ensures ok { IfOk result (λ delta. shared_details delta.items ≡ delta_of collection.now (shared_details new_details.now) wants_all) }
+    ensures ok { IfOk result (λ delta.
+        shared_details delta.items
+        ≡ delta_of collection.now (shared_details new_details.now) wants_all) }
     ensures ids { IfOk result (λ delta. AllHaveIds (shared_details delta.items)) }
     ensures err { IfErr result (λ e. e ≡ Error.Memory) }
 {
@@ -53,7 +55,9 @@ pub(crate) fn scope_delta(
 
 /// All details of a collection by rising id, after those that are there. Refused only with `Memory`.
 fn tell_of_all(delta: &mut Vec<Arc<ScopeDetails>>, collection: &ScopeCollection) -> Result<()>
-    ensures ok { OnOk result (shared_details delta.new.items ≡ shared_details delta.old.items ++ all_details collection.now) }
+    ensures ok { OnOk result (
+        shared_details delta.new.items
+        ≡ shared_details delta.old.items ++ all_details collection.now) }
     ensures own { KeepsOwnIds collection.now }
     ensures err { IfErr result (λ e. e ≡ Error.Memory) }
 {
@@ -66,8 +70,12 @@ fn tell_of_all(delta: &mut Vec<Arc<ScopeDetails>>, collection: &ScopeCollection)
 /// Puts details into a collection, in order. Refused only with `Memory`, after which a beginning of them is in it.
 pub(crate) fn learn(collection: &mut ScopeCollection, details: &[Arc<ScopeDetails>]) -> Result<()>
     requires { AllHaveIds (shared_details details.now) }
-    ensures ok { OnOk result (collection.new ≡ inserted_all collection.old (shared_details details.now)) }
-    ensures err { OnErr result ((learnt : List Details) × Begins learnt (shared_details details.now) × (collection.new ≡ inserted_all collection.old learnt)) }
+    ensures ok { OnOk result (
+        collection.new ≡ with_all_details collection.old (shared_details details.now)) }
+    ensures err { OnErr result (
+        (learnt : List Details)
+        × Begins learnt (shared_details details.now)
+        × (collection.new ≡ with_all_details collection.old learnt)) }
     ensures cause { IfErr result (λ e. e ≡ Error.Memory) }
 {
     for details in details {

@@ -8,16 +8,17 @@ ghost use Rattle.puffin_frames.specs.declared.frame_data.unpacked.UnpackedFrameD
 ghost use Rattle.puffin_frames.specs.Thread.Info.{Info};
 ghost use Rattle.puffin.specs.Merge.Occurrences.{FrameScopes, occurrences};
 ghost use Rattle.puffin.specs.Merge.MergedForest.{MergedForest};
-ghost use Rattle.puffin.specs.Merge.Starts.{Sibling, IsLeastFeasible, earliest};
+ghost use Rattle.puffin.specs.Merge.Starts.{Sibling, IsLeastFeasible, earliest_starts};
 ghost use Rattle.puffin.specs.Merge.{IsMerge};
 ghost use Rattle.puffin.specs.Merge.FrameBytes.{FrameBytes};
-ghost use Rattle.puffin.specs.Merge.Refusals.{IsRefusal, AreMerged};
+ghost use Rattle.puffin.specs.Merge.Refusals.{IsMergeRefusal, AreMerged};
 ghost use Rattle.puffin.specs.Merge.Scopes.{frames_bytes, forest_in};
 ghost use Rattle.puffin.specs.declared.merge.scope.MergeScope.{MergeScope};
 
 /// Siblings that each start as early as they can have the least feasible starts.
 pub fn earliest_starts()
-    ensures { (siblings : List Sibling) → IsLeastFeasible siblings (earliest (pos 0) siblings) }
+    ensures { (siblings : List Sibling) →
+        IsLeastFeasible siblings (earliest_starts (pos 0) siblings) }
 {}
 
 /// What is merged doesn't depend on the order of the frames after the first. So where some frames have a merge, the same
@@ -27,14 +28,18 @@ pub fn frames_in_any_order()
         (others again : List (Arc UnpackedFrameData Global)) → IsPermutation others again →
         (f : MergedForest) → AreMerged (frames_bytes info (first ∷ others)) f
         → AreMerged (frames_bytes info (first ∷ again)) f }
-    ensures scopes { (first : FrameScopes) (others again : List FrameScopes) → IsPermutation others again →
-        (frames : ℕ) (f : MergedForest) → IsMerge (occurrences (first ∷ others)) frames f → IsMerge (occurrences (first ∷ again)) frames f }
+    ensures scopes { (first : FrameScopes) (others again : List FrameScopes) →
+        IsPermutation others again → (frames : ℕ) (f : MergedForest) →
+        IsMerge (occurrences (first ∷ others)) frames f →
+        IsMerge (occurrences (first ∷ again)) frames f }
 {}
 
 /// Frames are merged into one forest at most, and then no refusal is theirs.
 pub fn one_outcome()
-    ensures merged { (frames : List FrameBytes) (f g : MergedForest) → AreMerged frames f → AreMerged frames g → f ≡ g }
-    ensures refused { (frames : List FrameBytes) (f : MergedForest) (refusal : Error) → AreMerged frames f → IsRefusal frames refusal → ⊥ }
+    ensures merged { (frames : List FrameBytes) (f g : MergedForest) → AreMerged frames f →
+        AreMerged frames g → f ≡ g }
+    ensures refused { (frames : List FrameBytes) (f : MergedForest) (refusal : Error) →
+        AreMerged frames f → IsMergeRefusal frames refusal → ⊥ }
 {
     puffin_data::laws::one_forest();
     puffin_data::laws::no_fault_in_a_spelling();
@@ -43,5 +48,7 @@ pub fn one_outcome()
 
 /// A merged scope among others may stand for one that says the same.
 pub fn same_scopes()
-    ensures { (before after : List MergeScope) (s t : MergeScope) → forest_in (s ∷ []) ≡ forest_in (t ∷ []) → forest_in (before ++ (s ∷ after)) ≡ forest_in (before ++ (t ∷ after)) }
+    ensures { (before after : List MergeScope) (s t : MergeScope) →
+        forest_in (s ∷ []) ≡ forest_in (t ∷ []) →
+        forest_in (before ++ (s ∷ after)) ≡ forest_in (before ++ (t ∷ after)) }
 {}

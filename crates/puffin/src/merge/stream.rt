@@ -66,7 +66,8 @@ impl<'s> Merging<'s> {
 /// A start counted from an origin.
 fn own_start(start: NanoSecond, origin: i128) -> Result<NanoSecond>
     requires { IsOrigin origin }
-    ensures { result ≡ (if fits_i64 (start -ℤ origin) then Ok (start -ℤ origin) else Err Error.TooLarge) }
+    ensures { result
+        ≡ (if fits_i64 (start -ℤ origin) then Ok (start -ℤ origin) else Err Error.TooLarge) }
 {
     match NanoSecond::try_from(start as i128 - origin) {
         Ok(own_start) => Ok(own_start),
@@ -131,8 +132,21 @@ pub(crate) fn read_frame<'s>(
     tries: &mut u64,
 ) -> Result<()>
     requires { (all : List Occurrence) × IsTableOf all merging.old.table }
-    ensures ok { IfOk result (λ _. TakesAll TakesScopes (record { table = merging.old.table; origin = frame.now.meta.range_ns.0 -ℤ first.now.meta.range_ns.0 }) merging.new (bytes_of (frame_bytes (info_of info.now) frame.now)) tries.new) }
-    ensures err { IfErr result (λ e. (e ≡ Error.Memory) ⊎ StopsEarly TakesScopes RefusesScope (record { table = merging.old.table; origin = frame.now.meta.range_ns.0 -ℤ first.now.meta.range_ns.0 }) merging.new (bytes_of (frame_bytes (info_of info.now) frame.now)) tries.new e) }
+    ensures ok { IfOk result (λ _.
+        TakesAll TakesScopes
+        (record {
+          table = merging.old.table;
+          origin = frame.now.meta.range_ns.0 -ℤ first.now.meta.range_ns.0;
+        })
+        merging.new (bytes_of (frame_bytes (info_of info.now) frame.now)) tries.new) }
+    ensures err { IfErr result (λ e.
+        (e ≡ Error.Memory)
+        ⊎ StopsEarly TakesScopes RefusesScope
+        (record {
+          table = merging.old.table;
+          origin = frame.now.meta.range_ns.0 -ℤ first.now.meta.range_ns.0;
+        })
+        merging.new (bytes_of (frame_bytes (info_of info.now) frame.now)) tries.new e) }
     ensures few { tries.new ≤ most_tries_of (frame_bytes (info_of info.now) frame.now) }
     ensures short { length (bytes_of (frame_bytes (info_of info.now) frame.now)) < 2 ^ 63 }
 {

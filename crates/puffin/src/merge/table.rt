@@ -38,7 +38,8 @@ pub(crate) struct Sums {
 impl Sums {
     /// Of one piece.
     pub(crate) fn one(own_start: NanoSecond, duration: u64) -> Sums
-        ensures { result ≡ record { number = 1; total = duration; greatest = duration; own_start = own_start } }
+        ensures { result
+            ≡ record { number = 1; total = duration; greatest = duration; own_start = own_start } }
     {
         Sums {
             number: 1,
@@ -50,9 +51,17 @@ impl Sums {
 
     /// With one piece more. `None` where the number or the total doesn't fit.
     pub(crate) fn more(self, own_start: NanoSecond, duration: u64) -> Option<Sums>
-        ensures some { IfSome result (λ sums. sums ≡ record { number = self.number + 1; total = self.total + duration; greatest = max self.greatest duration; own_start = int_min self.own_start own_start }) }
-        ensures fits { IfSome result (λ sums. (self.number + 1 < 2 ^ 64) × (self.total + duration < 2 ^ 63)) }
-        ensures none { IfNone result ((2 ^ 64 ≤ self.number + 1) ⊎ (2 ^ 63 ≤ self.total + duration)) }
+        ensures some { IfSome result (λ sums.
+            sums ≡ record {
+              number = self.number + 1;
+              total = self.total + duration;
+              greatest = max self.greatest duration;
+              own_start = int_min self.own_start own_start;
+            }) }
+        ensures fits { IfSome result (λ sums.
+            (self.number + 1 < 2 ^ 64) × (self.total + duration < 2 ^ 63)) }
+        ensures none { IfNone result (
+            (2 ^ 64 ≤ self.number + 1) ⊎ (2 ^ 63 ≤ self.total + duration)) }
     {
         let number = self.number.checked_add(1)?;
         let total = self.total.checked_add(duration)?;
@@ -95,8 +104,12 @@ impl<'s> Table<'s> {
 
     fn find(&self, key: &Key<'s>) -> Option<NodeNumber>
         requires { IsFound self.now }
-        ensures some { IfSome result (λ x. (0 < x.number) × (x.number ≤ vec_len self.now.nodes) × HasKey self.now.nodes.items (x.number - 1) key.now) }
-        ensures none { IfNone result ((k : ℕ) → k < vec_len self.now.nodes → HasKey self.now.nodes.items k key.now → ⊥) }
+        ensures some { IfSome result (λ x.
+            (0 < x.number)
+            × (x.number ≤ vec_len self.now.nodes)
+            × HasKey self.now.nodes.items (x.number - 1) key.now) }
+        ensures none { IfNone result (
+            (k : ℕ) → k < vec_len self.now.nodes → HasKey self.now.nodes.items k key.now → ⊥) }
     {
         self.numbers.get(key).copied()
     }
@@ -104,9 +117,16 @@ impl<'s> Table<'s> {
     /// Takes one piece more in at a node.
     fn grow(&mut self, number: NodeNumber, own_start: NanoSecond, duration: u64) -> Result<()>
         requires { (0 < number.number) × (number.number ≤ vec_len self.old.nodes) }
-        ensures ok { OnOk result ((self.new.numbers ≡ self.old.numbers) × ((d : Node) → self.new.nodes.items ≡ slice_set self.old.nodes.items (number.number - 1) (grown_node (slice_index_or self.old.nodes.items (number.number - 1) d) own_start duration))) }
+        ensures ok { OnOk result (
+            (self.new.numbers ≡ self.old.numbers)
+            × ((d : Node) →
+            self.new.nodes.items ≡ slice_set self.old.nodes.items (number.number - 1) (
+            grown_node (slice_index_or self.old.nodes.items (number.number - 1) d)
+            own_start duration))) }
         ensures fits { OnOk result (FitsOneMore self.old.nodes.items (number.number - 1) duration) }
-        ensures err { IfErr result (λ e. (e ≡ Error.TooLarge) × (FitsOneMore self.old.nodes.items (number.number - 1) duration → ⊥)) }
+        ensures err { IfErr result (λ e.
+            (e ≡ Error.TooLarge)
+            × (FitsOneMore self.old.nodes.items (number.number - 1) duration → ⊥)) }
     {
         let node = &mut self.nodes[number.number - 1];
         match node.sums.more(own_start, duration) {
@@ -121,9 +141,12 @@ impl<'s> Table<'s> {
     /// Makes a node of one piece.
     fn start(&mut self, key: Key<'s>, own_start: NanoSecond, duration: u64) -> Result<NodeNumber>
         requires found { IsFound self.old }
-        requires new_key { (k : ℕ) → k < vec_len self.old.nodes → HasKey self.old.nodes.items k key → ⊥ }
+        requires new_key { (k : ℕ) → k < vec_len self.old.nodes →
+            HasKey self.old.nodes.items k key → ⊥ }
         ensures number { IfOk result (λ x. x.number ≡ vec_len self.old.nodes + 1) }
-        ensures nodes { OnOk result (self.new.nodes.items ≡ self.old.nodes.items ++ (made_node key.entry own_start duration ∷ [])) }
+        ensures nodes { OnOk result (
+            self.new.nodes.items
+            ≡ self.old.nodes.items ++ (made_node key.entry own_start duration ∷ [])) }
         ensures found { OnOk result (IsFound self.new) }
         ensures err { IfErr result (λ e. e ≡ Error.Memory) }
     {
@@ -149,8 +172,13 @@ impl<'s> Table<'s> {
         requires small { duration < 2 ^ 63 }
         requires id { 0 < key.id }
         requires parent { key.parent.number ≤ vec_len self.old.nodes }
-        ensures ok { IfOk result (λ x. AddsAt self.old key.entry own_start duration x.number self.new) }
-        ensures err { IfErr result (λ e. (e ≡ Error.Memory) ⊎ ((e ≡ Error.TooLarge) × ((all : List Occurrence) → IsTableOf all self.old → SumsFit all (occurrence_at self.old key.entry own_start duration) → ⊥))) }
+        ensures ok { IfOk result (λ x.
+            AddsAt self.old key.entry own_start duration x.number self.new) }
+        ensures err { IfErr result (λ e.
+            (e ≡ Error.Memory)
+            ⊎ ((e ≡ Error.TooLarge)
+            × ((all : List Occurrence) → IsTableOf all self.old →
+            SumsFit all (occurrence_at self.old key.entry own_start duration) → ⊥))) }
     {
         let found = self.find(&key);
         match found {

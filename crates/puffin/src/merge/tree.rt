@@ -73,7 +73,9 @@ fn draw(sums: &Sums, place: &Place, before: &Drawn, frames: usize) -> Result<Dra
     requires small { sums.now.total < 2 ^ 63 }
     ensures ok { IfOk result (λ drawn. drawn ≡ drawn_after frames sums.now place.now before.now) }
     ensures fits { IfOk result (λ drawn. FitsSigned w64 drawn.end) }
-    ensures err { IfErr result (λ e. (e ≡ Error.TooLarge) × (FitsSigned w64 (drawn_after frames sums.now place.now before.now).end → ⊥)) }
+    ensures err { IfErr result (λ e.
+        (e ≡ Error.TooLarge)
+        × (FitsSigned w64 (drawn_after frames sums.now place.now before.now).end → ⊥)) }
 {
     let free = if place.parent.number == before.parent {
         before.end
@@ -94,9 +96,16 @@ fn draw_all(alloc: Global, table: &Table, places: &[Place], frames: usize) -> Re
     requires frames { 0 < frames }
     requires table { (all : List Occurrence) × IsTableOf all table.now }
     requires places { ArePlacesOf table.now.nodes.items places.now }
-    ensures ok { IfOk result (λ drawn. (d : Node) → drawn.items ≡ drawn_from table.now.nodes.items frames above_all places.now d) }
+    ensures ok { IfOk result (λ drawn.
+        (d : Node) →
+        drawn.items ≡ drawn_from table.now.nodes.items frames above_all places.now d) }
     ensures fit { IfOk result (λ drawn. EachOf EndFits drawn.items) }
-    ensures err { IfErr result (λ e. (e ≡ Error.Memory) ⊎ ((e ≡ Error.TooLarge) × ((d : Node) → EachOf EndFits (drawn_from table.now.nodes.items frames above_all places.now d) → ⊥))) }
+    ensures err { IfErr result (λ e.
+        (e ≡ Error.Memory)
+        ⊎ ((e ≡ Error.TooLarge)
+        × ((d : Node) →
+        EachOf EndFits (drawn_from table.now.nodes.items frames above_all places.now d) →
+        ⊥))) }
 {
     let mut drawn = Vec::with_capacity(alloc, places.len())?;
     let mut last = Drawn {
@@ -124,7 +133,10 @@ fn scope_at<'s>(
     requires id { 0 < place.now.id }
     requires small { sums.now.total < 2 ^ 63 }
     requires greatest { sums.now.greatest < 2 ^ 63 }
-    ensures { (others : MergedForest) → scope_then result others ≡ merged (drawn_node frames sums.now place.now drawn.now) (forest_in children.entry.items) others }
+    ensures { (others : MergedForest) →
+        scope_then result others
+        ≡ merged (drawn_node frames sums.now place.now drawn.now) (forest_in children.entry.items)
+        others }
 {
     MergeScope {
         relative_start_ns: drawn.start,
@@ -146,8 +158,14 @@ pub(crate) fn tree_of<'s>(
 ) -> Result<Vec<MergeScope<'s>>>
     requires frames { 0 < frames }
     requires table { (all : List Occurrence) × IsTableOf all table.now }
-    ensures ok { IfOk result (λ merged. (all : List Occurrence) → IsTableOf all table.now → IsMerge all frames (forest_in merged.items) × EndsFit (forest_in merged.items)) }
-    ensures err { IfErr result (λ e. (e ≡ Error.Memory) ⊎ ((e ≡ Error.TooLarge) × ((all : List Occurrence) → IsTableOf all table.now → (f : MergedForest) × IsMerge all frames f × (EndsFit f → ⊥)))) }
+    ensures ok { IfOk result (λ merged.
+        (all : List Occurrence) → IsTableOf all table.now →
+        IsMerge all frames (forest_in merged.items) × EndsFit (forest_in merged.items)) }
+    ensures err { IfErr result (λ e.
+        (e ≡ Error.Memory)
+        ⊎ ((e ≡ Error.TooLarge)
+        × ((all : List Occurrence) → IsTableOf all table.now →
+        (f : MergedForest) × IsMerge all frames f × (EndsFit f → ⊥)))) }
 {
     let places = places(alloc, table)?;
     let drawn = draw_all(alloc, table, places.as_slice(), frames)?;

@@ -6,11 +6,11 @@ ghost use Rattle.std.specs.Io.KnownBytes.{Appends, Consumes};
 ghost use Rattle.puffin_data.specs.declared.error.Error.{Error};
 ghost use Rattle.puffin_data.specs.declared.file_error.FileError.{FileError};
 ghost use Rattle.puffin_data.specs.Device.{TookNothing, WritesBeginning, failures_after};
-ghost use Rattle.puffin_frames.specs.Details.Collection.{inserted_all};
+ghost use Rattle.puffin_frames.specs.Details.Collection.{with_all_details};
 ghost use Rattle.puffin_frames.specs.Packet.Steps.{IsPacked};
 ghost use Rattle.puffin_frames.specs.Packet.Writing.{HasLongPart};
 ghost use Rattle.puffin.specs.View.ViewedFrames.{contents_of};
-ghost use Rattle.puffin.specs.View.FrameOf.{frame_of, told};
+ghost use Rattle.puffin.specs.View.FrameOf.{frame_of, details_of_frame};
 ghost use Rattle.puffin.specs.View.{after_taking};
 ghost use Rattle.puffin.specs.View.Known.{view_of, collection_of, lacks_ids};
 ghost use Rattle.puffin.specs.View.File.{magic, begins_file, file_of, contents_in, file_at, frames_at, most_packets, FailsToRead, ReadsView};
@@ -33,7 +33,8 @@ fn is_magic(letters: [u8; 4]) -> bool
 fn read_magic<S: Source>(source: &mut S) -> Result<(), FileError>
     requires { S.failures source.old < 2 ^ 64 - 1 }
     ensures ok { OnOk result (Consumes (S.remaining source.old) (S.remaining source.new) magic) }
-    ensures err { IfErr result (λ e. FailsToRead file_at (S.remaining source.old) (S.remaining source.new) e) }
+    ensures err { IfErr result (λ e.
+        FailsToRead file_at (S.remaining source.old) (S.remaining source.new) e) }
     ensures failures { S.failures source.new ≡ failures_after (S.failures source.old) result }
 {
     let mut letters = [0; 4];
@@ -50,10 +51,15 @@ fn read_magic<S: Source>(source: &mut S) -> Result<(), FileError>
 /// Adds a frame that was read to a view.
 fn add_read(alloc: Global, view: &mut FrameView, frame: FrameData) -> Result<(), FileError>
     ensures ok { OnOk result (view_of view.new ≡ after_taking (view_of view.old) (frame_of frame)) }
-    ensures learnt { OnOk result (collection_of view.new ≡ inserted_all (collection_of view.old) (told (frame_of frame))) }
+    ensures learnt { OnOk result (
+        collection_of view.new
+        ≡ with_all_details (collection_of view.old) (details_of_frame (frame_of frame))) }
     ensures ids { OnOk result (lacks_ids (contents_of (frame_of frame)) ≡ false) }
-    ensures missing { IfErr result (λ e. e ≡ FileError.Refused Error.MissingId → lacks_ids (contents_of (frame_of frame)) ≡ true) }
-    ensures cause { IfErr result (λ e. (e ≡ FileError.Refused Error.MissingId) ⊎ (e ≡ FileError.Memory)) }
+    ensures missing { IfErr result (λ e.
+        e ≡ FileError.Refused Error.MissingId →
+        lacks_ids (contents_of (frame_of frame)) ≡ true) }
+    ensures cause { IfErr result (λ e.
+        (e ≡ FileError.Refused Error.MissingId) ⊎ (e ≡ FileError.Memory)) }
 {
     let frame = Arc::new(alloc, frame)?;
     match view.add_frame(frame) {
@@ -66,7 +72,8 @@ fn add_read(alloc: Global, view: &mut FrameView, frame: FrameData) -> Result<(),
 /// Reads all frames up to the end.
 fn read_frames<S: Source>(alloc: Global, source: &mut S) -> Result<FrameView, FileError>
     requires { S.failures source.old < 2 ^ 64 - 1 }
-    ensures frames { ReadsView (frames_at most_packets) (S.remaining source.old) (S.remaining source.new) result }
+    ensures frames { ReadsView (frames_at most_packets) (S.remaining source.old)
+        (S.remaining source.new) result }
     ensures failures { S.failures source.new ≡ failures_after (S.failures source.old) result }
 {
     let mut view = FrameView::new(alloc);
@@ -88,13 +95,21 @@ impl FrameView {
     /// write failed or took nothing of a piece that wasn't empty. A beginning of the file is then written.
     pub fn write<D: Drain>(&self, drain: &mut D) -> Result<(), FileError>
         requires { D.failures drain.old < 2 ^ 64 - 1 }
-        ensures ok { OnOk result (Appends (D.contents drain.old) (D.contents drain.new) (file_of (contents_in (view_of self.now)))) }
+        ensures ok { OnOk result (
+            Appends (D.contents drain.old) (D.contents drain.new) (
+            file_of (contents_in (view_of self.now)))) }
         // What is written is read again.
         ensures packed { OnOk result (AllByRecursion IsPacked (contents_in (view_of self.now))) }
-        ensures begun { IfErr result (λ e. WritesBeginning (D.contents drain.old) (D.contents drain.new) (file_of (contents_in (view_of self.now)))) }
-        ensures io { IfErr result (λ e. e ≡ FileError.Io → (D.failures drain.new ≡ D.failures drain.old + 1) ⊎ TookNothing D.takes drain.new) }
-        ensures too_long { IfErr result (λ e. e ≡ FileError.PartTooLong → Any HasLongPart (contents_in (view_of self.now))) }
-        ensures cause { IfErr result (λ e. (e ≡ FileError.PartTooLong) ⊎ (e ≡ FileError.Memory) ⊎ (e ≡ FileError.Io)) }
+        ensures begun { IfErr result (λ e.
+            WritesBeginning (D.contents drain.old) (D.contents drain.new) (
+            file_of (contents_in (view_of self.now)))) }
+        ensures io { IfErr result (λ e.
+            e ≡ FileError.Io →
+            (D.failures drain.new ≡ D.failures drain.old + 1) ⊎ TookNothing D.takes drain.new) }
+        ensures too_long { IfErr result (λ e.
+            e ≡ FileError.PartTooLong → Any HasLongPart (contents_in (view_of self.now))) }
+        ensures cause { IfErr result (λ e.
+            (e ≡ FileError.PartTooLong) ⊎ (e ≡ FileError.Memory) ⊎ (e ≡ FileError.Io)) }
         ensures failures { OnOk result (D.failures drain.new ≡ D.failures drain.old) }
     {
         write_all(drain, b"PUF0")?;

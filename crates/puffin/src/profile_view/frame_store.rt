@@ -47,9 +47,17 @@ impl Model for FrameStore {
     ghost coded = { view_code };
 
     ghost use Rattle.puffin.specs.inner.view.Ranks.{rank_index};
-    ghost use Rattle.puffin.specs.inner.view.Store.{frames_at, IsStored};
+    ghost use Rattle.puffin.specs.inner.view.Store.{frames_under, IsStored};
 
-    ghost view = { λ s. record { recent = frames_at s.held s.recent.items; slow = frames_at s.held (map rank_index s.slow.items); last = s.last; max_recent = s.max_recent; max_slow = s.max_slow; packs = s.pack_frames } };
+    ghost view = { λ s.
+        record {
+          recent = frames_under s.held s.recent.items;
+          slow = frames_under s.held (map rank_index s.slow.items);
+          last = s.last;
+          max_recent = s.max_recent;
+          max_slow = s.max_slow;
+          packs = s.pack_frames;
+        } };
 
     ghost invariant = { λ s. IsStored s.held s.recent.items s.slow.items s.last };
 }
@@ -313,7 +321,8 @@ fn enter_slow(
     requires rising { IsStrictlySortedBy nat_cmp recent.now.items }
     requires sorted { IsStrictlySortedBy rank_cmp slow.old.items }
     ensures slow { slow.new.items ≡ ranks_after max slow.old.items rank }
-    ensures held { LetsGo held.old recent.now.items (map rank_index (ranks_gone max slow.old.items rank)) held.new }
+    ensures held { LetsGo held.old recent.now.items
+        (map rank_index (ranks_gone max slow.old.items rank)) held.new }
 {
     if rank.enters(slow, max) {
         let at = rank.place_in(slow);
@@ -334,7 +343,8 @@ fn cut_slow(
 )
     requires { IsStrictlySortedBy nat_cmp recent.now.items }
     ensures slow { slow.new.items ≡ take max slow.old.items }
-    ensures held { LetsGo held.old recent.now.items (map rank_index (drop max slow.old.items)) held.new }
+    ensures held { LetsGo held.old recent.now.items (map rank_index (drop max slow.old.items))
+        held.new }
 {
     for rank in &slow[max.min(slow.len())..] {
         if !is_recent(recent, rank.frame_index) {
@@ -354,7 +364,8 @@ fn cut_recent(
     requires sorted { IsStrictlySortedBy rank_cmp slow.now }
     requires ranked { AreRanked held.old slow.now }
     ensures recent { recent.new.items ≡ last_of max recent.old.items }
-    ensures held { LetsGo held.old (map rank_index slow.now) (take (length recent.old.items - max) recent.old.items) held.new }
+    ensures held { LetsGo held.old (map rank_index slow.now)
+        (take (length recent.old.items - max) recent.old.items) held.new }
 {
     for _ in 0..recent.len().saturating_sub(max) {
         if let Some(index) = recent.pop_front() {

@@ -4,11 +4,11 @@ ghost use Rattle.std.specs.List.{list_any};
 ghost use Rattle.puffin_data.specs.declared.error.Error.{Error};
 ghost use Rattle.std.specs.Arc.{arc_value};
 ghost use Rattle.puffin_frames.specs.Details.{details_of, shared_details, lacks_id, AllHaveIds};
-ghost use Rattle.puffin_frames.specs.Details.Collection.{no_details, inserted_all};
+ghost use Rattle.puffin_frames.specs.Details.Collection.{no_details, with_all_details};
 ghost use Rattle.puffin.specs.View.Ranking.{last_of, last_in};
 ghost use Rattle.puffin_frames.specs.Packet.Stored.{Said};
 ghost use Rattle.puffin.specs.View.ViewedFrames.{contents_of, index_of, chronological};
-ghost use Rattle.puffin.specs.View.FrameOf.{shared_frame, told};
+ghost use Rattle.puffin.specs.View.FrameOf.{shared_frame, details_of_frame};
 ghost use Rattle.puffin.specs.View.{empty_view, is_past, after_taking, KeepsFrames, all_uniq, Holds, Took};
 ghost use Rattle.puffin.specs.View.Stats.{stats_of};
 ghost use Rattle.puffin.specs.View.Listings.{recent_left, all_left, slowest_left};
@@ -45,7 +45,8 @@ impl FrameView {
 
     /// Whether there is no frame.
     pub fn is_empty(&self) -> bool
-        ensures { IsTrue result ↔ (((view_of self.now).recent ≡ []) × ((view_of self.now).slow ≡ [])) }
+        ensures { IsTrue result
+            ↔ (((view_of self.now).recent ≡ []) × ((view_of self.now).slow ≡ [])) }
     {
         self.frames.is_empty()
     }
@@ -64,24 +65,39 @@ impl FrameView {
     /// only with `Memory`: a beginning of the details may be known then, and where frames are packed and none would have been
     /// dropped, the newest may be packed.
     pub fn add_frame(&mut self, frame: Arc<FrameData>) -> Result<()>
-        ensures ok { OnOk result (view_of self.new ≡ after_taking (view_of self.old) (shared_frame frame)) }
-        ensures learnt { OnOk result (collection_of self.new ≡ inserted_all (collection_of self.old) (told (shared_frame frame))) }
+        ensures ok { OnOk result (
+            view_of self.new ≡ after_taking (view_of self.old) (shared_frame frame)) }
+        ensures learnt { OnOk result (
+            collection_of self.new ≡ with_all_details (collection_of self.old) (
+            details_of_frame (shared_frame frame))) }
         ensures ids { OnOk result (lacks_ids (contents_of (shared_frame frame)) ≡ false) }
         ensures missing { (result ≡ Err Error.MissingId)
             ↔ (lacks_ids (contents_of (shared_frame frame)) ≡ true) }
-        ensures unchanged { (result ≡ Err Error.MissingId)
-            → (view_of self.new ≡ view_of self.old) × (collection_of self.new ≡ collection_of self.old) }
+        ensures unchanged { (result ≡ Err Error.MissingId) →
+            (view_of self.new ≡ view_of self.old)
+            × (collection_of self.new ≡ collection_of self.old) }
         ensures cause { IfErr result (λ e. (e ≡ Error.MissingId) ⊎ (e ≡ Error.Memory)) }
         // What a refusal for memory may leave.
-        ensures err { OnErr result (KeepsFrames (view_of self.old) (index_of (shared_frame frame)) (view_of self.new)) }
-        ensures known { OnErr result (LearnsSome (collection_of self.old) (told (shared_frame frame)) (collection_of self.new)) }
+        ensures err { OnErr result (
+            KeepsFrames (view_of self.old) (index_of (shared_frame frame)) (view_of self.new)) }
+        ensures known { OnErr result (
+            LearnsSome (collection_of self.old) (details_of_frame (shared_frame frame))
+            (collection_of self.new)) }
 
         // What the view holds of any two lists, it holds of them with the frame.
-        ensures more { OnOk result ((cs ds : List Said) → is_past (view_of self.old) (index_of (shared_frame frame)) ≡ false → Holds cs ds (view_of self.old)
-            → Holds (cs ++ contents_of (shared_frame frame) ∷ []) (ds ++ contents_of (shared_frame frame) ∷ []) (view_of self.new)) }
-        ensures anew { OnOk result (is_past (view_of self.old) (index_of (shared_frame frame)) ≡ true
-            → Holds (contents_of (shared_frame frame) ∷ []) (contents_of (shared_frame frame) ∷ []) (view_of self.new)) }
-        ensures took { OnOk result ((cs : List Said) → Took cs (view_of self.old) → Took (cs ++ contents_of (shared_frame frame) ∷ []) (view_of self.new)) }
+        ensures more { OnOk result (
+            (cs ds : List Said) →
+            is_past (view_of self.old) (index_of (shared_frame frame)) ≡ false →
+            Holds cs ds (view_of self.old) →
+            Holds (cs ++ contents_of (shared_frame frame) ∷ [])
+            (ds ++ contents_of (shared_frame frame) ∷ []) (view_of self.new)) }
+        ensures anew { OnOk result (
+            is_past (view_of self.old) (index_of (shared_frame frame)) ≡ true →
+            Holds (contents_of (shared_frame frame) ∷ [])
+            (contents_of (shared_frame frame) ∷ []) (view_of self.new)) }
+        ensures took { OnOk result (
+            (cs : List Said) → Took cs (view_of self.old) →
+            Took (cs ++ contents_of (shared_frame frame) ∷ []) (view_of self.new)) }
     {
         if any_lacks_id(&frame.scope_delta) {
             return Err(Error::MissingId);
@@ -128,7 +144,8 @@ impl FrameView {
     /// Forgets which frames were the slowest.
     pub fn clear_slowest(&mut self)
         ensures frames { view_of self.new ≡ record (view_of self.old) { slow = [] } }
-        ensures holds { (cs ds : List Said) → Holds cs ds (view_of self.old) → Holds cs [] (view_of self.new) }
+        ensures holds { (cs ds : List Said) → Holds cs ds (view_of self.old) →
+            Holds cs [] (view_of self.new) }
         ensures collection { collection_of self.new ≡ collection_of self.old }
     {
         self.frames.clear_slowest();
@@ -216,8 +233,10 @@ fn any_lacks_id(details: &[Arc<ScopeDetails>]) -> bool
 /// Puts details into a collection, in order. Refused only with `Memory`, after which a beginning of them is in it.
 fn learn(collection: &mut ScopeCollection, details: &[Arc<ScopeDetails>]) -> Result<()>
     requires { AllHaveIds (shared_details details.now) }
-    ensures ok { OnOk result (collection.new ≡ inserted_all collection.old (shared_details details.now)) }
-    ensures err { OnErr result (LearnsSome collection.old (shared_details details.now) collection.new) }
+    ensures ok { OnOk result (
+        collection.new ≡ with_all_details collection.old (shared_details details.now)) }
+    ensures err { OnErr result (
+        LearnsSome collection.old (shared_details details.now) collection.new) }
     ensures cause { IfErr result (λ e. e ≡ Error.Memory) }
 {
     for details in details {

@@ -24,9 +24,9 @@ pub(crate) struct HeldFrames {
 }
 
 impl Model for HeldFrames {
-    ghost use Rattle.puffin.specs.inner.view.Held.{Held, held_code};
+    ghost use Rattle.puffin.specs.inner.view.Held.{HeldFrames, held_code};
 
-    ghost Value = { Held };
+    ghost Value = { HeldFrames };
 
     ghost coded = { held_code };
 
@@ -55,7 +55,9 @@ impl HeldFrames {
 
     /// Puts a frame under its index, in place of the one that is there. Refused only with `Memory`, and not where one is there.
     pub fn insert(&mut self, frame: Arc<FrameData>) -> Result<()>
-        ensures ok { OnOk result (self.new ≡ map.insert self.old (index_of (shared_frame frame)) (shared_frame frame)) }
+        ensures ok { OnOk result (
+            self.new
+            ≡ map.insert self.old (index_of (shared_frame frame)) (shared_frame frame)) }
         ensures err { OnErr result (self.new ≡ self.old) }
         ensures cause { IfErr result (λ e. e ≡ Error.Memory) }
     {

@@ -31,14 +31,17 @@ use puffin_frames::frame_data::laws::written_is_read;
 /// none of the slowest comes before one in front of it.
 pub fn slowest_first()
     ensures first { (k : ℕ) (cs : List Said) → AreFirst is_slower k cs (slowest k cs) }
-    ensures in_order { (k : ℕ) (cs : List Said) → AllPairs (λ c d. is_slower d c ≡ false) (slowest k cs) }
+    ensures in_order { (k : ℕ) (cs : List Said) →
+        AllPairs (λ c d. is_slower d c ≡ false) (slowest k cs) }
 {}
 
 /// The order by falling duration, then rising index. It is total, and ties just what has the same duration and index.
 pub fn order_by_duration()
     ensures longer_first { (c d : Said) → duration d <ℤ duration c → by_duration c d ≡ Less }
-    ensures then_by_index { (c d : Said) → duration c ≡ duration d → frame_index c < frame_index d → by_duration c d ≡ Less }
-    ensures ties { (c d : Said) → by_duration c d ≡ Equal ↔ ((duration c ≡ duration d) × (frame_index c ≡ frame_index d)) }
+    ensures then_by_index { (c d : Said) → duration c ≡ duration d → frame_index c < frame_index d →
+        by_duration c d ≡ Less }
+    ensures ties { (c d : Said) →
+        by_duration c d ≡ Equal ↔ ((duration c ≡ duration d) × (frame_index c ≡ frame_index d)) }
     ensures total { IsTotalOrder by_duration }
 {}
 
@@ -59,27 +62,35 @@ pub fn order_by_index()
 /// A view compares frames by their ranks: these are ordered as their frames are by duration, and equality, order and
 /// sameness agree.
 pub fn ranks_by_duration()
-    ensures order { (f g : Frame) → ⟦<SlowRank as Ord>⟧.cmp (rank_of f) (rank_of g) ≡ by_duration (contents_of f) (contents_of g) }
-    ensures equality { (r s : SlowRank) → ⟦<SlowRank as PartialEq>⟧.eq r s ≡ eq_by_cmp rank_cmp r s }
+    ensures order { (f g : Frame) →
+        ⟦<SlowRank as Ord>⟧.cmp (rank_of f) (rank_of g)
+        ≡ by_duration (contents_of f) (contents_of g) }
+    ensures equality { (r s : SlowRank) →
+        ⟦<SlowRank as PartialEq>⟧.eq r s ≡ eq_by_cmp rank_cmp r s }
     ensures one { (r s : SlowRank) → rank_cmp r s ≡ Equal → r ≡ s }
 {}
 
 /// A view holds no frame but those that it held before and those that it took: what no test finds among these it doesn't
 /// find in the view after, nor in what is written of it.
 pub fn views_hold_what_they_took()
-    ensures held { (p : Said → Bool) (v : View) (fs : List Frame) → list_any p (contents_held v) ≡ false → list_any p (map contents_of fs) ≡ false
-        → list_any p (contents_held (after_all v fs)) ≡ false }
-    ensures listed { (p : Said → Bool) (v : View) → list_any p (contents_held v) ≡ false → list_any p (contents_in v) ≡ false }
+    ensures held { (p : Said → Bool) (v : View) (fs : List Frame) →
+        list_any p (contents_held v) ≡ false → list_any p (map contents_of fs) ≡ false →
+        list_any p (contents_held (after_all v fs)) ≡ false }
+    ensures listed { (p : Said → Bool) (v : View) → list_any p (contents_held v) ≡ false →
+        list_any p (contents_in v) ≡ false }
 {}
 
 /// A file that was written is read again as its frames and no others, where the end follows; or it is refused, where one of
 /// their details has no id. A file has one list of frames.
 pub fn written_files_are_read()
-    ensures again { (cs : List Said) (end : List ℕ) → AllByRecursion IsPacked cs → length cs < 2 ^ 64 - 1 → is_end end ≡ true
-        → list_any lacks_ids cs ≡ false → file_at (file_of cs ++ end) ≡ Ok (map packed cs, drop 4 end) }
-    ensures missing { (cs : List Said) (end : List ℕ) → AllByRecursion IsPacked cs → length cs < 2 ^ 64 - 1 → is_end end ≡ true
-        → list_any lacks_ids cs ≡ true → file_at (file_of cs ++ end) ≡ Err (FileError.Refused Error.MissingId) }
-    ensures one_list { (cs ds : List Said) → AllByRecursion IsPacked cs → AllByRecursion IsPacked ds → file_of cs ≡ file_of ds → cs ≡ ds }
+    ensures again { (cs : List Said) (end : List ℕ) → AllByRecursion IsPacked cs →
+        length cs < 2 ^ 64 - 1 → is_end end ≡ true → list_any lacks_ids cs ≡ false →
+        file_at (file_of cs ++ end) ≡ Ok (map packed cs, drop 4 end) }
+    ensures missing { (cs : List Said) (end : List ℕ) → AllByRecursion IsPacked cs →
+        length cs < 2 ^ 64 - 1 → is_end end ≡ true → list_any lacks_ids cs ≡ true →
+        file_at (file_of cs ++ end) ≡ Err (FileError.Refused Error.MissingId) }
+    ensures one_list { (cs ds : List Said) → AllByRecursion IsPacked cs →
+        AllByRecursion IsPacked ds → file_of cs ≡ file_of ds → cs ≡ ds }
 {
     written_is_read();
 }
@@ -88,15 +99,21 @@ pub fn written_files_are_read()
 /// are then the recent frames of the view, in their order. Reader and memory aside, it is refused only where one of their
 /// details has no id.
 pub fn what_was_written_is_read()
-    ensures frames { (cs : List Said) (new : Option (List ℕ)) (frames : List Stored) → AllByRecursion IsPacked cs → length cs < 2 ^ 64 - 1
-        → TookFrames file_at (Some (file_of cs)) new frames → frames ≡ map packed cs }
-    ensures fault { (cs : List Said) (new : Option (List ℕ)) (e : FileError) → AllByRecursion IsPacked cs → length cs < 2 ^ 64 - 1
-        → FailsToRead file_at (Some (file_of cs)) new e → ¬ IsOutside e → (e ≡ FileError.Refused Error.MissingId) × (list_any lacks_ids cs ≡ true) }
-    ensures view { (v : View) (new : Option (List ℕ)) (view : FrameView) → AllByRecursion IsPacked (contents_in v) → length (contents_in v) < 2 ^ 64 - 1
-        → ReadsView file_at (Some (file_of (contents_in v))) new (Ok view) → map contents_of (view_of view).recent ≡ contents_in v }
+    ensures frames { (cs : List Said) (new : Option (List ℕ)) (frames : List Stored) →
+        AllByRecursion IsPacked cs → length cs < 2 ^ 64 - 1 →
+        TookFrames file_at (Some (file_of cs)) new frames → frames ≡ map packed cs }
+    ensures fault { (cs : List Said) (new : Option (List ℕ)) (e : FileError) →
+        AllByRecursion IsPacked cs → length cs < 2 ^ 64 - 1 →
+        FailsToRead file_at (Some (file_of cs)) new e → ¬ IsOutside e →
+        (e ≡ FileError.Refused Error.MissingId) × (list_any lacks_ids cs ≡ true) }
+    ensures view { (v : View) (new : Option (List ℕ)) (view : FrameView) →
+        AllByRecursion IsPacked (contents_in v) → length (contents_in v) < 2 ^ 64 - 1 →
+        ReadsView file_at (Some (file_of (contents_in v))) new (Ok view) →
+        map contents_of (view_of view).recent ≡ contents_in v }
     // The view that takes these frames has no others.
-    ensures all { (v : View) → length (contents_in v) < 2 ^ 64 - 1
-        → contents_in (after_all read_view (map frame_stored (map packed (contents_in v)))) ≡ contents_in v }
+    ensures all { (v : View) → length (contents_in v) < 2 ^ 64 - 1 →
+        contents_in (after_all read_view (map frame_stored (map packed (contents_in v))))
+        ≡ contents_in v }
 {
     written_is_read();
 }

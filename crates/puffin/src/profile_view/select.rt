@@ -71,7 +71,9 @@ fn old_places(alloc: Global, slow: &[SlowPlace]) -> Result<Vec<OldPlace>>
 
 /// Adds the frame at a place, if there is one.
 fn push_at(all: &mut Vec<Arc<FrameData>>, frames: &[Arc<FrameData>], place: usize) -> Result<()>
-    ensures ok { OnOk result (frames_of all.new.items ≡ frames_of all.old.items ++ option_to_list (slice_get (frames_of frames.now) place)) }
+    ensures ok { OnOk result (
+        frames_of all.new.items
+        ≡ frames_of all.old.items ++ option_to_list (slice_get (frames_of frames.now) place)) }
     ensures cause { IfErr result (λ e. e ≡ Error.Memory) }
 {
     match frames.get(place) {
@@ -89,7 +91,9 @@ fn frames_at(
     frames: &[Arc<FrameData>],
     places: &[OldPlace],
 ) -> Result<Vec<Arc<FrameData>>>
-    ensures ok { IfOk result (λ v. frames_of v.items ≡ filter_map (λ r. slice_get (frames_of frames.now) r.place) (map old_place places.now)) }
+    ensures ok { IfOk result (λ v.
+        frames_of v.items ≡ filter_map (λ r. slice_get (frames_of frames.now) r.place) (
+        map old_place places.now)) }
     ensures cause { IfErr result (λ e. e ≡ Error.Memory) }
 {
     let mut all = Vec::with_capacity(alloc, places.len())?;

@@ -30,7 +30,11 @@ impl Sums {
     pub fn raise(&mut self, is_unpacked: bool, bytes: usize)
         requires unpacked_frames { self.old.unpacked_frames + 1 < 2 ^ 128 }
         requires bytes { self.old.bytes_of_ram_used + bytes < 2 ^ 128 }
-        ensures { self.new ≡ record { frames = self.old.frames; unpacked_frames = self.old.unpacked_frames + number_if is_unpacked; bytes_of_ram_used = self.old.bytes_of_ram_used + bytes } }
+        ensures { self.new ≡ record {
+          frames = self.old.frames;
+          unpacked_frames = self.old.unpacked_frames + number_if is_unpacked;
+          bytes_of_ram_used = self.old.bytes_of_ram_used + bytes;
+        } }
     {
         self.unpacked_frames += is_unpacked as u128;
         self.bytes_of_ram_used += bytes as u128;
@@ -41,7 +45,8 @@ impl Sums {
         requires unpacked_frames { unpacked_if frame ≤ self.old.unpacked_frames }
         requires bytes { ram_if frame ≤ self.old.bytes_of_ram_used }
         ensures frames { self.new.frames ≡ self.old.frames }
-        ensures unpacked_frames { self.new.unpacked_frames + unpacked_if frame ≡ self.old.unpacked_frames }
+        ensures unpacked_frames { self.new.unpacked_frames + unpacked_if frame
+            ≡ self.old.unpacked_frames }
         ensures bytes { self.new.bytes_of_ram_used + ram_if frame ≡ self.old.bytes_of_ram_used }
     {
         if let Some(frame) = frame {
@@ -52,7 +57,11 @@ impl Sums {
 
     /// The sums, each cut where it doesn't fit.
     pub fn stats(&self) -> FrameStats
-        ensures { result ≡ record { frames = cut self.now.frames; unpacked_frames = cut self.now.unpacked_frames; bytes_of_ram_used = cut self.now.bytes_of_ram_used } }
+        ensures { result ≡ record {
+          frames = cut self.now.frames;
+          unpacked_frames = cut self.now.unpacked_frames;
+          bytes_of_ram_used = cut self.now.bytes_of_ram_used;
+        } }
     {
         FrameStats {
             frames: cut(self.frames),

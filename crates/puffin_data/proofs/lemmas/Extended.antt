@@ -5,7 +5,7 @@ use Rattle.std.proofs.lemmas.Int.{ints, clamps}
 use Rattle.puffin_data.specs.Forest.{Forest, IsForest, empty, node, append}
 use Rattle.puffin_data.specs.Forest.Measures.{scope_count, height, least_start, greatest_stop}
 use Rattle.puffin_data.specs.Forest.Spelling.{spelling}
-use Rattle.puffin_data.specs.Honesty.{Recorded, IsHonestRecord, joined}
+use Rattle.puffin_data.specs.Honesty.{Recorded, IsHonestRecord, joined_record}
 use Rattle.puffin_data.proofs.lemmas.Unique.{spelling-append}
 use Rattle.puffin_data.proofs.RangesTold.{least_in_range, greatest_in_range, from_most, from_least}
 
@@ -35,7 +35,7 @@ pub IsForest-append : (f g : Forest) → IsForest f → IsForest g → IsForest 
 IsForest-append empty g x y = y
 IsForest-append (node s c o) g x y = (x.0, x.1, IsForest-append o g x.2 y)
 
-pub honest_joined : (a b : Recorded) (f g : Forest) → IsHonestRecord a f → IsHonestRecord b g → IsHonestRecord (joined a b) (append f g)
+pub honest_joined : (a b : Recorded) (f g : Forest) → IsHonestRecord a f → IsHonestRecord b g → IsHonestRecord (joined_record a b) (append f g)
 honest_joined a b f g x y =
     record {
       stream = record {

@@ -12,7 +12,7 @@ found_of s = record {
   next_sibling = s.next_sibling;
 }
 
-abbrev pub seen : Result (Option Sighting) Error → Result (Option Found) Error
-seen (Ok None) = Ok None
-seen (Ok (Some s)) = Ok (Some (found_of s))
-seen (Err e) = Err e
+abbrev pub reading_of : Result (Option Sighting) Error → Result (Option Found) Error
+reading_of (Ok None) = Ok None
+reading_of (Ok (Some s)) = Ok (Some (found_of s))
+reading_of (Err e) = Err e

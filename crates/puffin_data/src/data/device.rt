@@ -22,7 +22,8 @@ pub trait Source {
         requires { failures self.old < 2 ^ 64 - 1 }
         ensures bound { ReadsAtMost result buf.new }
         ensures bytes { ReadConsumes (remaining self.old) (remaining self.new) result buf.new }
-        ensures failed { failures self.new ≡ (if is_err result then failures self.old + 1 else failures self.old) };
+        ensures failed { failures self.new
+            ≡ (if is_err result then failures self.old + 1 else failures self.old) };
 
     /// How many reads have failed.
     fn faults(&self) -> u64
@@ -46,7 +47,8 @@ pub trait Drain {
         ensures bound { WritesAtMost result buf.now }
         ensures bytes { WriteAppends (contents self.old) (contents self.new) result buf.now }
         ensures took { IfOk result (λ n. takes self.old buf.now n self.new) }
-        ensures failed { failures self.new ≡ (if is_err result then failures self.old + 1 else failures self.old) };
+        ensures failed { failures self.new
+            ≡ (if is_err result then failures self.old + 1 else failures self.old) };
 
     /// How many writes have failed.
     fn faults(&self) -> u64

@@ -3,7 +3,7 @@ ghost use Rattle.std.specs.Int.{int_min, int_max};
 ghost use Rattle.puffin_data.specs.Forest.{Forest, empty, append};
 ghost use Rattle.puffin_data.specs.Forest.Spelling.{Spells};
 ghost use Rattle.puffin_data.specs.Walk.{IsFault};
-ghost use Rattle.puffin_data.specs.Honesty.{IsHonest, IsHonestRef, recorded, recorded_ref, joined};
+ghost use Rattle.puffin_data.specs.Honesty.{IsHonest, IsHonestRef, record_of, record_of_ref, joined_record};
 
 use crate::data::reader::Reader;
 use crate::data::stream::Stream;
@@ -68,7 +68,8 @@ impl StreamInfo {
         ensures same { IfOk result (λ info. info.stream ≡ stream) }
         ensures honest { IfOk result (λ info. (f : Forest) × IsHonest info f) }
         // Each forest is counted, unless memory runs out.
-        ensures only { (f : Forest) → Spells stream.bytes f → MatchResult result (λ info. IsHonest info f) (λ e. e ≡ Error.Memory) }
+        ensures only { (f : Forest) → Spells stream.bytes f →
+            MatchResult result (λ info. IsHonest info f) (λ e. e ≡ Error.Memory) }
         ensures fault { IfErr result (λ e. (e ≡ Error.Memory) ⊎ IsFault stream.bytes e) }
     {
         let mut tries = 0;
@@ -97,11 +98,15 @@ impl StreamInfo {
     /// nothing is changed then. Within the stream's room it is never refused with `Memory`, and takes no more of it than the
     /// bytes that are appended.
     pub fn extend(&mut self, other: &StreamInfoRef) -> Result<()>
-        ensures ok { OnOk result (recorded self.new ≡ joined (recorded self.old) (recorded_ref other.now)) }
+        ensures ok { OnOk result (
+            record_of self.new ≡ joined_record (record_of self.old) (record_of_ref other.now)) }
         // Two honest infos make an honest one.
-        ensures honest { OnOk result ((f g : Forest) → IsHonest self.old f → IsHonestRef other.now g → IsHonest self.new (append f g)) }
-        ensures too_large { (result ≡ Err Error.TooLarge) ↔ (2 ^ 64 ≤ self.old.num_scopes + other.now.num_scopes) }
-        ensures err { OnErr result (recorded self.new ≡ recorded self.old) }
+        ensures honest { OnOk result (
+            (f g : Forest) → IsHonest self.old f → IsHonestRef other.now g →
+            IsHonest self.new (append f g)) }
+        ensures too_large { (result ≡ Err Error.TooLarge)
+            ↔ (2 ^ 64 ≤ self.old.num_scopes + other.now.num_scopes) }
+        ensures err { OnErr result (record_of self.new ≡ record_of self.old) }
         ensures cause { IfErr result (λ e. (e ≡ Error.TooLarge) ⊎ (e ≡ Error.Memory)) }
         // What the room takes is appended in it.
         ensures succeeds { self.old.num_scopes + other.now.num_scopes < 2 ^ 64 →
@@ -120,7 +125,7 @@ impl StreamInfo {
 
     /// A copy. Refused only with `Memory`.
     pub fn clone(&self) -> Result<StreamInfo>
-        ensures ok { IfOk result (λ info. recorded info ≡ recorded self.now) }
+        ensures ok { IfOk result (λ info. record_of info ≡ record_of self.now) }
         ensures err { IfErr result (λ e. e ≡ Error.Memory) }
     {
         Ok(StreamInfo {
@@ -133,7 +138,7 @@ impl StreamInfo {
 
     /// The same with the bytes borrowed.
     pub fn as_stream_into_ref(&self) -> StreamInfoRef<'_>
-        ensures { recorded_ref result ≡ recorded self.now }
+        ensures { record_of_ref result ≡ record_of self.now }
     {
         StreamInfoRef {
             stream: self.stream.bytes(),

@@ -17,7 +17,8 @@ fn read_behind<S: Source>(source: &mut S, buf: &mut [u8], at: usize) -> Result<u
     requires at { at < length buf.old }
     ensures front { take at buf.new ≡ take at buf.old }
     ensures fits { IfOk result (λ n. at + n ≤ length buf.new) }
-    ensures took { IfOk result (λ n. Consumes (S.remaining source.old) (S.remaining source.new) (take n (drop at buf.new))) }
+    ensures took { IfOk result (λ n.
+        Consumes (S.remaining source.old) (S.remaining source.new) (take n (drop at buf.new))) }
     ensures end { IfOk result (λ n. n ≡ 0 → IsAtEnd (S.remaining source.new)) }
     ensures io { IfErr result (λ e. e ≡ FileError.Io) }
     ensures failures { S.failures source.new ≡ failures_after (S.failures source.old) result }
@@ -32,7 +33,8 @@ fn read_behind<S: Source>(source: &mut S, buf: &mut [u8], at: usize) -> Result<u
 fn fill_behind<S: Source>(source: &mut S, buf: &mut [u8], at: usize) -> Result<usize, FileError>
     requires failures { S.failures source.old < 2 ^ 64 - 1 }
     requires at { at ≤ length buf.old }
-    ensures filled { IfOk result (λ end. IsFilled (S.remaining source.old) (S.remaining source.new) buf.old buf.new at end) }
+    ensures filled { IfOk result (λ end.
+        IsFilled (S.remaining source.old) (S.remaining source.new) buf.old buf.new at end) }
     ensures io { IfErr result (λ e. e ≡ FileError.Io) }
     ensures failures { S.failures source.new ≡ failures_after (S.failures source.old) result }
 {
@@ -52,7 +54,10 @@ fn fill_behind<S: Source>(source: &mut S, buf: &mut [u8], at: usize) -> Result<u
 pub fn read_up_to<S: Source>(source: &mut S, buf: &mut [u8]) -> Result<usize, FileError>
     requires { S.failures source.old < 2 ^ 64 - 1 }
     ensures size { length buf.new ≡ length buf.old }
-    ensures took { IfOk result (λ n. (n ≤ length buf.old) × TookUpTo (S.remaining source.old) (S.remaining source.new) (length buf.old) (take n buf.new)) }
+    ensures took { IfOk result (λ n.
+        (n ≤ length buf.old)
+        × TookUpTo (S.remaining source.old) (S.remaining source.new) (length buf.old)
+        (take n buf.new)) }
     ensures io { IfErr result (λ e. e ≡ FileError.Io) }
     ensures failures { S.failures source.new ≡ failures_after (S.failures source.old) result }
 {
@@ -62,7 +67,8 @@ pub fn read_up_to<S: Source>(source: &mut S, buf: &mut [u8]) -> Result<usize, Fi
 /// Reads one byte.
 pub fn read_byte<S: Source>(source: &mut S) -> Result<u8, FileError>
     requires { S.failures source.old < 2 ^ 64 - 1 }
-    ensures part { FromDevice (λ b. b) (S.remaining source.old) (S.remaining source.new) result first_at }
+    ensures part { FromDevice (λ b. b) (S.remaining source.old) (S.remaining source.new) result
+        first_at }
     ensures causes { IfErr result (λ e. (e ≡ FileError.Io) ⊎ (e ≡ FileError.Truncated)) }
     ensures failures { S.failures source.new ≡ failures_after (S.failures source.old) result }
 {
@@ -76,7 +82,8 @@ pub fn read_byte<S: Source>(source: &mut S) -> Result<u8, FileError>
 /// Reads a length: four bytes, the lowest first.
 pub fn read_length<S: Source>(source: &mut S) -> Result<usize, FileError>
     requires { S.failures source.old < 2 ^ 64 - 1 }
-    ensures part { FromDevice (λ n. n) (S.remaining source.old) (S.remaining source.new) result length_at }
+    ensures part { FromDevice (λ n. n) (S.remaining source.old) (S.remaining source.new) result
+        length_at }
     ensures bound { IfOk result (λ n. n < 2 ^ 32) }
     ensures causes { IfErr result (λ e. (e ≡ FileError.Io) ⊎ (e ≡ FileError.Truncated)) }
     ensures failures { S.failures source.new ≡ failures_after (S.failures source.old) result }
@@ -96,9 +103,13 @@ fn append_piece<S: Source>(
 ) -> Result<(), FileError>
     requires failures { S.failures source.old < 2 ^ 64 - 1 }
     requires wanted { length bytes.old.items ≤ wanted }
-    ensures grown { OnOk result ((taken : List ℕ) × (bytes.new.items ≡ bytes.old.items ++ taken) × Consumes (S.remaining source.old) (S.remaining source.new) taken) }
+    ensures grown { OnOk result (
+        (taken : List ℕ)
+        × (bytes.new.items ≡ bytes.old.items ++ taken)
+        × Consumes (S.remaining source.old) (S.remaining source.new) taken) }
     ensures most { OnOk result (length bytes.new.items ≤ wanted) }
-    ensures ends { OnOk result (length bytes.new.items < wanted → IsAtEnd (S.remaining source.new)) }
+    ensures ends { OnOk result (
+        length bytes.new.items < wanted → IsAtEnd (S.remaining source.new)) }
     ensures outside { IfErr result IsOutside }
     ensures failures { S.failures source.new ≡ failures_after (S.failures source.old) result }
 {
@@ -113,7 +124,8 @@ fn append_piece<S: Source>(
 /// before; memory is asked for as the bytes come.
 pub fn read_part<S: Source>(alloc: Global, source: &mut S, len: usize) -> Result<Vec<u8>, FileError>
     requires { S.failures source.old < 2 ^ 64 - 1 }
-    ensures part { FromDevice (λ v. v.items) (S.remaining source.old) (S.remaining source.new) result (part_of len) }
+    ensures part { FromDevice (λ v. v.items) (S.remaining source.old) (S.remaining source.new)
+        result (part_of len) }
     ensures len { IfOk result (λ v. length v.items ≡ len) }
     ensures failures { S.failures source.new ≡ failures_after (S.failures source.old) result }
 {
@@ -131,7 +143,8 @@ pub fn read_part<S: Source>(alloc: Global, source: &mut S, len: usize) -> Result
 /// Reads a length, and that many bytes. Refused as [`read_part`] is.
 pub fn read_counted_part<S: Source>(alloc: Global, source: &mut S) -> Result<Vec<u8>, FileError>
     requires { S.failures source.old < 2 ^ 64 - 1 }
-    ensures part { FromDevice (λ v. v.items) (S.remaining source.old) (S.remaining source.new) result counted_part_at }
+    ensures part { FromDevice (λ v. v.items) (S.remaining source.old) (S.remaining source.new)
+        result counted_part_at }
     ensures failures { S.failures source.new ≡ failures_after (S.failures source.old) result }
 {
     let len = read_length(source)?;

@@ -9,7 +9,7 @@ ghost use Rattle.puffin_data.specs.Walk.{IsFault, Refuses};
 ghost use Rattle.puffin_data.specs.Text.{text_in};
 ghost use Rattle.puffin_data.specs.inner.Sightings.{found_of};
 ghost use Rattle.puffin_data.specs.Reader.{Place, read_scope, scope_read};
-ghost use Rattle.puffin_data.specs.Reader.Scopes.{scope_seen, scope_answer, IsNextRead, ReadsScopes, ReadsFault};
+ghost use Rattle.puffin_data.specs.Reader.ReadScopes.{scope_seen, scope_answer, IsNextRead, ReadsScopes, ReadsFault};
 
 use crate::data::record::{Scope, ScopeRecord};
 use crate::data::scope::{Sighting, scope_in};
@@ -149,10 +149,12 @@ impl<'s> Reader<'s> {
         // What is walked is a forest, and the numbers are the forest's.
         ensures forest { IfOk result (λ w. (f : Forest) × Spells stream.now.bytes f × Counts w f) }
         // Each forest is walked, unless memory runs out.
-        ensures only { (f : Forest) → Spells stream.now.bytes f → MatchResult result (λ w. Counts w f) (λ e. e ≡ Error.Memory) }
+        ensures only { (f : Forest) → Spells stream.now.bytes f →
+            MatchResult result (λ w. Counts w f) (λ e. e ≡ Error.Memory) }
 
         // Any other bytes are refused with their first fault.
-        ensures fault { IfErr result (λ e. (e ≡ Error.Memory) ⊎ Refuses stream.now.bytes e tries.new) }
+        ensures fault { IfErr result (λ e.
+            (e ≡ Error.Memory) ⊎ Refuses stream.now.bytes e tries.new) }
         ensures tries { IfOk result (λ w. tries.new ≡ w.num_scopes) }
         ensures few { tries.new ≤ length stream.now.bytes / 31 + 1 }
     {
@@ -161,8 +163,10 @@ impl<'s> Reader<'s> {
 
     /// The number of scopes and the height of a stream, which has to be a forest of scopes. Refused as [`Reader::walk`].
     pub fn count_scope_and_depth(alloc: Global, stream: &Stream) -> Result<(usize, usize)>
-        ensures forest { IfOk result (λ n. (f : Forest) × Spells stream.now.bytes f × (n ≡ (scope_count f, height f))) }
-        ensures only { (f : Forest) → Spells stream.now.bytes f → MatchResult result (λ n. n ≡ (scope_count f, height f)) (λ e. e ≡ Error.Memory) }
+        ensures forest { IfOk result (λ n.
+            (f : Forest) × Spells stream.now.bytes f × (n ≡ (scope_count f, height f))) }
+        ensures only { (f : Forest) → Spells stream.now.bytes f →
+            MatchResult result (λ n. n ≡ (scope_count f, height f)) (λ e. e ≡ Error.Memory) }
         ensures fault { IfErr result (λ e. (e ≡ Error.Memory) ⊎ IsFault stream.now.bytes e) }
     {
         let mut tries = 0;

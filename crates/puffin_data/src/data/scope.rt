@@ -2,7 +2,7 @@
 
 ghost use Rattle.std.specs.Prelude.{◌≡◌, ◌+◌, ◌≤◌, length};
 ghost use Rattle.puffin_data.specs.Walk.Reading.{reading, id_in, time_in, size_in, child_begin_in};
-ghost use Rattle.puffin_data.specs.inner.Sightings.{seen};
+ghost use Rattle.puffin_data.specs.inner.Sightings.{reading_of};
 
 use crate::error::{Error, NanoSecond, Result};
 use byteorder::{ByteOrder, LittleEndian};
@@ -65,7 +65,7 @@ fn size_of_children(region: &[u8]) -> u64
 /// Reads one scope at the front of a region. `None` where none begins there.
 #[tactic(auto, unfolding(crate::specs::Walk::Reading::reading, crate::specs::Walk::Reading::found_in))]
 pub(crate) fn scope_in(region: &[u8]) -> Result<Option<Sighting<'_>>>
-    ensures { seen result ≡ reading region.now }
+    ensures { reading_of result ≡ reading region.now }
 {
     if region.is_empty() || region[0] != SCOPE_BEGIN {
         return Ok(None);

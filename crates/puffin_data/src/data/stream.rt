@@ -1,6 +1,6 @@
 ghost use Rattle.std.specs.Prelude.{◌≡◌, ◌==◌, ◌+◌, ◌-◌, ◌≤◌, [], ◌++◌, length, take, drop, IfOk, OnOk, OnErr, IfErr, IsOk, vec_len};
 ghost use Rattle.std.specs.Vec.{vec_capacity};
-ghost use Rattle.puffin_data.specs.Stream.{Held};
+ghost use Rattle.puffin_data.specs.Stream.{StreamState};
 
 use crate::error::{Error, Result};
 use std::alloc::Global;
@@ -15,9 +15,10 @@ pub struct Stream {
 }
 
 impl Model for Stream {
-    ghost Value = { Held };
+    ghost Value = { StreamState };
 
-    ghost view = { λ s. record { bytes = s.bytes.items; room = vec_capacity s.bytes - vec_len s.bytes } };
+    ghost view = { λ s.
+        record { bytes = s.bytes.items; room = vec_capacity s.bytes - vec_len s.bytes } };
 }
 
 impl Stream {
@@ -117,7 +118,8 @@ impl Stream {
     pub(crate) fn overwrite(&mut self, place: usize, word: &[u8])
         requires inside { place + 8 ≤ length self.old.bytes }
         requires word { length word.now ≡ 8 }
-        ensures bytes { self.new.bytes ≡ take place self.old.bytes ++ (word.now ++ drop (place + 8) self.old.bytes) }
+        ensures bytes { self.new.bytes
+            ≡ take place self.old.bytes ++ (word.now ++ drop (place + 8) self.old.bytes) }
         ensures room { self.new.room ≡ self.old.room }
     {
         self.bytes[place..place + 8].copy_from_slice(word);

@@ -18,8 +18,12 @@ fn append_read<S: Source>(
     bytes: &mut Vec<u8>,
 ) -> Result<usize, FileError>
     requires { S.failures source.old < 2 ^ 64 - 1 }
-    ensures took { IfOk result (λ n. (taken : List ℕ) × (bytes.new.items ≡ bytes.old.items ++ taken) × (length taken ≡ n)
-        × Consumes (S.remaining source.old) (S.remaining source.new) taken × (n ≡ 0 → 0 < length piece.old → IsAtEnd (S.remaining source.new))) }
+    ensures took { IfOk result (λ n.
+        (taken : List ℕ)
+        × (bytes.new.items ≡ bytes.old.items ++ taken)
+        × (length taken ≡ n)
+        × Consumes (S.remaining source.old) (S.remaining source.new) taken
+        × (n ≡ 0 → 0 < length piece.old → IsAtEnd (S.remaining source.new))) }
     ensures outside { IfErr result IsOutside }
     ensures failures { S.failures source.new ≡ failures_after (S.failures source.old) result }
 {
@@ -34,7 +38,9 @@ fn append_read<S: Source>(
 /// Reads to the end. Refused with `Io` where a read failed, else with `Memory`; the reader's place is then open.
 pub fn read_to_end<S: Source>(alloc: Global, source: &mut S) -> Result<Vec<u8>, FileError>
     requires { S.failures source.old < 2 ^ 64 - 1 }
-    ensures all { IfOk result (λ bytes. Consumes (S.remaining source.old) (S.remaining source.new) bytes.items × IsAtEnd (S.remaining source.new)) }
+    ensures all { IfOk result (λ bytes.
+        Consumes (S.remaining source.old) (S.remaining source.new) bytes.items
+        × IsAtEnd (S.remaining source.new)) }
     ensures outside { IfErr result IsOutside }
     ensures failures { S.failures source.new ≡ failures_after (S.failures source.old) result }
 {
@@ -53,8 +59,11 @@ pub fn read_to_end<S: Source>(alloc: Global, source: &mut S) -> Result<Vec<u8>, 
 pub fn write_all<D: Drain>(drain: &mut D, bytes: &[u8]) -> Result<(), FileError>
     requires { D.failures drain.old < 2 ^ 64 - 1 }
     ensures ok { OnOk result (Appends (D.contents drain.old) (D.contents drain.new) bytes.now) }
-    ensures err { OnErr result (WritesBeginning (D.contents drain.old) (D.contents drain.new) bytes.now) }
-    ensures io { IfErr result (λ e. (e ≡ FileError.Io) × ((D.failures drain.new ≡ D.failures drain.old + 1) ⊎ TookNothing D.takes drain.new)) }
+    ensures err { OnErr result (
+        WritesBeginning (D.contents drain.old) (D.contents drain.new) bytes.now) }
+    ensures io { IfErr result (λ e.
+        (e ≡ FileError.Io)
+        × ((D.failures drain.new ≡ D.failures drain.old + 1) ⊎ TookNothing D.takes drain.new)) }
     ensures failures { OnOk result (D.failures drain.new ≡ D.failures drain.old) }
 {
     let mut at = 0;

@@ -32,14 +32,20 @@ pub trait Visitor<'s> {
     fn enter(&mut self, within: Self::Within, scope: &Sighting<'s>) -> Result<Self::Within>
         requires stands { (around : List Span) × stands_for self.old within around }
         requires span { IsSpan (found_of scope.now).span }
-        ensures ok { IfOk result (λ inner. Entering takes stands_for self.old within (found_of scope.now).span inner self.new) }
-        ensures err { IfErr result (λ e. (e ≡ Error.Memory) ⊎ Refusing refuses stands_for self.old within (found_of scope.now).span e) };
+        ensures ok { IfOk result (λ inner.
+            Entering takes stands_for self.old within (found_of scope.now).span inner
+            self.new) }
+        ensures err { IfErr result (λ e.
+            (e ≡ Error.Memory)
+            ⊎ Refusing refuses stands_for self.old within (found_of scope.now).span e) };
 
     ghost takes_none: { (v : Self) → takes v [] v };
 
-    ghost takes_more: { (u v w : Self) (xs ys : List Nested) → takes u xs v → takes v ys w → takes u (xs ++ ys) w };
+    ghost takes_more: { (u v w : Self) (xs ys : List Nested) → takes u xs v → takes v ys w →
+        takes u (xs ++ ys) w };
 
-    ghost still_stands: { (u v : Self) (xs : List Nested) (w : Self.Within) (around : List Span) → takes u xs v → stands_for u w around → stands_for v w around };
+    ghost still_stands: { (u v : Self) (xs : List Nested) (w : Self.Within) (around : List Span) →
+        takes u xs v → stands_for u w around → stands_for v w around };
 }
 
 /// A region that is read or waits: where it ends, and what the visitor keeps of the scope whose children stand there.
@@ -64,7 +70,9 @@ pub fn walk_with<'s, V: Visitor<'s>>(
 ) -> Result<()>
     requires { V.stands_for visitor.old outside [] }
     ensures ok { IfOk result (λ _. TakesAll V.takes visitor.old visitor.new bytes.now tries.new) }
-    ensures err { IfErr result (λ e. (e ≡ Error.Memory) ⊎ StopsEarly V.takes V.refuses visitor.old visitor.new bytes.now tries.new e) }
+    ensures err { IfErr result (λ e.
+        (e ≡ Error.Memory)
+        ⊎ StopsEarly V.takes V.refuses visitor.old visitor.new bytes.now tries.new e) }
     ensures few { 31 * tries.new ≤ length bytes.now + 31 }
 {
     let mut outers: Vec<Region<V::Within>> = Vec::new(alloc);

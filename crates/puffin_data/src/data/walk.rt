@@ -3,7 +3,7 @@
 ghost use Rattle.std.specs.Prelude.{◌≡◌, ℕ, ◌+◌, ◌*◌, ◌≤◌, ◌<◌, ◌^◌, ◌==◌, if◌then◌else◌, length, slice_index, IfOk, IfErr, MatchResult};
 ghost use Rattle.puffin_data.specs.Walk.Reading.{reading, IsFaultIn};
 ghost use Rattle.puffin_data.specs.inner.Sightings.{found_of};
-ghost use Rattle.puffin_data.specs.inner.Walking.{uncounted, counted, Walked, Stopped};
+ghost use Rattle.puffin_data.specs.inner.Walking.{no_scope_counted, with_scope, Walked, Stopped};
 
 use crate::data::scope::{END_SIZE, SCOPE_BEGIN, Sighting, scope_in};
 use crate::error::{Error, NanoSecond, Result};
@@ -23,7 +23,7 @@ pub struct Walk {
 impl Walk {
     /// What a walk over no scope counts.
     pub(crate) fn empty() -> Walk
-        ensures { result ≡ uncounted }
+        ensures { result ≡ no_scope_counted }
     {
         Walk {
             num_scopes: 0,
@@ -35,7 +35,7 @@ impl Walk {
     /// One more scope, at this depth.
     fn counted(self, depth: usize, scope: &Sighting) -> Walk
         requires { self.num_scopes + 1 < 2 ^ 64 }
-        ensures { result ≡ counted self depth (found_of scope.now).span }
+        ensures { result ≡ with_scope self depth (found_of scope.now).span }
     {
         let (start, stop) = self.range_ns;
         Walk {

@@ -73,7 +73,9 @@ impl Stream {
         text: &str,
     ) -> Result<(usize, NanoSecond)>
         requires { F.IsAlwaysCallable now_ns }
-        ensures begun { IfOk result (λ at. self.new.bytes ≡ self.old.bytes ++ begin_bytes id at.1 (cut_text text.now) (2 ^ 64 - 1)) }
+        ensures begun { IfOk result (λ at.
+            self.new.bytes
+            ≡ self.old.bytes ++ begin_bytes id at.1 (cut_text text.now) (2 ^ 64 - 1)) }
         ensures offset { IfOk result (λ at. at.0 + 8 ≡ length self.new.bytes) }
         ensures clock { IfOk result (λ at. F.post now_ns at.1) }
         ensures err { OnErr result (self.new.bytes ≡ self.old.bytes) }
@@ -94,7 +96,9 @@ impl Stream {
         text: &str,
     ) -> Result<(usize, NanoSecond)>
         requires { F.IsAlwaysCallable now_ns.old }
-        ensures begun { IfOk result (λ at. self.new.bytes ≡ self.old.bytes ++ begin_bytes id at.1 (cut_text text.now) (2 ^ 64 - 1)) }
+        ensures begun { IfOk result (λ at.
+            self.new.bytes
+            ≡ self.old.bytes ++ begin_bytes id at.1 (cut_text text.now) (2 ^ 64 - 1)) }
         ensures offset { IfOk result (λ at. at.0 + 8 ≡ length self.new.bytes) }
         ensures clock { IfOk result (λ at. F.step now_ns.old at.1 now_ns.new) }
         ensures err { OnErr result (self.new.bytes ≡ self.old.bytes) }

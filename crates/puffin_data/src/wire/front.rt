@@ -112,7 +112,8 @@ fn bytes_in(bytes: &[u8]) -> Option<(&[u8], &[u8])>
 
 #[tactic(auto, using(crate::proofs::lemmas::Texts::utf8_tests))]
 fn text_of(stored: &[u8]) -> Option<&str>
-    ensures { MatchOption result (is_utf8 stored.now ≡ false) (λ t. (t.now ≡ stored.now) × (is_utf8 stored.now ≡ true)) }
+    ensures { MatchOption result (is_utf8 stored.now ≡ false) (λ t.
+        (t.now ≡ stored.now) × (is_utf8 stored.now ≡ true)) }
 {
     match std::str::from_utf8(stored) {
         Ok(text) => Some(text),

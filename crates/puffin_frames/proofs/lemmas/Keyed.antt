@@ -9,7 +9,7 @@ use Rattle.std.specs.BTreeMap.{insert_entry}
 use Rattle.std.specs.FinMap.{insert, entries, values}
 use Rattle.puffin_frames.specs.declared.thread_profiler.thread_info.ThreadInfo.{ThreadInfo}
 use Rattle.std.proofs.lemmas.Map.Made.{keys_of-map_values}
-use Rattle.puffin_data.specs.Honesty.{recorded}
+use Rattle.puffin_data.specs.Honesty.{record_of}
 use Rattle.puffin_data.specs.declared.data.info.StreamInfo.{StreamInfo}
 use Rattle.puffin_frames.specs.Frame.Contents.{records, streams_of}
 use Rattle.puffin_frames.specs.Thread.Info.{info_cmp, info_of, thread_cmp, keyed, by_info}
@@ -34,11 +34,11 @@ module _ {X : Type 0} where
 
 -- what is recorded, in place of the streams themselves
 sorted-records : (es : List (ThreadInfo × StreamInfo)) → IsStrictlySortedBy thread_cmp (keys_of es) → IsStrictlySortedBy thread_cmp (keys_of (records es))
-sorted-records es sorted = subst (λ (ks : List ThreadInfo). IsStrictlySortedBy thread_cmp ks) (sym (keys_of-map_values recorded es)) sorted
+sorted-records es sorted = subst (λ (ks : List ThreadInfo). IsStrictlySortedBy thread_cmp ks) (sym (keys_of-map_values record_of es)) sorted
 
-values-records : (es : List (ThreadInfo × StreamInfo)) → values_of (records es) ≡ map recorded (values_of es)
+values-records : (es : List (ThreadInfo × StreamInfo)) → values_of (records es) ≡ map record_of (values_of es)
 values-records [] = refl
-values-records (e ∷ es) = ap (λ rs. recorded e.1 ∷ rs) (values-records es)
+values-records (e ∷ es) = ap (λ rs. record_of e.1 ∷ rs) (values-records es)
 
 -- an insertion among entries whose values are read by g
 module _ {X Y : Type 0} (g : X → Y) where
@@ -55,8 +55,8 @@ module _ {X Y : Type 0} (g : X → Y) where
 pub entries-streams_of : (es : List (ThreadInfo × StreamInfo)) → IsStrictlySortedBy thread_cmp (keys_of es) → entries (streams_of es) ≡ keyed (records es)
 entries-streams_of es sorted = entries-by_info (records es) (sorted-records es sorted)
 
-pub values-streams_of : (es : List (ThreadInfo × StreamInfo)) → IsStrictlySortedBy thread_cmp (keys_of es) → values (streams_of es) ≡ map recorded (values_of es)
+pub values-streams_of : (es : List (ThreadInfo × StreamInfo)) → IsStrictlySortedBy thread_cmp (keys_of es) → values (streams_of es) ≡ map record_of (values_of es)
 values-streams_of es sorted = values-by_info (records es) (sorted-records es sorted) ∙ values-records es
 
-pub streams_of-insert : (es : List (ThreadInfo × StreamInfo)) (k : ThreadInfo) (v : StreamInfo) → streams_of (insert_entry thread_cmp es k v) ≡ insert (streams_of es) (info_of k) (recorded v)
-streams_of-insert es k v = ap by_info (read-insert recorded es k v) ∙ by_info-insert (records es) k (recorded v)
+pub streams_of-insert : (es : List (ThreadInfo × StreamInfo)) (k : ThreadInfo) (v : StreamInfo) → streams_of (insert_entry thread_cmp es k v) ≡ insert (streams_of es) (info_of k) (record_of v)
+streams_of-insert es k v = ap by_info (read-insert record_of es k v) ∙ by_info-insert (records es) k (record_of v)

@@ -9,10 +9,10 @@ use Rattle.std.specs.FinMap.{get, entries, values, find, put, is_sorted, entries
 use Rattle.std.specs.FinMap.Entries.{by_order, below_all}
 use Rattle.std.proofs.lemmas.Int.{ints, clamps}
 use Rattle.std.proofs.lemmas.List.{length-append}
-use Rattle.puffin_data.specs.Honesty.{Recorded, joined}
+use Rattle.puffin_data.specs.Honesty.{Recorded, joined_record}
 use Rattle.puffin_frames.specs.Thread.Info.{Info, info_cmp}
 use Rattle.puffin_frames.specs.Frame.Contents.{Streams, stream_under, reported_to, no_scopes}
-use Rattle.puffin_frames.specs.Frame.Sums.{total_bytes, total_scopes, least_start, greatest_stop}
+use Rattle.puffin_frames.specs.Frame.Sums.{total_bytes, total_scopes, joined_start, joined_stop}
 use Rattle.puffin_frames.proofs.lemmas.Infos.{info_cmp_total}
 use Rattle.puffin_frames.proofs.Joining.{bytes_from, scopes_from}
 use Rattle.puffin_frames.proofs.lemmas.Ranges.{least_start-one, greatest_stop-one, least_in_range, greatest_in_range}
@@ -40,40 +40,40 @@ none_below x y (e ∷ es) lt below =
 -- a measure of lists that is one of their elements, put together by op
 pub record IsMeasure {N : Type 0} (all : List Recorded → N) (one : Recorded → N) (op : N → N → N) : Type 0 where
   pub more : (x : Recorded) (xs : List Recorded) → all (x ∷ xs) ≡ op (one x) (all xs)
-  pub joins : (a b : Recorded) → one (joined a b) ≡ op (one a) (one b)
-  pub fresh : (r : Recorded) (xs : List Recorded) → op (one (joined no_scopes r)) (all xs) ≡ op (all xs) (one r)
+  pub joins : (a b : Recorded) → one (joined_record a b) ≡ op (one a) (one b)
+  pub fresh : (r : Recorded) (xs : List Recorded) → op (one (joined_record no_scopes r)) (all xs) ≡ op (all xs) (one r)
   pub swap : (a b c : N) → op (op a b) c ≡ op (op a c) b
   pub assoc : (a b c : N) → op a (op b c) ≡ op (op a b) c
 
 module _ {N : Type 0} {all : List Recorded → N} {one : Recorded → N} {op : N → N → N} (m : IsMeasure all one op) where
   at_order : (o : Ordering) (i : Info) (r : Recorded) (e : Info × Recorded) (es : List (Info × Recorded)) → info_cmp i e.0 ≡ o → T (below_all info_cmp e.0 es)
-      → all (map (λ f. f.1) (put info_cmp i (joined (unwrap_or (find info_cmp i es) no_scopes) r) es)) ≡ op (all (map (λ f. f.1) es)) (one r)
-      → all (map (λ f. f.1) (by_order o ((i, joined (unwrap_or (cond (is_eq o) (Some e.1) (find info_cmp i es)) no_scopes) r) ∷ (e ∷ es)) ((e.0, joined (unwrap_or (cond (is_eq o) (Some e.1) (find info_cmp i es)) no_scopes) r) ∷ es) (e ∷ put info_cmp i (joined (unwrap_or (cond (is_eq o) (Some e.1) (find info_cmp i es)) no_scopes) r) es)))
+      → all (map (λ f. f.1) (put info_cmp i (joined_record (unwrap_or (find info_cmp i es) no_scopes) r) es)) ≡ op (all (map (λ f. f.1) es)) (one r)
+      → all (map (λ f. f.1) (by_order o ((i, joined_record (unwrap_or (cond (is_eq o) (Some e.1) (find info_cmp i es)) no_scopes) r) ∷ (e ∷ es)) ((e.0, joined_record (unwrap_or (cond (is_eq o) (Some e.1) (find info_cmp i es)) no_scopes) r) ∷ es) (e ∷ put info_cmp i (joined_record (unwrap_or (cond (is_eq o) (Some e.1) (find info_cmp i es)) no_scopes) r) es)))
       ≡ op (all (e.1 ∷ map (λ f. f.1) es)) (one r)
   at_order Less i r e es lt below later =
-      ap (λ o. all (joined (unwrap_or o no_scopes) r ∷ (e.1 ∷ map (λ f. f.1) es))) (none_below i e.0 es lt below)
-      ∙ m.more (joined no_scopes r) (e.1 ∷ map (λ f. f.1) es)
+      ap (λ o. all (joined_record (unwrap_or o no_scopes) r ∷ (e.1 ∷ map (λ f. f.1) es))) (none_below i e.0 es lt below)
+      ∙ m.more (joined_record no_scopes r) (e.1 ∷ map (λ f. f.1) es)
       ∙ m.fresh r (e.1 ∷ map (λ f. f.1) es)
   at_order Equal i r e es same below later =
-      m.more (joined e.1 r) (map (λ f. f.1) es)
+      m.more (joined_record e.1 r) (map (λ f. f.1) es)
       ∙ ap (λ n. op n (all (map (λ f. f.1) es))) (m.joins e.1 r)
       ∙ m.swap (one e.1) (one r) (all (map (λ f. f.1) es))
       ∙ ap (λ n. op n (one r)) (sym (m.more e.1 (map (λ f. f.1) es)))
   at_order Greater i r e es above below later =
-      m.more e.1 (map (λ f. f.1) (put info_cmp i (joined (unwrap_or (find info_cmp i es) no_scopes) r) es))
+      m.more e.1 (map (λ f. f.1) (put info_cmp i (joined_record (unwrap_or (find info_cmp i es) no_scopes) r) es))
       ∙ ap (op (one e.1)) later
       ∙ m.assoc (one e.1) (all (map (λ f. f.1) es)) (one r)
       ∙ ap (λ n. op n (one r)) (sym (m.more e.1 (map (λ f. f.1) es)))
 
-  in_entries : (i : Info) (r : Recorded) (es : List (Info × Recorded)) → T (is_sorted info_cmp es) → all (map (λ f. f.1) (put info_cmp i (joined (unwrap_or (find info_cmp i es) no_scopes) r) es)) ≡ op (all (map (λ f. f.1) es)) (one r)
-  in_entries i r [] sorted = m.more (joined no_scopes r) [] ∙ m.fresh r []
+  in_entries : (i : Info) (r : Recorded) (es : List (Info × Recorded)) → T (is_sorted info_cmp es) → all (map (λ f. f.1) (put info_cmp i (joined_record (unwrap_or (find info_cmp i es) no_scopes) r) es)) ≡ op (all (map (λ f. f.1) es)) (one r)
+  in_entries i r [] sorted = m.more (joined_record no_scopes r) [] ∙ m.fresh r []
   in_entries i r (e ∷ es) sorted =
       at_order (info_cmp i e.0) i r e es refl (first _ _ sorted) (in_entries i r es (second (below_all info_cmp e.0 es) _ sorted))
 
   -- the measure of what is there and is reported
   pub after_report : (streams : Streams) (i : Info) (r : Recorded) → all (values (reported_to streams i r)) ≡ op (all (values streams)) (one r)
   after_report streams i r =
-      ap (λ es. all (map (λ f. f.1) es)) (entries-insert info_cmp_total streams i (joined (unwrap_or (get streams i) no_scopes) r) ∙ ap (λ o. put info_cmp i (joined (unwrap_or o no_scopes) r) (entries streams)) (get-entries streams i))
+      ap (λ es. all (map (λ f. f.1) es)) (entries-insert info_cmp_total streams i (joined_record (unwrap_or (get streams i) no_scopes) r) ∙ ap (λ o. put info_cmp i (joined_record (unwrap_or o no_scopes) r) (entries streams)) (get-entries streams i))
       ∙ in_entries i r (entries streams) (entries_sorted streams)
 
 -- ---- the four measures
@@ -109,7 +109,7 @@ scopes_measure = record {
   assoc = λ a b c. omega arith;
 }
 
-pub starts_measure : IsMeasure least_start (λ r. r.range_ns.0) int_min
+pub starts_measure : IsMeasure joined_start (λ r. r.range_ns.0) int_min
 starts_measure = record {
   more = least_start-one;
   joins = λ a b. refl;
@@ -118,7 +118,7 @@ starts_measure = record {
   assoc = λ a b c. omega (arith, ints, clamps);
 }
 
-pub stops_measure : IsMeasure greatest_stop (λ r. r.range_ns.1) int_max
+pub stops_measure : IsMeasure joined_stop (λ r. r.range_ns.1) int_max
 stops_measure = record {
   more = greatest_stop-one;
   joins = λ a b. refl;

@@ -37,18 +37,18 @@ kept_or (Some kept) by_id id d = by_id
 kept_or None by_id id d = map.insert by_id id d
 
 -- details are inserted under their id and their name; those without an id change nothing
-abbrev pub inserted_at : Collection → Details → Option ℕ → Collection
-inserted_at collection d None = collection
-inserted_at collection d (Some id) = record {
+abbrev pub with_details_under : Collection → Details → Option ℕ → Collection
+with_details_under collection d None = collection
+with_details_under collection d (Some id) = record {
   by_id = kept_or (map.get collection.by_id id) collection.by_id id d;
   by_name = map.insert collection.by_name (name_of d) id;
 }
 
-abbrev pub inserted : Collection → Details → Collection
-inserted collection d = inserted_at collection d d.id
+abbrev pub with_details : Collection → Details → Collection
+with_details collection d = with_details_under collection d d.id
 
-abbrev pub inserted_all : Collection → List Details → Collection
-inserted_all collection ds = fold inserted collection ds
+abbrev pub with_all_details : Collection → List Details → Collection
+with_all_details collection ds = fold with_details collection ds
 
 -- what a collection keeps under the id of details
 abbrev pub kept_for : Collection → Details → Option Details

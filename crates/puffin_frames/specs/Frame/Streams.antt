@@ -5,7 +5,7 @@ use Rattle.std.specs.Coded.{Coded, code_by, coded×, coded_list, coded_ℕ, code
 use Rattle.std.specs.Arc.{arc_value}
 use Rattle.std.specs.BTreeMap.{BTreeMap, values}
 use Rattle.std.specs.declared.sync.Arc.{Arc}
-use Rattle.puffin_data.specs.Honesty.{Recorded, recorded, joined, IsHonestRecord}
+use Rattle.puffin_data.specs.Honesty.{Recorded, record_of, joined_record, IsHonestRecord}
 use Rattle.puffin_data.specs.Forest.{Forest}
 use Rattle.puffin_data.specs.declared.data.info.StreamInfo.{StreamInfo}
 use Rattle.puffin_frames.specs.declared.thread_profiler.thread_info.ThreadInfo.{ThreadInfo}
@@ -30,25 +30,25 @@ streams_code = map.code info_code recorded_code
 
 -- what the streams of a map hold, each under its thread, and without the threads
 abbrev pub records : List (ThreadInfo × StreamInfo) → List (ThreadInfo × Recorded)
-records entries = map (λ e. (e.0, recorded e.1)) entries
+records entries = map (λ e. (e.0, record_of e.1)) entries
 
 abbrev pub all_recorded : BTreeMap ThreadInfo StreamInfo → List Recorded
-all_recorded streams = map recorded (values streams)
+all_recorded streams = map record_of (values streams)
 
 -- the streams of a map's entries
 abbrev pub streams_of : List (ThreadInfo × StreamInfo) → Streams
 streams_of entries = by_info (records entries)
 
 -- the entries of a map of shared streams, without the sharing
-abbrev pub unshared : {A : Type 0} → List (ThreadInfo × Arc StreamInfo A) → List (ThreadInfo × StreamInfo)
-unshared entries = map (λ e. (e.0, arc_value e.1)) entries
+abbrev pub without_sharing : {A : Type 0} → List (ThreadInfo × Arc StreamInfo A) → List (ThreadInfo × StreamInfo)
+without_sharing entries = map (λ e. (e.0, arc_value e.1)) entries
 
 abbrev pub shared_streams : {A : Type 0} → List (ThreadInfo × Arc StreamInfo A) → Streams
-shared_streams entries = streams_of (unshared entries)
+shared_streams entries = streams_of (without_sharing entries)
 
 -- the same as the list of their pairs, in the order of the map's entries
-abbrev pub listed : {A : Type 0} → List (ThreadInfo × Arc StreamInfo A) → List (Info × Recorded)
-listed entries = keyed (records (unshared entries))
+abbrev pub pairs_of : {A : Type 0} → List (ThreadInfo × Arc StreamInfo A) → List (Info × Recorded)
+pairs_of entries = keyed (records (without_sharing entries))
 
 -- what is recorded where there is no scope
 abbrev pub no_scopes : Recorded
@@ -60,7 +60,7 @@ stream_under streams i = unwrap_or (map.get streams i) no_scopes
 
 -- what is reported comes after what is there under its info
 abbrev pub reported_to : Streams → Info → Recorded → Streams
-reported_to streams i r = map.insert streams i (joined (stream_under streams i) r)
+reported_to streams i r = map.insert streams i (joined_record (stream_under streams i) r)
 
 -- each stream spells a forest, and its numbers are that forest's measures
 abbrev pub AreHonest : Streams → Type 0

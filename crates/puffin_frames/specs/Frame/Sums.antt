@@ -14,15 +14,15 @@ abbrev pub total_scopes : List Recorded → ℕ
 total_scopes infos = sum_by (λ info. info.num_scopes) infos
 
 -- the least start of all, and i64's greatest number where there is none
-abbrev pub least_start : List Recorded → ℤ
-least_start infos = fold (λ least info. int_min least info.range_ns.0) (pos (2 ^ 63 - 1)) infos
+abbrev pub joined_start : List Recorded → ℤ
+joined_start infos = fold (λ least info. int_min least info.range_ns.0) (pos (2 ^ 63 - 1)) infos
 
 -- the greatest stop of all, and i64's least number where there is none
-abbrev pub greatest_stop : List Recorded → ℤ
-greatest_stop infos = fold (λ greatest info. int_max greatest info.range_ns.1) (negsuc (2 ^ 63 - 1)) infos
+abbrev pub joined_stop : List Recorded → ℤ
+joined_stop infos = fold (λ greatest info. int_max greatest info.range_ns.1) (negsuc (2 ^ 63 - 1)) infos
 
 abbrev pub joined_range : List Recorded → ℤ × ℤ
-joined_range infos = (least_start infos, greatest_stop infos)
+joined_range infos = (joined_start infos, joined_stop infos)
 
 -- both totals are usize
 pub record TotalsFit (infos : List Recorded) : Type 0 where

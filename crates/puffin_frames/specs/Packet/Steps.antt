@@ -60,8 +60,8 @@ streams_part_at letter bytes = do
   streams ← part_of n.0 kind.1
   Ok ((kind.0, streams.0), streams.1)
 
-abbrev pub packed_at : ℕ → List ℕ → Result (Said × List ℕ) FileError
-packed_at letter bytes = do
+abbrev pub packet_at : ℕ → List ℕ → Result (Said × List ℕ) FileError
+packet_at letter bytes = do
   meta ← meta_part_at bytes
   streams ← streams_part_at letter meta.1
   details ← details_part_at letter streams.1
@@ -89,7 +89,7 @@ is_packet header = (slice_index header 0 == 80) && (slice_index header 1 == 70) 
 abbrev pub form_at : ℕ → List ℕ → Result (Said × List ℕ) FileError
 form_at letter bytes =
     if (letter == 48) || (letter == 49) then Err file.Legacy
-    else if (letter == 50) || (letter == 51) || (letter == 52) then packed_at letter bytes
+    else if (letter == 50) || (letter == 51) || (letter == 52) then packet_at letter bytes
     else Err file.Newer
 
 abbrev pub as_stored : {A : Type 0} → (A → Stored) → Result (A × List ℕ) FileError → Result (Option Stored × List ℕ) FileError
@@ -119,16 +119,16 @@ pub record AtEnd (old new : Option (List ℕ)) : Type 0 where
 
 -- ---- what is written
 
-abbrev pub counted : List ℕ → List ℕ
-counted part = little_bytes 4 (length part) ++ part
+abbrev pub counted_part : List ℕ → List ℕ
+counted_part part = little_bytes 4 (length part) ++ part
 
 -- the letters and the meta, and of the streams their length and their kind
 unfoldable pub packet_head : FrameMeta → ℕ → ℕ → List ℕ
-packet_head meta kind len = (80 ∷ 70 ∷ 68 ∷ 52 ∷ []) ++ (counted (meta_layout meta) ++ (little_bytes 4 len ++ (kind ∷ [])))
+packet_head meta kind len = (80 ∷ 70 ∷ 68 ∷ 52 ∷ []) ++ (counted_part (meta_layout meta) ++ (little_bytes 4 len ++ (kind ∷ [])))
 
 -- a packet of these streams and this part of details
 abbrev pub packet_with : FrameMeta → ℕ → List ℕ → List ℕ → List ℕ
-packet_with meta kind streams details = (packet_head meta kind (length streams) ++ streams) ++ counted details
+packet_with meta kind streams details = (packet_head meta kind (length streams) ++ streams) ++ counted_part details
 
 -- a packet of the form that is written
 abbrev pub packet : Said → List ℕ

@@ -24,17 +24,17 @@ meta_at = seen_as made_meta (pair_at number_at (pair_at signed_at (pair_at signe
 
 -- ---- a thread's info
 
-abbrev pub thread_layout : Info → List ℕ
-thread_layout t = optional signed t.start ++ block t.name
+abbrev pub info_layout : Info → List ℕ
+info_layout t = optional signed t.start ++ block t.name
 
-abbrev pub IsThread : Info → Type 0
-IsThread t = IfAny IsSigned t.start × IsText t.name
+abbrev pub IsInfo : Info → Type 0
+IsInfo t = IfAny IsSigned t.start × IsText t.name
 
-abbrev pub made_thread : Option ℤ × List ℕ → Info
-made_thread p = record { start = p.0; name = p.1 }
+abbrev pub made_info : Option ℤ × List ℕ → Info
+made_info p = record { start = p.0; name = p.1 }
 
-unfoldable pub thread_at : List ℕ → Option (Info × List ℕ)
-thread_at = seen_as made_thread (pair_at (optional_at signed_at) text_at)
+unfoldable pub info_at : List ℕ → Option (Info × List ℕ)
+info_at = seen_as made_info (pair_at (optional_at signed_at) text_at)
 
 -- ---- what is recorded of a thread
 
@@ -53,13 +53,13 @@ recorded_at = seen_as made_recorded (pair_at bytes_at (pair_at number_at (pair_a
 -- ---- the streams of a frame: a map, as the list of its pairs by rising keys
 
 abbrev pub streams_layout : List (Info × Recorded) → List ℕ
-streams_layout = items (pair thread_layout recorded_layout)
+streams_layout = items (pair info_layout recorded_layout)
 
 abbrev pub AreStreams : List (Info × Recorded) → Type 0
-AreStreams es = AreItems (λ (e : Info × Recorded). IsThread e.0 × IsRecorded e.1) es × (is_sorted info_cmp es ≡ true)
+AreStreams es = AreItems (λ (e : Info × Recorded). IsInfo e.0 × IsRecorded e.1) es × (is_sorted info_cmp es ≡ true)
 
 abbrev pub stream_at : List ℕ → Option ((Info × Recorded) × List ℕ)
-stream_at = pair_at thread_at recorded_at
+stream_at = pair_at info_at recorded_at
 
 -- what was read, where the keys rise
 abbrev pub rising : Option (List (Info × Recorded) × List ℕ) → Option (List (Info × Recorded) × List ℕ)

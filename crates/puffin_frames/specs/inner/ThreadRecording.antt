@@ -34,7 +34,7 @@ StartedBy latest [] = Unit {0}
 StartedBy latest (o ∷ outer) = IsOpened o × (pos 0 ≤ℤ o.start) × (o.start ≤ℤ latest) × StartedBy latest outer
 
 -- the bytes are those of a stream with the scopes of their word, which can be written
-pub record Holds (bytes : List ℕ) (latest : ℤ) : Type 0 where
+pub record HoldsScopes (bytes : List ℕ) (latest : ℤ) : Type 0 where
   pub whole : bytes ≡ open_spelling (scopes_in (events_in bytes)).0 (scopes_in (events_in bytes)).1
   pub opened : StartedBy latest (scopes_in (events_in bytes)).0
   pub closed : IsForest (scopes_in (events_in bytes)).1
@@ -57,7 +57,7 @@ spare_name r = option_map (λ s. string_bytes s) r.spare
 -- what is true of each recording
 pub record IsRecording (r : Inside) : Type 0 where
   pub latest : pos 0 ≤ℤ r.latest
-  pub scopes : ∥ Holds r.info.stream.bytes r.latest ∥₁
+  pub scopes : ∥ HoldsScopes r.info.stream.bytes r.latest ∥₁
   pub counted : Counted r.info (events_in r.info.stream.bytes)
   pub offsets : reverse r.offsets.items ≡ open_offsets (events_in r.info.stream.bytes)
   -- each open scope can end without memory, and a copy of the name waits for the report of the last

@@ -2,7 +2,7 @@
 
 ghost use Rattle.std.specs.Prelude.{◌≡◌, IfOk, IfErr};
 ghost use Rattle.puffin_data.specs.declared.error.Error.{Error};
-ghost use Rattle.puffin_frames.specs.Frame.Contents.{contents, listed};
+ghost use Rattle.puffin_frames.specs.Frame.Contents.{contents, pairs_of};
 ghost use Rattle.puffin_frames.specs.Details.{shared_details};
 
 use crate::frame_data::shared::ThreadStreams;
@@ -15,7 +15,8 @@ use std::sync::Arc;
 
 /// The same details once more. Refused only with `Memory`.
 pub(crate) fn shared_copy(details: &Vec<Arc<ScopeDetails>>) -> Result<Vec<Arc<ScopeDetails>>>
-    ensures ok { IfOk result (λ copy. shared_details copy.items ≡ shared_details details.now.items) }
+    ensures ok { IfOk result (λ copy.
+        shared_details copy.items ≡ shared_details details.now.items) }
     ensures memory { IfErr result (λ e. e ≡ Error.Memory) }
 {
     let mut copy = Vec::new(*details.allocator());
@@ -27,7 +28,7 @@ pub(crate) fn shared_copy(details: &Vec<Arc<ScopeDetails>>) -> Result<Vec<Arc<Sc
 
 /// The same streams once more. Refused only with `Memory`.
 fn streams_copy(alloc: Global, streams: &ThreadStreams) -> Result<ThreadStreams>
-    ensures ok { IfOk result (λ copy. listed copy.entries ≡ listed streams.now.entries) }
+    ensures ok { IfOk result (λ copy. pairs_of copy.entries ≡ pairs_of streams.now.entries) }
     ensures memory { IfErr result (λ e. e ≡ Error.Memory) }
 {
     let mut copy = BTreeMap::new(alloc);

@@ -4,13 +4,13 @@ ghost use Rattle.std.specs.Prelude.{◌≡◌, ◌-◌, ℕ, ◌∷◌, ◌++◌
 ghost use Rattle.std.specs.Option.{option_map};
 ghost use Rattle.std.specs.Cow.{cow_str_bytes};
 ghost use Rattle.std.specs.FinMap.{is_sorted};
-ghost use Rattle.puffin_data.specs.Honesty.{Recorded, recorded};
+ghost use Rattle.puffin_data.specs.Honesty.{Recorded, record_of};
 ghost use Rattle.puffin_data.specs.Value.Decoding.{IfSomeGives, SeenAs, whole, optional_at, signed_at, text_at, times_at};
 ghost use Rattle.puffin_frames.specs.declared.frame_data.decode.Stop.TheVariants.{Memory};
 ghost use Rattle.puffin_frames.specs.Thread.Info.{Info, info_of, info_cmp};
 ghost use Rattle.puffin_frames.specs.Details.{details_of, shared_details};
-ghost use Rattle.puffin_frames.specs.Frame.Contents.{listed};
-ghost use Rattle.puffin_frames.specs.Packet.Structs.{meta_at, thread_at, recorded_at, stream_at, rising, streams_at, id_at, detail_at, details_at, legacy_at, Legacy};
+ghost use Rattle.puffin_frames.specs.Frame.Contents.{pairs_of};
+ghost use Rattle.puffin_frames.specs.Packet.Structs.{meta_at, info_at, recorded_at, stream_at, rising, streams_at, id_at, detail_at, details_at, legacy_at, Legacy};
 ghost use Rattle.puffin_frames.specs.inner.Tries.{TriesToGive, Tries};
 
 use crate::frame_data::meta::FrameMeta;
@@ -94,9 +94,9 @@ fn read_start(cursor: &mut Cursor) -> Result<Option<NanoSecond>, Stop>
     Ok(Some(start))
 }
 
-#[tactic(auto, unfolding(crate::specs::Packet::Structs::thread_at))]
+#[tactic(auto, unfolding(crate::specs::Packet::Structs::info_at))]
 fn read_thread(alloc: Global, cursor: &mut Cursor) -> Result<ThreadInfo, Stop>
-    ensures { TriesToGive info_of result cursor.new (thread_at cursor.old) }
+    ensures { TriesToGive info_of result cursor.new (info_at cursor.old) }
 {
     let start_time_ns = read_start(cursor)?;
     let name = read_string(alloc, cursor)?;
@@ -109,7 +109,7 @@ fn read_thread(alloc: Global, cursor: &mut Cursor) -> Result<ThreadInfo, Stop>
 /// What is recorded of a thread, its stream copied as one block.
 #[tactic(auto, unfolding(crate::specs::Packet::Structs::recorded_at))]
 fn read_recorded(alloc: Global, cursor: &mut Cursor) -> Result<StreamInfo, Stop>
-    ensures { TriesToGive recorded result cursor.new (recorded_at cursor.old) }
+    ensures { TriesToGive record_of result cursor.new (recorded_at cursor.old) }
 {
     let bytes = cursor.bytes().ok_or(Stop::NoLayout)?;
     let num_scopes = cursor.u64().ok_or(Stop::NoLayout)? as usize;
@@ -126,8 +126,12 @@ fn read_recorded(alloc: Global, cursor: &mut Cursor) -> Result<StreamInfo, Stop>
 
 /// Whether a thread comes after all those of a map.
 fn comes_last(streams: &ThreadStreams, thread: &ThreadInfo) -> bool
-    ensures yes { (r : Recorded) → is_sorted info_cmp (listed streams.now.entries) ≡ true → result ≡ true → is_sorted info_cmp (listed streams.now.entries ++ (info_of thread.now, r) ∷ []) ≡ true }
-    ensures no { (r : Recorded) (rest : List (Info × Recorded)) → result ≡ false → is_sorted info_cmp (listed streams.now.entries ++ (info_of thread.now, r) ∷ rest) ≡ false }
+    ensures yes { (r : Recorded) → is_sorted info_cmp (pairs_of streams.now.entries) ≡ true →
+        result ≡ true →
+        is_sorted info_cmp (pairs_of streams.now.entries ++ (info_of thread.now, r) ∷ []) ≡ true }
+    ensures no { (r : Recorded) (rest : List (Info × Recorded)) → result ≡ false →
+        is_sorted info_cmp (pairs_of streams.now.entries ++ (info_of thread.now, r) ∷ rest)
+        ≡ false }
 {
     match streams.last_key_value() {
         None => true,
@@ -136,7 +140,8 @@ fn comes_last(streams: &ThreadStreams, thread: &ThreadInfo) -> bool
 }
 
 fn read_stream(alloc: Global, cursor: &mut Cursor) -> Result<(ThreadInfo, StreamInfo), Stop>
-    ensures { TriesToGive (λ p. (info_of p.0, recorded p.1)) result cursor.new (stream_at cursor.old) }
+    ensures { TriesToGive (λ p. (info_of p.0, record_of p.1)) result cursor.new (
+        stream_at cursor.old) }
 {
     let thread = read_thread(alloc, cursor)?;
     let info = read_recorded(alloc, cursor)?;
@@ -144,8 +149,9 @@ fn read_stream(alloc: Global, cursor: &mut Cursor) -> Result<(ThreadInfo, Stream
 }
 
 fn read_streams_times(alloc: Global, cursor: &mut Cursor, count: u64) -> Result<ThreadStreams, Stop>
-    ensures given { TriesToGive (λ m. listed m.entries) result cursor.new (rising (times_at stream_at count cursor.old)) }
-    ensures sorted { IfOk result (λ m. is_sorted info_cmp (listed m.entries) ≡ true) }
+    ensures given { TriesToGive (λ m. pairs_of m.entries) result cursor.new (
+        rising (times_at stream_at count cursor.old)) }
+    ensures sorted { IfOk result (λ m. is_sorted info_cmp (pairs_of m.entries) ≡ true) }
 {
     let mut streams = BTreeMap::new(alloc);
     'streams: for _ in 0..count {
@@ -160,8 +166,9 @@ fn read_streams_times(alloc: Global, cursor: &mut Cursor, count: u64) -> Result<
 
 #[tactic(auto, unfolding(crate::specs::Packet::Structs::streams_at))]
 fn read_streams(alloc: Global, cursor: &mut Cursor) -> Result<ThreadStreams, Stop>
-    ensures given { TriesToGive (λ m. listed m.entries) result cursor.new (streams_at cursor.old) }
-    ensures sorted { IfOk result (λ m. is_sorted info_cmp (listed m.entries) ≡ true) }
+    ensures given { TriesToGive (λ m. pairs_of m.entries) result cursor.new (
+        streams_at cursor.old) }
+    ensures sorted { IfOk result (λ m. is_sorted info_cmp (pairs_of m.entries) ≡ true) }
 {
     let count = cursor.u64().ok_or(Stop::NoLayout)?;
     read_streams_times(alloc, cursor, count)
@@ -169,8 +176,8 @@ fn read_streams(alloc: Global, cursor: &mut Cursor) -> Result<ThreadStreams, Sto
 
 /// The streams whose layout the bytes are, all of them.
 pub(crate) fn streams_in(alloc: Global, bytes: &[u8]) -> Result<ThreadStreams, Stop>
-    ensures given { Tries (λ m. listed m.entries) result (whole streams_at bytes.now) }
-    ensures sorted { IfOk result (λ m. is_sorted info_cmp (listed m.entries) ≡ true) }
+    ensures given { Tries (λ m. pairs_of m.entries) result (whole streams_at bytes.now) }
+    ensures sorted { IfOk result (λ m. is_sorted info_cmp (pairs_of m.entries) ≡ true) }
 {
     let mut cursor = Cursor::new(bytes);
     let streams = read_streams(alloc, &mut cursor)?;
@@ -194,7 +201,8 @@ fn read_id(cursor: &mut Cursor) -> Result<Option<ScopeId>, Stop>
 }
 
 fn read_name(alloc: Global, cursor: &mut Cursor) -> Result<Option<CowStr<'static>>, Stop>
-    ensures { TriesToGive (λ o. option_map cow_str_bytes o) result cursor.new (optional_at text_at cursor.old) }
+    ensures { TriesToGive (λ o. option_map cow_str_bytes o) result cursor.new (
+        optional_at text_at cursor.old) }
 {
     let given = cursor.flag().ok_or(Stop::NoLayout)?;
     if !given {
@@ -227,7 +235,8 @@ fn read_details_times(
     cursor: &mut Cursor,
     count: u64,
 ) -> Result<Vec<Arc<ScopeDetails>>, Stop>
-    ensures { TriesToGive (λ v. shared_details v.items) result cursor.new (times_at detail_at count cursor.old) }
+    ensures { TriesToGive (λ v. shared_details v.items) result cursor.new (
+        times_at detail_at count cursor.old) }
 {
     let mut all = Vec::new(alloc);
     'details: for _ in 0..count {
@@ -260,8 +269,9 @@ pub(crate) fn details_in(alloc: Global, bytes: &[u8]) -> Result<Vec<Arc<ScopeDet
 
 #[tactic(auto, unfolding(crate::specs::Packet::Structs::legacy_at))]
 fn read_legacy(alloc: Global, cursor: &mut Cursor) -> Result<(FrameMeta, ThreadStreams), Stop>
-    ensures given { TriesToGive (λ p. record { meta = p.0; streams = listed p.1.entries }) result cursor.new (legacy_at cursor.old) }
-    ensures sorted { IfOk result (λ p. is_sorted info_cmp (listed p.1.entries) ≡ true) }
+    ensures given { TriesToGive (λ p. record { meta = p.0; streams = pairs_of p.1.entries }) result
+        cursor.new (legacy_at cursor.old) }
+    ensures sorted { IfOk result (λ p. is_sorted info_cmp (pairs_of p.1.entries) ≡ true) }
 {
     let frame_index = cursor.u64().ok_or(Stop::NoLayout)?;
     let streams = read_streams(alloc, cursor)?;
@@ -280,8 +290,9 @@ fn read_legacy(alloc: Global, cursor: &mut Cursor) -> Result<(FrameMeta, ThreadS
 
 /// The meta and the streams of a frame as it was written at first, whose layout the bytes are, all of them.
 pub(crate) fn legacy_in(alloc: Global, bytes: &[u8]) -> Result<(FrameMeta, ThreadStreams), Stop>
-    ensures given { Tries (λ p. record { meta = p.0; streams = listed p.1.entries }) result (whole legacy_at bytes.now) }
-    ensures sorted { IfOk result (λ p. is_sorted info_cmp (listed p.1.entries) ≡ true) }
+    ensures given { Tries (λ p. record { meta = p.0; streams = pairs_of p.1.entries }) result
+        (whole legacy_at bytes.now) }
+    ensures sorted { IfOk result (λ p. is_sorted info_cmp (pairs_of p.1.entries) ≡ true) }
 {
     let mut cursor = Cursor::new(bytes);
     let frame = read_legacy(alloc, &mut cursor)?;

@@ -8,12 +8,12 @@ ghost use Rattle.std.specs.Arc.{arc_value};
 ghost use Rattle.std.specs.Option.{option_map};
 ghost use Rattle.std.specs.Cow.{cow_str_bytes};
 ghost use Rattle.puffin_data.specs.declared.error.Error.{Error};
-ghost use Rattle.puffin_data.specs.Honesty.{recorded};
+ghost use Rattle.puffin_data.specs.Honesty.{record_of};
 ghost use Rattle.puffin_data.specs.Value.Layout.{optional, number, block, signed, IsBlock, IsText, IfAny};
 ghost use Rattle.puffin_frames.specs.Thread.Info.{info_of, thread_cmp};
 ghost use Rattle.puffin_frames.specs.Details.{details_of, shared_details};
-ghost use Rattle.puffin_frames.specs.Frame.Contents.{listed};
-ghost use Rattle.puffin_frames.specs.Packet.Structs.{meta_layout, IsMeta, thread_layout, IsThread, recorded_layout, IsRecorded, streams_layout, AreStreams, detail_layout, IsDetail, details_layout, AreDetails, IsId};
+ghost use Rattle.puffin_frames.specs.Frame.Contents.{pairs_of};
+ghost use Rattle.puffin_frames.specs.Packet.Structs.{meta_layout, IsMeta, info_layout, IsInfo, recorded_layout, IsRecorded, streams_layout, AreStreams, detail_layout, IsDetail, details_layout, AreDetails, IsId};
 
 use crate::frame_data::meta::FrameMeta;
 use crate::frame_data::shared::ThreadStreams;
@@ -59,8 +59,8 @@ fn block_of(bytes: &[u8]) -> &[u8]
 
 /// Appends a thread's info.
 fn put_thread(out: &mut Vec<u8>, thread: &ThreadInfo) -> Result<()>
-    ensures ok { OnOk result (out.new.items ≡ out.old.items ++ thread_layout (info_of thread.now)) }
-    ensures fits { IsThread (info_of thread.now) }
+    ensures ok { OnOk result (out.new.items ≡ out.old.items ++ info_layout (info_of thread.now)) }
+    ensures fits { IsInfo (info_of thread.now) }
     ensures memory { IfErr result (λ e. e ≡ Error.Memory) }
 {
     let name = text_of(&thread.name);
@@ -76,8 +76,9 @@ fn put_thread(out: &mut Vec<u8>, thread: &ThreadInfo) -> Result<()>
 
 /// Appends what is recorded of a thread, its stream as one block.
 fn put_recorded(out: &mut Vec<u8>, info: &StreamInfo) -> Result<()>
-    ensures ok { OnOk result (out.new.items ≡ out.old.items ++ recorded_layout (recorded info.now)) }
-    ensures fits { IsRecorded (recorded info.now) }
+    ensures ok { OnOk result (
+        out.new.items ≡ out.old.items ++ recorded_layout (record_of info.now)) }
+    ensures fits { IsRecorded (record_of info.now) }
     ensures memory { IfErr result (λ e. e ≡ Error.Memory) }
 {
     let stream = block_of(info.stream.bytes());
@@ -93,8 +94,9 @@ fn put_recorded(out: &mut Vec<u8>, info: &StreamInfo) -> Result<()>
 
 /// Appends streams by their threads.
 pub(crate) fn put_streams(out: &mut Vec<u8>, streams: &ThreadStreams) -> Result<()>
-    ensures ok { OnOk result (out.new.items ≡ out.old.items ++ streams_layout (listed streams.now.entries)) }
-    ensures fit { OnOk result (AreStreams (listed streams.now.entries)) }
+    ensures ok { OnOk result (
+        out.new.items ≡ out.old.items ++ streams_layout (pairs_of streams.now.entries)) }
+    ensures fit { OnOk result (AreStreams (pairs_of streams.now.entries)) }
     ensures sorted { IsStrictlySortedBy thread_cmp (keys_of streams.now.entries) }
     ensures memory { IfErr result (λ e. e ≡ Error.Memory) }
 {
@@ -108,7 +110,8 @@ pub(crate) fn put_streams(out: &mut Vec<u8>, streams: &ThreadStreams) -> Result<
 
 /// Appends a text that may be missing.
 fn put_name(out: &mut Vec<u8>, name: &Option<CowStr<'static>>) -> Result<()>
-    ensures ok { OnOk result (out.new.items ≡ out.old.items ++ optional block (option_map cow_str_bytes name.now)) }
+    ensures ok { OnOk result (
+        out.new.items ≡ out.old.items ++ optional block (option_map cow_str_bytes name.now)) }
     ensures fits { IfAny IsText (option_map cow_str_bytes name.now) }
     ensures memory { IfErr result (λ e. e ≡ Error.Memory) }
 {
@@ -140,7 +143,8 @@ fn put_id(out: &mut Vec<u8>, id: Option<ScopeId>) -> Result<()>
 
 /// Appends the details of one scope.
 fn put_detail(out: &mut Vec<u8>, details: &ScopeDetails) -> Result<()>
-    ensures ok { OnOk result (out.new.items ≡ out.old.items ++ detail_layout (details_of details.now)) }
+    ensures ok { OnOk result (
+        out.new.items ≡ out.old.items ++ detail_layout (details_of details.now)) }
     ensures fits { OnOk result (IsDetail (details_of details.now)) }
     ensures memory { IfErr result (λ e. e ≡ Error.Memory) }
 {
@@ -155,7 +159,8 @@ fn put_detail(out: &mut Vec<u8>, details: &ScopeDetails) -> Result<()>
 
 /// Appends a list of details.
 pub(crate) fn put_details(out: &mut Vec<u8>, details: &[Arc<ScopeDetails>]) -> Result<()>
-    ensures ok { OnOk result (out.new.items ≡ out.old.items ++ details_layout (shared_details details.now)) }
+    ensures ok { OnOk result (
+        out.new.items ≡ out.old.items ++ details_layout (shared_details details.now)) }
     ensures fit { OnOk result (AreDetails (shared_details details.now)) }
     ensures memory { IfErr result (λ e. e ≡ Error.Memory) }
 {
@@ -171,7 +176,9 @@ pub(crate) fn put_details_by_id(
     out: &mut Vec<u8>,
     details: &BTreeMap<ScopeId, Arc<ScopeDetails>>,
 ) -> Result<()>
-    ensures ok { OnOk result (out.new.items ≡ out.old.items ++ details_layout (shared_details (values_of details.now.entries))) }
+    ensures ok { OnOk result (
+        out.new.items
+        ≡ out.old.items ++ details_layout (shared_details (values_of details.now.entries))) }
     ensures fit { OnOk result (AreDetails (shared_details (values_of details.now.entries))) }
     ensures sorted { IsStrictlySortedBy nat_cmp (keys_of details.now.entries) }
     ensures memory { IfErr result (λ e. e ≡ Error.Memory) }

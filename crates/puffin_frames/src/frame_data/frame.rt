@@ -36,15 +36,29 @@ impl FrameData {
         scope_delta: Vec<Arc<ScopeDetails>>,
         full_delta: bool,
     ) -> Result<FrameData>
-        ensures delta { IfOk result (λ frame. (frame.scope_delta ≡ scope_delta) × (frame.full_delta ≡ full_delta)) }
-        ensures contents { IfOk result (λ frame. holding_of frame ≡ record { packed = None; unpacked = Some (streams_of thread_streams.entries) }) }
+        ensures delta { IfOk result (λ frame.
+            (frame.scope_delta ≡ scope_delta) × (frame.full_delta ≡ full_delta)) }
+        ensures contents { IfOk result (λ frame.
+            holding_of frame
+            ≡ record { packed = None; unpacked = Some (streams_of thread_streams.entries) }) }
         ensures alone { IfOk result (λ frame. is_alone frame ≡ true) }
-        ensures meta { IfOk result (λ frame. frame_meta frame ≡ meta_of frame_index (map.values (streams_of thread_streams.entries))) }
-        ensures too_large { (result ≡ Err Error.TooLarge) ↔ ¬ TotalsFit (all_recorded thread_streams) }
-        ensures empty { (result ≡ Err Error.Empty) ↔ (TotalsFit (all_recorded thread_streams) × ¬ IsOrdered (joined_range (all_recorded thread_streams))) }
-        ensures range_too_long { (result ≡ Err Error.RangeTooLong) ↔ (TotalsFit (all_recorded thread_streams) × IsOrdered (joined_range (all_recorded thread_streams)) × ¬ DurationFits (joined_range (all_recorded thread_streams))) }
+        ensures meta { IfOk result (λ frame.
+            frame_meta frame
+            ≡ meta_of frame_index (map.values (streams_of thread_streams.entries))) }
+        ensures too_large { (result ≡ Err Error.TooLarge)
+            ↔ ¬ TotalsFit (all_recorded thread_streams) }
+        ensures empty { (result ≡ Err Error.Empty) ↔ (TotalsFit (all_recorded thread_streams)
+            × ¬ IsOrdered (joined_range (all_recorded thread_streams))) }
+        ensures range_too_long { (result ≡ Err Error.RangeTooLong)
+            ↔ (TotalsFit (all_recorded thread_streams)
+            × IsOrdered (joined_range (all_recorded thread_streams))
+            × ¬ DurationFits (joined_range (all_recorded thread_streams))) }
         ensures memory { result ≡ Err Error.Memory → MakeFrame (all_recorded thread_streams) }
-        ensures only { IfErr result (λ e. (e ≡ Error.TooLarge) ⊎ (e ≡ Error.Empty) ⊎ (e ≡ Error.RangeTooLong) ⊎ (e ≡ Error.Memory)) }
+        ensures only { IfErr result (λ e.
+            (e ≡ Error.TooLarge)
+            ⊎ (e ≡ Error.Empty)
+            ⊎ (e ≡ Error.RangeTooLong)
+            ⊎ (e ≡ Error.Memory)) }
     {
         let unpacked = UnpackedFrameData::new(alloc, frame_index, thread_streams)?;
         Ok(FrameData::of_unpacked(unpacked, scope_delta, full_delta))
@@ -57,7 +71,8 @@ impl FrameData {
         full_delta: bool,
     ) -> FrameData
         ensures delta { (result.scope_delta ≡ scope_delta) × (result.full_delta ≡ full_delta) }
-        ensures held { holding_of result ≡ record { packed = None; unpacked = Some (contents unpacked) } }
+        ensures held { holding_of result
+            ≡ record { packed = None; unpacked = Some (contents unpacked) } }
         ensures alone { is_alone result ≡ true }
         ensures meta { frame_meta result ≡ unpacked.meta }
     {
@@ -84,7 +99,8 @@ impl FrameData {
 
     /// The frame as it is held unpacked, or `None` where it is held packed only.
     pub fn as_unpacked(&self) -> Option<&UnpackedFrameData>
-        ensures contents { option_map (λ unpacked. contents unpacked.now) result ≡ (holding_of self.now).unpacked }
+        ensures contents { option_map (λ unpacked. contents unpacked.now) result
+            ≡ (holding_of self.now).unpacked }
         ensures meta { IfSome result (λ unpacked. unpacked.now.meta ≡ frame_meta self.now) }
     {
         match &self.held {

@@ -35,7 +35,8 @@ pub(crate) struct PackedFrame {
 pub(crate) struct UnpackedToo {
     pub(crate) unpacked: Arc<UnpackedFrameData>,
     pub(crate) packed: PackedStreams,
-    ghost same: { streams_in (record { kind = packed.kind; bytes = packed.bytes.items }) ≡ Some (contents (arc_value unpacked)) } by { Coded-set (coded_option streams_code) _ _ },
+    ghost same: { streams_in (record { kind = packed.kind; bytes = packed.bytes.items })
+        ≡ Some (contents (arc_value unpacked)) } by { Coded-set (coded_option streams_code) _ _ },
 }
 
 /// The ways to hold a frame.

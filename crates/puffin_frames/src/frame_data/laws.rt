@@ -3,7 +3,7 @@
 
 ghost use Rattle.std.specs.Prelude.{List, ℕ, ◌≡◌, ◌↔◌, ◌++◌, Some, Ok};
 ghost use Rattle.puffin_data.specs.Value.Layout.{IsBytes, NoneBeginsAnother, ReadsLayouts};
-ghost use Rattle.puffin_frames.specs.Packet.Structs.{meta_layout, IsMeta, meta_at, thread_layout, IsThread, thread_at, recorded_layout, IsRecorded, recorded_at, streams_layout, AreStreams, streams_at, details_layout, AreDetails, details_at, legacy_layout, IsLegacy, legacy_at};
+ghost use Rattle.puffin_frames.specs.Packet.Structs.{meta_layout, IsMeta, meta_at, info_layout, IsInfo, info_at, recorded_layout, IsRecorded, recorded_at, streams_layout, AreStreams, streams_at, details_layout, AreDetails, details_at, legacy_layout, IsLegacy, legacy_at};
 ghost use Rattle.puffin_frames.specs.Frame.Streams.{Streams};
 ghost use Rattle.puffin_frames.specs.Frame.Holding.{Packing, HoldsStreams, streams_in, Holding, IsHolding, held_contents, as_packed, as_unpacked};
 ghost use Rattle.puffin_frames.specs.Packet.Stored.{Said, Stored, packed};
@@ -13,7 +13,7 @@ ghost use Rattle.puffin_frames.specs.Packet.Grammar.{Stores};
 /// No layout of a value begins another of its type.
 pub fn no_layout_begins_another()
     ensures metas { NoneBeginsAnother IsMeta meta_layout }
-    ensures threads { NoneBeginsAnother IsThread thread_layout }
+    ensures threads { NoneBeginsAnother IsInfo info_layout }
     ensures infos { NoneBeginsAnother IsRecorded recorded_layout }
     ensures streams { NoneBeginsAnother AreStreams streams_layout }
     ensures details { NoneBeginsAnother AreDetails details_layout }
@@ -23,7 +23,7 @@ pub fn no_layout_begins_another()
 /// What is read off the front of bytes is the layout of the value that is given, and each layout is read.
 pub fn only_layouts_are_read()
     ensures metas { ReadsLayouts IsMeta meta_layout meta_at }
-    ensures threads { ReadsLayouts IsThread thread_layout thread_at }
+    ensures threads { ReadsLayouts IsInfo info_layout info_at }
     ensures infos { ReadsLayouts IsRecorded recorded_layout recorded_at }
     ensures streams { ReadsLayouts AreStreams streams_layout streams_at }
     ensures details { ReadsLayouts AreDetails details_layout details_at }
@@ -34,17 +34,20 @@ pub fn only_layouts_are_read()
 /// or an older one, or a frame as it was written at first.
 pub fn only_packets_are_read()
     ensures { (bytes rest : List ℕ) (s : Stored) → IsBytes bytes →
-        (next_at bytes ≡ Ok (Some s, rest)) ↔ ((front : List ℕ) × Stores front s × (bytes ≡ front ++ rest)) }
+        (next_at bytes ≡ Ok (Some s, rest))
+        ↔ ((front : List ℕ) × Stores front s × (bytes ≡ front ++ rest)) }
 {}
 
 /// Packed bytes hold the streams whose layout they are, and no others.
 pub fn packed_contents()
-    ensures { (p : Packing) (streams : Streams) → IsBytes p.bytes → (streams_in p ≡ Some streams) ↔ HoldsStreams p streams }
+    ensures { (p : Packing) (streams : Streams) → IsBytes p.bytes →
+        (streams_in p ≡ Some streams) ↔ HoldsStreams p streams }
 {}
 
 /// A packet that was written is read again, whatever follows it, and no packet begins another.
 pub fn written_is_read()
-    ensures again { (p : Said) (rest : List ℕ) → IsPacked p → next_at (packet p ++ rest) ≡ Ok (Some (packed p), rest) }
+    ensures again { (p : Said) (rest : List ℕ) → IsPacked p →
+        next_at (packet p ++ rest) ≡ Ok (Some (packed p), rest) }
     ensures alone { NoneBeginsAnother IsPacked packet }
 {}
 

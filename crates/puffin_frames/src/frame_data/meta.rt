@@ -6,7 +6,7 @@ ghost use Rattle.std.specs.List.Sorted.{IsStrictlySortedBy};
 ghost use Rattle.puffin_frames.specs.Thread.Info.{thread_cmp};
 ghost use Rattle.puffin_frames.specs.Frame.Contents.{all_recorded};
 ghost use Rattle.puffin_frames.specs.Frame.Sums.{meta_of, TotalsFit};
-ghost use Rattle.puffin_data.specs.Honesty.{recorded_ref};
+ghost use Rattle.puffin_data.specs.Honesty.{record_of_ref};
 
 use crate::thread_profiler::ThreadInfo;
 use puffin_data::data::{StreamInfo, StreamInfoRef};
@@ -42,12 +42,19 @@ impl FrameMeta {
     /// What is said with one more stream. `None` where a sum doesn't fit `usize`.
     pub fn joined(self, info: &StreamInfoRef) -> Option<FrameMeta>
         ensures frame_index { IfSome result (λ meta. meta.frame_index ≡ self.frame_index) }
-        ensures num_bytes { IfSome result (λ meta. meta.num_bytes ≡ self.num_bytes + length (recorded_ref info.now).bytes) }
-        ensures num_scopes { IfSome result (λ meta. meta.num_scopes ≡ self.num_scopes + info.now.num_scopes) }
-        ensures start { IfSome result (λ meta. meta.range_ns.0 ≡ int_min self.range_ns.0 info.now.range_ns.0) }
-        ensures stop { IfSome result (λ meta. meta.range_ns.1 ≡ int_max self.range_ns.1 info.now.range_ns.1) }
-        ensures fit { IfSome result (λ meta. (meta.num_bytes < 2 ^ 64) × (meta.num_scopes < 2 ^ 64)) }
-        ensures none { IfNone result ((2 ^ 64 ≤ self.num_bytes + length (recorded_ref info.now).bytes) ⊎ (2 ^ 64 ≤ self.num_scopes + info.now.num_scopes)) }
+        ensures num_bytes { IfSome result (λ meta.
+            meta.num_bytes ≡ self.num_bytes + length (record_of_ref info.now).bytes) }
+        ensures num_scopes { IfSome result (λ meta.
+            meta.num_scopes ≡ self.num_scopes + info.now.num_scopes) }
+        ensures start { IfSome result (λ meta.
+            meta.range_ns.0 ≡ int_min self.range_ns.0 info.now.range_ns.0) }
+        ensures stop { IfSome result (λ meta.
+            meta.range_ns.1 ≡ int_max self.range_ns.1 info.now.range_ns.1) }
+        ensures fit { IfSome result (λ meta.
+            (meta.num_bytes < 2 ^ 64) × (meta.num_scopes < 2 ^ 64)) }
+        ensures none { IfNone result (
+            (2 ^ 64 ≤ self.num_bytes + length (record_of_ref info.now).bytes)
+            ⊎ (2 ^ 64 ≤ self.num_scopes + info.now.num_scopes)) }
     {
         let num_bytes = self.num_bytes.checked_add(info.stream.len())?;
         let num_scopes = self.num_scopes.checked_add(info.num_scopes)?;
@@ -68,7 +75,8 @@ impl FrameMeta {
         ensures ok { IfOk result (λ meta. meta ≡ meta_of frame_index (all_recorded streams.now)) }
         ensures sorted { IsStrictlySortedBy thread_cmp (keys_of streams.now.entries) }
         ensures totals { IfOk result (λ _. TotalsFit (all_recorded streams.now)) }
-        ensures err { IfErr result (λ e. (e ≡ Error.TooLarge) × ¬ TotalsFit (all_recorded streams.now)) }
+        ensures err { IfErr result (λ e.
+            (e ≡ Error.TooLarge) × ¬ TotalsFit (all_recorded streams.now)) }
     {
         let mut meta = FrameMeta::of_none(frame_index);
         for info in streams.values() {

@@ -29,8 +29,10 @@ impl PackedStreams {
 
     /// Streams as they are, as bytes. Refused only with `Memory`.
     pub(crate) fn of(alloc: Global, streams: &ThreadStreams) -> Result<PackedStreams>
-        ensures ok { IfOk result (λ packed. packed_as packed ≡ plainly_packed (shared_streams streams.now.entries)) }
-        ensures content { IfOk result (λ packed. streams_in (packed_as packed) ≡ Some (shared_streams streams.now.entries)) }
+        ensures ok { IfOk result (λ packed.
+            packed_as packed ≡ plainly_packed (shared_streams streams.now.entries)) }
+        ensures content { IfOk result (λ packed.
+            streams_in (packed_as packed) ≡ Some (shared_streams streams.now.entries)) }
         ensures memory { IfErr result (λ e. e ≡ Error.Memory) }
     {
         let mut bytes = Vec::new(alloc);
@@ -50,7 +52,8 @@ impl PackedStreams {
     /// The streams. Refused with `Compressed` where the kind isn't 0, with `BadStreams` where the bytes aren't a layout of
     /// streams, and with `Memory`.
     fn unpack(&self, alloc: Global) -> std::result::Result<ThreadStreams, FileError>
-        ensures { DecidedInMemory (λ streams. shared_streams streams.entries) result (unpacking (packed_as self.now)) }
+        ensures { DecidedInMemory (λ streams. shared_streams streams.entries) result (
+            unpacking (packed_as self.now)) }
     {
         if self.kind != 0 {
             return Err(FileError::Compressed(self.kind));
@@ -79,8 +82,10 @@ impl PackedFrame {
 
     /// A frame, packed. Refused only with `Memory`.
     fn of(alloc: Global, frame: &UnpackedFrameData) -> Result<PackedFrame>
-        ensures ok { IfOk result (λ packed. packed_as packed.streams ≡ plainly_packed (contents frame.now)) }
-        ensures content { IfOk result (λ packed. streams_in (packed_as packed.streams) ≡ Some (contents frame.now)) }
+        ensures ok { IfOk result (λ packed.
+            packed_as packed.streams ≡ plainly_packed (contents frame.now)) }
+        ensures content { IfOk result (λ packed.
+            streams_in (packed_as packed.streams) ≡ Some (contents frame.now)) }
         ensures meta { IfOk result (λ packed. packed.meta ≡ frame.now.meta) }
         ensures memory { IfErr result (λ e. e ≡ Error.Memory) }
     {
@@ -93,7 +98,8 @@ impl PackedFrame {
 
     /// The frame, unpacked. Refused as [`PackedStreams::unpack`], and with `Memory`.
     fn unpack(&self, alloc: Global) -> std::result::Result<Arc<UnpackedFrameData>, FileError>
-        ensures ok { DecidedInMemory (λ frame. contents (arc_value frame)) result (unpacking (packed_as self.now.streams)) }
+        ensures ok { DecidedInMemory (λ frame. contents (arc_value frame)) result (
+            unpacking (packed_as self.now.streams)) }
         ensures meta { IfOk result (λ frame. (arc_value frame).meta ≡ self.now.meta) }
     {
         let thread_streams = self.streams.unpack(alloc)?;
@@ -150,7 +156,8 @@ impl Held {
         ensures contents { held_contents (held_as result.0) ≡ held_contents (held_as self) }
         ensures err { OnErr result.1 (held_as result.0 ≡ held_as self) }
         ensures meta { held_meta result.0 ≡ held_meta self }
-        ensures unpacked { DecidedInMemory (λ frame. contents (arc_value frame)) result.1 (unpacked_from (held_as self)) }
+        ensures unpacked { DecidedInMemory (λ frame. contents (arc_value frame)) result.1
+            (unpacked_from (held_as self)) }
         ensures unpacked_meta { IfOk result.1 (λ frame. (arc_value frame).meta ≡ held_meta self) }
     {
         match self {
@@ -170,7 +177,8 @@ impl Held {
     /// The frame packed, in a copy. Refused only with `Memory`.
     pub(crate) fn packed_copy(&self, alloc: Global) -> Result<Held>
         ensures ok { IfOk result (λ copy. held_as copy ≡ as_packed (held_as self.now)) }
-        ensures contents { IfOk result (λ copy. held_contents (held_as copy) ≡ held_contents (held_as self.now)) }
+        ensures contents { IfOk result (λ copy.
+            held_contents (held_as copy) ≡ held_contents (held_as self.now)) }
         ensures meta { IfOk result (λ copy. held_meta copy ≡ held_meta self.now) }
         ensures memory { IfErr result (λ e. e ≡ Error.Memory) }
     {
@@ -222,10 +230,17 @@ fn unpack_too(
     alloc: Global,
     packed: PackedFrame,
 ) -> (Held, std::result::Result<Arc<UnpackedFrameData>, FileError>)
-    ensures ok { IfOk result.1 (λ frame. held_as result.0 ≡ record { packed = Some (packed_as packed.streams); unpacked = Some (contents (arc_value frame)) }) }
-    ensures err { OnErr result.1 (held_as result.0 ≡ record { packed = Some (packed_as packed.streams); unpacked = None }) }
+    ensures ok { IfOk result.1 (λ frame.
+        held_as result.0 ≡ record {
+          packed = Some (packed_as packed.streams);
+          unpacked = Some (contents (arc_value frame));
+        }) }
+    ensures err { OnErr result.1 (
+        held_as result.0
+        ≡ record { packed = Some (packed_as packed.streams); unpacked = None }) }
     ensures meta { held_meta result.0 ≡ packed.meta }
-    ensures unpacked { DecidedInMemory (λ frame. contents (arc_value frame)) result.1 (unpacking (packed_as packed.streams)) }
+    ensures unpacked { DecidedInMemory (λ frame. contents (arc_value frame)) result.1 (
+        unpacking (packed_as packed.streams)) }
     ensures unpacked_meta { IfOk result.1 (λ frame. (arc_value frame).meta ≡ packed.meta) }
 {
     let unpacked = match packed.unpack(alloc) {
@@ -262,7 +277,8 @@ impl UnpackedToo {
     /// The frame packed only. Takes no memory.
     fn into_packed(self) -> PackedFrame
         ensures streams { packed_as result.streams ≡ packed_as self.packed }
-        ensures content { streams_in (packed_as result.streams) ≡ Some (contents (arc_value self.unpacked)) }
+        ensures content { streams_in (packed_as result.streams)
+            ≡ Some (contents (arc_value self.unpacked)) }
         ensures meta { result.meta ≡ (arc_value self.unpacked).meta }
     {
         PackedFrame {
@@ -274,7 +290,9 @@ impl UnpackedToo {
     /// The frame packed only, in a copy. Refused only with `Memory`.
     fn packed_copy(&self) -> Result<PackedFrame>
         ensures ok { IfOk result (λ copy. packed_as copy.streams ≡ packed_as self.now.packed) }
-        ensures content { IfOk result (λ copy. streams_in (packed_as copy.streams) ≡ Some (contents (arc_value self.now.unpacked))) }
+        ensures content { IfOk result (λ copy.
+            streams_in (packed_as copy.streams)
+            ≡ Some (contents (arc_value self.now.unpacked))) }
         ensures meta { IfOk result (λ copy. copy.meta ≡ (arc_value self.now.unpacked).meta) }
         ensures memory { IfErr result (λ e. e ≡ Error.Memory) }
     {
@@ -287,7 +305,8 @@ impl UnpackedToo {
     /// A copy, which shares the unpacked data. Refused only with `Memory`.
     fn clone(&self) -> Result<UnpackedToo>
         ensures packed { IfOk result (λ copy. packed_as copy.packed ≡ packed_as self.now.packed) }
-        ensures unpacked { IfOk result (λ copy. arc_value copy.unpacked ≡ arc_value self.now.unpacked) }
+        ensures unpacked { IfOk result (λ copy.
+            arc_value copy.unpacked ≡ arc_value self.now.unpacked) }
         ensures memory { IfErr result (λ e. e ≡ Error.Memory) }
     {
         let packed = self.packed.clone()?;

@@ -81,12 +81,15 @@ impl FrameData {
     /// Refused with `Compressed` where the packed streams are of another kind than 0, with `BadStreams` where their bytes
     /// aren't a layout of streams, and with `Memory`; the frame is then held as before.
     pub fn unpacked(&mut self) -> std::result::Result<Arc<UnpackedFrameData>, FileError>
-        ensures unpacked { DecidedInMemory (λ frame. contents (arc_value frame)) result (unpacked_from (holding_of self.old)) }
+        ensures unpacked { DecidedInMemory (λ frame. contents (arc_value frame)) result (
+            unpacked_from (holding_of self.old)) }
         // of packed streams: those whose layout the bytes are
         ensures layout { IfOk result (λ frame.
-            IfSome (holding_of self.old).packed (λ p. HoldsStreams p (contents (arc_value frame)))) }
+            IfSome (holding_of self.old).packed (λ p.
+            HoldsStreams p (contents (arc_value frame)))) }
         ensures no_layout { result ≡ Err FileError.BadStreams →
-            IfSome (holding_of self.old).packed (λ p. (streams : Streams) → HoldsStreams p streams → ⊥) }
+            IfSome (holding_of self.old).packed (λ p.
+            (streams : Streams) → HoldsStreams p streams → ⊥) }
         ensures meta { IfOk result (λ frame. (arc_value frame).meta ≡ frame_meta self.old) }
         ensures ok { OnOk result (holding_of self.new ≡ as_unpacked (holding_of self.old)) }
         ensures contents { frame_contents self.new ≡ frame_contents self.old }
@@ -114,14 +117,21 @@ impl FrameData {
 
     /// How many bytes the meta says that the streams have, or `None` where the frame isn't held unpacked.
     pub fn unpacked_size(&self) -> Option<usize>
-        ensures { result ≡ option_map (λ _. (frame_meta self.now).num_bytes) (holding_of self.now).unpacked }
+        ensures { result
+            ≡ option_map (λ _. (frame_meta self.now).num_bytes) (holding_of self.now).unpacked }
     {
         Some(self.as_unpacked()?.meta.num_bytes)
     }
 
     /// Both sizes together, and `usize::MAX` where their sum is greater.
     pub fn bytes_of_ram_used(&self) -> usize
-        ensures { result ≡ min (unwrap_or (option_map (λ _. (frame_meta self.now).num_bytes) (holding_of self.now).unpacked) 0 + unwrap_or (option_map (λ p. length p.bytes) (holding_of self.now).packed) 0) (2 ^ 64 - 1) }
+        ensures { result ≡ min
+            (unwrap_or
+            (option_map (λ _. (frame_meta self.now).num_bytes)
+            (holding_of self.now).unpacked)
+            0
+            + unwrap_or (option_map (λ p. length p.bytes) (holding_of self.now).packed) 0)
+            (2 ^ 64 - 1) }
     {
         let unpacked_size = self.unpacked_size().unwrap_or(0);
         unpacked_size.saturating_add(self.packed_size().unwrap_or(0))
@@ -129,8 +139,10 @@ impl FrameData {
 
     /// Both sizes.
     pub fn packing_info(&self) -> PackingInfo
-        ensures unpacked_size { result.unpacked_size ≡ option_map (λ _. (frame_meta self.now).num_bytes) (holding_of self.now).unpacked }
-        ensures packed_size { result.packed_size ≡ option_map (λ p. length p.bytes) (holding_of self.now).packed }
+        ensures unpacked_size { result.unpacked_size
+            ≡ option_map (λ _. (frame_meta self.now).num_bytes) (holding_of self.now).unpacked }
+        ensures packed_size { result.packed_size
+            ≡ option_map (λ p. length p.bytes) (holding_of self.now).packed }
     {
         PackingInfo {
             unpacked_size: self.unpacked_size(),

@@ -10,7 +10,7 @@ ghost use Rattle.puffin_frames.specs.Details.{shared_details};
 ghost use Rattle.puffin_frames.specs.Frame.Contents.{holding_of, frame_says};
 ghost use Rattle.puffin_frames.specs.inner.Tries.{Decided, DecidedInMemory};
 ghost use Rattle.puffin_frames.specs.inner.Form.{IsFormOf};
-ghost use Rattle.puffin_frames.specs.Packet.Steps.{is_range_at, meta_from, meta_part_at, kind_from, kind_at, details_from, details_part_at, streams_part_at, packed_at, form_at, legacy_from, legacy_part_at, is_packet, stored_after};
+ghost use Rattle.puffin_frames.specs.Packet.Steps.{is_range_at, meta_from, meta_part_at, kind_from, kind_at, details_from, details_part_at, streams_part_at, packet_at, form_at, legacy_from, legacy_part_at, is_packet, stored_after};
 ghost use Rattle.puffin_frames.specs.Packet.Grammar.{TookStored};
 ghost use Rattle.puffin_frames.specs.Packet.Next.{HeaderFrom, legacy_of, stored_of, IsFresh, ReadsNext};
 
@@ -55,7 +55,8 @@ fn parsed_meta(bytes: &[u8]) -> Result<FrameMeta, FileError>
 /// Reads a meta part.
 fn read_meta_part<S: Source>(alloc: Global, source: &mut S) -> Result<FrameMeta, FileError>
     requires { S.failures source.old < 2 ^ 64 - 1 }
-    ensures part { FromDevice (λ m. m) (S.remaining source.old) (S.remaining source.new) result meta_part_at }
+    ensures part { FromDevice (λ m. m) (S.remaining source.old) (S.remaining source.new) result
+        meta_part_at }
     ensures ordered { IfOk result (λ m. m.range_ns.0 ≤ℤ m.range_ns.1) }
     ensures duration_fits { IfOk result (λ m. FitsSigned w64 (m.range_ns.1 -ℤ m.range_ns.0)) }
     ensures failures { S.failures source.new ≡ failures_after (S.failures source.old) result }
@@ -79,7 +80,8 @@ fn kind_of(byte: u8) -> Result<u8, FileError>
 /// Reads how the streams are packed.
 fn read_kind<S: Source>(source: &mut S, letter: u8) -> Result<u8, FileError>
     requires { S.failures source.old < 2 ^ 64 - 1 }
-    ensures part { FromDevice (λ k. k) (S.remaining source.old) (S.remaining source.new) result (kind_at letter) }
+    ensures part { FromDevice (λ k. k) (S.remaining source.old) (S.remaining source.new) result
+        (kind_at letter) }
     ensures known { IfOk result (λ k. k ≤ 2) }
     ensures failures { S.failures source.new ≡ failures_after (S.failures source.old) result }
 {
@@ -97,7 +99,8 @@ fn read_streams_part<S: Source>(
     letter: u8,
 ) -> Result<(u8, Vec<u8>), FileError>
     requires { S.failures source.old < 2 ^ 64 - 1 }
-    ensures part { FromDevice (λ p. (p.0, p.1.items)) (S.remaining source.old) (S.remaining source.new) result (streams_part_at letter) }
+    ensures part { FromDevice (λ p. (p.0, p.1.items)) (S.remaining source.old)
+        (S.remaining source.new) result (streams_part_at letter) }
     ensures known { IfOk result (λ p. p.0 ≤ 2) }
     ensures failures { S.failures source.new ≡ failures_after (S.failures source.old) result }
 {
@@ -108,7 +111,8 @@ fn read_streams_part<S: Source>(
 }
 
 fn parsed_details(alloc: Global, bytes: &[u8]) -> Result<Vec<Arc<ScopeDetails>>, FileError>
-    ensures { DecidedInMemory (λ v. shared_details v.items) result (details_from (whole details_at bytes.now)) }
+    ensures { DecidedInMemory (λ v. shared_details v.items) result (
+        details_from (whole details_at bytes.now)) }
 {
     match details_in(alloc, bytes) {
         Ok(all) => Ok(all),
@@ -124,7 +128,8 @@ fn read_details_part<S: Source>(
     letter: u8,
 ) -> Result<Vec<Arc<ScopeDetails>>, FileError>
     requires { S.failures source.old < 2 ^ 64 - 1 }
-    ensures part { FromDevice (λ v. shared_details v.items) (S.remaining source.old) (S.remaining source.new) result (details_part_at letter) }
+    ensures part { FromDevice (λ v. shared_details v.items) (S.remaining source.old)
+        (S.remaining source.new) result (details_part_at letter) }
     ensures failures { S.failures source.new ≡ failures_after (S.failures source.old) result }
 {
     if letter != b'4' {
@@ -137,7 +142,8 @@ fn read_details_part<S: Source>(
 /// Reads what follows the four letters of a packet, of which this is the last.
 fn read_packed<S: Source>(alloc: Global, source: &mut S, letter: u8) -> Result<FrameData, FileError>
     requires { S.failures source.old < 2 ^ 64 - 1 }
-    ensures part { FromDevice frame_says (S.remaining source.old) (S.remaining source.new) result (packed_at letter) }
+    ensures part { FromDevice frame_says (S.remaining source.old) (S.remaining source.new) result
+        (packet_at letter) }
     ensures packed { IfOk result (λ frame. is_some (holding_of frame).packed ≡ true) }
     ensures fresh { IfOk result IsFresh }
     ensures failures { S.failures source.new ≡ failures_after (S.failures source.old) result }
@@ -178,7 +184,8 @@ fn form_of(letter: u8) -> Form
 /// Reads what follows `PFD` and this letter.
 fn read_form<S: Source>(alloc: Global, source: &mut S, letter: u8) -> Result<FrameData, FileError>
     requires { S.failures source.old < 2 ^ 64 - 1 }
-    ensures part { FromDevice frame_says (S.remaining source.old) (S.remaining source.new) result (form_at letter) }
+    ensures part { FromDevice frame_says (S.remaining source.old) (S.remaining source.new) result
+        (form_at letter) }
     ensures packed { IfOk result (λ frame. is_some (holding_of frame).packed ≡ true) }
     ensures fresh { IfOk result IsFresh }
     ensures failures { S.failures source.new ≡ failures_after (S.failures source.old) result }
@@ -217,7 +224,8 @@ fn read_legacy_part<S: Source>(
     len: usize,
 ) -> Result<FrameData, FileError>
     requires { S.failures source.old < 2 ^ 64 - 1 }
-    ensures part { FromDevice legacy_of (S.remaining source.old) (S.remaining source.new) result (legacy_part_at len) }
+    ensures part { FromDevice legacy_of (S.remaining source.old) (S.remaining source.new) result
+        (legacy_part_at len) }
     ensures unpacked { IfOk result (λ frame. (holding_of frame).packed ≡ None) }
     ensures fresh { IfOk result IsFresh }
     ensures failures { S.failures source.new ≡ failures_after (S.failures source.old) result }
@@ -229,7 +237,8 @@ fn read_legacy_part<S: Source>(
 /// Reads the four bytes before a packet, or none at the end.
 fn read_header<S: Source>(source: &mut S) -> Result<Option<[u8; 4]>, FileError>
     requires { S.failures source.old < 2 ^ 64 - 1 }
-    ensures header { IfOk result (λ o. HeaderFrom (S.remaining source.old) (S.remaining source.new) o) }
+    ensures header { IfOk result (λ o.
+        HeaderFrom (S.remaining source.old) (S.remaining source.new) o) }
     ensures io { IfErr result (λ e. e ≡ FileError.Io) }
     ensures failures { S.failures source.new ≡ failures_after (S.failures source.old) result }
 {
@@ -257,7 +266,8 @@ fn read_stored<S: Source>(
     header: [u8; 4],
 ) -> Result<FrameData, FileError>
     requires { S.failures source.old < 2 ^ 64 - 1 }
-    ensures part { FromDevice (λ frame. Some (stored_of frame)) (S.remaining source.old) (S.remaining source.new) result (stored_after header) }
+    ensures part { FromDevice (λ frame. Some (stored_of frame)) (S.remaining source.old)
+        (S.remaining source.new) result (stored_after header) }
     ensures fresh { IfOk result IsFresh }
     ensures failures { S.failures source.new ≡ failures_after (S.failures source.old) result }
 {

@@ -1,8 +1,8 @@
 ghost use Rattle.std.specs.Prelude.{◌≡◌, ◌⊎◌, ◌↔◌, ◌+◌, ◌^◌, ◌≤◌, IfOk, IfErr, OnOk, OnErr};
 ghost use Rattle.std.specs.Arc.{arc_value};
-ghost use Rattle.puffin_data.specs.Honesty.{recorded, recorded_ref, joined};
+ghost use Rattle.puffin_data.specs.Honesty.{record_of, record_of_ref, joined_record};
 ghost use Rattle.puffin_data.specs.declared.error.Error.{Error};
-ghost use Rattle.puffin_frames.specs.Frame.Contents.{unshared, shared_streams, stream_under, reported_to};
+ghost use Rattle.puffin_frames.specs.Frame.Contents.{without_sharing, shared_streams, stream_under, reported_to};
 ghost use Rattle.puffin_frames.specs.Thread.Info.{info_of};
 
 use crate::thread_profiler::ThreadInfo;
@@ -20,7 +20,7 @@ pub(crate) fn shared(
     alloc: Global,
     streams: BTreeMap<ThreadInfo, StreamInfo>,
 ) -> Result<ThreadStreams>
-    ensures ok { IfOk result (λ shared. unshared shared.entries ≡ streams.entries) }
+    ensures ok { IfOk result (λ shared. without_sharing shared.entries ≡ streams.entries) }
     ensures err { IfErr result (λ e. e ≡ Error.Memory) }
 {
     let mut shared = BTreeMap::new(alloc);
@@ -35,9 +35,13 @@ pub(crate) fn shared(
 /// Refused with `TooLarge` where the number of scopes wouldn't fit `usize`, else only with `Memory`; what is recorded is
 /// then as before.
 fn extend_shared(alloc: Global, shared: &mut Arc<StreamInfo>, times: &StreamInfoRef) -> Result<()>
-    ensures ok { OnOk result (recorded (arc_value shared.new) ≡ joined (recorded (arc_value shared.old)) (recorded_ref times.now)) }
-    ensures too_large { (result ≡ Err Error.TooLarge) ↔ (2 ^ 64 ≤ (arc_value shared.old).num_scopes + times.now.num_scopes) }
-    ensures err { OnErr result (recorded (arc_value shared.new) ≡ recorded (arc_value shared.old)) }
+    ensures ok { OnOk result (
+        record_of (arc_value shared.new)
+        ≡ joined_record (record_of (arc_value shared.old)) (record_of_ref times.now)) }
+    ensures too_large { (result ≡ Err Error.TooLarge)
+        ↔ (2 ^ 64 ≤ (arc_value shared.old).num_scopes + times.now.num_scopes) }
+    ensures err { OnErr result (
+        record_of (arc_value shared.new) ≡ record_of (arc_value shared.old)) }
     ensures cause { IfErr result (λ e. (e ≡ Error.TooLarge) ⊎ (e ≡ Error.Memory)) }
 {
     if let Some(alone) = Arc::get_mut(shared) {
@@ -62,10 +66,15 @@ pub fn report_to(
     info: ThreadInfo,
     times: &StreamInfoRef,
 ) -> Result<()>
-    ensures ok { OnOk result (shared_streams streams.new.entries ≡ reported_to (shared_streams streams.old.entries) (info_of info) (recorded_ref times.now)) }
+    ensures ok { OnOk result (
+        shared_streams streams.new.entries
+        ≡ reported_to (shared_streams streams.old.entries) (info_of info) (
+        record_of_ref times.now)) }
     ensures too_large { (result ≡ Err Error.TooLarge)
-        ↔ (2 ^ 64 ≤ (stream_under (shared_streams streams.old.entries) (info_of info)).num_scopes + times.now.num_scopes) }
-    ensures err { OnErr result (shared_streams streams.new.entries ≡ shared_streams streams.old.entries) }
+        ↔ (2 ^ 64 ≤ (stream_under (shared_streams streams.old.entries) (info_of info)).num_scopes
+        + times.now.num_scopes) }
+    ensures err { OnErr result (
+        shared_streams streams.new.entries ≡ shared_streams streams.old.entries) }
     ensures cause { IfErr result (λ e. (e ≡ Error.TooLarge) ⊎ (e ≡ Error.Memory)) }
 {
     if let Some(shared) = streams.get_mut(&info) {

@@ -28,7 +28,7 @@ impl UnpackedFrameData {
     ghost use Rattle.std.specs.FinMap as map;
     ghost use Rattle.puffin_data.specs.declared.error.Error.{Error};
     ghost use Rattle.puffin_frames.specs.Frame.Sums.{joined_range, TotalsFit, IsOrdered, DurationFits, MakeFrame, meta_of};
-    ghost use Rattle.puffin_frames.specs.Frame.Contents.{unshared, streams_of, all_recorded, contents};
+    ghost use Rattle.puffin_frames.specs.Frame.Contents.{without_sharing, streams_of, all_recorded, contents};
 
     /// The frame with this number of these streams, each of which is moved into an `Arc`.
     ///
@@ -40,18 +40,31 @@ impl UnpackedFrameData {
         frame_index: FrameIndex,
         thread_streams: BTreeMap<ThreadInfo, StreamInfo>,
     ) -> Result<UnpackedFrameData>
-        ensures meta { IfOk result (λ frame. frame.meta ≡ meta_of frame_index (all_recorded thread_streams)) }
-        ensures streams { IfOk result (λ frame. unshared frame.thread_streams.entries ≡ thread_streams.entries) }
+        ensures meta { IfOk result (λ frame.
+            frame.meta ≡ meta_of frame_index (all_recorded thread_streams)) }
+        ensures streams { IfOk result (λ frame.
+            without_sharing frame.thread_streams.entries ≡ thread_streams.entries) }
 
         // The same by infos: the frame holds what was given, and what its meta says is said of what it holds.
-        ensures contents { IfOk result (λ frame. contents frame ≡ streams_of thread_streams.entries) }
-        ensures own_meta { IfOk result (λ frame. frame.meta ≡ meta_of frame_index (map.values (contents frame))) }
+        ensures contents { IfOk result (λ frame.
+            contents frame ≡ streams_of thread_streams.entries) }
+        ensures own_meta { IfOk result (λ frame.
+            frame.meta ≡ meta_of frame_index (map.values (contents frame))) }
 
-        ensures too_large { (result ≡ Err Error.TooLarge) ↔ ¬ TotalsFit (all_recorded thread_streams) }
-        ensures empty { (result ≡ Err Error.Empty) ↔ (TotalsFit (all_recorded thread_streams) × ¬ IsOrdered (joined_range (all_recorded thread_streams))) }
-        ensures range_too_long { (result ≡ Err Error.RangeTooLong) ↔ (TotalsFit (all_recorded thread_streams) × IsOrdered (joined_range (all_recorded thread_streams)) × ¬ DurationFits (joined_range (all_recorded thread_streams))) }
+        ensures too_large { (result ≡ Err Error.TooLarge)
+            ↔ ¬ TotalsFit (all_recorded thread_streams) }
+        ensures empty { (result ≡ Err Error.Empty) ↔ (TotalsFit (all_recorded thread_streams)
+            × ¬ IsOrdered (joined_range (all_recorded thread_streams))) }
+        ensures range_too_long { (result ≡ Err Error.RangeTooLong)
+            ↔ (TotalsFit (all_recorded thread_streams)
+            × IsOrdered (joined_range (all_recorded thread_streams))
+            × ¬ DurationFits (joined_range (all_recorded thread_streams))) }
         ensures memory { result ≡ Err Error.Memory → MakeFrame (all_recorded thread_streams) }
-        ensures only { IfErr result (λ e. (e ≡ Error.TooLarge) ⊎ (e ≡ Error.Empty) ⊎ (e ≡ Error.RangeTooLong) ⊎ (e ≡ Error.Memory)) }
+        ensures only { IfErr result (λ e.
+            (e ≡ Error.TooLarge)
+            ⊎ (e ≡ Error.Empty)
+            ⊎ (e ≡ Error.RangeTooLong)
+            ⊎ (e ≡ Error.Memory)) }
     {
         let meta = FrameMeta::of_streams(frame_index, &thread_streams)?;
         let (start, stop) = meta.range_ns;

@@ -9,7 +9,7 @@ ghost use Rattle.puffin_frames.specs.Details.{shared_details};
 ghost use Rattle.puffin_frames.specs.Packet.Structs.{meta_layout, IsMeta, details_layout, AreDetails};
 ghost use Rattle.puffin_frames.specs.Frame.Contents.{frame_details, packed_as, contents};
 ghost use Rattle.puffin_frames.specs.Frame.Holding.{plainly_packed};
-ghost use Rattle.puffin_frames.specs.Packet.Steps.{counted, packet_head, packet_with, packet, IsPacked};
+ghost use Rattle.puffin_frames.specs.Packet.Steps.{counted_part, packet_head, packet_with, packet, IsPacked};
 ghost use Rattle.puffin_frames.specs.Packet.Writing.{details_or, says_with, HasLongPart};
 
 use crate::frame_data::encode::{put_details, put_details_by_id, put_meta};
@@ -31,9 +31,14 @@ const HEAD_SIZE: usize = 13;
 /// Writes two pieces, one after the other.
 fn write_both<D: Drain>(drain: &mut D, first: &[u8], second: &[u8]) -> Result<(), FileError>
     requires { D.failures drain.old < 2 ^ 64 - 1 }
-    ensures ok { OnOk result (Appends (D.contents drain.old) (D.contents drain.new) (first.now ++ second.now)) }
-    ensures err { OnErr result (WritesBeginning (D.contents drain.old) (D.contents drain.new) (first.now ++ second.now)) }
-    ensures io { IfErr result (λ e. (e ≡ FileError.Io) × ((D.failures drain.new ≡ D.failures drain.old + 1) ⊎ TookNothing D.takes drain.new)) }
+    ensures ok { OnOk result (
+        Appends (D.contents drain.old) (D.contents drain.new) (first.now ++ second.now)) }
+    ensures err { OnErr result (
+        WritesBeginning (D.contents drain.old) (D.contents drain.new) (
+        first.now ++ second.now)) }
+    ensures io { IfErr result (λ e.
+        (e ≡ FileError.Io)
+        × ((D.failures drain.new ≡ D.failures drain.old + 1) ⊎ TookNothing D.takes drain.new)) }
     ensures failures { OnOk result (D.failures drain.new ≡ D.failures drain.old) }
 {
     write_all(drain, first)?;
@@ -80,14 +85,25 @@ fn write_packed<D: Drain>(
     drain: &mut D,
 ) -> Result<(), FileError>
     requires { D.failures drain.old < 2 ^ 64 - 1 }
-    ensures ok { OnOk result (Appends (D.contents drain.old) (D.contents drain.new) (packet_with meta.now streams.now.kind streams.now.bytes.items details.now)) }
-    ensures begun { IfErr result (λ e. e ≡ FileError.Io → WritesBeginning (D.contents drain.old) (D.contents drain.new) (packet_with meta.now streams.now.kind streams.now.bytes.items details.now)) }
+    ensures ok { OnOk result (
+        Appends (D.contents drain.old) (D.contents drain.new) (
+        packet_with meta.now streams.now.kind streams.now.bytes.items details.now)) }
+    ensures begun { IfErr result (λ e.
+        e ≡ FileError.Io →
+        WritesBeginning (D.contents drain.old) (D.contents drain.new) (
+        packet_with meta.now streams.now.kind streams.now.bytes.items details.now)) }
     ensures untouched { IfErr result (λ e. e ≢ FileError.Io → drain.new ≡ drain.old) }
-    ensures io { IfErr result (λ e. e ≡ FileError.Io → (D.failures drain.new ≡ D.failures drain.old + 1) ⊎ TookNothing D.takes drain.new) }
-    ensures too_long { IfErr result (λ e. e ≡ FileError.PartTooLong → (2 ^ 32 ≤ length streams.now.bytes.items) ⊎ (2 ^ 32 ≤ length details.now)) }
-    ensures short { OnOk result ((length streams.now.bytes.items < 2 ^ 32) × (length details.now < 2 ^ 32)) }
+    ensures io { IfErr result (λ e.
+        e ≡ FileError.Io →
+        (D.failures drain.new ≡ D.failures drain.old + 1) ⊎ TookNothing D.takes drain.new) }
+    ensures too_long { IfErr result (λ e.
+        e ≡ FileError.PartTooLong →
+        (2 ^ 32 ≤ length streams.now.bytes.items) ⊎ (2 ^ 32 ≤ length details.now)) }
+    ensures short { OnOk result (
+        (length streams.now.bytes.items < 2 ^ 32) × (length details.now < 2 ^ 32)) }
     ensures fits { OnOk result (IsMeta meta.now) }
-    ensures cause { IfErr result (λ e. (e ≡ FileError.PartTooLong) ⊎ (e ≡ FileError.Memory) ⊎ (e ≡ FileError.Io)) }
+    ensures cause { IfErr result (λ e.
+        (e ≡ FileError.PartTooLong) ⊎ (e ≡ FileError.Memory) ⊎ (e ≡ FileError.Io)) }
     ensures failures { OnOk result (D.failures drain.new ≡ D.failures drain.old) }
 {
     if streams.bytes.len() > u32::MAX as usize || details.len() > u32::MAX as usize {
@@ -106,14 +122,29 @@ fn write_unpacked<D: Drain>(
     drain: &mut D,
 ) -> Result<(), FileError>
     requires { D.failures drain.old < 2 ^ 64 - 1 }
-    ensures ok { OnOk result (Appends (D.contents drain.old) (D.contents drain.new) (packet_with frame.now.meta 0 (plainly_packed (contents frame.now)).bytes details.now)) }
-    ensures begun { IfErr result (λ e. e ≡ FileError.Io → WritesBeginning (D.contents drain.old) (D.contents drain.new) (packet_with frame.now.meta 0 (plainly_packed (contents frame.now)).bytes details.now)) }
+    ensures ok { OnOk result (
+        Appends (D.contents drain.old) (D.contents drain.new) (
+        packet_with frame.now.meta 0 (plainly_packed (contents frame.now)).bytes
+        details.now)) }
+    ensures begun { IfErr result (λ e.
+        e ≡ FileError.Io →
+        WritesBeginning (D.contents drain.old) (D.contents drain.new) (
+        packet_with frame.now.meta 0 (plainly_packed (contents frame.now)).bytes
+        details.now)) }
     ensures untouched { IfErr result (λ e. e ≢ FileError.Io → drain.new ≡ drain.old) }
-    ensures io { IfErr result (λ e. e ≡ FileError.Io → (D.failures drain.new ≡ D.failures drain.old + 1) ⊎ TookNothing D.takes drain.new) }
-    ensures too_long { IfErr result (λ e. e ≡ FileError.PartTooLong → (2 ^ 32 ≤ length (plainly_packed (contents frame.now)).bytes) ⊎ (2 ^ 32 ≤ length details.now)) }
-    ensures short { OnOk result ((length (plainly_packed (contents frame.now)).bytes < 2 ^ 32) × (length details.now < 2 ^ 32)) }
+    ensures io { IfErr result (λ e.
+        e ≡ FileError.Io →
+        (D.failures drain.new ≡ D.failures drain.old + 1) ⊎ TookNothing D.takes drain.new) }
+    ensures too_long { IfErr result (λ e.
+        e ≡ FileError.PartTooLong →
+        (2 ^ 32 ≤ length (plainly_packed (contents frame.now)).bytes)
+        ⊎ (2 ^ 32 ≤ length details.now)) }
+    ensures short { OnOk result (
+        (length (plainly_packed (contents frame.now)).bytes < 2 ^ 32)
+        × (length details.now < 2 ^ 32)) }
     ensures fits { OnOk result (IsMeta frame.now.meta) }
-    ensures cause { IfErr result (λ e. (e ≡ FileError.PartTooLong) ⊎ (e ≡ FileError.Memory) ⊎ (e ≡ FileError.Io)) }
+    ensures cause { IfErr result (λ e.
+        (e ≡ FileError.PartTooLong) ⊎ (e ≡ FileError.Memory) ⊎ (e ≡ FileError.Io)) }
     ensures failures { OnOk result (D.failures drain.new ≡ D.failures drain.old) }
 {
     let Ok(streams) = PackedStreams::of(alloc, &frame.thread_streams) else {
@@ -151,8 +182,13 @@ fn collection_part(alloc: Global, scopes: &ScopeCollection) -> Result<Vec<u8>, F
 impl FrameData {
     /// The details of a collection by rising id, or else the frame's own, as bytes.
     fn details_part(&self, scopes: Option<&ScopeCollection>) -> Result<Vec<u8>, FileError>
-        ensures ok { IfOk result (λ bytes. bytes.items ≡ details_layout (details_or (frame_details self.now) (option_map (λ c. c.now) scopes.entry))) }
-        ensures fit { OnOk result (AreDetails (details_or (frame_details self.now) (option_map (λ c. c.now) scopes.entry))) }
+        ensures ok { IfOk result (λ bytes.
+            bytes.items ≡ details_layout (
+            details_or (frame_details self.now) (
+            option_map (λ c. c.now) scopes.entry))) }
+        ensures fit { OnOk result (
+            AreDetails (
+            details_or (frame_details self.now) (option_map (λ c. c.now) scopes.entry))) }
         ensures memory { IfErr result (λ e. e ≡ FileError.Memory) }
     {
         let alloc = *self.scope_delta.allocator();
@@ -173,14 +209,25 @@ impl FrameData {
         drain: &mut D,
     ) -> Result<(), FileError>
         requires { D.failures drain.old < 2 ^ 64 - 1 }
-        ensures ok { OnOk result (Appends (D.contents drain.old) (D.contents drain.new) (packet (says_with self.now (option_map (λ c. c.now) scopes.entry)))) }
+        ensures ok { OnOk result (
+            Appends (D.contents drain.old) (D.contents drain.new) (
+            packet (says_with self.now (option_map (λ c. c.now) scopes.entry)))) }
         // What is written is read again.
-        ensures packed { OnOk result (IsPacked (says_with self.now (option_map (λ c. c.now) scopes.entry))) }
-        ensures begun { IfErr result (λ e. e ≡ FileError.Io → WritesBeginning (D.contents drain.old) (D.contents drain.new) (packet (says_with self.now (option_map (λ c. c.now) scopes.entry)))) }
+        ensures packed { OnOk result (
+            IsPacked (says_with self.now (option_map (λ c. c.now) scopes.entry))) }
+        ensures begun { IfErr result (λ e.
+            e ≡ FileError.Io →
+            WritesBeginning (D.contents drain.old) (D.contents drain.new) (
+            packet (says_with self.now (option_map (λ c. c.now) scopes.entry)))) }
         ensures untouched { IfErr result (λ e. e ≢ FileError.Io → drain.new ≡ drain.old) }
-        ensures io { IfErr result (λ e. e ≡ FileError.Io → (D.failures drain.new ≡ D.failures drain.old + 1) ⊎ TookNothing D.takes drain.new) }
-        ensures too_long { IfErr result (λ e. e ≡ FileError.PartTooLong → HasLongPart (says_with self.now (option_map (λ c. c.now) scopes.entry))) }
-        ensures cause { IfErr result (λ e. (e ≡ FileError.PartTooLong) ⊎ (e ≡ FileError.Memory) ⊎ (e ≡ FileError.Io)) }
+        ensures io { IfErr result (λ e.
+            e ≡ FileError.Io →
+            (D.failures drain.new ≡ D.failures drain.old + 1) ⊎ TookNothing D.takes drain.new) }
+        ensures too_long { IfErr result (λ e.
+            e ≡ FileError.PartTooLong →
+            HasLongPart (says_with self.now (option_map (λ c. c.now) scopes.entry))) }
+        ensures cause { IfErr result (λ e.
+            (e ≡ FileError.PartTooLong) ⊎ (e ≡ FileError.Memory) ⊎ (e ≡ FileError.Io)) }
         ensures failures { OnOk result (D.failures drain.new ≡ D.failures drain.old) }
     {
         let alloc = *self.scope_delta.allocator();

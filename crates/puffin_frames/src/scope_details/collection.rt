@@ -3,7 +3,7 @@ ghost use Rattle.std.specs.Arc.{arc_value};
 ghost use Rattle.std.specs.FinMap as map;
 ghost use Rattle.puffin_data.specs.declared.error.Error.{Error};
 ghost use Rattle.puffin_frames.specs.Details.{details_of};
-ghost use Rattle.puffin_frames.specs.Details.Collection.{no_details, inserted, kept_for, KeepsOwnIds, by_ids, by_names};
+ghost use Rattle.puffin_frames.specs.Details.Collection.{no_details, with_details, kept_for, KeepsOwnIds, by_ids, by_names};
 
 use crate::scope_details::details::ScopeDetails;
 use puffin_data::data::ScopeId;
@@ -44,7 +44,8 @@ fn put_name(
     name: &str,
     id: ScopeId,
 ) -> Result<()>
-    ensures ok { OnOk result (by_names by_name.new.entries ≡ map.insert (by_names by_name.old.entries) name.now id) }
+    ensures ok { OnOk result (
+        by_names by_name.new.entries ≡ map.insert (by_names by_name.old.entries) name.now id) }
     ensures err { OnErr result (by_names by_name.new.entries ≡ by_names by_name.old.entries) }
     ensures memory { IfErr result (λ e. e ≡ Error.Memory) }
 {
@@ -70,7 +71,8 @@ impl ScopeCollection {
 
     /// The first details that were inserted under an id.
     pub fn fetch_by_id(&self, id: &ScopeId) -> Option<&Arc<ScopeDetails>>
-        ensures { option_map (λ d. details_of (arc_value d)) (option_copied result) ≡ map.get self.now.by_id id.now }
+        ensures { option_map (λ d. details_of (arc_value d)) (option_copied result)
+            ≡ map.get self.now.by_id id.now }
     {
         self.by_id.get(id)
     }
@@ -86,9 +88,13 @@ impl ScopeCollection {
     ///
     /// Refused with `MissingId` where they have no id, and else only with `Memory`. Nothing is changed then.
     pub fn insert(&mut self, details: Arc<ScopeDetails>) -> Result<Arc<ScopeDetails>>
-        ensures ok { OnOk result (self.new ≡ inserted self.old (details_of (arc_value details))) }
-        ensures kept { IfOk result (λ kept. kept_for self.new (details_of (arc_value details)) ≡ Some (details_of (arc_value kept))) }
-        ensures missing { (result ≡ Err Error.MissingId) ↔ ((details_of (arc_value details)).id ≡ None) }
+        ensures ok { OnOk result (
+            self.new ≡ with_details self.old (details_of (arc_value details))) }
+        ensures kept { IfOk result (λ kept.
+            kept_for self.new (details_of (arc_value details))
+            ≡ Some (details_of (arc_value kept))) }
+        ensures missing { (result ≡ Err Error.MissingId)
+            ↔ ((details_of (arc_value details)).id ≡ None) }
         ensures err { OnErr result (self.new ≡ self.old) }
         ensures cause { IfErr result (λ e. (e ≡ Error.MissingId) ⊎ (e ≡ Error.Memory)) }
     {

@@ -27,7 +27,8 @@ pub struct ScopeDetails {
 impl ScopeDetails {
     /// Of a named scope. The rest is as in the default.
     pub fn from_scope_name(scope_name: CowStr<'static>) -> ScopeDetails
-        ensures { details_of result ≡ record default_details { scope_name = Some (cow_str_bytes scope_name.entry) } }
+        ensures { details_of result
+            ≡ record default_details { scope_name = Some (cow_str_bytes scope_name.entry) } }
     {
         ScopeDetails {
             scope_name: Some(scope_name),
@@ -37,7 +38,8 @@ impl ScopeDetails {
 
     /// The same with this function.
     pub fn with_function_name(mut self, function_name: CowStr<'static>) -> ScopeDetails
-        ensures { details_of result ≡ record (details_of self) { function_name = cow_str_bytes function_name.entry } }
+        ensures { details_of result
+            ≡ record (details_of self) { function_name = cow_str_bytes function_name.entry } }
     {
         self.function_name = function_name;
         self
@@ -45,7 +47,8 @@ impl ScopeDetails {
 
     /// The same with this file.
     pub fn with_file(mut self, file_path: CowStr<'static>) -> ScopeDetails
-        ensures { details_of result ≡ record (details_of self) { file_path = cow_str_bytes file_path.entry } }
+        ensures { details_of result
+            ≡ record (details_of self) { file_path = cow_str_bytes file_path.entry } }
     {
         self.file_path = file_path;
         self

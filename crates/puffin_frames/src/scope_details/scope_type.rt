@@ -1,5 +1,5 @@
 ghost use Rattle.std.specs.Prelude.{◌≡◌};
-ghost use Rattle.puffin_frames.specs.Details.Type.{type_text};
+ghost use Rattle.puffin_frames.specs.Details.Kind.{type_text};
 
 /// Whether a scope is a whole function, or one within it with a name of its own.
 #[derive(Clone, Copy, Debug, PartialEq, Eq, PartialOrd, Ord, Hash)]

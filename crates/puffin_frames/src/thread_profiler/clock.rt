@@ -69,7 +69,8 @@ impl<R: Clock> NsSource for SystemClock<R> {
     ghost use Rattle.puffin_frames.specs.Thread.Clock.{clock_start, last_answer};
 
     // The start stays, and no answer is below it.
-    ghost answers = { λ old at new. (clock_start new ≡ clock_start old) × (last_answer new ≡ at) × (clock_start old ≤ℤ at) };
+    ghost answers = { λ old at new.
+        (clock_start new ≡ clock_start old) × (last_answer new ≡ at) × (clock_start old ≤ℤ at) };
 
     /// The start and the time gone by since, at most the greatest that fits. Where the clock can't be read, the last answer.
     fn now_ns(&mut self) -> NanoSecond {

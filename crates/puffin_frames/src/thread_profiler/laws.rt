@@ -11,7 +11,8 @@ ghost use Rattle.puffin_frames.specs.Thread.Calls.{open_offsets};
 /// All that is honest of the same bytes is the same. So what a thread reports is what a successful
 /// [`puffin_data::data::StreamInfo::parse`] of the bytes gives.
 pub fn one_record()
-    ensures { (a b : Recorded) (f g : Forest) → IsHonestRecord a f → IsHonestRecord b g → length a.bytes < 2 ^ 63 → a.bytes ≡ b.bytes → a ≡ b }
+    ensures { (a b : Recorded) (f g : Forest) → IsHonestRecord a f → IsHonestRecord b g →
+        length a.bytes < 2 ^ 63 → a.bytes ≡ b.bytes → a ≡ b }
 {}
 
 /// The offsets of the open scopes: there are as many as scopes are open, a scope that begins puts its own before the
@@ -19,6 +20,8 @@ pub fn one_record()
 pub fn open_scopes()
     ensures count { (word : List Event) → length (open_offsets word) ≡ open_after 0 word }
     ensures begun { (word : List Event) (id : ℕ) (text : List ℕ) (start : ℤ) →
-        open_offsets (word ++ (Open id text start ∷ [])) ≡ (word_size word + 14 + length text) ∷ open_offsets word }
-    ensures ended { (word : List Event) (stop : ℤ) → open_offsets (word ++ (Close stop ∷ [])) ≡ drop 1 (open_offsets word) }
+        open_offsets (word ++ (Open id text start ∷ []))
+        ≡ (word_size word + 14 + length text) ∷ open_offsets word }
+    ensures ended { (word : List Event) (stop : ℤ) →
+        open_offsets (word ++ (Close stop ∷ [])) ≡ drop 1 (open_offsets word) }
 {}

@@ -31,7 +31,13 @@ impl<C: NsSource> ThreadProfiler<C> {
 
     /// A thread without scopes, of this name.
     pub fn new(alloc: Global, name: String, clock: C) -> ThreadProfiler<C>
-        ensures thread { thread_of result ≡ record { name = string_bytes name; first_start = None; latest = pos 0; word = []; details = [] } }
+        ensures thread { thread_of result ≡ record {
+          name = string_bytes name;
+          first_start = None;
+          latest = pos 0;
+          word = [];
+          details = [];
+        } }
         ensures clock { clock_of result ≡ clock }
     {
         ThreadProfiler {
@@ -43,7 +49,8 @@ impl<C: NsSource> ThreadProfiler<C> {
     /// The clock.
     pub fn clock(&mut self) -> &mut C
         ensures value { result.now ≡ clock_of self.old }
-        ensures* writes_back { sem 𝓛 (Lends (the_row C.row) C.row self.entry result (with_clock self.old)) }
+        ensures* writes_back { sem 𝓛 (
+            Lends (the_row C.row) C.row self.entry result (with_clock self.old)) }
     {
         &mut self.clock
     }
@@ -61,8 +68,14 @@ impl<C: NsSource> ThreadProfiler<C> {
     /// Refused only with `Memory`: the memory for the scope's end and for its report is taken here too. A refused call
     /// doesn't read the clock, and changes nothing.
     pub fn begin_scope(&mut self, id: ScopeId, text: &str) -> Result<usize>
-        ensures begun { OnOk result ((at : ℤ) × C.answers (clock_of self.old) at (clock_of self.new) × (pos 0 ≤ℤ at) × (thread_of self.new ≡ after_begin (thread_of self.old) id (cut_text text.now) at)) }
-        ensures offset { IfOk result (λ offset. offset ≡ word_size (thread_of self.old).word + 14 + length (cut_text text.now)) }
+        ensures begun { OnOk result (
+            (at : ℤ)
+            × C.answers (clock_of self.old) at (clock_of self.new)
+            × (pos 0 ≤ℤ at)
+            × (thread_of self.new
+            ≡ after_begin (thread_of self.old) id (cut_text text.now) at)) }
+        ensures offset { IfOk result (λ offset.
+            offset ≡ word_size (thread_of self.old).word + 14 + length (cut_text text.now)) }
         ensures unchanged { OnErr result (self.new ≡ self.old) }
         ensures memory { IfErr result (λ e. e ≡ Error.Memory) }
     {
@@ -75,10 +88,18 @@ impl<C: NsSource> ThreadProfiler<C> {
     /// Refused with `MismatchedEnd` alone, where the offset isn't the innermost open scope's: the clock isn't read then, and
     /// nothing changes. No memory is taken.
     pub fn end_scope<R: Reporter>(&mut self, offset: usize, reporter: &mut R) -> Result<Closed>
-        ensures innermost { OnOk result (slice_get (open_offsets (thread_of self.old).word) 0 ≡ Some offset) }
-        ensures mismatched { IfErr result (λ e. (e ≡ Error.MismatchedEnd) × (slice_get (open_offsets (thread_of self.old).word) 0 ≢ Some offset)) }
+        ensures innermost { OnOk result (
+            slice_get (open_offsets (thread_of self.old).word) 0 ≡ Some offset) }
+        ensures mismatched { IfErr result (λ e.
+            (e ≡ Error.MismatchedEnd)
+            × (slice_get (open_offsets (thread_of self.old).word) 0 ≢ Some offset)) }
         ensures unchanged { OnErr result ((self.new ≡ self.old) × (reporter.new ≡ reporter.old)) }
-        ensures closed { IfOk result (λ closed. (at : ℤ) × C.answers (clock_of self.old) at (clock_of self.new) × (pos 0 ≤ℤ at) × Closes R.accepts R.refuses (thread_of self.old) (thread_of self.new) at reporter.old reporter.new closed) }
+        ensures closed { IfOk result (λ closed.
+            (at : ℤ)
+            × C.answers (clock_of self.old) at (clock_of self.new)
+            × (pos 0 ≤ℤ at)
+            × Closes R.accepts R.refuses (thread_of self.old) (thread_of self.new) at
+            reporter.old reporter.new closed) }
     {
         if self.recording.innermost() != Some(offset) {
             return Err(Error::MismatchedEnd);
@@ -104,7 +125,15 @@ impl<C: NsSource> ThreadProfiler<C> {
         file_path: CowStr<'static>,
         line_nr: u32,
     ) -> Result<ScopeId>
-        ensures ok { IfOk result (λ id. thread_of self.new ≡ after_registering (thread_of self.old) (record { id = Some id; scope_name = None; function_name = cow_str_bytes function_name.entry; file_path = cow_str_bytes file_path.entry; line_nr = line_nr })) }
+        ensures ok { IfOk result (λ id.
+            thread_of self.new ≡ after_registering (thread_of self.old) (
+            record {
+              id = Some id;
+              scope_name = None;
+              function_name = cow_str_bytes function_name.entry;
+              file_path = cow_str_bytes file_path.entry;
+              line_nr = line_nr;
+            })) }
         ensures clock { clock_of self.new ≡ clock_of self.old }
         ensures unchanged { OnErr result (self.new ≡ self.old) }
         ensures cause { IfErr result (λ e. (e ≡ Error.IdsExhausted) ⊎ (e ≡ Error.Memory)) }
@@ -125,7 +154,15 @@ impl<C: NsSource> ThreadProfiler<C> {
         file_path: CowStr<'static>,
         line_nr: u32,
     ) -> Result<ScopeId>
-        ensures ok { IfOk result (λ id. thread_of self.new ≡ after_registering (thread_of self.old) (record { id = Some id; scope_name = Some (cow_str_bytes scope_name.entry); function_name = cow_str_bytes function_name.entry; file_path = cow_str_bytes file_path.entry; line_nr = line_nr })) }
+        ensures ok { IfOk result (λ id.
+            thread_of self.new ≡ after_registering (thread_of self.old) (
+            record {
+              id = Some id;
+              scope_name = Some (cow_str_bytes scope_name.entry);
+              function_name = cow_str_bytes function_name.entry;
+              file_path = cow_str_bytes file_path.entry;
+              line_nr = line_nr;
+            })) }
         ensures clock { clock_of self.new ≡ clock_of self.old }
         ensures unchanged { OnErr result (self.new ≡ self.old) }
         ensures cause { IfErr result (λ e. (e ≡ Error.IdsExhausted) ⊎ (e ≡ Error.Memory)) }
@@ -142,7 +179,8 @@ impl<C: NsSource> ThreadProfiler<C> {
     /// Refused with `ScopesOpen` while a scope is open; else with the reporter's error, or with `Memory` where the name
     /// couldn't be copied, and the reporter isn't asked then. Nothing changes for the thread.
     pub fn report_closed<R: Reporter>(&mut self, reporter: &mut R) -> Result<bool>
-        ensures reports { Reports R.accepts R.refuses (thread_of self.old) (thread_of self.new) reporter.old reporter.new result }
+        ensures reports { Reports R.accepts R.refuses (thread_of self.old) (thread_of self.new)
+            reporter.old reporter.new result }
         ensures clock { clock_of self.new ≡ clock_of self.old }
     {
         if self.recording.depth() != 0 {

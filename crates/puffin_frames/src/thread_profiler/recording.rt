@@ -52,7 +52,10 @@ impl Model for Recording {
 
 /// Makes the copy of a name where there is none yet. Refused only with `Memory`.
 fn keep_copy(spare: &mut Option<String>, name: &String) -> Result<()>
-    ensures ok { OnOk result (option_map (λ s. string_bytes s) spare.new ≡ Some (unwrap_or (option_map (λ s. string_bytes s) spare.old) (string_bytes name.now))) }
+    ensures ok { OnOk result (
+        option_map (λ s. string_bytes s) spare.new ≡ Some (
+        unwrap_or (option_map (λ s. string_bytes s) spare.old) (
+        string_bytes name.now))) }
     ensures err { OnErr result (spare.new ≡ spare.old) }
     ensures memory { IfErr result (λ e. e ≡ Error.Memory) }
 {
@@ -73,7 +76,8 @@ fn size_of_ends(offsets: &[usize]) -> usize
 /// Writes a scope's beginning at a time, within the room, and answers where its size stands.
 fn write_begin(stream: &mut Stream, at: NanoSecond, id: ScopeId, text: &str) -> usize
     requires { 149 ≤ stream.old.room }
-    ensures bytes { stream.new.bytes ≡ stream.old.bytes ++ begin_bytes id at (cut_text text.now) (2 ^ 64 - 1) }
+    ensures bytes { stream.new.bytes
+        ≡ stream.old.bytes ++ begin_bytes id at (cut_text text.now) (2 ^ 64 - 1) }
     ensures offset { result + 8 ≡ length stream.new.bytes }
     ensures room { stream.old.room ≤ stream.new.room + 149 }
     ensures id { (0 < id) × (id < 2 ^ 32) }
@@ -87,7 +91,13 @@ fn write_begin(stream: &mut Stream, at: NanoSecond, id: ScopeId, text: &str) -> 
 impl Recording {
     /// A thread without scopes.
     pub(crate) fn new(alloc: Global, name: String) -> Recording
-        ensures { result ≡ record { name = string_bytes name; first_start = None; latest = pos 0; word = []; details = [] } }
+        ensures { result ≡ record {
+          name = string_bytes name;
+          first_start = None;
+          latest = pos 0;
+          word = [];
+          details = [];
+        } }
     {
         Recording {
             name,
@@ -129,8 +139,13 @@ impl Recording {
         id: ScopeId,
         text: &str,
     ) -> Result<usize>
-        ensures begun { OnOk result ((at : ℤ) × C.answers clock.old at clock.new × (pos 0 ≤ℤ at) × (self.new ≡ after_begin self.old id (cut_text text.now) at)) }
-        ensures offset { IfOk result (λ offset. offset ≡ word_size self.old.word + 14 + length (cut_text text.now)) }
+        ensures begun { OnOk result (
+            (at : ℤ)
+            × C.answers clock.old at clock.new
+            × (pos 0 ≤ℤ at)
+            × (self.new ≡ after_begin self.old id (cut_text text.now) at)) }
+        ensures offset { IfOk result (λ offset.
+            offset ≡ word_size self.old.word + 14 + length (cut_text text.now)) }
         ensures unchanged { OnErr result ((self.new ≡ self.old) × (clock.new ≡ clock.old)) }
         ensures memory { IfErr result (λ e. e ≡ Error.Memory) }
     {
@@ -154,7 +169,8 @@ impl Recording {
         requires { 0 < open_after 0 self.old.word }
         ensures closed { self.new ≡ after_end self.old now_ns }
         ensures inner { IfNone result (1 < open_after 0 self.old.word) }
-        ensures last { IfSome result (λ name. (open_after 0 self.old.word ≡ 1) × (string_bytes name ≡ self.old.name)) }
+        ensures last { IfSome result (λ name.
+            (open_after 0 self.old.word ≡ 1) × (string_bytes name ≡ self.old.name)) }
     {
         let offset = self.offsets.pop().unwrap();
         let at = self.latest.max(now_ns);
@@ -185,7 +201,8 @@ impl Recording {
     ///
     /// Refused with `IdsExhausted` or `Memory`, and nothing is changed then. The memory is taken before the id is drawn.
     pub(crate) fn register(&mut self, ids: &ScopeIds, details: ScopeDetails) -> Result<ScopeId>
-        ensures ok { IfOk result (λ id. self.new ≡ after_registering self.old (with_id (details_of details) id)) }
+        ensures ok { IfOk result (λ id.
+            self.new ≡ after_registering self.old (with_id (details_of details) id)) }
         ensures unchanged { OnErr result (self.new ≡ self.old) }
         ensures cause { IfErr result (λ e. (e ≡ Error.IdsExhausted) ⊎ (e ≡ Error.Memory)) }
     {
@@ -199,8 +216,12 @@ impl Recording {
     pub(crate) fn hand_over<R: Reporter>(&mut self, name: String, reporter: &mut R) -> Result<()>
         requires none_open { open_after 0 self.old.word ≡ 0 }
         requires name { string_bytes name ≡ self.old.name }
-        ensures ok { OnOk result ((self.new ≡ after_handing self.old) × GoesTo R.accepts self.old reporter.old reporter.new) }
-        ensures err { IfErr result (λ e. (self.new ≡ self.old) × GoesTo (λ b i d r a. R.refuses b i d r e a) self.old reporter.old reporter.new) }
+        ensures ok { OnOk result (
+            (self.new ≡ after_handing self.old)
+            × GoesTo R.accepts self.old reporter.old reporter.new) }
+        ensures err { IfErr result (λ e.
+            (self.new ≡ self.old)
+            × GoesTo (λ b i d r a. R.refuses b i d r e a) self.old reporter.old reporter.new) }
     {
         let info = ThreadInfo {
             start_time_ns: self.first_start,

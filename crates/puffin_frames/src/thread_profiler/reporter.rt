@@ -2,7 +2,7 @@
 
 ghost use Rattle.std.specs.Prelude.{OnOk, IfErr};
 ghost use Rattle.puffin_data.specs.Forest.{Forest};
-ghost use Rattle.puffin_data.specs.Honesty.{IsHonestRef, recorded_ref};
+ghost use Rattle.puffin_data.specs.Honesty.{IsHonestRef, record_of_ref};
 ghost use Rattle.puffin_frames.specs.Details.{details_seen};
 ghost use Rattle.puffin_frames.specs.Thread.Info.{info_of};
 
@@ -33,8 +33,12 @@ pub trait Reporter {
         times: &StreamInfoRef,
     ) -> Result<()>
         requires { (f : Forest) × IsHonestRef times.now f }
-        ensures ok { OnOk result (accepts self.old (info_of info) (details_seen details.now) (recorded_ref times.now) self.new) }
-        ensures err { IfErr result (λ e. refuses self.old (info_of info) (details_seen details.now) (recorded_ref times.now) e self.new) };
+        ensures ok { OnOk result (
+            accepts self.old (info_of info) (details_seen details.now) (record_of_ref times.now)
+            self.new) }
+        ensures err { IfErr result (λ e.
+            refuses self.old (info_of info) (details_seen details.now) (record_of_ref times.now)
+            e self.new) };
 }
 
 /// What became of a scope that was ended.

@@ -10,13 +10,13 @@ use Rattle.puffin_data.specs.declared.file_error.FileError.TheVariants as file
 use Rattle.puffin_data.specs.Device.{IsOutside, WritesBeginning}
 use Rattle.puffin_frames.specs.declared.frame_data.frame.FrameData.{FrameData}
 use Rattle.puffin_frames.specs.Details.{AllHaveIds}
-use Rattle.puffin_frames.specs.Details.Collection.{inserted_all}
+use Rattle.puffin_frames.specs.Details.Collection.{with_all_details}
 use Rattle.puffin_frames.specs.Packet.Stored.{Said}
 use Rattle.puffin_frames.specs.Packet.Steps.{IsPacked}
 use Rattle.puffin_frames.specs.Packet.Writing.{HasLongPart}
 use Rattle.puffin.specs.declared.profile_view.frame_view.FrameView.{FrameView}
 use Rattle.puffin.specs.View.ViewedFrames.{Frame, contents_of, index_of}
-use Rattle.puffin.specs.View.FrameOf.{shared_frame, told}
+use Rattle.puffin.specs.View.FrameOf.{shared_frame, details_of_frame}
 use Rattle.puffin.specs.View.{View, Took, empty_view, after_all, KeepsFrames}
 use Rattle.puffin.specs.View.Known.{view_of, collection_of, lacks_ids, LearnsSome}
 use Rattle.puffin.specs.View.File.{file_of, contents_in}
@@ -51,7 +51,7 @@ emitted_by (reply.Refused cause) = []
 
 -- what a reply's frame tells of has ids
 abbrev pub HasIds : Reply → Type 0
-HasIds reply = AllHaveIds (flat_map told (emitted_by reply))
+HasIds reply = AllHaveIds (flat_map details_of_frame (emitted_by reply))
 
 -- the emitted frames, in order
 abbrev pub frames_emitted : List Reply → List Frame
@@ -66,7 +66,7 @@ NoneLacksIds cs = list_any lacks_ids cs ≡ false
 -- The view took these frames, in order, and knows the details that they tell.
 pub record Takes (frames : List Frame) (old new : FrameView) : Type 0 where
   pub taken : view_of new ≡ after_all (view_of old) frames
-  pub details : collection_of new ≡ inserted_all (collection_of old) (flat_map told frames)
+  pub details : collection_of new ≡ with_all_details (collection_of old) (flat_map details_of_frame frames)
 
 -- The view took a beginning of these frames, and there was no memory for the next: it knows a beginning of what that tells, and its newest frame may be packed, where it would have been.
 pub record TakesSome (frames : List Frame) (old new : FrameView) : Type 0 where
@@ -75,7 +75,7 @@ pub record TakesSome (frames : List Frame) (old new : FrameView) : Type 0 where
   pub rest : List Frame
   pub split : frames ≡ front ++ (next ∷ rest)
   pub taken : KeepsFrames (after_all (view_of old) front) (index_of next) (view_of new)
-  pub details : LearnsSome (inserted_all (collection_of old) (flat_map told front)) (told next) (collection_of new)
+  pub details : LearnsSome (with_all_details (collection_of old) (flat_map details_of_frame front)) (details_of_frame next) (collection_of new)
 
 -- ---- recording
 

@@ -11,12 +11,12 @@ use Rattle.puffin_data.specs.Honesty.{Recorded}
 use Rattle.puffin_frames.specs.Thread.Info.{Info}
 use Rattle.puffin_frames.specs.Frame.Streams.{Streams}
 use Rattle.puffin_frames.specs.Details.{Details}
-use Rattle.puffin_frames.specs.Details.Collection.{no_details, inserted_all}
+use Rattle.puffin_frames.specs.Details.Collection.{no_details, with_all_details}
 use Rattle.puffin_frames.specs.Frame.Holding.{unpacking}
 use Rattle.puffin_frames.specs.Packet.Stored.{Said, Stored}
 use Rattle.puffin.specs.View.File.{contents_in, frame_stored, details_stored, file_at, read_view, TookFrames, FailsToRead}
 use Rattle.puffin.specs.Merge.FrameBytes.{FrameBytes}
-use Rattle.puffin.specs.Merge.Refusals.{IsRefusal, AreMerged}
+use Rattle.puffin.specs.Merge.Refusals.{IsMergeRefusal, AreMerged}
 use Rattle.puffin.specs.Merge.Scopes.{forest_in}
 use Rattle.puffin.specs.View.{after_all}
 use Rattle.puffin_replay.specs.declared.replay.summary.Summary.{Summary}
@@ -45,8 +45,8 @@ all_bytes_in info [] = Ok []
 all_bytes_in info (c ∷ cs) = followed_by (bytes_in info c) (all_bytes_in info cs)
 
 -- what the frames of a view say that reads these
-abbrev pub said_by : List Stored → List Said
-said_by stored = contents_in (after_all read_view (map frame_stored stored))
+abbrev pub contents_read : List Stored → List Said
+contents_read stored = contents_in (after_all read_view (map frame_stored stored))
 
 -- the number of frames, their merge under an info, and these details, in order
 pub record SumsUp (info : Info) (cs : List Said) (told : List Details) (summary : Summary) : Type 0 where
@@ -54,11 +54,11 @@ pub record SumsUp (info : Info) (cs : List Said) (told : List Details) (summary 
   pub streams : List FrameBytes
   pub unpacked : all_bytes_in info cs ≡ Ok streams
   pub merged : AreMerged streams (forest_in summary.merged.items)
-  pub scopes : summary.scopes ≡ inserted_all no_details told
+  pub scopes : summary.scopes ≡ with_all_details no_details told
 
 -- the frames of a view that reads a file, and the details of all frames of the file
 abbrev pub IsSummary : Info → List Stored → Summary → Type 0
-IsSummary info stored summary = SumsUp info (said_by stored) (flat_map details_stored stored) summary
+IsSummary info stored summary = SumsUp info (contents_read stored) (flat_map details_stored stored) summary
 
 -- the details that frames tell
 abbrev pub details_said : List Said → List Details
@@ -68,9 +68,9 @@ details_said cs = flat_map (λ c. c.details) cs
 abbrev pub IsHindered : Info → List Said → FileError → Type 0
 IsHindered info cs fault =
     (all_bytes_in info cs ≡ Err fault)
-    ⊎ ((streams : List FrameBytes) × (cause : Error) × (all_bytes_in info cs ≡ Ok streams) × (fault ≡ Refused cause) × (cause ≡ Memory → ⊥) × IsRefusal streams cause)
+    ⊎ ((streams : List FrameBytes) × (cause : Error) × (all_bytes_in info cs ≡ Ok streams) × (fault ≡ Refused cause) × (cause ≡ Memory → ⊥) × IsMergeRefusal streams cause)
 
 -- A call read a device and summed nothing up: the device or memory failed, or the bytes that were taken have this fault, or they are frames that have it.
 abbrev pub FailsToSumUp : Info → Option (List ℕ) → Option (List ℕ) → FileError → Type 0
 FailsToSumUp info old new fault =
-    FailsToRead file_at old new fault ⊎ ((stored : List Stored) × TookFrames file_at old new stored × IsHindered info (said_by stored) fault)
+    FailsToRead file_at old new fault ⊎ ((stored : List Stored) × TookFrames file_at old new stored × IsHindered info (contents_read stored) fault)

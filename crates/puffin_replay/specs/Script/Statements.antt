@@ -9,18 +9,18 @@ use Rattle.puffin_replay.specs.declared.replay.statement.Statement.{Statement}
 use Rattle.puffin_replay.specs.declared.replay.statement.Statement.TheVariants as statement
 use Rattle.puffin_replay.specs.declared.replay.statement.Words.{Words}
 
-pub data Said : Type 0 where
+pub data Meaning : Type 0 where
   -- a scope begins
-  begins : (thread : List ℕ) → (at : ℤ) → (id : ℕ) → (text : List ℕ) → Said
+  begins : (thread : List ℕ) → (at : ℤ) → (id : ℕ) → (text : List ℕ) → Meaning
   -- the innermost open scope of a thread ends
-  ends : (thread : List ℕ) → (at : ℤ) → Said
+  ends : (thread : List ℕ) → (at : ℤ) → Meaning
   -- a thread registers a scope's details: a function's without a name
-  registers : (thread : List ℕ) → (name : Option (List ℕ)) → (function : List ℕ) → (file : List ℕ) → (line : ℕ) → Said
+  registers : (thread : List ℕ) → (name : Option (List ℕ)) → (function : List ℕ) → (file : List ℕ) → (line : ℕ) → Meaning
   -- a scope of another origin is registered
-  registers_user : (name : List ℕ) → Said
+  registers_user : (name : List ℕ) → Meaning
   -- the next frame tells of all scopes
-  tells_all : Said
-  takes_frame : Said
+  tells_all : Meaning
+  takes_frame : Meaning
 
 -- ---- words
 
@@ -36,9 +36,9 @@ abbrev pub joined_words : List (List ℕ) → List ℕ
 joined_words words = join_with_byte 32 words
 
 -- a word that isn't empty
-abbrev pub name_of : List ℕ → Option (List ℕ)
-name_of [] = None
-name_of (byte ∷ bytes) = Some (byte ∷ bytes)
+abbrev pub name_in : List ℕ → Option (List ℕ)
+name_in [] = None
+name_in (byte ∷ bytes) = Some (byte ∷ bytes)
 
 -- a decimal number without a sign
 abbrev pub number_in : List ℕ → Option ℕ
@@ -53,8 +53,8 @@ abbrev pub number_of : ℕ → List ℕ → Option ℕ
 number_of limit word = option_and_then (if_below limit) (number_in word)
 
 -- a time, in nanoseconds
-abbrev pub time_of : List ℕ → Option ℤ
-time_of word = option_map pos (number_of (2 ^ 63) word)
+abbrev pub moment_in : List ℕ → Option ℤ
+moment_in word = option_map pos (number_of (2 ^ 63) word)
 
 -- the number of a line of code
 abbrev pub line_of : List ℕ → Option ℕ
@@ -69,41 +69,41 @@ id_of word = option_and_then unless_zero (line_of word)
 
 -- ---- lines, by the words behind the first
 
-abbrev pub begin_of : List (List ℕ) → Option Said
+abbrev pub begin_of : List (List ℕ) → Option Meaning
 begin_of (thread ∷ time ∷ id ∷ text) =
-    option_and_then (λ t. option_and_then (λ at. option_map (λ n. begins t at n (joined_words text)) (id_of id)) (time_of time)) (name_of thread)
+    option_and_then (λ t. option_and_then (λ at. option_map (λ n. begins t at n (joined_words text)) (id_of id)) (moment_in time)) (name_in thread)
 begin_of _ = None
 
-abbrev pub end_of : List (List ℕ) → Option Said
-end_of (thread ∷ time ∷ []) = option_and_then (λ t. option_map (λ at. ends t at) (time_of time)) (name_of thread)
+abbrev pub end_of : List (List ℕ) → Option Meaning
+end_of (thread ∷ time ∷ []) = option_and_then (λ t. option_map (λ at. ends t at) (moment_in time)) (name_in thread)
 end_of _ = None
 
-abbrev pub details_of : List ℕ → Option (List ℕ) → List (List ℕ) → Option Said
-details_of thread name (function ∷ file ∷ line ∷ []) =
-    option_and_then (λ f. option_and_then (λ path. option_map (λ n. registers thread name f path n) (line_of line)) (name_of file)) (name_of function)
-details_of thread name _ = None
+abbrev pub registration_of : List ℕ → Option (List ℕ) → List (List ℕ) → Option Meaning
+registration_of thread name (function ∷ file ∷ line ∷ []) =
+    option_and_then (λ f. option_and_then (λ path. option_map (λ n. registers thread name f path n) (line_of line)) (name_in file)) (name_in function)
+registration_of thread name _ = None
 
-abbrev pub function_of : List (List ℕ) → Option Said
-function_of (thread ∷ words) = option_and_then (λ t. details_of t None words) (name_of thread)
+abbrev pub function_of : List (List ℕ) → Option Meaning
+function_of (thread ∷ words) = option_and_then (λ t. registration_of t None words) (name_in thread)
 function_of [] = None
 
-abbrev pub scope_of : List (List ℕ) → Option Said
-scope_of (thread ∷ name ∷ words) = option_and_then (λ t. option_and_then (λ n. details_of t (Some n) words) (name_of name)) (name_of thread)
+abbrev pub scope_of : List (List ℕ) → Option Meaning
+scope_of (thread ∷ name ∷ words) = option_and_then (λ t. option_and_then (λ n. registration_of t (Some n) words) (name_in name)) (name_in thread)
 scope_of _ = None
 
-abbrev pub user_of : List (List ℕ) → Option Said
-user_of (name ∷ []) = option_map (λ n. registers_user n) (name_of name)
+abbrev pub user_of : List (List ℕ) → Option Meaning
+user_of (name ∷ []) = option_map (λ n. registers_user n) (name_in name)
 user_of _ = None
 
 -- a line of one word
-abbrev pub alone : Said → List (List ℕ) → Option Said
+abbrev pub alone : Meaning → List (List ℕ) → Option Meaning
 alone what [] = Some what
 alone what (word ∷ words) = None
 
 -- what a line says, by its words
-abbrev pub said_by : List (List ℕ) → Option Said
-said_by [] = None
-said_by (verb ∷ words) =
+abbrev pub line_meaning : List (List ℕ) → Option Meaning
+line_meaning [] = None
+line_meaning (verb ∷ words) =
     if bytes_eq verb (codes "begin") then begin_of words else
     if bytes_eq verb (codes "end") then end_of words else
     if bytes_eq verb (codes "function") then function_of words else
@@ -122,10 +122,10 @@ words_behind (Some text) = words_in text.now
 abbrev pub words_left : Words → List (List ℕ)
 words_left words = words_behind words.left
 
-abbrev pub said : Statement → Said
-said (statement.Begin thread at id text) = begins thread.now at id text.now
-said (statement.End thread at) = ends thread.now at
-said (statement.Register thread name function file line) = registers thread.now (option_map (λ (n : Bor (List ℕ)). n.now) name) function.now file.now line
-said (statement.RegisterUser name) = registers_user name.now
-said statement.Snapshot = tells_all
-said statement.NewFrame = takes_frame
+abbrev pub meaning_of : Statement → Meaning
+meaning_of (statement.Begin thread at id text) = begins thread.now at id text.now
+meaning_of (statement.End thread at) = ends thread.now at
+meaning_of (statement.Register thread name function file line) = registers thread.now (option_map (λ (n : Bor (List ℕ)). n.now) name) function.now file.now line
+meaning_of (statement.RegisterUser name) = registers_user name.now
+meaning_of statement.Snapshot = tells_all
+meaning_of statement.NewFrame = takes_frame

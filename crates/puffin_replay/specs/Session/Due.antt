@@ -5,25 +5,25 @@ use Rattle.puffin_data.specs.Forest.Tour.{Event}
 use Rattle.puffin_data.specs.Forest.Words.{word_size, num_begun}
 use Rattle.puffin_frames.specs.Thread.Info.{Info, same_info}
 use Rattle.puffin_replay.specs.Session.History.{Opening, Action, calls, hands, frames, registers, adds, learns, wants, nothing, since_last}
-use Rattle.puffin_replay.specs.Session.Deliveries.{Delivery, under, taken, handed}
+use Rattle.puffin_replay.specs.Session.Deliveries.{Delivery, under, all_taken, deliveries}
 
 abbrev pub is_taken : Delivery → Bool
 is_taken (under i word) = false
-is_taken taken = true
+is_taken all_taken = true
 
 -- what was handed over since the last emitted frame; where there was none, what was due at the opening and all that was handed over
 abbrev pub due : Opening → List Action → List Delivery
-due o done = since_last is_taken (map (λ d. under d.0 d.1) o.due ++ handed o done)
+due o done = since_last is_taken (map (λ d. under d.0 d.1) o.due ++ deliveries o done)
 
 -- ---- under one info
 
 abbrev pub is_under : Info → Delivery → Bool
 is_under i (under j word) = same_info i j
-is_under i taken = false
+is_under i all_taken = false
 
 abbrev pub events_under : Info → Delivery → List Event
 events_under i (under j word) = if same_info i j then word else []
-events_under i taken = []
+events_under i all_taken = []
 
 -- what was handed over under an info: nothing, or these words joined
 abbrev pub total_under : List Delivery → Info → Option (List Event)
@@ -37,7 +37,7 @@ NoneDue ds = (i : Info) (word : List Event) → total_under ds i ≡ Some word �
 
 abbrev pub events_of : Delivery → List Event
 events_of (under i word) = word
-events_of taken = []
+events_of all_taken = []
 
 -- an accepted command for a frame, with a frame or without
 abbrev pub is_numbered : Action → Bool
@@ -57,12 +57,12 @@ index_after o done = o.index + count_by is_numbered done
 -- the bytes and the scopes of what was handed over
 abbrev pub bytes_delivered : Delivery → ℕ
 bytes_delivered (under i word) = word_size word
-bytes_delivered taken = 0
+bytes_delivered all_taken = 0
 
 abbrev pub scopes_delivered : Delivery → ℕ
 scopes_delivered (under i word) = num_begun word
-scopes_delivered taken = 0
+scopes_delivered all_taken = 0
 
 -- how many scopes were ever reported
 abbrev pub reported_after : Opening → List Action → ℕ
-reported_after o done = o.reported + sum_by scopes_delivered (handed o done)
+reported_after o done = o.reported + sum_by scopes_delivered (deliveries o done)

@@ -2,7 +2,7 @@
 use Rattle.std.specs.Prelude.{ℕ, ◌==◌, Bool, true, false, if◌then◌else◌, List, [], ◌∷◌, ◌++◌, map, fold}
 use Rattle.std.specs.List.{flat_map}
 use Rattle.puffin_frames.specs.Details.{Details}
-use Rattle.puffin_frames.specs.Details.Collection.{Collection, inserted_all}
+use Rattle.puffin_frames.specs.Details.Collection.{Collection, with_all_details}
 use Rattle.puffin_replay.specs.Session.History.{Opening, begun, ended, Action, calls, hands, frames, registers, adds, learns, wants, nothing, thread_at, since_last}
 
 -- details one after another, and where all before went on
@@ -19,8 +19,8 @@ details_in (noted d) = d ∷ []
 details_in sent = []
 
 -- the details since all before went on
-abbrev pub waiting : List Note → List Details
-waiting notes = flat_map details_in (since_last is_sent notes)
+abbrev pub details_waiting : List Note → List Details
+details_waiting notes = flat_map details_in (since_last is_sent notes)
 
 -- what an action notes of a thread: details that it registered, which go on with its next accepted report
 abbrev pub notes_at : ℕ → Action → List Note
@@ -35,46 +35,46 @@ notes_at t nothing = []
 
 module _ (o : Opening) where
   -- the details that a thread has registered since its last accepted report
-  abbrev pub registered : ℕ → List Action → List Details
-  registered t done = waiting (map noted (thread_at o t).details ++ flat_map (notes_at t) done)
+  abbrev pub details_registered : ℕ → List Action → List Details
+  details_registered t done = details_waiting (map noted (thread_at o t).details ++ flat_map (notes_at t) done)
 
   -- What an action, after those before it, notes for the next frame: a thread's registered details where its report is accepted, and those of the user's new scopes. An emitted frame takes all.
-  abbrev pub told_at : List Action → Action → List Note
-  told_at done (calls t c) = elim c.mark [ begun id text ↦ [] | ended reported ↦ if reported then map noted (registered t done) else [] ]
-  told_at done (hands i word) = []
-  told_at done (frames emitted) = if emitted then sent ∷ [] else []
-  told_at done (registers t d) = []
-  told_at done (adds new) = map noted new
-  told_at done (learns some) = []
-  told_at done wants = []
-  told_at done nothing = []
+  abbrev pub due_notes_at : List Action → Action → List Note
+  due_notes_at done (calls t c) = elim c.mark [ begun id text ↦ [] | ended reported ↦ if reported then map noted (details_registered t done) else [] ]
+  due_notes_at done (hands i word) = []
+  due_notes_at done (frames emitted) = if emitted then sent ∷ [] else []
+  due_notes_at done (registers t d) = []
+  due_notes_at done (adds new) = map noted new
+  due_notes_at done (learns some) = []
+  due_notes_at done wants = []
+  due_notes_at done nothing = []
 
-  abbrev pub told_after : List Action → List Action → List Note
-  told_after past [] = []
-  told_after past (a ∷ later) = told_at past a ++ told_after (past ++ (a ∷ [])) later
+  abbrev pub due_notes_after : List Action → List Action → List Note
+  due_notes_after past [] = []
+  due_notes_after past (a ∷ later) = due_notes_at past a ++ due_notes_after (past ++ (a ∷ [])) later
 
   -- the details that are new in the next frame, in order
   abbrev pub due_details : List Action → List Details
-  due_details done = waiting (map noted o.new_details ++ told_after [] done)
+  due_details done = details_waiting (map noted o.new_details ++ due_notes_after [] done)
 
   -- What an action, after those before it, lets be known: a frame's new details where it is emitted, and those of the user's new scopes at once.
-  abbrev pub learnt_at : List Action → Action → List Details
-  learnt_at done (calls t c) = []
-  learnt_at done (hands i word) = []
-  learnt_at done (frames emitted) = if emitted then due_details done else []
-  learnt_at done (registers t d) = []
-  learnt_at done (adds new) = new
-  learnt_at done (learns some) = some
-  learnt_at done wants = []
-  learnt_at done nothing = []
+  abbrev pub details_learnt_at : List Action → Action → List Details
+  details_learnt_at done (calls t c) = []
+  details_learnt_at done (hands i word) = []
+  details_learnt_at done (frames emitted) = if emitted then due_details done else []
+  details_learnt_at done (registers t d) = []
+  details_learnt_at done (adds new) = new
+  details_learnt_at done (learns some) = some
+  details_learnt_at done wants = []
+  details_learnt_at done nothing = []
 
-  abbrev pub learnt_after : List Action → List Action → List Details
-  learnt_after past [] = []
-  learnt_after past (a ∷ later) = learnt_at past a ++ learnt_after (past ++ (a ∷ [])) later
+  abbrev pub details_learnt_after : List Action → List Action → List Details
+  details_learnt_after past [] = []
+  details_learnt_after past (a ∷ later) = details_learnt_at past a ++ details_learnt_after (past ++ (a ∷ [])) later
 
   -- what is known of scopes
   abbrev pub known_after : List Action → Collection
-  known_after done = inserted_all o.collection (learnt_after [] done)
+  known_after done = with_all_details o.collection (details_learnt_after [] done)
 
 -- whether the next frame is to tell of all that is known: since an action wanted it, until a frame is emitted
 abbrev pub wanted_at : Bool → Action → Bool

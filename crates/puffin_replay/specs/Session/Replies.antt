@@ -120,8 +120,8 @@ module _ (o : Opening) (done : List Action) where
   MayReport word = DueFits word × ¬ DueIsTooLong word
 
   -- why a report of these events is refused: the first that applies
-  abbrev pub IsRefusal : List Event → Error → Type 0
-  IsRefusal word e =
+  abbrev pub IsDueRefusal : List Event → Error → Type 0
+  IsDueRefusal word e =
       ((e ≡ TooLarge) × ¬ DueFits word)
       ⊎ ((e ≡ RangeTooLong) × DueFits word × DueIsTooLong word)
       ⊎ ((e ≡ Memory) × MayReport word)
@@ -130,7 +130,7 @@ module _ (o : Opening) (done : List Action) where
   abbrev pub MayClose : ℕ → List Event → Closed → Type 0
   MayClose depth word closed.Inner = 1 < depth
   MayClose depth word closed.Reported = (depth ≡ 1) × MayReport word
-  MayClose depth word (closed.Kept e) = (depth ≡ 1) × IsRefusal word e
+  MayClose depth word (closed.Kept e) = (depth ≡ 1) × IsDueRefusal word e
 
   -- an emitted frame spells what was due and tells of the details that were due, and there is none only where no scope was due
   abbrev pub FrameIsDue : Emitted → Type 0
@@ -148,7 +148,7 @@ module _ (o : Opening) (done : List Action) where
   MayReply (RegisterUser names) (reply.Refused e) learnt = RegistersSome (known_after o done) (user_details names.items) e learnt
   MayReply (ReportUser info stream) reply.Reported learnt = (f : Forest) × Spells stream.bytes f × (events_in stream.bytes ≡ tour f) × MayReport (tour f)
   MayReply (ReportUser info stream) (reply.Refused e) learnt =
-      (e ≡ Memory) ⊎ IsFault stream.bytes e ⊎ ((f : Forest) × Spells stream.bytes f × IsRefusal (tour f) e)
+      (e ≡ Memory) ⊎ IsFault stream.bytes e ⊎ ((f : Forest) × Spells stream.bytes f × IsDueRefusal (tour f) e)
   MayReply Snapshot reply.Snapshot learnt = Unit {0}
   MayReply NewFrame (reply.Frame emitted) learnt = (emitted.refused ≡ 0) × (index_after o done ≢ 2 ^ 64 - 1) × FrameIsDue emitted
   MayReply NewFrame (reply.Refused e) learnt =

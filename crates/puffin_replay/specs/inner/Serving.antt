@@ -8,9 +8,9 @@ use Rattle.puffin_frames.specs.Thread.Calls.{Thread}
 use Rattle.puffin_frames.specs.Details.{Details}
 use Rattle.puffin_frames.specs.Thread.Closing.{Closes}
 use Rattle.puffin_frames.specs.Frame.Contents.{Streams}
-use Rattle.puffin_frames.specs.Frame.Sums.{total_bytes, total_scopes, least_start, greatest_stop}
+use Rattle.puffin_frames.specs.Frame.Sums.{total_bytes, total_scopes, joined_start, joined_stop}
 use Rattle.puffin_frames.specs.declared.thread_profiler.reporter.Closed.{Closed}
-use Rattle.puffin.specs.Profiler.Collected.{Collected, Accepts, Refuses}
+use Rattle.puffin.specs.Profiler.Collected.{Collected, AcceptsReport, RefusesReport}
 use Rattle.puffin_replay.specs.declared.replay.command.Command.{Command}
 use Rattle.puffin_replay.specs.declared.replay.command.Reply.{Reply}
 use Rattle.puffin_replay.specs.Session.History.{Opening, Action, nobody}
@@ -25,19 +25,19 @@ use Rattle.puffin_replay.specs.Session.Replies.{action_of, actions_of, MayReply,
 abbrev pub clock_time : ℤ → ℤ
 clock_time at = int_max (pos 0) at
 
-abbrev pub thread_in : SessionState → ℕ → Thread
-thread_in s t = slice_index_or s.threads t nobody
+abbrev pub session_thread : SessionState → ℕ → Thread
+session_thread s t = slice_index_or s.threads t nobody
 
 -- a session with another thread at this number, and with this collected
-abbrev pub with_thread : SessionState → ℕ → Thread → Collected → SessionState
-with_thread s t thread collected = record { threads = slice_set s.threads t thread; collected = collected }
+abbrev pub session_with_thread : SessionState → ℕ → Thread → Collected → SessionState
+session_with_thread s t thread collected = record { threads = slice_set s.threads t thread; collected = collected }
 
-abbrev pub with_collected : SessionState → Collected → SessionState
-with_collected s collected = record { threads = s.threads; collected = collected }
+abbrev pub session_with_collected : SessionState → Collected → SessionState
+session_with_collected s collected = record { threads = s.threads; collected = collected }
 
 -- The innermost scope of a thread was ended. Where it was the last, the report of the whole word was accepted, or it was refused and left what is collected.
 abbrev pub Ends : Thread → Thread → ℤ → Collected → Collected → Closed → Type 0
-Ends old new at before after closed = Closes Accepts Refuses old new at before after closed
+Ends old new at before after closed = Closes AcceptsReport RefusesReport old new at before after closed
 
 -- ---- what a run keeps
 
@@ -45,8 +45,8 @@ Ends old new at before after closed = Closes Accepts Refuses old new at before a
 pub record SumsTo (streams : Streams) (ds : List Delivery) : Type 0 where
   pub bytes : total_bytes (values streams) ≡ sum_by bytes_delivered ds
   pub scopes : total_scopes (values streams) ≡ sum_by scopes_delivered ds
-  pub start : least_start (values streams) ≡ least_open (flat_map events_of ds)
-  pub stop : greatest_stop (values streams) ≡ greatest_close (flat_map events_of ds)
+  pub start : joined_start (values streams) ≡ least_open (flat_map events_of ds)
+  pub stop : joined_stop (values streams) ≡ greatest_close (flat_map events_of ds)
 
 -- a session stands after a history, and the sums over what is collected are those of what is due
 pub record Continued (o : Opening) (done : List Action) (now : SessionState) : Type 0 where

@@ -29,7 +29,8 @@ fn measures_line(
 
 /// The line of an honest info.
 fn line_of(alloc: Global, info: &StreamInfo) -> Result<String, AllocError>
-    ensures { IfOk result (λ line. (f : Forest) → IsHonest info.now f → string_bytes line ≡ count_line f) }
+    ensures { IfOk result (λ line.
+        (f : Forest) → IsHonest info.now f → string_bytes line ≡ count_line f) }
 {
     if info.num_scopes == 0 {
         return String::from_str(alloc, "scopes 0 depth 0 range empty\n");
@@ -83,7 +84,9 @@ fn none_line(alloc: Global, cause: Error) -> Result<String, AllocError>
 
 /// An honest info as the one stream of frame 0.
 fn frame_of(alloc: Global, info: StreamInfo) -> Result<UnpackedFrameData, Error>
-    ensures { (f : Forest) → IsHonest info f → MatchResult result (λ frame. frame_of_forest f ≡ Ok frame.meta) (λ e. (e ≡ Error.Memory) ⊎ (frame_of_forest f ≡ Err e)) }
+    ensures { (f : Forest) → IsHonest info f →
+        MatchResult result (λ frame. frame_of_forest f ≡ Ok frame.meta) (λ e.
+        (e ≡ Error.Memory) ⊎ (frame_of_forest f ≡ Err e)) }
 {
     range_of_a_forest();
     let thread = ThreadInfo {
@@ -97,7 +100,10 @@ fn frame_of(alloc: Global, info: StreamInfo) -> Result<UnpackedFrameData, Error>
 
 /// The frame's line of an honest info, and the cause that the program ends with, if any.
 fn frame_line(alloc: Global, info: StreamInfo) -> Result<(String, Option<Error>), FileError>
-    ensures ok { IfOk result (λ it. (f : Forest) → IsHonest info f → (string_bytes it.0 ≡ outcome_line (frame_of_forest f)) × (it.1 ≡ refusal_of (frame_of_forest f))) }
+    ensures ok { IfOk result (λ it.
+        (f : Forest) → IsHonest info f →
+        (string_bytes it.0 ≡ outcome_line (frame_of_forest f))
+        × (it.1 ≡ refusal_of (frame_of_forest f))) }
     ensures err { IfErr result (λ e. e ≡ FileError.Memory) }
 {
     match frame_of(alloc, info) {
@@ -122,10 +128,14 @@ pub fn count_stream<S: Source, D: Drain>(
 ) -> Result<Option<Error>, FileError>
     requires source { S.failures source.old < 2 ^ 64 - 1 }
     requires drain { D.failures drain.old < 2 ^ 64 - 1 }
-    ensures counted { IfOk result (λ answer. (bytes : List ℕ) × ReadsAll (S.remaining source.old) (S.remaining source.new) bytes
+    ensures counted { IfOk result (λ answer.
+        (bytes : List ℕ)
+        × ReadsAll (S.remaining source.old) (S.remaining source.new) bytes
         × IsCounted bytes (D.contents drain.old) (D.contents drain.new) answer) }
     ensures fails { IfErr result IsOutside }
-    ensures written { OnErr result (IsCutShort (S.remaining source.old) (S.remaining source.new) (D.contents drain.old) (D.contents drain.new)) }
+    ensures written { OnErr result (
+        IsCutShort (S.remaining source.old) (S.remaining source.new) (D.contents drain.old)
+        (D.contents drain.new)) }
     // The reader failed in this call, or the writer failed in it, or the writer took nothing.
     ensures io { (result ≡ Err FileError.Io) → (S.failures source.new ≡ S.failures source.old + 1)
         ⊎ ((D.failures drain.new ≡ D.failures drain.old + 1) ⊎ TookNothing D.takes drain.new) }

@@ -90,7 +90,8 @@ fn line_of(fault: ToolFault) -> Line
 pub fn finish<D: Drain>(fault: Option<ToolFault>, drain: &mut D) -> u8
     requires { D.failures drain.old < 2 ^ 64 - 1 }
     ensures status { result ≡ status_of fault }
-    ensures beginning { WritesBeginning (D.contents drain.old) (D.contents drain.new) (fault_text fault) }
+    ensures beginning { WritesBeginning (D.contents drain.old) (D.contents drain.new) (
+        fault_text fault) }
     // The whole line is written, or the writer failed, or took nothing.
     ensures whole { Appends (D.contents drain.old) (D.contents drain.new) (fault_text fault)
         ⊎ ((D.failures drain.new ≡ D.failures drain.old + 1) ⊎ TookNothing D.takes drain.new) }

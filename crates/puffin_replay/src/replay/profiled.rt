@@ -34,7 +34,9 @@ impl Model for Profiled {
 
     ghost view = { λ p. thread_of p.profiler };
 
-    ghost invariant = { λ p. (p.open.items ≡ reverse (open_offsets (thread_of p.profiler).word)) × AllHaveIds (thread_of p.profiler).details };
+    ghost invariant = { λ p.
+        (p.open.items ≡ reverse (open_offsets (thread_of p.profiler).word))
+        × AllHaveIds (thread_of p.profiler).details };
 }
 
 impl Profiled {
@@ -50,8 +52,10 @@ impl Profiled {
 
     /// Begins a scope at this time. Refused only with `Memory`; nothing is changed then.
     pub(crate) fn begin(&mut self, at: NanoSecond, id: ScopeId, text: &str) -> Result<usize>
-        ensures ok { OnOk result (self.new ≡ after_begin self.old id (cut_text text.now) (clock_time at)) }
-        ensures offset { IfOk result (λ offset. offset ≡ word_size self.old.word + 14 + length (cut_text text.now)) }
+        ensures ok { OnOk result (
+            self.new ≡ after_begin self.old id (cut_text text.now) (clock_time at)) }
+        ensures offset { IfOk result (λ offset.
+            offset ≡ word_size self.old.word + 14 + length (cut_text text.now)) }
         ensures err { OnErr result (self.new ≡ self.old) }
         ensures memory { IfErr result (λ e. e ≡ Error.Memory) }
     {
@@ -74,7 +78,10 @@ impl Profiled {
         file: &String,
         line: u32,
     ) -> Result<ScopeId>
-        ensures ok { IfOk result (λ id. self.new ≡ after_registering self.old (details_given (option_map string_bytes name.now) (string_bytes function.now) (string_bytes file.now) line id)) }
+        ensures ok { IfOk result (λ id.
+            self.new ≡ after_registering self.old (
+            details_given (option_map string_bytes name.now) (string_bytes function.now)
+            (string_bytes file.now) line id)) }
         ensures err { OnErr result (self.new ≡ self.old) }
         ensures cause { IfErr result (λ e. (e ≡ Error.IdsExhausted) ⊎ (e ≡ Error.Memory)) }
     {
@@ -103,9 +110,11 @@ impl Profiled {
         // What is registered has ids, at any time.
         ensures ids { AllHaveIds self.old.details }
         ensures back { OnOk result (back ≡ 0) }
-        ensures ok { IfOk result (λ closed. Ends self.old self.new (clock_time at) collector.old collector.new closed) }
+        ensures ok { IfOk result (λ closed.
+            Ends self.old self.new (clock_time at) collector.old collector.new closed) }
         ensures err { OnErr result ((self.new ≡ self.old) × (collector.new ≡ collector.old)) }
-        ensures cause { IfErr result (λ e. (e ≡ Error.MismatchedEnd) × ((0 < back) ⊎ (open_after 0 self.old.word ≡ 0))) }
+        ensures cause { IfErr result (λ e.
+            (e ≡ Error.MismatchedEnd) × ((0 < back) ⊎ (open_after 0 self.old.word ≡ 0))) }
     {
         let depth = self.open.len();
         if depth <= back {

@@ -42,8 +42,11 @@ fn emitted_by(reply: &Reply) -> Option<&Arc<FrameData>>
 fn add_frames(view: &mut FrameView, replies: &[Reply]) -> Answer<()>
     requires { All HasIds replies.now }
     ensures ok { OnOk result (Takes (frames_emitted replies.now) view.old view.new) }
-    ensures took { OnOk result ((cs : List Said) → Took cs (view_of view.old) → Took (cs ++ map contents_of (frames_emitted replies.now)) (view_of view.new)) }
-    ensures refusal { IfErr result (λ e. (e ≡ Error.Memory) × TakesSome (frames_emitted replies.now) view.old view.new) }
+    ensures took { OnOk result (
+        (cs : List Said) → Took cs (view_of view.old) →
+        Took (cs ++ map contents_of (frames_emitted replies.now)) (view_of view.new)) }
+    ensures refusal { IfErr result (λ e.
+        (e ≡ Error.Memory) × TakesSome (frames_emitted replies.now) view.old view.new) }
 {
     for reply in replies {
         if let Some(frame) = emitted_by(reply) {
@@ -65,18 +68,30 @@ fn record_session<D: Drain>(
     drain: &mut D,
 ) -> Result<Vec<Reply>, FileError>
     requires { D.failures drain.old < 2 ^ 64 - 1 }
-    ensures run { IfOk result (λ replies. Records session.old session.new commands.now replies.items) }
+    ensures run { IfOk result (λ replies.
+        Records session.old session.new commands.now replies.items) }
     ensures view { IfOk result (λ replies. Takes (frames_emitted replies.items) view.old view.new) }
-    ensures took { IfOk result (λ replies. (cs : List Said) → Took cs (view_of view.old) → Took (cs ++ map contents_of (frames_emitted replies.items)) (view_of view.new)) }
-    ensures written { OnOk result (Appends (D.contents drain.old) (D.contents drain.new) (file_of_view view.new)) }
+    ensures took { IfOk result (λ replies.
+        (cs : List Said) → Took cs (view_of view.old) →
+        Took (cs ++ map contents_of (frames_emitted replies.items)) (view_of view.new)) }
+    ensures written { OnOk result (
+        Appends (D.contents drain.old) (D.contents drain.new) (file_of_view view.new)) }
     ensures packed { OnOk result (AllByRecursion IsPacked (contents_in (view_of view.new))) }
-    ensures held_ids { OnOk result (NoneLacksIds (contents_held (view_of view.old)) → NoneLacksIds (contents_held (view_of view.new))) }
-    ensures ids { OnOk result (NoneLacksIds (contents_held (view_of view.old)) → NoneLacksIds (contents_in (view_of view.new))) }
+    ensures held_ids { OnOk result (
+        NoneLacksIds (contents_held (view_of view.old)) →
+        NoneLacksIds (contents_held (view_of view.new))) }
+    ensures ids { OnOk result (
+        NoneLacksIds (contents_held (view_of view.old)) →
+        NoneLacksIds (contents_in (view_of view.new))) }
     ensures failures { OnOk result (D.failures drain.new ≡ D.failures drain.old) }
 
-    ensures broken { IfErr result (λ e. IsBroken session.old session.new commands.now view.old view.new (D.contents drain.old) (D.contents drain.new) e) }
-    ensures io { (result ≡ Err FileError.Io) → (D.failures drain.new ≡ D.failures drain.old + 1) ⊎ TookNothing D.takes drain.new }
-    ensures too_long { (result ≡ Err FileError.PartTooLong) → Any HasLongPart (contents_in (view_of view.new)) }
+    ensures broken { IfErr result (λ e.
+        IsBroken session.old session.new commands.now view.old view.new (D.contents drain.old)
+        (D.contents drain.new) e) }
+    ensures io { (result ≡ Err FileError.Io) →
+        (D.failures drain.new ≡ D.failures drain.old + 1) ⊎ TookNothing D.takes drain.new }
+    ensures too_long { (result ≡ Err FileError.PartTooLong) →
+        Any HasLongPart (contents_in (view_of view.new)) }
 {
     views_hold_what_they_took();
     let replies = match session.run(commands) {
@@ -105,21 +120,34 @@ pub fn record<D: Drain>(
 ) -> Result<Vec<Reply>, FileError>
     requires { D.failures drain.old < 2 ^ 64 - 1 }
     // The commands were run, and the view took the frames of that run.
-    ensures run { IfOk result (λ replies. (end : SessionState) × AreReplies (map string_bytes names.items) commands.now replies.items end) }
+    ensures run { IfOk result (λ replies.
+        (end : SessionState)
+        × AreReplies (map string_bytes names.items) commands.now replies.items end) }
     ensures view { IfOk result (λ replies. Takes (frames_emitted replies.items) view.old view.new) }
-    ensures took { IfOk result (λ replies. (cs : List Said) → Took cs (view_of view.old) → Took (cs ++ map contents_of (frames_emitted replies.items)) (view_of view.new)) }
-    ensures written { OnOk result (Appends (D.contents drain.old) (D.contents drain.new) (file_of_view view.new)) }
+    ensures took { IfOk result (λ replies.
+        (cs : List Said) → Took cs (view_of view.old) →
+        Took (cs ++ map contents_of (frames_emitted replies.items)) (view_of view.new)) }
+    ensures written { OnOk result (
+        Appends (D.contents drain.old) (D.contents drain.new) (file_of_view view.new)) }
     // What is written is read again: it has packets, and, where the view's frames had ids in all details, so has it.
     ensures packed { OnOk result (AllByRecursion IsPacked (contents_in (view_of view.new))) }
-    ensures held_ids { OnOk result (NoneLacksIds (contents_held (view_of view.old)) → NoneLacksIds (contents_held (view_of view.new))) }
-    ensures ids { OnOk result (NoneLacksIds (contents_held (view_of view.old)) → NoneLacksIds (contents_in (view_of view.new))) }
+    ensures held_ids { OnOk result (
+        NoneLacksIds (contents_held (view_of view.old)) →
+        NoneLacksIds (contents_held (view_of view.new))) }
+    ensures ids { OnOk result (
+        NoneLacksIds (contents_held (view_of view.old)) →
+        NoneLacksIds (contents_in (view_of view.new))) }
     ensures failures { OnOk result (D.failures drain.new ≡ D.failures drain.old) }
 
-    ensures broken { IfErr result (λ e. (end : SessionState)
-        × IsBroken (new_session (map string_bytes names.items)) end commands.now view.old view.new (D.contents drain.old) (D.contents drain.new) e) }
+    ensures broken { IfErr result (λ e.
+        (end : SessionState)
+        × IsBroken (new_session (map string_bytes names.items)) end commands.now view.old
+        view.new (D.contents drain.old) (D.contents drain.new) e) }
     // The writer failed in this call, or took nothing.
-    ensures io { (result ≡ Err FileError.Io) → (D.failures drain.new ≡ D.failures drain.old + 1) ⊎ TookNothing D.takes drain.new }
-    ensures too_long { (result ≡ Err FileError.PartTooLong) → Any HasLongPart (contents_in (view_of view.new)) }
+    ensures io { (result ≡ Err FileError.Io) →
+        (D.failures drain.new ≡ D.failures drain.old + 1) ⊎ TookNothing D.takes drain.new }
+    ensures too_long { (result ≡ Err FileError.PartTooLong) →
+        Any HasLongPart (contents_in (view_of view.new)) }
 {
     match Session::new(alloc, names) {
         Ok(mut session) => record_session(&mut session, commands, view, drain),
@@ -139,10 +167,15 @@ pub fn run_script<D: Drain, E: Drain>(
 ) -> Result<(), FileError>
     requires out { D.failures out.old < 2 ^ 64 - 1 }
     requires lines { E.failures lines.old < 2 ^ 64 - 1 }
-    ensures ok { OnOk result (IsReplayed script.now (D.contents out.old) (D.contents out.new) (E.contents lines.old) (E.contents lines.new)) }
-    ensures fails { IfErr result (λ e. IsUnfinished script.now e (D.contents out.old) (D.contents out.new) (E.contents lines.old) (E.contents lines.new)) }
+    ensures ok { OnOk result (
+        IsReplayed script.now (D.contents out.old) (D.contents out.new) (E.contents lines.old)
+        (E.contents lines.new)) }
+    ensures fails { IfErr result (λ e.
+        IsUnfinished script.now e (D.contents out.old) (D.contents out.new)
+        (E.contents lines.old) (E.contents lines.new)) }
     // One of the writers failed in this call, or took nothing.
-    ensures io { (result ≡ Err FileError.Io) → ((D.failures out.new ≡ D.failures out.old + 1) ⊎ TookNothing D.takes out.new)
+    ensures io { (result ≡ Err FileError.Io) →
+        ((D.failures out.new ≡ D.failures out.old + 1) ⊎ TookNothing D.takes out.new)
         ⊎ ((E.failures lines.new ≡ E.failures lines.old + 1) ⊎ TookNothing E.takes lines.new) }
 {
     let names = script.names.clone()?;

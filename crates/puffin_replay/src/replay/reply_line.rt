@@ -42,7 +42,8 @@ fn thread_count(frame: &FrameData) -> usize
 
 /// The line of a frame that was taken.
 fn taken_line(alloc: Global, frame: &FrameData) -> Result<String, AllocError>
-    ensures { IfOk result (λ line. string_bytes line ≡ taken_line (thread_count frame.now) (frame_meta frame.now)) }
+    ensures { IfOk result (λ line.
+        string_bytes line ≡ taken_line (thread_count frame.now) (frame_meta frame.now)) }
 {
     let meta = frame.meta();
     let duration = duration_text(alloc, meta.num_bytes, frame.duration_ns())?;

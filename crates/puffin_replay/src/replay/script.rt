@@ -3,8 +3,8 @@
 ghost use Rattle.std.specs.Prelude.{◌≡◌, ◌+◌, ◌-◌, ◌^◌, ◌<◌, ◌⊎◌, List, ℕ, [], ◌∷◌, ◌++◌, Ok, Some, option_map, length, map, position, MatchOption, MatchResult, IfOk, IfErr, OnOk, slice_get};
 ghost use Rattle.std.specs.String.{string_bytes};
 ghost use Rattle.puffin_replay.specs.Program.Count.{ReadsAll};
-ghost use Rattle.puffin_replay.specs.Script.Statements.{Said, said};
-ghost use Rattle.puffin_replay.specs.Script.{is_line_feed, is_skipped, lines_left, told_by, names_in, with_name, with_thread, IsNumbered, IsReading, command_said, IsScript, IsLineFault};
+ghost use Rattle.puffin_replay.specs.Script.Statements.{Meaning, meaning_of};
+ghost use Rattle.puffin_replay.specs.Script.{is_line_feed, is_skipped, lines_left, told_by, names_in, with_name, with_thread_of, IsNumbered, IsReading, command_said, IsScript, IsLineFault};
 
 use crate::replay::command::Command;
 use crate::replay::fault::ToolFault;
@@ -47,7 +47,10 @@ impl<'s> Threads<'s> {
 
     /// The number of this name, which is the next one where it is new.
     fn number(&mut self, name: &'s str) -> Result<usize, AllocError>
-        ensures { IfOk result (λ number. IsNumbered self.old → IsNumbered self.new × (names_in self.new ≡ with_name (names_in self.old) name.now)
+        ensures { IfOk result (λ number.
+            IsNumbered self.old →
+            IsNumbered self.new
+            × (names_in self.new ≡ with_name (names_in self.old) name.now)
             × (slice_get (names_in self.new) number ≡ Some name.now)) }
     {
         if let Some(number) = self.numbers.get(name) {
@@ -61,8 +64,12 @@ impl<'s> Threads<'s> {
 
     /// The command that a statement asks for.
     fn command(&mut self, statement: &Statement<'s>) -> Result<Command, AllocError>
-        ensures { IfOk result (λ command. IsNumbered self.old → IsNumbered self.new × (names_in self.new ≡ with_thread (names_in self.old) (said statement.now))
-            × (command_said (names_in self.new) command ≡ Some (said statement.now))) }
+        ensures { IfOk result (λ command.
+            IsNumbered self.old →
+            IsNumbered self.new
+            × (names_in self.new
+            ≡ with_thread_of (names_in self.old) (meaning_of statement.now))
+            × (command_said (names_in self.new) command ≡ Some (meaning_of statement.now))) }
     {
         let alloc = self.alloc;
         Ok(match statement {
@@ -124,7 +131,8 @@ fn line_end(bytes: &[u8]) -> Option<usize>
 
 impl<'s> Lines<'s> {
     fn next(&mut self) -> Option<&'s [u8]>
-        ensures { MatchOption result (lines_left self.old ≡ []) (λ line. lines_left self.old ≡ line.now ∷ lines_left self.new) }
+        ensures { MatchOption result (lines_left self.old ≡ []) (λ line.
+            lines_left self.old ≡ line.now ∷ lines_left self.new) }
     {
         let left = self.left?;
         match line_end(left) {
@@ -152,7 +160,9 @@ fn is_skipped(line: &[u8]) -> bool
 
 /// What a line says, `None` where it is skipped, or a fault.
 fn told(number: u64, line: &[u8]) -> Result<Option<Statement<'_>>, ToolFault>
-    ensures { MatchResult result (λ statement. told_by number line.now ≡ Ok (option_map said statement)) (λ fault. (fault ≡ ToolFault.Line number) × (told_by number line.now ≡ Err number)) }
+    ensures { MatchResult result
+        (λ statement. told_by number line.now ≡ Ok (option_map meaning_of statement))
+        (λ fault. (fault ≡ ToolFault.Line number) × (told_by number line.now ≡ Err number)) }
 {
     let Ok(text) = str::from_utf8(line) else {
         return Err(ToolFault::Line(number));
@@ -204,7 +214,9 @@ impl<'s> Reading<'s> {
 
     /// Appends the command of this line.
     fn push(&mut self, number: u64, statement: &Statement<'s>) -> Result<(), AllocError>
-        ensures { OnOk result ((before : List (ℕ × Said)) → IsReading self.old before → IsReading self.new (before ++ (number, said statement.now) ∷ [])) }
+        ensures { OnOk result (
+            (before : List (ℕ × Meaning)) → IsReading self.old before →
+            IsReading self.new (before ++ (number, meaning_of statement.now) ∷ [])) }
     {
         self.commands.push(self.threads.command(statement)?)?;
         self.lines.push(number)?;
@@ -216,7 +228,8 @@ impl<'s> Reading<'s> {
 fn script_of(alloc: Global, bytes: &[u8]) -> Result<Script, ToolFault>
     requires { length bytes.now < 2 ^ 63 }
     ensures ok { IfOk result (IsScript bytes.now) }
-    ensures err { IfErr result (λ fault. IsLineFault bytes.now fault ⊎ (fault ≡ ToolFault.File FileError.Memory)) }
+    ensures err { IfErr result (λ fault.
+        IsLineFault bytes.now fault ⊎ (fault ≡ ToolFault.File FileError.Memory)) }
 {
     let mut reading = Reading::new(alloc);
     let mut number: u64 = 0;
@@ -239,12 +252,19 @@ fn script_of(alloc: Global, bytes: &[u8]) -> Result<Script, ToolFault>
 /// and the reader's place is then open.
 pub fn read_script<S: Source>(alloc: Global, source: &mut S) -> Result<Script, ToolFault>
     requires { S.failures source.old < 2 ^ 64 - 1 }
-    ensures script { IfOk result (λ script. (bytes : List ℕ) × ReadsAll (S.remaining source.old) (S.remaining source.new) bytes × IsScript bytes script) }
+    ensures script { IfOk result (λ script.
+        (bytes : List ℕ)
+        × ReadsAll (S.remaining source.old) (S.remaining source.new) bytes
+        × IsScript bytes script) }
     // The number is that of the first line that says nothing that is known.
-    ensures fails { IfErr result (λ fault. ((bytes : List ℕ) × ReadsAll (S.remaining source.old) (S.remaining source.new) bytes × IsLineFault bytes fault)
+    ensures fails { IfErr result (λ fault.
+        ((bytes : List ℕ)
+        × ReadsAll (S.remaining source.old) (S.remaining source.new) bytes
+        × IsLineFault bytes fault)
         ⊎ ((fault ≡ ToolFault.File FileError.Memory) ⊎ (fault ≡ ToolFault.File FileError.Io))) }
     // The reader failed in this call.
-    ensures io { (result ≡ Err (ToolFault.File FileError.Io)) → S.failures source.new ≡ S.failures source.old + 1 }
+    ensures io { (result ≡ Err (ToolFault.File FileError.Io)) →
+        S.failures source.new ≡ S.failures source.old + 1 }
 {
     let bytes = match read_to_end(alloc, source) {
         Ok(bytes) => bytes,

@@ -8,13 +8,13 @@ ghost use Rattle.puffin_data.specs.Forest.Words.{word_size, open_after};
 ghost use Rattle.puffin_frames.specs.Thread.Info.{info_of};
 ghost use Rattle.puffin_frames.specs.Details.{AllHaveIds, details_seen};
 ghost use Rattle.puffin_frames.specs.Thread.Calls.{after_begin, after_registering};
-ghost use Rattle.puffin.specs.Profiler.Collected.{Accepts, IsReportRefusal, after_wanting};
+ghost use Rattle.puffin.specs.Profiler.Collected.{AcceptsReport, IsReportRefusal, after_wanting};
 ghost use Rattle.puffin.specs.Profiler.Collecting.{Collects, TellsIds, KeepsPending};
 ghost use Rattle.puffin.specs.Profiler.Registering.{Adds, AddsSome};
 ghost use Rattle.puffin_replay.specs.Session.{new_session};
 ghost use Rattle.puffin_replay.specs.Session.Replies.{Records, details_given, user_details};
 ghost use Rattle.puffin_replay.specs.Program.Recording.{HasIds};
-ghost use Rattle.puffin_replay.specs.inner.Serving.{clock_time, thread_in, with_thread, with_collected, Ends, Continues};
+ghost use Rattle.puffin_replay.specs.inner.Serving.{clock_time, session_thread, session_with_thread, session_with_collected, Ends, Continues};
 
 use crate::replay::command::{Command, Reply};
 use crate::replay::profiled::Profiled;
@@ -49,7 +49,9 @@ impl Model for Session {
 
     ghost Value = { SessionState };
 
-    ghost coded = { code_by _ (coded× (coded_list t.the_row.coded) c.the_row.coded) (λ s. (s.threads, s.collected)) (λ p. record { threads = p.0; collected = p.1 }) (λ _. refl) };
+    ghost coded = { code_by _ (coded× (coded_list t.the_row.coded) c.the_row.coded)
+        (λ s. (s.threads, s.collected)) (λ p. record { threads = p.0; collected = p.1 })
+        (λ _. refl) };
 
     ghost view = { λ s. record { threads = s.profiled.items; collected = s.collector } };
 }
@@ -57,7 +59,8 @@ impl Model for Session {
 impl Session {
     /// One thread a name, before its first scope. The first id that is drawn is 1. Refused only with `Memory`.
     pub fn new(alloc: Global, names: Vec<String>) -> Result<Session>
-        ensures new { IfOk result (λ session. session ≡ new_session (map string_bytes names.items)) }
+        ensures new { IfOk result (λ session.
+            session ≡ new_session (map string_bytes names.items)) }
         ensures memory { IfErr result (λ e. e ≡ Error.Memory) }
     {
         let mut profiled = Vec::new(alloc);
@@ -77,7 +80,8 @@ impl Session {
     /// each frame tells just those that are new, and of all that are known where that was wanted. Refused only with `Memory`,
     /// before any command has run.
     pub fn run(&mut self, commands: &[Command]) -> Result<Vec<Reply>>
-        ensures run { IfOk result (λ replies. Records self.old self.new commands.now replies.items) }
+        ensures run { IfOk result (λ replies.
+            Records self.old self.new commands.now replies.items) }
         // What a frame tells of has ids.
         ensures ids { IfOk result (λ replies. All HasIds replies.items) }
         ensures err { OnErr result (self.new ≡ self.old) }
@@ -145,11 +149,18 @@ impl Session {
     }
 
     fn begin(&mut self, thread: usize, at: NanoSecond, id: ScopeId, text: &str) -> Result<usize>
-        ensures ok { IfOk result (λ offset. (thread < length self.old.threads)
-            × (self.new ≡ with_thread self.old thread (after_begin (thread_in self.old thread) id (cut_text text.now) (clock_time at)) self.old.collected)
-            × (offset ≡ word_size (thread_in self.old thread).word + 14 + length (cut_text text.now))) }
+        ensures ok { IfOk result (λ offset.
+            (thread < length self.old.threads)
+            × (self.new ≡ session_with_thread self.old thread
+            (after_begin (session_thread self.old thread) id (cut_text text.now)
+            (clock_time at))
+            self.old.collected)
+            × (offset ≡ word_size (session_thread self.old thread).word + 14
+            + length (cut_text text.now))) }
         ensures err { OnErr result (self.new ≡ self.old) }
-        ensures cause { IfErr result (λ e. ((e ≡ Error.NoThread) × (length self.old.threads ≤ thread)) ⊎ ((e ≡ Error.Memory) × (thread < length self.old.threads))) }
+        ensures cause { IfErr result (λ e.
+            ((e ≡ Error.NoThread) × (length self.old.threads ≤ thread))
+            ⊎ ((e ≡ Error.Memory) × (thread < length self.old.threads))) }
     {
         match self.profiled.get_mut(thread) {
             Some(profiled) => profiled.begin(at, id, text),
@@ -158,13 +169,20 @@ impl Session {
     }
 
     fn end(&mut self, thread: usize, at: NanoSecond, back: usize) -> Result<Closed>
-        ensures ids { OnOk result (AllHaveIds (thread_in self.old thread).details) }
-        ensures ok { IfOk result (λ closed. (thread < length self.old.threads) × (back ≡ 0)
-            × (self.new ≡ with_thread self.old thread (thread_in self.new thread) self.new.collected)
-            × Ends (thread_in self.old thread) (thread_in self.new thread) (clock_time at) self.old.collected self.new.collected closed) }
+        ensures ids { OnOk result (AllHaveIds (session_thread self.old thread).details) }
+        ensures ok { IfOk result (λ closed.
+            (thread < length self.old.threads)
+            × (back ≡ 0)
+            × (self.new ≡ session_with_thread self.old thread (session_thread self.new thread)
+            self.new.collected)
+            × Ends (session_thread self.old thread) (session_thread self.new thread)
+            (clock_time at) self.old.collected self.new.collected closed) }
         ensures err { OnErr result (self.new ≡ self.old) }
-        ensures cause { IfErr result (λ e. ((e ≡ Error.NoThread) × (length self.old.threads ≤ thread))
-            ⊎ ((e ≡ Error.MismatchedEnd) × (thread < length self.old.threads) × ((0 < back) ⊎ (open_after 0 (thread_in self.old thread).word ≡ 0)))) }
+        ensures cause { IfErr result (λ e.
+            ((e ≡ Error.NoThread) × (length self.old.threads ≤ thread))
+            ⊎ ((e ≡ Error.MismatchedEnd)
+            × (thread < length self.old.threads)
+            × ((0 < back) ⊎ (open_after 0 (session_thread self.old thread).word ≡ 0)))) }
     {
         match self.profiled.get_mut(thread) {
             Some(profiled) => profiled.end(at, back, &mut self.collector),
@@ -180,10 +198,18 @@ impl Session {
         file: &String,
         line: u32,
     ) -> Result<ScopeId>
-        ensures ok { IfOk result (λ id. (thread < length self.old.threads)
-            × (self.new ≡ with_thread self.old thread (after_registering (thread_in self.old thread) (details_given (option_map string_bytes name.now) (string_bytes function.now) (string_bytes file.now) line id)) self.old.collected)) }
+        ensures ok { IfOk result (λ id.
+            (thread < length self.old.threads)
+            × (self.new ≡ session_with_thread self.old thread
+            (after_registering (session_thread self.old thread) (
+            details_given (option_map string_bytes name.now)
+            (string_bytes function.now) (string_bytes file.now) line id))
+            self.old.collected)) }
         ensures err { OnErr result (self.new ≡ self.old) }
-        ensures cause { IfErr result (λ e. ((e ≡ Error.NoThread) × (length self.old.threads ≤ thread)) ⊎ (((e ≡ Error.IdsExhausted) ⊎ (e ≡ Error.Memory)) × (thread < length self.old.threads))) }
+        ensures cause { IfErr result (λ e.
+            ((e ≡ Error.NoThread) × (length self.old.threads ≤ thread))
+            ⊎ (((e ≡ Error.IdsExhausted) ⊎ (e ≡ Error.Memory))
+            × (thread < length self.old.threads))) }
     {
         match self.profiled.get_mut(thread) {
             Some(profiled) => profiled.register(&self.ids, name, function, file, line),
@@ -192,20 +218,33 @@ impl Session {
     }
 
     fn register_user(&mut self, names: &[String]) -> Result<Vec<ScopeId>>
-        ensures ok { IfOk result (λ ids. Adds self.old.collected (user_details names.now) ids.items self.new.collected) }
-        ensures err { IfErr result (λ e. AddsSome self.old.collected (user_details names.now) e self.new.collected) }
-        ensures threads { self.new ≡ with_collected self.old self.new.collected }
+        ensures ok { IfOk result (λ ids.
+            Adds self.old.collected (user_details names.now) ids.items self.new.collected) }
+        ensures err { IfErr result (λ e.
+            AddsSome self.old.collected (user_details names.now) e self.new.collected) }
+        ensures threads { self.new ≡ session_with_collected self.old self.new.collected }
     {
         let details = user_scopes(self.alloc, names)?;
         self.collector.register_user_scopes(&self.ids, &details)
     }
 
     fn report_user(&mut self, info: &ThreadInfo, stream: &Stream) -> Result<()>
-        ensures ok { OnOk result ((r : Recorded) × (f : Forest) × IsHonestRecord r f × (r.bytes ≡ stream.now.bytes)
-            × Accepts self.old.collected (info_of info.now) [] r self.new.collected × (self.new ≡ with_collected self.old self.new.collected)) }
+        ensures ok { OnOk result (
+            (r : Recorded)
+            × (f : Forest)
+            × IsHonestRecord r f
+            × (r.bytes ≡ stream.now.bytes)
+            × AcceptsReport self.old.collected (info_of info.now) [] r self.new.collected
+            × (self.new ≡ session_with_collected self.old self.new.collected)) }
         ensures err { OnErr result (self.new ≡ self.old) }
-        ensures cause { IfErr result (λ e. (e ≡ Error.Memory) ⊎ IsFault stream.now.bytes e
-            ⊎ ((r : Recorded) × (f : Forest) × IsHonestRecord r f × (r.bytes ≡ stream.now.bytes) × IsReportRefusal self.old.collected [] r e)) }
+        ensures cause { IfErr result (λ e.
+            (e ≡ Error.Memory)
+            ⊎ IsFault stream.now.bytes e
+            ⊎ ((r : Recorded)
+            × (f : Forest)
+            × IsHonestRecord r f
+            × (r.bytes ≡ stream.now.bytes)
+            × IsReportRefusal self.old.collected [] r e)) }
     {
         let times = StreamInfo::parse(self.alloc, stream.clone()?)?;
         let info = info.clone()?;
@@ -214,11 +253,16 @@ impl Session {
     }
 
     fn new_frame(&mut self) -> Result<Option<Arc<FrameData>>>
-        ensures ok { IfOk result (λ frame. (self.old.collected.index ≢ 2 ^ 64 - 1) × (self.new ≡ with_collected self.old self.new.collected)
+        ensures ok { IfOk result (λ frame.
+            (self.old.collected.index ≢ 2 ^ 64 - 1)
+            × (self.new ≡ session_with_collected self.old self.new.collected)
             × Collects self.old.collected frame self.new.collected) }
-        ensures err { IfErr result (λ e. (self.new ≡ with_collected self.old self.new.collected) × KeepsPending self.old.collected e self.new.collected) }
+        ensures err { IfErr result (λ e.
+            (self.new ≡ session_with_collected self.old self.new.collected)
+            × KeepsPending self.old.collected e self.new.collected) }
         ensures ids { IfOk result TellsIds }
-        ensures last { IfErr result (λ e. e ≡ Error.IndexExhausted → self.old.collected.index ≡ 2 ^ 64 - 1) }
+        ensures last { IfErr result (λ e.
+            e ≡ Error.IndexExhausted → self.old.collected.index ≡ 2 ^ 64 - 1) }
     {
         self.collector.collect_frame()
     }

@@ -1,7 +1,7 @@
 //! What a line of a script says, with its words as they stand there.
 
 ghost use Rattle.std.specs.Prelude.{◌≡◌, ◌^◌, List, ℕ, [], ◌∷◌, Some, None, option_map, MatchOption};
-ghost use Rattle.puffin_replay.specs.Script.Statements.{said, said_by, words_in, words_left, joined_words, number_of, time_of, id_of, line_of, name_of, begin_of, end_of, details_of, function_of, scope_of, user_of};
+ghost use Rattle.puffin_replay.specs.Script.Statements.{meaning_of, line_meaning, words_in, words_left, joined_words, number_of, moment_in, id_of, line_of, name_in, begin_of, end_of, registration_of, function_of, scope_of, user_of};
 
 use puffin_data::NanoSecond;
 use puffin_data::data::ScopeId;
@@ -48,7 +48,8 @@ struct Words<'l> {
 impl<'l> Words<'l> {
     /// The next word, which may be empty.
     fn next(&mut self) -> Option<&'l str>
-        ensures { MatchOption result (words_left self.old ≡ []) (λ word. words_left self.old ≡ word.now ∷ words_left self.new) }
+        ensures { MatchOption result (words_left self.old ≡ []) (λ word.
+            words_left self.old ≡ word.now ∷ words_left self.new) }
     {
         let left = self.left?;
         match left.split_once(' ') {
@@ -75,7 +76,9 @@ impl<'l> Words<'l> {
 
     /// `None` where a word is left.
     fn end(self) -> Option<()>
-        ensures { MatchOption result ((word : List ℕ) × (words : List (List ℕ)) × (words_left self.entry ≡ word ∷ words)) (λ _. words_left self.entry ≡ []) }
+        ensures { MatchOption result
+            ((word : List ℕ) × (words : List (List ℕ)) × (words_left self.entry ≡ word ∷ words))
+            (λ _. words_left self.entry ≡ []) }
     {
         match self.left {
             Some(_) => None,
@@ -96,7 +99,7 @@ fn number(word: &str) -> Option<u64>
 
 /// A time, in nanoseconds.
 fn time(word: &str) -> Option<NanoSecond>
-    ensures { result ≡ time_of word.now }
+    ensures { result ≡ moment_in word.now }
 {
     i64::try_from(number(word)?).ok()
 }
@@ -117,14 +120,14 @@ fn line_number(word: &str) -> Option<u32>
 
 /// A word that isn't empty.
 fn name(word: &str) -> Option<&str>
-    ensures { option_map (λ x. x.now) result ≡ name_of word.now }
+    ensures { option_map (λ x. x.now) result ≡ name_in word.now }
 {
     if word.is_empty() { None } else { Some(word) }
 }
 
 /// `T TIME ID`, and perhaps a text, which is the rest of the line.
 fn begin<'l>(mut words: Words<'l>) -> Option<Statement<'l>>
-    ensures { option_map said result ≡ begin_of (words_left words.entry) }
+    ensures { option_map meaning_of result ≡ begin_of (words_left words.entry) }
 {
     let thread = name(words.next()?)?;
     let at = time(words.next()?)?;
@@ -140,7 +143,7 @@ fn begin<'l>(mut words: Words<'l>) -> Option<Statement<'l>>
 
 /// `T TIME`.
 fn end<'l>(mut words: Words<'l>) -> Option<Statement<'l>>
-    ensures { option_map said result ≡ end_of (words_left words.entry) }
+    ensures { option_map meaning_of result ≡ end_of (words_left words.entry) }
 {
     let thread = name(words.next()?)?;
     let at = time(words.next()?)?;
@@ -154,7 +157,9 @@ fn details<'l>(
     scope: Option<&'l str>,
     mut words: Words<'l>,
 ) -> Option<Statement<'l>>
-    ensures { option_map said result ≡ details_of thread.now (option_map (λ n. n.now) scope.entry) (words_left words.entry) }
+    ensures { option_map meaning_of result
+        ≡ registration_of thread.now (option_map (λ n. n.now) scope.entry) (
+        words_left words.entry) }
 {
     let function = name(words.next()?)?;
     let file = name(words.next()?)?;
@@ -171,7 +176,7 @@ fn details<'l>(
 
 /// `T FUNCTION FILE LINE`.
 fn function<'l>(mut words: Words<'l>) -> Option<Statement<'l>>
-    ensures { option_map said result ≡ function_of (words_left words.entry) }
+    ensures { option_map meaning_of result ≡ function_of (words_left words.entry) }
 {
     let thread = name(words.next()?)?;
     details(thread, None, words)
@@ -179,7 +184,7 @@ fn function<'l>(mut words: Words<'l>) -> Option<Statement<'l>>
 
 /// `T NAME FUNCTION FILE LINE`.
 fn scope<'l>(mut words: Words<'l>) -> Option<Statement<'l>>
-    ensures { option_map said result ≡ scope_of (words_left words.entry) }
+    ensures { option_map meaning_of result ≡ scope_of (words_left words.entry) }
 {
     let thread = name(words.next()?)?;
     let scope = name(words.next()?)?;
@@ -188,7 +193,7 @@ fn scope<'l>(mut words: Words<'l>) -> Option<Statement<'l>>
 
 /// `NAME`.
 fn user<'l>(mut words: Words<'l>) -> Option<Statement<'l>>
-    ensures { option_map said result ≡ user_of (words_left words.entry) }
+    ensures { option_map meaning_of result ≡ user_of (words_left words.entry) }
 {
     let name = name(words.next()?)?;
     words.end()?;
@@ -197,7 +202,7 @@ fn user<'l>(mut words: Words<'l>) -> Option<Statement<'l>>
 
 /// What a line says, or `None` where it says nothing that is known.
 pub(crate) fn read_statement(line: &str) -> Option<Statement<'_>>
-    ensures { option_map said result ≡ said_by (words_in line.now) }
+    ensures { option_map meaning_of result ≡ line_meaning (words_in line.now) }
 {
     let mut words = Words { left: Some(line) };
     match words.next()? {

@@ -7,7 +7,7 @@ ghost use Rattle.puffin_frames.specs.Frame.Contents.{frame_says};
 ghost use Rattle.puffin.specs.View.File.{file_at, contents_in, TookFrames};
 ghost use Rattle.puffin.specs.View.Known.{view_of};
 ghost use Rattle.puffin.specs.Merge.Scopes.{frame_bytes, frames_bytes, forest_in};
-ghost use Rattle.puffin.specs.Merge.Refusals.{IsRefusal, AreMerged};
+ghost use Rattle.puffin.specs.Merge.Refusals.{IsMergeRefusal, AreMerged};
 ghost use Rattle.puffin_replay.specs.Program.Summary.{bytes_in, all_bytes_in, IsSummary, FailsToSumUp};
 
 use puffin::frame_data::{FrameData, UnpackedFrameData};
@@ -44,8 +44,12 @@ fn as_file_error(cause: Error) -> FileError
 
 /// The unpacked data of a frame, which stays as it is.
 fn unpacked(frame: &FrameData) -> Result<Arc<UnpackedFrameData>, FileError>
-    ensures ok { IfOk result (λ unpacked. (info : Info) → bytes_in info (frame_says frame.now) ≡ Ok (frame_bytes info (arc_value unpacked))) }
-    ensures err { IfErr result (λ e. (e ≡ FileError.Memory) ⊎ ((info : Info) → bytes_in info (frame_says frame.now) ≡ Err e)) }
+    ensures ok { IfOk result (λ unpacked.
+        (info : Info) →
+        bytes_in info (frame_says frame.now) ≡ Ok (frame_bytes info (arc_value unpacked))) }
+    ensures err { IfErr result (λ e.
+        (e ≡ FileError.Memory)
+        ⊎ ((info : Info) → bytes_in info (frame_says frame.now) ≡ Err e)) }
 {
     match frame.packed_copy() {
         Ok(mut copy) => copy.unpacked(),
@@ -55,8 +59,13 @@ fn unpacked(frame: &FrameData) -> Result<Arc<UnpackedFrameData>, FileError>
 
 /// The same of all frames of a view, by rising index.
 fn all_unpacked(alloc: Global, view: &FrameView) -> Result<Vec<Arc<UnpackedFrameData>>, FileError>
-    ensures ok { IfOk result (λ frames. (info : Info) → all_bytes_in info (contents_in (view_of view.now)) ≡ Ok (frames_bytes info frames.items)) }
-    ensures err { IfErr result (λ e. (e ≡ FileError.Memory) ⊎ ((info : Info) → all_bytes_in info (contents_in (view_of view.now)) ≡ Err e)) }
+    ensures ok { IfOk result (λ frames.
+        (info : Info) →
+        all_bytes_in info (contents_in (view_of view.now))
+        ≡ Ok (frames_bytes info frames.items)) }
+    ensures err { IfErr result (λ e.
+        (e ≡ FileError.Memory)
+        ⊎ ((info : Info) → all_bytes_in info (contents_in (view_of view.now)) ≡ Err e)) }
 {
     let mut frames = Vec::new(alloc);
     for frame in view.all_uniq() {
@@ -88,8 +97,10 @@ fn merged_in(
     frames: &[Arc<UnpackedFrameData>],
     thread: &ThreadInfo,
 ) -> puffin_data::Result<Vec<MergeScope<'static>>>
-    ensures merged { IfOk result (λ merged. AreMerged (frames_bytes (info_of thread.now) frames.now) (forest_in merged.items)) }
-    ensures err { IfErr result (λ e. (e ≡ Error.Memory) ⊎ IsRefusal (frames_bytes (info_of thread.now) frames.now) e) }
+    ensures merged { IfOk result (λ merged.
+        AreMerged (frames_bytes (info_of thread.now) frames.now) (forest_in merged.items)) }
+    ensures err { IfErr result (λ e.
+        (e ≡ Error.Memory) ⊎ IsMergeRefusal (frames_bytes (info_of thread.now) frames.now) e) }
 {
     let merged = merge_scopes_for_thread(alloc, scopes, frames, thread)?;
     all_owned(alloc, merged)
@@ -106,8 +117,12 @@ pub fn summarize<S: Source>(
     thread: &ThreadInfo,
 ) -> Result<Summary, FileError>
     requires { S.failures source.old < 2 ^ 64 - 1 }
-    ensures summary { IfOk result (λ summary. (stored : List Stored) × TookFrames file_at (S.remaining source.old) (S.remaining source.new) stored × IsSummary (info_of thread.now) stored summary) }
-    ensures err { IfErr result (λ e. FailsToSumUp (info_of thread.now) (S.remaining source.old) (S.remaining source.new) e) }
+    ensures summary { IfOk result (λ summary.
+        (stored : List Stored)
+        × TookFrames file_at (S.remaining source.old) (S.remaining source.new) stored
+        × IsSummary (info_of thread.now) stored summary) }
+    ensures err { IfErr result (λ e.
+        FailsToSumUp (info_of thread.now) (S.remaining source.old) (S.remaining source.new) e) }
     ensures failures { S.failures source.new ≡ failures_after (S.failures source.old) result }
 {
     let view = FrameView::read(alloc, source)?;

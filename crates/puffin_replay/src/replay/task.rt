@@ -15,8 +15,10 @@ pub enum Task {
 
 /// The task that the program's words ask for, or `None` for other words. Refused only with `Memory`, where it holds paths.
 pub fn read_words(words: &[String]) -> Result<Option<Task>>
-    ensures task { IfOk result (λ task. option_map asked task ≡ asked_by (map string_bytes words.now)) }
-    ensures memory { IfErr result (λ e. (e ≡ Error.Memory) × HasPaths (asked_by (map string_bytes words.now))) }
+    ensures task { IfOk result (λ task.
+        option_map asked task ≡ asked_by (map string_bytes words.now)) }
+    ensures memory { IfErr result (λ e.
+        (e ≡ Error.Memory) × HasPaths (asked_by (map string_bytes words.now))) }
 {
     match words {
         [word] if word.as_str() == "count" => Ok(Some(Task::Count)),

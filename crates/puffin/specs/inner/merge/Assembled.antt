@@ -3,7 +3,7 @@ use Rattle.std.specs.Prelude.{◌≡◌, ℕ, ◌/◌, ◌<◌, ◌≤◌, ◌==
 use Rattle.std.specs.declared.cmp.Ordering.TheVariants.{Less}
 use Rattle.puffin.specs.Merge.Occurrences.{Label, Path, Occurrence}
 use Rattle.puffin.specs.Merge.Pieces.{Merged, merged_at}
-use Rattle.puffin.specs.Merge.Starts.{earliest}
+use Rattle.puffin.specs.Merge.Starts.{earliest_starts}
 use Rattle.puffin.specs.Merge.MergedForest.{Node, MergedForest, no_node, merged}
 use Rattle.puffin.specs.Merge.{below, sibling_cmp, sibling_of}
 
@@ -68,4 +68,4 @@ pub record IsTable (all : List Occurrence) (frames : ℕ) (path_of : ℕ → Pat
   pub whole : All (λ o. Some_of (λ e. path_of e.number ≡ o.path) entries) all
   pub order : InOrder (merged_at all) path_of entries
   pub starts : (p : ℕ) → p ≤ highest →
-      map (λ e. e.start) (children_of p entries) ≡ earliest (pos 0) (map (λ e. sibling_of e.merged frames) (children_of p entries))
+      map (λ e. e.start) (children_of p entries) ≡ earliest_starts (pos 0) (map (λ e. sibling_of e.merged frames) (children_of p entries))

@@ -14,18 +14,18 @@ use Rattle.puffin.specs.View.ViewedFrames.{Frame, ram_of}
 use Rattle.puffin.specs.View.FrameOf.{shared_frame}
 use Rattle.puffin.specs.inner.view.Codes.{frame_code}
 
-abbrev pub Held : Type 0
-Held = map.FinMap nat_cmp Frame
+abbrev pub HeldFrames : Type 0
+HeldFrames = map.FinMap nat_cmp Frame
 
-abbrev pub held_code : Coded Held
+abbrev pub held_code : Coded HeldFrames
 held_code = map.code coded_ℕ frame_code
 
 -- what a map's entries hold
-abbrev pub seen : {A : Type 0} → List (ℕ × Arc FrameData A) → List (ℕ × Frame)
-seen es = map (λ e. (e.0, shared_frame e.1)) es
+abbrev pub frames_seen : {A : Type 0} → List (ℕ × Arc FrameData A) → List (ℕ × Frame)
+frames_seen es = map (λ e. (e.0, shared_frame e.1)) es
 
-abbrev pub held_of : {A : Type 0} → List (ℕ × Arc FrameData A) → Held
-held_of es = map.from_entries (seen es)
+abbrev pub held_of : {A : Type 0} → List (ℕ × Arc FrameData A) → HeldFrames
+held_of es = map.from_entries (frames_seen es)
 
 -- how many unpacked frames one is, and how many bytes it takes
 abbrev pub number_if : Bool → ℕ

@@ -10,12 +10,12 @@ AreRising [] = Unit {0}
 AreRising (f ∷ fs) = AllByRecursion (λ g. index_of f < index_of g) fs × AreRising fs
 
 -- no two have one index
-abbrev pub AreApart : List Frame → Type 0
-AreApart [] = Unit {0}
-AreApart (f ∷ fs) = AllByRecursion (λ g. index_of g ≢ index_of f) fs × AreApart fs
+abbrev pub HaveOwnIndices : List Frame → Type 0
+HaveOwnIndices [] = Unit {0}
+HaveOwnIndices (f ∷ fs) = AllByRecursion (λ g. index_of g ≢ index_of f) fs × HaveOwnIndices fs
 
-pub record IsKept (recent slow : List Frame) (last : Option ℕ) : Type 0 where
+pub record AreViewLists (recent slow : List Frame) (last : Option ℕ) : Type 0 where
   pub recent_taken : AllByRecursion (λ f. IsUpTo last (index_of f)) recent
   pub slow_taken : AllByRecursion (λ f. IsUpTo last (index_of f)) slow
   pub rising : AreRising recent
-  pub apart : AreApart slow
+  pub apart : HaveOwnIndices slow

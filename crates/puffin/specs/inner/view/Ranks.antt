@@ -8,7 +8,7 @@ use Rattle.std.specs.FinMap as map
 use Rattle.puffin.specs.declared.profile_view.slow_rank.SlowRank.{SlowRank}
 use Rattle.puffin.specs.View.Ranking.{place, last_in}
 use Rattle.puffin.specs.View.ViewedFrames.{Frame, index_of, duration_of}
-use Rattle.puffin.specs.inner.view.Held.{Held}
+use Rattle.puffin.specs.inner.view.Held.{HeldFrames}
 
 abbrev pub rank_of : Frame → SlowRank
 rank_of f = record { duration_ns = record { 0 = duration_of f }; frame_index = index_of f }
@@ -35,7 +35,7 @@ abbrev pub ranks_gone : ℕ → List SlowRank → SlowRank → List SlowRank
 ranks_gone k slow r = cond (rank_enters k slow r) (drop k (place is_before r slow)) []
 
 -- each rank is that of the frame which is held under its index
-abbrev pub AreRanked : Held → List SlowRank → Type 0
+abbrev pub AreRanked : HeldFrames → List SlowRank → Type 0
 AreRanked held slow = AllByRecursion (λ r. option_map rank_of (map.get held (rank_index r)) ≡ Some r) slow
 
 -- whether an index is in a list
@@ -43,5 +43,5 @@ abbrev pub has : ℕ → List ℕ → Bool
 has q is = list_any (nat_eq q) is
 
 -- of what was held, all is still, but for what is gone and not among what stays
-abbrev pub LetsGo : Held → List ℕ → List ℕ → Held → Type 0
+abbrev pub LetsGo : HeldFrames → List ℕ → List ℕ → HeldFrames → Type 0
 LetsGo old stays gone new = (q : ℕ) → map.get new q ≡ cond (has q stays) (map.get old q) (cond (has q gone) None (map.get old q))

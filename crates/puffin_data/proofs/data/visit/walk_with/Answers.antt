@@ -8,7 +8,7 @@ use Rattle.puffin_data.specs.Walk.{region}
 use Rattle.puffin_data.specs.inner.Sightings.{found_of}
 use Rattle.puffin_data.specs.inner.Walking.{tries_in}
 use Rattle.puffin_data.specs.Walk.Visitor.{StopsAtFault, StopsAtRefusal}
-use Rattle.puffin_data.specs.Walk.Going.{Visits}
+use Rattle.puffin_data.specs.Walk.Going.{VisitorLaws}
 use Rattle.puffin_data.proofs.lemmas.Numbers.{IsBytes, IsBytes-drop, IsBytes-take}
 use Rattle.puffin_data.proofs.Found.{passes}
 use Rattle.puffin_data.proofs.Resuming.{found_places, IsNested}
@@ -20,7 +20,7 @@ use Rattle.puffin_data.proofs.data.visit.walk_with.Goals as goal
 pub returns-in_err-scope-clause-err : goal.returns-in_err-scope-clause-err
 returns-in_err-scope-clause-err g c =
     let bytes = c.args.bytes.now in
-    let laws : Visits g.V.Visitor.takes g.V.Visitor.stands_for = record { none = (g.met.V.Visitor c.lifetimes assumption).takes_none; more = (g.met.V.Visitor c.lifetimes assumption).takes_more; still = (g.met.V.Visitor c.lifetimes assumption).still_stands } in
+    let laws : VisitorLaws g.V.Visitor.takes g.V.Visitor.stands_for = record { none = (g.met.V.Visitor c.lifetimes assumption).takes_none; more = (g.met.V.Visitor c.lifetimes assumption).takes_more; still = (g.met.V.Visitor c.lifetimes assumption).still_stands } in
     let fits : IsBytes bytes = λ i. omega (arith, c.type_inv.bytes i) in
     let p = err_from_is_err_and c.from_residual.result c.from_residual.ensures.1 in
     let tried : c.next_scope.new.tries ≡ c.scopes.tries + tries_in (region bytes c.scopes.at c.scopes.region.end) = c.next_scope.ensures.tried in
@@ -31,7 +31,7 @@ returns-in_err-scope-clause-err g c =
 pub returns-in_err-within-clause-err : goal.returns-in_err-within-clause-err
 returns-in_err-within-clause-err g c =
     let bytes = c.args.bytes.now in
-    let laws : Visits g.V.Visitor.takes g.V.Visitor.stands_for = record { none = (g.met.V.Visitor c.lifetimes assumption).takes_none; more = (g.met.V.Visitor c.lifetimes assumption).takes_more; still = (g.met.V.Visitor c.lifetimes assumption).still_stands } in
+    let laws : VisitorLaws g.V.Visitor.takes g.V.Visitor.stands_for = record { none = (g.met.V.Visitor c.lifetimes assumption).takes_none; more = (g.met.V.Visitor c.lifetimes assumption).takes_more; still = (g.met.V.Visitor c.lifetimes assumption).still_stands } in
     let fits : IsBytes bytes = λ i. omega (arith, c.type_inv.bytes i) in
     let p = err_from_is_err_and c.from_residual-in_err-within.result c.from_residual-in_err-within.ensures.1 in
     let s = found_of c.in_ok-scope.scope in
@@ -100,7 +100,7 @@ scopes-preserved-then-at-region g c =
 pub returns-in-None-clause-ok : goal.returns-in-None-clause-ok
 returns-in-None-clause-ok g c =
     let bytes = c.args.bytes.now in
-    let laws : Visits g.V.Visitor.takes g.V.Visitor.stands_for = record { none = (g.met.V.Visitor c.lifetimes assumption).takes_none; more = (g.met.V.Visitor c.lifetimes assumption).takes_more; still = (g.met.V.Visitor c.lifetimes assumption).still_stands } in
+    let laws : VisitorLaws g.V.Visitor.takes g.V.Visitor.stands_for = record { none = (g.met.V.Visitor c.lifetimes assumption).takes_none; more = (g.met.V.Visitor c.lifetimes assumption).takes_more; still = (g.met.V.Visitor c.lifetimes assumption).still_stands } in
     let fits : IsBytes bytes = λ i. omega (arith, c.type_inv.bytes i) in
     let nothing : c.scopes.outers.items ≡ [] = nil_from_length c.scopes.outers.items (omega (arith, c.in-None.ensures.cases)) in
     let last : c.scopes.region.end ≡ length bytes = subst (λ (xs : List (Region _)). IsNested c.scopes.region.end (reverse (ends_of xs)) (length bytes)) nothing c.scopes.invariant.nested in

@@ -5,7 +5,7 @@ use Rattle.puffin_data.specs.declared.data.walk.Walk.{Walk}
 use Rattle.puffin_data.specs.Walk.{region}
 use Rattle.puffin_data.proofs.Found.{passes}
 use Rattle.puffin_data.specs.inner.Sightings.{found_of}
-use Rattle.puffin_data.specs.inner.Walking.{uncounted, tries_in}
+use Rattle.puffin_data.specs.inner.Walking.{no_scope_counted, tries_in}
 use Rattle.puffin_data.proofs.Resuming.{nested_low, nested_push, nested_pop, found_places, enters, exits, done, stops_at, whole, IsNested}
 use Rattle.puffin_data.proofs.data.walk.walk_bytes.Goals as goal
 
@@ -78,4 +78,4 @@ returns-in-None-clause-walked c =
     let bytes = c.args.bytes.now in
     let nothing : c.scopes.ends.items ≡ [] = nil_from_length c.scopes.ends.items (omega (arith, c.in-None.ensures.cases)) in
     let ended : c.scopes.end ≡ length bytes = subst (λ (xs : List ℕ). IsNested c.scopes.end (reverse xs) (length bytes)) nothing c.scopes.invariant.nested in
-    (whole bytes uncounted 0 (length bytes) _ (c.scopes.invariant.resumes _ (done bytes c.scopes.ends.items c.scopes.walk c.scopes.at c.scopes.end nothing (omega arith))), c.scopes.invariant.tried)
+    (whole bytes no_scope_counted 0 (length bytes) _ (c.scopes.invariant.resumes _ (done bytes c.scopes.ends.items c.scopes.walk c.scopes.at c.scopes.end nothing (omega arith))), c.scopes.invariant.tried)

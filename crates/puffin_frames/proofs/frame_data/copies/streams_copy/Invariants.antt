@@ -1,6 +1,6 @@
 use Rattle.std.proofs.Common.{◌≡◌, ◌++◌}
-use Rattle.puffin_frames.specs.Frame.Contents.{listed}
+use Rattle.puffin_frames.specs.Frame.Contents.{pairs_of}
 use Rattle.puffin_frames.proofs.frame_data.copies.streams_copy.Given as goal
 
 abbrev pub invariant-streams : goal.invariant-streams
-invariant-streams l = listed l.copy.entries ++ listed l.thread-iterator ≡ listed l.streams.entries
+invariant-streams l = pairs_of l.copy.entries ++ pairs_of l.thread-iterator ≡ pairs_of l.streams.entries

@@ -4,11 +4,11 @@ use Rattle.puffin_data.specs.Value.Decoding.{times_at}
 use Rattle.puffin_data.proofs.lemmas.Loops.{with_front}
 use Rattle.puffin_frames.specs.Packet.Structs.{stream_at}
 use Rattle.puffin_frames.specs.Thread.Info.{info_cmp}
-use Rattle.puffin_frames.specs.Frame.Contents.{listed}
+use Rattle.puffin_frames.specs.Frame.Contents.{pairs_of}
 use Rattle.puffin_frames.proofs.frame_data.decode.read_streams_times.Given as goal
 
 abbrev pub invariant-streams : goal.invariant-streams
 invariant-streams l = record {
-  so_far : with_front (listed l.streams.entries) (times_at stream_at (l.count - l.counter) l.cursor) ≡ times_at stream_at l.count l.initial.cursor;
-  sorted : is_sorted info_cmp (listed l.streams.entries) ≡ true;
+  so_far : with_front (pairs_of l.streams.entries) (times_at stream_at (l.count - l.counter) l.cursor) ≡ times_at stream_at l.count l.initial.cursor;
+  sorted : is_sorted info_cmp (pairs_of l.streams.entries) ≡ true;
 }

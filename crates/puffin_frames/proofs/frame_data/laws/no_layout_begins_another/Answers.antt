@@ -1,5 +1,5 @@
 use Rattle.puffin_data.proofs.lemmas.Readers.{begins_no_other}
-use Rattle.puffin_frames.specs.Packet.Structs.{meta_layout, IsMeta, meta_at, thread_layout, IsThread, thread_at, recorded_layout, IsRecorded, recorded_at, streams_layout, AreStreams, streams_at, details_layout, AreDetails, details_at, legacy_layout, IsLegacy, legacy_at}
+use Rattle.puffin_frames.specs.Packet.Structs.{meta_layout, IsMeta, meta_at, info_layout, IsInfo, info_at, recorded_layout, IsRecorded, recorded_at, streams_layout, AreStreams, streams_at, details_layout, AreDetails, details_at, legacy_layout, IsLegacy, legacy_at}
 use Rattle.puffin_frames.proofs.Structs.{meta_reader, thread_reader, recorded_reader, streams_reader, details_reader, legacy_reader}
 use Rattle.puffin_frames.proofs.frame_data.laws.no_layout_begins_another.Goals as goal
 
@@ -7,7 +7,7 @@ pub returns-clause-metas : goal.returns-clause-metas
 returns-clause-metas c a b x y = begins_no_other IsMeta meta_layout meta_at meta_reader a b x y
 
 pub returns-clause-threads : goal.returns-clause-threads
-returns-clause-threads c a b x y = begins_no_other IsThread thread_layout thread_at thread_reader a b x y
+returns-clause-threads c a b x y = begins_no_other IsInfo info_layout info_at thread_reader a b x y
 
 pub returns-clause-infos : goal.returns-clause-infos
 returns-clause-infos c a b x y = begins_no_other IsRecorded recorded_layout recorded_at recorded_reader a b x y

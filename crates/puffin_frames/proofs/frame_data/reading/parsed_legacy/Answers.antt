@@ -4,7 +4,7 @@ use Rattle.puffin_data.specs.declared.file_error.FileError.TheVariants as file
 use Rattle.puffin_frames.specs.declared.frame_data.meta.FrameMeta.{FrameMeta}
 use Rattle.puffin_frames.specs.Thread.Info.{Info}
 use Rattle.puffin_frames.specs.Frame.Holding.{Holding}
-use Rattle.puffin_frames.specs.Frame.Contents.{listed, holding_of}
+use Rattle.puffin_frames.specs.Frame.Contents.{pairs_of, holding_of}
 use Rattle.puffin_frames.specs.Packet.Structs.{Legacy}
 use Rattle.puffin_frames.specs.Packet.Next.{entries_if_any, legacy_of}
 use Rattle.puffin_frames.specs.Packet.Steps.{legacy_from, legacy_with_range}
@@ -15,11 +15,11 @@ pub returns-clause-decided : goal.returns-clause-decided
 returns-clause-decided c =
     let meta : FrameMeta = c.in-Ok.frame.0 in
     let es = c.in-Ok.frame.1.entries in
-    let l : Legacy = record { meta = meta; streams = listed es } in
+    let l : Legacy = record { meta = meta; streams = pairs_of es } in
     let frame = c.of_unpacked.result in
     let first : legacy_from c.args.bytes.now ≡ Ok l =
     ap legacy_with_range c.in-Ok.ensures.given ∙ ap (λ (b : Bool). cond b (Ok l) (Err file.BadRange)) (sym c.if-not-is_range.ensures.test) in
-    let streams : entries_if_any (holding_of frame).unpacked ≡ listed es =
+    let streams : entries_if_any (holding_of frame).unpacked ≡ pairs_of es =
     ap (λ (h : Holding). entries_if_any h.unpacked) c.of_unpacked.ensures.held ∙ entries-listed es c.in-Ok.ensures.sorted in
     let same : legacy_of frame ≡ l =
     ap (λ (m : FrameMeta). record { meta = m; streams = entries_if_any (holding_of frame).unpacked }) c.of_unpacked.ensures.meta ∙ ap (λ (s : List (Info × Recorded)). record { meta = meta; streams = s }) streams in

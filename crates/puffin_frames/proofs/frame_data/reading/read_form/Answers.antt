@@ -1,7 +1,7 @@
 use Rattle.std.proofs.Common.{[], refl}
 use Rattle.std.proofs.KnownBytes.{Consumes-nil}
 use Rattle.puffin_frames.specs.Frame.Contents.{frame_says}
-use Rattle.puffin_frames.specs.Packet.Steps.{packed_at, form_at}
+use Rattle.puffin_frames.specs.Packet.Steps.{packet_at, form_at}
 use Rattle.puffin_data.proofs.lemmas.Devices.{same_reading}
 use Rattle.puffin_frames.proofs.frame_data.reading.read_form.Goals as goal
 
@@ -13,4 +13,4 @@ returns-in-New-clause-part g c = ([], Consumes-nil _, λ rest. rw (c.in-New.ensu
 
 pub returns-in-Read-clause-part : goal.returns-in-Read-clause-part
 returns-in-Read-clause-part g c =
-    same_reading frame_says c.read_packed.result _ _ (packed_at c.args.letter) (form_at c.args.letter) (λ bytes. rw (c.in-Read.ensures.0, c.in-Read.ensures.1) refl) c.read_packed.ensures.part
+    same_reading frame_says c.read_packed.result _ _ (packet_at c.args.letter) (form_at c.args.letter) (λ bytes. rw (c.in-Read.ensures.0, c.in-Read.ensures.1) refl) c.read_packed.ensures.part

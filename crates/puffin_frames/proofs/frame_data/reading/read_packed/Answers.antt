@@ -8,7 +8,7 @@ use Rattle.puffin_frames.specs.Details.{shared_details}
 use Rattle.puffin_data.specs.Device.{FromDevice}
 use Rattle.puffin_frames.specs.Frame.Holding.{Packing}
 use Rattle.puffin_data.specs.Part.{◌>>=◌}
-use Rattle.puffin_frames.specs.Packet.Steps.{meta_part_at, streams_part_at, details_part_at, packed_at}
+use Rattle.puffin_frames.specs.Packet.Steps.{meta_part_at, streams_part_at, details_part_at, packet_at}
 use Rattle.puffin_data.proofs.lemmas.Devices.{fails_on, gives_on, stops, given}
 use Rattle.puffin_frames.proofs.frame_data.reading.read_packed.Goals as goal
 
@@ -56,7 +56,7 @@ returns-clause-part g c =
     let same : made m (c.new.result.kind, c.new.result.bytes.items) d ≡ out = ap (λ (p : Packing). made m (p.kind, p.bytes) d) c.new.ensures in
     let old = g.S.Source.remaining c.args.source.now in
     let now = g.S.Source.remaining c.read_details_part.new.source in
-    subst (λ (said : Said). FromDevice (λ (x : Said). x) old now (Ok said) (packed_at letter)) (sym same)
+    subst (λ (said : Said). FromDevice (λ (x : Said). x) old now (Ok said) (packet_at letter)) (sym same)
     (gives_on m out _ _ _ meta_part_at (after_meta letter) c.in_ok-meta.ensures.part
     (gives_on s out _ _ _ (streams_part_at letter) (after_streams letter m) c.in_ok-kind.ensures.part
     (gives_on d out _ _ _ (details_part_at letter) (λ x bytes. Ok (made m s x, bytes)) c.in_ok-scope_delta.ensures.part

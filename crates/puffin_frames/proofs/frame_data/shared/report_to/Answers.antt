@@ -4,7 +4,7 @@ use Rattle.std.specs.Option.{option_copied_mut}
 use Rattle.std.specs.BTreeMap.{insert_entry}
 use Rattle.puffin_frames.specs.Thread.Info.{thread_cmp}
 use Rattle.std.proofs.lemmas.Result.{on_ok_weaker, on_err_weaker}
-use Rattle.puffin_data.specs.Honesty.{recorded, recorded_ref}
+use Rattle.puffin_data.specs.Honesty.{record_of, record_of_ref}
 use Rattle.puffin_data.specs.declared.error.Error.TheVariants as Error
 use Rattle.puffin_frames.proofs.Reports.{WritesAt, reported_over, refused_over, reported_first, under_there, none_under, same_cause, other_cause, fits_after, too_large_as, not_too_large}
 use Rattle.puffin_frames.proofs.frame_data.shared.report_to.Goals as goal
@@ -19,7 +19,7 @@ writes c = record {
 pub returns-in-Some-clause-ok : goal.returns-in-Some-clause-ok
 returns-in-Some-clause-ok c =
     on_ok_weaker c.extend_shared.result
-    (reported_over c.args.streams.now.entries c.args.info c.in-Some.shared.now c.extend_shared.new.shared (c.get_mut.follows.lender c.extend_shared.new.shared).entries (recorded_ref c.args.times.now) (writes c)) c.extend_shared.ensures.ok
+    (reported_over c.args.streams.now.entries c.args.info c.in-Some.shared.now c.extend_shared.new.shared (c.get_mut.follows.lender c.extend_shared.new.shared).entries (record_of_ref c.args.times.now) (writes c)) c.extend_shared.ensures.ok
 
 pub returns-in-Some-clause-err : goal.returns-in-Some-clause-err
 returns-in-Some-clause-err c =
@@ -29,9 +29,9 @@ returns-in-Some-clause-err c =
 pub returns-clause-ok : goal.returns-clause-ok
 returns-clause-ok c =
     let none = sym c.get_mut.ensures.value ∙ ap option_copied_mut c.in_default.is in
-    let more = ap recorded (c.in_ok-new.ensures.ok) ∙ c.in_ok-extend.ensures.ok in
+    let more = ap record_of (c.in_ok-new.ensures.ok) ∙ c.in_ok-extend.ensures.ok in
     let after = c.in_ok-_before.ensures.entries ∙ ap (λ m. insert_entry thread_cmp m.entries c.args.info c.in_ok-new.field-0) c.get_mut.follows.holds-at-none in
-    reported_first c.args.streams.now.entries c.args.info c.in_ok-new.field-0 c.insert.new.self.entries c.new-fresh.result (recorded_ref c.args.times.now)
+    reported_first c.args.streams.now.entries c.args.info c.in_ok-new.field-0 c.insert.new.self.entries c.new-fresh.result (record_of_ref c.args.times.now)
     none after c.new-fresh.ensures more
 
 pub returns-in-Some-clause-too_large : goal.returns-in-Some-clause-too_large

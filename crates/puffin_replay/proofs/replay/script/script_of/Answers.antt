@@ -1,7 +1,7 @@
 -- Lines are fewer than numbers, and what a line says comes behind what the earlier ones say.
 use Rattle.std.proofs.Common.{◌+◌, [], ◌∷◌, ◌++◌, length, arith, ap, ◌∙◌, Ok, Option, option_map}
 use Rattle.puffin_replay.specs.declared.replay.statement.Statement.{Statement}
-use Rattle.puffin_replay.specs.Script.Statements.{said}
+use Rattle.puffin_replay.specs.Script.Statements.{meaning_of}
 use Rattle.puffin_replay.proofs.Scripts.{after_said, few_lines}
 use Rattle.puffin_replay.proofs.replay.script.script_of.Goals as goal
 
@@ -11,8 +11,8 @@ overflow_add-number c = omega (arith, ap length c.in-Some.ensures, few_lines c.a
 pub lines-preserved-in-Continue-1 : goal.lines-preserved-in-Continue-1
 lines-preserved-in-Continue-1 c =
     let (before, reading, left) = c.lines.invariant.so_far in
-    let s = said c.in-Some-statement.statement in
-    let told = c.in-Ok.ensures ∙ ap (λ (o : Option Statement). Ok (option_map said o)) c.in-Some-statement.is in
+    let s = meaning_of c.in-Some-statement.statement in
+    let told = c.in-Ok.ensures ∙ ap (λ (o : Option Statement). Ok (option_map meaning_of o)) c.in-Some-statement.is in
     record {
       so_far = (before ++ (c.lines.number + 1, s) ∷ [], c.in_ok-push.ensures before reading, left ∙ after_said before (c.lines.number + 1) _ _ _ s c.in-Some.ensures told);
       counted = omega (arith, ap length c.in-Some.ensures);

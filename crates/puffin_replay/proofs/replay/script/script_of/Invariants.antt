@@ -1,13 +1,13 @@
 -- What was read so far comes before what the lines say that are left.
 use Rattle.std.proofs.Common.{◌≡◌, ℕ, ◌+◌, List, length}
-use Rattle.puffin_replay.specs.Script.Statements.{Said}
+use Rattle.puffin_replay.specs.Script.Statements.{Meaning}
 use Rattle.puffin_replay.specs.Script.{lines_in, lines_left, statements_from, IsReading}
 use Rattle.puffin_replay.proofs.Scripts.{after}
 use Rattle.puffin_replay.proofs.replay.script.script_of.Given as goal
 
 abbrev pub invariant-lines : goal.invariant-lines
 invariant-lines l = record {
-  so_far : (before : List (ℕ × Said)) × IsReading l.reading before × (statements_from 1 (lines_in l.bytes) ≡ after before (statements_from (l.number + 1) (lines_left l.lines)));
+  so_far : (before : List (ℕ × Meaning)) × IsReading l.reading before × (statements_from 1 (lines_in l.bytes) ≡ after before (statements_from (l.number + 1) (lines_left l.lines)));
   counted : l.number + length (lines_left l.lines) ≡ length (lines_in l.bytes);
 }
 

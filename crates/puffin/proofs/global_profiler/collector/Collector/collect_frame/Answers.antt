@@ -4,7 +4,7 @@ use Rattle.std.proofs.lemmas.List.{append-nil}
 use Rattle.puffin_data.specs.declared.error.Error.TheVariants.{Memory}
 use Rattle.puffin_frames.specs.Frame.Contents.{Streams, frame_contents, shared_streams}
 use Rattle.puffin_frames.specs.Details.{shared_details}
-use Rattle.puffin_frames.specs.Details.Collection.{inserted_all}
+use Rattle.puffin_frames.specs.Details.Collection.{with_all_details}
 use Rattle.puffin_frames.specs.Frame.Holding.{held_contents}
 use Rattle.puffin.specs.Profiler.Collected.{Collected}
 use Rattle.puffin.specs.Profiler.Collecting.{KeepsPending}
@@ -19,8 +19,8 @@ returns-in-Err-clause-err c =
     same_streams _ _ (c.into_unpacked.ensures.contents ∙ ap frame_contents c.in-Err.ensures.value_returned ∙ ap held_contents c.of_unpacked-frame.ensures.held) in
     let back = taken ∙ ap (λ m. shared_streams m.entries) c.replace-thread_streams.ensures.value in
     let new = shared_details c.self.inside.new_details.items in
-    let known : c.learn.new.collection ≡ inserted_all c.self.inside.collection new =
-    c.in_ok-learn.ensures.ok ∙ ap (λ ds. inserted_all c.self.inside.collection (shared_details ds)) c.deref-2.ensures.value in
+    let known : c.learn.new.collection ≡ with_all_details c.self.inside.collection new =
+    c.in_ok-learn.ensures.ok ∙ ap (λ ds. with_all_details c.self.inside.collection (shared_details ds)) c.deref-2.ensures.value in
     subst (λ (v : Collected). KeepsPending v Memory (record {
       index = c.self.inside.meta.frame_index;
       reported = c.self.inside.reported;

@@ -1,12 +1,12 @@
 -- What is kept beside the pending streams with one report more.
 use Rattle.std.proofs.Common.{◌≡◌, ◌+◌, ◌++◌, sym, subst, ◌∙◌, ap}
 use Rattle.std.specs.FinMap as map
-use Rattle.puffin_data.specs.Honesty.{recorded_ref}
+use Rattle.puffin_data.specs.Honesty.{record_of_ref}
 use Rattle.puffin_frames.specs.Thread.Info.{info_of}
 use Rattle.puffin_frames.specs.Frame.Contents.{Streams, shared_streams}
 use Rattle.puffin_frames.specs.Details.{shared_details, AllHaveIds}
 use Rattle.puffin.specs.Profiler.Collected.{Collected}
-use Rattle.puffin.specs.Profiler.Collecting.{IsKept, AddsUp}
+use Rattle.puffin.specs.Profiler.Collecting.{IsTallied, AddsUp}
 use Rattle.puffin.proofs.Knowing.{ids_after}
 use Rattle.puffin.proofs.Reporting.{Laws, kept_after}
 use Rattle.puffin.proofs.global_profiler.collector.Collector.report.Goals as goal
@@ -24,7 +24,7 @@ invariant_of-self-2 c =
       wants_all = inside.wants_all;
     } in
     let i = info_of c.args.info in
-    let r = recorded_ref c.args.times.now in
+    let r = record_of_ref c.args.times.now in
     let laws : Laws seen.streams i r c.requires.0 = record {
       bytes = c.reported_streams.ensures.bytes _ i r;
       scopes = c.reported_streams.ensures.scopes _ i r;
@@ -35,7 +35,7 @@ invariant_of-self-2 c =
     let adds : AddsUp seen c.in_ok-meta.meta r = subst (λ (v : Collected). AddsUp v c.in_ok-meta.meta r) (sym c.self.view_is) c.in_ok-meta.ensures.sums.0 in
     let reported : c.in_ok-meta.reported ≡ seen.reported + r.num_scopes = subst (λ (v : Collected). c.in_ok-meta.reported ≡ v.reported + r.num_scopes) (sym c.self.view_is) c.in_ok-meta.ensures.sums.1 in
     let put = c.in_ok-report_to.ensures.ok in (
-      subst (λ (s : Streams). IsKept s c.in_ok-meta.meta c.in_ok-meta.reported inside.emitted) (sym put)
+      subst (λ (s : Streams). IsTallied s c.in_ok-meta.meta c.in_ok-meta.reported inside.emitted) (sym put)
           (kept_after seen _ _ i r c.requires.0 _ laws adds (c.joined_ranges.ensures.start_of_one_more r (map.values seen.streams)) (c.joined_ranges.ensures.stop_of_one_more r (map.values seen.streams)) c.self.invariant.0 c.requires.1 reported),
       ids_after _ _ _ (c.in-Ok.ensures.items ∙ ap (λ (ds : _). ds ++ c.in_ok-fresh.fresh.items) c.in_ok-reserve.ensures.items) c.self.invariant.1 (subst AllHaveIds (sym c.in_ok-fresh.ensures.ok) c.in_ok-meta.ensures.ids),
     )

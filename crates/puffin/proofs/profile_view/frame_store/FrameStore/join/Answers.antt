@@ -4,7 +4,7 @@ use Rattle.puffin.specs.View.{View, joined_by, is_past}
 use Rattle.puffin.specs.View.ViewedFrames.{Frame, index_of}
 use Rattle.puffin.specs.View.FrameOf.{frame_of, shared_frame}
 use Rattle.puffin.specs.inner.view.Ranks.{rank_of, rank_index, ranks_after, ranks_gone, rank_cmp, AreRanked}
-use Rattle.puffin.specs.inner.view.Store.{AreStored, frames_at}
+use Rattle.puffin.specs.inner.view.Store.{AreStored, frames_under}
 use Rattle.puffin.proofs.JoiningPending.{stored_joined, pushed_rising, entered_in_order, entered_ranked, lets_as}
 use Rattle.puffin.proofs.Storing.{stored_as, view_as}
 use Rattle.puffin.proofs.profile_view.frame_store.FrameStore.join.Goals as goal
@@ -15,7 +15,7 @@ frame c = shared_frame c.args.frame
 abbrev before : goal.After-cut_recent → View
 before c =
     let s = c.self.inside in
-    record { recent = frames_at s.held s.recent.items; slow = frames_at s.held (map rank_index s.slow.items); last = s.last; max_recent = s.max_recent; max_slow = s.max_slow; packs = s.pack_frames }
+    record { recent = frames_under s.held s.recent.items; slow = frames_under s.held (map rank_index s.slow.items); last = s.last; max_recent = s.max_recent; max_slow = s.max_slow; packs = s.pack_frames }
 
 same : (c : goal.After-cut_recent) → before c ≡ c.args.self.now
 same c = c.self.view_is
@@ -54,7 +54,7 @@ returns-clause-ok c =
 pub enter_slow-requires-clause-rising : goal.enter_slow-requires-clause-rising
 enter_slow-requires-clause-rising c =
     let s = c.self.inside in
-    let v : View = record { recent = frames_at s.held s.recent.items; slow = frames_at s.held (map rank_index s.slow.items); last = s.last; max_recent = s.max_recent; max_slow = s.max_slow; packs = s.pack_frames } in
+    let v : View = record { recent = frames_under s.held s.recent.items; slow = frames_under s.held (map rank_index s.slow.items); last = s.last; max_recent = s.max_recent; max_slow = s.max_slow; packs = s.pack_frames } in
     let f : Frame = shared_frame c.args.frame in
     let rank : c.of-rank.result ≡ rank_of f = c.of-rank.ensures ∙ ap (λ f. rank_of (frame_of f)) c.deref.ensures in
     pushed_rising v f s.held c.insert.new.self s.recent.items c.push_back_reserved.new.self.items s.slow.items c.self.invariant (ap (λ v. is_past v (index_of f)) c.self.view_is ∙ c.requires) c.in_ok-insert.ensures.ok
@@ -63,7 +63,7 @@ enter_slow-requires-clause-rising c =
 pub cut_recent-requires-clause-sorted : goal.cut_recent-requires-clause-sorted
 cut_recent-requires-clause-sorted c =
     let s = c.self.inside in
-    let v : View = record { recent = frames_at s.held s.recent.items; slow = frames_at s.held (map rank_index s.slow.items); last = s.last; max_recent = s.max_recent; max_slow = s.max_slow; packs = s.pack_frames } in
+    let v : View = record { recent = frames_under s.held s.recent.items; slow = frames_under s.held (map rank_index s.slow.items); last = s.last; max_recent = s.max_recent; max_slow = s.max_slow; packs = s.pack_frames } in
     let f : Frame = shared_frame c.args.frame in
     let rank : c.of-rank.result ≡ rank_of f = c.of-rank.ensures ∙ ap (λ f. rank_of (frame_of f)) c.deref.ensures in
     subst (IsStrictlySortedBy rank_cmp) (sym c.deref-2.ensures.value)
@@ -77,7 +77,7 @@ cut_recent-requires-clause-sorted c =
 pub cut_recent-requires-clause-ranked : goal.cut_recent-requires-clause-ranked
 cut_recent-requires-clause-ranked c =
     let s = c.self.inside in
-    let v : View = record { recent = frames_at s.held s.recent.items; slow = frames_at s.held (map rank_index s.slow.items); last = s.last; max_recent = s.max_recent; max_slow = s.max_slow; packs = s.pack_frames } in
+    let v : View = record { recent = frames_under s.held s.recent.items; slow = frames_under s.held (map rank_index s.slow.items); last = s.last; max_recent = s.max_recent; max_slow = s.max_slow; packs = s.pack_frames } in
     let f : Frame = shared_frame c.args.frame in
     let rank : c.of-rank.result ≡ rank_of f = c.of-rank.ensures ∙ ap (λ f. rank_of (frame_of f)) c.deref.ensures in
     subst (AreRanked c.enter_slow.new.held) (sym c.deref-2.ensures.value)

@@ -4,10 +4,10 @@ use Rattle.std.specs.Option.{option_map, is_some}
 use Rattle.puffin_frames.specs.Frame.Contents.{holding_of}
 use Rattle.puffin.specs.View.Ranking.{last_in}
 use Rattle.puffin.specs.View.{View, with_packed}
-use Rattle.puffin.specs.View.ViewedFrames.{Frame, index_of, packed}
+use Rattle.puffin.specs.View.ViewedFrames.{Frame, index_of, packed_alone}
 use Rattle.puffin.specs.View.FrameOf.{frame_of, shared_frame}
 use Rattle.puffin.specs.inner.view.Ranks.{rank_index}
-use Rattle.puffin.specs.inner.view.Store.{AreStored, frames_at}
+use Rattle.puffin.specs.inner.view.Store.{AreStored, frames_under}
 use Rattle.puffin.proofs.HoldingViews.{packed_copied, packed_alone}
 use Rattle.puffin.proofs.JoiningPending.{packed_newest, newest_is_packed}
 use Rattle.puffin.proofs.Storing.{stored_as, stored-already, view_as}
@@ -22,14 +22,14 @@ newest_is c = sym c.latest_frame.ensures ∙ ap (option_map (λ a. shared_frame 
 abbrev before : goal.In_ok-insert → View
 before c =
     let s = c.self.inside in
-    record { recent = frames_at s.held s.recent.items; slow = frames_at s.held (map rank_index s.slow.items); last = s.last; max_recent = s.max_recent; max_slow = s.max_slow; packs = s.pack_frames }
+    record { recent = frames_under s.held s.recent.items; slow = frames_under s.held (map rank_index s.slow.items); last = s.last; max_recent = s.max_recent; max_slow = s.max_slow; packs = s.pack_frames }
 
 same : (c : goal.In_ok-insert) → before c ≡ c.args.self.now
 same c = c.self.view_is
 
-packs : (c : goal.In_ok-insert) → shared_frame c.in_ok-packed.packed ≡ packed (newest c)
+packs : (c : goal.In_ok-insert) → shared_frame c.in_ok-packed.packed ≡ packed_alone (newest c)
 packs c =
-    ap frame_of c.in_ok-packed.ensures.ok ∙ packed_copied c.deref-2.result.now c.in_ok-packed_copy.field-0 c.in_ok-packed_copy.ensures.held c.in_ok-packed_copy.ensures.says ∙ ap (λ f. packed (frame_of f)) c.deref-2.ensures
+    ap frame_of c.in_ok-packed.ensures.ok ∙ packed_copied c.deref-2.result.now c.in_ok-packed_copy.field-0 c.in_ok-packed_copy.ensures.held c.in_ok-packed_copy.ensures.says ∙ ap (λ f. packed_alone (frame_of f)) c.deref-2.ensures
 
 stored : (c : goal.In_ok-insert) → AreStored c.insert.new.self c.self.inside.recent.items c.self.inside.slow.items c.self.inside.last (with_packed (index_of (newest c)) (before c)).recent (with_packed (index_of (newest c)) (before c)).slow
 stored c =
@@ -55,9 +55,9 @@ kept_is c = sym c.latest_frame.ensures ∙ ap (option_map (λ a. shared_frame a.
 abbrev as_it_stands : goal.Then-not-has_unpacked → View
 as_it_stands c =
     let s = c.self.inside in
-    record { recent = frames_at s.held s.recent.items; slow = frames_at s.held (map rank_index s.slow.items); last = s.last; max_recent = s.max_recent; max_slow = s.max_slow; packs = s.pack_frames }
+    record { recent = frames_under s.held s.recent.items; slow = frames_under s.held (map rank_index s.slow.items); last = s.last; max_recent = s.max_recent; max_slow = s.max_slow; packs = s.pack_frames }
 
-alone : (c : goal.Then-not-has_unpacked) → kept c ≡ packed (kept c)
+alone : (c : goal.Then-not-has_unpacked) → kept c ≡ packed_alone (kept c)
 alone c = packed_alone (arc_value c.in-Some.newest.now) (ap (λ f. is_some (holding_of f).unpacked) (sym c.deref.ensures) ∙ sym c.has_unpacked.ensures ∙ c.if-not-has_unpacked.true)
 
 pub returns-then-not-has_unpacked-clause-ok : goal.returns-then-not-has_unpacked-clause-ok

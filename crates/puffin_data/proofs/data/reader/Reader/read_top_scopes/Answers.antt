@@ -2,7 +2,7 @@
 use Rattle.std.proofs.Common.{◌≡◌, ◌∷◌, ◌++◌, [], subst, inr, Result, Some}
 use Rattle.puffin_data.specs.declared.error.Error.{Error}
 use Rattle.puffin_data.specs.declared.data.record.Scope.{Scope}
-use Rattle.puffin_data.specs.Reader.Scopes.{IsNextRead}
+use Rattle.puffin_data.specs.Reader.ReadScopes.{IsNextRead}
 use Rattle.puffin_data.proofs.AllRead.{one_more, all_read, fault_read}
 use Rattle.puffin_data.proofs.data.reader.Reader.read_top_scopes.Goals as goal
 

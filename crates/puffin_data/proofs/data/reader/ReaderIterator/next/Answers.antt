@@ -1,7 +1,7 @@
 -- Each step goes on within the stream: to the next sibling, or past a fault to the end.
 use Rattle.std.proofs.Common.{◌∙◌, length, sym, ap, Option, Ok, arith}
 use Rattle.puffin_data.specs.declared.data.record.Scope.{Scope}
-use Rattle.puffin_data.specs.Reader.Scopes.{scope_seen, scope_answer}
+use Rattle.puffin_data.specs.Reader.ReadScopes.{scope_seen, scope_answer}
 use Rattle.puffin_data.proofs.Lenience.{next_within, fault_within}
 use Rattle.puffin_data.proofs.data.reader.ReaderIterator.next.Goals as goal
 

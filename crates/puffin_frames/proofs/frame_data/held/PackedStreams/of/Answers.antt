@@ -3,7 +3,7 @@ use Rattle.std.specs.Option.{option_map}
 use Rattle.std.specs.FinMap.{from_sorted}
 use Rattle.puffin_data.specs.Value.Decoding.{whole}
 use Rattle.puffin_data.proofs.lemmas.Readers.{whole_again}
-use Rattle.puffin_frames.specs.Frame.Contents.{listed}
+use Rattle.puffin_frames.specs.Frame.Contents.{pairs_of}
 use Rattle.puffin_frames.specs.Frame.Holding.{streams_in}
 use Rattle.puffin_frames.specs.Packet.Structs.{AreStreams, streams_layout, streams_at}
 use Rattle.puffin_frames.proofs.Structs.{streams_reader}
@@ -20,6 +20,6 @@ pub returns-clause-content : goal.returns-clause-content
 returns-clause-content c =
     let es = c.args.streams.now.entries in
     let put = rw c.new-bytes.ensures.items at c.in_ok-put_streams.ensures.ok in
-    let read : whole streams_at c.put_streams.new.out.items ≡ Some (listed es) =
-    ap (whole streams_at) put ∙ whole_again AreStreams streams_layout streams_at streams_reader (listed es) c.in_ok-put_streams.ensures.fit in
+    let read : whole streams_at c.put_streams.new.out.items ≡ Some (pairs_of es) =
+    ap (whole streams_at) put ∙ whole_again AreStreams streams_layout streams_at streams_reader (pairs_of es) c.in_ok-put_streams.ensures.fit in
     ap streams_in c.new.ensures ∙ ap (option_map from_sorted) read ∙ ap Some (streams-listed es c.in_ok-put_streams.ensures.fit.1)

@@ -2,7 +2,7 @@ use Rattle.std.proofs.Common.{◌≡◌, Some, Ok, ap, ◌∙◌}
 use Rattle.std.specs.Option.{option_map}
 use Rattle.std.specs.FinMap.{from_sorted}
 use Rattle.puffin_data.specs.Value.Decoding.{whole}
-use Rattle.puffin_frames.specs.Frame.Contents.{listed}
+use Rattle.puffin_frames.specs.Frame.Contents.{pairs_of}
 use Rattle.puffin_frames.specs.Frame.Holding.{or_bad}
 use Rattle.puffin_frames.specs.Packet.Structs.{streams_at}
 use Rattle.puffin_frames.proofs.Listed.{streams-listed}
@@ -13,5 +13,5 @@ returns-in-Ok c =
     let es = c.in-Ok.streams.entries in
     let bytes = c.args.self.now.bytes.items in
     let h = c.if-self-ne0.false in
-    let read : whole streams_at bytes ≡ Some (listed es) = rw c.deref.ensures.value at c.in-Ok.ensures.given in
+    let read : whole streams_at bytes ≡ Some (pairs_of es) = rw c.deref.ensures.value at c.in-Ok.ensures.given in
     rw (h) (ap or_bad (ap (option_map from_sorted) read) ∙ ap Ok (streams-listed es c.in-Ok.ensures.sorted))

@@ -3,7 +3,7 @@ use Rattle.std.specs.Ordering.{nat_cmp}
 use Rattle.std.specs.FinMap.{FinMap, get, insert}
 use Rattle.std.specs.Arc.{arc_value}
 use Rattle.puffin_frames.specs.Details.{Details, details_of, name_of}
-use Rattle.puffin_frames.specs.Details.Collection.{Collection, inserted, by_ids, by_names}
+use Rattle.puffin_frames.specs.Details.Collection.{Collection, with_details, by_ids, by_names}
 use Rattle.puffin_frames.specs.inner.HeldCollection.{collection_in}
 use Rattle.puffin_frames.proofs.Inserting.{get-by_ids, by_ids-insert, own_ids_put, kept_inserted, fresh_inserted, kept_is, get-put, undone}
 use Rattle.puffin_frames.proofs.scope_details.collection.ScopeCollection.insert.Goals as goal
@@ -22,7 +22,7 @@ returns-in-Some-get-clause-ok c =
     let name : c.as_str.result.now ≡ name_of d = c.as_str.ensures.value ∙ c.name.ensures ∙ ap (λ x. name_of (details_of x)) c.deref-in-Some-get.ensures in
     let named = c.in_ok-put_name.ensures.ok ∙ ap (λ n. insert (by_names c.self.inside.by_name.entries) n c.in-Some.id) name in
     kept_inserted (collection_in c.self.inside) d c.in-Some.id (details_of (arc_value c.in-Some-get.kept.now)) (by_names c.put_name.new.by_name.entries) (under_id c) (there c) named
-    ∙ ap (λ (seen : Collection). inserted seen d) c.self.view_is
+    ∙ ap (λ (seen : Collection). with_details seen d) c.self.view_is
 
 pub returns-in-Some-get-clause-kept : goal.returns-in-Some-get-clause-kept
 returns-in-Some-get-clause-kept c =
@@ -60,7 +60,7 @@ returns-clause-ok c =
     let name : c.as_str-2.result.now ≡ name_of d = c.as_str-2.ensures.value ∙ c.name-2.ensures ∙ ap (λ x. name_of (details_of x)) (c.deref-2.ensures ∙ c.in_ok-kept-2.ensures) in
     let named = c.in_default-put_name.ensures.ok ∙ ap (λ n. insert (by_names c.self.inside.by_name.entries) n c.in-Some.id) name in
     fresh_inserted (collection_in c.self.inside) d c.in-Some.id (by_ids c.insert.new.self.entries) (by_names c.put_name-2.new.by_name.entries) is none put named
-    ∙ ap (λ (seen : Collection). inserted seen d) c.self.view_is
+    ∙ ap (λ (seen : Collection). with_details seen d) c.self.view_is
 
 pub returns-clause-kept : goal.returns-clause-kept
 returns-clause-kept c =

@@ -1,6 +1,6 @@
 use Rattle.std.proofs.Common.{◌≡◌, List, ◌∙◌, ap, sym, subst, refl, string_bytes}
 use Rattle.std.proofs.lemmas.Result.{err_from_is_err_and}
-use Rattle.puffin_data.specs.Honesty.{Recorded, IsHonestRecord, recorded}
+use Rattle.puffin_data.specs.Honesty.{Recorded, IsHonestRecord, record_of}
 use Rattle.puffin_data.specs.Forest.Words.{open_after}
 use Rattle.puffin_frames.specs.Thread.Closing.{IsReportOf}
 use Rattle.puffin_frames.specs.Details.{Details, details_seen}
@@ -22,13 +22,13 @@ report-requires g c =
 pub returns-in_err-report-clause-err : goal.returns-in_err-report-clause-err
 returns-in_err-report-clause-err g c =
     let none = ap (λ (t : Thread). open_after 0 t.word) c.self.view_is ∙ c.requires.none_open in
-    let told = subst (λ (t : Thread). IsReportOf t (recorded c.self.inside.info)) c.self.view_is (report_in c.self.inside c.self.invariant none) in
+    let told = subst (λ (t : Thread). IsReportOf t (record_of c.self.inside.info)) c.self.view_is (report_in c.self.inside c.self.invariant none) in
     let p = err_from_is_err_and c.from_residual.result c.from_residual.ensures.1 in
     let same : (record { start = c.self.inside.first_start; name = string_bytes c.args.name }) ≡ info_of_thread c.args.self.now = λ i. record { start = (c.self.view_is i).first_start; name = c.requires.name i } in
     rw (p.1, p.2) (
       refl,
       (
-        recorded c.self.inside.info,
+        record_of c.self.inside.info,
         told,
         told_so (λ i d x. g.R.Reporter.refuses c.args.reporter.now i d x c.in_err-report.field-0.0 c.report.new.self) same
             (ap details_seen c.deref.ensures.value ∙ ap (λ (t : Thread). t.details) c.self.view_is) c.as_stream_into_ref.ensures c.in_err-report.ensures.err,
@@ -44,11 +44,11 @@ invariant_of-self g c =
 pub returns-clause-ok : goal.returns-clause-ok
 returns-clause-ok g c =
     let none = ap (λ (t : Thread). open_after 0 t.word) c.self.view_is ∙ c.requires.none_open in
-    let told = subst (λ (t : Thread). IsReportOf t (recorded c.self.inside.info)) c.self.view_is (report_in c.self.inside c.self.invariant none) in
+    let told = subst (λ (t : Thread). IsReportOf t (record_of c.self.inside.info)) c.self.view_is (report_in c.self.inside c.self.invariant none) in
     let same : (record { start = c.self.inside.first_start; name = string_bytes c.args.name }) ≡ info_of_thread c.args.self.now = λ i. record { start = (c.self.view_is i).first_start; name = c.requires.name i } in (
       same_thread _ _ (ap (λ (t : Thread). t.name) c.self.view_is) (ap (λ (t : Thread). t.first_start) c.self.view_is) (ap (λ (t : Thread). t.latest) c.self.view_is) (none_in c.clear.new.self c.clear.ensures.honest) (ap details_seen c.clear-2.ensures.items),
       (
-        recorded c.self.inside.info,
+        record_of c.self.inside.info,
         told,
         told_so (λ i d x. g.R.Reporter.accepts c.args.reporter.now i d x c.report.new.self) same
             (ap details_seen c.deref.ensures.value ∙ ap (λ (t : Thread). t.details) c.self.view_is) c.as_stream_into_ref.ensures c.in_ok-report.ensures.ok,

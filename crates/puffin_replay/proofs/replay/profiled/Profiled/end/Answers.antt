@@ -4,7 +4,7 @@ use Rattle.std.proofs.lemmas.Result.{err_from_is_err_and}
 use Rattle.puffin_frames.specs.Thread.Calls.{Thread, open_offsets}
 use Rattle.std.proofs.lemmas.Int.{to_z-of_z}
 use Rattle.puffin_replay.proofs.Offsets.{innermost_last, outer_or_none, past_all, closed_places}
-use Rattle.puffin.specs.Profiler.Collected.{Accepts, Refuses}
+use Rattle.puffin.specs.Profiler.Collected.{AcceptsReport, RefusesReport}
 use Rattle.puffin_replay.proofs.SessionCloses.{Ends-from, kept_ids}
 use Rattle.puffin_replay.proofs.replay.profiled.Profiled.end.Goals as goal
 
@@ -49,8 +49,8 @@ invariant_of-self-2 c =
     let items = c.self.inside.open.items in
     let closed = c.in_ok-closed.ensures.closed in
     let size : vec_len c.self.inside.open ≡ length items = search rules in (
-      closed_places Accepts Refuses items c.pop.new.self.items c.self.inside.profiler.recording _ _ _ _ _
+      closed_places AcceptsReport RefusesReport items c.pop.new.self.items c.self.inside.profiler.recording _ _ _ _ _
           c.self.invariant.0
           (c.pop.ensures.rest ∙ ap (λ (n : ℕ). take (n - 1) items) size) closed.3,
-      kept_ids Accepts Refuses c.self.inside.profiler.recording _ _ _ _ _ closed.3 c.self.invariant.1,
+      kept_ids AcceptsReport RefusesReport c.self.inside.profiler.recording _ _ _ _ _ closed.3 c.self.invariant.1,
     )

@@ -1,12 +1,12 @@
 use Rattle.std.proofs.Common.{ℕ}
-use Rattle.puffin_replay.specs.Script.Statements.{Said, said}
+use Rattle.puffin_replay.specs.Script.Statements.{Meaning, meaning_of}
 use Rattle.puffin_replay.proofs.Scripts.{lines_more, names_more, commands_more}
 use Rattle.puffin_replay.proofs.replay.script.Reading.push.Goals as goal
 
 pub returns : goal.returns
 returns c = λ before reading.
     let (numbered, named, new) = c.in_ok-command.ensures reading.numbered in
-    let s : ℕ × Said = (c.args.number, said c.args.statement.now) in
+    let s : ℕ × Meaning = (c.args.number, meaning_of c.args.statement.now) in
     record {
       numbered = numbered;
       lines = lines_more _ _ before s c.in_ok-push-2.ensures.items reading.lines;

@@ -8,7 +8,7 @@ use Rattle.puffin_replay.specs.Session.{SessionState}
 use Rattle.puffin_frames.specs.Frame.Contents.{AreHonest}
 use Rattle.puffin_replay.proofs.Openings.{StandsAfter-opening}
 use Rattle.puffin_replay.proofs.Running.{RunsTo-none, RunsTo-more}
-use Rattle.puffin_replay.proofs.Sums.{SumsTo-opening}
+use Rattle.puffin_replay.proofs.DueSums.{SumsTo-opening}
 use Rattle.puffin_replay.proofs.replay.session.Session.run.Goals as goal
 
 pub loop-command-init : goal.loop-command-init

@@ -5,7 +5,7 @@ use Rattle.puffin_data.specs.Text.{cut_text}
 use Rattle.puffin_data.specs.Forest.Words.{word_size}
 use Rattle.puffin_frames.specs.Thread.Calls.{after_begin}
 use Rattle.puffin_replay.specs.declared.replay.command.Command.TheVariants.{End}
-use Rattle.puffin_replay.specs.inner.Serving.{clock_time, thread_in, with_thread, Ends}
+use Rattle.puffin_replay.specs.inner.Serving.{clock_time, session_thread, session_with_thread, Ends}
 use Rattle.puffin_replay.proofs.Serving.{Continues-began, Continues-ended, Continues-handed, Continues-taken, Continues-registered, Continues-not_registered, Continues-added, Continues-not_added, Continues-wanted, Continues-not_begun, Continues-not_ended, Continues-not_reported, Continues-not_framed, same}
 use Rattle.puffin_replay.specs.Session.Replies.{user_details}
 use Rattle.puffin.specs.Profiler.Registering.{Adds, AddsSome}
@@ -20,9 +20,9 @@ returns-in-Ok-clause-continues c =
     let at = to_z-of_z w64 c.in-Begin.at (search rules) in
     let text = c.as_str.ensures.value in
     same now c.begin.new.self _ _ _ _ c.in-Begin.is
-    (it.1 ∙ ap (λ (x : ℤ). with_thread now t (after_begin (thread_in now t) c.in-Begin.id (cut_text c.as_str.result.now) (clock_time x)) now.collected) at
-    ∙ ap (λ (bytes : List ℕ). with_thread now t (after_begin (thread_in now t) c.in-Begin.id (cut_text bytes) (clock_time c.in-Begin.at)) now.collected) text)
-    (Continues-began now t c.in-Begin.at c.in-Begin.id c.in-Begin.text c.in-Ok.offset it.0 (it.2 ∙ ap (λ (bytes : List ℕ). word_size (thread_in now t).word + 14 + length (cut_text bytes)) text))
+    (it.1 ∙ ap (λ (x : ℤ). session_with_thread now t (after_begin (session_thread now t) c.in-Begin.id (cut_text c.as_str.result.now) (clock_time x)) now.collected) at
+    ∙ ap (λ (bytes : List ℕ). session_with_thread now t (after_begin (session_thread now t) c.in-Begin.id (cut_text bytes) (clock_time c.in-Begin.at)) now.collected) text)
+    (Continues-began now t c.in-Begin.at c.in-Begin.id c.in-Begin.text c.in-Ok.offset it.0 (it.2 ∙ ap (λ (bytes : List ℕ). word_size (session_thread now t).word + 14 + length (cut_text bytes)) text))
 
 pub returns-in-Err-clause-continues : goal.returns-in-Err-clause-continues
 returns-in-Err-clause-continues c =
@@ -35,8 +35,8 @@ returns-in-Ok-end-clause-continues c =
     let now = c.args.self.now in
     let t = c.in-End.thread in
     let at = to_z-of_z w64 c.in-End.at (search rules) in
-    let ends = subst (λ (x : ℤ). Ends (thread_in now t) (thread_in c.end.new.self t) (clock_time x) now.collected c.end.new.self.collected c.in-Ok-end.closed) at it.3 in
-    same now c.end.new.self _ _ _ _ (c.in-End.is ∙ ap (End t c.in-End.at) it.1) it.2 (Continues-ended now t c.in-End.at it.0 (thread_in c.end.new.self t) c.end.new.self.collected c.in-Ok-end.closed c.in-Ok-end.ensures.ids ends)
+    let ends = subst (λ (x : ℤ). Ends (session_thread now t) (session_thread c.end.new.self t) (clock_time x) now.collected c.end.new.self.collected c.in-Ok-end.closed) at it.3 in
+    same now c.end.new.self _ _ _ _ (c.in-End.is ∙ ap (End t c.in-End.at) it.1) it.2 (Continues-ended now t c.in-End.at it.0 (session_thread c.end.new.self t) c.end.new.self.collected c.in-Ok-end.closed c.in-Ok-end.ensures.ids ends)
 
 pub returns-in-Err-end-clause-continues : goal.returns-in-Err-end-clause-continues
 returns-in-Err-end-clause-continues c =

@@ -3,7 +3,7 @@ use Rattle.std.specs.Prelude.{◌≡◌, ℕ, ℤ, List, [], ◌∷◌, ◌++◌
 use Rattle.puffin_data.specs.declared.error.Error.{Error}
 use Rattle.puffin_data.specs.declared.data.record.Scope.{Scope}
 use Rattle.puffin_data.specs.declared.data.record.ScopeRecord.{ScopeRecord}
-use Rattle.puffin_data.specs.Reader.{ReadScope, Place, next_read, Reads}
+use Rattle.puffin_data.specs.Reader.{ReadScope, Place, next_read, ReaderGives}
 
 -- a record without where its text lies in memory
 pub record SeenRecord : Type 0 where
@@ -42,8 +42,8 @@ pub record IsNextRead (from : Place) (item : Option (Result Scope Error)) (to : 
 
 -- these scopes, and nothing else, are read from a place on
 abbrev pub ReadsScopes : Place → List Scope → Type 0
-ReadsScopes from scopes = Reads from.bytes from.at (map (λ s. Ok s) (map scope_seen scopes))
+ReadsScopes from scopes = ReaderGives from.bytes from.at (map (λ s. Ok s) (map scope_seen scopes))
 
 -- some scopes are read from a place on, and then this fault
 abbrev pub ReadsFault : Place → Error → Type 0
-ReadsFault from fault = (scopes : List ReadScope) × Reads from.bytes from.at (map (λ s. Ok s) scopes ++ (Err fault ∷ []))
+ReadsFault from fault = (scopes : List ReadScope) × ReaderGives from.bytes from.at (map (λ s. Ok s) scopes ++ (Err fault ∷ []))

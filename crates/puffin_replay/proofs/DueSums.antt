@@ -22,13 +22,13 @@ use Rattle.puffin_frames.specs.Thread.Events.{events_in}
 use Rattle.puffin_frames.specs.Thread.Info.{Info, info_cmp, same_info}
 use Rattle.puffin_frames.specs.Details.{Details, AllHaveIds}
 use Rattle.puffin_frames.specs.Frame.Contents.{Streams, AreHonest, reported_to}
-use Rattle.puffin_frames.specs.Frame.Sums.{total_bytes, total_scopes, least_start, greatest_stop}
-use Rattle.puffin.specs.Profiler.Collected.{SumsFit, range_with, IsTooLong, IsReportRefusal}
+use Rattle.puffin_frames.specs.Frame.Sums.{total_bytes, total_scopes, joined_start, joined_stop}
+use Rattle.puffin.specs.Profiler.Collected.{PendingFits, range_with, IsTooLong, IsReportRefusal}
 use Rattle.puffin_replay.specs.Session.History.{Opening, Action}
 use Rattle.puffin_replay.specs.Session.Deliveries.{Delivery, under}
 use Rattle.puffin_replay.specs.Session.Due.{due, events_of, bytes_delivered, scopes_delivered}
 use Rattle.puffin_replay.specs.Session.{SessionState, opening_of, StandsAfter, SpellsWord}
-use Rattle.puffin_replay.specs.Session.Replies.{DueFits, MayReport, IsRefusal}
+use Rattle.puffin_replay.specs.Session.Replies.{DueFits, MayReport, IsDueRefusal}
 use Rattle.puffin_replay.specs.inner.Serving.{SumsTo}
 use Rattle.puffin_replay.proofs.Laws.{least_open-append, greatest_close-append, word_size-tour, num_begun-tour, least_open-tour, greatest_close-tour, same_info-one, same_info-itself, events_in-spelling, after_report, bytes_measure, scopes_measure, starts_measure, stops_measure, total_bytes-one, total_scopes-one, least_start-one, greatest_stop-one}
 use Rattle.puffin_replay.proofs.Openings.{due_of, due-opening}
@@ -72,7 +72,7 @@ values_none : values (empty {X = Recorded} {R = info_cmp}) ≡ []
 values_none = ap (map (λ e. e.1)) (no_length _ (sym (len-entries (empty {X = Recorded} {R = info_cmp})) ∙ len-empty info_cmp Recorded))
 
 pub SumsTo-none : SumsTo empty []
-SumsTo-none = record { bytes = ap total_bytes values_none; scopes = ap total_scopes values_none; start = ap least_start values_none; stop = ap greatest_stop values_none }
+SumsTo-none = record { bytes = ap total_bytes values_none; scopes = ap total_scopes values_none; start = ap joined_start values_none; stop = ap joined_stop values_none }
 
 -- ---- at the opening
 
@@ -149,8 +149,8 @@ records_of es = map (λ e. e.1) es
 record EntriesSum (es : List (Info × Recorded)) : Type 0 where
   bytes : total_bytes (records_of es) ≡ sum_by bytes_delivered (due_of es)
   scopes : total_scopes (records_of es) ≡ sum_by scopes_delivered (due_of es)
-  start : least_start (records_of es) ≡ least_open (events_at es)
-  stop : greatest_stop (records_of es) ≡ greatest_close (events_at es)
+  start : joined_start (records_of es) ≡ least_open (events_at es)
+  stop : joined_stop (records_of es) ≡ greatest_close (events_at es)
 
 entries_sum : (es : List (Info × Recorded)) → EachHonest es → EntriesSum es
 unfolding EachHonest
@@ -166,8 +166,8 @@ entries_sum (e ∷ es) h =
     record {
       bytes = omega (arith, total_bytes-one e.1 (records_of es), later.bytes, size, sum_by-cons bytes_delivered (under e.0 word) (due_of es));
       scopes = omega (arith, total_scopes-one e.1 (records_of es), later.scopes, scopes, sum_by-cons scopes_delivered (under e.0 word) (due_of es));
-      start = least_start-one e.1 (records_of es) ∙ ap (λ x. int_min x (least_start (records_of es))) start ∙ ap (int_min (least_open word)) later.start ∙ sym (least_open-append word (events_at es));
-      stop = greatest_stop-one e.1 (records_of es) ∙ ap (λ x. int_max x (greatest_stop (records_of es))) stop ∙ ap (int_max (greatest_close word)) later.stop ∙ sym (greatest_close-append word (events_at es));
+      start = least_start-one e.1 (records_of es) ∙ ap (λ x. int_min x (joined_start (records_of es))) start ∙ ap (int_min (least_open word)) later.start ∙ sym (least_open-append word (events_at es));
+      stop = greatest_stop-one e.1 (records_of es) ∙ ap (λ x. int_max x (joined_stop (records_of es))) stop ∙ ap (int_max (greatest_close word)) later.stop ∙ sym (greatest_close-append word (events_at es));
     }
 
 pub SumsTo-opening : (s : SessionState) → AreHonest s.collected.streams → SumsTo s.collected.streams (due (opening_of s) [])
@@ -190,36 +190,36 @@ module _ (o : Opening) (done : List Action) (now : SessionState) (r : Recorded) 
   abbrev events : List Event
   events = flat_map events_of (due o done)
 
-  fits : SumsFit now.collected r → DueFits o done word
+  fits : PendingFits now.collected r → DueFits o done word
   fits h = record {
     bytes = omega (arith, h.bytes, sums.bytes, size_of r word spells);
     scopes = omega (arith, h.scopes, sums.scopes, scopes_of r word spells);
     reported = omega (arith, h.reported, stands.reported, scopes_of r word spells);
   }
 
-  fits_back : DueFits o done word → SumsFit now.collected r
+  fits_back : DueFits o done word → PendingFits now.collected r
   fits_back h = record {
     bytes = omega (arith, h.bytes, sums.bytes, size_of r word spells);
     scopes = omega (arith, h.scopes, sums.scopes, scopes_of r word spells);
     reported = omega (arith, h.reported, stands.reported, scopes_of r word spells);
   }
 
-  start_with : least_start (r ∷ values now.collected.streams) ≡ least_open (events ++ word)
+  start_with : joined_start (r ∷ values now.collected.streams) ≡ least_open (events ++ word)
   start_with =
       least_start-one r (values now.collected.streams) ∙ ap (int_min r.range_ns.0) sums.start ∙ min_comm r.range_ns.0 (least_open events) ∙ ap (int_min (least_open events)) (start_of r word spells) ∙ sym (least_open-append events word)
 
-  stop_with : greatest_stop (r ∷ values now.collected.streams) ≡ greatest_close (events ++ word)
+  stop_with : joined_stop (r ∷ values now.collected.streams) ≡ greatest_close (events ++ word)
   stop_with =
       greatest_stop-one r (values now.collected.streams) ∙ ap (int_max r.range_ns.1) sums.stop ∙ max_comm r.range_ns.1 (greatest_close events) ∙ ap (int_max (greatest_close events)) (stop_of r word spells) ∙ sym (greatest_close-append events word)
 
   range : range_with now.collected r ≡ (least_open (events ++ word), greatest_close (events ++ word))
   range i = (start_with i, stop_with i)
 
-  pub MayReport-from : SumsFit now.collected r → ¬ IsTooLong (range_with now.collected r) → MayReport o done word
+  pub MayReport-from : PendingFits now.collected r → ¬ IsTooLong (range_with now.collected r) → MayReport o done word
   MayReport-from h short = (fits h, λ long. short (subst IsTooLong (sym range) long))
 
   -- where all details have their ids
-  pub IsRefusal-from : (ds : List Details) (e : Error) → AllHaveIds ds → IsReportRefusal now.collected ds r e → IsRefusal o done word e
+  pub IsRefusal-from : (ds : List Details) (e : Error) → AllHaveIds ds → IsReportRefusal now.collected ds r e → IsDueRefusal o done word e
   IsRefusal-from ds e ids (inl missing) = absurd (missing.1 ids)
   IsRefusal-from ds e ids (inr (inl large)) = inl (large.0, λ h. large.2 (fits_back h))
   IsRefusal-from ds e ids (inr (inr (inl long))) = inr (inl (long.0, fits long.2, subst IsTooLong range long.3))
