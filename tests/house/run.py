@@ -1,0 +1,114 @@
+"""Looks at the house rules that no prover sees, and says which files break them.
+
+    python3 run.py
+
+Clauses have at most 100 columns; crates cite of those below them no proofs but `lemmas`; each wrong body can be applied
+and stands in docs/PROOFS.md, which names no other; links in the documents lead somewhere. The last line is
+'N passed, M failed'.
+"""
+
+import pathlib
+import re
+import subprocess
+import sys
+
+TOP = pathlib.Path(__file__).resolve().parents[2]
+CLAUSE = re.compile(r"^\s*(?:requires|ensures)\*?(?: \w+)? \{|^\s*ghost \w+(?: =|:) \{", re.M)
+
+
+def files(*endings):
+    """The repository's files with these endings."""
+    listed = subprocess.run(["git", "ls-files", "-co", "--exclude-standard"], cwd=TOP, capture_output=True, text=True, check=True)
+    return [TOP / name for name in listed.stdout.split("\n") if name.endswith(endings) and (TOP / name).is_file()]
+
+
+def short(path):
+    return str(path.relative_to(TOP))
+
+
+def clause_end(text, start):
+    """Where the clause ends whose brace is the last character before start."""
+    depth = 1
+    while depth:
+        depth += {"{": 1, "}": -1}.get(text[start], 0)
+        start += 1
+    return start
+
+
+def wide_clauses():
+    for path in files(".rt"):
+        text = path.read_text()
+        for clause in CLAUSE.finditer(text):
+            whole = text[clause.start() : clause_end(text, clause.end())]
+            if any(len(line) > 100 for line in whole.split("\n")):
+                yield f"{short(path)}: a clause line has over 100 columns: {clause[0].strip()}"
+
+
+def proofs_cited_from_above():
+    for path in files(".antt", ".rt"):
+        own = path.relative_to(TOP / "crates").parts[0]
+        for crate, name in re.findall(r"Rattle\.(puffin\w*)\.proofs\.(\w+)", path.read_text()):
+            if crate != own and name != "lemmas":
+                yield f"{short(path)}: cites proofs of {crate}: {name}"
+
+
+def edits():
+    return [path for path in files(".edit") if path.parent.name == "must-fail"]
+
+
+def edits_that_do_not_apply():
+    for path in edits():
+        made, at, old = {}, None, None
+        for line in path.read_text().split("\n"):
+            word, _, rest = line.partition(": ")
+            if word == "file":
+                at = path.parents[1] / rest.strip()
+                made.setdefault(at, at.read_text() if at.is_file() else "")
+            elif word == "old":
+                old = rest
+            elif word in ("new", "new:"):
+                if made[at].count(old) != 1:
+                    yield f"{short(path)}: an old text stands in {short(at)} {made[at].count(old)} times"
+                made[at] = made[at].replace(old, rest, 1)
+
+
+def edits_without_a_promise():
+    told = set(re.findall(r"`([a-z0-9_]+)`", (TOP / "docs/PROOFS.md").read_text()))
+    for path in edits():
+        if path.stem not in told:
+            yield f"{short(path)}: docs/PROOFS.md doesn't name it"
+
+
+def anchors(text):
+    """What the headings of a document can be linked by."""
+    heads = re.findall(r"^#+ (.*)$", text, re.M)
+    return {re.sub(r"[^\w\- ]", "", head.lower()).replace(" ", "-") for head in heads}
+
+
+def broken_links():
+    for path in files(".md"):
+        for target in re.findall(r"\]\(([^)\s]+)\)", path.read_text()):
+            if target.startswith("http"):
+                continue
+            name, _, anchor = target.partition("#")
+            to = (path.parent / name).resolve() if name else path
+            if not to.exists():
+                yield f"{short(path)}: no such file: {target}"
+            elif anchor and to.suffix == ".md" and anchor not in anchors(to.read_text()):
+                yield f"{short(path)}: no such heading: {target}"
+
+
+def main():
+    passed, failed = 0, 0
+    for rule in (wide_clauses, proofs_cited_from_above, edits_that_do_not_apply, edits_without_a_promise, broken_links):
+        faults = list(rule())
+        for fault in faults:
+            print(fault)
+        print(f"house: {rule.__name__}: {'ok' if not faults else 'broken'}")
+        passed, failed = passed + (not faults), failed + bool(faults)
+    print(f"{passed} passed, {failed} failed")
+    return 1 if failed else 0
+
+
+if __name__ == "__main__":
+    sys.exit(main())
