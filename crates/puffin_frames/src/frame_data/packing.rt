@@ -83,10 +83,11 @@ impl FrameData {
     pub fn unpacked(&mut self) -> std::result::Result<Arc<UnpackedFrameData>, FileError>
         ensures unpacked { DecidedInMemory (λ frame. contents (arc_value frame)) result (unpacked_from (holding_of self.old)) }
         // of packed streams: those whose layout the bytes are
-        ensures layout { IfOk result (λ frame.
-            IfSome (holding_of self.old).packed (λ p. HoldsStreams p (contents (arc_value frame)))) }
+        ensures layout { IfOk result (λ frame. IfSome (holding_of self.old).packed (λ p.
+            HoldsStreams p (contents (arc_value frame)))) }
         ensures no_layout { result ≡ Err FileError.BadStreams →
-            IfSome (holding_of self.old).packed (λ p. (streams : Streams) → HoldsStreams p streams → ⊥) }
+            IfSome (holding_of self.old).packed (λ p.
+            (streams : Streams) → HoldsStreams p streams → ⊥) }
         ensures meta { IfOk result (λ frame. (arc_value frame).meta ≡ frame_meta self.old) }
         ensures ok { OnOk result (holding_of self.new ≡ as_unpacked (holding_of self.old)) }
         ensures contents { frame_contents self.new ≡ frame_contents self.old }
