@@ -223,7 +223,8 @@ pub fn no_layout_begins_another()
     ensures blocks { NoneBeginsAnother IsBlock block }
 {}
 
-/// What is read off the front of bytes is the layout of the value that is given, and each layout is read.
+/// What is read off the front of bytes is the layout of the value that is given, and each layout
+/// is read.
 pub fn only_layouts_are_read()
     ensures bytes { ReadsLayouts IsByte byte byte_at }
     ensures numbers { ReadsLayouts IsLong number number_at }

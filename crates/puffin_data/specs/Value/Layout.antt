@@ -88,7 +88,8 @@ NoneBeginsAnother {A = A} fits layout = (a b : A) (x y : List ℕ) → fits a �
 -- A reading reads layouts and nothing else: it gives a value, and the bytes after it, exactly where the value's layout stands before these.
 abbrev pub ReadsLayouts : {A : Type 0} → (A → Type 0) → (A → List ℕ) → (List ℕ → Option (A × List ℕ)) → Type 0
 ReadsLayouts {A = A} fits layout read =
-    (bytes : List ℕ) (a : A) (rest : List ℕ) → IsBytes bytes → (read bytes ≡ Some (a, rest)) ↔ (fits a × (bytes ≡ layout a ++ rest))
+    (bytes : List ℕ) (a : A) (rest : List ℕ) → IsBytes bytes →
+        (read bytes ≡ Some (a, rest)) ↔ (fits a × (bytes ≡ layout a ++ rest))
 
 -- Of the bytes old either a value was read, seen by view, whose layout begins them, and new follow it; or nothing was, where no layout begins them, and they stay.
 abbrev pub Reads : {X A : Type 0} → (X → A) → (A → Type 0) → (A → List ℕ) → List ℕ → Option X → List ℕ → Type 0

@@ -9,11 +9,13 @@ use Rattle.puffin_frames.specs.Packet.Steps.{is_range_at, is_packet, counted_par
 -- the third form: `PFD3`, and no details
 abbrev pub packet_without_details : Said → List ℕ
 packet_without_details p =
-    (80 ∷ 70 ∷ 68 ∷ 51 ∷ []) ++ (counted_part (meta_layout p.meta) ++ (little_bytes 4 (length p.streams) ++ (p.kind ∷ p.streams)))
+    (80 ∷ 70 ∷ 68 ∷ 51 ∷ [])
+    ++ (counted_part (meta_layout p.meta) ++ (little_bytes 4 (length p.streams) ++ (p.kind ∷ p.streams)))
 
 -- the second form: `PFD2`, and neither details nor a kind, as its streams are all of kind 2
 abbrev pub packet_without_kind : Said → List ℕ
-packet_without_kind p = (80 ∷ 70 ∷ 68 ∷ 50 ∷ []) ++ (counted_part (meta_layout p.meta) ++ counted_part p.streams)
+packet_without_kind p =
+    (80 ∷ 70 ∷ 68 ∷ 50 ∷ []) ++ (counted_part (meta_layout p.meta) ++ counted_part p.streams)
 
 -- the first form: meta and streams in one, behind their length
 abbrev pub legacy_bytes : Legacy → List ℕ
@@ -22,7 +24,9 @@ legacy_bytes l = counted_part (legacy_layout l)
 -- a packet in one of the three forms that says this, of which the older ones leave out what they can't say
 abbrev pub IsPacketFor : Said → List ℕ → Type 0
 IsPacketFor p bytes =
-    (bytes ≡ packet p) ⊎ (((bytes ≡ packet_without_details p) × (p.details ≡ [])) ⊎ ((bytes ≡ packet_without_kind p) × (p.kind ≡ 2) × (p.details ≡ [])))
+    (bytes ≡ packet p)
+    ⊎ ((bytes ≡ packet_without_details p) × (p.details ≡ []))
+    ⊎ ((bytes ≡ packet_without_kind p) × (p.kind ≡ 2) × (p.details ≡ []))
 
 -- what can be stored in the first form: its length isn't taken for the letters of a packet
 pub record IsFirstForm (l : Legacy) : Type 0 where

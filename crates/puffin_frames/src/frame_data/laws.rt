@@ -20,7 +20,8 @@ pub fn no_layout_begins_another()
     ensures legacy { NoneBeginsAnother IsLegacy legacy_layout }
 {}
 
-/// What is read off the front of bytes is the layout of the value that is given, and each layout is read.
+/// What is read off the front of bytes is the layout of the value that is given, and each layout
+/// is read.
 pub fn only_layouts_are_read()
     ensures metas { ReadsLayouts IsMeta meta_layout meta_at }
     ensures threads { ReadsLayouts IsInfo info_layout info_at }
@@ -30,8 +31,8 @@ pub fn only_layouts_are_read()
     ensures legacy { ReadsLayouts IsLegacy legacy_layout legacy_at }
 {}
 
-/// A frame is read exactly from bytes that store it, whatever follows them: a packet that says it, of the form that is written
-/// or an older one, or a frame as it was written at first.
+/// A frame is read exactly from bytes that store it, whatever follows them: a packet that says it,
+/// of the form that is written or an older one, or a frame as it was written at first.
 pub fn only_packets_are_read()
     ensures { (bytes rest : List ℕ) (s : Stored) → IsBytes bytes →
         (next_at bytes ≡ Ok (Some s, rest))

@@ -294,7 +294,7 @@ impl FrameData {
     ) -> Result<Option<FrameData>, FileError>
         requires { S.failures source.old < 2 ^ 64 - 1 }
         ensures next { ReadsNext (S.remaining source.old) (S.remaining source.new) result }
-        // the bytes that were taken store the frame: they are its packet, or those of a frame of the first form
+        // they are its packet, or those of a frame of the first form
         ensures took { IfOk result (λ next. IfSome next (λ frame.
             TookStored (S.remaining source.old) (S.remaining source.new) (stored_of frame))) }
         ensures fresh { IfOk result (λ next. IfSome next IsFresh) }
