@@ -45,10 +45,15 @@ fn thread(alloc: Global) -> Result<ThreadInfo> {
     })
 }
 
-fn frame(alloc: Global, stream: Stream) -> Result<Arc<UnpackedFrameData>> {
+/// A frame of one thread.
+fn frame_of(alloc: Global, thread: ThreadInfo, stream: Stream) -> Result<Arc<UnpackedFrameData>> {
     let mut streams = BTreeMap::new(alloc);
-    let _none = streams.insert(thread(alloc)?, StreamInfo::parse(alloc, stream)?)?;
+    let _none = streams.insert(thread, StreamInfo::parse(alloc, stream)?)?;
     Ok(Arc::new(alloc, UnpackedFrameData::new(alloc, 0, streams)?)?)
+}
+
+fn frame(alloc: Global, stream: Stream) -> Result<Arc<UnpackedFrameData>> {
+    frame_of(alloc, thread(alloc)?, stream)
 }
 
 /// A frame of one scope.
@@ -191,6 +196,26 @@ fn a_scope_of_one_of_two_frames(rt: HostRuntime) -> Outcome {
     assert_eq!(rt;
         all_numbers(alloc, merged.as_slice())?.as_slice(),
         &[(1, 10, 5, 2, 5, 1), (2, 12, 1, 0, 1, 1)][..]
+    );
+    Ok(())
+}
+
+#[test]
+fn a_frame_without_the_thread_counts(rt: HostRuntime) -> Outcome {
+    let alloc = rt.alloc();
+    let mut frames = Vec::new(alloc);
+    frames.push(one_scope(alloc, 1, 10, 15)?)?;
+    let other = ThreadInfo {
+        start_time_ns: None,
+        name: String::from_str(alloc, "main")?,
+    };
+    let mut stream = Stream::new(alloc);
+    leaf(&mut stream, 1, 100, 101)?;
+    frames.push(frame_of(alloc, other, stream)?)?;
+    let merged = merged(alloc, &frames)?;
+    assert_eq!(rt;
+        all_numbers(alloc, merged.as_slice())?.as_slice(),
+        &[(1, 10, 5, 2, 5, 1)][..]
     );
     Ok(())
 }
