@@ -6,7 +6,7 @@ use Rattle.std.proofs.lemmas.List.Sorted.{All-permutation}
 use Rattle.puffin.specs.Merge.Occurrences.{Label, Path, Occurrence, FrameScopes, is_path, occurrences_of, occurrences}
 use Rattle.puffin.specs.Merge.Pieces.{Merged, total_of, greatest_of, least_start_of, merged_of, merged_at}
 use Rattle.puffin.specs.Merge.Starts.{IsLeastFeasible}
-use Rattle.puffin.specs.Merge.MergedForest.{Node, MergedForest, no_node, merged, row}
+use Rattle.puffin.specs.Merge.Tree.{Node, MergedForest, no_node, merged, row}
 use Rattle.puffin.specs.Merge.{below, TellsOf, sibling_cmp, IsRising, sibling_of, IsRow, AreBelow, IsMerge}
 use Rattle.puffin.proofs.Reordering.{Reordered, none_left, keeps, turns, goes_on, from_permutation, to_permutation, fold-reordered, length-reordered, filter-reordered, append-reordered, flat_map-reordered}
 

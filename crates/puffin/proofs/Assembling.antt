@@ -7,7 +7,7 @@ use Rattle.std.proofs.lemmas.List.Elements.{All-from_recursion}
 use Rattle.puffin.specs.Merge.Occurrences.{Label, Path, Occurrence}
 use Rattle.puffin.specs.Merge.Pieces.{Merged, merged_at}
 use Rattle.puffin.specs.Merge.Starts.{Sibling, IsLeastFeasible}
-use Rattle.puffin.specs.Merge.MergedForest.{Node, merged, row}
+use Rattle.puffin.specs.Merge.Tree.{Node, merged, row}
 use Rattle.puffin.specs.Merge.{below, TellsOf, sibling_cmp, IsRising, sibling_of, IsRow, AreBelow, IsMerge}
 use Rattle.puffin.specs.inner.merge.Assembled.{Entry, node_of, children_of, forest_below, Each, Some_of, StandsBefore, InOrder, IsEntry, IsTable}
 use Rattle.puffin.proofs.Starting.{earliest-is_least}

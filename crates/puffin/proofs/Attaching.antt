@@ -15,8 +15,8 @@ use Rattle.puffin.specs.declared.merge.table.Node.{Node}
 use Rattle.puffin.specs.declared.merge.tree.Place.{Place}
 use Rattle.puffin.specs.declared.merge.tree.Drawn.{Drawn}
 use Rattle.puffin.specs.Merge.Occurrences.{Occurrence}
-use Rattle.puffin.specs.Merge.MergedForest.{MergedForest, no_node, merged}
-use Rattle.puffin.specs.Merge.MergedForest as forests
+use Rattle.puffin.specs.Merge.Tree.{MergedForest, no_node, merged}
+use Rattle.puffin.specs.Merge.Tree as forests
 use Rattle.puffin.specs.Merge.Refusals.{EndsFit}
 use Rattle.puffin.specs.Merge.Scopes.{scope_then, children_in, forest_in}
 use Rattle.puffin.specs.inner.merge.Assembled.{Entry, node_of, forest_below}

@@ -13,7 +13,7 @@ use Rattle.puffin.specs.declared.merge.table.Table.{Table}
 use Rattle.puffin.specs.declared.merge.stream.Merging.{Merging}
 use Rattle.puffin.specs.declared.merge.scope.MergeScope.{MergeScope}
 use Rattle.puffin.specs.Merge.Occurrences.{Occurrence, occurrences}
-use Rattle.puffin.specs.Merge.MergedForest.{MergedForest}
+use Rattle.puffin.specs.Merge.Tree.{MergedForest}
 use Rattle.puffin.specs.Merge.{IsMerge}
 use Rattle.puffin.specs.Merge.FrameBytes.{FrameBytes, bytes_of, start_of, most_tries_of, most_tries}
 use Rattle.puffin.specs.Merge.Refusals.{IsRefusalAfter, EndsFit, AreMerged}

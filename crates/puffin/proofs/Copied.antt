@@ -6,7 +6,7 @@ use Rattle.std.specs.declared.borrow.CowStr.{CowStr}
 use Rattle.std.specs.Cow.{cow_str_bytes}
 use Rattle.puffin.specs.declared.merge.scope.MergeScope.{MergeScope, MergeScope', items_shown-the_row-MergeScope-0}
 use Rattle.puffin.specs.declared.merge.scope.MergeScope.TheViews.{roll-MergeScope, out-MergeScope}
-use Rattle.puffin.specs.Merge.MergedForest.{MergedForest, no_node, merged, Node}
+use Rattle.puffin.specs.Merge.Tree.{MergedForest, no_node, merged, Node}
 use Rattle.puffin.specs.Merge.Scopes.{scope_then, forest_in}
 use Rattle.puffin.specs.inner.merge.Merging.{append-nil}
 use Rattle.puffin.proofs.Attaching.{Siblings, children_are, made_then}

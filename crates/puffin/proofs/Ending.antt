@@ -9,7 +9,7 @@ use Rattle.puffin.specs.declared.merge.table.Node.{Node}
 use Rattle.puffin.specs.declared.merge.tree.Place.{Place}
 use Rattle.puffin.specs.declared.merge.tree.Drawn.{Drawn}
 use Rattle.puffin.specs.Merge.Occurrences.{Occurrence}
-use Rattle.puffin.specs.Merge.MergedForest.{MergedForest, merged}
+use Rattle.puffin.specs.Merge.Tree.{MergedForest, merged}
 use Rattle.puffin.specs.Merge.Refusals.{EndsFit}
 use Rattle.puffin.specs.inner.merge.Assembled.{node_of, forest_below}
 use Rattle.puffin.specs.inner.merge.Tables.{IsTableOf}

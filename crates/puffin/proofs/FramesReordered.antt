@@ -9,7 +9,7 @@ use Rattle.puffin_frames.specs.declared.frame_data.unpacked.UnpackedFrameData.{U
 use Rattle.puffin_frames.specs.Thread.Info.{Info}
 use Rattle.puffin.specs.Merge.Occurrences.{Path, Occurrence, FrameScopes, is_path, occurrences_of, occurrences}
 use Rattle.puffin.specs.Merge.Pieces.{Merged, pieces_at, merged_of, merged_at}
-use Rattle.puffin.specs.Merge.MergedForest.{MergedForest}
+use Rattle.puffin.specs.Merge.Tree.{MergedForest}
 use Rattle.puffin.specs.Merge.{IsMerge}
 use Rattle.puffin.specs.Merge.FrameBytes.{FrameBytes, HaveScopes}
 use Rattle.puffin.specs.Merge.Refusals.{SumsFit, AreAccepted, EndsFit, AreMerged}

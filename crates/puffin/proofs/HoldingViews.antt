@@ -215,5 +215,5 @@ held_packed (Packed p) e = refl
 held_packed (Both b) e = refl
 
 -- a frame that isn't held unpacked
-pub packed_alone : (f : FrameData) → is_some (holding_of f).unpacked ≡ false → frame_of f ≡ packed_alone (frame_of f)
-packed_alone f e = λ j. record { contents = frame_says f; is_unpacked = e j; is_packed = held_packed f.held e j }
+pub packed_already : (f : FrameData) → is_some (holding_of f).unpacked ≡ false → frame_of f ≡ packed_alone (frame_of f)
+packed_already f e = λ j. record { contents = frame_says f; is_unpacked = e j; is_packed = held_packed f.held e j }

@@ -10,7 +10,7 @@ use Rattle.std.proofs.lemmas.List.Elements.{recursion_from_All}
 use Rattle.puffin.specs.Merge.Occurrences.{Label, Path, Occurrence, is_path}
 use Rattle.puffin.specs.Merge.Pieces.{Merged, pieces_at, merged_at}
 use Rattle.puffin.specs.Merge.Starts.{Sibling, IsNowhereAbove, IsLeastFeasible}
-use Rattle.puffin.specs.Merge.MergedForest.{Node, MergedForest, no_node, merged, row}
+use Rattle.puffin.specs.Merge.Tree.{Node, MergedForest, no_node, merged, row}
 use Rattle.puffin.specs.Merge.{below, TellsOf, sibling_cmp, IsRising, sibling_of, IsRow, AreBelow, IsMerge}
 use Rattle.puffin.proofs.Paths.{one_path, label_cmp_total}
 

@@ -7,7 +7,7 @@ use Rattle.puffin_data.specs.Forest.Spelling.{spelling, Spells}
 use Rattle.puffin_data.specs.Walk.{IsFault}
 use Rattle.puffin_data.specs.Walk.Sights.{Nested, nested_in, Sight, Sees, scopes_of}
 use Rattle.puffin.specs.Merge.Occurrences.{Occurrence, FrameScopes, occurrence_of, occurrences_in, occurrences_of, occurrences_from, occurrences}
-use Rattle.puffin.specs.Merge.MergedForest.{MergedForest}
+use Rattle.puffin.specs.Merge.Tree.{MergedForest}
 use Rattle.puffin.specs.Merge.{IsMerge}
 use Rattle.puffin.specs.Merge.FrameBytes.{FrameBytes, bytes_of, start_of, HasScopes, HaveScopes}
 use Rattle.puffin.specs.Merge.Refusals.{IsRefusedFor, AreAccepted, IsFrameRefusal, faulty, refused, IsMergeRefusal, IsRefusalAfter, in_frame, at_end, EndsFit, AreMerged}

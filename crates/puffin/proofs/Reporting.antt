@@ -9,7 +9,7 @@ use Rattle.puffin_frames.specs.Thread.Info.{Info}
 use Rattle.puffin_frames.specs.Frame.Contents.{Streams, reported_to, AreHonest}
 use Rattle.puffin_frames.specs.Frame.Sums.{total_bytes, total_scopes, joined_start, joined_stop, meta_of, IsOrdered, DurationFits}
 use Rattle.puffin_frames.specs.declared.frame_data.meta.FrameMeta.{FrameMeta}
-use Rattle.puffin.specs.Profiler.Collected.{Collected, PendingFits, range_with, IsTooLong}
+use Rattle.puffin.specs.Profiler.State.{Collected, PendingFits, range_with, IsTooLong}
 use Rattle.puffin.specs.Profiler.Collecting.{IsTallied, AddsUp}
 
 -- what a frame of all that is pending would say, and what it says once joined with one info more

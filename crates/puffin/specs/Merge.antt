@@ -2,7 +2,7 @@
 pub mod Occurrences
 pub mod Pieces
 pub mod Starts
-pub mod MergedForest
+pub mod Tree
 pub mod FrameBytes
 pub mod Refusals
 pub mod Scopes
@@ -13,7 +13,7 @@ use Rattle.std.specs.Ordering.{int_cmp, on, then_cmp}
 use Rattle.puffin.specs.Merge.Occurrences.{Label, Path, Occurrence, label_cmp}
 use Rattle.puffin.specs.Merge.Pieces.{Merged, merged_at}
 use Rattle.puffin.specs.Merge.Starts.{Sibling, IsLeastFeasible}
-use Rattle.puffin.specs.Merge.MergedForest.{Node, MergedForest, no_node, merged, row}
+use Rattle.puffin.specs.Merge.Tree.{Node, MergedForest, no_node, merged, row}
 
 -- the path of a label below a path
 abbrev pub below : Path → Label → Path

@@ -27,7 +27,7 @@ use Rattle.puffin_frames.specs.declared.frame_data.frame.FrameData.{FrameData}
 use Rattle.puffin_frames.specs.declared.thread_profiler.thread_info.ThreadInfo.{ThreadInfo}
 use Rattle.puffin_frames.specs.declared.thread_profiler.reporter.Closed.{Closed}
 use Rattle.puffin_frames.specs.declared.thread_profiler.reporter.Closed.TheVariants.{Inner, Reported, Kept}
-use Rattle.puffin.specs.Profiler.Collected.{Collected, AcceptsReport, after_frame, after_no_frame, after_adding, after_learning, after_wanting, reported_to, IsReportRefusal, delta_of}
+use Rattle.puffin.specs.Profiler.State.{Collected, AcceptsReport, after_frame, after_no_frame, after_adding, after_learning, after_wanting, reported_to, IsReportRefusal, delta_of}
 use Rattle.puffin.specs.Profiler.Registering.{Registers, RegistersSome, Adds, AddsSome}
 use Rattle.puffin.specs.Profiler.Collecting.{Collects, HoldsAll, Begins, KeepsPending}
 use Rattle.puffin_frames.specs.Thread.Closing.{IsReportOf}

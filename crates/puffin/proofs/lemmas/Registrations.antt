@@ -6,7 +6,7 @@ use Rattle.puffin_data.specs.declared.error.Error.TheVariants.{IdsExhausted, Mem
 use Rattle.puffin_frames.specs.declared.scope_details.details.ScopeDetails.{ScopeDetails}
 use Rattle.puffin_frames.specs.Details.{Details, details_of, details_seen, with_id}
 use Rattle.puffin_frames.specs.Details.Collection.{Collection, with_details, with_all_details}
-use Rattle.puffin.specs.Profiler.Collected.{Collected, after_adding}
+use Rattle.puffin.specs.Profiler.State.{Collected, after_adding}
 use Rattle.puffin.specs.Profiler.Registering.{known_id, none_asked, known_name, new_name, Adds, AddsSome}
 
 inserted_all-append : (c : Collection) (xs ys : List Details) → with_all_details c (xs ++ ys) ≡ with_all_details (with_all_details c xs) ys

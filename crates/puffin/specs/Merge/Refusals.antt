@@ -7,7 +7,7 @@ use Rattle.puffin_data.specs.Walk.{Reaches, IsFaultAt, IsFirstFault}
 use Rattle.puffin_data.specs.Walk.Sights.{Sight, Sees, scopes_of, before}
 use Rattle.puffin.specs.Merge.Occurrences.{Occurrence, FrameScopes, occurrence_of, occurrences_in, occurrences_from, occurrences}
 use Rattle.puffin.specs.Merge.Pieces.{merged_at}
-use Rattle.puffin.specs.Merge.MergedForest.{MergedForest, no_node, merged}
+use Rattle.puffin.specs.Merge.Tree.{MergedForest, no_node, merged}
 use Rattle.puffin.specs.Merge.{IsMerge}
 use Rattle.puffin.specs.Merge.FrameBytes.{FrameBytes, bytes_of, start_of, HaveScopes, most_tries}
 

@@ -11,7 +11,7 @@ use Rattle.puffin_frames.specs.Thread.Info.{Info}
 use Rattle.puffin_frames.specs.Frame.Contents.{contents}
 use Rattle.puffin.specs.declared.merge.scope.MergeScope.{MergeScope, MergeScope', Row_of-MergeScope, end_of-MergeScope, more_of-MergeScope}
 use Rattle.puffin.specs.Merge.FrameBytes.{FrameBytes}
-use Rattle.puffin.specs.Merge.MergedForest.{MergedForest, no_node, merged}
+use Rattle.puffin.specs.Merge.Tree.{MergedForest, no_node, merged}
 
 -- a frame's range start, and its stream under an info
 abbrev pub frame_bytes : Info → UnpackedFrameData → FrameBytes

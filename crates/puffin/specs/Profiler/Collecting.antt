@@ -12,7 +12,7 @@ use Rattle.puffin_frames.specs.declared.frame_data.frame.FrameData.{FrameData}
 use Rattle.puffin_frames.specs.declared.frame_data.meta.FrameMeta.{FrameMeta}
 use Rattle.puffin_frames.specs.Frame.Contents.{Streams, AreHonest, holding_of, frame_meta, frame_details}
 use Rattle.puffin_frames.specs.Frame.Sums.{total_bytes, total_scopes, meta_of, IsOrdered, DurationFits}
-use Rattle.puffin.specs.Profiler.Collected.{Collected, range_with, delta_of, after_frame, after_no_frame, after_learning}
+use Rattle.puffin.specs.Profiler.State.{Collected, range_with, delta_of, after_frame, after_no_frame, after_learning}
 
 -- The frame holds all that is pending, as it is and not packed, under the next index. It tells of the new details, and of all that were known where that was wanted.
 pub record HoldsAll (c : Collected) (frame : FrameData) : Type 0 where

@@ -5,7 +5,7 @@ use Rattle.puffin_data.specs.declared.error.Error.{Error}
 use Rattle.puffin_data.specs.declared.error.Error.TheVariants.{IdsExhausted, Memory}
 use Rattle.puffin_frames.specs.Details.{Details, name_of, with_id}
 use Rattle.puffin_frames.specs.Details.Collection.{Collection, with_all_details}
-use Rattle.puffin.specs.Profiler.Collected.{Collected, after_adding}
+use Rattle.puffin.specs.Profiler.State.{Collected, after_adding}
 
 -- the id that a collection has for the name of these details, if any
 abbrev pub known_id : Collection → Details → Option ℕ

@@ -8,7 +8,7 @@ ghost use Rattle.puffin_frames.specs.Details.{details_of, details_seen, with_id,
 ghost use Rattle.puffin_frames.specs.Details.Collection.{no_details};
 ghost use Rattle.puffin_frames.specs.Frame.Contents.{AreHonest};
 ghost use Rattle.puffin_frames.specs.Frame.Sums.{total_scopes, IsOrdered, DurationFits};
-ghost use Rattle.puffin.specs.Profiler.Collected.{after_report, after_adding, after_wanting, PendingFits, range_with, IsTooLong, IsReportRefusal};
+ghost use Rattle.puffin.specs.Profiler.State.{after_report, after_adding, after_wanting, PendingFits, range_with, IsTooLong, IsReportRefusal};
 ghost use Rattle.puffin.specs.Profiler.Registering.{known_id, Adds, AddsSome};
 ghost use Rattle.puffin.specs.Profiler.Collecting.{Collects, TellsIds, KeepsPending, AddsUp};
 
@@ -42,7 +42,7 @@ pub struct Collector {
 }
 
 impl Model for Collector {
-    ghost use Rattle.puffin.specs.Profiler.Collected.{Collected, collected_code};
+    ghost use Rattle.puffin.specs.Profiler.State.{Collected, collected_code};
 
     ghost Value = { Collected };
 
@@ -311,7 +311,7 @@ impl Collector {
 
 impl Reporter for Collector {
     ghost use Rattle.std.specs.Prelude.{◌≡◌};
-    ghost use Rattle.puffin.specs.Profiler.Collected.{AcceptsReport, RefusesReport};
+    ghost use Rattle.puffin.specs.Profiler.State.{AcceptsReport, RefusesReport};
 
     ghost accepts = { AcceptsReport };
 

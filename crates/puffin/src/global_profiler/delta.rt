@@ -1,7 +1,7 @@
 ghost use Rattle.std.specs.Prelude.{◌≡◌, ◌++◌, ◌↔◌, OnOk, OnErr, IfOk, IfErr, List, All, IsTrue, IsSome};
 ghost use Rattle.puffin_frames.specs.Details.{Details, details_of, details_seen, shared_details, AllHaveIds};
 ghost use Rattle.puffin_frames.specs.Details.Collection.{with_all_details, KeepsOwnIds};
-ghost use Rattle.puffin.specs.Profiler.Collected.{all_details, delta_of};
+ghost use Rattle.puffin.specs.Profiler.State.{all_details, delta_of};
 ghost use Rattle.puffin.specs.Profiler.Collecting.{Begins};
 
 use puffin_data::{Error, Result};

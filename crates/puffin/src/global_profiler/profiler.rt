@@ -7,7 +7,7 @@ ghost use Rattle.puffin_frames.specs.Details.{details_seen};
 ghost use Rattle.puffin_frames.specs.Details.Collection.{no_details};
 ghost use Rattle.puffin_frames.specs.Frame.Contents.{AreHonest};
 ghost use Rattle.puffin_frames.specs.Frame.Sums.{total_scopes};
-ghost use Rattle.puffin.specs.Profiler.Collected.{AcceptsReport, RefusesReport, after_wanting};
+ghost use Rattle.puffin.specs.Profiler.State.{AcceptsReport, RefusesReport, after_wanting};
 ghost use Rattle.puffin.specs.Profiler.Registering.{Adds, AddsSome};
 ghost use Rattle.puffin.specs.Profiler.Collecting.{Collects, TellsIds, KeepsPending};
 ghost use Rattle.puffin.specs.Profiler.{collected_of};
@@ -156,7 +156,7 @@ impl GlobalProfiler {
 }
 
 impl Reporter for GlobalProfiler {
-    ghost use Rattle.puffin.specs.Profiler.Collected.{AcceptsReport, RefusesReport};
+    ghost use Rattle.puffin.specs.Profiler.State.{AcceptsReport, RefusesReport};
     ghost use Rattle.puffin.specs.Profiler.{collected_of};
 
     ghost accepts = { λ old i ds r new. AcceptsReport (collected_of old) i ds r (collected_of new) };

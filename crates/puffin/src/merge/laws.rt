@@ -7,7 +7,7 @@ ghost use Rattle.puffin_data.specs.declared.error.Error.{Error};
 ghost use Rattle.puffin_frames.specs.declared.frame_data.unpacked.UnpackedFrameData.{UnpackedFrameData};
 ghost use Rattle.puffin_frames.specs.Thread.Info.{Info};
 ghost use Rattle.puffin.specs.Merge.Occurrences.{FrameScopes, occurrences};
-ghost use Rattle.puffin.specs.Merge.MergedForest.{MergedForest};
+ghost use Rattle.puffin.specs.Merge.Tree.{MergedForest};
 ghost use Rattle.puffin.specs.Merge.Starts.{Sibling, IsLeastFeasible, earliest_starts};
 ghost use Rattle.puffin.specs.Merge.{IsMerge};
 ghost use Rattle.puffin.specs.Merge.FrameBytes.{FrameBytes};

@@ -4,7 +4,7 @@ ghost use Rattle.std.specs.Prelude.{◌≡◌, ℕ, ◌<◌, ◌≤◌, ◌^◌,
 ghost use Rattle.std.specs.Int.{w64};
 ghost use Rattle.puffin.specs.Merge.Occurrences.{Occurrence};
 ghost use Rattle.puffin.specs.Merge.{IsMerge};
-ghost use Rattle.puffin.specs.Merge.MergedForest.{MergedForest, merged};
+ghost use Rattle.puffin.specs.Merge.Tree.{MergedForest, merged};
 ghost use Rattle.puffin.specs.Merge.Refusals.{EndsFit};
 ghost use Rattle.puffin.specs.Merge.Scopes.{forest_in, scope_then};
 ghost use Rattle.puffin.specs.inner.merge.Tables.{IsTableOf};

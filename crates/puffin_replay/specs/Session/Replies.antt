@@ -24,7 +24,7 @@ use Rattle.puffin_frames.specs.declared.thread_profiler.reporter.Closed.{Closed}
 use Rattle.puffin_frames.specs.declared.thread_profiler.reporter.Closed.TheVariants as closed
 use Rattle.puffin_frames.specs.Details.{Details, default_details, shared_details}
 use Rattle.puffin_frames.specs.Details.Collection.{Collection}
-use Rattle.puffin.specs.Profiler.Collected.{IsTooLong, delta_of}
+use Rattle.puffin.specs.Profiler.State.{IsTooLong, delta_of}
 use Rattle.puffin.specs.Profiler.Collecting.{Begins}
 use Rattle.puffin.specs.Profiler.Registering.{Registers, RegistersSome}
 use Rattle.puffin.specs.declared.global_profiler.profiler.Emitted.{Emitted}

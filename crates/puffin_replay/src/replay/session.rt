@@ -8,7 +8,7 @@ ghost use Rattle.puffin_data.specs.Forest.Words.{word_size, open_after};
 ghost use Rattle.puffin_frames.specs.Thread.Info.{info_of};
 ghost use Rattle.puffin_frames.specs.Details.{AllHaveIds, details_seen};
 ghost use Rattle.puffin_frames.specs.Thread.Calls.{after_begin, after_registering};
-ghost use Rattle.puffin.specs.Profiler.Collected.{AcceptsReport, IsReportRefusal, after_wanting};
+ghost use Rattle.puffin.specs.Profiler.State.{AcceptsReport, IsReportRefusal, after_wanting};
 ghost use Rattle.puffin.specs.Profiler.Collecting.{Collects, TellsIds, KeepsPending};
 ghost use Rattle.puffin.specs.Profiler.Registering.{Adds, AddsSome};
 ghost use Rattle.puffin_replay.specs.Session.{new_session};

@@ -4,7 +4,7 @@ use Rattle.std.specs.declared.cmp.Ordering.TheVariants.{Less}
 use Rattle.puffin.specs.Merge.Occurrences.{Label, Path, Occurrence}
 use Rattle.puffin.specs.Merge.Pieces.{Merged, merged_at}
 use Rattle.puffin.specs.Merge.Starts.{earliest_starts}
-use Rattle.puffin.specs.Merge.MergedForest.{Node, MergedForest, no_node, merged}
+use Rattle.puffin.specs.Merge.Tree.{Node, MergedForest, no_node, merged}
 use Rattle.puffin.specs.Merge.{below, sibling_cmp, sibling_of}
 
 -- a node of the table, named by its number; its parent's number is 0 at the top

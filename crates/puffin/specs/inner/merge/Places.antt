@@ -11,7 +11,7 @@ use Rattle.puffin.specs.declared.merge.tree.Drawn.{Drawn}
 use Rattle.puffin.specs.declared.merge.table.Sums.{Sums}
 use Rattle.puffin.specs.Merge.Starts.{earliest_start}
 use Rattle.puffin.specs.inner.merge.Tables.{merged_in}
-use Rattle.puffin.specs.Merge.MergedForest as forests
+use Rattle.puffin.specs.Merge.Tree as forests
 use Rattle.puffin.specs.inner.merge.Assembled.{Entry}
 
 -- the node of a place

@@ -3,7 +3,7 @@ use Rattle.std.proofs.Common.{◌≡◌, sym, ap, ◌∙◌, subst, arith, take_
 use Rattle.std.specs.Prelude.{IsSome}
 use Rattle.std.proofs.lemmas.List.Elements.{All-append}
 use Rattle.puffin_frames.specs.Details.{Details, shared_details, AllHaveIds}
-use Rattle.puffin.specs.Profiler.Collected.{all_details}
+use Rattle.puffin.specs.Profiler.State.{all_details}
 use Rattle.puffin.proofs.Owning.{all_have_ids}
 use Rattle.puffin.proofs.global_profiler.delta.scope_delta.Goals.{then-wants_all+in_ok-tell_of_all, else-wants_all}
 use Rattle.puffin.proofs.global_profiler.delta.scope_delta.Goals as goal

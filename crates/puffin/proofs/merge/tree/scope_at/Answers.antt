@@ -1,7 +1,7 @@
 -- A scope's fields are those of its node as it is drawn, and its children's forest is that of their list.
 use Rattle.std.proofs.Common.{◌∙◌, w64, arith, FitsSigned}
 use Rattle.std.proofs.lemmas.Int.{to_z_pos, to_z-of_z, ints}
-use Rattle.puffin.specs.Merge.MergedForest.{merged}
+use Rattle.puffin.specs.Merge.Tree.{merged}
 use Rattle.puffin.specs.Merge.Scopes.{forest_in}
 use Rattle.puffin.proofs.Attaching.{made_then, held_is}
 use Rattle.puffin.proofs.merge.tree.scope_at.Goals as goal

@@ -6,7 +6,7 @@ use Rattle.puffin_frames.specs.Frame.Contents.{Streams, frame_contents, shared_s
 use Rattle.puffin_frames.specs.Details.{shared_details}
 use Rattle.puffin_frames.specs.Details.Collection.{with_all_details}
 use Rattle.puffin_frames.specs.Frame.Holding.{held_contents}
-use Rattle.puffin.specs.Profiler.Collected.{Collected}
+use Rattle.puffin.specs.Profiler.State.{Collected}
 use Rattle.puffin.specs.Profiler.Collecting.{KeepsPending}
 use Rattle.puffin.proofs.global_profiler.collector.Collector.collect_frame.Goals as goal
 

@@ -5,7 +5,7 @@ use Rattle.puffin_data.specs.Honesty.{record_of_ref}
 use Rattle.puffin_frames.specs.Thread.Info.{info_of}
 use Rattle.puffin_frames.specs.Frame.Contents.{Streams, shared_streams}
 use Rattle.puffin_frames.specs.Details.{shared_details, AllHaveIds}
-use Rattle.puffin.specs.Profiler.Collected.{Collected}
+use Rattle.puffin.specs.Profiler.State.{Collected}
 use Rattle.puffin.specs.Profiler.Collecting.{IsTallied, AddsUp}
 use Rattle.puffin.proofs.Knowing.{ids_after}
 use Rattle.puffin.proofs.Reporting.{Laws, kept_after}

@@ -3,7 +3,7 @@ use Rattle.std.proofs.Common.{◌≡◌, ◌+◌, ◌^◌, ◌<◌, arith, refl,
 use Rattle.std.specs.FinMap as map
 use Rattle.puffin_data.specs.Honesty.{record_of_ref}
 use Rattle.puffin_frames.specs.Frame.Sums.{meta_of}
-use Rattle.puffin.specs.Profiler.Collected.{Collected, PendingFits}
+use Rattle.puffin.specs.Profiler.State.{Collected, PendingFits}
 use Rattle.puffin.proofs.Knowing.{all_ids, not_all_ids}
 use Rattle.puffin.proofs.Reporting.{Joins, sums_fit, range_is, adds_up, too_large, too_long, not_too_long, duration_fits}
 use Rattle.puffin.proofs.global_profiler.collector.Collector.with_report.Goals as goal

@@ -8,7 +8,7 @@ use Rattle.puffin.specs.View.ViewedFrames.{Frame, index_of, packed_alone}
 use Rattle.puffin.specs.View.FrameOf.{frame_of, shared_frame}
 use Rattle.puffin.specs.inner.view.Ranks.{rank_index}
 use Rattle.puffin.specs.inner.view.Store.{AreStored, frames_under}
-use Rattle.puffin.proofs.HoldingViews.{packed_copied, packed_alone}
+use Rattle.puffin.proofs.HoldingViews.{packed_copied, packed_already}
 use Rattle.puffin.proofs.JoiningPending.{packed_newest, newest_is_packed}
 use Rattle.puffin.proofs.Storing.{stored_as, stored-already, view_as}
 use Rattle.puffin.proofs.profile_view.frame_store.FrameStore.pack_newest.Goals as goal
@@ -58,7 +58,7 @@ as_it_stands c =
     record { recent = frames_under s.held s.recent.items; slow = frames_under s.held (map rank_index s.slow.items); last = s.last; max_recent = s.max_recent; max_slow = s.max_slow; packs = s.pack_frames }
 
 alone : (c : goal.Then-not-has_unpacked) → kept c ≡ packed_alone (kept c)
-alone c = packed_alone (arc_value c.in-Some.newest.now) (ap (λ f. is_some (holding_of f).unpacked) (sym c.deref.ensures) ∙ sym c.has_unpacked.ensures ∙ c.if-not-has_unpacked.true)
+alone c = packed_already (arc_value c.in-Some.newest.now) (ap (λ f. is_some (holding_of f).unpacked) (sym c.deref.ensures) ∙ sym c.has_unpacked.ensures ∙ c.if-not-has_unpacked.true)
 
 pub returns-then-not-has_unpacked-clause-ok : goal.returns-then-not-has_unpacked-clause-ok
 returns-then-not-has_unpacked-clause-ok c =
