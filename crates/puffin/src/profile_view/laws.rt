@@ -57,9 +57,10 @@ pub fn ranks_by_duration()
 /// A view holds no frame but those that it held before and those that it took: what no test finds among these it doesn't
 /// find in the view after, nor in what is written of it.
 pub fn views_hold_what_they_took()
-    ensures held { (p : Said → Bool) (v : View) (fs : List Frame) → list_any p (contents_held v) ≡ false → list_any p (map contents_of fs) ≡ false
-        → list_any p (contents_held (after_all v fs)) ≡ false }
-    ensures listed { (p : Said → Bool) (v : View) → list_any p (contents_held v) ≡ false → list_any p (contents_in v) ≡ false }
+    ensures held { (p : Said → Bool) (v : View) (fs : List Frame) → list_any p (contents_held v) ≡ false
+        → list_any p (map contents_of fs) ≡ false → list_any p (contents_held (after_all v fs)) ≡ false }
+    ensures listed { (p : Said → Bool) (v : View) → list_any p (contents_held v) ≡ false
+        → list_any p (contents_in v) ≡ false }
 {}
 
 /// A file that was written is read again as its frames and no others, where the end follows; or it is refused, where one of

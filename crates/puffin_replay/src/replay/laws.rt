@@ -23,16 +23,20 @@ use puffin_frames::frame_data::laws::packing_keeps;
 /// others, and the details that they tell. Reader and memory aside, and where these have ids, only a frame that isn't
 /// unpacked hinders it, or their merge.
 pub fn what_was_recorded_is_summed_up()
-    ensures summary { (info : Info) (v : View) (new : Option (List ℕ)) (stored : List Stored) (summary : Summary) → AllByRecursion IsPacked (contents_in v)
-        → length (contents_in v) < 2 ^ 64 - 1 → TookFrames file_at (Some (file_of (contents_in v))) new stored → IsSummary info stored summary
+    ensures summary { (info : Info) (v : View) (new : Option (List ℕ)) (stored : List Stored) (summary : Summary)
+        → AllByRecursion IsPacked (contents_in v) → length (contents_in v) < 2 ^ 64 - 1
+        → TookFrames file_at (Some (file_of (contents_in v))) new stored → IsSummary info stored summary
         → SumsUp info (contents_in v) (details_said (contents_in v)) summary }
-    ensures fault { (info : Info) (v : View) (new : Option (List ℕ)) (e : FileError) → AllByRecursion IsPacked (contents_in v)
-        → length (contents_in v) < 2 ^ 64 - 1 → NoneLacksIds (contents_in v) → FailsToSumUp info (Some (file_of (contents_in v))) new e → ¬ IsOutside e
-        → IsHindered info (contents_in v) e }
+    ensures fault { (info : Info) (v : View) (new : Option (List ℕ)) (e : FileError)
+        → AllByRecursion IsPacked (contents_in v) → length (contents_in v) < 2 ^ 64 - 1
+        → NoneLacksIds (contents_in v) → FailsToSumUp info (Some (file_of (contents_in v))) new e
+        → ¬ IsOutside e → IsHindered info (contents_in v) e }
     // A packed copy of a frame is unpacked to what it holds, and that is what the frame holds where its streams have a layout.
-    ensures copied { (frame copy : FrameData) (streams : Streams) → holding_of copy ≡ as_packed (holding_of frame) → frame_contents copy ≡ Some streams
+    ensures copied { (frame copy : FrameData) (streams : Streams)
+        → holding_of copy ≡ as_packed (holding_of frame) → frame_contents copy ≡ Some streams
         → streams_said (frame_says frame) ≡ Ok streams }
-    ensures unpacked { (frame : FrameData) (streams : Streams) → IsHolding (holding_of frame) → frame_contents frame ≡ Some streams
+    ensures unpacked { (frame : FrameData) (streams : Streams)
+        → IsHolding (holding_of frame) → frame_contents frame ≡ Some streams
         → streams_said (frame_says frame) ≡ Ok streams }
 {
     what_was_written_is_read();

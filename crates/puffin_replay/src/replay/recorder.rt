@@ -67,14 +67,18 @@ fn record_session<D: Drain>(
     requires { D.failures drain.old < 2 ^ 64 - 1 }
     ensures run { IfOk result (λ replies. Records session.old session.new commands.now replies.items) }
     ensures view { IfOk result (λ replies. Takes (frames_emitted replies.items) view.old view.new) }
-    ensures took { IfOk result (λ replies. (cs : List Said) → Took cs (view_of view.old) → Took (cs ++ map contents_of (frames_emitted replies.items)) (view_of view.new)) }
+    ensures took { IfOk result (λ replies. (cs : List Said) → Took cs (view_of view.old)
+        → Took (cs ++ map contents_of (frames_emitted replies.items)) (view_of view.new)) }
     ensures written { OnOk result (Appends (D.contents drain.old) (D.contents drain.new) (file_of_view view.new)) }
     ensures packed { OnOk result (AllByRecursion IsPacked (contents_in (view_of view.new))) }
-    ensures held_ids { OnOk result (NoneLacksIds (contents_held (view_of view.old)) → NoneLacksIds (contents_held (view_of view.new))) }
-    ensures ids { OnOk result (NoneLacksIds (contents_held (view_of view.old)) → NoneLacksIds (contents_in (view_of view.new))) }
+    ensures held_ids { OnOk result (NoneLacksIds (contents_held (view_of view.old))
+        → NoneLacksIds (contents_held (view_of view.new))) }
+    ensures ids { OnOk result (NoneLacksIds (contents_held (view_of view.old))
+        → NoneLacksIds (contents_in (view_of view.new))) }
     ensures failures { OnOk result (D.failures drain.new ≡ D.failures drain.old) }
 
-    ensures broken { IfErr result (λ e. IsBroken session.old session.new commands.now view.old view.new (D.contents drain.old) (D.contents drain.new) e) }
+    ensures broken { IfErr result (λ e. IsBroken session.old session.new commands.now
+        view.old view.new (D.contents drain.old) (D.contents drain.new) e) }
     ensures io { (result ≡ Err FileError.Io) → (D.failures drain.new ≡ D.failures drain.old + 1) ⊎ TookNothing D.takes drain.new }
     ensures too_long { (result ≡ Err FileError.PartTooLong) → Any HasLongPart (contents_in (view_of view.new)) }
 {
@@ -105,18 +109,23 @@ pub fn record<D: Drain>(
 ) -> Result<Vec<Reply>, FileError>
     requires { D.failures drain.old < 2 ^ 64 - 1 }
     // The commands were run, and the view took the frames of that run.
-    ensures run { IfOk result (λ replies. (end : SessionState) × AreReplies (map string_bytes names.items) commands.now replies.items end) }
+    ensures run { IfOk result (λ replies. (end : SessionState)
+        × AreReplies (map string_bytes names.items) commands.now replies.items end) }
     ensures view { IfOk result (λ replies. Takes (frames_emitted replies.items) view.old view.new) }
-    ensures took { IfOk result (λ replies. (cs : List Said) → Took cs (view_of view.old) → Took (cs ++ map contents_of (frames_emitted replies.items)) (view_of view.new)) }
+    ensures took { IfOk result (λ replies. (cs : List Said) → Took cs (view_of view.old)
+        → Took (cs ++ map contents_of (frames_emitted replies.items)) (view_of view.new)) }
     ensures written { OnOk result (Appends (D.contents drain.old) (D.contents drain.new) (file_of_view view.new)) }
     // What is written is read again: it has packets, and, where the view's frames had ids in all details, so has it.
     ensures packed { OnOk result (AllByRecursion IsPacked (contents_in (view_of view.new))) }
-    ensures held_ids { OnOk result (NoneLacksIds (contents_held (view_of view.old)) → NoneLacksIds (contents_held (view_of view.new))) }
-    ensures ids { OnOk result (NoneLacksIds (contents_held (view_of view.old)) → NoneLacksIds (contents_in (view_of view.new))) }
+    ensures held_ids { OnOk result (NoneLacksIds (contents_held (view_of view.old))
+        → NoneLacksIds (contents_held (view_of view.new))) }
+    ensures ids { OnOk result (NoneLacksIds (contents_held (view_of view.old))
+        → NoneLacksIds (contents_in (view_of view.new))) }
     ensures failures { OnOk result (D.failures drain.new ≡ D.failures drain.old) }
 
     ensures broken { IfErr result (λ e. (end : SessionState)
-        × IsBroken (new_session (map string_bytes names.items)) end commands.now view.old view.new (D.contents drain.old) (D.contents drain.new) e) }
+        × IsBroken (new_session (map string_bytes names.items)) end commands.now
+        view.old view.new (D.contents drain.old) (D.contents drain.new) e) }
     // The writer failed in this call, or took nothing.
     ensures io { (result ≡ Err FileError.Io) → (D.failures drain.new ≡ D.failures drain.old + 1) ⊎ TookNothing D.takes drain.new }
     ensures too_long { (result ≡ Err FileError.PartTooLong) → Any HasLongPart (contents_in (view_of view.new)) }
