@@ -131,5 +131,6 @@ IsUnfinished script fault file_before file_after lines_before lines_after =
     ((fault ≡ file.Memory) × Appends file_before file_after [] × Appends lines_before lines_after [])
     ⊎ ((replies : List Reply) × (end : SessionState) × AreAnswers script replies end × WritesBeginning file_before file_after (file_of (contents_in (view_after replies))) × Appends lines_before lines_after []
     × IsWriteFault fault × (fault ≡ file.PartTooLong → Any HasLongPart (contents_in (view_after replies))))
-    ⊎ ((replies : List Reply) × (end : SessionState) × AreAnswers script replies end × Appends file_before file_after (file_of (contents_in (view_after replies))) × WritesBeginning lines_before lines_after (reply_lines script.lines.items replies)
+    ⊎ ((replies : List Reply) × (end : SessionState) × AreAnswers script replies end × Appends file_before file_after (file_of (contents_in (view_after replies))) × NoneLacksIds (contents_in (view_after replies))
+    × WritesBeginning lines_before lines_after (reply_lines script.lines.items replies)
     × IsOutside fault)
