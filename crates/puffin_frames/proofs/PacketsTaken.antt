@@ -236,7 +236,6 @@ stored_is form (Err e) s rest given = absurd (no_fault e (Some s, rest) given)
 stored_is {A = A} form (Ok p) s rest given =
     let made : (Option Stored × List ℕ) = (Some (form p.0), p.1) in
     let same = same_ok made (Some s, rest) given in
-    let again : Result (A × List ℕ) FileError = Ok p in
     (p.0, ap (λ (t : List ℕ). Ok (p.0, t)) (ap (λ (q : Option Stored × List ℕ). q.1) same), same_some (form p.0) s (ap (λ (q : Option Stored × List ℕ). q.0) same))
   where
     same_some : (x y : Stored) → Some x ≡ Some y → x ≡ y
