@@ -1,6 +1,18 @@
-//! A profiler that threads report to, and that hands out what they reported in frames.
+//! A profiler that threads report to and that hands out what they reported in frames, views that keep frames, and the
+//! totals of scopes over frames. The modules of the crates below stand here again under their own names, so that a
+//! program needs this crate alone.
 //!
-//! The modules of the crates below stand here again under their own names.
+//! | to | call |
+//! |---|---|
+//! | gather what threads report | [`global_profiler::GlobalProfiler::new`]; it is the [`thread_profiler::Reporter`] of each `end_scope` |
+//! | take a frame | [`global_profiler::GlobalProfiler::new_frame`] |
+//! | register and report scopes of another origin | [`global_profiler::GlobalProfiler::register_user_scopes`], `report_user_scopes` |
+//! | have the next frame tell of all known scopes | [`global_profiler::GlobalProfiler::emit_scope_snapshot`] |
+//! | see that nothing is missing | [`global_profiler::GlobalProfiler::totals`] |
+//! | keep the last and the slowest frames | [`profile_view::FrameView::add_frame`]; its listings and `stats` |
+//! | write them to a `.puffin` file, and read one | [`profile_view::FrameView::write`], [`profile_view::FrameView::read`] |
+//! | pick the slowest of any frames | [`profile_view::select_slowest`] |
+//! | add up one thread's scopes over frames | [`merge::merge_scopes_for_thread`] |
 #![tactic(auto)]
 
 pub mod global_profiler;

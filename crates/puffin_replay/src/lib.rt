@@ -1,4 +1,14 @@
-//! What the program does, as functions over any reader and writer.
+//! Sessions of commands, and what the program does with them, as functions over any reader and writer. The contract of
+//! [`replay::Session::run`] is the main promise: nothing is lost, doubled or changed, and each frame spells what was due.
+//!
+//! | to | call |
+//! |---|---|
+//! | drive threads and their profiler by commands | [`replay::Session::new`], [`replay::Session::run`] |
+//! | run commands into a file | [`replay::record`] |
+//! | read a script, and run it into a file and lines | [`replay::read_script`], [`replay::run_script`] |
+//! | sum up a file for one thread | [`replay::summarize`] |
+//! | count a stream | [`replay::count_stream`] |
+//! | read the program's words, and tell of its faults | [`replay::read_words`], [`replay::finish`] |
 #![tactic(auto)]
 
 pub mod replay;
