@@ -5,3 +5,5 @@
 mod global_profiler;
 #[cfg(test)]
 mod merge;
+#[cfg(test)]
+mod refused_merges;
