@@ -6,4 +6,6 @@ mod global_profiler;
 #[cfg(test)]
 mod merge;
 #[cfg(test)]
+mod refused_merges;
+#[cfg(test)]
 mod surface;

@@ -10,22 +10,22 @@ use std::collections::BTreeMap;
 use std::sync::Arc;
 use std::test::Fail;
 
-type Outcome = std::result::Result<(), Fail>;
+pub(crate) type Outcome = std::result::Result<(), Fail>;
 
-type Frames = Vec<Arc<UnpackedFrameData>>;
+pub(crate) type Frames = Vec<Arc<UnpackedFrameData>>;
 
 /// Id, start, total, per frame, greatest, pieces.
 type Numbers = (u32, NanoSecond, NanoSecond, NanoSecond, NanoSecond, usize);
 
 /// Begins a scope, and answers where its size stands.
-fn begin(stream: &mut Stream, id: u32, start: NanoSecond, text: &str) -> Result<usize> {
+pub(crate) fn begin(stream: &mut Stream, id: u32, start: NanoSecond, text: &str) -> Result<usize> {
     match ScopeId::new(id) {
         None => Err(Error::PrematureEnd),
         Some(id) => Ok(stream.begin_scope(move || start, id, text)?.0),
     }
 }
 
-fn end(stream: &mut Stream, offset: usize, stop: NanoSecond) -> Result<()> {
+pub(crate) fn end(stream: &mut Stream, offset: usize, stop: NanoSecond) -> Result<()> {
     if offset <= stream.len() && 8 <= stream.len() - offset {
         stream.end_scope(offset, stop)
     } else {
@@ -33,12 +33,17 @@ fn end(stream: &mut Stream, offset: usize, stop: NanoSecond) -> Result<()> {
     }
 }
 
-fn leaf(stream: &mut Stream, id: u32, start: NanoSecond, stop: NanoSecond) -> Result<()> {
+pub(crate) fn leaf(
+    stream: &mut Stream,
+    id: u32,
+    start: NanoSecond,
+    stop: NanoSecond,
+) -> Result<()> {
     let offset = begin(stream, id, start, "")?;
     end(stream, offset, stop)
 }
 
-fn thread(alloc: Global) -> Result<ThreadInfo> {
+pub(crate) fn thread(alloc: Global) -> Result<ThreadInfo> {
     Ok(ThreadInfo {
         start_time_ns: Some(0),
         name: String::from_str(alloc, "main")?,
@@ -52,12 +57,12 @@ fn frame_of(alloc: Global, thread: ThreadInfo, stream: Stream) -> Result<Arc<Unp
     Ok(Arc::new(alloc, UnpackedFrameData::new(alloc, 0, streams)?)?)
 }
 
-fn frame(alloc: Global, stream: Stream) -> Result<Arc<UnpackedFrameData>> {
+pub(crate) fn frame(alloc: Global, stream: Stream) -> Result<Arc<UnpackedFrameData>> {
     frame_of(alloc, thread(alloc)?, stream)
 }
 
 /// A frame of one scope.
-fn one_scope(
+pub(crate) fn one_scope(
     alloc: Global,
     id: u32,
     start: NanoSecond,
@@ -68,13 +73,13 @@ fn one_scope(
     frame(alloc, stream)
 }
 
-fn one_frame(alloc: Global, stream: Stream) -> Result<Frames> {
+pub(crate) fn one_frame(alloc: Global, stream: Stream) -> Result<Frames> {
     let mut frames = Vec::new(alloc);
     frames.push(frame(alloc, stream)?)?;
     Ok(frames)
 }
 
-fn merged<'s>(alloc: Global, frames: &'s Frames) -> Result<Vec<MergeScope<'s>>> {
+pub(crate) fn merged<'s>(alloc: Global, frames: &'s Frames) -> Result<Vec<MergeScope<'s>>> {
     let collection = ScopeCollection::new(alloc);
     merge_scopes_for_thread(alloc, &collection, frames.as_slice(), &thread(alloc)?)
 }
@@ -176,17 +181,6 @@ fn a_child_that_starts_before_its_parent(rt: HostRuntime) -> Outcome {
 }
 
 #[test]
-fn a_total_that_does_not_fit(rt: HostRuntime) -> Outcome {
-    let alloc = rt.alloc();
-    let mut stream = Stream::new(alloc);
-    leaf(&mut stream, 1, 0, i64::MAX)?;
-    leaf(&mut stream, 1, 0, i64::MAX)?;
-    let frames = one_frame(alloc, stream)?;
-    assert!(rt; matches!(merged(alloc, &frames), Err(Error::TooLarge)));
-    Ok(())
-}
-
-#[test]
 fn a_scope_of_one_of_two_frames(rt: HostRuntime) -> Outcome {
     let alloc = rt.alloc();
     let mut frames = Vec::new(alloc);
@@ -279,79 +273,6 @@ fn tries_are_counted(rt: HostRuntime) -> Outcome {
     )?;
     assert_eq!(rt; merged.len(), 1);
     assert_eq!(rt; tries, 3);
-    Ok(())
-}
-
-/// The readings made until merging is refused, and the cause.
-fn refused_after(alloc: Global, frames: &Frames) -> Result<(Option<Error>, u128)> {
-    let collection = ScopeCollection::new(alloc);
-    let mut tries = 77;
-    let refused = merge_scopes_counted(
-        alloc,
-        &collection,
-        frames.as_slice(),
-        &thread(alloc)?,
-        &mut tries,
-    );
-    Ok((refused.err(), tries))
-}
-
-#[test]
-fn tries_of_refused_merges(rt: HostRuntime) -> Outcome {
-    let alloc = rt.alloc();
-    // Two frames of one scope each, then one whose third scope's sum doesn't fit, then one that isn't read.
-    let mut frames = Vec::new(alloc);
-    frames.push(one_scope(alloc, 1, 0, 10)?)?;
-    frames.push(one_scope(alloc, 1, 0, 10)?)?;
-    let mut stream = Stream::new(alloc);
-    for stop in [1, 2, i64::MAX, 3] {
-        leaf(&mut stream, 1, 0, stop)?;
-    }
-    frames.push(frame(alloc, stream)?)?;
-    frames.push(one_scope(alloc, 1, 0, 10)?)?;
-    assert_eq!(rt; refused_after(alloc, &frames)?, (Some(Error::TooLarge), 5));
-    // The scope at depth 1,025 is the last that is read.
-    let deep = one_frame(alloc, nested(alloc, 2000)?)?;
-    assert_eq!(rt; refused_after(alloc, &deep)?, (Some(Error::TooDeep), 1025));
-    Ok(())
-}
-
-#[test]
-fn an_end_that_does_not_fit(rt: HostRuntime) -> Outcome {
-    let alloc = rt.alloc();
-    let mut stream = Stream::new(alloc);
-    leaf(&mut stream, 1, 0, i64::MAX)?;
-    let frames = one_frame(alloc, stream.clone()?)?;
-    assert_eq!(rt; merged(alloc, &frames)?.len(), 1);
-    // The second starts at the greatest time, where the first ends, and would end after it. Both are read before.
-    leaf(&mut stream, 2, 0, 1)?;
-    let frames = one_frame(alloc, stream)?;
-    assert_eq!(rt; refused_after(alloc, &frames)?, (Some(Error::TooLarge), 2));
-    Ok(())
-}
-
-/// So many scopes, each in the one before.
-fn nested(alloc: Global, height: usize) -> Result<Stream> {
-    let mut stream = Stream::new(alloc);
-    let mut offsets = Vec::new(alloc);
-    for _ in 0..height {
-        offsets.push(begin(&mut stream, 1, 0, "")?)?;
-    }
-    for offset in offsets.iter().rev() {
-        end(&mut stream, *offset, 0)?;
-    }
-    Ok(stream)
-}
-
-#[test]
-fn heights(rt: HostRuntime) -> Outcome {
-    let alloc = rt.alloc();
-    let fit = one_frame(alloc, nested(alloc, 1024)?)?;
-    assert_eq!(rt; merged(alloc, &fit)?.len(), 1);
-    for height in [1025, 100_000] {
-        let too_deep = one_frame(alloc, nested(alloc, height)?)?;
-        assert!(rt; matches!(merged(alloc, &too_deep), Err(Error::TooDeep)));
-    }
     Ok(())
 }
 

@@ -1,0 +1,92 @@
+use crate::merge::{
+    Frames, Outcome, begin, end, frame, leaf, merged, one_frame, one_scope, thread,
+};
+use puffin::data::Stream;
+use puffin::merge::merge_scopes_counted;
+use puffin::scope_details::ScopeCollection;
+use puffin::{Error, Result};
+use std::alloc::Global;
+
+#[test]
+fn a_total_that_does_not_fit(rt: HostRuntime) -> Outcome {
+    let alloc = rt.alloc();
+    let mut stream = Stream::new(alloc);
+    leaf(&mut stream, 1, 0, i64::MAX)?;
+    leaf(&mut stream, 1, 0, i64::MAX)?;
+    let frames = one_frame(alloc, stream)?;
+    assert!(rt; matches!(merged(alloc, &frames), Err(Error::TooLarge)));
+    Ok(())
+}
+
+/// The readings made until merging is refused, and the cause.
+fn refused_after(alloc: Global, frames: &Frames) -> Result<(Option<Error>, u128)> {
+    let collection = ScopeCollection::new(alloc);
+    let mut tries = 77;
+    let refused = merge_scopes_counted(
+        alloc,
+        &collection,
+        frames.as_slice(),
+        &thread(alloc)?,
+        &mut tries,
+    );
+    Ok((refused.err(), tries))
+}
+
+#[test]
+fn tries_of_refused_merges(rt: HostRuntime) -> Outcome {
+    let alloc = rt.alloc();
+    // Two frames of one scope each, then one whose third scope's sum doesn't fit, then one that isn't read.
+    let mut frames = Vec::new(alloc);
+    frames.push(one_scope(alloc, 1, 0, 10)?)?;
+    frames.push(one_scope(alloc, 1, 0, 10)?)?;
+    let mut stream = Stream::new(alloc);
+    for stop in [1, 2, i64::MAX, 3] {
+        leaf(&mut stream, 1, 0, stop)?;
+    }
+    frames.push(frame(alloc, stream)?)?;
+    frames.push(one_scope(alloc, 1, 0, 10)?)?;
+    assert_eq!(rt; refused_after(alloc, &frames)?, (Some(Error::TooLarge), 5));
+    // The scope at depth 1,025 is the last that is read.
+    let deep = one_frame(alloc, nested(alloc, 2000)?)?;
+    assert_eq!(rt; refused_after(alloc, &deep)?, (Some(Error::TooDeep), 1025));
+    Ok(())
+}
+
+#[test]
+fn an_end_that_does_not_fit(rt: HostRuntime) -> Outcome {
+    let alloc = rt.alloc();
+    let mut stream = Stream::new(alloc);
+    leaf(&mut stream, 1, 0, i64::MAX)?;
+    let frames = one_frame(alloc, stream.clone()?)?;
+    assert_eq!(rt; merged(alloc, &frames)?.len(), 1);
+    // The second starts at the greatest time, where the first ends, and would end after it. Both are read before.
+    leaf(&mut stream, 2, 0, 1)?;
+    let frames = one_frame(alloc, stream)?;
+    assert_eq!(rt; refused_after(alloc, &frames)?, (Some(Error::TooLarge), 2));
+    Ok(())
+}
+
+/// So many scopes, each in the one before.
+fn nested(alloc: Global, height: usize) -> Result<Stream> {
+    let mut stream = Stream::new(alloc);
+    let mut offsets = Vec::new(alloc);
+    for _ in 0..height {
+        offsets.push(begin(&mut stream, 1, 0, "")?)?;
+    }
+    for offset in offsets.iter().rev() {
+        end(&mut stream, *offset, 0)?;
+    }
+    Ok(stream)
+}
+
+#[test]
+fn heights(rt: HostRuntime) -> Outcome {
+    let alloc = rt.alloc();
+    let fit = one_frame(alloc, nested(alloc, 1024)?)?;
+    assert_eq!(rt; merged(alloc, &fit)?.len(), 1);
+    for height in [1025, 100_000] {
+        let too_deep = one_frame(alloc, nested(alloc, height)?)?;
+        assert!(rt; matches!(merged(alloc, &too_deep), Err(Error::TooDeep)));
+    }
+    Ok(())
+}
