@@ -171,8 +171,10 @@ pub fn one_reading()
 
 /// Scopes that were read, and their records, are equal just where all their fields are.
 pub fn scopes_by_fields()
-    ensures records { (a b : ScopeRecord) → IsTrue (⟦<ScopeRecord<'static> as PartialEq>⟧.eq a b) ↔ (record_seen a ≡ record_seen b) }
-    ensures scopes { (a b : Scope) → IsTrue (⟦<Scope<'static> as PartialEq>⟧.eq a b) ↔ (scope_seen a ≡ scope_seen b) }
+    ensures records { (a b : ScopeRecord) →
+        IsTrue (⟦<ScopeRecord<'static> as PartialEq>⟧.eq a b) ↔ (record_seen a ≡ record_seen b) }
+    ensures scopes { (a b : Scope) →
+        IsTrue (⟦<Scope<'static> as PartialEq>⟧.eq a b) ↔ (scope_seen a ≡ scope_seen b) }
 {}
 
 /// No layout of a value begins another of its kind. A number of fewer bits is one of 64, and a text is a block of bytes.

@@ -65,7 +65,8 @@ pub fn reported_streams()
     ensures stop { (streams : Streams) (i : Info) (r : Recorded) → greatest_stop (map.values (reported_to streams i r)) ≡ int_max (greatest_stop (map.values streams)) r.range_ns.1 }
     ensures none { map.values {X = Recorded} {R = info_cmp} map.empty ≡ [] }
     // The scopes under one info are among all.
-    ensures under_one { (streams : Streams) (i : Info) → (stream_under streams i).num_scopes ≤ total_scopes (map.values streams) }
+    ensures under_one { (streams : Streams) (i : Info) →
+        (stream_under streams i).num_scopes ≤ total_scopes (map.values streams) }
 {}
 
 /// What a report does to honest streams. Where there is a scope among them, their joined range isn't reversed, and where

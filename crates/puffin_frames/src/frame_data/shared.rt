@@ -36,7 +36,8 @@ pub(crate) fn shared(
 /// then as before.
 fn extend_shared(alloc: Global, shared: &mut Arc<StreamInfo>, times: &StreamInfoRef) -> Result<()>
     ensures ok { OnOk result (recorded (arc_value shared.new) ≡ joined (recorded (arc_value shared.old)) (recorded_ref times.now)) }
-    ensures too_large { (result ≡ Err Error.TooLarge) ↔ (2 ^ 64 ≤ (arc_value shared.old).num_scopes + times.now.num_scopes) }
+    ensures too_large { (result ≡ Err Error.TooLarge)
+        ↔ (2 ^ 64 ≤ (arc_value shared.old).num_scopes + times.now.num_scopes) }
     ensures err { OnErr result (recorded (arc_value shared.new) ≡ recorded (arc_value shared.old)) }
     ensures cause { IfErr result (λ e. (e ≡ Error.TooLarge) ⊎ (e ≡ Error.Memory)) }
 {
@@ -63,8 +64,8 @@ pub fn report_to(
     times: &StreamInfoRef,
 ) -> Result<()>
     ensures ok { OnOk result (shared_streams streams.new.entries ≡ reported_to (shared_streams streams.old.entries) (info_of info) (recorded_ref times.now)) }
-    ensures too_large { (result ≡ Err Error.TooLarge)
-        ↔ (2 ^ 64 ≤ (stream_under (shared_streams streams.old.entries) (info_of info)).num_scopes + times.now.num_scopes) }
+    ensures too_large { let before = stream_under (shared_streams streams.old.entries) (info_of info) in
+        (result ≡ Err Error.TooLarge) ↔ (2 ^ 64 ≤ before.num_scopes + times.now.num_scopes) }
     ensures err { OnErr result (shared_streams streams.new.entries ≡ shared_streams streams.old.entries) }
     ensures cause { IfErr result (λ e. (e ≡ Error.TooLarge) ⊎ (e ≡ Error.Memory)) }
 {

@@ -50,7 +50,8 @@ pub fn types_and_ids()
     ensures ids { (a b : ScopeId) → ⟦<ScopeId as Ord>⟧.cmp a b ≡ nat_cmp a b }
     ensures same_ids { (a b : ScopeId) → ⟦<ScopeId as PartialEq>⟧.eq a b ≡ eq_by_cmp nat_cmp a b }
     // A type is hashed as its place, and an id as its number.
-    ensures type_hashes { (a : ScopeType) → ⟦<ScopeType as Hash>⟧.hash_input a ≡ fed.usize (type_place a) }
+    ensures type_hashes { (a : ScopeType) →
+        ⟦<ScopeType as Hash>⟧.hash_input a ≡ fed.usize (type_place a) }
     ensures id_hashes { (a : ScopeId) → ⟦<ScopeId as Hash>⟧.hash_input a ≡ fed.u32 a }
 {}
 
