@@ -1,5 +1,9 @@
 """Runs the program on the cases of this folder and compares what it writes.
 
+    python3 run.py PROGRAM [SCRIPT]
+
+SCRIPT is the script that builds and runs the program; it is run through a symbolic link from another folder.
+
 A case is a folder in cases/ with the files
   args    the program's words, one a line
   script  a file that lies where the program runs
@@ -59,18 +63,28 @@ def faults(program, case):
     return [f"{what} is {got!r:.200} and not {want!r:.200}" for what, (got, want) in wanted.items() if got != want]
 
 
+def faults_through_a_link(script, case):
+    """The same of the script, which a symbolic link in another folder leads to."""
+    with tempfile.TemporaryDirectory() as folder:
+        link = pathlib.Path(folder) / "linked"
+        link.symlink_to(script)
+        return faults(str(link), case)
+
+
 def main():
-    program = str(pathlib.Path(sys.argv[1]).resolve())
-    failed = 0
+    program, *script = (str(pathlib.Path(word).resolve()) for word in sys.argv[1:])
     cases = sorted(it for it in (HERE / "cases").iterdir() if it.is_dir())
-    for case in cases:
+    runs = [(case.name, faults, program, case) for case in cases]
+    runs += [("through_a_link", faults_through_a_link, it, HERE / "cases" / "replay_one_frame") for it in script]
+    failed = 0
+    for name, run, what, case in runs:
         try:
-            found = faults(program, case)
+            found = run(what, case)
         except (OSError, subprocess.SubprocessError) as error:
             found = [str(error)]
         failed += bool(found)
-        print(f"case {case.name} ... {'; '.join(found) if found else 'ok'}")
-    print(f"{len(cases) - failed} passed, {failed} failed")
+        print(f"case {name} ... {'; '.join(found) if found else 'ok'}")
+    print(f"{len(runs) - failed} passed, {failed} failed")
     return 1 if failed or not cases else 0
 
 
