@@ -24,11 +24,13 @@ pub fn earliest_starts()
 /// frames with the first one first have it in any order, and merging these gives it, or is refused for want of memory.
 pub fn frames_in_any_order()
     ensures frames { (info : Info) (first : Arc UnpackedFrameData Global)
-        (others again : List (Arc UnpackedFrameData Global)) → IsPermutation others again →
-        (f : MergedForest) → AreMerged (frames_bytes info (first ∷ others)) f
+        (others again : List (Arc UnpackedFrameData Global)) → IsPermutation others again
+        → (f : MergedForest) → AreMerged (frames_bytes info (first ∷ others)) f
         → AreMerged (frames_bytes info (first ∷ again)) f }
-    ensures scopes { (first : FrameScopes) (others again : List FrameScopes) → IsPermutation others again →
-        (frames : ℕ) (f : MergedForest) → IsMerge (occurrences (first ∷ others)) frames f → IsMerge (occurrences (first ∷ again)) frames f }
+    ensures scopes { (first : FrameScopes) (others again : List FrameScopes)
+        → IsPermutation others again → (frames : ℕ) (f : MergedForest)
+        → IsMerge (occurrences (first ∷ others)) frames f
+        → IsMerge (occurrences (first ∷ again)) frames f }
 {}
 
 /// Frames are merged into one forest at most, and then no refusal is theirs.

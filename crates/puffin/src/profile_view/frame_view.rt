@@ -70,11 +70,14 @@ impl FrameView {
         ensures missing { (result ≡ Err Error.MissingId)
             ↔ (lacks_ids (contents_of (shared_frame frame)) ≡ true) }
         ensures unchanged { (result ≡ Err Error.MissingId)
-            → (view_of self.new ≡ view_of self.old) × (collection_of self.new ≡ collection_of self.old) }
+            → (view_of self.new ≡ view_of self.old)
+            × (collection_of self.new ≡ collection_of self.old) }
         ensures cause { IfErr result (λ e. (e ≡ Error.MissingId) ⊎ (e ≡ Error.Memory)) }
         // What a refusal for memory may leave.
-        ensures err { OnErr result (KeepsFrames (view_of self.old) (index_of (shared_frame frame)) (view_of self.new)) }
-        ensures known { OnErr result (LearnsSome (collection_of self.old) (told (shared_frame frame)) (collection_of self.new)) }
+        ensures err { OnErr result
+            (KeepsFrames (view_of self.old) (index_of (shared_frame frame)) (view_of self.new)) }
+        ensures known { OnErr result (LearnsSome (collection_of self.old)
+            (told (shared_frame frame)) (collection_of self.new)) }
 
         // What the view holds of any two lists, it holds of them with the frame.
         ensures more { OnOk result ((cs ds : List Said) → is_past (view_of self.old) (index_of (shared_frame frame)) ≡ false → Holds cs ds (view_of self.old)
@@ -217,7 +220,8 @@ fn any_lacks_id(details: &[Arc<ScopeDetails>]) -> bool
 fn learn(collection: &mut ScopeCollection, details: &[Arc<ScopeDetails>]) -> Result<()>
     requires { AllHaveIds (shared_details details.now) }
     ensures ok { OnOk result (collection.new ≡ inserted_all collection.old (shared_details details.now)) }
-    ensures err { OnErr result (LearnsSome collection.old (shared_details details.now) collection.new) }
+    ensures err { OnErr result
+        (LearnsSome collection.old (shared_details details.now) collection.new) }
     ensures cause { IfErr result (λ e. e ≡ Error.Memory) }
 {
     for details in details {
