@@ -205,32 +205,35 @@ module _ (script : Script) (names : List (List ℕ)) (commands : List Command) (
         ))
 
     -- the file was written
-    module _ (replies : List Reply) (run : (end : SessionState) × AreReplies names commands replies end) (takes : Takes (frames_emitted replies) old new) (file_before file_after : Option (List ℕ)) (written : Appends file_before file_after (file_of_view new)) where
+    module _ (replies : List Reply) (run : (end : SessionState) × AreReplies names commands replies end) (takes : Takes (frames_emitted replies) old new) (file_before file_after : Option (List ℕ)) (written : Appends file_before file_after (file_of_view new)) (ids : NoneLacksIds (contents_in (view_of new))) where
       written-after : Appends file_before file_after (file_of (contents_in (view_after replies)))
       written-after = subst (λ (v : View). Appends file_before file_after (file_of (contents_in v))) (view-after replies takes) written
+
+      ids-after : NoneLacksIds (contents_in (view_after replies))
+      ids-after = subst (λ (v : View). NoneLacksIds (contents_in v)) (view-after replies takes) ids
 
       -- and a beginning of the lines
       pub cut_lines : (fault : FileError) (bytes : List ℕ) (lines_before lines_after : Option (List ℕ)) → bytes ≡ reply_lines script.lines.items replies → WritesBeginning lines_before lines_after bytes → IsOutside fault
           → IsUnfinished script fault file_before file_after lines_before lines_after
       cut_lines fault bytes lines_before lines_after same part outside =
-          inr (inr (replies, run.0, answers replies run.0 run.1, written-after, subst (λ (bs : List ℕ). WritesBeginning lines_before lines_after bs) same part, outside))
+          inr (inr (replies, run.0, answers replies run.0 run.1, written-after, ids-after, subst (λ (bs : List ℕ). WritesBeginning lines_before lines_after bs) same part, outside))
 
       -- and no line, for want of memory
       pub no_lines : (fault : FileError) (lines : Option (List ℕ)) → fault ≡ file.Memory → IsUnfinished script fault file_before file_after lines lines
       no_lines fault lines memory = cut_lines fault (reply_lines script.lines.items replies) lines lines refl ([], reply_lines script.lines.items replies, refl, nothing_written lines) (inr memory)
 
       -- and the lines
-      pub replayed : (bytes : List ℕ) (lines_before lines_after : Option (List ℕ)) → TookAlso (frames_emitted replies) (view_of old) (view_of new) → Took [] (view_of old) → bytes ≡ reply_lines script.lines.items replies → AllByRecursion IsPacked (contents_in (view_of new)) → NoneLacksIds (contents_in (view_of new)) → Appends lines_before lines_after bytes
+      pub replayed : (bytes : List ℕ) (lines_before lines_after : Option (List ℕ)) → TookAlso (frames_emitted replies) (view_of old) (view_of new) → Took [] (view_of old) → bytes ≡ reply_lines script.lines.items replies → AllByRecursion IsPacked (contents_in (view_of new)) → Appends lines_before lines_after bytes
           → IsReplayed script file_before file_after lines_before lines_after
-      replayed bytes lines_before lines_after took none same packed ids details_of_frame = record {
+      replayed bytes lines_before lines_after took none same packed printed = record {
         replies = replies;
         end = run.0;
         run = answers replies run.0 run.1;
         took = subst (λ (v : View). Took (map contents_of (frames_emitted replies)) v) (view-after replies takes) (took [] none);
         written = written-after;
         packed = subst (λ (v : View). AllByRecursion IsPacked (contents_in v)) (view-after replies takes) packed;
-        ids = subst (λ (v : View). NoneLacksIds (contents_in v)) (view-after replies takes) ids;
-        told = subst (λ (bs : List ℕ). Appends lines_before lines_after bs) same details_of_frame;
+        ids = ids-after;
+        told = subst (λ (bs : List ℕ). Appends lines_before lines_after bs) same printed;
       }
 
 -- copies of texts have their bytes
