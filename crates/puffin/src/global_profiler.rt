@@ -6,5 +6,6 @@ mod profiler;
 mod totals;
 
 pub use collector::Collector;
+pub(crate) use delta::learn;
 pub use profiler::{Emitted, GlobalProfiler};
 pub use totals::Totals;

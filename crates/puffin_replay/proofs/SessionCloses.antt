@@ -17,7 +17,7 @@ use Rattle.puffin_frames.specs.Thread.Closing.{Closes}
 use Rattle.puffin_frames.specs.declared.frame_data.frame.FrameData.{FrameData}
 use Rattle.puffin_frames.specs.declared.thread_profiler.reporter.Closed.{Closed}
 use Rattle.puffin_frames.specs.declared.thread_profiler.reporter.Closed.TheVariants.{Inner, Reported, Kept}
-use Rattle.puffin.specs.Profiler.State.{Collected, AcceptsReport, RefusesReport, after_report, after_wanting, PendingFits, range_with, IsTooLong, IsReportRefusal}
+use Rattle.puffin.specs.Profiler.State.{Collected, AcceptsReport, RefusesReport, after_wanting, IsReportRefusal}
 use Rattle.puffin.specs.Profiler.Collecting.{Collects, KeepsPending}
 use Rattle.puffin_replay.specs.Session.{SessionState}
 use Rattle.puffin_replay.specs.inner.Serving.{clock_time, session_thread, session_with_thread, session_with_collected, Ends}
@@ -85,19 +85,18 @@ Ends-there now threads collected after t thread new at back (Ok closed) same lt 
 
 -- what an accepted report of a user's scopes gives, and a refused one
 pub Accepts-from : (now seen : SessionState) (after : Collected) (i given : Info) (r lent : Recorded) (f : Forest) (bytes : List ℕ) (result : Result (Unit {0}) Error) → seen ≡ now → IsHonestRecord r f → r.bytes ≡ bytes → lent ≡ r → given ≡ i
-    → OnOk result (after ≡ after_report seen.collected given [] lent) → OnOk result (PendingFits seen.collected lent × ¬ IsTooLong (range_with seen.collected lent))
+    → OnOk result (AcceptsReport seen.collected given [] lent after)
     → OnOk result ((r : Recorded) × (f : Forest) × IsHonestRecord r f × (r.bytes ≡ bytes) × AcceptsReport now.collected i [] r after × (session_with_collected seen after ≡ session_with_collected now after))
-Accepts-from now seen after i given r lent f bytes (Err e) same honest read lends names took fits = tt
-Accepts-from now seen after i given r lent f bytes (Ok x) same honest read lends names took fits =
-    let given_there : AcceptsReport seen.collected given [] lent after = (took, no_details_lack, fits.0, fits.1) in
-    let here : AcceptsReport seen.collected i [] r after = subst (λ (q : Recorded). AcceptsReport seen.collected i [] q after) lends (subst (λ (j : Info). AcceptsReport seen.collected j [] lent after) names given_there) in
+Accepts-from now seen after i given r lent f bytes (Err e) same honest read lends names took = tt
+Accepts-from now seen after i given r lent f bytes (Ok x) same honest read lends names took =
+    let here : AcceptsReport seen.collected i [] r after = subst (λ (q : Recorded). AcceptsReport seen.collected i [] q after) lends (subst (λ (j : Info). AcceptsReport seen.collected j [] lent after) names took) in
     (r, f, honest, read, subst (λ (s : SessionState). AcceptsReport s.collected i [] r after) same here, ap (λ (s : SessionState). session_with_collected s after) same)
 
-pub Refuses-from : (now seen : SessionState) (r lent : Recorded) (f : Forest) (bytes : List ℕ) (result : Result (Unit {0}) Error) → seen ≡ now → IsHonestRecord r f → r.bytes ≡ bytes → lent ≡ r
-    → IfErr result (λ e. IsReportRefusal seen.collected [] lent e) → IfErr result (λ e. (e ≡ Memory) ⊎ IsFault bytes e ⊎ ((r : Recorded) × (f : Forest) × IsHonestRecord r f × (r.bytes ≡ bytes) × IsReportRefusal now.collected [] r e))
-Refuses-from now seen r lent f bytes (Ok x) same honest read lends refused = tt
-Refuses-from now seen r lent f bytes (Err e) same honest read lends refused =
-    inr (inr (r, f, honest, read, subst (λ (s : SessionState). IsReportRefusal s.collected [] r e) same (subst (λ (q : Recorded). IsReportRefusal seen.collected [] q e) lends refused)))
+pub Refuses-from : (now seen : SessionState) (after : Collected) (given : Info) (r lent : Recorded) (f : Forest) (bytes : List ℕ) (result : Result (Unit {0}) Error) → seen ≡ now → IsHonestRecord r f → r.bytes ≡ bytes → lent ≡ r
+    → IfErr result (λ e. RefusesReport seen.collected given [] lent e after) → IfErr result (λ e. (e ≡ Memory) ⊎ IsFault bytes e ⊎ ((r : Recorded) × (f : Forest) × IsHonestRecord r f × (r.bytes ≡ bytes) × IsReportRefusal now.collected [] r e))
+Refuses-from now seen after given r lent f bytes (Ok x) same honest read lends refused = tt
+Refuses-from now seen after given r lent f bytes (Err e) same honest read lends refused =
+    inr (inr (r, f, honest, read, subst (λ (s : SessionState). IsReportRefusal s.collected [] r e) same (subst (λ (q : Recorded). IsReportRefusal seen.collected [] q e) lends refused.0)))
 
 -- what a wanted snapshot gives
 pub wanted-from : (now seen : SessionState) (new : Collected) → seen ≡ now → new ≡ after_wanting seen.collected → session_with_collected seen new ≡ session_with_collected now (after_wanting now.collected)

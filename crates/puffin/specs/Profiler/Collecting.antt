@@ -8,6 +8,7 @@ use Rattle.puffin_data.specs.declared.error.Error.TheVariants.{IndexExhausted, M
 use Rattle.puffin_data.specs.Honesty.{Recorded}
 use Rattle.puffin_frames.specs.Thread.Info.{Info}
 use Rattle.puffin_frames.specs.Details.{Details, shared_details, AllHaveIds}
+use Rattle.puffin_frames.specs.Details.Collection.{Collection, with_all_details}
 use Rattle.puffin_frames.specs.declared.frame_data.frame.FrameData.{FrameData}
 use Rattle.puffin_frames.specs.declared.frame_data.meta.FrameMeta.{FrameMeta}
 use Rattle.puffin_frames.specs.Frame.Contents.{Streams, AreHonest, holding_of, frame_meta, frame_details}
@@ -38,6 +39,10 @@ TellsIds (Some frame) = AllHaveIds (frame_details (arc_value frame))
 -- some of the details are the first of those
 abbrev pub Begins : List Details → List Details → Type 0
 Begins some all = (rest : List Details) × (all ≡ some ++ rest)
+
+-- a beginning of details is learnt
+abbrev pub LearnsSome : Collection → List Details → Collection → Type 0
+LearnsSome old ds new = (learnt : List Details) × Begins learnt ds × (new ≡ with_all_details old learnt)
 
 -- A refused call keeps all that is pending, but a beginning of the new details may be known then.
 abbrev pub KeepsPending : Collected → Error → Collected → Type 0

@@ -8,7 +8,7 @@ ghost use Rattle.puffin_frames.specs.Details.{details_of, details_seen, with_id,
 ghost use Rattle.puffin_frames.specs.Details.Collection.{no_details};
 ghost use Rattle.puffin_frames.specs.Frame.Contents.{AreHonest};
 ghost use Rattle.puffin_frames.specs.Frame.Sums.{total_scopes, IsOrdered, DurationFits};
-ghost use Rattle.puffin.specs.Profiler.State.{after_report, after_adding, after_wanting, PendingFits, range_with, IsTooLong, IsReportRefusal};
+ghost use Rattle.puffin.specs.Profiler.State.{AcceptsReport, RefusesReport, after_adding, after_wanting, PendingFits, range_with, IsTooLong, IsReportRefusal};
 ghost use Rattle.puffin.specs.Profiler.Registering.{known_id, Adds, AddsSome};
 ghost use Rattle.puffin.specs.Profiler.Collecting.{Collects, TellsIds, KeepsPending, AddsUp};
 
@@ -109,15 +109,11 @@ impl Collector {
     ) -> Result<()>
         requires { (f : Forest) × IsHonestRef times.now f }
         ensures ok { OnOk result (
-            self.new ≡ after_report self.old (info_of info) (details_seen details.now) (
-            record_of_ref times.now)) }
-        ensures ids { OnOk result (AllHaveIds (details_seen details.now)) }
-        ensures fits { OnOk result (
-            PendingFits self.old (record_of_ref times.now)
-            × ¬ IsTooLong (range_with self.old (record_of_ref times.now))) }
-        ensures refusal { IfErr result (λ e.
-            IsReportRefusal self.old (details_seen details.now) (record_of_ref times.now) e) }
-        ensures err { OnErr result (self.new ≡ self.old) }
+            AcceptsReport self.old (info_of info) (details_seen details.now)
+            (record_of_ref times.now) self.new) }
+        ensures err { IfErr result (λ e.
+            RefusesReport self.old (info_of info) (details_seen details.now)
+            (record_of_ref times.now) e self.new) }
     {
         laws::joined_ranges();
         laws::reported_streams();
@@ -172,13 +168,9 @@ impl Collector {
     pub fn report_user_scopes(&mut self, info: ThreadInfo, times: &StreamInfoRef) -> Result<()>
         requires { (f : Forest) × IsHonestRef times.now f }
         ensures ok { OnOk result (
-            self.new ≡ after_report self.old (info_of info) [] (record_of_ref times.now)) }
-        ensures fits { OnOk result (
-            PendingFits self.old (record_of_ref times.now)
-            × ¬ IsTooLong (range_with self.old (record_of_ref times.now))) }
-        ensures refusal { IfErr result (λ e.
-            IsReportRefusal self.old [] (record_of_ref times.now) e) }
-        ensures err { OnErr result (self.new ≡ self.old) }
+            AcceptsReport self.old (info_of info) [] (record_of_ref times.now) self.new) }
+        ensures err { IfErr result (λ e.
+            RefusesReport self.old (info_of info) [] (record_of_ref times.now) e self.new) }
     {
         self.report(info, &[], times)
     }

@@ -1,8 +1,8 @@
-ghost use Rattle.std.specs.Prelude.{◌≡◌, ◌++◌, ◌↔◌, OnOk, OnErr, IfOk, IfErr, List, All, IsTrue, IsSome};
-ghost use Rattle.puffin_frames.specs.Details.{Details, details_of, details_seen, shared_details, AllHaveIds};
+ghost use Rattle.std.specs.Prelude.{◌≡◌, ◌++◌, ◌↔◌, OnOk, OnErr, IfOk, IfErr, All, IsTrue, IsSome};
+ghost use Rattle.puffin_frames.specs.Details.{details_of, details_seen, shared_details, AllHaveIds};
 ghost use Rattle.puffin_frames.specs.Details.Collection.{with_all_details, KeepsOwnIds};
 ghost use Rattle.puffin.specs.Profiler.State.{all_details, delta_of};
-ghost use Rattle.puffin.specs.Profiler.Collecting.{Begins};
+ghost use Rattle.puffin.specs.Profiler.Collecting.{LearnsSome};
 
 use puffin_data::{Error, Result};
 use puffin_frames::scope_details::{ScopeCollection, ScopeDetails};
@@ -73,9 +73,7 @@ pub(crate) fn learn(collection: &mut ScopeCollection, details: &[Arc<ScopeDetail
     ensures ok { OnOk result (
         collection.new ≡ with_all_details collection.old (shared_details details.now)) }
     ensures err { OnErr result (
-        (learnt : List Details)
-        × Begins learnt (shared_details details.now)
-        × (collection.new ≡ with_all_details collection.old learnt)) }
+        LearnsSome collection.old (shared_details details.now) collection.new) }
     ensures cause { IfErr result (λ e. e ≡ Error.Memory) }
 {
     for details in details {

@@ -3,7 +3,7 @@ ghost use Rattle.std.specs.Option.{option_map};
 ghost use Rattle.std.specs.List.{list_any};
 ghost use Rattle.puffin_data.specs.declared.error.Error.{Error};
 ghost use Rattle.std.specs.Arc.{arc_value};
-ghost use Rattle.puffin_frames.specs.Details.{details_of, shared_details, lacks_id, AllHaveIds};
+ghost use Rattle.puffin_frames.specs.Details.{details_of, lacks_id};
 ghost use Rattle.puffin_frames.specs.Details.Collection.{no_details, with_all_details};
 ghost use Rattle.puffin.specs.View.Ranking.{last_of, last_in};
 ghost use Rattle.puffin_frames.specs.Packet.Stored.{Said};
@@ -14,6 +14,7 @@ ghost use Rattle.puffin.specs.View.Stats.{stats_of};
 ghost use Rattle.puffin.specs.View.Listings.{recent_left, all_left, slowest_left};
 ghost use Rattle.puffin.specs.View.Known.{view_of, collection_of, lacks_ids, LearnsSome};
 
+use crate::global_profiler::learn;
 use crate::profile_view::frame_store::FrameStore;
 use crate::profile_view::listings::{AllFrames, RecentFrames, SlowestFrames};
 use crate::profile_view::stats::FrameStats;
@@ -228,19 +229,4 @@ fn any_lacks_id(details: &[Arc<ScopeDetails>]) -> bool
     ensures { result ≡ list_any (λ d. lacks_id (details_of (arc_value d))) details.now }
 {
     details.iter().any(|details| details.scope_id().is_none())
-}
-
-/// Puts details into a collection, in order. Refused only with `Memory`, after which a beginning of them is in it.
-fn learn(collection: &mut ScopeCollection, details: &[Arc<ScopeDetails>]) -> Result<()>
-    requires { AllHaveIds (shared_details details.now) }
-    ensures ok { OnOk result (
-        collection.new ≡ with_all_details collection.old (shared_details details.now)) }
-    ensures err { OnErr result (
-        LearnsSome collection.old (shared_details details.now) collection.new) }
-    ensures cause { IfErr result (λ e. e ≡ Error.Memory) }
-{
-    for details in details {
-        let _kept = collection.insert(details.clone()?)?;
-    }
-    Ok(())
 }

@@ -1,10 +1,12 @@
 -- What one thread has recorded, and what its calls make of it.
-use Rattle.std.specs.Prelude.{ℕ, ◌+◌, ℤ, List, [], ◌∷◌, ◌++◌, length, drop, fold, Option, Some}
+use Rattle.std.specs.Prelude.{◌≡◌, ℕ, ◌+◌, ◌⊎◌, ℤ, List, [], ◌∷◌, ◌++◌, length, drop, fold, Option, Some, Result, Ok, Err}
 use Rattle.std.specs.Int.{int_max}
 use Rattle.std.specs.Option.{option_or}
+use Rattle.puffin_data.specs.declared.error.Error.{Error}
+use Rattle.puffin_data.specs.declared.error.Error.TheVariants.{IdsExhausted, Memory}
 use Rattle.puffin_data.specs.Forest.Tour.{Event, Open, Close}
 use Rattle.puffin_frames.specs.Thread.Info.{Info}
-use Rattle.puffin_frames.specs.Details.{Details}
+use Rattle.puffin_frames.specs.Details.{Details, with_id}
 
 -- a thread: its name, the start of its first scope ever, its greatest time, and its events and registered details that no accepted report has handed over
 pub record Thread : Type 0 where
@@ -47,6 +49,11 @@ after_registering thread d = record {
   word = thread.word;
   details = thread.details ++ (d ∷ []);
 }
+
+-- Registering a scope with these details, in which its id is drawn: it goes with the next accepted report, or nothing is changed.
+abbrev pub RegistersScope : Thread → Details → Result ℕ Error → Thread → Type 0
+RegistersScope old d (Ok id) new = new ≡ after_registering old (with_id d id)
+RegistersScope old d (Err e) new = (new ≡ old) × ((e ≡ IdsExhausted) ⊎ (e ≡ Memory))
 
 -- after an accepted report, which hands over all of its events and details
 abbrev pub after_handing : Thread → Thread

@@ -23,7 +23,8 @@ impl<C: NsSource> ThreadProfiler<C> {
     ghost use Rattle.std.specs.Cow.{cow_str_bytes};
     ghost use Rattle.puffin_data.specs.Text.{cut_text};
     ghost use Rattle.puffin_data.specs.Forest.Words.{word_size, open_after};
-    ghost use Rattle.puffin_frames.specs.Thread.Calls.{after_begin, after_registering, open_offsets};
+    ghost use Rattle.puffin_frames.specs.Thread.Calls.{after_begin, RegistersScope, open_offsets};
+    ghost use Rattle.puffin_frames.specs.Details.{default_details};
     ghost use Rattle.puffin_frames.specs.Thread.Closing.{Closes, Reports};
     ghost use Rattle.puffin_frames.specs.Thread.ThreadProfiler.{thread_of, clock_of, with_clock};
     ghost use Rattle.puffin_frames.specs.contracts.thread_profiler.profiler.ThreadProfiler.{the_row};
@@ -125,18 +126,14 @@ impl<C: NsSource> ThreadProfiler<C> {
         file_path: CowStr<'static>,
         line_nr: u32,
     ) -> Result<ScopeId>
-        ensures ok { IfOk result (λ id.
-            thread_of self.new ≡ after_registering (thread_of self.old) (
-            record {
-              id = Some id;
-              scope_name = None;
+        ensures registered { RegistersScope (thread_of self.old)
+            (record default_details {
               function_name = cow_str_bytes function_name.entry;
               file_path = cow_str_bytes file_path.entry;
               line_nr = line_nr;
-            })) }
+            }) result (thread_of self.new) }
         ensures clock { clock_of self.new ≡ clock_of self.old }
         ensures unchanged { OnErr result (self.new ≡ self.old) }
-        ensures cause { IfErr result (λ e. (e ≡ Error.IdsExhausted) ⊎ (e ≡ Error.Memory)) }
     {
         let details = ScopeDetails::default()
             .with_function_name(function_name)
@@ -154,18 +151,15 @@ impl<C: NsSource> ThreadProfiler<C> {
         file_path: CowStr<'static>,
         line_nr: u32,
     ) -> Result<ScopeId>
-        ensures ok { IfOk result (λ id.
-            thread_of self.new ≡ after_registering (thread_of self.old) (
-            record {
-              id = Some id;
+        ensures registered { RegistersScope (thread_of self.old)
+            (record default_details {
               scope_name = Some (cow_str_bytes scope_name.entry);
               function_name = cow_str_bytes function_name.entry;
               file_path = cow_str_bytes file_path.entry;
               line_nr = line_nr;
-            })) }
+            }) result (thread_of self.new) }
         ensures clock { clock_of self.new ≡ clock_of self.old }
         ensures unchanged { OnErr result (self.new ≡ self.old) }
-        ensures cause { IfErr result (λ e. (e ≡ Error.IdsExhausted) ⊎ (e ≡ Error.Memory)) }
     {
         let details = ScopeDetails::from_scope_name(scope_name)
             .with_function_name(function_name)

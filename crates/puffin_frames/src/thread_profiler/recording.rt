@@ -5,9 +5,9 @@ ghost use Rattle.puffin_data.specs.declared.error.Error.{Error};
 ghost use Rattle.puffin_data.specs.Forest.Spelling.{begin_bytes};
 ghost use Rattle.puffin_data.specs.Text.{cut_text};
 ghost use Rattle.puffin_data.specs.Forest.Words.{word_size, open_after};
-ghost use Rattle.puffin_frames.specs.Thread.Calls.{after_begin, after_end, after_handing, after_registering, open_offsets};
+ghost use Rattle.puffin_frames.specs.Thread.Calls.{after_begin, after_end, after_handing, RegistersScope, open_offsets};
 ghost use Rattle.puffin_frames.specs.Thread.Closing.{GoesTo};
-ghost use Rattle.puffin_frames.specs.Details.{details_of, with_id};
+ghost use Rattle.puffin_frames.specs.Details.{details_of};
 
 use crate::scope_details::{ScopeDetails, ScopeIds};
 use crate::thread_profiler::clock::NsSource;
@@ -201,10 +201,7 @@ impl Recording {
     ///
     /// Refused with `IdsExhausted` or `Memory`, and nothing is changed then. The memory is taken before the id is drawn.
     pub(crate) fn register(&mut self, ids: &ScopeIds, details: ScopeDetails) -> Result<ScopeId>
-        ensures ok { IfOk result (λ id.
-            self.new ≡ after_registering self.old (with_id (details_of details) id)) }
-        ensures unchanged { OnErr result (self.new ≡ self.old) }
-        ensures cause { IfErr result (λ e. (e ≡ Error.IdsExhausted) ⊎ (e ≡ Error.Memory)) }
+        ensures { RegistersScope self.old (details_of details) result self.new }
     {
         self.details.reserve(1)?;
         let id = ids.draw()?;
