@@ -61,9 +61,7 @@ abbrev pub thread_named_by : Meaning → Option (List ℕ)
 thread_named_by (begins thread at id text) = Some thread
 thread_named_by (ends thread at) = Some thread
 thread_named_by (registers thread name function file line) = Some thread
-thread_named_by (registers_user name) = None
-thread_named_by tells_all = None
-thread_named_by takes_frame = None
+thread_named_by _ = None
 
 -- a name comes behind the others where it is new
 abbrev pub with_name : List (List ℕ) → List ℕ → List (List ℕ)

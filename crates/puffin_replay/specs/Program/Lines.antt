@@ -97,8 +97,7 @@ kept_line number cause = codes "kept " ++ (decimal number ++ (codes " " ++ (erro
 
 abbrev pub ended_line : ℕ → Closed → Option (List ℕ)
 ended_line number (closed.Kept cause) = Some (kept_line number cause)
-ended_line number closed.Inner = None
-ended_line number closed.Reported = None
+ended_line number _ = None
 
 -- how many threads a frame has streams of, as it is held unpacked; a frame that was just taken is
 abbrev pub threads_held : Option Streams → ℕ
@@ -117,11 +116,7 @@ abbrev pub reply_line : ℕ → Reply → Option (List ℕ)
 reply_line number (reply.Frame emitted) = Some (emitted_line emitted.frame)
 reply_line number (reply.Refused cause) = Some (refused_line number cause)
 reply_line number (reply.Ended closed) = ended_line number closed
-reply_line number (reply.Began offset) = None
-reply_line number (reply.Registered id) = None
-reply_line number (reply.RegisteredUser ids) = None
-reply_line number reply.Reported = None
-reply_line number reply.Snapshot = None
+reply_line number _ = None
 
 -- what is printed of replies to the commands in these lines, one after another
 abbrev pub reply_lines : List ℕ → List Reply → List ℕ

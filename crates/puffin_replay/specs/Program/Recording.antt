@@ -41,13 +41,7 @@ frame_in (Some frame) = shared_frame frame ∷ []
 -- the frame that a reply tells of, if any
 abbrev pub emitted_by : Reply → List Frame
 emitted_by (reply.Frame emitted) = frame_in emitted.frame
-emitted_by (reply.Began offset) = []
-emitted_by (reply.Ended closed) = []
-emitted_by (reply.Registered id) = []
-emitted_by (reply.RegisteredUser ids) = []
-emitted_by reply.Reported = []
-emitted_by reply.Snapshot = []
-emitted_by (reply.Refused cause) = []
+emitted_by _ = []
 
 -- what a reply's frame tells of has ids
 abbrev pub HasIds : Reply → Type 0
