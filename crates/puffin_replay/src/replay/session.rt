@@ -12,7 +12,8 @@ ghost use Rattle.puffin.specs.Profiler.State.{AcceptsReport, IsReportRefusal, af
 ghost use Rattle.puffin.specs.Profiler.Collecting.{Collects, TellsIds, KeepsPending};
 ghost use Rattle.puffin.specs.Profiler.Registering.{Adds, AddsSome};
 ghost use Rattle.puffin_replay.specs.Session.{new_session};
-ghost use Rattle.puffin_replay.specs.Session.Replies.{Records, details_given, user_details};
+ghost use Rattle.puffin_replay.specs.Session.Runs.{Records};
+ghost use Rattle.puffin_replay.specs.Session.Actions.{details_given, user_details};
 ghost use Rattle.puffin_replay.specs.Program.Recording.{HasIds};
 ghost use Rattle.puffin_replay.specs.inner.Serving.{clock_time, session_thread, session_with_thread, session_with_collected, Ends, Continues};
 
