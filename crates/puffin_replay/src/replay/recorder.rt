@@ -94,6 +94,7 @@ fn record_session<D: Drain>(
     ensures too_long { (result ≡ Err FileError.PartTooLong) →
         Any HasLongPart (contents_in (view_of view.new)) }
 {
+    // For the proof alone: a law about views.
     views_hold_what_they_took();
     let replies = match session.run(commands) {
         Ok(replies) => replies,

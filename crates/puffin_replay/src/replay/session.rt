@@ -88,7 +88,7 @@ impl Session {
         ensures err { OnErr result (self.new ≡ self.old) }
         ensures memory { IfErr result (λ e. e ≡ Error.Memory) }
     {
-        // What is collected is honest: each collector says so of itself.
+        // For the proof alone: each collector says of itself that what it collects is honest.
         let _ = self.collector.totals();
         let mut replies = Vec::with_capacity(self.alloc, commands.len())?;
         for command in commands {
