@@ -28,8 +28,9 @@ use Rattle.puffin.specs.View.File.{file_of, contents_held, contents_in}
 use Rattle.puffin_replay.specs.declared.replay.command.Command.{Command}
 use Rattle.puffin_replay.specs.declared.replay.script.Script.{Script}
 use Rattle.puffin_replay.specs.declared.replay.command.Reply.{Reply}
-use Rattle.puffin_replay.specs.Program.Recording.{HasIds, NoneLacksIds, emitted_by, frames_emitted, Takes, TakesSome, AreReplies, AreAnswers, file_of_view, view_after, IsBroken, IsReplayed, IsUnfinished}
-use Rattle.puffin_replay.specs.Program.Lines.{reply_lines}
+use Rattle.puffin_replay.specs.Program.Recording.{HasIds, NoneLacksIds, emitted_by, frames_emitted, Takes, TakesSome, AreReplies, file_of_view, IsBroken}
+use Rattle.puffin_replay.specs.Program.ScriptRun.{AreAnswers, view_after, IsReplayed, IsUnfinished}
+use Rattle.puffin_replay.specs.Program.ReplyLines.{reply_lines}
 use Rattle.puffin_replay.specs.Session.{SessionState, new_session}
 use Rattle.puffin_replay.proofs.WrittenLines.{nothing_written}
 

@@ -6,7 +6,9 @@ use Rattle.puffin_frames.specs.Details.{Details}
 use Rattle.puffin_replay.specs.Session.History.{Opening, Action}
 use Rattle.puffin_replay.specs.Session.Due.{due}
 use Rattle.puffin_replay.specs.Session.{SessionState, opening_of, StandsAfter}
-use Rattle.puffin_replay.specs.Session.Replies.{action_of, actions_of, MayReply, EachReply}
+use Rattle.puffin_replay.specs.Session.Actions.{action_of, actions_of}
+use Rattle.puffin_replay.specs.Session.Replies.{MayReply}
+use Rattle.puffin_replay.specs.Session.Runs.{EachReply}
 use Rattle.puffin_replay.specs.inner.Serving.{SumsTo, Continues, RunsTo}
 
 pub actions_of-more : (cs : List Command) (rs : List Reply) (ls : List (List Details)) (c : Command) (r : Reply) (l : List Details) → length rs ≡ length cs → length ls ≡ length cs

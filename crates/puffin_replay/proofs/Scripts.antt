@@ -11,7 +11,8 @@ use Rattle.std.specs.String.{string_bytes}
 use Rattle.std.specs.declared.string.String.{String}
 use Rattle.std.proofs.lemmas.Bool.{false_from_ne_true}
 use Rattle.std.proofs.lemmas.Bool.Decides.{nat_tests}
-use Rattle.puffin_replay.specs.Script.Statements.{Meaning, meaning_of, line_meaning, words_in}
+use Rattle.puffin_replay.specs.Script.Statements.{Meaning, line_meaning, words_in}
+use Rattle.puffin_replay.specs.inner.ScriptReading.{meaning_of}
 use Rattle.puffin_replay.specs.Script.{is_line_feed, lines_in, is_skipped, known, told_by, onto, statements_from, with_name, with_if_named, with_thread_of, thread_named_by, threads_after, command_said}
 use Rattle.std.proofs.lemmas.List.Folds.{list_any-append}
 use Rattle.std.proofs.lemmas.Slice.Eq.{bytes_eq-Decides}

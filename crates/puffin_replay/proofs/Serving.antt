@@ -41,7 +41,8 @@ use Rattle.puffin_replay.specs.Session.Deliveries.{Delivery, under, all_taken, d
 use Rattle.puffin_replay.specs.Session.Due.{due, index_after, is_numbered}
 use Rattle.puffin_replay.specs.Session.Notes.{notes_at, due_notes_at, details_learnt_at, due_details, known_after, is_wanted, wanted_at}
 use Rattle.puffin_replay.specs.Session.{SessionState, thread_after, SpellsWord, TellsAfter}
-use Rattle.puffin_replay.specs.Session.Replies.{action_of, details_given, user_details, MayReply, TellsScopes, ending_word}
+use Rattle.puffin_replay.specs.Session.Actions.{action_of, details_given, user_details}
+use Rattle.puffin_replay.specs.Session.Replies.{MayReply, TellsScopes, ending_word}
 use Rattle.puffin_replay.specs.inner.Serving.{clock_time, session_thread, session_with_thread, session_with_collected, Ends, SumsTo, Continued, ContinuesBy, Continues}
 use Rattle.puffin_replay.proofs.Histories.{due-same, due-more, due-anew}
 use Rattle.puffin_replay.proofs.SessionCollects.{SpellsFrame-taken, NoneDue-untaken}

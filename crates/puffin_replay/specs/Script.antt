@@ -1,22 +1,15 @@
 -- What a script asks for.
 pub mod Statements
-use Rattle.std.specs.Prelude.{◌≡◌, ℕ, ◌+◌, ◌==◌, List, [], ◌∷◌, ◌++◌, map, Bool, true, false, Option, Some, None, option_map, Result, Ok, Err, if◌then◌else◌, slice_get, MatchOption}
+use Rattle.std.specs.Prelude.{◌≡◌, ℕ, ◌+◌, ◌==◌, List, [], ◌∷◌, ◌++◌, map, Bool, true, Option, Some, None, option_map, Result, Ok, Err, if◌then◌else◌, slice_get}
 use Rattle.std.specs.List.{slice_split, list_any}
-use Rattle.std.specs.Ordering.{nat_cmp}
-use Rattle.std.specs.Cmp.Lexicographic.{slice_cmp}
-use Rattle.std.specs.BTreeMap.{get_by}
 use Rattle.std.specs.Str.{bytes_eq, is_utf8}
 use Rattle.std.specs.String.{string_bytes}
-use Rattle.std.specs.Borrow.{Bor}
 use Rattle.puffin_replay.specs.Script.Statements.{Meaning, begins, ends, registers, registers_user, tells_all, takes_frame, words_in, line_meaning}
 use Rattle.puffin_replay.specs.declared.replay.command.Command.{Command}
 use Rattle.puffin_replay.specs.declared.replay.command.Command.TheVariants as command
 use Rattle.puffin_replay.specs.declared.replay.fault.ToolFault.{ToolFault}
 use Rattle.puffin_replay.specs.declared.replay.fault.ToolFault.TheVariants as fault
-use Rattle.puffin_replay.specs.declared.replay.script.Lines.{Lines}
-use Rattle.puffin_replay.specs.declared.replay.script.Reading.{Reading}
 use Rattle.puffin_replay.specs.declared.replay.script.Script.{Script}
-use Rattle.puffin_replay.specs.declared.replay.script.Threads.{Threads}
 
 -- ---- lines
 
@@ -61,9 +54,7 @@ abbrev pub thread_named_by : Meaning → Option (List ℕ)
 thread_named_by (begins thread at id text) = Some thread
 thread_named_by (ends thread at) = Some thread
 thread_named_by (registers thread name function file line) = Some thread
-thread_named_by (registers_user name) = None
-thread_named_by tells_all = None
-thread_named_by takes_frame = None
+thread_named_by _ = None
 
 -- a name comes behind the others where it is new
 abbrev pub with_name : List (List ℕ) → List ℕ → List (List ℕ)
@@ -109,28 +100,3 @@ pub record IsScript (bytes : List ℕ) (script : Script) : Type 0 where
 -- the fault is the number of the first line that says nothing that is known
 abbrev pub IsLineFault : List ℕ → ToolFault → Type 0
 IsLineFault bytes told = (number : ℕ) × (told ≡ fault.Line number) × (statements_from 1 (lines_in bytes) ≡ Err number)
-
--- ---- a script that is being read
-
-abbrev pub lines_behind : Option (Bor (List ℕ)) → List (List ℕ)
-lines_behind None = []
-lines_behind (Some bytes) = lines_in bytes.now
-
-abbrev pub lines_left : Lines → List (List ℕ)
-lines_left lines = lines_behind lines.left
-
-abbrev pub names_in : Threads → List (List ℕ)
-names_in threads = map string_bytes threads.names.items
-
--- each name has its place, and no other text has one
-abbrev pub IsNumbered : Threads → Type 0
-IsNumbered threads = (name : List ℕ) → MatchOption (get_by (λ k. slice_cmp nat_cmp name k.now) threads.numbers)
-    (list_any (bytes_eq name) (names_in threads) ≡ false)
-    (λ number. slice_get (names_in threads) number ≡ Some name)
-
--- what was read so far
-pub record IsReading (reading : Reading) (statements : List (ℕ × Meaning)) : Type 0 where
-  pub numbered : IsNumbered reading.threads
-  pub lines : reading.lines.items ≡ map (λ s. s.0) statements
-  pub names : names_in reading.threads ≡ threads_after [] statements
-  pub commands : map (command_said (names_in reading.threads)) reading.commands.items ≡ map (λ s. Some s.1) statements

@@ -3,7 +3,9 @@ pub mod History
 pub mod Deliveries
 pub mod Due
 pub mod Notes
+pub mod Actions
 pub mod Replies
+pub mod Runs
 use Rattle.std.specs.Prelude.{◌≡◌, ℕ, ◌<◌, pos, false, List, [], length, map, Option, Some, None}
 use Rattle.std.specs.List.{slice_index_or}
 use Rattle.std.specs.FinMap.{empty, entries, get}

@@ -1,6 +1,5 @@
--- The lines that the program prints: two of a stream, and one of a reply.
-use Rattle.std.specs.Prelude.{ℕ, ◌^◌, ℤ, pos, ◌-ℤ◌, int_lt, List, [], ◌∷◌, ◌++◌, length, codes, Option, Some, None, Result, Ok, Err, if◌then◌else◌}
-use Rattle.std.specs.Option.{unwrap_or}
+-- The two lines that the program prints of a stream.
+use Rattle.std.specs.Prelude.{ℕ, ◌^◌, ℤ, pos, ◌-ℤ◌, int_lt, List, ◌++◌, length, codes, Option, Some, None, Result, Ok, Err, if◌then◌else◌}
 use Rattle.std.specs.Fmt.{decimal, signed_decimal}
 use Rattle.puffin_data.specs.declared.error.Error.{Error}
 use Rattle.puffin_data.specs.declared.error.Error.TheVariants.{Empty, RangeTooLong}
@@ -9,16 +8,6 @@ use Rattle.puffin_data.specs.Forest.{Forest, empty, node}
 use Rattle.puffin_data.specs.Forest.Measures.{scope_count, height, least_start, greatest_stop}
 use Rattle.puffin_data.specs.Forest.Spelling.{spelling}
 use Rattle.puffin_frames.specs.declared.frame_data.meta.FrameMeta.{FrameMeta}
-use Rattle.puffin_frames.specs.declared.frame_data.frame.FrameData.{FrameData}
-use Rattle.puffin_frames.specs.Frame.Contents.{Streams, holding_of, frame_meta}
-use Rattle.puffin_frames.specs.declared.thread_profiler.reporter.Closed.{Closed}
-use Rattle.puffin_frames.specs.declared.thread_profiler.reporter.Closed.TheVariants as closed
-use Rattle.puffin_replay.specs.declared.replay.command.Reply.{Reply}
-use Rattle.puffin_replay.specs.declared.replay.command.Reply.TheVariants as reply
-use Rattle.std.specs.Arc.{arc_value}
-use Rattle.std.specs.FinMap.{len}
-use Rattle.std.specs.declared.sync.Arc.{Arc}
-use Rattle.std.specs.declared.alloc.Global.{Global}
 
 abbrev pub measures_line : ℕ → ℕ → ℤ → ℤ → List ℕ
 measures_line scopes depth start stop =
@@ -74,56 +63,3 @@ refusal_of (Err cause) = Some cause
 -- the two lines of a forest
 abbrev pub lines_of : Forest → List ℕ
 lines_of f = count_line f ++ outcome_line (frame_of_forest f)
-
--- ---- replies
-
-abbrev pub frame_text : ℕ → ℕ → ℕ → List ℕ
-frame_text index threads scopes = codes "frame " ++ (decimal index ++ (codes " threads " ++ (decimal threads ++ (codes " scopes " ++ decimal scopes))))
-
-abbrev pub duration_text : ℕ → ℤ → List ℕ
-duration_text bytes duration = codes " bytes " ++ (decimal bytes ++ (codes " duration " ++ (signed_decimal duration ++ codes "\n")))
-
--- the line of a frame that was taken
-abbrev pub taken_line : ℕ → FrameMeta → List ℕ
-taken_line threads meta =
-    frame_text meta.frame_index threads meta.num_scopes ++ duration_text meta.num_bytes (meta.range_ns.1 -ℤ meta.range_ns.0)
-
--- the line of a command that was refused, and of a report, by the line that the command stands in
-abbrev pub refused_line : ℕ → Error → List ℕ
-refused_line number cause = codes "refused " ++ (decimal number ++ (codes " " ++ (error_name cause ++ codes "\n")))
-
-abbrev pub kept_line : ℕ → Error → List ℕ
-kept_line number cause = codes "kept " ++ (decimal number ++ (codes " " ++ (error_name cause ++ codes "\n")))
-
-abbrev pub ended_line : ℕ → Closed → Option (List ℕ)
-ended_line number (closed.Kept cause) = Some (kept_line number cause)
-ended_line number closed.Inner = None
-ended_line number closed.Reported = None
-
--- how many threads a frame has streams of, as it is held unpacked; a frame that was just taken is
-abbrev pub threads_held : Option Streams → ℕ
-threads_held None = 0
-threads_held (Some streams) = len streams
-
-abbrev pub thread_count : FrameData → ℕ
-thread_count frame = threads_held (holding_of frame).unpacked
-
-abbrev pub emitted_line : Option (Arc FrameData Global) → List ℕ
-emitted_line (Some frame) = taken_line (thread_count (arc_value frame)) (frame_meta (arc_value frame))
-emitted_line None = codes "frame none\n"
-
--- what is printed of a reply to the command in this line, if anything
-abbrev pub reply_line : ℕ → Reply → Option (List ℕ)
-reply_line number (reply.Frame emitted) = Some (emitted_line emitted.frame)
-reply_line number (reply.Refused cause) = Some (refused_line number cause)
-reply_line number (reply.Ended closed) = ended_line number closed
-reply_line number (reply.Began offset) = None
-reply_line number (reply.Registered id) = None
-reply_line number (reply.RegisteredUser ids) = None
-reply_line number reply.Reported = None
-reply_line number reply.Snapshot = None
-
--- what is printed of replies to the commands in these lines, one after another
-abbrev pub reply_lines : List ℕ → List Reply → List ℕ
-reply_lines (number ∷ numbers) (reply ∷ replies) = unwrap_or (reply_line number reply) [] ++ reply_lines numbers replies
-reply_lines _ _ = []

@@ -1,32 +1,27 @@
 -- What a run of commands from a new session emits, and what recording it makes of a view and of the view's file.
-use Rattle.std.specs.Prelude.{◌≡◌, ◌⊎◌, ℕ, false, List, [], ◌∷◌, ◌++◌, Option, Some, None, map}
-use Rattle.std.specs.List.{flat_map, list_any, AllByRecursion, Any}
-use Rattle.std.specs.String.{string_bytes}
+use Rattle.std.specs.Prelude.{◌≡◌, ◌⊎◌, ℕ, false, List, [], ◌∷◌, ◌++◌, Option, Some, None}
+use Rattle.std.specs.List.{flat_map, list_any}
 use Rattle.std.specs.declared.sync.Arc.{Arc}
 use Rattle.std.specs.declared.alloc.Global.{Global}
 use Rattle.std.specs.Io.KnownBytes.{Appends}
 use Rattle.puffin_data.specs.declared.file_error.FileError.{FileError}
 use Rattle.puffin_data.specs.declared.file_error.FileError.TheVariants as file
-use Rattle.puffin_data.specs.Device.{IsOutside, WritesBeginning}
+use Rattle.puffin_data.specs.Device.{WritesBeginning}
 use Rattle.puffin_frames.specs.declared.frame_data.frame.FrameData.{FrameData}
 use Rattle.puffin_frames.specs.Details.{AllHaveIds}
 use Rattle.puffin_frames.specs.Details.Collection.{with_all_details}
 use Rattle.puffin_frames.specs.Packet.Stored.{Said}
-use Rattle.puffin_frames.specs.Packet.Steps.{IsPacked}
-use Rattle.puffin_frames.specs.Packet.Writing.{HasLongPart}
 use Rattle.puffin.specs.declared.profile_view.frame_view.FrameView.{FrameView}
-use Rattle.puffin.specs.View.ViewedFrames.{Frame, contents_of, index_of}
+use Rattle.puffin.specs.View.ViewedFrames.{Frame, index_of}
 use Rattle.puffin.specs.View.FrameOf.{shared_frame, details_of_frame}
-use Rattle.puffin.specs.View.{View, Took, empty_view, after_all, KeepsFrames}
+use Rattle.puffin.specs.View.{after_all, KeepsFrames}
 use Rattle.puffin.specs.View.Known.{view_of, collection_of, lacks_ids, LearnsSome}
 use Rattle.puffin.specs.View.File.{file_of, contents_in}
 use Rattle.puffin_replay.specs.declared.replay.command.Command.{Command}
 use Rattle.puffin_replay.specs.declared.replay.command.Reply.{Reply}
 use Rattle.puffin_replay.specs.declared.replay.command.Reply.TheVariants as reply
-use Rattle.puffin_replay.specs.declared.replay.script.Script.{Script}
-use Rattle.puffin_replay.specs.Program.Lines.{reply_lines}
 use Rattle.puffin_replay.specs.Session.{SessionState, new_session}
-use Rattle.puffin_replay.specs.Session.Replies.{Records}
+use Rattle.puffin_replay.specs.Session.Runs.{Records}
 
 -- ---- the frames of a run
 
@@ -41,13 +36,7 @@ frame_in (Some frame) = shared_frame frame ∷ []
 -- the frame that a reply tells of, if any
 abbrev pub emitted_by : Reply → List Frame
 emitted_by (reply.Frame emitted) = frame_in emitted.frame
-emitted_by (reply.Began offset) = []
-emitted_by (reply.Ended closed) = []
-emitted_by (reply.Registered id) = []
-emitted_by (reply.RegisteredUser ids) = []
-emitted_by reply.Reported = []
-emitted_by reply.Snapshot = []
-emitted_by (reply.Refused cause) = []
+emitted_by _ = []
 
 -- what a reply's frame tells of has ids
 abbrev pub HasIds : Reply → Type 0
@@ -104,33 +93,3 @@ module _ (start end : SessionState) (commands : List Command) (old new : FrameVi
   -- why a recording failed, and what it left
   abbrev pub IsBroken : FileError → Type 0
   IsBroken fault = HasNotRun fault ⊎ HasNotTaken fault ⊎ HasNotWritten fault
-
--- ---- running a script
-
-abbrev pub AreAnswers : Script → List Reply → SessionState → Type 0
-AreAnswers script replies end = AreReplies (map string_bytes script.names.items) script.commands.items replies end
-
--- a new view that took the frames of replies, and no others
-abbrev pub view_after : List Reply → View
-view_after replies = after_all empty_view (frames_emitted replies)
-
--- One writer got the file of a view that took the frames of a run of the script, and the other the lines of the run's replies.
-pub record IsReplayed (script : Script) (file_before file_after lines_before lines_after : Option (List ℕ)) : Type 0 where
-  pub replies : List Reply
-  pub end : SessionState
-  pub run : AreAnswers script replies end
-  pub took : Took (map contents_of (frames_emitted replies)) (view_after replies)
-  pub written : Appends file_before file_after (file_of (contents_in (view_after replies)))
-  pub packed : AllByRecursion IsPacked (contents_in (view_after replies))
-  pub ids : NoneLacksIds (contents_in (view_after replies))
-  pub told : Appends lines_before lines_after (reply_lines script.lines.items replies)
-
--- Why a script's run failed, and what it wrote: there was no memory, and nothing is written; or a beginning of the file is, and no line; or the file is, and a beginning of the lines.
-abbrev pub IsUnfinished : Script → FileError → Option (List ℕ) → Option (List ℕ) → Option (List ℕ) → Option (List ℕ) → Type 0
-IsUnfinished script fault file_before file_after lines_before lines_after =
-    ((fault ≡ file.Memory) × Appends file_before file_after [] × Appends lines_before lines_after [])
-    ⊎ ((replies : List Reply) × (end : SessionState) × AreAnswers script replies end × WritesBeginning file_before file_after (file_of (contents_in (view_after replies))) × Appends lines_before lines_after []
-    × IsWriteFault fault × (fault ≡ file.PartTooLong → Any HasLongPart (contents_in (view_after replies))))
-    ⊎ ((replies : List Reply) × (end : SessionState) × AreAnswers script replies end × Appends file_before file_after (file_of (contents_in (view_after replies))) × NoneLacksIds (contents_in (view_after replies))
-    × WritesBeginning lines_before lines_after (reply_lines script.lines.items replies)
-    × IsOutside fault)

@@ -4,10 +4,6 @@ use Rattle.std.specs.List.{slice_split, join_with_byte}
 use Rattle.std.specs.Option.{option_and_then}
 use Rattle.std.specs.Str.{bytes_eq, all_ascii_digits}
 use Rattle.std.specs.Str.Parse.{digits_value}
-use Rattle.std.specs.Borrow.{Bor}
-use Rattle.puffin_replay.specs.declared.replay.statement.Statement.{Statement}
-use Rattle.puffin_replay.specs.declared.replay.statement.Statement.TheVariants as statement
-use Rattle.puffin_replay.specs.declared.replay.statement.Words.{Words}
 
 pub data Meaning : Type 0 where
   -- a scope begins
@@ -111,21 +107,3 @@ line_meaning (verb ∷ words) =
     if bytes_eq verb (codes "user") then user_of words else
     if bytes_eq verb (codes "snapshot") then alone tells_all words else
     if bytes_eq verb (codes "frame") then alone takes_frame words else None
-
--- ---- what is read
-
--- the words that are left of a line
-abbrev pub words_behind : Option (Bor (List ℕ)) → List (List ℕ)
-words_behind None = []
-words_behind (Some text) = words_in text.now
-
-abbrev pub words_left : Words → List (List ℕ)
-words_left words = words_behind words.left
-
-abbrev pub meaning_of : Statement → Meaning
-meaning_of (statement.Begin thread at id text) = begins thread.now at id text.now
-meaning_of (statement.End thread at) = ends thread.now at
-meaning_of (statement.Register thread name function file line) = registers thread.now (option_map (λ (n : Bor (List ℕ)). n.now) name) function.now file.now line
-meaning_of (statement.RegisterUser name) = registers_user name.now
-meaning_of statement.Snapshot = tells_all
-meaning_of statement.NewFrame = takes_frame

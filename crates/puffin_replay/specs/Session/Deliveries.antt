@@ -4,7 +4,7 @@ use Rattle.std.specs.Option.{option_or}
 use Rattle.puffin_data.specs.Text.{cut_text}
 use Rattle.puffin_data.specs.Forest.Tour.{Event, Open, Close}
 use Rattle.puffin_frames.specs.Thread.Info.{Info}
-use Rattle.puffin_replay.specs.Session.History.{Opening, Mark, begun, ended, Call, Action, calls, hands, frames, registers, adds, learns, wants, nothing, thread_at, calls_of, greatest, latest_of, since_last}
+use Rattle.puffin_replay.specs.Session.History.{Opening, Mark, begun, ended, Call, Action, calls, hands, frames, thread_at, calls_of, greatest, latest_of, since_last}
 
 -- an event, and whether a report was accepted behind it
 pub record Marked : Type 0 where
@@ -56,11 +56,7 @@ module _ (o : Opening) where
   ]
   deliveries_at done (hands i word) = under i word ∷ []
   deliveries_at done (frames emitted) = if emitted then all_taken ∷ [] else []
-  deliveries_at done (registers t d) = []
-  deliveries_at done (adds new) = []
-  deliveries_at done (learns some) = []
-  deliveries_at done wants = []
-  deliveries_at done nothing = []
+  deliveries_at done _ = []
 
   -- what actions hand over one after another, after those of the past
   abbrev pub deliveries_after : List Action → List Action → List Delivery

@@ -4,7 +4,7 @@ use Rattle.std.specs.List.{list_any, flat_map, count_by, sum_by}
 use Rattle.puffin_data.specs.Forest.Tour.{Event}
 use Rattle.puffin_data.specs.Forest.Words.{word_size, num_begun}
 use Rattle.puffin_frames.specs.Thread.Info.{Info, same_info}
-use Rattle.puffin_replay.specs.Session.History.{Opening, Action, calls, hands, frames, registers, adds, learns, wants, nothing, since_last}
+use Rattle.puffin_replay.specs.Session.History.{Opening, Action, frames, since_last}
 use Rattle.puffin_replay.specs.Session.Deliveries.{Delivery, under, all_taken, deliveries}
 
 abbrev pub is_taken : Delivery → Bool
@@ -41,14 +41,8 @@ events_of all_taken = []
 
 -- an accepted command for a frame, with a frame or without
 abbrev pub is_numbered : Action → Bool
-is_numbered (calls t c) = false
-is_numbered (hands i word) = false
 is_numbered (frames emitted) = true
-is_numbered (registers t d) = false
-is_numbered (adds new) = false
-is_numbered (learns some) = false
-is_numbered wants = false
-is_numbered nothing = false
+is_numbered _ = false
 
 -- the next frame's index
 abbrev pub index_after : Opening → List Action → ℕ

@@ -55,13 +55,7 @@ thread_at o t = slice_index_or o.threads t nobody
 -- an action as a call of a thread, if it is one; a time below 0 counts as 0
 abbrev pub call_of : ℕ → Action → Option Call
 call_of t (calls u c) = if t == u then Some (record { at = int_max (pos 0) c.at; mark = c.mark }) else None
-call_of t (hands i word) = None
-call_of t (frames emitted) = None
-call_of t (registers u d) = None
-call_of t (adds new) = None
-call_of t (learns some) = None
-call_of t wants = None
-call_of t nothing = None
+call_of t _ = None
 
 abbrev pub calls_of : ℕ → List Action → List Call
 calls_of t done = filter_map (call_of t) done

@@ -3,7 +3,7 @@ use Rattle.std.specs.Prelude.{ℕ, ◌==◌, Bool, true, false, if◌then◌else
 use Rattle.std.specs.List.{flat_map}
 use Rattle.puffin_frames.specs.Details.{Details}
 use Rattle.puffin_frames.specs.Details.Collection.{Collection, with_all_details}
-use Rattle.puffin_replay.specs.Session.History.{Opening, begun, ended, Action, calls, hands, frames, registers, adds, learns, wants, nothing, thread_at, since_last}
+use Rattle.puffin_replay.specs.Session.History.{Opening, begun, ended, Action, calls, frames, registers, adds, learns, wants, thread_at, since_last}
 
 -- details one after another, and where all before went on
 pub data Note : Type 0 where
@@ -25,13 +25,8 @@ details_waiting notes = flat_map details_in (since_last is_sent notes)
 -- what an action notes of a thread: details that it registered, which go on with its next accepted report
 abbrev pub notes_at : ℕ → Action → List Note
 notes_at t (calls u c) = if t == u then elim c.mark [ begun id text ↦ [] | ended reported ↦ if reported then sent ∷ [] else [] ] else []
-notes_at t (hands i word) = []
-notes_at t (frames emitted) = []
 notes_at t (registers u d) = if t == u then noted d ∷ [] else []
-notes_at t (adds new) = []
-notes_at t (learns some) = []
-notes_at t wants = []
-notes_at t nothing = []
+notes_at t _ = []
 
 module _ (o : Opening) where
   -- the details that a thread has registered since its last accepted report
@@ -41,13 +36,9 @@ module _ (o : Opening) where
   -- What an action, after those before it, notes for the next frame: a thread's registered details where its report is accepted, and those of the user's new scopes. An emitted frame takes all.
   abbrev pub due_notes_at : List Action → Action → List Note
   due_notes_at done (calls t c) = elim c.mark [ begun id text ↦ [] | ended reported ↦ if reported then map noted (details_registered t done) else [] ]
-  due_notes_at done (hands i word) = []
   due_notes_at done (frames emitted) = if emitted then sent ∷ [] else []
-  due_notes_at done (registers t d) = []
   due_notes_at done (adds new) = map noted new
-  due_notes_at done (learns some) = []
-  due_notes_at done wants = []
-  due_notes_at done nothing = []
+  due_notes_at done _ = []
 
   abbrev pub due_notes_after : List Action → List Action → List Note
   due_notes_after past [] = []
@@ -59,14 +50,10 @@ module _ (o : Opening) where
 
   -- What an action, after those before it, lets be known: a frame's new details where it is emitted, and those of the user's new scopes at once.
   abbrev pub details_learnt_at : List Action → Action → List Details
-  details_learnt_at done (calls t c) = []
-  details_learnt_at done (hands i word) = []
   details_learnt_at done (frames emitted) = if emitted then due_details done else []
-  details_learnt_at done (registers t d) = []
   details_learnt_at done (adds new) = new
   details_learnt_at done (learns some) = some
-  details_learnt_at done wants = []
-  details_learnt_at done nothing = []
+  details_learnt_at done _ = []
 
   abbrev pub details_learnt_after : List Action → List Action → List Details
   details_learnt_after past [] = []
@@ -78,14 +65,9 @@ module _ (o : Opening) where
 
 -- whether the next frame is to tell of all that is known: since an action wanted it, until a frame is emitted
 abbrev pub wanted_at : Bool → Action → Bool
-wanted_at wanted (calls t c) = wanted
-wanted_at wanted (hands i word) = wanted
 wanted_at wanted (frames emitted) = if emitted then false else wanted
-wanted_at wanted (registers t d) = wanted
-wanted_at wanted (adds new) = wanted
-wanted_at wanted (learns some) = wanted
 wanted_at wanted wants = true
-wanted_at wanted nothing = wanted
+wanted_at wanted _ = wanted
 
 abbrev pub is_wanted : Opening → List Action → Bool
 is_wanted o done = fold wanted_at o.wants_all done

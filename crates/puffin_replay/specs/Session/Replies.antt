@@ -1,9 +1,7 @@
--- Which replies a session's commands may get, what they did by these, and what a run of them gives.
-use Rattle.std.specs.Prelude.{◌≡◌, ◌≢◌, ℕ, ℤ, pos, ◌+◌, ◌-◌, ◌^◌, ◌<◌, ◌≤◌, ◌⊎◌, List, [], ◌∷◌, ◌++◌, length, map, Option, Some, None, is_some, Bool, true, false, MatchOption}
+-- Which reply a command may get after what was done before it.
+use Rattle.std.specs.Prelude.{◌≡◌, ◌≢◌, ℕ, ℤ, pos, ◌+◌, ◌-◌, ◌^◌, ◌<◌, ◌≤◌, ◌⊎◌, List, [], ◌++◌, length, Some, None, Bool, MatchOption}
 use Rattle.std.specs.String.{string_bytes}
 use Rattle.std.specs.List.{flat_map, sum_by}
-use Rattle.std.specs.Option.{option_map}
-use Rattle.std.specs.declared.string.String.{String}
 use Rattle.std.specs.Arc.{arc_value}
 use Rattle.std.specs.FinMap.{values}
 use Rattle.puffin_data.specs.declared.error.Error.{Error}
@@ -15,14 +13,13 @@ use Rattle.puffin_data.specs.Forest.Tour.{Event, tour}
 use Rattle.puffin_data.specs.Walk.{IsFault}
 use Rattle.puffin_data.specs.Forest.Words.{word_size, num_begun, open_after, least_open, greatest_close}
 use Rattle.std.specs.Int.{int_max}
-use Rattle.puffin_frames.specs.Thread.Info.{info_of}
 use Rattle.puffin_frames.specs.Thread.Calls.{after_end}
 use Rattle.puffin_frames.specs.Frame.Sums.{meta_of}
 use Rattle.puffin_frames.specs.Frame.Contents.{Streams, holding_of, frame_meta}
 use Rattle.puffin_frames.specs.declared.frame_data.frame.FrameData.{FrameData}
 use Rattle.puffin_frames.specs.declared.thread_profiler.reporter.Closed.{Closed}
 use Rattle.puffin_frames.specs.declared.thread_profiler.reporter.Closed.TheVariants as closed
-use Rattle.puffin_frames.specs.Details.{Details, default_details, shared_details}
+use Rattle.puffin_frames.specs.Details.{Details, shared_details}
 use Rattle.puffin_frames.specs.Details.Collection.{Collection}
 use Rattle.puffin.specs.Profiler.State.{IsTooLong, delta_of}
 use Rattle.puffin.specs.Profiler.Collecting.{Begins}
@@ -33,46 +30,12 @@ use Rattle.puffin_replay.specs.declared.replay.command.Command.TheVariants.{Begi
 use Rattle.puffin_replay.specs.declared.replay.command.Reply.{Reply}
 use Rattle.puffin_replay.specs.declared.replay.command.Reply.TheVariants as reply
 use Rattle.puffin_frames.specs.Thread.Events.{events_in}
-use Rattle.puffin_replay.specs.Session.History.{Opening, begun, ended, Action, calls, hands, frames, registers, adds, learns, wants, nothing}
+use Rattle.puffin_replay.specs.Session.History.{Opening, Action}
 use Rattle.puffin_replay.specs.Session.Deliveries.{Delivery, unreported}
 use Rattle.puffin_replay.specs.Session.Due.{due, events_of, bytes_delivered, scopes_delivered, index_after, reported_after, NoneDue}
 use Rattle.puffin_replay.specs.Session.Notes.{due_details, known_after, is_wanted}
-use Rattle.puffin_replay.specs.Session.{SessionState, opening_of, thread_after, StandsAfter, SpellsDue}
-
--- ---- what was done
-
--- the outermost open scope was closed, and its report accepted
-abbrev pub is_reported : Closed → Bool
-is_reported closed.Inner = false
-is_reported closed.Reported = true
-is_reported (closed.Kept e) = false
-
--- the details that a command registers, under an id that was drawn
-abbrev pub details_given : Option (List ℕ) → List ℕ → List ℕ → ℕ → ℕ → Details
-details_given name function file line id = record { id = Some id; scope_name = name; function_name = function; file_path = file; line_nr = line }
-
--- the details of user scopes, which have a name alone
-abbrev pub user_details : {A : Type 0} → List (String A) → List Details
-user_details names = map (λ name. record default_details { scope_name = Some (string_bytes name) }) names
-
--- What a command did, by its reply, and by what was learnt of scopes, where these two don't say it: the details of the user scopes that were new, and those that a refused frame's collection has taken in.
-abbrev pub action_of : Command → Reply → List Details → Action
-action_of (Begin thread at id text) (reply.Began offset) learnt = calls thread (record { at = at; mark = begun id (string_bytes text) })
-action_of (End thread at back) (reply.Ended closed) learnt = calls thread (record { at = at; mark = ended (is_reported closed) })
-action_of (Register thread name function file line) (reply.Registered id) learnt = registers thread (details_given (option_map string_bytes name) (string_bytes function) (string_bytes file) line id)
-action_of (RegisterUser names) (reply.RegisteredUser ids) learnt = adds learnt
-action_of (RegisterUser names) (reply.Refused e) learnt = adds learnt
-action_of (ReportUser info stream) reply.Reported learnt = hands (info_of info) (events_in stream.bytes)
-action_of Snapshot reply.Snapshot learnt = wants
-action_of NewFrame (reply.Frame emitted) learnt = frames (is_some emitted.frame)
-action_of NewFrame (reply.Refused e) learnt = learns learnt
-action_of _ _ learnt = nothing
-
-abbrev pub actions_of : List Command → List Reply → List (List Details) → List Action
-actions_of (c ∷ cs) (r ∷ rs) (l ∷ ls) = action_of c r l ∷ actions_of cs rs ls
-actions_of _ _ _ = []
-
--- ---- which reply may be given
+use Rattle.puffin_replay.specs.Session.{thread_after, SpellsDue}
+use Rattle.puffin_replay.specs.Session.Actions.{user_details}
 
 -- The frame with this index spells what was due, and its meta is that of its streams, which have some scope. It holds them as they are, and not packed.
 pub record SpellsFrame (frame : FrameData) (index : ℕ) (ds : List Delivery) : Type 0 where
@@ -155,20 +118,3 @@ module _ (o : Opening) (done : List Action) where
       ((e ≡ IndexExhausted) × (index_after o done ≡ 2 ^ 64 - 1) × (learnt ≡ []))
       ⊎ ((e ≡ Memory) × Begins learnt (due_details o done))
   MayReply _ _ learnt = ⊥
-
--- each command may get its reply after those before it
-abbrev pub EachReply : Opening → List Action → List Command → List Reply → List (List Details) → Type 0
-EachReply o done (c ∷ cs) (r ∷ rs) (l ∷ ls) = MayReply o done c r l × EachReply o (done ++ (action_of c r l ∷ [])) cs rs ls
-EachReply o done _ _ _ = Unit {0}
-
--- ---- a run
-
--- These commands with these replies lead from old to new.
-pub record Records (old new : SessionState) (commands : List Command) (replies : List Reply) : Type 0 where
-  pub num_replies : length replies ≡ length commands
-  -- what was learnt by each command
-  pub learnt : List (List Details)
-  pub num_learnt : length learnt ≡ length commands
-  pub opened : StandsAfter (opening_of old) [] old
-  pub replies_stand : EachReply (opening_of old) [] commands replies learnt
-  pub stands : StandsAfter (opening_of old) (actions_of commands replies learnt) new

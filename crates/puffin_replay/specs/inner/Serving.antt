@@ -17,7 +17,9 @@ use Rattle.puffin_replay.specs.Session.History.{Opening, Action, nobody}
 use Rattle.puffin_replay.specs.Session.Deliveries.{Delivery}
 use Rattle.puffin_replay.specs.Session.Due.{due, events_of, bytes_delivered, scopes_delivered}
 use Rattle.puffin_replay.specs.Session.{SessionState, opening_of, StandsAfter}
-use Rattle.puffin_replay.specs.Session.Replies.{action_of, actions_of, MayReply, Records}
+use Rattle.puffin_replay.specs.Session.Actions.{action_of, actions_of}
+use Rattle.puffin_replay.specs.Session.Replies.{MayReply}
+use Rattle.puffin_replay.specs.Session.Runs.{Records}
 
 -- ---- what single calls do
 

@@ -88,6 +88,7 @@ fn frame_of(alloc: Global, info: StreamInfo) -> Result<UnpackedFrameData, Error>
         MatchResult result (λ frame. frame_of_forest f ≡ Ok frame.meta) (λ e.
         (e ≡ Error.Memory) ⊎ (frame_of_forest f ≡ Err e)) }
 {
+    // For the proof alone: a law about forests.
     range_of_a_forest();
     let thread = ThreadInfo {
         start_time_ns: None,

@@ -40,6 +40,7 @@ pub fn what_was_recorded_is_summed_up()
     ensures unpacked { (frame : FrameData) (streams : Streams) → IsHolding (holding_of frame) →
         frame_contents frame ≡ Some streams → streams_said (frame_says frame) ≡ Ok streams }
 {
+    // For the proof alone, as the whole call: the laws that this one follows from.
     what_was_written_is_read();
     packing_keeps();
 }

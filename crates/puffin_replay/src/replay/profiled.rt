@@ -5,7 +5,7 @@ ghost use Rattle.puffin_data.specs.Forest.Words.{word_size, open_after};
 ghost use Rattle.puffin_frames.specs.Details.{AllHaveIds};
 ghost use Rattle.puffin_frames.specs.Thread.Calls.{after_begin, after_registering};
 ghost use Rattle.puffin_replay.specs.Session.{named};
-ghost use Rattle.puffin_replay.specs.Session.Replies.{details_given};
+ghost use Rattle.puffin_replay.specs.Session.Actions.{details_given};
 ghost use Rattle.puffin_replay.specs.inner.Serving.{clock_time, Ends};
 
 use puffin::global_profiler::Collector;

@@ -13,8 +13,9 @@ ghost use Rattle.puffin.specs.View.{Took};
 ghost use Rattle.puffin.specs.View.Known.{view_of};
 ghost use Rattle.puffin.specs.View.File.{contents_held, contents_in};
 ghost use Rattle.puffin_replay.specs.Session.{SessionState, new_session};
-ghost use Rattle.puffin_replay.specs.Session.Replies.{Records};
-ghost use Rattle.puffin_replay.specs.Program.Recording.{AreReplies, HasIds, NoneLacksIds, frame_in, emitted_by, frames_emitted, file_of_view, Takes, TakesSome, IsBroken, IsReplayed, IsUnfinished};
+ghost use Rattle.puffin_replay.specs.Session.Runs.{Records};
+ghost use Rattle.puffin_replay.specs.Program.Recording.{AreReplies, HasIds, NoneLacksIds, frame_in, emitted_by, frames_emitted, file_of_view, Takes, TakesSome, IsBroken};
+ghost use Rattle.puffin_replay.specs.Program.ScriptRun.{IsReplayed, IsUnfinished};
 
 use crate::replay::command::{Command, Reply};
 use crate::replay::reply_line::reply_lines;
@@ -93,6 +94,7 @@ fn record_session<D: Drain>(
     ensures too_long { (result ≡ Err FileError.PartTooLong) →
         Any HasLongPart (contents_in (view_of view.new)) }
 {
+    // For the proof alone: a law about views.
     views_hold_what_they_took();
     let replies = match session.run(commands) {
         Ok(replies) => replies,

@@ -3,7 +3,7 @@
 ghost use Rattle.std.specs.Prelude.{◌≡◌, IfOk, Some, option_map};
 ghost use Rattle.std.specs.String.{string_bytes};
 ghost use Rattle.puffin_frames.specs.Frame.Contents.{frame_meta};
-ghost use Rattle.puffin_replay.specs.Program.Lines.{frame_text, duration_text, thread_count, taken_line, refused_line, kept_line, reply_line, reply_lines};
+ghost use Rattle.puffin_replay.specs.Program.ReplyLines.{frame_text, duration_text, thread_count, taken_line, refused_line, kept_line, reply_line, reply_lines};
 
 use crate::replay::command::Reply;
 use puffin_data::{Error, NanoSecond};

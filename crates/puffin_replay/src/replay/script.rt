@@ -3,8 +3,9 @@
 ghost use Rattle.std.specs.Prelude.{◌≡◌, ◌+◌, ◌-◌, ◌^◌, ◌<◌, ◌⊎◌, List, ℕ, [], ◌∷◌, ◌++◌, Ok, Some, option_map, length, map, position, MatchOption, MatchResult, IfOk, IfErr, OnOk, slice_get};
 ghost use Rattle.std.specs.String.{string_bytes};
 ghost use Rattle.puffin_replay.specs.Program.Count.{ReadsAll};
-ghost use Rattle.puffin_replay.specs.Script.Statements.{Meaning, meaning_of};
-ghost use Rattle.puffin_replay.specs.Script.{is_line_feed, is_skipped, lines_left, told_by, names_in, with_name, with_thread_of, IsNumbered, IsReading, command_said, IsScript, IsLineFault};
+ghost use Rattle.puffin_replay.specs.Script.Statements.{Meaning};
+ghost use Rattle.puffin_replay.specs.inner.ScriptReading.{meaning_of, lines_left, names_in, IsNumbered, IsReading};
+ghost use Rattle.puffin_replay.specs.Script.{is_line_feed, is_skipped, told_by, with_name, with_thread_of, command_said, IsScript, IsLineFault};
 
 use crate::replay::command::Command;
 use crate::replay::fault::ToolFault;

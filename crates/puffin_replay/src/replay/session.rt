@@ -12,7 +12,8 @@ ghost use Rattle.puffin.specs.Profiler.State.{AcceptsReport, IsReportRefusal, af
 ghost use Rattle.puffin.specs.Profiler.Collecting.{Collects, TellsIds, KeepsPending};
 ghost use Rattle.puffin.specs.Profiler.Registering.{Adds, AddsSome};
 ghost use Rattle.puffin_replay.specs.Session.{new_session};
-ghost use Rattle.puffin_replay.specs.Session.Replies.{Records, details_given, user_details};
+ghost use Rattle.puffin_replay.specs.Session.Runs.{Records};
+ghost use Rattle.puffin_replay.specs.Session.Actions.{details_given, user_details};
 ghost use Rattle.puffin_replay.specs.Program.Recording.{HasIds};
 ghost use Rattle.puffin_replay.specs.inner.Serving.{clock_time, session_thread, session_with_thread, session_with_collected, Ends, Continues};
 
@@ -87,7 +88,7 @@ impl Session {
         ensures err { OnErr result (self.new ≡ self.old) }
         ensures memory { IfErr result (λ e. e ≡ Error.Memory) }
     {
-        // What is collected is honest: each collector says so of itself.
+        // For the proof alone: each collector says of itself that what it collects is honest.
         let _ = self.collector.totals();
         let mut replies = Vec::with_capacity(self.alloc, commands.len())?;
         for command in commands {

@@ -1,7 +1,8 @@
 //! What a line of a script says, with its words as they stand there.
 
 ghost use Rattle.std.specs.Prelude.{◌≡◌, ◌^◌, List, ℕ, [], ◌∷◌, Some, None, option_map, MatchOption};
-ghost use Rattle.puffin_replay.specs.Script.Statements.{meaning_of, line_meaning, words_in, words_left, joined_words, number_of, moment_in, id_of, line_of, name_in, begin_of, end_of, registration_of, function_of, scope_of, user_of};
+ghost use Rattle.puffin_replay.specs.inner.ScriptReading.{meaning_of, words_left};
+ghost use Rattle.puffin_replay.specs.Script.Statements.{line_meaning, words_in, joined_words, number_of, moment_in, id_of, line_of, name_in, begin_of, end_of, registration_of, function_of, scope_of, user_of};
 
 use puffin_data::NanoSecond;
 use puffin_data::data::ScopeId;

@@ -82,6 +82,7 @@ fn all_owned(
     ensures same { IfOk result (λ owned. forest_in owned.items ≡ forest_in merged.entry.items) }
     ensures err { IfErr result (λ e. e ≡ Error.Memory) }
 {
+    // For the proof alone: a law about merged scopes.
     puffin::merge::laws::same_scopes();
     let mut owned = Vec::with_capacity(alloc, merged.len())?;
     for scope in merged {

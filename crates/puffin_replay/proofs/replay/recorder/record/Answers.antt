@@ -1,7 +1,7 @@
 -- The session is new before the run; or there is none.
 use Rattle.std.proofs.Common.{refl, subst, inl, map, string_bytes}
 use Rattle.std.proofs.lemmas.Result.{IfOk-weaker, IfErr-weaker}
-use Rattle.puffin_replay.specs.Session.Replies.{Records}
+use Rattle.puffin_replay.specs.Session.Runs.{Records}
 use Rattle.puffin_replay.specs.Program.Recording.{IsBroken}
 use Rattle.puffin_replay.specs.Session.{SessionState, new_session}
 use Rattle.puffin_replay.proofs.WrittenLines.{nothing_written}

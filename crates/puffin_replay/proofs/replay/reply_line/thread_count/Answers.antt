@@ -1,5 +1,5 @@
 use Rattle.std.proofs.Common.{sym, ap, ◌∙◌}
-use Rattle.puffin_replay.specs.Program.Lines.{threads_held}
+use Rattle.puffin_replay.specs.Program.ReplyLines.{threads_held}
 use Rattle.puffin_replay.proofs.CountedLines.{len-shared_streams}
 use Rattle.puffin_replay.proofs.replay.reply_line.thread_count.Goals as goal
 

@@ -1,7 +1,7 @@
 -- Lines are fewer than numbers, and what a line says comes behind what the earlier ones say.
 use Rattle.std.proofs.Common.{◌+◌, [], ◌∷◌, ◌++◌, length, arith, ap, ◌∙◌, Ok, Option, option_map}
 use Rattle.puffin_replay.specs.declared.replay.statement.Statement.{Statement}
-use Rattle.puffin_replay.specs.Script.Statements.{meaning_of}
+use Rattle.puffin_replay.specs.inner.ScriptReading.{meaning_of}
 use Rattle.puffin_replay.proofs.Scripts.{after_said, few_lines}
 use Rattle.puffin_replay.proofs.replay.script.script_of.Goals as goal
 

@@ -1,7 +1,8 @@
 -- What was read so far comes before what the lines say that are left.
 use Rattle.std.proofs.Common.{◌≡◌, ℕ, ◌+◌, List, length}
 use Rattle.puffin_replay.specs.Script.Statements.{Meaning}
-use Rattle.puffin_replay.specs.Script.{lines_in, lines_left, statements_from, IsReading}
+use Rattle.puffin_replay.specs.Script.{lines_in, statements_from}
+use Rattle.puffin_replay.specs.inner.ScriptReading.{lines_left, IsReading}
 use Rattle.puffin_replay.proofs.Scripts.{after}
 use Rattle.puffin_replay.proofs.replay.script.script_of.Given as goal
 

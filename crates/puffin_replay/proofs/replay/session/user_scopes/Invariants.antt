@@ -1,7 +1,7 @@
 -- The details so far are those of the names so far.
 use Rattle.std.proofs.Common.{◌≡◌, take}
 use Rattle.puffin_frames.specs.Details.{details_seen}
-use Rattle.puffin_replay.specs.Session.Replies.{user_details}
+use Rattle.puffin_replay.specs.Session.Actions.{user_details}
 use Rattle.puffin_replay.proofs.replay.session.user_scopes.Given as goal
 
 abbrev pub invariant-loop-name : goal.invariant-loop-name

@@ -1,5 +1,5 @@
 use Rattle.std.proofs.Common.{ap, ◌∙◌}
-use Rattle.puffin_replay.specs.Script.{lines_behind}
+use Rattle.puffin_replay.specs.inner.ScriptReading.{lines_behind}
 use Rattle.puffin_replay.proofs.Scripts.{line_and_rest, last_line}
 use Rattle.puffin_replay.proofs.replay.script.Lines.next.Goals as goal
 

@@ -1,5 +1,6 @@
 use Rattle.std.proofs.Common.{ℕ}
-use Rattle.puffin_replay.specs.Script.Statements.{Meaning, meaning_of}
+use Rattle.puffin_replay.specs.Script.Statements.{Meaning}
+use Rattle.puffin_replay.specs.inner.ScriptReading.{meaning_of}
 use Rattle.puffin_replay.proofs.Scripts.{lines_more, names_more, commands_more}
 use Rattle.puffin_replay.proofs.replay.script.Reading.push.Goals as goal
 

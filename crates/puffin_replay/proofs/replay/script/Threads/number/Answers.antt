@@ -1,7 +1,7 @@
 use Rattle.std.proofs.Common.{◌≡◌, length, vec_len, rules, sym, ◌∙◌}
 use Rattle.std.proofs.lemmas.List.{length-map}
 use Rattle.std.proofs.lemmas.Map.Text.{btree_map_updates_str}
-use Rattle.puffin_replay.specs.Script.{names_in}
+use Rattle.puffin_replay.specs.inner.ScriptReading.{names_in}
 use Rattle.puffin_replay.proofs.Scripts.{known_name, numbered_more, named_more, new_name, place_of_new, there, absent}
 use Rattle.puffin_replay.proofs.replay.script.Threads.number.Goals as goal
 

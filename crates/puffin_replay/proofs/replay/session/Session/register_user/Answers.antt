@@ -1,7 +1,7 @@
 -- Without memory for the details nothing is registered.
 use Rattle.std.proofs.Common.{◌∙◌}
 use Rattle.std.proofs.lemmas.Result.{err_from_is_err_and}
-use Rattle.puffin_replay.specs.Session.Replies.{user_details}
+use Rattle.puffin_replay.specs.Session.Actions.{user_details}
 use Rattle.puffin.proofs.lemmas.Registrations.{AddsSome-none}
 use Rattle.puffin_replay.proofs.replay.session.Session.register_user.Goals as goal
 

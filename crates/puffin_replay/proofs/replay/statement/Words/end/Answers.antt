@@ -1,5 +1,5 @@
 use Rattle.std.proofs.Common.{ap, ◌∙◌}
-use Rattle.puffin_replay.specs.Script.Statements.{words_behind}
+use Rattle.puffin_replay.specs.inner.ScriptReading.{words_behind}
 use Rattle.puffin_replay.proofs.Statements.{some_word}
 use Rattle.puffin_replay.proofs.replay.statement.Words.end.Goals as goal
 

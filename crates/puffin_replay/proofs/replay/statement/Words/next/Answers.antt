@@ -1,5 +1,6 @@
 use Rattle.std.proofs.Common.{ap, ◌∙◌, lit<}
-use Rattle.puffin_replay.specs.Script.Statements.{words_behind, is_blank}
+use Rattle.puffin_replay.specs.inner.ScriptReading.{words_behind}
+use Rattle.puffin_replay.specs.Script.Statements.{is_blank}
 use Rattle.puffin_replay.proofs.Statements.{one_word, first_word}
 use Rattle.puffin_replay.proofs.replay.statement.Words.next.Goals as goal
 

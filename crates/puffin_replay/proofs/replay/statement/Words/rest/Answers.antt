@@ -1,6 +1,7 @@
 use Rattle.std.proofs.Common.{ap, ◌∙◌, sym}
 use Rattle.std.proofs.lemmas.List.Splits.{join_with_byte-slice_split}
-use Rattle.puffin_replay.specs.Script.Statements.{words_behind, joined_words}
+use Rattle.puffin_replay.specs.inner.ScriptReading.{words_behind}
+use Rattle.puffin_replay.specs.Script.Statements.{joined_words}
 use Rattle.puffin_replay.proofs.replay.statement.Words.rest.Goals as goal
 
 pub returns-in-Some : goal.returns-in-Some

@@ -1,0 +1,46 @@
+-- What a script's run writes.
+use Rattle.std.specs.Prelude.{◌≡◌, ◌⊎◌, ℕ, List, [], Option, map}
+use Rattle.std.specs.List.{AllByRecursion, Any}
+use Rattle.std.specs.String.{string_bytes}
+use Rattle.std.specs.Io.KnownBytes.{Appends}
+use Rattle.puffin_data.specs.declared.file_error.FileError.{FileError}
+use Rattle.puffin_data.specs.declared.file_error.FileError.TheVariants as file
+use Rattle.puffin_data.specs.Device.{IsOutside, WritesBeginning}
+use Rattle.puffin_frames.specs.Packet.Steps.{IsPacked}
+use Rattle.puffin_frames.specs.Packet.Writing.{HasLongPart}
+use Rattle.puffin.specs.View.ViewedFrames.{contents_of}
+use Rattle.puffin.specs.View.{View, Took, empty_view, after_all}
+use Rattle.puffin.specs.View.File.{file_of, contents_in}
+use Rattle.puffin_replay.specs.declared.replay.command.Reply.{Reply}
+use Rattle.puffin_replay.specs.declared.replay.script.Script.{Script}
+use Rattle.puffin_replay.specs.Program.ReplyLines.{reply_lines}
+use Rattle.puffin_replay.specs.Session.{SessionState}
+use Rattle.puffin_replay.specs.Program.Recording.{AreReplies, frames_emitted, NoneLacksIds, IsWriteFault}
+
+abbrev pub AreAnswers : Script → List Reply → SessionState → Type 0
+AreAnswers script replies end = AreReplies (map string_bytes script.names.items) script.commands.items replies end
+
+-- a new view that took the frames of replies, and no others
+abbrev pub view_after : List Reply → View
+view_after replies = after_all empty_view (frames_emitted replies)
+
+-- One writer got the file of a view that took the frames of a run of the script, and the other the lines of the run's replies.
+pub record IsReplayed (script : Script) (file_before file_after lines_before lines_after : Option (List ℕ)) : Type 0 where
+  pub replies : List Reply
+  pub end : SessionState
+  pub run : AreAnswers script replies end
+  pub took : Took (map contents_of (frames_emitted replies)) (view_after replies)
+  pub written : Appends file_before file_after (file_of (contents_in (view_after replies)))
+  pub packed : AllByRecursion IsPacked (contents_in (view_after replies))
+  pub ids : NoneLacksIds (contents_in (view_after replies))
+  pub told : Appends lines_before lines_after (reply_lines script.lines.items replies)
+
+-- Why a script's run failed, and what it wrote: there was no memory, and nothing is written; or a beginning of the file is, and no line; or the file is, and a beginning of the lines.
+abbrev pub IsUnfinished : Script → FileError → Option (List ℕ) → Option (List ℕ) → Option (List ℕ) → Option (List ℕ) → Type 0
+IsUnfinished script fault file_before file_after lines_before lines_after =
+    ((fault ≡ file.Memory) × Appends file_before file_after [] × Appends lines_before lines_after [])
+    ⊎ ((replies : List Reply) × (end : SessionState) × AreAnswers script replies end × WritesBeginning file_before file_after (file_of (contents_in (view_after replies))) × Appends lines_before lines_after []
+    × IsWriteFault fault × (fault ≡ file.PartTooLong → Any HasLongPart (contents_in (view_after replies))))
+    ⊎ ((replies : List Reply) × (end : SessionState) × AreAnswers script replies end × Appends file_before file_after (file_of (contents_in (view_after replies))) × NoneLacksIds (contents_in (view_after replies))
+    × WritesBeginning lines_before lines_after (reply_lines script.lines.items replies)
+    × IsOutside fault)
