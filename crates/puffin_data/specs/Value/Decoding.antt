@@ -2,6 +2,7 @@
 use Rattle.std.specs.Prelude.{◌≡◌, ℕ, zero, suc, ◌/◌, ◌%◌, ◌^◌, ℤ, pos, negsuc, Bool, true, false, List, [], ◌∷◌, length, take, drop, Option, Some, None, nat_lt, ◌==◌, if◌then◌else◌}
 use Rattle.std.specs.Str.{is_utf8}
 use Rattle.byteorder.specs.Endian.{little_number}
+use Rattle.puffin_data.specs.Value.Layout.{two_bytes_mark, four_bytes_mark, eight_bytes_mark}
 
 infixl 10 ◌>>=◌
 abbrev pub ◌>>=◌ : {A B : Type 0} → Option A → (A → Option B) → Option B
@@ -33,10 +34,10 @@ wide_at width least bytes =
 
 unfoldable pub number_after : ℕ → List ℕ → Option (ℕ × List ℕ)
 number_after b rest =
-    if nat_lt b 251 then Some (b, rest)
-    else if b == 251 then wide_at 2 251 rest
-    else if b == 252 then wide_at 4 (2 ^ 16) rest
-    else if b == 253 then wide_at 8 (2 ^ 32) rest
+    if nat_lt b two_bytes_mark then Some (b, rest)
+    else if b == two_bytes_mark then wide_at 2 two_bytes_mark rest
+    else if b == four_bytes_mark then wide_at 4 (2 ^ 16) rest
+    else if b == eight_bytes_mark then wide_at 8 (2 ^ 32) rest
     else None
 
 abbrev pub number_at : List ℕ → Option (ℕ × List ℕ)
