@@ -19,7 +19,7 @@ pub use parts::{read_byte, read_counted_part, read_length, read_part, read_up_to
 pub use range::is_range;
 pub use reader::{Reader, text_of};
 pub use record::{Scope, ScopeRecord};
-pub use scope::{BEGIN_LIMIT, END_SIZE, Sighting};
+pub use scope::{BEGIN_LIMIT, END_SIZE, HEAD_SIZE, Sighting};
 pub use scope_id::ScopeId;
 pub use stream::Stream;
 pub use transfer::{read_to_end, write_all};

@@ -15,7 +15,7 @@ pub(crate) const SCOPE_END: u8 = b')';
 /// The bytes of a scope's beginning that stand before its text.
 pub(crate) const FRONT_SIZE: usize = 14;
 /// The bytes of a scope's beginning, without its text.
-pub(crate) const HEAD_SIZE: usize = 22;
+pub const HEAD_SIZE: usize = 22;
 /// The most bytes of a text that are stored.
 pub(crate) const TEXT_LIMIT: usize = 127;
 /// The most bytes of a scope's beginning.

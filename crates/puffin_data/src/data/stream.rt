@@ -32,7 +32,7 @@ impl Model for Stream {
 #[inline]
 fn cut(text: &str) -> &str
     ensures cut { result.now ≡ cut_text text.now }
-    ensures short { length result.now ≤ 127 }
+    ensures short { length result.now ≤ TEXT_LIMIT }
 {
     let size = text.floor_char_boundary(TEXT_LIMIT);
     &text[..size]
@@ -194,8 +194,8 @@ impl Stream {
         ensures clock { IfOk result (λ at. F.post now_ns at.1) }
         ensures err { OnErr result (self.new.bytes ≡ self.old.bytes) }
         ensures memory { IfErr result (λ e. e ≡ Error.Memory) }
-        ensures succeeds { 22 + length (cut_text text.now) ≤ self.old.room → IsOk result }
-        ensures room { self.old.room ≤ self.new.room + (22 + length (cut_text text.now)) }
+        ensures succeeds { HEAD_SIZE + length (cut_text text.now) ≤ self.old.room → IsOk result }
+        ensures room { self.old.room ≤ self.new.room + (HEAD_SIZE + length (cut_text text.now)) }
     {
         let mut now_ns = now_ns;
         self.begin_scope_by(&mut now_ns, id, text)
@@ -218,8 +218,8 @@ impl Stream {
         ensures err { OnErr result (self.new.bytes ≡ self.old.bytes) }
         ensures unasked { OnErr result (now_ns.new ≡ now_ns.old) }
         ensures memory { IfErr result (λ e. e ≡ Error.Memory) }
-        ensures succeeds { 22 + length (cut_text text.now) ≤ self.old.room → IsOk result }
-        ensures room { self.old.room ≤ self.new.room + (22 + length (cut_text text.now)) }
+        ensures succeeds { HEAD_SIZE + length (cut_text text.now) ≤ self.old.room → IsOk result }
+        ensures room { self.old.room ≤ self.new.room + (HEAD_SIZE + length (cut_text text.now)) }
     {
         let text = cut(text);
         self.reserve(HEAD_SIZE + text.len())?;
@@ -241,8 +241,8 @@ impl Stream {
         ensures ended { OnOk result (self.new.bytes ≡ ended_bytes self.old.bytes offset stop_ns) }
         ensures err { OnErr result (self.new.bytes ≡ self.old.bytes) }
         ensures memory { IfErr result (λ e. e ≡ Error.Memory) }
-        ensures succeeds { 9 ≤ self.old.room → IsOk result }
-        ensures room { self.old.room ≤ self.new.room + 9 }
+        ensures succeeds { END_SIZE ≤ self.old.room → IsOk result }
+        ensures room { self.old.room ≤ self.new.room + END_SIZE }
     {
         self.reserve(END_SIZE)?;
         let size = self.len() - (offset + 8);
