@@ -53,7 +53,8 @@ pub(crate) fn next_scope<'s>(region: &'s [u8], tries: &mut u64) -> Result<Sighti
     requires few { tries.old + 1 < 2 ^ 64 }
     ensures sound { IfOk result (λ s. reading region.now ≡ Ok (Some (found_of s))) }
     ensures fault { IfErr result (IsFaultIn region.now) }
-    ensures tried { tries.new ≡ tries.old + (if slice_index region.now 0 == begin_mark then 1 else 0) }
+    ensures tried { tries.new
+        ≡ tries.old + (if slice_index region.now 0 == begin_mark then 1 else 0) }
 {
     if region[0] == SCOPE_BEGIN {
         *tries += 1;

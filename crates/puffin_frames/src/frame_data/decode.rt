@@ -14,7 +14,7 @@ ghost use Rattle.puffin_frames.specs.Packet.Structs.{meta_at, info_at, recorded_
 ghost use Rattle.puffin_frames.specs.inner.Tries.{TriesToGive, Tries};
 
 use crate::frame_data::meta::FrameMeta;
-use crate::frame_data::shared::ThreadStreams;
+use crate::frame_data::thread_streams::ThreadStreams;
 use crate::scope_details::ScopeDetails;
 use crate::thread_profiler::ThreadInfo;
 use puffin_data::NanoSecond;
