@@ -104,23 +104,3 @@ abbrev pub whole : {A : Type 0} → (List ℕ → Option (A × List ℕ)) → Li
 whole read bytes = do
   a ← read bytes
   if length a.1 == 0 then Some a.0 else None
-
--- A call returned what a reading gives, seen by view, and the bytes left are those after it; where the reading gives nothing, they stay.
-abbrev pub Gives : {X A : Type 0} → (X → A) → List ℕ → Option X → List ℕ → Option (A × List ℕ) → Type 0
-Gives view old (Some x) new read = read ≡ Some (view x, new)
-Gives view old None new read = (read ≡ None) × (new ≡ old)
-
--- the same of a call that returns the rest beside the value
-abbrev pub GivesWithRest : {X A : Type 0} → (X → A × List ℕ) → Option X → Option (A × List ℕ) → Type 0
-GivesWithRest view (Some x) read = read ≡ Some (view x)
-GivesWithRest view None read = read ≡ None
-
--- the same of a call that says nothing of the bytes left where it read nothing
-abbrev pub IfSomeGives : {X A : Type 0} → (X → A) → Option X → List ℕ → Option (A × List ℕ) → Type 0
-IfSomeGives view (Some x) new read = read ≡ Some (view x, new)
-IfSomeGives view None new read = read ≡ None
-
--- what a call returned is this value, seen by view
-abbrev pub SeenAs : {X A : Type 0} → (X → A) → Option X → Option A → Type 0
-SeenAs view (Some x) read = read ≡ Some (view x)
-SeenAs view None read = read ≡ None

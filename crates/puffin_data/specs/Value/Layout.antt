@@ -100,13 +100,3 @@ abbrev pub ReadsLayouts : {A : Type 0} → (A → Type 0) → (A → List ℕ) �
 ReadsLayouts {A = A} fits layout read =
     (bytes : List ℕ) (a : A) (rest : List ℕ) → IsBytes bytes →
     (read bytes ≡ Some (a, rest)) ↔ (fits a × (bytes ≡ layout a ++ rest))
-
--- Of the bytes old either a value was read, seen by view, whose layout begins them, and new follow it; or nothing was, where no layout begins them, and they stay.
-abbrev pub Reads : {X A : Type 0} → (X → A) → (A → Type 0) → (A → List ℕ) → List ℕ → Option X → List ℕ → Type 0
-Reads view fits layout old (Some x) new = fits (view x) × (old ≡ layout (view x) ++ new)
-Reads {A = A} view fits layout old None new = ((a : A) (rest : List ℕ) → fits a → old ≡ layout a ++ rest → ⊥) × (new ≡ old)
-
--- the same of a call that returns the bytes that follow beside the value
-abbrev pub ReadsWithRest : {X A : Type 0} → (X → A × List ℕ) → (A → Type 0) → (A → List ℕ) → List ℕ → Option X → Type 0
-ReadsWithRest view fits layout old (Some x) = fits (view x).0 × (old ≡ layout (view x).0 ++ (view x).1)
-ReadsWithRest {A = A} view fits layout old None = (a : A) (rest : List ℕ) → fits a → old ≡ layout a ++ rest → ⊥

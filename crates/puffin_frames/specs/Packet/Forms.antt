@@ -1,6 +1,6 @@
 -- What stands behind a header of four letters or of a length: a packet of a form that is read, or a frame as it was written
 -- at first; or a fault, which is the first from the left.
-use Rattle.std.specs.Prelude.{ℕ, ◌||◌, List, slice_index, Option, Some, None, Result, Ok, Err, ◌==◌, if◌then◌else◌}
+use Rattle.std.specs.Prelude.{ℕ, ◌||◌, List, slice_index, Option, Some, Result, Ok, Err, ◌==◌, if◌then◌else◌}
 use Rattle.byteorder.specs.Endian.{little_number}
 use Rattle.puffin_data.specs.declared.file_error.FileError.{FileError}
 use Rattle.puffin_data.specs.declared.file_error.FileError.TheVariants as file

@@ -283,7 +283,8 @@ impl Held {
         alloc: Global,
         frame: UnpackedFrameData,
     ) -> (Held, std::result::Result<Arc<UnpackedFrameData>, FileError>)
-        ensures held { held_as result.0 ≡ record { packed = None; unpacked = Some (contents frame) } }
+        ensures held { held_as result.0
+            ≡ record { packed = None; unpacked = Some (contents frame) } }
         ensures meta { held_meta result.0 ≡ frame.meta }
         ensures ok { IfOk result.1 (λ same. arc_value same ≡ frame) }
         ensures memory { IfErr result.1 (λ e. e ≡ FileError.Memory) }
