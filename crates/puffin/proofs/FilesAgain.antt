@@ -14,7 +14,7 @@ use Rattle.puffin_data.specs.declared.file_error.FileError.{FileError}
 use Rattle.puffin_data.specs.declared.file_error.FileError.TheVariants as file
 use Rattle.puffin_data.specs.Device.{IsOutside}
 use Rattle.puffin_frames.specs.Packet.Stored.{Said, Stored, packed}
-use Rattle.puffin_frames.specs.Packet.Steps.{IsPacked}
+use Rattle.puffin_frames.specs.Packet.Grammar.{IsPacked}
 use Rattle.puffin.specs.declared.profile_view.frame_view.FrameView.{FrameView}
 use Rattle.puffin.specs.View.Ranking.{last_of, last_in}
 use Rattle.puffin.specs.View.ViewedFrames.{Frame, contents_of, index_of, rising_end, is_rising, rises_above, frames_by_index}

@@ -11,7 +11,9 @@ use Rattle.puffin_data.specs.declared.file_error.FileError.TheVariants as file
 use Rattle.puffin_data.specs.Device.{FailsAt}
 use Rattle.puffin_data.specs.Part.{◌>>=◌}
 use Rattle.puffin_frames.specs.Packet.Stored.{Stored, packed, legacy}
-use Rattle.puffin_frames.specs.Packet.Steps.{as_stored, is_packet, stored_after, is_end, next_at, AtEnd}
+use Rattle.puffin_frames.specs.Packet.Letters.{is_packet}
+use Rattle.puffin_frames.specs.Packet.Forms.{as_stored, stored_after}
+use Rattle.puffin_frames.specs.Packet.Front.{is_end, next_at, AtEnd}
 use Rattle.puffin.specs.declared.profile_view.frame_view.FrameView.{FrameView}
 use Rattle.puffin.specs.View.ViewedFrames.{contents_of}
 use Rattle.puffin.specs.View.Known.{lacks_ids}

@@ -12,7 +12,8 @@ use Rattle.puffin_data.specs.Value.Layout.{NoneBeginsAnother}
 use Rattle.puffin_data.specs.Device.{WritesBeginning}
 use Rattle.puffin_data.specs.declared.error.Error.TheVariants.{MissingId}
 use Rattle.puffin_frames.specs.Packet.Stored.{Said, Stored, packed}
-use Rattle.puffin_frames.specs.Packet.Steps.{next_at, is_end, packet_head, packet, IsPacked}
+use Rattle.puffin_frames.specs.Packet.Front.{next_at, is_end}
+use Rattle.puffin_frames.specs.Packet.Grammar.{packet_head, packet, IsPacked}
 use Rattle.puffin_frames.specs.Packet.Writing.{HasLongPart}
 use Rattle.puffin.specs.View.ViewedFrames.{Frame, contents_of}
 use Rattle.puffin.specs.View.Known.{lacks_ids}

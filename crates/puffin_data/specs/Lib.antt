@@ -9,3 +9,4 @@ pub mod Part
 pub mod Device
 pub mod Cause
 pub mod inner
+pub mod Range

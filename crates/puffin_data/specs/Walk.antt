@@ -6,6 +6,7 @@ pub mod Going
 use Rattle.std.specs.Prelude.{◌≡◌, ℕ, ◌+◌, ◌-◌, ◌≤◌, List, [], ◌∷◌, ◌++◌, length, take, drop, slice_index, nat_lt, ◌==◌, if◌then◌else◌, Some, Ok}
 use Rattle.std.specs.List.{count_by}
 use Rattle.puffin_data.specs.declared.error.Error.{Error}
+use Rattle.puffin_data.specs.Forest.Spelling.{begin_mark}
 use Rattle.puffin_data.specs.Walk.Reading.{Found, reading, IsFaultIn}
 
 -- the bytes from place p to place e
@@ -47,4 +48,4 @@ pub record Refuses (bytes : List ℕ) (fault : Error) (tries : ℕ) : Type 0 whe
   pub first : IsFirstFault bytes place fault
   pub sounds : List ℕ
   pub are_sounds : Sounds bytes 0 (length bytes) sounds
-  pub number : tries ≡ count_by (λ q. nat_lt q place) sounds + (if slice_index bytes place == 40 then 1 else 0)
+  pub number : tries ≡ count_by (λ q. nat_lt q place) sounds + (if slice_index bytes place == begin_mark then 1 else 0)

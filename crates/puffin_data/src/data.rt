@@ -3,6 +3,7 @@
 mod device;
 mod info;
 mod parts;
+mod range;
 mod reader;
 mod record;
 mod scope;
@@ -11,14 +12,14 @@ mod stream;
 mod transfer;
 mod visit;
 mod walk;
-mod writing;
 
 pub use device::{Counted, Drain, Source};
 pub use info::{StreamInfo, StreamInfoRef};
 pub use parts::{read_byte, read_counted_part, read_length, read_part, read_up_to};
+pub use range::is_range;
 pub use reader::{Reader, text_of};
 pub use record::{Scope, ScopeRecord};
-pub use scope::Sighting;
+pub use scope::{BEGIN_LIMIT, END_SIZE, HEAD_SIZE, Sighting};
 pub use scope_id::ScopeId;
 pub use stream::Stream;
 pub use transfer::{read_to_end, write_all};

@@ -1,4 +1,4 @@
-use puffin_data::data::{Reader, Scope, ScopeId, Stream};
+use puffin_data::data::{Reader, Scope, ScopeId, Stream, is_range};
 use puffin_data::{Error, Result};
 use std::test::Fail;
 
@@ -132,6 +132,21 @@ fn offsets_of_an_empty_stream(rt: HostRuntime) -> std::result::Result<(), Fail> 
         Some(Error::InvalidOffset)
     );
     assert!(rt; Reader::from_start(&stream).next().is_none());
+    Ok(())
+}
+
+#[test]
+fn a_range_is_ordered_and_its_duration_fits(rt: HostRuntime) -> std::result::Result<(), Fail> {
+    for (range, expected) in [
+        ((7, 7), true),
+        ((8, 7), false),
+        ((0, i64::MAX), true),
+        ((-1, i64::MAX), false),
+        ((i64::MIN, -1), true),
+        ((i64::MIN, 0), false),
+    ] {
+        assert_eq!(rt; is_range(range), expected);
+    }
     Ok(())
 }
 

@@ -9,8 +9,11 @@ use Rattle.puffin_data.proofs.lemmas.Readers.{whole_again}
 use Rattle.puffin_frames.specs.Details.{Details}
 use Rattle.puffin_frames.specs.Packet.Structs.{meta_layout, streams_layout, Legacy, IsLegacy, legacy_layout, legacy_at}
 use Rattle.puffin_frames.specs.Packet.Stored.{Said, packed, legacy}
-use Rattle.puffin_frames.specs.Packet.Steps.{streams_part_at, packet_at, legacy_part_at, is_packet, is_end, stored_after, next_at, counted_part, IsPacked, as_stored}
-use Rattle.puffin_frames.specs.Packet.Grammar.{packet_without_details, packet_without_kind, legacy_bytes, IsFirstForm}
+use Rattle.puffin_frames.specs.Packet.Letters.{is_packet}
+use Rattle.puffin_frames.specs.Packet.Parts.{streams_part_at, legacy_part_at}
+use Rattle.puffin_frames.specs.Packet.Forms.{packet_at, stored_after, as_stored}
+use Rattle.puffin_frames.specs.Packet.Front.{is_end, next_at}
+use Rattle.puffin_frames.specs.Packet.Grammar.{counted_part, IsPacked, packet_without_details, packet_without_kind, legacy_bytes, IsFirstForm}
 use Rattle.puffin_frames.proofs.Structs.{legacy_reader}
 use Rattle.puffin_frames.proofs.Writing.{number_long}
 use Rattle.puffin_frames.proofs.PacketsRead.{after_header, not_end}

@@ -10,7 +10,10 @@ use Rattle.puffin_data.specs.Value.Layout.{NoneBeginsAnother}
 use Rattle.puffin_data.proofs.lemmas.Readers.{whole_again}
 use Rattle.puffin_frames.specs.Packet.Structs.{IsMeta, meta_layout, meta_at, AreDetails, details_layout, details_at}
 use Rattle.puffin_frames.specs.Packet.Stored.{Said, Stored, packed}
-use Rattle.puffin_frames.specs.Packet.Steps.{meta_part_at, streams_part_at, details_part_at, packet_at, next_at, counted_part, packet_head, packet, IsPacked, as_stored}
+use Rattle.puffin_frames.specs.Packet.Parts.{meta_part_at, streams_part_at, details_part_at}
+use Rattle.puffin_frames.specs.Packet.Forms.{packet_at, as_stored}
+use Rattle.puffin_frames.specs.Packet.Front.{next_at}
+use Rattle.puffin_frames.specs.Packet.Grammar.{counted_part, packet_head, packet, IsPacked}
 use Rattle.puffin_frames.proofs.Structs.{meta_reader, details_reader}
 use Rattle.puffin_frames.proofs.Writing.{meta_short}
 

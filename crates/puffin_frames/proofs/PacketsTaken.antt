@@ -14,8 +14,11 @@ use Rattle.puffin_data.proofs.lemmas.Readers.{IsBytes-after}
 use Rattle.puffin_frames.specs.Details.{Details}
 use Rattle.puffin_frames.specs.Packet.Structs.{meta_layout, details_layout, Legacy, legacy_layout}
 use Rattle.puffin_frames.specs.Packet.Stored.{Said, Stored, packed, legacy}
-use Rattle.puffin_frames.specs.Packet.Steps.{meta_part_at, kind_at, streams_part_at, details_part_at, packet_at, legacy_part_at, is_packet, form_at, as_stored, stored_after, is_end, next_at, counted_part, packet_head, packet, IsPacked}
-use Rattle.puffin_frames.specs.Packet.Grammar.{packet_without_details, packet_without_kind, legacy_bytes, Stores, TookStored}
+use Rattle.puffin_frames.specs.Packet.Letters.{is_packet}
+use Rattle.puffin_frames.specs.Packet.Parts.{meta_part_at, kind_at, streams_part_at, details_part_at, legacy_part_at}
+use Rattle.puffin_frames.specs.Packet.Forms.{packet_at, form_at, as_stored, stored_after}
+use Rattle.puffin_frames.specs.Packet.Front.{is_end, next_at}
+use Rattle.puffin_frames.specs.Packet.Grammar.{counted_part, packet_head, packet, IsPacked, packet_without_details, packet_without_kind, legacy_bytes, Stores, TookStored}
 use Rattle.puffin_frames.proofs.Listed.{and-first, and-second}
 use Rattle.puffin_frames.proofs.Writing.{number_short}
 use Rattle.puffin_frames.proofs.PartsTaken.{bind_ok, same_ok, part_taken, length_taken, meta_taken, given_kind_at, kind_taken, details_taken, LegacyTaken, legacy_taken}

@@ -14,7 +14,9 @@ use Rattle.puffin_data.proofs.lemmas.Readers.{IsBytes-after, whole_taken}
 use Rattle.puffin_frames.specs.declared.frame_data.meta.FrameMeta.{FrameMeta}
 use Rattle.puffin_frames.specs.Details.{Details}
 use Rattle.puffin_frames.specs.Packet.Structs.{IsMeta, meta_layout, meta_at, AreDetails, details_layout, details_at, Legacy, IsLegacy, legacy_layout, legacy_at}
-use Rattle.puffin_frames.specs.Packet.Steps.{is_range_at, meta_with_range, meta_from, meta_part_at, kind_from, details_from, given_details_at, legacy_with_range, legacy_from, legacy_part_at, counted_part}
+use Rattle.puffin_data.specs.Range.{is_range_at}
+use Rattle.puffin_frames.specs.Packet.Parts.{meta_with_range, meta_from, meta_part_at, kind_from, details_from, given_details_at, legacy_with_range, legacy_from, legacy_part_at}
+use Rattle.puffin_frames.specs.Packet.Grammar.{counted_part}
 use Rattle.puffin_frames.proofs.Structs.{meta_reader, details_reader, legacy_reader}
 
 -- ---- steps

@@ -11,7 +11,7 @@ use Rattle.puffin_data.specs.Device.{WritesBeginning}
 use Rattle.puffin_data.specs.Value.Layout.{number, signed, zigzag}
 use Rattle.puffin_frames.specs.declared.frame_data.meta.FrameMeta.{FrameMeta}
 use Rattle.puffin_frames.specs.Packet.Structs.{meta_layout}
-use Rattle.puffin_frames.specs.Packet.Steps.{is_range_at}
+use Rattle.puffin_data.specs.Range.{is_range_at}
 use Rattle.std.specs.Prelude.{map}
 use Rattle.std.specs.declared.cmp.Ordering.TheVariants.{Less}
 use Rattle.std.specs.declared.sync.Arc.{Arc}

@@ -1,7 +1,10 @@
 -- Packets: their bytes, what is read and what is written.
 pub mod Structs
 pub mod Stored
-pub mod Steps
+pub mod Letters
+pub mod Parts
+pub mod Forms
+pub mod Front
 pub mod Next
 pub mod Writing
 pub mod Grammar

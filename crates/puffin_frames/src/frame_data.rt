@@ -1,22 +1,20 @@
 //! Frames: what was reported since the frame before.
 
-mod copies;
 mod decode;
 mod encode;
 mod frame;
 mod held;
 pub mod laws;
 mod meta;
-mod pack;
-mod packing;
+mod packing_info;
 mod reading;
-mod shared;
+mod thread_streams;
 mod unpacked;
 mod writing;
 
 pub use frame::FrameData;
 pub use meta::FrameMeta;
-pub use packing::PackingInfo;
+pub use packing_info::PackingInfo;
 pub use puffin_data::FrameIndex;
-pub use shared::{ThreadStreams, report_to};
+pub use thread_streams::{ThreadStreams, report_to};
 pub use unpacked::UnpackedFrameData;

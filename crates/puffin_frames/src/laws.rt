@@ -105,6 +105,7 @@ pub fn honest_streams()
     ensures no_scopes { (streams : Streams) (i : Info) (r : Recorded) →
         total_scopes (map.values streams) ≡ 0 → map.get streams i ≡ Some r → r.num_scopes ≡ 0 }
 {
+    // The laws that the proof cites.
     puffin_data::laws::joined_infos();
     puffin_data::laws::range_of_a_forest();
 }

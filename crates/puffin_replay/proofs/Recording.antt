@@ -14,7 +14,7 @@ use Rattle.puffin_data.specs.declared.error.Error.TheVariants.{MissingId, Memory
 use Rattle.puffin_data.specs.declared.file_error.FileError.{FileError}
 use Rattle.puffin_data.specs.declared.file_error.FileError.TheVariants as file
 use Rattle.puffin_data.specs.Device.{IsOutside, WritesBeginning}
-use Rattle.puffin_frames.specs.Packet.Steps.{IsPacked}
+use Rattle.puffin_frames.specs.Packet.Grammar.{IsPacked}
 use Rattle.puffin_frames.specs.Packet.Writing.{HasLongPart}
 use Rattle.puffin_frames.specs.Details.{Details, lacks_id, AllHaveIds}
 use Rattle.puffin_frames.specs.Details.Collection.{Collection, with_details, with_all_details}

@@ -10,7 +10,8 @@ use Rattle.puffin_frames.specs.Details.{Details}
 use Rattle.puffin_frames.specs.Details.Collection.{no_details, with_all_details}
 use Rattle.puffin_frames.specs.Packet.Structs.{Legacy, streams_layout}
 use Rattle.puffin_frames.specs.Packet.Stored.{Said, Stored, packed, legacy}
-use Rattle.puffin_frames.specs.Packet.Steps.{packet, next_at}
+use Rattle.puffin_frames.specs.Packet.Front.{next_at}
+use Rattle.puffin_frames.specs.Packet.Grammar.{packet}
 use Rattle.puffin.specs.declared.profile_view.frame_view.FrameView.{FrameView}
 use Rattle.puffin.specs.View.ViewedFrames.{Frame, contents_of}
 use Rattle.puffin.specs.View.FrameOf.{details_of_frame}

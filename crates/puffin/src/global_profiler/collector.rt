@@ -14,7 +14,7 @@ ghost use Rattle.puffin.specs.Profiler.Collecting.{Collects, TellsIds, KeepsPend
 
 use crate::global_profiler::delta::{all_have_ids, copies, learn, scope_delta};
 use crate::global_profiler::totals::Totals;
-use puffin_data::data::{ScopeId, StreamInfoRef};
+use puffin_data::data::{ScopeId, StreamInfoRef, is_range};
 use puffin_data::{Error, NanoSecond, Result};
 use puffin_frames::frame_data::{
     FrameData, FrameIndex, FrameMeta, ThreadStreams, UnpackedFrameData, report_to,
@@ -323,6 +323,5 @@ impl Reporter for Collector {
 fn is_too_long(range: (NanoSecond, NanoSecond)) -> bool
     ensures { MatchBool result (IsTooLong range) (IsOrdered range → DurationFits range) }
 {
-    let (start, stop) = range;
-    start <= stop && stop.checked_sub(start).is_none()
+    range.0 <= range.1 && !is_range(range)
 }

@@ -4,8 +4,9 @@ use Rattle.std.specs.List.{flat_map, AllByRecursion}
 use Rattle.std.proofs.lemmas.Bool.{eqb-true}
 use Rattle.std.proofs.lemmas.List.{get_or-append_right, append-nil, nil_from_length}
 use Rattle.std.proofs.lemmas.Option.{same_Some, some_pair_parts, cond_some}
-use Rattle.puffin_data.specs.Value.Layout.{IsBytes, number, optional, pair, items, IsLong, IfAny, AreItems, NoneBeginsAnother, ReadsLayouts, Reads, ReadsWithRest}
-use Rattle.puffin_data.specs.Value.Decoding.{◌>>=◌, checked, seen_as, optional_at, pair_at, times_at, whole, Gives, GivesWithRest}
+use Rattle.puffin_data.specs.Value.Layout.{IsBytes, number, optional, pair, items, IsLong, IfAny, AreItems, NoneBeginsAnother, ReadsLayouts}
+use Rattle.puffin_data.specs.Value.Decoding.{◌>>=◌, checked, seen_as, optional_at, pair_at, times_at, whole}
+use Rattle.puffin_data.specs.Value.Outcomes.{Reads, ReadsWithRest, Gives, GivesWithRest}
 
 pub IsBytes-rest : (b : ℕ) (bytes : List ℕ) → IsBytes (b ∷ bytes) → IsBytes bytes
 IsBytes-rest b bytes h i = h (suc i)

@@ -4,6 +4,14 @@ use Rattle.std.specs.Int.{w64, cast_unsigned}
 use Rattle.byteorder.specs.Endian.{little_bytes}
 use Rattle.puffin_data.specs.Forest.{Forest, empty, node, IsForest}
 
+-- `(`, the first byte of a scope
+abbrev pub begin_mark : ℕ
+begin_mark = 40
+
+-- `)`, the byte after a scope's children
+abbrev pub end_mark : ℕ
+end_mark = 41
+
 -- a time in eight bytes, as two's complement
 abbrev pub time_bytes : ℤ → List ℕ
 time_bytes t = little_bytes 8 (cast_unsigned w64 t)
@@ -14,11 +22,11 @@ text_layout text = length text ∷ text
 
 -- what stands before a scope's children: `(`, id, start, the text, and the number of bytes of the children
 unfoldable pub begin_bytes : (id : ℕ) → (start : ℤ) → (text : List ℕ) → (size : ℕ) → List ℕ
-begin_bytes id start text size = 40 ∷ (little_bytes 4 id ++ (time_bytes start ++ (text_layout text ++ little_bytes 8 size)))
+begin_bytes id start text size = begin_mark ∷ (little_bytes 4 id ++ (time_bytes start ++ (text_layout text ++ little_bytes 8 size)))
 
 -- what stands after them: `)` and stop
 unfoldable pub end_bytes : (stop : ℤ) → List ℕ
-end_bytes stop = 41 ∷ time_bytes stop
+end_bytes stop = end_mark ∷ time_bytes stop
 
 abbrev pub spelling : Forest → List ℕ
 spelling empty = []

@@ -2,6 +2,7 @@
 use Rattle.std.specs.Prelude.{◌≡◌, ℕ, zero, suc, ◌/◌, ◌%◌, ◌^◌, ℤ, pos, negsuc, Bool, true, false, List, [], ◌∷◌, length, take, drop, Option, Some, None, nat_lt, ◌==◌, if◌then◌else◌}
 use Rattle.std.specs.Str.{is_utf8}
 use Rattle.byteorder.specs.Endian.{little_number}
+use Rattle.puffin_data.specs.Value.Layout.{two_bytes_mark, four_bytes_mark, eight_bytes_mark}
 
 infixl 10 ◌>>=◌
 abbrev pub ◌>>=◌ : {A B : Type 0} → Option A → (A → Option B) → Option B
@@ -33,10 +34,10 @@ wide_at width least bytes =
 
 unfoldable pub number_after : ℕ → List ℕ → Option (ℕ × List ℕ)
 number_after b rest =
-    if nat_lt b 251 then Some (b, rest)
-    else if b == 251 then wide_at 2 251 rest
-    else if b == 252 then wide_at 4 (2 ^ 16) rest
-    else if b == 253 then wide_at 8 (2 ^ 32) rest
+    if nat_lt b two_bytes_mark then Some (b, rest)
+    else if b == two_bytes_mark then wide_at 2 two_bytes_mark rest
+    else if b == four_bytes_mark then wide_at 4 (2 ^ 16) rest
+    else if b == eight_bytes_mark then wide_at 8 (2 ^ 32) rest
     else None
 
 abbrev pub number_at : List ℕ → Option (ℕ × List ℕ)
@@ -103,23 +104,3 @@ abbrev pub whole : {A : Type 0} → (List ℕ → Option (A × List ℕ)) → Li
 whole read bytes = do
   a ← read bytes
   if length a.1 == 0 then Some a.0 else None
-
--- A call returned what a reading gives, seen by view, and the bytes left are those after it; where the reading gives nothing, they stay.
-abbrev pub Gives : {X A : Type 0} → (X → A) → List ℕ → Option X → List ℕ → Option (A × List ℕ) → Type 0
-Gives view old (Some x) new read = read ≡ Some (view x, new)
-Gives view old None new read = (read ≡ None) × (new ≡ old)
-
--- the same of a call that returns the rest beside the value
-abbrev pub GivesWithRest : {X A : Type 0} → (X → A × List ℕ) → Option X → Option (A × List ℕ) → Type 0
-GivesWithRest view (Some x) read = read ≡ Some (view x)
-GivesWithRest view None read = read ≡ None
-
--- the same of a call that says nothing of the bytes left where it read nothing
-abbrev pub IfSomeGives : {X A : Type 0} → (X → A) → Option X → List ℕ → Option (A × List ℕ) → Type 0
-IfSomeGives view (Some x) new read = read ≡ Some (view x, new)
-IfSomeGives view None new read = read ≡ None
-
--- what a call returned is this value, seen by view
-abbrev pub SeenAs : {X A : Type 0} → (X → A) → Option X → Option A → Type 0
-SeenAs view (Some x) read = read ≡ Some (view x)
-SeenAs view None read = read ≡ None

@@ -14,13 +14,23 @@ IsBytes bytes = (i : ℕ) → get_or bytes i 0 < 256
 abbrev pub byte : ℕ → List ℕ
 byte n = n ∷ []
 
+-- the bytes before a number of two, four and eight bytes; a number below the first is a byte of its own
+abbrev pub two_bytes_mark : ℕ
+two_bytes_mark = 251
+
+abbrev pub four_bytes_mark : ℕ
+four_bytes_mark = 252
+
+abbrev pub eight_bytes_mark : ℕ
+eight_bytes_mark = 253
+
 -- the shortest spelling
 unfoldable pub number : ℕ → List ℕ
 number n =
-    if nat_lt n 251 then n ∷ []
-    else if nat_lt n (2 ^ 16) then 251 ∷ little_bytes 2 n
-    else if nat_lt n (2 ^ 32) then 252 ∷ little_bytes 4 n
-    else 253 ∷ little_bytes 8 n
+    if nat_lt n two_bytes_mark then n ∷ []
+    else if nat_lt n (2 ^ 16) then two_bytes_mark ∷ little_bytes 2 n
+    else if nat_lt n (2 ^ 32) then four_bytes_mark ∷ little_bytes 4 n
+    else eight_bytes_mark ∷ little_bytes 8 n
 
 -- 0, -1, 1, -2 as 0, 1, 2, 3
 abbrev pub zigzag : ℤ → ℕ
@@ -89,14 +99,4 @@ NoneBeginsAnother {A = A} fits layout = (a b : A) (x y : List ℕ) → fits a �
 abbrev pub ReadsLayouts : {A : Type 0} → (A → Type 0) → (A → List ℕ) → (List ℕ → Option (A × List ℕ)) → Type 0
 ReadsLayouts {A = A} fits layout read =
     (bytes : List ℕ) (a : A) (rest : List ℕ) → IsBytes bytes →
-        (read bytes ≡ Some (a, rest)) ↔ (fits a × (bytes ≡ layout a ++ rest))
-
--- Of the bytes old either a value was read, seen by view, whose layout begins them, and new follow it; or nothing was, where no layout begins them, and they stay.
-abbrev pub Reads : {X A : Type 0} → (X → A) → (A → Type 0) → (A → List ℕ) → List ℕ → Option X → List ℕ → Type 0
-Reads view fits layout old (Some x) new = fits (view x) × (old ≡ layout (view x) ++ new)
-Reads {A = A} view fits layout old None new = ((a : A) (rest : List ℕ) → fits a → old ≡ layout a ++ rest → ⊥) × (new ≡ old)
-
--- the same of a call that returns the bytes that follow beside the value
-abbrev pub ReadsWithRest : {X A : Type 0} → (X → A × List ℕ) → (A → Type 0) → (A → List ℕ) → List ℕ → Option X → Type 0
-ReadsWithRest view fits layout old (Some x) = fits (view x).0 × (old ≡ layout (view x).0 ++ (view x).1)
-ReadsWithRest {A = A} view fits layout old None = (a : A) (rest : List ℕ) → fits a → old ≡ layout a ++ rest → ⊥
+    (read bytes ≡ Some (a, rest)) ↔ (fits a × (bytes ≡ layout a ++ rest))

@@ -2,7 +2,7 @@
 use Rattle.std.specs.Prelude.{◌≡◌, ℕ, ◌+◌, ◌≤◌, ◌==◌, if◌then◌else◌, ◌⊎◌, List, [], ◌∷◌, ◌++◌, length, slice_index}
 use Rattle.puffin_data.specs.declared.error.Error.{Error}
 use Rattle.puffin_data.specs.Forest.{Forest}
-use Rattle.puffin_data.specs.Forest.Spelling.{Spells}
+use Rattle.puffin_data.specs.Forest.Spelling.{begin_mark, Spells}
 use Rattle.puffin_data.specs.Walk.{Reaches, IsFaultAt, IsFirstFault}
 use Rattle.puffin_data.specs.Walk.Sights.{Nested, nested_in, Sight, Sees, scopes_of, before}
 
@@ -20,7 +20,7 @@ pub record StopsAtFault {V : Type 0} (takes : V → List Nested → V → Type 0
   pub sights : List Sight
   pub sees : Sees bytes [] 0 (length bytes) sights
   pub taken : takes from (scopes_of (before place sights)) to
-  pub tries : tried ≡ length (before place sights) + (if slice_index bytes place == 40 then 1 else 0)
+  pub tries : tried ≡ length (before place sights) + (if slice_index bytes place == begin_mark then 1 else 0)
 
 -- The visitor has taken the sound scopes before one that it refuses, and no fault stands before that. These are the tries, and the one that is refused.
 pub record StopsAtRefusal {V : Type 0} (takes : V → List Nested → V → Type 0) (refuses : V → Nested → Error → Type 0) (from : V) (bytes : List ℕ) (tried : ℕ) (cause : Error) : Type 0 where

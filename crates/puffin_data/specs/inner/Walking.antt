@@ -5,6 +5,7 @@ use Rattle.puffin_data.specs.declared.error.Error.{Error}
 use Rattle.puffin_data.specs.declared.error.Error.TheVariants.{Memory}
 use Rattle.puffin_data.specs.declared.data.walk.Walk.{Walk}
 use Rattle.puffin_data.specs.Forest.{Span}
+use Rattle.puffin_data.specs.Forest.Spelling.{begin_mark}
 use Rattle.puffin_data.specs.Walk.Reading.{Found}
 use Rattle.puffin_data.specs.Walk.{region, IsSoundAt, IsFaultAt}
 
@@ -28,7 +29,7 @@ pub record Stop : Type 0 where
 
 -- one more try where a scope begins at the front of a region
 abbrev pub tries_in : List ℕ → ℕ
-tries_in part = if slice_index part 0 == 40 then 1 else 0
+tries_in part = if slice_index part 0 == begin_mark then 1 else 0
 
 -- From place p, in the region that ends at e and stands within `level` open scopes, a walk with the numbers w so far comes to this end.
 pub data WalksTo (bytes : List ℕ) : ℕ → Walk → ℕ → ℕ → Result Walk Stop → Type 0 where

@@ -4,6 +4,7 @@ ghost use Rattle.std.specs.Prelude.{◌≡◌, ◌+◌, ◌≤◌, length};
 ghost use Rattle.puffin_data.specs.Walk.Reading.{reading, id_in, time_in, size_in, child_begin_in};
 ghost use Rattle.puffin_data.specs.inner.Sightings.{reading_of};
 
+use crate::data::range::is_range;
 use crate::error::{Error, NanoSecond, Result};
 use byteorder::{ByteOrder, LittleEndian};
 
@@ -11,10 +12,16 @@ use byteorder::{ByteOrder, LittleEndian};
 pub(crate) const SCOPE_BEGIN: u8 = b'(';
 /// The byte after a scope's children.
 pub(crate) const SCOPE_END: u8 = b')';
+/// The bytes of a scope's beginning that stand before its text.
+pub(crate) const FRONT_SIZE: usize = 14;
 /// The bytes of a scope's beginning, without its text.
-pub(crate) const HEAD_SIZE: usize = 22;
+pub const HEAD_SIZE: usize = 22;
+/// The most bytes of a text that are stored.
+pub(crate) const TEXT_LIMIT: usize = 127;
+/// The most bytes of a scope's beginning.
+pub const BEGIN_LIMIT: usize = 149;
 /// The bytes of a scope's end.
-pub(crate) const END_SIZE: usize = 9;
+pub const END_SIZE: usize = 9;
 
 /// A sound scope at the front of a region. Positions count from the scope's first byte.
 #[derive(Clone, Copy, Debug)]
@@ -59,7 +66,7 @@ fn size_of_children(region: &[u8]) -> u64
     requires { child_begin_in region.now ≤ length region.now }
     ensures { result ≡ size_in region.now }
 {
-    LittleEndian::read_u64(&region[14 + region[13] as usize..])
+    LittleEndian::read_u64(&region[FRONT_SIZE + region[13] as usize..])
 }
 
 /// Reads one scope at the front of a region. `None` where none begins there.
@@ -94,14 +101,14 @@ pub(crate) fn scope_in(region: &[u8]) -> Result<Option<Sighting<'_>>>
     }
     let start = time_at(region, 5);
     let stop = time_at(region, child_end + 1);
-    if stop < start || stop.checked_sub(start).is_none() {
+    if !is_range((start, stop)) {
         return Err(Error::InvalidStream);
     }
     Ok(Some(Sighting {
         id: id_of(region),
         start,
         stop,
-        text: &region[14..14 + text_size],
+        text: &region[FRONT_SIZE..FRONT_SIZE + text_size],
         child_begin,
         child_end,
         next_sibling: child_end + END_SIZE,

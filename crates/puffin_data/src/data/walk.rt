@@ -1,6 +1,7 @@
 //! The strict walk: one pass over the bytes of a stream, which have to be a forest of scopes.
 
 ghost use Rattle.std.specs.Prelude.{◌≡◌, ℕ, ◌+◌, ◌*◌, ◌≤◌, ◌<◌, ◌^◌, ◌==◌, if◌then◌else◌, length, slice_index, IfOk, IfErr, MatchResult};
+ghost use Rattle.puffin_data.specs.Forest.Spelling.{begin_mark};
 ghost use Rattle.puffin_data.specs.Walk.Reading.{reading, IsFaultIn};
 ghost use Rattle.puffin_data.specs.inner.Sightings.{found_of};
 ghost use Rattle.puffin_data.specs.inner.Walking.{no_scope_counted, with_scope, Walked, Stopped};
@@ -52,7 +53,8 @@ pub(crate) fn next_scope<'s>(region: &'s [u8], tries: &mut u64) -> Result<Sighti
     requires few { tries.old + 1 < 2 ^ 64 }
     ensures sound { IfOk result (λ s. reading region.now ≡ Ok (Some (found_of s))) }
     ensures fault { IfErr result (IsFaultIn region.now) }
-    ensures tried { tries.new ≡ tries.old + (if slice_index region.now 0 == 40 then 1 else 0) }
+    ensures tried { tries.new
+        ≡ tries.old + (if slice_index region.now 0 == begin_mark then 1 else 0) }
 {
     if region[0] == SCOPE_BEGIN {
         *tries += 1;

@@ -1,8 +1,9 @@
 //! Values read one after the other.
 
 ghost use Rattle.std.specs.Prelude.{◌≡◌, List, ℕ, length};
-ghost use Rattle.puffin_data.specs.Value.Layout.{number, signed, byte, block, flag, Reads, IsAny, IsByte, IsWord, IsLong, IsSigned, IsBlock, IsText};
-ghost use Rattle.puffin_data.specs.Value.Decoding.{byte_at, number_at, word_at, signed_at, flag_at, bytes_at, text_at, Gives};
+ghost use Rattle.puffin_data.specs.Value.Layout.{number, signed, byte, block, flag, IsAny, IsByte, IsWord, IsLong, IsSigned, IsBlock, IsText};
+ghost use Rattle.puffin_data.specs.Value.Decoding.{byte_at, number_at, word_at, signed_at, flag_at, bytes_at, text_at};
+ghost use Rattle.puffin_data.specs.Value.Outcomes.{Reads, Gives};
 
 use crate::wire::front::{
     read_byte, read_bytes, read_flag, read_number, read_signed, read_text, read_word,

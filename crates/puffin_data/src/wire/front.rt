@@ -2,20 +2,22 @@
 
 ghost use Rattle.std.specs.Prelude.{◌≡◌, ◌^◌, true, false, MatchOption};
 ghost use Rattle.std.specs.Str.{is_utf8};
-ghost use Rattle.puffin_data.specs.Value.Layout.{number, signed, byte, block, flag, ReadsWithRest, IsAny, IsByte, IsWord, IsLong, IsSigned, IsBlock, IsText};
-ghost use Rattle.puffin_data.specs.Value.Decoding.{byte_at, wide_at, number_at, word_at, signed_at, unzigzag, flag_at, bytes_at, text_at, GivesWithRest};
+ghost use Rattle.puffin_data.specs.Value.Layout.{two_bytes_mark, number, signed, byte, block, flag, IsAny, IsByte, IsWord, IsLong, IsSigned, IsBlock, IsText};
+ghost use Rattle.puffin_data.specs.Value.Decoding.{byte_at, wide_at, number_at, word_at, signed_at, unzigzag, flag_at, bytes_at, text_at};
+ghost use Rattle.puffin_data.specs.Value.Outcomes.{ReadsWithRest, GivesWithRest};
 
+use crate::wire::{EIGHT_BYTES_MARK, FOUR_BYTES_MARK, TWO_BYTES_MARK};
 use byteorder::{ByteOrder, LittleEndian};
 
 #[tactic(auto, unfolding(crate::specs::Value::Decoding::wide_at))]
 fn two_bytes_in(bytes: &[u8]) -> Option<(u64, &[u8])>
-    ensures { GivesWithRest (λ x. (x.0, x.1.now)) result (wide_at 2 251 bytes.now) }
+    ensures { GivesWithRest (λ x. (x.0, x.1.now)) result (wide_at 2 two_bytes_mark bytes.now) }
 {
     if bytes.len() < 2 {
         return None;
     }
     let n = LittleEndian::read_u16(bytes) as u64;
-    if n < 251 {
+    if n < TWO_BYTES_MARK as u64 {
         return None;
     }
     Some((n, bytes.split_at(2).1))
@@ -57,13 +59,13 @@ fn number_in(bytes: &[u8]) -> Option<(u64, &[u8])>
         [] => None,
         [first, rest @ ..] => {
             let first = *first;
-            if first < 251 {
+            if first < TWO_BYTES_MARK {
                 Some((first as u64, rest))
-            } else if first == 251 {
+            } else if first == TWO_BYTES_MARK {
                 two_bytes_in(rest)
-            } else if first == 252 {
+            } else if first == FOUR_BYTES_MARK {
                 four_bytes_in(rest)
-            } else if first == 253 {
+            } else if first == EIGHT_BYTES_MARK {
                 eight_bytes_in(rest)
             } else {
                 None

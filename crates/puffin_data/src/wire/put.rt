@@ -4,6 +4,7 @@ ghost use Rattle.std.specs.Prelude.{◌≡◌, ◌++◌, OnOk, OnErr, IfErr};
 ghost use Rattle.puffin_data.specs.Value.Layout.{number, signed, byte, block, zigzag};
 
 use crate::error::{Error, Result};
+use crate::wire::{EIGHT_BYTES_MARK, FOUR_BYTES_MARK, TWO_BYTES_MARK};
 
 /// Appends a number of 64 bits in its shortest spelling. Refused with `Memory`; nothing is then appended.
 #[tactic(auto, unfolding(crate::specs::Value::Layout::number))]
@@ -12,17 +13,17 @@ pub fn put_u64(out: &mut Vec<u8>, n: u64) -> Result<()>
     ensures err { OnErr result (out.new.items ≡ out.old.items) }
     ensures memory { IfErr result (λ e. e ≡ Error.Memory) }
 {
-    if n < 251 {
+    if n < TWO_BYTES_MARK as u64 {
         out.push(n as u8)?;
     } else if n < 65536 {
         let [a, b] = (n as u16).to_le_bytes();
-        out.extend_from_slice(&[251, a, b])?;
+        out.extend_from_slice(&[TWO_BYTES_MARK, a, b])?;
     } else if n < 4294967296 {
         let [a, b, c, d] = (n as u32).to_le_bytes();
-        out.extend_from_slice(&[252, a, b, c, d])?;
+        out.extend_from_slice(&[FOUR_BYTES_MARK, a, b, c, d])?;
     } else {
         let [a, b, c, d, e, f, g, h] = n.to_le_bytes();
-        out.extend_from_slice(&[253, a, b, c, d, e, f, g, h])?;
+        out.extend_from_slice(&[EIGHT_BYTES_MARK, a, b, c, d, e, f, g, h])?;
     }
     Ok(())
 }

@@ -1,21 +1,47 @@
 -- The bytes that store a frame: a packet, of the form that is written or an older one, or a frame as it was written at first.
-use Rattle.std.specs.Prelude.{◌≡◌, ◌^◌, ◌<◌, ◌⊎◌, ℕ, true, false, List, [], ◌∷◌, ◌++◌, length, Option}
+use Rattle.std.specs.Prelude.{◌≡◌, ◌^◌, ◌<◌, ◌⊎◌, ℕ, true, false, List, [], ◌∷◌, ◌++◌, length, nat_lt, Option}
 use Rattle.std.specs.Io.KnownBytes.{Consumes}
 use Rattle.byteorder.specs.Endian.{little_bytes}
-use Rattle.puffin_frames.specs.Packet.Structs.{meta_layout, Legacy, IsLegacy, legacy_layout}
+use Rattle.puffin_data.specs.Range.{is_range_at}
+use Rattle.puffin_frames.specs.declared.frame_data.meta.FrameMeta.{FrameMeta}
+use Rattle.puffin_frames.specs.Packet.Letters.{digit_2, digit_3, digit_4, letters_of, is_packet}
+use Rattle.puffin_frames.specs.Packet.Structs.{IsMeta, meta_layout, AreDetails, details_layout, Legacy, IsLegacy, legacy_layout}
 use Rattle.puffin_frames.specs.Packet.Stored.{Said, Stored, packed, legacy}
-use Rattle.puffin_frames.specs.Packet.Steps.{is_range_at, is_packet, counted_part, packet, IsPacked}
+
+abbrev pub counted_part : List ℕ → List ℕ
+counted_part part = little_bytes 4 (length part) ++ part
+
+-- the letters and the meta, and of the streams their length and their kind
+unfoldable pub packet_head : FrameMeta → ℕ → ℕ → List ℕ
+packet_head meta kind len = letters_of digit_4 ++ (counted_part (meta_layout meta) ++ (little_bytes 4 len ++ (kind ∷ [])))
+
+-- a packet of these streams and this part of details
+abbrev pub packet_with : FrameMeta → ℕ → List ℕ → List ℕ → List ℕ
+packet_with meta kind streams details = (packet_head meta kind (length streams) ++ streams) ++ counted_part details
+
+-- a packet of the form that is written
+abbrev pub packet : Said → List ℕ
+packet p = packet_with p.meta p.kind p.streams (details_layout p.details)
+
+-- what has a packet
+pub record IsPacked (p : Said) : Type 0 where
+  pub meta : IsMeta p.meta
+  pub range : is_range_at p.meta.range_ns.0 p.meta.range_ns.1 ≡ true
+  pub kind : nat_lt 2 p.kind ≡ false
+  pub short : length p.streams < 2 ^ 32
+  pub details : AreDetails p.details
+  pub details_short : length (details_layout p.details) < 2 ^ 32
 
 -- the third form: `PFD3`, and no details
 abbrev pub packet_without_details : Said → List ℕ
 packet_without_details p =
-    (80 ∷ 70 ∷ 68 ∷ 51 ∷ [])
+    letters_of digit_3
     ++ (counted_part (meta_layout p.meta) ++ (little_bytes 4 (length p.streams) ++ (p.kind ∷ p.streams)))
 
 -- the second form: `PFD2`, and neither details nor a kind, as its streams are all of kind 2
 abbrev pub packet_without_kind : Said → List ℕ
 packet_without_kind p =
-    (80 ∷ 70 ∷ 68 ∷ 50 ∷ []) ++ (counted_part (meta_layout p.meta) ++ counted_part p.streams)
+    letters_of digit_2 ++ (counted_part (meta_layout p.meta) ++ counted_part p.streams)
 
 -- the first form: meta and streams in one, behind their length
 abbrev pub legacy_bytes : Legacy → List ℕ

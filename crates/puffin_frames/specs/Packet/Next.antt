@@ -12,7 +12,7 @@ use Rattle.puffin_frames.specs.Packet.Structs.{Legacy}
 use Rattle.puffin_frames.specs.Frame.Holding.{Packing}
 use Rattle.puffin_frames.specs.Packet.Stored.{Stored, packed, legacy}
 use Rattle.puffin_frames.specs.Frame.Contents.{Streams, holding_of, frame_meta, frame_details, frame_says}
-use Rattle.puffin_frames.specs.Packet.Steps.{is_end, next_at, AtEnd}
+use Rattle.puffin_frames.specs.Packet.Front.{is_end, next_at, AtEnd}
 
 abbrev pub entries_if_any : Option Streams → List (Info × Recorded)
 entries_if_any None = []

@@ -5,7 +5,8 @@ ghost use Rattle.std.specs.Option.{option_map};
 ghost use Rattle.std.specs.Cow.{cow_str_bytes};
 ghost use Rattle.std.specs.FinMap.{is_sorted};
 ghost use Rattle.puffin_data.specs.Honesty.{Recorded, record_of};
-ghost use Rattle.puffin_data.specs.Value.Decoding.{IfSomeGives, SeenAs, whole, optional_at, signed_at, text_at, times_at};
+ghost use Rattle.puffin_data.specs.Value.Decoding.{whole, optional_at, signed_at, text_at, times_at};
+ghost use Rattle.puffin_data.specs.Value.Outcomes.{IfSomeGives, SeenAs};
 ghost use Rattle.puffin_frames.specs.declared.frame_data.decode.Stop.TheVariants.{Memory};
 ghost use Rattle.puffin_frames.specs.Thread.Info.{Info, info_of, info_cmp};
 ghost use Rattle.puffin_frames.specs.Details.{details_of, shared_details};
@@ -14,7 +15,7 @@ ghost use Rattle.puffin_frames.specs.Packet.Structs.{meta_at, info_at, recorded_
 ghost use Rattle.puffin_frames.specs.inner.Tries.{TriesToGive, Tries};
 
 use crate::frame_data::meta::FrameMeta;
-use crate::frame_data::shared::ThreadStreams;
+use crate::frame_data::thread_streams::ThreadStreams;
 use crate::scope_details::ScopeDetails;
 use crate::thread_profiler::ThreadInfo;
 use puffin_data::NanoSecond;

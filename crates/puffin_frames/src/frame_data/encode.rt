@@ -16,7 +16,7 @@ ghost use Rattle.puffin_frames.specs.Frame.Contents.{pairs_of};
 ghost use Rattle.puffin_frames.specs.Packet.Structs.{meta_layout, IsMeta, info_layout, IsInfo, recorded_layout, IsRecorded, streams_layout, AreStreams, detail_layout, IsDetail, details_layout, AreDetails, IsId};
 
 use crate::frame_data::meta::FrameMeta;
-use crate::frame_data::shared::ThreadStreams;
+use crate::frame_data::thread_streams::ThreadStreams;
 use crate::scope_details::ScopeDetails;
 use crate::thread_profiler::ThreadInfo;
 use puffin_data::Result;

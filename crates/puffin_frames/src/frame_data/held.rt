@@ -1,4 +1,4 @@
-//! How a frame's streams are held.
+//! How a frame's streams are held, and from one way to another.
 
 ghost use Rattle.std.specs.Prelude.{◌≡◌, ◌≤◌, ◌-ℤ◌, ◌≤ℤ◌, Some, FitsSigned};
 ghost use Rattle.std.specs.Int.{w64};
@@ -8,8 +8,13 @@ ghost use Rattle.puffin_data.specs.Value.Layout.{IsBytes};
 ghost use Rattle.puffin_frames.specs.Frame.Streams.{contents, streams_code};
 ghost use Rattle.puffin_frames.specs.Frame.Holding.{streams_in};
 
+use crate::frame_data::decode::{self, Stop};
+use crate::frame_data::encode::put_streams;
 use crate::frame_data::meta::FrameMeta;
+use crate::frame_data::thread_streams::ThreadStreams;
 use crate::frame_data::unpacked::UnpackedFrameData;
+use puffin_data::{FileError, Result};
+use std::alloc::Global;
 use std::sync::Arc;
 
 /// The streams of a frame as bytes. Kind 0 is their layout as it is, kind 1 was compressed by lz4, and kind 2 by zstd.
@@ -50,4 +55,326 @@ pub(crate) enum Held {
     Packed(PackedFrame),
     /// Packed and unpacked.
     Both(UnpackedToo),
+}
+
+impl PackedStreams {
+    ghost use Rattle.std.specs.Prelude.{IfOk, IfErr};
+    ghost use Rattle.puffin_frames.specs.Frame.Holding.{plainly_packed, unpacking};
+    ghost use Rattle.puffin_data.specs.declared.error.Error.{Error};
+    ghost use Rattle.puffin_frames.specs.Frame.Streams.{shared_streams};
+    ghost use Rattle.puffin_frames.specs.Frame.Contents.{packed_as};
+    ghost use Rattle.puffin_frames.specs.inner.Tries.{DecidedInMemory};
+
+    /// Streams as they are packed. Takes no memory.
+    pub(crate) fn new(kind: u8, bytes: Vec<u8>) -> PackedStreams
+        requires { kind ≤ 2 }
+        ensures { packed_as result ≡ record { kind = kind; bytes = bytes.items } }
+    {
+        PackedStreams { kind, bytes }
+    }
+
+    /// Streams as they are, as bytes. Refused only with `Memory`.
+    pub(crate) fn of(alloc: Global, streams: &ThreadStreams) -> Result<PackedStreams>
+        ensures ok { IfOk result (λ packed.
+            packed_as packed ≡ plainly_packed (shared_streams streams.now.entries)) }
+        ensures content { IfOk result (λ packed.
+            streams_in (packed_as packed) ≡ Some (shared_streams streams.now.entries)) }
+        ensures memory { IfErr result (λ e. e ≡ Error.Memory) }
+    {
+        let mut bytes = Vec::new(alloc);
+        put_streams(&mut bytes, streams)?;
+        Ok(PackedStreams::new(0, bytes))
+    }
+
+    /// A copy. Refused only with `Memory`.
+    fn clone(&self) -> Result<PackedStreams>
+        ensures ok { IfOk result (λ copy. packed_as copy ≡ packed_as self.now) }
+        ensures memory { IfErr result (λ e. e ≡ Error.Memory) }
+    {
+        let bytes = Vec::from_slice(*self.bytes.allocator(), self.bytes.as_slice())?;
+        Ok(PackedStreams::new(self.kind, bytes))
+    }
+
+    /// The streams. Refused with `Compressed` where the kind isn't 0, with `BadStreams` where the bytes aren't a layout of
+    /// streams, and with `Memory`.
+    fn unpack(&self, alloc: Global) -> std::result::Result<ThreadStreams, FileError>
+        ensures { DecidedInMemory (λ streams. shared_streams streams.entries) result (
+            unpacking (packed_as self.now)) }
+    {
+        if self.kind != 0 {
+            return Err(FileError::Compressed(self.kind));
+        }
+        match decode::streams_in(alloc, &self.bytes) {
+            Ok(streams) => Ok(streams),
+            Err(Stop::Memory) => Err(FileError::Memory),
+            Err(Stop::NoLayout) => Err(FileError::BadStreams),
+        }
+    }
+}
+
+impl PackedFrame {
+    ghost use Rattle.std.specs.Prelude.{IfOk, IfErr};
+    ghost use Rattle.puffin_frames.specs.Frame.Holding.{plainly_packed, unpacking};
+    ghost use Rattle.puffin_data.specs.declared.error.Error.{Error};
+    ghost use Rattle.puffin_frames.specs.Frame.Contents.{packed_as};
+    ghost use Rattle.puffin_frames.specs.inner.Tries.{DecidedInMemory};
+
+    /// Nothing. Takes no memory.
+    fn nothing(alloc: Global) -> PackedFrame {
+        PackedFrame {
+            meta: FrameMeta {
+                frame_index: 0,
+                range_ns: (0, 0),
+                num_bytes: 0,
+                num_scopes: 0,
+            },
+            streams: PackedStreams::new(0, Vec::new(alloc)),
+        }
+    }
+
+    /// A frame, packed. Refused only with `Memory`.
+    fn of(alloc: Global, frame: &UnpackedFrameData) -> Result<PackedFrame>
+        ensures ok { IfOk result (λ packed.
+            packed_as packed.streams ≡ plainly_packed (contents frame.now)) }
+        ensures content { IfOk result (λ packed.
+            streams_in (packed_as packed.streams) ≡ Some (contents frame.now)) }
+        ensures meta { IfOk result (λ packed. packed.meta ≡ frame.now.meta) }
+        ensures memory { IfErr result (λ e. e ≡ Error.Memory) }
+    {
+        let streams = PackedStreams::of(alloc, &frame.thread_streams)?;
+        Ok(PackedFrame {
+            meta: frame.meta,
+            streams,
+        })
+    }
+
+    /// The frame, unpacked. Refused as [`PackedStreams::unpack`], and with `Memory`.
+    fn unpack(&self, alloc: Global) -> std::result::Result<Arc<UnpackedFrameData>, FileError>
+        ensures ok { DecidedInMemory (λ frame. contents (arc_value frame)) result (
+            unpacking (packed_as self.now.streams)) }
+        ensures meta { IfOk result (λ frame. (arc_value frame).meta ≡ self.now.meta) }
+    {
+        let thread_streams = self.streams.unpack(alloc)?;
+        let frame = UnpackedFrameData {
+            meta: self.meta,
+            thread_streams,
+        };
+        Ok(Arc::new(alloc, frame)?)
+    }
+
+    /// A copy. Refused only with `Memory`.
+    fn clone(&self) -> Result<PackedFrame>
+        ensures ok { IfOk result (λ copy. packed_as copy.streams ≡ packed_as self.now.streams) }
+        ensures meta { IfOk result (λ copy. copy.meta ≡ self.now.meta) }
+        ensures memory { IfErr result (λ e. e ≡ Error.Memory) }
+    {
+        Ok(PackedFrame {
+            meta: self.meta,
+            streams: self.streams.clone()?,
+        })
+    }
+}
+
+impl Held {
+    ghost use Rattle.std.specs.Prelude.{None, IfOk, IfErr, OnOk, OnErr};
+    ghost use Rattle.puffin_frames.specs.Frame.Holding.{unpacking, unpacked_from, held_contents, as_packed, as_unpacked};
+    ghost use Rattle.puffin_data.specs.declared.error.Error.{Error};
+    ghost use Rattle.puffin_data.specs.declared.file_error.FileError.{FileError};
+    ghost use Rattle.puffin_frames.specs.Frame.Contents.{packed_as, held_as, held_meta};
+    ghost use Rattle.puffin_frames.specs.inner.Tries.{DecidedInMemory};
+
+    /// Nothing, packed. Takes no memory.
+    pub(crate) fn nothing(alloc: Global) -> Held {
+        Held::Packed(PackedFrame::nothing(alloc))
+    }
+
+    /// The frame packed only, and as it was where that is refused, which is with `Memory` alone.
+    pub(crate) fn pack(self, alloc: Global) -> (Held, Result<()>)
+        ensures ok { OnOk result.1 (held_as result.0 ≡ as_packed (held_as self)) }
+        ensures contents { held_contents (held_as result.0) ≡ held_contents (held_as self) }
+        ensures err { OnErr result.1 (result.0 ≡ self) }
+        ensures meta { held_meta result.0 ≡ held_meta self }
+        ensures memory { IfErr result.1 (λ e. e ≡ Error.Memory) }
+    {
+        match self {
+            Held::Own(frame) => match PackedFrame::of(alloc, &frame) {
+                Ok(packed) => (Held::Packed(packed), Ok(())),
+                Err(cause) => (Held::Own(frame), Err(cause)),
+            },
+            Held::Shared(frame) => match PackedFrame::of(alloc, &frame) {
+                Ok(packed) => (Held::Packed(packed), Ok(())),
+                Err(cause) => (Held::Shared(frame), Err(cause)),
+            },
+            Held::Packed(packed) => (Held::Packed(packed), Ok(())),
+            Held::Both(both) => (Held::Packed(both.into_packed()), Ok(())),
+        }
+    }
+
+    /// The frame unpacked too, and its unpacked data; as it was where that is refused.
+    pub(crate) fn unpack(
+        self,
+        alloc: Global,
+    ) -> (Held, std::result::Result<Arc<UnpackedFrameData>, FileError>)
+        ensures ok { OnOk result.1 (held_as result.0 ≡ as_unpacked (held_as self)) }
+        ensures contents { held_contents (held_as result.0) ≡ held_contents (held_as self) }
+        ensures err { OnErr result.1 (held_as result.0 ≡ held_as self) }
+        ensures meta { held_meta result.0 ≡ held_meta self }
+        ensures unpacked { DecidedInMemory (λ frame. contents (arc_value frame)) result.1
+            (unpacked_from (held_as self)) }
+        ensures unpacked_meta { IfOk result.1 (λ frame. (arc_value frame).meta ≡ held_meta self) }
+    {
+        match self {
+            Held::Own(frame) => Held::share(alloc, frame),
+            Held::Shared(frame) => {
+                let same = Held::lent(&frame);
+                (Held::Shared(frame), same)
+            }
+            Held::Packed(packed) => Held::unpack_too(alloc, packed),
+            Held::Both(both) => {
+                let same = Held::lent(&both.unpacked);
+                (Held::Both(both), same)
+            }
+        }
+    }
+
+    /// The frame packed, in a copy. Refused only with `Memory`.
+    pub(crate) fn packed_copy(&self, alloc: Global) -> Result<Held>
+        ensures ok { IfOk result (λ copy. held_as copy ≡ as_packed (held_as self.now)) }
+        ensures contents { IfOk result (λ copy.
+            held_contents (held_as copy) ≡ held_contents (held_as self.now)) }
+        ensures meta { IfOk result (λ copy. held_meta copy ≡ held_meta self.now) }
+        ensures memory { IfErr result (λ e. e ≡ Error.Memory) }
+    {
+        let packed = match self {
+            Held::Own(frame) => PackedFrame::of(alloc, frame)?,
+            Held::Shared(frame) => PackedFrame::of(alloc, frame)?,
+            Held::Packed(packed) => packed.clone()?,
+            Held::Both(both) => both.packed_copy()?,
+        };
+        Ok(Held::Packed(packed))
+    }
+
+    /// A copy, which shares the streams. Refused only with `Memory`.
+    pub(crate) fn clone(&self, alloc: Global) -> Result<Held>
+        ensures ok { IfOk result (λ copy. held_as copy ≡ held_as self.now) }
+        ensures meta { IfOk result (λ copy. held_meta copy ≡ held_meta self.now) }
+        ensures memory { IfErr result (λ e. e ≡ Error.Memory) }
+    {
+        Ok(match self {
+            Held::Own(frame) => Held::Own(frame.clone(alloc)?),
+            Held::Shared(frame) => Held::Shared(Arc::try_clone(frame)?),
+            Held::Packed(packed) => Held::Packed(packed.clone()?),
+            Held::Both(both) => Held::Both(both.clone()?),
+        })
+    }
+
+    /// The same frame once more. Refused only with `Memory`.
+    fn lent(
+        frame: &Arc<UnpackedFrameData>,
+    ) -> std::result::Result<Arc<UnpackedFrameData>, FileError>
+        ensures ok { IfOk result (λ same. arc_value same ≡ arc_value frame.now) }
+        ensures memory { IfErr result (λ e. e ≡ FileError.Memory) }
+    {
+        Ok(Arc::try_clone(frame)?)
+    }
+
+    /// A frame that is handed out, and as it was where that is refused, which is with `Memory` alone.
+    fn share(
+        alloc: Global,
+        frame: UnpackedFrameData,
+    ) -> (Held, std::result::Result<Arc<UnpackedFrameData>, FileError>)
+        ensures held { held_as result.0
+            ≡ record { packed = None; unpacked = Some (contents frame) } }
+        ensures meta { held_meta result.0 ≡ frame.meta }
+        ensures ok { IfOk result.1 (λ same. arc_value same ≡ frame) }
+        ensures memory { IfErr result.1 (λ e. e ≡ FileError.Memory) }
+    {
+        match Arc::new(alloc, frame) {
+            Ok(shared) => {
+                let same = Held::lent(&shared);
+                (Held::Shared(shared), same)
+            }
+            Err(refused) => (Held::Own(refused.value), Err(FileError::Memory)),
+        }
+    }
+
+    /// A packed frame that is also held unpacked, and its unpacked data; as it was where that is refused.
+    fn unpack_too(
+        alloc: Global,
+        packed: PackedFrame,
+    ) -> (Held, std::result::Result<Arc<UnpackedFrameData>, FileError>)
+        ensures ok { IfOk result.1 (λ frame.
+            held_as result.0 ≡ record {
+              packed = Some (packed_as packed.streams);
+              unpacked = Some (contents (arc_value frame));
+            }) }
+        ensures err { OnErr result.1 (
+            held_as result.0
+            ≡ record { packed = Some (packed_as packed.streams); unpacked = None }) }
+        ensures meta { held_meta result.0 ≡ packed.meta }
+        ensures unpacked { DecidedInMemory (λ frame. contents (arc_value frame)) result.1 (
+            unpacking (packed_as packed.streams)) }
+        ensures unpacked_meta { IfOk result.1 (λ frame. (arc_value frame).meta ≡ packed.meta) }
+    {
+        let unpacked = match packed.unpack(alloc) {
+            Ok(unpacked) => unpacked,
+            Err(cause) => return (Held::Packed(packed), Err(cause)),
+        };
+        match Held::lent(&unpacked) {
+            Ok(same) => {
+                let both = UnpackedToo {
+                    unpacked,
+                    packed: packed.streams,
+                };
+                (Held::Both(both), Ok(same))
+            }
+            Err(cause) => (Held::Packed(packed), Err(cause)),
+        }
+    }
+}
+
+impl UnpackedToo {
+    ghost use Rattle.std.specs.Prelude.{IfOk, IfErr};
+    ghost use Rattle.puffin_data.specs.declared.error.Error.{Error};
+    ghost use Rattle.puffin_frames.specs.Frame.Contents.{packed_as};
+
+    /// The frame packed only. Takes no memory.
+    fn into_packed(self) -> PackedFrame
+        ensures streams { packed_as result.streams ≡ packed_as self.packed }
+        ensures content { streams_in (packed_as result.streams)
+            ≡ Some (contents (arc_value self.unpacked)) }
+        ensures meta { result.meta ≡ (arc_value self.unpacked).meta }
+    {
+        PackedFrame {
+            meta: self.unpacked.meta,
+            streams: self.packed,
+        }
+    }
+
+    /// The frame packed only, in a copy. Refused only with `Memory`.
+    fn packed_copy(&self) -> Result<PackedFrame>
+        ensures ok { IfOk result (λ copy. packed_as copy.streams ≡ packed_as self.now.packed) }
+        ensures content { IfOk result (λ copy.
+            streams_in (packed_as copy.streams)
+            ≡ Some (contents (arc_value self.now.unpacked))) }
+        ensures meta { IfOk result (λ copy. copy.meta ≡ (arc_value self.now.unpacked).meta) }
+        ensures memory { IfErr result (λ e. e ≡ Error.Memory) }
+    {
+        Ok(PackedFrame {
+            meta: self.unpacked.meta,
+            streams: self.packed.clone()?,
+        })
+    }
+
+    /// A copy, which shares the unpacked data. Refused only with `Memory`.
+    fn clone(&self) -> Result<UnpackedToo>
+        ensures packed { IfOk result (λ copy. packed_as copy.packed ≡ packed_as self.now.packed) }
+        ensures unpacked { IfOk result (λ copy.
+            arc_value copy.unpacked ≡ arc_value self.now.unpacked) }
+        ensures memory { IfErr result (λ e. e ≡ Error.Memory) }
+    {
+        let packed = self.packed.clone()?;
+        let unpacked = Arc::try_clone(&self.unpacked)?;
+        Ok(UnpackedToo { unpacked, packed })
+    }
 }

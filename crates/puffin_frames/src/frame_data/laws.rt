@@ -7,8 +7,8 @@ ghost use Rattle.puffin_frames.specs.Packet.Structs.{meta_layout, IsMeta, meta_a
 ghost use Rattle.puffin_frames.specs.Frame.Streams.{Streams};
 ghost use Rattle.puffin_frames.specs.Frame.Holding.{Packing, HoldsStreams, streams_in, Holding, IsHolding, held_contents, as_packed, as_unpacked};
 ghost use Rattle.puffin_frames.specs.Packet.Stored.{Said, Stored, packed};
-ghost use Rattle.puffin_frames.specs.Packet.Steps.{next_at, packet, IsPacked};
-ghost use Rattle.puffin_frames.specs.Packet.Grammar.{Stores};
+ghost use Rattle.puffin_frames.specs.Packet.Front.{next_at};
+ghost use Rattle.puffin_frames.specs.Packet.Grammar.{packet, IsPacked, Stores};
 
 /// No layout of a value begins another of its type.
 pub fn no_layout_begins_another()

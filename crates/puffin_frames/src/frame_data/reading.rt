@@ -10,7 +10,9 @@ ghost use Rattle.puffin_frames.specs.Details.{shared_details};
 ghost use Rattle.puffin_frames.specs.Frame.Contents.{holding_of, frame_says};
 ghost use Rattle.puffin_frames.specs.inner.Tries.{Decided, DecidedInMemory};
 ghost use Rattle.puffin_frames.specs.inner.Form.{IsFormOf};
-ghost use Rattle.puffin_frames.specs.Packet.Steps.{is_range_at, meta_from, meta_part_at, kind_from, kind_at, details_from, details_part_at, streams_part_at, packet_at, form_at, legacy_from, legacy_part_at, is_packet, stored_after};
+ghost use Rattle.puffin_frames.specs.Packet.Letters.{is_packet};
+ghost use Rattle.puffin_frames.specs.Packet.Parts.{meta_from, meta_part_at, kind_from, kind_at, details_from, details_part_at, streams_part_at, legacy_from, legacy_part_at};
+ghost use Rattle.puffin_frames.specs.Packet.Forms.{packet_at, form_at, stored_after};
 ghost use Rattle.puffin_frames.specs.Packet.Grammar.{TookStored};
 ghost use Rattle.puffin_frames.specs.Packet.Next.{HeaderFrom, legacy_of, stored_of, IsFresh, ReadsNext};
 
@@ -21,19 +23,12 @@ use crate::frame_data::meta::FrameMeta;
 use crate::frame_data::unpacked::UnpackedFrameData;
 use crate::scope_details::ScopeDetails;
 use byteorder::{ByteOrder, LittleEndian};
-use puffin_data::data::{Source, read_byte, read_counted_part, read_length, read_part, read_up_to};
-use puffin_data::{FileError, NanoSecond};
+use puffin_data::FileError;
+use puffin_data::data::{
+    Source, is_range, read_byte, read_counted_part, read_length, read_part, read_up_to,
+};
 use std::alloc::Global;
 use std::sync::Arc;
-
-/// Whether a range isn't reversed and its duration fits.
-fn is_range(range: (NanoSecond, NanoSecond)) -> bool
-    ensures test { result ≡ is_range_at range.0 range.1 }
-    ensures ordered { result ≡ true → range.0 ≤ℤ range.1 }
-    ensures duration_fits { result ≡ true → FitsSigned w64 (range.1 -ℤ range.0) }
-{
-    range.0 <= range.1 && (range.0 >= 0 || range.1 <= i64::MAX + range.0)
-}
 
 fn parsed_meta(bytes: &[u8]) -> Result<FrameMeta, FileError>
     ensures decided { Decided (λ m. m) result (meta_from bytes.now) }

@@ -2,9 +2,9 @@ ghost use Rattle.std.specs.Prelude.{◌≡◌, ◌^◌, ◌<◌, ◌-ℤ◌, ◌
 ghost use Rattle.std.specs.Int.{w64};
 
 use crate::frame_data::meta::FrameMeta;
-use crate::frame_data::shared::{ThreadStreams, shared};
+use crate::frame_data::thread_streams::{ThreadStreams, shared, streams_copy};
 use crate::thread_profiler::ThreadInfo;
-use puffin_data::data::StreamInfo;
+use puffin_data::data::{StreamInfo, is_range};
 use puffin_data::{Error, FrameIndex, NanoSecond, Result};
 use std::alloc::Global;
 use std::collections::BTreeMap;
@@ -71,7 +71,7 @@ impl UnpackedFrameData {
         if stop < start {
             return Err(Error::Empty);
         }
-        if stop.checked_sub(start).is_none() {
+        if !is_range(meta.range_ns) {
             return Err(Error::RangeTooLong);
         }
         let thread_streams = shared(alloc, thread_streams)?;
@@ -102,5 +102,17 @@ impl UnpackedFrameData {
     {
         let (start, stop) = self.meta.range_ns;
         stop - start
+    }
+
+    /// A copy, which shares the streams. Refused only with `Memory`.
+    pub fn clone(&self, alloc: Global) -> Result<UnpackedFrameData>
+        ensures contents { IfOk result (λ copy. contents copy ≡ contents self.now) }
+        ensures meta { IfOk result (λ copy. copy.meta ≡ self.now.meta) }
+        ensures memory { IfErr result (λ e. e ≡ Error.Memory) }
+    {
+        Ok(UnpackedFrameData {
+            meta: self.meta,
+            thread_streams: streams_copy(alloc, &self.thread_streams)?,
+        })
     }
 }

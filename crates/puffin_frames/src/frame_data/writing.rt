@@ -9,7 +9,7 @@ ghost use Rattle.puffin_frames.specs.Details.{shared_details};
 ghost use Rattle.puffin_frames.specs.Packet.Structs.{meta_layout, IsMeta, details_layout, AreDetails};
 ghost use Rattle.puffin_frames.specs.Frame.Contents.{frame_details, packed_as, contents};
 ghost use Rattle.puffin_frames.specs.Frame.Holding.{plainly_packed};
-ghost use Rattle.puffin_frames.specs.Packet.Steps.{counted_part, packet_head, packet_with, packet, IsPacked};
+ghost use Rattle.puffin_frames.specs.Packet.Grammar.{counted_part, packet_head, packet_with, packet, IsPacked};
 ghost use Rattle.puffin_frames.specs.Packet.Writing.{details_or, says_with, HasLongPart};
 
 use crate::frame_data::encode::{put_details, put_details_by_id, put_meta};
@@ -26,7 +26,7 @@ use std::sync::Arc;
 /// How many bytes a meta has, at most: five numbers of at most 9 bytes.
 const META_SIZE: usize = 45;
 /// How many bytes stand beside the meta before a packet's streams: the letters, two lengths and the kind.
-const HEAD_SIZE: usize = 13;
+const PACKET_HEAD_SIZE: usize = 13;
 
 /// Writes two pieces, one after the other.
 fn write_both<D: Drain>(drain: &mut D, first: &[u8], second: &[u8]) -> Result<(), FileError>
@@ -60,14 +60,14 @@ fn meta_part(alloc: Global, meta: FrameMeta) -> Result<Vec<u8>, FileError>
 }
 
 /// A packet's letters, its meta part, and the length and the kind of its streams.
-#[tactic(auto, unfolding(crate::specs::Packet::Steps::packet_head))]
+#[tactic(auto, unfolding(crate::specs::Packet::Grammar::packet_head))]
 fn head(alloc: Global, meta: &FrameMeta, kind: u8, len: u32) -> Result<Vec<u8>, FileError>
     ensures ok { IfOk result (λ bytes. bytes.items ≡ packet_head meta.now kind len) }
     ensures fits { IsMeta meta.now }
     ensures memory { IfErr result (λ e. e ≡ FileError.Memory) }
 {
     let part = meta_part(alloc, *meta)?;
-    let mut bytes = Vec::with_capacity(alloc, HEAD_SIZE + part.len())?;
+    let mut bytes = Vec::with_capacity(alloc, PACKET_HEAD_SIZE + part.len())?;
     bytes.extend_from_slice(b"PFD4")?;
     bytes.extend_from_slice(&(part.len() as u32).to_le_bytes())?;
     bytes.extend_from_slice(&part)?;

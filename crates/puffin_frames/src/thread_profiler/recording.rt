@@ -13,15 +13,10 @@ use crate::scope_details::{ScopeDetails, ScopeIds};
 use crate::thread_profiler::clock::NsSource;
 use crate::thread_profiler::reporter::Reporter;
 use crate::thread_profiler::thread_info::ThreadInfo;
-use puffin_data::data::{ScopeId, Stream, StreamInfo};
+use puffin_data::data::{BEGIN_LIMIT, END_SIZE, ScopeId, Stream, StreamInfo};
 use puffin_data::{Error, NanoSecond, Result};
 use std::alloc::Global;
 use std::marker::Model;
-
-/// The most bytes of a scope's beginning.
-const BEGIN_LIMIT: usize = 149;
-/// The bytes of a scope's end.
-const END_SIZE: usize = 9;
 
 /// What one thread has recorded and not yet reported. Contracts see it as a `Thread`.
 #[derive(Drop)]
@@ -67,19 +62,19 @@ fn keep_copy(spare: &mut Option<String>, name: &String) -> Result<()>
 
 /// How many bytes the ends of the open scopes take, whose sizes stand at these offsets, and the end of one more.
 fn size_of_ends(offsets: &[usize]) -> usize
-    ensures size { result ≡ 9 * (length offsets.now + 1) }
-    ensures small { result + 149 < 2 ^ 64 }
+    ensures size { result ≡ END_SIZE * (length offsets.now + 1) }
+    ensures small { result + BEGIN_LIMIT < 2 ^ 64 }
 {
     END_SIZE * (offsets.len() + 1)
 }
 
 /// Writes a scope's beginning at a time, within the room, and answers where its size stands.
 fn write_begin(stream: &mut Stream, at: NanoSecond, id: ScopeId, text: &str) -> usize
-    requires { 149 ≤ stream.old.room }
+    requires { BEGIN_LIMIT ≤ stream.old.room }
     ensures bytes { stream.new.bytes
         ≡ stream.old.bytes ++ begin_bytes id at (cut_text text.now) (2 ^ 64 - 1) }
     ensures offset { result + 8 ≡ length stream.new.bytes }
-    ensures room { stream.old.room ≤ stream.new.room + 149 }
+    ensures room { stream.old.room ≤ stream.new.room + BEGIN_LIMIT }
     ensures id { (0 < id) × (id < 2 ^ 32) }
 {
     // The contract's last clause is what an id's number is.

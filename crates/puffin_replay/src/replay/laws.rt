@@ -9,7 +9,7 @@ ghost use Rattle.puffin_frames.specs.Thread.Info.{Info};
 ghost use Rattle.puffin_frames.specs.Frame.Contents.{Streams, holding_of, frame_contents, frame_says};
 ghost use Rattle.puffin_frames.specs.Frame.Holding.{IsHolding, as_packed};
 ghost use Rattle.puffin_frames.specs.Packet.Stored.{Stored};
-ghost use Rattle.puffin_frames.specs.Packet.Steps.{IsPacked};
+ghost use Rattle.puffin_frames.specs.Packet.Grammar.{IsPacked};
 ghost use Rattle.puffin.specs.View.{View};
 ghost use Rattle.puffin.specs.View.File.{file_of, contents_in, file_at, TookFrames};
 ghost use Rattle.puffin_replay.specs.declared.replay.summary.Summary.{Summary};

@@ -6,7 +6,7 @@ ghost use Rattle.std.specs.String.{string_bytes};
 ghost use Rattle.std.specs.Io.KnownBytes.{Appends};
 ghost use Rattle.puffin_data.specs.Device.{TookNothing};
 ghost use Rattle.puffin_frames.specs.Packet.Stored.{Said};
-ghost use Rattle.puffin_frames.specs.Packet.Steps.{IsPacked};
+ghost use Rattle.puffin_frames.specs.Packet.Grammar.{IsPacked};
 ghost use Rattle.puffin_frames.specs.Packet.Writing.{HasLongPart};
 ghost use Rattle.puffin.specs.View.ViewedFrames.{contents_of};
 ghost use Rattle.puffin.specs.View.{Took};

@@ -7,7 +7,7 @@ use Rattle.puffin_frames.specs.Frame.Holding.{Holding}
 use Rattle.puffin_frames.specs.Frame.Contents.{pairs_of, holding_of}
 use Rattle.puffin_frames.specs.Packet.Structs.{Legacy}
 use Rattle.puffin_frames.specs.Packet.Next.{entries_if_any, legacy_of}
-use Rattle.puffin_frames.specs.Packet.Steps.{legacy_from, legacy_with_range}
+use Rattle.puffin_frames.specs.Packet.Parts.{legacy_from, legacy_with_range}
 use Rattle.puffin_frames.proofs.Listed.{entries-listed}
 use Rattle.puffin_frames.proofs.frame_data.reading.parsed_legacy.Goals as goal
 

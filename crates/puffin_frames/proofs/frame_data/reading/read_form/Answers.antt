@@ -1,7 +1,7 @@
 use Rattle.std.proofs.Common.{[], refl}
 use Rattle.std.proofs.KnownBytes.{Consumes-nil}
 use Rattle.puffin_frames.specs.Frame.Contents.{frame_says}
-use Rattle.puffin_frames.specs.Packet.Steps.{packet_at, form_at}
+use Rattle.puffin_frames.specs.Packet.Forms.{packet_at, form_at}
 use Rattle.puffin_data.proofs.lemmas.Devices.{same_reading}
 use Rattle.puffin_frames.proofs.frame_data.reading.read_form.Goals as goal
 

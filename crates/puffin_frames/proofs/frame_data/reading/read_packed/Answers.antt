@@ -8,7 +8,8 @@ use Rattle.puffin_frames.specs.Details.{shared_details}
 use Rattle.puffin_data.specs.Device.{FromDevice}
 use Rattle.puffin_frames.specs.Frame.Holding.{Packing}
 use Rattle.puffin_data.specs.Part.{◌>>=◌}
-use Rattle.puffin_frames.specs.Packet.Steps.{meta_part_at, streams_part_at, details_part_at, packet_at}
+use Rattle.puffin_frames.specs.Packet.Parts.{meta_part_at, streams_part_at, details_part_at}
+use Rattle.puffin_frames.specs.Packet.Forms.{packet_at}
 use Rattle.puffin_data.proofs.lemmas.Devices.{fails_on, gives_on, stops, given}
 use Rattle.puffin_frames.proofs.frame_data.reading.read_packed.Goals as goal
 

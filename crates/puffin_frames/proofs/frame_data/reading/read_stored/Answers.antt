@@ -5,7 +5,9 @@ use Rattle.puffin_frames.specs.declared.frame_data.frame.FrameData.{FrameData}
 use Rattle.puffin_frames.specs.Packet.Stored.{packed, legacy}
 use Rattle.puffin_frames.specs.Packet.Next.{stored_of}
 use Rattle.std.specs.Prelude.{slice_index}
-use Rattle.puffin_frames.specs.Packet.Steps.{as_stored, form_at, legacy_part_at, is_packet, stored_after}
+use Rattle.puffin_frames.specs.Packet.Letters.{is_packet}
+use Rattle.puffin_frames.specs.Packet.Parts.{legacy_part_at}
+use Rattle.puffin_frames.specs.Packet.Forms.{as_stored, form_at, stored_after}
 use Rattle.puffin_frames.proofs.PacketsRead.{if_packed_so, if_legacy_so}
 use Rattle.puffin_frames.proofs.frame_data.reading.read_stored.Goals as goal
 

@@ -2,7 +2,7 @@ use Rattle.std.proofs.Common.{ℕ, List, Result, Ok}
 use Rattle.std.proofs.lemmas.Result.{err_from_is_err_and}
 use Rattle.puffin_data.specs.declared.file_error.FileError.{FileError}
 use Rattle.puffin_data.specs.Part.{◌>>=◌, part_of, length_at}
-use Rattle.puffin_frames.specs.Packet.Steps.{kind_at}
+use Rattle.puffin_frames.specs.Packet.Parts.{kind_at}
 use Rattle.puffin_data.proofs.lemmas.Devices.{fails_on, gives_on, stops, given}
 use Rattle.puffin_frames.proofs.frame_data.reading.read_streams_part.Goals as goal
 

@@ -2,7 +2,7 @@ use Rattle.std.proofs.Common.{◌≡◌, ◌++◌, List, map}
 use Rattle.std.specs.List.{AllByRecursion}
 use Rattle.std.specs.Io.KnownBytes.{Appends}
 use Rattle.puffin_frames.specs.Packet.Stored.{Said}
-use Rattle.puffin_frames.specs.Packet.Steps.{IsPacked}
+use Rattle.puffin_frames.specs.Packet.Grammar.{IsPacked}
 use Rattle.puffin.specs.View.ViewedFrames.{contents_of}
 use Rattle.puffin.specs.View.Listings.{all_left}
 use Rattle.puffin.specs.View.Known.{view_of}

@@ -2,7 +2,7 @@ ghost use Rattle.std.specs.Prelude.{◌≡◌, ◌⊎◌, ◌↔◌, ◌+◌, �
 ghost use Rattle.std.specs.Arc.{arc_value};
 ghost use Rattle.puffin_data.specs.Honesty.{record_of, record_of_ref, joined_record};
 ghost use Rattle.puffin_data.specs.declared.error.Error.{Error};
-ghost use Rattle.puffin_frames.specs.Frame.Contents.{without_sharing, shared_streams, stream_under, reported_to};
+ghost use Rattle.puffin_frames.specs.Frame.Contents.{without_sharing, shared_streams, stream_under, reported_to, pairs_of};
 ghost use Rattle.puffin_frames.specs.Thread.Info.{info_of};
 
 use crate::thread_profiler::ThreadInfo;
@@ -28,6 +28,18 @@ pub(crate) fn shared(
         let _before = shared.insert(thread, Arc::new(alloc, info)?)?;
     }
     Ok(shared)
+}
+
+/// The same streams once more. Refused only with `Memory`.
+pub(crate) fn streams_copy(alloc: Global, streams: &ThreadStreams) -> Result<ThreadStreams>
+    ensures ok { IfOk result (λ copy. pairs_of copy.entries ≡ pairs_of streams.now.entries) }
+    ensures memory { IfErr result (λ e. e ≡ Error.Memory) }
+{
+    let mut copy = BTreeMap::new(alloc);
+    'streams: for (thread, info) in streams.iter() {
+        let _before = copy.insert(thread.clone()?, Arc::try_clone(info)?)?;
+    }
+    Ok(copy)
 }
 
 /// Appends an info's scopes to a shared one. Where it has another owner, that one keeps what it had.

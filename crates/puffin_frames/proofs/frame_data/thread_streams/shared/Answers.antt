@@ -1,7 +1,7 @@
 -- Each insertion puts its entry at the end.
 use Rattle.std.proofs.lemmas.Map.Iter.{rest_more}
 use Rattle.puffin_frames.proofs.Sharing.{one_more}
-use Rattle.puffin_frames.proofs.frame_data.shared.shared.Goals as goal
+use Rattle.puffin_frames.proofs.frame_data.thread_streams.shared.Goals as goal
 
 pub loop-thread-preserved-in_ok-_before : goal.loop-thread-preserved-in_ok-_before
 loop-thread-preserved-in_ok-_before c =

@@ -5,7 +5,7 @@ use Rattle.std.specs.List.Sorted.{IsStrictlySortedBy}
 use Rattle.std.proofs.lemmas.Map.Iter.{rest_more}
 use Rattle.puffin_frames.specs.Thread.Info.{thread_cmp}
 use Rattle.puffin_frames.proofs.Listed.{copy_more}
-use Rattle.puffin_frames.proofs.frame_data.copies.streams_copy.Goals as goal
+use Rattle.puffin_frames.proofs.frame_data.thread_streams.streams_copy.Goals as goal
 
 pub streams-preserved-in_ok-_before : goal.streams-preserved-in_ok-_before
 streams-preserved-in_ok-_before c =

@@ -1,6 +1,6 @@
 use Rattle.std.proofs.Common.{◌≡◌, ◌++◌}
 use Rattle.puffin_frames.specs.Frame.Contents.{pairs_of}
-use Rattle.puffin_frames.proofs.frame_data.copies.streams_copy.Given as goal
+use Rattle.puffin_frames.proofs.frame_data.thread_streams.streams_copy.Given as goal
 
 abbrev pub invariant-streams : goal.invariant-streams
 invariant-streams l = pairs_of l.copy.entries ++ pairs_of l.thread-iterator ≡ pairs_of l.streams.entries

@@ -7,7 +7,7 @@ use Rattle.std.proofs.lemmas.Result.{on_ok_weaker, on_err_weaker}
 use Rattle.puffin_data.specs.Honesty.{record_of, record_of_ref}
 use Rattle.puffin_data.specs.declared.error.Error.TheVariants as Error
 use Rattle.puffin_frames.proofs.Reports.{WritesAt, reported_over, refused_over, reported_first, under_there, none_under, same_cause, other_cause, fits_after, too_large_as, not_too_large}
-use Rattle.puffin_frames.proofs.frame_data.shared.report_to.Goals as goal
+use Rattle.puffin_frames.proofs.frame_data.thread_streams.report_to.Goals as goal
 
 writes : (c : goal.After-drop-info) → WritesAt c.args.streams.now.entries c.args.info c.in-Some.shared.now c.extend_shared.new.shared (c.get_mut.follows.lender c.extend_shared.new.shared).entries
 writes c = record {

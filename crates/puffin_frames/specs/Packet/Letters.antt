@@ -1,0 +1,34 @@
+-- The letters that packets begin with: `PFD` and the digit of the packet's form.
+use Rattle.std.specs.Prelude.{ℕ, Bool, ◌&&◌, List, [], ◌∷◌, slice_index, ◌==◌}
+
+abbrev pub letter_p : ℕ
+letter_p = 80
+
+abbrev pub letter_f : ℕ
+letter_f = 70
+
+abbrev pub letter_d : ℕ
+letter_d = 68
+
+abbrev pub digit_0 : ℕ
+digit_0 = 48
+
+abbrev pub digit_1 : ℕ
+digit_1 = 49
+
+abbrev pub digit_2 : ℕ
+digit_2 = 50
+
+abbrev pub digit_3 : ℕ
+digit_3 = 51
+
+abbrev pub digit_4 : ℕ
+digit_4 = 52
+
+-- the four letters of a packet of this form
+abbrev pub letters_of : ℕ → List ℕ
+letters_of digit = letter_p ∷ letter_f ∷ letter_d ∷ digit ∷ []
+
+-- a header begins with `PFD`
+abbrev pub is_packet : List ℕ → Bool
+is_packet header = (slice_index header 0 == letter_p) && (slice_index header 1 == letter_f) && (slice_index header 2 == letter_d)

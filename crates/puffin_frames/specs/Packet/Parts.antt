@@ -1,0 +1,70 @@
+-- The parts of a packet, and of a frame as it was written at first, at the front of bytes.
+use Rattle.std.specs.Prelude.{ℕ, List, [], Option, Some, None, Result, Ok, Err, nat_lt, ◌==◌, if◌then◌else◌}
+use Rattle.puffin_data.specs.declared.file_error.FileError.{FileError}
+use Rattle.puffin_data.specs.declared.file_error.FileError.TheVariants as file
+use Rattle.puffin_data.specs.Range.{is_range_at}
+use Rattle.puffin_data.specs.Value.Decoding.{whole}
+use Rattle.puffin_data.specs.Part.{◌>>=◌, part_of, first_at, length_at, counted_part_at}
+use Rattle.puffin_frames.specs.declared.frame_data.meta.FrameMeta.{FrameMeta}
+use Rattle.puffin_frames.specs.Details.{Details}
+use Rattle.puffin_frames.specs.Packet.Letters.{digit_2, digit_4}
+use Rattle.puffin_frames.specs.Packet.Structs.{meta_at, details_at, Legacy, legacy_at}
+
+abbrev pub meta_with_range : Option FrameMeta → Result FrameMeta FileError
+meta_with_range None = Err file.BadMeta
+meta_with_range (Some m) = if is_range_at m.range_ns.0 m.range_ns.1 then Ok m else Err file.BadRange
+
+-- all of the bytes are a meta, and its range isn't reversed and not too long
+abbrev pub meta_from : List ℕ → Result FrameMeta FileError
+meta_from part = meta_with_range (whole meta_at part)
+
+abbrev pub meta_part_at : List ℕ → Result (FrameMeta × List ℕ) FileError
+meta_part_at bytes = do
+  part ← counted_part_at bytes
+  meta ← meta_from part.0
+  Ok (meta, part.1)
+
+abbrev pub kind_from : ℕ → Result ℕ FileError
+kind_from b = if nat_lt 2 b then Err (file.UnknownKind b) else Ok b
+
+-- how the streams are packed, behind this letter; the second form has no such byte, and is all of kind 2
+abbrev pub kind_at : ℕ → List ℕ → Result (ℕ × List ℕ) FileError
+kind_at letter bytes =
+    if letter == digit_2 then Ok (2, bytes)
+    else first_at bytes >>= λ b. kind_from b.0 >>= λ k. Ok (k, b.1)
+
+abbrev pub details_from : Option (List Details) → Result (List Details) FileError
+details_from None = Err file.BadScopes
+details_from (Some ds) = Ok ds
+
+abbrev pub given_details_at : List ℕ → Result (List Details × List ℕ) FileError
+given_details_at bytes = do
+  part ← counted_part_at bytes
+  ds ← details_from (whole details_at part.0)
+  Ok (ds, part.1)
+
+-- only the fourth form has details
+abbrev pub details_part_at : ℕ → List ℕ → Result (List Details × List ℕ) FileError
+details_part_at letter bytes = if letter == digit_4 then given_details_at bytes else Ok ([], bytes)
+
+-- the kind and the bytes of the streams: their length stands first, and doesn't count the kind
+abbrev pub streams_part_at : ℕ → List ℕ → Result ((ℕ × List ℕ) × List ℕ) FileError
+streams_part_at letter bytes = do
+  n ← length_at bytes
+  kind ← kind_at letter n.1
+  streams ← part_of n.0 kind.1
+  Ok ((kind.0, streams.0), streams.1)
+
+abbrev pub legacy_with_range : Option Legacy → Result Legacy FileError
+legacy_with_range None = Err file.BadStreams
+legacy_with_range (Some l) = if is_range_at l.meta.range_ns.0 l.meta.range_ns.1 then Ok l else Err file.BadRange
+
+abbrev pub legacy_from : List ℕ → Result Legacy FileError
+legacy_from part = legacy_with_range (whole legacy_at part)
+
+-- so many bytes, which are a frame as it was written at first
+abbrev pub legacy_part_at : ℕ → List ℕ → Result (Legacy × List ℕ) FileError
+legacy_part_at n bytes = do
+  part ← part_of n bytes
+  l ← legacy_from part.0
+  Ok (l, part.1)
