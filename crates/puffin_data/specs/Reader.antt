@@ -3,7 +3,7 @@ pub mod ReadScopes
 use Rattle.std.specs.Prelude.{◌≡◌, ℕ, ◌+◌, ℤ, ◌-ℤ◌, List, [], ◌∷◌, length, Option, Some, None, Result, Ok, Err}
 use Rattle.puffin_data.specs.declared.error.Error.{Error}
 use Rattle.puffin_data.specs.Forest.{Forest, empty, node}
-use Rattle.puffin_data.specs.Forest.Spelling.{spelling}
+use Rattle.puffin_data.specs.Forest.Spelling.{spelling, head_size, end_size}
 use Rattle.puffin_data.specs.Text.{text_in}
 use Rattle.puffin_data.specs.Walk.Reading.{Found, reading}
 use Rattle.puffin_data.specs.Walk.{region}
@@ -68,7 +68,7 @@ top_scopes p (node s children others) =
       start = s.start;
       duration = s.stop -ℤ s.start;
       text = text_in s.text;
-      child_begin = p + (22 + length s.text);
-      child_end = p + (22 + length s.text + length (spelling children));
-      next_sibling = p + (22 + length s.text + length (spelling children) + 9);
-    } ∷ top_scopes (p + (22 + length s.text + length (spelling children) + 9)) others
+      child_begin = p + (head_size + length s.text);
+      child_end = p + (head_size + length s.text + length (spelling children));
+      next_sibling = p + (head_size + length s.text + length (spelling children) + end_size);
+    } ∷ top_scopes (p + (head_size + length s.text + length (spelling children) + end_size)) others

@@ -8,7 +8,7 @@ ghost use Rattle.std.specs.Str.{IsUtf8};
 ghost use Rattle.std.specs.Int.{int_min, int_max, w64};
 ghost use Rattle.puffin_data.specs.Forest.{Forest, IsForest, empty, append};
 ghost use Rattle.puffin_data.specs.Forest.Measures.{scope_count, height, least_start, greatest_stop};
-ghost use Rattle.puffin_data.specs.Forest.Spelling.{spelling, Spells, begin_bytes};
+ghost use Rattle.puffin_data.specs.Forest.Spelling.{spelling, Spells, begin_bytes, head_size, end_size};
 ghost use Rattle.puffin_data.specs.Honesty.{Recorded, IsHonestRecord, joined_record};
 ghost use Rattle.puffin_data.specs.Walk.{IsFault, IsFirstFault, Sounds};
 ghost use Rattle.puffin_data.specs.Walk.Sights.{nested_in, Sight, Sees, scopes_of};
@@ -119,7 +119,7 @@ pub fn tour_measures()
 /// What a scope that opens does to the measures of a word.
 pub fn opening_measures()
     ensures size { (word : List Event) (id : ℕ) (text : List ℕ) (start : ℤ) →
-        word_size (word ++ (Open id text start ∷ [])) ≡ word_size word + (22 + length text) }
+        word_size (word ++ (Open id text start ∷ [])) ≡ word_size word + (head_size + length text) }
     ensures begun { (word : List Event) (id : ℕ) (text : List ℕ) (start : ℤ) →
         num_begun (word ++ (Open id text start ∷ [])) ≡ num_begun word + 1 }
     ensures open { (word : List Event) (id : ℕ) (text : List ℕ) (start : ℤ) →
@@ -137,7 +137,7 @@ pub fn opening_measures()
 /// What a scope that closes does to the measures of a word.
 pub fn closing_measures()
     ensures size { (word : List Event) (stop : ℤ) →
-        word_size (word ++ (Close stop ∷ [])) ≡ word_size word + 9 }
+        word_size (word ++ (Close stop ∷ [])) ≡ word_size word + end_size }
     ensures begun { (word : List Event) (stop : ℤ) →
         num_begun (word ++ (Close stop ∷ [])) ≡ num_begun word }
     ensures open { (word : List Event) (stop : ℤ) →

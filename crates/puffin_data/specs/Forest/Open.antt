@@ -4,7 +4,7 @@ use Rattle.byteorder.specs.Endian.{little_bytes}
 use Rattle.std.specs.List.{All}
 use Rattle.std.specs.Int.{w64}
 use Rattle.puffin_data.specs.Forest.{Forest, IsForest, empty, node, append}
-use Rattle.puffin_data.specs.Forest.Spelling.{spelling, begin_bytes, end_bytes}
+use Rattle.puffin_data.specs.Forest.Spelling.{spelling, begin_bytes, end_bytes, front_size}
 use Rattle.puffin_data.specs.Forest.Tour.{Event, Open, tour}
 
 -- the bytes after the end of a scope whose size stands at this place: the number of bytes after the size is written over it, and the end behind all
@@ -30,7 +30,7 @@ open_spelling opened closed = opening_bytes opened ++ spelling closed
 
 -- where the size of the innermost open scope stands
 abbrev pub size_place : Opened → List Opened → ℕ
-size_place o outer = length (opening_bytes outer ++ spelling o.before) + (14 + length o.text)
+size_place o outer = length (opening_bytes outer ++ spelling o.before) + (front_size + length o.text)
 
 -- the closed scopes that then stand beside an open scope that ends, itself the last: closed are those within it
 abbrev pub with_ended : Opened → (closed : Forest) → (stop : ℤ) → Forest

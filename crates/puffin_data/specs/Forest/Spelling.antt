@@ -12,6 +12,17 @@ begin_mark = 40
 abbrev pub end_mark : ℕ
 end_mark = 41
 
+-- how many bytes of a scope's beginning stand before its text, and how many there are without its text
+abbrev pub front_size : ℕ
+front_size = 14
+
+abbrev pub head_size : ℕ
+head_size = 22
+
+-- how many bytes a scope's end has
+abbrev pub end_size : ℕ
+end_size = 9
+
 -- a time in eight bytes, as two's complement
 abbrev pub time_bytes : ℤ → List ℕ
 time_bytes t = little_bytes 8 (cast_unsigned w64 t)

@@ -1,12 +1,12 @@
 -- The events that bytes spell, one after another. The sizes of children aren't read, so the scopes that are still open are among them.
 use Rattle.std.specs.Prelude.{ℕ, zero, suc, ◌==◌, true, false, List, [], ◌∷◌, length, take, drop, slice_index}
-use Rattle.puffin_data.specs.Forest.Spelling.{begin_mark, end_mark}
+use Rattle.puffin_data.specs.Forest.Spelling.{begin_mark, end_mark, front_size, end_size}
 use Rattle.puffin_data.specs.Walk.Reading.{id_in, time_in, text_size_in, child_begin_in}
 use Rattle.puffin_data.specs.Forest.Tour.{Event, Open, Close}
 
 -- a scope's beginning that stands at the front of a region
 abbrev pub open_in : List ℕ → Event
-open_in region = Open (id_in region) (take (text_size_in region) (drop 14 region)) (time_in region 5)
+open_in region = Open (id_in region) (take (text_size_in region) (drop front_size region)) (time_in region 5)
 
 -- at most n events
 unfoldable pub events_from : ℕ → List ℕ → List Event
@@ -14,7 +14,7 @@ events_from zero region = []
 events_from (suc n) region = elim (slice_index region 0 == begin_mark) [
   | true ↦ open_in region ∷ events_from n (drop (child_begin_in region) region)
   | false ↦ elim (slice_index region 0 == end_mark) [
-    | true ↦ Close (time_in region 1) ∷ events_from n (drop 9 region)
+    | true ↦ Close (time_in region 1) ∷ events_from n (drop end_size region)
     | false ↦ []
   ]
 ]

@@ -1,6 +1,7 @@
 -- What a thread keeps of its scopes: the open ones, each in the one that stands after it, and what is closed in the innermost.
 use Rattle.std.specs.Prelude.{◌≡◌, ℕ, ◌*◌, ◌≤◌, ℤ, pos, ◌≤ℤ◌, List, [], ◌∷◌, length, reverse, fold, Option, Some, None, string_bytes}
 use Rattle.std.specs.Option.{option_map}
+use Rattle.puffin_data.specs.Forest.Spelling.{end_size}
 use Rattle.puffin_data.specs.declared.data.info.StreamInfo.{StreamInfo}
 use Rattle.puffin_data.specs.Forest.{Forest, IsForest, empty}
 use Rattle.puffin_data.specs.Forest.Tour.{Event, Open, Close}
@@ -61,6 +62,6 @@ pub record IsRecording (r : Inside) : Type 0 where
   pub counted : Counted r.info (events_in r.info.stream.bytes)
   pub offsets : reverse r.offsets.items ≡ open_offsets (events_in r.info.stream.bytes)
   -- each open scope can end without memory, and a copy of the name waits for the report of the last
-  pub room : 9 * length r.offsets.items ≤ r.info.stream.room
+  pub room : end_size * length r.offsets.items ≤ r.info.stream.room
   pub has_spare : spare_name r ≡ None → r.offsets.items ≡ []
   pub spare : (name : List ℕ) → spare_name r ≡ Some name → name ≡ string_bytes r.name

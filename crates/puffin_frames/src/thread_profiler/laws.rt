@@ -2,6 +2,7 @@
 //! the function.
 
 ghost use Rattle.std.specs.Prelude.{ℕ, ℤ, List, ◌≡◌, ◌+◌, ◌<◌, ◌^◌, ◌∷◌, ◌++◌, [], length, drop};
+ghost use Rattle.puffin_data.specs.Forest.Spelling.{front_size};
 ghost use Rattle.puffin_data.specs.Forest.{Forest};
 ghost use Rattle.puffin_data.specs.Honesty.{Recorded, IsHonestRecord};
 ghost use Rattle.puffin_data.specs.Forest.Tour.{Event, Open, Close};
@@ -21,7 +22,7 @@ pub fn open_scopes()
     ensures count { (word : List Event) → length (open_offsets word) ≡ open_after 0 word }
     ensures begun { (word : List Event) (id : ℕ) (text : List ℕ) (start : ℤ) →
         open_offsets (word ++ (Open id text start ∷ []))
-        ≡ (word_size word + 14 + length text) ∷ open_offsets word }
+        ≡ (word_size word + front_size + length text) ∷ open_offsets word }
     ensures ended { (word : List Event) (stop : ℤ) →
         open_offsets (word ++ (Close stop ∷ [])) ≡ drop 1 (open_offsets word) }
 {}
