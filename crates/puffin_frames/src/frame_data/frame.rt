@@ -1,8 +1,7 @@
-ghost use Rattle.std.specs.Prelude.{◌≡◌, ◌↔◌, ◌⊎◌, ◌-ℤ◌, ◌≤ℤ◌, IfOk, IfErr, IfSome, Some, None, true};
+ghost use Rattle.std.specs.Prelude.{◌≡◌, ◌-ℤ◌, ◌≤ℤ◌, IfOk, IfErr, OnOk, IfSome, Some, None, true};
 ghost use Rattle.std.specs.Option.{option_map};
 ghost use Rattle.std.specs.FinMap as map;
-ghost use Rattle.puffin_data.specs.declared.error.Error.{Error};
-ghost use Rattle.puffin_frames.specs.Frame.Sums.{joined_range, TotalsFit, IsOrdered, DurationFits, MakeFrame, meta_of};
+ghost use Rattle.puffin_frames.specs.Frame.Sums.{MakeFrame, IsFrameRefusal, meta_of};
 ghost use Rattle.puffin_frames.specs.Frame.Contents.{streams_of, all_recorded, contents, holding_of, frame_contents, frame_meta, is_alone};
 
 use crate::frame_data::held::Held;
@@ -11,7 +10,7 @@ use crate::frame_data::unpacked::UnpackedFrameData;
 use crate::scope_details::ScopeDetails;
 use crate::thread_profiler::ThreadInfo;
 use puffin_data::data::StreamInfo;
-use puffin_data::{Error, FrameIndex, NanoSecond, Result};
+use puffin_data::{FrameIndex, NanoSecond, Result};
 use std::alloc::Global;
 use std::collections::BTreeMap;
 use std::sync::Arc;
@@ -45,20 +44,8 @@ impl FrameData {
         ensures meta { IfOk result (λ frame.
             frame_meta frame
             ≡ meta_of frame_index (map.values (streams_of thread_streams.entries))) }
-        ensures too_large { (result ≡ Err Error.TooLarge)
-            ↔ ¬ TotalsFit (all_recorded thread_streams) }
-        ensures empty { (result ≡ Err Error.Empty) ↔ (TotalsFit (all_recorded thread_streams)
-            × ¬ IsOrdered (joined_range (all_recorded thread_streams))) }
-        ensures range_too_long { (result ≡ Err Error.RangeTooLong)
-            ↔ (TotalsFit (all_recorded thread_streams)
-            × IsOrdered (joined_range (all_recorded thread_streams))
-            × ¬ DurationFits (joined_range (all_recorded thread_streams))) }
-        ensures memory { result ≡ Err Error.Memory → MakeFrame (all_recorded thread_streams) }
-        ensures only { IfErr result (λ e.
-            (e ≡ Error.TooLarge)
-            ⊎ (e ≡ Error.Empty)
-            ⊎ (e ≡ Error.RangeTooLong)
-            ⊎ (e ≡ Error.Memory)) }
+        ensures makes { OnOk result (MakeFrame (all_recorded thread_streams)) }
+        ensures refusal { IfErr result (λ e. IsFrameRefusal (all_recorded thread_streams) e) }
     {
         let unpacked = UnpackedFrameData::new(alloc, frame_index, thread_streams)?;
         Ok(FrameData::of_unpacked(unpacked, scope_delta, full_delta))
