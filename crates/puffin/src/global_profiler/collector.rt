@@ -194,10 +194,7 @@ impl Collector {
         let mut scope_ids = Vec::with_capacity(self.alloc, details.len())?;
         for details in details {
             let id = self.register_user_scope(ids, details)?;
-            match scope_ids.push(id) {
-                Ok(()) => {}
-                Err(_) => unreachable!(),
-            }
+            scope_ids.push_reserved(id);
         }
         Ok(scope_ids)
     }
@@ -223,10 +220,8 @@ impl Collector {
         let id = ids.draw()?;
         let details = Arc::new(self.alloc, details.clone()?.with_scope_id(id))?;
         let _kept = self.collection.insert(details.clone()?)?;
-        match self.new_details.push(details) {
-            Ok(()) => Ok(id),
-            Err(_) => unreachable!(),
-        }
+        self.new_details.push_reserved(details);
+        Ok(id)
     }
 
     /// Lets the next frame tell of all scopes that are known, besides the new ones. Takes no memory.
