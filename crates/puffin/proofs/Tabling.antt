@@ -12,7 +12,7 @@ use Rattle.puffin.specs.Merge.Pieces.{Merged, pieces_at, merged_at}
 use Rattle.puffin.specs.Merge.{below}
 use Rattle.puffin.specs.Merge.Refusals.{SumsFit}
 use Rattle.puffin.specs.inner.merge.OnePiece.{with_piece, one_piece}
-use Rattle.puffin.specs.inner.merge.Tables.{label_in, merged_in, path_at, IsSameKey, HasKey, IsFound, made_node, grown_node, IsNodeOf, IsTableOf, occurrence_at, FitsOneMore, AddsAt}
+use Rattle.puffin.specs.inner.merge.Tables.{label_in, merged_in, path_at, IsSameKey, HasKey, IsFound, made_node, grown_node, IsNodeOf, IsTableOf, occurrence_at, FitsOneMore, GrowsAt, AddsAt}
 use Rattle.puffin.proofs.Paths.{same_path, other_path, path_at-kept, path_at-new, path_at-set, top_path}
 use Rattle.puffin.proofs.Finding.{some_of, same_at, key_at-set, found_kept}
 use Rattle.puffin.proofs.Growing.{merged_at-other, merged_at-more, merged_at-first}
@@ -234,8 +234,8 @@ started all t u key o table id parent small path new_key items found =
 -- ---- what adding says
 
 pub adds_grown : (t u : Table) (key : Key) (own_start : ℤ) (duration x : ℕ) → (all : List Occurrence) × IsTableOf all t → 0 < x → x ≤ vec_len t.nodes → HasKey t.nodes.items (x - 1) key
-    → (u.numbers ≡ t.numbers) × ((d : Node) → u.nodes.items ≡ set t.nodes.items (x - 1) (grown_node (get_or t.nodes.items (x - 1) d) own_start duration)) → FitsOneMore t.nodes.items (x - 1) duration → AddsAt t key own_start duration x u
-adds_grown t u key own_start duration x some low high has new fits =
+    → GrowsAt t (x - 1) own_start duration u → AddsAt t key own_start duration x u
+adds_grown t u key own_start duration x some low high has new =
     let size : vec_len t.nodes ≡ length t.nodes.items = t.nodes.ok.0 in
     let nodes = t.nodes.items in
     let d = some_of nodes (x - 1) (omega arith) in
@@ -248,8 +248,8 @@ adds_grown t u key own_start duration x some low high has new fits =
       number = omega (arith, high, wide);
       path = kept x ∙ ap (path_at nodes) one ∙ sym (path some.0 some.1);
       extends = record { longer = omega (arith, wide); kept = λ k h. kept k };
-      fits = λ all table. fits_sums all nodes (x - 1) (get_or nodes (x - 1) d) (occurrence_at t key own_start duration) (table.each (x - 1) d (omega arith)) (path all table) (fits d);
-      table = λ all table. grown all t u (x - 1) (occurrence_at t key own_start duration) d _ table (omega arith) (path all table) refl (new.1 d) new.0 (fits d).1;
+      fits = λ all table. fits_sums all nodes (x - 1) (get_or nodes (x - 1) d) (occurrence_at t key own_start duration) (table.each (x - 1) d (omega arith)) (path all table) (new.2 d);
+      table = λ all table. grown all t u (x - 1) (occurrence_at t key own_start duration) d _ table (omega arith) (path all table) refl (new.1 d) new.0 (new.2 d).1;
     }
 
 pub grown_refused : (t : Table) (key : Key) (own_start : ℤ) (duration x : ℕ) → 0 < x → x ≤ vec_len t.nodes → HasKey t.nodes.items (x - 1) key → (FitsOneMore t.nodes.items (x - 1) duration → ⊥)

@@ -14,6 +14,8 @@ use Rattle.puffin.specs.View.Ranking.{place, last_of, last_in}
 use Rattle.puffin_frames.specs.Packet.Stored.{Said}
 use Rattle.puffin.specs.View.ViewedFrames.{Frame, is_slower_frame, slowest, contents_of, frame_index, index_of, duration_of, packed_under, rising_end, chronological}
 
+-- ---- what a view holds
+
 pub record View : Type 0 where
   -- the last frames, oldest first
   pub recent : List Frame
@@ -29,6 +31,35 @@ pub record View : Type 0 where
 -- a view that has taken no frame
 abbrev pub empty_view : View
 empty_view = record { recent = []; slow = []; last = None; max_recent = 1000; max_slow = 256; packs = true }
+
+-- the view's frames are, by what they say, the last of cs and the slowest of ds
+pub record Holds (cs ds : List Said) (v : View) : Type 0 where
+  pub recent : map contents_of v.recent ≡ last_of v.max_recent cs
+  pub slow : map contents_of v.slow ≡ slowest v.max_slow ds
+
+-- the index of the last of a list
+abbrev pub last_index : List Said → Option ℕ
+last_index cs = option_map frame_index (last_in cs)
+
+-- a view that took frames that say cs, and whose limits weren't changed since its first frame
+pub record Took (cs : List Said) (v : View) : Type 0 where
+  pub holds : Holds (rising_end cs) (rising_end cs) v
+  pub last : v.last ≡ last_index cs
+
+-- all frames of the view, each once, by rising index
+abbrev pub all_uniq : View → List Frame
+all_uniq v = chronological (v.recent ++ v.slow)
+
+-- an index is among those up to the last one taken
+abbrev pub IsUpTo : Option ℕ → ℕ → Type 0
+IsUpTo None i = ⊥
+IsUpTo (Some last) i = i ≤ last
+
+-- each slow frame was taken no later than the last
+abbrev pub IsSteady : View → Type 0
+IsSteady v = AllByRecursion (λ f. IsUpTo v.last (index_of f)) v.slow
+
+-- ---- the same step by step: what each call makes of a view
 
 -- the view as if it hadn't taken a frame
 abbrev pub emptied : View → View
@@ -86,30 +117,3 @@ KeepsFrames old i new = (new ≡ old) ⊎ ((is_past old i ≡ false) × (old.pac
 abbrev pub after_all : View → List Frame → View
 after_all v [] = v
 after_all v (f ∷ fs) = after_all (after_taking v f) fs
-
--- the view's frames are, by what they say, the last of cs and the slowest of ds
-pub record Holds (cs ds : List Said) (v : View) : Type 0 where
-  pub recent : map contents_of v.recent ≡ last_of v.max_recent cs
-  pub slow : map contents_of v.slow ≡ slowest v.max_slow ds
-
--- an index is among those up to the last one taken
-abbrev pub IsUpTo : Option ℕ → ℕ → Type 0
-IsUpTo None i = ⊥
-IsUpTo (Some last) i = i ≤ last
-
--- each slow frame was taken no later than the last
-abbrev pub IsSteady : View → Type 0
-IsSteady v = AllByRecursion (λ f. IsUpTo v.last (index_of f)) v.slow
-
--- the index of the last of a list
-abbrev pub last_index : List Said → Option ℕ
-last_index cs = option_map frame_index (last_in cs)
-
--- a view that took frames that say cs, and whose limits weren't changed since its first frame
-pub record Took (cs : List Said) (v : View) : Type 0 where
-  pub holds : Holds (rising_end cs) (rising_end cs) v
-  pub last : v.last ≡ last_index cs
-
--- all frames of the view, each once, by rising index
-abbrev pub all_uniq : View → List Frame
-all_uniq v = chronological (v.recent ++ v.slow)

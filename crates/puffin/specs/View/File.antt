@@ -115,8 +115,8 @@ read_view = record empty_view { max_recent = 2 ^ 64 - 1 }
 
 -- The view took these frames and no others, in order, and learnt their details.
 pub record IsViewOf (stored : List Stored) (v : FrameView) : Type 0 where
-  pub frames : view_of v ≡ after_all read_view (map frame_stored stored)
   pub took : Took (map contents_of (map frame_stored stored)) (view_of v)
+  pub frames : view_of v ≡ after_all read_view (map frame_stored stored)
   pub details : collection_of v ≡ with_all_details no_details (flat_map details_stored stored)
 
 -- A call read a view from a device: it is the view of the frames that were taken.

@@ -14,6 +14,10 @@ view_of view = view.frames
 abbrev pub collection_of : FrameView → Collection
 collection_of view = view.scope_collection
 
+-- the same with other frames
+abbrev pub with_frames : FrameView → View → FrameView
+with_frames view frames = record view { frames = frames }
+
 -- whether one of a frame's details has no id
 abbrev pub lacks_ids : Said → Bool
 lacks_ids c = list_any lacks_id c.details

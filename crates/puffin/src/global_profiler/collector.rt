@@ -81,6 +81,7 @@ impl Collector {
           wants_all = false;
         } }
     {
+        // Laws that the proof of the invariant stands on.
         laws::reported_streams();
         laws::honest_streams();
         Collector {
@@ -115,6 +116,7 @@ impl Collector {
             RefusesReport self.old (info_of info) (details_seen details.now)
             (record_of_ref times.now) e self.new) }
     {
+        // Laws that the proof of the invariant stands on.
         laws::joined_ranges();
         laws::reported_streams();
         laws::honest_streams();
@@ -148,6 +150,7 @@ impl Collector {
         ensures refusal { IfErr result (λ e.
             IsReportRefusal self.now (details_seen details.now) (record_of_ref times.now) e) }
     {
+        // A law for the proof: the joined range with one stream more.
         laws::joined_ranges();
         if !all_have_ids(details) {
             return Err(Error::MissingId);
@@ -191,10 +194,7 @@ impl Collector {
         let mut scope_ids = Vec::with_capacity(self.alloc, details.len())?;
         for details in details {
             let id = self.register_user_scope(ids, details)?;
-            match scope_ids.push(id) {
-                Ok(()) => {}
-                Err(_) => unreachable!(),
-            }
+            scope_ids.push_reserved(id);
         }
         Ok(scope_ids)
     }
@@ -220,10 +220,8 @@ impl Collector {
         let id = ids.draw()?;
         let details = Arc::new(self.alloc, details.clone()?.with_scope_id(id))?;
         let _kept = self.collection.insert(details.clone()?)?;
-        match self.new_details.push(details) {
-            Ok(()) => Ok(id),
-            Err(_) => unreachable!(),
-        }
+        self.new_details.push_reserved(details);
+        Ok(id)
     }
 
     /// Lets the next frame tell of all scopes that are known, besides the new ones. Takes no memory.
@@ -247,6 +245,7 @@ impl Collector {
         ensures exhausted { (result ≡ Err Error.IndexExhausted) ↔ (self.old.index ≡ 2 ^ 64 - 1) }
         ensures err { IfErr result (λ e. KeepsPending self.old e self.new) }
     {
+        // Laws for the proof: what there is of no stream, and of honest ones.
         laws::reported_streams();
         laws::honest_streams();
         let Some(next) = self.meta.frame_index.checked_add(1) else {

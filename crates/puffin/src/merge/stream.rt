@@ -150,6 +150,7 @@ pub(crate) fn read_frame<'s>(
     ensures few { tries.new ≤ most_tries_of (frame_bytes (info_of info.now) frame.now) }
     ensures short { length (bytes_of (frame_bytes (info_of info.now) frame.now)) < 2 ^ 63 }
 {
+    // A law for the proof: threads are ordered by their infos.
     puffin_frames::laws::order_of_infos();
     *tries = 0;
     merging.origin = origin_of(frame, first);

@@ -1,11 +1,10 @@
 //! The nodes of what is merged, in one list.
 
-ghost use Rattle.std.specs.Prelude.{◌≡◌, ◌<◌, ◌≤◌, ◌+◌, ◌-◌, ◌^◌, ◌⊎◌, ◌++◌, ◌∷◌, [], List, ℕ, vec_len, max, slice_set, slice_index_or, IfOk, IfErr, IfSome, IfNone, OnOk};
+ghost use Rattle.std.specs.Prelude.{◌≡◌, ◌<◌, ◌≤◌, ◌+◌, ◌-◌, ◌^◌, ◌⊎◌, ◌++◌, ◌∷◌, [], List, ℕ, vec_len, max, IfOk, IfErr, IfSome, IfNone, OnOk};
 ghost use Rattle.std.specs.Int.{int_min};
 ghost use Rattle.puffin.specs.Merge.Occurrences.{Occurrence};
 ghost use Rattle.puffin.specs.Merge.Refusals.{SumsFit};
-ghost use Rattle.puffin.specs.inner.merge.Tables.{IsTableOf, HasKey, IsFound, made_node, grown_node, occurrence_at, FitsOneMore, AddsAt};
-ghost use Rattle.puffin.specs.declared.merge.table.Node.{Node};
+ghost use Rattle.puffin.specs.inner.merge.Tables.{IsTableOf, HasKey, IsFound, made_node, occurrence_at, FitsOneMore, GrowsAt, AddsAt};
 
 use puffin_data::{Error, NanoSecond, Result};
 use std::alloc::Global;
@@ -118,12 +117,7 @@ impl<'s> Table<'s> {
     fn grow(&mut self, number: NodeNumber, own_start: NanoSecond, duration: u64) -> Result<()>
         requires { (0 < number.number) × (number.number ≤ vec_len self.old.nodes) }
         ensures ok { OnOk result (
-            (self.new.numbers ≡ self.old.numbers)
-            × ((d : Node) →
-            self.new.nodes.items ≡ slice_set self.old.nodes.items (number.number - 1) (
-            grown_node (slice_index_or self.old.nodes.items (number.number - 1) d)
-            own_start duration))) }
-        ensures fits { OnOk result (FitsOneMore self.old.nodes.items (number.number - 1) duration) }
+            GrowsAt self.old (number.number - 1) own_start duration self.new) }
         ensures err { IfErr result (λ e.
             (e ≡ Error.TooLarge)
             × (FitsOneMore self.old.nodes.items (number.number - 1) duration → ⊥)) }

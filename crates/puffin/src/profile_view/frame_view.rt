@@ -12,7 +12,7 @@ ghost use Rattle.puffin.specs.View.FrameOf.{shared_frame, details_of_frame};
 ghost use Rattle.puffin.specs.View.{empty_view, is_past, after_taking, KeepsFrames, all_uniq, Holds, Took};
 ghost use Rattle.puffin.specs.View.Stats.{stats_of};
 ghost use Rattle.puffin.specs.View.Listings.{recent_left, all_left, slowest_left};
-ghost use Rattle.puffin.specs.View.Known.{view_of, collection_of, lacks_ids, LearnsSome};
+ghost use Rattle.puffin.specs.View.Known.{view_of, collection_of, with_frames, lacks_ids, LearnsSome};
 
 use crate::global_profiler::learn;
 use crate::profile_view::frame_store::FrameStore;
@@ -66,25 +66,10 @@ impl FrameView {
     /// only with `Memory`: a beginning of the details may be known then, and where frames are packed and none would have been
     /// dropped, the newest may be packed.
     pub fn add_frame(&mut self, frame: Arc<FrameData>) -> Result<()>
-        ensures ok { OnOk result (
-            view_of self.new ≡ after_taking (view_of self.old) (shared_frame frame)) }
-        ensures learnt { OnOk result (
-            collection_of self.new ≡ with_all_details (collection_of self.old) (
-            details_of_frame (shared_frame frame))) }
-        ensures ids { OnOk result (lacks_ids (contents_of (shared_frame frame)) ≡ false) }
-        ensures missing { (result ≡ Err Error.MissingId)
-            ↔ (lacks_ids (contents_of (shared_frame frame)) ≡ true) }
-        ensures unchanged { (result ≡ Err Error.MissingId) →
-            (view_of self.new ≡ view_of self.old)
-            × (collection_of self.new ≡ collection_of self.old) }
-        ensures cause { IfErr result (λ e. (e ≡ Error.MissingId) ⊎ (e ≡ Error.Memory)) }
-        // What a refusal for memory may leave.
-        ensures err { OnErr result (
-            KeepsFrames (view_of self.old) (index_of (shared_frame frame)) (view_of self.new)) }
-        ensures known { OnErr result (
-            LearnsSome (collection_of self.old) (details_of_frame (shared_frame frame))
-            (collection_of self.new)) }
-
+        // A view with the last and the slowest of the frames that it took has those of them and this one.
+        ensures took { OnOk result (
+            (cs : List Said) → Took cs (view_of self.old) →
+            Took (cs ++ contents_of (shared_frame frame) ∷ []) (view_of self.new)) }
         // What the view holds of any two lists, it holds of them with the frame.
         ensures more { OnOk result (
             (cs ds : List Said) →
@@ -96,9 +81,24 @@ impl FrameView {
             is_past (view_of self.old) (index_of (shared_frame frame)) ≡ true →
             Holds (contents_of (shared_frame frame) ∷ [])
             (contents_of (shared_frame frame) ∷ []) (view_of self.new)) }
-        ensures took { OnOk result (
-            (cs : List Said) → Took cs (view_of self.old) →
-            Took (cs ++ contents_of (shared_frame frame) ∷ []) (view_of self.new)) }
+
+        // The same step by step.
+        ensures ok { OnOk result (
+            view_of self.new ≡ after_taking (view_of self.old) (shared_frame frame)) }
+        ensures learnt { OnOk result (
+            collection_of self.new ≡ with_all_details (collection_of self.old) (
+            details_of_frame (shared_frame frame))) }
+        ensures ids { OnOk result (lacks_ids (contents_of (shared_frame frame)) ≡ false) }
+        ensures missing { (result ≡ Err Error.MissingId)
+            ↔ (lacks_ids (contents_of (shared_frame frame)) ≡ true) }
+        ensures unchanged { (result ≡ Err Error.MissingId) → self.new ≡ self.old }
+        ensures cause { IfErr result (λ e. (e ≡ Error.MissingId) ⊎ (e ≡ Error.Memory)) }
+        // What a refusal for memory may leave.
+        ensures err { OnErr result (
+            KeepsFrames (view_of self.old) (index_of (shared_frame frame)) (view_of self.new)) }
+        ensures known { OnErr result (
+            LearnsSome (collection_of self.old) (details_of_frame (shared_frame frame))
+            (collection_of self.new)) }
     {
         if any_lacks_id(&frame.scope_delta) {
             return Err(Error::MissingId);
@@ -144,10 +144,10 @@ impl FrameView {
 
     /// Forgets which frames were the slowest.
     pub fn clear_slowest(&mut self)
-        ensures frames { view_of self.new ≡ record (view_of self.old) { slow = [] } }
+        ensures frames { self.new
+            ≡ with_frames self.old (record (view_of self.old) { slow = [] }) }
         ensures holds { (cs ds : List Said) → Holds cs ds (view_of self.old) →
             Holds cs [] (view_of self.new) }
-        ensures collection { collection_of self.new ≡ collection_of self.old }
     {
         self.frames.clear_slowest();
     }
@@ -161,8 +161,8 @@ impl FrameView {
 
     /// Sets how many recent frames are kept, from the next frame on.
     pub fn set_max_recent(&mut self, max_recent: usize)
-        ensures frames { view_of self.new ≡ record (view_of self.old) { max_recent = max_recent } }
-        ensures collection { collection_of self.new ≡ collection_of self.old }
+        ensures { self.new
+            ≡ with_frames self.old (record (view_of self.old) { max_recent = max_recent }) }
     {
         self.frames.set_max_recent(max_recent);
     }
@@ -176,8 +176,8 @@ impl FrameView {
 
     /// Sets how many of the slowest frames are kept, from the next frame on that comes among them.
     pub fn set_max_slow(&mut self, max_slow: usize)
-        ensures frames { view_of self.new ≡ record (view_of self.old) { max_slow = max_slow } }
-        ensures collection { collection_of self.new ≡ collection_of self.old }
+        ensures { self.new
+            ≡ with_frames self.old (record (view_of self.old) { max_slow = max_slow }) }
     {
         self.frames.set_max_slow(max_slow);
     }
@@ -191,8 +191,8 @@ impl FrameView {
 
     /// Sets whether the newest frame is packed before another is added.
     pub fn set_pack_frames(&mut self, pack_frames: bool)
-        ensures frames { view_of self.new ≡ record (view_of self.old) { packs = pack_frames } }
-        ensures collection { collection_of self.new ≡ collection_of self.old }
+        ensures { self.new
+            ≡ with_frames self.old (record (view_of self.old) { packs = pack_frames }) }
     {
         self.frames.set_pack_frames(pack_frames);
     }
@@ -213,8 +213,7 @@ impl FrameView {
 
     /// A copy, which shares frames and details. Refused only with `Memory`.
     pub fn clone(&self) -> Result<FrameView>
-        ensures frames { IfOk result (λ copy. view_of copy ≡ view_of self.now) }
-        ensures collection { IfOk result (λ copy. collection_of copy ≡ collection_of self.now) }
+        ensures same { IfOk result (λ copy. copy ≡ self.now) }
         ensures cause { IfErr result (λ e. e ≡ Error.Memory) }
     {
         Ok(FrameView {

@@ -1,7 +1,9 @@
 -- What is said of several infos together, and when a frame can be made of them.
-use Rattle.std.specs.Prelude.{ℕ, ◌-◌, ◌<◌, ◌^◌, ℤ, pos, negsuc, ◌-ℤ◌, ◌≤ℤ◌, FitsSigned, List, length, fold}
+use Rattle.std.specs.Prelude.{◌≡◌, ◌⊎◌, ℕ, ◌-◌, ◌<◌, ◌^◌, ℤ, pos, negsuc, ◌-ℤ◌, ◌≤ℤ◌, FitsSigned, List, length, fold}
 use Rattle.std.specs.List.{sum_by}
 use Rattle.std.specs.Int.{w64, int_min, int_max}
+use Rattle.puffin_data.specs.declared.error.Error.{Error}
+use Rattle.puffin_data.specs.declared.error.Error.TheVariants.{TooLarge, Empty, RangeTooLong, Memory}
 use Rattle.puffin_data.specs.Honesty.{Recorded}
 use Rattle.puffin_frames.specs.declared.frame_data.meta.FrameMeta.{FrameMeta}
 
@@ -42,6 +44,15 @@ pub record MakeFrame (infos : List Recorded) : Type 0 where
   pub totals : TotalsFit infos
   pub ordered : IsOrdered (joined_range infos)
   pub duration : DurationFits (joined_range infos)
+
+-- Why no frame is made of these infos: the first that applies.
+abbrev pub IsFrameRefusal : List Recorded → Error → Type 0
+IsFrameRefusal infos e =
+    ((e ≡ TooLarge) × ¬ TotalsFit infos)
+    ⊎ ((e ≡ Empty) × TotalsFit infos × ¬ IsOrdered (joined_range infos))
+    ⊎ ((e ≡ RangeTooLong) × TotalsFit infos × IsOrdered (joined_range infos)
+    × ¬ DurationFits (joined_range infos))
+    ⊎ ((e ≡ Memory) × MakeFrame infos)
 
 -- what a frame with this index says of these infos
 abbrev pub meta_of : ℕ → List Recorded → FrameMeta

@@ -1,6 +1,10 @@
 -- What writing a frame promises.
-use Rattle.std.specs.Prelude.{◌^◌, ◌≤◌, ◌⊎◌, List, length, Option, Some, None}
+use Rattle.std.specs.Prelude.{◌≡◌, ◌≢◌, ◌+◌, ◌^◌, ◌≤◌, ◌⊎◌, ℕ, List, length, Option, Some, None, Result, OnOk, IfErr}
 use Rattle.std.specs.FinMap.{values}
+use Rattle.std.specs.Io.KnownBytes.{Appends}
+use Rattle.puffin_data.specs.declared.file_error.FileError.{FileError}
+use Rattle.puffin_data.specs.declared.file_error.FileError.TheVariants.{Io, Memory, PartTooLong}
+use Rattle.puffin_data.specs.Device.{TookNothing, WritesBeginning}
 use Rattle.puffin_frames.specs.declared.frame_data.frame.FrameData.{FrameData}
 use Rattle.puffin_frames.specs.Details.{Details}
 use Rattle.puffin_frames.specs.Details.Collection.{Collection}
@@ -20,3 +24,14 @@ says_with frame collection = record (frame_says frame) { details = details_or (f
 -- a part whose length can't be written
 abbrev pub HasLongPart : Said → Type 0
 HasLongPart p = (2 ^ 32 ≤ length p.streams) ⊎ (2 ^ 32 ≤ length (details_layout p.details))
+
+-- A call that writes these bytes to a device, all of them or, where the device failed, a beginning. Any other refusal comes before a write; one cause may be that a part is too long.
+pub record Writes {D : Type 0} (contents : D → Option (List ℕ)) (failures : D → ℕ) (takes : D → List ℕ → ℕ → D → Type 0) (old new : D)
+    (bytes : List ℕ) (IsLong : Type 0) (result : Result (Unit {0}) FileError) : Type 0 where
+  pub ok : OnOk result (Appends (contents old) (contents new) bytes)
+  pub begun : IfErr result (λ e. e ≡ Io → WritesBeginning (contents old) (contents new) bytes)
+  pub untouched : IfErr result (λ e. e ≢ Io → new ≡ old)
+  pub io : IfErr result (λ e. e ≡ Io → (failures new ≡ failures old + 1) ⊎ TookNothing takes new)
+  pub too_long : IfErr result (λ e. e ≡ PartTooLong → IsLong)
+  pub cause : IfErr result (λ e. (e ≡ PartTooLong) ⊎ (e ≡ Memory) ⊎ (e ≡ Io))
+  pub steady : OnOk result (failures new ≡ failures old)

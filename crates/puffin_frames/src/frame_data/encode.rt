@@ -32,6 +32,7 @@ pub(crate) fn put_meta(out: &mut Vec<u8>, meta: &FrameMeta) -> Result<()>
     ensures fits { IsMeta meta.now }
     ensures memory { IfErr result (λ e. e ≡ Error.Memory) }
 {
+    // Read as a whole, for the proof: so the ranges of its numbers are known.
     let meta = *meta;
     let (start, stop) = meta.range_ns;
     put_u64(out, meta.frame_index)?;
@@ -41,7 +42,7 @@ pub(crate) fn put_meta(out: &mut Vec<u8>, meta: &FrameMeta) -> Result<()>
     put_u64(out, meta.num_scopes as u64)
 }
 
-/// A text as it is, which is UTF-8 and shorter than `2^64` bytes.
+/// A text as it is, which is UTF-8 and shorter than `2^64` bytes: it stands for the proof alone.
 fn text_of(text: &str) -> &str
     ensures same { result.now ≡ text.now }
     ensures text { IsText text.now }
@@ -49,7 +50,7 @@ fn text_of(text: &str) -> &str
     text
 }
 
-/// Bytes as they are, which are fewer than `2^64`.
+/// Bytes as they are, which are fewer than `2^64`: it stands for the proof alone.
 fn block_of(bytes: &[u8]) -> &[u8]
     ensures same { result.now ≡ bytes.now }
     ensures block { IsBlock bytes.now }
@@ -81,6 +82,7 @@ fn put_recorded(out: &mut Vec<u8>, info: &StreamInfo) -> Result<()>
     ensures fits { IsRecorded (record_of info.now) }
     ensures memory { IfErr result (λ e. e ≡ Error.Memory) }
 {
+    // All is read before anything is written, for the proof: so the ranges of the numbers are known.
     let stream = block_of(info.stream.bytes());
     let num_scopes = info.num_scopes as u64;
     let depth = info.depth as u64;
@@ -134,6 +136,7 @@ fn put_id(out: &mut Vec<u8>, id: Option<ScopeId>) -> Result<()>
     match id {
         None => put_u8(out, 0),
         Some(id) => {
+            // Read first, for the proof: so its range is known.
             let number = id.get();
             put_u8(out, 1)?;
             put_u32(out, number)

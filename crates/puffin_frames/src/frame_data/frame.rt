@@ -1,9 +1,9 @@
-ghost use Rattle.std.specs.Prelude.{◌≡◌, ◌↔◌, ◌⊎◌, ◌-ℤ◌, ◌≤ℤ◌, IfOk, IfErr, IfSome, Some, None, true, ◌+◌, ◌-◌, ◌^◌, min, length, is_some, Err, OnOk, OnErr};
+ghost use Rattle.std.specs.Prelude.{◌≡◌, ◌-ℤ◌, ◌≤ℤ◌, IfOk, IfErr, IfSome, Some, None, true, ◌+◌, ◌-◌, ◌^◌, min, length, is_some, Err, OnOk, OnErr};
 ghost use Rattle.std.specs.Option.{option_map, unwrap_or};
 ghost use Rattle.std.specs.FinMap as map;
 ghost use Rattle.puffin_data.specs.declared.error.Error.{Error};
-ghost use Rattle.puffin_frames.specs.Frame.Sums.{joined_range, TotalsFit, IsOrdered, DurationFits, MakeFrame, meta_of};
-ghost use Rattle.puffin_frames.specs.Frame.Contents.{streams_of, all_recorded, contents, holding_of, frame_contents, frame_meta, is_alone, Streams, frame_details, frame_says};
+ghost use Rattle.puffin_frames.specs.Frame.Sums.{MakeFrame, meta_of, IsFrameRefusal};
+ghost use Rattle.puffin_frames.specs.Frame.Contents.{streams_of, all_recorded, contents, holding_of, frame_contents, frame_meta, is_alone, Streams, frame_says};
 ghost use Rattle.std.specs.Arc.{arc_value};
 ghost use Rattle.puffin_data.specs.declared.file_error.FileError.{FileError};
 ghost use Rattle.puffin_frames.specs.Frame.Holding.{as_packed, as_unpacked, unpacked_from, HoldsStreams};
@@ -65,20 +65,8 @@ impl FrameData {
         ensures meta { IfOk result (λ frame.
             frame_meta frame
             ≡ meta_of frame_index (map.values (streams_of thread_streams.entries))) }
-        ensures too_large { (result ≡ Err Error.TooLarge)
-            ↔ ¬ TotalsFit (all_recorded thread_streams) }
-        ensures empty { (result ≡ Err Error.Empty) ↔ (TotalsFit (all_recorded thread_streams)
-            × ¬ IsOrdered (joined_range (all_recorded thread_streams))) }
-        ensures range_too_long { (result ≡ Err Error.RangeTooLong)
-            ↔ (TotalsFit (all_recorded thread_streams)
-            × IsOrdered (joined_range (all_recorded thread_streams))
-            × ¬ DurationFits (joined_range (all_recorded thread_streams))) }
-        ensures memory { result ≡ Err Error.Memory → MakeFrame (all_recorded thread_streams) }
-        ensures only { IfErr result (λ e.
-            (e ≡ Error.TooLarge)
-            ⊎ (e ≡ Error.Empty)
-            ⊎ (e ≡ Error.RangeTooLong)
-            ⊎ (e ≡ Error.Memory)) }
+        ensures makes { OnOk result (MakeFrame (all_recorded thread_streams)) }
+        ensures refusal { IfErr result (λ e. IsFrameRefusal (all_recorded thread_streams) e) }
     {
         let unpacked = UnpackedFrameData::new(alloc, frame_index, thread_streams)?;
         Ok(FrameData::of_unpacked(unpacked, scope_delta, full_delta))

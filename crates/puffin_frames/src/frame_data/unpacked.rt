@@ -24,10 +24,9 @@ pub struct UnpackedFrameData {
 }
 
 impl UnpackedFrameData {
-    ghost use Rattle.std.specs.Prelude.{◌↔◌, ◌⊎◌, IfOk, IfErr};
+    ghost use Rattle.std.specs.Prelude.{IfOk, IfErr, OnOk};
     ghost use Rattle.std.specs.FinMap as map;
-    ghost use Rattle.puffin_data.specs.declared.error.Error.{Error};
-    ghost use Rattle.puffin_frames.specs.Frame.Sums.{joined_range, TotalsFit, IsOrdered, DurationFits, MakeFrame, meta_of};
+    ghost use Rattle.puffin_frames.specs.Frame.Sums.{MakeFrame, IsFrameRefusal, meta_of};
     ghost use Rattle.puffin_frames.specs.Frame.Contents.{without_sharing, streams_of, all_recorded, contents};
 
     /// The frame with this number of these streams, each of which is moved into an `Arc`.
@@ -51,20 +50,8 @@ impl UnpackedFrameData {
         ensures own_meta { IfOk result (λ frame.
             frame.meta ≡ meta_of frame_index (map.values (contents frame))) }
 
-        ensures too_large { (result ≡ Err Error.TooLarge)
-            ↔ ¬ TotalsFit (all_recorded thread_streams) }
-        ensures empty { (result ≡ Err Error.Empty) ↔ (TotalsFit (all_recorded thread_streams)
-            × ¬ IsOrdered (joined_range (all_recorded thread_streams))) }
-        ensures range_too_long { (result ≡ Err Error.RangeTooLong)
-            ↔ (TotalsFit (all_recorded thread_streams)
-            × IsOrdered (joined_range (all_recorded thread_streams))
-            × ¬ DurationFits (joined_range (all_recorded thread_streams))) }
-        ensures memory { result ≡ Err Error.Memory → MakeFrame (all_recorded thread_streams) }
-        ensures only { IfErr result (λ e.
-            (e ≡ Error.TooLarge)
-            ⊎ (e ≡ Error.Empty)
-            ⊎ (e ≡ Error.RangeTooLong)
-            ⊎ (e ≡ Error.Memory)) }
+        ensures makes { OnOk result (MakeFrame (all_recorded thread_streams)) }
+        ensures refusal { IfErr result (λ e. IsFrameRefusal (all_recorded thread_streams) e) }
     {
         let meta = FrameMeta::of_streams(frame_index, &thread_streams)?;
         let (start, stop) = meta.range_ns;

@@ -1,16 +1,16 @@
 //! Frames, written to any writer.
 
-ghost use Rattle.std.specs.Prelude.{◌≡◌, ◌≢◌, ◌-◌, ◌+◌, ◌++◌, ◌^◌, ◌<◌, ◌≤◌, ◌⊎◌, List, ℕ, Some, None, IfOk, IfErr, OnOk, OnErr, option_map, length};
+ghost use Rattle.std.specs.Prelude.{◌≡◌, ◌-◌, ◌+◌, ◌++◌, ◌^◌, ◌<◌, ◌≤◌, ◌⊎◌, Some, None, IfOk, IfErr, OnOk, OnErr, option_map, length};
 ghost use Rattle.std.specs.Io.KnownBytes.{Appends};
 ghost use Rattle.puffin_data.specs.declared.file_error.FileError.{FileError};
 ghost use Rattle.puffin_data.specs.Device.{TookNothing, WritesBeginning};
 ghost use Rattle.std.specs.FinMap.{values};
 ghost use Rattle.puffin_frames.specs.Details.{shared_details};
 ghost use Rattle.puffin_frames.specs.Packet.Structs.{meta_layout, IsMeta, details_layout, AreDetails};
-ghost use Rattle.puffin_frames.specs.Frame.Contents.{frame_details, packed_as, contents};
+ghost use Rattle.puffin_frames.specs.Frame.Contents.{frame_details, contents};
 ghost use Rattle.puffin_frames.specs.Frame.Holding.{plainly_packed};
-ghost use Rattle.puffin_frames.specs.Packet.Grammar.{counted_part, packet_head, packet_with, packet, IsPacked};
-ghost use Rattle.puffin_frames.specs.Packet.Writing.{details_or, says_with, HasLongPart};
+ghost use Rattle.puffin_frames.specs.Packet.Grammar.{packet_head, packet_with, packet, IsPacked};
+ghost use Rattle.puffin_frames.specs.Packet.Writing.{details_or, says_with, HasLongPart, Writes};
 
 use crate::frame_data::encode::{put_details, put_details_by_id, put_meta};
 use crate::frame_data::frame::FrameData;
@@ -85,26 +85,12 @@ fn write_packed<D: Drain>(
     drain: &mut D,
 ) -> Result<(), FileError>
     requires { D.failures drain.old < 2 ^ 64 - 1 }
-    ensures ok { OnOk result (
-        Appends (D.contents drain.old) (D.contents drain.new) (
-        packet_with meta.now streams.now.kind streams.now.bytes.items details.now)) }
-    ensures begun { IfErr result (λ e.
-        e ≡ FileError.Io →
-        WritesBeginning (D.contents drain.old) (D.contents drain.new) (
-        packet_with meta.now streams.now.kind streams.now.bytes.items details.now)) }
-    ensures untouched { IfErr result (λ e. e ≢ FileError.Io → drain.new ≡ drain.old) }
-    ensures io { IfErr result (λ e.
-        e ≡ FileError.Io →
-        (D.failures drain.new ≡ D.failures drain.old + 1) ⊎ TookNothing D.takes drain.new) }
-    ensures too_long { IfErr result (λ e.
-        e ≡ FileError.PartTooLong →
-        (2 ^ 32 ≤ length streams.now.bytes.items) ⊎ (2 ^ 32 ≤ length details.now)) }
+    ensures written { Writes D.contents D.failures D.takes drain.old drain.new
+        (packet_with meta.now streams.now.kind streams.now.bytes.items details.now)
+        ((2 ^ 32 ≤ length streams.now.bytes.items) ⊎ (2 ^ 32 ≤ length details.now)) result }
     ensures short { OnOk result (
         (length streams.now.bytes.items < 2 ^ 32) × (length details.now < 2 ^ 32)) }
     ensures fits { OnOk result (IsMeta meta.now) }
-    ensures cause { IfErr result (λ e.
-        (e ≡ FileError.PartTooLong) ⊎ (e ≡ FileError.Memory) ⊎ (e ≡ FileError.Io)) }
-    ensures failures { OnOk result (D.failures drain.new ≡ D.failures drain.old) }
 {
     if streams.bytes.len() > u32::MAX as usize || details.len() > u32::MAX as usize {
         return Err(FileError::PartTooLong);
@@ -122,30 +108,14 @@ fn write_unpacked<D: Drain>(
     drain: &mut D,
 ) -> Result<(), FileError>
     requires { D.failures drain.old < 2 ^ 64 - 1 }
-    ensures ok { OnOk result (
-        Appends (D.contents drain.old) (D.contents drain.new) (
-        packet_with frame.now.meta 0 (plainly_packed (contents frame.now)).bytes
-        details.now)) }
-    ensures begun { IfErr result (λ e.
-        e ≡ FileError.Io →
-        WritesBeginning (D.contents drain.old) (D.contents drain.new) (
-        packet_with frame.now.meta 0 (plainly_packed (contents frame.now)).bytes
-        details.now)) }
-    ensures untouched { IfErr result (λ e. e ≢ FileError.Io → drain.new ≡ drain.old) }
-    ensures io { IfErr result (λ e.
-        e ≡ FileError.Io →
-        (D.failures drain.new ≡ D.failures drain.old + 1) ⊎ TookNothing D.takes drain.new) }
-    ensures too_long { IfErr result (λ e.
-        e ≡ FileError.PartTooLong →
-        (2 ^ 32 ≤ length (plainly_packed (contents frame.now)).bytes)
-        ⊎ (2 ^ 32 ≤ length details.now)) }
+    ensures written { Writes D.contents D.failures D.takes drain.old drain.new
+        (packet_with frame.now.meta 0 (plainly_packed (contents frame.now)).bytes details.now)
+        ((2 ^ 32 ≤ length (plainly_packed (contents frame.now)).bytes)
+        ⊎ (2 ^ 32 ≤ length details.now)) result }
     ensures short { OnOk result (
         (length (plainly_packed (contents frame.now)).bytes < 2 ^ 32)
         × (length details.now < 2 ^ 32)) }
     ensures fits { OnOk result (IsMeta frame.now.meta) }
-    ensures cause { IfErr result (λ e.
-        (e ≡ FileError.PartTooLong) ⊎ (e ≡ FileError.Memory) ⊎ (e ≡ FileError.Io)) }
-    ensures failures { OnOk result (D.failures drain.new ≡ D.failures drain.old) }
 {
     let Ok(streams) = PackedStreams::of(alloc, &frame.thread_streams) else {
         return Err(FileError::Memory);
@@ -209,26 +179,12 @@ impl FrameData {
         drain: &mut D,
     ) -> Result<(), FileError>
         requires { D.failures drain.old < 2 ^ 64 - 1 }
-        ensures ok { OnOk result (
-            Appends (D.contents drain.old) (D.contents drain.new) (
-            packet (says_with self.now (option_map (λ c. c.now) scopes.entry)))) }
+        ensures written { Writes D.contents D.failures D.takes drain.old drain.new
+            (packet (says_with self.now (option_map (λ c. c.now) scopes.entry)))
+            (HasLongPart (says_with self.now (option_map (λ c. c.now) scopes.entry))) result }
         // What is written is read again.
         ensures packed { OnOk result (
             IsPacked (says_with self.now (option_map (λ c. c.now) scopes.entry))) }
-        ensures begun { IfErr result (λ e.
-            e ≡ FileError.Io →
-            WritesBeginning (D.contents drain.old) (D.contents drain.new) (
-            packet (says_with self.now (option_map (λ c. c.now) scopes.entry)))) }
-        ensures untouched { IfErr result (λ e. e ≢ FileError.Io → drain.new ≡ drain.old) }
-        ensures io { IfErr result (λ e.
-            e ≡ FileError.Io →
-            (D.failures drain.new ≡ D.failures drain.old + 1) ⊎ TookNothing D.takes drain.new) }
-        ensures too_long { IfErr result (λ e.
-            e ≡ FileError.PartTooLong →
-            HasLongPart (says_with self.now (option_map (λ c. c.now) scopes.entry))) }
-        ensures cause { IfErr result (λ e.
-            (e ≡ FileError.PartTooLong) ⊎ (e ≡ FileError.Memory) ⊎ (e ≡ FileError.Io)) }
-        ensures failures { OnOk result (D.failures drain.new ≡ D.failures drain.old) }
     {
         let alloc = *self.scope_delta.allocator();
         let details = self.details_part(scopes)?;

@@ -1,5 +1,5 @@
 -- A table of nodes, each of which is found by its parent's number and its label. Steps of the proof, and no part of what is promised.
-use Rattle.std.specs.Prelude.{◌≡◌, ℕ, ◌+◌, ◌-◌, ◌<◌, ◌≤◌, ◌^◌, ℤ, max, List, [], ◌∷◌, ◌++◌, map, fold, slice_index_or, All, vec_len, Some}
+use Rattle.std.specs.Prelude.{◌≡◌, ℕ, ◌+◌, ◌-◌, ◌<◌, ◌≤◌, ◌^◌, ℤ, max, List, [], ◌∷◌, ◌++◌, map, fold, slice_index_or, slice_set, All, vec_len, Some}
 use Rattle.std.specs.declared.cmp.Ordering.{Ordering}
 use Rattle.std.specs.Ordering.{nat_cmp, on, then_cmp}
 use Rattle.std.specs.Cmp.Lexicographic.{slice_cmp}
@@ -61,6 +61,13 @@ grown_node n own_start duration = record { key = n.key; sums = record { number =
 abbrev pub FitsOneMore : List Node → ℕ → ℕ → Type 0
 FitsOneMore nodes k duration =
     (d : Node) → ((slice_index_or nodes k d).sums.number + 1 < 2 ^ 64) × ((slice_index_or nodes k d).sums.total + duration < 2 ^ 63)
+
+-- the sums of the node at k fit with one piece more, which it takes in, and the others stay
+abbrev pub GrowsAt : Table → ℕ → ℤ → ℕ → Table → Type 0
+GrowsAt t k own_start duration u =
+    (u.numbers ≡ t.numbers)
+    × ((d : Node) → u.nodes.items ≡ slice_set t.nodes.items k (grown_node (slice_index_or t.nodes.items k d) own_start duration))
+    × FitsOneMore t.nodes.items k duration
 
 -- a node has what is merged at its path
 pub record IsNodeOf (all : List Occurrence) (nodes : List Node) (k : ℕ) (n : Node) : Type 0 where

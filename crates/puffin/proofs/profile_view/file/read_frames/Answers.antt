@@ -4,7 +4,7 @@ use Rattle.puffin_frames.specs.Packet.Stored.{Stored}
 use Rattle.puffin_frames.specs.Packet.Next.{stored_of}
 use Rattle.puffin.specs.View.ViewedFrames.{Frame, contents_of}
 use Rattle.puffin.specs.View.FrameOf.{frame_of}
-use Rattle.puffin.specs.View.Known.{lacks_ids}
+use Rattle.puffin.specs.View.Known.{view_of, collection_of, lacks_ids}
 use Rattle.puffin.specs.View.{View}
 use Rattle.puffin.proofs.FilesRead.{none_taken, takes_one, takes_all, fails_next, refused, spent, room_left, none_left}
 use Rattle.puffin.proofs.FileFrames.{fresh_frame, view_of_frames, view_of_more}
@@ -12,8 +12,8 @@ use Rattle.puffin.proofs.profile_view.file.read_frames.Goals as goal
 
 pub packets-init : goal.packets-init
 packets-init g c =
-    let frames = c.set_max_recent.ensures.frames ∙ ap (λ (v : View). record v { max_recent = 2 ^ 64 - 1 }) c.new-view.ensures.frames in
-    ([], none_taken _, view_of_frames [] c.set_max_recent.new.self frames (c.set_max_recent.ensures.collection ∙ c.new-view.ensures.collection), refl, refl)
+    let frames = ap view_of c.set_max_recent.ensures ∙ ap (λ (v : View). record v { max_recent = 2 ^ 64 - 1 }) c.new-view.ensures.frames in
+    ([], none_taken _, view_of_frames [] c.set_max_recent.new.self frames (ap collection_of c.set_max_recent.ensures ∙ c.new-view.ensures.collection), refl, refl)
 
 pub returns-in_err-frame-clause-frames : goal.returns-in_err-frame-clause-frames
 returns-in_err-frame-clause-frames g c =

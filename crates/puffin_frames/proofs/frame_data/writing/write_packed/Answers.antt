@@ -1,18 +1,36 @@
 use Rattle.std.proofs.Common.{◌≡◌, length, rules}
-use Rattle.std.proofs.lemmas.Result.{err_from_is_err_and}
+use Rattle.std.proofs.lemmas.Result.{err_from_is_err_and, on_ok_weaker}
+use Rattle.std.proofs.KnownBytes.{Appends-trans}
 use Rattle.puffin_frames.proofs.Writing.{beginning_more, beginning_after, begun_if}
 use Rattle.puffin_frames.proofs.frame_data.writing.write_packed.Goals as goal
 
-pub returns-in_err-write_both-clause-begun : goal.returns-in_err-write_both-clause-begun
-returns-in_err-write_both-clause-begun g c =
+pub returns-in_err-write_both-clause-written : goal.returns-in_err-write_both-clause-written
+returns-in_err-write_both-clause-written g c =
     let p = err_from_is_err_and c.from_residual-in_err-write_both.result c.from_residual-in_err-write_both.ensures.1 in
     let len : c.len-2.result ≡ length c.args.streams.now.bytes.items = search rules in
     let h = rw (c.deref.ensures.value, c.deref-2.ensures.value, c.in_ok-head.ensures.ok, len) at c.in_err-write_both.ensures.err in
-    rw p.1 (λ _. beginning_more _ _ _ _ h)
+    record {
+      ok = search rules;
+      begun = rw p.1 (λ _. beginning_more _ _ _ _ h);
+      untouched = search rules;
+      io = search rules;
+      too_long = search rules;
+      cause = search rules;
+      steady = search rules;
+    }
 
-pub returns-clause-begun : goal.returns-clause-begun
-returns-clause-begun g c =
+pub returns-clause-written : goal.returns-clause-written
+returns-clause-written g c =
     let len : c.len-2.result ≡ length c.args.streams.now.bytes.items = search rules in
     let first = rw (c.deref.ensures.value, c.deref-2.ensures.value, c.in_ok-head.ensures.ok, len) at c.in_ok-write_both.ensures.ok in
     let second = rw c.to_le_bytes.ensures at c.write_both-2.ensures.err in
-    begun_if c.write_both-2.result (λ h. beginning_after _ _ _ _ _ first h) second
+    let after = rw c.to_le_bytes.ensures at c.write_both-2.ensures.ok in
+    record {
+      ok = on_ok_weaker c.write_both-2.result (λ h. Appends-trans _ _ _ _ _ first h) after;
+      begun = begun_if c.write_both-2.result (λ h. beginning_after _ _ _ _ _ first h) second;
+      untouched = search rules;
+      io = search rules;
+      too_long = search rules;
+      cause = search rules;
+      steady = search rules;
+    }

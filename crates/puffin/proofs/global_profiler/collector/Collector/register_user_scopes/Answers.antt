@@ -34,9 +34,9 @@ loop-details-preserved c =
     let more : details_seen (take (i + 1) ds) ≡ details_seen (take i ds) ++ (details_of d ∷ []) =
     ap details_seen (take_more ds i d c.loop-details-test.true ∙ ap (λ (x : ScopeDetails). take i ds ++ (x ∷ [])) (sym c.details-item.is)) ∙ map-append details_of (take i ds) (d ∷ []) in
     record {
-      added = subst (λ (asked : List Details). Adds c.args.self.now asked c.push.new.self.items c.register_user_scope.new.self) (sym more)
-          (subst (λ (ids : List ℕ). Adds c.args.self.now (details_seen (take i ds) ++ (details_of d ∷ [])) ids c.register_user_scope.new.self) (sym c.in-Ok.ensures.items)
+      added = subst (λ (asked : List Details). Adds c.args.self.now asked c.push_reserved.new.self.items c.register_user_scope.new.self) (sym more)
+          (subst (λ (ids : List ℕ). Adds c.args.self.now (details_seen (take i ds) ++ (details_of d ∷ [])) ids c.register_user_scope.new.self) (sym c.push_reserved.ensures.items)
           (Adds-more c.args.self.now c.loop-details.self c.register_user_scope.new.self (details_seen (take i ds)) c.loop-details.scope_ids.items (details_of d) c.in_ok-id.id c.loop-details.invariant.added c.in_ok-id.ensures.ok));
-      room = omega (arith, c.loop-details.invariant.room, c.push.ensures.capacity);
-      filled = omega (arith, c.loop-details.invariant.filled, c.in-Ok.ensures.len);
+      room = omega (arith, c.loop-details.invariant.room, c.push_reserved.ensures.capacity);
+      filled = omega (arith, c.loop-details.invariant.filled, c.push_reserved.ensures.len);
     }

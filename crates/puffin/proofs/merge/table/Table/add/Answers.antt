@@ -18,7 +18,7 @@ returns-in_err-grow-in-Some-clause-err c =
 pub returns-in_ok-grow-in-Some-clause-ok : goal.returns-in_ok-grow-in-Some-clause-ok
 returns-in_ok-grow-in-Some-clause-ok c =
     adds_grown c.args.self.now c.grow.new.self c.args.key c.args.own_start c.args.duration c.in-Some.number.number c.requires.table c.in-Some.ensures.some.0 c.in-Some.ensures.some.1 c.in-Some.ensures.some.2
-    (rw (to_z-of_z w64 c.args.own_start c.ranges.own_start) at c.in_ok-grow-in-Some.ensures.ok) c.in_ok-grow-in-Some.ensures.fits
+    (rw (to_z-of_z w64 c.args.own_start c.ranges.own_start) at c.in_ok-grow-in-Some.ensures.ok)
 
 -- a new node, where it could be made
 made : (t u : Table) (key : Key) (own_start : ℤ) (duration : ℕ) (r : Result NodeNumber Error) → 0 < key.id → key.parent.number ≤ vec_len t.nodes → duration < 2 ^ 63 → ((j : ℕ) → j < vec_len t.nodes → HasKey t.nodes.items j key → ⊥)

@@ -24,12 +24,13 @@ frames-preserved g c =
     let said : Said = frame_says c.deref.result.now in
     let left : all_left c.frames.frame-iterator ≡ shared_frame c.in-Some.frame.now ∷ all_left c.next.new.self = rest_more (λ a. shared_frame a.now) _ _ _ _ c.in-Some.is c.next.ensures.steps in
     let is = one_left before.0 said (shared_frame c.in-Some.frame.now) (all_left c.frames.frame-iterator) (all_left c.next.new.self) (contents_in (view_of c.args.self.now)) before.1 left (ap frame_says c.deref.ensures) in
-    let h = c.in_ok-write_into.ensures in (
+    let h = c.in_ok-write_into.ensures in
+    let written = h.written in (
       before.0 ++ said ∷ [],
       is ∙ sym (append_assoc before.0 (said ∷ []) (map contents_of (all_left c.next.new.self))),
-      subst (Appends _ _) (file_more before.0 said) (Appends-trans _ _ _ _ _ before.2 h.ok),
+      subst (Appends _ _) (file_more before.0 said) (Appends-trans _ _ _ _ _ before.2 written.ok),
       all_more before.0 said before.3 h.packed,
-      h.failures ∙ before.4,
+      written.steady ∙ before.4,
     )
 
 pub returns-in_err-write_into-clause-begun : goal.returns-in_err-write_into-clause-begun
@@ -39,7 +40,7 @@ returns-in_err-write_into-clause-begun g c =
     let said : Said = frame_says c.deref.result.now in
     let left : all_left c.frames.frame-iterator ≡ shared_frame c.in-Some.frame.now ∷ all_left c.next.new.self = rest_more (λ a. shared_frame a.now) _ _ _ _ c.in-Some.is c.next.ensures.steps in
     let is = one_left before.0 said (shared_frame c.in-Some.frame.now) (all_left c.frames.frame-iterator) (all_left c.next.new.self) (contents_in (view_of c.args.self.now)) before.1 left (ap frame_says c.deref.ensures) in
-    let h = c.in_err-write_into.ensures in
+    let h = c.in_err-write_into.ensures.written in
     rw p.1 (begun _ _ _ before.0 said (map contents_of (all_left c.next.new.self)) _ c.in_err-write_into.field-0.0 is before.2 h.begun (λ other. ap g.D.Drain.contents (h.untouched other)) h.cause)
 
 pub returns-in_err-write_into-clause-too_long : goal.returns-in_err-write_into-clause-too_long
@@ -49,4 +50,4 @@ returns-in_err-write_into-clause-too_long g c =
     let said : Said = frame_says c.deref.result.now in
     let left : all_left c.frames.frame-iterator ≡ shared_frame c.in-Some.frame.now ∷ all_left c.next.new.self = rest_more (λ a. shared_frame a.now) _ _ _ _ c.in-Some.is c.next.ensures.steps in
     let is = one_left before.0 said (shared_frame c.in-Some.frame.now) (all_left c.frames.frame-iterator) (all_left c.next.new.self) (contents_in (view_of c.args.self.now)) before.1 left (ap frame_says c.deref.ensures) in
-    rw (p.1, p.2) (λ long. any_of before.0 said (map contents_of (all_left c.next.new.self)) _ is (c.in_err-write_into.ensures.too_long long))
+    rw (p.1, p.2) (λ long. any_of before.0 said (map contents_of (all_left c.next.new.self)) _ is (c.in_err-write_into.ensures.written.too_long long))

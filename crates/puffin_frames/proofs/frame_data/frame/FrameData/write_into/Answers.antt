@@ -1,23 +1,56 @@
+use Rattle.std.proofs.Common.{rules}
 use Rattle.puffin_frames.proofs.frame_data.frame.FrameData.write_into.Goals as goal
 
-pub returns-in-Own-clause-begun : goal.returns-in-Own-clause-begun
-returns-in-Own-clause-begun g c =
-    let h = rw (c.deref.ensures.value, c.in_ok-details.ensures.ok) at c.write_unpacked.ensures.begun in
-    rw c.in-Own.is h
+pub returns-in-Own-clause-written : goal.returns-in-Own-clause-written
+returns-in-Own-clause-written g c =
+    let h = rw (c.deref.ensures.value, c.in_ok-details.ensures.ok) at c.write_unpacked.ensures.written.begun in
+    record {
+      ok = search rules;
+      begun = rw c.in-Own.is h;
+      untouched = search rules;
+      io = search rules;
+      too_long = search rules;
+      cause = search rules;
+      steady = search rules;
+    }
 
-pub returns-in-Shared-clause-begun : goal.returns-in-Shared-clause-begun
-returns-in-Shared-clause-begun g c =
-    let h = rw (c.deref-in-Shared-2.ensures.value, c.in_ok-details.ensures.ok) at c.write_unpacked-in-Shared.ensures.begun in
+pub returns-in-Shared-clause-written : goal.returns-in-Shared-clause-written
+returns-in-Shared-clause-written g c =
+    let h = rw (c.deref-in-Shared-2.ensures.value, c.in_ok-details.ensures.ok) at c.write_unpacked-in-Shared.ensures.written.begun in
     let k = rw c.deref-in-Shared.ensures at h in
-    rw c.in-Shared.is k
+    record {
+      ok = search rules;
+      begun = rw c.in-Shared.is k;
+      untouched = search rules;
+      io = search rules;
+      too_long = search rules;
+      cause = search rules;
+      steady = search rules;
+    }
 
-pub returns-in-Packed-clause-begun : goal.returns-in-Packed-clause-begun
-returns-in-Packed-clause-begun g c =
-    let h = rw (c.deref-in-Packed.ensures.value, c.in_ok-details.ensures.ok) at c.write_packed.ensures.begun in
-    rw c.in-Packed.is h
+pub returns-in-Packed-clause-written : goal.returns-in-Packed-clause-written
+returns-in-Packed-clause-written g c =
+    let h = rw (c.deref-in-Packed.ensures.value, c.in_ok-details.ensures.ok) at c.write_packed.ensures.written.begun in
+    record {
+      ok = search rules;
+      begun = rw c.in-Packed.is h;
+      untouched = search rules;
+      io = search rules;
+      too_long = search rules;
+      cause = search rules;
+      steady = search rules;
+    }
 
-pub returns-clause-begun : goal.returns-clause-begun
-returns-clause-begun g c =
-    let h = rw (c.deref-in-Both-2.ensures.value, c.in_ok-details.ensures.ok) at c.write_packed-in-Both.ensures.begun in
+pub returns-clause-written : goal.returns-clause-written
+returns-clause-written g c =
+    let h = rw (c.deref-in-Both-2.ensures.value, c.in_ok-details.ensures.ok) at c.write_packed-in-Both.ensures.written.begun in
     let k = rw c.deref-in-Both.ensures at h in
-    rw c.in-Both.is k
+    record {
+      ok = search rules;
+      begun = rw c.in-Both.is k;
+      untouched = search rules;
+      io = search rules;
+      too_long = search rules;
+      cause = search rules;
+      steady = search rules;
+    }
