@@ -1,7 +1,7 @@
 ghost use Rattle.std.specs.Prelude.{◌≡◌, ◌-ℤ◌, ◌≤ℤ◌, IfOk, IfErr, OnOk, IfSome, Some, None, true};
 ghost use Rattle.std.specs.Option.{option_map};
 ghost use Rattle.std.specs.FinMap as map;
-ghost use Rattle.puffin_frames.specs.Frame.Sums.{MakeFrame, IsFrameRefusal, meta_of};
+ghost use Rattle.puffin_frames.specs.Frame.Sums.{MakeFrame, RefusesFrame, meta_of};
 ghost use Rattle.puffin_frames.specs.Frame.Contents.{streams_of, all_recorded, contents, holding_of, frame_contents, frame_meta, is_alone};
 
 use crate::frame_data::held::Held;
@@ -45,7 +45,7 @@ impl FrameData {
             frame_meta frame
             ≡ meta_of frame_index (map.values (streams_of thread_streams.entries))) }
         ensures makes { OnOk result (MakeFrame (all_recorded thread_streams)) }
-        ensures refusal { IfErr result (λ e. IsFrameRefusal (all_recorded thread_streams) e) }
+        ensures refusal { IfErr result (λ e. RefusesFrame (all_recorded thread_streams) e) }
     {
         let unpacked = UnpackedFrameData::new(alloc, frame_index, thread_streams)?;
         Ok(FrameData::of_unpacked(unpacked, scope_delta, full_delta))
