@@ -46,8 +46,8 @@ pub record MakeFrame (infos : List Recorded) : Type 0 where
   pub duration : DurationFits (joined_range infos)
 
 -- Why no frame is made of these infos: the first that applies.
-abbrev pub IsFrameRefusal : List Recorded → Error → Type 0
-IsFrameRefusal infos e =
+abbrev pub RefusesFrame : List Recorded → Error → Type 0
+RefusesFrame infos e =
     ((e ≡ TooLarge) × ¬ TotalsFit infos)
     ⊎ ((e ≡ Empty) × TotalsFit infos × ¬ IsOrdered (joined_range infos))
     ⊎ ((e ≡ RangeTooLong) × TotalsFit infos × IsOrdered (joined_range infos)

@@ -25,8 +25,8 @@ says_with frame collection = record (frame_says frame) { details = details_or (f
 abbrev pub HasLongPart : Said → Type 0
 HasLongPart p = (2 ^ 32 ≤ length p.streams) ⊎ (2 ^ 32 ≤ length (details_layout p.details))
 
--- A call that writes these bytes to a device, all of them or, where the device failed, a beginning. Any other refusal comes before a write; one cause may be that a part is too long.
-pub record Writes {D : Type 0} (contents : D → Option (List ℕ)) (failures : D → ℕ) (takes : D → List ℕ → ℕ → D → Type 0) (old new : D)
+-- What a call promises that is to write these bytes to a device. It wrote them all; or the device failed, and a beginning of them is written; or a part is too long or there was no memory, and nothing is written.
+pub record WritesPacket {D : Type 0} (contents : D → Option (List ℕ)) (failures : D → ℕ) (takes : D → List ℕ → ℕ → D → Type 0) (old new : D)
     (bytes : List ℕ) (IsLong : Type 0) (result : Result (Unit {0}) FileError) : Type 0 where
   pub ok : OnOk result (Appends (contents old) (contents new) bytes)
   pub begun : IfErr result (λ e. e ≡ Io → WritesBeginning (contents old) (contents new) bytes)
@@ -34,4 +34,4 @@ pub record Writes {D : Type 0} (contents : D → Option (List ℕ)) (failures : 
   pub io : IfErr result (λ e. e ≡ Io → (failures new ≡ failures old + 1) ⊎ TookNothing takes new)
   pub too_long : IfErr result (λ e. e ≡ PartTooLong → IsLong)
   pub cause : IfErr result (λ e. (e ≡ PartTooLong) ⊎ (e ≡ Memory) ⊎ (e ≡ Io))
-  pub steady : OnOk result (failures new ≡ failures old)
+  pub none_failed : OnOk result (failures new ≡ failures old)

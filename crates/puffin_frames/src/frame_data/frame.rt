@@ -2,7 +2,7 @@ ghost use Rattle.std.specs.Prelude.{◌≡◌, ◌-ℤ◌, ◌≤ℤ◌, IfOk, I
 ghost use Rattle.std.specs.Option.{option_map, unwrap_or};
 ghost use Rattle.std.specs.FinMap as map;
 ghost use Rattle.puffin_data.specs.declared.error.Error.{Error};
-ghost use Rattle.puffin_frames.specs.Frame.Sums.{MakeFrame, meta_of, IsFrameRefusal};
+ghost use Rattle.puffin_frames.specs.Frame.Sums.{MakeFrame, meta_of, RefusesFrame};
 ghost use Rattle.puffin_frames.specs.Frame.Contents.{streams_of, all_recorded, contents, holding_of, frame_contents, frame_meta, is_alone, Streams, frame_says};
 ghost use Rattle.std.specs.Arc.{arc_value};
 ghost use Rattle.puffin_data.specs.declared.file_error.FileError.{FileError};
@@ -66,7 +66,7 @@ impl FrameData {
             frame_meta frame
             ≡ meta_of frame_index (map.values (streams_of thread_streams.entries))) }
         ensures makes { OnOk result (MakeFrame (all_recorded thread_streams)) }
-        ensures refusal { IfErr result (λ e. IsFrameRefusal (all_recorded thread_streams) e) }
+        ensures refusal { IfErr result (λ e. RefusesFrame (all_recorded thread_streams) e) }
     {
         let unpacked = UnpackedFrameData::new(alloc, frame_index, thread_streams)?;
         Ok(FrameData::of_unpacked(unpacked, scope_delta, full_delta))

@@ -26,7 +26,7 @@ pub struct UnpackedFrameData {
 impl UnpackedFrameData {
     ghost use Rattle.std.specs.Prelude.{IfOk, IfErr, OnOk};
     ghost use Rattle.std.specs.FinMap as map;
-    ghost use Rattle.puffin_frames.specs.Frame.Sums.{MakeFrame, IsFrameRefusal, meta_of};
+    ghost use Rattle.puffin_frames.specs.Frame.Sums.{MakeFrame, RefusesFrame, meta_of};
     ghost use Rattle.puffin_frames.specs.Frame.Contents.{without_sharing, streams_of, all_recorded, contents};
 
     /// The frame with this number of these streams, each of which is moved into an `Arc`.
@@ -51,7 +51,7 @@ impl UnpackedFrameData {
             frame.meta ≡ meta_of frame_index (map.values (contents frame))) }
 
         ensures makes { OnOk result (MakeFrame (all_recorded thread_streams)) }
-        ensures refusal { IfErr result (λ e. IsFrameRefusal (all_recorded thread_streams) e) }
+        ensures refusal { IfErr result (λ e. RefusesFrame (all_recorded thread_streams) e) }
     {
         let meta = FrameMeta::of_streams(frame_index, &thread_streams)?;
         let (start, stop) = meta.range_ns;

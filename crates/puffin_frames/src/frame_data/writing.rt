@@ -10,7 +10,7 @@ ghost use Rattle.puffin_frames.specs.Packet.Structs.{meta_layout, IsMeta, detail
 ghost use Rattle.puffin_frames.specs.Frame.Contents.{frame_details, contents};
 ghost use Rattle.puffin_frames.specs.Frame.Holding.{plainly_packed};
 ghost use Rattle.puffin_frames.specs.Packet.Grammar.{packet_head, packet_with, packet, IsPacked};
-ghost use Rattle.puffin_frames.specs.Packet.Writing.{details_or, says_with, HasLongPart, Writes};
+ghost use Rattle.puffin_frames.specs.Packet.Writing.{details_or, says_with, HasLongPart, WritesPacket};
 
 use crate::frame_data::encode::{put_details, put_details_by_id, put_meta};
 use crate::frame_data::frame::FrameData;
@@ -85,7 +85,7 @@ fn write_packed<D: Drain>(
     drain: &mut D,
 ) -> Result<(), FileError>
     requires { D.failures drain.old < 2 ^ 64 - 1 }
-    ensures written { Writes D.contents D.failures D.takes drain.old drain.new
+    ensures written { WritesPacket D.contents D.failures D.takes drain.old drain.new
         (packet_with meta.now streams.now.kind streams.now.bytes.items details.now)
         ((2 ^ 32 ≤ length streams.now.bytes.items) ⊎ (2 ^ 32 ≤ length details.now)) result }
     ensures short { OnOk result (
@@ -108,7 +108,7 @@ fn write_unpacked<D: Drain>(
     drain: &mut D,
 ) -> Result<(), FileError>
     requires { D.failures drain.old < 2 ^ 64 - 1 }
-    ensures written { Writes D.contents D.failures D.takes drain.old drain.new
+    ensures written { WritesPacket D.contents D.failures D.takes drain.old drain.new
         (packet_with frame.now.meta 0 (plainly_packed (contents frame.now)).bytes details.now)
         ((2 ^ 32 ≤ length (plainly_packed (contents frame.now)).bytes)
         ⊎ (2 ^ 32 ≤ length details.now)) result }
@@ -179,7 +179,7 @@ impl FrameData {
         drain: &mut D,
     ) -> Result<(), FileError>
         requires { D.failures drain.old < 2 ^ 64 - 1 }
-        ensures written { Writes D.contents D.failures D.takes drain.old drain.new
+        ensures written { WritesPacket D.contents D.failures D.takes drain.old drain.new
             (packet (says_with self.now (option_map (λ c. c.now) scopes.entry)))
             (HasLongPart (says_with self.now (option_map (λ c. c.now) scopes.entry))) result }
         // What is written is read again.

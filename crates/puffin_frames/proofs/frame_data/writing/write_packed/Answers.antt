@@ -16,7 +16,7 @@ returns-in_err-write_both-clause-written g c =
       io = search rules;
       too_long = search rules;
       cause = search rules;
-      steady = search rules;
+      none_failed = search rules;
     }
 
 pub returns-clause-written : goal.returns-clause-written
@@ -32,5 +32,5 @@ returns-clause-written g c =
       io = search rules;
       too_long = search rules;
       cause = search rules;
-      steady = search rules;
+      none_failed = search rules;
     }

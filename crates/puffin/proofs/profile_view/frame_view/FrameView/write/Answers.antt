@@ -30,7 +30,7 @@ frames-preserved g c =
       is ∙ sym (append_assoc before.0 (said ∷ []) (map contents_of (all_left c.next.new.self))),
       subst (Appends _ _) (file_more before.0 said) (Appends-trans _ _ _ _ _ before.2 written.ok),
       all_more before.0 said before.3 h.packed,
-      written.steady ∙ before.4,
+      written.none_failed ∙ before.4,
     )
 
 pub returns-in_err-write_into-clause-begun : goal.returns-in_err-write_into-clause-begun

@@ -11,7 +11,7 @@ returns-in-Own-clause-written g c =
       io = search rules;
       too_long = search rules;
       cause = search rules;
-      steady = search rules;
+      none_failed = search rules;
     }
 
 pub returns-in-Shared-clause-written : goal.returns-in-Shared-clause-written
@@ -25,7 +25,7 @@ returns-in-Shared-clause-written g c =
       io = search rules;
       too_long = search rules;
       cause = search rules;
-      steady = search rules;
+      none_failed = search rules;
     }
 
 pub returns-in-Packed-clause-written : goal.returns-in-Packed-clause-written
@@ -38,7 +38,7 @@ returns-in-Packed-clause-written g c =
       io = search rules;
       too_long = search rules;
       cause = search rules;
-      steady = search rules;
+      none_failed = search rules;
     }
 
 pub returns-clause-written : goal.returns-clause-written
@@ -52,5 +52,5 @@ returns-clause-written g c =
       io = search rules;
       too_long = search rules;
       cause = search rules;
-      steady = search rules;
+      none_failed = search rules;
     }
