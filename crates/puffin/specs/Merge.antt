@@ -44,15 +44,20 @@ sibling_of m frames = record { own_start = m.own_start; duration = m.total / fra
 -- stand in order (so each once), and start at the least feasible times.
 pub record IsRow (all : List Occurrence) (frames : ℕ) (path : Path) (nodes : List Node) : Type 0 where
   pub tell : All (λ n. TellsOf (merged_at all (below path n.label)) frames n) nodes
-  pub whole : All (λ o. (l : Label) → o.path ≡ below path l → Contains (map (λ n. n.label) nodes) l) all
+  pub whole : All (λ o. (l : Label) → o.path ≡ below path l → Contains (map (λ n. n.label) nodes) l)
+      all
   pub order : IsRising (sibling_cmp (merged_at all) path) (map (λ n. n.label) nodes)
-  pub starts : IsLeastFeasible (map (λ n. sibling_of (merged_at all (below path n.label)) frames) nodes) (map (λ n. n.start) nodes)
+  pub starts : IsLeastFeasible
+      (map (λ n. sibling_of (merged_at all (below path n.label)) frames) nodes)
+      (map (λ n. n.start) nodes)
 
 -- the children of each node are such a row below the node's path
 abbrev pub AreBelow : List Occurrence → ℕ → Path → MergedForest → Type 0
 AreBelow all frames path no_node = Unit {0}
 AreBelow all frames path (merged n children others) =
-    IsRow all frames (below path n.label) (row children) × AreBelow all frames (below path n.label) children × AreBelow all frames path others
+    IsRow all frames (below path n.label) (row children)
+    × AreBelow all frames (below path n.label) children
+    × AreBelow all frames path others
 
 -- what the occurrences in so many frames are merged into
 pub record IsMerge (all : List Occurrence) (frames : ℕ) (f : MergedForest) : Type 0 where

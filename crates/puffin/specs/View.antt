@@ -30,7 +30,8 @@ pub record View : Type 0 where
 
 -- a view that has taken no frame
 abbrev pub empty_view : View
-empty_view = record { recent = []; slow = []; last = None; max_recent = 1000; max_slow = 256; packs = true }
+empty_view =
+    record { recent = []; slow = []; last = None; max_recent = 1000; max_slow = 256; packs = true }
 
 -- the view's frames are, by what they say, the last of cs and the slowest of ds
 pub record Holds (cs ds : List Said) (v : View) : Type 0 where
@@ -63,11 +64,25 @@ IsSteady v = AllByRecursion (λ f. IsUpTo v.last (index_of f)) v.slow
 
 -- the view as if it hadn't taken a frame
 abbrev pub emptied : View → View
-emptied v = record { recent = []; slow = []; last = None; max_recent = v.max_recent; max_slow = v.max_slow; packs = v.packs }
+emptied v = record {
+  recent = [];
+  slow = [];
+  last = None;
+  max_recent = v.max_recent;
+  max_slow = v.max_slow;
+  packs = v.packs;
+}
 
 -- the view with the frame of an index packed, in both lists
 abbrev pub with_packed : ℕ → View → View
-with_packed i v = record { recent = map (packed_under i) v.recent; slow = map (packed_under i) v.slow; last = v.last; max_recent = v.max_recent; max_slow = v.max_slow; packs = v.packs }
+with_packed i v = record {
+  recent = map (packed_under i) v.recent;
+  slow = map (packed_under i) v.slow;
+  last = v.last;
+  max_recent = v.max_recent;
+  max_slow = v.max_slow;
+  packs = v.packs;
+}
 
 -- the view with its newest frame packed
 abbrev pub with_newest_packed : View → View
@@ -84,7 +99,9 @@ ready_for v i = cond (is_past v i) (emptied v) (cond v.packs (with_newest_packed
 
 -- whether a frame comes among the k slowest: where there is room, or where it is longer than the last of them
 abbrev pub enters_among : ℕ → List Frame → Frame → Bool
-enters_among k slow f = nat_lt (length slow) k || option_map_or (λ g. int_lt (duration_of g) (duration_of f)) (last_in slow) false
+enters_among k slow f =
+    nat_lt (length slow) k || option_map_or (λ g. int_lt (duration_of g) (duration_of f))
+    (last_in slow) false
 
 -- the k slowest after one more: where it comes among them, they are cut after it is put in its place
 abbrev pub slow_after : ℕ → List Frame → Frame → List Frame
@@ -111,7 +128,8 @@ after_taking v f = joined_by (ready_for v (index_of f)) f
 -- what a view is that had no memory for a frame of an index: as it was, or with its newest frame packed, where it packs and
 -- that index is above the last one taken
 abbrev pub KeepsFrames : View → ℕ → View → Type 0
-KeepsFrames old i new = (new ≡ old) ⊎ ((is_past old i ≡ false) × (old.packs ≡ true) × (new ≡ with_newest_packed old))
+KeepsFrames old i new =
+    (new ≡ old) ⊎ ((is_past old i ≡ false) × (old.packs ≡ true) × (new ≡ with_newest_packed old))
 
 -- after frames that it took in order
 abbrev pub after_all : View → List Frame → View

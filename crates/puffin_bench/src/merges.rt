@@ -111,7 +111,7 @@ fn leaves(stream: &mut Stream, count: u32, mut now: i64) -> Result<i64> {
     Ok(now)
 }
 
-/// Merges the scopes of frames, and answers how many top scopes come of it.
+/// Merges the scopes of frames, and returns how many top scopes come of it.
 #[inline(never)]
 pub fn merged(
     alloc: Global,

@@ -136,7 +136,7 @@ impl Files {
         })
     }
 
-    /// Does one work, and answers with how many frames.
+    /// Does one work, and returns with how many frames.
     pub fn work(&mut self, alloc: Global, work: FileWork) -> std::result::Result<usize, FileError> {
         match work {
             FileWork::Write => written(&self.frames, &mut self.file),
@@ -177,7 +177,7 @@ fn read(alloc: Global, file: &[u8]) -> std::result::Result<Vec<FrameData>, FileE
     Ok(frames)
 }
 
-/// Reads and unpacks the frames of a file, and answers how many.
+/// Reads and unpacks the frames of a file, and returns how many.
 #[inline(never)]
 fn read_unpacked(alloc: Global, file: &[u8]) -> std::result::Result<usize, FileError> {
     let mut frames = read(alloc, file)?;

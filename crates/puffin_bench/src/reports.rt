@@ -49,7 +49,7 @@ fn nest(thread: &mut ThreadProfiler<ScriptClock>, id: ScopeId, text: &str) -> Re
     Ok(())
 }
 
-/// Profiles scopes, and answers how many.
+/// Profiles scopes, and returns how many.
 #[inline(never)]
 pub fn profiled(thread: &mut ThreadProfiler<ScriptClock>, text: &str) -> Result<usize> {
     if let Some(id) = ScopeId::new(1) {

@@ -83,7 +83,7 @@ fn row(stream: &mut Stream, id: ScopeId, text: &str, mut now: i64) -> Result<i64
     Ok(now)
 }
 
-/// Writes the scopes of a work into a stream, and answers how many there are.
+/// Writes the scopes of a work into a stream, and returns how many there are.
 #[inline(never)]
 pub fn written(stream: &mut Stream, work: &Work) -> Result<usize> {
     let mut now = 0;

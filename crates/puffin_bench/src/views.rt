@@ -119,7 +119,7 @@ impl ViewWork {
     }
 }
 
-/// Gives frames to a view, and answers how many.
+/// Gives frames to a view, and returns how many.
 #[inline(never)]
 pub fn added(view: &mut FrameView, frames: Vec<Arc<FrameData>>) -> Result<usize> {
     let count = frames.len();

@@ -22,11 +22,13 @@ IsOutside fault = (fault ≡ file.Io) ⊎ (fault ≡ file.Memory)
 
 -- the last write took nothing of a piece that wasn't empty
 abbrev pub TookNothing : {D : Type 0} → (D → List ℕ → ℕ → D → Type 0) → D → Type 0
-TookNothing {D = D} takes now = (before : D) × (piece : List ℕ) × (0 < length piece) × takes before piece 0 now
+TookNothing {D = D} takes now =
+    (before : D) × (piece : List ℕ) × (0 < length piece) × takes before piece 0 now
 
 -- a beginning of these bytes was written
 abbrev pub WritesBeginning : Option (List ℕ) → Option (List ℕ) → List ℕ → Type 0
-WritesBeginning old new bytes = (front rest : List ℕ) × (bytes ≡ front ++ rest) × Appends old new front
+WritesBeginning old new bytes =
+    (front rest : List ℕ) × (bytes ≡ front ++ rest) × Appends old new front
 
 -- at most so many bytes were taken, fewer only at the end
 pub record TookUpTo (old new : Option (List ℕ)) (n : ℕ) (taken : List ℕ) : Type 0 where
@@ -45,15 +47,23 @@ pub record IsFilled (old new : Option (List ℕ)) (before after : List ℕ) (at 
   pub ends : end < length after → IsAtEnd new
 
 -- A call that read a device failed, as the reading does of the bytes that it took, unless device or memory failed.
-abbrev pub FailsAt : {A : Type 0} → FileError → Option (List ℕ) → Option (List ℕ) → (List ℕ → Result (A × List ℕ) FileError) → Type 0
+abbrev pub FailsAt : {A : Type 0} → FileError → Option (List ℕ) → Option (List ℕ) →
+    (List ℕ → Result (A × List ℕ) FileError) → Type 0
 FailsAt file.Io old new read = Unit {0}
 FailsAt file.Memory old new read = Unit {0}
 -- the bytes end too early: all that the device had are read so
-FailsAt file.Truncated old new read = (taken : List ℕ) × Consumes old new taken × IsAtEnd new × (read taken ≡ Err file.Truncated)
+FailsAt file.Truncated old new read =
+    (taken : List ℕ) × Consumes old new taken × IsAtEnd new × (read taken ≡ Err file.Truncated)
 -- whatever follows
-FailsAt e old new read = (taken : List ℕ) × Consumes old new taken × ((rest : List ℕ) → read (taken ++ rest) ≡ Err e)
+FailsAt e old new read =
+    (taken : List ℕ) × Consumes old new taken × ((rest : List ℕ) → read (taken ++ rest) ≡ Err e)
 
 -- A call took bytes from a device, and what it returned, seen by view, is what the reading gives of them, whatever follows. Of a device whose bytes aren't known, some bytes are those.
-abbrev pub FromDevice : {X A : Type 0} → (X → A) → Option (List ℕ) → Option (List ℕ) → Result X FileError → (List ℕ → Result (A × List ℕ) FileError) → Type 0
-FromDevice view old new (Ok x) read = (taken : List ℕ) × Consumes old new taken × ((rest : List ℕ) → read (taken ++ rest) ≡ Ok (view x, rest)) × IsBytes taken
+abbrev pub FromDevice : {X A : Type 0} → (X → A) → Option (List ℕ) → Option (List ℕ) →
+    Result X FileError → (List ℕ → Result (A × List ℕ) FileError) → Type 0
+FromDevice view old new (Ok x) read =
+    (taken : List ℕ)
+    × Consumes old new taken
+    × ((rest : List ℕ) → read (taken ++ rest) ≡ Ok (view x, rest))
+    × IsBytes taken
 FromDevice view old new (Err e) read = FailsAt e old new read

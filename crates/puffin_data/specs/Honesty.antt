@@ -23,15 +23,26 @@ pub record Recorded : Type 0 where
   pub range_ns : ℤ × ℤ
 
 abbrev pub record_of : StreamInfo → Recorded
-record_of info = record { bytes = info.stream.bytes; num_scopes = info.num_scopes; depth = info.depth; range_ns = info.range_ns }
+record_of info = record {
+  bytes = info.stream.bytes;
+  num_scopes = info.num_scopes;
+  depth = info.depth;
+  range_ns = info.range_ns;
+}
 
 abbrev pub record_of_ref : StreamInfoRef → Recorded
-record_of_ref info = record { bytes = info.stream.now; num_scopes = info.num_scopes; depth = info.depth; range_ns = info.range_ns }
+record_of_ref info = record {
+  bytes = info.stream.now;
+  num_scopes = info.num_scopes;
+  depth = info.depth;
+  range_ns = info.range_ns;
+}
 
 -- the bytes spell the forest, and the other fields are its measures
 pub record IsHonestRecord (r : Recorded) (f : Forest) : Type 0 where
   pub stream : Spells r.bytes f
-  pub counts : Counts (record { num_scopes = r.num_scopes; depth = r.depth; range_ns = r.range_ns }) f
+  pub counts : Counts (record { num_scopes = r.num_scopes; depth = r.depth; range_ns = r.range_ns })
+      f
 
 abbrev pub IsHonest : StreamInfo → Forest → Type 0
 IsHonest info f = IsHonestRecord (record_of info) f

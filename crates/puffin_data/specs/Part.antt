@@ -5,7 +5,8 @@ use Rattle.puffin_data.specs.declared.file_error.FileError.{FileError}
 use Rattle.puffin_data.specs.declared.file_error.FileError.TheVariants as file
 
 infixl 10 ◌>>=◌
-abbrev pub ◌>>=◌ : {A B : Type 0} → Result A FileError → (A → Result B FileError) → Result B FileError
+abbrev pub ◌>>=◌ : {A B : Type 0} → Result A FileError → (A → Result B FileError) →
+    Result B FileError
 (Ok x) >>= f = f x
 (Err e) >>= f = Err e
 

@@ -45,7 +45,8 @@ pub record Place : Type 0 where
   pub at : ℕ
 
 -- what a reader gives next, and where it stands then: after a fault at the end of all bytes
-abbrev pub next_after : Place → Result (Option ReadScope) Error → Option (Result ReadScope Error) × ℕ
+abbrev pub next_after : Place → Result (Option ReadScope) Error →
+    Option (Result ReadScope Error) × ℕ
 next_after from (Ok None) = (None, from.at)
 next_after from (Ok (Some s)) = (Some (Ok s), s.next_sibling)
 next_after from (Err fault) = (Some (Err fault), length from.bytes)
@@ -56,8 +57,11 @@ next_read from = next_after from (scope_read from.bytes from.at (length from.byt
 -- All that a reader gives from place p on: the sound scopes one after the other, and behind them the fault where there is one.
 pub data ReaderGives (bytes : List ℕ) : ℕ → List (Result ReadScope Error) → Type 0 where
   ends : {p : ℕ} → scope_read bytes p (length bytes) ≡ Ok None → ReaderGives bytes p []
-  stops : {p : ℕ} {fault : Error} → scope_read bytes p (length bytes) ≡ Err fault → ReaderGives bytes p (Err fault ∷ [])
-  goes_on : {p : ℕ} {s : ReadScope} {later : List (Result ReadScope Error)} → scope_read bytes p (length bytes) ≡ Ok (Some s) → ReaderGives bytes s.next_sibling later → ReaderGives bytes p (Ok s ∷ later)
+  stops : {p : ℕ} {fault : Error} → scope_read bytes p (length bytes) ≡ Err fault →
+      ReaderGives bytes p (Err fault ∷ [])
+  goes_on : {p : ℕ} {s : ReadScope} {later : List (Result ReadScope Error)} →
+      scope_read bytes p (length bytes) ≡ Ok (Some s) → ReaderGives bytes s.next_sibling later →
+      ReaderGives bytes p (Ok s ∷ later)
 
 -- the top scopes of a forest whose spelling begins at place p
 abbrev pub top_scopes : ℕ → Forest → List ReadScope

@@ -20,8 +20,10 @@ IsSoundAt bytes p e s = reading (region bytes p e) ≡ Ok (Some s)
 -- The pairs of a place and its region's end that are reached from a pair: itself, and where a sound scope stands there, what is reached from its children and from its next sibling.
 pub data Reaches (bytes : List ℕ) : ℕ → ℕ → ℕ → ℕ → Type 0 where
   here : {p e : ℕ} → Reaches bytes p e p e
-  child : {p e q f : ℕ} {s : Found} → IsSoundAt bytes p e s → Reaches bytes (p + s.child_begin) (p + s.child_end) q f → Reaches bytes p e q f
-  sibling : {p e q f : ℕ} {s : Found} → IsSoundAt bytes p e s → Reaches bytes (p + s.next_sibling) e q f → Reaches bytes p e q f
+  child : {p e q f : ℕ} {s : Found} → IsSoundAt bytes p e s →
+      Reaches bytes (p + s.child_begin) (p + s.child_end) q f → Reaches bytes p e q f
+  sibling : {p e q f : ℕ} {s : Found} → IsSoundAt bytes p e s →
+      Reaches bytes (p + s.next_sibling) e q f → Reaches bytes p e q f
 
 -- a fault stands at p, in the region that ends at e
 abbrev pub IsFaultAt : List ℕ → ℕ → ℕ → Error → Type 0
@@ -32,7 +34,8 @@ pub record IsFirstFault (bytes : List ℕ) (place : ℕ) (fault : Error) : Type 
   pub end : ℕ
   pub reached : Reaches bytes 0 (length bytes) place end
   pub stands : IsFaultAt bytes place end fault
-  pub least : (p e : ℕ) (other : Error) → Reaches bytes 0 (length bytes) p e → IsFaultAt bytes p e other → place ≤ p
+  pub least : (p e : ℕ) (other : Error) → Reaches bytes 0 (length bytes) p e →
+      IsFaultAt bytes p e other → place ≤ p
 
 abbrev pub IsFault : List ℕ → Error → Type 0
 IsFault bytes fault = (place : ℕ) × IsFirstFault bytes place fault
@@ -40,7 +43,9 @@ IsFault bytes fault = (place : ℕ) × IsFirstFault bytes place fault
 -- The places of the sound scopes of a region, from p on: where one stands at p, p, then those of its children, then those from its next sibling on.
 pub data Sounds (bytes : List ℕ) : ℕ → ℕ → List ℕ → Type 0 where
   no_more : {p e : ℕ} → ((s : Found) → IsSoundAt bytes p e s → ⊥) → Sounds bytes p e []
-  one_more : {p e : ℕ} {s : Found} {inner later : List ℕ} → IsSoundAt bytes p e s → Sounds bytes (p + s.child_begin) (p + s.child_end) inner → Sounds bytes (p + s.next_sibling) e later → Sounds bytes p e (p ∷ (inner ++ later))
+  one_more : {p e : ℕ} {s : Found} {inner later : List ℕ} → IsSoundAt bytes p e s →
+      Sounds bytes (p + s.child_begin) (p + s.child_end) inner →
+      Sounds bytes (p + s.next_sibling) e later → Sounds bytes p e (p ∷ (inner ++ later))
 
 -- The bytes are refused with their first fault. The tries are the sound scopes before it, and one more where a scope begins at the fault.
 pub record Refuses (bytes : List ℕ) (fault : Error) (tries : ℕ) : Type 0 where

@@ -11,7 +11,7 @@ pub type NanoSecond = i64;
 /// The number of a frame, counted from 0.
 pub type FrameIndex = u64;
 
-/// What a call of this crate and of those above it answers.
+/// What a call of this crate and of those above it returns.
 pub type Result<T> = std::result::Result<T, Error>;
 
 /// Why a call was refused. Its text is its name.

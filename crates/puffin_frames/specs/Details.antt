@@ -61,7 +61,8 @@ location_of d = if d.line_nr == 0 then d.file_path else d.file_path ++ (58 ∷ d
 
 -- no id and no scope name, no text, and line 0
 abbrev pub default_details : Details
-default_details = record { id = None; scope_name = None; function_name = []; file_path = []; line_nr = 0 }
+default_details =
+    record { id = None; scope_name = None; function_name = []; file_path = []; line_nr = 0 }
 
 abbrev pub with_id : Details → ℕ → Details
 with_id d id = record d { id = Some id }

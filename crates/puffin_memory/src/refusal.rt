@@ -27,7 +27,7 @@ impl Refusal for FileError {
     }
 }
 
-/// What a call answers, made once more where memory was refused; `None` where it is refused then, or for another cause.
+/// What a call returns, made once more where memory was refused; `None` where it is refused then, or for another cause.
 #[macro_export]
 macro_rules! again {
     ($call:expr) => {

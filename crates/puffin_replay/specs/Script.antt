@@ -38,7 +38,8 @@ onto first (Ok later) = Ok (first ∷ later)
 onto first (Err wrong) = Err wrong
 
 -- what a line says, before what the later ones say
-abbrev pub with_first : ℕ → Result (Option Meaning) ℕ → Result (List (ℕ × Meaning)) ℕ → Result (List (ℕ × Meaning)) ℕ
+abbrev pub with_first : ℕ → Result (Option Meaning) ℕ → Result (List (ℕ × Meaning)) ℕ →
+    Result (List (ℕ × Meaning)) ℕ
 with_first number (Err wrong) later = Err wrong
 with_first number (Ok None) later = later
 with_first number (Ok (Some s)) later = onto (number, s) later
@@ -46,7 +47,8 @@ with_first number (Ok (Some s)) later = onto (number, s) later
 -- what the lines from this number on say, in order, each with its number; or the number of the first that says nothing that is known
 abbrev pub statements_from : ℕ → List (List ℕ) → Result (List (ℕ × Meaning)) ℕ
 statements_from number [] = Ok []
-statements_from number (line ∷ lines) = with_first number (told_by number line) (statements_from (number + 1) lines)
+statements_from number (line ∷ lines) =
+    with_first number (told_by number line) (statements_from (number + 1) lines)
 
 -- ---- threads
 
@@ -80,10 +82,15 @@ user_said _ = None
 
 -- what a command says, where threads have these names
 abbrev pub command_said : List (List ℕ) → Command → Option Meaning
-command_said names (command.Begin thread at id text) = option_map (λ t. begins t at id (string_bytes text)) (slice_get names thread)
+command_said names (command.Begin thread at id text) =
+    option_map (λ t. begins t at id (string_bytes text)) (slice_get names thread)
 command_said names (command.End thread at back) = if back == 0 then option_map (λ t. ends t at) (slice_get names thread) else None
 command_said names (command.Register thread name function file line) =
-    option_map (λ t. registers t (option_map string_bytes name) (string_bytes function) (string_bytes file) line) (slice_get names thread)
+    option_map
+    (λ t.
+    registers t (option_map string_bytes name) (string_bytes function) (string_bytes file)
+    line)
+    (slice_get names thread)
 command_said names (command.RegisterUser users) = user_said (map string_bytes users.items)
 command_said names (command.ReportUser info stream) = None
 command_said names command.Snapshot = Some tells_all
@@ -95,8 +102,10 @@ pub record IsScript (bytes : List ℕ) (script : Script) : Type 0 where
   pub told : statements_from 1 (lines_in bytes) ≡ Ok statements
   pub lines : script.lines.items ≡ map (λ s. s.0) statements
   pub names : map string_bytes script.names.items ≡ threads_after [] statements
-  pub commands : map (command_said (map string_bytes script.names.items)) script.commands.items ≡ map (λ s. Some s.1) statements
+  pub commands : map (command_said (map string_bytes script.names.items)) script.commands.items
+      ≡ map (λ s. Some s.1) statements
 
 -- the fault is the number of the first line that says nothing that is known
 abbrev pub IsLineFault : List ℕ → ToolFault → Type 0
-IsLineFault bytes told = (number : ℕ) × (told ≡ fault.Line number) × (statements_from 1 (lines_in bytes) ≡ Err number)
+IsLineFault bytes told =
+    (number : ℕ) × (told ≡ fault.Line number) × (statements_from 1 (lines_in bytes) ≡ Err number)

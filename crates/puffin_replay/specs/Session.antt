@@ -32,7 +32,15 @@ abbrev pub named : List ℕ → Thread
 named name = record { name = name; first_start = None; latest = pos 0; word = []; details = [] }
 
 abbrev pub nothing_collected : Collected
-nothing_collected = record { index = 0; reported = 0; emitted = 0; streams = empty; collection = no_details; new_details = []; wants_all = false }
+nothing_collected = record {
+  index = 0;
+  reported = 0;
+  emitted = 0;
+  streams = empty;
+  collection = no_details;
+  new_details = [];
+  wants_all = false;
+}
 
 -- with these threads, before any command
 abbrev pub new_session : List (List ℕ) → SessionState
@@ -68,7 +76,13 @@ SpellsDue streams ds = (i : Info) → SpellsIfAny (get streams i) (total_under d
 
 -- a thread after these actions
 abbrev pub thread_after : Opening → List Action → ℕ → Thread
-thread_after o done t = record { name = (thread_at o t).name; first_start = first_start_of o t done; latest = latest_of o t done; word = unreported o t done; details = details_registered o t done }
+thread_after o done t = record {
+  name = (thread_at o t).name;
+  first_start = first_start_of o t done;
+  latest = latest_of o t done;
+  word = unreported o t done;
+  details = details_registered o t done;
+}
 
 -- what is known of scopes, what of them is new in the next frame, and whether that is to tell of all
 pub record TellsAfter (o : Opening) (done : List Action) (now : Collected) : Type 0 where
@@ -79,7 +93,8 @@ pub record TellsAfter (o : Opening) (done : List Action) (now : Collected) : Typ
 -- Nothing is lost, doubled or changed: each thread holds its unreported word and details, what is collected spells just what is due, and the new details are just those that are due.
 pub record StandsAfter (o : Opening) (done : List Action) (now : SessionState) : Type 0 where
   pub num_threads : length now.threads ≡ length o.threads
-  pub threads : (t : ℕ) → t < length o.threads → slice_index_or now.threads t nobody ≡ thread_after o done t
+  pub threads : (t : ℕ) → t < length o.threads →
+      slice_index_or now.threads t nobody ≡ thread_after o done t
   pub collected : SpellsDue now.collected.streams (due o done)
   pub index : now.collected.index ≡ index_after o done
   pub reported : now.collected.reported ≡ reported_after o done

@@ -108,7 +108,7 @@ pub(crate) fn device<'a>(
     }
 }
 
-/// What counting some bytes answers, and what it writes.
+/// What counting some bytes returns, and what it writes.
 fn counted(rt: &HostRuntime, bytes: &[u8]) -> (Result<Option<Error>, FileError>, Vec<u8>) {
     let mut source = device(rt, bytes, 3, NEVER);
     let mut drain = device(rt, b"", 1, NEVER);

@@ -94,7 +94,7 @@ fn a_kept_report_is_told_with_its_line(rt: HostRuntime) -> Outcome<()> {
     Ok(())
 }
 
-/// Records one frame into a view, and answers the file.
+/// Records one frame into a view, and returns the file.
 fn recorded(rt: &HostRuntime, view: &mut FrameView) -> Outcome<Vec<u8>> {
     let mut drain = device(rt, b"", 1000, NEVER);
     let commands = one_frame(rt)?;

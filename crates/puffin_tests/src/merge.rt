@@ -17,7 +17,7 @@ pub(crate) type Frames = Vec<Arc<UnpackedFrameData>>;
 /// Id, start, total, per frame, greatest, pieces.
 type Numbers = (u32, NanoSecond, NanoSecond, NanoSecond, NanoSecond, usize);
 
-/// Begins a scope, and answers where its size stands.
+/// Begins a scope, and returns where its size stands.
 pub(crate) fn begin(stream: &mut Stream, id: u32, start: NanoSecond, text: &str) -> Result<usize> {
     match ScopeId::new(id) {
         None => Err(Error::PrematureEnd),

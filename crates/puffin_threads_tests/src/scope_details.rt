@@ -157,7 +157,7 @@ fn a_copy_of_a_collection(rt: HostRuntime) -> Outcome {
     Ok(())
 }
 
-/// Inserts a named scope, and answers the number of the details that are kept.
+/// Inserts a named scope, and returns the number of the details that are kept.
 fn number_kept(
     scopes: &mut ScopeCollection,
     alloc: Global,

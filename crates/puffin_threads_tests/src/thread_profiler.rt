@@ -129,12 +129,12 @@ impl Rig {
         );
     }
 
-    /// What ending a scope answers is as expected.
+    /// What ending a scope returns is as expected.
     fn ends(&mut self, rt: &impl Abort, offset: usize, expected: Result<Closed>) {
         assert_eq!(rt; self.end(offset), expected, "offset {offset}");
     }
 
-    /// What reporting closed scopes answers is as expected.
+    /// What reporting closed scopes returns is as expected.
     fn reports(&mut self, rt: &impl Abort, expected: Result<bool>) {
         assert_eq!(rt; self.report_closed(), expected);
     }

@@ -27,7 +27,8 @@ pub record Fits (done : List Occurrence) (o : Occurrence) : Type 0 where
 
 -- one more occurrence that is refused: the first that stands within 1,024 others, or one whose numbers don't fit
 abbrev pub IsRefusedFor : List Occurrence → Occurrence → Error → Type 0
-IsRefusedFor done o e = ((length o.path ≡ 1025) × (e ≡ TooDeep)) ⊎ (IsShallow o × (Fits done o → ⊥) × (e ≡ TooLarge))
+IsRefusedFor done o e =
+    ((length o.path ≡ 1025) × (e ≡ TooDeep)) ⊎ (IsShallow o × (Fits done o → ⊥) × (e ≡ TooLarge))
 
 -- after some occurrences, each of these in turn is accepted
 abbrev pub AreAccepted : List Occurrence → List Occurrence → Type 0
@@ -39,17 +40,33 @@ pub data IsFrameRefusal (done : List Occurrence) (origin : ℤ) (bytes : List �
   -- the first fault of the bytes, where all sound scopes before it are accepted: one try for each of these, and one more where a scope begins at the fault
   faulty : {place : ℕ} {fault : Error} {sights : List Sight} → IsFirstFault bytes place fault → Sees bytes [] 0 (length bytes) sights → AreAccepted done (occurrences_in origin (scopes_of (before place sights))) → IsFrameRefusal done origin bytes (length (before place sights) + (if slice_index bytes place == 40 then 1 else 0)) fault
   -- a sound scope before any fault, the first that isn't accepted: one try for each before it, and one for it
-  refused : (earlier later : List Sight) (s : Sight) {refusal : Error} → Sees bytes [] 0 (length bytes) (earlier ++ (s ∷ later)) → AreAccepted done (occurrences_in origin (scopes_of earlier)) → IsRefusedFor (done ++ occurrences_in origin (scopes_of earlier)) (occurrence_of origin s.scope) refusal → ((p e : ℕ) (fault : Error) → Reaches bytes 0 (length bytes) p e → IsFaultAt bytes p e fault → s.place ≤ p) → IsFrameRefusal done origin bytes (length earlier + 1) refusal
+  refused : (earlier later : List Sight) (s : Sight) {refusal : Error} →
+      Sees bytes [] 0 (length bytes) (earlier ++ (s ∷ later)) →
+      AreAccepted done (occurrences_in origin (scopes_of earlier)) →
+      IsRefusedFor (done ++ occurrences_in origin (scopes_of earlier))
+      (occurrence_of origin s.scope) refusal →
+      ((p e : ℕ) (fault : Error) → Reaches bytes 0 (length bytes) p e → IsFaultAt bytes p e fault →
+      s.place ≤ p) →
+      IsFrameRefusal done origin bytes (length earlier + 1) refusal
 
 -- each node ends at a time that fits
 abbrev pub EndsFit : MergedForest → Type 0
 EndsFit no_node = Unit {0}
-EndsFit (merged n children others) = FitsSigned w64 (n.start +ℤ n.per_frame) × EndsFit children × EndsFit others
+EndsFit (merged n children others) =
+    FitsSigned w64 (n.start +ℤ n.per_frame) × EndsFit children × EndsFit others
 
 -- What merging is refused with after so many tries: that of the first frame that is refused, after one try for each scope of the frames before it and the frame's own; or, where none is, an end that doesn't fit, after one try for each scope.
 pub data IsRefusalAfter (frames : List FrameBytes) : ℕ → Error → Type 0 where
-  in_frame : (earlier later : List FrameBytes) (frame : FrameBytes) (scopes : List FrameScopes) {tries : ℕ} {refusal : Error} → frames ≡ earlier ++ (frame ∷ later) → HaveScopes earlier scopes → AreAccepted [] (occurrences_from (start_of frames) scopes) → IsFrameRefusal (occurrences_from (start_of frames) scopes) (frame.start -ℤ start_of frames) (bytes_of frame) tries refusal → IsRefusalAfter frames (length (occurrences_from (start_of frames) scopes) + tries) refusal
-  at_end : (scopes : List FrameScopes) (f : MergedForest) → HaveScopes frames scopes → AreAccepted [] (occurrences scopes) → IsMerge (occurrences scopes) (length frames) f → (EndsFit f → ⊥) → IsRefusalAfter frames (length (occurrences scopes)) TooLarge
+  in_frame : (earlier later : List FrameBytes) (frame : FrameBytes) (scopes : List FrameScopes)
+      {tries : ℕ} {refusal : Error} →
+      frames ≡ earlier ++ (frame ∷ later) → HaveScopes earlier scopes →
+      AreAccepted [] (occurrences_from (start_of frames) scopes) →
+      IsFrameRefusal (occurrences_from (start_of frames) scopes) (frame.start -ℤ start_of frames)
+      (bytes_of frame) tries refusal →
+      IsRefusalAfter frames (length (occurrences_from (start_of frames) scopes) + tries) refusal
+  at_end : (scopes : List FrameScopes) (f : MergedForest) → HaveScopes frames scopes →
+      AreAccepted [] (occurrences scopes) → IsMerge (occurrences scopes) (length frames) f →
+      (EndsFit f → ⊥) → IsRefusalAfter frames (length (occurrences scopes)) TooLarge
 
 -- what merging is refused with
 abbrev pub IsMergeRefusal : List FrameBytes → Error → Type 0

@@ -27,7 +27,15 @@ frames_bytes info frames = map (λ held. frame_bytes info (arc_value held)) fram
 abbrev mutual
   pub scope_then : MergeScope → MergedForest → MergedForest
   scope_then (MergeScope' start total per_frame greatest pieces id text shape children) others =
-      merged (record { label = record { id = id; text = cow_str_bytes text }; start = start; total = total; per_frame = per_frame; greatest = greatest; pieces = pieces })
+      merged (
+      record {
+        label = record { id = id; text = cow_str_bytes text };
+        start = start;
+        total = total;
+        per_frame = per_frame;
+        greatest = greatest;
+        pieces = pieces;
+      })
       (children_in children) others
 
   pub children_in : {m : _} → Row_of-MergeScope m → MergedForest

@@ -19,7 +19,8 @@ use Rattle.puffin.specs.Profiler.State.{Collected, range_with, delta_of, after_f
 pub record HoldsAll (c : Collected) (frame : FrameData) : Type 0 where
   pub held : holding_of frame ≡ record { packed = None; unpacked = Some c.streams }
   pub meta : frame_meta frame ≡ meta_of c.index (map.values c.streams)
-  pub delta : shared_details frame.scope_delta.items ≡ delta_of c.collection c.new_details c.wants_all
+  pub delta : shared_details frame.scope_delta.items
+      ≡ delta_of c.collection c.new_details c.wants_all
   pub full : frame.full_delta ≡ c.wants_all
 
 -- no stream has a scope
@@ -28,7 +29,10 @@ HaveNoScopes streams = (i : Info) (r : Recorded) → map.get streams i ≡ Some 
 
 -- a frame is handed out exactly where a scope is pending; without one the index alone rises
 abbrev pub Collects : {A : Type 0} → Collected → Option (Arc FrameData A) → Collected → Type 0
-Collects old (Some frame) new = HoldsAll old (arc_value frame) × (0 < total_scopes (map.values old.streams)) × (new ≡ after_frame old)
+Collects old (Some frame) new =
+    HoldsAll old (arc_value frame)
+    × (0 < total_scopes (map.values old.streams))
+    × (new ≡ after_frame old)
 Collects old None new = HaveNoScopes old.streams × (new ≡ after_no_frame old)
 
 -- the frame, if there is one, tells of details with ids alone
@@ -42,7 +46,8 @@ Begins some all = (rest : List Details) × (all ≡ some ++ rest)
 
 -- a beginning of details is learnt
 abbrev pub LearnsSome : Collection → List Details → Collection → Type 0
-LearnsSome old ds new = (learnt : List Details) × Begins learnt ds × (new ≡ with_all_details old learnt)
+LearnsSome old ds new =
+    (learnt : List Details) × Begins learnt ds × (new ≡ with_all_details old learnt)
 
 -- A refused call keeps all that is pending, but a beginning of the new details may be known then.
 abbrev pub KeepsPending : Collected → Error → Collected → Type 0

@@ -31,7 +31,13 @@ RegistersSome collection asked e new = (part rest : List Details) × (ids : List
 
 -- what a call makes of what is collected, and what one that is refused leaves
 abbrev pub Adds : Collected → List Details → List ℕ → Collected → Type 0
-Adds old asked ids new = (added : List Details) × Registers old.collection asked ids added × (new ≡ after_adding old added)
+Adds old asked ids new =
+    (added : List Details)
+    × Registers old.collection asked ids added
+    × (new ≡ after_adding old added)
 
 abbrev pub AddsSome : Collected → List Details → Error → Collected → Type 0
-AddsSome old asked e new = (added : List Details) × RegistersSome old.collection asked e added × (new ≡ after_adding old added)
+AddsSome old asked e new =
+    (added : List Details)
+    × RegistersSome old.collection asked e added
+    × (new ≡ after_adding old added)

@@ -34,7 +34,11 @@ collected_code =
 -- ---- reports
 
 abbrev pub after_report : Collected → Info → List Details → Recorded → Collected
-after_report c i ds r = record c { reported = c.reported + r.num_scopes; streams = reported_to c.streams i r; new_details = c.new_details ++ ds }
+after_report c i ds r = record c {
+  reported = c.reported + r.num_scopes;
+  streams = reported_to c.streams i r;
+  new_details = c.new_details ++ ds;
+}
 
 -- what is pending, with one info more, has sums of 64 bits
 pub record PendingFits (c : Collected) (r : Recorded) : Type 0 where
@@ -60,7 +64,11 @@ IsReportRefusal c ds r e =
 
 -- what a call of `report` that isn't refused makes of it, and what one that is refused leaves
 abbrev pub AcceptsReport : Collected → Info → List Details → Recorded → Collected → Type 0
-AcceptsReport old i ds r new = (new ≡ after_report old i ds r) × AllHaveIds ds × PendingFits old r × ¬ IsTooLong (range_with old r)
+AcceptsReport old i ds r new =
+    (new ≡ after_report old i ds r)
+    × AllHaveIds ds
+    × PendingFits old r
+    × ¬ IsTooLong (range_with old r)
 
 abbrev pub RefusesReport : Collected → Info → List Details → Recorded → Error → Collected → Type 0
 RefusesReport old i ds r e new = IsReportRefusal old ds r e × (new ≡ old)
@@ -77,7 +85,14 @@ delta_of collection new wanted = new ++ (if wanted then all_details collection e
 
 -- after a frame that held all that was pending, and after a call that found no scope
 abbrev pub after_frame : Collected → Collected
-after_frame c = record c { index = c.index + 1; emitted = c.reported; streams = map.empty; collection = with_all_details c.collection c.new_details; new_details = []; wants_all = false }
+after_frame c = record c {
+  index = c.index + 1;
+  emitted = c.reported;
+  streams = map.empty;
+  collection = with_all_details c.collection c.new_details;
+  new_details = [];
+  wants_all = false;
+}
 
 abbrev pub after_no_frame : Collected → Collected
 after_no_frame c = record c { index = c.index + 1 }
@@ -93,4 +108,5 @@ after_wanting c = record c { wants_all = true }
 
 -- after these details were learnt, which are new in the next frame
 abbrev pub after_adding : Collected → List Details → Collected
-after_adding c new = record c { collection = with_all_details c.collection new; new_details = c.new_details ++ new }
+after_adding c new =
+    record c { collection = with_all_details c.collection new; new_details = c.new_details ++ new }

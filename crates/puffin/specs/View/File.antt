@@ -40,12 +40,14 @@ contents_in v = map contents_of (all_uniq v)
 
 -- what a frame says that was written at first: it has no details
 abbrev pub said_at_first : Legacy → Said
-said_at_first l = record { meta = l.meta; kind = 0; streams = streams_layout l.streams; details = [] }
+said_at_first l =
+    record { meta = l.meta; kind = 0; streams = streams_layout l.streams; details = [] }
 
 -- a frame that was read, as a view sees it
 abbrev pub frame_stored : Stored → Frame
 frame_stored (packed p) = record { contents = p; is_unpacked = false; is_packed = true }
-frame_stored (legacy l) = record { contents = said_at_first l; is_unpacked = true; is_packed = false }
+frame_stored (legacy l) =
+    record { contents = said_at_first l; is_unpacked = true; is_packed = false }
 
 -- the details that it tells
 abbrev pub details_stored : Stored → List Details
@@ -56,7 +58,8 @@ abbrev pub with_ids : Stored → Result Stored FileError
 with_ids s = if lacks_ids (contents_of (frame_stored s)) then Err (file.Refused MissingId) else Ok s
 
 -- the frames from one on, where there is one
-abbrev pub frames_from : (List ℕ → Result (List Stored × List ℕ) FileError) → Option Stored → List ℕ → Result (List Stored × List ℕ) FileError
+abbrev pub frames_from : (List ℕ → Result (List Stored × List ℕ) FileError) → Option Stored →
+    List ℕ → Result (List Stored × List ℕ) FileError
 frames_from read None rest = Ok ([], rest)
 frames_from read (Some s) rest = do
   frame ← with_ids s
@@ -75,7 +78,9 @@ unfoldable pub most_packets : ℕ
 most_packets = 2 ^ 64 - 1
 
 abbrev pub begins_file : List ℕ → Bool
-begins_file bytes = (slice_index bytes 0 == 80) && (slice_index bytes 1 == 85) && (slice_index bytes 2 == 70) && (slice_index bytes 3 == 48)
+begins_file bytes =
+    (slice_index bytes 0 == 80) && (slice_index bytes 1 == 85) && (slice_index bytes 2 == 70) &&
+    (slice_index bytes 3 == 48)
 
 -- the frames of a file, and the bytes after it
 abbrev pub file_at : List ℕ → Result (List Stored × List ℕ) FileError
@@ -120,6 +125,8 @@ pub record IsViewOf (stored : List Stored) (v : FrameView) : Type 0 where
   pub details : collection_of v ≡ with_all_details no_details (flat_map details_stored stored)
 
 -- A call read a view from a device: it is the view of the frames that were taken.
-abbrev pub ReadsView : FramesReading → Option (List ℕ) → Option (List ℕ) → Result FrameView FileError → Type 0
-ReadsView read old new (Ok view) = (frames : List Stored) × TookFrames read old new frames × IsViewOf frames view
+abbrev pub ReadsView : FramesReading → Option (List ℕ) → Option (List ℕ) →
+    Result FrameView FileError → Type 0
+ReadsView read old new (Ok view) =
+    (frames : List Stored) × TookFrames read old new frames × IsViewOf frames view
 ReadsView read old new (Err fault) = FailsToRead read old new fault

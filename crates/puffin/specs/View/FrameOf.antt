@@ -9,7 +9,11 @@ use Rattle.puffin_frames.specs.Details.{Details}
 use Rattle.puffin.specs.View.ViewedFrames.{Frame}
 
 abbrev pub frame_of : FrameData → Frame
-frame_of f = record { contents = frame_says f; is_unpacked = is_some (holding_of f).unpacked; is_packed = is_some (holding_of f).packed }
+frame_of f = record {
+  contents = frame_says f;
+  is_unpacked = is_some (holding_of f).unpacked;
+  is_packed = is_some (holding_of f).packed;
+}
 
 abbrev pub shared_frame : {A : Type 0} → Arc FrameData A → Frame
 shared_frame arc = frame_of (arc_value arc)

@@ -17,4 +17,5 @@ abbrev pub all_left : AllFrames → List Frame
 all_left s = map shared_frame s.rest
 
 abbrev pub slowest_left : SlowestFrames → List Frame
-slowest_left s = filter (λ f. has (index_of f) (map rank_index s.slow.now)) (map shared_frame s.rest)
+slowest_left s =
+    filter (λ f. has (index_of f) (map rank_index s.slow.now)) (map shared_frame s.rest)

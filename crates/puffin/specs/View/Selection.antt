@@ -21,11 +21,16 @@ ranks_from k (f ∷ fs) = rank_at k f ∷ ranks_from (suc k) fs
 
 -- by falling duration, then rising index, then place
 abbrev pub slower_rank : Rank → Rank → Bool
-slower_rank a b = is_lt (ordering_then (int_cmp b.duration a.duration) (ordering_then (nat_cmp a.index b.index) (nat_cmp a.place b.place)))
+slower_rank a b =
+    is_lt (
+    ordering_then (int_cmp b.duration a.duration) (
+    ordering_then (nat_cmp a.index b.index) (nat_cmp a.place b.place)))
 
 -- by rising index, then place (no two have one place)
 abbrev pub older_cmp : Rank → Rank → Ordering
-older_cmp = then_cmp (on (λ r. r.index) nat_cmp) (then_cmp (on (λ r. r.place) nat_cmp) (on (λ r. r.duration) int_cmp))
+older_cmp =
+    then_cmp (on (λ r. r.index) nat_cmp) (
+    then_cmp (on (λ r. r.place) nat_cmp) (on (λ r. r.duration) int_cmp))
 
 abbrev pub older_rank : Rank → Rank → Bool
 older_rank a b = is_lt (older_cmp a b)

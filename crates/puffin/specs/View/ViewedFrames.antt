@@ -66,7 +66,11 @@ packed_under i f = cond (nat_eq (index_of f) i) (packed_alone f) f
 
 -- how many bytes a frame takes, as it is held
 abbrev pub ram_of : Frame → ℕ
-ram_of f = min (cond f.is_unpacked f.contents.meta.num_bytes 0 + cond f.is_packed (length f.contents.streams) 0) (2 ^ 64 - 1)
+ram_of f =
+    min
+    (cond f.is_unpacked f.contents.meta.num_bytes 0
+    + cond f.is_packed (length f.contents.streams) 0)
+    (2 ^ 64 - 1)
 
 -- frames by their indices, the first at each
 abbrev pub frames_by_index : List Frame → map.FinMap nat_cmp Frame

@@ -178,7 +178,7 @@ impl Collector {
         self.report(info, &[], times)
     }
 
-    /// Registers scopes of the caller's own by their names, and answers an id for each. A name that is known gives its id;
+    /// Registers scopes of the caller's own by their names, and returns an id for each. A name that is known gives its id;
     /// other details are known from now on, and new in the next frame, under a newly drawn id in place of the one they had.
     ///
     /// Refused with `IdsExhausted` or `Memory`: a beginning of the list is registered then, and an id may be used up.

@@ -124,7 +124,7 @@ impl GlobalProfiler {
         self.collector.collect_frame()
     }
 
-    /// The same, as [`Collector::collect_frame`] answers it, for the sinks too. There are none yet.
+    /// The same, as [`Collector::collect_frame`] returns it, for the sinks too. There are none yet.
     pub fn new_frame(&mut self) -> Result<Emitted>
         ensures ok { IfOk result (λ emitted.
             Collects (collected_of self.old) emitted.frame (collected_of self.new)) }

@@ -16,9 +16,11 @@ height (node s children others) = max (1 + height children) (height others)
 -- the least start of all scopes, and i64's greatest number where there is none
 abbrev pub least_start : Forest → ℤ
 least_start empty = pos (2 ^ 63 - 1)
-least_start (node s children others) = int_min s.start (int_min (least_start children) (least_start others))
+least_start (node s children others) =
+    int_min s.start (int_min (least_start children) (least_start others))
 
 -- the greatest stop of all scopes, and i64's least number where there is none
 abbrev pub greatest_stop : Forest → ℤ
 greatest_stop empty = negsuc (2 ^ 63 - 1)
-greatest_stop (node s children others) = int_max s.stop (int_max (greatest_stop children) (greatest_stop others))
+greatest_stop (node s children others) =
+    int_max s.stop (int_max (greatest_stop children) (greatest_stop others))

@@ -10,7 +10,8 @@ use Rattle.puffin_data.specs.Forest.Tour.{Event, Open, tour}
 -- the bytes after the end of a scope whose size stands at this place: the number of bytes after the size is written over it, and the end behind all
 abbrev pub ended_bytes : (bytes : List ℕ) → (place : ℕ) → (stop : ℤ) → List ℕ
 ended_bytes bytes place stop =
-    (take place bytes ++ (little_bytes 8 (length bytes - (place + 8)) ++ drop (place + 8) bytes)) ++ end_bytes stop
+    (take place bytes ++ (little_bytes 8 (length bytes - (place + 8)) ++ drop (place + 8) bytes))
+    ++ end_bytes stop
 
 -- an open scope, and the closed scopes that stand before it beside it
 pub record Opened : Type 0 where
@@ -22,7 +23,8 @@ pub record Opened : Type 0 where
 -- The bytes up to the children of the innermost open scope, which stands first in the list. Their sizes are unfinished.
 abbrev pub opening_bytes : List Opened → List ℕ
 opening_bytes [] = []
-opening_bytes (o ∷ outer) = opening_bytes outer ++ (spelling o.before ++ begin_bytes o.id o.start o.text (2 ^ 64 - 1))
+opening_bytes (o ∷ outer) =
+    opening_bytes outer ++ (spelling o.before ++ begin_bytes o.id o.start o.text (2 ^ 64 - 1))
 
 -- the bytes of a stream with these open scopes, and what is closed in the innermost of them
 abbrev pub open_spelling : List Opened → Forest → List ℕ
@@ -30,12 +32,14 @@ open_spelling opened closed = opening_bytes opened ++ spelling closed
 
 -- where the size of the innermost open scope stands
 abbrev pub size_place : Opened → List Opened → ℕ
-size_place o outer = length (opening_bytes outer ++ spelling o.before) + (front_size + length o.text)
+size_place o outer =
+    length (opening_bytes outer ++ spelling o.before) + (front_size + length o.text)
 
 -- the closed scopes that then stand beside an open scope that ends, itself the last: closed are those within it
 abbrev pub with_ended : Opened → (closed : Forest) → (stop : ℤ) → Forest
 with_ended o closed stop =
-    append o.before (node (record { id = o.id; start = o.start; stop = stop; text = o.text }) closed empty)
+    append o.before (
+    node (record { id = o.id; start = o.start; stop = stop; text = o.text }) closed empty)
 
 -- the events up to the children of the innermost open scope
 abbrev pub opening_word : List Opened → List Event

@@ -33,7 +33,9 @@ text_layout text = length text ∷ text
 
 -- what stands before a scope's children: `(`, id, start, the text, and the number of bytes of the children
 unfoldable pub begin_bytes : (id : ℕ) → (start : ℤ) → (text : List ℕ) → (size : ℕ) → List ℕ
-begin_bytes id start text size = begin_mark ∷ (little_bytes 4 id ++ (time_bytes start ++ (text_layout text ++ little_bytes 8 size)))
+begin_bytes id start text size =
+    begin_mark
+    ∷ (little_bytes 4 id ++ (time_bytes start ++ (text_layout text ++ little_bytes 8 size)))
 
 -- what stands after them: `)` and stop
 unfoldable pub end_bytes : (stop : ℤ) → List ℕ
@@ -42,7 +44,8 @@ end_bytes stop = end_mark ∷ time_bytes stop
 abbrev pub spelling : Forest → List ℕ
 spelling empty = []
 spelling (node s children others) =
-    begin_bytes s.id s.start s.text (length (spelling children)) ++ (spelling children ++ (end_bytes s.stop ++ spelling others))
+    begin_bytes s.id s.start s.text (length (spelling children))
+    ++ (spelling children ++ (end_bytes s.stop ++ spelling others))
 
 -- the bytes spell the forest
 pub record Spells (bytes : List ℕ) (f : Forest) : Type 0 where

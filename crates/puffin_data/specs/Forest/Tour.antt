@@ -10,7 +10,8 @@ pub data Event : Type 0 where
 -- the events of a forest, in order
 abbrev pub tour : Forest → List Event
 tour empty = []
-tour (node s children others) = Open s.id s.text s.start ∷ (tour children ++ (Close s.stop ∷ tour others))
+tour (node s children others) =
+    Open s.id s.text s.start ∷ (tour children ++ (Close s.stop ∷ tour others))
 
 -- each scope that opens closes, the inner before the outer: the word is the tour of a forest
 abbrev pub IsBalanced : List Event → Type 0

@@ -46,4 +46,6 @@ ReadsScopes from scopes = ReaderGives from.bytes from.at (map (λ s. Ok s) (map 
 
 -- some scopes are read from a place on, and then this fault
 abbrev pub ReadsFault : Place → Error → Type 0
-ReadsFault from fault = (scopes : List ReadScope) × ReaderGives from.bytes from.at (map (λ s. Ok s) scopes ++ (Err fault ∷ []))
+ReadsFault from fault =
+    (scopes : List ReadScope)
+    × ReaderGives from.bytes from.at (map (λ s. Ok s) scopes ++ (Err fault ∷ []))

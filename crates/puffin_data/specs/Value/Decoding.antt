@@ -10,13 +10,15 @@ abbrev pub ◌>>=◌ : {A B : Type 0} → Option A → (A → Option B) → Opti
 None >>= f = None
 
 -- what a reading gives where a test of its value holds
-abbrev pub checked : {A : Type 0} → (A → Bool) → (List ℕ → Option (A × List ℕ)) → List ℕ → Option (A × List ℕ)
+abbrev pub checked : {A : Type 0} → (A → Bool) → (List ℕ → Option (A × List ℕ)) → List ℕ →
+    Option (A × List ℕ)
 checked test read bytes = do
   a ← read bytes
   if test a.0 then Some a else None
 
 -- the same value in another form
-abbrev pub seen_as : {A B : Type 0} → (A → B) → (List ℕ → Option (A × List ℕ)) → List ℕ → Option (B × List ℕ)
+abbrev pub seen_as : {A B : Type 0} → (A → B) → (List ℕ → Option (A × List ℕ)) → List ℕ →
+    Option (B × List ℕ)
 seen_as form read bytes = do
   a ← read bytes
   Some (form a.0, a.1)
@@ -70,31 +72,36 @@ bytes_at bytes = do
 abbrev pub text_at : List ℕ → Option (List ℕ × List ℕ)
 text_at = checked is_utf8 bytes_at
 
-abbrev pub optional_after : {A : Type 0} → (List ℕ → Option (A × List ℕ)) → Bool → List ℕ → Option (Option A × List ℕ)
+abbrev pub optional_after : {A : Type 0} → (List ℕ → Option (A × List ℕ)) → Bool → List ℕ →
+    Option (Option A × List ℕ)
 optional_after read false rest = Some (None, rest)
 optional_after read true rest = do
   a ← read rest
   Some (Some a.0, a.1)
 
-abbrev pub optional_at : {A : Type 0} → (List ℕ → Option (A × List ℕ)) → List ℕ → Option (Option A × List ℕ)
+abbrev pub optional_at : {A : Type 0} → (List ℕ → Option (A × List ℕ)) → List ℕ →
+    Option (Option A × List ℕ)
 optional_at read bytes = do
   f ← flag_at bytes
   optional_after read f.0 f.1
 
-abbrev pub pair_at : {A B : Type 0} → (List ℕ → Option (A × List ℕ)) → (List ℕ → Option (B × List ℕ)) → List ℕ → Option ((A × B) × List ℕ)
+abbrev pub pair_at : {A B : Type 0} → (List ℕ → Option (A × List ℕ)) →
+    (List ℕ → Option (B × List ℕ)) → List ℕ → Option ((A × B) × List ℕ)
 pair_at first second bytes = do
   a ← first bytes
   b ← second a.1
   Some ((a.0, b.0), b.1)
 
-abbrev pub times_at : {A : Type 0} → (List ℕ → Option (A × List ℕ)) → ℕ → List ℕ → Option (List A × List ℕ)
+abbrev pub times_at : {A : Type 0} → (List ℕ → Option (A × List ℕ)) → ℕ → List ℕ →
+    Option (List A × List ℕ)
 times_at read zero bytes = Some ([], bytes)
 times_at read (suc n) bytes = do
   first ← read bytes
   others ← times_at read n first.1
   Some (first.0 ∷ others.0, others.1)
 
-abbrev pub items_at : {A : Type 0} → (List ℕ → Option (A × List ℕ)) → List ℕ → Option (List A × List ℕ)
+abbrev pub items_at : {A : Type 0} → (List ℕ → Option (A × List ℕ)) → List ℕ →
+    Option (List A × List ℕ)
 items_at read bytes = do
   n ← number_at bytes
   times_at read n.0 n.1

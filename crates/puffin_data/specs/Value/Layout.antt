@@ -93,10 +93,12 @@ IsAny a = Unit {0}
 
 -- any two values with a layout have different ones, and neither begins the other
 abbrev pub NoneBeginsAnother : {A : Type 0} → (A → Type 0) → (A → List ℕ) → Type 0
-NoneBeginsAnother {A = A} fits layout = (a b : A) (x y : List ℕ) → fits a → fits b → layout a ++ x ≡ layout b ++ y → (a ≡ b) × (x ≡ y)
+NoneBeginsAnother {A = A} fits layout =
+    (a b : A) (x y : List ℕ) → fits a → fits b → layout a ++ x ≡ layout b ++ y → (a ≡ b) × (x ≡ y)
 
 -- A reading reads layouts and nothing else: it gives a value, and the bytes after it, exactly where the value's layout stands before these.
-abbrev pub ReadsLayouts : {A : Type 0} → (A → Type 0) → (A → List ℕ) → (List ℕ → Option (A × List ℕ)) → Type 0
+abbrev pub ReadsLayouts : {A : Type 0} → (A → Type 0) → (A → List ℕ) →
+    (List ℕ → Option (A × List ℕ)) → Type 0
 ReadsLayouts {A = A} fits layout read =
     (bytes : List ℕ) (a : A) (rest : List ℕ) → IsBytes bytes →
     (read bytes ≡ Some (a, rest)) ↔ (fits a × (bytes ≡ layout a ++ rest))

@@ -13,7 +13,8 @@ pub record Nested : Type 0 where
 abbrev pub nested_in : List Span → Forest → List Nested
 nested_in around empty = []
 nested_in around (node s children others) =
-    record { around = around; span = s } ∷ (nested_in (around ++ (s ∷ [])) children ++ nested_in around others)
+    record { around = around; span = s }
+    ∷ (nested_in (around ++ (s ∷ [])) children ++ nested_in around others)
 
 -- a scope, and where it stands
 pub record Sight : Type 0 where
@@ -22,8 +23,15 @@ pub record Sight : Type 0 where
 
 -- The sound scopes of a region that stands within others, from p on: where one stands at p, that, then those of its children, then those from its next sibling on.
 pub data Sees (bytes : List ℕ) : List Span → ℕ → ℕ → List Sight → Type 0 where
-  no_sight : {around : List Span} {p e : ℕ} → ((s : Found) → IsSoundAt bytes p e s → ⊥) → Sees bytes around p e []
-  one_sight : {around : List Span} {p e : ℕ} {s : Found} {inner later : List Sight} → IsSoundAt bytes p e s → Sees bytes (around ++ (s.span ∷ [])) (p + s.child_begin) (p + s.child_end) inner → Sees bytes around (p + s.next_sibling) e later → Sees bytes around p e (record { place = p; scope = record { around = around; span = s.span } } ∷ (inner ++ later))
+  no_sight : {around : List Span} {p e : ℕ} → ((s : Found) → IsSoundAt bytes p e s → ⊥) →
+      Sees bytes around p e []
+  one_sight : {around : List Span} {p e : ℕ} {s : Found} {inner later : List Sight} →
+      IsSoundAt bytes p e s →
+      Sees bytes (around ++ (s.span ∷ [])) (p + s.child_begin) (p + s.child_end) inner →
+      Sees bytes around (p + s.next_sibling) e later →
+      Sees bytes around p e (
+      record { place = p; scope = record { around = around; span = s.span } }
+      ∷ (inner ++ later))
 
 abbrev pub scopes_of : List Sight → List Nested
 scopes_of sights = map (λ s. s.scope) sights

@@ -31,9 +31,12 @@ pub record StopsAtRefusal {V : Type 0} (takes : V → List Nested → V → Type
   pub to : V
   pub taken : takes from (scopes_of earlier) to
   pub refused : refuses to sight.scope cause
-  pub first : (p e : ℕ) (fault : Error) → Reaches bytes 0 (length bytes) p e → IsFaultAt bytes p e fault → sight.place ≤ p
+  pub first : (p e : ℕ) (fault : Error) → Reaches bytes 0 (length bytes) p e →
+      IsFaultAt bytes p e fault → sight.place ≤ p
   pub tries : tried ≡ length earlier + 1
 
-abbrev pub StopsEarly : {V : Type 0} → (V → List Nested → V → Type 0) → (V → Nested → Error → Type 0) → V → V → List ℕ → ℕ → Error → Type 0
+abbrev pub StopsEarly : {V : Type 0} → (V → List Nested → V → Type 0) →
+    (V → Nested → Error → Type 0) → V → V → List ℕ → ℕ → Error → Type 0
 StopsEarly takes refuses from to bytes tries cause =
-    StopsAtFault takes from to bytes tries cause ⊎ StopsAtRefusal takes refuses from bytes tries cause
+    StopsAtFault takes from to bytes tries cause
+    ⊎ StopsAtRefusal takes refuses from bytes tries cause

@@ -11,7 +11,8 @@ use Rattle.puffin_data.specs.Walk.{region, IsSoundAt, IsFaultAt}
 
 -- the numbers of a walk over no scope
 abbrev pub no_scope_counted : Walk
-no_scope_counted = record { num_scopes = 0; depth = 0; range_ns = (pos (2 ^ 63 - 1), negsuc (2 ^ 63 - 1)) }
+no_scope_counted =
+    record { num_scopes = 0; depth = 0; range_ns = (pos (2 ^ 63 - 1), negsuc (2 ^ 63 - 1)) }
 
 -- a walk's numbers after one more scope, which stands at this depth
 abbrev pub with_scope : Walk → ℕ → Span → Walk
@@ -34,14 +35,33 @@ tries_in part = if slice_index part 0 == begin_mark then 1 else 0
 -- From place p, in the region that ends at e and stands within `level` open scopes, a walk with the numbers w so far comes to this end.
 pub data WalksTo (bytes : List ℕ) : ℕ → Walk → ℕ → ℕ → Result Walk Stop → Type 0 where
   ends : {level : ℕ} {w : Walk} {p : ℕ} → WalksTo bytes level w p p (Ok w)
-  stops : {level : ℕ} {w : Walk} {p e : ℕ} {fault : Error} → IsFaultAt bytes p e fault → WalksTo bytes level w p e (Err (record { place = p; fault = fault; tries = w.num_scopes + tries_in (region bytes p e) }))
-  stops_within : {level : ℕ} {w : Walk} {p e : ℕ} {s : Found} {stop : Stop} → IsSoundAt bytes p e s → WalksTo bytes (suc level) (with_scope w (suc level) s.span) (p + s.child_begin) (p + s.child_end) (Err stop) → WalksTo bytes level w p e (Err stop)
-  goes_on : {level : ℕ} {w v : Walk} {p e : ℕ} {s : Found} {out : Result Walk Stop} → IsSoundAt bytes p e s → WalksTo bytes (suc level) (with_scope w (suc level) s.span) (p + s.child_begin) (p + s.child_end) (Ok v) → WalksTo bytes level v (p + s.next_sibling) e out → WalksTo bytes level w p e out
+  stops : {level : ℕ} {w : Walk} {p e : ℕ} {fault : Error} → IsFaultAt bytes p e fault →
+      WalksTo bytes level w p e (
+      Err (
+      record {
+        place = p;
+        fault = fault;
+        tries = w.num_scopes + tries_in (region bytes p e);
+      }))
+  stops_within : {level : ℕ} {w : Walk} {p e : ℕ} {s : Found} {stop : Stop} →
+      IsSoundAt bytes p e s →
+      WalksTo bytes (suc level) (with_scope w (suc level) s.span) (p + s.child_begin)
+      (p + s.child_end) (Err stop) →
+      WalksTo bytes level w p e (Err stop)
+  goes_on : {level : ℕ} {w v : Walk} {p e : ℕ} {s : Found} {out : Result Walk Stop} →
+      IsSoundAt bytes p e s →
+      WalksTo bytes (suc level) (with_scope w (suc level) s.span) (p + s.child_begin)
+      (p + s.child_end) (Ok v) →
+      WalksTo bytes level v (p + s.next_sibling) e out → WalksTo bytes level w p e out
 
 -- a walk of all the bytes came to its end, or stopped at a fault or for want of memory
 abbrev pub Walked : List ℕ → ℕ → Walk → Type 0
-Walked bytes tries w = WalksTo bytes 0 no_scope_counted 0 (length bytes) (Ok w) × (tries ≡ w.num_scopes)
+Walked bytes tries w =
+    WalksTo bytes 0 no_scope_counted 0 (length bytes) (Ok w) × (tries ≡ w.num_scopes)
 
 abbrev pub Stopped : List ℕ → ℕ → Error → Type 0
 Stopped bytes tries fault =
-    (fault ≡ Memory) ⊎ ((place : ℕ) × WalksTo bytes 0 no_scope_counted 0 (length bytes) (Err (record { place = place; fault = fault; tries = tries })))
+    (fault ≡ Memory)
+    ⊎ ((place : ℕ)
+    × WalksTo bytes 0 no_scope_counted 0 (length bytes) (
+    Err (record { place = place; fault = fault; tries = tries })))

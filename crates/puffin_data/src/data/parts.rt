@@ -49,7 +49,7 @@ fn fill_behind<S: Source>(source: &mut S, buf: &mut [u8], at: usize) -> Result<u
     Ok(end)
 }
 
-/// Reads until a buffer is full or the reader at its end, and answers how many bytes came. Refused with `Io`, where a
+/// Reads until a buffer is full or the reader at its end, and returns how many bytes came. Refused with `Io`, where a
 /// read failed; the reader's place is then open.
 pub fn read_up_to<S: Source>(source: &mut S, buf: &mut [u8]) -> Result<usize, FileError>
     requires { S.failures source.old < 2 ^ 64 - 1 }

@@ -30,7 +30,7 @@ pub fn text_of(stored: &[u8]) -> &str
     }
 }
 
-/// What is told of a scope that stands at a place.
+/// What is said of a scope that stands at a place.
 fn told<'s>(at: usize, found: &Sighting<'s>) -> Scope<'s>
     requires id { 0 < found.now.id }
     requires fits { FitsSigned w64 (found.now.stop -ℤ found.now.start) }

@@ -174,7 +174,7 @@ impl Stream {
         self.bytes[place..place + 8].copy_from_slice(word);
     }
 
-    /// Writes the beginning of a scope, with an unfinished size, and answers the offset of the eight bytes of that size and
+    /// Writes the beginning of a scope, with an unfinished size, and returns the offset of the eight bytes of that size and
     /// the start. Of the text the longest beginning is stored that has at most 127 bytes and ends where a character ends.
     ///
     /// The clock is asked once, after there is room. Refused only with `Memory`, and never within the room; then nothing is

@@ -28,7 +28,7 @@ pub trait Visitor<'s> {
     /// In this state, what is kept stands for these scopes, the outermost first.
     ghost stands_for: { Self → Self.Within → List Span → Type 0 };
 
-    /// Takes a scope that stands directly within the one of which this is kept, and answers what is to be kept of it.
+    /// Takes a scope that stands directly within the one of which this is kept, and returns what is to be kept of it.
     fn enter(&mut self, within: Self::Within, scope: &Sighting<'s>) -> Result<Self::Within>
         requires stands { (around : List Span) × stands_for self.old within around }
         requires span { IsSpan (found_of scope.now).span }

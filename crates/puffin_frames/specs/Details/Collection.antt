@@ -32,7 +32,8 @@ abbrev pub no_details : Collection
 no_details = record { by_id = map.empty; by_name = map.empty }
 
 -- what is there under an id stays, and else the given ones are put there
-abbrev pub kept_or : Option Details → map.FinMap nat_cmp Details → ℕ → Details → map.FinMap nat_cmp Details
+abbrev pub kept_or : Option Details → map.FinMap nat_cmp Details → ℕ → Details →
+    map.FinMap nat_cmp Details
 kept_or (Some kept) by_id id d = by_id
 kept_or None by_id id d = map.insert by_id id d
 
@@ -56,7 +57,8 @@ kept_for collection d = option_and_then (λ id. map.get collection.by_id id) d.i
 
 -- all details stand under their own ids
 abbrev pub KeepsOwnIds : Collection → Type 0
-KeepsOwnIds collection = (id : ℕ) (d : Details) → map.get collection.by_id id ≡ Some d → d.id ≡ Some id
+KeepsOwnIds collection =
+    (id : ℕ) (d : Details) → map.get collection.by_id id ≡ Some d → d.id ≡ Some id
 
 -- the first of a list of details with this id
 abbrev pub first_with_id : ℕ → List Details → Option Details

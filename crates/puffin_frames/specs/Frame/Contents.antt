@@ -18,7 +18,8 @@ abbrev pub held_as : Held → Holding
 held_as (Own u) = record { packed = None; unpacked = Some (contents u) }
 held_as (Shared u) = record { packed = None; unpacked = Some (contents (arc_value u)) }
 held_as (Packed p) = record { packed = Some (packed_as p.streams); unpacked = None }
-held_as (Both b) = record { packed = Some (packed_as b.packed); unpacked = Some (contents (arc_value b.unpacked)) }
+held_as (Both b) =
+    record { packed = Some (packed_as b.packed); unpacked = Some (contents (arc_value b.unpacked)) }
 
 abbrev pub held_meta : Held → FrameMeta
 held_meta (Own u) = u.meta

@@ -20,7 +20,8 @@ pub record Holding : Type 0 where
 
 -- the bytes are the layout of these streams, packed as they are
 abbrev pub HoldsStreams : Packing → Streams → Type 0
-HoldsStreams p streams = (p.kind ≡ 0) × AreStreams (entries streams) × (p.bytes ≡ streams_layout (entries streams))
+HoldsStreams p streams =
+    (p.kind ≡ 0) × AreStreams (entries streams) × (p.bytes ≡ streams_layout (entries streams))
 
 -- the streams whose layout packed bytes are; bytes of another kind hold none here
 abbrev pub streams_in : Packing → Option Streams

@@ -40,7 +40,8 @@ abbrev pub streams_of : List (ThreadInfo × StreamInfo) → Streams
 streams_of entries = by_info (records entries)
 
 -- the entries of a map of shared streams, without the sharing
-abbrev pub without_sharing : {A : Type 0} → List (ThreadInfo × Arc StreamInfo A) → List (ThreadInfo × StreamInfo)
+abbrev pub without_sharing : {A : Type 0} → List (ThreadInfo × Arc StreamInfo A) →
+    List (ThreadInfo × StreamInfo)
 without_sharing entries = map (λ e. (e.0, arc_value e.1)) entries
 
 abbrev pub shared_streams : {A : Type 0} → List (ThreadInfo × Arc StreamInfo A) → Streams
@@ -52,7 +53,12 @@ pairs_of entries = keyed (records (without_sharing entries))
 
 -- what is recorded where there is no scope
 abbrev pub no_scopes : Recorded
-no_scopes = record { bytes = []; num_scopes = 0; depth = 0; range_ns = (pos (2 ^ 63 - 1), negsuc (2 ^ 63 - 1)) }
+no_scopes = record {
+  bytes = [];
+  num_scopes = 0;
+  depth = 0;
+  range_ns = (pos (2 ^ 63 - 1), negsuc (2 ^ 63 - 1));
+}
 
 -- what is recorded under an info
 abbrev pub stream_under : Streams → Info → Recorded
@@ -64,7 +70,9 @@ reported_to streams i r = map.insert streams i (joined_record (stream_under stre
 
 -- each stream spells a forest, and its numbers are that forest's measures
 abbrev pub AreHonest : Streams → Type 0
-AreHonest streams = (i : Info) (r : Recorded) → map.get streams i ≡ Some r → ∥ ((f : Forest) × IsHonestRecord r f) ∥₁
+AreHonest streams =
+    (i : Info) (r : Recorded) → map.get streams i ≡ Some r →
+    ∥ ((f : Forest) × IsHonestRecord r f) ∥₁
 
 -- the streams of a frame as it is
 abbrev pub contents : UnpackedFrameData → Streams

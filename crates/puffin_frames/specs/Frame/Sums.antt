@@ -21,7 +21,8 @@ joined_start infos = fold (λ least info. int_min least info.range_ns.0) (pos (2
 
 -- the greatest stop of all, and i64's least number where there is none
 abbrev pub joined_stop : List Recorded → ℤ
-joined_stop infos = fold (λ greatest info. int_max greatest info.range_ns.1) (negsuc (2 ^ 63 - 1)) infos
+joined_stop infos =
+    fold (λ greatest info. int_max greatest info.range_ns.1) (negsuc (2 ^ 63 - 1)) infos
 
 abbrev pub joined_range : List Recorded → ℤ × ℤ
 joined_range infos = (joined_start infos, joined_stop infos)

@@ -23,7 +23,8 @@ form_at letter bytes =
     else if (letter == digit_2) || (letter == digit_3) || (letter == digit_4) then packet_at letter bytes
     else Err file.Newer
 
-abbrev pub as_stored : {A : Type 0} → (A → Stored) → Result (A × List ℕ) FileError → Result (Option Stored × List ℕ) FileError
+abbrev pub as_stored : {A : Type 0} → (A → Stored) → Result (A × List ℕ) FileError →
+    Result (Option Stored × List ℕ) FileError
 as_stored form (Ok p) = Ok (Some (form p.0), p.1)
 as_stored form (Err e) = Err e
 

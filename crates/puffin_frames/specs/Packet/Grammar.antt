@@ -13,11 +13,13 @@ counted_part part = little_bytes 4 (length part) ++ part
 
 -- the letters and the meta, and of the streams their length and their kind
 unfoldable pub packet_head : FrameMeta → ℕ → ℕ → List ℕ
-packet_head meta kind len = letters_of digit_4 ++ (counted_part (meta_layout meta) ++ (little_bytes 4 len ++ (kind ∷ [])))
+packet_head meta kind len =
+    letters_of digit_4 ++ (counted_part (meta_layout meta) ++ (little_bytes 4 len ++ (kind ∷ [])))
 
 -- a packet of these streams and this part of details
 abbrev pub packet_with : FrameMeta → ℕ → List ℕ → List ℕ → List ℕ
-packet_with meta kind streams details = (packet_head meta kind (length streams) ++ streams) ++ counted_part details
+packet_with meta kind streams details =
+    (packet_head meta kind (length streams) ++ streams) ++ counted_part details
 
 -- a packet of the form that is written
 abbrev pub packet : Said → List ℕ

@@ -31,4 +31,6 @@ letters_of digit = letter_p ∷ letter_f ∷ letter_d ∷ digit ∷ []
 
 -- a header begins with `PFD`
 abbrev pub is_packet : List ℕ → Bool
-is_packet header = (slice_index header 0 == letter_p) && (slice_index header 1 == letter_f) && (slice_index header 2 == letter_d)
+is_packet header =
+    (slice_index header 0 == letter_p) && (slice_index header 1 == letter_f) && (
+    slice_index header 2 == letter_d)

@@ -20,7 +20,8 @@ entries_if_any (Some streams) = entries streams
 
 -- a frame that is held unpacked, as it was written at first
 abbrev pub legacy_of : FrameData → Legacy
-legacy_of frame = record { meta = frame_meta frame; streams = entries_if_any (holding_of frame).unpacked }
+legacy_of frame =
+    record { meta = frame_meta frame; streams = entries_if_any (holding_of frame).unpacked }
 
 abbrev pub stored_as : FrameData → Option Packing → Stored
 stored_as frame (Some p) = packed (frame_says frame)
@@ -38,11 +39,14 @@ pub record IsFresh (frame : FrameData) : Type 0 where
 
 -- four bytes that aren't four zeros, or the end
 abbrev pub HeaderFrom : Option (List ℕ) → Option (List ℕ) → Option (List ℕ) → Type 0
-HeaderFrom old new (Some header) = (length header ≡ 4) × Consumes old new header × (is_end header ≡ false) × IsBytes header
+HeaderFrom old new (Some header) =
+    (length header ≡ 4) × Consumes old new header × (is_end header ≡ false) × IsBytes header
 HeaderFrom old new None = AtEnd old new
 
 -- A call took bytes from a device: those of the frame that it returned, whatever follows; or the device is at its end; or the bytes that were taken have this fault.
-abbrev pub ReadsNext : Option (List ℕ) → Option (List ℕ) → Result (Option FrameData) FileError → Type 0
-ReadsNext old new (Ok (Some frame)) = FromDevice {X = FrameData} (λ f. Some (stored_of f)) old new (Ok frame) next_at
+abbrev pub ReadsNext : Option (List ℕ) → Option (List ℕ) → Result (Option FrameData) FileError →
+    Type 0
+ReadsNext old new (Ok (Some frame)) =
+    FromDevice {X = FrameData} (λ f. Some (stored_of f)) old new (Ok frame) next_at
 ReadsNext old new (Ok None) = AtEnd old new
 ReadsNext old new (Err e) = FailsAt e old new next_at

@@ -11,16 +11,27 @@ use Rattle.puffin_frames.specs.Details.{Details}
 -- ---- meta
 
 abbrev pub meta_layout : FrameMeta → List ℕ
-meta_layout m = number m.frame_index ++ (signed m.range_ns.0 ++ (signed m.range_ns.1 ++ (number m.num_bytes ++ number m.num_scopes)))
+meta_layout m =
+    number m.frame_index
+    ++ (signed m.range_ns.0 ++ (signed m.range_ns.1 ++ (number m.num_bytes ++ number m.num_scopes)))
 
 abbrev pub IsMeta : FrameMeta → Type 0
-IsMeta m = IsLong m.frame_index × (IsSigned m.range_ns.0 × (IsSigned m.range_ns.1 × (IsLong m.num_bytes × IsLong m.num_scopes)))
+IsMeta m =
+    IsLong m.frame_index
+    × (IsSigned m.range_ns.0 × (IsSigned m.range_ns.1 × (IsLong m.num_bytes × IsLong m.num_scopes)))
 
 abbrev pub made_meta : ℕ × (ℤ × (ℤ × (ℕ × ℕ))) → FrameMeta
-made_meta p = record { frame_index = p.0; range_ns = (p.1.0, p.1.1.0); num_bytes = p.1.1.1.0; num_scopes = p.1.1.1.1 }
+made_meta p = record {
+  frame_index = p.0;
+  range_ns = (p.1.0, p.1.1.0);
+  num_bytes = p.1.1.1.0;
+  num_scopes = p.1.1.1.1;
+}
 
 unfoldable pub meta_at : List ℕ → Option (FrameMeta × List ℕ)
-meta_at = seen_as made_meta (pair_at number_at (pair_at signed_at (pair_at signed_at (pair_at number_at number_at))))
+meta_at =
+    seen_as made_meta (
+    pair_at number_at (pair_at signed_at (pair_at signed_at (pair_at number_at number_at))))
 
 -- ---- a thread's info
 
@@ -39,16 +50,22 @@ info_at = seen_as made_info (pair_at (optional_at signed_at) text_at)
 -- ---- what is recorded of a thread
 
 abbrev pub recorded_layout : Recorded → List ℕ
-recorded_layout r = block r.bytes ++ (number r.num_scopes ++ (number r.depth ++ (signed r.range_ns.0 ++ signed r.range_ns.1)))
+recorded_layout r =
+    block r.bytes
+    ++ (number r.num_scopes ++ (number r.depth ++ (signed r.range_ns.0 ++ signed r.range_ns.1)))
 
 abbrev pub IsRecorded : Recorded → Type 0
-IsRecorded r = IsBlock r.bytes × (IsLong r.num_scopes × (IsLong r.depth × (IsSigned r.range_ns.0 × IsSigned r.range_ns.1)))
+IsRecorded r =
+    IsBlock r.bytes
+    × (IsLong r.num_scopes × (IsLong r.depth × (IsSigned r.range_ns.0 × IsSigned r.range_ns.1)))
 
 abbrev pub made_recorded : List ℕ × (ℕ × (ℕ × (ℤ × ℤ))) → Recorded
 made_recorded p = record { bytes = p.0; num_scopes = p.1.0; depth = p.1.1.0; range_ns = p.1.1.1 }
 
 unfoldable pub recorded_at : List ℕ → Option (Recorded × List ℕ)
-recorded_at = seen_as made_recorded (pair_at bytes_at (pair_at number_at (pair_at number_at (pair_at signed_at signed_at))))
+recorded_at =
+    seen_as made_recorded (
+    pair_at bytes_at (pair_at number_at (pair_at number_at (pair_at signed_at signed_at))))
 
 -- ---- the streams of a frame: a map, as the list of its pairs by rising keys
 
@@ -56,13 +73,16 @@ abbrev pub streams_layout : List (Info × Recorded) → List ℕ
 streams_layout = items (pair info_layout recorded_layout)
 
 abbrev pub AreStreams : List (Info × Recorded) → Type 0
-AreStreams es = AreItems (λ (e : Info × Recorded). IsInfo e.0 × IsRecorded e.1) es × (is_sorted info_cmp es ≡ true)
+AreStreams es =
+    AreItems (λ (e : Info × Recorded). IsInfo e.0 × IsRecorded e.1) es
+    × (is_sorted info_cmp es ≡ true)
 
 abbrev pub stream_at : List ℕ → Option ((Info × Recorded) × List ℕ)
 stream_at = pair_at info_at recorded_at
 
 -- what was read, where the keys rise
-abbrev pub rising : Option (List (Info × Recorded) × List ℕ) → Option (List (Info × Recorded) × List ℕ)
+abbrev pub rising : Option (List (Info × Recorded) × List ℕ) →
+    Option (List (Info × Recorded) × List ℕ)
 rising read = do
   es ← read
   if is_sorted info_cmp es.0 then Some es else None
@@ -79,16 +99,30 @@ abbrev pub id_at : List ℕ → Option (ℕ × List ℕ)
 id_at = checked (λ n. nat_lt 0 n) word_at
 
 abbrev pub detail_layout : Details → List ℕ
-detail_layout d = optional number d.id ++ (optional block d.scope_name ++ (block d.function_name ++ (block d.file_path ++ number d.line_nr)))
+detail_layout d =
+    optional number d.id ++ (optional block d.scope_name
+    ++ (block d.function_name ++ (block d.file_path ++ number d.line_nr)))
 
 abbrev pub IsDetail : Details → Type 0
-IsDetail d = IfAny IsId d.id × (IfAny IsText d.scope_name × (IsText d.function_name × (IsText d.file_path × IsWord d.line_nr)))
+IsDetail d =
+    IfAny IsId d.id
+    × (IfAny IsText d.scope_name
+    × (IsText d.function_name × (IsText d.file_path × IsWord d.line_nr)))
 
 abbrev pub made_detail : Option ℕ × (Option (List ℕ) × (List ℕ × (List ℕ × ℕ))) → Details
-made_detail p = record { id = p.0; scope_name = p.1.0; function_name = p.1.1.0; file_path = p.1.1.1.0; line_nr = p.1.1.1.1 }
+made_detail p = record {
+  id = p.0;
+  scope_name = p.1.0;
+  function_name = p.1.1.0;
+  file_path = p.1.1.1.0;
+  line_nr = p.1.1.1.1;
+}
 
 unfoldable pub detail_at : List ℕ → Option (Details × List ℕ)
-detail_at = seen_as made_detail (pair_at (optional_at id_at) (pair_at (optional_at text_at) (pair_at text_at (pair_at text_at word_at))))
+detail_at =
+    seen_as made_detail (
+    pair_at (optional_at id_at) (
+    pair_at (optional_at text_at) (pair_at text_at (pair_at text_at word_at))))
 
 abbrev pub details_layout : List Details → List ℕ
 details_layout = items detail_layout
@@ -107,16 +141,27 @@ pub record Legacy : Type 0 where
 
 abbrev pub legacy_layout : Legacy → List ℕ
 legacy_layout l =
-    number l.meta.frame_index ++ (streams_layout l.streams ++ (signed l.meta.range_ns.0 ++ (signed l.meta.range_ns.1 ++ (number l.meta.num_bytes ++ number l.meta.num_scopes))))
+    number l.meta.frame_index
+    ++ (streams_layout l.streams ++ (signed l.meta.range_ns.0 ++ (signed l.meta.range_ns.1
+    ++ (number l.meta.num_bytes ++ number l.meta.num_scopes))))
 
 abbrev pub IsLegacy : Legacy → Type 0
-IsLegacy l = IsLong l.meta.frame_index × (AreStreams l.streams × (IsSigned l.meta.range_ns.0 × (IsSigned l.meta.range_ns.1 × (IsLong l.meta.num_bytes × IsLong l.meta.num_scopes))))
+IsLegacy l =
+    IsLong l.meta.frame_index
+    × (AreStreams l.streams
+    × (IsSigned l.meta.range_ns.0
+    × (IsSigned l.meta.range_ns.1 × (IsLong l.meta.num_bytes × IsLong l.meta.num_scopes))))
 
 abbrev pub made_legacy : ℕ × (List (Info × Recorded) × (ℤ × (ℤ × (ℕ × ℕ)))) → Legacy
 made_legacy p = record {
-  meta = record { frame_index = p.0; range_ns = (p.1.1.0, p.1.1.1.0); num_bytes = p.1.1.1.1.0; num_scopes = p.1.1.1.1.1 };
+  meta = record
+      { frame_index = p.0; range_ns = (p.1.1.0, p.1.1.1.0); num_bytes = p.1.1.1.1.0; num_scopes = p.1.1.1.1.1 };
   streams = p.1.0;
 }
 
 unfoldable pub legacy_at : List ℕ → Option (Legacy × List ℕ)
-legacy_at = seen_as made_legacy (pair_at number_at (pair_at streams_at (pair_at signed_at (pair_at signed_at (pair_at number_at number_at)))))
+legacy_at =
+    seen_as made_legacy (
+    pair_at number_at (
+    pair_at streams_at (
+    pair_at signed_at (pair_at signed_at (pair_at number_at number_at)))))

@@ -19,7 +19,8 @@ details_or ds (Some collection) = values collection.by_id
 
 -- what a frame says, with the details of a collection in place of its own
 abbrev pub says_with : FrameData → Option Collection → Said
-says_with frame collection = record (frame_says frame) { details = details_or (frame_details frame) collection }
+says_with frame collection =
+    record (frame_says frame) { details = details_or (frame_details frame) collection }
 
 -- a part whose length can't be written
 abbrev pub HasLongPart : Said → Type 0

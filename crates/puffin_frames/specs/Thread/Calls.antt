@@ -58,7 +58,13 @@ RegistersScope old d (Err e) new = (new ≡ old) × ((e ≡ IdsExhausted) ⊎ (e
 
 -- after an accepted report, which hands over all of its events and details
 abbrev pub after_handing : Thread → Thread
-after_handing thread = record { name = thread.name; first_start = thread.first_start; latest = thread.latest; word = []; details = [] }
+after_handing thread = record {
+  name = thread.name;
+  first_start = thread.first_start;
+  latest = thread.latest;
+  word = [];
+  details = [];
+}
 
 -- whose scopes a report hands over
 abbrev pub info_of_thread : Thread → Info
@@ -66,7 +72,8 @@ info_of_thread thread = record { start = thread.first_start; name = thread.name 
 
 -- the bytes so far, and the offsets of the open scopes' sizes, the innermost first
 abbrev pub opened_after : ℕ × List ℕ → Event → ℕ × List ℕ
-opened_after sofar (Open id text start) = (sofar.0 + head_size + length text, (sofar.0 + front_size + length text) ∷ sofar.1)
+opened_after sofar (Open id text start) =
+    (sofar.0 + head_size + length text, (sofar.0 + front_size + length text) ∷ sofar.1)
 opened_after sofar (Close stop) = (sofar.0 + end_size, drop 1 sofar.1)
 
 abbrev pub open_offsets : List Event → List ℕ

@@ -19,18 +19,27 @@ pub record IsReportOf (thread : Thread) (r : Recorded) : Type 0 where
   pub honest : IsHonestRecord r forest
 
 -- such a record went to the reporter, under the thread's info and with its details, and it was answered so
-abbrev pub GoesTo : {R : Type 0} → (R → Info → List Details → Recorded → R → Type 0) → Thread → R → R → Type 0
+abbrev pub GoesTo : {R : Type 0} → (R → Info → List Details → Recorded → R → Type 0) → Thread → R →
+    R → Type 0
 GoesTo answered thread before after =
-    (r : Recorded) × IsReportOf thread r × answered before (info_of_thread thread) thread.details r after
+    (r : Recorded)
+    × IsReportOf thread r
+    × answered before (info_of_thread thread) thread.details r after
 
 -- The innermost scope ends at a moment. An inner scope leaves the reporter as it was. Where it is the last, all events go to the reporter, and stay where it refuses.
-abbrev pub Closes : {R : Type 0} → (R → Info → List Details → Recorded → R → Type 0) → (R → Info → List Details → Recorded → Error → R → Type 0) → Thread → Thread → ℤ → R → R → Closed → Type 0
+abbrev pub Closes : {R : Type 0} → (R → Info → List Details → Recorded → R → Type 0) →
+    (R → Info → List Details → Recorded → Error → R → Type 0) → Thread → Thread → ℤ → R → R →
+    Closed → Type 0
 Closes accepts refuses old new at before after Inner =
     (1 < open_after 0 old.word) × (new ≡ after_end old at) × (after ≡ before)
 Closes accepts refuses old new at before after Reported =
-    (open_after 0 old.word ≡ 1) × (new ≡ after_handing (after_end old at)) × GoesTo accepts (after_end old at) before after
+    (open_after 0 old.word ≡ 1)
+    × (new ≡ after_handing (after_end old at))
+    × GoesTo accepts (after_end old at) before after
 Closes accepts refuses old new at before after (Kept e) =
-    (open_after 0 old.word ≡ 1) × (new ≡ after_end old at) × GoesTo (λ b i d r a. refuses b i d r e a) (after_end old at) before after
+    (open_after 0 old.word ≡ 1)
+    × (new ≡ after_end old at)
+    × GoesTo (λ b i d r a. refuses b i d r e a) (after_end old at) before after
 
 -- closed scopes wait for a report
 pub record Waits (thread : Thread) : Type 0 where
@@ -38,9 +47,13 @@ pub record Waits (thread : Thread) : Type 0 where
   pub some : thread.word ≢ []
 
 -- A report of what waits is asked for. A refusal leaves the thread as it was: a scope is open, the name couldn't be copied, or the reporter refused.
-abbrev pub Reports : {R : Type 0} → (R → Info → List Details → Recorded → R → Type 0) → (R → Info → List Details → Recorded → Error → R → Type 0) → Thread → Thread → R → R → Result Bool Error → Type 0
-Reports accepts refuses old new before after (Ok false) = (old.word ≡ []) × (new ≡ old) × (after ≡ before)
-Reports accepts refuses old new before after (Ok true) = Waits old × (new ≡ after_handing old) × GoesTo accepts old before after
+abbrev pub Reports : {R : Type 0} → (R → Info → List Details → Recorded → R → Type 0) →
+    (R → Info → List Details → Recorded → Error → R → Type 0) → Thread → Thread → R → R →
+    Result Bool Error → Type 0
+Reports accepts refuses old new before after (Ok false) =
+    (old.word ≡ []) × (new ≡ old) × (after ≡ before)
+Reports accepts refuses old new before after (Ok true) =
+    Waits old × (new ≡ after_handing old) × GoesTo accepts old before after
 Reports accepts refuses old new before after (Err e) = (new ≡ old)
     × (((0 < open_after 0 old.word) × (e ≡ ScopesOpen) × (after ≡ before))
     ⊎ (Waits old × (((e ≡ Memory) × (after ≡ before)) ⊎ GoesTo (λ b i d r a. refuses b i d r e a) old before after)))

@@ -6,7 +6,8 @@ use Rattle.puffin_data.specs.Forest.Tour.{Event, Open, Close}
 
 -- a scope's beginning that stands at the front of a region
 abbrev pub open_in : List ℕ → Event
-open_in region = Open (id_in region) (take (text_size_in region) (drop front_size region)) (time_in region 5)
+open_in region =
+    Open (id_in region) (take (text_size_in region) (drop front_size region)) (time_in region 5)
 
 -- at most n events
 unfoldable pub events_from : ℕ → List ℕ → List Event

@@ -28,7 +28,9 @@ same_info = eq_by_cmp info_cmp
 
 -- an info is stored as the pair of its fields
 abbrev pub info_code : Coded Info
-info_code = code_by (Option ℤ × List ℕ) (coded× (coded_option coded_ℤ) (coded_list coded_ℕ)) (λ i. (i.start, i.name)) (λ p. record { start = p.0; name = p.1 }) (λ _. refl)
+info_code =
+    code_by (Option ℤ × List ℕ) (coded× (coded_option coded_ℤ) (coded_list coded_ℕ))
+    (λ i. (i.start, i.name)) (λ p. record { start = p.0; name = p.1 }) (λ _. refl)
 
 -- the entries of a map of threads, by the threads' infos
 abbrev pub keyed : {X : Type 0} → List (ThreadInfo × X) → List (Info × X)

@@ -6,5 +6,9 @@ use Rattle.puffin_frames.specs.declared.frame_data.reading.Form.TheVariants as f
 
 abbrev pub IsFormOf : ℕ → Form → Type 0
 IsFormOf letter forms.Old = ((letter == digit_0) || (letter == digit_1)) ≡ true
-IsFormOf letter forms.Read = (((letter == digit_0) || (letter == digit_1)) ≡ false) × (((letter == digit_2) || (letter == digit_3) || (letter == digit_4)) ≡ true)
-IsFormOf letter forms.New = (((letter == digit_0) || (letter == digit_1)) ≡ false) × (((letter == digit_2) || (letter == digit_3) || (letter == digit_4)) ≡ false)
+IsFormOf letter forms.Read =
+    (((letter == digit_0) || (letter == digit_1)) ≡ false)
+    × (((letter == digit_2) || (letter == digit_3) || (letter == digit_4)) ≡ true)
+IsFormOf letter forms.New =
+    (((letter == digit_0) || (letter == digit_1)) ≡ false)
+    × (((letter == digit_2) || (letter == digit_3) || (letter == digit_4)) ≡ false)

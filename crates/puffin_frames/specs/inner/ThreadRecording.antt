@@ -18,7 +18,8 @@ scopes_closed [] closed stop = ([], closed)
 scopes_closed (o ∷ outer) closed stop = (outer, with_ended o closed stop)
 
 abbrev pub scopes_with : List Opened × Forest → Event → List Opened × Forest
-scopes_with sofar (Open id text start) = (record { before = sofar.1; id = id; start = start; text = text } ∷ sofar.0, empty)
+scopes_with sofar (Open id text start) =
+    (record { before = sofar.1; id = id; start = start; text = text } ∷ sofar.0, empty)
 scopes_with sofar (Close stop) = scopes_closed sofar.0 sofar.1 stop
 
 unfoldable pub scopes_in : List Event → List Opened × Forest
@@ -32,7 +33,8 @@ size_places (o ∷ outer) = size_place o outer ∷ size_places outer
 -- open scopes that can be written, and that started from 0 on and not after this moment
 abbrev pub StartedBy : ℤ → List Opened → Type 0
 StartedBy latest [] = Unit {0}
-StartedBy latest (o ∷ outer) = IsOpened o × (pos 0 ≤ℤ o.start) × (o.start ≤ℤ latest) × StartedBy latest outer
+StartedBy latest (o ∷ outer) =
+    IsOpened o × (pos 0 ≤ℤ o.start) × (o.start ≤ℤ latest) × StartedBy latest outer
 
 -- the bytes are those of a stream with the scopes of their word, which can be written
 pub record HoldsScopes (bytes : List ℕ) (latest : ℤ) : Type 0 where
@@ -49,7 +51,13 @@ pub record Counted (info : StreamInfo) (word : List Event) : Type 0 where
   pub greatest : info.range_ns.1 ≡ greatest_close word
 
 abbrev pub thread_in : Inside → Thread
-thread_in r = record { name = string_bytes r.name; first_start = r.first_start; latest = r.latest; word = events_in r.info.stream.bytes; details = details_seen r.details.items }
+thread_in r = record {
+  name = string_bytes r.name;
+  first_start = r.first_start;
+  latest = r.latest;
+  word = events_in r.info.stream.bytes;
+  details = details_seen r.details.items;
+}
 
 -- the copy of the name, where there is one
 abbrev pub spare_name : Inside → Option (List ℕ)

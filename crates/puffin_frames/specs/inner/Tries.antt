@@ -11,7 +11,8 @@ Explains stops.Memory read = Unit {0}
 Explains stops.NoLayout read = read ≡ None
 
 -- a call returned what the reading gives, seen by view, and left what follows it
-abbrev pub TriesToGive : {X A : Type 0} → (X → A) → Result X Stop → List ℕ → Option (A × List ℕ) → Type 0
+abbrev pub TriesToGive : {X A : Type 0} → (X → A) → Result X Stop → List ℕ → Option (A × List ℕ) →
+    Type 0
 TriesToGive view (Ok x) new read = read ≡ Some (view x, new)
 TriesToGive view (Err e) new read = Explains e read
 
@@ -26,7 +27,8 @@ Decided view (Ok x) answer = answer ≡ Ok (view x)
 Decided view (Err e) answer = answer ≡ Err e
 
 -- the same, unless memory ran out
-abbrev pub DecidedInMemory : {X A : Type 0} → (X → A) → Result X FileError → Result A FileError → Type 0
+abbrev pub DecidedInMemory : {X A : Type 0} → (X → A) → Result X FileError → Result A FileError →
+    Type 0
 DecidedInMemory view (Ok x) answer = answer ≡ Ok (view x)
 DecidedInMemory view (Err file.Memory) answer = Unit {0}
 DecidedInMemory view (Err e) answer = answer ≡ Err e

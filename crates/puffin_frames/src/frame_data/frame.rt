@@ -23,10 +23,10 @@ use std::collections::BTreeMap;
 use std::mem;
 use std::sync::Arc;
 
-/// A frame, with what is told of the scopes that are new in it.
+/// A frame, with what is said of the scopes that are new in it.
 #[derive(Drop)]
 pub struct FrameData {
-    /// What is told of the scopes that are new in this frame.
+    /// What is said of the scopes that are new in this frame.
     pub scope_delta: Vec<Arc<ScopeDetails>>,
     /// Whether `scope_delta` also tells of all scopes so far.
     pub full_delta: bool,

@@ -84,7 +84,7 @@ impl ScopeCollection {
         self.by_name.get(name)
     }
 
-    /// Inserts details under their id and their name, and answers those kept under the id, which are the first.
+    /// Inserts details under their id and their name, and returns those kept under the id, which are the first.
     ///
     /// Refused with `MissingId` where they have no id, and else only with `Memory`. Nothing is changed then.
     pub fn insert(&mut self, details: Arc<ScopeDetails>) -> Result<Arc<ScopeDetails>>

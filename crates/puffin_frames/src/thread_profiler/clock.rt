@@ -11,7 +11,7 @@ use std::time::{Duration, Instant};
 
 /// A clock that counts nanoseconds. It may fall, but it is never below 0.
 pub trait NsSource {
-    /// Asked in this state, it may give this answer and be left in that state.
+    /// Asked in this state, it may return this time and be left in that state.
     ghost answers: { Self → ℤ → Self → Type 0 };
 
     /// The time now, in nanoseconds.
@@ -72,7 +72,7 @@ impl<R: Clock> NsSource for SystemClock<R> {
     ghost answers = { λ old at new.
         (clock_start new ≡ clock_start old) × (last_answer new ≡ at) × (clock_start old ≤ℤ at) };
 
-    /// The start and the time gone by since, at most the greatest that fits. Where the clock can't be read, the last answer.
+    /// The start and the time gone by since, at most the greatest that fits. Where the clock can't be read, the last time returned.
     fn now_ns(&mut self) -> NanoSecond {
         if let Ok(elapsed) = self.begun.elapsed(&self.rt) {
             self.last_ns = self.start_ns.saturating_add(nanoseconds(elapsed));
@@ -81,9 +81,9 @@ impl<R: Clock> NsSource for SystemClock<R> {
     }
 }
 
-/// A clock that answers what it is told to. A time below 0 counts as 0.
+/// A clock that returns what it was set to. A time below 0 counts as 0.
 ///
-/// Contracts see the time that it was told.
+/// Contracts see the time that it was set to.
 #[derive(Drop)]
 pub struct ScriptClock {
     at: NanoSecond,

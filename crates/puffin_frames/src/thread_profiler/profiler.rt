@@ -10,7 +10,7 @@ use std::borrow::CowStr;
 /// The profiler of one thread: it writes down when the thread's scopes begin and end, by a clock of its own, and reports
 /// them whenever the last open scope has closed.
 ///
-/// The time of a call is the greatest that the clock has answered so far.
+/// The time of a call is the greatest that the clock has returned so far.
 #[derive(Drop)]
 pub struct ThreadProfiler<C> {
     recording: Recording,
@@ -63,7 +63,7 @@ impl<C: NsSource> ThreadProfiler<C> {
         self.recording.depth()
     }
 
-    /// Begins a scope and answers its offset, which [`ThreadProfiler::end_scope`] takes. Of the text its longest beginning
+    /// Begins a scope and returns its offset, which [`ThreadProfiler::end_scope`] takes. Of the text its longest beginning
     /// is kept that has at most 127 bytes and ends where a character ends.
     ///
     /// Refused only with `Memory`: the memory for the scope's end and for its report is taken here too. A refused call
@@ -115,7 +115,7 @@ impl<C: NsSource> ThreadProfiler<C> {
         }
     }
 
-    /// Registers a whole function as a scope, under a newly drawn id, which is answered. Its details go to the reporter with
+    /// Registers a whole function as a scope, under a newly drawn id, which is returned. Its details go to the reporter with
     /// the thread's next accepted report.
     ///
     /// Refused with `IdsExhausted` or `Memory`, and nothing is changed then, though an id may be used up.

@@ -68,7 +68,7 @@ fn size_of_ends(offsets: &[usize]) -> usize
     END_SIZE * (offsets.len() + 1)
 }
 
-/// Writes a scope's beginning at a time, within the room, and answers where its size stands.
+/// Writes a scope's beginning at a time, within the room, and returns where its size stands.
 fn write_begin(stream: &mut Stream, at: NanoSecond, id: ScopeId, text: &str) -> usize
     requires { BEGIN_LIMIT ≤ stream.old.room }
     ensures bytes { stream.new.bytes
@@ -126,7 +126,7 @@ impl Recording {
         self.offsets.last().copied()
     }
 
-    /// Begins a scope, and answers where its size stands. The memory for its end and for its report is taken first, and
+    /// Begins a scope, and returns where its size stands. The memory for its end and for its report is taken first, and
     /// then the clock is read.
     pub(crate) fn begin_scope<C: NsSource>(
         &mut self,
@@ -159,7 +159,7 @@ impl Recording {
         Ok(offset)
     }
 
-    /// Ends the innermost scope, without memory. Where it was the last, answers a copy of the name for the report.
+    /// Ends the innermost scope, without memory. Where it was the last, returns a copy of the name for the report.
     pub(crate) fn close(&mut self, now_ns: NanoSecond) -> Option<String>
         requires { 0 < open_after 0 self.old.word }
         ensures closed { self.new ≡ after_end self.old now_ns }
@@ -192,7 +192,7 @@ impl Recording {
         }
     }
 
-    /// Registers details under a newly drawn id, which is answered, for the next accepted report.
+    /// Registers details under a newly drawn id, which is returned, for the next accepted report.
     ///
     /// Refused with `IdsExhausted` or `Memory`, and nothing is changed then. The memory is taken before the id is drawn.
     pub(crate) fn register(&mut self, ids: &ScopeIds, details: ScopeDetails) -> Result<ScopeId>

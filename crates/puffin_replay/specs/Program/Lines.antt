@@ -11,25 +11,32 @@ use Rattle.puffin_frames.specs.declared.frame_data.meta.FrameMeta.{FrameMeta}
 
 abbrev pub measures_line : ℕ → ℕ → ℤ → ℤ → List ℕ
 measures_line scopes depth start stop =
-    codes "scopes " ++ (decimal scopes ++ (codes " depth " ++ (decimal depth ++ (codes " range " ++ (signed_decimal start ++ (codes " " ++ (signed_decimal stop ++ codes "\n")))))))
+    codes "scopes " ++ (decimal scopes
+    ++ (codes " depth " ++ (decimal depth ++ (codes " range " ++ (signed_decimal start
+    ++ (codes " " ++ (signed_decimal stop ++ codes "\n")))))))
 
 -- the line of a forest
 abbrev pub count_line : Forest → List ℕ
 count_line empty = codes "scopes 0 depth 0 range empty\n"
 count_line (node s children others) =
-    let f = node s children others in measures_line (scope_count f) (height f) (least_start f) (greatest_stop f)
+    let f = node s children others in
+    measures_line (scope_count f) (height f) (least_start f) (greatest_stop f)
 
 -- the line of a frame: its sums, and its range with the time between
 abbrev pub sums_text : ℕ → ℕ → ℕ → List ℕ
-sums_text index bytes scopes = codes "frame " ++ (decimal index ++ (codes " bytes " ++ (decimal bytes ++ (codes " scopes " ++ decimal scopes))))
+sums_text index bytes scopes =
+    codes "frame " ++ (decimal index
+    ++ (codes " bytes " ++ (decimal bytes ++ (codes " scopes " ++ decimal scopes))))
 
 abbrev pub range_text : ℤ → ℤ → ℤ → List ℕ
 range_text start stop duration =
-    codes " range " ++ (signed_decimal start ++ (codes " " ++ (signed_decimal stop ++ (codes " duration " ++ (signed_decimal duration ++ codes "\n")))))
+    codes " range " ++ (signed_decimal start ++ (codes " " ++ (signed_decimal stop
+    ++ (codes " duration " ++ (signed_decimal duration ++ codes "\n")))))
 
 abbrev pub meta_line : FrameMeta → List ℕ
 meta_line meta =
-    sums_text meta.frame_index meta.num_bytes meta.num_scopes ++ range_text meta.range_ns.0 meta.range_ns.1 (meta.range_ns.1 -ℤ meta.range_ns.0)
+    sums_text meta.frame_index meta.num_bytes meta.num_scopes
+    ++ range_text meta.range_ns.0 meta.range_ns.1 (meta.range_ns.1 -ℤ meta.range_ns.0)
 
 -- the line of a frame that was refused
 abbrev pub none_line : Error → List ℕ

@@ -55,7 +55,8 @@ NoneLacksIds cs = list_any lacks_ids cs ≡ false
 -- The view took these frames, in order, and knows the details that they tell.
 pub record Takes (frames : List Frame) (old new : FrameView) : Type 0 where
   pub taken : view_of new ≡ after_all (view_of old) frames
-  pub details : collection_of new ≡ with_all_details (collection_of old) (flat_map details_of_frame frames)
+  pub details : collection_of new
+      ≡ with_all_details (collection_of old) (flat_map details_of_frame frames)
 
 -- The view took a beginning of these frames, and there was no memory for the next: it knows a beginning of what that tells, and its newest frame may be packed, where it would have been.
 pub record TakesSome (frames : List Frame) (old new : FrameView) : Type 0 where
@@ -64,7 +65,8 @@ pub record TakesSome (frames : List Frame) (old new : FrameView) : Type 0 where
   pub rest : List Frame
   pub split : frames ≡ front ++ (next ∷ rest)
   pub taken : KeepsFrames (after_all (view_of old) front) (index_of next) (view_of new)
-  pub details : LearnsSome (with_all_details (collection_of old) (flat_map details_of_frame front)) (details_of_frame next) (collection_of new)
+  pub details : LearnsSome (with_all_details (collection_of old) (flat_map details_of_frame front))
+      (details_of_frame next) (collection_of new)
 
 -- ---- recording
 
@@ -80,15 +82,26 @@ IsWriteFault fault = (fault ≡ file.PartTooLong) ⊎ (fault ≡ file.Memory) �
 module _ (start end : SessionState) (commands : List Command) (old new : FrameView) (before after : Option (List ℕ)) where
   -- there was no memory to run the commands, and nothing is changed or written
   abbrev pub HasNotRun : FileError → Type 0
-  HasNotRun fault = (fault ≡ file.Memory) × (end ≡ start) × Takes [] old new × Appends before after []
+  HasNotRun fault =
+      (fault ≡ file.Memory) × (end ≡ start) × Takes [] old new × Appends before after []
 
   -- the commands were run, but there was no memory for the view to take all frames of the run, and nothing is written
   abbrev pub HasNotTaken : FileError → Type 0
-  HasNotTaken fault = (replies : List Reply) × Records start end commands replies × TakesSome (frames_emitted replies) old new × (fault ≡ file.Memory) × Appends before after []
+  HasNotTaken fault =
+      (replies : List Reply)
+      × Records start end commands replies
+      × TakesSome (frames_emitted replies) old new
+      × (fault ≡ file.Memory)
+      × Appends before after []
 
   -- the commands were run and the view took all frames of the run, but only a beginning of its file is written
   abbrev pub HasNotWritten : FileError → Type 0
-  HasNotWritten fault = (replies : List Reply) × Records start end commands replies × Takes (frames_emitted replies) old new × WritesBeginning before after (file_of_view new) × IsWriteFault fault
+  HasNotWritten fault =
+      (replies : List Reply)
+      × Records start end commands replies
+      × Takes (frames_emitted replies) old new
+      × WritesBeginning before after (file_of_view new)
+      × IsWriteFault fault
 
   -- why a recording failed, and what it left
   abbrev pub IsBroken : FileError → Type 0

@@ -17,22 +17,29 @@ use Rattle.std.specs.declared.sync.Arc.{Arc}
 use Rattle.std.specs.declared.alloc.Global.{Global}
 
 abbrev pub frame_text : ℕ → ℕ → ℕ → List ℕ
-frame_text index threads scopes = codes "frame " ++ (decimal index ++ (codes " threads " ++ (decimal threads ++ (codes " scopes " ++ decimal scopes))))
+frame_text index threads scopes =
+    codes "frame " ++ (decimal index
+    ++ (codes " threads " ++ (decimal threads ++ (codes " scopes " ++ decimal scopes))))
 
 abbrev pub duration_text : ℕ → ℤ → List ℕ
-duration_text bytes duration = codes " bytes " ++ (decimal bytes ++ (codes " duration " ++ (signed_decimal duration ++ codes "\n")))
+duration_text bytes duration =
+    codes " bytes "
+    ++ (decimal bytes ++ (codes " duration " ++ (signed_decimal duration ++ codes "\n")))
 
 -- the line of a frame that was taken
 abbrev pub taken_line : ℕ → FrameMeta → List ℕ
 taken_line threads meta =
-    frame_text meta.frame_index threads meta.num_scopes ++ duration_text meta.num_bytes (meta.range_ns.1 -ℤ meta.range_ns.0)
+    frame_text meta.frame_index threads meta.num_scopes
+    ++ duration_text meta.num_bytes (meta.range_ns.1 -ℤ meta.range_ns.0)
 
 -- the line of a command that was refused, and of a report, by the line that the command stands in
 abbrev pub refused_line : ℕ → Error → List ℕ
-refused_line number cause = codes "refused " ++ (decimal number ++ (codes " " ++ (error_name cause ++ codes "\n")))
+refused_line number cause =
+    codes "refused " ++ (decimal number ++ (codes " " ++ (error_name cause ++ codes "\n")))
 
 abbrev pub kept_line : ℕ → Error → List ℕ
-kept_line number cause = codes "kept " ++ (decimal number ++ (codes " " ++ (error_name cause ++ codes "\n")))
+kept_line number cause =
+    codes "kept " ++ (decimal number ++ (codes " " ++ (error_name cause ++ codes "\n")))
 
 abbrev pub ended_line : ℕ → Closed → Option (List ℕ)
 ended_line number (closed.Kept cause) = Some (kept_line number cause)
@@ -47,7 +54,8 @@ abbrev pub thread_count : FrameData → ℕ
 thread_count frame = threads_held (holding_of frame).unpacked
 
 abbrev pub emitted_line : Option (Arc FrameData Global) → List ℕ
-emitted_line (Some frame) = taken_line (thread_count (arc_value frame)) (frame_meta (arc_value frame))
+emitted_line (Some frame) =
+    taken_line (thread_count (arc_value frame)) (frame_meta (arc_value frame))
 emitted_line None = codes "frame none\n"
 
 -- what is printed of a reply to the command in this line, if anything
@@ -59,5 +67,6 @@ reply_line number _ = None
 
 -- what is printed of replies to the commands in these lines, one after another
 abbrev pub reply_lines : List ℕ → List Reply → List ℕ
-reply_lines (number ∷ numbers) (reply ∷ replies) = unwrap_or (reply_line number reply) [] ++ reply_lines numbers replies
+reply_lines (number ∷ numbers) (reply ∷ replies) =
+    unwrap_or (reply_line number reply) [] ++ reply_lines numbers replies
 reply_lines _ _ = []

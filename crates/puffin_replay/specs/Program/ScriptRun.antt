@@ -18,7 +18,8 @@ use Rattle.puffin_replay.specs.Session.{SessionState}
 use Rattle.puffin_replay.specs.Program.Recording.{AreReplies, frames_emitted, NoneLacksIds, IsWriteFault}
 
 abbrev pub AreAnswers : Script → List Reply → SessionState → Type 0
-AreAnswers script replies end = AreReplies (map string_bytes script.names.items) script.commands.items replies end
+AreAnswers script replies end =
+    AreReplies (map string_bytes script.names.items) script.commands.items replies end
 
 -- a new view that took the frames of replies, and no others
 abbrev pub view_after : List Reply → View
@@ -36,7 +37,8 @@ pub record IsReplayed (script : Script) (file_before file_after lines_before lin
   pub told : Appends lines_before lines_after (reply_lines script.lines.items replies)
 
 -- Why a script's run failed, and what it wrote: there was no memory, and nothing is written; or a beginning of the file is, and no line; or the file is, and a beginning of the lines.
-abbrev pub IsUnfinished : Script → FileError → Option (List ℕ) → Option (List ℕ) → Option (List ℕ) → Option (List ℕ) → Type 0
+abbrev pub IsUnfinished : Script → FileError → Option (List ℕ) → Option (List ℕ) → Option (List ℕ) →
+    Option (List ℕ) → Type 0
 IsUnfinished script fault file_before file_after lines_before lines_after =
     ((fault ≡ file.Memory) × Appends file_before file_after [] × Appends lines_before lines_after [])
     ⊎ ((replies : List Reply) × (end : SessionState) × AreAnswers script replies end × WritesBeginning file_before file_after (file_of (contents_in (view_after replies))) × Appends lines_before lines_after []

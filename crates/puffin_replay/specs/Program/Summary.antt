@@ -23,7 +23,12 @@ use Rattle.puffin_replay.specs.declared.replay.summary.Summary.{Summary}
 
 -- what merging reads of a frame with these streams: its range's start, and the bytes under an info
 abbrev pub bytes_under : Info → Said → Result Streams FileError → Result FrameBytes FileError
-bytes_under info c (Ok streams) = Ok (record { start = c.meta.range_ns.0; stream = option_map (λ (r : Recorded). r.bytes) (tree.get streams info) })
+bytes_under info c (Ok streams) =
+    Ok (
+    record {
+      start = c.meta.range_ns.0;
+      stream = option_map (λ (r : Recorded). r.bytes) (tree.get streams info);
+    })
 bytes_under info c (Err cause) = Err cause
 
 -- the streams that a frame's packed copy is unpacked to, or why it isn't
@@ -34,7 +39,8 @@ streams_said c = unpacking (record { kind = c.kind; bytes = c.streams })
 abbrev pub bytes_in : Info → Said → Result FrameBytes FileError
 bytes_in info c = bytes_under info c (streams_said c)
 
-abbrev pub followed_by : Result FrameBytes FileError → Result (List FrameBytes) FileError → Result (List FrameBytes) FileError
+abbrev pub followed_by : Result FrameBytes FileError → Result (List FrameBytes) FileError →
+    Result (List FrameBytes) FileError
 followed_by (Err cause) others = Err cause
 followed_by (Ok frame) (Err cause) = Err cause
 followed_by (Ok frame) (Ok frames) = Ok (frame ∷ frames)
@@ -58,7 +64,8 @@ pub record SumsUp (info : Info) (cs : List Said) (told : List Details) (summary 
 
 -- the frames of a view that reads a file, and the details of all frames of the file
 abbrev pub IsSummary : Info → List Stored → Summary → Type 0
-IsSummary info stored summary = SumsUp info (contents_read stored) (flat_map details_stored stored) summary
+IsSummary info stored summary =
+    SumsUp info (contents_read stored) (flat_map details_stored stored) summary
 
 -- the details that frames tell
 abbrev pub details_said : List Said → List Details
@@ -73,4 +80,7 @@ IsHindered info cs fault =
 -- A call read a device and summed nothing up: the device or memory failed, or the bytes that were taken have this fault, or they are frames that have it.
 abbrev pub FailsToSumUp : Info → Option (List ℕ) → Option (List ℕ) → FileError → Type 0
 FailsToSumUp info old new fault =
-    FailsToRead file_at old new fault ⊎ ((stored : List Stored) × TookFrames file_at old new stored × IsHindered info (contents_read stored) fault)
+    FailsToRead file_at old new fault
+    ⊎ ((stored : List Stored)
+    × TookFrames file_at old new stored
+    × IsHindered info (contents_read stored) fault)

@@ -11,7 +11,8 @@ pub data Meaning : Type 0 where
   -- the innermost open scope of a thread ends
   ends : (thread : List ℕ) → (at : ℤ) → Meaning
   -- a thread registers a scope's details: a function's without a name
-  registers : (thread : List ℕ) → (name : Option (List ℕ)) → (function : List ℕ) → (file : List ℕ) → (line : ℕ) → Meaning
+  registers : (thread : List ℕ) → (name : Option (List ℕ)) → (function : List ℕ) → (file : List ℕ) →
+      (line : ℕ) → Meaning
   -- a scope of another origin is registered
   registers_user : (name : List ℕ) → Meaning
   -- the next frame tells of all scopes
@@ -67,16 +68,26 @@ id_of word = option_and_then unless_zero (line_of word)
 
 abbrev pub begin_of : List (List ℕ) → Option Meaning
 begin_of (thread ∷ time ∷ id ∷ text) =
-    option_and_then (λ t. option_and_then (λ at. option_map (λ n. begins t at n (joined_words text)) (id_of id)) (moment_in time)) (name_in thread)
+    option_and_then
+    (λ t.
+    option_and_then (λ at. option_map (λ n. begins t at n (joined_words text)) (id_of id))
+    (moment_in time))
+    (name_in thread)
 begin_of _ = None
 
 abbrev pub end_of : List (List ℕ) → Option Meaning
-end_of (thread ∷ time ∷ []) = option_and_then (λ t. option_map (λ at. ends t at) (moment_in time)) (name_in thread)
+end_of (thread ∷ time ∷ []) =
+    option_and_then (λ t. option_map (λ at. ends t at) (moment_in time)) (name_in thread)
 end_of _ = None
 
 abbrev pub registration_of : List ℕ → Option (List ℕ) → List (List ℕ) → Option Meaning
 registration_of thread name (function ∷ file ∷ line ∷ []) =
-    option_and_then (λ f. option_and_then (λ path. option_map (λ n. registers thread name f path n) (line_of line)) (name_in file)) (name_in function)
+    option_and_then
+    (λ f.
+    option_and_then
+    (λ path. option_map (λ n. registers thread name f path n) (line_of line))
+    (name_in file))
+    (name_in function)
 registration_of thread name _ = None
 
 abbrev pub function_of : List (List ℕ) → Option Meaning
@@ -84,7 +95,9 @@ function_of (thread ∷ words) = option_and_then (λ t. registration_of t None w
 function_of [] = None
 
 abbrev pub scope_of : List (List ℕ) → Option Meaning
-scope_of (thread ∷ name ∷ words) = option_and_then (λ t. option_and_then (λ n. registration_of t (Some n) words) (name_in name)) (name_in thread)
+scope_of (thread ∷ name ∷ words) =
+    option_and_then (λ t. option_and_then (λ n. registration_of t (Some n) words) (name_in name))
+    (name_in thread)
 scope_of _ = None
 
 abbrev pub user_of : List (List ℕ) → Option Meaning

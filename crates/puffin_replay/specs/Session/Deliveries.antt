@@ -19,7 +19,9 @@ marked_call time (ended reported) = record { event = Close time; reported = repo
 -- each call at the greatest time up to it, after the calls of the past
 abbrev pub marked_calls : ℤ → List Call → List Call → List Marked
 marked_calls latest past [] = []
-marked_calls latest past (c ∷ later) = marked_call (greatest latest (past ++ (c ∷ []))) c.mark ∷ marked_calls latest (past ++ (c ∷ [])) later
+marked_calls latest past (c ∷ later) =
+    marked_call (greatest latest (past ++ (c ∷ []))) c.mark
+    ∷ marked_calls latest (past ++ (c ∷ [])) later
 
 -- the start of the first scope
 abbrev pub first_open : List Marked → Option ℤ
@@ -29,7 +31,9 @@ first_open (m ∷ ms) = elim m.event [ Open id text start ↦ Some start | Close
 module _ (o : Opening) where
   -- a thread's word: what was unreported at the opening, and all its calls since
   abbrev pub word_of : ℕ → List Action → List Marked
-  word_of t done = map (λ e. record { event = e; reported = false }) (thread_at o t).word ++ marked_calls (thread_at o t).latest [] (calls_of t done)
+  word_of t done =
+      map (λ e. record { event = e; reported = false }) (thread_at o t).word
+      ++ marked_calls (thread_at o t).latest [] (calls_of t done)
 
   -- its last piece, behind the last accepted report
   abbrev pub unreported : ℕ → List Action → List Event
@@ -37,7 +41,9 @@ module _ (o : Opening) where
 
   -- the start of its first scope ever
   abbrev pub first_start_of : ℕ → List Action → Option ℤ
-  first_start_of t done = option_or (thread_at o t).first_start (first_open (marked_calls (thread_at o t).latest [] (calls_of t done)))
+  first_start_of t done =
+      option_or (thread_at o t).first_start (
+      first_open (marked_calls (thread_at o t).latest [] (calls_of t done)))
 
   abbrev pub info_under : ℕ → List Action → Info
   info_under t done = record { start = first_start_of t done; name = (thread_at o t).name }
@@ -61,7 +67,8 @@ module _ (o : Opening) where
   -- what actions hand over one after another, after those of the past
   abbrev pub deliveries_after : List Action → List Action → List Delivery
   deliveries_after past [] = []
-  deliveries_after past (a ∷ later) = deliveries_at past a ++ deliveries_after (past ++ (a ∷ [])) later
+  deliveries_after past (a ∷ later) =
+      deliveries_at past a ++ deliveries_after (past ++ (a ∷ [])) later
 
   -- all that was handed over, and the frames between
   abbrev pub deliveries : List Action → List Delivery

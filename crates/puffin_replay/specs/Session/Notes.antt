@@ -31,7 +31,8 @@ notes_at t _ = []
 module _ (o : Opening) where
   -- the details that a thread has registered since its last accepted report
   abbrev pub details_registered : ℕ → List Action → List Details
-  details_registered t done = details_waiting (map noted (thread_at o t).details ++ flat_map (notes_at t) done)
+  details_registered t done =
+      details_waiting (map noted (thread_at o t).details ++ flat_map (notes_at t) done)
 
   -- What an action, after those before it, notes for the next frame: a thread's registered details where its report is accepted, and those of the user's new scopes. An emitted frame takes all.
   abbrev pub due_notes_at : List Action → Action → List Note
@@ -57,7 +58,8 @@ module _ (o : Opening) where
 
   abbrev pub details_learnt_after : List Action → List Action → List Details
   details_learnt_after past [] = []
-  details_learnt_after past (a ∷ later) = details_learnt_at past a ++ details_learnt_after (past ++ (a ∷ [])) later
+  details_learnt_after past (a ∷ later) =
+      details_learnt_at past a ++ details_learnt_after (past ++ (a ∷ [])) later
 
   -- what is known of scopes
   abbrev pub known_after : List Action → Collection

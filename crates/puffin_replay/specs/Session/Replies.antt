@@ -97,23 +97,38 @@ module _ (o : Opening) (done : List Action) where
 
   -- an emitted frame spells what was due and tells of the details that were due, and there is none only where no scope was due
   abbrev pub FrameIsDue : Emitted → Type 0
-  FrameIsDue emitted = MatchOption emitted.frame (NoneDue (due o done)) (λ f. SpellsFrame (arc_value f) (index_after o done) (due o done) × TellsScopes (arc_value f) (known_after o done) (due_details o done) (is_wanted o done))
+  FrameIsDue emitted =
+      MatchOption emitted.frame (NoneDue (due o done)) (λ f.
+      SpellsFrame (arc_value f) (index_after o done) (due o done)
+      × TellsScopes (arc_value f) (known_after o done) (due_details o done) (is_wanted o done))
 
   -- After these actions a command may get this reply, where this was learnt; no other pair comes. `Memory` stands where memory was really refused.
   abbrev pub MayReply : Command → Reply → List Details → Type 0
-  MayReply (Begin t at id text) (reply.Began offset) learnt = HasThread t × (offset ≡ word_size (unreported o t done) + 14 + length (cut_text (string_bytes text)))
-  MayReply (Begin t at id text) (reply.Refused e) learnt = IsNoThread t e ⊎ ((e ≡ Memory) × HasThread t)
-  MayReply (End t at back) (reply.Ended closed) learnt = HasThread t × (back ≡ 0) × MayClose (num_open t) (ending_word t at) closed
-  MayReply (End t at back) (reply.Refused e) learnt = IsNoThread t e ⊎ ((e ≡ MismatchedEnd) × HasThread t × ((0 < back) ⊎ (num_open t ≡ 0)))
+  MayReply (Begin t at id text) (reply.Began offset) learnt =
+      HasThread t
+      × (offset ≡ word_size (unreported o t done) + 14 + length (cut_text (string_bytes text)))
+  MayReply (Begin t at id text) (reply.Refused e) learnt =
+      IsNoThread t e ⊎ ((e ≡ Memory) × HasThread t)
+  MayReply (End t at back) (reply.Ended closed) learnt =
+      HasThread t × (back ≡ 0) × MayClose (num_open t) (ending_word t at) closed
+  MayReply (End t at back) (reply.Refused e) learnt =
+      IsNoThread t e ⊎ ((e ≡ MismatchedEnd) × HasThread t × ((0 < back) ⊎ (num_open t ≡ 0)))
   MayReply (Register t name function file line) (reply.Registered id) learnt = HasThread t
-  MayReply (Register t name function file line) (reply.Refused e) learnt = IsNoThread t e ⊎ (((e ≡ IdsExhausted) ⊎ (e ≡ Memory)) × HasThread t)
-  MayReply (RegisterUser names) (reply.RegisteredUser ids) learnt = Registers (known_after o done) (user_details names.items) ids.items learnt
-  MayReply (RegisterUser names) (reply.Refused e) learnt = RegistersSome (known_after o done) (user_details names.items) e learnt
-  MayReply (ReportUser info stream) reply.Reported learnt = (f : Forest) × Spells stream.bytes f × (events_in stream.bytes ≡ tour f) × MayReport (tour f)
+  MayReply (Register t name function file line) (reply.Refused e) learnt =
+      IsNoThread t e ⊎ (((e ≡ IdsExhausted) ⊎ (e ≡ Memory)) × HasThread t)
+  MayReply (RegisterUser names) (reply.RegisteredUser ids) learnt =
+      Registers (known_after o done) (user_details names.items) ids.items learnt
+  MayReply (RegisterUser names) (reply.Refused e) learnt =
+      RegistersSome (known_after o done) (user_details names.items) e learnt
+  MayReply (ReportUser info stream) reply.Reported learnt =
+      (f : Forest) × Spells stream.bytes f × (events_in stream.bytes ≡ tour f) × MayReport (tour f)
   MayReply (ReportUser info stream) (reply.Refused e) learnt =
-      (e ≡ Memory) ⊎ IsFault stream.bytes e ⊎ ((f : Forest) × Spells stream.bytes f × IsDueRefusal (tour f) e)
+      (e ≡ Memory)
+      ⊎ IsFault stream.bytes e
+      ⊎ ((f : Forest) × Spells stream.bytes f × IsDueRefusal (tour f) e)
   MayReply Snapshot reply.Snapshot learnt = Unit {0}
-  MayReply NewFrame (reply.Frame emitted) learnt = (emitted.refused ≡ 0) × (index_after o done ≢ 2 ^ 64 - 1) × FrameIsDue emitted
+  MayReply NewFrame (reply.Frame emitted) learnt =
+      (emitted.refused ≡ 0) × (index_after o done ≢ 2 ^ 64 - 1) × FrameIsDue emitted
   MayReply NewFrame (reply.Refused e) learnt =
       ((e ≡ IndexExhausted) × (index_after o done ≡ 2 ^ 64 - 1) × (learnt ≡ []))
       ⊎ ((e ≡ Memory) × Begins learnt (due_details o done))

@@ -9,8 +9,10 @@ use Rattle.puffin_replay.specs.Session.Actions.{action_of, actions_of}
 use Rattle.puffin_replay.specs.Session.Replies.{MayReply}
 
 -- each command may get its reply after those before it
-abbrev pub EachReply : Opening → List Action → List Command → List Reply → List (List Details) → Type 0
-EachReply o done (c ∷ cs) (r ∷ rs) (l ∷ ls) = MayReply o done c r l × EachReply o (done ++ (action_of c r l ∷ [])) cs rs ls
+abbrev pub EachReply : Opening → List Action → List Command → List Reply → List (List Details) →
+    Type 0
+EachReply o done (c ∷ cs) (r ∷ rs) (l ∷ ls) =
+    MayReply o done c r l × EachReply o (done ++ (action_of c r l ∷ [])) cs rs ls
 EachReply o done _ _ _ = Unit {0}
 
 -- These commands with these replies lead from old to new.

@@ -30,7 +30,8 @@ words_left words = words_behind words.left
 abbrev pub meaning_of : Statement → Meaning
 meaning_of (statement.Begin thread at id text) = begins thread.now at id text.now
 meaning_of (statement.End thread at) = ends thread.now at
-meaning_of (statement.Register thread name function file line) = registers thread.now (option_map (λ (n : Bor (List ℕ)). n.now) name) function.now file.now line
+meaning_of (statement.Register thread name function file line) =
+    registers thread.now (option_map (λ (n : Bor (List ℕ)). n.now) name) function.now file.now line
 meaning_of (statement.RegisterUser name) = registers_user name.now
 meaning_of statement.Snapshot = tells_all
 meaning_of statement.NewFrame = takes_frame
@@ -49,7 +50,8 @@ names_in threads = map string_bytes threads.names.items
 
 -- each name has its place, and no other text has one
 abbrev pub IsNumbered : Threads → Type 0
-IsNumbered threads = (name : List ℕ) → MatchOption (get_by (λ k. slice_cmp nat_cmp name k.now) threads.numbers)
+IsNumbered threads =
+    (name : List ℕ) → MatchOption (get_by (λ k. slice_cmp nat_cmp name k.now) threads.numbers)
     (list_any (bytes_eq name) (names_in threads) ≡ false)
     (λ number. slice_get (names_in threads) number ≡ Some name)
 
@@ -58,4 +60,5 @@ pub record IsReading (reading : Reading) (statements : List (ℕ × Meaning)) : 
   pub numbered : IsNumbered reading.threads
   pub lines : reading.lines.items ≡ map (λ s. s.0) statements
   pub names : names_in reading.threads ≡ threads_after [] statements
-  pub commands : map (command_said (names_in reading.threads)) reading.commands.items ≡ map (λ s. Some s.1) statements
+  pub commands : map (command_said (names_in reading.threads)) reading.commands.items
+      ≡ map (λ s. Some s.1) statements

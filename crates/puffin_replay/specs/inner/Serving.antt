@@ -32,14 +32,16 @@ session_thread s t = slice_index_or s.threads t nobody
 
 -- a session with another thread at this number, and with this collected
 abbrev pub session_with_thread : SessionState → ℕ → Thread → Collected → SessionState
-session_with_thread s t thread collected = record { threads = slice_set s.threads t thread; collected = collected }
+session_with_thread s t thread collected =
+    record { threads = slice_set s.threads t thread; collected = collected }
 
 abbrev pub session_with_collected : SessionState → Collected → SessionState
 session_with_collected s collected = record { threads = s.threads; collected = collected }
 
 -- The innermost scope of a thread was ended. Where it was the last, the report of the whole word was accepted, or it was refused and left what is collected.
 abbrev pub Ends : Thread → Thread → ℤ → Collected → Collected → Closed → Type 0
-Ends old new at before after closed = Closes AcceptsReport RefusesReport old new at before after closed
+Ends old new at before after closed =
+    Closes AcceptsReport RefusesReport old new at before after closed
 
 -- ---- what a run keeps
 
@@ -57,7 +59,9 @@ pub record Continued (o : Opening) (done : List Action) (now : SessionState) : T
 
 -- One command and its reply: something was learnt, and whatever history the session stood after, it stands after that history and what the command did.
 abbrev pub ContinuesBy : SessionState → SessionState → Command → Reply → List Details → Type 0
-ContinuesBy old new c r learnt = (o : Opening) (done : List Action) → Continued o done old → Continued o (done ++ (action_of c r learnt ∷ [])) new × MayReply o done c r learnt
+ContinuesBy old new c r learnt =
+    (o : Opening) (done : List Action) → Continued o done old →
+    Continued o (done ++ (action_of c r learnt ∷ [])) new × MayReply o done c r learnt
 
 abbrev pub Continues : SessionState → SessionState → Command → Reply → Type 0
 Continues old new c r = (learnt : List Details) × ContinuesBy old new c r learnt
@@ -65,4 +69,5 @@ Continues old new c r = (learnt : List Details) × ContinuesBy old new c r learn
 -- a run so far, and the sums over what is collected
 pub record RunsTo (old now : SessionState) (commands : List Command) (replies : List Reply) : Type 0 where
   pub recorded : Records old now commands replies
-  pub sums : SumsTo now.collected.streams (due (opening_of old) (actions_of commands replies recorded.learnt))
+  pub sums : SumsTo now.collected.streams (
+      due (opening_of old) (actions_of commands replies recorded.learnt))

@@ -57,7 +57,7 @@ pub enum Command {
     NewFrame,
 }
 
-/// What a session answers to a command.
+/// What a session replies to a command.
 #[derive(Drop)]
 pub enum Reply {
     /// The scope is begun. Its size will stand at this place of its thread's stream.

@@ -119,7 +119,7 @@ fn frame_line(alloc: Global, info: StreamInfo) -> Result<(String, Option<Error>)
 /// what frame 0 of it says, as the stream of the thread `stdin` that has no start.
 ///
 /// Answers `None` where the lines are written, or the cause that refuses the frame where it isn't `Empty`. Where the
-/// bytes are refused, answers their fault and writes nothing. Fails with `Memory`, where nothing is written, or with
+/// bytes are refused, returns their fault and writes nothing. Fails with `Memory`, where nothing is written, or with
 /// `Io` where the reader or the writer failed: in the second case a beginning of the lines may be written. The lines are
 /// made whole before any of them is written. The reader's place is open after a failure.
 pub fn count_stream<S: Source, D: Drain>(

@@ -34,7 +34,7 @@ impl From<AllocError> for ToolFault {
     }
 }
 
-/// A line that is longer than each that is told.
+/// A line that is longer than each that is printed.
 type Line = ArrayString<80>;
 
 /// Appends the text of a fault.
@@ -85,7 +85,7 @@ fn line_of(fault: ToolFault) -> Line
     line
 }
 
-/// Writes the line that tells a fault, if there is one, and answers the program's status: 0 without a fault, 2 for other
+/// Writes the line that reports a fault, if there is one, and returns the program's status: 0 without a fault, 2 for other
 /// words, else 1. A failure of the writer doesn't change it; a beginning of the line is then written.
 pub fn finish<D: Drain>(fault: Option<ToolFault>, drain: &mut D) -> u8
     requires { D.failures drain.old < 2 ^ 64 - 1 }

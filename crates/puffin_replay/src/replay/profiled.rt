@@ -68,7 +68,7 @@ impl Profiled {
         }
     }
 
-    /// Registers a scope's details under a newly drawn id, which is answered. Refused only with `IdsExhausted` or `Memory`;
+    /// Registers a scope's details under a newly drawn id, which is returned. Refused only with `IdsExhausted` or `Memory`;
     /// nothing is changed then.
     pub(crate) fn register(
         &mut self,

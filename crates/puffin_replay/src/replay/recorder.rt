@@ -158,9 +158,9 @@ pub fn record<D: Drain>(
 }
 
 /// Runs a script in a new session, and writes two things: first the file of a new view that took each frame of the run,
-/// then the lines that tell the replies.
+/// then the lines of the replies.
 ///
-/// Fails as [`record`] does, with no line written; and with `Memory` or `Io` where a line can't be told.
+/// Fails as [`record`] does, with no line written; and with `Memory` or `Io` where a line can't be written.
 pub fn run_script<D: Drain, E: Drain>(
     alloc: Global,
     script: &Script,

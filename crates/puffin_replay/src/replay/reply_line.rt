@@ -71,7 +71,7 @@ fn kept_line(alloc: Global, number: u64, cause: Error) -> Result<String, AllocEr
     format!(in alloc; "kept {number} {cause}\n")
 }
 
-/// The line that tells the reply to the command of the script's line `number`, or `None` where nothing is told of it.
+/// The line that is printed for the reply to the command of the script's line `number`, or `None` where nothing is printed for it.
 pub(crate) fn reply_line(
     alloc: Global,
     number: u64,
@@ -91,7 +91,7 @@ pub(crate) fn reply_line(
     Ok(Some(line))
 }
 
-/// The lines that tell the replies to the commands of these lines of the script, one after another.
+/// The lines that are printed for the replies to the commands of these lines of the script, one after another.
 pub(crate) fn reply_lines(
     alloc: Global,
     numbers: &[u64],

@@ -32,7 +32,10 @@ children_of p entries = filter (λ e. e.parent == p) entries
 abbrev pub forest_below : ℕ → ℕ → List Entry → MergedForest
 forest_below frames p [] = no_node
 forest_below frames p (e ∷ entries) =
-    cond (e.parent == p) (merged (node_of frames e) (forest_below frames e.number entries) (forest_below frames p entries)) (forest_below frames p entries)
+    cond (e.parent == p)
+    (merged (node_of frames e) (forest_below frames e.number entries) (
+    forest_below frames p entries))
+    (forest_below frames p entries)
 
 -- by recursion
 abbrev pub Each : (Entry → Type 0) → List Entry → Type 0
@@ -50,7 +53,8 @@ pub record StandsBefore (at : Path → Merged) (path_of : ℕ → Path) (e f : E
 
 abbrev pub InOrder : (Path → Merged) → (ℕ → Path) → List Entry → Type 0
 InOrder at path_of [] = Unit {0}
-InOrder at path_of (e ∷ entries) = Each (StandsBefore at path_of e) entries × InOrder at path_of entries
+InOrder at path_of (e ∷ entries) =
+    Each (StandsBefore at path_of e) entries × InOrder at path_of entries
 
 -- what one entry tells
 pub record IsEntry (at : Path → Merged) (path_of : ℕ → Path) (highest : ℕ) (e : Entry) : Type 0 where

@@ -16,11 +16,15 @@ use Rattle.puffin.specs.inner.merge.Tables.{path_at, IsTableOf, Extends}
 pub record TakesScopes (v : Merging) (scopes : List Nested) (w : Merging) : Type 0 where
   pub origin : w.origin ≡ v.origin
   pub extends : Extends v.table w.table
-  pub accepted : (all : List Occurrence) → IsTableOf all v.table → AreAccepted all (occurrences_in v.origin scopes)
-  pub table : (all : List Occurrence) → IsTableOf all v.table → IsTableOf (all ++ occurrences_in v.origin scopes) w.table
+  pub accepted : (all : List Occurrence) → IsTableOf all v.table →
+      AreAccepted all (occurrences_in v.origin scopes)
+  pub table : (all : List Occurrence) → IsTableOf all v.table →
+      IsTableOf (all ++ occurrences_in v.origin scopes) w.table
 
 abbrev pub RefusesScope : Merging → Nested → Error → Type 0
-RefusesScope v scope e = (all : List Occurrence) → IsTableOf all v.table → IsRefusedFor all (occurrence_of v.origin scope) e
+RefusesScope v scope e =
+    (all : List Occurrence) → IsTableOf all v.table →
+    IsRefusedFor all (occurrence_of v.origin scope) e
 
 -- what is kept of an open scope is that of the innermost of these
 pub record StandsFor (v : Merging) (w : Open) (around : List Span) : Type 0 where
@@ -38,10 +42,17 @@ pub append-nil : {A : Type 0} (xs : List A) → xs ++ [] ≡ xs
 append-nil [] = refl
 append-nil (x ∷ xs) = ap (λ l. x ∷ l) (append-nil xs)
 
-pub accepted-append : (all xs ys : List Occurrence) → AreAccepted all xs → AreAccepted (all ++ xs) ys → AreAccepted all (xs ++ ys)
-accepted-append all [] ys a b = subst (λ (zs : List Occurrence). AreAccepted zs ys) (append-nil all) b
-accepted-append all (x ∷ xs) ys a b =
-    (a.0, a.1, accepted-append (all ++ (x ∷ [])) xs ys a.2 (subst (λ (zs : List Occurrence). AreAccepted zs ys) (sym (append_assoc all (x ∷ []) xs)) b))
+pub accepted-append : (all xs ys : List Occurrence) → AreAccepted all xs →
+    AreAccepted (all ++ xs) ys → AreAccepted all (xs ++ ys)
+accepted-append all [] ys a b =
+    subst (λ (zs : List Occurrence). AreAccepted zs ys) (append-nil all) b
+accepted-append all (x ∷ xs) ys a b = (
+  a.0,
+  a.1,
+  accepted-append (all ++ (x ∷ [])) xs ys a.2 (
+      subst (λ (zs : List Occurrence). AreAccepted zs ys) (sym (append_assoc all (x ∷ []) xs))
+      b),
+)
 
 pub takes_none : (v : Merging) → TakesScopes v [] v
 takes_none v = record {
@@ -51,10 +62,13 @@ takes_none v = record {
   table = λ all t. subst (λ (xs : List Occurrence). IsTableOf xs v.table) (sym (append-nil all)) t;
 }
 
-pub takes_more : (u v w : Merging) (xs ys : List Nested) → TakesScopes u xs v → TakesScopes v ys w → TakesScopes u (xs ++ ys) w
+pub takes_more : (u v w : Merging) (xs ys : List Nested) → TakesScopes u xs v → TakesScopes v ys w →
+    TakesScopes u (xs ++ ys) w
 takes_more u v w xs ys a b =
-    let split : occurrences_in u.origin (xs ++ ys) ≡ occurrences_in u.origin xs ++ occurrences_in v.origin ys =
-    map-append (occurrence_of u.origin) xs ys ∙ ap (λ (o : ℤ). occurrences_in u.origin xs ++ occurrences_in o ys) (sym a.origin) in
+    let split : occurrences_in u.origin (xs ++ ys)
+    ≡ occurrences_in u.origin xs ++ occurrences_in v.origin ys =
+    map-append (occurrence_of u.origin) xs ys ∙ ap
+    (λ (o : ℤ). occurrences_in u.origin xs ++ occurrences_in o ys) (sym a.origin) in
     let first = a.extends in
     let second = b.extends in
     let low = first.longer in
@@ -66,7 +80,8 @@ takes_more u v w xs ys a b =
       table = λ all t. subst (λ (zs : List Occurrence). IsTableOf zs w.table) (append_assoc all (occurrences_in u.origin xs) (occurrences_in v.origin ys) ∙ ap (λ (zs : List Occurrence). all ++ zs) (sym split)) (b.table (all ++ occurrences_in u.origin xs) (a.table all t));
     }
 
-pub still_stands : (u v : Merging) (xs : List Nested) (w : Open) (around : List Span) → TakesScopes u xs v → StandsFor u w around → StandsFor v w around
+pub still_stands : (u v : Merging) (xs : List Nested) (w : Open) (around : List Span) →
+    TakesScopes u xs v → StandsFor u w around → StandsFor v w around
 still_stands u v xs w around t s =
     let wide = t.extends in
     let longer = wide.longer in

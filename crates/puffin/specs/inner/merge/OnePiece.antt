@@ -14,4 +14,5 @@ with_piece m own_start duration = record {
 
 -- of one piece
 abbrev pub one_piece : ℤ → ℕ → Merged
-one_piece own_start duration = record { number = 1; total = duration; greatest = duration; own_start = own_start }
+one_piece own_start duration =
+    record { number = 1; total = duration; greatest = duration; own_start = own_start }

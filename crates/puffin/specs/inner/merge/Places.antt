@@ -45,7 +45,12 @@ AreApart (p ∷ places) = EachOf (λ q. p.number.number ≡ q.number.number → 
 
 -- by parent's number, then as siblings, and then by number
 abbrev pub place_cmp : Place → Place → Ordering
-place_cmp = then_cmp (on (λ p. p.parent.number) nat_cmp) (then_cmp (on (λ p. p.own_start) int_cmp) (then_cmp (on (λ p. p.id) nat_cmp) (then_cmp (on (λ p. p.text.now) (slice_cmp nat_cmp)) (on (λ p. p.number.number) nat_cmp))))
+place_cmp =
+    then_cmp (on (λ p. p.parent.number) nat_cmp) (
+    then_cmp (on (λ p. p.own_start) int_cmp) (
+    then_cmp (on (λ p. p.id) nat_cmp) (
+    then_cmp (on (λ p. p.text.now) (slice_cmp nat_cmp)) (
+    on (λ p. p.number.number) nat_cmp))))
 
 pub record ArePlacesOf (nodes : List Node) (places : List Place) : Type 0 where
   pub size : length places ≡ length nodes
@@ -67,7 +72,10 @@ drawn_after frames sums place before =
 abbrev pub drawn_from : List Node → ℕ → Drawn → List Place → Node → List Drawn
 drawn_from nodes frames before [] d = []
 drawn_from nodes frames before (p ∷ places) d =
-    drawn_after frames (slice_index_or nodes (p.number.number - 1) d).sums p before ∷ drawn_from nodes frames (drawn_after frames (slice_index_or nodes (p.number.number - 1) d).sums p before) places d
+    drawn_after frames (slice_index_or nodes (p.number.number - 1) d).sums p before
+    ∷ drawn_from nodes frames
+    (drawn_after frames (slice_index_or nodes (p.number.number - 1) d).sums p before) places
+    d
 
 abbrev pub EndFits : Drawn → Type 0
 EndFits drawn = FitsSigned w64 drawn.end
@@ -85,7 +93,11 @@ entry_of nodes p drawn d = record {
 abbrev pub entries_from : List Node → ℕ → Drawn → List Place → Node → List Entry
 entries_from nodes frames before [] d = []
 entries_from nodes frames before (p ∷ places) d =
-    entry_of nodes p (drawn_after frames (slice_index_or nodes (p.number.number - 1) d).sums p before) d ∷ entries_from nodes frames (drawn_after frames (slice_index_or nodes (p.number.number - 1) d).sums p before) places d
+    entry_of nodes p
+    (drawn_after frames (slice_index_or nodes (p.number.number - 1) d).sums p before) d
+    ∷ entries_from nodes frames
+    (drawn_after frames (slice_index_or nodes (p.number.number - 1) d).sums p before) places
+    d
 
 -- a place's node as it is drawn
 abbrev pub drawn_node : ℕ → Sums → Place → Drawn → forests.Node

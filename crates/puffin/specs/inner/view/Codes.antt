@@ -8,13 +8,17 @@ use Rattle.puffin.specs.View.ViewedFrames.{Frame}
 use Rattle.puffin.specs.View.{View}
 
 abbrev pub meta_code : Coded FrameMeta
-meta_code = code_by (ℕ × ((ℤ × ℤ) × (ℕ × ℕ))) (coded× coded_ℕ (coded× (coded× coded_ℤ coded_ℤ) (coded× coded_ℕ coded_ℕ)))
+meta_code =
+    code_by (ℕ × ((ℤ × ℤ) × (ℕ × ℕ))) (
+    coded× coded_ℕ (coded× (coded× coded_ℤ coded_ℤ) (coded× coded_ℕ coded_ℕ)))
     (λ m. (m.frame_index, (m.range_ns, (m.num_bytes, m.num_scopes))))
     (λ p. record { frame_index = p.0; range_ns = p.1.0; num_bytes = p.1.1.0; num_scopes = p.1.1.1 })
     (λ _. refl)
 
 abbrev pub said_code : Coded Said
-said_code = code_by (FrameMeta × (ℕ × (List ℕ × List Details))) (coded× meta_code (coded× coded_ℕ (coded× (coded_list coded_ℕ) (coded_list details_code))))
+said_code =
+    code_by (FrameMeta × (ℕ × (List ℕ × List Details))) (
+    coded× meta_code (coded× coded_ℕ (coded× (coded_list coded_ℕ) (coded_list details_code))))
     (λ c. (c.meta, (c.kind, (c.streams, c.details))))
     (λ p. record { meta = p.0; kind = p.1.0; streams = p.1.1.0; details = p.1.1.1 })
     (λ _. refl)
@@ -26,7 +30,11 @@ frame_code = code_by (Said × (Bool × Bool)) (coded× said_code (coded× coded_
     (λ _. refl)
 
 abbrev pub view_code : Coded View
-view_code = code_by (List Frame × (List Frame × (Option ℕ × (ℕ × (ℕ × Bool))))) (coded× (coded_list frame_code) (coded× (coded_list frame_code) (coded× (coded_option coded_ℕ) (coded× coded_ℕ (coded× coded_ℕ coded_bool)))))
+view_code =
+    code_by (List Frame × (List Frame × (Option ℕ × (ℕ × (ℕ × Bool))))) (
+    coded× (coded_list frame_code) (
+    coded× (coded_list frame_code) (
+    coded× (coded_option coded_ℕ) (coded× coded_ℕ (coded× coded_ℕ coded_bool)))))
     (λ v. (v.recent, (v.slow, (v.last, (v.max_recent, (v.max_slow, v.packs))))))
     (λ p. record { recent = p.0; slow = p.1.0; last = p.1.1.0; max_recent = p.1.1.1.0; max_slow = p.1.1.1.1.0; packs = p.1.1.1.1.1 })
     (λ _. refl)

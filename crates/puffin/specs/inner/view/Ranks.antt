@@ -18,14 +18,16 @@ rank_index r = r.frame_index
 
 -- by falling duration, then rising index
 abbrev pub rank_cmp : SlowRank → SlowRank → Ordering
-rank_cmp a b = ordering_then (int_cmp b.duration_ns.0 a.duration_ns.0) (nat_cmp a.frame_index b.frame_index)
+rank_cmp a b =
+    ordering_then (int_cmp b.duration_ns.0 a.duration_ns.0) (nat_cmp a.frame_index b.frame_index)
 
 abbrev pub is_before : SlowRank → SlowRank → Bool
 is_before a b = is_lt (rank_cmp a b)
 
 -- whether a rank comes among the k slowest: where there is room, or where it comes before the last of them
 abbrev pub rank_enters : ℕ → List SlowRank → SlowRank → Bool
-rank_enters k slow r = nat_lt (length slow) k || option_map_or (λ s. is_before r s) (last_in slow) false
+rank_enters k slow r =
+    nat_lt (length slow) k || option_map_or (λ s. is_before r s) (last_in slow) false
 
 -- the ranks after one more, and those that it pushes out
 abbrev pub ranks_after : ℕ → List SlowRank → SlowRank → List SlowRank
@@ -36,7 +38,8 @@ ranks_gone k slow r = cond (rank_enters k slow r) (drop k (place is_before r slo
 
 -- each rank is that of the frame which is held under its index
 abbrev pub AreRanked : HeldFrames → List SlowRank → Type 0
-AreRanked held slow = AllByRecursion (λ r. option_map rank_of (map.get held (rank_index r)) ≡ Some r) slow
+AreRanked held slow =
+    AllByRecursion (λ r. option_map rank_of (map.get held (rank_index r)) ≡ Some r) slow
 
 -- whether an index is in a list
 abbrev pub has : ℕ → List ℕ → Bool
@@ -44,4 +47,6 @@ has q is = list_any (nat_eq q) is
 
 -- of what was held, all is still, but for what is gone and not among what stays
 abbrev pub LetsGo : HeldFrames → List ℕ → List ℕ → HeldFrames → Type 0
-LetsGo old stays gone new = (q : ℕ) → map.get new q ≡ cond (has q stays) (map.get old q) (cond (has q gone) None (map.get old q))
+LetsGo old stays gone new =
+    (q : ℕ) →
+    map.get new q ≡ cond (has q stays) (map.get old q) (cond (has q gone) None (map.get old q))

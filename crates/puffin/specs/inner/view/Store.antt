@@ -33,4 +33,6 @@ pub record AreStored (held : HeldFrames) (recent : List ℕ) (slow : List SlowRa
   pub in_order : IsStrictlySortedBy rank_cmp slow
 
 abbrev pub IsStored : HeldFrames → List ℕ → List SlowRank → Option ℕ → Type 0
-IsStored held recent slow last = AreStored held recent slow last (frames_under held recent) (frames_under held (map rank_index slow))
+IsStored held recent slow last =
+    AreStored held recent slow last (frames_under held recent) (
+    frames_under held (map rank_index slow))
