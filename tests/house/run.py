@@ -3,8 +3,8 @@
     python3 run.py
 
 Clauses have at most 100 columns; crates cite of those below them no proofs but `lemmas`; each wrong body can be applied
-and stands in docs/PROOFS.md, which names no other; links in the documents lead somewhere. The last line is
-'N passed, M failed'.
+and stands in docs/PROOFS.md, whose rows name clauses that are there; links in the documents lead somewhere. The last
+line is 'N passed, M failed'.
 """
 
 import pathlib
@@ -79,6 +79,23 @@ def edits_without_a_promise():
             yield f"{short(path)}: docs/PROOFS.md doesn't name it"
 
 
+def clauses_that_are_not_there():
+    """Of a row's contracts: each function is linked, and behind a colon stand the labels of its clauses."""
+    proofs = TOP / "docs/PROOFS.md"
+    for row in proofs.read_text().split("\n"):
+        cells = row.split(" | ")
+        for part in cells[1].split("; ") if len(cells) == 3 else []:
+            part = re.sub(r"\((?!\.\./)(?:[^()]|\([^()]*\))*\)", "", part)  # definitions, in brackets
+            functions, colon, labels = part.partition("): ")
+            linked = re.findall(r"\]\(\.\./([^)#]+\.rt)", functions + ")")
+            if not colon or not linked:
+                continue
+            code = "".join((TOP / name).read_text() for name in linked if (TOP / name).is_file())
+            for label in re.findall(r"(?<!\[)`([a-z0-9_]+)`", labels):
+                if not re.search(rf"(?:ensures\*?|ghost|fn) {label}\b", code):
+                    yield f"docs/PROOFS.md: no clause {label} in {', '.join(linked)}"
+
+
 def anchors(text):
     """What the headings of a document can be linked by."""
     heads = re.findall(r"^#+ (.*)$", text, re.M)
@@ -100,7 +117,15 @@ def broken_links():
 
 def main():
     passed, failed = 0, 0
-    for rule in (wide_clauses, proofs_cited_from_above, edits_that_do_not_apply, edits_without_a_promise, broken_links):
+    rules = (
+        wide_clauses,
+        proofs_cited_from_above,
+        edits_that_do_not_apply,
+        edits_without_a_promise,
+        clauses_that_are_not_there,
+        broken_links,
+    )
+    for rule in rules:
         faults = list(rule())
         for fault in faults:
             print(fault)
