@@ -2,10 +2,28 @@
 #![tactic(auto)]
 
 #[cfg(test)]
-mod data;
+mod device;
+#[cfg(test)]
+mod error;
+#[cfg(test)]
+mod file_error;
+#[cfg(test)]
+mod info;
+#[cfg(test)]
+mod laws;
 #[cfg(test)]
 mod parts;
 #[cfg(test)]
-mod streams;
+mod range;
+#[cfg(test)]
+mod reader;
+#[cfg(test)]
+mod samples;
+#[cfg(test)]
+mod scope_id;
+#[cfg(test)]
+mod stream;
+#[cfg(test)]
+mod walk;
 #[cfg(test)]
 mod wire;

@@ -74,45 +74,86 @@ fn recent(rt: &HostRuntime, view: &FrameView) -> std::result::Result<Vec<FrameIn
     Ok(all)
 }
 
+/// The recent frames have these indices.
+fn are_recent(rt: &HostRuntime, view: &FrameView, indices: &[FrameIndex]) -> Outcome {
+    let found = recent(rt, view)?;
+    if found.as_slice() == indices {
+        Ok(())
+    } else {
+        Err(Fail::new("other frames are recent"))
+    }
+}
+
+/// A view is written as this file.
+fn is_written(rt: &HostRuntime, view: &FrameView, file: &[u8]) -> Outcome {
+    let found = written(rt, view)?;
+    if found.as_slice() == file {
+        Ok(())
+    } else {
+        Err(Fail::new("another file is written"))
+    }
+}
+
+/// A file of these pieces isn't read for this fault, or has none.
+fn has_fault(rt: &HostRuntime, pieces: &[&[u8]], expected: Option<FileError>) -> Outcome {
+    let found = fault(rt, pieces)?;
+    if found == expected {
+        Ok(())
+    } else {
+        Err(Fail::new("another fault"))
+    }
+}
+
 #[test]
 fn files_of_the_rust_crate_are_read_and_written_back(rt: HostRuntime) -> Outcome {
     for len in [4, 79, 155] {
         let view = view(&rt, &FILE[..len])?;
-        assert_eq!(rt; written(&rt, &view)?.as_slice(), &FILE[..len]);
+        is_written(&rt, &view, &FILE[..len])?;
     }
+    Ok(())
+}
+
+#[test]
+fn a_view_of_a_file_has_its_frames_packed(rt: HostRuntime) -> Outcome {
     let view = view(&rt, &FILE)?;
-    assert!(rt; recent(&rt, &view)?.as_slice() == [0, 1].as_slice());
-    assert_eq!(rt; view.stats().frames(), 2);
-    assert_eq!(rt; view.stats().unpacked_frames(), 0);
-    assert_eq!(rt; view.max_recent(), usize::MAX);
-    assert_eq!(rt; view.max_slow(), 256);
+    are_recent(&rt, &view, &[0, 1])?;
+    let stats = view.stats();
+    assert!(rt; (stats.frames(), stats.unpacked_frames()) == (2, 0));
+    assert!(rt; (view.max_recent(), view.max_slow()) == (usize::MAX, 256));
     assert!(rt; view.pack_frames());
     assert!(rt; view.scope_collection().scopes_by_id().is_empty());
     Ok(())
 }
 
 #[test]
-fn recent_and_slow_frames_are_written_each_once(rt: HostRuntime) -> Outcome {
-    // Frame 0 is slow and not recent; then frame 1 alone is held; then each is both.
+fn a_frame_that_is_slow_alone_is_written(rt: HostRuntime) -> Outcome {
     let view = limited(&rt, &FILE, 1, 1)?;
-    assert!(rt; recent(&rt, &view)?.as_slice() == [1].as_slice());
-    assert_eq!(rt; written(&rt, &view)?.as_slice(), FILE.as_slice());
+    are_recent(&rt, &view, &[1])?;
+    is_written(&rt, &view, &FILE)
+}
+
+#[test]
+fn a_frame_that_is_held_no_more_is_not_written(rt: HostRuntime) -> Outcome {
     let mut view = limited(&rt, &FILE, 1, 1)?;
     view.clear_slowest();
     let bytes = bytes_of(&rt, &[b"PUF0", &FILE[79..]])?;
-    assert_eq!(rt; written(&rt, &view)?.as_slice(), bytes.as_slice());
+    is_written(&rt, &view, bytes.as_slice())
+}
+
+#[test]
+fn frames_that_are_recent_and_slow_are_written_once(rt: HostRuntime) -> Outcome {
     let view = limited(&rt, &FILE, 2, 2)?;
-    assert_eq!(rt; written(&rt, &view)?.as_slice(), FILE.as_slice());
-    Ok(())
+    is_written(&rt, &view, &FILE)
 }
 
 #[test]
 fn files_end_at_few_bytes_or_four_zeros(rt: HostRuntime) -> Outcome {
     let ends: [&[u8]; 4] = [b"", b"PFD", &[0, 0, 0, 0], &[0, 0, 0, 0, 80, 70, 68, 57]];
     for end in ends {
-        assert!(rt; view(&rt, &bytes_of(&rt, &[b"PUF0", end])?)?.is_empty());
+        let none = view(&rt, &bytes_of(&rt, &[b"PUF0", end])?)?;
+        assert!(rt; none.is_empty());
         let one = view(&rt, &bytes_of(&rt, &[&FILE[..79], end])?)?;
-        assert!(rt; recent(&rt, &one)?.as_slice() == [0].as_slice());
+        are_recent(&rt, &one, &[0])?;
     }
     Ok(())
 }
@@ -129,54 +170,53 @@ fn frames_of_the_first_form_are_held_unpacked(rt: HostRuntime) -> Outcome {
         ],
     )?;
     let view = view(&rt, &bytes)?;
-    assert_eq!(rt; view.stats().unpacked_frames(), 1);
-    assert_eq!(rt; written(&rt, &view)?.as_slice(), &FILE[..79]);
-    Ok(())
+    assert!(rt; view.stats().unpacked_frames() == 1);
+    is_written(&rt, &view, &FILE[..79])
 }
 
 #[test]
 fn an_index_that_does_not_rise_empties_the_view(rt: HostRuntime) -> Outcome {
     let bytes = bytes_of(&rt, &[b"PUF0", &FILE[79..], &FILE[4..79]])?;
     let view = view(&rt, &bytes)?;
-    assert!(rt; recent(&rt, &view)?.as_slice() == [0].as_slice());
-    Ok(())
+    are_recent(&rt, &view, &[0])
 }
 
 #[test]
-fn details_are_learnt_or_refused(rt: HostRuntime) -> Outcome {
+fn details_are_learnt(rt: HostRuntime) -> Outcome {
     let bytes = bytes_of(&rt, &[&FILE[..74], b"\x08\0\0\0\x01\x01\x07\0\x01f\0\0"])?;
     let known = view(&rt, &bytes)?;
-    assert_eq!(rt; known.scope_collection().scopes_by_id().len(), 1);
-    assert_eq!(rt; written(&rt, &known)?.as_slice(), bytes.as_slice());
-    // No id: refused right after the packet.
+    assert!(rt; known.scope_collection().scopes_by_id().len() == 1);
+    is_written(&rt, &known, bytes.as_slice())
+}
+
+#[test]
+fn details_without_an_id_are_refused_behind_their_packet(rt: HostRuntime) -> Outcome {
     let front = bytes_of(&rt, &[&FILE[..74], b"\x07\0\0\0\x01\0\0\x01f\0\0"])?;
     let missing = Some(FileError::Refused(Error::MissingId));
-    assert_eq!(rt; fault(&rt, &[&front])?, missing);
-    assert_eq!(rt; fault(&rt, &[&front, b"PFD9"])?, missing);
-    assert_eq!(rt;
-        fault(&rt, &[&FILE, b"PFD9", &front])?,
-        Some(FileError::Newer)
-    );
+    has_fault(&rt, &[&front], missing)?;
+    has_fault(&rt, &[&front, b"PFD9"], missing)?;
+    has_fault(&rt, &[&FILE, b"PFD9", &front], Some(FileError::Newer))
+}
+
+#[test]
+fn files_begin_with_their_letters(rt: HostRuntime) -> Outcome {
+    for letters in [b"".as_slice(), b"P", b"PUF", b"PUF1", b"PFD4", &FILE[1..]] {
+        has_fault(&rt, &[letters], Some(FileError::NoMagic))?;
+    }
     Ok(())
 }
 
 #[test]
-fn faults_of_files(rt: HostRuntime) -> Outcome {
-    for letters in [b"".as_slice(), b"P", b"PUF", b"PUF1", b"PFD4", &FILE[1..]] {
-        assert_eq!(rt; fault(&rt, &[letters])?, Some(FileError::NoMagic));
+fn faults_of_packets_are_those_of_files(rt: HostRuntime) -> Outcome {
+    let newer = Some(FileError::Newer);
+    has_fault(&rt, &[b"PUF0PFD9", &FILE[8..79]], newer)?;
+    for (kind, expected) in [(3, Some(FileError::UnknownKind(3))), (2, None)] {
+        has_fault(&rt, &[&FILE[..23], &[kind], &FILE[24..79]], expected)?;
     }
-    assert_eq!(rt;
-        fault(&rt, &[b"PUF0PFD9", &FILE[8..79]])?,
-        Some(FileError::Newer)
-    );
-    let kind = |kind| fault(&rt, &[&FILE[..23], &[kind], &FILE[24..79]]);
-    assert_eq!(rt; kind(3)?, Some(FileError::UnknownKind(3)));
-    assert_eq!(rt; kind(2)?, None);
-    assert_eq!(rt; fault(&rt, &[&FILE[..78]])?, Some(FileError::Truncated));
+    has_fault(&rt, &[&FILE[..78]], Some(FileError::Truncated))?;
     let reversed = [0, 251, 88, 2, 200, 35, 1];
-    let range = fault(&rt, &[&FILE[..12], &reversed, &FILE[19..79]])?;
-    assert_eq!(rt; range, Some(FileError::BadRange));
-    Ok(())
+    let bad_range = Some(FileError::BadRange);
+    has_fault(&rt, &[&FILE[..12], &reversed, &FILE[19..79]], bad_range)
 }
 
 /// Takes or gives at most three bytes at once, so often, and then fails.
@@ -224,7 +264,7 @@ impl Write for Tired {
 }
 
 #[test]
-fn a_failing_writer_has_a_beginning(rt: HostRuntime) -> Outcome {
+fn a_writer_that_fails_has_a_beginning(rt: HostRuntime) -> Outcome {
     let view = view(&rt, &FILE)?;
     for calls in 0..52 {
         let mut tired = Tired {
@@ -232,31 +272,32 @@ fn a_failing_writer_has_a_beginning(rt: HostRuntime) -> Outcome {
             rest: Vec::new(rt.alloc()),
         };
         let mut drain = Counted::new(&mut tired);
-        assert_eq!(rt; view.write(&mut drain).err(), Some(FileError::Io));
-        assert_eq!(rt; Drain::faults(&drain), 1);
+        let refused = view.write(&mut drain).err();
+        assert!(rt; refused == Some(FileError::Io));
+        assert!(rt; Drain::faults(&drain) == 1);
         assert!(rt; FILE.starts_with(&tired.rest));
     }
     let mut rested = Tired {
         calls: 100,
         rest: Vec::new(rt.alloc()),
     };
-    assert_eq!(rt; view.write(&mut Counted::new(&mut rested)).err(), None);
-    assert_eq!(rt; rested.rest.as_slice(), FILE.as_slice());
+    let refused = view.write(&mut Counted::new(&mut rested)).err();
+    assert!(rt; refused.is_none());
+    assert!(rt; rested.rest.as_slice() == FILE.as_slice());
     Ok(())
 }
 
 #[test]
-fn a_failing_reader(rt: HostRuntime) -> Outcome {
+fn a_reader_that_fails_gives_no_view(rt: HostRuntime) -> Outcome {
     for calls in 0..52 {
         let rest = Vec::from_slice(rt.alloc(), &FILE)?;
         let mut source = Counted::new(Tired { calls, rest });
         let refused = FrameView::read(rt.alloc(), &mut source);
-        assert_eq!(rt; refused.err(), Some(FileError::Io));
-        assert_eq!(rt; Source::faults(&source), 1);
+        assert!(rt; refused.err() == Some(FileError::Io));
+        assert!(rt; Source::faults(&source) == 1);
     }
     let rest = Vec::from_slice(rt.alloc(), &FILE)?;
     let mut source = Counted::new(Tired { calls: 100, rest });
     let view = FrameView::read(rt.alloc(), &mut source)?;
-    assert_eq!(rt; written(&rt, &view)?.as_slice(), FILE.as_slice());
-    Ok(())
+    is_written(&rt, &view, &FILE)
 }

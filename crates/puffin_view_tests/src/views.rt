@@ -78,6 +78,36 @@ fn all(rt: &HostRuntime, view: &FrameView) -> Result<Vec<FrameIndex>> {
     Ok(all)
 }
 
+/// The recent frames have these indices.
+fn are_recent(rt: &HostRuntime, view: &FrameView, indices: &[FrameIndex]) -> Outcome {
+    let found = recent(rt, view)?;
+    if found.as_slice() == indices {
+        Ok(())
+    } else {
+        Err(Fail::new("other frames are recent"))
+    }
+}
+
+/// The slowest frames have these indices.
+fn are_slowest(rt: &HostRuntime, view: &FrameView, indices: &[FrameIndex]) -> Outcome {
+    let found = slowest(rt, view)?;
+    if found.as_slice() == indices {
+        Ok(())
+    } else {
+        Err(Fail::new("other frames are the slowest"))
+    }
+}
+
+/// All frames have these indices.
+fn are_all(rt: &HostRuntime, view: &FrameView, indices: &[FrameIndex]) -> Outcome {
+    let found = all(rt, view)?;
+    if found.as_slice() == indices {
+        Ok(())
+    } else {
+        Err(Fail::new("other frames are held"))
+    }
+}
+
 /// A view with these limits that took frames of these durations, from index 0 on.
 fn view(
     rt: &HostRuntime,
@@ -94,7 +124,7 @@ fn view(
     Ok(view)
 }
 
-/// The three numbers.
+/// How many frames a view holds, how many of them unpacked, and in how many bytes.
 fn numbers(stats: FrameStats) -> (usize, usize, usize) {
     (
         stats.frames(),
@@ -107,20 +137,17 @@ fn numbers(stats: FrameStats) -> (usize, usize, usize) {
 fn a_packed_frame_counts_its_packed_bytes(rt: HostRuntime) -> Outcome {
     let mut frames = FrameView::new(rt.alloc());
     frames.add_frame(known_frame(&rt, 0)?)?;
-    assert_eq!(rt; numbers(frames.stats()), (1, 1, 35));
+    assert!(rt; numbers(frames.stats()) == (1, 1, 35));
     frames.add_frame(known_frame(&rt, 1)?)?;
-    assert_eq!(rt; numbers(frames.stats()), (2, 1, 85));
-    assert_eq!(rt; numbers(frames.stats_full()), (2, 1, 85));
+    assert!(rt; numbers(frames.stats()) == (2, 1, 85));
+    assert!(rt; numbers(frames.stats_full()) == (2, 1, 85));
     Ok(())
 }
 
 #[test]
 fn ties_stay_with_the_earlier(rt: HostRuntime) -> Outcome {
-    let tied = view(&rt, 1000, 2, &[10, 10, 10])?;
-    assert!(rt; slowest(&rt, &tied)?.as_slice() == [0, 1].as_slice());
-    let mixed = view(&rt, 1000, 2, &[5, 9, 7, 9])?;
-    assert!(rt; slowest(&rt, &mixed)?.as_slice() == [1, 3].as_slice());
-    Ok(())
+    are_slowest(&rt, &view(&rt, 1000, 2, &[10, 10, 10])?, &[0, 1])?;
+    are_slowest(&rt, &view(&rt, 1000, 2, &[5, 9, 7, 9])?, &[1, 3])
 }
 
 #[test]
@@ -129,81 +156,114 @@ fn an_index_that_does_not_rise_empties_the_view(rt: HostRuntime) -> Outcome {
     for index in [5, 6, 6] {
         frames.add_frame(frame(&rt, index, 1)?)?;
     }
-    assert!(rt; all(&rt, &frames)?.as_slice() == [6].as_slice());
+    are_all(&rt, &frames, &[6])?;
     // The index of a frame that emptied the view is the last one taken.
     for index in [3, 2] {
         frames.add_frame(frame(&rt, index, 1)?)?;
-        assert!(rt; all(&rt, &frames)?.as_slice() == [index].as_slice());
+        are_all(&rt, &frames, &[index])?;
     }
-    let mut slow_only = FrameView::new(rt.alloc());
-    slow_only.set_max_recent(0);
-    slow_only.add_frame(frame(&rt, 3, 1)?)?;
-    slow_only.add_frame(frame(&rt, 0, 1)?)?;
-    assert!(rt; slowest(&rt, &slow_only)?.as_slice() == [0].as_slice());
-    assert!(rt; recent(&rt, &slow_only)?.is_empty());
-    assert!(rt; slow_only.latest_frame().is_none());
     Ok(())
 }
 
 #[test]
-fn each_frame_once(rt: HostRuntime) -> Outcome {
+fn a_view_of_slow_frames_alone_is_emptied_too(rt: HostRuntime) -> Outcome {
+    let mut frames = FrameView::new(rt.alloc());
+    frames.set_max_recent(0);
+    frames.add_frame(frame(&rt, 3, 1)?)?;
+    frames.add_frame(frame(&rt, 0, 1)?)?;
+    are_slowest(&rt, &frames, &[0])?;
+    are_recent(&rt, &frames, &[])?;
+    assert!(rt; frames.latest_frame().is_none());
+    Ok(())
+}
+
+#[test]
+fn a_frame_that_is_recent_and_slow_is_held_once(rt: HostRuntime) -> Outcome {
     let mut frames = view(&rt, 2, 1, &[9, 1, 2, 3])?;
-    assert!(rt; all(&rt, &frames)?.as_slice() == [0, 2, 3].as_slice());
-    assert_eq!(rt; frames.stats().frames(), 3);
+    are_all(&rt, &frames, &[0, 2, 3])?;
+    assert!(rt; frames.stats().frames() == 3);
     frames.clear_slowest();
-    assert!(rt; all(&rt, &frames)?.as_slice() == [2, 3].as_slice());
-    assert_eq!(rt; frames.stats().frames(), 2);
-    assert!(rt; slowest(&rt, &frames)?.is_empty());
-    Ok(())
+    are_all(&rt, &frames, &[2, 3])?;
+    assert!(rt; frames.stats().frames() == 2);
+    are_slowest(&rt, &frames, &[])
 }
 
 #[test]
-fn limits_hold_from_the_next_frame_on(rt: HostRuntime) -> Outcome {
+fn a_limit_of_recent_frames_holds_from_the_next_on(rt: HostRuntime) -> Outcome {
     let mut frames = view(&rt, 1000, 256, &[1, 1, 1])?;
     frames.set_max_recent(1);
-    assert_eq!(rt; frames.max_recent(), 1);
-    assert!(rt; recent(&rt, &frames)?.as_slice() == [0, 1, 2].as_slice());
+    assert!(rt; frames.max_recent() == 1);
+    are_recent(&rt, &frames, &[0, 1, 2])?;
     frames.add_frame(frame(&rt, 3, 1)?)?;
-    assert!(rt; recent(&rt, &frames)?.as_slice() == [3].as_slice());
+    are_recent(&rt, &frames, &[3])
+}
 
-    let mut slow = view(&rt, 1000, 2, &[9, 7])?;
+/// Two frames are the slowest, of which there may be one from now on.
+fn with_fewer_slow(rt: &HostRuntime) -> Result<FrameView> {
+    let mut slow = view(rt, 1000, 2, &[9, 7])?;
     slow.set_max_slow(1);
-    assert_eq!(rt; slow.max_slow(), 1);
-    assert!(rt; slowest(&rt, &slow)?.as_slice() == [0, 1].as_slice());
+    Ok(slow)
+}
+
+#[test]
+fn a_limit_of_slow_frames_holds_from_the_next_slow_one_on(rt: HostRuntime) -> Outcome {
+    let mut slow = with_fewer_slow(&rt)?;
+    assert!(rt; slow.max_slow() == 1);
+    are_slowest(&rt, &slow, &[0, 1])?;
     let mut other = slow.clone()?;
     slow.add_frame(frame(&rt, 2, 8)?)?;
-    assert!(rt; slowest(&rt, &slow)?.as_slice() == [0].as_slice());
+    are_slowest(&rt, &slow, &[0])?;
     other.add_frame(frame(&rt, 2, 5)?)?;
-    assert!(rt; slowest(&rt, &other)?.as_slice() == [0, 1].as_slice());
+    are_slowest(&rt, &other, &[0, 1])
+}
 
+#[test]
+fn with_the_limit_0_no_frame_is_slow(rt: HostRuntime) -> Outcome {
     let mut none = view(&rt, 1000, 1, &[9])?;
     none.set_max_slow(0);
     none.add_frame(frame(&rt, 1, 10)?)?;
-    assert!(rt; slowest(&rt, &none)?.is_empty());
+    are_slowest(&rt, &none, &[])
+}
+
+/// Three frames, of which the second was taken while none was packed.
+fn packed_late(rt: &HostRuntime) -> Result<FrameView> {
+    let mut frames = view(rt, 1000, 256, &[1])?;
+    frames.set_pack_frames(false);
+    frames.add_frame(frame(rt, 1, 1)?)?;
+    frames.set_pack_frames(true);
+    frames.add_frame(frame(rt, 2, 1)?)?;
+    Ok(frames)
+}
+
+#[test]
+fn one_frame_is_not_packed(rt: HostRuntime) -> Outcome {
+    let mut frames = view(&rt, 1000, 256, &[1])?;
+    assert!(rt; frames.pack_frames() && numbers(frames.stats()) == (1, 1, 31));
+    frames.set_pack_frames(false);
+    frames.add_frame(frame(&rt, 1, 1)?)?;
+    assert!(rt; frames.stats().unpacked_frames() == 2);
     Ok(())
 }
 
 #[test]
 fn the_newest_frame_is_packed_late(rt: HostRuntime) -> Outcome {
-    let mut frames = view(&rt, 1000, 256, &[1])?;
-    assert!(rt; frames.pack_frames());
-    assert_eq!(rt; numbers(frames.stats()), (1, 1, 31));
-    frames.set_pack_frames(false);
-    frames.add_frame(frame(&rt, 1, 1)?)?;
-    assert_eq!(rt; frames.stats().unpacked_frames(), 2);
-    frames.set_pack_frames(true);
-    frames.add_frame(frame(&rt, 2, 1)?)?;
-    assert_eq!(rt; frames.stats().unpacked_frames(), 2);
-    assert_eq!(rt; numbers(frames.stats()), numbers(frames.stats_full()));
+    let frames = packed_late(&rt)?;
     let mut stats = frames.stats();
+    assert!(rt; stats.unpacked_frames() == 2);
+    assert!(rt; numbers(stats) == numbers(frames.stats_full()));
     stats.clear();
-    assert_eq!(rt; numbers(stats), (0, 0, 0));
+    assert!(rt; numbers(stats) == (0, 0, 0));
+    Ok(())
+}
+
+#[test]
+fn the_latest_frame_has_the_last_index(rt: HostRuntime) -> Outcome {
+    let frames = packed_late(&rt)?;
     let mut last = 0;
     for frame in frames.latest_frames(1) {
         last = frame.frame_index();
     }
-    assert_eq!(rt; last, 2);
-    assert!(rt; !frames.is_empty());
+    assert!(rt; last == 2 && !frames.is_empty());
     assert!(rt; frames.scope_collection().scopes_by_id().is_empty());
     Ok(())
 }
@@ -215,34 +275,50 @@ fn selections_are_by_index(rt: HostRuntime) -> Outcome {
         frames.push(frame(&rt, index, duration)?)?;
     }
     let chosen = select_slowest(rt.alloc(), &frames, 3)?;
-    assert_eq!(rt; chosen.len(), 3);
-    assert_eq!(rt; chosen[0].frame_index(), 1);
-    assert_eq!(rt; chosen[1].frame_index(), 2);
-    assert_eq!(rt; chosen[2].frame_index(), 3);
-    assert!(rt; select_slowest(rt.alloc(), &frames, 0)?.is_empty());
+    assert!(rt; chosen.len() == 3);
+    for place in 0..3 {
+        assert!(rt; chosen[place].frame_index() == place as u64 + 1);
+    }
+    let none = select_slowest(rt.alloc(), &frames, 0)?;
+    assert!(rt; none.is_empty());
     Ok(())
 }
 
-#[test]
-fn details_without_an_id_change_nothing(rt: HostRuntime) -> Outcome {
+/// Details with the id 7, and details without an id.
+fn two_details(rt: &HostRuntime) -> Result<Vec<Arc<ScopeDetails>>> {
     let alloc = rt.alloc();
-    let mut frames = view(&rt, 1000, 256, &[1])?;
     let mut details = Vec::new(alloc);
     let id = ScopeId::new(7).ok_or(Error::MissingId)?;
     let known = ScopeDetails::from_scope_name(CowStr::Borrowed("a")).with_scope_id(id);
     details.push(Arc::new(alloc, known)?)?;
     let no_id = ScopeDetails::from_scope_name(CowStr::Borrowed("b"));
     details.push(Arc::new(alloc, no_id)?)?;
+    Ok(details)
+}
+
+/// The first frame alone is held, and no scope is known.
+fn has_one_frame_and_no_scope(rt: &HostRuntime, frames: &FrameView) -> Outcome {
+    are_all(rt, frames, &[0])?;
+    let scopes = frames.scope_collection();
+    let empty = scopes.scopes_by_id().is_empty() && scopes.scopes_by_name().is_empty();
+    if empty && numbers(frames.stats()) == (1, 1, 31) {
+        Ok(())
+    } else {
+        Err(Fail::new("more is held"))
+    }
+}
+
+#[test]
+fn details_without_an_id_change_nothing(rt: HostRuntime) -> Outcome {
+    let mut frames = view(&rt, 1000, 256, &[1])?;
+    let mut details = two_details(&rt)?;
     for index in [0, 1] {
         let refused = frames.add_frame(telling_frame(&rt, index, 1, details.clone()?)?);
         assert!(rt; refused.err() == Some(Error::MissingId));
-        assert!(rt; all(&rt, &frames)?.as_slice() == [0].as_slice());
-        assert_eq!(rt; numbers(frames.stats()), (1, 1, 31));
-        assert!(rt; frames.scope_collection().scopes_by_id().is_empty());
-        assert!(rt; frames.scope_collection().scopes_by_name().is_empty());
+        has_one_frame_and_no_scope(&rt, &frames)?;
     }
     let _no_id = details.pop();
     frames.add_frame(telling_frame(&rt, 1, 1, details)?)?;
-    assert_eq!(rt; frames.scope_collection().scopes_by_id().len(), 1);
+    assert!(rt; frames.scope_collection().scopes_by_id().len() == 1);
     Ok(())
 }

@@ -1,0 +1,81 @@
+ghost use Rattle.std.specs.Prelude.{◌≡◌};
+
+use puffin_data::data::{Counted, Drain, Source};
+use std::io;
+use std::io::{Read, Write};
+use std::test::Fail;
+
+/// Gives or takes one byte, then fails once, and so on.
+#[derive(Drop)]
+struct Flaky {
+    fails: bool,
+}
+
+impl Flaky {
+    fn turn(&mut self) -> io::Result<()> {
+        self.fails = !self.fails;
+        if self.fails {
+            Ok(())
+        } else {
+            Err(io::Error::from(io::ErrorKind::BrokenPipe))
+        }
+    }
+}
+
+impl Read for Flaky {
+    fn read(&mut self, buf: &mut [u8]) -> io::Result<usize> {
+        self.turn()?;
+        match buf.first_mut() {
+            Some(place) => {
+                *place = 7;
+                Ok(1)
+            }
+            None => Ok(0),
+        }
+    }
+}
+
+impl Write for Flaky {
+    fn write(&mut self, buf: &[u8]) -> io::Result<usize> {
+        self.turn()?;
+        Ok(buf.len().min(1))
+    }
+
+    fn flush(&mut self) -> io::Result<()> {
+        Ok(())
+    }
+}
+
+/// Two reads, whatever the reader.
+fn read_twice<S: Source>(source: &mut S, buf: &mut [u8]) -> (Option<usize>, Option<usize>)
+    requires { S.failures source.old ≡ 0 }
+{
+    (source.read(buf).ok(), source.read(buf).ok())
+}
+
+/// Two writes, whatever the writer.
+fn write_twice<D: Drain>(drain: &mut D, buf: &[u8]) -> (Option<usize>, Option<usize>)
+    requires { D.failures drain.old ≡ 0 }
+{
+    (drain.write(buf).ok(), drain.write(buf).ok())
+}
+
+#[test]
+fn failures_are_counted(rt: HostRuntime) -> std::result::Result<(), Fail> {
+    let mut buf = [0; 4];
+    let mut memory = Counted::new(b"abcdef".as_slice());
+    assert_eq!(rt; read_twice(&mut memory, &mut buf), (Some(4), Some(2)));
+    assert_eq!(rt; buf, *b"efcd");
+    assert_eq!(rt; memory.faults(), 0);
+    let mut source = Counted::new(Flaky { fails: false });
+    assert_eq!(rt; read_twice(&mut source, &mut buf), (Some(1), None));
+    assert_eq!(rt; buf, *b"\x07fcd");
+    assert_eq!(rt; Source::faults(&source), 1);
+    let mut written = Counted::new(Vec::with_capacity(rt.alloc(), 4)?);
+    assert_eq!(rt; write_twice(&mut written, b"ab"), (Some(2), Some(2)));
+    assert_eq!(rt; written.faults(), 0);
+    let mut drain = Counted::new(Flaky { fails: false });
+    assert_eq!(rt; write_twice(&mut drain, b"ab"), (Some(1), None));
+    assert_eq!(rt; Drain::faults(&drain), 1);
+    Ok(())
+}

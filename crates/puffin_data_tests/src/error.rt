@@ -1,0 +1,29 @@
+use puffin_data::Error;
+use std::test::Fail;
+
+#[test]
+fn each_error_has_a_number_and_a_name(rt: HostRuntime) -> std::result::Result<(), Fail> {
+    for (error, number, text) in [
+        (Error::PrematureEnd, 1, "PrematureEnd"),
+        (Error::InvalidStream, 2, "InvalidStream"),
+        (Error::ScopeNeverEnded, 3, "ScopeNeverEnded"),
+        (Error::InvalidOffset, 4, "InvalidOffset"),
+        (Error::Empty, 5, "Empty"),
+        (Error::TooLarge, 6, "TooLarge"),
+        (Error::RangeTooLong, 7, "RangeTooLong"),
+        (Error::MismatchedEnd, 8, "MismatchedEnd"),
+        (Error::ScopesOpen, 9, "ScopesOpen"),
+        (Error::MissingId, 10, "MissingId"),
+        (Error::IdsExhausted, 11, "IdsExhausted"),
+        (Error::IndexExhausted, 12, "IndexExhausted"),
+        (Error::SinkIdsExhausted, 13, "SinkIdsExhausted"),
+        (Error::TooDeep, 14, "TooDeep"),
+        (Error::NoThread, 15, "NoThread"),
+        (Error::Memory, 16, "Memory"),
+    ] {
+        assert_eq!(rt; error.number(), number);
+        assert_eq!(rt; error.name(), text);
+        assert_eq!(rt; error.to_string(rt.alloc())?.as_str(), text);
+    }
+    Ok(())
+}

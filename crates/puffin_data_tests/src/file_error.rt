@@ -1,0 +1,30 @@
+use puffin_data::{Error, FileError};
+use std::test::Fail;
+
+#[test]
+fn each_file_error_has_a_number_and_a_text(rt: HostRuntime) -> std::result::Result<(), Fail> {
+    for (error, number, text) in [
+        (FileError::Io, 1, "Io"),
+        (FileError::NoMagic, 2, "NoMagic"),
+        (FileError::Truncated, 3, "Truncated"),
+        (FileError::Legacy, 4, "Legacy"),
+        (FileError::Newer, 5, "Newer"),
+        (FileError::UnknownKind(3), 6, "UnknownKind 3"),
+        (FileError::Compressed(2), 7, "Compressed 2"),
+        (FileError::BadMeta, 8, "BadMeta"),
+        (FileError::BadStreams, 9, "BadStreams"),
+        (FileError::BadScopes, 10, "BadScopes"),
+        (FileError::BadRange, 11, "BadRange"),
+        (FileError::PartTooLong, 12, "PartTooLong"),
+        (
+            FileError::Refused(Error::MissingId),
+            13,
+            "Refused MissingId",
+        ),
+        (FileError::Memory, 14, "Memory"),
+    ] {
+        assert_eq!(rt; error.number(), number);
+        assert_eq!(rt; error.to_string(rt.alloc())?.as_str(), text);
+    }
+    Ok(())
+}

@@ -1,0 +1,60 @@
+use crate::samples::{NONE, ONE, THREE, stream_of};
+use puffin_data::data::StreamInfo;
+use puffin_data::{NanoSecond, Result};
+use std::alloc::Global;
+use std::process::Abort;
+use std::test::Fail;
+
+/// The size of an info's bytes, its counts and its range.
+fn is_info(
+    rt: &impl Abort,
+    info: &StreamInfo,
+    counts: (usize, usize, usize),
+    range_ns: (NanoSecond, NanoSecond),
+) {
+    let found = (info.stream.len(), info.num_scopes, info.depth);
+    assert!(rt; found == counts && info.range_ns == range_ns);
+}
+
+/// The info of one scope, extended by that of three.
+fn extended(alloc: Global) -> Result<StreamInfo> {
+    let mut info = StreamInfo::parse(alloc, stream_of(alloc, &ONE)?)?;
+    let other = StreamInfo::parse(alloc, stream_of(alloc, THREE)?)?;
+    info.extend(&other.as_stream_into_ref())?;
+    Ok(info)
+}
+
+#[test]
+fn a_new_info_is_empty(rt: HostRuntime) {
+    is_info(&rt, &StreamInfo::new(rt.alloc()), (0, 0, 0), NONE);
+}
+
+#[test]
+fn a_borrowed_info_says_the_same(rt: HostRuntime) -> std::result::Result<(), Fail> {
+    let other = StreamInfo::parse(rt.alloc(), stream_of(rt.alloc(), THREE)?)?;
+    let borrowed = other.as_stream_into_ref();
+    assert!(rt; borrowed.stream == THREE.as_slice());
+    assert!(rt; (borrowed.num_scopes, borrowed.depth) == (3, 2));
+    assert!(rt; borrowed.range_ns == (100, 400));
+    Ok(())
+}
+
+#[test]
+fn an_info_is_extended_by_another(rt: HostRuntime) -> std::result::Result<(), Fail> {
+    let info = extended(rt.alloc())?;
+    is_info(&rt, &info, (162, 4, 2), (100, 400));
+    Ok(())
+}
+
+#[test]
+fn a_copy_stays_when_an_info_is_cleared(rt: HostRuntime) -> std::result::Result<(), Fail> {
+    let mut info = extended(rt.alloc())?;
+    let copy = info.clone()?;
+    info.clear();
+    is_info(&rt, &info, (0, 0, 0), NONE);
+    is_info(&rt, &copy, (162, 4, 2), (100, 400));
+    let mut both = Vec::from_slice(rt.alloc(), &ONE)?;
+    both.extend_from_slice(THREE)?;
+    assert!(rt; copy.stream.bytes() == both.as_slice());
+    Ok(())
+}

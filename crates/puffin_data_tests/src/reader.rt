@@ -1,0 +1,170 @@
+use crate::samples::{ONE, end, id, stream_of};
+use puffin_data::data::{Reader, Scope, Stream};
+use puffin_data::{Error, Result};
+use std::test::Fail;
+
+/// What stands at a place of a region, where there is such a region.
+pub(crate) fn scope_at(stream: &Stream, at: usize, end: usize) -> Result<Option<Scope<'_>>> {
+    let len = stream.len();
+    if at > end || end > len {
+        return Err(Error::InvalidOffset);
+    }
+    Reader::scope_at(stream, at, end)
+}
+
+/// Where the next sibling stands of the scope at a place of a region.
+fn next_of(stream: &Stream, at: usize, end: usize) -> Option<u64> {
+    match scope_at(stream, at, end) {
+        Ok(Some(scope)) => Some(scope.next_sibling_position),
+        _ => None,
+    }
+}
+
+/// Why no scope is read at a place of a region.
+fn fault_at(stream: &Stream, at: usize, end: usize) -> Option<Error> {
+    match scope_at(stream, at, end) {
+        Ok(_) => None,
+        Err(fault) => Some(fault),
+    }
+}
+
+/// The scopes of a reader, with the fault that it gave at last. After that it has to give nothing.
+pub(crate) fn top_scopes<'s>(
+    rt: &HostRuntime,
+    mut reader: Reader<'s>,
+) -> std::result::Result<(Vec<Scope<'s>>, Option<Error>), Fail> {
+    let mut scopes = Vec::new(rt.alloc());
+    let mut fault = None;
+    while let Some(next) = reader.next() {
+        match next {
+            Ok(scope) => {
+                if scopes.push(scope).is_err() {
+                    return Err(Fail::from("no memory"));
+                }
+            }
+            Err(found) => fault = Some(found),
+        }
+    }
+    if reader.next().is_some() {
+        return Err(Fail::from("something after the end"));
+    }
+    Ok((scopes, fault))
+}
+
+#[test]
+fn the_positions_of_a_scope_with_two_children(rt: HostRuntime) -> std::result::Result<(), Fail> {
+    let (one, two, three) = (id(1)?, id(2)?, id(3)?);
+    let mut stream = Stream::new(rt.alloc());
+    let (top, _) = stream.begin_scope(|| 100, one, "data_top")?;
+    let (first, _) = stream.begin_scope(|| 200, two, "data_middle_0")?;
+    end(&mut stream, first, 300)?;
+    let (second, _) = stream.begin_scope(|| 300, three, "data_middle_1")?;
+    end(&mut stream, second, 400)?;
+    end(&mut stream, top, 400)?;
+    assert_eq!(rt; stream.len(), 127);
+    let scopes = Reader::from_start(&stream).read_top_scopes(rt.alloc())?;
+    assert_eq!(rt; scopes.len(), 1);
+    let Some(top) = scopes.first() else {
+        return Err(Fail::from("a top scope"));
+    };
+    assert_eq!(rt; (top.rec.start_ns, top.rec.duration_ns), (100, 300));
+    assert_eq!(rt; top.child_begin_position, 30);
+    assert_eq!(rt; top.child_end_position, 118);
+    assert_eq!(rt; top.next_sibling_position, 127);
+    let (inner, fault) = top_scopes(&rt, Reader::with_offset(&stream, 30)?)?;
+    assert_eq!(rt; fault, None);
+    let times: Vec<(i64, i64)> = inner
+        .iter()
+        .map(|s| (s.rec.start_ns, s.rec.duration_ns))
+        .collect(rt.alloc())?;
+    assert_eq!(rt; times.as_slice(), [(200, 100), (300, 100)].as_slice());
+    assert_eq!(rt; next_of(&stream, 30, 118), Some(74));
+    assert_eq!(rt; next_of(&stream, 118, 118), None);
+    assert_eq!(rt; fault_at(&stream, 118, 118), None);
+    assert_eq!(rt; fault_at(&stream, 30, 73), Some(Error::PrematureEnd));
+    Ok(())
+}
+
+#[test]
+fn offsets_of_an_empty_stream(rt: HostRuntime) -> std::result::Result<(), Fail> {
+    let stream = Stream::new(rt.alloc());
+    assert!(rt; Reader::with_offset(&stream, 0).is_ok());
+    assert_eq!(rt;
+        Reader::with_offset(&stream, 1).err(),
+        Some(Error::InvalidOffset)
+    );
+    assert!(rt; Reader::from_start(&stream).next().is_none());
+    Ok(())
+}
+
+#[test]
+fn a_byte_left_over_ends_the_reader(rt: HostRuntime) -> std::result::Result<(), Fail> {
+    let mut bytes = Vec::from_slice(rt.alloc(), &ONE)?;
+    bytes.push(0)?;
+    let stream = Stream::from(bytes);
+    let scopes = Reader::from_start(&stream).read_top_scopes(rt.alloc())?;
+    assert_eq!(rt; scopes.len(), 1);
+    assert_eq!(rt;
+        Reader::count_scope_and_depth(rt.alloc(), &stream).err(),
+        Some(Error::InvalidStream)
+    );
+    Ok(())
+}
+
+#[test]
+fn a_fault_is_given_once(rt: HostRuntime) -> std::result::Result<(), Fail> {
+    let open = b"(\x01\0\0\0\x64\0\0\0\0\0\0\0\0\xff\xff\xff\xff\xff\xff\xff\xff";
+    let mut without_id = ONE;
+    let (mut other_end, mut early) = (without_id, without_id);
+    without_id[1] = 0;
+    other_end[26] = 0x28;
+    early[27] = 99;
+    early[28] = 0;
+    let cases: [(&[u8], Error); 5] = [
+        (open, Error::ScopeNeverEnded),
+        (&without_id, Error::PrematureEnd),
+        (&ONE[..34], Error::PrematureEnd),
+        (&other_end, Error::InvalidStream),
+        (&early, Error::InvalidStream),
+    ];
+    for (faulty, want) in cases {
+        let mut bytes = Vec::from_slice(rt.alloc(), &ONE)?;
+        bytes.extend_from_slice(faulty)?;
+        let stream = Stream::from(bytes);
+        let (scopes, fault) = top_scopes(&rt, Reader::from_start(&stream))?;
+        assert_eq!(rt; scopes.len(), 1);
+        assert_eq!(rt; fault, Some(want));
+        let refused = Reader::from_start(&stream)
+            .read_top_scopes(rt.alloc())
+            .err();
+        assert_eq!(rt; refused, Some(want));
+    }
+    Ok(())
+}
+
+#[test]
+fn children_are_not_read(rt: HostRuntime) -> std::result::Result<(), Fail> {
+    let stream = stream_of(
+        rt.alloc(),
+        b"(\x01\0\0\0\0\0\0\0\0\0\0\0\0\x1f\0\0\0\0\0\0\0(\x02\0\0\0\0\0\0\0\0\0\0\0\0\x1f\0\0\0\0\0\0\0)\0\0\0\0\0\0\0\0)\0\0\0\0\0\0\0\0",
+    )?;
+    assert_eq!(rt; stream.len(), 62);
+    let scopes = Reader::from_start(&stream).read_top_scopes(rt.alloc())?;
+    assert_eq!(rt; scopes.len(), 1);
+    assert_eq!(rt; fault_at(&stream, 22, 53), Some(Error::PrematureEnd));
+    Ok(())
+}
+
+#[test]
+fn stored_bytes_that_are_not_text(rt: HostRuntime) -> std::result::Result<(), Fail> {
+    let stream = stream_of(
+        rt.alloc(),
+        b"(\x01\0\0\0\0\0\0\0\0\0\0\0\x03\x61\xff\x62\0\0\0\0\0\0\0\0)\0\0\0\0\0\0\0\0",
+    )?;
+    let len = stream.len();
+    match scope_at(&stream, 0, len) {
+        Ok(Some(scope)) => assert_eq!(rt; scope.rec.text, "a"),
+        _ => return Err(Fail::from("no scope is read")),
+    }
+    Ok(())
+}

@@ -1,0 +1,141 @@
+use crate::reader::{scope_at, top_scopes};
+use crate::samples::{ONE, end, id, stream_of};
+use puffin_data::Error;
+use puffin_data::data::{Reader, Stream};
+use std::test::Fail;
+
+#[test]
+fn a_copy_stays_when_a_stream_is_cleared(rt: HostRuntime) -> std::result::Result<(), Fail> {
+    let alloc = rt.alloc();
+    assert!(rt; Stream::new(alloc).is_empty());
+    let mut stream = stream_of(alloc, &ONE)?;
+    assert_eq!(rt; (stream.is_empty(), stream.len()), (false, 35));
+    let copy = stream.clone()?;
+    stream.clear();
+    assert_eq!(rt; (stream.is_empty(), stream.len()), (true, 0));
+    assert_eq!(rt; copy.bytes(), ONE.as_slice());
+    Ok(())
+}
+
+#[test]
+fn one_scope_takes_35_bytes(rt: HostRuntime) -> std::result::Result<(), Fail> {
+    let mut stream = Stream::new(rt.alloc());
+    let (offset, start) = stream.begin_scope(|| 100, id(1)?, "data")?;
+    assert_eq!(rt; (offset, start), (18, 100));
+    end(&mut stream, offset, 300)?;
+    assert_eq!(rt; stream.bytes(), ONE.as_slice());
+    assert_eq!(rt; stream.len(), 35);
+    let (scopes, fault) = top_scopes(&rt, Reader::from_start(&stream))?;
+    assert_eq!(rt; scopes.len(), 1);
+    assert_eq!(rt; fault, None);
+    assert_eq!(rt; scopes.first().map(|s| s.rec.start_ns), Some(100));
+    assert_eq!(rt; scopes.first().map(|s| s.rec.duration_ns), Some(200));
+    assert_eq!(rt; scopes.first().map(|s| s.rec.stop_ns()), Some(300));
+    assert_eq!(rt; scopes.first().map(|s| s.rec.text), Some("data"));
+    assert_eq!(rt; scopes.first().map(|s| s.id.get()), Some(1));
+    Ok(())
+}
+
+/// How many bytes of a text of so many letters and one other character are stored, and read back as they were.
+fn stored_size(rt: &HostRuntime, letters: usize, last: char) -> std::result::Result<usize, Fail> {
+    let mut text = String::new(rt.alloc());
+    for _ in 0..letters {
+        text.push('a')?;
+    }
+    text.push(last)?;
+    let first = id(1)?;
+    let mut stream = Stream::new(rt.alloc());
+    let (offset, _) = stream.begin_scope(|| 100, first, text.as_str())?;
+    end(&mut stream, offset, 300)?;
+    let len = stream.len();
+    let said = stream.bytes().get(13).copied().map(usize::from);
+    let Ok(Some(scope)) = scope_at(&stream, 0, len) else {
+        return Err(Fail::from("no scope is read"));
+    };
+    let read = scope.rec.text.as_bytes();
+    if said != Some(read.len()) || !text.as_bytes().starts_with(read) {
+        return Err(Fail::from("another text is read"));
+    }
+    Ok(len.saturating_sub(31))
+}
+
+#[test]
+fn long_texts_are_cut_at_a_character(rt: HostRuntime) -> std::result::Result<(), Fail> {
+    let cases = [
+        ('b', [126, 127, 127, 127]),
+        ('é', [126, 127, 126, 127]),
+        ('€', [126, 127, 125, 126]),
+        ('🦀', [126, 127, 124, 125]),
+    ];
+    for (last, want) in cases {
+        for (size, want) in (126..130).zip(want.iter()) {
+            let letters = usize::saturating_sub(size, last.len_utf8());
+            assert_eq!(rt; stored_size(&rt, letters, last)?, *want, "{last} {size}");
+        }
+    }
+    assert_eq!(rt; stored_size(&rt, 126, 'é')?, 126);
+    Ok(())
+}
+
+#[test]
+fn within_the_room_nothing_is_refused(rt: HostRuntime) -> std::result::Result<(), Fail> {
+    let mut stream = Stream::new(rt.alloc());
+    stream.reserve(35 + 35)?;
+    assert!(rt; 70 <= stream.room());
+    for left in [35, 0] {
+        let (offset, _) = stream.begin_scope(|| 100, id(1)?, "data")?;
+        assert!(rt; left + 9 <= stream.room());
+        end(&mut stream, offset, 300)?;
+        assert!(rt; left <= stream.room());
+    }
+    assert_eq!(rt; stream.len(), 70);
+    Ok(())
+}
+
+#[test]
+fn a_refusal_leaves_stream_and_clock(rt: HostRuntime) -> std::result::Result<(), Fail> {
+    let mut stream = Stream::new(rt.alloc());
+    let mut asked = 0;
+    let begun = stream.begin_scope_by(
+        &mut || {
+            asked = 1;
+            100
+        },
+        id(1)?,
+        "data",
+    );
+    match begun {
+        Ok((offset, start)) => {
+            assert_eq!(rt; (offset, start), (18, 100));
+            assert_eq!(rt; stream.len(), 26);
+            assert_eq!(rt; asked, 1);
+        }
+        Err(fault) => {
+            assert_eq!(rt; fault, Error::Memory);
+            assert!(rt; stream.is_empty());
+            assert_eq!(rt; asked, 0);
+        }
+    }
+    Ok(())
+}
+
+/// What the Rust crate writes at the same calls.
+#[test]
+fn the_bytes_of_the_rust_crate(rt: HostRuntime) -> std::result::Result<(), Fail> {
+    let mut stream = Stream::new(rt.alloc());
+    let (outer, _) = stream.begin_scope(|| 1092, id(9)?, "")?;
+    let (middle, _) = stream.begin_scope(|| 1152, id(8)?, "mesh")?;
+    let (inner, _) = stream.begin_scope(|| 1169, id(18)?, "mesh")?;
+    end(&mut stream, inner, 1179)?;
+    end(&mut stream, middle, 1218)?;
+    end(&mut stream, outer, 1218)?;
+    let mut want: Vec<u8> = Vec::new(rt.alloc());
+    want.extend_from_slice(b"(\x09\0\0\0\x44\x04\0\0\0\0\0\0\0\x46\0\0\0\0\0\0\0")?;
+    want.extend_from_slice(b"(\x08\0\0\0\x80\x04\0\0\0\0\0\0\x04mesh\x23\0\0\0\0\0\0\0")?;
+    want.extend_from_slice(
+        b"(\x12\0\0\0\x91\x04\0\0\0\0\0\0\x04mesh\0\0\0\0\0\0\0\0)\x9b\x04\0\0\0\0\0\0",
+    )?;
+    want.extend_from_slice(b")\xc2\x04\0\0\0\0\0\0)\xc2\x04\0\0\0\0\0\0")?;
+    assert_eq!(rt; stream.bytes(), want.as_slice());
+    Ok(())
+}
