@@ -217,29 +217,38 @@ fn a_writer_that_takes_nothing_has_failed(rt: HostRuntime) {
     assert_eq!(rt; drain.faults, 0);
 }
 
-#[test]
-fn the_words_name_a_task(rt: HostRuntime) -> Result<(), Fail> {
-    let alloc = rt.alloc();
-    let count = String::from_str(alloc, "count")?;
-    let other = String::from_str(alloc, "Count")?;
-    let twice = [
-        String::from_str(alloc, "count")?,
-        String::from_str(alloc, "x")?,
-    ];
-    let mut replay = Vec::new(alloc);
-    for word in ["replay", "a script", "b"] {
-        replay.push(String::from_str(alloc, word)?)?;
+/// What the program's words ask for.
+fn task_of(rt: &HostRuntime, words: &[&str]) -> Result<Option<Task>, Fail> {
+    let mut owned = Vec::new(rt.alloc());
+    for word in words {
+        owned.push(String::from_str(rt.alloc(), word)?)?;
     }
-    let task = Task::Replay(
-        String::from_str(alloc, "a script")?,
-        String::from_str(alloc, "b")?,
-    );
-    assert_eq!(rt; read_words(&[count])?, Some(Task::Count));
-    assert_eq!(rt; read_words(&replay)?, Some(task));
-    assert_eq!(rt; read_words(&replay[..2])?, None);
-    assert_eq!(rt; read_words(&[other])?, None);
-    assert_eq!(rt; read_words(&twice)?, None);
-    assert_eq!(rt; read_words(&[])?, None);
+    Ok(read_words(&owned)?)
+}
+
+#[test]
+fn count_is_a_task(rt: HostRuntime) -> Result<(), Fail> {
+    let task = task_of(&rt, &["count"])?;
+    assert!(rt; task == Some(Task::Count));
+    Ok(())
+}
+
+#[test]
+fn replay_with_two_files_is_a_task(rt: HostRuntime) -> Result<(), Fail> {
+    let Some(Task::Replay(script, out)) = task_of(&rt, &["replay", "a script", "b"])? else {
+        return Err(Fail::new("another task"));
+    };
+    assert!(rt; script.as_str() == "a script" && out.as_str() == "b");
+    Ok(())
+}
+
+#[test]
+fn other_words_name_no_task(rt: HostRuntime) -> Result<(), Fail> {
+    let cases: [&[&str]; 4] = [&["replay", "a script"], &["Count"], &["count", "x"], &[]];
+    for words in cases {
+        let task = task_of(&rt, words)?;
+        assert!(rt; task.is_none());
+    }
     Ok(())
 }
 
