@@ -98,7 +98,7 @@ pub fn main_thread(alloc: Global) -> Result<ThreadInfo> {
     })
 }
 
-/// Scopes one after the other, of an id each. Answers the clock after them.
+/// Scopes one after the other, of an id each. Returns the clock after them.
 fn leaves(stream: &mut Stream, count: u32, mut now: i64) -> Result<i64> {
     for number in 1..=count {
         if let Some(id) = ScopeId::new(number) {

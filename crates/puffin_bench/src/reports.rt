@@ -75,7 +75,7 @@ pub fn two_scopes(alloc: Global) -> Result<Stream> {
     Ok(stream)
 }
 
-/// Reports an honest info under each of four names, twice, and takes a frame; so often. Answers how many reports.
+/// Reports an honest info under each of four names, twice, and takes a frame; so often. Returns how many reports.
 #[inline(never)]
 pub fn reported(alloc: Global, profiler: &mut GlobalProfiler, info: &StreamInfo) -> Result<usize>
     requires { (f : Forest) × IsHonest info.now f }

@@ -54,7 +54,7 @@ pub fn end(stream: &mut Stream, offset: usize, stop: i64) -> Result<()> {
     stream.end_scope(offset, stop)
 }
 
-/// Scopes one within the other. Answers the clock after them.
+/// Scopes one within the other. Returns the clock after them.
 #[inline(never)]
 pub fn nest(stream: &mut Stream, id: ScopeId, text: &str, mut now: i64) -> Result<i64> {
     let mut offsets = [0; DEPTH];
@@ -70,7 +70,7 @@ pub fn nest(stream: &mut Stream, id: ScopeId, text: &str, mut now: i64) -> Resul
     Ok(now)
 }
 
-/// Scopes one after the other. Answers the clock after them.
+/// Scopes one after the other. Returns the clock after them.
 #[inline(never)]
 fn row(stream: &mut Stream, id: ScopeId, text: &str, mut now: i64) -> Result<i64> {
     for _ in 0..DEPTH {

@@ -29,7 +29,7 @@ fn read_behind<S: Source>(source: &mut S, buf: &mut [u8], at: usize) -> Result<u
     }
 }
 
-/// Reads until a buffer is full behind its first `at` bytes, or the reader at its end. Answers where the bytes end.
+/// Reads until a buffer is full behind its first `at` bytes, or the reader at its end. Returns where the bytes end.
 fn fill_behind<S: Source>(source: &mut S, buf: &mut [u8], at: usize) -> Result<usize, FileError>
     requires failures { S.failures source.old < 2 ^ 64 - 1 }
     requires at { at ≤ length buf.old }

@@ -98,14 +98,14 @@ impl Model for ScriptClock {
 }
 
 impl ScriptClock {
-    /// Answers this time, in nanoseconds.
+    /// Returns this time, in nanoseconds.
     pub fn new(at: NanoSecond) -> ScriptClock
         ensures { result ≡ at }
     {
         ScriptClock { at }
     }
 
-    /// Answers this time from now on, in nanoseconds.
+    /// Returns this time from now on, in nanoseconds.
     pub fn set(&mut self, at: NanoSecond)
         ensures { self.new ≡ at }
     {

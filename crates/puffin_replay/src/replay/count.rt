@@ -118,7 +118,7 @@ fn frame_line(alloc: Global, info: StreamInfo) -> Result<(String, Option<Error>)
 /// Reads a stream to its end, and writes two lines: the measures of the forest that its bytes spell, in nanoseconds, and
 /// what frame 0 of it says, as the stream of the thread `stdin` that has no start.
 ///
-/// Answers `None` where the lines are written, or the cause that refuses the frame where it isn't `Empty`. Where the
+/// Returns `None` where the lines are written, or the cause that refuses the frame where it isn't `Empty`. Where the
 /// bytes are refused, returns their fault and writes nothing. Fails with `Memory`, where nothing is written, or with
 /// `Io` where the reader or the writer failed: in the second case a beginning of the lines may be written. The lines are
 /// made whole before any of them is written. The reader's place is open after a failure.

@@ -57,7 +57,7 @@ fn add_frames(view: &mut FrameView, replies: &[Reply]) -> Answer<()>
     Ok(())
 }
 
-/// Runs commands in a session, adds each emitted frame to a view, in order, and writes the view's file. Answers one reply to
+/// Runs commands in a session, adds each emitted frame to a view, in order, and writes the view's file. Returns one reply to
 /// each command.
 ///
 /// Fails with `Memory`, and as [`FrameView::write`] with `PartTooLong` and `Io`. The session may then have run the commands,
@@ -109,7 +109,7 @@ fn record_session<D: Drain>(
 }
 
 /// Runs commands in a new session of threads with these names, adds each emitted frame to a view, in order, and writes the
-/// view's file. Answers one reply to each command.
+/// view's file. Returns one reply to each command.
 ///
 /// Fails with `Memory`, and as [`FrameView::write`] with `PartTooLong` and `Io`; the view may then have taken a beginning of
 /// the frames, but nothing is written before it took all of them.
