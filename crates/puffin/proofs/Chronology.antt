@@ -10,7 +10,7 @@ use Rattle.std.specs.FinMap.Entries.{by_order, where_key, is_sorted-where_key, f
 use Rattle.puffin.specs.declared.profile_view.slow_rank.SlowRank.{SlowRank}
 use Rattle.puffin.specs.View.ViewedFrames.{Frame, index_of, frames_by_index, chronological}
 use Rattle.puffin.specs.inner.view.Held.{HeldFrames}
-use Rattle.puffin.specs.inner.view.Ranks.{rank_index, has}
+use Rattle.puffin.specs.View.Ranking.{rank_index, has}
 use Rattle.puffin.specs.inner.view.Store.{AreStored}
 use Rattle.puffin.proofs.Storing.{held_whole, find_held, has-index_of, index-rank_of}
 

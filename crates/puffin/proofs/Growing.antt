@@ -4,7 +4,7 @@ use Rattle.std.specs.Int.{int_min}
 use Rattle.std.proofs.lemmas.List.Elements.{filter-append}
 use Rattle.puffin.specs.Merge.Occurrences.{Path, Occurrence, is_path}
 use Rattle.puffin.specs.Merge.Pieces.{pieces_at, total_of, greatest_of, least_start_of, merged_of, merged_at}
-use Rattle.puffin.specs.inner.merge.OnePiece.{with_piece, one_piece}
+use Rattle.puffin.proofs.OnePiece.{with_piece, one_piece}
 
 fold-push : {A B : Type 0} (f : B → A → B) (b : B) (xs : List A) (x : A) → fold f b (xs ++ (x ∷ [])) ≡ f (fold f b xs) x
 fold-push f b [] x = refl

@@ -7,10 +7,10 @@ use Rattle.std.specs.Option.{option_map_or}
 use Rattle.std.specs.FinMap as fin
 use Rattle.std.proofs.lemmas.List.{take-append-drop, take_rest}
 use Rattle.puffin.specs.declared.profile_view.slow_rank.SlowRank.{SlowRank}
-use Rattle.puffin.specs.View.Ranking.{place, last_of, last_in}
+use Rattle.puffin.specs.View.Ranking.{place, last_of, last_in, rank_index}
 use Rattle.puffin.specs.View.ViewedFrames.{Frame, index_of, is_slower_frame, packed_alone, packed_under}
 use Rattle.puffin.specs.inner.view.Held.{HeldFrames}
-use Rattle.puffin.specs.inner.view.Ranks.{rank_of, rank_index, rank_cmp, is_before, rank_enters, ranks_after, ranks_gone, AreRanked, LetsGo}
+use Rattle.puffin.specs.inner.view.Ranks.{rank_of, rank_cmp, is_before, rank_enters, ranks_after, ranks_gone, AreRanked, LetsGo}
 use Rattle.puffin.specs.View.{View, is_past, joined_by, slow_after, with_packed, with_newest_packed}
 use Rattle.puffin.specs.inner.view.Store.{frames_under, AreHeld, AreStored}
 use Rattle.puffin.proofs.Orders.{map-take, map-drop, map-length}

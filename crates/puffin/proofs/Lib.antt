@@ -43,3 +43,4 @@ mod OneMerge
 mod OneOutcome
 mod FilesAgain
 mod FramesHeld
+mod OnePiece

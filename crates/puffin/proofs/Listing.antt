@@ -6,7 +6,7 @@ use Rattle.std.specs.Option.{option_map}
 use Rattle.std.specs.Iterator.{MakesProgress, item_count}
 use Rattle.puffin.specs.declared.profile_view.slow_rank.SlowRank.{SlowRank}
 use Rattle.puffin.specs.View.ViewedFrames.{Frame, index_of}
-use Rattle.puffin.specs.inner.view.Ranks.{rank_index, has}
+use Rattle.puffin.specs.View.Ranking.{rank_index, has}
 use Rattle.puffin.proofs.Storing.{any_ranks}
 
 pub given : {A B : Type 0} (h : A → Option B) (rest rest' : List A) (all : List B) (a : A) (b : B) → filter_map h rest ≡ all → rest ≡ a ∷ rest' → h a ≡ Some b → all ≡ b ∷ filter_map h rest'

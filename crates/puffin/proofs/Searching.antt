@@ -15,7 +15,8 @@ use Rattle.std.proofs.lemmas.Map.Keys.{Less-from_sorted}
 use Rattle.puffin.specs.declared.profile_view.slow_rank.SlowRank.{SlowRank}
 use Rattle.puffin.specs.View.ViewedFrames.{Frame, index_of, duration_of}
 use Rattle.puffin.specs.inner.view.Held.{HeldFrames}
-use Rattle.puffin.specs.inner.view.Ranks.{rank_of, rank_index, rank_cmp, AreRanked, LetsGo, has}
+use Rattle.puffin.specs.inner.view.Ranks.{rank_of, rank_cmp, AreRanked, LetsGo}
+use Rattle.puffin.specs.View.Ranking.{rank_index, has}
 use Rattle.puffin.specs.inner.view.Kept.{AreRising}
 use Rattle.puffin.specs.inner.view.Store.{AreHeld, AreStored}
 use Rattle.puffin.proofs.Placing.{rank_cmp_total}

@@ -11,10 +11,10 @@ use Rattle.std.specs.Cmp.{nat_cmp_total}
 use Rattle.std.specs.FinMap as fin
 use Rattle.std.proofs.lemmas.List.{drop-drop, length-drop}
 use Rattle.puffin.specs.declared.profile_view.slow_rank.SlowRank.{SlowRank}
-use Rattle.puffin.specs.View.Ranking.{place, last_from, last_in}
+use Rattle.puffin.specs.View.Ranking.{place, last_from, last_in, rank_index, has}
 use Rattle.puffin.specs.View.ViewedFrames.{Frame, index_of, duration_of, is_slower_frame, packed_alone, packed_under, frames_by_index}
 use Rattle.puffin.specs.inner.view.Held.{HeldFrames}
-use Rattle.puffin.specs.inner.view.Ranks.{rank_of, rank_index, rank_cmp, is_before, rank_enters, has, LetsGo}
+use Rattle.puffin.specs.inner.view.Ranks.{rank_of, rank_cmp, is_before, rank_enters, LetsGo}
 use Rattle.puffin.specs.inner.view.Kept.{AreRising, HaveOwnIndices}
 use Rattle.puffin.specs.View.{View, IsUpTo, enters_among}
 use Rattle.puffin.specs.inner.view.Store.{frames_under, AreHeld, has_index, AreStored}

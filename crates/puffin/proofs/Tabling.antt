@@ -11,7 +11,7 @@ use Rattle.puffin.specs.Merge.Occurrences.{Label, Path, Occurrence, is_path}
 use Rattle.puffin.specs.Merge.Pieces.{Merged, pieces_at, merged_at}
 use Rattle.puffin.specs.Merge.{below}
 use Rattle.puffin.specs.Merge.Refusals.{SumsFit}
-use Rattle.puffin.specs.inner.merge.OnePiece.{with_piece, one_piece}
+use Rattle.puffin.proofs.OnePiece.{with_piece, one_piece}
 use Rattle.puffin.specs.inner.merge.Tables.{label_in, merged_in, path_at, IsSameKey, HasKey, IsFound, made_node, grown_node, IsNodeOf, IsTableOf, occurrence_at, FitsOneMore, GrowsAt, AddsAt}
 use Rattle.puffin.proofs.Paths.{same_path, other_path, path_at-kept, path_at-new, path_at-set, top_path}
 use Rattle.puffin.proofs.Finding.{some_of, same_at, key_at-set, found_kept}

@@ -5,8 +5,7 @@ use Rattle.puffin_data.specs.declared.error.Error.{Error}
 use Rattle.puffin_data.specs.declared.data.visit.Region.{Region}
 use Rattle.puffin_data.specs.Forest.{Span}
 use Rattle.puffin_data.specs.Walk.Reading.{Found}
-use Rattle.puffin_data.specs.Walk.{region, IsSoundAt, IsFaultAt}
-use Rattle.puffin_data.specs.inner.Walking.{tries_in}
+use Rattle.puffin_data.specs.Walk.{region, IsSoundAt, IsFaultAt, tries_in}
 use Rattle.puffin_data.specs.Walk.Going.{End, over_all, at_fault, at_refusal, IsEarly, Goes, ends, meets_fault, is_refused, stops_within, goes_on}
 use Rattle.puffin_data.proofs.Resuming.{IsNested, nested_push, nested_pop, nested_low}
 

@@ -5,8 +5,7 @@ use Rattle.puffin_data.specs.declared.error.Error.{Error}
 use Rattle.puffin_data.specs.Forest.{Span, Forest, empty, node, IsForest}
 use Rattle.puffin_data.specs.Forest.Spelling.{spelling}
 use Rattle.puffin_data.specs.Walk.Reading.{Found}
-use Rattle.puffin_data.specs.Walk.{region, IsFaultAt, Reaches, here, child, sibling}
-use Rattle.puffin_data.specs.inner.Walking.{tries_in}
+use Rattle.puffin_data.specs.Walk.{region, IsFaultAt, Reaches, here, child, sibling, tries_in}
 use Rattle.puffin_data.specs.Walk.Sights.{Nested, nested_in, Sight, Sees, no_sight, one_sight, scopes_of, before}
 use Rattle.puffin_data.specs.Walk.Visitor.{TakesAll, StopsAtFault, StopsAtRefusal}
 use Rattle.puffin_data.specs.Walk.Going.{over_all, at_fault, at_refusal, Entering, Refusing, Goes, ends, meets_fault, is_refused, stops_within, goes_on, VisitorLaws}

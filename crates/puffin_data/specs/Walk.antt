@@ -13,6 +13,10 @@ use Rattle.puffin_data.specs.Walk.Reading.{Found, reading, IsFaultIn}
 abbrev pub region : List ℕ → ℕ → ℕ → List ℕ
 region bytes p e = take (e - p) (drop p bytes)
 
+-- one more try where a scope begins at the front of a region
+abbrev pub tries_in : List ℕ → ℕ
+tries_in part = if slice_index part 0 == begin_mark then 1 else 0
+
 -- a sound scope stands at p, in the region that ends at e
 abbrev pub IsSoundAt : List ℕ → ℕ → ℕ → Found → Type 0
 IsSoundAt bytes p e s = reading (region bytes p e) ≡ Ok (Some s)

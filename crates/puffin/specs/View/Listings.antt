@@ -8,7 +8,7 @@ use Rattle.puffin.specs.declared.profile_view.listings.SlowestFrames.{SlowestFra
 use Rattle.puffin.specs.declared.profile_view.listings.AllFrames.{AllFrames}
 use Rattle.puffin.specs.View.ViewedFrames.{Frame, index_of}
 use Rattle.puffin.specs.View.FrameOf.{shared_frame}
-use Rattle.puffin.specs.inner.view.Ranks.{rank_index, has}
+use Rattle.puffin.specs.View.Ranking.{rank_index, has}
 
 abbrev pub recent_left : RecentFrames → List Frame
 recent_left s = filter_map (map.get s.held.now) (deque_iter_rest s.rest)

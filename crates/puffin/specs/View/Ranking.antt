@@ -1,6 +1,7 @@
 -- The first of a list in an order, and the last of it as it stands.
-use Rattle.std.specs.Prelude.{ℕ, ◌-◌, ◌≡◌, Bool, false, cond, List, [], ◌∷◌, length, take, drop, Option, Some, None, IsPermutation}
-use Rattle.std.specs.List.{AllPairs}
+use Rattle.std.specs.Prelude.{ℕ, ◌-◌, ◌≡◌, Bool, false, cond, List, [], ◌∷◌, length, take, drop, Option, Some, None, IsPermutation, nat_eq}
+use Rattle.std.specs.List.{AllPairs, list_any}
+use Rattle.puffin.specs.declared.profile_view.slow_rank.SlowRank.{SlowRank}
 
 -- what one more comes to in a list in order: behind all that it doesn't come before
 abbrev pub place : {F : Type 0} → (F → F → Bool) → F → List F → List F
@@ -44,3 +45,11 @@ last_in (x ∷ xs) = Some (last_from x xs)
 -- all but the last
 abbrev pub without_last : {F : Type 0} → List F → List F
 without_last xs = take (length xs - 1) xs
+
+-- whether an index is in a list
+abbrev pub has : ℕ → List ℕ → Bool
+has q is = list_any (nat_eq q) is
+
+-- the index of the frame that a rank stands for
+abbrev pub rank_index : SlowRank → ℕ
+rank_index r = r.frame_index

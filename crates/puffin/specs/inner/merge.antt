@@ -3,5 +3,4 @@ pub mod Tables
 pub mod Merging
 pub mod Places
 pub mod Assembled
-pub mod OnePiece
 pub mod Origins

@@ -6,8 +6,8 @@ ghost use Rattle.std.specs.Option.{option_map};
 ghost use Rattle.std.specs.List.Sorted.{IsStrictlySortedBy};
 ghost use Rattle.puffin_data.specs.declared.error.Error.{Error};
 ghost use Rattle.puffin.specs.View.FrameOf.{shared_frame};
-ghost use Rattle.puffin.specs.View.Ranking.{last_of, last_in};
-ghost use Rattle.puffin.specs.inner.view.Ranks.{rank_index, rank_cmp, ranks_after, ranks_gone, AreRanked, LetsGo};
+ghost use Rattle.puffin.specs.View.Ranking.{last_of, last_in, rank_index};
+ghost use Rattle.puffin.specs.inner.view.Ranks.{rank_cmp, ranks_after, ranks_gone, AreRanked, LetsGo};
 ghost use Rattle.puffin.specs.View.ViewedFrames.{index_of, chronological};
 ghost use Rattle.puffin.specs.View.Listings.{recent_left, all_left, slowest_left};
 ghost use Rattle.puffin.specs.View.{empty_view, emptied, with_newest_packed, is_past, joined_by, after_taking, KeepsFrames, all_uniq, IsSteady};
@@ -46,7 +46,7 @@ impl Model for FrameStore {
 
     ghost coded = { view_code };
 
-    ghost use Rattle.puffin.specs.inner.view.Ranks.{rank_index};
+    ghost use Rattle.puffin.specs.View.Ranking.{rank_index};
     ghost use Rattle.puffin.specs.inner.view.Store.{frames_under, IsStored};
 
     ghost view = { λ s.

@@ -3,8 +3,7 @@ use Rattle.std.specs.Prelude.{ℕ, ◌+◌, List, [], ◌∷◌, ◌++◌}
 use Rattle.puffin_data.specs.declared.error.Error.{Error}
 use Rattle.puffin_data.specs.Forest.{Span}
 use Rattle.puffin_data.specs.Walk.Reading.{Found}
-use Rattle.puffin_data.specs.Walk.{region, IsSoundAt, IsFaultAt}
-use Rattle.puffin_data.specs.inner.Walking.{tries_in}
+use Rattle.puffin_data.specs.Walk.{region, IsSoundAt, IsFaultAt, tries_in}
 use Rattle.puffin_data.specs.Walk.Sights.{Nested}
 
 -- How a walk ends: over its whole region, with the visitor's state and the tries; at a fault, with the tries; or at a scope that the visitor refuses, with the tries.

@@ -1,13 +1,12 @@
 -- How a walk goes, scope by scope: what the proof of its loop stands on.
-use Rattle.std.specs.Prelude.{◌≡◌, ℕ, suc, ◌+◌, ◌-◌, ◌^◌, ◌==◌, if◌then◌else◌, max, List, length, slice_index, pos, negsuc, Result, Ok, Err, ◌⊎◌}
+use Rattle.std.specs.Prelude.{◌≡◌, ℕ, suc, ◌+◌, ◌-◌, ◌^◌, max, List, length, pos, negsuc, Result, Ok, Err, ◌⊎◌}
 use Rattle.std.specs.Int.{int_min, int_max}
 use Rattle.puffin_data.specs.declared.error.Error.{Error}
 use Rattle.puffin_data.specs.declared.error.Error.TheVariants.{Memory}
 use Rattle.puffin_data.specs.declared.data.walk.Walk.{Walk}
 use Rattle.puffin_data.specs.Forest.{Span}
-use Rattle.puffin_data.specs.Forest.Spelling.{begin_mark}
 use Rattle.puffin_data.specs.Walk.Reading.{Found}
-use Rattle.puffin_data.specs.Walk.{region, IsSoundAt, IsFaultAt}
+use Rattle.puffin_data.specs.Walk.{region, IsSoundAt, IsFaultAt, tries_in}
 
 -- the numbers of a walk over no scope
 abbrev pub no_scope_counted : Walk
@@ -27,10 +26,6 @@ pub record Stop : Type 0 where
   pub place : ℕ
   pub fault : Error
   pub tries : ℕ
-
--- one more try where a scope begins at the front of a region
-abbrev pub tries_in : List ℕ → ℕ
-tries_in part = if slice_index part 0 == begin_mark then 1 else 0
 
 -- From place p, in the region that ends at e and stands within `level` open scopes, a walk with the numbers w so far comes to this end.
 pub data WalksTo (bytes : List ℕ) : ℕ → Walk → ℕ → ℕ → Result Walk Stop → Type 0 where

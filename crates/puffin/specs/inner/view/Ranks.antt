@@ -1,20 +1,17 @@
 -- Where a frame stands among the slowest, and lists of where frames stand.
-use Rattle.std.specs.Prelude.{ℕ, Bool, cond, nat_lt, nat_eq, ◌||◌, List, [], take, drop, length, Some, None, ◌≡◌, false}
-use Rattle.std.specs.List.{AllByRecursion, list_any}
+use Rattle.std.specs.Prelude.{ℕ, Bool, cond, nat_lt, ◌||◌, List, [], take, drop, length, Some, None, ◌≡◌, false}
+use Rattle.std.specs.List.{AllByRecursion}
 use Rattle.std.specs.Option.{option_map, option_map_or}
 use Rattle.std.specs.declared.cmp.Ordering.{Ordering}
 use Rattle.std.specs.Ordering.{nat_cmp, int_cmp, ordering_then, is_lt}
 use Rattle.std.specs.FinMap as map
 use Rattle.puffin.specs.declared.profile_view.slow_rank.SlowRank.{SlowRank}
-use Rattle.puffin.specs.View.Ranking.{place, last_in}
+use Rattle.puffin.specs.View.Ranking.{place, last_in, rank_index, has}
 use Rattle.puffin.specs.View.ViewedFrames.{Frame, index_of, duration_of}
 use Rattle.puffin.specs.inner.view.Held.{HeldFrames}
 
 abbrev pub rank_of : Frame → SlowRank
 rank_of f = record { duration_ns = record { 0 = duration_of f }; frame_index = index_of f }
-
-abbrev pub rank_index : SlowRank → ℕ
-rank_index r = r.frame_index
 
 -- by falling duration, then rising index
 abbrev pub rank_cmp : SlowRank → SlowRank → Ordering
@@ -40,10 +37,6 @@ ranks_gone k slow r = cond (rank_enters k slow r) (drop k (place is_before r slo
 abbrev pub AreRanked : HeldFrames → List SlowRank → Type 0
 AreRanked held slow =
     AllByRecursion (λ r. option_map rank_of (map.get held (rank_index r)) ≡ Some r) slow
-
--- whether an index is in a list
-abbrev pub has : ℕ → List ℕ → Bool
-has q is = list_any (nat_eq q) is
 
 -- of what was held, all is still, but for what is gone and not among what stays
 abbrev pub LetsGo : HeldFrames → List ℕ → List ℕ → HeldFrames → Type 0

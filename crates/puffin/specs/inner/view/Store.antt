@@ -6,7 +6,8 @@ use Rattle.std.specs.FinMap as map
 use Rattle.puffin.specs.declared.profile_view.slow_rank.SlowRank.{SlowRank}
 use Rattle.puffin.specs.View.ViewedFrames.{Frame, index_of}
 use Rattle.puffin.specs.inner.view.Held.{HeldFrames}
-use Rattle.puffin.specs.inner.view.Ranks.{rank_of, rank_index, rank_cmp}
+use Rattle.puffin.specs.inner.view.Ranks.{rank_of, rank_cmp}
+use Rattle.puffin.specs.View.Ranking.{rank_index}
 use Rattle.puffin.specs.inner.view.Kept.{AreViewLists}
 
 -- the frames at indices

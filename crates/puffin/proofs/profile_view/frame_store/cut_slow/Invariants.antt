@@ -1,5 +1,6 @@
 use Rattle.std.proofs.Common.{map, take}
-use Rattle.puffin.specs.inner.view.Ranks.{rank_index, LetsGo}
+use Rattle.puffin.specs.inner.view.Ranks.{LetsGo}
+use Rattle.puffin.specs.View.Ranking.{rank_index}
 use Rattle.puffin.proofs.profile_view.frame_store.cut_slow.Given as goal
 
 -- those so far are let go

@@ -3,7 +3,8 @@ use Rattle.std.specs.List.Sorted.{IsStrictlySortedBy}
 use Rattle.puffin.specs.View.{View, joined_by, is_past}
 use Rattle.puffin.specs.View.ViewedFrames.{Frame, index_of}
 use Rattle.puffin.specs.View.FrameOf.{frame_of, shared_frame}
-use Rattle.puffin.specs.inner.view.Ranks.{rank_of, rank_index, ranks_after, ranks_gone, rank_cmp, AreRanked}
+use Rattle.puffin.specs.inner.view.Ranks.{rank_of, ranks_after, ranks_gone, rank_cmp, AreRanked}
+use Rattle.puffin.specs.View.Ranking.{rank_index}
 use Rattle.puffin.specs.inner.view.Store.{AreStored, frames_under}
 use Rattle.puffin.proofs.JoiningPending.{stored_joined, pushed_rising, entered_in_order, entered_ranked, lets_as}
 use Rattle.puffin.proofs.Storing.{stored_as, view_as}

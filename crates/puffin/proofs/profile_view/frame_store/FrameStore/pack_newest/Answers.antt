@@ -2,11 +2,10 @@ use Rattle.std.proofs.Common.{◌≡◌, refl, sym, ap, ◌∙◌, map, Some}
 use Rattle.std.specs.Arc.{arc_value}
 use Rattle.std.specs.Option.{option_map, is_some}
 use Rattle.puffin_frames.specs.Frame.Contents.{holding_of}
-use Rattle.puffin.specs.View.Ranking.{last_in}
+use Rattle.puffin.specs.View.Ranking.{last_in, rank_index}
 use Rattle.puffin.specs.View.{View, with_packed}
 use Rattle.puffin.specs.View.ViewedFrames.{Frame, index_of, packed_alone}
 use Rattle.puffin.specs.View.FrameOf.{frame_of, shared_frame}
-use Rattle.puffin.specs.inner.view.Ranks.{rank_index}
 use Rattle.puffin.specs.inner.view.Store.{AreStored, frames_under}
 use Rattle.puffin.proofs.HoldingViews.{packed_copied, packed_already}
 use Rattle.puffin.proofs.JoiningPending.{packed_newest, newest_is_packed}

@@ -3,7 +3,7 @@ use Rattle.std.specs.List.{filter}
 use Rattle.puffin.specs.declared.profile_view.slow_rank.SlowRank.{SlowRank}
 use Rattle.puffin.specs.View.ViewedFrames.{Frame, index_of, chronological}
 use Rattle.puffin.specs.View.FrameOf.{frames_of}
-use Rattle.puffin.specs.inner.view.Ranks.{rank_index, has}
+use Rattle.puffin.specs.View.Ranking.{rank_index, has}
 use Rattle.puffin.proofs.Chronology.{slow_listed}
 use Rattle.puffin.proofs.profile_view.frame_store.FrameStore.slowest_frames_chronological.Goals as goal
 

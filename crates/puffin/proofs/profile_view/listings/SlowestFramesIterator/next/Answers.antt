@@ -1,7 +1,7 @@
 use Rattle.std.proofs.Common.{◌≡◌, true, false, map, ◌∷◌, ap}
 use Rattle.puffin.specs.View.ViewedFrames.{index_of}
 use Rattle.puffin.specs.View.FrameOf.{frame_of, shared_frame}
-use Rattle.puffin.specs.inner.view.Ranks.{rank_index, has}
+use Rattle.puffin.specs.View.Ranking.{rank_index, has}
 use Rattle.puffin.specs.View.Listings.{slowest_left}
 use Rattle.puffin.proofs.Listing.{made, slow_given, slow_passed, is_slow}
 use Rattle.puffin.proofs.profile_view.listings.SlowestFramesIterator.next.Goals as goal
