@@ -18,3 +18,4 @@ mod Recordings
 mod Inserting
 mod Comparing
 mod CollectionsBuilt
+mod PackedAgain

@@ -2,7 +2,7 @@
 use Rattle.std.proofs.Common.{◌≡◌, ℕ, Bool, true, false, cond, eqb, List, Option, Some, None, Result, Ok, Err, IfOk, refl, sym, ap, subst, ◌∙◌}
 use Rattle.std.specs.Prelude.{◌↔◌, IfSome}
 use Rattle.std.specs.Option.{option_map}
-use Rattle.std.specs.FinMap.{entries, entries_sorted, from_sorted, entries-from_sorted, same_entries_map}
+use Rattle.std.specs.FinMap.{entries, from_sorted, entries-from_sorted}
 use Rattle.std.proofs.lemmas.Bool.{eqb-true}
 use Rattle.std.proofs.lemmas.Option.{same_Some}
 use Rattle.puffin_data.specs.declared.file_error.FileError.{FileError}
@@ -10,7 +10,7 @@ use Rattle.puffin_data.specs.declared.file_error.FileError.TheVariants as file
 use Rattle.puffin_data.specs.Honesty.{Recorded}
 use Rattle.puffin_data.specs.Value.Layout.{IsBytes}
 use Rattle.puffin_data.specs.Value.Decoding.{whole}
-use Rattle.puffin_data.proofs.lemmas.Readers.{whole_again, whole_taken}
+use Rattle.puffin_data.proofs.lemmas.Readers.{whole_taken}
 use Rattle.puffin_frames.specs.declared.frame_data.held.Held.{Held}
 use Rattle.puffin_frames.specs.declared.frame_data.held.Held.TheVariants.{Own, Shared, Packed, Both}
 use Rattle.puffin_frames.specs.Frame.Contents.{packed_as, held_as}
@@ -21,14 +21,8 @@ use Rattle.puffin_frames.specs.Packet.Structs.{AreStreams, streams_layout, strea
 use Rattle.puffin_frames.specs.Frame.Holding.{Packing, HoldsStreams, or_bad, unpacked_from, Holding, streams_in, if_packed, either_content, held_contents, Agree, IsHolding, packing, plainly_packed, as_packed, as_unpacked}
 use Rattle.puffin_frames.proofs.Structs.{streams_reader}
 use Rattle.puffin_frames.proofs.Listed.{holds}
+use Rattle.puffin_frames.proofs.PackedAgain.{packed_again}
 use Rattle.puffin_frames.proofs.PartsTaken.{same_ok}
-
-from_entries_back : (m : Streams) → from_sorted {R = info_cmp} (entries m) ≡ m
-from_entries_back m = same_entries_map (from_sorted (entries m)) m (entries-from_sorted info_cmp (entries m) (entries_sorted m))
-
-packed_again : (m : Streams) → AreStreams (entries m) → streams_in (plainly_packed m) ≡ Some m
-packed_again m h =
-    ap (option_map from_sorted) (whole_again AreStreams streams_layout streams_at streams_reader (entries m) h) ∙ ap Some (from_entries_back m)
 
 packing-keeps : (p : Option Packing) (u : Option Streams) → Agree p u → streams_in (packing p u) ≡ either_content p u
 packing-keeps None None h = absurd h
