@@ -7,6 +7,7 @@ SCRIPT is the script that builds and runs the program; it is run through a symbo
 A case is a folder in cases/ with the files
   args    the program's words, one a line
   script  a file that lies where the program runs
+  file.hex  the bytes of a file 'file' that lies there, in hexadecimal digits as below
   stdin   standard input as it is, or stdin.hex in hexadecimal digits with blanks and '#' comments, or
           stdin.make, a line that names a function of streams.py with its arguments
   stdout  what it must write to standard output (no file: nothing)
@@ -52,6 +53,8 @@ def faults(program, case):
         place = pathlib.Path(folder)
         if (case / "script").exists():
             shutil.copy(case / "script", place)
+        if (case / "file.hex").exists():
+            (place / "file").write_bytes(digits(case / "file.hex"))
         ran = subprocess.run([program, *words], input=given(case), capture_output=True, timeout=120, cwd=place)
         out = read(place / "out", None)
     wanted = {

@@ -91,10 +91,12 @@ def main():
     with tempfile.TemporaryDirectory() as folder:
         refusing = Refusing(folder)
         pathlib.Path(f"{folder}/script").write_bytes(SCRIPT)
+        subprocess.run([tool, "replay", "script", "frames"], capture_output=True, cwd=folder, check=True)
         cases = {
             "each call twice": ([memory], b"", [is_alike]),
             "count": ([tool, "count"], STREAM, [is_alike, is_told]),
             "replay": ([tool, "replay", "script", "out"], b"", [is_alike, is_told, is_replied]),
+            "report": ([tool, "report", "frames", "100:main"], b"", [is_alike, is_told]),
         }
         for name, (words, given, ends) in cases.items():
             count, found = faults(refusing, words, given, ends)

@@ -1,4 +1,3 @@
 pub mod Profiler
-pub mod View
-pub mod inner
-pub mod Merge
+pub mod Sinks
+pub mod Shares

@@ -1,9 +1,32 @@
--- What a profiler collects, whatever else it has.
-pub mod State
-pub mod Collecting
-pub mod Registering
-use Rattle.puffin.specs.Profiler.State.{Collected}
+-- What contracts see of a profiler: what it collects, and its sinks.
+use Rattle.std.specs.Prelude.{◌≡◌, ℕ, List, [], false}
+use Rattle.std.specs.FinMap as map
+use Rattle.puffin_frames.specs.Details.Collection.{no_details}
+use Rattle.puffin_collector.specs.Profiler.State.{Collected}
 use Rattle.puffin.specs.declared.global_profiler.profiler.GlobalProfiler.{GlobalProfiler}
+use Rattle.puffin.specs.declared.global_profiler.sinks.Entry.{Entry}
 
-abbrev pub collected_of : GlobalProfiler → Collected
-collected_of profiler = profiler.collector
+module _ {I : Type 0} {F : I → Type 0} where
+  abbrev pub collected_of : GlobalProfiler I F → Collected
+  collected_of profiler = profiler.collector
+
+  -- its sinks by rising number, and the number of the next one
+  abbrev pub sinks_of : GlobalProfiler I F → List (Entry I F)
+  sinks_of profiler = profiler.sinks.entries.items
+
+  abbrev pub next_sink_of : GlobalProfiler I F → ℕ
+  next_sink_of profiler = profiler.sinks.next
+
+  -- nothing was reported, the next frame has this index, and there are no sinks
+  pub record IsFresh (index : ℕ) (profiler : GlobalProfiler I F) : Type 0 where
+    pub collected : collected_of profiler ≡ record {
+      index = index;
+      reported = 0;
+      emitted = 0;
+      streams = map.empty;
+      collection = no_details;
+      new_details = [];
+      wants_all = false;
+    }
+    pub sinks : sinks_of profiler ≡ []
+    pub next : next_sink_of profiler ≡ 1

@@ -1,11 +1,21 @@
 //! What threads report, and the frames that it is handed out in.
 
-mod collector;
-mod delta;
+mod booked;
+mod global_frame_view;
+mod handing;
 mod profiler;
-mod totals;
+mod share;
+mod shared_profiler;
+mod shared_reporter;
+mod sink;
+mod sinks;
 
-pub use collector::Collector;
-pub(crate) use delta::learn;
+pub use booked::{Booked, Settled};
+pub use global_frame_view::GlobalFrameView;
 pub use profiler::{Emitted, GlobalProfiler};
-pub use totals::Totals;
+pub use puffin_collector::{Collector, Totals};
+pub use share::Share;
+pub use shared_profiler::SharedProfiler;
+pub use shared_reporter::SharedReporter;
+pub use sink::{FrameSink, FrameSinkId, Sink};
+pub use sinks::Entry;

@@ -6,6 +6,10 @@
 //! |---|---|
 //! | gather what threads report | [`global_profiler::GlobalProfiler::new`]; it is the [`thread_profiler::Reporter`] of each `end_scope` |
 //! | take a frame | [`global_profiler::GlobalProfiler::new_frame`] |
+//! | hand each frame to others too | [`global_profiler::GlobalProfiler::add_sink`], [`global_profiler::FrameSink`] |
+//! | share a profiler among threads | [`global_profiler::SharedProfiler::open`]; a [`global_profiler::SharedReporter`] for each thread |
+//! | keep a view of a shared profiler's frames | [`global_profiler::GlobalFrameView::attach`] |
+//! | see that nothing is missing, over all threads | [`global_profiler::SharedProfiler::settle`] |
 //! | register and report scopes of another origin | [`global_profiler::GlobalProfiler::register_user_scopes`], `report_user_scopes` |
 //! | have the next frame tell of all known scopes | [`global_profiler::GlobalProfiler::emit_scope_snapshot`] |
 //! | see that nothing is missing | [`global_profiler::GlobalProfiler::totals`] |
@@ -13,11 +17,17 @@
 //! | write them to a `.puffin` file, and read one | [`profile_view::FrameView::write`], [`profile_view::FrameView::read`] |
 //! | pick the slowest of any frames | [`profile_view::select_slowest`] |
 //! | add up one thread's scopes over frames | [`merge::merge_scopes_for_thread`] |
+//! | make a scope of a function, or of a part of it | the macros `profile_function`, `profile_scope` and the four like them; [`ProfilerScope`] by hand |
+//! | turn those scopes on and off | [`Switch::set_scopes_on`] |
+//! | keep the id of a place in the code | [`Site::new`] |
+//! | shorten the name of a function or of a file | [`utils::clean_function_name`], [`utils::short_file_name`] |
 #![tactic(auto)]
 
 pub mod global_profiler;
-pub mod merge;
-pub mod profile_view;
+mod macros;
 
 pub use puffin_data::{Error, FileError, FrameIndex, NanoSecond, Result, data, wire};
 pub use puffin_frames::{frame_data, scope_details, thread_profiler};
+pub use puffin_merge::merge;
+pub use puffin_scopes::{ProfilerScope, Site, Switch, utils};
+pub use puffin_view::profile_view;

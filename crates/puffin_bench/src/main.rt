@@ -1,30 +1,31 @@
 //! Times what the profiler does, for a comparison with the Rust crate. Without words it runs each kind of work once and
-//! prints what it counted; with the word `time` it prints the nanoseconds that each takes, with `frames` those of merging and of views alone.
+//! prints what it counted; with the word `time` it prints the nanoseconds that each takes, with `frames` those of merging
+//! and of views alone.
 #![tactic(auto)]
 
 mod merges;
 mod packets;
 mod reports;
 mod scopes;
+mod shared_views;
+mod sharing;
 mod views;
 
 use anyhow::{Context, Result};
 use merges::{MergeWork, main_thread, merged};
 use packets::{FileWork, Files};
-use puffin::global_profiler::GlobalProfiler;
 use puffin::scope_details::ScopeCollection;
 use puffin::thread_profiler::{ScriptClock, ThreadProfiler};
-use puffin_data::data::{Stream, StreamInfo};
-use reports::{profiled, reported, two_scopes};
+use puffin_data::data::Stream;
+use reports::profiled;
 use scopes::{Work, written};
+use sharing::{count_sharing, time_reports, time_shared_views};
 use std::env;
 use std::time::Instant;
 use views::{ViewWork, added};
 
 /// How often each work is run; the fastest run counts.
 const ROUNDS: u32 = 4_000;
-/// The same of reports.
-const REPORT_ROUNDS: u32 = 300;
 /// The same of files.
 const FILE_ROUNDS: u32 = 40;
 /// The same of views.
@@ -49,12 +50,6 @@ fn count(rt: &HostRuntime) -> Result<()> {
     }
     let scopes = profiled(&mut thread(rt)?, TEXT)?;
     println!(rt; "profiled_text12 scopes {scopes}")?;
-    let info = StreamInfo::parse(rt.alloc(), two_scopes(rt.alloc())?)?;
-    let mut profiler = GlobalProfiler::new(rt.alloc());
-    let reports = reported(rt.alloc(), &mut profiler, &info)?;
-    let totals = profiler.totals();
-    let (reported, emitted) = (totals.reported, totals.emitted);
-    println!(rt; "report reports {reports} scopes {reported} emitted {emitted}")?;
     count_packets(rt)?;
     count_merges(rt)?;
     count_views(rt)
@@ -115,7 +110,7 @@ fn count_packets(rt: &HostRuntime) -> Result<()> {
 }
 
 /// Prints the nanoseconds that one unit takes, in hundredths, and how many units were timed.
-fn print(rt: &HostRuntime, name: &str, best: u128, units: usize) -> Result<()> {
+fn print(rt: &impl Print, name: &str, best: u128, units: usize) -> Result<()> {
     let hundredths = best.saturating_mul(100) / (units as u128).max(1);
     let (whole, part) = (hundredths / 100, hundredths % 100);
     println!(rt; "{name} {whole}.{part:02} {units}")?;
@@ -147,20 +142,6 @@ fn time_threads(rt: &HostRuntime, name: &str, text: &str) -> Result<()> {
         best = best.min(begun.elapsed(rt)?.as_nanos());
     }
     print(rt, name, best, scopes)
-}
-
-/// Times reports of two scopes, with a frame after every eight.
-fn time_reports(rt: &HostRuntime) -> Result<()> {
-    let info = StreamInfo::parse(rt.alloc(), two_scopes(rt.alloc())?)?;
-    let mut profiler = GlobalProfiler::new(rt.alloc());
-    let mut best = u128::MAX;
-    let mut reports = 0;
-    for _ in 0..REPORT_ROUNDS {
-        let begun = Instant::now(rt)?;
-        reports = reported(rt.alloc(), &mut profiler, &info)?;
-        best = best.min(begun.elapsed(rt)?.as_nanos());
-    }
-    print(rt, "report", best, reports)
 }
 
 /// Times what is done with the frames of a file, a frame being a unit.
@@ -221,7 +202,6 @@ fn time(rt: &HostRuntime) -> Result<()> {
     }
     time_threads(rt, "profiled_empty", "")?;
     time_threads(rt, "profiled_text12", TEXT)?;
-    time_reports(rt)?;
     time_packets(rt)?;
     time_frames(rt)
 }
@@ -240,8 +220,15 @@ fn time_frames(rt: &HostRuntime) -> Result<()> {
 fn main(rt: HostRuntime) -> Result<()> {
     let mut words = env::args(&rt)?.skip(1);
     match words.next() {
-        Some(word) if word.as_str() == "time" => time(&rt),
+        Some(word) if word.as_str() == "time" => {
+            time_reports(&rt)?;
+            time(&rt)?;
+            time_shared_views(&rt)
+        }
         Some(word) if word.as_str() == "frames" => time_frames(&rt),
-        _ => count(&rt),
+        _ => {
+            count(&rt)?;
+            count_sharing(&rt)
+        }
     }
 }

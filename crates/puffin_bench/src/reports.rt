@@ -9,6 +9,7 @@ use puffin::thread_profiler::{Reporter, ScriptClock, ThreadInfo, ThreadProfiler}
 use puffin_data::Result;
 use puffin_data::data::{ScopeId, Stream, StreamInfo, StreamInfoRef};
 use std::alloc::Global;
+use std::sync::Wait;
 
 /// How many nests of scopes a run profiles.
 const NESTS: usize = 512;
@@ -77,7 +78,12 @@ pub fn two_scopes(alloc: Global) -> Result<Stream> {
 
 /// Reports an honest info under each of four names, twice, and takes a frame; so often. Returns how many reports.
 #[inline(never)]
-pub fn reported(alloc: Global, profiler: &mut GlobalProfiler, info: &StreamInfo) -> Result<usize>
+pub fn reported<R: Wait>(
+    rt: &R,
+    alloc: Global,
+    profiler: &mut GlobalProfiler,
+    info: &StreamInfo,
+) -> Result<usize>
     requires { (f : Forest) × IsHonest info.now f }
 {
     let threads = ["main", "loader", "audio", "worker"];
@@ -90,7 +96,7 @@ pub fn reported(alloc: Global, profiler: &mut GlobalProfiler, info: &StreamInfo)
             };
             profiler.report(thread, &[], &times)?;
         }
-        let _ = profiler.new_frame()?;
+        let _ = profiler.new_frame(rt)?;
     }
     Ok(FRAMES * 2 * threads.len())
 }

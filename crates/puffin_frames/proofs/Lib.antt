@@ -16,6 +16,7 @@ mod Honest
 mod RecordedScopes
 mod Recordings
 mod Inserting
+mod InsertingAll
 mod Comparing
 mod CollectionsBuilt
 mod PackedAgain

@@ -5,3 +5,4 @@ pub mod Ranges
 pub mod Measured
 pub mod Events
 pub mod EntriesSeen
+pub mod Ids

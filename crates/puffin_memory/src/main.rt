@@ -9,15 +9,13 @@ mod summaries;
 
 use std::process::ExitCode;
 
-fn run(rt: &HostRuntime) -> Option<()> {
-    registrations::run(rt)?;
-    packets::run(rt)?;
-    summaries::run(rt)
-}
-
 fn main(rt: HostRuntime) -> ExitCode {
-    match run(&rt) {
-        Some(()) => ExitCode::SUCCESS,
-        None => ExitCode::FAILURE,
+    let is_done = registrations::run(&rt).is_some()
+        && packets::run(&rt).is_some()
+        && summaries::run(&rt).is_some();
+    if is_done {
+        ExitCode::SUCCESS
+    } else {
+        ExitCode::FAILURE
     }
 }

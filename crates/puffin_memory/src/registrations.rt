@@ -9,10 +9,13 @@ use puffin_frames::scope_details::{ScopeDetails, ScopeIds};
 use puffin_frames::thread_profiler::{Closed, ScriptClock, ThreadProfiler};
 use std::alloc::Global;
 use std::borrow::CowStr;
+use std::rt::Runtime;
+use std::sync::Wait;
 
 type Thread = ThreadProfiler<ScriptClock>;
 
-fn owned(alloc: Global, text: &str) -> Option<CowStr<'static>> {
+/// The text in memory of its own.
+pub fn owned(alloc: Global, text: &str) -> Option<CowStr<'static>> {
     Some(CowStr::Owned(again!(String::from_str(alloc, text))?))
 }
 
@@ -70,7 +73,8 @@ fn users(alloc: Global, profiler: &mut GlobalProfiler, ids: &ScopeIds) -> Option
     Some(())
 }
 
-fn print_frame(rt: &HostRuntime, frame: &FrameData) -> Option<()> {
+/// Prints what a frame has, and the scopes that it tells of.
+pub fn print_frame<R: Print>(rt: &R, frame: &FrameData) -> Option<()> {
     let meta = frame.meta();
     let (index, scopes, bytes) = (meta.frame_index, meta.num_scopes, meta.num_bytes);
     println!(rt; "frame {index} scopes {scopes} bytes {bytes}").ok()?;
@@ -82,8 +86,8 @@ fn print_frame(rt: &HostRuntime, frame: &FrameData) -> Option<()> {
     Some(())
 }
 
-fn frame(rt: &HostRuntime, profiler: &mut GlobalProfiler) -> Option<()> {
-    let emitted = again!(profiler.new_frame())?;
+fn frame<R: Print + Wait>(rt: &R, profiler: &mut GlobalProfiler) -> Option<()> {
+    let emitted = again!(profiler.new_frame(rt))?;
     match &emitted.frame {
         Some(frame) => print_frame(rt, frame),
         None => println!(rt; "no frame").ok(),
@@ -91,7 +95,7 @@ fn frame(rt: &HostRuntime, profiler: &mut GlobalProfiler) -> Option<()> {
 }
 
 /// Two threads register scopes and report them, over four frames; the last one tells of all that is known.
-pub fn run(rt: &HostRuntime) -> Option<()> {
+pub fn run<R: Runtime + AllocGlobal + Wait>(rt: &R) -> Option<()> {
     let alloc = rt.alloc();
     let ids = ScopeIds::new();
     let mut profiler = GlobalProfiler::new(alloc);

@@ -15,3 +15,5 @@ mod Offsets
 mod SessionCloses
 mod Recording
 mod Summing
+mod PrintedScopes
+mod StartWords

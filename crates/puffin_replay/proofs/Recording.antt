@@ -1,11 +1,10 @@
 -- What a view makes of the frames of replies, one after another.
-use Rattle.std.proofs.Common.{◌≡◌, ◌⊎◌, inl, inr, ℕ, ◌+◌, ◌<◌, List, [], ◌∷◌, ◌++◌, length, take, drop, get_or, map, refl, sym, ap, ◌∙◌, subst, append_assoc, append-nil, Option, None, Some, Result, Ok, Err, string_bytes, String, All, arith, length-append, ◌↔◌, true, false}
+use Rattle.std.proofs.Common.{◌≡◌, ◌⊎◌, inl, inr, ℕ, ◌+◌, ◌<◌, List, [], ◌∷◌, ◌++◌, length, take, drop, get_or, map, refl, sym, ap, ◌∙◌, subst, append_assoc, append-nil, Option, None, Some, Result, Ok, Err, string_bytes, String, All, ◌↔◌, true, false}
 use Rattle.std.specs.Prelude.{Bool, false, is_none, IsSome, OnErr, IfErr}
 use Rattle.std.specs.List.{flat_map, list_any, AllByRecursion, Any, AllZip}
 use Rattle.std.proofs.lemmas.List.Folds.{list_any-append, list_any_none}
 use Rattle.std.proofs.lemmas.Grind.{flat_map-append}
 use Rattle.std.proofs.lemmas.List.{take_more, drop_more, take-append-drop, map-append}
-use Rattle.std.proofs.Math.Seq.{get_or-append_seam}
 use Rattle.std.proofs.lemmas.List.Elements.{All-get_or, recursion_from_All}
 use Rattle.std.proofs.lemmas.List.Sums.{fold-append}
 use Rattle.std.specs.Io.KnownBytes.{Appends}
@@ -17,14 +16,14 @@ use Rattle.puffin_data.specs.Device.{IsOutside, WritesBeginning}
 use Rattle.puffin_frames.specs.Packet.Grammar.{IsPacked}
 use Rattle.puffin_frames.specs.Packet.Writing.{HasLongPart}
 use Rattle.puffin_frames.specs.Details.{Details, lacks_id, AllHaveIds}
-use Rattle.puffin_frames.specs.Details.Collection.{Collection, with_details, with_all_details}
+use Rattle.puffin_frames.specs.Details.Collection.{Collection, with_details, with_all_details, LearnsSome}
 use Rattle.puffin_frames.specs.Packet.Stored.{Said}
-use Rattle.puffin.specs.declared.profile_view.frame_view.FrameView.{FrameView}
-use Rattle.puffin.specs.View.ViewedFrames.{Frame, contents_of, index_of}
-use Rattle.puffin.specs.View.FrameOf.{details_of_frame}
-use Rattle.puffin.specs.View.{View, Took, empty_view, after_taking, after_all, KeepsFrames}
-use Rattle.puffin.specs.View.Known.{view_of, collection_of, lacks_ids, LearnsSome}
-use Rattle.puffin.specs.View.File.{file_of, contents_held, contents_in}
+use Rattle.puffin_view.specs.declared.profile_view.frame_view.FrameView.{FrameView}
+use Rattle.puffin_view.specs.View.ViewedFrames.{Frame, contents_of, index_of}
+use Rattle.puffin_view.specs.View.FrameOf.{details_of_frame}
+use Rattle.puffin_view.specs.View.{View, Took, empty_view, after_taking, after_all, KeepsFrames}
+use Rattle.puffin_view.specs.View.Known.{view_of, collection_of, lacks_ids}
+use Rattle.puffin_view.specs.View.File.{file_of, contents_held, contents_in}
 use Rattle.puffin_replay.specs.declared.replay.command.Command.{Command}
 use Rattle.puffin_replay.specs.declared.replay.script.Script.{Script}
 use Rattle.puffin_replay.specs.declared.replay.command.Reply.{Reply}

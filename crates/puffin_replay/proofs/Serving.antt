@@ -20,16 +20,16 @@ use Rattle.puffin_data.specs.Forest.Words.{word_size, num_begun, open_after}
 use Rattle.puffin_frames.specs.Thread.Info.{Info, info_of}
 use Rattle.puffin_frames.specs.Thread.Calls.{Thread, after_begin, after_end, after_handing, after_registering, info_of_thread}
 use Rattle.puffin_frames.specs.Details.{Details, AllHaveIds, shared_details}
-use Rattle.puffin_frames.specs.Details.Collection.{Collection, with_all_details}
+use Rattle.puffin_frames.specs.Details.Collection.{Collection, with_all_details, Begins}
 use Rattle.puffin_frames.specs.Frame.Contents.{Streams}
 use Rattle.puffin_frames.specs.Frame.Sums.{total_scopes}
 use Rattle.puffin_frames.specs.declared.frame_data.frame.FrameData.{FrameData}
 use Rattle.puffin_frames.specs.declared.thread_profiler.thread_info.ThreadInfo.{ThreadInfo}
 use Rattle.puffin_frames.specs.declared.thread_profiler.reporter.Closed.{Closed}
 use Rattle.puffin_frames.specs.declared.thread_profiler.reporter.Closed.TheVariants.{Inner, Reported, Kept}
-use Rattle.puffin.specs.Profiler.State.{Collected, AcceptsReport, after_frame, after_no_frame, after_adding, after_learning, after_wanting, reported_to, IsReportRefusal, delta_of}
-use Rattle.puffin.specs.Profiler.Registering.{Registers, RegistersSome, Adds, AddsSome}
-use Rattle.puffin.specs.Profiler.Collecting.{Collects, HoldsAll, Begins, KeepsPending}
+use Rattle.puffin_collector.specs.Profiler.State.{Collected, AcceptsReport, after_frame, after_no_frame, after_adding, after_learning, after_wanting, reported_to, IsReportRefusal, delta_of}
+use Rattle.puffin_collector.specs.Profiler.Registering.{Registers, RegistersSome, Adds, AddsSome}
+use Rattle.puffin_collector.specs.Profiler.Collecting.{Collects, HoldsAll, KeepsPending}
 use Rattle.puffin_frames.specs.Thread.Closing.{IsReportOf}
 use Rattle.puffin_replay.specs.declared.replay.command.Command.{Command}
 use Rattle.puffin_replay.specs.declared.replay.command.Command.TheVariants.{Begin, End, Register, RegisterUser, ReportUser, Snapshot, NewFrame}

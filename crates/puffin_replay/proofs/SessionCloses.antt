@@ -17,8 +17,8 @@ use Rattle.puffin_frames.specs.Thread.Closing.{Closes}
 use Rattle.puffin_frames.specs.declared.frame_data.frame.FrameData.{FrameData}
 use Rattle.puffin_frames.specs.declared.thread_profiler.reporter.Closed.{Closed}
 use Rattle.puffin_frames.specs.declared.thread_profiler.reporter.Closed.TheVariants.{Inner, Reported, Kept}
-use Rattle.puffin.specs.Profiler.State.{Collected, AcceptsReport, RefusesReport, after_wanting, IsReportRefusal}
-use Rattle.puffin.specs.Profiler.Collecting.{Collects, KeepsPending}
+use Rattle.puffin_collector.specs.Profiler.State.{Collected, AcceptsReport, RefusesReport, after_wanting, IsReportRefusal}
+use Rattle.puffin_collector.specs.Profiler.Collecting.{Collects, KeepsPending}
 use Rattle.puffin_replay.specs.Session.{SessionState}
 use Rattle.puffin_replay.specs.inner.Serving.{clock_time, session_thread, session_with_thread, session_with_collected, Ends}
 

@@ -13,7 +13,7 @@ use Rattle.puffin_frames.specs.Frame.Contents.{Streams}
 use Rattle.puffin_frames.specs.Frame.Sums.{meta_of, total_scopes}
 use Rattle.puffin_frames.specs.Frame.Contents.{holding_of, frame_meta}
 use Rattle.puffin_frames.specs.declared.frame_data.frame.FrameData.{FrameData}
-use Rattle.puffin.specs.Profiler.State.{no_scopes, reported_to}
+use Rattle.puffin_collector.specs.Profiler.State.{no_scopes, reported_to}
 use Rattle.puffin_replay.specs.Session.Deliveries.{Delivery, under}
 use Rattle.puffin_replay.specs.Session.Due.{total_under, NoneDue}
 use Rattle.puffin_replay.specs.Session.{SpellsWord, SpellsIfAny, SpellsDue}

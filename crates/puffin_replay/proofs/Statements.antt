@@ -36,13 +36,13 @@ some_word (b ∷ bs) =
 
 -- ---- numbers
 
-own : IsNumeralModel (λ ds. all_ascii_digits ds ≡ true) (digits_value 10)
+pub own : IsNumeralModel (λ ds. all_ascii_digits ds ≡ true) (digits_value 10)
 own = numerals_by_value _ tells_all_ascii_digits
 
-number_given : (digits : Bool) (v limit x : ℕ) → digits ≡ true → v < limit → x ≡ v → Some x ≡ option_and_then (if_below limit) (if digits then Some v else None)
+pub number_given : (digits : Bool) (v limit x : ℕ) → digits ≡ true → v < limit → x ≡ v → Some x ≡ option_and_then (if_below limit) (if digits then Some v else None)
 number_given digits v limit x h small same = grind (arith, nat_tests)
 
-number_refused : (digits : Bool) (v limit : ℕ) → ¬ ((digits ≡ true) × (v < limit)) → None ≡ option_and_then (if_below limit) (if digits then Some v else None)
+pub number_refused : (digits : Bool) (v limit : ℕ) → ¬ ((digits ≡ true) × (v < limit)) → None ≡ option_and_then (if_below limit) (if digits then Some v else None)
 number_refused true v limit h = let big : limit ≤ v = omega (arith, λ (small : v < limit). h (refl, small)) in grind (arith, nat_tests)
 number_refused false v limit h = refl
 

@@ -17,15 +17,15 @@ use Rattle.puffin_frames.specs.Frame.Streams.{Streams}
 use Rattle.puffin_frames.specs.Frame.Holding.{Packing, streams_in, or_bad, unpacking}
 use Rattle.puffin_frames.specs.Details.{Details}
 use Rattle.puffin_frames.specs.Packet.Stored.{Said, Stored, packed}
-use Rattle.puffin.specs.declared.merge.scope.MergeScope.{MergeScope}
-use Rattle.puffin.specs.declared.profile_view.frame_view.FrameView.{FrameView}
-use Rattle.puffin.specs.View.File.{file_of, contents_in, details_stored, file_at, TookFrames, FailsToRead, IsViewOf}
-use Rattle.puffin.specs.Merge.FrameBytes.{FrameBytes}
-use Rattle.puffin.specs.View.ViewedFrames.{Frame, contents_of}
-use Rattle.puffin.specs.View.Known.{view_of, collection_of, lacks_ids}
-use Rattle.puffin.specs.Merge.Refusals.{IsMergeRefusal, AreMerged}
-use Rattle.puffin.specs.Merge.Scopes.{frame_bytes, frames_bytes, forest_in}
-use Rattle.puffin.specs.View.{View, all_uniq}
+use Rattle.puffin_merge.specs.declared.merge.scope.MergeScope.{MergeScope}
+use Rattle.puffin_view.specs.declared.profile_view.frame_view.FrameView.{FrameView}
+use Rattle.puffin_view.specs.View.File.{file_of, contents_in, details_stored, file_at, TookFrames, FailsToRead, IsViewOf}
+use Rattle.puffin_merge.specs.Merge.FrameBytes.{FrameBytes}
+use Rattle.puffin_view.specs.View.ViewedFrames.{Frame, contents_of}
+use Rattle.puffin_view.specs.View.Known.{view_of, collection_of, lacks_ids}
+use Rattle.puffin_merge.specs.Merge.Refusals.{IsMergeRefusal, AreMerged}
+use Rattle.puffin_merge.specs.Merge.Scopes.{frame_bytes, frames_bytes, forest_in}
+use Rattle.puffin_view.specs.View.{View, all_uniq}
 use Rattle.puffin_replay.specs.declared.replay.summary.Summary.{Summary}
 use Rattle.puffin_replay.specs.Program.Recording.{NoneLacksIds}
 use Rattle.puffin_replay.specs.Program.Summary.{bytes_under, bytes_in, followed_by, all_bytes_in, contents_read, SumsUp, IsSummary, details_said, IsHindered, FailsToSumUp}

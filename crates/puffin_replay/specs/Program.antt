@@ -7,3 +7,5 @@ pub mod Faults
 pub mod Lines
 pub mod ReplyLines
 pub mod Count
+pub mod ReportLines
+pub mod Report

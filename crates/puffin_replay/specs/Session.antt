@@ -16,7 +16,7 @@ use Rattle.puffin_frames.specs.Thread.Info.{Info}
 use Rattle.puffin_frames.specs.Thread.Calls.{Thread}
 use Rattle.puffin_frames.specs.Frame.Contents.{Streams}
 use Rattle.puffin_frames.specs.Details.Collection.{no_details}
-use Rattle.puffin.specs.Profiler.State.{Collected}
+use Rattle.puffin_collector.specs.Profiler.State.{Collected}
 use Rattle.puffin_frames.specs.Thread.Events.{events_in}
 use Rattle.puffin_replay.specs.Session.History.{Opening, Action, nobody, thread_at, latest_of}
 use Rattle.puffin_replay.specs.Session.Deliveries.{Delivery, unreported, first_start_of}

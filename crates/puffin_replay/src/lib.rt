@@ -6,7 +6,7 @@
 //! | drive threads and their profiler by commands | [`replay::Session::new`], [`replay::Session::run`] |
 //! | run commands into a file | [`replay::record`] |
 //! | read a script, and run it into a file and lines | [`replay::read_script`], [`replay::run_script`] |
-//! | sum up a file for one thread | [`replay::summarize`] |
+//! | sum up a file for one thread, and print that | [`replay::summarize`], [`replay::print_report`] |
 //! | count a stream | [`replay::count_stream`] |
 //! | read the program's words, and tell of its faults | [`replay::read_words`], [`replay::finish`] |
 #![tactic(auto)]

@@ -218,7 +218,7 @@ fn a_writer_that_takes_nothing_has_failed(rt: HostRuntime) {
 }
 
 /// What the program's words ask for.
-fn task_of(rt: &HostRuntime, words: &[&str]) -> Result<Option<Task>, Fail> {
+pub(crate) fn task_of(rt: &HostRuntime, words: &[&str]) -> Result<Option<Task>, Fail> {
     let mut owned = Vec::new(rt.alloc());
     for word in words {
         owned.push(String::from_str(rt.alloc(), word)?)?;

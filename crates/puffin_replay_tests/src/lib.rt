@@ -8,6 +8,8 @@ mod details;
 #[cfg(test)]
 mod record;
 #[cfg(test)]
+mod report;
+#[cfg(test)]
 mod script;
 #[cfg(test)]
 mod session;

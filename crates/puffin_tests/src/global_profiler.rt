@@ -9,7 +9,7 @@ use puffin::scope_details::{ScopeDetails, ScopeIds};
 use puffin::thread_profiler::{Reporter, ThreadInfo};
 use puffin::{Error, NanoSecond, Result};
 use std::borrow::CowStr;
-use std::sync::Arc;
+use std::sync::{Arc, Wait};
 use std::test::Fail;
 
 type Outcome = std::result::Result<(), Fail>;
@@ -81,8 +81,11 @@ fn held(rt: &HostRuntime, frame: &FrameData, name: &str) -> Result<Option<(usize
 }
 
 /// The only frame that is emitted now.
-fn emitted(profiler: &mut GlobalProfiler) -> std::result::Result<Arc<FrameData>, Fail> {
-    let emitted = profiler.new_frame()?;
+fn emitted<R: Wait>(
+    rt: &R,
+    profiler: &mut GlobalProfiler,
+) -> std::result::Result<Arc<FrameData>, Fail> {
+    let emitted = profiler.new_frame(rt)?;
     if emitted.refused != 0 {
         return Err(Fail::new("a sink refused"));
     }
@@ -98,7 +101,7 @@ fn reports_of_two_threads(rt: HostRuntime) -> Outcome {
     report(&rt, &mut profiler, "a", 1, (100, 200))?;
     report(&rt, &mut profiler, "b", 2, (50, 60))?;
     report(&rt, &mut profiler, "a", 3, (200, 260))?;
-    let frame = emitted(&mut profiler)?;
+    let frame = emitted(&rt, &mut profiler)?;
     assert_eq!(rt; frame.frame_index(), 0);
     assert_eq!(rt; frame.range_ns(), (50, 260));
     assert_eq!(rt; frame.duration_ns(), 210);
@@ -120,7 +123,7 @@ fn a_range_that_is_too_long(rt: HostRuntime) -> Outcome {
     assert_eq!(rt; refused.err(), Some(Error::RangeTooLong));
     let other = report(&rt, &mut profiler, "v", 1, (0, 0));
     assert_eq!(rt; other.err(), Some(Error::RangeTooLong));
-    let frame = emitted(&mut profiler)?;
+    let frame = emitted(&rt, &mut profiler)?;
     assert_eq!(rt; frame.range_ns(), (NanoSecond::MIN, NanoSecond::MIN));
     assert_eq!(rt; frame.duration_ns(), 0);
     assert_eq!(rt; held(&rt, &frame, "u")?, Some((31, 1)));
@@ -133,17 +136,17 @@ fn a_range_that_is_too_long(rt: HostRuntime) -> Outcome {
 #[test]
 fn without_scopes_the_index_alone_rises(rt: HostRuntime) -> Outcome {
     let mut profiler = GlobalProfiler::new(rt.alloc());
-    assert!(rt; profiler.new_frame()?.frame.is_none());
+    assert!(rt; profiler.new_frame(&rt)?.frame.is_none());
     let none = StreamInfo::new(rt.alloc());
     profiler.report(thread(&rt, "a")?, &[], &borrowed(&none))?;
     assert!(rt; profiler.collect_frame()?.is_none());
     report(&rt, &mut profiler, "b", 1, (5, 7))?;
-    let frame = emitted(&mut profiler)?;
+    let frame = emitted(&rt, &mut profiler)?;
     assert_eq!(rt; frame.frame_index(), 2);
     // The thread without scopes was kept until there was a frame.
     assert_eq!(rt; held(&rt, &frame, "a")?, Some((0, 0)));
     assert_eq!(rt; held(&rt, &frame, "b")?, Some((31, 1)));
-    assert!(rt; profiler.new_frame()?.frame.is_none());
+    assert!(rt; profiler.new_frame(&rt)?.frame.is_none());
     Ok(())
 }
 
@@ -152,7 +155,7 @@ fn totals_of_reports_and_frames(rt: HostRuntime) -> Outcome {
     let mut profiler = GlobalProfiler::new(rt.alloc());
     report(&rt, &mut profiler, "a", 1, (0, 1))?;
     report(&rt, &mut profiler, "a", 1, (1, 2))?;
-    let _frame = emitted(&mut profiler)?;
+    let _frame = emitted(&rt, &mut profiler)?;
     report(&rt, &mut profiler, "a", 1, (2, 3))?;
     let totals = Totals {
         reported: 3,
@@ -202,11 +205,11 @@ fn one_refused_allocation(rt: HostRuntime) -> Outcome {
         report_again(&rt, &mut profiler, "a", id)?;
         report_again(&rt, &mut profiler, "b", id)?;
     }
-    let mut emitted = profiler.new_frame();
+    let mut emitted = profiler.new_frame(&rt);
     if emitted.is_err() {
         assert_eq!(rt; profiler.totals().pending, 6);
         report_again(&rt, &mut profiler, "c", 1)?;
-        emitted = profiler.new_frame();
+        emitted = profiler.new_frame(&rt);
     }
     let Some(frame) = emitted?.frame else {
         return Err(Fail::new("no frame"));
@@ -256,7 +259,7 @@ fn details_without_an_id_are_refused(rt: HostRuntime) -> Outcome {
     );
     assert_eq!(rt; refused.err(), Some(Error::MissingId));
     assert_eq!(rt; profiler.totals(), before);
-    let frame = emitted(&mut profiler)?;
+    let frame = emitted(&rt, &mut profiler)?;
     assert_eq!(rt; held(&rt, &frame, "a")?, Some((31, 1)));
     assert!(rt; frame.scope_delta.is_empty());
     Ok(())
@@ -268,14 +271,14 @@ fn details_wait_for_the_next_frame(rt: HostRuntime) -> Outcome {
     let ids = ScopeIds::new();
     let drawn = profiler.register_user_scopes(&ids, &[named("u")])?;
     assert_eq!(rt; drawn.as_slice(), [id(1)?].as_slice());
-    assert!(rt; profiler.new_frame()?.frame.is_none());
+    assert!(rt; profiler.new_frame(&rt)?.frame.is_none());
     report(&rt, &mut profiler, "a", 1, (100, 200))?;
-    let frame = emitted(&mut profiler)?;
+    let frame = emitted(&rt, &mut profiler)?;
     assert_eq!(rt; frame.frame_index(), 1);
     assert!(rt; tells_of(&frame, &[(1, "u")]));
     assert!(rt; !frame.full_delta);
     report(&rt, &mut profiler, "a", 1, (200, 300))?;
-    assert!(rt; emitted(&mut profiler)?.scope_delta.is_empty());
+    assert!(rt; emitted(&rt, &mut profiler)?.scope_delta.is_empty());
     Ok(())
 }
 
@@ -285,9 +288,9 @@ fn a_snapshot_comes_after_the_new_details(rt: HostRuntime) -> Outcome {
     let ids = ScopeIds::new();
     let _drawn = profiler.register_user_scopes(&ids, &[named("u")])?;
     profiler.emit_scope_snapshot();
-    assert!(rt; profiler.new_frame()?.frame.is_none());
+    assert!(rt; profiler.new_frame(&rt)?.frame.is_none());
     report(&rt, &mut profiler, "a", 1, (100, 200))?;
-    let frame = emitted(&mut profiler)?;
+    let frame = emitted(&rt, &mut profiler)?;
     assert!(rt; tells_of(&frame, &[(1, "u"), (1, "u")]));
     assert!(rt; frame.full_delta);
     // Details of a report are known after its frame.
@@ -298,12 +301,12 @@ fn a_snapshot_comes_after_the_new_details(rt: HostRuntime) -> Outcome {
         &[named("t").with_scope_id(id(7)?)],
         &borrowed(&info),
     )?;
-    let second = emitted(&mut profiler)?;
+    let second = emitted(&rt, &mut profiler)?;
     assert!(rt; tells_of(&second, &[(7, "t"), (1, "u")]));
     assert!(rt; second.full_delta);
     profiler.emit_scope_snapshot();
     report(&rt, &mut profiler, "a", 1, (400, 500))?;
-    let third = emitted(&mut profiler)?;
+    let third = emitted(&rt, &mut profiler)?;
     assert!(rt; tells_of(&third, &[(1, "u"), (7, "t")]));
     Ok(())
 }

@@ -8,4 +8,8 @@ mod merge;
 #[cfg(test)]
 mod refused_merges;
 #[cfg(test)]
+mod shared_profiler;
+#[cfg(test)]
+mod sinks;
+#[cfg(test)]
 mod surface;

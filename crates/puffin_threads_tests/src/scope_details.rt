@@ -144,6 +144,26 @@ fn details_without_an_id_are_refused(rt: HostRuntime) -> Outcome {
 }
 
 #[test]
+fn details_are_inserted_in_order(rt: HostRuntime) -> Outcome {
+    let mut scopes = ScopeCollection::new(rt.alloc());
+    let mut details = Vec::new(rt.alloc());
+    for (number, name) in [(1, "a"), (1, "b"), (2, "a")] {
+        details.push(named(rt.alloc(), number, name)?)?;
+    }
+    scopes.insert_all(&details)?;
+    assert_eq!(rt;
+        (name_of(&scopes, 1), number_of(&scopes, "a")),
+        (Some("a"), Some(2))
+    );
+    assert_eq!(rt; sizes(&scopes), (2, 2));
+    details.push(named(rt.alloc(), 3, "c")?)?;
+    details.push(Arc::new(rt.alloc(), function(7))?)?;
+    assert_eq!(rt; scopes.insert_all(&details).err(), Some(Error::MissingId));
+    assert_eq!(rt; sizes(&scopes), (2, 2));
+    Ok(())
+}
+
+#[test]
 fn a_copy_of_a_collection(rt: HostRuntime) -> Outcome {
     let mut scopes = ScopeCollection::new(rt.alloc());
     is_inserted(&rt, &mut scopes, rt.alloc(), (1, "a"), "a")?;

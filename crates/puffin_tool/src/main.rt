@@ -1,10 +1,12 @@
-//! `puffin-tool`: counts a stream of scopes, and replays a script of commands into a file of frames.
+//! `puffin-tool`: counts a stream of scopes, replays a script of commands into a file of frames, and reports a file.
 #![tactic(auto)]
 
 use puffin_data::data::Counted;
 use puffin_data::{Error, FileError};
+use puffin_frames::thread_profiler::ThreadInfo;
 use puffin_replay::replay::{
-    Script, Task, ToolFault, count_stream, finish, read_script, read_words, run_script,
+    Script, Task, ToolFault, count_stream, finish, print_report, read_script, read_words,
+    run_script,
 };
 use std::fs::File;
 use std::process::ExitCode;
@@ -68,11 +70,24 @@ fn replay(rt: &HostRuntime, script: &str, out: &str) -> Result<(), ToolFault> {
     }
 }
 
+fn report(rt: &HostRuntime, path: &str, thread: &ThreadInfo) -> Result<(), ToolFault> {
+    let mut file = match File::open(rt, path) {
+        Ok(file) => Counted::new(file),
+        Err(error) => return Err(not_opened(&error)),
+    };
+    let mut lines = Counted::new(rt.stdout());
+    match print_report(rt.alloc(), &mut file, thread, &mut lines) {
+        Ok(()) => Ok(()),
+        Err(fault) => Err(ToolFault::File(fault)),
+    }
+}
+
 fn run(rt: &HostRuntime) -> Result<(), ToolFault> {
     let words = words(rt)?;
     match read_words(words.as_slice()) {
         Ok(Some(Task::Count)) => count(rt),
         Ok(Some(Task::Replay(script, out))) => replay(rt, script.as_str(), out.as_str()),
+        Ok(Some(Task::Report(file, thread))) => report(rt, file.as_str(), &thread),
         Ok(None) => Err(ToolFault::Words),
         Err(cause) => Err(ToolFault::Cause(cause)),
     }

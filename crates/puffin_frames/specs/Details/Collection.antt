@@ -1,5 +1,5 @@
 -- What contracts see of a collection of details: the first inserted under each id, and the last id inserted under each name.
-use Rattle.std.specs.Prelude.{ℕ, List, [], ◌∷◌, ◌≡◌, Option, Some, None, map, fold, find, if◌then◌else◌, nat_eq, option_and_then, string_bytes, String, refl}
+use Rattle.std.specs.Prelude.{ℕ, List, [], ◌∷◌, ◌++◌, ◌≡◌, Option, Some, None, map, fold, find, if◌then◌else◌, nat_eq, option_and_then, string_bytes, String, refl}
 use Rattle.std.specs.declared.sync.Arc.{Arc}
 use Rattle.std.specs.declared.cmp.Ordering.{Ordering}
 use Rattle.std.specs.Option.{option_eq, option_or}
@@ -50,6 +50,15 @@ with_details collection d = with_details_under collection d d.id
 
 abbrev pub with_all_details : Collection → List Details → Collection
 with_all_details collection ds = fold with_details collection ds
+
+-- some of the details are the first of those
+abbrev pub Begins : List Details → List Details → Type 0
+Begins some all = (rest : List Details) × (all ≡ some ++ rest)
+
+-- a beginning of details is learnt
+abbrev pub LearnsSome : Collection → List Details → Collection → Type 0
+LearnsSome old ds new =
+    (learnt : List Details) × Begins learnt ds × (new ≡ with_all_details old learnt)
 
 -- what a collection keeps under the id of details
 abbrev pub kept_for : Collection → Details → Option Details

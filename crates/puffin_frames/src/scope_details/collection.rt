@@ -1,9 +1,10 @@
-ghost use Rattle.std.specs.Prelude.{◌≡◌, ◌↔◌, ◌⊎◌, Some, None, IfOk, IfErr, OnOk, OnErr, option_map, option_copied};
+ghost use Rattle.std.specs.Prelude.{◌≡◌, ◌↔◌, ◌⊎◌, Some, None, true, IfOk, IfErr, OnOk, OnErr, option_map, option_copied};
+ghost use Rattle.std.specs.List.{list_any};
 ghost use Rattle.std.specs.Arc.{arc_value};
 ghost use Rattle.std.specs.FinMap as map;
 ghost use Rattle.puffin_data.specs.declared.error.Error.{Error};
-ghost use Rattle.puffin_frames.specs.Details.{details_of};
-ghost use Rattle.puffin_frames.specs.Details.Collection.{no_details, with_details, kept_for, KeepsOwnIds, by_ids, by_names};
+ghost use Rattle.puffin_frames.specs.Details.{details_of, shared_details, lacks_id};
+ghost use Rattle.puffin_frames.specs.Details.Collection.{no_details, with_details, with_all_details, LearnsSome, kept_for, KeepsOwnIds, by_ids, by_names};
 
 use crate::scope_details::details::ScopeDetails;
 use puffin_data::data::ScopeId;
@@ -55,6 +56,13 @@ fn put_name(
     }
     let _none = by_name.insert(String::from_str(alloc, name)?, id)?;
     Ok(())
+}
+
+/// Whether some of these details have no id.
+fn any_lacks_id(details: &[Arc<ScopeDetails>]) -> bool
+    ensures { result ≡ list_any (λ d. lacks_id (details_of (arc_value d))) details.now }
+{
+    details.iter().any(|details| details.scope_id().is_none())
 }
 
 impl ScopeCollection {
@@ -113,6 +121,28 @@ impl ScopeCollection {
             return Err(e);
         }
         Ok(kept)
+    }
+
+    /// Inserts details one after the other, as [`ScopeCollection::insert`] does.
+    ///
+    /// Refused with `MissingId` just where some of them have no id, and nothing is changed then; else only with `Memory`,
+    /// after which a beginning of them is inserted.
+    pub fn insert_all(&mut self, details: &[Arc<ScopeDetails>]) -> Result<()>
+        ensures ok { OnOk result (
+            self.new ≡ with_all_details self.old (shared_details details.now)) }
+        ensures missing { (result ≡ Err Error.MissingId)
+            ↔ (list_any lacks_id (shared_details details.now) ≡ true) }
+        ensures unchanged { (result ≡ Err Error.MissingId) → self.new ≡ self.old }
+        ensures err { OnErr result (LearnsSome self.old (shared_details details.now) self.new) }
+        ensures cause { IfErr result (λ e. (e ≡ Error.MissingId) ⊎ (e ≡ Error.Memory)) }
+    {
+        if any_lacks_id(details) {
+            return Err(Error::MissingId);
+        }
+        for details in details {
+            let _kept = self.insert(details.clone()?)?;
+        }
+        Ok(())
     }
 
     /// The ids by the scopes' names.

@@ -15,6 +15,7 @@ use std::borrow::CowStr;
 pub struct ThreadProfiler<C> {
     recording: Recording,
     clock: C,
+    alloc: Global,
 }
 
 impl<C: NsSource> ThreadProfiler<C> {
@@ -26,7 +27,7 @@ impl<C: NsSource> ThreadProfiler<C> {
     ghost use Rattle.puffin_frames.specs.Thread.Calls.{after_begin, RegistersScope, open_offsets};
     ghost use Rattle.puffin_frames.specs.Details.{default_details};
     ghost use Rattle.puffin_frames.specs.Thread.Closing.{Closes, Reports};
-    ghost use Rattle.puffin_frames.specs.Thread.ThreadProfiler.{thread_of, clock_of, with_clock};
+    ghost use Rattle.puffin_frames.specs.Thread.ThreadProfiler.{thread_of, clock_of, allocator_of, with_clock};
     ghost use Rattle.puffin_frames.specs.contracts.thread_profiler.profiler.ThreadProfiler.{the_row};
     ghost use Rattle.std.specs.Borrow.{Lends, sem};
 
@@ -40,11 +41,20 @@ impl<C: NsSource> ThreadProfiler<C> {
           details = [];
         } }
         ensures clock { clock_of result ≡ clock }
+        ensures allocator { allocator_of result ≡ alloc }
     {
         ThreadProfiler {
             recording: Recording::new(alloc, name),
             clock,
+            alloc,
         }
+    }
+
+    /// What it takes memory from.
+    pub fn allocator(&self) -> Global
+        ensures { result ≡ allocator_of self.now }
+    {
+        self.alloc
     }
 
     /// The clock.

@@ -1,27 +1,61 @@
 -- What the program's words ask for.
-use Rattle.std.specs.Prelude.{ℕ, List, [], ◌∷◌, Option, Some, None, codes, if◌then◌else◌}
+use Rattle.std.specs.Prelude.{ℕ, ◌+◌, ◌^◌, ◌==◌, ℤ, pos, neg_ℤ, List, [], ◌∷◌, Bool, Option, Some, None, option_map, codes, if◌then◌else◌}
+use Rattle.std.specs.List.{list_any, before_first, after_first}
 use Rattle.std.specs.Str.{bytes_eq}
 use Rattle.std.specs.String.{string_bytes}
+use Rattle.puffin_frames.specs.Thread.Info.{Info, info_of}
 use Rattle.puffin_replay.specs.declared.replay.task.Task.{Task}
 use Rattle.puffin_replay.specs.declared.replay.task.Task.TheVariants as task
+use Rattle.puffin_replay.specs.Script.Statements.{number_of, moment_in}
 
--- a count, or a replay of the script at a path into the file at another
+-- ---- a thread
+
+-- a time, in nanoseconds, which a `-` in front makes negative
+abbrev pub signed_moment_in : List ℕ → Option ℤ
+signed_moment_in [] = None
+signed_moment_in (byte ∷ bytes) =
+    if byte == 45 then option_map (λ n. neg_ℤ (pos n)) (number_of (2 ^ 63 + 1) bytes) else moment_in (byte ∷ bytes)
+
+-- when a thread's first scope started: `-` where none did
+abbrev pub start_in : List ℕ → Option (Option ℤ)
+start_in word =
+    if bytes_eq word (codes "-") then Some None else option_map (λ t. Some t) (signed_moment_in word)
+
+abbrev pub is_colon : ℕ → Bool
+is_colon byte = byte == 58
+
+-- `START:NAME`, where the name is all that stands behind the first colon
+abbrev pub thread_in : List ℕ → Option Info
+thread_in word =
+    if list_any is_colon word then option_map (λ start. record { start = start; name = after_first is_colon word }) (start_in (before_first is_colon word)) else None
+
+-- ---- what is asked for
+
+-- a count, a replay of the script at a path into the file at another, or a report of the file at a path for a thread
 pub data Asked : Type 0 where
   count : Asked
   replay : List ℕ → List ℕ → Asked
+  report : List ℕ → Info → Asked
+
+abbrev pub report_by : List ℕ → List ℕ → Option Asked
+report_by file thread = option_map (report file) (thread_in thread)
 
 abbrev pub asked_by : List (List ℕ) → Option Asked
 asked_by (word ∷ []) = if bytes_eq word (codes "count") then Some count else None
-asked_by (word ∷ (script ∷ (out ∷ []))) = if bytes_eq word (codes "replay") then Some (replay script out) else None
+asked_by (word ∷ (first ∷ (second ∷ []))) =
+    if bytes_eq word (codes "replay") then Some (replay first second) else
+    if bytes_eq word (codes "report") then report_by first second else None
 asked_by _ = None
 
 -- the same of a task
 abbrev pub asked : Task → Asked
 asked task.Count = count
 asked (task.Replay script out) = replay (string_bytes script) (string_bytes out)
+asked (task.Report file thread) = report (string_bytes file) (info_of thread)
 
 -- what is asked for has paths
 abbrev pub HasPaths : Option Asked → Type 0
 HasPaths None = ⊥
 HasPaths (Some count) = ⊥
 HasPaths (Some (replay script out)) = Unit {0}
+HasPaths (Some (report file thread)) = Unit {0}

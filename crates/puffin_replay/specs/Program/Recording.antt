@@ -9,14 +9,14 @@ use Rattle.puffin_data.specs.declared.file_error.FileError.TheVariants as file
 use Rattle.puffin_data.specs.Device.{WritesBeginning}
 use Rattle.puffin_frames.specs.declared.frame_data.frame.FrameData.{FrameData}
 use Rattle.puffin_frames.specs.Details.{AllHaveIds}
-use Rattle.puffin_frames.specs.Details.Collection.{with_all_details}
+use Rattle.puffin_frames.specs.Details.Collection.{with_all_details, LearnsSome}
 use Rattle.puffin_frames.specs.Packet.Stored.{Said}
-use Rattle.puffin.specs.declared.profile_view.frame_view.FrameView.{FrameView}
-use Rattle.puffin.specs.View.ViewedFrames.{Frame, index_of}
-use Rattle.puffin.specs.View.FrameOf.{shared_frame, details_of_frame}
-use Rattle.puffin.specs.View.{after_all, KeepsFrames}
-use Rattle.puffin.specs.View.Known.{view_of, collection_of, lacks_ids, LearnsSome}
-use Rattle.puffin.specs.View.File.{file_of, contents_in}
+use Rattle.puffin_view.specs.declared.profile_view.frame_view.FrameView.{FrameView}
+use Rattle.puffin_view.specs.View.ViewedFrames.{Frame, index_of}
+use Rattle.puffin_view.specs.View.FrameOf.{shared_frame, details_of_frame}
+use Rattle.puffin_view.specs.View.{after_all, KeepsFrames}
+use Rattle.puffin_view.specs.View.Known.{view_of, collection_of, lacks_ids}
+use Rattle.puffin_view.specs.View.File.{file_of, contents_in}
 use Rattle.puffin_replay.specs.declared.replay.command.Command.{Command}
 use Rattle.puffin_replay.specs.declared.replay.command.Reply.{Reply}
 use Rattle.puffin_replay.specs.declared.replay.command.Reply.TheVariants as reply

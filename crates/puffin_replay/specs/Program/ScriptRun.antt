@@ -8,9 +8,9 @@ use Rattle.puffin_data.specs.declared.file_error.FileError.TheVariants as file
 use Rattle.puffin_data.specs.Device.{IsOutside, WritesBeginning}
 use Rattle.puffin_frames.specs.Packet.Grammar.{IsPacked}
 use Rattle.puffin_frames.specs.Packet.Writing.{HasLongPart}
-use Rattle.puffin.specs.View.ViewedFrames.{contents_of}
-use Rattle.puffin.specs.View.{View, Took, empty_view, after_all}
-use Rattle.puffin.specs.View.File.{file_of, contents_in}
+use Rattle.puffin_view.specs.View.ViewedFrames.{contents_of}
+use Rattle.puffin_view.specs.View.{View, Took, empty_view, after_all}
+use Rattle.puffin_view.specs.View.File.{file_of, contents_in}
 use Rattle.puffin_replay.specs.declared.replay.command.Reply.{Reply}
 use Rattle.puffin_replay.specs.declared.replay.script.Script.{Script}
 use Rattle.puffin_replay.specs.Program.ReplyLines.{reply_lines}

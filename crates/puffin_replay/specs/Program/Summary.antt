@@ -14,11 +14,11 @@ use Rattle.puffin_frames.specs.Details.{Details}
 use Rattle.puffin_frames.specs.Details.Collection.{no_details, with_all_details}
 use Rattle.puffin_frames.specs.Frame.Holding.{unpacking}
 use Rattle.puffin_frames.specs.Packet.Stored.{Said, Stored}
-use Rattle.puffin.specs.View.File.{contents_in, frame_stored, details_stored, file_at, read_view, TookFrames, FailsToRead}
-use Rattle.puffin.specs.Merge.FrameBytes.{FrameBytes}
-use Rattle.puffin.specs.Merge.Refusals.{IsMergeRefusal, AreMerged}
-use Rattle.puffin.specs.Merge.Scopes.{forest_in}
-use Rattle.puffin.specs.View.{after_all}
+use Rattle.puffin_view.specs.View.File.{contents_in, frame_stored, details_stored, file_at, read_view, TookFrames, FailsToRead}
+use Rattle.puffin_merge.specs.Merge.FrameBytes.{FrameBytes}
+use Rattle.puffin_merge.specs.Merge.Refusals.{IsMergeRefusal, AreMerged}
+use Rattle.puffin_merge.specs.Merge.Scopes.{forest_in}
+use Rattle.puffin_view.specs.View.{after_all}
 use Rattle.puffin_replay.specs.declared.replay.summary.Summary.{Summary}
 
 -- what merging reads of a frame with these streams: its range's start, and the bytes under an info

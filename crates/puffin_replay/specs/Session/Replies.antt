@@ -20,10 +20,9 @@ use Rattle.puffin_frames.specs.declared.frame_data.frame.FrameData.{FrameData}
 use Rattle.puffin_frames.specs.declared.thread_profiler.reporter.Closed.{Closed}
 use Rattle.puffin_frames.specs.declared.thread_profiler.reporter.Closed.TheVariants as closed
 use Rattle.puffin_frames.specs.Details.{Details, shared_details}
-use Rattle.puffin_frames.specs.Details.Collection.{Collection}
-use Rattle.puffin.specs.Profiler.State.{IsTooLong, delta_of}
-use Rattle.puffin.specs.Profiler.Collecting.{Begins}
-use Rattle.puffin.specs.Profiler.Registering.{Registers, RegistersSome}
+use Rattle.puffin_frames.specs.Details.Collection.{Collection, Begins}
+use Rattle.puffin_collector.specs.Profiler.State.{IsTooLong, delta_of}
+use Rattle.puffin_collector.specs.Profiler.Registering.{Registers, RegistersSome}
 use Rattle.puffin.specs.declared.global_profiler.profiler.Emitted.{Emitted}
 use Rattle.puffin_replay.specs.declared.replay.command.Command.{Command}
 use Rattle.puffin_replay.specs.declared.replay.command.Command.TheVariants.{Begin, End, Register, RegisterUser, ReportUser, Snapshot, NewFrame}

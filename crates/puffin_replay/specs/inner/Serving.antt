@@ -10,7 +10,7 @@ use Rattle.puffin_frames.specs.Thread.Closing.{Closes}
 use Rattle.puffin_frames.specs.Frame.Contents.{Streams}
 use Rattle.puffin_frames.specs.Frame.Sums.{total_bytes, total_scopes, joined_start, joined_stop}
 use Rattle.puffin_frames.specs.declared.thread_profiler.reporter.Closed.{Closed}
-use Rattle.puffin.specs.Profiler.State.{Collected, AcceptsReport, RefusesReport}
+use Rattle.puffin_collector.specs.Profiler.State.{Collected, AcceptsReport, RefusesReport}
 use Rattle.puffin_replay.specs.declared.replay.command.Command.{Command}
 use Rattle.puffin_replay.specs.declared.replay.command.Reply.{Reply}
 use Rattle.puffin_replay.specs.Session.History.{Opening, Action, nobody}

@@ -1,4 +1,4 @@
-//! Laws of recordings, as contracts of functions that do nothing. A proof of another crate cites them by calling the function.
+//! Laws of recordings and reports, as contracts of functions that do nothing. A proof of another crate cites them by calling the function.
 
 ghost use Rattle.std.specs.Prelude.{ℕ, List, ◌≡◌, ◌<◌, ◌-◌, ◌^◌, Option, Some, Ok, length};
 ghost use Rattle.std.specs.List.{AllByRecursion};
@@ -10,12 +10,14 @@ ghost use Rattle.puffin_frames.specs.Frame.Contents.{Streams, holding_of, frame_
 ghost use Rattle.puffin_frames.specs.Frame.Holding.{IsHolding, as_packed};
 ghost use Rattle.puffin_frames.specs.Packet.Stored.{Stored};
 ghost use Rattle.puffin_frames.specs.Packet.Grammar.{IsPacked};
-ghost use Rattle.puffin.specs.View.{View};
-ghost use Rattle.puffin.specs.View.File.{file_of, contents_in, file_at, TookFrames};
+ghost use Rattle.puffin_view.specs.View.{View};
+ghost use Rattle.puffin_view.specs.View.File.{file_of, contents_in, file_at, TookFrames};
 ghost use Rattle.puffin_replay.specs.declared.replay.summary.Summary.{Summary};
 ghost use Rattle.puffin_replay.specs.Program.Recording.{NoneLacksIds};
+ghost use Rattle.puffin_replay.specs.Program.ReportLines.{report_lines};
 ghost use Rattle.puffin_replay.specs.Program.Summary.{streams_said, details_said, SumsUp, IsSummary, IsHindered, FailsToSumUp};
 
+use puffin::merge::laws::one_outcome;
 use puffin::profile_view::laws::what_was_written_is_read;
 use puffin_frames::frame_data::laws::packing_keeps;
 
@@ -43,4 +45,14 @@ pub fn what_was_recorded_is_summed_up()
     // For the proof alone, as the whole call: the laws that this one follows from.
     what_was_written_is_read();
     packing_keeps();
+}
+
+/// The frames of a file have one report under an info: whichever summary of them is printed, the lines are the same.
+pub fn one_report()
+    ensures { (info : Info) (stored : List Stored) (one another : Summary) →
+        IsSummary info stored one → IsSummary info stored another →
+        report_lines one ≡ report_lines another }
+{
+    // For the proof alone: a law about merges.
+    one_outcome();
 }

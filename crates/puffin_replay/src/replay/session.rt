@@ -8,9 +8,9 @@ ghost use Rattle.puffin_data.specs.Forest.Words.{word_size, open_after};
 ghost use Rattle.puffin_frames.specs.Thread.Info.{info_of};
 ghost use Rattle.puffin_frames.specs.Details.{AllHaveIds, details_seen};
 ghost use Rattle.puffin_frames.specs.Thread.Calls.{after_begin, after_registering};
-ghost use Rattle.puffin.specs.Profiler.State.{AcceptsReport, IsReportRefusal, after_wanting};
-ghost use Rattle.puffin.specs.Profiler.Collecting.{Collects, TellsIds, KeepsPending};
-ghost use Rattle.puffin.specs.Profiler.Registering.{Adds, AddsSome};
+ghost use Rattle.puffin_collector.specs.Profiler.State.{AcceptsReport, IsReportRefusal, after_wanting};
+ghost use Rattle.puffin_collector.specs.Profiler.Collecting.{Collects, TellsIds, KeepsPending};
+ghost use Rattle.puffin_collector.specs.Profiler.Registering.{Adds, AddsSome};
 ghost use Rattle.puffin_replay.specs.Session.{new_session};
 ghost use Rattle.puffin_replay.specs.Session.Runs.{Records};
 ghost use Rattle.puffin_replay.specs.Session.Actions.{details_given, user_details};
@@ -44,7 +44,7 @@ pub struct Session {
 impl Model for Session {
     ghost use Rattle.puffin_replay.specs.Session.{SessionState};
     ghost use Rattle.puffin_replay.specs.contracts.replay.profiled.Profiled as t;
-    ghost use Rattle.puffin.specs.contracts.global_profiler.collector.Collector as c;
+    ghost use Rattle.puffin_collector.specs.contracts.collector.Collector as c;
     ghost use Rattle.std.specs.Coded.{code_by, coded×, coded_list};
     ghost use Rattle.std.specs.Prelude.{refl};
 

@@ -4,10 +4,10 @@ ghost use Rattle.puffin_data.specs.Device.{failures_after};
 ghost use Rattle.puffin_frames.specs.Thread.Info.{Info, info_of};
 ghost use Rattle.puffin_frames.specs.Packet.Stored.{Stored};
 ghost use Rattle.puffin_frames.specs.Frame.Contents.{frame_says};
-ghost use Rattle.puffin.specs.View.File.{file_at, contents_in, TookFrames};
-ghost use Rattle.puffin.specs.View.Known.{view_of};
-ghost use Rattle.puffin.specs.Merge.Scopes.{frame_bytes, frames_bytes, forest_in};
-ghost use Rattle.puffin.specs.Merge.Refusals.{IsMergeRefusal, AreMerged};
+ghost use Rattle.puffin_view.specs.View.File.{file_at, contents_in, TookFrames};
+ghost use Rattle.puffin_view.specs.View.Known.{view_of};
+ghost use Rattle.puffin_merge.specs.Merge.Scopes.{frame_bytes, frames_bytes, forest_in};
+ghost use Rattle.puffin_merge.specs.Merge.Refusals.{IsMergeRefusal, AreMerged};
 ghost use Rattle.puffin_replay.specs.Program.Summary.{bytes_in, all_bytes_in, IsSummary, FailsToSumUp};
 
 use puffin::frame_data::{FrameData, UnpackedFrameData};

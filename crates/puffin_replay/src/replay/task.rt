@@ -1,8 +1,9 @@
 ghost use Rattle.std.specs.Prelude.{◌≡◌, option_map, map, IfOk, IfErr};
 ghost use Rattle.std.specs.String.{string_bytes};
-ghost use Rattle.puffin_replay.specs.Program.Arguments.{asked, asked_by, HasPaths};
+ghost use Rattle.puffin_replay.specs.Program.Arguments.{signed_moment_in, start_in, thread_in, report_by, asked, asked_by, HasPaths};
 
-use puffin_data::{Error, Result};
+use puffin_data::{Error, NanoSecond, Result};
+use puffin_frames::thread_profiler::ThreadInfo;
 
 /// What the program is asked to do.
 #[derive(Debug, Drop, PartialEq, Eq)]
@@ -11,6 +12,55 @@ pub enum Task {
     Count,
     /// Run the script at the first path, and write its frames to a file at the second.
     Replay(String, String),
+    /// Print what the file at a path says of a thread.
+    Report(String, ThreadInfo),
+}
+
+/// A time, in nanoseconds, which may be below 0.
+fn signed_time(word: &str) -> Option<NanoSecond>
+    ensures { result ≡ signed_moment_in word.now }
+{
+    if word.starts_with('+') {
+        return None;
+    }
+    word.parse::<i64>().ok()
+}
+
+/// When a thread's first scope started: `-` where none did.
+fn start(word: &str) -> Option<Option<NanoSecond>>
+    ensures { result ≡ start_in word.now }
+{
+    if word == "-" {
+        return Some(None);
+    }
+    Some(Some(signed_time(word)?))
+}
+
+/// The start and the name in a word `START:NAME`, or `None` for another word.
+fn thread_of(word: &str) -> Option<(Option<NanoSecond>, &str)>
+    ensures { option_map (λ t. record { start = t.0; name = t.1.now }) result
+        ≡ thread_in word.now }
+{
+    let (before, name) = word.split_once(':')?;
+    Some((start(before)?, name))
+}
+
+/// The report of a file for the thread that a word says, or `None` for another word.
+fn report_of(file: &String, word: &str) -> Result<Option<Task>>
+    ensures task { IfOk result (λ task.
+        option_map asked task ≡ report_by (string_bytes file.now) word.now) }
+    ensures memory { IfErr result (λ e.
+        (e ≡ Error.Memory) × HasPaths (report_by (string_bytes file.now) word.now)) }
+{
+    let Some((start_time_ns, name)) = thread_of(word) else {
+        return Ok(None);
+    };
+    let name = String::from_str(*file.allocator(), name)?;
+    let thread = ThreadInfo {
+        start_time_ns,
+        name,
+    };
+    Ok(Some(Task::Report(file.clone()?, thread)))
 }
 
 /// The task that the program's words ask for, or `None` for other words. Refused only with `Memory`, where it holds paths.
@@ -25,6 +75,7 @@ pub fn read_words(words: &[String]) -> Result<Option<Task>>
         [word, script, out] if word.as_str() == "replay" => {
             Ok(Some(Task::Replay(script.clone()?, out.clone()?)))
         }
+        [word, file, thread] if word.as_str() == "report" => report_of(file, thread.as_str()),
         _ => Ok(None),
     }
 }

@@ -1,5 +1,5 @@
 use Rattle.std.proofs.Common.{◌∙◌, sym, ap}
-use Rattle.puffin.specs.View.File.{contents_in}
+use Rattle.puffin_view.specs.View.File.{contents_in}
 use Rattle.puffin_frames.specs.Frame.Contents.{holding_of}
 use Rattle.puffin_frames.specs.Frame.Holding.{packing_of, held_contents}
 use Rattle.puffin_replay.proofs.Summing.{summed_again, hindered_again, unpacked_again}

@@ -1,9 +1,9 @@
 -- The view took the frames of the replies so far.
 use Rattle.std.proofs.Common.{List, ◌++◌, map, take}
 use Rattle.puffin_frames.specs.Packet.Stored.{Said}
-use Rattle.puffin.specs.View.ViewedFrames.{contents_of}
-use Rattle.puffin.specs.View.{Took}
-use Rattle.puffin.specs.View.Known.{view_of}
+use Rattle.puffin_view.specs.View.ViewedFrames.{contents_of}
+use Rattle.puffin_view.specs.View.{Took}
+use Rattle.puffin_view.specs.View.Known.{view_of}
 use Rattle.puffin_replay.specs.Program.Recording.{frames_emitted, Takes}
 use Rattle.puffin_replay.proofs.replay.recorder.add_frames.Given as goal
 

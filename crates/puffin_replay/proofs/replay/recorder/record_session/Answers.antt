@@ -1,7 +1,7 @@
 -- The view takes the frames of the run, and a recording that fails leaves what it leaves.
 use Rattle.std.proofs.Common.{refl, subst, inl, inr}
 use Rattle.std.proofs.lemmas.Result.{err_from_is_err_and}
-use Rattle.puffin.specs.View.Known.{view_of, lacks_ids}
+use Rattle.puffin_view.specs.View.Known.{view_of, lacks_ids}
 use Rattle.puffin_replay.specs.Program.Recording.{frames_emitted, Takes, TakesSome}
 use Rattle.puffin_replay.proofs.Recording.{ids_kept}
 use Rattle.puffin_replay.proofs.WrittenLines.{nothing_written}

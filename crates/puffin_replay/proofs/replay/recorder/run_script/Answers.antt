@@ -2,8 +2,8 @@
 use Rattle.std.proofs.Common.{List, ℕ, Err, map, string_bytes, refl, sym, subst, ap, ◌∙◌, inl}
 use Rattle.std.proofs.lemmas.Result.{err_from_is_err_and, on_ok_weaker}
 use Rattle.puffin_replay.specs.declared.replay.command.Reply.{Reply}
-use Rattle.puffin.specs.View.{View}
-use Rattle.puffin.specs.View.File.{contents_held}
+use Rattle.puffin_view.specs.View.{View}
+use Rattle.puffin_view.specs.View.File.{contents_held}
 use Rattle.puffin_replay.specs.Program.ReplyLines.{reply_lines}
 use Rattle.puffin_replay.specs.Program.Recording.{NoneLacksIds}
 use Rattle.puffin_replay.proofs.Recording.{same_texts, unfinished, no_lines, cut_lines, replayed, told-cut}

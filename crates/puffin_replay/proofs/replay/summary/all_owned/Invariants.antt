@@ -1,6 +1,6 @@
 -- The owned ones so far and the scopes that are left are the same as all of them.
 use Rattle.std.proofs.Common.{◌≡◌, ◌++◌}
-use Rattle.puffin.specs.Merge.Scopes.{forest_in}
+use Rattle.puffin_merge.specs.Merge.Scopes.{forest_in}
 use Rattle.puffin_replay.proofs.replay.summary.all_owned.Given as goal
 
 abbrev pub invariant-loop-scope : goal.invariant-loop-scope

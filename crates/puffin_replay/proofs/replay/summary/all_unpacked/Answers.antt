@@ -3,14 +3,14 @@ use Rattle.std.proofs.Common.{◌≡◌, ◌∷◌, inl, inr, ap, sym, ◌∙◌
 use Rattle.std.proofs.lemmas.Result.{err_from_is_err_and}
 use Rattle.std.proofs.lemmas.Map.Iter.{rest_more}
 use Rattle.puffin_frames.specs.Frame.Contents.{frame_says}
-use Rattle.puffin.specs.View.FrameOf.{shared_frame}
-use Rattle.puffin.specs.View.Known.{view_of}
-use Rattle.puffin.specs.View.Listings.{all_left}
-use Rattle.puffin.specs.Merge.Scopes.{frames_bytes}
+use Rattle.puffin_view.specs.View.FrameOf.{shared_frame}
+use Rattle.puffin_view.specs.View.Known.{view_of}
+use Rattle.puffin_view.specs.View.Listings.{all_left}
+use Rattle.puffin_merge.specs.Merge.Scopes.{frames_bytes}
 use Rattle.puffin_replay.proofs.Summing.{before_all, one_unpacked, one_fails, all_done, Unpacked}
 use Rattle.std.proofs.Common.{List}
 use Rattle.puffin_replay.specs.Program.Summary.{all_bytes_in}
-use Rattle.puffin.specs.View.ViewedFrames.{contents_of}
+use Rattle.puffin_view.specs.View.ViewedFrames.{contents_of}
 use Rattle.std.proofs.Common.{map}
 use Rattle.puffin_replay.proofs.Summing.{before_others}
 use Rattle.puffin_replay.proofs.replay.summary.all_unpacked.Goals as goal

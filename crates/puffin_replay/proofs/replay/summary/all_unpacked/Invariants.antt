@@ -1,11 +1,11 @@
 -- The frames so far are unpacked, and the others are left.
 use Rattle.std.proofs.Common.{◌≡◌, map}
 use Rattle.puffin_frames.specs.Thread.Info.{Info}
-use Rattle.puffin.specs.View.File.{contents_in}
-use Rattle.puffin.specs.View.ViewedFrames.{contents_of}
-use Rattle.puffin.specs.View.Known.{view_of}
-use Rattle.puffin.specs.View.Listings.{all_left}
-use Rattle.puffin.specs.Merge.Scopes.{frames_bytes}
+use Rattle.puffin_view.specs.View.File.{contents_in}
+use Rattle.puffin_view.specs.View.ViewedFrames.{contents_of}
+use Rattle.puffin_view.specs.View.Known.{view_of}
+use Rattle.puffin_view.specs.View.Listings.{all_left}
+use Rattle.puffin_merge.specs.Merge.Scopes.{frames_bytes}
 use Rattle.puffin_replay.specs.Program.Summary.{all_bytes_in}
 use Rattle.puffin_replay.proofs.Summing.{before_others}
 use Rattle.puffin_replay.proofs.replay.summary.all_unpacked.Given as goal

@@ -2,9 +2,9 @@
 use Rattle.std.proofs.Common.{◌≡◌, List, Ok, length, sym, ap, ◌∙◌, arith}
 use Rattle.std.proofs.lemmas.Result.{err_from_is_err_and}
 use Rattle.puffin_frames.specs.Thread.Info.{info_of}
-use Rattle.puffin.specs.View.File.{contents_in}
-use Rattle.puffin.specs.View.Known.{view_of}
-use Rattle.puffin.specs.Merge.Scopes.{frames_bytes}
+use Rattle.puffin_view.specs.View.File.{contents_in}
+use Rattle.puffin_view.specs.View.Known.{view_of}
+use Rattle.puffin_merge.specs.Merge.Scopes.{frames_bytes}
 use Rattle.puffin_replay.specs.declared.replay.summary.Summary.{Summary}
 use Rattle.puffin_replay.proofs.Summing.{Unpacked, frames_fail, merge_fails, summed}
 use Rattle.puffin_replay.proofs.replay.summary.summarize.Goals as goal

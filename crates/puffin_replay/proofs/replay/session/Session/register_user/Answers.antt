@@ -2,7 +2,7 @@
 use Rattle.std.proofs.Common.{◌∙◌}
 use Rattle.std.proofs.lemmas.Result.{err_from_is_err_and}
 use Rattle.puffin_replay.specs.Session.Actions.{user_details}
-use Rattle.puffin.proofs.lemmas.Registrations.{AddsSome-none}
+use Rattle.puffin_collector.proofs.lemmas.Registrations.{AddsSome-none}
 use Rattle.puffin_replay.proofs.replay.session.Session.register_user.Goals as goal
 
 pub returns-in_err-details-clause-err : goal.returns-in_err-details-clause-err

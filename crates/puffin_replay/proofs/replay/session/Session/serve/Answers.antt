@@ -8,7 +8,7 @@ use Rattle.puffin_replay.specs.declared.replay.command.Command.TheVariants.{End}
 use Rattle.puffin_replay.specs.inner.Serving.{clock_time, session_thread, session_with_thread, Ends}
 use Rattle.puffin_replay.proofs.Serving.{Continues-began, Continues-ended, Continues-handed, Continues-taken, Continues-registered, Continues-not_registered, Continues-added, Continues-not_added, Continues-wanted, Continues-not_begun, Continues-not_ended, Continues-not_reported, Continues-not_framed, same}
 use Rattle.puffin_replay.specs.Session.Actions.{user_details}
-use Rattle.puffin.specs.Profiler.Registering.{Adds, AddsSome}
+use Rattle.puffin_collector.specs.Profiler.Registering.{Adds, AddsSome}
 use Rattle.puffin_replay.proofs.SessionCloses.{wanted-from}
 use Rattle.puffin_replay.proofs.replay.session.Session.serve.Goals as goal
 

@@ -1,0 +1,20 @@
+-- A frame that is handed out spells as many scopes as it says.
+use Rattle.std.proofs.Common.{◌≡◌, Option, Some, None, Result, Ok, Err, ap}
+use Rattle.std.specs.Prelude.{IfOk}
+use Rattle.std.specs.declared.sync.Arc.{Arc}
+use Rattle.puffin_frames.specs.declared.frame_data.frame.FrameData.{FrameData}
+use Rattle.puffin_frames.specs.declared.frame_data.meta.FrameMeta.{FrameMeta}
+use Rattle.puffin_frames.specs.Frame.Contents.{AreHonest}
+use Rattle.puffin_collector.specs.Profiler.State.{Collected}
+use Rattle.puffin_collector.specs.Profiler.Collecting.{Collects}
+use Rattle.puffin.specs.Shares.{SpellsItsScopes}
+use Rattle.puffin.specs.declared.global_profiler.profiler.Emitted.{Emitted}
+
+spells : {A : Type 0} (old new : Collected) (frame : Option (Arc FrameData A)) → AreHonest old.streams → Collects old frame new → SpellsItsScopes frame
+spells old new None honest collects = tt
+spells old new (Some frame) honest collects =
+    (old.streams, collects.0.held, honest, ap (λ (m : FrameMeta). m.num_scopes) collects.0.meta)
+
+pub all_spell : {E : Type 0} (r : Result Emitted E) (old new : Collected) → AreHonest old.streams → IfOk r (λ e. Collects old e.frame new) → IfOk r (λ e. SpellsItsScopes e.frame)
+all_spell (Ok e) old new honest collects = spells old new e.frame honest collects
+all_spell (Err e) old new honest collects = tt

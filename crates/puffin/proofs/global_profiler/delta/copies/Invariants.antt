@@ -1,7 +1,0 @@
--- The copies so far are those of the details so far.
-use Rattle.std.proofs.Common.{◌≡◌, take}
-use Rattle.puffin_frames.specs.Details.{details_seen, shared_details}
-use Rattle.puffin.proofs.global_profiler.delta.copies.Given as goal
-
-abbrev pub invariant-loop-details : goal.invariant-loop-details
-invariant-loop-details l = shared_details l.copies.items ≡ details_seen (take l.details-index l.details)

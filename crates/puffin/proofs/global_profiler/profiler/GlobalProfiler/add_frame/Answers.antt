@@ -1,0 +1,23 @@
+use Rattle.std.proofs.Common.{◌≡◌, Result, Ok, Err, subst, rules}
+use Rattle.std.specs.Prelude.{OnErr}
+use Rattle.std.specs.Arc.{arc_value}
+use Rattle.puffin_frames.specs.Details.{shared_details}
+use Rattle.puffin_frames.specs.Frame.Contents.{frame_details}
+use Rattle.puffin.specs.Profiler.{collected_of}
+use Rattle.puffin_collector.specs.Profiler.Collecting.{KnowsSome}
+use Rattle.puffin.proofs.global_profiler.profiler.GlobalProfiler.add_frame.Goals as goal
+
+-- what holds at any result holds at a refusal
+always : {T E P : Type 0} (r : Result T E) → P → OnErr r P
+always (Ok x) p = tt
+always (Err e) p = p
+
+-- what a refusal left
+left : {T E P : Type 0} (r : Result T E) (e : E) → r ≡ Err e → OnErr r P → P
+left (Ok x) e is h = absurd (cc)
+left (Err d) e is h = h
+
+pub returns-in_err-learn-clause-known : goal.returns-in_err-learn-clause-known
+returns-in_err-learn-clause-known g c =
+    let told : shared_details c.deref-2.result.now ≡ frame_details (arc_value c.args.frame) = search rules in
+    always c.from_residual.result (subst (λ ds. KnowsSome (collected_of c.args.self.now) ds c.learn.new.self) told (left c.learn.result _ c.in_err-learn.was c.learn.ensures.err))

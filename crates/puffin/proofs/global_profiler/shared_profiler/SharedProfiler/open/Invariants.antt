@@ -1,0 +1,14 @@
+use Rattle.std.specs.Prelude.{◌≡◌, ◌+◌, ◌≤◌, vec_len, vec_capacity, All}
+use Rattle.puffin.specs.Shares.{no_counts}
+use Rattle.puffin.proofs.global_profiler.shared_profiler.SharedProfiler.open.Given as goal
+
+abbrev pub invariant-loop-i : goal.invariant-loop-i
+invariant-loop-i g l = record {
+  reported_parts : l.all_reported.parts + l._i ≡ l.n;
+  handed_parts : l.all_handed.parts + l._i ≡ l.n;
+  reported : l.all_reported.amount ≡ 0;
+  handed : l.all_handed.amount ≡ 0;
+  room : l.n ≤ vec_capacity l.shares;
+  made : vec_len l.shares ≡ l._i;
+  no_counts : All (λ s. s ≡ no_counts) l.shares.items;
+}

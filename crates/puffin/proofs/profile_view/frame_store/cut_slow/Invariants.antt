@@ -1,8 +1,0 @@
-use Rattle.std.proofs.Common.{map, take}
-use Rattle.puffin.specs.inner.view.Ranks.{LetsGo}
-use Rattle.puffin.specs.View.Ranking.{rank_index}
-use Rattle.puffin.proofs.profile_view.frame_store.cut_slow.Given as goal
-
--- those so far are let go
-abbrev pub invariant-loop-rank : goal.invariant-loop-rank
-invariant-loop-rank l = LetsGo l.fn.held l.recent.items (map rank_index (take l.rank-index l.rank-items)) l.held

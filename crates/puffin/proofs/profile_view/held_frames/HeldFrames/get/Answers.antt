@@ -1,6 +1,0 @@
-use Rattle.std.proofs.Common.{sym, ap, ◌∙◌}
-use Rattle.puffin.proofs.HoldingViews.{seen_copied, get-held_of}
-use Rattle.puffin.proofs.profile_view.held_frames.HeldFrames.get.Goals as goal
-
-pub returns : goal.returns
-returns c = seen_copied c.get.result _ c.get.ensures.value ∙ sym (get-held_of c.self.inside.frames.entries c.args.index) ∙ ap (λ m. Rattle.std.specs.FinMap.get m c.args.index) c.self.view_is

@@ -1,7 +1,0 @@
-use Rattle.std.proofs.Common.{ap, ◌∙◌}
-use Rattle.puffin.specs.View.Stats.{stats_of}
-use Rattle.puffin.proofs.HoldingViews.{stats_summed}
-use Rattle.puffin.proofs.profile_view.held_frames.HeldFrames.stats.Goals as goal
-
-pub returns : goal.returns
-returns c = c.stats.ensures ∙ stats_summed c.self.inside.frames.entries c.self.inside.sums c.self.invariant ∙ ap (λ m. stats_of (Rattle.std.specs.FinMap.values m)) c.self.view_is

@@ -1,6 +1,0 @@
-use Rattle.std.proofs.Common.{◌≡◌, ◌++◌, map, drop}
-use Rattle.puffin.specs.inner.view.Selections.{slow_place, old_place}
-use Rattle.puffin.proofs.profile_view.select.old_places.Given as goal
-
-abbrev pub invariant-loop-k : goal.invariant-loop-k
-invariant-loop-k l = map old_place l.places.items ++ map slow_place (drop l.k l.slow) ≡ map slow_place l.slow

@@ -1,8 +1,0 @@
-use Rattle.std.proofs.Common.{◌≡◌, ◌++◌, map, drop}
-use Rattle.puffin.specs.View.FrameOf.{frames_of}
-use Rattle.puffin.specs.View.Selection.{ranks_from}
-use Rattle.puffin.specs.inner.view.Selections.{slow_place}
-use Rattle.puffin.proofs.profile_view.select.slow_places.Given as goal
-
-abbrev pub invariant-loop-place : goal.invariant-loop-place
-invariant-loop-place l = map slow_place l.places.items ++ ranks_from l.place (drop l.place (frames_of l.frames)) ≡ ranks_from 0 (frames_of l.frames)

@@ -1,0 +1,44 @@
+-- What a share of a profiler counts.
+use Rattle.std.specs.Prelude.{◌≡◌, ℕ, ◌+◌, List, Option, Some, None, sum_by}
+use Rattle.std.specs.FinMap as map
+use Rattle.std.specs.Arc.{arc_value}
+use Rattle.std.specs.declared.sync.Arc.{Arc}
+use Rattle.puffin_frames.specs.declared.frame_data.frame.FrameData.{FrameData}
+use Rattle.puffin_frames.specs.Frame.Contents.{Streams, AreHonest, holding_of, frame_meta}
+use Rattle.puffin_frames.specs.Frame.Sums.{total_scopes}
+
+-- how many scopes were reported by it, and how many were in the frames that were handed out to it
+pub record Counts : Type 0 where
+  pub reported : ℕ
+  pub handed : ℕ
+
+-- a share that counts nothing yet
+abbrev pub no_counts : Counts
+no_counts = record { reported = 0; handed = 0 }
+
+abbrev pub with_reported : Counts → ℕ → Counts
+with_reported c n = record c { reported = c.reported + n }
+
+abbrev pub with_handed : Counts → ℕ → Counts
+with_handed c n = record c { handed = c.handed + n }
+
+-- what all shares count together
+abbrev pub all_reported : List Counts → ℕ
+all_reported shares = sum_by (λ c. c.reported) shares
+
+abbrev pub all_handed : List Counts → ℕ
+all_handed shares = sum_by (λ c. c.handed) shares
+
+-- a share counts the scopes of a frame that is handed out to it, if there is one
+abbrev pub CountsFrame : {A : Type 0} → Counts → Option (Arc FrameData A) → Counts → Type 0
+CountsFrame old None new = new ≡ old
+CountsFrame old (Some frame) new =
+    new ≡ with_handed old (frame_meta (arc_value frame)).num_scopes
+
+-- A frame that is handed out holds honest streams, not packed, and their scopes are as many as it says.
+abbrev pub SpellsItsScopes : {A : Type 0} → Option (Arc FrameData A) → Type 0
+SpellsItsScopes None = Unit {0}
+SpellsItsScopes (Some frame) = (streams : Streams)
+    × (holding_of (arc_value frame) ≡ record { packed = None; unpacked = Some streams })
+    × AreHonest streams
+    × ((frame_meta (arc_value frame)).num_scopes ≡ total_scopes (map.values streams))

@@ -1,3 +1,0 @@
--- What contracts of private functions and proofs alone cite.
-pub mod view
-pub mod merge

@@ -1,0 +1,319 @@
+//! What the lock of a shared profiler keeps.
+ghost use Rattle.std.specs.Prelude.{◌≡◌, ◌+◌, ◌-◌, ◌^◌, ◌<◌, ◌≤◌, ◌⊎◌, ◌↔◌, [], true, vec_len, Some, OnOk, OnErr, IfOk, IfErr, IfSome, IfNone, MatchOption};
+ghost use Rattle.std.specs.FinMap as map;
+ghost use Rattle.std.specs.List.{list_any};
+ghost use Rattle.std.specs.Arc.{arc_value};
+ghost use Rattle.puffin_data.specs.Forest.{Forest};
+ghost use Rattle.puffin_data.specs.Honesty.{IsHonestRef, record_of_ref};
+ghost use Rattle.puffin_frames.specs.Thread.Info.{info_of};
+ghost use Rattle.puffin_frames.specs.Details.{details_seen, lacks_id};
+ghost use Rattle.puffin_frames.specs.Frame.Contents.{AreHonest, frame_details, frame_meta};
+ghost use Rattle.puffin_frames.specs.Frame.Sums.{total_scopes};
+ghost use Rattle.puffin_collector.specs.Profiler.State.{AcceptsReport, RefusesReport, after_learning, after_wanting};
+ghost use Rattle.puffin_collector.specs.Profiler.Registering.{Adds, AddsSome};
+ghost use Rattle.puffin_collector.specs.Profiler.Collecting.{Collects, TellsIds, KeepsPending, KnowsSome};
+ghost use Rattle.puffin.specs.Profiler.{collected_of, sinks_of, next_sink_of};
+ghost use Rattle.puffin.specs.Sinks.{PutsIn, TakesOut, HasNone};
+ghost use Rattle.puffin.specs.Sinks.Handing.{HandsOn, HandsOnAny};
+ghost use Rattle.puffin.specs.Shares.{with_reported, CountsFrame, all_reported, all_handed};
+
+use crate::global_profiler::profiler::{Emitted, GlobalProfiler};
+use crate::global_profiler::share::{Parts, Share};
+use crate::global_profiler::sink::{FrameSink, FrameSinkId, Sink};
+use puffin_collector::Totals;
+use puffin_data::data::{ScopeId, StreamInfoRef};
+use puffin_data::{Error, Result};
+use puffin_frames::frame_data::FrameData;
+use puffin_frames::scope_details::{ScopeDetails, ScopeIds};
+use puffin_frames::thread_profiler::ThreadInfo;
+use std::sync::ledger::{Book, Ledger};
+use std::sync::{Arc, Wait};
+
+/// A profiler with the books of what its shares reported and of what was handed out to them. Each call makes the call of
+/// that name of [`GlobalProfiler`], and counts it in a share.
+#[derive(Drop)]
+pub struct Booked<L: Ledger, M: Ledger> {
+    profiler: GlobalProfiler,
+    reported: Book<L>,
+    handed: Book<M>,
+    parts: Parts<L, M>,
+    ghost reported_is: { reported.total ≡ profiler.collector.reported },
+    ghost handed_is: { handed.total ≡ profiler.collector.emitted },
+}
+
+/// What all shares of a profiler count together, and what is left.
+#[derive(Clone, Copy, Debug, PartialEq, Eq)]
+pub struct Settled {
+    /// The scopes that all shares reported.
+    pub reported: u64,
+    /// The scopes in the frames that were handed out to them.
+    pub handed: u64,
+    /// The scopes that the next frame will hold.
+    pub pending: u64,
+}
+
+impl<L: Ledger, M: Ledger> Booked<L, M> {
+    pub(crate) fn new(
+        profiler: GlobalProfiler,
+        reported: Book<L>,
+        handed: Book<M>,
+        parts: Parts<L, M>,
+    ) -> Booked<L, M>
+        requires { (reported.total ≡ (collected_of profiler).reported)
+            × (handed.total ≡ (collected_of profiler).emitted) }
+        ensures { result.profiler ≡ profiler }
+    {
+        Booked {
+            profiler,
+            reported,
+            handed,
+            parts,
+        }
+    }
+
+    pub(crate) fn into_profiler(self) -> GlobalProfiler
+        ensures { result ≡ self.profiler }
+    {
+        let Booked {
+            profiler,
+            reported: _,
+            handed: _,
+            parts: _,
+        } = self;
+        profiler
+    }
+
+    /// [`GlobalProfiler::report`]. Where it is accepted, the share counts the scopes.
+    pub fn report(
+        &mut self,
+        share: &mut Share<L, M>,
+        info: ThreadInfo,
+        details: &[ScopeDetails],
+        times: &StreamInfoRef,
+    ) -> Result<()>
+        requires { (f : Forest) × IsHonestRef times.now f }
+        ensures ok { OnOk result (
+            AcceptsReport (collected_of self.old.profiler) (info_of info)
+            (details_seen details.now) (record_of_ref times.now)
+            (collected_of self.new.profiler)) }
+        ensures counted { OnOk result (
+            share.new ≡ with_reported share.old times.now.num_scopes) }
+        ensures err { IfErr result (λ e.
+            RefusesReport (collected_of self.old.profiler) (info_of info)
+            (details_seen details.now) (record_of_ref times.now) e
+            (collected_of self.new.profiler)) }
+        ensures uncounted { OnErr result (share.new ≡ share.old) }
+        ensures sinks { self.new.profiler.sinks ≡ self.old.profiler.sinks }
+    {
+        self.profiler.report(info, details, times)?;
+        self.reported
+            .add(&mut share.reported, times.num_scopes as u64);
+        Ok(())
+    }
+
+    /// [`GlobalProfiler::report_user_scopes`]. Where it is accepted, the share counts the scopes.
+    pub fn report_user_scopes(
+        &mut self,
+        share: &mut Share<L, M>,
+        info: ThreadInfo,
+        times: &StreamInfoRef,
+    ) -> Result<()>
+        requires { (f : Forest) × IsHonestRef times.now f }
+        ensures ok { OnOk result (
+            AcceptsReport (collected_of self.old.profiler) (info_of info) []
+            (record_of_ref times.now) (collected_of self.new.profiler)) }
+        ensures counted { OnOk result (
+            share.new ≡ with_reported share.old times.now.num_scopes) }
+        ensures err { IfErr result (λ e.
+            RefusesReport (collected_of self.old.profiler) (info_of info) []
+            (record_of_ref times.now) e (collected_of self.new.profiler)) }
+        ensures uncounted { OnErr result (share.new ≡ share.old) }
+        ensures sinks { self.new.profiler.sinks ≡ self.old.profiler.sinks }
+    {
+        self.report(share, info, &[], times)
+    }
+
+    /// [`GlobalProfiler::register_user_scopes`].
+    pub fn register_user_scopes(
+        &mut self,
+        ids: &ScopeIds,
+        details: &[ScopeDetails],
+    ) -> Result<Vec<ScopeId>>
+        ensures ok { IfOk result (λ scope_ids.
+            Adds (collected_of self.old.profiler) (details_seen details.now) scope_ids.items
+            (collected_of self.new.profiler)) }
+        ensures err { IfErr result (λ e.
+            AddsSome (collected_of self.old.profiler) (details_seen details.now) e
+            (collected_of self.new.profiler)) }
+        ensures sinks { self.new.profiler.sinks ≡ self.old.profiler.sinks }
+    {
+        self.profiler.register_user_scopes(ids, details)
+    }
+
+    /// [`GlobalProfiler::emit_scope_snapshot`].
+    pub fn emit_scope_snapshot(&mut self)
+        requires { Unit {0} }
+        ensures wants { collected_of self.new.profiler
+            ≡ after_wanting (collected_of self.old.profiler) }
+        ensures sinks { self.new.profiler.sinks ≡ self.old.profiler.sinks }
+    {
+        self.profiler.emit_scope_snapshot();
+    }
+
+    /// [`GlobalProfiler::new_frame`]. Where a frame is handed out, the share counts its scopes.
+    pub fn new_frame<R: Wait>(&mut self, rt: &R, share: &mut Share<L, M>) -> Result<Emitted>
+        requires { Unit {0} }
+        ensures ok { IfOk result (λ emitted.
+            Collects (collected_of self.old.profiler) emitted.frame
+            (collected_of self.new.profiler)) }
+        ensures ids { IfOk result (λ emitted. TellsIds emitted.frame) }
+        ensures handed { IfOk result (λ emitted.
+            HandsOnAny (λ b. (FrameSink-box b).accepts) emitted.frame (sinks_of self.old.profiler)
+            emitted.refused (sinks_of self.new.profiler)) }
+        ensures counted { IfOk result (λ emitted.
+            CountsFrame share.old emitted.frame share.new) }
+        ensures honest { AreHonest (collected_of self.old.profiler).streams }
+        ensures sum { (collected_of self.old.profiler).reported
+            ≡ (collected_of self.old.profiler).emitted
+            + total_scopes (map.values (collected_of self.old.profiler).streams) }
+        ensures exhausted { (result ≡ Err Error.IndexExhausted)
+            ↔ ((collected_of self.old.profiler).index ≡ 2 ^ 64 - 1) }
+        ensures err { IfErr result (λ e.
+            KeepsPending (collected_of self.old.profiler) e (collected_of self.new.profiler)) }
+        ensures kept { OnErr result (sinks_of self.new.profiler ≡ sinks_of self.old.profiler) }
+        ensures uncounted { OnErr result (share.new ≡ share.old) }
+        ensures next { next_sink_of self.new.profiler ≡ next_sink_of self.old.profiler }
+    {
+        let Emitted { frame, refused } = self.profiler.new_frame(rt)?;
+        let Some(frame) = frame else {
+            return Ok(Emitted {
+                frame: None,
+                refused,
+            });
+        };
+        self.handed
+            .add(&mut share.handed, frame.meta().num_scopes as u64);
+        Ok(Emitted {
+            frame: Some(frame),
+            refused,
+        })
+    }
+
+    /// [`GlobalProfiler::add_frame`]. No share counts the frame.
+    pub fn add_frame<R: Wait>(&mut self, rt: &R, frame: Arc<FrameData>) -> Result<usize>
+        requires { Unit {0} }
+        ensures learnt { OnOk result (
+            collected_of self.new.profiler
+            ≡ after_learning (collected_of self.old.profiler) (frame_details (arc_value frame))) }
+        ensures handed { IfOk result (λ refused.
+            HandsOn (λ b. (FrameSink-box b).accepts) (arc_value frame)
+            (sinks_of self.old.profiler) refused (sinks_of self.new.profiler)) }
+        ensures missing { (result ≡ Err Error.MissingId)
+            ↔ (list_any lacks_id (frame_details (arc_value frame)) ≡ true) }
+        ensures unchanged { (result ≡ Err Error.MissingId) →
+            collected_of self.new.profiler ≡ collected_of self.old.profiler }
+        ensures cause { IfErr result (λ e. (e ≡ Error.MissingId) ⊎ (e ≡ Error.Memory)) }
+        ensures known { OnErr result (
+            KnowsSome (collected_of self.old.profiler) (frame_details (arc_value frame))
+            (collected_of self.new.profiler)) }
+        ensures kept { OnErr result (sinks_of self.new.profiler ≡ sinks_of self.old.profiler) }
+        ensures next { next_sink_of self.new.profiler ≡ next_sink_of self.old.profiler }
+    {
+        self.profiler.add_frame(rt, frame)
+    }
+
+    /// [`GlobalProfiler::add_sink`].
+    pub fn add_sink(&mut self, sink: Sink) -> std::result::Result<FrameSinkId, (Error, Sink)>
+        requires { Unit {0} }
+        ensures ok { IfOk result (λ id.
+            (id.0 ≡ next_sink_of self.old.profiler)
+            × (next_sink_of self.new.profiler ≡ next_sink_of self.old.profiler + 1)
+            × PutsIn id.0 sink (sinks_of self.old.profiler) (sinks_of self.new.profiler)) }
+        ensures err { IfErr result (λ e.
+            (e.1 ≡ sink)
+            × (sinks_of self.new.profiler ≡ sinks_of self.old.profiler)
+            × (next_sink_of self.new.profiler ≡ next_sink_of self.old.profiler)) }
+        ensures cause { IfErr result (λ e.
+            ((e.0 ≡ Error.SinkIdsExhausted) × (next_sink_of self.old.profiler ≡ 2 ^ 64 - 1))
+            ⊎ ((e.0 ≡ Error.Memory) × (next_sink_of self.old.profiler < 2 ^ 64 - 1))) }
+        ensures rest { collected_of self.new.profiler ≡ collected_of self.old.profiler }
+    {
+        self.profiler.add_sink(sink)
+    }
+
+    /// [`GlobalProfiler::remove_sink`].
+    pub fn remove_sink(&mut self, id: FrameSinkId) -> Option<Sink>
+        requires { Unit {0} }
+        ensures some { IfSome result (λ sink.
+            TakesOut id.0 sink (sinks_of self.old.profiler) (sinks_of self.new.profiler)) }
+        ensures none { IfNone result (
+            HasNone id.0 (sinks_of self.old.profiler)
+            × (sinks_of self.new.profiler ≡ sinks_of self.old.profiler)) }
+        ensures next { next_sink_of self.new.profiler ≡ next_sink_of self.old.profiler }
+        ensures rest { collected_of self.new.profiler ≡ collected_of self.old.profiler }
+    {
+        self.profiler.remove_sink(id)
+    }
+
+    /// [`GlobalProfiler::totals`]. They are not below what the share counts. The share is changed in nothing.
+    pub fn totals(&mut self, share: &mut Share<L, M>) -> Totals
+        requires { Unit {0} }
+        ensures reported { result.reported ≡ (collected_of self.old.profiler).reported }
+        ensures pending { result.pending
+            ≡ total_scopes (map.values (collected_of self.old.profiler).streams) }
+        ensures emitted { result.emitted ≡ (collected_of self.old.profiler).emitted }
+        ensures sum { result.reported ≡ result.pending + result.emitted }
+        ensures honest { AreHonest (collected_of self.old.profiler).streams }
+        ensures own { (share.old.reported ≤ result.reported)
+            × (share.old.handed ≤ result.emitted) }
+        ensures same { (self.new.profiler ≡ self.old.profiler) × (share.new ≡ share.old) }
+    {
+        self.reported.audit(&mut share.reported);
+        self.handed.audit(&mut share.handed);
+        self.profiler.totals()
+    }
+
+    /// What all shares count together, where these are all. Takes no memory.
+    ///
+    /// Refused where they aren't as many as were made: the same shares come back.
+    pub fn settle(
+        &mut self,
+        shares: Vec<Share<L, M>>,
+    ) -> std::result::Result<Settled, Vec<Share<L, M>>>
+        requires { Unit {0} }
+        ensures full { OnOk result (
+            (vec_len shares ≡ L.parts) × (vec_len shares ≡ M.parts)) }
+        ensures reported { IfOk result (λ s. s.reported ≡ all_reported shares.items) }
+        ensures handed { IfOk result (λ s. s.handed ≡ all_handed shares.items) }
+        ensures pending { IfOk result (λ s. s.pending
+            ≡ total_scopes (map.values (collected_of self.old.profiler).streams)) }
+        ensures sum { IfOk result (λ s. s.reported ≡ s.handed + s.pending) }
+        ensures err { IfErr result (λ v. (v ≡ shares) × ¬ (vec_len shares ≡ L.parts)) }
+        ensures same { self.new.profiler ≡ self.old.profiler }
+    {
+        if shares.len() as u64 != self.parts.n() {
+            return Err(shares);
+        }
+        let mut shares = shares;
+        let Some(last) = shares.pop() else {
+            return Err(shares);
+        };
+        let Share {
+            reported: mut all_reported,
+            handed: mut all_handed,
+        } = last;
+        for share in shares {
+            let Share { reported, handed } = share;
+            all_reported.merge(reported);
+            all_handed.merge(handed);
+        }
+        self.reported.audit(&mut all_reported);
+        self.handed.audit(&mut all_handed);
+        let totals = self.profiler.totals();
+        Ok(Settled {
+            reported: totals.reported,
+            handed: totals.emitted,
+            pending: totals.pending,
+        })
+    }
+}

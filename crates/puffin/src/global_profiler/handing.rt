@@ -1,0 +1,92 @@
+ghost use Rattle.std.specs.Prelude.{◌≡◌, ◌≤◌};
+ghost use Rattle.std.specs.Arc.{arc_value};
+ghost use Rattle.puffin.specs.Sinks.Handing.{Answers, HandedTo, HandsOn, refusal};
+
+use crate::global_profiler::sink::{FrameSink, Sink};
+use crate::global_profiler::sinks::Entry;
+use puffin_data::Result;
+use puffin_frames::frame_data::FrameData;
+use puffin_view::profile_view::FrameView;
+use std::sync::{Arc, Mutex, Wait};
+
+/// What became of a frame at one sink.
+#[derive(Clone, Copy, Debug, PartialEq, Eq)]
+pub enum Outcome {
+    /// The sink took it.
+    Accepted,
+    /// The sink refused it.
+    Refused,
+    /// No copy could be made for it.
+    NoCopy,
+}
+
+impl Outcome {
+    fn of(taken: Result<()>) -> Outcome {
+        match taken {
+            Ok(()) => Outcome::Accepted,
+            Err(_) => Outcome::Refused,
+        }
+    }
+
+    /// 1 where it counts as refused, else 0.
+    fn refusals(self) -> usize
+        ensures which { result ≡ refusal self }
+        ensures one { result ≤ 1 }
+    {
+        match self {
+            Outcome::Accepted => 0,
+            Outcome::Refused | Outcome::NoCopy => 1,
+        }
+    }
+}
+
+/// Hands a frame to each sink by rising number, and returns how many didn't take it.
+pub(crate) fn hand_all<R: Wait>(rt: &R, sinks: &mut Vec<Entry>, frame: &Arc<FrameData>) -> usize
+    ensures { HandsOn (λ b. (FrameSink-box b).accepts) (arc_value frame.now) sinks.old.items result
+        sinks.new.items }
+{
+    hand_each(rt, sinks, frame)
+}
+
+fn hand_each<R: Wait>(rt: &R, sinks: &mut [Entry], frame: &Arc<FrameData>) -> usize
+    ensures { HandsOn (λ b. (FrameSink-box b).accepts) (arc_value frame.now) sinks.old result
+        sinks.new }
+{
+    let mut refused = 0;
+    for entry in sinks.iter_mut() {
+        let outcome = hand(rt, &mut entry.sink, frame);
+        refused += outcome.refusals();
+    }
+    refused
+}
+
+/// Hands a copy of a frame to one sink.
+fn hand<R: Wait>(rt: &R, sink: &mut Sink, frame: &Arc<FrameData>) -> Outcome
+    ensures { HandedTo (λ b. (FrameSink-box b).accepts) (arc_value frame.now) sink.old result
+        sink.new }
+{
+    let Ok(copy) = Arc::try_clone(frame) else {
+        return Outcome::NoCopy;
+    };
+    match sink {
+        Sink::View(view) => Outcome::of(hand_to_view(rt, view, copy)),
+        Sink::Boxed(boxed) => match hand_to_box(boxed, copy) {
+            Ok(()) => Outcome::Accepted,
+            Err(_) => Outcome::Refused,
+        },
+    }
+}
+
+fn hand_to_box(sink: &mut Box<dyn FrameSink + Send>, frame: Arc<FrameData>) -> Result<()>
+    ensures { Answers (λ b. (FrameSink-box b).accepts) sink.old (arc_value frame) result sink.new }
+{
+    sink.accept(frame)
+}
+
+fn hand_to_view<R: Wait>(
+    rt: &R,
+    view: &Arc<Mutex<FrameView>>,
+    frame: Arc<FrameData>,
+) -> Result<()> {
+    view.lock(rt).add_frame(frame)
+}

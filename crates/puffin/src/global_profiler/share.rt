@@ -1,0 +1,60 @@
+//! Shares of the counts that a lock keeps.
+ghost use Rattle.std.specs.Prelude.{◌≡◌, ◌<◌};
+
+use std::marker::{Model, PhantomData};
+use std::sync::ledger;
+use std::sync::ledger::Ledger;
+
+/// One share of a shared profiler. It counts the scopes that were reported by it, and those in the frames that were handed
+/// out to it. The two ledgers rule out the shares of another profiler.
+#[derive(Drop)]
+pub struct Share<L: Ledger, M: Ledger> {
+    pub(crate) reported: ledger::Share<L>,
+    pub(crate) handed: ledger::Share<M>,
+}
+
+impl<L: Ledger, M: Ledger> Model for Share<L, M> {
+    ghost use Rattle.std.specs.Prelude.{◌≡◌};
+    ghost use Rattle.puffin.specs.Shares.{Counts};
+
+    ghost Value = { Counts };
+
+    ghost view = { λ s. record { reported = s.reported.amount; handed = s.handed.amount } };
+
+    ghost invariant = { λ s. (s.reported.parts ≡ 1) × (s.handed.parts ≡ 1) };
+}
+
+/// How many parts both ledgers have.
+#[derive(Drop)]
+pub(crate) struct Parts<L: Ledger, M: Ledger> {
+    n: u64,
+    of: PhantomData<(L, M)>,
+}
+
+impl<L: Ledger, M: Ledger> Model for Parts<L, M> {
+    ghost use Rattle.std.specs.Prelude.{◌≡◌, ◌<◌, ℕ};
+
+    ghost Value = { ℕ };
+
+    ghost view = { λ p. p.n };
+
+    ghost invariant = { λ p. (0 < p.n) × (p.n ≡ L.parts) × (p.n ≡ M.parts) };
+}
+
+impl<L: Ledger, M: Ledger> Parts<L, M> {
+    pub(crate) fn new(n: u64) -> Parts<L, M>
+        requires { (0 < n) × (n ≡ L.parts) × (n ≡ M.parts) }
+        ensures { result ≡ n }
+    {
+        Parts { n, of: PhantomData }
+    }
+
+    pub(crate) fn n(&self) -> u64
+        ensures number { result ≡ self.now }
+        ensures some { 0 < result }
+        ensures reported { result ≡ L.parts }
+        ensures handed { result ≡ M.parts }
+    {
+        self.n
+    }
+}

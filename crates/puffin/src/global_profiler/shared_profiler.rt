@@ -1,0 +1,212 @@
+//! A profiler that several threads share.
+ghost use Rattle.std.specs.Prelude.{◌≡◌, ◌+◌, ◌<◌, ◌≤◌, vec_len, All, OnOk, OnErr, IfOk, IfErr};
+ghost use Rattle.puffin_data.specs.Forest.{Forest};
+ghost use Rattle.puffin_data.specs.Honesty.{IsHonestRef};
+ghost use Rattle.puffin.specs.Profiler.{collected_of};
+ghost use Rattle.puffin.specs.Shares.{no_counts, with_reported, CountsFrame, SpellsItsScopes, all_reported, all_handed};
+
+use crate::global_profiler::booked::{Booked, Settled};
+use crate::global_profiler::profiler::{Emitted, GlobalProfiler};
+use crate::global_profiler::share::{Parts, Share};
+use crate::global_profiler::sink::{FrameSinkId, Sink};
+use puffin_collector::Totals;
+use puffin_data::data::{ScopeId, StreamInfoRef};
+use puffin_data::{Error, Result};
+use puffin_frames::frame_data::FrameData;
+use puffin_frames::scope_details::{ScopeDetails, ScopeIds};
+use puffin_frames::thread_profiler::ThreadInfo;
+use std::alloc::Global;
+use std::sync::ledger::{Blank, Ledger};
+use std::sync::{Arc, Mutex, MutexGuard, Wait};
+
+/// A profiler behind a lock, for several threads. Each call but `clone` waits for the lock, and makes the call of that name of
+/// [`Booked`] under it.
+///
+/// A thread reports by its [`Share`], through a [`SharedReporter`](crate::global_profiler::SharedReporter); whoever takes
+/// frames has a share too. `L` and `M` name two ledgers, of scopes that were reported and of scopes that were handed out: a
+/// function that opens a profiler is generic over both, and is called with `Brand` for each.
+#[derive(Drop)]
+pub struct SharedProfiler<L: Ledger, M: Ledger> {
+    booked: Arc<Mutex<Booked<L, M>>>,
+}
+
+impl<L: Ledger, M: Ledger> SharedProfiler<L, M> {
+    /// Puts a profiler behind a lock, and makes `n` shares of its counts. Nothing may have been reported to it, and both
+    /// blanks have `n` parts.
+    ///
+    /// Refused with `Memory`: the profiler comes back.
+    pub fn open(
+        alloc: Global,
+        profiler: GlobalProfiler,
+        n: usize,
+        reported: Blank,
+        handed: Blank,
+    ) -> std::result::Result<(SharedProfiler<L, M>, Vec<Share<L, M>>), (Error, GlobalProfiler)>
+        requires fresh { ((collected_of profiler).reported ≡ 0)
+            × ((collected_of profiler).emitted ≡ 0) }
+        requires some { 0 < n }
+        requires reported { (reported.name ≡ L.name)
+            × (reported.parts ≡ L.parts)
+            × (reported.parts ≡ n) }
+        requires handed { (handed.name ≡ M.name)
+            × (handed.parts ≡ M.parts)
+            × (handed.parts ≡ n) }
+        ensures shares { IfOk result (λ r.
+            (vec_len r.1 ≡ n) × All (λ share. share ≡ no_counts) r.1.items) }
+        ensures err { IfErr result (λ e. e.0 ≡ Error.Memory) }
+    {
+        let (reported, mut all_reported) = reported.open::<L>();
+        let (handed, mut all_handed) = handed.open::<M>();
+        let Ok(mut shares) = Vec::with_capacity(alloc, n) else {
+            return Err((Error::Memory, profiler));
+        };
+        for _i in 0..n {
+            shares.push_reserved(Share {
+                reported: all_reported.split_off(1, 0),
+                handed: all_handed.split_off(1, 0),
+            });
+        }
+        let parts = Parts::new(n as u64);
+        match Arc::new(
+            alloc,
+            Mutex::new(Booked::new(profiler, reported, handed, parts)),
+        ) {
+            Ok(booked) => Ok((SharedProfiler { booked }, shares)),
+            Err(refused) => Err((Error::Memory, refused.value.into_inner().into_profiler())),
+        }
+    }
+
+    /// The same profiler once more. Refused only with `Memory`.
+    pub fn clone(&self) -> Result<SharedProfiler<L, M>>
+        requires { Unit {0} }
+        ensures cause { IfErr result (λ e. e ≡ Error.Memory) }
+    {
+        Ok(SharedProfiler {
+            booked: Arc::try_clone(&self.booked)?,
+        })
+    }
+
+    /// Waits for the lock, and lends what it keeps until the guard is dropped.
+    pub fn lock(&self, rt: &impl Wait) -> MutexGuard<'_, Booked<L, M>>
+        requires { Unit {0} }
+    {
+        self.booked.lock(rt)
+    }
+
+    /// [`Booked::report`] under the lock.
+    pub fn report(
+        &self,
+        rt: &impl Wait,
+        share: &mut Share<L, M>,
+        info: ThreadInfo,
+        details: &[ScopeDetails],
+        times: &StreamInfoRef,
+    ) -> Result<()>
+        requires { (f : Forest) × IsHonestRef times.now f }
+        ensures counted { OnOk result (
+            share.new ≡ with_reported share.old times.now.num_scopes) }
+        ensures uncounted { OnErr result (share.new ≡ share.old) }
+    {
+        self.lock(rt).report(share, info, details, times)
+    }
+
+    /// [`Booked::report_user_scopes`] under the lock.
+    pub fn report_user_scopes(
+        &self,
+        rt: &impl Wait,
+        share: &mut Share<L, M>,
+        info: ThreadInfo,
+        times: &StreamInfoRef,
+    ) -> Result<()>
+        requires { (f : Forest) × IsHonestRef times.now f }
+        ensures counted { OnOk result (
+            share.new ≡ with_reported share.old times.now.num_scopes) }
+        ensures uncounted { OnErr result (share.new ≡ share.old) }
+    {
+        self.lock(rt).report_user_scopes(share, info, times)
+    }
+
+    /// [`Booked::register_user_scopes`] under the lock.
+    pub fn register_user_scopes(
+        &self,
+        rt: &impl Wait,
+        ids: &ScopeIds,
+        details: &[ScopeDetails],
+    ) -> Result<Vec<ScopeId>>
+        requires { Unit {0} }
+    {
+        self.lock(rt).register_user_scopes(ids, details)
+    }
+
+    /// [`Booked::emit_scope_snapshot`] under the lock.
+    pub fn emit_scope_snapshot(&self, rt: &impl Wait)
+        requires { Unit {0} }
+    {
+        self.lock(rt).emit_scope_snapshot();
+    }
+
+    /// [`Booked::new_frame`] under the lock, which is held until all sinks were called.
+    pub fn new_frame<R: Wait>(&self, rt: &R, share: &mut Share<L, M>) -> Result<Emitted>
+        requires { Unit {0} }
+        ensures counted { IfOk result (λ emitted.
+            CountsFrame share.old emitted.frame share.new) }
+        ensures spells { IfOk result (λ emitted. SpellsItsScopes emitted.frame) }
+        ensures uncounted { OnErr result (share.new ≡ share.old) }
+    {
+        self.lock(rt).new_frame(rt, share)
+    }
+
+    /// [`Booked::add_frame`] under the lock, which is held until all sinks were called.
+    pub fn add_frame<R: Wait>(&self, rt: &R, frame: Arc<FrameData>) -> Result<usize>
+        requires { Unit {0} }
+    {
+        self.lock(rt).add_frame(rt, frame)
+    }
+
+    /// [`Booked::add_sink`] under the lock.
+    pub fn add_sink(
+        &self,
+        rt: &impl Wait,
+        sink: Sink,
+    ) -> std::result::Result<FrameSinkId, (Error, Sink)>
+        requires { Unit {0} }
+        ensures err { IfErr result (λ e. e.1 ≡ sink) }
+    {
+        self.lock(rt).add_sink(sink)
+    }
+
+    /// [`Booked::remove_sink`] under the lock.
+    pub fn remove_sink(&self, rt: &impl Wait, id: FrameSinkId) -> Option<Sink>
+        requires { Unit {0} }
+    {
+        self.lock(rt).remove_sink(id)
+    }
+
+    /// [`Booked::totals`] under the lock.
+    pub fn totals(&self, rt: &impl Wait, share: &mut Share<L, M>) -> Totals
+        requires { Unit {0} }
+        ensures sum { result.reported ≡ result.pending + result.emitted }
+        ensures own { (share.old.reported ≤ result.reported)
+            × (share.old.handed ≤ result.emitted) }
+        ensures same { share.new ≡ share.old }
+    {
+        self.lock(rt).totals(share)
+    }
+
+    /// [`Booked::settle`] under the lock.
+    pub fn settle(
+        &self,
+        rt: &impl Wait,
+        shares: Vec<Share<L, M>>,
+    ) -> std::result::Result<Settled, Vec<Share<L, M>>>
+        requires { Unit {0} }
+        ensures full { OnOk result (
+            (vec_len shares ≡ L.parts) × (vec_len shares ≡ M.parts)) }
+        ensures reported { IfOk result (λ s. s.reported ≡ all_reported shares.items) }
+        ensures handed { IfOk result (λ s. s.handed ≡ all_handed shares.items) }
+        ensures sum { IfOk result (λ s. s.reported ≡ s.handed + s.pending) }
+        ensures err { IfErr result (λ v. (v ≡ shares) × ¬ (vec_len shares ≡ L.parts)) }
+    {
+        self.lock(rt).settle(shares)
+    }
+}

@@ -1,0 +1,81 @@
+//! A thread's way to a shared profiler.
+ghost use Rattle.std.specs.Prelude.{◌≡◌, ◌+◌, ◌≤◌};
+ghost use Rattle.puffin_data.specs.Forest.{Forest};
+ghost use Rattle.puffin_data.specs.Honesty.{IsHonestRef};
+
+use crate::global_profiler::share::Share;
+use crate::global_profiler::shared_profiler::SharedProfiler;
+use puffin_collector::Totals;
+use puffin_data::Result;
+use puffin_data::data::StreamInfoRef;
+use puffin_frames::scope_details::ScopeDetails;
+use puffin_frames::thread_profiler::{Reporter, ThreadInfo};
+use std::sync::Wait;
+use std::sync::ledger::Ledger;
+
+/// Reports to a shared profiler by a share, which counts what is accepted. It has the handle to wait by.
+#[derive(Drop)]
+pub struct SharedReporter<L: Ledger, M: Ledger, R: Wait> {
+    rt: R,
+    profiler: SharedProfiler<L, M>,
+    share: Share<L, M>,
+}
+
+impl<L: Ledger, M: Ledger, R: Wait> SharedReporter<L, M, R> {
+    /// Reports to this profiler by this share.
+    pub fn new(rt: R, profiler: SharedProfiler<L, M>, share: Share<L, M>) -> SharedReporter<L, M, R>
+        requires { Unit {0} }
+        ensures { result.share ≡ share }
+    {
+        SharedReporter {
+            rt,
+            profiler,
+            share,
+        }
+    }
+
+    /// The profiler's totals, which are not below what the share counts. Waits for the lock.
+    pub fn totals(&mut self) -> Totals
+        requires { Unit {0} }
+        ensures sum { result.reported ≡ result.pending + result.emitted }
+        ensures own { (self.old.share.reported ≤ result.reported)
+            × (self.old.share.handed ≤ result.emitted) }
+        ensures same { self.new.share ≡ self.old.share }
+    {
+        self.profiler.totals(&self.rt, &mut self.share)
+    }
+}
+
+impl<L: Ledger, M: Ledger, R: Wait + Drop> SharedReporter<L, M, R> {
+    /// Gives the share back.
+    pub fn into_share(self) -> Share<L, M>
+        requires { Unit {0} }
+        ensures { result ≡ self.share }
+    {
+        let SharedReporter {
+            rt: _,
+            profiler: _,
+            share,
+        } = self;
+        share
+    }
+}
+
+impl<L: Ledger, M: Ledger, R: Wait> Reporter for SharedReporter<L, M, R> {
+    ghost use Rattle.std.specs.Prelude.{◌≡◌};
+    ghost use Rattle.puffin.specs.Shares.{with_reported};
+
+    ghost accepts = { λ old i ds r new. new.share ≡ with_reported old.share r.num_scopes };
+
+    ghost refuses = { λ old i ds r e new. new.share ≡ old.share };
+
+    fn report(
+        &mut self,
+        info: ThreadInfo,
+        details: &[ScopeDetails],
+        times: &StreamInfoRef,
+    ) -> Result<()> {
+        self.profiler
+            .report(&self.rt, &mut self.share, info, details, times)
+    }
+}

@@ -1,0 +1,109 @@
+ghost use Rattle.std.specs.Prelude.{◌≡◌, ◌+◌, ◌-◌, ◌<◌, ◌⊎◌, ◌∷◌, [], ◌++◌, ◌^◌, length, slice_get, Some, IfOk, IfErr, IfSome, IfNone};
+ghost use Rattle.std.specs.Arc.{arc_value};
+ghost use Rattle.puffin.specs.Sinks.Handing.{HandsOn};
+ghost use Rattle.puffin.specs.Sinks.{AreNumbered, PutsIn, TakesOut, HasNone};
+
+use crate::global_profiler::handing::hand_all;
+use crate::global_profiler::sink::{FrameSink, FrameSinkId, Sink};
+use puffin_data::Error;
+use puffin_frames::frame_data::FrameData;
+use std::sync::{Arc, Wait};
+
+/// A sink with its number.
+#[derive(Drop)]
+pub struct Entry {
+    pub(crate) id: u64,
+    pub(crate) sink: Sink,
+}
+
+/// The sinks of a profiler by rising number, all below the next one.
+#[derive(Drop)]
+pub(crate) struct Sinks {
+    pub(crate) entries: Vec<Entry>,
+    pub(crate) next: u64,
+    ghost rising: { AreNumbered entries.items next },
+}
+
+impl Sinks {
+    /// No sinks, in an empty list.
+    pub(crate) fn of_none(none: Vec<Entry>) -> Sinks
+        requires { none.items ≡ [] }
+        ensures entries { result.entries.items ≡ [] }
+        ensures next { result.next ≡ 1 }
+    {
+        Sinks {
+            entries: none,
+            next: 1,
+        }
+    }
+
+    /// Adds a sink under the next number. Refused with `SinkIdsExhausted` or `Memory`: the sink comes back, and nothing is
+    /// changed.
+    pub(crate) fn add(&mut self, sink: Sink) -> std::result::Result<FrameSinkId, (Error, Sink)>
+        ensures ok { IfOk result (λ id.
+            (id.0 ≡ self.old.next)
+            × (self.new.next ≡ self.old.next + 1)
+            × PutsIn self.old.next sink self.old.entries.items self.new.entries.items) }
+        ensures err { IfErr result (λ e.
+            (e.1 ≡ sink)
+            × (self.new.entries.items ≡ self.old.entries.items)
+            × (self.new.next ≡ self.old.next)) }
+        ensures cause { IfErr result (λ e.
+            ((e.0 ≡ Error.SinkIdsExhausted) × (self.old.next ≡ 2 ^ 64 - 1))
+            ⊎ ((e.0 ≡ Error.Memory) × (self.old.next < 2 ^ 64 - 1))) }
+    {
+        let id = self.next;
+        let Some(next) = id.checked_add(1) else {
+            return Err((Error::SinkIdsExhausted, sink));
+        };
+        match self.entries.push(Entry { id, sink }) {
+            Ok(()) => {
+                self.next = next;
+                Ok(FrameSinkId(id))
+            }
+            Err(refused) => {
+                let Entry { id: _, sink } = refused.value;
+                Err((Error::Memory, sink))
+            }
+        }
+    }
+
+    /// Takes out the sink with this number, if there is one.
+    pub(crate) fn remove(&mut self, id: FrameSinkId) -> Option<Sink>
+        ensures some { IfSome result (λ sink.
+            TakesOut id.0 sink self.old.entries.items self.new.entries.items) }
+        ensures none { IfNone result (
+            HasNone id.0 self.old.entries.items
+            × (self.new.entries.items ≡ self.old.entries.items)) }
+        ensures next { self.new.next ≡ self.old.next }
+    {
+        let Some(at) = place_of(&self.entries, id.0) else {
+            return None;
+        };
+        let Entry { id: _, sink } = self.entries.remove(at);
+        Some(sink)
+    }
+
+    /// Hands a frame to each sink by rising number, and returns how many didn't take it.
+    pub(crate) fn hand_on<R: Wait>(&mut self, rt: &R, frame: &Arc<FrameData>) -> usize
+        ensures handed { HandsOn (λ b. (FrameSink-box b).accepts) (arc_value frame.now)
+            self.old.entries.items result self.new.entries.items }
+        ensures next { self.new.next ≡ self.old.next }
+    {
+        hand_all(rt, &mut self.entries, frame)
+    }
+}
+
+/// The place of the sink with this number.
+fn place_of(entries: &[Entry], id: u64) -> Option<usize>
+    ensures some { IfSome result (λ i.
+        (e : _) × (slice_get entries.now i ≡ Some e) × (e.id ≡ id) × (i < length entries.now)) }
+    ensures none { IfNone result (HasNone id entries.now) }
+{
+    for at in 0..entries.len() {
+        if entries[at].id == id {
+            return Some(at);
+        }
+    }
+    None
+}

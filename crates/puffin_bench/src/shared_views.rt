@@ -1,0 +1,95 @@
+//! Frames that a shared profiler hands to a view.
+
+ghost use Rattle.std.specs.Prelude.{◌≡◌};
+ghost use Rattle.puffin_data.specs.Forest.{Forest};
+ghost use Rattle.puffin_data.specs.Honesty.{IsHonest};
+
+use crate::reports::two_scopes;
+use anyhow::Result;
+use puffin::global_profiler::{GlobalFrameView, GlobalProfiler, Share, SharedProfiler};
+use puffin::thread_profiler::ThreadInfo;
+use puffin_data::data::StreamInfo;
+use std::alloc::{AllocError, Global};
+use std::marker::Brand;
+use std::rt::Clock;
+use std::sync::Wait;
+use std::sync::ledger::{Blank, Ledger};
+use std::time::Instant;
+
+/// How many frames a run takes.
+pub const FRAMES: usize = 1_000;
+/// How many runs fill a view.
+const FILLING: u32 = 2;
+
+/// What came of the runs.
+#[derive(Clone, Copy)]
+pub struct Timed {
+    /// The nanoseconds of the fastest run.
+    pub best: u128,
+    /// How many frames the view holds.
+    pub held: usize,
+}
+
+/// Reports an honest info and takes a frame, so often.
+#[inline(never)]
+fn taken<L: Ledger, M: Ledger, R: Wait>(
+    rt: &R,
+    alloc: Global,
+    profiler: &SharedProfiler<L, M>,
+    share: &mut Share<L, M>,
+    info: &StreamInfo,
+) -> puffin_data::Result<()>
+    requires { (f : Forest) × IsHonest info.now f }
+{
+    let times = info.as_stream_into_ref();
+    for _ in 0..FRAMES {
+        let thread = ThreadInfo {
+            start_time_ns: Some(0),
+            name: String::from_str(alloc, "main")?,
+        };
+        profiler.report(rt, share, thread, &[], &times)?;
+        let _emitted = profiler.new_frame(rt, share)?;
+    }
+    Ok(())
+}
+
+/// Attaches a view, fills it, and takes frames in so many runs more.
+fn viewed<L: Ledger, M: Ledger, R: Wait + Clock>(
+    rt: &R,
+    alloc: Global,
+    runs: u32,
+    reported: Blank,
+    handed: Blank,
+) -> Result<Timed>
+    requires reported { (reported.name ≡ L.name)
+        × (reported.parts ≡ L.parts)
+        × (reported.parts ≡ 1) }
+    requires handed { (handed.name ≡ M.name) × (handed.parts ≡ M.parts) × (handed.parts ≡ 1) }
+{
+    let profiler = GlobalProfiler::new(alloc);
+    let Ok((profiler, shares)) = SharedProfiler::<L, M>::open(alloc, profiler, 1, reported, handed)
+    else {
+        return Err(AllocError.into());
+    };
+    let view = GlobalFrameView::attach(alloc, rt, &profiler)?;
+    let info = StreamInfo::parse(alloc, two_scopes(alloc)?)?;
+    let mut best = u128::MAX;
+    for mut share in shares {
+        for _ in 0..FILLING {
+            taken(rt, alloc, &profiler, &mut share, &info)?;
+        }
+        for _ in 0..runs {
+            let begun = Instant::now(rt)?;
+            taken(rt, alloc, &profiler, &mut share, &info)?;
+            best = best.min(begun.elapsed(rt)?.as_nanos());
+        }
+    }
+    let held = view.lock(rt).stats().frames();
+    let _was_attached = view.detach(rt, &profiler);
+    Ok(Timed { best, held })
+}
+
+/// Takes frames of a profiler that one view is attached to, in so many runs.
+pub fn run<R: Wait + Clock>(rt: &R, alloc: Global, runs: u32) -> Result<Timed> {
+    viewed::<Brand, Brand, R>(rt, alloc, runs, Blank::new(1), Blank::new(1))
+}

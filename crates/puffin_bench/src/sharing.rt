@@ -1,0 +1,49 @@
+//! Reports and frames of profilers, which wait for locks: counted and timed.
+
+use crate::reports::{reported, two_scopes};
+use crate::{print, shared_views};
+use anyhow::Result;
+use puffin::global_profiler::GlobalProfiler;
+use puffin_data::data::StreamInfo;
+use std::rt::Runtime;
+use std::sync::Wait;
+use std::time::Instant;
+
+/// How often reports are run; the fastest run counts.
+const REPORT_ROUNDS: u32 = 300;
+/// The same of frames that a shared profiler hands to a view.
+const VIEW_ROUNDS: u32 = 40;
+
+/// Reports to a profiler, and attaches a view to a shared one; prints what was reported and handed out, and how many frames
+/// the view holds.
+pub fn count_sharing<R: Runtime + AllocGlobal + Wait>(rt: &R) -> Result<()> {
+    let info = StreamInfo::parse(rt.alloc(), two_scopes(rt.alloc())?)?;
+    let mut profiler = GlobalProfiler::new(rt.alloc());
+    let reports = reported(rt, rt.alloc(), &mut profiler, &info)?;
+    let totals = profiler.totals();
+    let (scopes, emitted) = (totals.reported, totals.emitted);
+    println!(rt; "report reports {reports} scopes {scopes} emitted {emitted}")?;
+    let held = shared_views::run(rt, rt.alloc(), 1)?.held;
+    println!(rt; "new_frame_view held {held}")?;
+    Ok(())
+}
+
+/// Times reports of two scopes, with a frame after every eight.
+pub fn time_reports<R: Runtime + AllocGlobal + Wait>(rt: &R) -> Result<()> {
+    let info = StreamInfo::parse(rt.alloc(), two_scopes(rt.alloc())?)?;
+    let mut profiler = GlobalProfiler::new(rt.alloc());
+    let mut best = u128::MAX;
+    let mut reports = 0;
+    for _ in 0..REPORT_ROUNDS {
+        let begun = Instant::now(rt)?;
+        reports = reported(rt, rt.alloc(), &mut profiler, &info)?;
+        best = best.min(begun.elapsed(rt)?.as_nanos());
+    }
+    print(rt, "report", best, reports)
+}
+
+/// Times frames of a shared profiler that a view is attached to, a frame being a unit.
+pub fn time_shared_views<R: Runtime + AllocGlobal + Wait>(rt: &R) -> Result<()> {
+    let best = shared_views::run(rt, rt.alloc(), VIEW_ROUNDS)?.best;
+    print(rt, "new_frame_view", best, shared_views::FRAMES)
+}

@@ -1,0 +1,4 @@
+pub mod lemmas
+mod Reporting
+mod Knowing
+mod Owning

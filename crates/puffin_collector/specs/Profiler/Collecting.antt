@@ -1,0 +1,67 @@
+-- What a call that collects a frame hands out.
+use Rattle.std.specs.Prelude.{◌≡◌, ℕ, ◌+◌, ◌<◌, List, length, Option, Some, None, ◌⊎◌}
+use Rattle.std.specs.FinMap as map
+use Rattle.std.specs.Arc.{arc_value}
+use Rattle.std.specs.declared.sync.Arc.{Arc}
+use Rattle.puffin_data.specs.declared.error.Error.{Error}
+use Rattle.puffin_data.specs.declared.error.Error.TheVariants.{IndexExhausted, Memory}
+use Rattle.puffin_data.specs.Honesty.{Recorded}
+use Rattle.puffin_frames.specs.Thread.Info.{Info}
+use Rattle.puffin_frames.specs.Details.{Details, shared_details, AllHaveIds}
+use Rattle.puffin_frames.specs.Details.Collection.{Begins}
+use Rattle.puffin_frames.specs.declared.frame_data.frame.FrameData.{FrameData}
+use Rattle.puffin_frames.specs.declared.frame_data.meta.FrameMeta.{FrameMeta}
+use Rattle.puffin_frames.specs.Frame.Contents.{Streams, AreHonest, holding_of, frame_meta, frame_details}
+use Rattle.puffin_frames.specs.Frame.Sums.{total_bytes, total_scopes, meta_of, IsOrdered, DurationFits}
+use Rattle.puffin_collector.specs.Profiler.State.{Collected, range_with, delta_of, after_frame, after_no_frame, after_learning}
+
+-- The frame holds all that is pending, as it is and not packed, under the next index. It tells of the new details, and of all that were known where that was wanted.
+pub record HoldsAll (c : Collected) (frame : FrameData) : Type 0 where
+  pub held : holding_of frame ≡ record { packed = None; unpacked = Some c.streams }
+  pub meta : frame_meta frame ≡ meta_of c.index (map.values c.streams)
+  pub delta : shared_details frame.scope_delta.items
+      ≡ delta_of c.collection c.new_details c.wants_all
+  pub full : frame.full_delta ≡ c.wants_all
+
+-- no stream has a scope
+abbrev pub HaveNoScopes : Streams → Type 0
+HaveNoScopes streams = (i : Info) (r : Recorded) → map.get streams i ≡ Some r → r.num_scopes ≡ 0
+
+-- a frame is handed out exactly where a scope is pending; without one the index alone rises
+abbrev pub Collects : {A : Type 0} → Collected → Option (Arc FrameData A) → Collected → Type 0
+Collects old (Some frame) new =
+    HoldsAll old (arc_value frame)
+    × (0 < total_scopes (map.values old.streams))
+    × (new ≡ after_frame old)
+Collects old None new = HaveNoScopes old.streams × (new ≡ after_no_frame old)
+
+-- the frame, if there is one, tells of details with ids alone
+abbrev pub TellsIds : {A : Type 0} → Option (Arc FrameData A) → Type 0
+TellsIds None = Unit {0}
+TellsIds (Some frame) = AllHaveIds (frame_details (arc_value frame))
+
+-- a beginning of details is known
+abbrev pub KnowsSome : Collected → List Details → Collected → Type 0
+KnowsSome old ds new =
+    (learnt : List Details) × Begins learnt ds × (new ≡ after_learning old learnt)
+
+-- A refused call keeps all that is pending, but a beginning of the new details may be known then.
+abbrev pub KeepsPending : Collected → Error → Collected → Type 0
+KeepsPending old e new =
+    ((e ≡ IndexExhausted) × (new ≡ old))
+    ⊎ ((e ≡ Memory) × KnowsSome old old.new_details new)
+
+-- what a frame of all that is pending, with one info more, would say
+pub record AddsUp (c : Collected) (more : FrameMeta) (r : Recorded) : Type 0 where
+  pub frame_index : more.frame_index ≡ c.index
+  pub num_bytes : more.num_bytes ≡ total_bytes (map.values c.streams) + length r.bytes
+  pub num_scopes : more.num_scopes ≡ total_scopes (map.values c.streams) + r.num_scopes
+  pub range : more.range_ns ≡ range_with c r
+  pub duration : IsOrdered more.range_ns → DurationFits more.range_ns
+
+-- what is kept beside the pending streams: what a frame of all of them would say, and the totals
+pub record IsTallied (streams : Streams) (meta : FrameMeta) (reported emitted : ℕ) : Type 0 where
+  pub sums : meta ≡ meta_of meta.frame_index (map.values streams)
+  pub counted : reported ≡ emitted + meta.num_scopes
+  pub honest : AreHonest streams
+  pub duration : IsOrdered meta.range_ns → DurationFits meta.range_ns

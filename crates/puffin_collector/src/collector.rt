@@ -1,0 +1,347 @@
+ghost use Rattle.std.specs.Prelude.{◌≡◌, ◌+◌, ◌-◌, ◌^◌, ◌<◌, ◌⊎◌, ◌↔◌, [], ◌∷◌, None, Some, true, false, OnOk, OnErr, IfOk, IfErr};
+ghost use Rattle.std.specs.Bool.{MatchBool};
+ghost use Rattle.std.specs.List.{list_any};
+ghost use Rattle.std.specs.FinMap as map;
+ghost use Rattle.puffin_data.specs.Forest.{Forest};
+ghost use Rattle.puffin_data.specs.Honesty.{IsHonestRef, record_of_ref};
+ghost use Rattle.puffin_frames.specs.Thread.Info.{info_of};
+ghost use Rattle.puffin_frames.specs.Details.{details_of, details_seen, shared_details, lacks_id, with_id, AllHaveIds};
+ghost use Rattle.puffin_frames.specs.Details.Collection.{no_details};
+ghost use Rattle.puffin_frames.specs.Frame.Contents.{AreHonest};
+ghost use Rattle.puffin_frames.specs.Frame.Sums.{total_scopes, IsOrdered, DurationFits};
+ghost use Rattle.puffin_collector.specs.Profiler.State.{AcceptsReport, RefusesReport, after_adding, after_learning, after_wanting, PendingFits, range_with, IsTooLong, IsReportRefusal};
+ghost use Rattle.puffin_collector.specs.Profiler.Registering.{known_id, Adds, AddsSome};
+ghost use Rattle.puffin_collector.specs.Profiler.Collecting.{Collects, TellsIds, KeepsPending, AddsUp, KnowsSome};
+
+use crate::delta::{all_have_ids, copies, scope_delta};
+use crate::totals::Totals;
+use puffin_data::data::{ScopeId, StreamInfoRef, is_range};
+use puffin_data::{Error, NanoSecond, Result};
+use puffin_frames::frame_data::{
+    FrameData, FrameIndex, FrameMeta, ThreadStreams, UnpackedFrameData, report_to,
+};
+use puffin_frames::laws;
+use puffin_frames::scope_details::{ScopeCollection, ScopeDetails, ScopeIds};
+use puffin_frames::thread_profiler::{Reporter, ThreadInfo};
+use std::alloc::Global;
+use std::collections::BTreeMap;
+use std::marker::Model;
+use std::mem;
+use std::sync::Arc;
+
+/// Collects what threads report, and hands it out in frames. It has no sinks.
+#[derive(Drop)]
+pub struct Collector {
+    alloc: Global,
+    pending: ThreadStreams,
+    meta: FrameMeta,
+    reported: u64,
+    emitted: u64,
+    collection: ScopeCollection,
+    new_details: Vec<Arc<ScopeDetails>>,
+    wants_all: bool,
+}
+
+impl Model for Collector {
+    ghost use Rattle.puffin_collector.specs.Profiler.State.{Collected, collected_code};
+
+    ghost Value = { Collected };
+
+    ghost coded = { collected_code };
+
+    ghost use Rattle.puffin_frames.specs.Frame.Contents.{shared_streams};
+    ghost use Rattle.puffin_frames.specs.Details.{shared_details, AllHaveIds};
+    ghost use Rattle.puffin_collector.specs.Profiler.Collecting.{IsTallied};
+
+    ghost view = { λ c.
+        record {
+          index = c.meta.frame_index;
+          reported = c.reported;
+          emitted = c.emitted;
+          streams = shared_streams c.pending.entries;
+          collection = c.collection;
+          new_details = shared_details c.new_details.items;
+          wants_all = c.wants_all;
+        } };
+
+    ghost invariant = { λ c.
+        IsTallied (shared_streams c.pending.entries) c.meta c.reported c.emitted
+        × AllHaveIds (shared_details c.new_details.items) };
+}
+
+impl Collector {
+    /// With nothing reported, and this index for the next frame.
+    pub fn new(alloc: Global, frame_index: FrameIndex) -> Collector
+        ensures { result ≡ record {
+          index = frame_index;
+          reported = 0;
+          emitted = 0;
+          streams = map.empty;
+          collection = no_details;
+          new_details = [];
+          wants_all = false;
+        } }
+    {
+        // Laws that the proof of the invariant stands on.
+        laws::reported_streams();
+        laws::honest_streams();
+        Collector {
+            alloc,
+            pending: BTreeMap::new(alloc),
+            meta: FrameMeta::of_none(frame_index),
+            reported: 0,
+            emitted: 0,
+            collection: ScopeCollection::new(alloc),
+            new_details: Vec::new(alloc),
+            wants_all: false,
+        }
+    }
+
+    /// Appends a thread's scopes to those that are pending under its info, and details to those that are new in the next
+    /// frame. The scopes have to be honest.
+    ///
+    /// Refused with the first that applies, with nothing changed: `MissingId` where some details have no id; `TooLarge` where
+    /// the bytes or the scopes that are pending, or the scopes ever reported, wouldn't fit 64 bits; `RangeTooLong` where the
+    /// joined range of all that is pending wouldn't be reversed and its duration wouldn't fit `i64`; `Memory`.
+    pub fn report(
+        &mut self,
+        info: ThreadInfo,
+        details: &[ScopeDetails],
+        times: &StreamInfoRef,
+    ) -> Result<()>
+        requires { (f : Forest) × IsHonestRef times.now f }
+        ensures ok { OnOk result (
+            AcceptsReport self.old (info_of info) (details_seen details.now)
+            (record_of_ref times.now) self.new) }
+        ensures err { IfErr result (λ e.
+            RefusesReport self.old (info_of info) (details_seen details.now)
+            (record_of_ref times.now) e self.new) }
+    {
+        // Laws that the proof of the invariant stands on.
+        laws::joined_ranges();
+        laws::reported_streams();
+        laws::honest_streams();
+        let (meta, reported) = self.with_report(details, times)?;
+        let mut fresh = copies(self.alloc, details)?;
+        self.new_details.reserve(fresh.len())?;
+        report_to(self.alloc, &mut self.pending, info, times)?;
+        match self.new_details.append(&mut fresh) {
+            Ok(()) => {}
+            Err(_) => unreachable!(),
+        }
+        self.meta = meta;
+        self.reported = reported;
+        Ok(())
+    }
+
+    /// What a frame of all that is pending would say with one report more, and how many scopes were ever reported then.
+    /// Refused with the first cause that applies, memory aside.
+    fn with_report(
+        &self,
+        details: &[ScopeDetails],
+        times: &StreamInfoRef,
+    ) -> Result<(FrameMeta, u64)>
+        ensures sums { IfOk result (λ sums.
+            AddsUp self.now sums.0 (record_of_ref times.now)
+            × (sums.1 ≡ self.now.reported + times.now.num_scopes)) }
+        ensures ids { OnOk result (AllHaveIds (details_seen details.now)) }
+        ensures fits { OnOk result (
+            PendingFits self.now (record_of_ref times.now)
+            × ¬ IsTooLong (range_with self.now (record_of_ref times.now))) }
+        ensures refusal { IfErr result (λ e.
+            IsReportRefusal self.now (details_seen details.now) (record_of_ref times.now) e) }
+    {
+        // A law for the proof: the joined range with one stream more.
+        laws::joined_ranges();
+        if !all_have_ids(details) {
+            return Err(Error::MissingId);
+        }
+        let Some(meta) = self.meta.joined(times) else {
+            return Err(Error::TooLarge);
+        };
+        let Some(reported) = self.reported.checked_add(times.num_scopes as u64) else {
+            return Err(Error::TooLarge);
+        };
+        if is_too_long(meta.range_ns) {
+            return Err(Error::RangeTooLong);
+        }
+        Ok((meta, reported))
+    }
+
+    /// Appends scopes of the caller's own, as [`Collector::report`] does, refused as it is.
+    pub fn report_user_scopes(&mut self, info: ThreadInfo, times: &StreamInfoRef) -> Result<()>
+        requires { (f : Forest) × IsHonestRef times.now f }
+        ensures ok { OnOk result (
+            AcceptsReport self.old (info_of info) [] (record_of_ref times.now) self.new) }
+        ensures err { IfErr result (λ e.
+            RefusesReport self.old (info_of info) [] (record_of_ref times.now) e self.new) }
+    {
+        self.report(info, &[], times)
+    }
+
+    /// Registers scopes of the caller's own by their names, and returns an id for each. A name that is known gives its id;
+    /// other details are known from now on, and new in the next frame, under a newly drawn id in place of the one they had.
+    ///
+    /// Refused with `IdsExhausted` or `Memory`: a beginning of the list is registered then, and an id may be used up.
+    pub fn register_user_scopes(
+        &mut self,
+        ids: &ScopeIds,
+        details: &[ScopeDetails],
+    ) -> Result<Vec<ScopeId>>
+        ensures ok { IfOk result (λ scope_ids.
+            Adds self.old (details_seen details.now) scope_ids.items self.new) }
+        ensures err { IfErr result (λ e. AddsSome self.old (details_seen details.now) e self.new) }
+    {
+        let mut scope_ids = Vec::with_capacity(self.alloc, details.len())?;
+        for details in details {
+            let id = self.register_user_scope(ids, details)?;
+            scope_ids.push_reserved(id);
+        }
+        Ok(scope_ids)
+    }
+
+    /// One scope. Nothing is changed where it is refused.
+    fn register_user_scope(&mut self, ids: &ScopeIds, details: &ScopeDetails) -> Result<ScopeId>
+        ensures ok { IfOk result (λ id.
+            ((known_id self.old.collection (details_of details.now) ≡ Some id)
+            × (self.new ≡ self.old))
+            ⊎ ((known_id self.old.collection (details_of details.now) ≡ None)
+            × (self.new
+            ≡ after_adding self.old (with_id (details_of details.now) id ∷ [])))) }
+        ensures err { OnErr result (self.new ≡ self.old) }
+        ensures cause { IfErr result (λ e.
+            (e ≡ Error.Memory)
+            ⊎ ((e ≡ Error.IdsExhausted)
+            × (known_id self.old.collection (details_of details.now) ≡ None))) }
+    {
+        if let Some(id) = self.collection.fetch_by_name(details.name().as_str()) {
+            return Ok(*id);
+        }
+        self.new_details.reserve(1)?;
+        let id = ids.draw()?;
+        let details = Arc::new(self.alloc, details.clone()?.with_scope_id(id))?;
+        let _kept = self.collection.insert(details.clone()?)?;
+        self.new_details.push_reserved(details);
+        Ok(id)
+    }
+
+    /// Lets the next frame tell of all scopes that are known, besides the new ones. Takes no memory.
+    pub fn emit_scope_snapshot(&mut self)
+        ensures { self.new ≡ after_wanting self.old }
+    {
+        self.wants_all = true;
+    }
+
+    /// Learns details that another told, as a frame that is added by hand tells them.
+    ///
+    /// Refused with `MissingId` where some of them have no id, and nothing is changed then; else only with `Memory`, after
+    /// which a beginning of them may be known.
+    pub fn learn(&mut self, details: &[Arc<ScopeDetails>]) -> Result<()>
+        ensures ok { OnOk result (
+            self.new ≡ after_learning self.old (shared_details details.now)) }
+        ensures missing { (result ≡ Err Error.MissingId)
+            ↔ (list_any lacks_id (shared_details details.now) ≡ true) }
+        ensures unchanged { (result ≡ Err Error.MissingId) → self.new ≡ self.old }
+        ensures err { OnErr result (
+            KnowsSome self.old (shared_details details.now) self.new) }
+        ensures cause { IfErr result (λ e. (e ≡ Error.MissingId) ⊎ (e ≡ Error.Memory)) }
+    {
+        self.collection.insert_all(details)
+    }
+
+    /// Hands out all that is pending in one frame, where there is a scope in it, and raises the index. The frame tells of the
+    /// new scopes in order, and then, where that was wanted, of all that were known before; from then on the new ones are
+    /// known. Without a frame the new scopes and that wish are kept.
+    ///
+    /// Refused with `IndexExhausted` where the index is the last one, else only with `Memory`; nothing is changed then, but
+    /// after `Memory` a beginning of the new scopes may be known.
+    pub fn collect_frame(&mut self) -> Result<Option<Arc<FrameData>>>
+        ensures ok { IfOk result (λ frame. Collects self.old frame self.new) }
+        // What a frame tells of has ids.
+        ensures ids { IfOk result TellsIds }
+        ensures honest { AreHonest self.old.streams }
+        // And what was reported is pending or was handed out.
+        ensures sum { self.old.reported
+            ≡ self.old.emitted + total_scopes (map.values self.old.streams) }
+        ensures exhausted { (result ≡ Err Error.IndexExhausted) ↔ (self.old.index ≡ 2 ^ 64 - 1) }
+        ensures err { IfErr result (λ e. KeepsPending self.old e self.new) }
+    {
+        // Laws for the proof: what there is of no stream, and of honest ones.
+        laws::reported_streams();
+        laws::honest_streams();
+        let Some(next) = self.meta.frame_index.checked_add(1) else {
+            return Err(Error::IndexExhausted);
+        };
+        if self.meta.num_scopes == 0 {
+            self.meta.frame_index = next;
+            return Ok(None);
+        }
+        let delta = scope_delta(
+            self.alloc,
+            &self.new_details,
+            &self.collection,
+            self.wants_all,
+        )?;
+        self.collection.insert_all(&self.new_details)?;
+        let thread_streams = mem::replace(&mut self.pending, BTreeMap::new(self.alloc));
+        let unpacked = UnpackedFrameData {
+            meta: self.meta,
+            thread_streams,
+        };
+        let frame = FrameData::of_unpacked(unpacked, delta, self.wants_all);
+        match Arc::new(self.alloc, frame) {
+            Ok(frame) => {
+                self.meta = FrameMeta::of_none(next);
+                self.emitted = self.reported;
+                self.new_details.clear();
+                self.wants_all = false;
+                Ok(Some(frame))
+            }
+            Err(refused) => {
+                self.pending = refused.value.into_unpacked().thread_streams;
+                Err(Error::Memory)
+            }
+        }
+    }
+
+    /// How many scopes were reported, are pending, and were handed out. Takes no memory.
+    pub fn totals(&self) -> Totals
+        ensures reported { result.reported ≡ self.now.reported }
+        ensures pending { result.pending ≡ total_scopes (map.values self.now.streams) }
+        ensures emitted { result.emitted ≡ self.now.emitted }
+        ensures sum { result.reported ≡ result.pending + result.emitted }
+        // What is pending is honest, at any time.
+        ensures honest { AreHonest self.now.streams }
+    {
+        Totals {
+            reported: self.reported,
+            pending: self.meta.num_scopes as u64,
+            emitted: self.emitted,
+        }
+    }
+}
+
+impl Reporter for Collector {
+    ghost use Rattle.std.specs.Prelude.{◌≡◌};
+    ghost use Rattle.puffin_collector.specs.Profiler.State.{AcceptsReport, RefusesReport};
+
+    ghost accepts = { AcceptsReport };
+
+    ghost refuses = { RefusesReport };
+
+    fn report(
+        &mut self,
+        info: ThreadInfo,
+        details: &[ScopeDetails],
+        times: &StreamInfoRef,
+    ) -> Result<()> {
+        Collector::report(self, info, details, times)
+    }
+}
+
+/// Whether a range isn't reversed and its duration doesn't fit.
+fn is_too_long(range: (NanoSecond, NanoSecond)) -> bool
+    ensures { MatchBool result (IsTooLong range) (IsOrdered range → DurationFits range) }
+{
+    range.0 <= range.1 && !is_range(range)
+}

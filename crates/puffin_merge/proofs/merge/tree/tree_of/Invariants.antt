@@ -1,0 +1,16 @@
+-- The rows so far: empty, and then with the forests of the places from the last one on.
+use Rattle.std.proofs.Common.{◌≡◌, ◌+◌, drop, vec_len}
+use Rattle.puffin_merge.proofs.Attaching.{AreEmpty, HoldForests}
+use Rattle.puffin_merge.proofs.merge.tree.tree_of.Given as goal
+
+abbrev pub invariant-empty : goal.invariant-empty
+invariant-empty l = record {
+  size : vec_len l.rows ≡ l._made;
+  empty : AreEmpty l.rows.items;
+}
+
+abbrev pub invariant-places : goal.invariant-places
+invariant-places l = record {
+  size : vec_len l.rows ≡ vec_len l.places + 1;
+  forests : HoldForests l.table.nodes.items l.frames l.rows.items (drop l.i l.places.items) (drop l.i l.drawn.items);
+}

@@ -1,0 +1,89 @@
+-- Which refusal merging answers.
+use Rattle.std.specs.Prelude.{◌≡◌, ℕ, ◌+◌, ◌^◌, ◌<◌, ◌≤◌, ◌⊎◌, ℤ, ◌-ℤ◌, ◌+ℤ◌, FitsSigned, List, [], ◌∷◌, ◌++◌, length, take, slice_index, ◌==◌, if◌then◌else◌}
+use Rattle.std.specs.Int.{w64}
+use Rattle.puffin_data.specs.declared.error.Error.{Error}
+use Rattle.puffin_data.specs.declared.error.Error.TheVariants.{TooDeep, TooLarge}
+use Rattle.puffin_data.specs.Walk.{Reaches, IsFaultAt, IsFirstFault}
+use Rattle.puffin_data.specs.Walk.Sights.{Sight, Sees, scopes_of, before}
+use Rattle.puffin_merge.specs.Merge.Occurrences.{Occurrence, FrameScopes, occurrence_of, occurrences_in, occurrences_from, occurrences}
+use Rattle.puffin_merge.specs.Merge.Pieces.{merged_at}
+use Rattle.puffin_merge.specs.Merge.Tree.{MergedForest, no_node, merged}
+use Rattle.puffin_merge.specs.Merge.{IsMerge}
+use Rattle.puffin_merge.specs.Merge.FrameBytes.{FrameBytes, bytes_of, start_of, HaveScopes, most_tries}
+
+-- a scope that stands within at most 1,023 others
+abbrev pub IsShallow : Occurrence → Type 0
+IsShallow o = length o.path ≤ 1024
+
+-- after these occurrences, one more with whose path the number fits a usize and the sum an i64
+pub record SumsFit (done : List Occurrence) (o : Occurrence) : Type 0 where
+  pub number : (merged_at (done ++ (o ∷ [])) o.path).number < 2 ^ 64
+  pub total : (merged_at (done ++ (o ∷ [])) o.path).total < 2 ^ 63
+
+-- the same, and its own start fits an i64
+pub record Fits (done : List Occurrence) (o : Occurrence) : Type 0 where
+  pub own_start : FitsSigned w64 o.own_start
+  pub sums : SumsFit done o
+
+-- one more occurrence that is refused: the first that stands within 1,024 others, or one whose numbers don't fit
+abbrev pub IsRefusedFor : List Occurrence → Occurrence → Error → Type 0
+IsRefusedFor done o e =
+    ((length o.path ≡ 1025) × (e ≡ TooDeep)) ⊎ (IsShallow o × (Fits done o → ⊥) × (e ≡ TooLarge))
+
+-- after some occurrences, each of these in turn is accepted
+abbrev pub AreAccepted : List Occurrence → List Occurrence → Type 0
+AreAccepted done [] = Unit {0}
+AreAccepted done (o ∷ more) = IsShallow o × Fits done o × AreAccepted (done ++ (o ∷ [])) more
+
+-- What a frame is refused with after so many tries to read a scope of it, behind the occurrences of the frames before. Its top scopes' starts are counted from `origin`.
+pub data IsFrameRefusal (done : List Occurrence) (origin : ℤ) (bytes : List ℕ) : ℕ → Error → Type 0 where
+  -- the first fault of the bytes, where all sound scopes before it are accepted: one try for each of these, and one more where a scope begins at the fault
+  faulty : {place : ℕ} {fault : Error} {sights : List Sight} → IsFirstFault bytes place fault → Sees bytes [] 0 (length bytes) sights → AreAccepted done (occurrences_in origin (scopes_of (before place sights))) → IsFrameRefusal done origin bytes (length (before place sights) + (if slice_index bytes place == 40 then 1 else 0)) fault
+  -- a sound scope before any fault, the first that isn't accepted: one try for each before it, and one for it
+  refused : (earlier later : List Sight) (s : Sight) {refusal : Error} →
+      Sees bytes [] 0 (length bytes) (earlier ++ (s ∷ later)) →
+      AreAccepted done (occurrences_in origin (scopes_of earlier)) →
+      IsRefusedFor (done ++ occurrences_in origin (scopes_of earlier))
+      (occurrence_of origin s.scope) refusal →
+      ((p e : ℕ) (fault : Error) → Reaches bytes 0 (length bytes) p e → IsFaultAt bytes p e fault →
+      s.place ≤ p) →
+      IsFrameRefusal done origin bytes (length earlier + 1) refusal
+
+-- each node ends at a time that fits
+abbrev pub EndsFit : MergedForest → Type 0
+EndsFit no_node = Unit {0}
+EndsFit (merged n children others) =
+    FitsSigned w64 (n.start +ℤ n.per_frame) × EndsFit children × EndsFit others
+
+-- What merging is refused with after so many tries: that of the first frame that is refused, after one try for each scope of the frames before it and the frame's own; or, where none is, an end that doesn't fit, after one try for each scope.
+pub data IsRefusalAfter (frames : List FrameBytes) : ℕ → Error → Type 0 where
+  in_frame : (earlier later : List FrameBytes) (frame : FrameBytes) (scopes : List FrameScopes)
+      {tries : ℕ} {refusal : Error} →
+      frames ≡ earlier ++ (frame ∷ later) → HaveScopes earlier scopes →
+      AreAccepted [] (occurrences_from (start_of frames) scopes) →
+      IsFrameRefusal (occurrences_from (start_of frames) scopes) (frame.start -ℤ start_of frames)
+      (bytes_of frame) tries refusal →
+      IsRefusalAfter frames (length (occurrences_from (start_of frames) scopes) + tries) refusal
+  at_end : (scopes : List FrameScopes) (f : MergedForest) → HaveScopes frames scopes →
+      AreAccepted [] (occurrences scopes) → IsMerge (occurrences scopes) (length frames) f →
+      (EndsFit f → ⊥) → IsRefusalAfter frames (length (occurrences scopes)) TooLarge
+
+-- what merging is refused with
+abbrev pub IsMergeRefusal : List FrameBytes → Error → Type 0
+IsMergeRefusal frames refusal = (tries : ℕ) × IsRefusalAfter frames tries refusal
+
+-- The frames are merged: each stream is of scopes, and the forest is their merge.
+pub record AreMerged (frames : List FrameBytes) (f : MergedForest) : Type 0 where
+  pub scopes : List FrameScopes
+  pub have : HaveScopes frames scopes
+  pub accepted : AreAccepted [] (occurrences scopes)
+  pub merge : IsMerge (occurrences scopes) (length frames) f
+  pub ends : EndsFit f
+
+-- Some frames from the first on are accepted, and of the others at most the next was read, with so many tries in all.
+pub record ReadsFew (frames : List FrameBytes) (tries : ℕ) : Type 0 where
+  pub accepted : ℕ
+  pub scopes : List FrameScopes
+  pub have : HaveScopes (take accepted frames) scopes
+  pub fine : AreAccepted [] (occurrences_from (start_of frames) scopes)
+  pub few : tries ≤ most_tries (take (accepted + 1) frames)

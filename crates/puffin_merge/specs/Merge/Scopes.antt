@@ -1,0 +1,47 @@
+-- What contracts see of frames and merged scopes.
+use Rattle.std.specs.Prelude.{List, [], ◌∷◌, map, option_map}
+use Rattle.std.specs.FinMap as tree
+use Rattle.std.specs.Arc.{arc_value}
+use Rattle.std.specs.Cow.{cow_str_bytes}
+use Rattle.std.specs.declared.sync.Arc.{Arc}
+use Rattle.std.specs.declared.alloc.Global.{Global}
+use Rattle.puffin_data.specs.Honesty.{Recorded}
+use Rattle.puffin_frames.specs.declared.frame_data.unpacked.UnpackedFrameData.{UnpackedFrameData}
+use Rattle.puffin_frames.specs.Thread.Info.{Info}
+use Rattle.puffin_frames.specs.Frame.Contents.{contents}
+use Rattle.puffin_merge.specs.declared.merge.scope.MergeScope.{MergeScope, MergeScope', Row_of-MergeScope, end_of-MergeScope, more_of-MergeScope}
+use Rattle.puffin_merge.specs.Merge.FrameBytes.{FrameBytes}
+use Rattle.puffin_merge.specs.Merge.Tree.{MergedForest, no_node, merged}
+
+-- a frame's range start, and its stream under an info
+abbrev pub frame_bytes : Info → UnpackedFrameData → FrameBytes
+frame_bytes info frame = record {
+  start = frame.meta.range_ns.0;
+  stream = option_map (λ (r : Recorded). r.bytes) (tree.get (contents frame) info);
+}
+
+abbrev pub frames_bytes : Info → List (Arc UnpackedFrameData Global) → List FrameBytes
+frames_bytes info frames = map (λ held. frame_bytes info (arc_value held)) frames
+
+-- merged scopes as a forest
+abbrev mutual
+  pub scope_then : MergeScope → MergedForest → MergedForest
+  scope_then (MergeScope' start total per_frame greatest pieces id text shape children) others =
+      merged (
+      record {
+        label = record { id = id; text = cow_str_bytes text };
+        start = start;
+        total = total;
+        per_frame = per_frame;
+        greatest = greatest;
+        pieces = pieces;
+      })
+      (children_in children) others
+
+  pub children_in : {m : _} → Row_of-MergeScope m → MergedForest
+  children_in end_of-MergeScope = no_node
+  children_in (more_of-MergeScope scope rest) = scope_then scope (children_in rest)
+
+abbrev pub forest_in : List MergeScope → MergedForest
+forest_in [] = no_node
+forest_in (scope ∷ scopes) = scope_then scope (forest_in scopes)

@@ -1,0 +1,75 @@
+-- A flat table of nodes, and the forest that it makes. Steps of the proof, and no part of what is promised.
+use Rattle.std.specs.Prelude.{◌≡◌, ℕ, ◌/◌, ◌<◌, ◌≤◌, ◌==◌, ℤ, pos, cond, List, [], ◌∷◌, filter, map, All, ◌⊎◌}
+use Rattle.std.specs.declared.cmp.Ordering.TheVariants.{Less}
+use Rattle.puffin_merge.specs.Merge.Occurrences.{Label, Path, Occurrence}
+use Rattle.puffin_merge.specs.Merge.Pieces.{Merged, merged_at}
+use Rattle.puffin_merge.specs.Merge.Starts.{earliest_starts}
+use Rattle.puffin_merge.specs.Merge.Tree.{Node, MergedForest, no_node, merged}
+use Rattle.puffin_merge.specs.Merge.{below, sibling_cmp, sibling_of}
+
+-- a node of the table, named by its number; its parent's number is 0 at the top
+pub record Entry : Type 0 where
+  pub parent : ℕ
+  pub number : ℕ
+  pub label : Label
+  pub merged : Merged
+  pub start : ℤ
+
+abbrev pub node_of : ℕ → Entry → Node
+node_of frames e = record {
+  label = e.label;
+  start = e.start;
+  total = pos e.merged.total;
+  per_frame = pos (e.merged.total / frames);
+  greatest = pos e.merged.greatest;
+  pieces = e.merged.number;
+}
+
+abbrev pub children_of : ℕ → List Entry → List Entry
+children_of p entries = filter (λ e. e.parent == p) entries
+
+-- the forest below a number: of entries in which each stands before its children
+abbrev pub forest_below : ℕ → ℕ → List Entry → MergedForest
+forest_below frames p [] = no_node
+forest_below frames p (e ∷ entries) =
+    cond (e.parent == p)
+    (merged (node_of frames e) (forest_below frames e.number entries) (
+    forest_below frames p entries))
+    (forest_below frames p entries)
+
+-- by recursion
+abbrev pub Each : (Entry → Type 0) → List Entry → Type 0
+Each P [] = Unit {0}
+Each P (e ∷ entries) = P e × Each P entries
+
+abbrev pub Some_of : (Entry → Type 0) → List Entry → Type 0
+Some_of P [] = ⊥
+Some_of P (e ∷ entries) = P e ⊎ Some_of P entries
+
+-- an entry stands before another: its parent's number is lower, or it is its sibling and comes first
+pub record StandsBefore (at : Path → Merged) (path_of : ℕ → Path) (e f : Entry) : Type 0 where
+  pub parent : e.parent ≤ f.parent
+  pub sibling : e.parent ≡ f.parent → sibling_cmp at (path_of e.parent) e.label f.label ≡ Less
+
+abbrev pub InOrder : (Path → Merged) → (ℕ → Path) → List Entry → Type 0
+InOrder at path_of [] = Unit {0}
+InOrder at path_of (e ∷ entries) =
+    Each (StandsBefore at path_of e) entries × InOrder at path_of entries
+
+-- what one entry tells
+pub record IsEntry (at : Path → Merged) (path_of : ℕ → Path) (highest : ℕ) (e : Entry) : Type 0 where
+  pub after_parent : e.parent < e.number
+  pub number : e.number ≤ highest
+  pub path : path_of e.number ≡ below (path_of e.parent) e.label
+  pub merged : e.merged ≡ at (path_of e.number)
+  pub any : 0 < (at (path_of e.number)).number
+
+-- A table of all occurrences, in the order in which its forest is made.
+pub record IsTable (all : List Occurrence) (frames : ℕ) (path_of : ℕ → Path) (highest : ℕ) (entries : List Entry) : Type 0 where
+  pub top : path_of 0 ≡ []
+  pub apart : (p q : ℕ) → p ≤ highest → q ≤ highest → path_of p ≡ path_of q → p ≡ q
+  pub each : Each (IsEntry (merged_at all) path_of highest) entries
+  pub whole : All (λ o. Some_of (λ e. path_of e.number ≡ o.path) entries) all
+  pub order : InOrder (merged_at all) path_of entries
+  pub starts : (p : ℕ) → p ≤ highest →
+      map (λ e. e.start) (children_of p entries) ≡ earliest_starts (pos 0) (map (λ e. sibling_of e.merged frames) (children_of p entries))

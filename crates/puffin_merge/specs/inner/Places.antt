@@ -1,0 +1,111 @@
+-- The nodes of a table in the order in which their forest is made, and their starts. Steps of the proof, and no part of what is promised.
+use Rattle.std.specs.Prelude.{◌≡◌, ℕ, ◌+◌, ◌-◌, ◌/◌, ◌<◌, ◌==◌, pos, ◌+ℤ◌, FitsSigned, List, [], ◌∷◌, length, slice_index_or, All, ◌⊎◌, if◌then◌else◌}
+use Rattle.std.specs.Int.{w64}
+use Rattle.std.specs.declared.cmp.Ordering.{Ordering}
+use Rattle.std.specs.Ordering.{nat_cmp, int_cmp, on, then_cmp}
+use Rattle.std.specs.Cmp.Lexicographic.{slice_cmp}
+use Rattle.std.specs.List.Sorted.{IsSorted}
+use Rattle.puffin_merge.specs.declared.merge.table.Node.{Node}
+use Rattle.puffin_merge.specs.declared.merge.tree.Place.{Place}
+use Rattle.puffin_merge.specs.declared.merge.tree.Drawn.{Drawn}
+use Rattle.puffin_merge.specs.declared.merge.table.Sums.{Sums}
+use Rattle.puffin_merge.specs.Merge.Starts.{earliest_start}
+use Rattle.puffin_merge.specs.inner.Tables.{merged_in}
+use Rattle.puffin_merge.specs.Merge.Tree as forests
+use Rattle.puffin_merge.specs.inner.Assembled.{Entry}
+
+-- the node of a place
+abbrev pub node_of_place : List Node → Place → Node → Node
+node_of_place nodes p d = slice_index_or nodes (p.number.number - 1) d
+
+-- a place is that of the node at k
+pub record IsPlaceAt (nodes : List Node) (k : ℕ) (p : Place) : Type 0 where
+  pub number : p.number.number ≡ k + 1
+  pub parent : (d : Node) → p.parent.number ≡ (slice_index_or nodes k d).key.parent.number
+  pub own_start : (d : Node) → p.own_start ≡ (slice_index_or nodes k d).sums.own_start
+  pub id : (d : Node) → p.id ≡ (slice_index_or nodes k d).key.id
+  pub text : (d : Node) → p.text.now ≡ (slice_index_or nodes k d).key.text.now
+
+abbrev pub IsPlaceOf : List Node → Place → Type 0
+IsPlaceOf nodes p = (k : ℕ) × (k < length nodes) × IsPlaceAt nodes k p
+
+-- some element, by recursion
+abbrev pub SomeOf : {A : Type 0} → (A → Type 0) → List A → Type 0
+SomeOf P [] = ⊥
+SomeOf P (x ∷ xs) = P x ⊎ SomeOf P xs
+
+-- each two differ, by recursion
+abbrev pub EachOf : {A : Type 0} → (A → Type 0) → List A → Type 0
+EachOf P [] = Unit {0}
+EachOf P (x ∷ xs) = P x × EachOf P xs
+
+abbrev pub AreApart : List Place → Type 0
+AreApart [] = Unit {0}
+AreApart (p ∷ places) = EachOf (λ q. p.number.number ≡ q.number.number → ⊥) places × AreApart places
+
+-- by parent's number, then as siblings, and then by number
+abbrev pub place_cmp : Place → Place → Ordering
+place_cmp =
+    then_cmp (on (λ p. p.parent.number) nat_cmp) (
+    then_cmp (on (λ p. p.own_start) int_cmp) (
+    then_cmp (on (λ p. p.id) nat_cmp) (
+    then_cmp (on (λ p. p.text.now) (slice_cmp nat_cmp)) (
+    on (λ p. p.number.number) nat_cmp))))
+
+pub record ArePlacesOf (nodes : List Node) (places : List Place) : Type 0 where
+  pub size : length places ≡ length nodes
+  pub each : All (IsPlaceOf nodes) places
+  pub whole : (k : ℕ) → k < length nodes → SomeOf (λ p. p.number.number ≡ k + 1) places
+  pub apart : AreApart places
+  pub sorted : IsSorted place_cmp places
+
+-- where nodes of no parent are drawn from
+abbrev pub above_all : Drawn
+above_all = record { parent = 0; start = pos 0; end = pos 0 }
+
+-- the next node, as early as it can be: after its sibling's end, and from 0 where the one before is no sibling
+abbrev pub drawn_after : ℕ → Sums → Place → Drawn → Drawn
+drawn_after frames sums place before =
+    let start = earliest_start (if place.parent.number == before.parent then before.end else pos 0) (record { own_start = place.own_start; duration = sums.total / frames }) in
+    record { parent = place.parent.number; start = start; end = start +ℤ pos (sums.total / frames) }
+
+abbrev pub drawn_from : List Node → ℕ → Drawn → List Place → Node → List Drawn
+drawn_from nodes frames before [] d = []
+drawn_from nodes frames before (p ∷ places) d =
+    drawn_after frames (slice_index_or nodes (p.number.number - 1) d).sums p before
+    ∷ drawn_from nodes frames
+    (drawn_after frames (slice_index_or nodes (p.number.number - 1) d).sums p before) places
+    d
+
+abbrev pub EndFits : Drawn → Type 0
+EndFits drawn = FitsSigned w64 drawn.end
+
+-- what the forest is made of: the places, with their nodes' sums and where they are drawn
+abbrev pub entry_of : List Node → Place → Drawn → Node → Entry
+entry_of nodes p drawn d = record {
+  parent = p.parent.number;
+  number = p.number.number;
+  label = record { id = p.id; text = p.text.now };
+  merged = merged_in (slice_index_or nodes (p.number.number - 1) d).sums;
+  start = drawn.start;
+}
+
+abbrev pub entries_from : List Node → ℕ → Drawn → List Place → Node → List Entry
+entries_from nodes frames before [] d = []
+entries_from nodes frames before (p ∷ places) d =
+    entry_of nodes p
+    (drawn_after frames (slice_index_or nodes (p.number.number - 1) d).sums p before) d
+    ∷ entries_from nodes frames
+    (drawn_after frames (slice_index_or nodes (p.number.number - 1) d).sums p before) places
+    d
+
+-- a place's node as it is drawn
+abbrev pub drawn_node : ℕ → Sums → Place → Drawn → forests.Node
+drawn_node frames sums p drawn = record {
+  label = record { id = p.id; text = p.text.now };
+  start = drawn.start;
+  total = pos sums.total;
+  per_frame = pos (sums.total / frames);
+  greatest = pos sums.greatest;
+  pieces = sums.number;
+}

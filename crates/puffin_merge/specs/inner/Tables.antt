@@ -1,0 +1,133 @@
+-- A table of nodes, each of which is found by its parent's number and its label. Steps of the proof, and no part of what is promised.
+use Rattle.std.specs.Prelude.{◌≡◌, ℕ, ◌+◌, ◌-◌, ◌<◌, ◌≤◌, ◌^◌, ℤ, max, List, [], ◌∷◌, ◌++◌, map, fold, slice_index_or, slice_set, All, vec_len, Some}
+use Rattle.std.specs.declared.cmp.Ordering.{Ordering}
+use Rattle.std.specs.Ordering.{nat_cmp, on, then_cmp}
+use Rattle.std.specs.Cmp.Lexicographic.{slice_cmp}
+use Rattle.std.specs.Map.{lookup}
+use Rattle.std.specs.BTreeMap.{is_at}
+use Rattle.std.specs.Int.{int_min}
+use Rattle.puffin_merge.specs.declared.merge.table.Table.{Table}
+use Rattle.puffin_merge.specs.declared.merge.table.Node.{Node}
+use Rattle.puffin_merge.specs.declared.merge.table.Key.{Key}
+use Rattle.puffin_merge.specs.declared.merge.table.Sums.{Sums}
+use Rattle.puffin_merge.specs.declared.merge.table.NodeNumber.{NodeNumber}
+use Rattle.puffin_merge.specs.Merge.Occurrences.{Label, Path, Occurrence}
+use Rattle.puffin_merge.specs.Merge.Pieces.{Merged, merged_at}
+use Rattle.puffin_merge.specs.Merge.{below}
+use Rattle.puffin_merge.specs.Merge.Refusals.{SumsFit}
+
+abbrev pub label_in : Key → Label
+label_in key = record { id = key.id; text = key.text.now }
+
+abbrev pub merged_in : Sums → Merged
+merged_in sums = record {
+  number = sums.number;
+  total = sums.total;
+  greatest = sums.greatest;
+  own_start = sums.own_start;
+}
+
+-- The paths of the numbers from 0 on: above all nodes is the empty path, and a node's is its label below its parent's.
+abbrev pub with_path : List Path → Key → List Path
+with_path paths key =
+    paths ++ (below (slice_index_or paths key.parent.number []) (label_in key) ∷ [])
+
+abbrev pub paths_of : List Key → List Path
+paths_of keys = fold with_path ([] ∷ []) keys
+
+abbrev pub keys_in : List Node → List Key
+keys_in nodes = map (λ n. n.key) nodes
+
+abbrev pub path_at : List Node → ℕ → Path
+path_at nodes number = slice_index_or (paths_of (keys_in nodes)) number []
+
+-- keys that find the same
+pub record IsSameKey (a b : Key) : Type 0 where
+  pub parent : a.parent.number ≡ b.parent.number
+  pub label : label_in a ≡ label_in b
+
+abbrev pub HasKey : List Node → ℕ → Key → Type 0
+HasKey nodes k key = (d : Node) → IsSameKey (slice_index_or nodes k d).key key
+
+abbrev pub key_cmp : Key → Key → Ordering
+key_cmp =
+    then_cmp (on (λ k. k.parent.number) nat_cmp) (
+    then_cmp (on (λ k. k.id) nat_cmp) (on (λ k. k.text.now) (slice_cmp nat_cmp)))
+
+-- each node is found, and nothing else is
+pub record IsFound (t : Table) : Type 0 where
+  pub found : (q : Key) (x : NodeNumber) → lookup (is_at (key_cmp q)) t.numbers.entries ≡ Some x →
+      (0 < x.number) × (x.number ≤ vec_len t.nodes) × HasKey t.nodes.items (x.number - 1) q
+  pub all_found : (k : ℕ) (d : Node) → k < vec_len t.nodes →
+      lookup (is_at (key_cmp (slice_index_or t.nodes.items k d).key)) t.numbers.entries
+      ≡ Some (record { number = k + 1 })
+
+abbrev pub made_node : Key → ℤ → ℕ → Node
+made_node key own_start duration = record {
+  key = key;
+  sums = record { number = 1; total = duration; greatest = duration; own_start = own_start };
+}
+
+abbrev pub grown_node : Node → ℤ → ℕ → Node
+grown_node n own_start duration = record {
+  key = n.key;
+  sums = record { number = n.sums.number + 1; total = n.sums.total + duration; greatest = max n.sums.greatest duration; own_start = int_min n.sums.own_start own_start };
+}
+
+-- the sums of the node at k fit with one piece more
+abbrev pub FitsOneMore : List Node → ℕ → ℕ → Type 0
+FitsOneMore nodes k duration =
+    (d : Node) →
+    ((slice_index_or nodes k d).sums.number + 1 < 2 ^ 64)
+    × ((slice_index_or nodes k d).sums.total + duration < 2 ^ 63)
+
+-- the sums of the node at k fit with one piece more, which it takes in, and the others stay
+abbrev pub GrowsAt : Table → ℕ → ℤ → ℕ → Table → Type 0
+GrowsAt t k own_start duration u =
+    (u.numbers ≡ t.numbers)
+    × ((d : Node) → u.nodes.items ≡ slice_set t.nodes.items k (grown_node (slice_index_or t.nodes.items k d) own_start duration))
+    × FitsOneMore t.nodes.items k duration
+
+-- a node has what is merged at its path
+pub record IsNodeOf (all : List Occurrence) (nodes : List Node) (k : ℕ) (n : Node) : Type 0 where
+  pub id : 0 < n.key.id
+  pub earlier : n.key.parent.number ≤ k
+  pub path : path_at nodes (k + 1) ≡ below (path_at nodes n.key.parent.number) (label_in n.key)
+  pub sums : merged_in n.sums ≡ merged_at all (path_at nodes (k + 1))
+  pub some : 0 < n.sums.number
+  pub small : n.sums.total < 2 ^ 63
+  pub greatest : n.sums.greatest ≤ n.sums.total
+
+-- the nodes of all occurrences
+pub record IsTableOf (all : List Occurrence) (t : Table) : Type 0 where
+  pub each : (k : ℕ) (d : Node) → k < vec_len t.nodes →
+      IsNodeOf all t.nodes.items k (slice_index_or t.nodes.items k d)
+  pub apart : (p q : ℕ) → p ≤ vec_len t.nodes → q ≤ vec_len t.nodes →
+      path_at t.nodes.items p ≡ path_at t.nodes.items q → p ≡ q
+  pub whole : All (λ o. (k : ℕ) × (k < vec_len t.nodes) × (path_at t.nodes.items (k + 1) ≡ o.path))
+      all
+  pub found : IsFound t
+
+-- a piece under a key
+abbrev pub occurrence_at : Table → Key → ℤ → ℕ → Occurrence
+occurrence_at t key own_start duration = record {
+  path = below (path_at t.nodes.items key.parent.number) (label_in key);
+  own_start = own_start;
+  duration = duration;
+}
+
+-- the numbers of a table keep their paths
+pub record Extends (t u : Table) : Type 0 where
+  pub longer : vec_len t.nodes ≤ vec_len u.nodes
+  pub kept : (k : ℕ) → k ≤ vec_len t.nodes → path_at u.nodes.items k ≡ path_at t.nodes.items k
+
+-- one piece under a key was taken in, at the node with this number
+pub record AddsAt (t : Table) (key : Key) (own_start : ℤ) (duration at : ℕ) (u : Table) : Type 0 where
+  pub number : at ≤ vec_len u.nodes
+  pub path : path_at u.nodes.items at
+      ≡ below (path_at t.nodes.items key.parent.number) (label_in key)
+  pub extends : Extends t u
+  pub fits : (all : List Occurrence) → IsTableOf all t →
+      SumsFit all (occurrence_at t key own_start duration)
+  pub table : (all : List Occurrence) → IsTableOf all t →
+      IsTableOf (all ++ (occurrence_at t key own_start duration ∷ [])) u

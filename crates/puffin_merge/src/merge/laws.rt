@@ -1,0 +1,54 @@
+//! Laws of merging, as contracts of functions that do nothing. A proof of another crate cites them by calling the function.
+
+ghost use Rattle.std.specs.Prelude.{◌≡◌, ℕ, pos, List, [], ◌∷◌, ◌++◌, IsPermutation};
+ghost use Rattle.std.specs.declared.sync.Arc.{Arc};
+ghost use Rattle.std.specs.declared.alloc.Global.{Global};
+ghost use Rattle.puffin_data.specs.declared.error.Error.{Error};
+ghost use Rattle.puffin_frames.specs.declared.frame_data.unpacked.UnpackedFrameData.{UnpackedFrameData};
+ghost use Rattle.puffin_frames.specs.Thread.Info.{Info};
+ghost use Rattle.puffin_merge.specs.Merge.Occurrences.{FrameScopes, occurrences};
+ghost use Rattle.puffin_merge.specs.Merge.Tree.{MergedForest};
+ghost use Rattle.puffin_merge.specs.Merge.Starts.{Sibling, IsLeastFeasible, earliest_starts};
+ghost use Rattle.puffin_merge.specs.Merge.{IsMerge};
+ghost use Rattle.puffin_merge.specs.Merge.FrameBytes.{FrameBytes};
+ghost use Rattle.puffin_merge.specs.Merge.Refusals.{IsMergeRefusal, AreMerged};
+ghost use Rattle.puffin_merge.specs.Merge.Scopes.{frames_bytes, forest_in};
+ghost use Rattle.puffin_merge.specs.declared.merge.scope.MergeScope.{MergeScope};
+
+/// Siblings that each start as early as they can have the least feasible starts.
+pub fn earliest_starts()
+    ensures { (siblings : List Sibling) →
+        IsLeastFeasible siblings (earliest_starts (pos 0) siblings) }
+{}
+
+/// What is merged doesn't depend on the order of the frames after the first. So where some frames have a merge, the same
+/// frames with the first one first have it in any order, and merging these gives it, or is refused for want of memory.
+pub fn frames_in_any_order()
+    ensures frames { (info : Info) (first : Arc UnpackedFrameData Global)
+        (others again : List (Arc UnpackedFrameData Global)) → IsPermutation others again →
+        (f : MergedForest) → AreMerged (frames_bytes info (first ∷ others)) f
+        → AreMerged (frames_bytes info (first ∷ again)) f }
+    ensures scopes { (first : FrameScopes) (others again : List FrameScopes) →
+        IsPermutation others again → (frames : ℕ) (f : MergedForest) →
+        IsMerge (occurrences (first ∷ others)) frames f →
+        IsMerge (occurrences (first ∷ again)) frames f }
+{}
+
+/// Frames are merged into one forest at most, and then no refusal is theirs.
+pub fn one_outcome()
+    ensures merged { (frames : List FrameBytes) (f g : MergedForest) → AreMerged frames f →
+        AreMerged frames g → f ≡ g }
+    ensures refused { (frames : List FrameBytes) (f : MergedForest) (refusal : Error) →
+        AreMerged frames f → IsMergeRefusal frames refusal → ⊥ }
+{
+    puffin_data::laws::one_forest();
+    puffin_data::laws::no_fault_in_a_spelling();
+    puffin_data::laws::sights_of_a_walk();
+}
+
+/// A merged scope among others may stand for one that says the same.
+pub fn same_scopes()
+    ensures { (before after : List MergeScope) (s t : MergeScope) →
+        forest_in (s ∷ []) ≡ forest_in (t ∷ []) →
+        forest_in (before ++ (s ∷ after)) ≡ forest_in (before ++ (t ∷ after)) }
+{}

@@ -1,0 +1,162 @@
+//! Taking the scopes of a stream into the table.
+
+ghost use Rattle.std.specs.Prelude.{◌≡◌, ◌<◌, ◌≤◌, ◌^◌, ◌⊎◌, ◌-ℤ◌, List, [], length, if◌then◌else◌, Ok, Err, IfOk, IfErr};
+ghost use Rattle.puffin_data.specs.Walk.Visitor.{TakesAll, StopsEarly};
+ghost use Rattle.puffin_frames.specs.Thread.Info.{info_of};
+ghost use Rattle.puffin_merge.specs.Merge.Occurrences.{Occurrence};
+ghost use Rattle.puffin_merge.specs.Merge.FrameBytes.{bytes_of, most_tries_of};
+ghost use Rattle.puffin_merge.specs.Merge.Scopes.{frame_bytes};
+ghost use Rattle.puffin_merge.specs.inner.Merging.{TakesScopes, RefusesScope};
+ghost use Rattle.puffin_merge.specs.inner.Tables.{IsTableOf};
+ghost use Rattle.puffin_merge.specs.inner.Origins.{IsOrigin, fits_i64};
+
+use crate::merge::table::{Key, NodeNumber, Table};
+use puffin_data::data::{Sighting, Visitor, text_of, walk_with};
+use puffin_data::{Error, NanoSecond, Result};
+use puffin_frames::frame_data::UnpackedFrameData;
+use puffin_frames::thread_profiler::ThreadInfo;
+use std::alloc::Global;
+
+/// How many scopes may stand one within the other.
+const GREATEST_DEPTH: usize = 1024;
+
+/// What is kept of an open scope.
+#[derive(Clone, Copy, Debug)]
+pub(crate) struct Open {
+    /// Its node.
+    pub node: NodeNumber,
+    /// How many scopes stand one within the other down to it.
+    pub depth: usize,
+    /// What the starts of the scopes in it are counted from.
+    pub origin: i128,
+}
+
+impl Open {
+    /// Above all scopes.
+    pub(crate) fn outside(origin: i128) -> Open
+        ensures { result ≡ record { node = record { number = 0 }; depth = 0; origin = origin } }
+    {
+        Open {
+            node: NodeNumber { number: 0 },
+            depth: 0,
+            origin,
+        }
+    }
+}
+
+/// The table, and what the starts of top scopes are counted from in the stream that is read.
+#[derive(Drop)]
+pub(crate) struct Merging<'s> {
+    pub table: Table<'s>,
+    pub origin: i128,
+}
+
+impl<'s> Merging<'s> {
+    /// Nothing is merged yet.
+    pub(crate) fn new(alloc: Global) -> Merging<'s>
+        ensures { IsTableOf [] result.table }
+    {
+        Merging {
+            table: Table::new(alloc),
+            origin: 0,
+        }
+    }
+}
+
+/// A start counted from an origin.
+fn own_start(start: NanoSecond, origin: i128) -> Result<NanoSecond>
+    requires { IsOrigin origin }
+    ensures { result
+        ≡ (if fits_i64 (start -ℤ origin) then Ok (start -ℤ origin) else Err Error.TooLarge) }
+{
+    match NanoSecond::try_from(start as i128 - origin) {
+        Ok(own_start) => Ok(own_start),
+        Err(_) => Err(Error::TooLarge),
+    }
+}
+
+impl<'s> Visitor<'s> for Merging<'s> {
+    ghost use Rattle.puffin_merge.specs.inner.Merging.{TakesScopes, RefusesScope, StandsFor};
+    ghost use Rattle.puffin_merge.specs.inner.Merging as steps;
+
+    type Within = Open;
+
+    ghost takes = { TakesScopes };
+
+    ghost refuses = { RefusesScope };
+
+    ghost stands_for = { StandsFor };
+
+    ghost takes_none = { steps.takes_none };
+
+    ghost takes_more = { steps.takes_more };
+
+    ghost still_stands = { steps.still_stands };
+
+    fn enter(&mut self, within: Open, scope: &Sighting<'s>) -> Result<Open> {
+        if within.depth >= GREATEST_DEPTH {
+            return Err(Error::TooDeep);
+        }
+        let own_start = own_start(scope.start, within.origin)?;
+        let key = Key {
+            parent: within.node,
+            id: scope.id,
+            text: text_of(scope.text),
+        };
+        let node = self
+            .table
+            .add(key, own_start, scope.stop.abs_diff(scope.start))?;
+        Ok(Open {
+            node,
+            depth: within.depth + 1,
+            origin: scope.start as i128,
+        })
+    }
+}
+
+/// What the starts of a frame's top scopes are counted from, as if its range started where the first frame's does.
+fn origin_of(frame: &UnpackedFrameData, first: &UnpackedFrameData) -> i128
+    ensures origin { result ≡ frame.now.meta.range_ns.0 -ℤ first.now.meta.range_ns.0 }
+    ensures is { IsOrigin result }
+{
+    frame.meta.range_ns.0 as i128 - first.meta.range_ns.0 as i128
+}
+
+/// Takes the scopes of a frame's stream into the table, if it has one under the info.
+pub(crate) fn read_frame<'s>(
+    alloc: Global,
+    merging: &mut Merging<'s>,
+    frame: &'s UnpackedFrameData,
+    first: &UnpackedFrameData,
+    info: &ThreadInfo,
+    tries: &mut u64,
+) -> Result<()>
+    requires { (all : List Occurrence) × IsTableOf all merging.old.table }
+    ensures ok { IfOk result (λ _.
+        TakesAll TakesScopes
+        (record {
+          table = merging.old.table;
+          origin = frame.now.meta.range_ns.0 -ℤ first.now.meta.range_ns.0;
+        })
+        merging.new (bytes_of (frame_bytes (info_of info.now) frame.now)) tries.new) }
+    ensures err { IfErr result (λ e.
+        (e ≡ Error.Memory)
+        ⊎ StopsEarly TakesScopes RefusesScope
+        (record {
+          table = merging.old.table;
+          origin = frame.now.meta.range_ns.0 -ℤ first.now.meta.range_ns.0;
+        })
+        merging.new (bytes_of (frame_bytes (info_of info.now) frame.now)) tries.new e) }
+    ensures few { tries.new ≤ most_tries_of (frame_bytes (info_of info.now) frame.now) }
+    ensures short { length (bytes_of (frame_bytes (info_of info.now) frame.now)) < 2 ^ 63 }
+{
+    // A law for the proof: threads are ordered by their infos.
+    puffin_frames::laws::order_of_infos();
+    *tries = 0;
+    merging.origin = origin_of(frame, first);
+    let outside = Open::outside(merging.origin);
+    match frame.thread_streams.get(info) {
+        None => Ok(()),
+        Some(times) => walk_with(alloc, times.stream.bytes(), merging, outside, tries),
+    }
+}

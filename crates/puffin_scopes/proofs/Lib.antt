@@ -1,0 +1,5 @@
+mod Cuts
+mod Slashes
+mod Parts
+mod Endings
+mod NameRows

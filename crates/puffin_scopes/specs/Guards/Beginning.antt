@@ -1,0 +1,27 @@
+-- How a guard begins: with a scope, or without one.
+use Rattle.std.specs.Prelude.{ℕ, ◌+◌, ◌≡◌, ℤ, pos, ◌≤ℤ◌, List, length, Option, Some, None}
+use Rattle.puffin_data.specs.declared.error.Error.{Error}
+use Rattle.puffin_data.specs.Text.{cut_text}
+use Rattle.puffin_data.specs.Forest.Words.{word_size}
+use Rattle.puffin_frames.specs.declared.thread_profiler.profiler.ThreadProfiler.{ThreadProfiler}
+use Rattle.puffin_frames.specs.Thread.ThreadProfiler.{thread_of, clock_of}
+use Rattle.puffin_frames.specs.Thread.Calls.{after_begin}
+use Rattle.puffin_scopes.specs.declared.profiler_scope.ProfilerScope.{ProfilerScope}
+use Rattle.puffin_scopes.specs.Guards.Guard.{profiler_of, offset_of, refusal_of}
+
+-- A scope was begun as the profiler's own call does, and is the guard's. The clock answered by this relation.
+pub record IsOn {C : Type 0} (answers : C → ℤ → C → Type 0) (old : ThreadProfiler C) (id : ℕ)
+    (text : List ℕ) (scope : ProfilerScope C) : Type 0 where
+  pub at : ℤ
+  pub answered : answers (clock_of old) at (clock_of (profiler_of scope))
+  pub never_negative : pos 0 ≤ℤ at
+  pub begun : thread_of (profiler_of scope) ≡ after_begin (thread_of old) id (cut_text text) at
+  pub offset : offset_of scope ≡ Some (word_size (thread_of old).word + 14 + length (cut_text text))
+  pub refusal : refusal_of scope ≡ None
+
+-- the profiler is as before, and the guard has no scope, for this reason
+pub record IsOff {C : Type 0} (old : ThreadProfiler C) (refusal : Option Error)
+    (scope : ProfilerScope C) : Type 0 where
+  pub unchanged : profiler_of scope ≡ old
+  pub offset : offset_of scope ≡ None
+  pub why : refusal_of scope ≡ refusal

@@ -1,0 +1,68 @@
+-- What the end of a guard leaves of the profiler that it borrowed.
+use Rattle.std.specs.Prelude.{ℕ, ◌≡◌, ◌≢◌, ℤ, pos, ◌≤ℤ◌, List, Option, Some, None, Result, Ok, Err, slice_get}
+use Rattle.puffin_data.specs.declared.error.Error.{Error}
+use Rattle.puffin_data.specs.declared.error.Error.TheVariants.{MismatchedEnd}
+use Rattle.puffin_data.specs.Honesty.{Recorded}
+use Rattle.puffin_frames.specs.declared.thread_profiler.profiler.ThreadProfiler.{ThreadProfiler}
+use Rattle.puffin_frames.specs.declared.thread_profiler.reporter.Closed.{Closed}
+use Rattle.puffin_frames.specs.Thread.ThreadProfiler.{thread_of, clock_of}
+use Rattle.puffin_frames.specs.Thread.Calls.{after_end, open_offsets}
+use Rattle.puffin_frames.specs.Thread.Closing.{Closes}
+use Rattle.puffin_frames.specs.Thread.Info.{Info}
+use Rattle.puffin_frames.specs.Details.{Details}
+
+-- where the innermost open scope's size stands
+abbrev pub innermost_of : {C : Type 0} → ThreadProfiler C → Option ℕ
+innermost_of profiler = slice_get (open_offsets (thread_of profiler).word) 0
+
+-- the scope at this offset was ended, as the profiler's own call does
+pub record IsEnded {C R : Type 0} (answers : C → ℤ → C → Type 0)
+    (accepts : R → Info → List Details → Recorded → R → Type 0)
+    (refuses : R → Info → List Details → Recorded → Error → R → Type 0)
+    (offset : ℕ) (old new : ThreadProfiler C) (before after : R) (closed : Closed) : Type 0 where
+  pub innermost : innermost_of old ≡ Some offset
+  pub at : ℤ
+  pub answered : answers (clock_of old) at (clock_of new)
+  pub never_negative : pos 0 ≤ℤ at
+  pub closes : Closes accepts refuses (thread_of old) (thread_of new) at before after closed
+
+-- no scope was ended, since the one at this offset isn't the innermost
+pub record IsMismatched {C R : Type 0} (offset : ℕ) (old new : ThreadProfiler C)
+    (before after : R) (e : Error) : Type 0 where
+  pub mismatched : e ≡ MismatchedEnd
+  pub not_innermost : innermost_of old ≢ Some offset
+  pub unchanged : new ≡ old
+  pub reporter : after ≡ before
+
+-- What `end` leaves, of a guard with a scope at this offset or with none.
+abbrev pub Ends : {C R : Type 0} → (C → ℤ → C → Type 0) →
+    (R → Info → List Details → Recorded → R → Type 0) →
+    (R → Info → List Details → Recorded → Error → R → Type 0) → Option ℕ → ThreadProfiler C →
+    ThreadProfiler C → R → R → Result (Option Closed) Error → Type 0
+Ends answers accepts refuses None old new before after result =
+    (result ≡ Ok None) × (new ≡ old) × (after ≡ before)
+Ends answers accepts refuses (Some offset) old new before after (Ok None) = ⊥
+Ends answers accepts refuses (Some offset) old new before after (Ok (Some closed)) =
+    IsEnded answers accepts refuses offset old new before after closed
+Ends answers accepts refuses (Some offset) old new before after (Err e) =
+    IsMismatched offset old new before after e
+
+-- the innermost scope was ended at a moment, and stays with the thread
+pub record IsClosed {C : Type 0} (answers : C → ℤ → C → Type 0)
+    (old new : ThreadProfiler C) : Type 0 where
+  pub at : ℤ
+  pub answered : answers (clock_of old) at (clock_of new)
+  pub never_negative : pos 0 ≤ℤ at
+  pub ended : thread_of new ≡ after_end (thread_of old) at
+
+-- the scope at this offset was ended where it was the innermost; else nothing has changed
+pub record IsLeftAt {C : Type 0} (answers : C → ℤ → C → Type 0) (offset : ℕ)
+    (old new : ThreadProfiler C) : Type 0 where
+  pub innermost : innermost_of old ≡ Some offset → IsClosed answers old new
+  pub other : innermost_of old ≢ Some offset → new ≡ old
+
+-- What a drop leaves, of a guard with a scope at this offset or with none: nothing is handed over.
+abbrev pub IsLeft : {C : Type 0} → (C → ℤ → C → Type 0) → Option ℕ → ThreadProfiler C →
+    ThreadProfiler C → Type 0
+IsLeft answers None old new = new ≡ old
+IsLeft answers (Some offset) old new = IsLeftAt answers offset old new

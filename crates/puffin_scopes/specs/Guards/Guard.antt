@@ -1,0 +1,34 @@
+-- What contracts see of a guard.
+use Rattle.std.specs.Prelude.{ℕ, Option, Some, None}
+use Rattle.std.specs.Borrow.{GName}
+use Rattle.puffin_data.specs.declared.error.Error.{Error}
+use Rattle.puffin_frames.specs.declared.thread_profiler.profiler.ThreadProfiler.{ThreadProfiler}
+use Rattle.puffin_scopes.specs.declared.profiler_scope.Standing.{Standing}
+use Rattle.puffin_scopes.specs.declared.profiler_scope.Standing.TheVariants.{On, Off, Refused}
+use Rattle.puffin_scopes.specs.declared.profiler_scope.ProfilerScope.{ProfilerScope}
+
+-- the profiler as it stands
+abbrev pub profiler_of : {C : Type 0} → ProfilerScope C → ThreadProfiler C
+profiler_of scope = scope.profiler.now
+
+-- the name of the borrow that reaches it
+abbrev pub lender_of : {C : Type 0} → ProfilerScope C → GName
+lender_of scope = scope.profiler.ghost_name
+
+abbrev pub offset_in : Standing → Option ℕ
+offset_in (On offset) = Some offset
+offset_in Off = None
+offset_in (Refused e) = None
+
+abbrev pub refusal_in : Standing → Option Error
+refusal_in (On offset) = None
+refusal_in Off = None
+refusal_in (Refused e) = Some e
+
+-- where its scope's size stands
+abbrev pub offset_of : {C : Type 0} → ProfilerScope C → Option ℕ
+offset_of scope = offset_in scope.standing
+
+-- why it has no scope
+abbrev pub refusal_of : {C : Type 0} → ProfilerScope C → Option Error
+refusal_of scope = refusal_in scope.standing

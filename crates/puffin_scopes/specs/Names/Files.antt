@@ -1,0 +1,51 @@
+-- What is kept of a file's path.
+use Rattle.std.specs.Prelude.{codes, Bool, ℕ, suc, ◌+◌, ◌-◌, ◌==◌, if◌then◌else◌, nat_lt, List, [], ◌∷◌, map, length, Option, Some, None}
+use Rattle.std.specs.List.{slice_split, join_with_byte, slice_index_or}
+use Rattle.std.specs.Option.{option_map, option_or}
+use Rattle.std.specs.Str.{bytes_eq}
+
+-- a slash for each backslash
+abbrev pub slashed : List ℕ → List ℕ
+slashed path = map (λ b. if b == 92 then 47 else b) path
+
+-- `…`
+abbrev pub ellipsis : List ℕ
+ellipsis = 226 ∷ 128 ∷ 166 ∷ []
+
+abbrev pub is_src : List ℕ → Bool
+is_src part = bytes_eq part (codes "src")
+
+abbrev pub is_lib : List ℕ → Bool
+is_lib part = bytes_eq part (codes "lib.rs")
+
+-- the place of the last part that is `src`
+abbrev pub last_src : List (List ℕ) → Option ℕ
+last_src [] = None
+last_src (part ∷ parts) =
+    option_or (option_map suc (last_src parts)) (if is_src part then Some 0 else None)
+
+abbrev pub part_at : List (List ℕ) → ℕ → List ℕ
+part_at parts i = slice_index_or parts i []
+
+-- The folder that stands for the crate, and the file; between them what stands there, where it is one part. Of a `lib.rs` its folder is kept too.
+abbrev pub kept_in_crate : List (List ℕ) → ℕ → ℕ → List (List ℕ)
+kept_in_crate parts crate file =
+    if crate + 2 == file
+    then part_at parts crate ∷ part_at parts (crate + 1) ∷ part_at parts file ∷ []
+    else if is_lib (part_at parts file)
+    then part_at parts crate ∷ ellipsis ∷ part_at parts (file - 1) ∷ part_at parts file ∷ []
+    else part_at parts crate ∷ ellipsis ∷ part_at parts file ∷ []
+
+-- The crate's folder stands before the last `src`, or is that where nothing stands before it. Without `src` the last two parts are kept.
+abbrev pub kept_by : List (List ℕ) → Option ℕ → List (List ℕ)
+kept_by parts None =
+    part_at parts (length parts - 2) ∷ part_at parts (length parts - 1) ∷ []
+kept_by parts (Some src) = kept_in_crate parts (src - 1) (length parts - 1)
+
+-- all of at most two
+abbrev pub kept_parts : List (List ℕ) → List (List ℕ)
+kept_parts parts = if nat_lt 2 (length parts) then kept_by parts (last_src parts) else parts
+
+-- The parts between slashes that are kept, with slashes between them again.
+abbrev pub short_file : List ℕ → List ℕ
+short_file path = join_with_byte 47 (kept_parts (slice_split (λ b. b == 47) (slashed path)))

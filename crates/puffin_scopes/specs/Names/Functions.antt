@@ -1,0 +1,82 @@
+-- What is kept of a function's name.
+use Rattle.std.specs.Prelude.{codes, ℕ, zero, suc, ◌-◌, nat_eq, if◌then◌else◌, List, [], ◌∷◌, ◌++◌, length, take, drop, Option, Some, None}
+use Rattle.std.specs.List.{starts_with, ends_with}
+
+abbrev pub put_before : ℕ → List ℕ × List ℕ → List ℕ × List ℕ
+put_before b cut = (b ∷ cut.0, cut.1)
+
+abbrev pub cut_later_or_here : List ℕ → ℕ → List ℕ → Option (List ℕ × List ℕ) →
+    Option (List ℕ × List ℕ)
+cut_later_or_here word b text (Some cut) = Some (put_before b cut)
+cut_later_or_here word b text None =
+    if starts_with nat_eq (b ∷ text) word then Some ([], drop (length word) (b ∷ text)) else None
+
+-- what stands before the last place of a word in a text, and what stands after it
+abbrev pub last_cut : List ℕ → List ℕ → Option (List ℕ × List ℕ)
+last_cut word [] = None
+last_cut word (b ∷ text) = cut_later_or_here word b text (last_cut word text)
+
+-- what stands after that place, or else this
+abbrev pub after_cut_or : List ℕ → Option (List ℕ × List ℕ) → List ℕ
+after_cut_or other (Some cut) = cut.1
+after_cut_or other None = other
+
+-- what follows the last `::`, or all of a name without
+abbrev pub last_segment : List ℕ → List ℕ
+last_segment name = after_cut_or name (last_cut (codes "::") name)
+
+abbrev pub two_by : List ℕ → List ℕ → Option (List ℕ × List ℕ) → List ℕ
+two_by name last (Some cut) = cut.1 ++ (codes "::" ++ last)
+two_by name last None = name
+
+abbrev pub two_segments_by : List ℕ → Option (List ℕ × List ℕ) → List ℕ
+two_segments_by name (Some cut) = two_by name cut.1 (last_cut (codes "::") cut.0)
+two_segments_by name None = name
+
+-- the last two segments between `::`, or all of a name with fewer than three
+abbrev pub two_segments : List ℕ → List ℕ
+two_segments name = two_segments_by name (last_cut (codes "::") name)
+
+-- `<`, the type, ` as `, the trait, `>` and the rest. The type follows the last `<` of what stands before the ` as `, or is the whole name.
+abbrev pub short_impl : List ℕ → List ℕ → List ℕ → List ℕ → List ℕ
+short_impl name front trait_name rest =
+    codes "<" ++ (last_segment (after_cut_or name (last_cut (codes "<") front)) ++ (
+    codes " as " ++ (last_segment trait_name ++ (codes ">" ++ rest))))
+
+abbrev pub in_impl : List ℕ → List ℕ → Option (List ℕ × List ℕ) → List ℕ
+in_impl name front (Some cut) = short_impl name front cut.0 cut.1
+in_impl name front None = two_segments name
+
+abbrev pub shorten_by : List ℕ → Option (List ℕ × List ℕ) → List ℕ
+shorten_by name (Some cut) = in_impl name cut.0 (last_cut (codes ">") cut.1)
+shorten_by name None = two_segments name
+
+-- A function's name without the path of its type and trait, where the last `>` stands behind the last ` as `; else its last two segments.
+abbrev pub shorten : List ℕ → List ℕ
+shorten name = shorten_by name (last_cut (codes " as ") name)
+
+abbrev pub f_ending : List ℕ
+f_ending = codes "::f"
+
+abbrev pub closure_ending : List ℕ
+closure_ending = codes "::{{closure}}"
+
+-- without the last bytes, so many
+abbrev pub without_last : ℕ → List ℕ → List ℕ
+without_last n name = take (length name - n) name
+
+abbrev pub without_closures_by : ℕ → List ℕ → List ℕ
+without_closures_by zero name = name
+without_closures_by (suc n) name =
+    if ends_with nat_eq name closure_ending
+    then without_closures_by n (without_last 13 name) else name
+
+-- without all of these endings: there are no more of them than bytes
+abbrev pub without_closures : List ℕ → List ℕ
+without_closures name = without_closures_by (length name) name
+
+-- A name that ends in `::f` stands for what it is in, without closures and shortened. Another stays.
+abbrev pub clean : List ℕ → List ℕ
+clean name =
+    if ends_with nat_eq name f_ending
+    then shorten (without_closures (without_last 3 name)) else name

@@ -1,0 +1,172 @@
+//! Guards of scopes.
+
+use puffin_data::data::{ScopeId, StreamInfoRef};
+use puffin_data::{Error, Result};
+use puffin_frames::scope_details::ScopeDetails;
+use puffin_frames::thread_profiler::{Closed, NsSource, Reporter, ThreadInfo, ThreadProfiler};
+
+/// Refuses every report.
+#[derive(Drop)]
+struct Nobody;
+
+impl Reporter for Nobody {
+    ghost use Rattle.std.specs.Prelude.{⊤};
+
+    ghost accepts = { λ _ _ _ _ _. ⊥ };
+
+    ghost refuses = { λ _ _ _ _ _ _. ⊤ };
+
+    fn report(
+        &mut self,
+        _info: ThreadInfo,
+        _details: &[ScopeDetails],
+        _times: &StreamInfoRef,
+    ) -> Result<()> {
+        Err(Error::Empty)
+    }
+}
+
+/// What a guard stands for.
+#[derive(Clone, Copy, Debug, PartialEq, Eq)]
+enum Standing {
+    /// A scope whose size stands at this offset.
+    On(usize),
+    /// Nothing.
+    Off,
+    /// Nothing, since the scope's id or its beginning was refused.
+    Refused(Error),
+}
+
+/// A guard of a scope of a thread: the scope ends with it, at the latest where it is dropped.
+///
+/// It borrows the thread's profiler, which is reached by [`ProfilerScope::profiler`] meanwhile. The scope is the one that
+/// is open there at the guard's offset.
+pub struct ProfilerScope<'p, C: NsSource> {
+    profiler: &'p mut ThreadProfiler<C>,
+    standing: Standing,
+}
+
+impl<'p, C: NsSource> ProfilerScope<'p, C> {
+    ghost use Rattle.std.specs.Prelude.{◌≡◌, ◌⊎◌, None, Some, IfOk, IfErr};
+    ghost use Rattle.std.specs.Borrow.{sem, RestsIfErr};
+    ghost use Rattle.puffin_data.specs.declared.error.Error.{Error};
+    ghost use Rattle.puffin_frames.specs.contracts.thread_profiler.profiler.ThreadProfiler.{the_row as profiler_row};
+    ghost use Rattle.puffin_scopes.specs.Guards.Guard.{profiler_of, lender_of, offset_of, refusal_of};
+    ghost use Rattle.puffin_scopes.specs.Guards.Beginning.{IsOn, IsOff};
+    ghost use Rattle.puffin_scopes.specs.Guards.Ending.{Ends};
+
+    /// Begins a scope, as [`ThreadProfiler::begin_scope`] does. Refused only with `Memory`, and nothing is changed then.
+    #[inline]
+    pub fn new(
+        profiler: &'p mut ThreadProfiler<C>,
+        id: ScopeId,
+        text: &str,
+    ) -> Result<ProfilerScope<'p, C>>
+        ensures* refused { sem 𝓛 (
+            RestsIfErr (profiler_row C.row) profiler.entry lender_of result
+            (λ after. after ≡ profiler.old)) }
+        ensures same_reference { IfOk result (λ scope.
+            lender_of scope ≡ profiler.entry.ghost_name) }
+        ensures begun { IfOk result (λ scope.
+            IsOn C.answers profiler.old id text.now scope) }
+        ensures memory { IfErr result (λ e. e ≡ Error.Memory) }
+    {
+        let standing = Standing::On(profiler.begin_scope(id, text)?);
+        Ok(ProfilerScope { profiler, standing })
+    }
+
+    /// A guard without a scope.
+    #[inline]
+    pub fn off(profiler: &'p mut ThreadProfiler<C>) -> ProfilerScope<'p, C>
+        ensures same_reference { lender_of result ≡ profiler.entry.ghost_name }
+        ensures off { IsOff profiler.old None result }
+    {
+        let standing = Standing::Off;
+        ProfilerScope { profiler, standing }
+    }
+
+    /// Begins a scope under an id that may have been refused. Where it was, or where beginning is refused with `Memory`,
+    /// the guard has no scope, the profiler is as before, and [`ProfilerScope::refusal`] says why.
+    #[inline]
+    pub fn open(
+        profiler: &'p mut ThreadProfiler<C>,
+        id: Result<ScopeId>,
+        text: &str,
+    ) -> ProfilerScope<'p, C>
+        ensures same_reference { lender_of result ≡ profiler.entry.ghost_name }
+        ensures begun { IfOk id (λ number.
+            IsOn C.answers profiler.old number text.now result
+            ⊎ IsOff profiler.old (Some Error.Memory) result) }
+        ensures refused { IfErr id (λ e. IsOff profiler.old (Some e) result) }
+    {
+        let standing = match id {
+            Ok(id) => match profiler.begin_scope(id, text) {
+                Ok(offset) => Standing::On(offset),
+                Err(e) => Standing::Refused(e),
+            },
+            Err(e) => Standing::Refused(e),
+        };
+        ProfilerScope { profiler, standing }
+    }
+
+    /// The thread's profiler, for scopes within this one. What is done with it can end this guard's scope: the guard then
+    /// has none to end.
+    pub fn profiler(&mut self) -> &mut ThreadProfiler<C>
+        ensures { result.now ≡ profiler_of self.old }
+    {
+        &mut *self.profiler
+    }
+
+    /// Where its scope's size stands. `None` of a guard without a scope.
+    pub fn offset(&self) -> Option<usize>
+        ensures { result ≡ offset_of self.now }
+    {
+        match self.standing {
+            Standing::On(offset) => Some(offset),
+            Standing::Off | Standing::Refused(_) => None,
+        }
+    }
+
+    /// Why it has no scope, where one was refused.
+    pub fn refusal(&self) -> Option<Error>
+        ensures { result ≡ refusal_of self.now }
+    {
+        match self.standing {
+            Standing::Refused(e) => Some(e),
+            Standing::On(_) | Standing::Off => None,
+        }
+    }
+
+    /// Ends its scope, as [`ThreadProfiler::end_scope`] does. `Ok(None)` of a guard without a scope.
+    ///
+    /// Refused with `MismatchedEnd` alone, where its scope isn't the innermost: no scope is ended then, and the guard is
+    /// gone.
+    #[inline]
+    pub fn end<R: Reporter>(self, reporter: &mut R) -> Result<Option<Closed>>
+        ensures { Ends C.answers R.accepts R.refuses (offset_of self.entry)
+            (profiler_of self.entry) self.exit.0.now reporter.old reporter.new result }
+    {
+        let ProfilerScope { profiler, standing } = self;
+        match standing {
+            Standing::On(offset) => Ok(Some(profiler.end_scope(offset, reporter)?)),
+            Standing::Off | Standing::Refused(_) => Ok(None),
+        }
+    }
+}
+
+impl<C: NsSource> Drop for ProfilerScope<'_, C> {
+    ghost use Rattle.puffin_scopes.specs.Guards.Guard.{profiler_of, offset_of};
+    ghost use Rattle.puffin_scopes.specs.Guards.Ending.{IsLeft};
+
+    /// Ends its scope where that is the innermost, and hands over nothing: closed scopes wait for the thread's next report.
+    #[inline]
+    fn drop(self)
+        ensures left { IsLeft C.answers (offset_of self.entry)
+            (profiler_of self.entry) self.exit.0.now }
+    {
+        let ProfilerScope { profiler, standing } = self;
+        if let Standing::On(offset) = standing {
+            let _ = profiler.end_scope(offset, &mut Nobody);
+        }
+    }
+}

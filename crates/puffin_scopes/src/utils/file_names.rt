@@ -1,0 +1,81 @@
+//! Short names of files.
+
+ghost use Rattle.std.specs.Prelude.{◌≡◌, ◌<◌, ◌==◌, map, length, IfSome, IfOk, IfErr, string_bytes};
+ghost use Rattle.std.specs.List.{slice_split, join_with_byte};
+ghost use Rattle.puffin_data.specs.declared.error.Error.{Error};
+ghost use Rattle.puffin_scopes.specs.Names.Files.{slashed, short_file, kept_parts, last_src};
+
+use puffin_data::{Error, Result};
+use std::alloc::Global;
+
+/// A path cut down to the folder that stands for its crate, and the file: `crates/name/src/module/file.rs` becomes
+/// `name/…/file.rs`. A backslash counts as a slash.
+///
+/// Refused only with `Memory`.
+pub fn short_file_name(alloc: Global, path: &str) -> Result<String>
+    ensures ok { IfOk result (λ name. string_bytes name ≡ short_file path.now) }
+    ensures err { IfErr result (λ e. e ≡ Error.Memory) }
+{
+    let path = path.replace(alloc, '\\', "/")?;
+    shortened(alloc, &path)
+}
+
+/// The same of a path that has no backslash.
+fn shortened(alloc: Global, path: &str) -> Result<String>
+    ensures ok { IfOk result (λ name. string_bytes name
+        ≡ join_with_byte 47 (kept_parts (slice_split (λ b. b == 47) path.now))) }
+    ensures err { IfErr result (λ e. e ≡ Error.Memory) }
+{
+    let parts = parts(alloc, path)?;
+    if parts.len() <= 2 {
+        return Ok(String::from_str(alloc, path)?);
+    }
+    kept(alloc, &parts)
+}
+
+/// What stands between the slashes.
+fn parts(alloc: Global, path: &str) -> Result<Vec<&str>>
+    ensures ok { IfOk result (λ parts.
+        map (λ part. part.now) parts.items ≡ slice_split (λ b. b == 47) path.now) }
+    ensures err { IfErr result (λ e. e ≡ Error.Memory) }
+{
+    Ok(path.split('/').collect(alloc)?)
+}
+
+/// Where the last part stands that is `src`.
+fn last_src(parts: &[&str]) -> Option<usize>
+    ensures place { result ≡ last_src (map (λ part. part.now) parts.now) }
+    ensures below { IfSome result (λ place. place < length parts.now) }
+{
+    let mut last = None;
+    for i in 0..parts.len() {
+        if parts[i] == "src" {
+            last = Some(i);
+        }
+    }
+    last
+}
+
+/// The parts that are kept of three or more, with slashes between them.
+fn kept(alloc: Global, parts: &[&str]) -> Result<String>
+    requires { 2 < length parts.now }
+    ensures ok { IfOk result (λ name. string_bytes name
+        ≡ join_with_byte 47 (kept_parts (map (λ part. part.now) parts.now))) }
+    ensures err { IfErr result (λ e. e ≡ Error.Memory) }
+{
+    let last = parts.len() - 1;
+    let file = parts[last];
+    let folder = parts[last - 1];
+    let Some(src) = last_src(parts) else {
+        return Ok(format!(in alloc; "{folder}/{file}")?);
+    };
+    let first = src.saturating_sub(1);
+    let name = parts[first];
+    if first + 2 == last {
+        Ok(format!(in alloc; "{name}/{folder}/{file}")?)
+    } else if file == "lib.rs" {
+        Ok(format!(in alloc; "{name}/…/{folder}/{file}")?)
+    } else {
+        Ok(format!(in alloc; "{name}/…/{file}")?)
+    }
+}

@@ -1,0 +1,67 @@
+//! A program's own functions with scopes, as the README shows them.
+
+use crate::program::{Outcome, counts, main_thread, next_frame};
+use puffin::global_profiler::GlobalProfiler;
+use puffin::scope_details::ScopeIds;
+use puffin::thread_profiler::{NsSource, ThreadProfiler};
+use puffin::{Site, Switch, profile_function, profile_scope};
+
+/// What the threads of the program share.
+#[derive(Drop)]
+struct Scopes {
+    switch: Switch,
+    ids: ScopeIds,
+    load: Site,
+    count: Site,
+}
+
+impl Scopes {
+    fn new() -> Scopes {
+        Scopes {
+            switch: Switch::new(),
+            ids: ScopeIds::new(),
+            load: Site::new("src/load.rs", 30),
+            count: Site::new("src/load.rs", 32),
+        }
+    }
+}
+
+/// How many words a file has.
+fn load<C: NsSource>(thread: &mut ThreadProfiler<C>, scopes: &Scopes, file: &str) -> usize {
+    profile_function!(
+        guard,
+        thread,
+        scopes.switch,
+        &scopes.ids,
+        scopes.load,
+        "load"
+    );
+    let profiler = guard.profiler();
+    profile_scope!(
+        part,
+        profiler,
+        scopes.switch,
+        &scopes.ids,
+        scopes.count,
+        "load",
+        "count"
+    );
+    file.split(' ').count()
+}
+
+#[test]
+fn a_function_and_a_scope_in_it(rt: HostRuntime) -> Outcome {
+    let mut profiler = GlobalProfiler::new(rt.alloc());
+    let mut thread = main_thread(rt.alloc())?;
+    let scopes = Scopes::new();
+    assert_eq!(rt; load(&mut thread, &scopes, "of three words"), 3);
+    assert_eq!(rt; thread.report_closed(&mut profiler), Ok(false));
+    scopes.switch.set_scopes_on(true);
+    for expected in [(2, 62, 2), (2, 62, 0)] {
+        assert_eq!(rt; load(&mut thread, &scopes, "of three words"), 3);
+        assert_eq!(rt; thread.report_closed(&mut profiler), Ok(true));
+        let frame = next_frame(&mut profiler)?;
+        assert_eq!(rt; counts(&frame), expected);
+    }
+    Ok(())
+}

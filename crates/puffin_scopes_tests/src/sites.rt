@@ -1,0 +1,118 @@
+use crate::program::{Outcome, counts, main_thread, next_frame};
+use puffin::data::ScopeId;
+use puffin::frame_data::FrameData;
+use puffin::global_profiler::GlobalProfiler;
+use puffin::scope_details::ScopeIds;
+use puffin::{Error, ProfilerScope, Result, Site};
+use std::alloc::Global;
+use std::borrow::CowStr;
+use std::process::Abort;
+use std::sync::{Barrier, Wait};
+use std::test::Fail;
+use std::thread;
+
+/// A scope's name, its function, its file and its line.
+type Place<'d> = (&'d str, &'d str, &'d str, u32);
+
+/// The place of the only scope of which a frame tells, and its id.
+fn only_place<'f>(frame: &'f FrameData) -> Option<(Place<'f>, Option<ScopeId>)> {
+    let [details] = frame.scope_delta.as_slice() else {
+        return None;
+    };
+    let place = (
+        details.name().as_str(),
+        details.function_name.as_str(),
+        details.file_path.as_str(),
+        details.line_nr,
+    );
+    Some((place, details.scope_id()))
+}
+
+#[test]
+fn a_place_is_registered_once(rt: HostRuntime) -> Outcome {
+    let mut profiler = GlobalProfiler::new(rt.alloc());
+    let mut thread = main_thread(rt.alloc())?;
+    let ids = ScopeIds::new();
+    let site = Site::new("crates/shop/src/basket/add.rs", 7);
+    let first = site.function_id(&mut thread, &ids, "shop::basket::add::f")?;
+    let again = site.function_id(&mut thread, &ids, "shop::basket::add::f")?;
+    assert_eq!(rt; (first.get(), again.get()), (1, 1));
+    assert_eq!(rt; ids.draw()?.get(), 2);
+    let guard = ProfilerScope::new(&mut thread, first, "")?;
+    let _closed = guard.end(&mut profiler)?;
+    let frame = next_frame(&mut profiler)?;
+    assert_eq!(rt; counts(&frame), (1, 31, 1));
+    let expected = ("basket::add", "basket::add", "shop/…/add.rs", 7);
+    assert_eq!(rt; only_place(&frame), Some((expected, Some(first))));
+    Ok(())
+}
+
+#[test]
+fn a_scope_with_a_name(rt: HostRuntime) -> Outcome {
+    let mut profiler = GlobalProfiler::new(rt.alloc());
+    let mut thread = main_thread(rt.alloc())?;
+    let ids = ScopeIds::new();
+    let site = Site::new("src/add.rs", 9);
+    let sum = CowStr::Borrowed("sum");
+    let first = site.named_id(&mut thread, &ids, "add", sum)?;
+    let other = CowStr::Borrowed("unread");
+    assert_eq!(rt; site.named_id(&mut thread, &ids, "add", other), Ok(first));
+    let guard = ProfilerScope::new(&mut thread, first, "")?;
+    let _closed = guard.end(&mut profiler)?;
+    let frame = next_frame(&mut profiler)?;
+    let expected = ("sum", "add", "src/add.rs", 9);
+    assert_eq!(rt; only_place(&frame), Some((expected, Some(first))));
+    Ok(())
+}
+
+#[test]
+fn places_have_ids_of_their_own(rt: HostRuntime) -> Outcome {
+    let mut thread = main_thread(rt.alloc())?;
+    let ids = ScopeIds::new();
+    let (one, other) = (Site::new("a.rs", 1), Site::new("a.rs", 1));
+    let first = one.function_id(&mut thread, &ids, "f")?;
+    assert!(rt; other.function_id(&mut thread, &ids, "f")? != first);
+    Ok(())
+}
+
+#[test]
+fn a_refused_place_is_fresh_still(rt: HostRuntime) -> Outcome {
+    let mut thread = main_thread(rt.alloc())?;
+    let site = Site::new("a.rs", 1);
+    let none = ScopeIds::starting_at(4_294_967_296);
+    let refused = site.function_id(&mut thread, &none, "f");
+    assert_eq!(rt; refused.err(), Some(Error::IdsExhausted));
+    let ids = ScopeIds::starting_at(5);
+    assert_eq!(rt; site.function_id(&mut thread, &ids, "f")?.get(), 5);
+    Ok(())
+}
+
+/// The id that a thread of its own has of a place, once all threads have come.
+fn id_at_once(
+    rt: &impl Wait,
+    alloc: Global,
+    all: &Barrier,
+    site: &Site,
+    ids: &ScopeIds,
+) -> Result<u32> {
+    let mut thread = main_thread(alloc)?;
+    all.wait(rt);
+    Ok(site.function_id(&mut thread, ids, "f")?.get())
+}
+
+#[test]
+fn two_threads_at_a_fresh_place_use_one_id(rt: HostRuntime) -> std::result::Result<(), Fail> {
+    let alloc = rt.alloc();
+    for _ in 0..100 {
+        let site = Site::new("a.rs", 7);
+        let ids = ScopeIds::new();
+        let all = Barrier::new(2);
+        let (one, other) = thread::join(
+            &rt,
+            || id_at_once(&rt, alloc, &all, &site, &ids),
+            || id_at_once(&rt, alloc, &all, &site, &ids),
+        );
+        assert_eq!(rt; one?, other?);
+    }
+    Ok(())
+}

@@ -1,0 +1,206 @@
+ghost use Rattle.std.specs.Prelude.{IfOk};
+ghost use Rattle.puffin_data.specs.Forest.{Forest};
+ghost use Rattle.puffin_data.specs.Honesty.{IsHonest};
+
+use puffin::data::{Stream, StreamInfo};
+use puffin::frame_data::{FrameData, FrameIndex};
+use puffin::global_profiler::{FrameSink, FrameSinkId, GlobalProfiler, Sink, Totals};
+use puffin::profile_view::FrameView;
+use puffin::scope_details::ScopeDetails;
+use puffin::thread_profiler::ThreadInfo;
+use puffin::{Error, Result};
+use std::borrow::CowStr;
+use std::collections::BTreeMap;
+use std::sync::{Arc, Mutex, Wait};
+use std::test::Fail;
+
+type Outcome = std::result::Result<(), Fail>;
+
+/// Which sinks were handed which frames, in order.
+type Handed = Arc<Mutex<Vec<(u64, FrameIndex)>>>;
+
+/// Notes each frame that it is handed under its name, and refuses it or not.
+#[derive(Drop)]
+struct Noting<R: Wait> {
+    name: u64,
+    refuses: bool,
+    handed: Handed,
+    rt: R,
+}
+
+impl<R: Wait + Drop> FrameSink for Noting<R> {
+    ghost accepts = { λ _ _ _ _. Unit {0} };
+
+    fn accept(&mut self, frame: Arc<FrameData>) -> Result<()> {
+        let note = (self.name, frame.frame_index());
+        self.handed.lock(&self.rt).push(note)?;
+        if self.refuses {
+            Err(Error::NoThread)
+        } else {
+            Ok(())
+        }
+    }
+}
+
+/// A sink with a name. (A box of what waits can only be made where the runtime is at hand.)
+macro_rules! sink_named {
+    ($rt:expr, $handed:expr, $name:expr, $refuses:expr) => {{
+        let noting: Box<dyn FrameSink + Send> = Box::new(
+            $rt.alloc(),
+            Noting {
+                name: $name,
+                refuses: $refuses,
+                handed: Arc::try_clone($handed)?,
+                rt: $rt,
+            },
+        )?;
+        Sink::Boxed(noting)
+    }};
+}
+
+fn nothing_handed(rt: &HostRuntime) -> std::result::Result<Handed, Fail> {
+    Ok(Arc::new(rt.alloc(), Mutex::new(Vec::new(rt.alloc())))?)
+}
+
+/// Adds a sink, and returns its number.
+fn added(profiler: &mut GlobalProfiler, sink: Sink) -> std::result::Result<FrameSinkId, Fail> {
+    match profiler.add_sink(sink) {
+        Ok(id) => Ok(id),
+        Err((_error, _sink)) => Err(Fail::new("a sink is refused")),
+    }
+}
+
+/// One scope of a nanosecond, without a text.
+fn scope(rt: &HostRuntime) -> Result<StreamInfo>
+    ensures { IfOk result (λ info. (f : Forest) × IsHonest info f) }
+{
+    let mut bytes = Vec::from_slice(rt.alloc(), b"(\x01\0\0\0\x64\0\0\0\0\0\0\0\0")?;
+    bytes.extend_from_slice(b"\0\0\0\0\0\0\0\0)\x65\0\0\0\0\0\0\0")?;
+    StreamInfo::parse(rt.alloc(), Stream::from(bytes))
+}
+
+fn thread(rt: &HostRuntime) -> Result<ThreadInfo> {
+    Ok(ThreadInfo {
+        start_time_ns: None,
+        name: String::from_str(rt.alloc(), "a")?,
+    })
+}
+
+/// Reports one scope.
+fn report(rt: &HostRuntime, profiler: &mut GlobalProfiler) -> Result<()> {
+    let info = scope(rt)?;
+    profiler.report(thread(rt)?, &[], &info.as_stream_into_ref())
+}
+
+#[test]
+fn numbers_of_sinks(rt: HostRuntime) -> Outcome {
+    let handed = nothing_handed(&rt)?;
+    let mut profiler = GlobalProfiler::new(rt.alloc());
+    for number in 1..4u64 {
+        let id = added(&mut profiler, sink_named!(rt, &handed, number, false))?;
+        assert_eq!(rt; id, FrameSinkId(number));
+    }
+    assert!(rt; profiler.remove_sink(FrameSinkId(2)).is_some());
+    assert!(rt; profiler.remove_sink(FrameSinkId(2)).is_none());
+    let id = added(&mut profiler, sink_named!(rt, &handed, 4, false))?;
+    assert_eq!(rt; id, FrameSinkId(4));
+    Ok(())
+}
+
+/// What the sinks were handed.
+fn notes<R: Wait>(rt: &R, handed: &Handed) -> std::result::Result<Vec<(u64, FrameIndex)>, Fail> {
+    Ok(handed.lock(rt).clone()?)
+}
+
+#[test]
+fn a_sink_that_refuses_is_counted_and_the_next_is_called(rt: HostRuntime) -> Outcome {
+    let handed = nothing_handed(&rt)?;
+    let mut profiler = GlobalProfiler::new(rt.alloc());
+    for number in 1..4u64 {
+        let _id = added(&mut profiler, sink_named!(rt, &handed, number, number == 1))?;
+    }
+    assert!(rt; profiler.remove_sink(FrameSinkId(2)).is_some());
+    report(&rt, &mut profiler)?;
+    let emitted = profiler.new_frame(&rt)?;
+    assert!(rt; emitted.frame.is_some());
+    assert_eq!(rt; emitted.refused, 1);
+    assert_eq!(rt;
+        notes(&rt, &handed)?.as_slice(),
+        [(1, 0), (3, 0)].as_slice()
+    );
+    // Without a frame no sink is called.
+    let emitted = profiler.new_frame(&rt)?;
+    assert!(rt; emitted.frame.is_none());
+    assert_eq!(rt; emitted.refused, 0);
+    assert_eq!(rt; notes(&rt, &handed)?.len(), 2);
+    Ok(())
+}
+
+/// A frame of one scope with this index.
+fn frame_at(
+    rt: &HostRuntime,
+    frame_index: FrameIndex,
+) -> std::result::Result<Arc<FrameData>, Fail> {
+    let mut other = GlobalProfiler::with_frame_index(rt.alloc(), frame_index);
+    report(rt, &mut other)?;
+    Ok(other.collect_frame()?.ok_or("no frame")?)
+}
+
+#[test]
+fn a_frame_that_is_added_is_handed_on_and_not_counted(rt: HostRuntime) -> Outcome {
+    let handed = nothing_handed(&rt)?;
+    let mut profiler = GlobalProfiler::new(rt.alloc());
+    let _first = added(&mut profiler, sink_named!(rt, &handed, 1, false))?;
+    let _second = added(&mut profiler, sink_named!(rt, &handed, 2, true))?;
+    let frame = frame_at(&rt, 7)?;
+    assert_eq!(rt; profiler.add_frame(&rt, frame)?, 1);
+    assert_eq!(rt;
+        notes(&rt, &handed)?.as_slice(),
+        [(1, 7), (2, 7)].as_slice()
+    );
+    let none = Totals {
+        reported: 0,
+        pending: 0,
+        emitted: 0,
+    };
+    assert_eq!(rt; profiler.totals(), none);
+    Ok(())
+}
+
+#[test]
+fn a_view_is_a_sink(rt: HostRuntime) -> Outcome {
+    let view = Arc::new(rt.alloc(), Mutex::new(FrameView::new(rt.alloc())))?;
+    let mut profiler = GlobalProfiler::new(rt.alloc());
+    let id = added(&mut profiler, Sink::View(Arc::try_clone(&view)?))?;
+    for _ in 0..2 {
+        report(&rt, &mut profiler)?;
+        assert_eq!(rt; profiler.new_frame(&rt)?.refused, 0);
+    }
+    assert_eq!(rt; profiler.add_frame(&rt, frame_at(&rt, 9)?)?, 0);
+    assert!(rt; profiler.remove_sink(id).is_some());
+    report(&rt, &mut profiler)?;
+    assert!(rt; profiler.new_frame(&rt)?.frame.is_some());
+    let mut indices = Vec::new(rt.alloc());
+    for frame in view.lock(&rt).recent_frames() {
+        indices.push(frame.frame_index())?;
+    }
+    assert_eq!(rt; indices.as_slice(), [0, 1, 9].as_slice());
+    Ok(())
+}
+
+#[test]
+fn a_frame_with_details_without_an_id_is_refused(rt: HostRuntime) -> Outcome {
+    let handed = nothing_handed(&rt)?;
+    let mut profiler = GlobalProfiler::new(rt.alloc());
+    let _id = added(&mut profiler, sink_named!(rt, &handed, 1, false))?;
+    let nameless = ScopeDetails::from_scope_name(CowStr::Borrowed("no id"));
+    let mut delta = Vec::new(rt.alloc());
+    delta.push(Arc::new(rt.alloc(), nameless)?)?;
+    let mut streams = BTreeMap::new(rt.alloc());
+    let _none = streams.insert(thread(&rt)?, scope(&rt)?)?;
+    let frame = FrameData::new(rt.alloc(), 3, streams, delta, false)?;
+    let refused = profiler.add_frame(&rt, Arc::new(rt.alloc(), frame)?);
+    assert_eq!(rt; refused.err(), Some(Error::MissingId));
+    assert!(rt; notes(&rt, &handed)?.is_empty());
+    Ok(())
+}

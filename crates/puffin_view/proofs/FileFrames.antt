@@ -1,0 +1,65 @@
+-- Views of frames that were read.
+use Rattle.std.proofs.Common.{◌≡◌, ℕ, true, false, List, [], ◌∷◌, ◌++◌, map, refl, sym, ap, subst, ◌∙◌}
+use Rattle.std.specs.List.{flat_map}
+use Rattle.std.proofs.lemmas.List.{map-append, flat_map_more}
+use Rattle.std.proofs.lemmas.List.Sums.{fold-append}
+use Rattle.puffin_frames.specs.declared.frame_data.frame.FrameData.{FrameData}
+use Rattle.puffin_frames.specs.declared.frame_data.meta.FrameMeta.{FrameMeta}
+use Rattle.puffin_frames.specs.declared.frame_data.held.Held.{Held}
+use Rattle.puffin_frames.specs.declared.frame_data.held.Held.TheVariants.{Own, Shared, Packed, Both}
+use Rattle.puffin_frames.specs.Details.{Details}
+use Rattle.puffin_frames.specs.Details.Collection.{Collection, no_details, with_details, with_all_details}
+use Rattle.puffin_frames.specs.Packet.Stored.{Stored}
+use Rattle.puffin_frames.specs.Packet.Next.{stored_of, IsFresh}
+use Rattle.puffin_view.specs.declared.profile_view.frame_view.FrameView.{FrameView}
+use Rattle.puffin_view.specs.View.ViewedFrames.{Frame, contents_of}
+use Rattle.puffin_view.specs.View.FrameOf.{frame_of, details_of_frame}
+use Rattle.puffin_view.specs.View.{View, after_taking, after_all, Took}
+use Rattle.puffin_view.specs.View.Known.{view_of, collection_of}
+use Rattle.puffin_view.specs.View.File.{frame_stored, details_stored, read_view, IsViewOf}
+use Rattle.puffin_view.proofs.Taking.{Took-all, Took-none}
+
+-- ---- a frame that was read, as a view sees it
+
+abbrev frame_said : FrameMeta → List ℕ → List Details → Frame
+frame_said m streams ds = record { contents = record { meta = m; kind = 0; streams = streams; details = ds }; is_unpacked = true; is_packed = false }
+
+true_is_not_false : true ≡ false → ⊥
+true_is_not_false e = cc
+
+no_details_said : (m : FrameMeta) (streams : List ℕ) (ds : List Details) → ds ≡ [] → frame_said m streams ds ≡ frame_said m streams []
+no_details_said m streams ds e = ap (frame_said m streams) e
+
+fresh_by : (frame : FrameData) (h : Held) → IsFresh (record frame { held = h }) → frame_of (record frame { held = h }) ≡ frame_stored (stored_of (record frame { held = h }))
+fresh_by frame (Own u) fresh = no_details_said _ _ _ (fresh.no_details refl)
+fresh_by frame (Shared u) fresh = no_details_said _ _ _ (fresh.no_details refl)
+fresh_by frame (Packed p) fresh = refl
+fresh_by frame (Both b) fresh = absurd (true_is_not_false fresh.one_way)
+
+pub fresh_frame : (frame : FrameData) → IsFresh frame → frame_of frame ≡ frame_stored (stored_of frame)
+fresh_frame frame fresh = fresh_by frame frame.held fresh
+
+-- ---- one frame more
+
+after_last : (v : View) (fs : List Frame) (f : Frame) → after_all v (fs ++ f ∷ []) ≡ after_taking (after_all v fs) f
+after_last v [] f = refl
+after_last v (g ∷ fs) f = after_last (after_taking v g) fs f
+
+pub took_all : (fs : List Frame) → Took (map contents_of fs) (after_all read_view fs)
+took_all fs = Took-all read_view [] fs tt (Took-none read_view refl refl refl)
+
+pub view_of_frames : (stored : List Stored) (v : FrameView) → view_of v ≡ after_all read_view (map frame_stored stored) → collection_of v ≡ with_all_details no_details (flat_map details_stored stored) → IsViewOf stored v
+view_of_frames stored v frames details = record {
+  frames = frames;
+  took = subst (λ (w : View). Took (map contents_of (map frame_stored stored)) w) (sym frames) (took_all (map frame_stored stored));
+  details = details;
+}
+
+pub view_of_more : (stored : List Stored) (s : Stored) (f : Frame) (v w : FrameView) → f ≡ frame_stored s → IsViewOf stored v → view_of w ≡ after_taking (view_of v) f
+    → collection_of w ≡ with_all_details (collection_of v) (details_of_frame f) → IsViewOf (stored ++ s ∷ []) w
+view_of_more stored s f v w is h taken learnt =
+    let frames = map frame_stored stored in
+    view_of_frames (stored ++ s ∷ []) w
+    (taken ∙ (ap (λ (u : View). after_taking u f) h.frames ∙ (ap (after_taking (after_all read_view frames)) is ∙ (sym (after_last read_view frames (frame_stored s)) ∙ ap (after_all read_view) (sym (map-append frame_stored stored (s ∷ [])))))))
+    (learnt ∙ (ap (λ (c : Collection). with_all_details c (details_of_frame f)) h.details ∙ (ap (λ (g : Frame). with_all_details (with_all_details no_details (flat_map details_stored stored)) (details_of_frame g)) is
+    ∙ (sym (fold-append with_details no_details (flat_map details_stored stored) (details_stored s)) ∙ ap (with_all_details no_details) (flat_map_more details_stored [] stored s)))))

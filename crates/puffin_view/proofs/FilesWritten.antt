@@ -1,0 +1,143 @@
+-- Files of frames, written packet after packet, and read again.
+use Rattle.std.proofs.Common.{◌≡◌, ℕ, suc, ◌+◌, ◌-◌, ◌^◌, ◌<◌, Bool, true, false, cond, ◌||◌, List, [], ◌∷◌, ◌++◌, length, drop, map, Option, None, Some, Result, Ok, Err, ◌⊎◌, inl, inr, refl, sym, ap, subst, ◌∙◌, append_assoc, arith}
+use Rattle.std.specs.List.{flat_map, AllByRecursion, Any, list_any}
+use Rattle.std.specs.Io.KnownBytes.{Appends}
+use Rattle.std.proofs.KnownBytes.{Appends-trans}
+use Rattle.std.proofs.lemmas.List.{append_cancel_left, flat_map_more}
+use Rattle.std.proofs.lemmas.Grind.{flat_map-append}
+use Rattle.puffin_data.specs.declared.file_error.FileError.{FileError}
+use Rattle.puffin_data.specs.declared.file_error.FileError.TheVariants as file
+use Rattle.puffin_data.specs.Part.{◌>>=◌}
+use Rattle.puffin_data.specs.Value.Layout.{NoneBeginsAnother}
+use Rattle.puffin_data.specs.Device.{WritesBeginning}
+use Rattle.puffin_data.specs.declared.error.Error.TheVariants.{MissingId}
+use Rattle.puffin_frames.specs.Packet.Stored.{Said, Stored, packed}
+use Rattle.puffin_frames.specs.Packet.Front.{next_at, is_end}
+use Rattle.puffin_frames.specs.Packet.Grammar.{packet_head, packet, IsPacked}
+use Rattle.puffin_frames.specs.Packet.Writing.{HasLongPart}
+use Rattle.puffin_view.specs.View.ViewedFrames.{Frame, contents_of}
+use Rattle.puffin_view.specs.View.Known.{lacks_ids}
+use Rattle.puffin_view.specs.View.File.{magic, file_of, with_ids, frames_from, frames_at, most_packets, file_at}
+
+-- ---- a file grows
+
+pub file_more : (done : List Said) (c : Said) → file_of done ++ packet c ≡ file_of (done ++ c ∷ [])
+file_more done c = flat_map_more packet magic done c
+
+file_with : (done left : List Said) → file_of (done ++ left) ≡ file_of done ++ flat_map packet left
+file_with done left = ap (λ (t : List ℕ). magic ++ t) (flat_map-append packet done left) ∙ sym (append_assoc magic (flat_map packet done) (flat_map packet left))
+
+pub all_more : (done : List Said) (c : Said) → AllByRecursion IsPacked done → IsPacked c → AllByRecursion IsPacked (done ++ c ∷ [])
+all_more [] c h p = (p, tt)
+all_more (d ∷ done) c h p = (h.0, all_more done c h.1 p)
+
+-- the frames that are left begin with one
+pub one_left : (done : List Said) (c : Said) (f : Frame) (now next : List Frame) (cs : List Said) → cs ≡ done ++ map contents_of now → now ≡ f ∷ next → c ≡ contents_of f → cs ≡ done ++ c ∷ map contents_of next
+one_left done c f now next cs is left same =
+    is ∙ (ap (λ (fs : List Frame). done ++ map contents_of fs) left ∙ ap (λ (d : Said). done ++ d ∷ map contents_of next) (sym same))
+
+pub magic_begins : (old new : Option (List ℕ)) (cs : List Said) → WritesBeginning old new magic → WritesBeginning old new (file_of cs)
+magic_begins old new cs h = (h.0, h.1 ++ flat_map packet cs, ap (λ (t : List ℕ). t ++ flat_map packet cs) h.2 ∙ append_assoc h.0 h.1 (flat_map packet cs), h.3)
+
+-- of a packet, a beginning was written
+begun_in : (old mid new : Option (List ℕ)) (done : List Said) (c : Said) (left : List Said) → Appends old mid (file_of done) → WritesBeginning mid new (packet c) → WritesBeginning old new (file_of (done ++ c ∷ left))
+begun_in old mid new done c left first h =
+    let rest = flat_map packet left in (
+      file_of done ++ h.0,
+      h.1 ++ rest,
+      file_with done (c ∷ left) ∙ (ap (λ (t : List ℕ). file_of done ++ (t ++ rest)) h.2 ∙ (ap (λ (t : List ℕ). file_of done ++ t) (append_assoc h.0 h.1 rest) ∙ sym (append_assoc (file_of done) h.0 (h.1 ++ rest)))),
+      Appends-trans old mid new (file_of done) h.0 first h.3,
+    )
+
+-- of a packet, nothing was written
+begun_before : (old new : Option (List ℕ)) (done left : List Said) → Appends old new (file_of done) → WritesBeginning old new (file_of (done ++ left))
+begun_before old new done left first = (file_of done, flat_map packet left, file_with done left, first)
+
+abbrev Cause : FileError → Type 0
+Cause e = (e ≡ file.PartTooLong) ⊎ (e ≡ file.Memory) ⊎ (e ≡ file.Io)
+
+not_io_long : file.PartTooLong ≡ file.Io → ⊥
+not_io_long e = cc
+
+not_io_memory : file.Memory ≡ file.Io → ⊥
+not_io_memory e = cc
+
+pub begun : (old mid new : Option (List ℕ)) (done : List Said) (c : Said) (left cs : List Said) (e : FileError) → cs ≡ done ++ c ∷ left → Appends old mid (file_of done)
+    → (e ≡ file.Io → WritesBeginning mid new (packet c)) → ((e ≡ file.Io → ⊥) → new ≡ mid) → Cause e → WritesBeginning old new (file_of cs)
+begun old mid new done c left cs e is first io other (inl long) =
+    subst (λ (ds : List Said). WritesBeginning old new (file_of ds)) (sym is)
+    (begun_before old new done (c ∷ left) (subst (λ (d : Option (List ℕ)). Appends old d (file_of done)) (sym (other (λ at. not_io_long (sym long ∙ at)))) first))
+begun old mid new done c left cs e is first io other (inr (inl memory)) =
+    subst (λ (ds : List Said). WritesBeginning old new (file_of ds)) (sym is)
+    (begun_before old new done (c ∷ left) (subst (λ (d : Option (List ℕ)). Appends old d (file_of done)) (sym (other (λ at. not_io_memory (sym memory ∙ at)))) first))
+begun old mid new done c left cs e is first io other (inr (inr at)) =
+    subst (λ (ds : List Said). WritesBeginning old new (file_of ds)) (sym is) (begun_in old mid new done c left first (io at))
+
+-- a frame among others
+pub any_of : (done : List Said) (c : Said) (left cs : List Said) → cs ≡ done ++ c ∷ left → HasLongPart c → Any HasLongPart cs
+any_of done c left cs is long = subst (λ (ds : List Said). Any HasLongPart ds) (sym is) (among done c left long)
+  where
+    among : (done : List Said) (c : Said) (left : List Said) → HasLongPart c → Any HasLongPart (done ++ c ∷ left)
+    among [] c left long = (0, c, omega arith, refl, long)
+    among (d ∷ done) c left long = let h = among done c left long in (suc h.0, h.1, omega (arith, h.2), h.3, h.4)
+
+-- ---- and is read again
+
+abbrev pub Again : Type 0
+Again = (p : Said) (rest : List ℕ) → IsPacked p → next_at (packet p ++ rest) ≡ Ok (Some (packed p), rest)
+
+abbrev pub Answer : Type 0
+Answer = Result (List Stored × List ℕ) FileError
+
+abbrev pub unless_missing : Bool → List Stored → List ℕ → Answer
+unless_missing b frames rest = cond b (Err (file.Refused MissingId)) (Ok (frames, rest))
+
+one_before : (b d : Bool) (s : Stored) (frames : List Stored) (rest : List ℕ)
+    → (cond b (Err (file.Refused MissingId)) (Ok s) >>= λ first. unless_missing d frames rest >>= λ o. Ok (first ∷ o.0, o.1)) ≡ unless_missing (b || d) (s ∷ frames) rest
+one_before true d s frames rest = refl
+one_before false true s frames rest = refl
+one_before false false s frames rest = refl
+
+end_again : (end : List ℕ) → is_end end ≡ true → next_at end ≡ Ok (None, drop 4 end)
+unfolding next_at
+end_again end stops = rw stops refl
+
+packets_again : (k : ℕ) (cs : List Said) (end : List ℕ) → Again → AllByRecursion IsPacked cs → is_end end ≡ true
+    → frames_at (suc k + length cs) (flat_map packet cs ++ end) ≡ unless_missing (list_any lacks_ids cs) (map packed cs) (drop 4 end)
+packets_again k [] end again all stops =
+    let one : suc k + 0 ≡ suc k = omega arith in
+    ap (λ (n : ℕ). frames_at n end) one ∙ rw (end_again end stops) refl
+packets_again k (c ∷ cs) end again all stops =
+    let one : suc k + suc (length cs) ≡ suc (suc k + length cs) = omega arith in
+    let bytes = flat_map packet cs ++ end in
+    let n = suc k + length cs in
+    ap (λ (m : ℕ). frames_at m ((packet c ++ flat_map packet cs) ++ end)) one
+    ∙ (ap (frames_at (suc n)) (append_assoc (packet c) (flat_map packet cs) end)
+    ∙ (ap (λ (r : Result (Option Stored × List ℕ) FileError). r >>= λ next. frames_from (frames_at n) next.0 next.1) (again c bytes all.0)
+    ∙ (ap (λ (r : Answer). with_ids (packed c) >>= λ first. r >>= λ o. Ok (first ∷ o.0, o.1)) (packets_again k cs end again all.1 stops)
+    ∙ one_before (lacks_ids c) (list_any lacks_ids cs) (packed c) (map packed cs) (drop 4 end))))
+
+room : (n : ℕ) → n < 2 ^ 64 - 1 → suc (most_packets - suc n) + n ≡ most_packets
+unfolding most_packets
+room n lt = omega arith
+
+pub file_again : (cs : List Said) (end : List ℕ) → Again → AllByRecursion IsPacked cs → length cs < 2 ^ 64 - 1 → is_end end ≡ true → file_at (file_of cs ++ end) ≡ unless_missing (list_any lacks_ids cs) (map packed cs) (drop 4 end)
+file_again cs end again all few stops =
+    ap (λ (n : ℕ). frames_at n (flat_map packet cs ++ end)) (sym (room (length cs) few)) ∙ packets_again (most_packets - suc (length cs)) cs end again all stops
+
+-- ---- one list of frames
+
+some_bytes : (d : Said) (x : List ℕ) → [] ≡ packet d ++ x → ⊥
+unfolding packet_head
+some_bytes d x e = absurd (omega (arith, ap length e))
+
+packets_apart : (cs ds : List Said) → NoneBeginsAnother IsPacked packet → AllByRecursion IsPacked cs → AllByRecursion IsPacked ds → flat_map packet cs ≡ flat_map packet ds → cs ≡ ds
+packets_apart [] [] alone p q e = refl
+packets_apart [] (d ∷ ds) alone p q e = absurd (some_bytes d (flat_map packet ds) e)
+packets_apart (c ∷ cs) [] alone p q e = absurd (some_bytes c (flat_map packet cs) (sym e))
+packets_apart (c ∷ cs) (d ∷ ds) alone p q e =
+    let h = alone c d (flat_map packet cs) (flat_map packet ds) p.0 q.0 e in
+    ap (λ (x : Said). x ∷ cs) h.0 ∙ ap (λ (xs : List Said). d ∷ xs) (packets_apart cs ds alone p.1 q.1 h.1)
+
+pub files_apart : (cs ds : List Said) → NoneBeginsAnother IsPacked packet → AllByRecursion IsPacked cs → AllByRecursion IsPacked ds → file_of cs ≡ file_of ds → cs ≡ ds
+files_apart cs ds alone p q e = packets_apart cs ds alone p q (append_cancel_left magic (flat_map packet cs) (flat_map packet ds) e)

@@ -1,0 +1,7 @@
+use Rattle.std.proofs.Common.{ap, ◌∙◌}
+use Rattle.puffin_view.specs.View.Stats.{stats_of}
+use Rattle.puffin_view.proofs.HoldingViews.{stats_summed}
+use Rattle.puffin_view.proofs.profile_view.held_frames.HeldFrames.stats.Goals as goal
+
+pub returns : goal.returns
+returns c = c.stats.ensures ∙ stats_summed c.self.inside.frames.entries c.self.inside.sums c.self.invariant ∙ ap (λ m. stats_of (Rattle.std.specs.FinMap.values m)) c.self.view_is

@@ -1,0 +1,10 @@
+use Rattle.std.proofs.Common.{◌≡◌, length}
+use Rattle.puffin_view.specs.View.Listings.{slowest_left}
+use Rattle.puffin_view.proofs.profile_view.listings.SlowestFramesIterator.next.Given as goal
+
+-- a frame that isn't slow is passed over
+abbrev pub invariant-loop-frame : goal.invariant-loop-frame
+invariant-loop-frame l = slowest_left l.self ≡ slowest_left l.fn.self
+
+abbrev pub decreases-loop-frame : goal.decreases-loop-frame
+decreases-loop-frame l = length l.self.rest

@@ -1,0 +1,137 @@
+-- What contracts see of a view.
+pub mod Ranking
+pub mod ViewedFrames
+pub mod FrameOf
+pub mod Known
+pub mod File
+pub mod Selection
+pub mod Stats
+pub mod Listings
+use Rattle.std.specs.Prelude.{ℕ, ◌≤◌, Bool, true, false, cond, List, [], ◌∷◌, ◌++◌, Option, Some, None, nat_lt, nat_le, int_lt, ◌||◌, ◌≡◌, ◌⊎◌, map, length, take}
+use Rattle.std.specs.Option.{option_map_or, option_map}
+use Rattle.std.specs.List.{AllByRecursion}
+use Rattle.puffin_view.specs.View.Ranking.{place, last_of, last_in}
+use Rattle.puffin_frames.specs.Packet.Stored.{Said}
+use Rattle.puffin_view.specs.View.ViewedFrames.{Frame, is_slower_frame, slowest, contents_of, frame_index, index_of, duration_of, packed_under, rising_end, chronological}
+
+-- ---- what a view holds
+
+pub record View : Type 0 where
+  -- the last frames, oldest first
+  pub recent : List Frame
+  -- the slowest frames, by falling duration, then rising index
+  pub slow : List Frame
+  -- the index of the last frame taken
+  pub last : Option ℕ
+  pub max_recent : ℕ
+  pub max_slow : ℕ
+  -- whether the newest frame is packed before another is taken
+  pub packs : Bool
+
+-- a view that has taken no frame
+abbrev pub empty_view : View
+empty_view =
+    record { recent = []; slow = []; last = None; max_recent = 1000; max_slow = 256; packs = true }
+
+-- the view's frames are, by what they say, the last of cs and the slowest of ds
+pub record Holds (cs ds : List Said) (v : View) : Type 0 where
+  pub recent : map contents_of v.recent ≡ last_of v.max_recent cs
+  pub slow : map contents_of v.slow ≡ slowest v.max_slow ds
+
+-- the index of the last of a list
+abbrev pub last_index : List Said → Option ℕ
+last_index cs = option_map frame_index (last_in cs)
+
+-- a view that took frames that say cs, and whose limits weren't changed since its first frame
+pub record Took (cs : List Said) (v : View) : Type 0 where
+  pub holds : Holds (rising_end cs) (rising_end cs) v
+  pub last : v.last ≡ last_index cs
+
+-- all frames of the view, each once, by rising index
+abbrev pub all_uniq : View → List Frame
+all_uniq v = chronological (v.recent ++ v.slow)
+
+-- an index is among those up to the last one taken
+abbrev pub IsUpTo : Option ℕ → ℕ → Type 0
+IsUpTo None i = ⊥
+IsUpTo (Some last) i = i ≤ last
+
+-- each slow frame was taken no later than the last
+abbrev pub IsSteady : View → Type 0
+IsSteady v = AllByRecursion (λ f. IsUpTo v.last (index_of f)) v.slow
+
+-- ---- the same step by step: what each call makes of a view
+
+-- the view as if it hadn't taken a frame
+abbrev pub emptied : View → View
+emptied v = record {
+  recent = [];
+  slow = [];
+  last = None;
+  max_recent = v.max_recent;
+  max_slow = v.max_slow;
+  packs = v.packs;
+}
+
+-- the view with the frame of an index packed, in both lists
+abbrev pub with_packed : ℕ → View → View
+with_packed i v = record {
+  recent = map (packed_under i) v.recent;
+  slow = map (packed_under i) v.slow;
+  last = v.last;
+  max_recent = v.max_recent;
+  max_slow = v.max_slow;
+  packs = v.packs;
+}
+
+-- the view with its newest frame packed
+abbrev pub with_newest_packed : View → View
+with_newest_packed v = option_map_or (λ f. with_packed (index_of f) v) (last_in v.recent) v
+
+-- whether an index isn't above the last one taken
+abbrev pub is_past : View → ℕ → Bool
+is_past v i = option_map_or (λ last. nat_le i last) v.last false
+
+-- what a view is before it takes a frame of an index: empty where that index isn't above the last taken, else with the
+-- newest frame packed where packing is on
+abbrev pub ready_for : View → ℕ → View
+ready_for v i = cond (is_past v i) (emptied v) (cond v.packs (with_newest_packed v) v)
+
+-- whether a frame comes among the k slowest: where there is room, or where it is longer than the last of them
+abbrev pub enters_among : ℕ → List Frame → Frame → Bool
+enters_among k slow f =
+    nat_lt (length slow) k || option_map_or (λ g. int_lt (duration_of g) (duration_of f))
+    (last_in slow) false
+
+-- the k slowest after one more: where it comes among them, they are cut after it is put in its place
+abbrev pub slow_after : ℕ → List Frame → Frame → List Frame
+slow_after k slow f = cond (enters_among k slow f) (take k (place is_slower_frame f slow)) slow
+
+abbrev pub enters : View → Frame → Bool
+enters v f = enters_among v.max_slow v.slow f
+
+-- the view with a frame after all others
+abbrev pub joined_by : View → Frame → View
+joined_by v f = record {
+  recent = last_of v.max_recent (v.recent ++ f ∷ []);
+  slow = slow_after v.max_slow v.slow f;
+  last = Some (index_of f);
+  max_recent = v.max_recent;
+  max_slow = v.max_slow;
+  packs = v.packs;
+}
+
+-- the view after it took a frame
+abbrev pub after_taking : View → Frame → View
+after_taking v f = joined_by (ready_for v (index_of f)) f
+
+-- what a view is that had no memory for a frame of an index: as it was, or with its newest frame packed, where it packs and
+-- that index is above the last one taken
+abbrev pub KeepsFrames : View → ℕ → View → Type 0
+KeepsFrames old i new =
+    (new ≡ old) ⊎ ((is_past old i ≡ false) × (old.packs ≡ true) × (new ≡ with_newest_packed old))
+
+-- after frames that it took in order
+abbrev pub after_all : View → List Frame → View
+after_all v [] = v
+after_all v (f ∷ fs) = after_all (after_taking v f) fs

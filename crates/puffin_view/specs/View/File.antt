@@ -1,0 +1,132 @@
+-- Files of frames: what they hold, and what a call that reads one promises.
+use Rattle.std.specs.Prelude.{◌≡◌, ◌⊎◌, ◌&&◌, ◌==◌, ◌^◌, ◌-◌, ℕ, zero, suc, Bool, true, false, List, [], ◌∷◌, ◌++◌, Option, Some, None, Result, Ok, Err, map, drop, slice_index, if◌then◌else◌}
+use Rattle.std.specs.List.{flat_map}
+use Rattle.std.specs.Io.KnownBytes.{Consumes, IsAtEnd}
+use Rattle.puffin_data.specs.declared.error.Error.TheVariants.{MissingId}
+use Rattle.puffin_data.specs.declared.file_error.FileError.{FileError}
+use Rattle.puffin_data.specs.declared.file_error.FileError.TheVariants as file
+use Rattle.puffin_data.specs.Part.{◌>>=◌}
+use Rattle.puffin_frames.specs.Details.{Details}
+use Rattle.puffin_frames.specs.Details.Collection.{no_details, with_all_details}
+use Rattle.puffin_frames.specs.Packet.Structs.{Legacy, streams_layout}
+use Rattle.puffin_frames.specs.Packet.Stored.{Said, Stored, packed, legacy}
+use Rattle.puffin_frames.specs.Packet.Front.{next_at}
+use Rattle.puffin_frames.specs.Packet.Grammar.{packet}
+use Rattle.puffin_view.specs.declared.profile_view.frame_view.FrameView.{FrameView}
+use Rattle.puffin_view.specs.View.ViewedFrames.{Frame, contents_of}
+use Rattle.puffin_view.specs.View.FrameOf.{details_of_frame}
+use Rattle.puffin_view.specs.View.{View, empty_view, after_all, all_uniq, Took}
+use Rattle.puffin_view.specs.View.Known.{view_of, collection_of, lacks_ids}
+
+-- ---- what is written
+
+-- `PUF0`
+abbrev pub magic : List ℕ
+magic = 80 ∷ 85 ∷ 70 ∷ 48 ∷ []
+
+-- the letters, and then a packet of each frame
+abbrev pub file_of : List Said → List ℕ
+file_of cs = magic ++ flat_map packet cs
+
+-- what the frames of both lists of a view say
+abbrev pub contents_held : View → List Said
+contents_held v = map contents_of (v.recent ++ v.slow)
+
+-- what the frames of a view say, each once, by rising index
+abbrev pub contents_in : View → List Said
+contents_in v = map contents_of (all_uniq v)
+
+-- ---- frames that are read
+
+-- what a frame says that was written at first: it has no details
+abbrev pub said_at_first : Legacy → Said
+said_at_first l =
+    record { meta = l.meta; kind = 0; streams = streams_layout l.streams; details = [] }
+
+-- a frame that was read, as a view sees it
+abbrev pub frame_stored : Stored → Frame
+frame_stored (packed p) = record { contents = p; is_unpacked = false; is_packed = true }
+frame_stored (legacy l) =
+    record { contents = said_at_first l; is_unpacked = true; is_packed = false }
+
+-- the details that it tells
+abbrev pub details_stored : Stored → List Details
+details_stored s = details_of_frame (frame_stored s)
+
+-- a frame all of whose details have an id
+abbrev pub with_ids : Stored → Result Stored FileError
+with_ids s = if lacks_ids (contents_of (frame_stored s)) then Err (file.Refused MissingId) else Ok s
+
+-- the frames from one on, where there is one
+abbrev pub frames_from : (List ℕ → Result (List Stored × List ℕ) FileError) → Option Stored →
+    List ℕ → Result (List Stored × List ℕ) FileError
+frames_from read None rest = Ok ([], rest)
+frames_from read (Some s) rest = do
+  frame ← with_ids s
+  others ← read rest
+  Ok (frame ∷ others.0, others.1)
+
+-- all frames up to the end, of which there are fewer than a limit, and the bytes after it; or the first fault
+abbrev pub frames_at : ℕ → List ℕ → Result (List Stored × List ℕ) FileError
+frames_at zero bytes = Err file.Truncated
+frames_at (suc n) bytes = do
+  next ← next_at bytes
+  frames_from (frames_at n) next.0 next.1
+
+-- after so many packets a file isn't read on
+unfoldable pub most_packets : ℕ
+most_packets = 2 ^ 64 - 1
+
+abbrev pub begins_file : List ℕ → Bool
+begins_file bytes =
+    (slice_index bytes 0 == 80) && (slice_index bytes 1 == 85) && (slice_index bytes 2 == 70) &&
+    (slice_index bytes 3 == 48)
+
+-- the frames of a file, and the bytes after it
+abbrev pub file_at : List ℕ → Result (List Stored × List ℕ) FileError
+file_at bytes = if begins_file bytes then frames_at most_packets (drop 4 bytes) else Err file.NoMagic
+
+-- ---- devices
+
+-- A reading, which gives all frames and what follows them.
+abbrev pub FramesReading : Type 0
+FramesReading = List ℕ → Result (List Stored × List ℕ) FileError
+
+-- The bytes that were taken from a device are read as these frames: whatever follows, or else the device is at its end.
+pub record TookFrames (read : FramesReading) (old new : Option (List ℕ)) (frames : List Stored) : Type 0 where
+  pub taken : List ℕ
+  pub consumed : Consumes old new taken
+  pub given : read taken ≡ Ok (frames, [])
+  pub last : ((rest : List ℕ) → read (taken ++ rest) ≡ Ok (frames, rest)) ⊎ IsAtEnd new
+
+-- The bytes that were taken from a device have this fault: whatever follows, or else the device is at its end.
+pub record TookFault (read : FramesReading) (old new : Option (List ℕ)) (fault : FileError) : Type 0 where
+  pub taken : List ℕ
+  pub consumed : Consumes old new taken
+  pub fails : read taken ≡ Err fault
+  pub last : ((rest : List ℕ) → read (taken ++ rest) ≡ Err fault) ⊎ IsAtEnd new
+
+-- why a call failed, unless device or memory did
+abbrev pub FailsToRead : FramesReading → Option (List ℕ) → Option (List ℕ) → FileError → Type 0
+FailsToRead read old new file.Io = Unit {0}
+FailsToRead read old new file.Memory = Unit {0}
+FailsToRead read old new fault = TookFault read old new fault
+
+-- ---- views that are read
+
+-- an empty view that keeps all recent frames
+abbrev pub read_view : View
+read_view = record empty_view { max_recent = 2 ^ 64 - 1 }
+
+-- The view took these frames and no others, in order, and learnt their details.
+pub record IsViewOf (stored : List Stored) (v : FrameView) : Type 0 where
+  pub took : Took (map contents_of (map frame_stored stored)) (view_of v)
+  pub frames : view_of v ≡ after_all read_view (map frame_stored stored)
+  pub details : collection_of v ≡ with_all_details no_details (flat_map details_stored stored)
+
+-- A call read a view from a device: it is the view of the frames that were taken.
+abbrev pub ReadsView : FramesReading → Option (List ℕ) → Option (List ℕ) →
+    Result FrameView FileError → Type 0
+ReadsView read old new (Ok view) =
+    (frames : List Stored) × TookFrames read old new frames × IsViewOf frames view
+ReadsView read old new (Err fault) = FailsToRead read old new fault

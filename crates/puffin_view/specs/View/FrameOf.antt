@@ -1,0 +1,30 @@
+-- Frames of the code, as a view sees them.
+use Rattle.std.specs.Prelude.{List, map, is_some}
+use denote.Ref.{Bor}
+use Rattle.std.specs.Arc.{arc_value}
+use Rattle.std.specs.declared.sync.Arc.{Arc}
+use Rattle.puffin_frames.specs.declared.frame_data.frame.FrameData.{FrameData}
+use Rattle.puffin_frames.specs.Frame.Contents.{frame_says, holding_of}
+use Rattle.puffin_frames.specs.Details.{Details}
+use Rattle.puffin_view.specs.View.ViewedFrames.{Frame}
+
+abbrev pub frame_of : FrameData → Frame
+frame_of f = record {
+  contents = frame_says f;
+  is_unpacked = is_some (holding_of f).unpacked;
+  is_packed = is_some (holding_of f).packed;
+}
+
+abbrev pub shared_frame : {A : Type 0} → Arc FrameData A → Frame
+shared_frame arc = frame_of (arc_value arc)
+
+abbrev pub frames_of : {A : Type 0} → List (Arc FrameData A) → List Frame
+frames_of arcs = map shared_frame arcs
+
+-- the details that a frame tells
+abbrev pub details_of_frame : Frame → List Details
+details_of_frame f = f.contents.details
+
+-- the same of borrowed ones
+abbrev pub lent_frames : {A : Type 0} → List (Bor (Arc FrameData A)) → List Frame
+lent_frames arcs = map (λ a. shared_frame a.now) arcs

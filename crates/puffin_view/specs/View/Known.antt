@@ -1,0 +1,22 @@
+-- What contracts see of a view of frames.
+use Rattle.std.specs.Prelude.{Bool}
+use Rattle.std.specs.List.{list_any}
+use Rattle.puffin_frames.specs.Details.{lacks_id}
+use Rattle.puffin_frames.specs.Packet.Stored.{Said}
+use Rattle.puffin_frames.specs.Details.Collection.{Collection}
+use Rattle.puffin_view.specs.declared.profile_view.frame_view.FrameView.{FrameView}
+use Rattle.puffin_view.specs.View.{View}
+
+abbrev pub view_of : FrameView → View
+view_of view = view.frames
+
+abbrev pub collection_of : FrameView → Collection
+collection_of view = view.scope_collection
+
+-- the same with other frames
+abbrev pub with_frames : FrameView → View → FrameView
+with_frames view frames = record view { frames = frames }
+
+-- whether one of a frame's details has no id
+abbrev pub lacks_ids : Said → Bool
+lacks_ids c = list_any lacks_id c.details

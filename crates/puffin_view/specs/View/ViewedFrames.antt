@@ -1,0 +1,81 @@
+-- What a view sees of a frame, and the orders of frames.
+use Rattle.std.specs.Prelude.{ℕ, ◌+◌, ◌-◌, ◌^◌, ℤ, ◌-ℤ◌, Bool, true, false, cond, min, List, [], ◌∷◌, nat_lt, nat_eq, ◌&&◌, length, map}
+use Rattle.std.specs.declared.cmp.Ordering.{Ordering}
+use Rattle.std.specs.Ordering.{nat_cmp, int_cmp, is_lt, on, then_cmp, flip_args}
+use Rattle.std.specs.FinMap as map
+use Rattle.puffin_frames.specs.Packet.Stored.{Said}
+use Rattle.puffin_view.specs.View.Ranking.{first_in_order}
+
+-- a frame, and how it is held
+pub record Frame : Type 0 where
+  pub contents : Said
+  pub is_unpacked : Bool
+  pub is_packed : Bool
+
+abbrev pub contents_of : Frame → Said
+contents_of f = f.contents
+
+abbrev pub frame_index : Said → ℕ
+frame_index c = c.meta.frame_index
+
+-- the time from its least start to its greatest stop
+abbrev pub duration : Said → ℤ
+duration c = c.meta.range_ns.1 -ℤ c.meta.range_ns.0
+
+abbrev pub index_of : Frame → ℕ
+index_of f = frame_index f.contents
+
+abbrev pub duration_of : Frame → ℤ
+duration_of f = duration f.contents
+
+-- by falling duration, then rising index
+abbrev pub by_duration : Said → Said → Ordering
+by_duration = then_cmp (on duration (flip_args int_cmp)) (on frame_index nat_cmp)
+
+abbrev pub is_slower : Said → Said → Bool
+is_slower c d = is_lt (by_duration c d)
+
+abbrev pub is_slower_frame : Frame → Frame → Bool
+is_slower_frame f g = is_slower f.contents g.contents
+
+-- the first k by falling duration, then rising index, then place in the list
+abbrev pub slowest : ℕ → List Said → List Said
+slowest k cs = first_in_order is_slower k cs
+
+-- whether indices rise strictly along a list, the first above i
+abbrev pub rises_above : ℕ → List Said → Bool
+rises_above i [] = true
+rises_above i (c ∷ cs) = nat_lt i (frame_index c) && rises_above (frame_index c) cs
+
+abbrev pub is_rising : List Said → Bool
+is_rising [] = true
+is_rising (c ∷ cs) = rises_above (frame_index c) cs
+
+-- the longest end of a list along which indices rise strictly: the frames since a view was last emptied by an index that didn't rise
+abbrev pub rising_end : List Said → List Said
+rising_end [] = []
+rising_end (c ∷ cs) = cond (is_rising (c ∷ cs)) (c ∷ cs) (rising_end cs)
+
+-- a frame held packed alone
+abbrev pub packed_alone : Frame → Frame
+packed_alone f = record { contents = f.contents; is_unpacked = false; is_packed = true }
+
+-- the frame of an index packed, another as it is
+abbrev pub packed_under : ℕ → Frame → Frame
+packed_under i f = cond (nat_eq (index_of f) i) (packed_alone f) f
+
+-- how many bytes a frame takes, as it is held
+abbrev pub ram_of : Frame → ℕ
+ram_of f =
+    min
+    (cond f.is_unpacked f.contents.meta.num_bytes 0
+    + cond f.is_packed (length f.contents.streams) 0)
+    (2 ^ 64 - 1)
+
+-- frames by their indices, the first at each
+abbrev pub frames_by_index : List Frame → map.FinMap nat_cmp Frame
+frames_by_index fs = map.from_entries (map (λ f. (index_of f, f)) fs)
+
+-- frames by rising index, the first at each
+abbrev pub chronological : List Frame → List Frame
+chronological fs = map.values (frames_by_index fs)

@@ -1,0 +1,40 @@
+-- Frames and views as plain data.
+use Rattle.std.specs.Prelude.{ℕ, ℤ, Bool, List, Option, refl}
+use Rattle.std.specs.Coded.{Coded, code_by, coded×, coded_option, coded_list, coded_ℕ, coded_ℤ, coded_bool}
+use Rattle.puffin_frames.specs.declared.frame_data.meta.FrameMeta.{FrameMeta}
+use Rattle.puffin_frames.specs.Details.{Details, details_code}
+use Rattle.puffin_frames.specs.Packet.Stored.{Said}
+use Rattle.puffin_view.specs.View.ViewedFrames.{Frame}
+use Rattle.puffin_view.specs.View.{View}
+
+abbrev pub meta_code : Coded FrameMeta
+meta_code =
+    code_by (ℕ × ((ℤ × ℤ) × (ℕ × ℕ))) (
+    coded× coded_ℕ (coded× (coded× coded_ℤ coded_ℤ) (coded× coded_ℕ coded_ℕ)))
+    (λ m. (m.frame_index, (m.range_ns, (m.num_bytes, m.num_scopes))))
+    (λ p. record { frame_index = p.0; range_ns = p.1.0; num_bytes = p.1.1.0; num_scopes = p.1.1.1 })
+    (λ _. refl)
+
+abbrev pub said_code : Coded Said
+said_code =
+    code_by (FrameMeta × (ℕ × (List ℕ × List Details))) (
+    coded× meta_code (coded× coded_ℕ (coded× (coded_list coded_ℕ) (coded_list details_code))))
+    (λ c. (c.meta, (c.kind, (c.streams, c.details))))
+    (λ p. record { meta = p.0; kind = p.1.0; streams = p.1.1.0; details = p.1.1.1 })
+    (λ _. refl)
+
+abbrev pub frame_code : Coded Frame
+frame_code = code_by (Said × (Bool × Bool)) (coded× said_code (coded× coded_bool coded_bool))
+    (λ f. (f.contents, (f.is_unpacked, f.is_packed)))
+    (λ p. record { contents = p.0; is_unpacked = p.1.0; is_packed = p.1.1 })
+    (λ _. refl)
+
+abbrev pub view_code : Coded View
+view_code =
+    code_by (List Frame × (List Frame × (Option ℕ × (ℕ × (ℕ × Bool))))) (
+    coded× (coded_list frame_code) (
+    coded× (coded_list frame_code) (
+    coded× (coded_option coded_ℕ) (coded× coded_ℕ (coded× coded_ℕ coded_bool)))))
+    (λ v. (v.recent, (v.slow, (v.last, (v.max_recent, (v.max_slow, v.packs))))))
+    (λ p. record { recent = p.0; slow = p.1.0; last = p.1.1.0; max_recent = p.1.1.1.0; max_slow = p.1.1.1.1.0; packs = p.1.1.1.1.1 })
+    (λ _. refl)

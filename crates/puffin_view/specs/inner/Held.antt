@@ -1,0 +1,51 @@
+-- Frames that are held, each under its index.
+use Rattle.std.specs.Prelude.{ℕ, Bool, cond, List, Option, length, map, unwrap_or, ◌≡◌}
+use Rattle.std.specs.Option.{option_map}
+use Rattle.std.specs.List.{sum_by}
+use Rattle.std.specs.List.Sorted.{IsStrictlySortedBy}
+use Rattle.std.specs.Map.{keys_of, values_of}
+use Rattle.std.specs.Ordering.{nat_cmp}
+use Rattle.std.specs.FinMap as map
+use Rattle.std.specs.Coded.{Coded, coded_ℕ}
+use Rattle.std.specs.declared.sync.Arc.{Arc}
+use Rattle.puffin_frames.specs.declared.frame_data.frame.FrameData.{FrameData}
+use Rattle.puffin_view.specs.declared.profile_view.sums.Sums.{Sums}
+use Rattle.puffin_view.specs.View.ViewedFrames.{Frame, ram_of}
+use Rattle.puffin_view.specs.View.FrameOf.{shared_frame}
+use Rattle.puffin_view.specs.inner.Codes.{frame_code}
+
+abbrev pub HeldFrames : Type 0
+HeldFrames = map.FinMap nat_cmp Frame
+
+abbrev pub held_code : Coded HeldFrames
+held_code = map.code coded_ℕ frame_code
+
+-- what a map's entries hold
+abbrev pub frames_seen : {A : Type 0} → List (ℕ × Arc FrameData A) → List (ℕ × Frame)
+frames_seen es = map (λ e. (e.0, shared_frame e.1)) es
+
+abbrev pub held_of : {A : Type 0} → List (ℕ × Arc FrameData A) → HeldFrames
+held_of es = map.from_entries (frames_seen es)
+
+-- how many unpacked frames one is, and how many bytes it takes
+abbrev pub number_if : Bool → ℕ
+number_if b = cond b 1 0
+
+abbrev pub unpacked_number : {A : Type 0} → Arc FrameData A → ℕ
+unpacked_number a = number_if (shared_frame a).is_unpacked
+
+abbrev pub ram_taken : {A : Type 0} → Arc FrameData A → ℕ
+ram_taken a = ram_of (shared_frame a)
+
+abbrev pub unpacked_if : {A : Type 0} → Option (Arc FrameData A) → ℕ
+unpacked_if o = unwrap_or (option_map unpacked_number o) 0
+
+abbrev pub ram_if : {A : Type 0} → Option (Arc FrameData A) → ℕ
+ram_if o = unwrap_or (option_map ram_taken o) 0
+
+-- the sums are those of the frames
+pub record IsSummed {A : Type 0} (es : List (ℕ × Arc FrameData A)) (sums : Sums) : Type 0 where
+  pub ordered : IsStrictlySortedBy nat_cmp (keys_of es)
+  pub frames : sums.frames ≡ length es
+  pub unpacked_frames : sums.unpacked_frames ≡ sum_by unpacked_number (values_of es)
+  pub bytes : sums.bytes_of_ram_used ≡ sum_by ram_taken (values_of es)

@@ -1,0 +1,45 @@
+-- Where a frame stands among the slowest, and lists of where frames stand.
+use Rattle.std.specs.Prelude.{ℕ, Bool, cond, nat_lt, ◌||◌, List, [], take, drop, length, Some, None, ◌≡◌, false}
+use Rattle.std.specs.List.{AllByRecursion}
+use Rattle.std.specs.Option.{option_map, option_map_or}
+use Rattle.std.specs.declared.cmp.Ordering.{Ordering}
+use Rattle.std.specs.Ordering.{nat_cmp, int_cmp, ordering_then, is_lt}
+use Rattle.std.specs.FinMap as map
+use Rattle.puffin_view.specs.declared.profile_view.slow_rank.SlowRank.{SlowRank}
+use Rattle.puffin_view.specs.View.Ranking.{place, last_in, rank_index, has}
+use Rattle.puffin_view.specs.View.ViewedFrames.{Frame, index_of, duration_of}
+use Rattle.puffin_view.specs.inner.Held.{HeldFrames}
+
+abbrev pub rank_of : Frame → SlowRank
+rank_of f = record { duration_ns = record { 0 = duration_of f }; frame_index = index_of f }
+
+-- by falling duration, then rising index
+abbrev pub rank_cmp : SlowRank → SlowRank → Ordering
+rank_cmp a b =
+    ordering_then (int_cmp b.duration_ns.0 a.duration_ns.0) (nat_cmp a.frame_index b.frame_index)
+
+abbrev pub is_before : SlowRank → SlowRank → Bool
+is_before a b = is_lt (rank_cmp a b)
+
+-- whether a rank comes among the k slowest: where there is room, or where it comes before the last of them
+abbrev pub rank_enters : ℕ → List SlowRank → SlowRank → Bool
+rank_enters k slow r =
+    nat_lt (length slow) k || option_map_or (λ s. is_before r s) (last_in slow) false
+
+-- the ranks after one more, and those that it pushes out
+abbrev pub ranks_after : ℕ → List SlowRank → SlowRank → List SlowRank
+ranks_after k slow r = cond (rank_enters k slow r) (take k (place is_before r slow)) slow
+
+abbrev pub ranks_gone : ℕ → List SlowRank → SlowRank → List SlowRank
+ranks_gone k slow r = cond (rank_enters k slow r) (drop k (place is_before r slow)) []
+
+-- each rank is that of the frame which is held under its index
+abbrev pub AreRanked : HeldFrames → List SlowRank → Type 0
+AreRanked held slow =
+    AllByRecursion (λ r. option_map rank_of (map.get held (rank_index r)) ≡ Some r) slow
+
+-- of what was held, all is still, but for what is gone and not among what stays
+abbrev pub LetsGo : HeldFrames → List ℕ → List ℕ → HeldFrames → Type 0
+LetsGo old stays gone new =
+    (q : ℕ) →
+    map.get new q ≡ cond (has q stays) (map.get old q) (cond (has q gone) None (map.get old q))

@@ -1,0 +1,377 @@
+ghost use Rattle.std.specs.Prelude.{◌≡◌, ◌↔◌, IsTrue, IfOk, ◌-◌, ◌<◌, ◌≤◌, OnOk, OnErr, IfErr, IfSome, [], false, take, drop, map, length, Some, vec_len, vec_capacity, insert, nat_eq};
+ghost use Rattle.std.specs.Ordering.{nat_cmp};
+ghost use Rattle.std.specs.List.{list_any};
+ghost use Rattle.std.specs.FinMap as map;
+ghost use Rattle.std.specs.Option.{option_map};
+ghost use Rattle.std.specs.List.Sorted.{IsStrictlySortedBy};
+ghost use Rattle.puffin_data.specs.declared.error.Error.{Error};
+ghost use Rattle.puffin_view.specs.View.FrameOf.{shared_frame};
+ghost use Rattle.puffin_view.specs.View.Ranking.{last_of, last_in, rank_index};
+ghost use Rattle.puffin_view.specs.inner.Ranks.{rank_cmp, ranks_after, ranks_gone, AreRanked, LetsGo};
+ghost use Rattle.puffin_view.specs.View.ViewedFrames.{index_of, chronological};
+ghost use Rattle.puffin_view.specs.View.Listings.{recent_left, all_left, slowest_left};
+ghost use Rattle.puffin_view.specs.View.{empty_view, emptied, with_newest_packed, is_past, joined_by, after_taking, KeepsFrames, all_uniq, IsSteady};
+ghost use Rattle.puffin_view.specs.View.Stats.{stats_of};
+
+use crate::profile_view::held_frames::HeldFrames;
+use crate::profile_view::listings::{AllFrames, RecentFrames, SlowestFrames};
+use crate::profile_view::slow_rank::SlowRank;
+use crate::profile_view::stats::FrameStats;
+use puffin_data::{Error, Result};
+use puffin_frames::frame_data::{FrameData, FrameIndex};
+use std::alloc::Global;
+use std::cmp::Reverse;
+use std::collections::VecDeque;
+use std::marker::Model;
+use std::sync::Arc;
+
+/// The frames of a view: each is held once, and two lists say where they stand.
+#[derive(Drop)]
+pub(crate) struct FrameStore {
+    held: HeldFrames,
+    recent: VecDeque<FrameIndex>,
+    slow: Vec<SlowRank>,
+    last: Option<FrameIndex>,
+    max_recent: usize,
+    max_slow: usize,
+    pack_frames: bool,
+}
+
+impl Model for FrameStore {
+    ghost use Rattle.std.specs.Prelude.{map};
+    ghost use Rattle.puffin_view.specs.View.{View};
+    ghost use Rattle.puffin_view.specs.inner.Codes.{view_code};
+
+    ghost Value = { View };
+
+    ghost coded = { view_code };
+
+    ghost use Rattle.puffin_view.specs.View.Ranking.{rank_index};
+    ghost use Rattle.puffin_view.specs.inner.Store.{frames_under, IsStored};
+
+    ghost view = { λ s.
+        record {
+          recent = frames_under s.held s.recent.items;
+          slow = frames_under s.held (map rank_index s.slow.items);
+          last = s.last;
+          max_recent = s.max_recent;
+          max_slow = s.max_slow;
+          packs = s.pack_frames;
+        } };
+
+    ghost invariant = { λ s. IsStored s.held s.recent.items s.slow.items s.last };
+}
+
+impl FrameStore {
+    pub fn new(alloc: Global) -> FrameStore
+        ensures { result ≡ empty_view }
+    {
+        FrameStore {
+            held: HeldFrames::new(alloc),
+            recent: VecDeque::new(alloc),
+            slow: Vec::new(alloc),
+            last: None,
+            max_recent: 1000,
+            max_slow: 256,
+            pack_frames: true,
+        }
+    }
+
+    pub fn max_recent(&self) -> usize
+        ensures { result ≡ self.now.max_recent }
+    {
+        self.max_recent
+    }
+
+    pub fn max_slow(&self) -> usize
+        ensures { result ≡ self.now.max_slow }
+    {
+        self.max_slow
+    }
+
+    pub fn pack_frames(&self) -> bool
+        ensures { result ≡ self.now.packs }
+    {
+        self.pack_frames
+    }
+
+    pub fn set_max_recent(&mut self, max_recent: usize)
+        ensures { self.new ≡ record self.old { max_recent = max_recent } }
+    {
+        self.max_recent = max_recent;
+    }
+
+    pub fn set_max_slow(&mut self, max_slow: usize)
+        ensures { self.new ≡ record self.old { max_slow = max_slow } }
+    {
+        self.max_slow = max_slow;
+    }
+
+    pub fn set_pack_frames(&mut self, pack_frames: bool)
+        ensures { self.new ≡ record self.old { packs = pack_frames } }
+    {
+        self.pack_frames = pack_frames;
+    }
+
+    /// Drops the slowest frames, where they aren't recent.
+    pub fn clear_slowest(&mut self)
+        ensures { self.new ≡ record self.old { slow = [] } }
+    {
+        cut_slow(&mut self.held, &self.recent, &mut self.slow, 0);
+    }
+
+    /// The last of the recent frames.
+    pub fn latest_frame(&self) -> Option<&Arc<FrameData>>
+        ensures { option_map (λ a. shared_frame a.now) result ≡ last_in self.now.recent }
+    {
+        match self.recent.back() {
+            Some(index) => self.held.get(*index),
+            None => None,
+        }
+    }
+
+    /// Whether there is no frame.
+    pub fn is_empty(&self) -> bool
+        ensures { IsTrue result ↔ ((self.now.recent ≡ []) × (self.now.slow ≡ [])) }
+    {
+        self.recent.is_empty() && self.slow.is_empty()
+    }
+
+    /// The recent frames, oldest first.
+    pub fn recent_frames(&self) -> RecentFrames<'_>
+        ensures { recent_left result ≡ self.now.recent }
+    {
+        RecentFrames::new(self.recent.iter(), &self.held)
+    }
+
+    /// The last `n` of the recent frames, oldest first.
+    pub fn latest_frames(&self, n: usize) -> RecentFrames<'_>
+        ensures { recent_left result ≡ last_of n self.now.recent }
+    {
+        let first = self.recent.len().saturating_sub(n);
+        RecentFrames::new(self.recent.range(first..), &self.held)
+    }
+
+    /// All frames, each once, by rising index.
+    pub fn all_uniq(&self) -> AllFrames<'_>
+        ensures { all_left result ≡ all_uniq self.now }
+    {
+        AllFrames::new(self.held.values())
+    }
+
+    /// The slowest frames, by rising index.
+    pub fn slowest_frames_chronological(&self) -> SlowestFrames<'_>
+        ensures { slowest_left result ≡ chronological self.now.slow }
+    {
+        SlowestFrames::new(self.held.values(), &self.slow)
+    }
+
+    /// A copy, which shares the frames. Refused only with `Memory`.
+    pub fn clone(&self) -> Result<FrameStore>
+        ensures ok { IfOk result (λ copy. copy ≡ self.now) }
+        ensures cause { IfErr result (λ e. e ≡ Error.Memory) }
+    {
+        Ok(FrameStore {
+            held: self.held.clone()?,
+            recent: self.recent.clone()?,
+            slow: self.slow.clone()?,
+            last: self.last,
+            max_recent: self.max_recent,
+            max_slow: self.max_slow,
+            pack_frames: self.pack_frames,
+        })
+    }
+
+    /// How many frames there are, and how many bytes they take.
+    pub fn stats(&self) -> FrameStats
+        ensures { result ≡ stats_of (all_uniq self.now) }
+    {
+        self.held.stats()
+    }
+
+    /// The same settings, with no frames.
+    fn emptied(&self) -> FrameStore
+        ensures { result ≡ emptied self.now }
+    {
+        let alloc = *self.recent.allocator();
+        FrameStore {
+            held: HeldFrames::new(alloc),
+            recent: VecDeque::new(alloc),
+            slow: Vec::new(alloc),
+            last: None,
+            max_recent: self.max_recent,
+            max_slow: self.max_slow,
+            pack_frames: self.pack_frames,
+        }
+    }
+
+    /// Whether an index isn't above the last one taken.
+    fn is_past(&self, index: FrameIndex) -> bool
+        ensures past { result ≡ is_past self.now index }
+        ensures steady { IsSteady self.now }
+    {
+        match self.last {
+            Some(last) => index <= last,
+            None => false,
+        }
+    }
+
+    /// Packs the newest frame. One that is packed already is left as it is, and not copied.
+    fn pack_newest(&mut self) -> Result<()>
+        ensures ok { OnOk result (self.new ≡ with_newest_packed self.old) }
+        ensures err { OnErr result (self.new ≡ self.old) }
+        ensures cause { IfErr result (λ e. e ≡ Error.Memory) }
+    {
+        let alloc = *self.recent.allocator();
+        let Some(newest) = self.latest_frame() else {
+            return Ok(());
+        };
+        if !newest.has_unpacked() {
+            return Ok(());
+        }
+        let packed = Arc::new(alloc, newest.packed_copy()?)?;
+        self.held.insert(packed)?;
+        Ok(())
+    }
+
+    /// Adds a frame whose index is above those of all frames.
+    fn join(&mut self, frame: Arc<FrameData>) -> Result<()>
+        requires { is_past self.old (index_of (shared_frame frame)) ≡ false }
+        ensures ok { OnOk result (self.new ≡ joined_by self.old (shared_frame frame)) }
+        ensures err { OnErr result (self.new ≡ self.old) }
+        ensures cause { IfErr result (λ e. e ≡ Error.Memory) }
+    {
+        let rank = SlowRank::of(&frame);
+        self.recent.reserve(1)?;
+        self.slow.reserve(1)?;
+        self.held.insert(frame)?;
+        self.last = Some(rank.frame_index);
+        self.recent.push_back_reserved(rank.frame_index);
+        enter_slow(
+            &mut self.held,
+            &self.recent,
+            &mut self.slow,
+            rank,
+            self.max_slow,
+        );
+        cut_recent(
+            &mut self.held,
+            &mut self.recent,
+            &self.slow,
+            self.max_recent,
+        );
+        Ok(())
+    }
+
+    /// Takes a frame. Where its index isn't above the last one taken, only that frame is left.
+    pub fn take(&mut self, frame: Arc<FrameData>) -> Result<()>
+        ensures ok { OnOk result (self.new ≡ after_taking self.old (shared_frame frame)) }
+        ensures err { OnErr result (KeepsFrames self.old (index_of (shared_frame frame)) self.new) }
+        ensures cause { IfErr result (λ e. e ≡ Error.Memory) }
+        ensures steady { IsSteady self.old }
+    {
+        if self.is_past(frame.frame_index()) {
+            let mut anew = self.emptied();
+            anew.join(frame)?;
+            *self = anew;
+            return Ok(());
+        }
+        if self.pack_frames {
+            self.pack_newest()?;
+        }
+        self.join(frame)
+    }
+}
+
+/// Whether a frame of an index is recent.
+fn is_recent(recent: &VecDeque<FrameIndex>, index: FrameIndex) -> bool
+    requires { IsStrictlySortedBy nat_cmp recent.now.items }
+    ensures { result ≡ list_any (λ i. nat_eq i index) recent.now.items }
+{
+    recent.binary_search(&index).is_ok()
+}
+
+/// Whether a frame of an index is among the slowest.
+fn is_slow(held: &HeldFrames, slow: &[SlowRank], index: FrameIndex) -> bool
+    requires sorted { IsStrictlySortedBy rank_cmp slow.now }
+    requires ranked { AreRanked held.now slow.now }
+    ensures { result ≡ list_any (λ rank. nat_eq rank.frame_index index) slow.now }
+{
+    match held.get(index) {
+        Some(frame) => {
+            let rank = SlowRank {
+                duration_ns: Reverse(frame.duration_ns()),
+                frame_index: index,
+            };
+            rank.is_among(slow)
+        }
+        None => false,
+    }
+}
+
+/// Puts a rank among the slowest, if it comes there, and cuts them.
+fn enter_slow(
+    held: &mut HeldFrames,
+    recent: &VecDeque<FrameIndex>,
+    slow: &mut Vec<SlowRank>,
+    rank: SlowRank,
+    max: usize,
+)
+    requires room { vec_len slow.old < vec_capacity slow.old }
+    requires rising { IsStrictlySortedBy nat_cmp recent.now.items }
+    requires sorted { IsStrictlySortedBy rank_cmp slow.old.items }
+    ensures slow { slow.new.items ≡ ranks_after max slow.old.items rank }
+    ensures held { LetsGo held.old recent.now.items
+        (map rank_index (ranks_gone max slow.old.items rank)) held.new }
+{
+    if rank.enters(slow, max) {
+        let at = rank.place_in(slow);
+        match slow.insert(at, rank) {
+            Ok(()) => {}
+            Err(_) => unreachable!(),
+        }
+        cut_slow(held, recent, slow, max);
+    }
+}
+
+/// Cuts the slowest. A frame that is neither slow nor recent any more is let go.
+fn cut_slow(
+    held: &mut HeldFrames,
+    recent: &VecDeque<FrameIndex>,
+    slow: &mut Vec<SlowRank>,
+    max: usize,
+)
+    requires { IsStrictlySortedBy nat_cmp recent.now.items }
+    ensures slow { slow.new.items ≡ take max slow.old.items }
+    ensures held { LetsGo held.old recent.now.items (map rank_index (drop max slow.old.items))
+        held.new }
+{
+    for rank in &slow[max.min(slow.len())..] {
+        if !is_recent(recent, rank.frame_index) {
+            held.remove(rank.frame_index);
+        }
+    }
+    slow.truncate(max);
+}
+
+/// Drops the first of the recent ones. A frame that is neither recent nor slow any more is let go.
+fn cut_recent(
+    held: &mut HeldFrames,
+    recent: &mut VecDeque<FrameIndex>,
+    slow: &[SlowRank],
+    max: usize,
+)
+    requires sorted { IsStrictlySortedBy rank_cmp slow.now }
+    requires ranked { AreRanked held.old slow.now }
+    ensures recent { recent.new.items ≡ last_of max recent.old.items }
+    ensures held { LetsGo held.old (map rank_index slow.now)
+        (take (length recent.old.items - max) recent.old.items) held.new }
+{
+    for _ in 0..recent.len().saturating_sub(max) {
+        if let Some(index) = recent.pop_front() {
+            if !is_slow(held, slow, index) {
+                held.remove(index);
+            }
+        }
+    }
+}

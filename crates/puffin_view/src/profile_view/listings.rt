@@ -1,0 +1,111 @@
+ghost use Rattle.std.specs.Prelude.{◌≡◌};
+ghost use Rattle.std.specs.Iterator.{YieldsFirstBy, item_count};
+ghost use Rattle.puffin_view.specs.View.FrameOf.{shared_frame};
+
+use crate::profile_view::held_frames::HeldFrames;
+use crate::profile_view::slow_rank::{SlowRank, has_index};
+use puffin_frames::frame_data::{FrameData, FrameIndex};
+use std::collections::{btree_map, vec_deque};
+use std::sync::Arc;
+
+/// The recent frames of a view, oldest first.
+#[derive(Drop)]
+pub struct RecentFrames<'a> {
+    rest: vec_deque::Iter<'a, FrameIndex>,
+    held: &'a HeldFrames,
+}
+
+impl<'a> RecentFrames<'a> {
+    pub(crate) fn new(rest: vec_deque::Iter<'a, FrameIndex>, held: &'a HeldFrames) -> Self
+        ensures rest { result.rest ≡ rest.entry }
+        ensures held { result.held.now ≡ held.now }
+    {
+        RecentFrames { rest, held }
+    }
+}
+
+impl<'a> Iterator for RecentFrames<'a> {
+    ghost use Rattle.puffin_view.specs.View.Listings.{recent_left};
+
+    type Item = &'a Arc<FrameData>;
+
+    ghost next_gives = { YieldsFirstBy (λ x. shared_frame x.now) recent_left };
+
+    ghost remaining = { item_count recent_left };
+
+    fn next(&mut self) -> Option<&'a Arc<FrameData>> {
+        while let Some(index) = self.rest.next() {
+            let held = self.held;
+            if let Some(frame) = held.get(*index) {
+                return Some(frame);
+            }
+        }
+        None
+    }
+}
+
+/// All frames of a view, each once, by rising index.
+#[derive(Drop)]
+pub struct AllFrames<'a> {
+    rest: btree_map::Values<'a, FrameIndex, Arc<FrameData>>,
+}
+
+impl<'a> AllFrames<'a> {
+    pub(crate) fn new(rest: btree_map::Values<'a, FrameIndex, Arc<FrameData>>) -> Self
+        ensures { result.rest ≡ rest.entry }
+    {
+        AllFrames { rest }
+    }
+}
+
+impl<'a> Iterator for AllFrames<'a> {
+    ghost use Rattle.puffin_view.specs.View.Listings.{all_left};
+
+    type Item = &'a Arc<FrameData>;
+
+    ghost next_gives = { YieldsFirstBy (λ x. shared_frame x.now) all_left };
+
+    ghost remaining = { item_count all_left };
+
+    fn next(&mut self) -> Option<&'a Arc<FrameData>> {
+        self.rest.next()
+    }
+}
+
+/// The slowest frames of a view, by rising index.
+#[derive(Drop)]
+pub struct SlowestFrames<'a> {
+    rest: btree_map::Values<'a, FrameIndex, Arc<FrameData>>,
+    slow: &'a [SlowRank],
+}
+
+impl<'a> SlowestFrames<'a> {
+    pub(crate) fn new(
+        rest: btree_map::Values<'a, FrameIndex, Arc<FrameData>>,
+        slow: &'a [SlowRank],
+    ) -> Self
+        ensures rest { result.rest ≡ rest.entry }
+        ensures slow { result.slow.now ≡ slow.now }
+    {
+        SlowestFrames { rest, slow }
+    }
+}
+
+impl<'a> Iterator for SlowestFrames<'a> {
+    ghost use Rattle.puffin_view.specs.View.Listings.{slowest_left};
+
+    type Item = &'a Arc<FrameData>;
+
+    ghost next_gives = { YieldsFirstBy (λ x. shared_frame x.now) slowest_left };
+
+    ghost remaining = { item_count slowest_left };
+
+    fn next(&mut self) -> Option<&'a Arc<FrameData>> {
+        while let Some(frame) = self.rest.next() {
+            if has_index(self.slow, frame.frame_index()) {
+                return Some(frame);
+            }
+        }
+        None
+    }
+}

@@ -1,0 +1,121 @@
+ghost use Rattle.std.specs.Prelude.{◌≡◌, ◌++◌, IfOk, IfErr, OnOk, map, filter_map, slice_get};
+ghost use Rattle.std.specs.Option.{option_to_list};
+ghost use Rattle.puffin_data.specs.declared.error.Error.{Error};
+ghost use Rattle.puffin_view.specs.View.FrameOf.{frame_of, frames_of};
+ghost use Rattle.puffin_view.specs.View.Selection.{rank_at, ranks_from, IsSelection};
+ghost use Rattle.puffin_view.specs.inner.Selections.{slow_place, old_place};
+
+use itertools::Itertools;
+use puffin_data::{NanoSecond, Result};
+use puffin_frames::frame_data::{FrameData, FrameIndex};
+use std::alloc::Global;
+use std::cmp::Reverse;
+use std::sync::Arc;
+
+/// A place in a list of frames: by falling duration of the frame there, then its rising index, then the place.
+#[derive(Clone, Copy, Debug, PartialEq, Eq, PartialOrd, Ord)]
+struct SlowPlace {
+    duration_ns: Reverse<NanoSecond>,
+    frame_index: FrameIndex,
+    place: usize,
+}
+
+impl SlowPlace {
+    fn of(frame: &FrameData, place: usize) -> SlowPlace
+        ensures { slow_place result ≡ rank_at place (frame_of frame.now) }
+    {
+        SlowPlace {
+            duration_ns: Reverse(frame.duration_ns()),
+            frame_index: frame.frame_index(),
+            place,
+        }
+    }
+}
+
+/// A place in a list of frames: by rising index of the frame there, then the place, which is another for each.
+#[derive(Clone, Copy, Debug, PartialEq, Eq, PartialOrd, Ord)]
+pub(super) struct OldPlace {
+    frame_index: FrameIndex,
+    place: usize,
+    duration_ns: NanoSecond,
+}
+
+/// The places of a list of frames.
+fn slow_places(alloc: Global, frames: &[Arc<FrameData>]) -> Result<Vec<SlowPlace>>
+    ensures ok { IfOk result (λ v. map slow_place v.items ≡ ranks_from 0 (frames_of frames.now)) }
+    ensures cause { IfErr result (λ e. e ≡ Error.Memory) }
+{
+    let mut places = Vec::with_capacity(alloc, frames.len())?;
+    for place in 0..frames.len() {
+        places.push(SlowPlace::of(&frames[place], place))?;
+    }
+    Ok(places)
+}
+
+/// The same places, in the other order's form.
+fn old_places(alloc: Global, slow: &[SlowPlace]) -> Result<Vec<OldPlace>>
+    ensures ok { IfOk result (λ v. map old_place v.items ≡ map slow_place slow.now) }
+    ensures cause { IfErr result (λ e. e ≡ Error.Memory) }
+{
+    let mut places = Vec::with_capacity(alloc, slow.len())?;
+    for k in 0..slow.len() {
+        let at = slow[k];
+        places.push(OldPlace {
+            frame_index: at.frame_index,
+            place: at.place,
+            duration_ns: at.duration_ns.0,
+        })?;
+    }
+    Ok(places)
+}
+
+/// Adds the frame at a place, if there is one.
+fn push_at(all: &mut Vec<Arc<FrameData>>, frames: &[Arc<FrameData>], place: usize) -> Result<()>
+    ensures ok { OnOk result (
+        frames_of all.new.items
+        ≡ frames_of all.old.items ++ option_to_list (slice_get (frames_of frames.now) place)) }
+    ensures cause { IfErr result (λ e. e ≡ Error.Memory) }
+{
+    match frames.get(place) {
+        Some(frame) => {
+            all.push(Arc::try_clone(frame)?)?;
+            Ok(())
+        }
+        None => Ok(()),
+    }
+}
+
+/// The frames at places.
+fn frames_at(
+    alloc: Global,
+    frames: &[Arc<FrameData>],
+    places: &[OldPlace],
+) -> Result<Vec<Arc<FrameData>>>
+    ensures ok { IfOk result (λ v.
+        frames_of v.items ≡ filter_map (λ r. slice_get (frames_of frames.now) r.place) (
+        map old_place places.now)) }
+    ensures cause { IfErr result (λ e. e ≡ Error.Memory) }
+{
+    let mut all = Vec::with_capacity(alloc, places.len())?;
+    for k in 0..places.len() {
+        push_at(&mut all, frames, places[k].place)?;
+    }
+    Ok(all)
+}
+
+/// The slowest frames, at most so many: by falling duration, then rising index, then place in the list. They are given by
+/// rising index, then place. Refused only with `Memory`.
+pub fn select_slowest(
+    alloc: Global,
+    frames: &[Arc<FrameData>],
+    max: usize,
+) -> Result<Vec<Arc<FrameData>>>
+    ensures ok { IfOk result (λ v. IsSelection max (frames_of frames.now) (frames_of v.items)) }
+    ensures cause { IfErr result (λ e. e ≡ Error.Memory) }
+{
+    let places = slow_places(alloc, frames)?;
+    let ranked: Vec<SlowPlace> = places.into_iter().sorted(alloc)?.take(max).collect(alloc)?;
+    let old = old_places(alloc, &ranked)?;
+    let chosen: Vec<OldPlace> = old.into_iter().sorted(alloc)?.collect(alloc)?;
+    frames_at(alloc, frames, &chosen)
+}
