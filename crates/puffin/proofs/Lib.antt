@@ -1,3 +1,4 @@
 mod HandingOn
 mod Numbering
-mod Spelling
+mod HandedOut
+mod SharedRefusals

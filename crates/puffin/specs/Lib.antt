@@ -1,3 +1,4 @@
 pub mod Profiler
 pub mod Sinks
 pub mod Shares
+pub mod SharedCauses

@@ -1,8 +1,6 @@
-//! The bytes, tested over the public calls of `puffin_data` alone.
+//! Streams and their walks, tested over the public calls of `puffin_data` alone.
 #![tactic(auto)]
 
-#[cfg(test)]
-mod device;
 #[cfg(test)]
 mod error;
 #[cfg(test)]
@@ -11,8 +9,6 @@ mod file_error;
 mod info;
 #[cfg(test)]
 mod laws;
-#[cfg(test)]
-mod parts;
 #[cfg(test)]
 mod range;
 #[cfg(test)]
@@ -25,5 +21,3 @@ mod scope_id;
 mod stream;
 #[cfg(test)]
 mod walk;
-#[cfg(test)]
-mod wire;

@@ -2,6 +2,7 @@
 //! once more, so what is printed is the same whichever allocation it is.
 #![tactic(auto)]
 
+mod guards;
 mod packets;
 mod refusal;
 mod registrations;
@@ -12,7 +13,8 @@ use std::process::ExitCode;
 fn main(rt: HostRuntime) -> ExitCode {
     let is_done = registrations::run(&rt).is_some()
         && packets::run(&rt).is_some()
-        && summaries::run(&rt).is_some();
+        && summaries::run(&rt).is_some()
+        && guards::run(&rt).is_some();
     if is_done {
         ExitCode::SUCCESS
     } else {

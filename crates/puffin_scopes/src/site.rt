@@ -40,7 +40,9 @@ impl Site {
     ghost use Rattle.puffin_scopes.specs.Sites.{IsKnownOrNew, function_details, named_details};
 
     /// A place in a file, which may be named by its path or its module, that wasn't used yet. A line of 0 is none.
-    pub fn new(file: &'static str, line: u32) -> Site {
+    pub fn new(file: &'static str, line: u32) -> Site
+        ensures { (result.file.now ≡ file.now) × (result.line ≡ line) }
+    {
         Site {
             file,
             line,

@@ -112,6 +112,7 @@ impl GlobalProfiler {
         ids: &ScopeIds,
         details: &[ScopeDetails],
     ) -> Result<Vec<ScopeId>>
+        requires { Unit {0} }
         ensures ok { IfOk result (λ scope_ids.
             Adds (collected_of self.old) (details_seen details.now) scope_ids.items (
             collected_of self.new)) }
@@ -125,6 +126,7 @@ impl GlobalProfiler {
 
     /// Lets the next frame tell of all scopes that are known, besides the new ones. Takes no memory.
     pub fn emit_scope_snapshot(&mut self)
+        requires { Unit {0} }
         ensures wants { collected_of self.new ≡ after_wanting (collected_of self.old) }
         ensures sinks { self.new.sinks ≡ self.old.sinks }
     {

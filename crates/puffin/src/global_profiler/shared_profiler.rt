@@ -1,9 +1,14 @@
 //! A profiler that several threads share.
-ghost use Rattle.std.specs.Prelude.{◌≡◌, ◌+◌, ◌<◌, ◌≤◌, vec_len, All, OnOk, OnErr, IfOk, IfErr};
+ghost use Rattle.std.specs.Prelude.{◌≡◌, ◌+◌, ◌<◌, ◌≤◌, ◌⊎◌, ◌↔◌, true, vec_len, All, OnOk, OnErr, IfOk, IfErr};
+ghost use Rattle.std.specs.List.{list_any};
+ghost use Rattle.std.specs.Arc.{arc_value};
 ghost use Rattle.puffin_data.specs.Forest.{Forest};
 ghost use Rattle.puffin_data.specs.Honesty.{IsHonestRef};
+ghost use Rattle.puffin_frames.specs.Details.{details_seen, lacks_id, AllHaveIds};
+ghost use Rattle.puffin_frames.specs.Frame.Contents.{frame_details};
 ghost use Rattle.puffin.specs.Profiler.{collected_of};
 ghost use Rattle.puffin.specs.Shares.{no_counts, with_reported, CountsFrame, SpellsItsScopes, all_reported, all_handed};
+ghost use Rattle.puffin.specs.SharedCauses.{IsReportCause, IsScopesCause, IsFrameCause, IsAddingCause};
 
 use crate::global_profiler::booked::{Booked, Settled};
 use crate::global_profiler::profiler::{Emitted, GlobalProfiler};
@@ -105,7 +110,9 @@ impl<L: Ledger, M: Ledger> SharedProfiler<L, M> {
         requires { (f : Forest) × IsHonestRef times.now f }
         ensures counted { OnOk result (
             share.new ≡ with_reported share.old times.now.num_scopes) }
+        ensures ids { OnOk result (AllHaveIds (details_seen details.now)) }
         ensures uncounted { OnErr result (share.new ≡ share.old) }
+        ensures cause { IfErr result (IsReportCause (details_seen details.now)) }
     {
         self.lock(rt).report(share, info, details, times)
     }
@@ -122,6 +129,7 @@ impl<L: Ledger, M: Ledger> SharedProfiler<L, M> {
         ensures counted { OnOk result (
             share.new ≡ with_reported share.old times.now.num_scopes) }
         ensures uncounted { OnErr result (share.new ≡ share.old) }
+        ensures cause { IfErr result IsScopesCause }
     {
         self.lock(rt).report_user_scopes(share, info, times)
     }
@@ -134,6 +142,7 @@ impl<L: Ledger, M: Ledger> SharedProfiler<L, M> {
         details: &[ScopeDetails],
     ) -> Result<Vec<ScopeId>>
         requires { Unit {0} }
+        ensures cause { IfErr result IsAddingCause }
     {
         self.lock(rt).register_user_scopes(ids, details)
     }
@@ -152,6 +161,7 @@ impl<L: Ledger, M: Ledger> SharedProfiler<L, M> {
             CountsFrame share.old emitted.frame share.new) }
         ensures spells { IfOk result (λ emitted. SpellsItsScopes emitted.frame) }
         ensures uncounted { OnErr result (share.new ≡ share.old) }
+        ensures cause { IfErr result IsFrameCause }
     {
         self.lock(rt).new_frame(rt, share)
     }
@@ -159,6 +169,9 @@ impl<L: Ledger, M: Ledger> SharedProfiler<L, M> {
     /// [`Booked::add_frame`] under the lock, which is held until all sinks were called.
     pub fn add_frame<R: Wait>(&self, rt: &R, frame: Arc<FrameData>) -> Result<usize>
         requires { Unit {0} }
+        ensures missing { (result ≡ Err Error.MissingId)
+            ↔ (list_any lacks_id (frame_details (arc_value frame)) ≡ true) }
+        ensures cause { IfErr result (λ e. (e ≡ Error.MissingId) ⊎ (e ≡ Error.Memory)) }
     {
         self.lock(rt).add_frame(rt, frame)
     }
@@ -170,7 +183,8 @@ impl<L: Ledger, M: Ledger> SharedProfiler<L, M> {
         sink: Sink,
     ) -> std::result::Result<FrameSinkId, (Error, Sink)>
         requires { Unit {0} }
-        ensures err { IfErr result (λ e. e.1 ≡ sink) }
+        ensures err { IfErr result (λ e.
+            (e.1 ≡ sink) × ((e.0 ≡ Error.SinkIdsExhausted) ⊎ (e.0 ≡ Error.Memory))) }
     {
         self.lock(rt).add_sink(sink)
     }

@@ -63,11 +63,14 @@ impl<L: Ledger, M: Ledger, R: Wait + Drop> SharedReporter<L, M, R> {
 
 impl<L: Ledger, M: Ledger, R: Wait> Reporter for SharedReporter<L, M, R> {
     ghost use Rattle.std.specs.Prelude.{◌≡◌};
+    ghost use Rattle.puffin_frames.specs.Details.{AllHaveIds};
     ghost use Rattle.puffin.specs.Shares.{with_reported};
+    ghost use Rattle.puffin.specs.SharedCauses.{IsReportCause};
 
-    ghost accepts = { λ old i ds r new. new.share ≡ with_reported old.share r.num_scopes };
+    ghost accepts = { λ old i ds r new.
+        (new.share ≡ with_reported old.share r.num_scopes) × AllHaveIds ds };
 
-    ghost refuses = { λ old i ds r e new. new.share ≡ old.share };
+    ghost refuses = { λ old i ds r e new. (new.share ≡ old.share) × IsReportCause ds e };
 
     fn report(
         &mut self,

@@ -1,5 +1,5 @@
+use crate::commands::{Outcome, begin, end};
 use crate::count::{NEVER, device};
-use crate::session::{Outcome, begin, end, is_no_frame};
 use puffin::profile_view::FrameView;
 use puffin_data::FileError;
 use puffin_data::data::Stream;
@@ -36,8 +36,8 @@ fn script(rt: &HostRuntime, name: &str, commands: Vec<Command>) -> Outcome<Scrip
 /// A scope of the thread and a frame of it.
 fn one_frame(rt: &HostRuntime) -> Outcome<Vec<Command>> {
     let mut commands = Vec::new(rt.alloc());
-    commands.push(begin(rt, 0, 100, 1, "data")?)?;
-    commands.push(end(0, 300))?;
+    commands.push(begin(rt, 100, 1, "data")?)?;
+    commands.push(end(300))?;
     commands.push(Command::NewFrame)?;
     Ok(commands)
 }
@@ -62,7 +62,7 @@ fn a_script_makes_a_file_and_lines(rt: HostRuntime) -> Outcome<()> {
 #[test]
 fn a_refused_command_leaves_a_file_without_frames(rt: HostRuntime) -> Outcome<()> {
     let mut commands = Vec::new(rt.alloc());
-    commands.push(end(0, 300))?;
+    commands.push(end(300))?;
     let script = script(&rt, "main", commands)?;
     assert!(rt; writes(&rt, &script, b"PUF0", b"refused 1 MismatchedEnd\n"));
     Ok(())
@@ -87,8 +87,8 @@ fn a_kept_report_is_told_with_its_line(rt: HostRuntime) -> Outcome<()> {
         },
         stream: Stream::from(Vec::from_slice(rt.alloc(), EARLIEST)?),
     })?;
-    commands.push(begin(&rt, 0, 100, 1, "")?)?;
-    commands.push(end(0, 200))?;
+    commands.push(begin(&rt, 100, 1, "")?)?;
+    commands.push(end(200))?;
     let script = script(&rt, "a", commands)?;
     assert!(rt; writes(&rt, &script, b"PUF0", b"kept 3 RangeTooLong\n"));
     Ok(())
@@ -131,7 +131,7 @@ fn an_empty_recording_has_no_frame(rt: HostRuntime) -> Outcome<()> {
     ) else {
         return Err(Fail::new("the recording fails"));
     };
-    assert!(rt; is_no_frame(replies.get(0)));
+    assert!(rt; matches!(replies.get(0), Some(Reply::Frame(emitted)) if emitted.frame.is_none()));
     assert!(rt; view.is_empty());
     assert_eq!(rt; drain.written.as_slice(), b"PUF0".as_slice());
     Ok(())

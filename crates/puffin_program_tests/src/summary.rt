@@ -1,4 +1,4 @@
-use crate::session::Outcome;
+use crate::commands::Outcome;
 use puffin_data::data::Counted;
 use puffin_data::{Error, FileError, NanoSecond};
 use puffin_frames::thread_profiler::ThreadInfo;

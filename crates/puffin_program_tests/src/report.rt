@@ -1,5 +1,5 @@
+use crate::commands::Outcome;
 use crate::count::{NEVER, device, task_of};
-use crate::session::Outcome;
 use puffin_data::data::Counted;
 use puffin_data::{Error, FileError, NanoSecond};
 use puffin_frames::thread_profiler::ThreadInfo;

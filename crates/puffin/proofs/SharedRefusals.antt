@@ -1,0 +1,50 @@
+-- What remains of a refusal where the state that it speaks of is forgotten.
+use Rattle.std.proofs.Common.{◌≡◌, List, [], Result, Ok, Err, ◌⊎◌, inl, inr}
+use Rattle.std.specs.Prelude.{OnOk, IfErr}
+use Rattle.std.proofs.lemmas.List.Elements.{All-nil}
+use Rattle.puffin_data.specs.declared.error.Error.{Error}
+use Rattle.puffin_data.specs.Honesty.{Recorded}
+use Rattle.puffin_frames.specs.Thread.Info.{Info}
+use Rattle.puffin_frames.specs.Details.{Details, AllHaveIds}
+use Rattle.puffin_collector.specs.Profiler.State.{Collected, AcceptsReport, IsReportRefusal}
+use Rattle.puffin_collector.specs.Profiler.Collecting.{KeepsPending}
+use Rattle.puffin_collector.specs.Profiler.Registering.{AddsSome}
+use Rattle.puffin.specs.SharedCauses.{IsReportCause, IsScopesCause, IsFrameCause, IsAddingCause}
+
+report_cause : (c : Collected) (ds : List Details) (r : Recorded) (e : Error) → IsReportRefusal c ds r e → IsReportCause ds e
+report_cause c ds r e (inl missing) = inl missing
+report_cause c ds r e (inr (inl large)) = inr (large.1, inl large.0)
+report_cause c ds r e (inr (inr (inl long))) = inr (long.1, inr (inl long.0))
+report_cause c ds r e (inr (inr (inr memory))) = inr (memory.1, inr (inr memory.0))
+
+scopes_cause : (e : Error) → IsReportCause [] e → IsScopesCause e
+scopes_cause e (inl missing) = absurd (missing.1 (All-nil _))
+scopes_cause e (inr cause) = cause.1
+
+pub report_refused : {T : Type 0} (r : Result T Error) (old new : Collected) (ds : List Details) (times : Recorded) → IfErr r (λ e. IsReportRefusal old ds times e × (new ≡ old)) → IfErr r (λ e. IsReportCause ds e)
+report_refused (Ok x) old new ds times h = tt
+report_refused (Err e) old new ds times h = report_cause old ds times e h.0
+
+pub scopes_refused : {T : Type 0} (r : Result T Error) (old new : Collected) (times : Recorded) → IfErr r (λ e. IsReportRefusal old [] times e × (new ≡ old)) → IfErr r IsScopesCause
+scopes_refused (Ok x) old new times h = tt
+scopes_refused (Err e) old new times h = scopes_cause e (report_cause old [] times e h.0)
+
+pub report_accepted : {T : Type 0} (r : Result T Error) (old new : Collected) (i : Info) (ds : List Details) (times : Recorded) → OnOk r (AcceptsReport old i ds times new) → OnOk r (AllHaveIds ds)
+report_accepted (Ok x) old new i ds times h = h.1
+report_accepted (Err e) old new i ds times h = tt
+
+frame_cause : (old new : Collected) (e : Error) → KeepsPending old e new → IsFrameCause e
+frame_cause old new e (inl exhausted) = inl exhausted.0
+frame_cause old new e (inr memory) = inr memory.0
+
+pub frame_refused : {T : Type 0} (r : Result T Error) (old new : Collected) → IfErr r (λ e. KeepsPending old e new) → IfErr r IsFrameCause
+frame_refused (Ok x) old new h = tt
+frame_refused (Err e) old new h = frame_cause old new e h
+
+adding_cause : (old new : Collected) (ds : List Details) (e : Error) → AddsSome old ds e new → IsAddingCause e
+adding_cause old new ds e (added, (part, rest, ids, is, registers, (inl memory)), after) = inr memory
+adding_cause old new ds e (added, (part, rest, ids, is, registers, (inr exhausted)), after) = inl exhausted.0
+
+pub adding_refused : {T : Type 0} (r : Result T Error) (old new : Collected) (ds : List Details) → IfErr r (λ e. AddsSome old ds e new) → IfErr r IsAddingCause
+adding_refused (Ok x) old new ds h = tt
+adding_refused (Err e) old new ds h = adding_cause old new ds e h

@@ -1,0 +1,22 @@
+-- Why a call under a lock is refused. What stood under the lock is not the caller's to see: these are the causes that remain.
+use Rattle.std.specs.Prelude.{◌≡◌, List, ◌⊎◌}
+use Rattle.puffin_data.specs.declared.error.Error.{Error}
+use Rattle.puffin_data.specs.declared.error.Error.TheVariants.{IdsExhausted, IndexExhausted, MissingId, TooLarge, RangeTooLong, Memory}
+use Rattle.puffin_frames.specs.Details.{Details, AllHaveIds}
+
+-- a report without details
+abbrev pub IsScopesCause : Error → Type 0
+IsScopesCause e = (e ≡ TooLarge) ⊎ (e ≡ RangeTooLong) ⊎ (e ≡ Memory)
+
+-- a report with these details: first, some have no ids
+abbrev pub IsReportCause : List Details → Error → Type 0
+IsReportCause ds e =
+    ((e ≡ MissingId) × ¬ AllHaveIds ds) ⊎ (AllHaveIds ds × IsScopesCause e)
+
+-- a frame that is taken
+abbrev pub IsFrameCause : Error → Type 0
+IsFrameCause e = (e ≡ IndexExhausted) ⊎ (e ≡ Memory)
+
+-- scopes of the caller's own that are registered
+abbrev pub IsAddingCause : Error → Type 0
+IsAddingCause e = (e ≡ IdsExhausted) ⊎ (e ≡ Memory)

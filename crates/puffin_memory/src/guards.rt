@@ -1,0 +1,97 @@
+//! Scopes by macros.
+
+use crate::again;
+use crate::registrations::print_frame;
+use puffin::global_profiler::GlobalProfiler;
+use puffin::scope_details::ScopeIds;
+use puffin::thread_profiler::{Closed, ScriptClock, ThreadProfiler};
+use puffin::{Error, Result, Site, Switch, profile_function, profile_scope};
+use std::alloc::Global;
+use std::sync::Wait;
+
+type Thread = ThreadProfiler<ScriptClock>;
+
+/// What the threads of a program share.
+#[derive(Drop)]
+struct Scopes {
+    switch: Switch,
+    ids: ScopeIds,
+    load: Site,
+    part: Site,
+}
+
+/// A scope in the one that is open.
+fn part(thread: &mut Thread, scopes: &Scopes) -> Result<()> {
+    profile_scope!(
+        guard,
+        thread,
+        scopes.switch,
+        &scopes.ids,
+        scopes.part,
+        "load::part",
+        "part",
+        "text"
+    );
+    match guard.refusal() {
+        Some(cause) => Err(cause),
+        None => Ok(()),
+    }
+}
+
+/// A function's scope and one in it.
+fn load(
+    thread: &mut Thread,
+    scopes: &Scopes,
+    profiler: &mut GlobalProfiler,
+) -> Result<Option<Closed>> {
+    profile_function!(
+        guard,
+        thread,
+        scopes.switch,
+        &scopes.ids,
+        scopes.load,
+        "load"
+    );
+    if let Some(cause) = guard.refusal() {
+        return Err(cause);
+    }
+    if part(guard.profiler(), scopes).is_err() {
+        part(guard.profiler(), scopes)?;
+    }
+    guard.end(profiler)
+}
+
+/// Runs a function whose scopes are reported; a report that was kept for want of memory is made again.
+fn reported(thread: &mut Thread, scopes: &Scopes, profiler: &mut GlobalProfiler) -> Option<()> {
+    match again!(load(thread, scopes, profiler))? {
+        Some(Closed::Reported) => Some(()),
+        Some(Closed::Kept(Error::Memory)) => {
+            let _was_kept = again!(thread.report_closed(profiler))?;
+            Some(())
+        }
+        _ => None,
+    }
+}
+
+fn thread(alloc: Global) -> Option<Thread> {
+    let name = again!(String::from_str(alloc, "main"))?;
+    Some(ThreadProfiler::new(alloc, name, ScriptClock::new(100)))
+}
+
+/// Runs a function twice, and takes a frame.
+pub fn run<R: Print + AllocGlobal + Wait>(rt: &R) -> Option<()> {
+    let alloc = rt.alloc();
+    let scopes = Scopes {
+        switch: Switch::new(),
+        ids: ScopeIds::new(),
+        load: Site::new("crates/reader/src/load.rs", 30),
+        part: Site::new("crates/reader/src/load.rs", 32),
+    };
+    scopes.switch.set_scopes_on(true);
+    let mut thread = thread(alloc)?;
+    let mut profiler = GlobalProfiler::new(alloc);
+    reported(&mut thread, &scopes, &mut profiler)?;
+    reported(&mut thread, &scopes, &mut profiler)?;
+    let frame = again!(profiler.new_frame(rt))?.frame?;
+    print_frame(rt, &frame)
+}

@@ -1,0 +1,7 @@
+//! Merging, tested over the public calls of `puffin` alone.
+#![tactic(auto)]
+
+#[cfg(test)]
+mod merge;
+#[cfg(test)]
+mod refused_merges;

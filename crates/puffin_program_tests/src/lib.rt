@@ -1,0 +1,15 @@
+//! Scripts, recordings, counts and reports, as the program makes them, tested over the public calls of `puffin_replay` alone.
+#![tactic(auto)]
+
+#[cfg(test)]
+mod commands;
+#[cfg(test)]
+mod count;
+#[cfg(test)]
+mod record;
+#[cfg(test)]
+mod report;
+#[cfg(test)]
+mod script;
+#[cfg(test)]
+mod summary;
