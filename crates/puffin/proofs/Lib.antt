@@ -1,3 +1,4 @@
+pub mod lemmas
 mod HandingOn
 mod Numbering
 mod HandedOut

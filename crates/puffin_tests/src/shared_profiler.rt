@@ -7,13 +7,15 @@ use puffin::global_profiler::{
 };
 use puffin::scope_details::{ScopeDetails, ScopeIds};
 use puffin::thread_profiler::{Closed, NsSource, Reporter, ScriptClock, ThreadProfiler};
-use std::alloc::Global;
+use std::alloc::{AllocError, Global};
 use std::borrow::CowStr;
 use std::marker::Brand;
 use std::process::Abort;
 use std::sync::ledger::{Blank, Ledger};
 use std::sync::{Arc, Wait};
 use std::test::Fail;
+use std::thread;
+use std::thread::{JoinHandle, Threads};
 
 type Outcome = std::result::Result<(), Fail>;
 
@@ -125,11 +127,26 @@ fn in_order(alloc: Global, frames: &Frames, name: &str) -> puffin::Result<Option
     Ok(last)
 }
 
-/// Four workers and one taker of frames share a profiler, one after the other.
+/// Starts a worker on a thread of its own.
+fn start<
+    L: Ledger + Send + 'static,
+    M: Ledger + Send + 'static,
+    R: Threads + Wait + Copy + Send + 'static,
+>(
+    rt: R,
+    alloc: Global,
+    profiler: SharedProfiler<L, M>,
+    share: Share<L, M>,
+    worker: usize,
+) -> std::result::Result<JoinHandle<Option<Share<L, M>>>, AllocError> {
+    Ok(thread::spawn(&rt, move || { work(rt, alloc, profiler, share, worker) })?)
+}
+
+/// Four workers on threads of their own and one taker of frames share a profiler.
 fn four_workers<
     L: Ledger + Send + Sync + 'static,
     M: Ledger + Send + Sync + 'static,
-    R: Wait + Abort + Copy + Drop + Send + Sync + 'static,
+    R: Threads + Wait + Abort + Copy + Send + Sync + 'static,
 >(rt: R, alloc: Global, reported: Blank, handed: Blank) -> Outcome
     requires reported { (reported.name ≡ L.name)
         × (reported.parts ≡ L.parts)
@@ -147,18 +164,17 @@ fn four_workers<
         return Err(Fail::new("no memory"));
     };
     let mut shares = shares;
-    let mut settled = Vec::new(alloc);
     let mut own = shares.pop().ok_or("the taker's share")?;
-    let mut frames = Vec::new(alloc);
+    let mut workers = Vec::new(alloc);
     for worker in 0..NAMES.len() {
         let share = shares.pop().ok_or("a share")?;
-        let share = work(rt, alloc, profiler.clone()?, share, worker).ok_or("a worker")?;
-        settled.push(share)?;
-        if worker < 2 {
-            taken(&rt, &profiler, &mut own, 1, &mut frames)?;
-        }
+        workers.push(start(rt, alloc, profiler.clone()?, share, worker)?)?;
     }
-    let shares = settled;
+    let mut frames = Vec::new(alloc);
+    taken(&rt, &profiler, &mut own, 200, &mut frames)?;
+    for worker in workers {
+        shares.push(worker.join(&rt).ok_or("a worker")?)?;
+    }
     let one_too_few = profiler.settle(&rt, shares);
     let Err(shares) = one_too_few else {
         return Err(Fail::new("four shares are all"));

@@ -1,0 +1,88 @@
+-- A shared profiler and its shares may be sent to another thread, and so may a closure that captures them.
+use Rattle.std.proofs.Common.{List}
+use denote.Param.Send.{IsSend, IsSync, AllSend, sendable, enum_send, struct_send, recorded_send}
+use Rattle.std.proofs.Crossing.{crosses, dyn_box_send}
+use mir.Syntax.{Sym}
+use denote.Struct.Tuple.{TupleAt, type_at, field_at}
+use denote.Struct.Declared.{shape as struct_shape}
+use denote.RattleType.{RattleType}
+use denote.Param.Object.{Ghosts, table_of}
+use denote.Param.Sent.{Sends}
+use denote.Enum.Declared.{shape}
+use Rattle.std.specs.declared.sync.ledger.Ledger as led
+use Rattle.std.proofs.sync.ledger.Book.TheSendSync as ledger_book
+use Rattle.std.proofs.sync.ledger.Share.TheSendSync as ledger_share
+use Rattle.puffin.specs.contracts.global_profiler.sink.Sink as Sink
+use Rattle.puffin.specs.contracts.global_profiler.sinks.Entry as Entry
+use Rattle.puffin.specs.contracts.global_profiler.sinks.Sinks as Sinks
+use Rattle.puffin.specs.contracts.global_profiler.profiler.GlobalProfiler as Global
+use Rattle.puffin.specs.contracts.global_profiler.booked.Booked as Booked
+use Rattle.puffin.specs.contracts.global_profiler.shared_profiler.SharedProfiler as Shared
+use Rattle.puffin.specs.contracts.global_profiler.share.Share as Share
+use Rattle.std.proofs.MapsCrossing as maps
+use Rattle.puffin_frames.specs.contracts.frame_data.frame.FrameData as Frame
+use Rattle.puffin_frames.specs.contracts.scope_details.collection.ScopeCollection as Collection
+use Rattle.puffin_view.specs.contracts.profile_view.held_frames.HeldFrames as Held
+use Rattle.puffin_view.specs.contracts.profile_view.frame_store.FrameStore as Store
+use Rattle.puffin_view.specs.contracts.profile_view.frame_view.FrameView as View
+use Rattle.puffin_view.specs.contracts.profile_view.slow_rank.SlowRank as Rank
+use Rattle.puffin_collector.specs.contracts.collector.Collector as Collector
+
+pub frame_send : IsSend Frame.the_row
+frame_send = search (maps.crosses, crosses, sendable) depth 60 fits 100000
+
+pub frame_sync : IsSync Frame.the_row
+frame_sync = search (maps.crosses, crosses, sendable) depth 60 fits 100000
+
+pub collection_send : IsSend Collection.the_row
+collection_send = search (maps.crosses, crosses, sendable) depth 60 fits 100000
+
+pub rank_send : IsSend Rank.the_row
+rank_send = search (maps.crosses, crosses, sendable) depth 60 fits 100000
+
+pub held_send : IsSend Held.the_row
+held_send = search (frame_send, frame_sync, maps.crosses, crosses, sendable) depth 60 fits 100000
+
+pub store_send : IsSend Store.the_row
+store_send = search (held_send, rank_send, maps.crosses, crosses, sendable) depth 60 fits 100000
+
+pub view_send : IsSend View.the_row
+view_send = search (store_send, collection_send, crosses, sendable) depth 60 fits 100000
+
+pub collector_send : IsSend Collector.the_row
+collector_send = search (maps.crosses, crosses, sendable) depth 60 fits 100000
+
+module _ (D : RattleType) (g : Ghosts D.Denot) (s : Sends (table_of D.Denot g)) (sd : IsSend D) where
+  pub sink_send : IsSend (Sink.the_field D g).row
+  sink_send = enum_send (shape (Sink.the_type D g)) ((search (view_send, crosses, sendable) depth 30 fits 10000, tt), ((dyn_box_send D g s sd, tt), tt))
+
+  pub entry_send : IsSend (Entry.the_field D g).row
+  entry_send = search (sink_send, crosses, sendable) depth 30 fits 10000
+
+  pub sinks_send : IsSend (Sinks.the_field D g).row
+  sinks_send = search (entry_send, crosses, sendable) depth 30 fits 10000
+
+  pub global_send : IsSend (Global.the_field D g).row
+  global_send = search (sinks_send, collector_send, crosses, sendable) depth 30 fits 10000
+
+  module _ (L M : RattleType) (l : led.Ghosts L.Denot) (m : led.Ghosts M.Denot) where
+    pub booked_send : IsSend (Booked.the_field L M D l m g).row
+    booked_send = search (global_send, ledger_book.the_send, crosses, sendable) depth 30 fits 10000
+
+    pub shared_send : IsSend (Shared.the_field L M D l m g).row
+    shared_send = search (booked_send, crosses, sendable) depth 30 fits 10000
+
+    pub shared_row_send : IsSend (Shared.the_row L M D l m g)
+    shared_row_send = search (shared_send, sendable) depth 10 fits 10000
+
+module _ (L M : RattleType) (l : led.Ghosts L.Denot) (m : led.Ghosts M.Denot) where
+  pub share_field_send : IsSend (Share.the_field L M l m).row
+  share_field_send = search (ledger_share.the_send, crosses, sendable) depth 30 fits 10000
+
+  pub share_send : IsSend (Share.the_row L M l m)
+  share_send = share_field_send
+
+-- what a closure captures
+module _ (ν : Sym) (Ts : List RattleType) where
+  pub captures_send : AllSend (struct_shape (type_at ν Ts)).fields → IsSend (TupleAt ν Ts)
+  captures_send s = recorded_send (field_at ν Ts).row _ _ (type_at ν Ts).to_one (struct_send (struct_shape (type_at ν Ts)) s)
