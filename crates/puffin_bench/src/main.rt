@@ -3,7 +3,9 @@
 //! and of views alone.
 #![tactic(auto)]
 
+mod guards;
 mod merges;
+mod names;
 mod packets;
 mod reports;
 mod scopes;
@@ -12,7 +14,9 @@ mod sharing;
 mod views;
 
 use anyhow::{Context, Result};
+use guards::{GuardWork, Scopes};
 use merges::{MergeWork, main_thread, merged};
+use names::NameWork;
 use packets::{FileWork, Files};
 use puffin::scope_details::ScopeCollection;
 use puffin::thread_profiler::{ScriptClock, ThreadProfiler};
@@ -26,6 +30,8 @@ use views::{ViewWork, added};
 
 /// How often each work is run; the fastest run counts.
 const ROUNDS: u32 = 4_000;
+/// The same of names.
+const NAME_ROUNDS: u32 = 1_000;
 /// The same of files.
 const FILE_ROUNDS: u32 = 40;
 /// The same of views.
@@ -52,7 +58,8 @@ fn count(rt: &HostRuntime) -> Result<()> {
     println!(rt; "profiled_text12 scopes {scopes}")?;
     count_packets(rt)?;
     count_merges(rt)?;
-    count_views(rt)
+    count_views(rt)?;
+    count_guards(rt)
 }
 
 /// Merges a few frames, and prints how many scopes they have and how many top scopes come of it.
@@ -69,6 +76,22 @@ fn count_merges(rt: &HostRuntime) -> Result<()> {
     let tops = merged(rt.alloc(), &collection, &frames, &thread)?;
     let scopes = work.scopes();
     println!(rt; "merge scopes {scopes} tops {tops}")?;
+    Ok(())
+}
+
+/// Makes scopes by guards, and prints how many nests were reported; shortens names, and prints how many bytes they have.
+fn count_guards(rt: &HostRuntime) -> Result<()> {
+    for work in GuardWork::ALL {
+        let scopes = Scopes::new(work.is_on());
+        let reports = work.run(&mut thread(rt)?, &scopes)?;
+        let name = work.name();
+        println!(rt; "{name} reports {reports}")?;
+    }
+    for work in NameWork::ALL {
+        let bytes = work.run(rt.alloc())?;
+        let (name, units) = (work.name(), work.units());
+        println!(rt; "{name} names {units} bytes {bytes}")?;
+    }
     Ok(())
 }
 
@@ -144,6 +167,30 @@ fn time_threads(rt: &HostRuntime, name: &str, text: &str) -> Result<()> {
     print(rt, name, best, scopes)
 }
 
+/// Times scopes by guards and by macros, eight deep, with a report for each nest.
+fn time_guards(rt: &HostRuntime, work: GuardWork) -> Result<()> {
+    let scopes = Scopes::new(work.is_on());
+    let mut thread = thread(rt)?;
+    let mut best = u128::MAX;
+    for _ in 0..ROUNDS {
+        let begun = Instant::now(rt)?;
+        let _reports = work.run(&mut thread, &scopes)?;
+        best = best.min(begun.elapsed(rt)?.as_nanos());
+    }
+    print(rt, work.name(), best, guards::SCOPES)
+}
+
+/// Times short names, a name being a unit.
+fn time_names(rt: &HostRuntime, work: NameWork) -> Result<()> {
+    let mut best = u128::MAX;
+    for _ in 0..NAME_ROUNDS {
+        let begun = Instant::now(rt)?;
+        let _bytes = work.run(rt.alloc())?;
+        best = best.min(begun.elapsed(rt)?.as_nanos());
+    }
+    print(rt, work.name(), best, work.units())
+}
+
 /// Times what is done with the frames of a file, a frame being a unit.
 fn time_file(rt: &HostRuntime, files: &mut Files, work: FileWork) -> Result<()> {
     let mut best = u128::MAX;
@@ -202,6 +249,12 @@ fn time(rt: &HostRuntime) -> Result<()> {
     }
     time_threads(rt, "profiled_empty", "")?;
     time_threads(rt, "profiled_text12", TEXT)?;
+    for work in GuardWork::ALL {
+        time_guards(rt, work)?;
+    }
+    for work in NameWork::ALL {
+        time_names(rt, work)?;
+    }
     time_packets(rt)?;
     time_frames(rt)
 }

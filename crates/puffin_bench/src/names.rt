@@ -1,0 +1,85 @@
+//! Short names of functions and of files.
+
+use puffin::utils::{clean_function_name, short_file_name};
+use puffin_data::Result;
+use std::alloc::Global;
+
+/// How often a run goes over its table.
+const TIMES: usize = 100;
+
+const FUNCTIONS: [&str; 7] = [
+    "",
+    "foo::f",
+    "foo::bar::f",
+    "foo::bar::baz::f",
+    "a::b::c::{{closure}}::{{closure}}::f",
+    "some::GenericThing<_, _>::function_name::f",
+    "user scope",
+];
+
+const FILES: [&str; 11] = [
+    "",
+    "foo.rs",
+    "/Users/emilk/.cargo/registry/src/github.com-1ecc6299db9ec823/tokio-1.24.1/src/runtime/runtime.rs",
+    "foo/bar.rs",
+    "foo/bar/baz.rs",
+    "crates/cratename/src/main.rs",
+    "crates\\cratename\\src\\main.rs",
+    "workspace/cratename/examples/hello_world.rs",
+    "/rustc/d5a82bbd26e1ad8b7401f6a718a9c57c96905483/library/core/src/ops/function.rs",
+    "src/a/b/c.rs",
+    "a/b/src",
+];
+
+/// A kind of work.
+#[derive(Clone, Copy)]
+pub enum NameWork {
+    /// Names of functions.
+    Functions,
+    /// Names of files.
+    Files,
+}
+
+impl NameWork {
+    /// Each kind of work.
+    pub const ALL: [NameWork; 2] = [NameWork::Functions, NameWork::Files];
+
+    /// What it is called where its time is printed.
+    pub fn name(self) -> &'static str {
+        match self {
+            NameWork::Functions => "clean_function_name",
+            NameWork::Files => "short_file_name",
+        }
+    }
+
+    /// How many names a run shortens.
+    pub fn units(self) -> usize {
+        match self {
+            NameWork::Functions => TIMES * FUNCTIONS.len(),
+            NameWork::Files => TIMES * FILES.len(),
+        }
+    }
+
+    fn shortened(self, alloc: Global, name: &str) -> Result<String> {
+        match self {
+            NameWork::Functions => clean_function_name(alloc, name),
+            NameWork::Files => short_file_name(alloc, name),
+        }
+    }
+
+    /// Shortens each name of the table, so often. Returns how many bytes the short names have.
+    #[inline(never)]
+    pub fn run(self, alloc: Global) -> Result<usize> {
+        let table: &[&str] = match self {
+            NameWork::Functions => &FUNCTIONS,
+            NameWork::Files => &FILES,
+        };
+        let mut bytes: usize = 0;
+        for _ in 0..TIMES {
+            for name in table {
+                bytes = bytes.wrapping_add(self.shortened(alloc, name)?.len());
+            }
+        }
+        Ok(bytes)
+    }
+}
