@@ -8,7 +8,7 @@ use Rattle.puffin_frames.specs.Frame.Contents.{AreHonest}
 use Rattle.puffin_collector.specs.Profiler.State.{Collected}
 use Rattle.puffin_collector.specs.Profiler.Collecting.{Collects}
 use Rattle.puffin.specs.Shares.{SpellsItsScopes}
-use Rattle.puffin.specs.declared.global_profiler.profiler.Emitted.{Emitted}
+use Rattle.puffin_collector.specs.declared.emitted.Emitted.{Emitted}
 
 spells : {A : Type 0} (old new : Collected) (frame : Option (Arc FrameData A)) → AreHonest old.streams → Collects old frame new → SpellsItsScopes frame
 spells old new None honest collects = tt

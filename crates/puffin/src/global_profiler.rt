@@ -12,8 +12,8 @@ mod sinks;
 
 pub use booked::{Booked, Settled};
 pub use global_frame_view::GlobalFrameView;
-pub use profiler::{Emitted, GlobalProfiler};
-pub use puffin_collector::{Collector, Totals};
+pub use profiler::GlobalProfiler;
+pub use puffin_collector::{Collector, Emitted, Totals};
 pub use share::Share;
 pub use shared_profiler::SharedProfiler;
 pub use shared_reporter::SharedReporter;

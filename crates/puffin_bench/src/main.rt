@@ -1,6 +1,6 @@
 //! Times what the profiler does, for a comparison with the Rust crate. Without words it runs each kind of work once and
-//! prints what it counted; with the word `time` it prints the nanoseconds that each takes, with `frames` those of merging
-//! and of views alone.
+//! prints what it counted; with the word `time` it prints the nanoseconds that each takes, with `time threads_` those of
+//! threads that share a profiler alone, with `frames` those of merging and of views alone.
 #![tactic(auto)]
 
 mod guards;
@@ -11,6 +11,7 @@ mod reports;
 mod scopes;
 mod shared_views;
 mod sharing;
+mod threads;
 mod views;
 
 use anyhow::{Context, Result};
@@ -23,7 +24,7 @@ use puffin::thread_profiler::{ScriptClock, ThreadProfiler};
 use puffin_data::data::Stream;
 use reports::profiled;
 use scopes::{Work, written};
-use sharing::{count_sharing, time_reports, time_shared_views};
+use sharing::{count_sharing, time_reports, time_shared_views, time_threads};
 use std::env;
 use std::time::Instant;
 use views::{ViewWork, added};
@@ -155,7 +156,7 @@ fn time_scopes(rt: &HostRuntime, work: &Work) -> Result<()> {
 }
 
 /// Times the scopes of a thread profiler, eight deep, with a report for each nest.
-fn time_threads(rt: &HostRuntime, name: &str, text: &str) -> Result<()> {
+fn time_thread(rt: &HostRuntime, name: &str, text: &str) -> Result<()> {
     let mut thread = thread(rt)?;
     let mut best = u128::MAX;
     let mut scopes = 0;
@@ -247,8 +248,8 @@ fn time(rt: &HostRuntime) -> Result<()> {
     for work in Work::ALL {
         time_scopes(rt, &work)?;
     }
-    time_threads(rt, "profiled_empty", "")?;
-    time_threads(rt, "profiled_text12", TEXT)?;
+    time_thread(rt, "profiled_empty", "")?;
+    time_thread(rt, "profiled_text12", TEXT)?;
     for work in GuardWork::ALL {
         time_guards(rt, work)?;
     }
@@ -274,9 +275,13 @@ fn main(rt: HostRuntime) -> Result<()> {
     let mut words = env::args(&rt)?.skip(1);
     match words.next() {
         Some(word) if word.as_str() == "time" => {
-            time_reports(&rt)?;
-            time(&rt)?;
-            time_shared_views(&rt)
+            let prefix = words.next();
+            if !prefix.is_some_and(|prefix| prefix.as_str().starts_with("threads_")) {
+                time_reports(&rt)?;
+                time(&rt)?;
+                time_shared_views(&rt)?;
+            }
+            time_threads(rt)
         }
         Some(word) if word.as_str() == "frames" => time_frames(&rt),
         _ => {

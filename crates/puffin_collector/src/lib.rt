@@ -11,7 +11,9 @@
 
 mod collector;
 mod delta;
+mod emitted;
 mod totals;
 
 pub use collector::Collector;
+pub use emitted::Emitted;
 pub use totals::Totals;

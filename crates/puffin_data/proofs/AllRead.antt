@@ -14,9 +14,6 @@ pub record HasRead (from now : Place) (scopes : List Scope) : Type 0 where
   pub same_bytes : now.bytes ≡ from.bytes
   pub reads : (later : List (Result ReadScope Error)) → ReaderGives from.bytes now.at later → ReaderGives from.bytes from.at (items scopes ++ later)
 
-pub nothing_read : (from : Place) → HasRead from from []
-nothing_read from = record { same_bytes = refl; reads = λ later r. r }
-
 after_some : (from : Place) (x : Result (Option ReadScope) Error) (s : ReadScope) (at : ℕ) → (Some (Ok s), at) ≡ next_after from x → (x ≡ Ok (Some s)) × (at ≡ s.next_sibling)
 after_some from (Ok None) s at e = absurd (some_none _ (ap (λ p. p.0) e))
   where

@@ -77,9 +77,6 @@ meta_short m =
 
 -- ---- a range that a frame may have
 
-pub range_holds : (start stop : ℤ) → start ≤ℤ stop → FitsSigned w64 (stop -ℤ start) → is_range_at start stop ≡ true
-range_holds start stop ordered fits = and-both (int_le start stop) (int_lt (stop -ℤ start) (pos (2 ^ 63))) (grind (arith, ints)) (grind (arith, ints))
-
 -- ---- a collection's details
 
 ids_sorted : {A : Type 0} (es : List (ℕ × Arc ScopeDetails A)) → IsStrictlySortedBy nat_cmp (keys_of es) → is_sorted nat_cmp (ids_seen es) ≡ true

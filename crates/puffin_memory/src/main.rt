@@ -6,6 +6,7 @@ mod guards;
 mod packets;
 mod refusal;
 mod registrations;
+mod shared;
 mod summaries;
 
 use std::process::ExitCode;
@@ -14,7 +15,8 @@ fn main(rt: HostRuntime) -> ExitCode {
     let is_done = registrations::run(&rt).is_some()
         && packets::run(&rt).is_some()
         && summaries::run(&rt).is_some()
-        && guards::run(&rt).is_some();
+        && guards::run(&rt).is_some()
+        && shared::run(&rt).is_some();
     if is_done {
         ExitCode::SUCCESS
     } else {

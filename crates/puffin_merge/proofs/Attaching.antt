@@ -95,12 +95,6 @@ HoldForests nodes frames rows places drawn = (q : ℕ) (r : Siblings) → q < le
 abbrev pub AreEmpty : List Siblings → Type 0
 AreEmpty rows = EachOf (λ r. r.items ≡ []) rows
 
-pub empty_more : (rows all : List Siblings) (r : Siblings) → all ≡ rows ++ (r ∷ []) → r.items ≡ [] → AreEmpty rows → AreEmpty all
-empty_more rows all r e none h = subst AreEmpty (sym e) (push rows h) where
-  push : (rows : List Siblings) → AreEmpty rows → AreEmpty (rows ++ (r ∷ []))
-  push [] h = (none, tt)
-  push (y ∷ rows) h = (h.0, push rows h.1)
-
 empty_at : (rows : List Siblings) (q : ℕ) (r : Siblings) → AreEmpty rows → q < length rows → (get_or rows q r).items ≡ []
 empty_at [] q r h lt = absurd (omega arith)
 empty_at (x ∷ rows) zero r h lt = h.0
@@ -111,12 +105,6 @@ none_after [] zero e = refl
 none_after [] (suc n) e = absurd (omega arith)
 none_after (x ∷ xs) zero e = absurd (omega arith)
 none_after (x ∷ xs) (suc n) e = none_after xs n (omega arith)
-
--- before any place
-pub none_hold : (nodes : List Node) (frames : ℕ) (rows : List Siblings) (places : List Place) (drawn : List Drawn) (n : ℕ) → n ≡ length places → AreEmpty rows → HoldForests nodes frames rows (drop n places) (drop n drawn)
-none_hold nodes frames rows places drawn n e empty =
-    subst (λ (ps : List Place). HoldForests nodes frames rows ps (drop n drawn)) (sym (none_after places n e))
-    (λ q r lt apart. ap (λ (scopes : List MergeScope). forest_in (reverse scopes)) (empty_at rows q r empty lt))
 
 turned : (places : List Place) (q : ℕ) → EachOf (λ z. q ≡ z.number.number → ⊥) places → IsNot q places
 turned [] q h = tt

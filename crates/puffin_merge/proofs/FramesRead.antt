@@ -27,12 +27,6 @@ pub record HasRead (frames : List FrameBytes) (i : ℕ) (t : Table) (tried : ℕ
   pub table : IsTableOf (occurrences_from (start_of frames) scopes) t
   pub tries : tried ≡ length (occurrences_from (start_of frames) scopes)
 
-pub read_none : (frames : List FrameBytes) (t : Table) → IsTableOf [] t → HasRead frames 0 t 0
-read_none frames t table = record { scopes = []; have = have_none frames; accepted = tt; table = table; tries = refl } where
-  have_none : (frames : List FrameBytes) → HaveScopes (take 0 frames) []
-  have_none [] = tt
-  have_none (f ∷ frames) = tt
-
 have_push : (frames : List FrameBytes) (scopes : List FrameScopes) (f : FrameBytes) (s : FrameScopes) → HaveScopes frames scopes → HasScopes f s → HaveScopes (frames ++ (f ∷ [])) (scopes ++ (s ∷ []))
 have_push [] [] f s h x = (x, tt)
 have_push [] (t ∷ scopes) f s h x = absurd h

@@ -154,10 +154,6 @@ fresh_path all t key k table parent fresh lt e =
     let parents : (get_or t.nodes.items k d).key.parent.number ≡ key.parent.number = table.apart _ _ (omega arith) parent parts.0 in
     fresh k lt (λ f. subst (λ (m : Node). IsSameKey m.key key) (same_at t.nodes.items k d f (omega arith)) (record { parent = parents; label = parts.1 }))
 
--- the empty path is that of the number above all nodes alone
-top_apart : (all : List Occurrence) (t : Table) (k : ℕ) → IsTableOf all t → k < vec_len t.nodes → path_at t.nodes.items 0 ≡ path_at t.nodes.items (k + 1) → ⊥
-top_apart all t k table lt e = let zero_is = table.apart 0 (k + 1) (omega arith) (omega arith) e in absurd (omega arith)
-
 started_each : (all : List Occurrence) (t : Table) (key : Key) (o : Occurrence) (k : ℕ) (d : Node) → IsTableOf all t → 0 < key.id → key.parent.number ≤ vec_len t.nodes → o.duration < 2 ^ 63 → o.path ≡ below (path_at t.nodes.items key.parent.number) (label_in key)
     → ((j : ℕ) → j < vec_len t.nodes → path_at t.nodes.items (j + 1) ≡ o.path → ⊥) → k < vec_len t.nodes + 1
     → IsNodeOf (all ++ (o ∷ [])) (t.nodes.items ++ (made_node key o.own_start o.duration ∷ [])) k (get_or (t.nodes.items ++ (made_node key o.own_start o.duration ∷ [])) k d)

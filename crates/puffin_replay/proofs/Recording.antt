@@ -20,18 +20,24 @@ use Rattle.puffin_frames.specs.Details.Collection.{Collection, with_details, wit
 use Rattle.puffin_frames.specs.Packet.Stored.{Said}
 use Rattle.puffin_view.specs.declared.profile_view.frame_view.FrameView.{FrameView}
 use Rattle.puffin_view.specs.View.ViewedFrames.{Frame, contents_of, index_of}
-use Rattle.puffin_view.specs.View.FrameOf.{details_of_frame}
+use Rattle.puffin_view.specs.View.FrameOf.{shared_frame, details_of_frame}
+use Rattle.puffin_frames.specs.declared.frame_data.frame.FrameData.{FrameData}
+use Rattle.std.specs.declared.sync.Arc.{Arc}
+use Rattle.std.specs.declared.alloc.Global.{Global}
 use Rattle.puffin_view.specs.View.{View, Took, empty_view, after_taking, after_all, KeepsFrames}
 use Rattle.puffin_view.specs.View.Known.{view_of, collection_of, lacks_ids}
 use Rattle.puffin_view.specs.View.File.{file_of, contents_held, contents_in}
-use Rattle.puffin_replay.specs.declared.replay.command.Command.{Command}
+use Rattle.puffin_session.specs.declared.command.Command.{Command}
 use Rattle.puffin_replay.specs.declared.replay.script.Script.{Script}
-use Rattle.puffin_replay.specs.declared.replay.command.Reply.{Reply}
-use Rattle.puffin_replay.specs.Program.Recording.{HasIds, NoneLacksIds, emitted_by, frames_emitted, Takes, TakesSome, AreReplies, file_of_view, IsBroken}
+use Rattle.puffin_session.specs.declared.command.Reply.{Reply}
+use Rattle.puffin_session.specs.declared.command.Reply.TheVariants as reply
+use Rattle.puffin_session.specs.Session.Runs.{HasIds, AreReplies, details_told, details_of_reply}
+use Rattle.puffin_report.specs.Summary.{NoneLacksIds}
+use Rattle.puffin_replay.specs.Program.Recording.{frame_in, emitted_by, frames_emitted, Takes, TakesSome, file_of_view, IsBroken}
 use Rattle.puffin_replay.specs.Program.ScriptRun.{AreAnswers, view_after, IsReplayed, IsUnfinished}
 use Rattle.puffin_replay.specs.Program.ReplyLines.{reply_lines}
-use Rattle.puffin_replay.specs.Session.{SessionState, new_session}
-use Rattle.puffin_replay.proofs.WrittenLines.{nothing_written}
+use Rattle.puffin_session.specs.Session.{SessionState, new_session}
+use Rattle.puffin_report.proofs.lemmas.WrittenLines.{nothing_written}
 
 -- ---- lists
 
@@ -79,10 +85,19 @@ frames_lack_none [] all = refl
 frames_lack_none (f ∷ fs) all =
     rw (none_lack (details_of_frame f) (all_first (λ d. IsSome d.id) (details_of_frame f) (flat_map details_of_frame fs) all)) (frames_lack_none fs (all_rest (λ d. IsSome d.id) (details_of_frame f) (flat_map details_of_frame fs) all))
 
+-- the details of a reply are those of its frame
+same_details : (r : Reply) → details_of_reply r ≡ flat_map details_of_frame (emitted_by r)
+same_details (reply.Frame emitted) = in_frame emitted.frame where
+  in_frame : (o : Option (Arc FrameData Global)) → details_told o ≡ flat_map details_of_frame (frame_in o)
+  in_frame None = refl
+  in_frame (Some f) = sym (append-nil (details_of_frame (shared_frame f)))
+same_details r = refl
+
 replies_lack_none : (rs : List Reply) → AllByRecursion HasIds rs → NoneLacksIds (map contents_of (frames_emitted rs))
 replies_lack_none [] all = refl
 replies_lack_none (r ∷ rs) all =
-    let one = frames_lack_none (emitted_by r) (recursion_from_All (λ (d : Details). IsSome d.id) (flat_map details_of_frame (emitted_by r)) all.0) in
+    let told = subst AllHaveIds (same_details r) all.0 in
+    let one = frames_lack_none (emitted_by r) (recursion_from_All (λ (d : Details). IsSome d.id) (flat_map details_of_frame (emitted_by r)) told) in
     subst NoneLacksIds (sym (map-append contents_of (emitted_by r) (frames_emitted rs))) (both_none (map contents_of (emitted_by r)) (map contents_of (frames_emitted rs)) one (replies_lack_none rs all.1))
 
 -- what a view holds after it took the frames of these replies
@@ -152,7 +167,7 @@ module _ (rs : List Reply) (i : ℕ) (r : Reply) (h : i < length rs) (is : r ≡
     split = frames-split ∙ ap (λ (fs : List Frame). frames_emitted (take i rs) ++ (fs ++ frames_emitted (drop (i + 1) rs))) some
 
     have_ids : HasIds r → AllHaveIds (details_of_frame f)
-    have_ids ids = subst AllHaveIds (ap (flat_map details_of_frame) some ∙ append-nil (details_of_frame f)) ids
+    have_ids ids = subst AllHaveIds (same_details r ∙ ap (flat_map details_of_frame) some ∙ append-nil (details_of_frame f)) ids
 
     pub refused_for_memory : {T : Type 0} (answer : Result T Error) (e : Error) → All HasIds rs → answer ≡ Err e → ((answer ≡ Err MissingId) ↔ (lacks_ids (contents_of f) ≡ true)) → (e ≡ MissingId) ⊎ (e ≡ Memory) → e ≡ Memory
     refused_for_memory answer e ids was missing cause = memory_alone answer e (details_of_frame f) (have_ids (subst HasIds (sym is) (All-get_or HasIds rs i r h ids))) was missing cause
@@ -175,10 +190,6 @@ module _ (rs : List Reply) (i : ℕ) (r : Reply) (h : i < length rs) (is : r ≡
 -- ---- a script's run
 
 -- the lines weren't written whole
-pub told-cut : {T W : Type 0} (X : Type 0) (Q : FileError → Type 0) (r : Result T FileError) → ((e : FileError) → e ≡ file.Io → W → Q e) → OnErr r W → IfErr r (λ e. (e ≡ file.Io) × X) → IfErr r Q
-told-cut X Q (Ok x) step part io = tt
-told-cut X Q (Err e) step part io = step e io.0 part
-
 module _ (script : Script) (names : List (List ℕ)) (commands : List Command) (same_names : names ≡ map string_bytes script.names.items) (same_commands : commands ≡ script.commands.items) where
   pub answers : (replies : List Reply) (end : SessionState) → AreReplies names commands replies end → AreAnswers script replies end
   answers replies end run = subst (λ (ns : List (List ℕ)). AreReplies ns script.commands.items replies end) same_names (subst (λ (cs : List Command). AreReplies names cs replies end) same_commands run)

@@ -17,8 +17,8 @@ use Rattle.puffin_replay.specs.Script.{is_line_feed, lines_in, is_skipped, known
 use Rattle.std.proofs.lemmas.List.Folds.{list_any-append}
 use Rattle.std.proofs.lemmas.Slice.Eq.{bytes_eq-Decides}
 use Rattle.std.specs.Str.{bytes_eq}
-use Rattle.puffin_replay.specs.declared.replay.command.Command.{Command}
-use Rattle.puffin_replay.specs.declared.replay.command.Command.TheVariants as command
+use Rattle.puffin_session.specs.declared.command.Command.{Command}
+use Rattle.puffin_session.specs.declared.command.Command.TheVariants as command
 use Rattle.puffin_replay.proofs.Statements.{one_word}
 
 -- ---- lines
@@ -193,11 +193,5 @@ after_onto : (before : List (ℕ × Meaning)) (s : ℕ × Meaning) (later : Resu
 after_onto before s (Ok later) = ap (λ (xs : List (ℕ × Meaning)). Ok xs) (sym (append_assoc before (s ∷ []) later))
 after_onto before s (Err wrong) = refl
 
-pub after_skipped : (before : List (ℕ × Meaning)) (number : ℕ) (line : List ℕ) (lines left : List (List ℕ)) → left ≡ line ∷ lines → told_by number line ≡ Ok None → after before (statements_from number left) ≡ after before (statements_from (number + 1) lines)
-after_skipped before number line lines left e told = rw (e, told) refl
-
 pub after_said : (before : List (ℕ × Meaning)) (number : ℕ) (line : List ℕ) (lines left : List (List ℕ)) (s : Meaning) → left ≡ line ∷ lines → told_by number line ≡ Ok (Some s) → after before (statements_from number left) ≡ after (before ++ (number, s) ∷ []) (statements_from (number + 1) lines)
 after_said before number line lines left s e told = rw (e, told) (after_onto before (number, s) (statements_from (number + 1) lines))
-
-pub after_wrong : (before : List (ℕ × Meaning)) (number : ℕ) (line : List ℕ) (lines left : List (List ℕ)) → left ≡ line ∷ lines → told_by number line ≡ Err number → after before (statements_from number left) ≡ Err number
-after_wrong before number line lines left e told = rw (e, told) refl

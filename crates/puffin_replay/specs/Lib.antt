@@ -1,4 +1,3 @@
-pub mod Session
 pub mod inner
 pub mod Script
 pub mod Program

@@ -5,8 +5,8 @@ use Rattle.std.specs.List.{slice_split, list_any}
 use Rattle.std.specs.Str.{bytes_eq, is_utf8}
 use Rattle.std.specs.String.{string_bytes}
 use Rattle.puffin_replay.specs.Script.Statements.{Meaning, begins, ends, registers, registers_user, tells_all, takes_frame, words_in, line_meaning}
-use Rattle.puffin_replay.specs.declared.replay.command.Command.{Command}
-use Rattle.puffin_replay.specs.declared.replay.command.Command.TheVariants as command
+use Rattle.puffin_session.specs.declared.command.Command.{Command}
+use Rattle.puffin_session.specs.declared.command.Command.TheVariants as command
 use Rattle.puffin_replay.specs.declared.replay.fault.ToolFault.{ToolFault}
 use Rattle.puffin_replay.specs.declared.replay.fault.ToolFault.TheVariants as fault
 use Rattle.puffin_replay.specs.declared.replay.script.Script.{Script}

@@ -7,10 +7,6 @@ use Rattle.std.specs.List.{slice_split, join_with_byte}
 use Rattle.std.proofs.lemmas.List.Splits.{join_with_byte-slice_split}
 use Rattle.puffin_scopes.specs.Names.Files.{last_src, is_src, kept_parts}
 
-none_or : {A : Type 0} (o : Option A) → option_or o None ≡ o
-none_or None = refl
-none_or (Some x) = refl
-
 pub last_src-snoc : (parts : List (List ℕ)) (part : List ℕ) → last_src (parts ++ part ∷ []) ≡ (if is_src part then Some (length parts) else last_src parts)
 last_src-snoc [] part = refl
 last_src-snoc (p ∷ parts) part =

@@ -2,6 +2,8 @@
 #![tactic(auto)]
 
 #[cfg(test)]
+mod example;
+#[cfg(test)]
 mod global_profiler;
 #[cfg(test)]
 mod shared_profiler;

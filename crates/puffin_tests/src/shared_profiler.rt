@@ -25,7 +25,7 @@ const SCOPES: u32 = 1000;
 const NAMES: [&str; 4] = ["w0", "w1", "w2", "w3"];
 
 /// A thread profiler with any clock. (One that several ledgers go by can be handed to a function over all of these alone.)
-trait Ends {
+pub trait Ends {
     fn end<P: Reporter>(&mut self, scope: usize, reporter: &mut P) -> puffin::Result<Closed>;
 }
 
@@ -36,7 +36,7 @@ impl<C: NsSource> Ends for ThreadProfiler<C> {
 }
 
 /// Ends a scope of a thread, with a report by a share.
-fn ended<T: Ends, L: Ledger, M: Ledger, R: Wait>(
+pub fn ended<T: Ends, L: Ledger, M: Ledger, R: Wait>(
     thread: &mut T,
     scope: usize,
     reporter: &mut SharedReporter<L, M, R>,

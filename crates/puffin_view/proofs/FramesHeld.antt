@@ -125,9 +125,6 @@ second : (a b : Bool) → (a && b) ≡ true → b ≡ true
 second true b h = h
 second false b h = cc
 
-both_true : (a b : Bool) → a ≡ true → b ≡ true → T (a && b)
-both_true a b p q = rw (p, q) tt
-
 below_is : (i k : ℕ) → nat_lt i k ≡ true → is_lt (nat_cmp i k) ≡ true
 below_is i k h = grind arith
 

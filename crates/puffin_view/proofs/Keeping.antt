@@ -141,29 +141,7 @@ IsKept-packed i recent slow last h =
       apart = apart_packed_all i slow h.apart;
     }
 
-pub IsKept-none : (last : Option ℕ) → AreViewLists [] [] last
-IsKept-none last = record { recent_taken = tt; slow_taken = tt; rising = tt; apart = tt }
-
-pub IsKept-cleared : (recent slow : List Frame) (last : Option ℕ) → AreViewLists recent slow last → AreViewLists recent [] last
-IsKept-cleared recent slow last h = record { recent_taken = h.recent_taken; slow_taken = tt; rising = h.rising; apart = tt }
-
--- one frame more
-below_at_most : (f : Frame) (fs : List Frame) → AllByRecursion (λ g. index_of g < index_of f) fs → AllByRecursion (λ g. index_of g ≤ index_of f) fs
-below_at_most f fs h = all_map (λ g. index_of g < index_of f) (λ g. index_of g ≤ index_of f) (λ g k. omega arith) fs h
-
-slow_choice : (k : ℕ) (f : Frame) (slow : List Frame) (b : Bool) → AllByRecursion (λ g. index_of g < index_of f) slow → HaveOwnIndices slow
-    → HaveOwnIndices (cond b (take k (place is_slower_frame f slow)) slow)
-slow_choice k f slow true h a = apart_take k (place is_slower_frame f slow) (apart_place f slow a h)
-slow_choice k f slow false h a = a
-
 pub all_choice : (P : Frame → Type 0) (k : ℕ) (f : Frame) (slow : List Frame) (b : Bool) → P f → AllByRecursion P slow → AllByRecursion P (cond b (take k (place is_slower_frame f slow)) slow)
 all_choice P k f slow true p h = all_take P k (place is_slower_frame f slow) (all_place P f slow p h)
 all_choice P k f slow false p h = h
 
-pub IsKept-joined : (v : View) (f : Frame) → AreViewLists v.recent v.slow v.last → AllByRecursion (λ g. index_of g < index_of f) v.recent → AllByRecursion (λ g. index_of g < index_of f) v.slow → AreViewLists (joined_by v f).recent (joined_by v f).slow (Some (index_of f))
-IsKept-joined v f h r s = record {
-  recent_taken = all_drop (λ g. index_of g ≤ index_of f) (length (v.recent ++ f ∷ []) - v.max_recent) (v.recent ++ f ∷ []) (all_more (λ g. index_of g ≤ index_of f) v.recent f (below_at_most f v.recent r) (omega arith));
-  slow_taken = all_choice (λ g. index_of g ≤ index_of f) v.max_slow f v.slow (enters v f) (omega arith) (below_at_most f v.slow s);
-  rising = rising_drop (length (v.recent ++ f ∷ []) - v.max_recent) (v.recent ++ f ∷ []) (rising_more v.recent f h.rising r);
-  apart = slow_choice v.max_slow f v.slow (enters v f) s h.apart;
-}

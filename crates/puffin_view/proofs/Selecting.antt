@@ -50,18 +50,6 @@ pub not_pushed_at : {A B : Type 0} (g : A → B) (all : List A) (frames : List A
 not_pushed_at g all frames place there =
     sym (append-nil (map g all)) ∙ ap (λ o. map g all ++ option_to_list o) (ap (option_map g) there ∙ sym (slice_get_map g frames place))
 
-cons_is : {B : Type 0} (o : Option B) (xs : List B) → cons_option o xs ≡ option_to_list o ++ xs
-cons_is None xs = refl
-cons_is (Some x) xs = refl
-
-pub at_more : {X B : Type 0} (P : Rank → Option B) (s : X → Rank) (hs : List X) (k : ℕ) (d : X) (done new whole : List B) → k < length hs → new ≡ done ++ option_to_list (P (s (get_or hs k d)))
-    → done ++ filter_map P (map s (drop k hs)) ≡ whole → new ++ filter_map P (map s (drop (k + 1) hs)) ≡ whole
-at_more P s hs k d done new whole h is so =
-    let rest : List _ = filter_map P (map s (drop (suc k) hs)) in
-    let o : Option _ = P (s (get_or hs k d)) in
-    let left : filter_map P (map s (drop k hs)) ≡ option_to_list o ++ rest = ap (λ l. filter_map P (map s l)) (drop-cons hs k d h) ∙ cons_is o rest in
-    rw (add-one, is) (append_assoc done (option_to_list o) rest ∙ ap (λ l. done ++ l) (sym left) ∙ so)
-
 no_room : (n : ℕ) → suc n ≤ 0 → ⊥
 no_room n h = omega arith
 

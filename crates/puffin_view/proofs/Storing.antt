@@ -125,12 +125,6 @@ held_back h (f ∷ fs) held = rw held.0 (ap (λ gs. f ∷ gs) (held_back h fs he
 
 -- letting go
 
-pub LetsGo-none : (held : HeldFrames) (stays : List ℕ) → LetsGo held stays [] held
-LetsGo-none held stays q = at (has q stays) where
-  at : (b : Bool) → fin.get held q ≡ cond b (fin.get held q) (fin.get held q)
-  at true = refl
-  at false = refl
-
 pub is_at : (q i : ℕ) → eq_by_cmp nat_cmp q i ≡ nat_eq q i
 is_at q i = grind arith
 

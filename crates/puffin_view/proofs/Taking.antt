@@ -118,10 +118,6 @@ anew_at v f false e = cc
 pub Holds-anew : (v : View) (f : Frame) → is_past v (index_of f) ≡ true → Holds (contents_of f ∷ []) (contents_of f ∷ []) (after_taking v f)
 Holds-anew v f p = anew_at v f (is_past v (index_of f)) p
 
--- after the slowest were cleared, their list is empty
-pub Holds-cleared : (v : View) (cs ds : List Said) → Holds cs ds v → Holds cs [] (record v { slow = [] })
-Holds-cleared v cs ds h = record { recent = h.recent; slow = (Holds-emptied v).slow }
-
 -- steadiness
 all_place : (P : Frame → Type 0) (f : Frame) (fs : List Frame) → P f → AllByRecursion P fs → AllByRecursion P (place is_slower_frame f fs)
 all_place P f [] p h = (p, tt)

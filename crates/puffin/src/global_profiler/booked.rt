@@ -17,10 +17,10 @@ ghost use Rattle.puffin.specs.Sinks.{PutsIn, TakesOut, HasNone};
 ghost use Rattle.puffin.specs.Sinks.Handing.{HandsOn, HandsOnAny};
 ghost use Rattle.puffin.specs.Shares.{with_reported, CountsFrame, all_reported, all_handed};
 
-use crate::global_profiler::profiler::{Emitted, GlobalProfiler};
+use crate::global_profiler::profiler::GlobalProfiler;
 use crate::global_profiler::share::{Parts, Share};
 use crate::global_profiler::sink::{FrameSink, FrameSinkId, Sink};
-use puffin_collector::Totals;
+use puffin_collector::{Emitted, Totals};
 use puffin_data::data::{ScopeId, StreamInfoRef};
 use puffin_data::{Error, Result};
 use puffin_frames::frame_data::FrameData;

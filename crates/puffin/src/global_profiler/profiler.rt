@@ -17,7 +17,7 @@ ghost use Rattle.puffin.specs.Sinks.Handing.{HandsOn, HandsOnAny};
 
 use crate::global_profiler::sink::{FrameSink, FrameSinkId, Sink};
 use crate::global_profiler::sinks::{Entry, Sinks};
-use puffin_collector::{Collector, Totals};
+use puffin_collector::{Collector, Emitted, Totals};
 use puffin_data::data::{ScopeId, StreamInfoRef};
 use puffin_data::{Error, Result};
 use puffin_frames::frame_data::{FrameData, FrameIndex};
@@ -25,15 +25,6 @@ use puffin_frames::scope_details::{ScopeDetails, ScopeIds};
 use puffin_frames::thread_profiler::{Reporter, ThreadInfo};
 use std::alloc::Global;
 use std::sync::{Arc, Wait};
-
-/// What [`GlobalProfiler::new_frame`] did.
-#[derive(Drop)]
-pub struct Emitted {
-    /// The frame, where there was a scope to emit.
-    pub frame: Option<Arc<FrameData>>,
-    /// How many sinks didn't take the frame.
-    pub refused: usize,
-}
 
 /// What threads report to. It collects what they report, and hands it out in frames, to its sinks too.
 #[derive(Drop)]

@@ -11,10 +11,10 @@ ghost use Rattle.puffin.specs.Shares.{no_counts, with_reported, CountsFrame, Spe
 ghost use Rattle.puffin.specs.SharedCauses.{IsReportCause, IsScopesCause, IsFrameCause, IsAddingCause};
 
 use crate::global_profiler::booked::{Booked, Settled};
-use crate::global_profiler::profiler::{Emitted, GlobalProfiler};
+use crate::global_profiler::profiler::GlobalProfiler;
 use crate::global_profiler::share::{Parts, Share};
 use crate::global_profiler::sink::{FrameSinkId, Sink};
-use puffin_collector::Totals;
+use puffin_collector::{Emitted, Totals};
 use puffin_data::data::{ScopeId, StreamInfoRef};
 use puffin_data::{Error, Result};
 use puffin_frames::frame_data::FrameData;

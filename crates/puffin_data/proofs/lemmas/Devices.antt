@@ -75,13 +75,6 @@ known_taken : (old : List ℕ) (new : Option (List ℕ)) (taken : List ℕ) → 
 known_taken old None taken c = absurd c
 known_taken old (Some rest) taken c = (rest, refl, c)
 
--- Of a device whose bytes are known, the value is that of all its bytes, and those after it are left.
-pub known_given : {A : Type 0} (a : A) (old : List ℕ) (new : Option (List ℕ)) (read : List ℕ → Result (A × List ℕ) FileError) → FromDevice (λ (x : A). x) (Some old) new (Ok a) read
-    → (rest : List ℕ) × (new ≡ Some rest) × (read old ≡ Ok (a, rest))
-known_given a old new read h =
-    let k = known_taken old new h.0 h.1 in
-    (k.0, k.1, ap read k.2 ∙ h.2 k.0)
-
 at_end : (taken : List ℕ) (old : List ℕ) (new : Option (List ℕ)) → Consumes (Some old) new taken → IsAtEnd new → old ≡ taken
 at_end taken old None c end = absurd c
 at_end taken old (Some rest) c end = c ∙ (ap (λ (t : List ℕ). taken ++ t) end ∙ append-nil taken)

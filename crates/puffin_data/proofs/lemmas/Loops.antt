@@ -19,14 +19,6 @@ one_more read front count i bytes a after total lt h so_far =
     let one : with_front front (times_at read (count - i) bytes) ≡ with_front (front ++ a ∷ []) (times_at read (count - (i + 1)) after) = rw (k, h) (regroup front a (times_at read (count - (i + 1)) after)) in
     sym one ∙ so_far
 
--- where one of the values isn't there, they all aren't
-pub ends_early : {A : Type 0} (read : List ℕ → Option (A × List ℕ)) (front : List A) (count i : ℕ) (bytes : List ℕ) (total : Option (List A × List ℕ)) → i < count → read bytes ≡ None
-    → with_front front (times_at read (count - i) bytes) ≡ total → total ≡ None
-ends_early read front count i bytes total lt h so_far =
-    let k : count - i ≡ suc (count - (i + 1)) = omega arith in
-    let one : with_front front (times_at read (count - i) bytes) ≡ None = rw (k, h) refl in
-    sym so_far ∙ one
-
 -- after the last one
 pub all_read : {A : Type 0} (read : List ℕ → Option (A × List ℕ)) (front : List A) (count i : ℕ) (bytes : List ℕ) (total : Option (List A × List ℕ)) → count ≤ i → with_front front (times_at read (count - i) bytes) ≡ total → total ≡ Some (front, bytes)
 all_read {A = A} read front count i bytes total le so_far =

@@ -138,9 +138,6 @@ times-taken {A = A} fits layout read p (suc n) bytes xs rest is e =
     let text : bytes ≡ (layout a.0.0 ++ flat_map layout b.0.0) ++ b.0.1 = first.1 ∙ (ap (λ (t : List ℕ). layout a.0.0 ++ t) second.2 ∙ sym (append_assoc (layout a.0.0) (flat_map layout b.0.0) b.0.1)) in
     subst (λ (y : List A × List ℕ). AllByRecursion fits y.0 × (length y.0 ≡ suc n) × (bytes ≡ flat_map layout y.0 ++ y.1)) (same_Some made (xs, rest) b.2) ((first.0, second.0), ap suc second.1, text)
 
-pub times_reader-again : {A : Type 0} (fits : A → Type 0) (layout : A → List ℕ) (read : List ℕ → Option (A × List ℕ)) → IsReader fits layout read → (xs : List A) (rest : List ℕ) → AllByRecursion fits xs → times_at read (length xs) (flat_map layout xs ++ rest) ≡ Some (xs, rest)
-times_reader-again = times-again
-
 pub items_reader : {A : Type 0} (fits : A → Type 0) (layout : A → List ℕ) (read : List ℕ → Option (A × List ℕ)) (number_read : List ℕ → Option (ℕ × List ℕ)) → IsReader IsLong number number_read → IsReader fits layout read
     → IsReader (AreItems fits) (items layout) (λ bytes. number_read bytes >>= λ n. times_at read n.0 n.1)
 items_reader {A = A} fits layout read number_read r p = record {

@@ -170,9 +170,6 @@ number_reader = record { again = number-again; taken = number-taken }
 
 -- ---- numbers of 32 bits
 
-ltb_is : (a b : ℕ) → a < b → ltb a b ≡ true
-ltb_is a b h = lt-ltb a b h
-
 pub word_reader : IsReader IsWord number word_at
 word_reader =
     let p = checked_reader IsLong number number_at (λ n. ltb n (2 ^ 32)) number_reader in

@@ -14,10 +14,6 @@ use Rattle.puffin_merge.specs.inner.Tables.{merged_in}
 use Rattle.puffin_merge.specs.Merge.Tree as forests
 use Rattle.puffin_merge.specs.inner.Assembled.{Entry}
 
--- the node of a place
-abbrev pub node_of_place : List Node → Place → Node → Node
-node_of_place nodes p d = slice_index_or nodes (p.number.number - 1) d
-
 -- a place is that of the node at k
 pub record IsPlaceAt (nodes : List Node) (k : ℕ) (p : Place) : Type 0 where
   pub number : p.number.number ≡ k + 1

@@ -1,6 +1,6 @@
 -- What a run of commands from a new session emits, and what recording it makes of a view and of the view's file.
-use Rattle.std.specs.Prelude.{◌≡◌, ◌⊎◌, ℕ, false, List, [], ◌∷◌, ◌++◌, Option, Some, None}
-use Rattle.std.specs.List.{flat_map, list_any}
+use Rattle.std.specs.Prelude.{◌≡◌, ◌⊎◌, ℕ, List, [], ◌∷◌, ◌++◌, Option, Some, None}
+use Rattle.std.specs.List.{flat_map}
 use Rattle.std.specs.declared.sync.Arc.{Arc}
 use Rattle.std.specs.declared.alloc.Global.{Global}
 use Rattle.std.specs.Io.KnownBytes.{Appends}
@@ -8,26 +8,20 @@ use Rattle.puffin_data.specs.declared.file_error.FileError.{FileError}
 use Rattle.puffin_data.specs.declared.file_error.FileError.TheVariants as file
 use Rattle.puffin_data.specs.Device.{WritesBeginning}
 use Rattle.puffin_frames.specs.declared.frame_data.frame.FrameData.{FrameData}
-use Rattle.puffin_frames.specs.Details.{AllHaveIds}
 use Rattle.puffin_frames.specs.Details.Collection.{with_all_details, LearnsSome}
-use Rattle.puffin_frames.specs.Packet.Stored.{Said}
 use Rattle.puffin_view.specs.declared.profile_view.frame_view.FrameView.{FrameView}
 use Rattle.puffin_view.specs.View.ViewedFrames.{Frame, index_of}
 use Rattle.puffin_view.specs.View.FrameOf.{shared_frame, details_of_frame}
 use Rattle.puffin_view.specs.View.{after_all, KeepsFrames}
-use Rattle.puffin_view.specs.View.Known.{view_of, collection_of, lacks_ids}
+use Rattle.puffin_view.specs.View.Known.{view_of, collection_of}
 use Rattle.puffin_view.specs.View.File.{file_of, contents_in}
-use Rattle.puffin_replay.specs.declared.replay.command.Command.{Command}
-use Rattle.puffin_replay.specs.declared.replay.command.Reply.{Reply}
-use Rattle.puffin_replay.specs.declared.replay.command.Reply.TheVariants as reply
-use Rattle.puffin_replay.specs.Session.{SessionState, new_session}
-use Rattle.puffin_replay.specs.Session.Runs.{Records}
+use Rattle.puffin_session.specs.declared.command.Command.{Command}
+use Rattle.puffin_session.specs.declared.command.Reply.{Reply}
+use Rattle.puffin_session.specs.declared.command.Reply.TheVariants as reply
+use Rattle.puffin_session.specs.Session.{SessionState}
+use Rattle.puffin_session.specs.Session.Runs.{Records}
 
 -- ---- the frames of a run
-
--- These replies are those of a run of the commands from a new session with these threads, which ends in this state.
-abbrev pub AreReplies : List (List ℕ) → List Command → List Reply → SessionState → Type 0
-AreReplies names commands replies end = Records (new_session names) end commands replies
 
 abbrev pub frame_in : Option (Arc FrameData Global) → List Frame
 frame_in None = []
@@ -38,17 +32,9 @@ abbrev pub emitted_by : Reply → List Frame
 emitted_by (reply.Frame emitted) = frame_in emitted.frame
 emitted_by _ = []
 
--- what a reply's frame tells of has ids
-abbrev pub HasIds : Reply → Type 0
-HasIds reply = AllHaveIds (flat_map details_of_frame (emitted_by reply))
-
 -- the emitted frames, in order
 abbrev pub frames_emitted : List Reply → List Frame
 frames_emitted replies = flat_map emitted_by replies
-
--- all details that frames tell have ids
-abbrev pub NoneLacksIds : List Said → Type 0
-NoneLacksIds cs = list_any lacks_ids cs ≡ false
 
 -- ---- what a view makes of them
 

@@ -9,8 +9,8 @@ use Rattle.puffin_frames.specs.declared.frame_data.frame.FrameData.{FrameData}
 use Rattle.puffin_frames.specs.Frame.Contents.{Streams, holding_of, frame_meta}
 use Rattle.puffin_frames.specs.declared.thread_profiler.reporter.Closed.{Closed}
 use Rattle.puffin_frames.specs.declared.thread_profiler.reporter.Closed.TheVariants as closed
-use Rattle.puffin_replay.specs.declared.replay.command.Reply.{Reply}
-use Rattle.puffin_replay.specs.declared.replay.command.Reply.TheVariants as reply
+use Rattle.puffin_session.specs.declared.command.Reply.{Reply}
+use Rattle.puffin_session.specs.declared.command.Reply.TheVariants as reply
 use Rattle.std.specs.Arc.{arc_value}
 use Rattle.std.specs.FinMap.{len}
 use Rattle.std.specs.declared.sync.Arc.{Arc}

@@ -11,11 +11,13 @@ use Rattle.puffin_frames.specs.Packet.Writing.{HasLongPart}
 use Rattle.puffin_view.specs.View.ViewedFrames.{contents_of}
 use Rattle.puffin_view.specs.View.{View, Took, empty_view, after_all}
 use Rattle.puffin_view.specs.View.File.{file_of, contents_in}
-use Rattle.puffin_replay.specs.declared.replay.command.Reply.{Reply}
+use Rattle.puffin_session.specs.declared.command.Reply.{Reply}
 use Rattle.puffin_replay.specs.declared.replay.script.Script.{Script}
 use Rattle.puffin_replay.specs.Program.ReplyLines.{reply_lines}
-use Rattle.puffin_replay.specs.Session.{SessionState}
-use Rattle.puffin_replay.specs.Program.Recording.{AreReplies, frames_emitted, NoneLacksIds, IsWriteFault}
+use Rattle.puffin_session.specs.Session.{SessionState}
+use Rattle.puffin_session.specs.Session.Runs.{AreReplies}
+use Rattle.puffin_replay.specs.Program.Recording.{frames_emitted, IsWriteFault}
+use Rattle.puffin_report.specs.Summary.{NoneLacksIds}
 
 abbrev pub AreAnswers : Script → List Reply → SessionState → Type 0
 AreAnswers script replies end =

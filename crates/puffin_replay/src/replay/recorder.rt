@@ -12,20 +12,20 @@ ghost use Rattle.puffin_view.specs.View.ViewedFrames.{contents_of};
 ghost use Rattle.puffin_view.specs.View.{Took};
 ghost use Rattle.puffin_view.specs.View.Known.{view_of};
 ghost use Rattle.puffin_view.specs.View.File.{contents_held, contents_in};
-ghost use Rattle.puffin_replay.specs.Session.{SessionState, new_session};
-ghost use Rattle.puffin_replay.specs.Session.Runs.{Records};
-ghost use Rattle.puffin_replay.specs.Program.Recording.{AreReplies, HasIds, NoneLacksIds, frame_in, emitted_by, frames_emitted, file_of_view, Takes, TakesSome, IsBroken};
+ghost use Rattle.puffin_session.specs.Session.{SessionState, new_session};
+ghost use Rattle.puffin_session.specs.Session.Runs.{Records, AreReplies, HasIds};
+ghost use Rattle.puffin_replay.specs.Program.Recording.{frame_in, emitted_by, frames_emitted, file_of_view, Takes, TakesSome, IsBroken};
+ghost use Rattle.puffin_report.specs.Summary.{NoneLacksIds};
 ghost use Rattle.puffin_replay.specs.Program.ScriptRun.{IsReplayed, IsUnfinished};
 
-use crate::replay::command::{Command, Reply};
 use crate::replay::reply_line::reply_lines;
 use crate::replay::script::Script;
-use crate::replay::session::Session;
-use puffin::profile_view::FrameView;
-use puffin::profile_view::laws::views_hold_what_they_took;
 use puffin_data::data::{Drain, write_all};
 use puffin_data::{Error, FileError, Result as Answer};
 use puffin_frames::frame_data::FrameData;
+use puffin_session::{Command, Reply, Session};
+use puffin_view::profile_view::FrameView;
+use puffin_view::profile_view::laws::views_hold_what_they_took;
 use std::alloc::Global;
 use std::sync::Arc;
 

@@ -5,10 +5,10 @@ ghost use Rattle.std.specs.String.{string_bytes};
 ghost use Rattle.puffin_frames.specs.Frame.Contents.{frame_meta};
 ghost use Rattle.puffin_replay.specs.Program.ReplyLines.{frame_text, duration_text, thread_count, taken_line, refused_line, kept_line, reply_line, reply_lines};
 
-use crate::replay::command::Reply;
 use puffin_data::{Error, NanoSecond};
 use puffin_frames::frame_data::{FrameData, FrameIndex};
 use puffin_frames::thread_profiler::Closed;
+use puffin_session::Reply;
 use std::alloc::{AllocError, Global};
 
 /// The first half of a frame's line.

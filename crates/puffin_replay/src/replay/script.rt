@@ -2,16 +2,16 @@
 
 ghost use Rattle.std.specs.Prelude.{◌≡◌, ◌+◌, ◌-◌, ◌^◌, ◌<◌, ◌⊎◌, List, ℕ, [], ◌∷◌, ◌++◌, Ok, Some, option_map, length, map, position, MatchOption, MatchResult, IfOk, IfErr, OnOk, slice_get};
 ghost use Rattle.std.specs.String.{string_bytes};
-ghost use Rattle.puffin_replay.specs.Program.Count.{ReadsAll};
+ghost use Rattle.puffin_report.specs.Count.{ReadsAll};
 ghost use Rattle.puffin_replay.specs.Script.Statements.{Meaning};
 ghost use Rattle.puffin_replay.specs.inner.ScriptReading.{meaning_of, lines_left, names_in, IsNumbered, IsReading};
 ghost use Rattle.puffin_replay.specs.Script.{is_line_feed, is_skipped, told_by, with_name, with_thread_of, command_said, IsScript, IsLineFault};
 
-use crate::replay::command::Command;
 use crate::replay::fault::ToolFault;
 use crate::replay::statement::{Statement, read_statement};
 use puffin_data::FileError;
 use puffin_data::data::{Source, read_to_end};
+use puffin_session::Command;
 use std::alloc::{AllocError, Global};
 use std::collections::BTreeMap;
 

@@ -1,7 +1,7 @@
 -- The line, or a beginning of it, was written.
 use Rattle.std.proofs.Common.{◌∙◌, sym, ap}
 use Rattle.puffin_replay.specs.Program.Faults.{fault_text}
-use Rattle.puffin_replay.proofs.WrittenLines.{beginning_written}
+use Rattle.puffin_report.proofs.lemmas.WrittenLines.{beginning_written}
 use Rattle.puffin_replay.proofs.replay.fault.finish.Goals as goal
 
 pub returns-then-eq-clause-beginning : goal.returns-then-eq-clause-beginning

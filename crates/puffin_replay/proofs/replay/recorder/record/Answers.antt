@@ -1,10 +1,10 @@
 -- The session is new before the run; or there is none.
 use Rattle.std.proofs.Common.{refl, subst, inl, map, string_bytes}
 use Rattle.std.proofs.lemmas.Result.{IfOk-weaker, IfErr-weaker}
-use Rattle.puffin_replay.specs.Session.Runs.{Records}
+use Rattle.puffin_session.specs.Session.Runs.{Records}
 use Rattle.puffin_replay.specs.Program.Recording.{IsBroken}
-use Rattle.puffin_replay.specs.Session.{SessionState, new_session}
-use Rattle.puffin_replay.proofs.WrittenLines.{nothing_written}
+use Rattle.puffin_session.specs.Session.{SessionState, new_session}
+use Rattle.puffin_report.proofs.lemmas.WrittenLines.{nothing_written}
 use Rattle.puffin_replay.proofs.replay.recorder.record.Goals as goal
 
 pub returns-in-Ok-clause-run : goal.returns-in-Ok-clause-run

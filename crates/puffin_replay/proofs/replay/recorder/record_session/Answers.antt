@@ -4,7 +4,7 @@ use Rattle.std.proofs.lemmas.Result.{err_from_is_err_and}
 use Rattle.puffin_view.specs.View.Known.{view_of, lacks_ids}
 use Rattle.puffin_replay.specs.Program.Recording.{frames_emitted, Takes, TakesSome}
 use Rattle.puffin_replay.proofs.Recording.{ids_kept}
-use Rattle.puffin_replay.proofs.WrittenLines.{nothing_written}
+use Rattle.puffin_report.proofs.lemmas.WrittenLines.{nothing_written}
 use Rattle.puffin_replay.proofs.replay.recorder.record_session.Goals as goal
 
 pub returns-in-Err-clause-broken : goal.returns-in-Err-clause-broken

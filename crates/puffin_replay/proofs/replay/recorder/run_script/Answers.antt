@@ -1,12 +1,13 @@
 -- What a script's run has written where it ends.
 use Rattle.std.proofs.Common.{List, ℕ, Err, map, string_bytes, refl, sym, subst, ap, ◌∙◌, inl}
 use Rattle.std.proofs.lemmas.Result.{err_from_is_err_and, on_ok_weaker}
-use Rattle.puffin_replay.specs.declared.replay.command.Reply.{Reply}
+use Rattle.puffin_session.specs.declared.command.Reply.{Reply}
 use Rattle.puffin_view.specs.View.{View}
 use Rattle.puffin_view.specs.View.File.{contents_held}
 use Rattle.puffin_replay.specs.Program.ReplyLines.{reply_lines}
-use Rattle.puffin_replay.specs.Program.Recording.{NoneLacksIds}
-use Rattle.puffin_replay.proofs.Recording.{same_texts, unfinished, no_lines, cut_lines, replayed, told-cut}
+use Rattle.puffin_report.specs.Summary.{NoneLacksIds}
+use Rattle.puffin_report.proofs.lemmas.WrittenLines.{told-cut}
+use Rattle.puffin_replay.proofs.Recording.{same_texts, unfinished, no_lines, cut_lines, replayed}
 use Rattle.puffin_replay.proofs.replay.recorder.run_script.Goals as goal
 
 pub returns-in_err-replies-clause-fails : goal.returns-in_err-replies-clause-fails

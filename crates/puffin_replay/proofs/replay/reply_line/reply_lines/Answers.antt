@@ -6,7 +6,7 @@ use Rattle.std.specs.declared.slice.Iter.{Iter}
 use Rattle.std.specs.Iterator.Adapters.{zip_first, zip_second, zip_steps}
 use Rattle.std.specs.Slice.Iter.{iter_rest, iter_steps}
 use Rattle.std.specs.String.{string_bytes}
-use Rattle.puffin_replay.specs.declared.replay.command.Reply.{Reply}
+use Rattle.puffin_session.specs.declared.command.Reply.{Reply}
 use Rattle.puffin_replay.specs.Program.ReplyLines.{reply_lines}
 use Rattle.puffin_replay.proofs.replay.reply_line.reply_lines.Goals as goal
 

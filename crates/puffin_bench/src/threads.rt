@@ -1,0 +1,183 @@
+//! Threads that report to a shared profiler while another takes frames.
+
+ghost use Rattle.std.specs.Prelude.{◌≡◌, ◌<◌};
+ghost use Rattle.puffin_data.specs.Forest.{Forest};
+ghost use Rattle.puffin_data.specs.Honesty.{IsHonest};
+
+use crate::reports::two_scopes;
+use anyhow::{Context, Result};
+use puffin::global_profiler::{GlobalProfiler, Share, SharedProfiler};
+use puffin::thread_profiler::ThreadInfo;
+use puffin_data::data::StreamInfo;
+use std::alloc::{AllocError, Global};
+use std::marker::Brand;
+use std::rt::Clock;
+use std::sync::Wait;
+use std::sync::ledger::{Blank, Ledger};
+use std::thread;
+use std::thread::{JoinHandle, Threads};
+use std::time::Duration;
+
+/// How many reports each thread makes.
+pub const REPORTS: usize = 10_000;
+/// How many scopes a report has.
+const SCOPES: usize = 2;
+/// From one frame to the next, in microseconds.
+const PAUSE: u64 = 100;
+/// What the threads need to begin, in microseconds.
+const GATHERING: u64 = 2_000;
+/// How many frames are taken at most, should a thread end without its reports.
+const MOST_FRAMES: u32 = 1_000_000;
+/// What the threads are called.
+const NAMES: [&str; 8] = [
+    "worker-0", "worker-1", "worker-2", "worker-3", "worker-4", "worker-5", "worker-6", "worker-7",
+];
+
+/// When a thread began and ended its reports, by the system's clock.
+#[derive(Clone, Copy)]
+struct Lap {
+    begun: Duration,
+    ended: Duration,
+}
+
+/// Reports an honest info, so often.
+#[inline(never)]
+fn reported<L: Ledger, M: Ledger, R: Wait>(
+    rt: &R,
+    alloc: Global,
+    profiler: &SharedProfiler<L, M>,
+    share: &mut Share<L, M>,
+    name: &str,
+    info: &StreamInfo,
+) -> puffin_data::Result<()>
+    requires { (f : Forest) × IsHonest info.now f }
+{
+    let times = info.as_stream_into_ref();
+    for _ in 0..REPORTS {
+        let thread = ThreadInfo {
+            start_time_ns: Some(0),
+            name: String::from_str(alloc, name)?,
+        };
+        profiler.report(rt, share, thread, &[], &times)?;
+    }
+    Ok(())
+}
+
+/// Waits until the profiler is free, and reports.
+fn work<L: Ledger, M: Ledger, R: Wait + Clock>(
+    rt: &R,
+    alloc: Global,
+    profiler: SharedProfiler<L, M>,
+    share: Share<L, M>,
+    worker: usize,
+) -> Option<Lap> {
+    let name = *NAMES.get(worker)?;
+    let info = StreamInfo::parse(alloc, two_scopes(alloc).ok()?).ok()?;
+    let mut share = share;
+    let _totals = profiler.totals(rt, &mut share);
+    let begun = rt.monotonic().ok()?;
+    reported(rt, alloc, &profiler, &mut share, name, &info).ok()?;
+    let ended = rt.monotonic().ok()?;
+    Some(Lap { begun, ended })
+}
+
+/// Starts a worker on a thread of its own.
+fn start<
+    L: Ledger + Send + 'static,
+    M: Ledger + Send + 'static,
+    R: Threads + Wait + Clock + Copy + Send + 'static,
+>(
+    rt: R,
+    alloc: Global,
+    profiler: SharedProfiler<L, M>,
+    share: Share<L, M>,
+    worker: usize,
+) -> std::result::Result<JoinHandle<Option<Lap>>, AllocError> {
+    Ok(thread::spawn(&rt, move || { work(&rt, alloc, profiler, share, worker) })?)
+}
+
+/// Takes frames until so many scopes were handed out.
+fn take_frames<L: Ledger, M: Ledger, R: Wait + Clock>(
+    rt: &R,
+    profiler: &SharedProfiler<L, M>,
+    share: &mut Share<L, M>,
+    scopes: usize,
+) -> puffin_data::Result<()> {
+    let mut handed: usize = 0;
+    for _ in 0..MOST_FRAMES {
+        if handed >= scopes {
+            break;
+        }
+        if let Some(frame) = profiler.new_frame(rt, share)?.frame {
+            handed = handed.saturating_add(frame.meta().num_scopes);
+        }
+        thread::sleep(rt, Duration::from_micros(PAUSE));
+    }
+    Ok(())
+}
+
+/// The time from the first of the laps' begins to the last one's end.
+fn whole(laps: &[Lap]) -> u128 {
+    let mut begun = Duration::MAX;
+    let mut ended = Duration::ZERO;
+    for lap in laps {
+        begun = begun.min(lap.begun);
+        ended = ended.max(lap.ended);
+    }
+    ended.saturating_sub(begun).as_nanos()
+}
+
+/// Starts a thread for each share but one, which takes frames; all begin when the lock is free.
+fn round<
+    L: Ledger + Send + Sync + 'static,
+    M: Ledger + Send + Sync + 'static,
+    R: Threads + Wait + Clock + Copy + Send + Sync + 'static,
+>(rt: R, alloc: Global, parts: usize, reported: Blank, handed: Blank) -> Result<u128>
+    requires some { 0 < parts }
+    requires reported { (reported.name ≡ L.name)
+        × (reported.parts ≡ L.parts)
+        × (reported.parts ≡ parts) }
+    requires handed { (handed.name ≡ M.name)
+        × (handed.parts ≡ M.parts)
+        × (handed.parts ≡ parts) }
+{
+    let profiler = GlobalProfiler::new(alloc);
+    let Ok((profiler, shares)) = SharedProfiler::<L, M>::open(
+        alloc, profiler, parts, reported, handed,
+    ) else {
+        return Err(AllocError.into());
+    };
+    let mut shares = shares;
+    let mut own = shares.pop().context("a share")?;
+    let mut workers = Vec::new(alloc);
+    {
+        let _gate = profiler.lock(&rt);
+        for (worker, share) in shares.into_iter().enumerate() {
+            workers.push(start(rt, alloc, profiler.clone()?, share, worker)?)?;
+        }
+        thread::sleep(&rt, Duration::from_micros(GATHERING));
+    }
+    let scopes = workers.len().saturating_mul(REPORTS).saturating_mul(SCOPES);
+    take_frames(&rt, &profiler, &mut own, scopes)?;
+    let mut laps = Vec::new(alloc);
+    for worker in workers {
+        laps.push(worker.join(&rt).context("a thread")?)?;
+    }
+    Ok(whole(laps.as_slice()))
+}
+
+/// So many threads report and one more takes frames: the nanoseconds from the first begin to the last end.
+pub fn run<R: Threads + Wait + Clock + Copy + Send + Sync + 'static>(
+    rt: R,
+    alloc: Global,
+    threads: u8,
+) -> Result<u128> {
+    let parts = usize::from(threads) + 1;
+    round::<Brand, Brand, R>(
+        rt,
+        alloc,
+        parts,
+        Blank::new(parts as u64),
+        Blank::new(parts as u64),
+    )
+}

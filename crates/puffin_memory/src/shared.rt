@@ -1,0 +1,186 @@
+//! A profiler behind a lock: opening it, sinks, a scope of the caller's own, a frame, and the counts at the end.
+ghost use Rattle.std.specs.Prelude.{◌≡◌, IfOk};
+ghost use Rattle.puffin_data.specs.Forest.{Forest};
+ghost use Rattle.puffin_data.specs.Honesty.{IsHonest};
+
+use crate::again;
+use crate::registrations::{owned, print_frame};
+use puffin::global_profiler::{
+    FrameSinkId, GlobalFrameView, GlobalProfiler, Settled, Share, SharedProfiler, Sink,
+};
+use puffin::profile_view::FrameView;
+use puffin::scope_details::{ScopeDetails, ScopeIds};
+use puffin::thread_profiler::ThreadInfo;
+use puffin_data::data::{ScopeId, Stream, StreamInfo};
+use puffin_data::{Error, Result};
+use std::alloc::Global;
+use std::marker::Brand;
+use std::sync::ledger::{Blank, Ledger};
+use std::sync::{Arc, Mutex, Wait};
+
+/// One scope of the caller's own.
+fn own_scope(alloc: Global, id: ScopeId) -> Result<StreamInfo>
+    ensures { IfOk result (λ info. (f : Forest) × IsHonest info f) }
+{
+    let mut stream = Stream::new(alloc);
+    let (scope, _) = stream.begin_scope(|| 100, id, "")?;
+    stream.end_scope(scope, 250)?;
+    StreamInfo::parse(alloc, stream)
+}
+
+/// A view that nobody looks at.
+fn view(alloc: Global) -> Option<Sink> {
+    let view = match Arc::new(alloc, Mutex::new(FrameView::new(alloc))) {
+        Ok(view) => view,
+        Err(refused) => Arc::new(alloc, refused.value).ok()?,
+    };
+    Some(Sink::View(view))
+}
+
+fn add<L: Ledger, M: Ledger>(
+    rt: &impl Wait,
+    profiler: &SharedProfiler<L, M>,
+    sink: Sink,
+) -> Option<FrameSinkId> {
+    match profiler.add_sink(rt, sink) {
+        Ok(id) => Some(id),
+        Err((Error::Memory, sink)) => match profiler.add_sink(rt, sink) {
+            Ok(id) => Some(id),
+            Err(_) => None,
+        },
+        Err(_) => None,
+    }
+}
+
+fn attach<L: Ledger, M: Ledger>(
+    rt: &impl Wait,
+    alloc: Global,
+    profiler: &SharedProfiler<L, M>,
+) -> Option<GlobalFrameView> {
+    again!(GlobalFrameView::attach(alloc, rt, profiler))
+}
+
+fn register<L: Ledger, M: Ledger>(
+    rt: &impl Wait,
+    alloc: Global,
+    profiler: &SharedProfiler<L, M>,
+) -> Option<ScopeId> {
+    let ids = ScopeIds::new();
+    let details = [ScopeDetails::from_scope_name(owned(alloc, "user")?)];
+    let ids = again!(profiler.register_user_scopes(rt, &ids, &details))?;
+    ids.first().copied()
+}
+
+/// Reports one scope of the caller's own.
+fn report<L: Ledger, M: Ledger>(
+    rt: &impl Wait,
+    alloc: Global,
+    profiler: &SharedProfiler<L, M>,
+    share: &mut Share<L, M>,
+    id: ScopeId,
+) -> Result<()> {
+    let scope = own_scope(alloc, id)?;
+    let user = ThreadInfo {
+        start_time_ns: None,
+        name: String::from_str(alloc, "user")?,
+    };
+    profiler.report_user_scopes(rt, share, user, &scope.as_stream_into_ref())
+}
+
+/// Takes a frame, and prints it. Where a sink had no memory for it, it is added to the sinks once more.
+fn frame<L: Ledger, M: Ledger, R: Print + Wait>(
+    rt: &R,
+    profiler: &SharedProfiler<L, M>,
+    share: &mut Share<L, M>,
+) -> Option<()> {
+    let emitted = again!(profiler.new_frame(rt, share))?;
+    let frame = emitted.frame?;
+    if emitted.refused > 0 {
+        let _refused = again!(profiler.add_frame(rt, again!(Arc::try_clone(&frame))?))?;
+    }
+    print_frame(rt, &frame)
+}
+
+/// Prints which sinks there are and what the view holds, and takes the view out.
+fn close<L: Ledger, M: Ledger, R: Print + Wait>(
+    rt: &R,
+    profiler: &SharedProfiler<L, M>,
+    view: GlobalFrameView,
+    other: FrameSinkId,
+) -> Option<()> {
+    let (first, second) = (view.sink_id().0, other.0);
+    let held = view.lock(rt).stats().frames();
+    let detached = view.detach(rt, profiler);
+    println!(rt; "sinks {first} {second} held {held} detached {detached}").ok()
+}
+
+fn settle<L: Ledger, M: Ledger, R: Print + Wait>(
+    rt: &R,
+    alloc: Global,
+    profiler: &SharedProfiler<L, M>,
+    share: Share<L, M>,
+) -> Option<()> {
+    let mut shares = Vec::new(alloc);
+    again!(shares.reserve(1))?;
+    shares.push(share).ok()?;
+    let Settled {
+        reported,
+        handed,
+        pending,
+    } = profiler.settle(rt, shares).ok()?;
+    println!(rt; "reported {reported} handed {handed} pending {pending}").ok()
+}
+
+/// What is done with a shared profiler.
+fn shared<L: Ledger, M: Ledger, R: Print + Wait>(
+    rt: &R,
+    alloc: Global,
+    profiler: &SharedProfiler<L, M>,
+    share: Share<L, M>,
+) -> Option<()> {
+    let mut share = share;
+    let view = attach(rt, alloc, profiler)?;
+    let other = add(rt, profiler, self::view(alloc)?)?;
+    let id = register(rt, alloc, profiler)?;
+    again!(report(rt, alloc, profiler, &mut share, id))?;
+    frame(rt, profiler, &mut share)?;
+    close(rt, profiler, view, other)?;
+    settle(rt, alloc, profiler, share)
+}
+
+/// The same with a profiler that is opened first; `Some(false)` where that is refused.
+fn opened<L: Ledger, M: Ledger, R: Print + Wait>(
+    rt: &R,
+    alloc: Global,
+    reported: Blank,
+    handed: Blank,
+) -> Option<bool>
+    requires reported { (reported.name ≡ L.name)
+        × (reported.parts ≡ L.parts)
+        × (reported.parts ≡ 1) }
+    requires handed { (handed.name ≡ M.name) × (handed.parts ≡ M.parts) × (handed.parts ≡ 1) }
+{
+    let profiler = GlobalProfiler::new(alloc);
+    match SharedProfiler::<L, M>::open(alloc, profiler, 1, reported, handed) {
+        Ok((profiler, shares)) => {
+            let mut shares = shares;
+            let profiler = again!(profiler.clone())?;
+            shared(rt, alloc, &profiler, shares.pop()?)?;
+            Some(true)
+        }
+        Err(_) => Some(false),
+    }
+}
+
+fn once<R: Print + AllocGlobal + Wait>(rt: &R) -> Option<bool> {
+    opened::<Brand, Brand, R>(rt, rt.alloc(), Blank::new(1), Blank::new(1))
+}
+
+/// Shares a profiler; where it isn't opened for want of memory, another one.
+pub fn run<R: Print + AllocGlobal + Wait>(rt: &R) -> Option<()> {
+    if once(rt)? || once(rt)? {
+        Some(())
+    } else {
+        None
+    }
+}

@@ -1,8 +1,0 @@
--- The threads so far are those of the names so far.
-use Rattle.std.proofs.Common.{◌≡◌, map}
-use Rattle.std.specs.String.{string_bytes}
-use Rattle.puffin_replay.specs.Session.{named}
-use Rattle.puffin_replay.proofs.replay.session.Session.new.Given as goal
-
-abbrev pub invariant-loop-name : goal.invariant-loop-name
-invariant-loop-name l = l.profiled.items ≡ map named (map string_bytes l.yielded)

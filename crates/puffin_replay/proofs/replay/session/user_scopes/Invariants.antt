@@ -1,8 +1,0 @@
--- The details so far are those of the names so far.
-use Rattle.std.proofs.Common.{◌≡◌, take}
-use Rattle.puffin_frames.specs.Details.{details_seen}
-use Rattle.puffin_replay.specs.Session.Actions.{user_details}
-use Rattle.puffin_replay.proofs.replay.session.user_scopes.Given as goal
-
-abbrev pub invariant-loop-name : goal.invariant-loop-name
-invariant-loop-name l = details_seen l.details.items ≡ user_details (take l.name-index l.names)

@@ -1,0 +1,33 @@
+-- What counting a stream from a reader to a writer comes to.
+use Rattle.std.specs.Prelude.{◌≡◌, ℕ, List, [], Option, Some, ◌⊎◌}
+use Rattle.std.specs.Io.KnownBytes.{Consumes, Appends, IsAtEnd}
+use Rattle.puffin_data.specs.declared.error.Error.{Error}
+use Rattle.puffin_data.specs.Forest.{Forest}
+use Rattle.puffin_data.specs.Forest.Spelling.{Spells}
+use Rattle.puffin_data.specs.Walk.{IsFault}
+use Rattle.puffin_data.specs.Device.{WritesBeginning}
+use Rattle.puffin_report.specs.Lines.{lines_of, frame_of_forest, refusal_of}
+
+-- the reader gave all that it had, which is these bytes
+abbrev pub ReadsAll : Option (List ℕ) → Option (List ℕ) → List ℕ → Type 0
+ReadsAll old new bytes = Consumes old new bytes × IsAtEnd new
+
+-- The bytes spell a forest, whose two lines were written, and the answer is the cause that refuses its frame, if any; or the answer is the bytes' fault, and nothing was written.
+abbrev pub IsCounted : List ℕ → Option (List ℕ) → Option (List ℕ) → Option Error → Type 0
+IsCounted bytes old new answer =
+    ((f : Forest)
+    × Spells bytes f
+    × Appends old new (lines_of f)
+    × (answer ≡ refusal_of (frame_of_forest f)))
+    ⊎ ((cause : Error) × (answer ≡ Some cause) × IsFault bytes cause × Appends old new [])
+
+-- A refused call wrote nothing, or a beginning of the lines of what the reader gave.
+abbrev pub IsCutShort : Option (List ℕ) → Option (List ℕ) → Option (List ℕ) → Option (List ℕ) →
+    Type 0
+IsCutShort unread left old new =
+    Appends old new []
+    ⊎ ((bytes : List ℕ)
+    × (f : Forest)
+    × ReadsAll unread left bytes
+    × Spells bytes f
+    × WritesBeginning old new (lines_of f))

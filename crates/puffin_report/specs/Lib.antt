@@ -1,0 +1,5 @@
+pub mod Lines
+pub mod Count
+pub mod Summary
+pub mod ReportLines
+pub mod Report

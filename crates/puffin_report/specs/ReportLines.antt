@@ -1,0 +1,62 @@
+-- The lines that the program prints of a file's summary.
+use Rattle.std.specs.Prelude.{ℕ, zero, suc, ◌+◌, ℤ, List, [], ◌∷◌, ◌++◌, codes, Option, Some, None}
+use Rattle.std.specs.Fmt.{decimal, signed_decimal}
+use Rattle.std.specs.FinMap.{get}
+use Rattle.puffin_frames.specs.Details.{Details, name_of}
+use Rattle.puffin_frames.specs.Details.Collection.{Collection}
+use Rattle.puffin_merge.specs.Merge.Tree.{Node, MergedForest, no_node, merged}
+use Rattle.puffin_merge.specs.Merge.Scopes.{forest_in}
+use Rattle.puffin_report.specs.declared.summary.Summary.{Summary}
+
+-- two blanks for each level above
+abbrev pub indent : ℕ → List ℕ
+indent zero = []
+indent (suc level) = codes "  " ++ indent level
+
+-- the name that details give an id, or else the id behind a `#`
+abbrev pub name_or_id : ℕ → Option Details → List ℕ
+name_or_id id (Some d) = name_of d
+name_or_id id None = codes "#" ++ decimal id
+
+abbrev pub scope_name : Collection → ℕ → List ℕ
+scope_name known id = name_or_id id (get known.by_id id)
+
+-- a text, unless it is empty
+abbrev pub text_part : List ℕ → List ℕ
+text_part [] = []
+text_part (byte ∷ bytes) = codes " (" ++ ((byte ∷ bytes) ++ codes ")")
+
+-- a merged scope's numbers: how many pieces, their sum, the sum for each frame, the longest, and the start
+abbrev pub pieces_text : ℕ → ℤ → ℤ → List ℕ
+pieces_text pieces total per_frame =
+    codes " pieces " ++ (decimal pieces
+    ++ (codes " total " ++ (signed_decimal total
+    ++ (codes " per_frame " ++ signed_decimal per_frame))))
+
+abbrev pub greatest_text : ℤ → ℤ → List ℕ
+greatest_text greatest start =
+    codes " max " ++ (signed_decimal greatest
+    ++ (codes " start " ++ (signed_decimal start ++ codes "\n")))
+
+abbrev pub numbers_text : Node → List ℕ
+numbers_text n = pieces_text n.pieces n.total n.per_frame ++ greatest_text n.greatest n.start
+
+-- a merged scope's line, with the name that these details give it
+abbrev pub scope_line : Collection → ℕ → Node → List ℕ
+scope_line known level n =
+    indent level ++ (scope_name known n.label.id ++ (text_part n.label.text ++ numbers_text n))
+
+-- each merged scope's line, then those of its children, one level deeper, and then those of its siblings after it
+abbrev pub scope_lines : Collection → ℕ → MergedForest → List ℕ
+scope_lines known level no_node = []
+scope_lines known level (merged n children others) =
+    scope_line known level n
+    ++ (scope_lines known (level + 1) children ++ scope_lines known level others)
+
+abbrev pub frames_line : ℕ → List ℕ
+frames_line frames = codes "frames " ++ (decimal frames ++ codes "\n")
+
+-- the number of frames, and the merged scopes by the file's names
+abbrev pub report_lines : Summary → List ℕ
+report_lines summary =
+    frames_line summary.frames ++ scope_lines summary.scopes 0 (forest_in summary.merged.items)

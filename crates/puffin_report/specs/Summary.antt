@@ -1,0 +1,91 @@
+-- What a file of frames is summed up as.
+use Rattle.std.specs.Prelude.{◌≡◌, ◌⊎◌, ℕ, false, List, [], ◌∷◌, Option, Result, Ok, Err, map, length}
+use Rattle.std.specs.List.{flat_map, list_any}
+use Rattle.std.specs.Option.{option_map}
+use Rattle.std.specs.FinMap as tree
+use Rattle.puffin_data.specs.declared.error.Error.{Error}
+use Rattle.puffin_data.specs.declared.error.Error.TheVariants.{Memory}
+use Rattle.puffin_data.specs.declared.file_error.FileError.{FileError}
+use Rattle.puffin_data.specs.declared.file_error.FileError.TheVariants.{Refused}
+use Rattle.puffin_data.specs.Honesty.{Recorded}
+use Rattle.puffin_frames.specs.Thread.Info.{Info}
+use Rattle.puffin_frames.specs.Frame.Streams.{Streams}
+use Rattle.puffin_frames.specs.Details.{Details}
+use Rattle.puffin_frames.specs.Details.Collection.{no_details, with_all_details}
+use Rattle.puffin_frames.specs.Frame.Holding.{unpacking}
+use Rattle.puffin_frames.specs.Packet.Stored.{Said, Stored}
+use Rattle.puffin_view.specs.View.File.{contents_in, frame_stored, details_stored, file_at, read_view, TookFrames, FailsToRead}
+use Rattle.puffin_merge.specs.Merge.FrameBytes.{FrameBytes}
+use Rattle.puffin_merge.specs.Merge.Refusals.{IsMergeRefusal, AreMerged}
+use Rattle.puffin_merge.specs.Merge.Scopes.{forest_in}
+use Rattle.puffin_view.specs.View.Known.{lacks_ids}
+use Rattle.puffin_view.specs.View.{after_all}
+use Rattle.puffin_report.specs.declared.summary.Summary.{Summary}
+
+-- what merging reads of a frame with these streams: its range's start, and the bytes under an info
+abbrev pub bytes_under : Info → Said → Result Streams FileError → Result FrameBytes FileError
+bytes_under info c (Ok streams) =
+    Ok (
+    record {
+      start = c.meta.range_ns.0;
+      stream = option_map (λ (r : Recorded). r.bytes) (tree.get streams info);
+    })
+bytes_under info c (Err cause) = Err cause
+
+-- the streams that a frame's packed copy is unpacked to, or why it isn't
+abbrev pub streams_said : Said → Result Streams FileError
+streams_said c = unpacking (record { kind = c.kind; bytes = c.streams })
+
+-- what merging reads of a frame whose streams are packed, or why they aren't unpacked
+abbrev pub bytes_in : Info → Said → Result FrameBytes FileError
+bytes_in info c = bytes_under info c (streams_said c)
+
+abbrev pub followed_by : Result FrameBytes FileError → Result (List FrameBytes) FileError →
+    Result (List FrameBytes) FileError
+followed_by (Err cause) others = Err cause
+followed_by (Ok frame) (Err cause) = Err cause
+followed_by (Ok frame) (Ok frames) = Ok (frame ∷ frames)
+
+-- of each frame, or why the first that isn't unpacked isn't
+abbrev pub all_bytes_in : Info → List Said → Result (List FrameBytes) FileError
+all_bytes_in info [] = Ok []
+all_bytes_in info (c ∷ cs) = followed_by (bytes_in info c) (all_bytes_in info cs)
+
+-- what the frames of a view say that reads these
+abbrev pub contents_read : List Stored → List Said
+contents_read stored = contents_in (after_all read_view (map frame_stored stored))
+
+-- the number of frames, their merge under an info, and these details, in order
+pub record SumsUp (info : Info) (cs : List Said) (told : List Details) (summary : Summary) : Type 0 where
+  pub frames : summary.frames ≡ length cs
+  pub streams : List FrameBytes
+  pub unpacked : all_bytes_in info cs ≡ Ok streams
+  pub merged : AreMerged streams (forest_in summary.merged.items)
+  pub scopes : summary.scopes ≡ with_all_details no_details told
+
+-- the frames of a view that reads a file, and the details of all frames of the file
+abbrev pub IsSummary : Info → List Stored → Summary → Type 0
+IsSummary info stored summary =
+    SumsUp info (contents_read stored) (flat_map details_stored stored) summary
+
+-- the details that frames tell
+abbrev pub details_said : List Said → List Details
+details_said cs = flat_map (λ c. c.details) cs
+
+-- all details that frames tell have ids
+abbrev pub NoneLacksIds : List Said → Type 0
+NoneLacksIds cs = list_any lacks_ids cs ≡ false
+
+-- why frames aren't summed up: the first that isn't unpacked, or what refuses their merge, which isn't want of memory
+abbrev pub IsHindered : Info → List Said → FileError → Type 0
+IsHindered info cs fault =
+    (all_bytes_in info cs ≡ Err fault)
+    ⊎ ((streams : List FrameBytes) × (cause : Error) × (all_bytes_in info cs ≡ Ok streams) × (fault ≡ Refused cause) × (cause ≡ Memory → ⊥) × IsMergeRefusal streams cause)
+
+-- A call read a device and summed nothing up: the device or memory failed, or the bytes that were taken have this fault, or they are frames that have it.
+abbrev pub FailsToSumUp : Info → Option (List ℕ) → Option (List ℕ) → FileError → Type 0
+FailsToSumUp info old new fault =
+    FailsToRead file_at old new fault
+    ⊎ ((stored : List Stored)
+    × TookFrames file_at old new stored
+    × IsHindered info (contents_read stored) fault)

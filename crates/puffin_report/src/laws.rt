@@ -1,0 +1,57 @@
+//! Laws of recordings and reports, as contracts of functions that do nothing. A proof of another crate cites them by calling the function.
+
+ghost use Rattle.std.specs.Prelude.{ℕ, List, ◌≡◌, ◌<◌, ◌-◌, ◌^◌, Option, Some, Ok, length};
+ghost use Rattle.std.specs.List.{AllByRecursion};
+ghost use Rattle.puffin_data.specs.declared.file_error.FileError.{FileError};
+ghost use Rattle.puffin_data.specs.Device.{IsOutside};
+ghost use Rattle.puffin_frames.specs.declared.frame_data.frame.FrameData.{FrameData};
+ghost use Rattle.puffin_frames.specs.Thread.Info.{Info};
+ghost use Rattle.puffin_frames.specs.Frame.Contents.{Streams, holding_of, frame_contents, frame_says};
+ghost use Rattle.puffin_frames.specs.Frame.Holding.{IsHolding, as_packed};
+ghost use Rattle.puffin_frames.specs.Packet.Stored.{Stored};
+ghost use Rattle.puffin_frames.specs.Packet.Grammar.{IsPacked};
+ghost use Rattle.puffin_view.specs.View.{View};
+ghost use Rattle.puffin_view.specs.View.File.{file_of, contents_in, file_at, TookFrames};
+ghost use Rattle.puffin_report.specs.declared.summary.Summary.{Summary};
+ghost use Rattle.puffin_report.specs.Summary.{NoneLacksIds, streams_said, details_said, SumsUp, IsSummary, IsHindered, FailsToSumUp};
+ghost use Rattle.puffin_report.specs.ReportLines.{report_lines};
+
+use puffin_frames::frame_data::laws::packing_keeps;
+use puffin_merge::merge::laws::one_outcome;
+use puffin_view::profile_view::laws::what_was_written_is_read;
+
+/// What is summed up of a reader that has the file of a view, and nothing after it: the frames that were written and no
+/// others, and the details that they tell. Reader and memory aside, and where these have ids, only a frame that isn't
+/// unpacked hinders it, or their merge.
+pub fn what_was_recorded_is_summed_up()
+    ensures summary { (info : Info) (v : View) (new : Option (List ℕ)) (stored : List Stored)
+        (summary : Summary) →
+        AllByRecursion IsPacked (contents_in v) → length (contents_in v) < 2 ^ 64 - 1 →
+        TookFrames file_at (Some (file_of (contents_in v))) new stored →
+        IsSummary info stored summary →
+        SumsUp info (contents_in v) (details_said (contents_in v)) summary }
+    ensures fault { (info : Info) (v : View) (new : Option (List ℕ)) (e : FileError) →
+        AllByRecursion IsPacked (contents_in v) → length (contents_in v) < 2 ^ 64 - 1 →
+        NoneLacksIds (contents_in v) → FailsToSumUp info (Some (file_of (contents_in v))) new e →
+        ¬ IsOutside e → IsHindered info (contents_in v) e }
+    // A packed copy of a frame is unpacked to what it holds, and that is what the frame holds where its streams have a layout.
+    ensures copied { (frame copy : FrameData) (streams : Streams) →
+        holding_of copy ≡ as_packed (holding_of frame) → frame_contents copy ≡ Some streams →
+        streams_said (frame_says frame) ≡ Ok streams }
+    ensures unpacked { (frame : FrameData) (streams : Streams) → IsHolding (holding_of frame) →
+        frame_contents frame ≡ Some streams → streams_said (frame_says frame) ≡ Ok streams }
+{
+    // For the proof alone, as the whole call: the laws that this one follows from.
+    what_was_written_is_read();
+    packing_keeps();
+}
+
+/// The frames of a file have one report under an info: whichever summary of them is printed, the lines are the same.
+pub fn one_report()
+    ensures { (info : Info) (stored : List Stored) (one another : Summary) →
+        IsSummary info stored one → IsSummary info stored another →
+        report_lines one ≡ report_lines another }
+{
+    // For the proof alone: a law about merges.
+    one_outcome();
+}

@@ -1,0 +1,226 @@
+-- The sums over all that is collected are those of all that is due, so that a report's refusal is one in the history's words.
+use Rattle.std.proofs.Common.{◌≡◌, ℕ, inl, inr, ℤ, ◌<ℤ◌, Bool, true, false, cond, ◌&&◌, T, List, [], ◌∷◌, ◌++◌, length, map, Option, Some, None, refl, sym, ap, ◌∙◌, subst, arith, append-nil}
+use Rattle.std.specs.declared.cmp.Ordering.{Ordering}
+use Rattle.std.specs.declared.cmp.Ordering.TheVariants.{Less, Equal, Greater}
+use Rattle.std.specs.Ordering.{is_lt, is_eq}
+use Rattle.std.specs.List.{flat_map, sum_by}
+use Rattle.std.proofs.lemmas.List.Concat.{flat_map-append}
+use Rattle.std.proofs.lemmas.List.Sums.{sum_by-cons, sum_by_push}
+use Rattle.std.specs.Int.{int_min, int_max}
+use Rattle.std.specs.FinMap.{entries, entries_sorted, get-entries, values, empty, find, is_sorted, len-entries, len-empty}
+use Rattle.std.specs.FinMap.Entries.{below_all}
+use Rattle.std.proofs.lemmas.Bool.{cases_eq}
+use Rattle.std.proofs.lemmas.Int.{ints, clamps}
+use Rattle.std.proofs.lemmas.Grind.{not_there}
+use mathlib.Core.Logic.{∥∥₁_map}
+use Rattle.puffin_data.specs.declared.error.Error.{Error}
+use Rattle.puffin_data.specs.Forest.{Forest}
+use Rattle.puffin_data.specs.Honesty.{Recorded, IsHonestRecord}
+use Rattle.puffin_data.specs.Forest.Tour.{Event}
+use Rattle.puffin_data.specs.Forest.Words.{word_size, num_begun, least_open, greatest_close}
+use Rattle.puffin_frames.specs.Thread.Events.{events_in}
+use Rattle.puffin_frames.specs.Thread.Info.{Info, info_cmp, same_info}
+use Rattle.puffin_frames.specs.Details.{Details, AllHaveIds}
+use Rattle.puffin_frames.specs.Frame.Contents.{Streams, AreHonest, reported_to}
+use Rattle.puffin_frames.specs.Frame.Sums.{total_bytes, total_scopes, joined_start, joined_stop}
+use Rattle.puffin_collector.specs.Profiler.State.{PendingFits, range_with, IsTooLong, IsReportRefusal}
+use Rattle.puffin_session.specs.Session.History.{Opening, Action}
+use Rattle.puffin_session.specs.Session.Deliveries.{Delivery, under}
+use Rattle.puffin_session.specs.Session.Due.{due, events_of, bytes_delivered, scopes_delivered}
+use Rattle.puffin_session.specs.Session.{SessionState, opening_of, StandsAfter, SpellsWord}
+use Rattle.puffin_session.specs.Session.Replies.{DueFits, MayReport, IsDueRefusal}
+use Rattle.puffin_session.specs.inner.Serving.{SumsTo}
+use Rattle.puffin_session.proofs.Laws.{least_open-append, greatest_close-append, word_size-tour, num_begun-tour, least_open-tour, greatest_close-tour, same_info-one, same_info-itself, events_in-spelling, after_report, bytes_measure, scopes_measure, starts_measure, stops_measure, total_bytes-one, total_scopes-one, least_start-one, greatest_stop-one}
+use Rattle.puffin_session.proofs.Openings.{due_of, due-opening}
+
+-- ---- one stream
+
+size_of : (r : Recorded) (word : List Event) → SpellsWord r word → length r.bytes ≡ word_size word
+size_of r word h = ap length h.honest.stream.whole ∙ sym (word_size-tour h.forest) ∙ ap word_size h.toured
+
+pub scopes_of : (r : Recorded) (word : List Event) → SpellsWord r word → r.num_scopes ≡ num_begun word
+scopes_of r word h = h.honest.counts.num_scopes ∙ sym (num_begun-tour h.forest) ∙ ap num_begun h.toured
+
+start_of : (r : Recorded) (word : List Event) → SpellsWord r word → r.range_ns.0 ≡ least_open word
+start_of r word h = h.honest.counts.least_start ∙ sym (least_open-tour h.forest) ∙ ap least_open h.toured
+
+stop_of : (r : Recorded) (word : List Event) → SpellsWord r word → r.range_ns.1 ≡ greatest_close word
+stop_of r word h = h.honest.counts.greatest_stop ∙ sym (greatest_close-tour h.forest) ∙ ap greatest_close h.toured
+
+-- ---- one more report
+
+events_with : (ds : List Delivery) (i : Info) (word : List Event) → flat_map events_of (ds ++ (under i word ∷ [])) ≡ flat_map events_of ds ++ word
+events_with ds i word = flat_map-append events_of ds (under i word ∷ []) ∙ ap (λ (w : List Event). flat_map events_of ds ++ w) (append-nil word)
+
+pub SumsTo-reported : (streams : Streams) (ds : List Delivery) (i : Info) (r : Recorded) (word : List Event) → SumsTo streams ds → SpellsWord r word → SumsTo (reported_to streams i r) (ds ++ (under i word ∷ []))
+SumsTo-reported streams ds i r word before spells =
+    let events = flat_map events_of ds in
+    record {
+      bytes = omega (arith, after_report bytes_measure streams i r, before.bytes, size_of r word spells, sum_by_push bytes_delivered ds (under i word));
+      scopes = omega (arith, after_report scopes_measure streams i r, before.scopes, scopes_of r word spells, sum_by_push scopes_delivered ds (under i word));
+      start = after_report starts_measure streams i r ∙ ap (λ x. int_min x r.range_ns.0) before.start ∙ ap (int_min (least_open events)) (start_of r word spells) ∙ sym (ap least_open (events_with ds i word) ∙ least_open-append events word);
+      stop = after_report stops_measure streams i r ∙ ap (λ x. int_max x r.range_ns.1) before.stop ∙ ap (int_max (greatest_close events)) (stop_of r word spells) ∙ sym (ap greatest_close (events_with ds i word) ∙ greatest_close-append events word);
+    }
+
+-- ---- before any report
+
+no_length : (es : List (Info × Recorded)) → length es ≡ 0 → es ≡ []
+no_length [] e = refl
+no_length (x ∷ es) e = absurd (omega arith)
+
+values_none : values (empty {X = Recorded} {R = info_cmp}) ≡ []
+values_none = ap (map (λ e. e.1)) (no_length _ (sym (len-entries (empty {X = Recorded} {R = info_cmp})) ∙ len-empty info_cmp Recorded))
+
+pub SumsTo-none : SumsTo empty []
+SumsTo-none = record { bytes = ap total_bytes values_none; scopes = ap total_scopes values_none; start = ap joined_start values_none; stop = ap joined_stop values_none }
+
+-- ---- at the opening
+
+-- numbers that are equal where something is there are equal where it merely is
+same_there : {P : Type 0} (a b : ℕ) → ∥ P ∥₁ → (P → a ≡ b) → a ≡ b
+same_there a b there same = elim (cases_eq a b) [
+  | inl e ↦ e
+  | inr apart ↦ absurd (not_there there (λ p. apart (same p)))
+]
+
+between : (a b : ℤ) → ¬ (a <ℤ b) → ¬ (b <ℤ a) → a ≡ b
+between a b not_below not_above = grind (arith, ints)
+
+same_time_there : {P : Type 0} (a b : ℤ) → ∥ P ∥₁ → (P → a ≡ b) → a ≡ b
+same_time_there a b there same =
+    between a b (λ lt. not_there there (λ p. let e = same p in omega (arith, ints, lt, e))) (λ gt. not_there there (λ p. let e = same p in omega (arith, ints, gt, e)))
+
+EachHonest : List (Info × Recorded) → Type 0
+EachHonest [] = Unit {0}
+EachHonest (e ∷ es) = ∥ ((f : Forest) × IsHonestRecord e.1 f) ∥₁ × EachHonest es
+
+first : (a b : Bool) → T (a && b) → T a
+first true b p = tt
+first false b p = p
+
+second : (a b : Bool) → T (a && b) → T b
+second true b p = p
+second false b p = absurd p
+
+less : (o : Ordering) → T (is_lt o) → o ≡ Less
+less Less p = refl
+less Equal p = absurd p
+less Greater p = absurd p
+
+find_below : (k : Info) (es : List (Info × Recorded)) → T (below_all info_cmp k es) → find info_cmp k es ≡ None
+find_below k [] h = refl
+find_below k (e ∷ es) h =
+    ap (λ r. cond (is_eq r) (Some e.1) (find info_cmp k es)) (less (info_cmp k e.0) (first (is_lt (info_cmp k e.0)) (below_all info_cmp k es) h)) ∙ find_below k es (second (is_lt (info_cmp k e.0)) (below_all info_cmp k es) h)
+
+abbrev AllFound : List (Info × Recorded) → Type 0
+AllFound es = (i : Info) (r : Recorded) → find info_cmp i es ≡ Some r → ∥ ((f : Forest) × IsHonestRecord r f) ∥₁
+
+found_later : (e : Info × Recorded) (es : List (Info × Recorded)) → T (below_all info_cmp e.0 es) → AllFound (e ∷ es) → AllFound es
+found_later e es below all i r found = at_test (same_info i e.0) refl
+  where
+    none_some : (r : Recorded) → ◌≡◌ {A = Option Recorded} None (Some r) → ⊥
+    none_some r e = cc
+
+    at_test : (b : Bool) → same_info i e.0 ≡ b → ∥ ((f : Forest) × IsHonestRecord r f) ∥₁
+    at_test true same =
+        let gone : find info_cmp i es ≡ None = subst (λ k. find info_cmp k es ≡ None) (sym (same_info-one i e.0 same)) (find_below e.0 es below) in
+        absurd (none_some r (sym gone ∙ found))
+    at_test false other = all i r (ap (λ (b : Bool). cond b (Some e.1) (find info_cmp i es)) other ∙ found)
+
+each_honest : (es : List (Info × Recorded)) → T (is_sorted info_cmp es) → AllFound es → EachHonest es
+unfolding EachHonest
+each_honest [] h all = tt
+each_honest (e ∷ es) h all =
+    let below = first (below_all info_cmp e.0 es) (is_sorted info_cmp es) h in (
+      all e.0 e.1 (ap (λ (b : Bool). cond b (Some e.1) (find info_cmp e.0 es)) (same_info-itself e.0)),
+      each_honest es (second (below_all info_cmp e.0 es) (is_sorted info_cmp es) h) (found_later e es below all),
+    )
+
+abbrev events_at : List (Info × Recorded) → List Event
+events_at es = flat_map events_of (due_of es)
+
+spells_itself : (r : Recorded) → ∥ ((f : Forest) × IsHonestRecord r f) ∥₁ → ∥ SpellsWord r (events_in r.bytes) ∥₁
+spells_itself r somehow = ∥∥₁_map somehow (λ it. record { forest = it.0; honest = it.1; toured = sym (ap events_in it.1.stream.whole ∙ events_in-spelling it.0 it.1.stream.fits) })
+
+abbrev records_of : List (Info × Recorded) → List Recorded
+records_of es = map (λ e. e.1) es
+
+-- the sums over entries, each by itself
+record EntriesSum (es : List (Info × Recorded)) : Type 0 where
+  bytes : total_bytes (records_of es) ≡ sum_by bytes_delivered (due_of es)
+  scopes : total_scopes (records_of es) ≡ sum_by scopes_delivered (due_of es)
+  start : joined_start (records_of es) ≡ least_open (events_at es)
+  stop : joined_stop (records_of es) ≡ greatest_close (events_at es)
+
+entries_sum : (es : List (Info × Recorded)) → EachHonest es → EntriesSum es
+unfolding EachHonest
+entries_sum [] h = record { bytes = refl; scopes = refl; start = refl; stop = refl }
+entries_sum (e ∷ es) h =
+    let later = entries_sum es h.1 in
+    let word = events_in e.1.bytes in
+    let spells = spells_itself e.1 h.0 in
+    let size = same_there (length e.1.bytes) (word_size word) spells (size_of e.1 word) in
+    let scopes = same_there e.1.num_scopes (num_begun word) spells (scopes_of e.1 word) in
+    let start = same_time_there e.1.range_ns.0 (least_open word) spells (start_of e.1 word) in
+    let stop = same_time_there e.1.range_ns.1 (greatest_close word) spells (stop_of e.1 word) in
+    record {
+      bytes = omega (arith, total_bytes-one e.1 (records_of es), later.bytes, size, sum_by-cons bytes_delivered (under e.0 word) (due_of es));
+      scopes = omega (arith, total_scopes-one e.1 (records_of es), later.scopes, scopes, sum_by-cons scopes_delivered (under e.0 word) (due_of es));
+      start = least_start-one e.1 (records_of es) ∙ ap (λ x. int_min x (joined_start (records_of es))) start ∙ ap (int_min (least_open word)) later.start ∙ sym (least_open-append word (events_at es));
+      stop = greatest_stop-one e.1 (records_of es) ∙ ap (λ x. int_max x (joined_stop (records_of es))) stop ∙ ap (int_max (greatest_close word)) later.stop ∙ sym (greatest_close-append word (events_at es));
+    }
+
+pub SumsTo-opening : (s : SessionState) → AreHonest s.collected.streams → SumsTo s.collected.streams (due (opening_of s) [])
+SumsTo-opening s honest =
+    let streams = s.collected.streams in
+    let es = entries streams in
+    let sums = entries_sum es (each_honest es (entries_sorted streams) (λ i r found. honest i r (get-entries streams i ∙ found))) in
+    subst (λ (ds : List Delivery). SumsTo streams ds) (sym (due-opening s))
+    (record { bytes = sums.bytes; scopes = sums.scopes; start = sums.start; stop = sums.stop })
+
+-- ---- refusals in the history's words
+
+min_comm : (x y : ℤ) → int_min x y ≡ int_min y x
+min_comm x y = omega (arith, ints, clamps)
+
+max_comm : (x y : ℤ) → int_max x y ≡ int_max y x
+max_comm x y = omega (arith, ints, clamps)
+
+module _ (o : Opening) (done : List Action) (now : SessionState) (r : Recorded) (word : List Event) (stands : StandsAfter o done now) (sums : SumsTo now.collected.streams (due o done)) (spells : SpellsWord r word) where
+  abbrev events : List Event
+  events = flat_map events_of (due o done)
+
+  fits : PendingFits now.collected r → DueFits o done word
+  fits h = record {
+    bytes = omega (arith, h.bytes, sums.bytes, size_of r word spells);
+    scopes = omega (arith, h.scopes, sums.scopes, scopes_of r word spells);
+    reported = omega (arith, h.reported, stands.reported, scopes_of r word spells);
+  }
+
+  fits_back : DueFits o done word → PendingFits now.collected r
+  fits_back h = record {
+    bytes = omega (arith, h.bytes, sums.bytes, size_of r word spells);
+    scopes = omega (arith, h.scopes, sums.scopes, scopes_of r word spells);
+    reported = omega (arith, h.reported, stands.reported, scopes_of r word spells);
+  }
+
+  start_with : joined_start (r ∷ values now.collected.streams) ≡ least_open (events ++ word)
+  start_with =
+      least_start-one r (values now.collected.streams) ∙ ap (int_min r.range_ns.0) sums.start ∙ min_comm r.range_ns.0 (least_open events) ∙ ap (int_min (least_open events)) (start_of r word spells) ∙ sym (least_open-append events word)
+
+  stop_with : joined_stop (r ∷ values now.collected.streams) ≡ greatest_close (events ++ word)
+  stop_with =
+      greatest_stop-one r (values now.collected.streams) ∙ ap (int_max r.range_ns.1) sums.stop ∙ max_comm r.range_ns.1 (greatest_close events) ∙ ap (int_max (greatest_close events)) (stop_of r word spells) ∙ sym (greatest_close-append events word)
+
+  range : range_with now.collected r ≡ (least_open (events ++ word), greatest_close (events ++ word))
+  range i = (start_with i, stop_with i)
+
+  pub MayReport-from : PendingFits now.collected r → ¬ IsTooLong (range_with now.collected r) → MayReport o done word
+  MayReport-from h short = (fits h, λ long. short (subst IsTooLong (sym range) long))
+
+  -- where all details have their ids
+  pub IsRefusal-from : (ds : List Details) (e : Error) → AllHaveIds ds → IsReportRefusal now.collected ds r e → IsDueRefusal o done word e
+  IsRefusal-from ds e ids (inl missing) = absurd (missing.1 ids)
+  IsRefusal-from ds e ids (inr (inl large)) = inl (large.0, λ h. large.2 (fits_back h))
+  IsRefusal-from ds e ids (inr (inr (inl long))) = inr (inl (long.0, fits long.2, subst IsTooLong range long.3))
+  IsRefusal-from ds e ids (inr (inr (inr memory))) = inr (inr (memory.0, MayReport-from memory.2 memory.3))

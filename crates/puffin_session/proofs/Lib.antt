@@ -1,0 +1,11 @@
+mod Laws
+mod Histories
+mod Telling
+mod SessionCollects
+mod Standing
+mod Running
+mod Openings
+mod DueSums
+mod Serving
+mod Offsets
+mod SessionCloses

@@ -1,0 +1,56 @@
+-- Only the innermost scope's place ends one.
+use Rattle.std.proofs.Common.{◌∙◌, ap, length, w64, rules, ◌≡◌, ◌-◌, ℕ, get_or, take, vec_len, reverse, refl, inl, arith}
+use Rattle.std.proofs.lemmas.Result.{err_from_is_err_and}
+use Rattle.puffin_frames.specs.Thread.Calls.{Thread, open_offsets}
+use Rattle.std.proofs.lemmas.Int.{to_z-of_z}
+use Rattle.puffin_session.proofs.Offsets.{innermost_last, outer_or_none, past_all, closed_places}
+use Rattle.puffin_collector.specs.Profiler.State.{AcceptsReport, RefusesReport}
+use Rattle.puffin_session.proofs.SessionCloses.{Ends-from, kept_ids}
+use Rattle.puffin_session.proofs.profiled.Profiled.end.Goals as goal
+
+pub returns-clause-back : goal.returns-clause-back
+returns-clause-back c =
+    let items = c.self.inside.offsets.items in
+    let depth : c.len-depth.result ≡ length items = search rules in
+    innermost_last items c.self.inside.profiler.recording.word c.args.back c.index-offset.result.now
+    c.self.invariant.0
+    (omega (arith, depth, c.if-depth-back.false))
+    (c.index-offset.ensures ∙ ap (λ (n : ℕ). get_or items (n - 1 - c.args.back) c.index-offset.result.now) depth)
+    c.in_ok-closed.ensures.innermost
+
+pub returns-clause-ok : goal.returns-clause-ok
+returns-clause-ok c =
+    let closed = c.in_ok-closed.ensures.closed in
+    Ends-from _ _ _ _ _ closed.0 _ _ _ c.self.view_is (c.set.ensures ∙ to_z-of_z w64 c.args.at c.ranges.at) closed.1.1 closed.3
+
+pub returns-then-depth-back-clause-cause : goal.returns-then-depth-back-clause-cause
+returns-then-depth-back-clause-cause c =
+    let items = c.self.inside.offsets.items in
+    let depth : c.len-depth.result ≡ length items = search rules in (
+      refl,
+      past_all items c.args.self.now.word c.args.back (c.self.invariant.0 ∙ ap (λ (th : Thread). reverse (open_offsets th.word)) c.self.view_is) (omega (arith, depth, c.if-depth-back.true)),
+    )
+
+pub returns-in_err-closed-clause-cause : goal.returns-in_err-closed-clause-cause
+returns-in_err-closed-clause-cause c =
+    let items = c.self.inside.offsets.items in
+    let depth : c.len-depth.result ≡ length items = search rules in
+    let refused = c.in_err-closed.ensures.mismatched in
+    let outer = outer_or_none items c.self.inside.profiler.recording.word c.args.back c.index-offset.result.now
+    c.self.invariant.0
+    (omega (arith, depth, c.if-depth-back.false))
+    (c.index-offset.ensures ∙ ap (λ (n : ℕ). get_or items (n - 1 - c.args.back) c.index-offset.result.now) depth)
+    refused.1 in
+    let p = err_from_is_err_and c.from_residual.result c.from_residual.ensures.1 in
+    rw (p.1, p.2) (refused.0, inl outer)
+
+pub invariant_of-self-2 : goal.invariant_of-self-2
+invariant_of-self-2 c =
+    let items = c.self.inside.offsets.items in
+    let closed = c.in_ok-closed.ensures.closed in
+    let size : vec_len c.self.inside.offsets ≡ length items = search rules in (
+      closed_places AcceptsReport RefusesReport items c.pop.new.self.items c.self.inside.profiler.recording _ _ _ _ _
+          c.self.invariant.0
+          (c.pop.ensures.rest ∙ ap (λ (n : ℕ). take (n - 1) items) size) closed.3,
+      kept_ids AcceptsReport RefusesReport c.self.inside.profiler.recording _ _ _ _ _ closed.3 c.self.invariant.1,
+    )

@@ -1,0 +1,101 @@
+-- What contracts see of a session, and where a history leaves it.
+pub mod History
+pub mod Deliveries
+pub mod Due
+pub mod Notes
+pub mod Actions
+pub mod Replies
+pub mod Runs
+use Rattle.std.specs.Prelude.{◌≡◌, ℕ, ◌<◌, pos, false, List, [], length, map, Option, Some, None}
+use Rattle.std.specs.List.{slice_index_or}
+use Rattle.std.specs.FinMap.{empty, entries, get}
+use Rattle.puffin_data.specs.Forest.{Forest}
+use Rattle.puffin_data.specs.Forest.Tour.{Event, tour}
+use Rattle.puffin_data.specs.Honesty.{Recorded, IsHonestRecord}
+use Rattle.puffin_frames.specs.Thread.Info.{Info}
+use Rattle.puffin_frames.specs.Thread.Calls.{Thread}
+use Rattle.puffin_frames.specs.Frame.Contents.{Streams}
+use Rattle.puffin_frames.specs.Details.Collection.{no_details}
+use Rattle.puffin_collector.specs.Profiler.State.{Collected}
+use Rattle.puffin_frames.specs.Thread.Events.{events_in}
+use Rattle.puffin_session.specs.Session.History.{Opening, Action, nobody, thread_at, latest_of}
+use Rattle.puffin_session.specs.Session.Deliveries.{Delivery, unreported, first_start_of}
+use Rattle.puffin_session.specs.Session.Notes.{details_registered, due_details, known_after, is_wanted}
+use Rattle.puffin_session.specs.Session.Due.{due, total_under, index_after, reported_after}
+
+-- its threads, and what is collected for the next frame
+pub record SessionState : Type 0 where
+  pub threads : List Thread
+  pub collected : Collected
+
+abbrev pub named : List ℕ → Thread
+named name = record { name = name; first_start = None; latest = pos 0; word = []; details = [] }
+
+abbrev pub nothing_collected : Collected
+nothing_collected = record {
+  index = 0;
+  reported = 0;
+  emitted = 0;
+  streams = empty;
+  collection = no_details;
+  new_details = [];
+  wants_all = false;
+}
+
+-- with these threads, before any command
+abbrev pub new_session : List (List ℕ) → SessionState
+new_session names = record { threads = map named names; collected = nothing_collected }
+
+-- what stands before a run
+abbrev pub opening_of : SessionState → Opening
+opening_of s = record {
+  threads = s.threads;
+  due = map (λ e. (e.0, events_in e.1.bytes)) (entries s.collected.streams);
+  index = s.collected.index;
+  reported = s.collected.reported;
+  collection = s.collected.collection;
+  new_details = s.collected.new_details;
+  wants_all = s.collected.wants_all;
+}
+
+-- an honest info of the scopes of these events
+pub record SpellsWord (r : Recorded) (word : List Event) : Type 0 where
+  pub forest : Forest
+  pub honest : IsHonestRecord r forest
+  pub toured : tour forest ≡ word
+
+abbrev pub SpellsIfAny : Option Recorded → Option (List Event) → Type 0
+SpellsIfAny None None = Unit {0}
+SpellsIfAny (Some r) (Some word) = ∥ SpellsWord r word ∥₁
+SpellsIfAny None (Some word) = ⊥
+SpellsIfAny (Some r) None = ⊥
+
+-- there is a stream under each info under which something was handed over and under no other, and it spells just that
+abbrev pub SpellsDue : Streams → List Delivery → Type 0
+SpellsDue streams ds = (i : Info) → SpellsIfAny (get streams i) (total_under ds i)
+
+-- a thread after these actions
+abbrev pub thread_after : Opening → List Action → ℕ → Thread
+thread_after o done t = record {
+  name = (thread_at o t).name;
+  first_start = first_start_of o t done;
+  latest = latest_of o t done;
+  word = unreported o t done;
+  details = details_registered o t done;
+}
+
+-- what is known of scopes, what of them is new in the next frame, and whether that is to tell of all
+pub record TellsAfter (o : Opening) (done : List Action) (now : Collected) : Type 0 where
+  pub collection : now.collection ≡ known_after o done
+  pub new_details : now.new_details ≡ due_details o done
+  pub wants_all : now.wants_all ≡ is_wanted o done
+
+-- Nothing is lost, doubled or changed: each thread holds its unreported word and details, what is collected spells just what is due, and the new details are just those that are due.
+pub record StandsAfter (o : Opening) (done : List Action) (now : SessionState) : Type 0 where
+  pub num_threads : length now.threads ≡ length o.threads
+  pub threads : (t : ℕ) → t < length o.threads →
+      slice_index_or now.threads t nobody ≡ thread_after o done t
+  pub collected : SpellsDue now.collected.streams (due o done)
+  pub index : now.collected.index ≡ index_after o done
+  pub reported : now.collected.reported ≡ reported_after o done
+  pub tells : TellsAfter o done now.collected

@@ -1,0 +1,58 @@
+-- What a command with its reply did, and what a run of them did.
+use Rattle.std.specs.Prelude.{ℕ, List, [], ◌∷◌, map, Option, Some, is_some, Bool, true, false}
+use Rattle.std.specs.String.{string_bytes}
+use Rattle.std.specs.Option.{option_map}
+use Rattle.std.specs.declared.string.String.{String}
+use Rattle.puffin_frames.specs.Thread.Info.{info_of}
+use Rattle.puffin_frames.specs.declared.thread_profiler.reporter.Closed.{Closed}
+use Rattle.puffin_frames.specs.declared.thread_profiler.reporter.Closed.TheVariants as closed
+use Rattle.puffin_frames.specs.Details.{Details, default_details}
+use Rattle.puffin_session.specs.declared.command.Command.{Command}
+use Rattle.puffin_session.specs.declared.command.Command.TheVariants.{Begin, End, Register, RegisterUser, ReportUser, Snapshot, NewFrame}
+use Rattle.puffin_session.specs.declared.command.Reply.{Reply}
+use Rattle.puffin_session.specs.declared.command.Reply.TheVariants as reply
+use Rattle.puffin_frames.specs.Thread.Events.{events_in}
+use Rattle.puffin_session.specs.Session.History.{begun, ended, Action, calls, hands, frames, registers, adds, learns, wants, nothing}
+
+-- the outermost open scope was closed, and its report accepted
+abbrev pub is_reported : Closed → Bool
+is_reported closed.Reported = true
+is_reported _ = false
+
+-- the details that a command registers, under an id that was drawn
+abbrev pub details_given : Option (List ℕ) → List ℕ → List ℕ → ℕ → ℕ → Details
+details_given name function file line id = record {
+  id = Some id;
+  scope_name = name;
+  function_name = function;
+  file_path = file;
+  line_nr = line;
+}
+
+-- the details of user scopes, which have a name alone
+abbrev pub user_details : {A : Type 0} → List (String A) → List Details
+user_details names =
+    map (λ name. record default_details { scope_name = Some (string_bytes name) }) names
+
+-- What a command did, by its reply, and by what was learnt of scopes, where these two don't say it: the details of the user scopes that were new, and those that a refused frame's collection has taken in.
+abbrev pub action_of : Command → Reply → List Details → Action
+action_of (Begin thread at id text) (reply.Began offset) learnt =
+    calls thread (record { at = at; mark = begun id (string_bytes text) })
+action_of (End thread at back) (reply.Ended closed) learnt =
+    calls thread (record { at = at; mark = ended (is_reported closed) })
+action_of (Register thread name function file line) (reply.Registered id) learnt =
+    registers thread (
+    details_given (option_map string_bytes name) (string_bytes function) (string_bytes file)
+    line id)
+action_of (RegisterUser names) (reply.RegisteredUser ids) learnt = adds learnt
+action_of (RegisterUser names) (reply.Refused e) learnt = adds learnt
+action_of (ReportUser info stream) reply.Reported learnt =
+    hands (info_of info) (events_in stream.bytes)
+action_of Snapshot reply.Snapshot learnt = wants
+action_of NewFrame (reply.Frame emitted) learnt = frames (is_some emitted.frame)
+action_of NewFrame (reply.Refused e) learnt = learns learnt
+action_of _ _ learnt = nothing
+
+abbrev pub actions_of : List Command → List Reply → List (List Details) → List Action
+actions_of (c ∷ cs) (r ∷ rs) (l ∷ ls) = action_of c r l ∷ actions_of cs rs ls
+actions_of _ _ _ = []

@@ -1,0 +1,134 @@
+-- Which reply a command may get after what was done before it.
+use Rattle.std.specs.Prelude.{◌≡◌, ◌≢◌, ℕ, ℤ, pos, ◌+◌, ◌-◌, ◌^◌, ◌<◌, ◌≤◌, ◌⊎◌, List, [], ◌++◌, length, Some, None, Bool, MatchOption}
+use Rattle.std.specs.String.{string_bytes}
+use Rattle.std.specs.List.{flat_map, sum_by}
+use Rattle.std.specs.Arc.{arc_value}
+use Rattle.std.specs.FinMap.{values}
+use Rattle.puffin_data.specs.declared.error.Error.{Error}
+use Rattle.puffin_data.specs.declared.error.Error.TheVariants.{TooLarge, RangeTooLong, MismatchedEnd, IdsExhausted, IndexExhausted, NoThread, Memory}
+use Rattle.puffin_data.specs.Forest.{Forest}
+use Rattle.puffin_data.specs.Forest.Spelling.{Spells}
+use Rattle.puffin_data.specs.Text.{cut_text}
+use Rattle.puffin_data.specs.Forest.Tour.{Event, tour}
+use Rattle.puffin_data.specs.Walk.{IsFault}
+use Rattle.puffin_data.specs.Forest.Words.{word_size, num_begun, open_after, least_open, greatest_close}
+use Rattle.std.specs.Int.{int_max}
+use Rattle.puffin_frames.specs.Thread.Calls.{after_end}
+use Rattle.puffin_frames.specs.Frame.Sums.{meta_of}
+use Rattle.puffin_frames.specs.Frame.Contents.{Streams, holding_of, frame_meta}
+use Rattle.puffin_frames.specs.declared.frame_data.frame.FrameData.{FrameData}
+use Rattle.puffin_frames.specs.declared.thread_profiler.reporter.Closed.{Closed}
+use Rattle.puffin_frames.specs.declared.thread_profiler.reporter.Closed.TheVariants as closed
+use Rattle.puffin_frames.specs.Details.{Details, shared_details}
+use Rattle.puffin_frames.specs.Details.Collection.{Collection, Begins}
+use Rattle.puffin_collector.specs.Profiler.State.{IsTooLong, delta_of}
+use Rattle.puffin_collector.specs.Profiler.Registering.{Registers, RegistersSome}
+use Rattle.puffin_collector.specs.declared.emitted.Emitted.{Emitted}
+use Rattle.puffin_session.specs.declared.command.Command.{Command}
+use Rattle.puffin_session.specs.declared.command.Command.TheVariants.{Begin, End, Register, RegisterUser, ReportUser, Snapshot, NewFrame}
+use Rattle.puffin_session.specs.declared.command.Reply.{Reply}
+use Rattle.puffin_session.specs.declared.command.Reply.TheVariants as reply
+use Rattle.puffin_frames.specs.Thread.Events.{events_in}
+use Rattle.puffin_session.specs.Session.History.{Opening, Action}
+use Rattle.puffin_session.specs.Session.Deliveries.{Delivery, unreported}
+use Rattle.puffin_session.specs.Session.Due.{due, events_of, bytes_delivered, scopes_delivered, index_after, reported_after, NoneDue}
+use Rattle.puffin_session.specs.Session.Notes.{due_details, known_after, is_wanted}
+use Rattle.puffin_session.specs.Session.{thread_after, SpellsDue}
+use Rattle.puffin_session.specs.Session.Actions.{user_details}
+
+-- The frame with this index spells what was due, and its meta is that of its streams, which have some scope. It holds them as they are, and not packed.
+pub record SpellsFrame (frame : FrameData) (index : ℕ) (ds : List Delivery) : Type 0 where
+  pub streams : Streams
+  pub held : holding_of frame ≡ record { packed = None; unpacked = Some streams }
+  pub spelled : SpellsDue streams ds
+  pub meta : frame_meta frame ≡ meta_of index (values streams)
+  pub some : 0 < (frame_meta frame).num_scopes
+
+-- The frame tells of just these new details, in order, and then, where that is wanted, of all that were known; and it says whether it was wanted.
+pub record TellsScopes (frame : FrameData) (known : Collection) (new : List Details) (wanted : Bool) : Type 0 where
+  pub delta : shared_details frame.scope_delta.items ≡ delta_of known new wanted
+  pub full : frame.full_delta ≡ wanted
+
+module _ (o : Opening) (done : List Action) where
+  abbrev pub HasThread : ℕ → Type 0
+  HasThread t = t < length o.threads
+
+  abbrev pub IsNoThread : ℕ → Error → Type 0
+  IsNoThread t e = (e ≡ NoThread) × (length o.threads ≤ t)
+
+  abbrev pub num_open : ℕ → ℕ
+  num_open t = open_after 0 (unreported o t done)
+
+  -- the word that a thread's report hands over, where its last open scope ends at this time
+  abbrev pub ending_word : ℕ → ℤ → List Event
+  ending_word t at = (after_end (thread_after o done t) (int_max (pos 0) at)).word
+
+  -- with these events more, the sums over all that is due have 64 bits, and so has that over all that was ever reported
+  pub record DueFits (word : List Event) : Type 0 where
+    pub bytes : sum_by bytes_delivered (due o done) + word_size word < 2 ^ 64
+    pub scopes : sum_by scopes_delivered (due o done) + num_begun word < 2 ^ 64
+    pub reported : reported_after o done + num_begun word < 2 ^ 64
+
+  -- all events that are due, and these
+  abbrev pub due_with : List Event → List Event
+  due_with word = flat_map events_of (due o done) ++ word
+
+  -- with these events more, the range of all that is due isn't reversed, and its duration is no i64
+  abbrev pub DueIsTooLong : List Event → Type 0
+  DueIsTooLong word = IsTooLong (least_open (due_with word), greatest_close (due_with word))
+
+  -- a report of these events may be accepted
+  abbrev pub MayReport : List Event → Type 0
+  MayReport word = DueFits word × ¬ DueIsTooLong word
+
+  -- why a report of these events is refused: the first that applies
+  abbrev pub IsDueRefusal : List Event → Error → Type 0
+  IsDueRefusal word e =
+      ((e ≡ TooLarge) × ¬ DueFits word)
+      ⊎ ((e ≡ RangeTooLong) × DueFits word × DueIsTooLong word)
+      ⊎ ((e ≡ Memory) × MayReport word)
+
+  -- what ending the innermost scope leads to, where so many are open, with the report that it may make
+  abbrev pub MayClose : ℕ → List Event → Closed → Type 0
+  MayClose depth word closed.Inner = 1 < depth
+  MayClose depth word closed.Reported = (depth ≡ 1) × MayReport word
+  MayClose depth word (closed.Kept e) = (depth ≡ 1) × IsDueRefusal word e
+
+  -- an emitted frame spells what was due and tells of the details that were due, and there is none only where no scope was due
+  abbrev pub FrameIsDue : Emitted → Type 0
+  FrameIsDue emitted =
+      MatchOption emitted.frame (NoneDue (due o done)) (λ f.
+      SpellsFrame (arc_value f) (index_after o done) (due o done)
+      × TellsScopes (arc_value f) (known_after o done) (due_details o done) (is_wanted o done))
+
+  -- After these actions a command may get this reply, where this was learnt; no other pair comes. `Memory` stands where memory was really refused.
+  abbrev pub MayReply : Command → Reply → List Details → Type 0
+  MayReply (Begin t at id text) (reply.Began offset) learnt =
+      HasThread t
+      × (offset ≡ word_size (unreported o t done) + 14 + length (cut_text (string_bytes text)))
+  MayReply (Begin t at id text) (reply.Refused e) learnt =
+      IsNoThread t e ⊎ ((e ≡ Memory) × HasThread t)
+  MayReply (End t at back) (reply.Ended closed) learnt =
+      HasThread t × (back ≡ 0) × MayClose (num_open t) (ending_word t at) closed
+  MayReply (End t at back) (reply.Refused e) learnt =
+      IsNoThread t e ⊎ ((e ≡ MismatchedEnd) × HasThread t × ((0 < back) ⊎ (num_open t ≡ 0)))
+  MayReply (Register t name function file line) (reply.Registered id) learnt = HasThread t
+  MayReply (Register t name function file line) (reply.Refused e) learnt =
+      IsNoThread t e ⊎ (((e ≡ IdsExhausted) ⊎ (e ≡ Memory)) × HasThread t)
+  MayReply (RegisterUser names) (reply.RegisteredUser ids) learnt =
+      Registers (known_after o done) (user_details names.items) ids.items learnt
+  MayReply (RegisterUser names) (reply.Refused e) learnt =
+      RegistersSome (known_after o done) (user_details names.items) e learnt
+  MayReply (ReportUser info stream) reply.Reported learnt =
+      (f : Forest) × Spells stream.bytes f × (events_in stream.bytes ≡ tour f) × MayReport (tour f)
+  MayReply (ReportUser info stream) (reply.Refused e) learnt =
+      (e ≡ Memory)
+      ⊎ IsFault stream.bytes e
+      ⊎ ((f : Forest) × Spells stream.bytes f × IsDueRefusal (tour f) e)
+  MayReply Snapshot reply.Snapshot learnt = Unit {0}
+  MayReply NewFrame (reply.Frame emitted) learnt =
+      (emitted.refused ≡ 0) × (index_after o done ≢ 2 ^ 64 - 1) × FrameIsDue emitted
+  MayReply NewFrame (reply.Refused e) learnt =
+      ((e ≡ IndexExhausted) × (index_after o done ≡ 2 ^ 64 - 1) × (learnt ≡ []))
+      ⊎ ((e ≡ Memory) × Begins learnt (due_details o done))
+  MayReply _ _ learnt = ⊥

@@ -1,0 +1,49 @@
+-- A run of commands with their replies, from one state of a session to another.
+use Rattle.std.specs.Prelude.{◌≡◌, ℕ, List, [], ◌∷◌, ◌++◌, length, Option, Some, None}
+use Rattle.std.specs.Arc.{arc_value}
+use Rattle.std.specs.declared.sync.Arc.{Arc}
+use Rattle.std.specs.declared.alloc.Global.{Global}
+use Rattle.puffin_frames.specs.declared.frame_data.frame.FrameData.{FrameData}
+use Rattle.puffin_frames.specs.Frame.Contents.{frame_says}
+use Rattle.puffin_frames.specs.Details.{Details, AllHaveIds}
+use Rattle.puffin_session.specs.declared.command.Command.{Command}
+use Rattle.puffin_session.specs.declared.command.Reply.{Reply}
+use Rattle.puffin_session.specs.declared.command.Reply.TheVariants as reply
+use Rattle.puffin_session.specs.Session.History.{Opening, Action}
+use Rattle.puffin_session.specs.Session.{SessionState, new_session, opening_of, StandsAfter}
+use Rattle.puffin_session.specs.Session.Actions.{action_of, actions_of}
+use Rattle.puffin_session.specs.Session.Replies.{MayReply}
+
+-- each command may get its reply after those before it
+abbrev pub EachReply : Opening → List Action → List Command → List Reply → List (List Details) →
+    Type 0
+EachReply o done (c ∷ cs) (r ∷ rs) (l ∷ ls) =
+    MayReply o done c r l × EachReply o (done ++ (action_of c r l ∷ [])) cs rs ls
+EachReply o done _ _ _ = Unit {0}
+
+-- These commands with these replies lead from old to new.
+pub record Records (old new : SessionState) (commands : List Command) (replies : List Reply) : Type 0 where
+  pub num_replies : length replies ≡ length commands
+  -- what was learnt by each command
+  pub learnt : List (List Details)
+  pub num_learnt : length learnt ≡ length commands
+  pub opened : StandsAfter (opening_of old) [] old
+  pub replies_stand : EachReply (opening_of old) [] commands replies learnt
+  pub stands : StandsAfter (opening_of old) (actions_of commands replies learnt) new
+
+-- These replies are those of a run of the commands from a new session with these threads, which ends in this state.
+abbrev pub AreReplies : List (List ℕ) → List Command → List Reply → SessionState → Type 0
+AreReplies names commands replies end = Records (new_session names) end commands replies
+
+-- the details that a frame tells, if there is one
+abbrev pub details_told : Option (Arc FrameData Global) → List Details
+details_told None = []
+details_told (Some frame) = (frame_says (arc_value frame)).details
+
+abbrev pub details_of_reply : Reply → List Details
+details_of_reply (reply.Frame emitted) = details_told emitted.frame
+details_of_reply _ = []
+
+-- what a reply's frame tells of has ids
+abbrev pub HasIds : Reply → Type 0
+HasIds reply = AllHaveIds (details_of_reply reply)

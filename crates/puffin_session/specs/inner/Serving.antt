@@ -1,0 +1,73 @@
+-- What single commands do to a session: what the proof of a run stands on.
+use Rattle.std.specs.Prelude.{◌≡◌, ℕ, ℤ, pos, List, [], ◌∷◌, ◌++◌, slice_set}
+use Rattle.std.specs.List.{slice_index_or, flat_map, sum_by}
+use Rattle.std.specs.Int.{int_max}
+use Rattle.std.specs.FinMap.{values}
+use Rattle.puffin_data.specs.Forest.Words.{least_open, greatest_close}
+use Rattle.puffin_frames.specs.Thread.Calls.{Thread}
+use Rattle.puffin_frames.specs.Details.{Details}
+use Rattle.puffin_frames.specs.Thread.Closing.{Closes}
+use Rattle.puffin_frames.specs.Frame.Contents.{Streams}
+use Rattle.puffin_frames.specs.Frame.Sums.{total_bytes, total_scopes, joined_start, joined_stop}
+use Rattle.puffin_frames.specs.declared.thread_profiler.reporter.Closed.{Closed}
+use Rattle.puffin_collector.specs.Profiler.State.{Collected, AcceptsReport, RefusesReport}
+use Rattle.puffin_session.specs.declared.command.Command.{Command}
+use Rattle.puffin_session.specs.declared.command.Reply.{Reply}
+use Rattle.puffin_session.specs.Session.History.{Opening, Action, nobody}
+use Rattle.puffin_session.specs.Session.Deliveries.{Delivery}
+use Rattle.puffin_session.specs.Session.Due.{due, events_of, bytes_delivered, scopes_delivered}
+use Rattle.puffin_session.specs.Session.{SessionState, opening_of, StandsAfter}
+use Rattle.puffin_session.specs.Session.Actions.{action_of, actions_of}
+use Rattle.puffin_session.specs.Session.Replies.{MayReply}
+use Rattle.puffin_session.specs.Session.Runs.{Records}
+
+-- ---- what single calls do
+
+-- a time below 0 counts as 0
+abbrev pub clock_time : ℤ → ℤ
+clock_time at = int_max (pos 0) at
+
+abbrev pub session_thread : SessionState → ℕ → Thread
+session_thread s t = slice_index_or s.threads t nobody
+
+-- a session with another thread at this number, and with this collected
+abbrev pub session_with_thread : SessionState → ℕ → Thread → Collected → SessionState
+session_with_thread s t thread collected =
+    record { threads = slice_set s.threads t thread; collected = collected }
+
+abbrev pub session_with_collected : SessionState → Collected → SessionState
+session_with_collected s collected = record { threads = s.threads; collected = collected }
+
+-- The innermost scope of a thread was ended. Where it was the last, the report of the whole word was accepted, or it was refused and left what is collected.
+abbrev pub Ends : Thread → Thread → ℤ → Collected → Collected → Closed → Type 0
+Ends old new at before after closed =
+    Closes AcceptsReport RefusesReport old new at before after closed
+
+-- ---- what a run keeps
+
+-- The sums over these streams are those of what was handed over, and their range is that of all its events.
+pub record SumsTo (streams : Streams) (ds : List Delivery) : Type 0 where
+  pub bytes : total_bytes (values streams) ≡ sum_by bytes_delivered ds
+  pub scopes : total_scopes (values streams) ≡ sum_by scopes_delivered ds
+  pub start : joined_start (values streams) ≡ least_open (flat_map events_of ds)
+  pub stop : joined_stop (values streams) ≡ greatest_close (flat_map events_of ds)
+
+-- a session stands after a history, and the sums over what is collected are those of what is due
+pub record Continued (o : Opening) (done : List Action) (now : SessionState) : Type 0 where
+  pub stands : StandsAfter o done now
+  pub sums : SumsTo now.collected.streams (due o done)
+
+-- One command and its reply: something was learnt, and whatever history the session stood after, it stands after that history and what the command did.
+abbrev pub ContinuesBy : SessionState → SessionState → Command → Reply → List Details → Type 0
+ContinuesBy old new c r learnt =
+    (o : Opening) (done : List Action) → Continued o done old →
+    Continued o (done ++ (action_of c r learnt ∷ [])) new × MayReply o done c r learnt
+
+abbrev pub Continues : SessionState → SessionState → Command → Reply → Type 0
+Continues old new c r = (learnt : List Details) × ContinuesBy old new c r learnt
+
+-- a run so far, and the sums over what is collected
+pub record RunsTo (old now : SessionState) (commands : List Command) (replies : List Reply) : Type 0 where
+  pub recorded : Records old now commands replies
+  pub sums : SumsTo now.collected.streams (
+      due (opening_of old) (actions_of commands replies recorded.learnt))

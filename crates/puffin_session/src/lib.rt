@@ -1,0 +1,16 @@
+//! Threads that are profiled, all by one profiler, and driven by lists of commands. The contract of [`Session::run`] is
+//! the main promise: nothing is lost, doubled or changed, and each frame spells what was due.
+//!
+//! | to | call |
+//! |---|---|
+//! | drive threads and their profiler by commands | [`Session::new`], [`Session::run`] |
+//! | say what a thread does | [`Command`] |
+//! | see what became of it | [`Reply`] |
+#![tactic(auto)]
+
+mod command;
+mod profiled;
+mod session;
+
+pub use command::{Command, Reply};
+pub use session::Session;

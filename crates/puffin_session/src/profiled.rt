@@ -1,0 +1,127 @@
+ghost use Rattle.std.specs.Prelude.{◌≡◌, ◌+◌, ◌-◌, ◌<◌, ◌⊎◌, length, option_map, IfOk, IfErr, OnOk, OnErr};
+ghost use Rattle.std.specs.String.{string_bytes};
+ghost use Rattle.puffin_data.specs.Text.{cut_text};
+ghost use Rattle.puffin_data.specs.Forest.Words.{word_size, open_after};
+ghost use Rattle.puffin_frames.specs.Details.{AllHaveIds};
+ghost use Rattle.puffin_frames.specs.Thread.Calls.{after_begin, after_registering};
+ghost use Rattle.puffin_session.specs.Session.{named};
+ghost use Rattle.puffin_session.specs.Session.Actions.{details_given};
+ghost use Rattle.puffin_session.specs.inner.Serving.{clock_time, Ends};
+
+use puffin_collector::Collector;
+use puffin_data::data::ScopeId;
+use puffin_data::{Error, NanoSecond, Result};
+use puffin_frames::scope_details::ScopeIds;
+use puffin_frames::thread_profiler::{Closed, ScriptClock, ThreadProfiler};
+use std::alloc::Global;
+use std::borrow::CowStr;
+use std::marker::Model;
+
+/// A thread of a session, with the places that its open scopes are ended by, the innermost last.
+#[derive(Drop)]
+pub(crate) struct Profiled {
+    profiler: ThreadProfiler<ScriptClock>,
+    offsets: Vec<usize>,
+}
+
+impl Model for Profiled {
+    ghost use Rattle.std.specs.Prelude.{◌≡◌, reverse};
+    ghost use Rattle.puffin_frames.specs.Details.{AllHaveIds};
+    ghost use Rattle.puffin_frames.specs.Thread.Calls.{Thread, open_offsets};
+    ghost use Rattle.puffin_frames.specs.Thread.ThreadProfiler.{thread_of};
+
+    ghost Value = { Thread };
+
+    ghost view = { λ p. thread_of p.profiler };
+
+    ghost invariant = { λ p.
+        (p.offsets.items ≡ reverse (open_offsets (thread_of p.profiler).word))
+        × AllHaveIds (thread_of p.profiler).details };
+}
+
+impl Profiled {
+    /// A thread before its first scope.
+    pub(crate) fn new(alloc: Global, name: String) -> Profiled
+        ensures { result ≡ named (string_bytes name) }
+    {
+        Profiled {
+            profiler: ThreadProfiler::new(alloc, name, ScriptClock::new(0)),
+            offsets: Vec::new(alloc),
+        }
+    }
+
+    /// Begins a scope at this time. Refused only with `Memory`; nothing is changed then.
+    pub(crate) fn begin(&mut self, at: NanoSecond, id: ScopeId, text: &str) -> Result<usize>
+        ensures ok { OnOk result (
+            self.new ≡ after_begin self.old id (cut_text text.now) (clock_time at)) }
+        ensures offset { IfOk result (λ offset.
+            offset ≡ word_size self.old.word + 14 + length (cut_text text.now)) }
+        ensures err { OnErr result (self.new ≡ self.old) }
+        ensures memory { IfErr result (λ e. e ≡ Error.Memory) }
+    {
+        self.offsets.reserve(1)?;
+        self.profiler.clock().set(at);
+        let offset = self.profiler.begin_scope(id, text)?;
+        self.offsets.push_reserved(offset);
+        Ok(offset)
+    }
+
+    /// Registers a scope's details under a newly drawn id, which is returned. Refused only with `IdsExhausted` or `Memory`;
+    /// nothing is changed then.
+    pub(crate) fn register(
+        &mut self,
+        ids: &ScopeIds,
+        name: &Option<String>,
+        function: &String,
+        file: &String,
+        line: u32,
+    ) -> Result<ScopeId>
+        ensures ok { IfOk result (λ id.
+            self.new ≡ after_registering self.old (
+            details_given (option_map string_bytes name.now) (string_bytes function.now)
+            (string_bytes file.now) line id)) }
+        ensures err { OnErr result (self.new ≡ self.old) }
+        ensures cause { IfErr result (λ e. (e ≡ Error.IdsExhausted) ⊎ (e ≡ Error.Memory)) }
+    {
+        let function = CowStr::Owned(function.clone()?);
+        let file = CowStr::Owned(file.clone()?);
+        match name {
+            Some(name) => {
+                let name = CowStr::Owned(name.clone()?);
+                self.profiler
+                    .register_named_scope(ids, name, function, file, line)
+            }
+            None => self
+                .profiler
+                .register_function_scope(ids, function, file, line),
+        }
+    }
+
+    /// Ends the open scope that is so many places out of the innermost one, at this time. Refused only with
+    /// `MismatchedEnd`, unless it is the innermost one; nothing is changed then.
+    pub(crate) fn end(
+        &mut self,
+        at: NanoSecond,
+        back: usize,
+        collector: &mut Collector,
+    ) -> Result<Closed>
+        // What is registered has ids, at any time.
+        ensures ids { AllHaveIds self.old.details }
+        ensures back { OnOk result (back ≡ 0) }
+        ensures ok { IfOk result (λ closed.
+            Ends self.old self.new (clock_time at) collector.old collector.new closed) }
+        ensures err { OnErr result ((self.new ≡ self.old) × (collector.new ≡ collector.old)) }
+        ensures cause { IfErr result (λ e.
+            (e ≡ Error.MismatchedEnd) × ((0 < back) ⊎ (open_after 0 self.old.word ≡ 0))) }
+    {
+        let depth = self.offsets.len();
+        if depth <= back {
+            return Err(Error::MismatchedEnd);
+        }
+        let offset = self.offsets[depth - 1 - back];
+        self.profiler.clock().set(at);
+        let closed = self.profiler.end_scope(offset, collector)?;
+        let _ = self.offsets.pop();
+        Ok(closed)
+    }
+}

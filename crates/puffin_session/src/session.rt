@@ -1,0 +1,279 @@
+ghost use Rattle.std.specs.Prelude.{◌≡◌, ◌≢◌, ◌+◌, ◌-◌, ◌^◌, ◌<◌, ◌≤◌, ◌⊎◌, length, map, [], All, option_map, IfOk, IfErr, OnOk, OnErr};
+ghost use Rattle.std.specs.String.{string_bytes};
+ghost use Rattle.puffin_data.specs.Forest.{Forest};
+ghost use Rattle.puffin_data.specs.Honesty.{Recorded, IsHonestRecord};
+ghost use Rattle.puffin_data.specs.Text.{cut_text};
+ghost use Rattle.puffin_data.specs.Walk.{IsFault};
+ghost use Rattle.puffin_data.specs.Forest.Words.{word_size, open_after};
+ghost use Rattle.puffin_frames.specs.Thread.Info.{info_of};
+ghost use Rattle.puffin_frames.specs.Details.{AllHaveIds, details_seen};
+ghost use Rattle.puffin_frames.specs.Thread.Calls.{after_begin, after_registering};
+ghost use Rattle.puffin_collector.specs.Profiler.State.{AcceptsReport, IsReportRefusal, after_wanting};
+ghost use Rattle.puffin_collector.specs.Profiler.Collecting.{Collects, TellsIds, KeepsPending};
+ghost use Rattle.puffin_collector.specs.Profiler.Registering.{Adds, AddsSome};
+ghost use Rattle.puffin_session.specs.Session.{new_session};
+ghost use Rattle.puffin_session.specs.Session.Runs.{Records, HasIds};
+ghost use Rattle.puffin_session.specs.Session.Actions.{details_given, user_details};
+ghost use Rattle.puffin_session.specs.inner.Serving.{clock_time, session_thread, session_with_thread, session_with_collected, Ends, Continues};
+
+use crate::command::{Command, Reply};
+use crate::profiled::Profiled;
+use puffin_collector::{Collector, Emitted};
+use puffin_data::data::{ScopeId, Stream, StreamInfo};
+use puffin_data::{Error, NanoSecond, Result};
+use puffin_frames::frame_data::FrameData;
+use puffin_frames::scope_details::{ScopeDetails, ScopeIds};
+use puffin_frames::thread_profiler::{Closed, ThreadInfo};
+use std::alloc::Global;
+use std::borrow::CowStr;
+use std::marker::Model;
+use std::sync::Arc;
+
+/// Threads that are profiled, all by one profiler, and driven by commands.
+///
+/// Contracts see each thread's unreported scopes and details, and what is collected for the next frame.
+#[derive(Drop)]
+pub struct Session {
+    profiled: Vec<Profiled>,
+    collector: Collector,
+    ids: ScopeIds,
+    alloc: Global,
+}
+
+impl Model for Session {
+    ghost use Rattle.puffin_session.specs.Session.{SessionState};
+    ghost use Rattle.puffin_session.specs.contracts.profiled.Profiled as t;
+    ghost use Rattle.puffin_collector.specs.contracts.collector.Collector as c;
+    ghost use Rattle.std.specs.Coded.{code_by, coded×, coded_list};
+    ghost use Rattle.std.specs.Prelude.{refl};
+
+    ghost Value = { SessionState };
+
+    ghost coded = { code_by _ (coded× (coded_list t.the_row.coded) c.the_row.coded)
+        (λ s. (s.threads, s.collected)) (λ p. record { threads = p.0; collected = p.1 })
+        (λ _. refl) };
+
+    ghost view = { λ s. record { threads = s.profiled.items; collected = s.collector } };
+}
+
+impl Session {
+    /// One thread a name, before its first scope. The first id that is drawn is 1. Refused only with `Memory`.
+    pub fn new(alloc: Global, names: Vec<String>) -> Result<Session>
+        ensures new { IfOk result (λ session.
+            session ≡ new_session (map string_bytes names.items)) }
+        ensures memory { IfErr result (λ e. e ≡ Error.Memory) }
+    {
+        let mut profiled = Vec::new(alloc);
+        for name in names {
+            profiled.push(Profiled::new(alloc, name))?;
+        }
+        Ok(Session {
+            profiled,
+            collector: Collector::new(alloc, 0),
+            ids: ScopeIds::new(),
+            alloc,
+        })
+    }
+
+    /// Runs commands in order, with one reply each. Each accepted scope is then once in an emitted frame, in what is due
+    /// for the next one, or in its thread's unreported scopes, and each frame holds just what was due. So are details, of which
+    /// each frame tells just those that are new, and of all that are known where that was wanted. Refused only with `Memory`,
+    /// before any command has run.
+    pub fn run(&mut self, commands: &[Command]) -> Result<Vec<Reply>>
+        ensures run { IfOk result (λ replies.
+            Records self.old self.new commands.now replies.items) }
+        // What a frame tells of has ids.
+        ensures ids { IfOk result (λ replies. All HasIds replies.items) }
+        ensures err { OnErr result (self.new ≡ self.old) }
+        ensures memory { IfErr result (λ e. e ≡ Error.Memory) }
+    {
+        // For the proof alone: each collector says of itself that what it collects is honest.
+        let _ = self.collector.totals();
+        let mut replies = Vec::with_capacity(self.alloc, commands.len())?;
+        for command in commands {
+            let reply = self.serve(command);
+            replies.push_reserved(reply);
+        }
+        Ok(replies)
+    }
+
+    /// One command.
+    fn serve(&mut self, command: &Command) -> Reply
+        ensures continues { Continues self.old self.new command.now result }
+        ensures ids { HasIds result }
+    {
+        match command {
+            Command::Begin {
+                thread,
+                at,
+                id,
+                text,
+            } => match self.begin(*thread, *at, *id, text.as_str()) {
+                Ok(offset) => Reply::Began(offset),
+                Err(cause) => Reply::Refused(cause),
+            },
+            Command::End { thread, at, back } => match self.end(*thread, *at, *back) {
+                Ok(closed) => Reply::Ended(closed),
+                Err(cause) => Reply::Refused(cause),
+            },
+            Command::Register {
+                thread,
+                name,
+                function,
+                file,
+                line,
+            } => match self.register(*thread, name, function, file, *line) {
+                Ok(id) => Reply::Registered(id),
+                Err(cause) => Reply::Refused(cause),
+            },
+            Command::RegisterUser { names } => match self.register_user(names) {
+                Ok(ids) => Reply::RegisteredUser(ids),
+                Err(cause) => Reply::Refused(cause),
+            },
+            Command::ReportUser { info, stream } => match self.report_user(info, stream) {
+                Ok(()) => Reply::Reported,
+                Err(cause) => Reply::Refused(cause),
+            },
+            Command::Snapshot => {
+                self.collector.emit_scope_snapshot();
+                Reply::Snapshot
+            }
+            Command::NewFrame => match self.new_frame() {
+                Ok(frame) => Reply::Frame(Emitted { frame, refused: 0 }),
+                Err(cause) => Reply::Refused(cause),
+            },
+        }
+    }
+
+    fn begin(&mut self, thread: usize, at: NanoSecond, id: ScopeId, text: &str) -> Result<usize>
+        ensures ok { IfOk result (λ offset.
+            (thread < length self.old.threads)
+            × (self.new ≡ session_with_thread self.old thread
+            (after_begin (session_thread self.old thread) id (cut_text text.now)
+            (clock_time at))
+            self.old.collected)
+            × (offset ≡ word_size (session_thread self.old thread).word + 14
+            + length (cut_text text.now))) }
+        ensures err { OnErr result (self.new ≡ self.old) }
+        ensures cause { IfErr result (λ e.
+            ((e ≡ Error.NoThread) × (length self.old.threads ≤ thread))
+            ⊎ ((e ≡ Error.Memory) × (thread < length self.old.threads))) }
+    {
+        match self.profiled.get_mut(thread) {
+            Some(profiled) => profiled.begin(at, id, text),
+            None => Err(Error::NoThread),
+        }
+    }
+
+    fn end(&mut self, thread: usize, at: NanoSecond, back: usize) -> Result<Closed>
+        ensures ids { OnOk result (AllHaveIds (session_thread self.old thread).details) }
+        ensures ok { IfOk result (λ closed.
+            (thread < length self.old.threads)
+            × (back ≡ 0)
+            × (self.new ≡ session_with_thread self.old thread (session_thread self.new thread)
+            self.new.collected)
+            × Ends (session_thread self.old thread) (session_thread self.new thread)
+            (clock_time at) self.old.collected self.new.collected closed) }
+        ensures err { OnErr result (self.new ≡ self.old) }
+        ensures cause { IfErr result (λ e.
+            ((e ≡ Error.NoThread) × (length self.old.threads ≤ thread))
+            ⊎ ((e ≡ Error.MismatchedEnd)
+            × (thread < length self.old.threads)
+            × ((0 < back) ⊎ (open_after 0 (session_thread self.old thread).word ≡ 0)))) }
+    {
+        match self.profiled.get_mut(thread) {
+            Some(profiled) => profiled.end(at, back, &mut self.collector),
+            None => Err(Error::NoThread),
+        }
+    }
+
+    fn register(
+        &mut self,
+        thread: usize,
+        name: &Option<String>,
+        function: &String,
+        file: &String,
+        line: u32,
+    ) -> Result<ScopeId>
+        ensures ok { IfOk result (λ id.
+            (thread < length self.old.threads)
+            × (self.new ≡ session_with_thread self.old thread
+            (after_registering (session_thread self.old thread) (
+            details_given (option_map string_bytes name.now)
+            (string_bytes function.now) (string_bytes file.now) line id))
+            self.old.collected)) }
+        ensures err { OnErr result (self.new ≡ self.old) }
+        ensures cause { IfErr result (λ e.
+            ((e ≡ Error.NoThread) × (length self.old.threads ≤ thread))
+            ⊎ (((e ≡ Error.IdsExhausted) ⊎ (e ≡ Error.Memory))
+            × (thread < length self.old.threads))) }
+    {
+        match self.profiled.get_mut(thread) {
+            Some(profiled) => profiled.register(&self.ids, name, function, file, line),
+            None => Err(Error::NoThread),
+        }
+    }
+
+    fn register_user(&mut self, names: &[String]) -> Result<Vec<ScopeId>>
+        ensures ok { IfOk result (λ ids.
+            Adds self.old.collected (user_details names.now) ids.items self.new.collected) }
+        ensures err { IfErr result (λ e.
+            AddsSome self.old.collected (user_details names.now) e self.new.collected) }
+        ensures threads { self.new ≡ session_with_collected self.old self.new.collected }
+    {
+        let details = user_scopes(self.alloc, names)?;
+        self.collector.register_user_scopes(&self.ids, &details)
+    }
+
+    fn report_user(&mut self, info: &ThreadInfo, stream: &Stream) -> Result<()>
+        ensures ok { OnOk result (
+            (r : Recorded)
+            × (f : Forest)
+            × IsHonestRecord r f
+            × (r.bytes ≡ stream.now.bytes)
+            × AcceptsReport self.old.collected (info_of info.now) [] r self.new.collected
+            × (self.new ≡ session_with_collected self.old self.new.collected)) }
+        ensures err { OnErr result (self.new ≡ self.old) }
+        ensures cause { IfErr result (λ e.
+            (e ≡ Error.Memory)
+            ⊎ IsFault stream.now.bytes e
+            ⊎ ((r : Recorded)
+            × (f : Forest)
+            × IsHonestRecord r f
+            × (r.bytes ≡ stream.now.bytes)
+            × IsReportRefusal self.old.collected [] r e)) }
+    {
+        let times = StreamInfo::parse(self.alloc, stream.clone()?)?;
+        let info = info.clone()?;
+        self.collector
+            .report_user_scopes(info, &times.as_stream_into_ref())
+    }
+
+    fn new_frame(&mut self) -> Result<Option<Arc<FrameData>>>
+        ensures ok { IfOk result (λ frame.
+            (self.old.collected.index ≢ 2 ^ 64 - 1)
+            × (self.new ≡ session_with_collected self.old self.new.collected)
+            × Collects self.old.collected frame self.new.collected) }
+        ensures err { IfErr result (λ e.
+            (self.new ≡ session_with_collected self.old self.new.collected)
+            × KeepsPending self.old.collected e self.new.collected) }
+        ensures ids { IfOk result TellsIds }
+        ensures last { IfErr result (λ e.
+            e ≡ Error.IndexExhausted → self.old.collected.index ≡ 2 ^ 64 - 1) }
+    {
+        self.collector.collect_frame()
+    }
+}
+
+/// The details of scopes with these names. Refused only with `Memory`.
+fn user_scopes(alloc: Global, names: &[String]) -> Result<Vec<ScopeDetails>>
+    ensures ok { IfOk result (λ details. details_seen details.items ≡ user_details names.now) }
+    ensures err { IfErr result (λ e. e ≡ Error.Memory) }
+{
+    let mut details = Vec::with_capacity(alloc, names.len())?;
+    for name in names {
+        let name = CowStr::Owned(name.clone()?);
+        details.push(ScopeDetails::from_scope_name(name))?;
+    }
+    Ok(details)
+}

@@ -1,0 +1,86 @@
+//! Two threads share one profiler: README shows this.
+
+ghost use Rattle.std.specs.Prelude.{◌≡◌};
+
+use crate::shared_profiler::ended;
+use puffin::data::ScopeId;
+use puffin::global_profiler::{GlobalProfiler, Settled, Share, SharedProfiler, SharedReporter};
+use puffin::thread_profiler::{ScriptClock, ThreadProfiler};
+use std::alloc::{AllocError, Global};
+use std::marker::Brand;
+use std::process::Abort;
+use std::sync::Wait;
+use std::sync::ledger::{Blank, Ledger};
+use std::test::Fail;
+use std::thread;
+use std::thread::{JoinHandle, Threads};
+
+/// Loads a file in a scope of its own, which is reported by a share. Gives the share back.
+fn load<L: Ledger, M: Ledger, R: Wait + Drop>(
+    rt: R,
+    alloc: Global,
+    profiler: SharedProfiler<L, M>,
+    share: Share<L, M>,
+) -> Option<Share<L, M>> {
+    let mut reporter = SharedReporter::new(rt, profiler, share);
+    let name = String::from_str(alloc, "loader").ok()?;
+    let mut thread = ThreadProfiler::new(alloc, name, ScriptClock::new(5));
+    let scope = thread.begin_scope(ScopeId::new(7)?, "image-12.png").ok()?;
+    let _closed = ended(&mut thread, scope, &mut reporter).ok()?;
+    Some(reporter.into_share())
+}
+
+/// The same on a thread of its own.
+fn start<
+    L: Ledger + Send + 'static,
+    M: Ledger + Send + 'static,
+    R: Threads + Wait + Copy + Send + 'static,
+>(
+    rt: R,
+    alloc: Global,
+    profiler: SharedProfiler<L, M>,
+    share: Share<L, M>,
+) -> std::result::Result<JoinHandle<Option<Share<L, M>>>, AllocError> {
+    Ok(thread::spawn(&rt, move || { load(rt, alloc, profiler, share) })?)
+}
+
+/// A loader's thread and one that takes the frame.
+fn loaded<
+    L: Ledger + Send + Sync + 'static,
+    M: Ledger + Send + Sync + 'static,
+    R: Threads + Wait + Abort + Copy + Send + Sync + 'static,
+>(rt: R, alloc: Global, reported: Blank, handed: Blank) -> std::result::Result<(), Fail>
+    requires reported { (reported.name ≡ L.name)
+        × (reported.parts ≡ L.parts)
+        × (reported.parts ≡ 2) }
+    requires handed { (handed.name ≡ M.name) × (handed.parts ≡ M.parts) × (handed.parts ≡ 2) }
+{
+    let profiler = GlobalProfiler::new(alloc);
+    let Ok((profiler, shares)) = SharedProfiler::<L, M>::open(alloc, profiler, 2, reported, handed)
+    else {
+        return Err(Fail::new("no memory"));
+    };
+    let mut shares = shares;
+    let mut own = shares.pop().ok_or("a share")?;
+    let theirs = shares.pop().ok_or("another")?;
+    let loader = start(rt, alloc, profiler.clone()?, theirs)?;
+    shares.push(loader.join(&rt).ok_or("the loader's share")?)?;
+    let emitted = profiler.new_frame(&rt, &mut own)?;
+    assert!(rt; emitted.frame.is_some());
+    shares.push(own)?;
+    let Ok(settled) = profiler.settle(&rt, shares) else {
+        return Err(Fail::new("two shares are all"));
+    };
+    let all = Settled {
+        reported: 1,
+        handed: 1,
+        pending: 0,
+    };
+    assert_eq!(rt; settled, all);
+    Ok(())
+}
+
+#[test]
+fn two_threads_share_a_profiler(rt: HostRuntime) -> std::result::Result<(), Fail> {
+    loaded::<Brand, Brand, HostRuntime>(rt, rt.alloc(), Blank::new(2), Blank::new(2))
+}
