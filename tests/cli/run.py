@@ -14,8 +14,12 @@ A case is a folder in cases/ with the files
   stderr  the same of standard error
   status  the exit status that is wanted (no file: 0)
   out.hex what it must write to the file 'out' where it runs (no file: it must not make one)
+  places  lines that name what is unusual where it runs: 'folder' for a folder of that name, 'locked' for a file of that
+          name that the program may not open, 'full' and 'closed' for a standard output that is a full device or a pipe
+          that nobody reads
 """
 
+import os
 import pathlib
 import shutil
 import subprocess
@@ -46,19 +50,58 @@ def given(case):
     return read(case / "stdin")
 
 
+def furnish(place, case, unusual):
+    """Puts a case's files where the program runs."""
+    if (case / "script").exists():
+        shutil.copy(case / "script", place)
+    if (case / "file.hex").exists():
+        (place / "file").write_bytes(digits(case / "file.hex"))
+    if "folder" in unusual:
+        (place / "folder").mkdir()
+    if "locked" in unusual:
+        (place / "locked").touch(mode=0)
+
+
+def output(unusual):
+    """What the program has for standard output, and what is to be closed after its run."""
+    if "full" in unusual:
+        device = os.open("/dev/full", os.O_WRONLY)
+        return device, device
+    if "closed" in unusual:
+        reader, writer = os.pipe()
+        os.close(reader)
+        return writer, writer
+    return subprocess.PIPE, None
+
+
+def run(program, words, case, place, unusual):
+    """Runs the program. One that may not open a file is run by nobody, where root would run it, and from a copy there."""
+    settings = {}
+    if "locked" in unusual and os.geteuid() == 0:
+        place.chmod(0o755)
+        program = shutil.copy(program, place / "program")
+        settings = {"user": 65534, "group": 65534, "extra_groups": []}
+    stdout, held = output(unusual)
+    try:
+        return subprocess.run(
+            [program, *words], input=given(case), stdout=stdout, stderr=subprocess.PIPE, timeout=120, cwd=place, **settings
+        )
+    finally:
+        if held is not None:
+            os.close(held)
+
+
 def faults(program, case):
     """What a case's run did otherwise than it should."""
     words = read(case / "args").decode().splitlines()
+    unusual = read(case / "places").decode().split()
     with tempfile.TemporaryDirectory() as folder:
         place = pathlib.Path(folder)
-        if (case / "script").exists():
-            shutil.copy(case / "script", place)
-        if (case / "file.hex").exists():
-            (place / "file").write_bytes(digits(case / "file.hex"))
-        ran = subprocess.run([program, *words], input=given(case), capture_output=True, timeout=120, cwd=place)
+        furnish(place, case, unusual)
+        ran = run(program, words, case, place, unusual)
         out = read(place / "out", None)
     wanted = {
-        "standard output": (ran.stdout, read(case / "stdout")),
+        "standard output": (ran.stdout or b"", read(case / "stdout")),
         "standard error": (ran.stderr, read(case / "stderr")),
         "the status": (ran.returncode, int(read(case / "status", b"0"))),
         "the file": (out, digits(case / "out.hex") if (case / "out.hex").exists() else None),
@@ -80,9 +123,9 @@ def main():
     runs = [(case.name, faults, program, case) for case in cases]
     runs += [("through_a_link", faults_through_a_link, it, HERE / "cases" / "replay_one_frame") for it in script]
     failed = 0
-    for name, run, what, case in runs:
+    for name, compare, what, case in runs:
         try:
-            found = run(what, case)
+            found = compare(what, case)
         except (OSError, subprocess.SubprocessError) as error:
             found = [str(error)]
         failed += bool(found)

@@ -1,5 +1,6 @@
 """Streams that are too large to be kept as files."""
 
+import random
 import struct
 
 
@@ -21,3 +22,8 @@ def side_by_side(count):
     """Scopes with a text of 10 bytes, one after the other: scope n from n to n + 1."""
     text = b"ten bytes."
     return b"".join(_begin(1 + n % 7, n, text, 0) + _end(n + 1) for n in range(count))
+
+
+def random_bytes(seed, length):
+    """Bytes at random."""
+    return random.Random(seed).randbytes(length)

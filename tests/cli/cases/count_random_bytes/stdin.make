@@ -1,0 +1,1 @@
+random_bytes 1 3000
