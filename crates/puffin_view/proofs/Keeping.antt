@@ -144,4 +144,3 @@ IsKept-packed i recent slow last h =
 pub all_choice : (P : Frame → Type 0) (k : ℕ) (f : Frame) (slow : List Frame) (b : Bool) → P f → AllByRecursion P slow → AllByRecursion P (cond b (take k (place is_slower_frame f slow)) slow)
 all_choice P k f slow true p h = all_take P k (place is_slower_frame f slow) (all_place P f slow p h)
 all_choice P k f slow false p h = h
-
