@@ -1,0 +1,131 @@
+//! What has to hold of any bytes.
+
+use crate::devices::OneByte;
+use puffin_data::data::{Counted, Reader, Stream};
+use puffin_data::{Error, FileError};
+use puffin_frames::thread_profiler::ThreadInfo;
+use puffin_report::{count_stream, print_report};
+use puffin_view::profile_view::FrameView;
+use std::alloc::{AllocError, Global};
+
+/// What doesn't hold.
+#[derive(Clone, Copy, Debug, PartialEq, Eq)]
+pub enum Broken {
+    /// There was no memory, which says nothing.
+    Memory,
+    /// More readings than one for each 31 bytes and one more.
+    Tries,
+    /// Counted or reported otherwise where the bytes come one a call.
+    OneByteACall,
+    /// Counted, but not walked, or the other way round.
+    Counting,
+    /// What was read is written, and then read or written otherwise.
+    Again,
+}
+
+impl From<AllocError> for Broken {
+    fn from(_error: AllocError) -> Broken {
+        Broken::Memory
+    }
+}
+
+/// What was printed, and why no more was.
+#[derive(Drop)]
+struct Printed {
+    lines: Vec<u8>,
+    fault: Option<FileError>,
+}
+
+fn counted(alloc: Global, bytes: &[u8], slowly: bool) -> Printed {
+    let mut lines = Vec::new(alloc);
+    let mut drain = Counted::new(&mut lines);
+    let answer = if slowly {
+        let mut source = Counted::new(OneByte { left: bytes });
+        count_stream(alloc, &mut source, &mut drain)
+    } else {
+        count_stream(alloc, &mut Counted::new(bytes), &mut drain)
+    };
+    let fault = match answer {
+        Ok(cause) => cause.map(FileError::Refused),
+        Err(fault) => Some(fault),
+    };
+    Printed { lines, fault }
+}
+
+/// Walks and counts a stream. Returns whether it is a forest of scopes.
+pub fn check_stream(alloc: Global, bytes: &[u8]) -> Result<bool, Broken> {
+    let mut copy = Vec::new(alloc);
+    copy.extend_from_slice(bytes)?;
+    let stream = Stream::from(copy);
+    let mut tries = 0;
+    let walk = Reader::walk(alloc, &stream, &mut tries);
+    if tries > (bytes.len() / 31) as u64 + 1 {
+        return Err(Broken::Tries);
+    }
+    let first = counted(alloc, bytes, false);
+    let second = counted(alloc, bytes, true);
+    if first.lines != second.lines || first.fault != second.fault {
+        return Err(Broken::OneByteACall);
+    }
+    match walk {
+        Ok(_) if first.lines.is_empty() => Err(Broken::Counting),
+        Ok(_) => Ok(true),
+        Err(Error::Memory) => Err(Broken::Memory),
+        Err(cause) if first.fault == Some(FileError::Refused(cause)) => Ok(false),
+        Err(_) => Err(Broken::Counting),
+    }
+}
+
+fn reported(alloc: Global, bytes: &[u8], thread: &ThreadInfo, slowly: bool) -> Printed {
+    let mut lines = Vec::new(alloc);
+    let mut drain = Counted::new(&mut lines);
+    let answer = if slowly {
+        let mut source = Counted::new(OneByte { left: bytes });
+        print_report(alloc, &mut source, thread, &mut drain)
+    } else {
+        print_report(alloc, &mut Counted::new(bytes), thread, &mut drain)
+    };
+    Printed {
+        lines,
+        fault: answer.err(),
+    }
+}
+
+fn written(alloc: Global, view: &FrameView) -> Result<Vec<u8>, FileError> {
+    let mut bytes = Vec::new(alloc);
+    view.write(&mut Counted::new(&mut bytes))?;
+    Ok(bytes)
+}
+
+/// Writes a view that was read, and reads and writes that again, which has to give the same bytes.
+fn check_again(alloc: Global, view: &FrameView) -> Result<(), Broken> {
+    let Ok(first) = written(alloc, view) else {
+        return Err(Broken::Again);
+    };
+    let Ok(again) = FrameView::read(alloc, &mut Counted::new(first.as_slice())) else {
+        return Err(Broken::Again);
+    };
+    match written(alloc, &again) {
+        Ok(second) if second == first => Ok(()),
+        _ => Err(Broken::Again),
+    }
+}
+
+/// Reads, reports and writes a file. Returns whether it is read.
+pub fn check_file(alloc: Global, bytes: &[u8], thread: &ThreadInfo) -> Result<bool, Broken> {
+    let first = reported(alloc, bytes, thread, false);
+    let second = reported(alloc, bytes, thread, true);
+    if first.lines != second.lines || first.fault != second.fault {
+        return Err(Broken::OneByteACall);
+    }
+    let slowly = FrameView::read(alloc, &mut Counted::new(OneByte { left: bytes })).err();
+    match FrameView::read(alloc, &mut Counted::new(bytes)) {
+        Ok(_) if slowly.is_some() => Err(Broken::OneByteACall),
+        Ok(view) => {
+            check_again(alloc, &view)?;
+            Ok(true)
+        }
+        Err(cause) if slowly == Some(cause) => Ok(false),
+        Err(_) => Err(Broken::OneByteACall),
+    }
+}

@@ -1,0 +1,23 @@
+//! A reader that gives one byte a call.
+
+use std::io;
+use std::io::Read;
+
+/// Gives bytes one a call.
+#[derive(Drop)]
+pub struct OneByte<'a> {
+    pub left: &'a [u8],
+}
+
+impl Read for OneByte<'_> {
+    fn read(&mut self, buf: &mut [u8]) -> io::Result<usize> {
+        match (self.left.split_first(), buf.first_mut()) {
+            (Some((byte, left)), Some(place)) => {
+                *place = *byte;
+                self.left = left;
+                Ok(1)
+            }
+            _ => Ok(0),
+        }
+    }
+}

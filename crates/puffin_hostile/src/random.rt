@@ -1,0 +1,51 @@
+//! Numbers that follow from a seed.
+
+ghost use Rattle.std.specs.Prelude.{◌≡◌, ◌<◌};
+
+use rand_core::utils::NextWord;
+use rand_pcg::Pcg64;
+
+/// Numbers at random, the same for the same seed.
+#[derive(Drop)]
+pub struct Random {
+    rng: Pcg64,
+}
+
+impl Random {
+    pub fn new(seed: u64) -> Random {
+        Random {
+            rng: Pcg64::new(u128::from(seed), 1),
+        }
+    }
+
+    pub fn number(&mut self) -> u64 {
+        self.rng.next_word()
+    }
+
+    /// A number below `end`, and 0 where that is 0.
+    pub fn below(&mut self, end: usize) -> usize
+        ensures below { 0 < end → result < end }
+        ensures none { end ≡ 0 → result ≡ 0 }
+    {
+        if end == 0 {
+            return 0;
+        }
+        self.number() as usize % end
+    }
+
+    pub fn byte(&mut self) -> u8 {
+        (self.number() % 256) as u8
+    }
+
+    /// A number of 32 bits of any size.
+    pub fn short(&mut self) -> u32 {
+        let bits = self.number() % 32;
+        ((self.number() % 4_294_967_296) as u32) >> bits
+    }
+
+    /// One of these, which are some.
+    pub fn one_of<T: Copy>(&mut self, all: &[T], other: T) -> T {
+        let at = self.below(all.len());
+        all.get(at).copied().unwrap_or(other)
+    }
+}

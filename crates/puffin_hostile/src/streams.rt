@@ -1,0 +1,87 @@
+//! Streams of scopes, valid and crafted.
+
+use crate::random::Random;
+use puffin_data::data::{ScopeId, Stream};
+use puffin_data::{Error, Result};
+use std::alloc::Global;
+
+/// The texts of scopes.
+const TEXTS: [&str; 4] = [
+    "",
+    "data",
+    "größe ✓",
+    "a text of so many bytes that its length shows",
+];
+
+/// Begins a scope at random.
+fn begin(stream: &mut Stream, random: &mut Random, now: i64) -> Result<usize> {
+    let id = ScopeId::new(1 + random.below(9) as u32).ok_or(Error::InvalidStream)?;
+    let text = random.one_of(&TEXTS, "");
+    let (offset, _) = stream.begin_scope(|| now, id, text)?;
+    Ok(offset)
+}
+
+/// Ends a scope, where there is one at this offset.
+fn end(stream: &mut Stream, offset: usize, now: i64) -> Result<()> {
+    if stream.len() < 8 || offset > stream.len() - 8 {
+        return Ok(());
+    }
+    stream.end_scope(offset, now)
+}
+
+/// A stream of at most so many scopes at random, at most `deepest` of them one in the other.
+pub fn forest(alloc: Global, random: &mut Random, scopes: usize, deepest: usize) -> Result<Stream> {
+    let mut stream = Stream::new(alloc);
+    let mut open: Vec<usize> = Vec::new(alloc);
+    let mut now: i64 = 0;
+    for _ in 0..scopes {
+        now = now.saturating_add(random.below(50) as i64);
+        if open.len() < deepest && random.below(3) > 0 {
+            open.push(begin(&mut stream, random, now)?)?;
+        } else if let Some(offset) = open.pop() {
+            end(&mut stream, offset, now)?;
+        }
+    }
+    for offset in open.into_iter().rev() {
+        end(&mut stream, offset, now)?;
+    }
+    Ok(stream)
+}
+
+/// The bytes of a scope's beginning at 0, without a text, whose children take so many bytes.
+fn beginning(bytes: &mut Vec<u8>, size: u64) -> Result<()> {
+    bytes.extend_from_slice(b"(\x01\0\0\0\0\0\0\0\0\0\0\0\0")?;
+    bytes.extend_from_slice(&size.to_le_bytes())?;
+    Ok(())
+}
+
+/// The bytes of a scope's end at 0.
+fn ending(bytes: &mut Vec<u8>) -> Result<()> {
+    bytes.extend_from_slice(b")\0\0\0\0\0\0\0\0")?;
+    Ok(())
+}
+
+/// So many scopes without texts, each in the one before.
+pub fn nested(alloc: Global, levels: u64) -> Result<Vec<u8>> {
+    let mut bytes = Vec::new(alloc);
+    for level in 0..levels {
+        let inner = levels.saturating_sub(level).saturating_sub(1);
+        beginning(&mut bytes, inner.saturating_mul(31))?;
+    }
+    for _ in 0..levels {
+        ending(&mut bytes)?;
+    }
+    Ok(bytes)
+}
+
+/// So many scopes whose child begins in them and has their end: what goes over children anew at each level takes twice as
+/// long for each.
+pub fn crafted(alloc: Global, levels: u64) -> Result<Vec<u8>> {
+    let mut bytes = Vec::new(alloc);
+    for _ in 0..levels {
+        beginning(&mut bytes, 22)?;
+        beginning(&mut bytes, 0)?;
+        ending(&mut bytes)?;
+    }
+    Ok(bytes)
+}
