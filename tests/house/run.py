@@ -62,7 +62,8 @@ def edits_that_do_not_apply():
         for line in path.read_text().split("\n"):
             word, _, rest = line.partition(": ")
             if word == "file":
-                at = path.parents[1] / rest.strip()
+                of_tests = path.is_relative_to(TOP / "tests")
+                at = (TOP if of_tests else path.parents[1]) / rest.strip()
                 made.setdefault(at, at.read_text() if at.is_file() else "")
             elif word == "old":
                 old = rest

@@ -5,7 +5,8 @@
 The first program makes each call again that was refused for memory: it has to end with status 0 and to print the same
 whichever allocation it was. The second must do what it does otherwise; or end with status 1 and say that there was no
 memory, and nothing but a beginning of its output is written then; or, where it replays a script, tell in one line that
-one command was refused or one report kept for memory, and go on. A C compiler is needed: `cc`, or what CC names.
+one command was refused or one report kept for memory, and go on: of a script of one scope each such end is known, with the
+file of the frames that its lines tell of. A C compiler is needed: `cc`, or what CC names.
 """
 
 import os
@@ -16,6 +17,8 @@ import tempfile
 
 HERE = pathlib.Path(__file__).resolve().parent
 STREAM = bytes.fromhex("28 01000000 6400000000000000 04 64617461 0000000000000000 29 2c01000000000000")
+ONE_SCOPE = b"begin main 100 1 data\nend main 300\nframe\n"
+NO_FRAMES = b"PUF0"
 SCRIPT = b"""function main load a.rs 7
 user own
 begin main 100 1 data
@@ -72,6 +75,16 @@ def is_replied(ended, usual):
     return status == 0 and is_one and not cause and file.startswith(b"PUF0")
 
 
+def is_one_scope_replied(ended, usual):
+    """One of the three commands was refused or kept for want of memory, and there is no frame, in the lines as in the file."""
+    lines = {
+        b"refused 1 Memory\nrefused 2 MismatchedEnd\nframe none\n",
+        b"kept 2 Memory\nframe none\n",
+        b"refused 3 Memory\n",
+    }
+    return ended[0] == 0 and ended[1] in lines and not ended[2] and ended[3] == NO_FRAMES
+
+
 def faults(refusing, words, given, ends):
     """How many allocations were refused, and the runs that ended in none of these ways."""
     usual = refusing.run(words, given, 0)
@@ -91,11 +104,13 @@ def main():
     with tempfile.TemporaryDirectory() as folder:
         refusing = Refusing(folder)
         pathlib.Path(f"{folder}/script").write_bytes(SCRIPT)
+        pathlib.Path(f"{folder}/one_scope").write_bytes(ONE_SCOPE)
         subprocess.run([tool, "replay", "script", "frames"], capture_output=True, cwd=folder, check=True)
         cases = {
             "each call twice": ([memory], b"", [is_alike]),
             "count": ([tool, "count"], STREAM, [is_alike, is_told]),
             "replay": ([tool, "replay", "script", "out"], b"", [is_alike, is_told, is_replied]),
+            "replay of one scope": ([tool, "replay", "one_scope", "out"], b"", [is_alike, is_told, is_one_scope_replied]),
             "report": ([tool, "report", "frames", "100:main"], b"", [is_alike, is_told]),
         }
         for name, (words, given, ends) in cases.items():

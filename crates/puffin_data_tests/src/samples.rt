@@ -36,7 +36,7 @@ pub(crate) fn leaf(
 }
 
 /// So many scopes one in the other, all from 5 to 7.
-pub(crate) fn nest(alloc: Global, depth: u16) -> Result<Vec<u8>> {
+pub(crate) fn nest(alloc: Global, depth: u32) -> Result<Vec<u8>> {
     let mut bytes = Vec::new(alloc);
     for inner in (0..depth).rev() {
         let size = u64::from(inner) * 31;

@@ -93,8 +93,11 @@ fn forests_are_counted(rt: HostRuntime) -> std::result::Result<(), Fail> {
         let bytes = leaf(alloc, 100, 300, text)?;
         finds(&rt, alloc, what, bytes.as_slice(), 1, 1, (100, 300))?;
     }
-    let deep = nest(alloc, 1000)?;
-    finds(&rt, alloc, "deep", deep.as_slice(), 1000, 1000, (5, 7))?;
+    for depth in [1_000, 100_000] {
+        let deep = nest(alloc, depth)?;
+        let levels = deep.len() / 31;
+        finds(&rt, alloc, "deep", deep.as_slice(), levels, levels, (5, 7))?;
+    }
     Ok(())
 }
 
@@ -109,6 +112,10 @@ fn other_bytes_are_refused(rt: HostRuntime) -> std::result::Result<(), Fail> {
     let mut left_over = Vec::from_slice(alloc, &ONE)?;
     left_over.push(0)?;
     let too_long = leaf(alloc, i64::MIN, 0, b"")?;
+    let mut then_a_beginning = leaf(alloc, 5, 7, b"")?;
+    then_a_beginning.push(b'(')?;
+    let mut parent_starts_late = *PAST;
+    parent_starts_late[5] = 1;
     for (what, bytes, fault, made) in [
         ("not ended", OPEN.as_slice(), Error::ScopeNeverEnded, 1),
         ("cut", &ONE[..34], Error::PrematureEnd, 1),
@@ -125,6 +132,18 @@ fn other_bytes_are_refused(rt: HostRuntime) -> std::result::Result<(), Fail> {
         ("past its parent", PAST, Error::PrematureEnd, 2),
         ("no scope", b"\0", Error::InvalidStream, 0),
         ("only a beginning", b"(", Error::PrematureEnd, 1),
+        (
+            "a scope and a beginning",
+            then_a_beginning.as_slice(),
+            Error::PrematureEnd,
+            2,
+        ),
+        (
+            "a parent that stops below its start",
+            &parent_starts_late,
+            Error::InvalidStream,
+            1,
+        ),
     ] {
         refuses(&rt, alloc, what, bytes, fault, made)?;
     }

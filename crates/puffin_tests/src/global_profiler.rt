@@ -184,6 +184,25 @@ fn a_collector_at_the_last_index(rt: HostRuntime) -> Outcome {
     Ok(())
 }
 
+#[test]
+fn a_profiler_at_the_last_index(rt: HostRuntime) -> Outcome {
+    let mut profiler = GlobalProfiler::with_frame_index(rt.alloc(), u64::MAX - 1);
+    report(&rt, &mut profiler, "a", 1, (5, 7))?;
+    let Some(frame) = profiler.new_frame(&rt)?.frame else {
+        return Err(Fail::new("no frame"));
+    };
+    assert_eq!(rt; frame.frame_index(), u64::MAX - 1);
+    report(&rt, &mut profiler, "a", 1, (8, 9))?;
+    let refused = profiler.new_frame(&rt).err();
+    assert_eq!(rt; refused, Some(Error::IndexExhausted));
+    let totals = profiler.totals();
+    assert_eq!(rt;
+        (totals.reported, totals.pending, totals.emitted),
+        (2, 1, 1)
+    );
+    Ok(())
+}
+
 /// Reports, and once more where memory is refused, which changes no total.
 fn report_again(rt: &HostRuntime, profiler: &mut GlobalProfiler, name: &str, id: u8) -> Outcome {
     let before = profiler.totals();

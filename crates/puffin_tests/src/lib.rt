@@ -2,9 +2,13 @@
 #![tactic(auto)]
 
 #[cfg(test)]
+mod copies;
+#[cfg(test)]
 mod example;
 #[cfg(test)]
 mod global_profiler;
+#[cfg(test)]
+mod many_workers;
 #[cfg(test)]
 mod shared_profiler;
 #[cfg(test)]

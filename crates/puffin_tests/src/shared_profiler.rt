@@ -27,11 +27,17 @@ const NAMES: [&str; 4] = ["w0", "w1", "w2", "w3"];
 /// A thread profiler with any clock. (One that several ledgers go by can be handed to a function over all of these alone.)
 pub trait Ends {
     fn end<P: Reporter>(&mut self, scope: usize, reporter: &mut P) -> puffin::Result<Closed>;
+
+    fn report_rest<P: Reporter>(&mut self, reporter: &mut P) -> puffin::Result<bool>;
 }
 
 impl<C: NsSource> Ends for ThreadProfiler<C> {
     fn end<P: Reporter>(&mut self, scope: usize, reporter: &mut P) -> puffin::Result<Closed> {
         self.end_scope(scope, reporter)
+    }
+
+    fn report_rest<P: Reporter>(&mut self, reporter: &mut P) -> puffin::Result<bool> {
+        self.report_closed(reporter)
     }
 }
 
@@ -45,8 +51,7 @@ pub fn ended<T: Ends, L: Ledger, M: Ledger, R: Wait>(
 }
 
 /// Begins and ends scopes with rising ids one after the other, each with the thread's name for its text and reported at its
-/// end, and gives the share back. `None` where a scope
-/// isn't reported, or the totals are below what was.
+/// end, and gives the share back. `None` where a scope isn't reported, or the totals are below what was.
 fn work<L: Ledger, M: Ledger, R: Wait + Drop>(
     rt: R,
     alloc: Global,
@@ -71,10 +76,10 @@ fn work<L: Ledger, M: Ledger, R: Wait + Drop>(
 }
 
 /// The frames that a taker was handed.
-type Frames = Vec<Arc<FrameData>>;
+pub(crate) type Frames = Vec<Arc<FrameData>>;
 
 /// Takes a frame so many times, and gives the share back with the frames.
-fn taken<L: Ledger, M: Ledger, R: Wait>(
+pub(crate) fn taken<L: Ledger, M: Ledger, R: Wait>(
     rt: &R,
     profiler: &SharedProfiler<L, M>,
     share: &mut Share<L, M>,
@@ -90,7 +95,7 @@ fn taken<L: Ledger, M: Ledger, R: Wait>(
 }
 
 /// How many scopes the frames say that they have.
-fn scopes_in(frames: &Frames) -> u64 {
+pub(crate) fn scopes_in(frames: &Frames) -> u64 {
     let mut scopes: u64 = 0;
     for frame in frames {
         scopes = scopes.wrapping_add(frame.meta().num_scopes as u64);
@@ -111,7 +116,7 @@ fn followed(scopes: &[Scope<'_>], text: &str, last: u32) -> Option<u32> {
 }
 
 /// How many scopes the frames joined have under a name, where their ids rise from 1 on and each has the name for its text.
-fn in_order(alloc: Global, frames: &Frames, name: &str) -> puffin::Result<Option<u32>> {
+pub(crate) fn in_order(alloc: Global, frames: &Frames, name: &str) -> puffin::Result<Option<u32>> {
     let mut last = Some(0);
     for frame in frames {
         let Some(unpacked) = frame.as_unpacked() else {

@@ -225,6 +225,23 @@ fn a_falling_clock_stands_still(rt: HostRuntime) -> Outcome {
 }
 
 #[test]
+fn a_clock_that_falls_twice_stands_still_twice(rt: HostRuntime) -> Outcome {
+    let mut rig = Rig::new(rt.alloc(), 100, 0)?;
+    rig.begins(&rt, (1, ""), 14);
+    rig.set(50);
+    rig.begins(&rt, (2, ""), 36);
+    rig.set(200);
+    rig.ends(&rt, 36, Ok(Closed::Inner));
+    rig.set(150);
+    rig.ends(&rt, 14, Ok(Closed::Reported));
+    let bytes = rig.bytes(0)?;
+    for (place, time) in [(5, 100), (27, 100), (45, 200), (54, 200)] {
+        assert_eq!(rt; bytes.get(place).copied(), Some(time));
+    }
+    is_report(&rt, &rig.recorder, 0, 100, (2, 2, (100, 200)))
+}
+
+#[test]
 fn an_outer_scope_is_not_ended_first(rt: HostRuntime) -> Outcome {
     let mut rig = Rig::new(rt.alloc(), 100, 0)?;
     rig.begins(&rt, (1, ""), 14);

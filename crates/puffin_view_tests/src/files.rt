@@ -1,16 +1,14 @@
-use puffin::data::{Counted, Drain, Source};
+use puffin::data::Counted;
 use puffin::frame_data::FrameIndex;
 use puffin::profile_view::FrameView;
 use puffin::{Error, FileError};
-use std::io;
-use std::io::{Read, Write};
 use std::test::Fail;
 
-type Outcome = std::result::Result<(), Fail>;
+pub(crate) type Outcome = std::result::Result<(), Fail>;
 
 /// The file that the Rust crate writes of two frames of the thread `main`: one scope `data` of id 1 from 100 to 300, which
 /// takes 79 bytes, and then one scope `a` from 400 to 401.
-const FILE: [u8; 155] = [
+pub(crate) const FILE: [u8; 155] = [
     80, 85, 70, 48, 80, 70, 68, 52, 7, 0, 0, 0, 0, 200, 251, 88, 2, 35, 1, 50, 0, 0, 0, 0, 1, 1,
     200, 4, 109, 97, 105, 110, 35, 40, 1, 0, 0, 0, 100, 0, 0, 0, 0, 0, 0, 0, 4, 100, 97, 116, 97,
     0, 0, 0, 0, 0, 0, 0, 0, 41, 44, 1, 0, 0, 0, 0, 0, 0, 1, 1, 200, 251, 88, 2, 1, 0, 0, 0, 0, 80,
@@ -19,7 +17,7 @@ const FILE: [u8; 155] = [
     145, 1, 0, 0, 0, 0, 0, 0, 1, 1, 251, 32, 3, 251, 34, 3, 1, 0, 0, 0, 0,
 ];
 
-fn bytes_of(rt: &HostRuntime, pieces: &[&[u8]]) -> std::result::Result<Vec<u8>, Fail> {
+pub(crate) fn bytes_of(rt: &HostRuntime, pieces: &[&[u8]]) -> std::result::Result<Vec<u8>, Fail> {
     let mut bytes = Vec::new(rt.alloc());
     for piece in pieces {
         bytes.extend_from_slice(piece)?;
@@ -27,7 +25,7 @@ fn bytes_of(rt: &HostRuntime, pieces: &[&[u8]]) -> std::result::Result<Vec<u8>, 
     Ok(bytes)
 }
 
-fn read(rt: &HostRuntime, bytes: &[u8]) -> std::result::Result<FrameView, FileError> {
+pub(crate) fn read(rt: &HostRuntime, bytes: &[u8]) -> std::result::Result<FrameView, FileError> {
     FrameView::read(rt.alloc(), &mut Counted::new(bytes))
 }
 
@@ -37,11 +35,11 @@ fn fault(rt: &HostRuntime, pieces: &[&[u8]]) -> std::result::Result<Option<FileE
     Ok(read(rt, &bytes).err())
 }
 
-fn view(rt: &HostRuntime, bytes: &[u8]) -> std::result::Result<FrameView, Fail> {
+pub(crate) fn view(rt: &HostRuntime, bytes: &[u8]) -> std::result::Result<FrameView, Fail> {
     Ok(read(rt, bytes).ok().ok_or("no fault")?)
 }
 
-fn written(rt: &HostRuntime, view: &FrameView) -> std::result::Result<Vec<u8>, Fail> {
+pub(crate) fn written(rt: &HostRuntime, view: &FrameView) -> std::result::Result<Vec<u8>, Fail> {
     let mut bytes = Vec::new(rt.alloc());
     view.write(&mut Counted::new(&mut bytes))
         .ok()
@@ -75,7 +73,7 @@ fn recent(rt: &HostRuntime, view: &FrameView) -> std::result::Result<Vec<FrameIn
 }
 
 /// The recent frames have these indices.
-fn are_recent(rt: &HostRuntime, view: &FrameView, indices: &[FrameIndex]) -> Outcome {
+pub(crate) fn are_recent(rt: &HostRuntime, view: &FrameView, indices: &[FrameIndex]) -> Outcome {
     let found = recent(rt, view)?;
     if found.as_slice() == indices {
         Ok(())
@@ -85,7 +83,7 @@ fn are_recent(rt: &HostRuntime, view: &FrameView, indices: &[FrameIndex]) -> Out
 }
 
 /// A view is written as this file.
-fn is_written(rt: &HostRuntime, view: &FrameView, file: &[u8]) -> Outcome {
+pub(crate) fn is_written(rt: &HostRuntime, view: &FrameView, file: &[u8]) -> Outcome {
     let found = written(rt, view)?;
     if found.as_slice() == file {
         Ok(())
@@ -95,7 +93,11 @@ fn is_written(rt: &HostRuntime, view: &FrameView, file: &[u8]) -> Outcome {
 }
 
 /// A file of these pieces isn't read for this fault, or has none.
-fn has_fault(rt: &HostRuntime, pieces: &[&[u8]], expected: Option<FileError>) -> Outcome {
+pub(crate) fn has_fault(
+    rt: &HostRuntime,
+    pieces: &[&[u8]],
+    expected: Option<FileError>,
+) -> Outcome {
     let found = fault(rt, pieces)?;
     if found == expected {
         Ok(())
@@ -217,87 +219,4 @@ fn faults_of_packets_are_those_of_files(rt: HostRuntime) -> Outcome {
     let reversed = [0, 251, 88, 2, 200, 35, 1];
     let bad_range = Some(FileError::BadRange);
     has_fault(&rt, &[&FILE[..12], &reversed, &FILE[19..79]], bad_range)
-}
-
-/// Takes or gives at most three bytes at once, so often, and then fails.
-#[derive(Drop)]
-struct Tired {
-    calls: u8,
-    rest: Vec<u8>,
-}
-
-impl Tired {
-    fn tire(&mut self) -> io::Result<()> {
-        match self.calls.checked_sub(1) {
-            Some(calls) => {
-                self.calls = calls;
-                Ok(())
-            }
-            None => Err(io::Error::from(io::ErrorKind::Interrupted)),
-        }
-    }
-}
-
-impl Read for Tired {
-    fn read(&mut self, buf: &mut [u8]) -> io::Result<usize> {
-        self.tire()?;
-        let count = buf.len().min(3).min(self.rest.len());
-        buf[..count].copy_from_slice(&self.rest[..count]);
-        self.rest.drain(..count);
-        Ok(count)
-    }
-}
-
-impl Write for Tired {
-    fn write(&mut self, buf: &[u8]) -> io::Result<usize> {
-        self.tire()?;
-        let count = buf.len().min(3);
-        match self.rest.extend_from_slice(&buf[..count]) {
-            Ok(()) => Ok(count),
-            Err(_) => Ok(0),
-        }
-    }
-
-    fn flush(&mut self) -> io::Result<()> {
-        Ok(())
-    }
-}
-
-#[test]
-fn a_writer_that_fails_has_a_beginning(rt: HostRuntime) -> Outcome {
-    let view = view(&rt, &FILE)?;
-    for calls in 0..52 {
-        let mut tired = Tired {
-            calls,
-            rest: Vec::new(rt.alloc()),
-        };
-        let mut drain = Counted::new(&mut tired);
-        let refused = view.write(&mut drain).err();
-        assert!(rt; refused == Some(FileError::Io));
-        assert!(rt; Drain::faults(&drain) == 1);
-        assert!(rt; FILE.starts_with(&tired.rest));
-    }
-    let mut rested = Tired {
-        calls: 100,
-        rest: Vec::new(rt.alloc()),
-    };
-    let refused = view.write(&mut Counted::new(&mut rested)).err();
-    assert!(rt; refused.is_none());
-    assert!(rt; rested.rest.as_slice() == FILE.as_slice());
-    Ok(())
-}
-
-#[test]
-fn a_reader_that_fails_gives_no_view(rt: HostRuntime) -> Outcome {
-    for calls in 0..52 {
-        let rest = Vec::from_slice(rt.alloc(), &FILE)?;
-        let mut source = Counted::new(Tired { calls, rest });
-        let refused = FrameView::read(rt.alloc(), &mut source);
-        assert!(rt; refused.err() == Some(FileError::Io));
-        assert!(rt; Source::faults(&source) == 1);
-    }
-    let rest = Vec::from_slice(rt.alloc(), &FILE)?;
-    let mut source = Counted::new(Tired { calls: 100, rest });
-    let view = FrameView::read(rt.alloc(), &mut source)?;
-    is_written(&rt, &view, &FILE)
 }

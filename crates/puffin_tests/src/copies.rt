@@ -1,0 +1,161 @@
+//! Where memory is there, each call that takes some succeeds: copies say the same, and frames are handed on.
+
+ghost use Rattle.std.specs.Prelude.{◌≡◌};
+
+use puffin::Result;
+use puffin::data::{Counted, Reader, ScopeId, Stream, StreamInfo};
+use puffin::frame_data::FrameData;
+use puffin::global_profiler::{GlobalProfiler, SharedProfiler};
+use puffin::profile_view::FrameView;
+use puffin::scope_details::{ScopeCollection, ScopeDetails};
+use puffin::thread_profiler::ThreadInfo;
+use std::alloc::Global;
+use std::borrow::CowStr;
+use std::collections::BTreeMap;
+use std::marker::Brand;
+use std::process::Abort;
+use std::sync::ledger::{Blank, Ledger};
+use std::sync::{Arc, Wait};
+use std::test::Fail;
+
+type Outcome = std::result::Result<(), Fail>;
+
+/// The packet of frame 0: the thread `main` with one scope `data` of id 1, from 100 to 300.
+const PACKET: [u8; 75] = [
+    80, 70, 68, 52, 7, 0, 0, 0, 0, 200, 251, 88, 2, 35, 1, 50, 0, 0, 0, 0, 1, 1, 200, 4, 109, 97,
+    105, 110, 35, 40, 1, 0, 0, 0, 100, 0, 0, 0, 0, 0, 0, 0, 4, 100, 97, 116, 97, 0, 0, 0, 0, 0, 0,
+    0, 0, 41, 44, 1, 0, 0, 0, 0, 0, 0, 1, 1, 200, 251, 88, 2, 1, 0, 0, 0, 0,
+];
+
+/// The packet's scope.
+fn stream(alloc: Global) -> Result<Stream> {
+    Ok(Stream::from(Vec::from_slice(alloc, &PACKET[29..64])?))
+}
+
+/// The packet's thread.
+fn thread(alloc: Global) -> Result<ThreadInfo> {
+    Ok(ThreadInfo {
+        start_time_ns: Some(100),
+        name: String::from_str(alloc, "main")?,
+    })
+}
+
+/// The packet's frame.
+fn frame(alloc: Global) -> Result<FrameData> {
+    let info = StreamInfo::parse(alloc, stream(alloc)?)?;
+    let mut streams = BTreeMap::new(alloc);
+    let _none = streams.insert(thread(alloc)?, info)?;
+    FrameData::new(alloc, 0, streams, Vec::new(alloc), false)
+}
+
+/// Details under two ids: the second `a` stands under a second id, and `b` is not kept, as its id is known.
+fn collection(alloc: Global) -> std::result::Result<ScopeCollection, Fail> {
+    let mut collection = ScopeCollection::new(alloc);
+    for (number, name) in [(1, "a"), (1, "b"), (2, "a")] {
+        let id = ScopeId::new(number).ok_or("an id")?;
+        let details = ScopeDetails::from_scope_name(CowStr::Borrowed(name)).with_scope_id(id);
+        let _kept = collection.insert(Arc::new(alloc, details)?)?;
+    }
+    Ok(collection)
+}
+
+fn written(
+    alloc: Global,
+    frame: &FrameData,
+    scopes: Option<&ScopeCollection>,
+) -> std::result::Result<Vec<u8>, Fail> {
+    let mut bytes = Vec::new(alloc);
+    frame
+        .write_into(scopes, &mut Counted::new(&mut bytes))
+        .ok()
+        .ok_or("it is written")?;
+    Ok(bytes)
+}
+
+#[test]
+fn a_frame_and_its_copies_are_written(rt: HostRuntime) -> Outcome {
+    let alloc = rt.alloc();
+    let frame = frame(alloc)?;
+    let scopes = collection(alloc)?;
+    for copy in [&frame, &frame.clone()?, &frame.packed_copy()?] {
+        assert!(rt; written(alloc, copy, None)?.as_slice() == PACKET.as_slice());
+        let told = written(alloc, copy, Some(&scopes))?;
+        let mut source = Counted::new(told.as_slice());
+        let read = FrameData::read_next(alloc, &mut source)?.ok_or("a frame")?;
+        assert_eq!(rt; read.scope_delta.len(), 2);
+    }
+    Ok(())
+}
+
+#[test]
+fn an_empty_stream_gets_room(rt: HostRuntime) -> Outcome {
+    let mut stream = Stream::new(rt.alloc());
+    stream.reserve(35)?;
+    assert!(rt; stream.room() >= 35);
+    assert!(rt; stream.is_empty());
+    Ok(())
+}
+
+/// A frame is added to a shared profiler without sinks.
+fn added<L: Ledger, M: Ledger, R: Wait + Abort>(
+    rt: &R,
+    alloc: Global,
+    frame: Arc<FrameData>,
+    reported: Blank,
+    handed: Blank,
+) -> Outcome
+    requires reported { (reported.name ≡ L.name)
+        × (reported.parts ≡ L.parts)
+        × (reported.parts ≡ 1) }
+    requires handed { (handed.name ≡ M.name) × (handed.parts ≡ M.parts) × (handed.parts ≡ 1) }
+{
+    let none = GlobalProfiler::new(alloc);
+    let Ok((profiler, _shares)) = SharedProfiler::<L, M>::open(alloc, none, 1, reported, handed)
+    else {
+        return Err(Fail::new("no memory"));
+    };
+    assert_eq!(rt; profiler.clone()?.add_frame(rt, frame)?, 0);
+    Ok(())
+}
+
+#[test]
+fn a_frame_is_refused_by_no_sink(rt: HostRuntime) -> Outcome {
+    let alloc = rt.alloc();
+    let frame = Arc::new(alloc, frame(alloc)?)?;
+    let mut profiler = GlobalProfiler::new(alloc);
+    assert_eq!(rt; profiler.add_frame(&rt, Arc::try_clone(&frame)?)?, 0);
+    added::<Brand, Brand, HostRuntime>(&rt, alloc, frame, Blank::new(1), Blank::new(1))
+}
+
+#[test]
+fn copies_of_threads_details_and_streams(rt: HostRuntime) -> Outcome {
+    let alloc = rt.alloc();
+    let info = thread(alloc)?;
+    assert_eq!(rt; info.clone()?, info);
+    let details = ScopeDetails::from_scope_name(CowStr::Borrowed("a")).with_line_nr(7);
+    assert_eq!(rt; details.clone()?, details);
+    let parsed = StreamInfo::parse(alloc, stream(alloc)?.clone()?)?.clone()?;
+    assert_eq!(rt; parsed.stream.bytes(), &PACKET[29..64]);
+    assert_eq!(rt;
+        Reader::count_scope_and_depth(alloc, &parsed.stream)?,
+        (1, 1)
+    );
+    Ok(())
+}
+
+#[test]
+fn copies_of_collections_and_views(rt: HostRuntime) -> Outcome {
+    let alloc = rt.alloc();
+    let scopes = collection(alloc)?.clone()?;
+    assert_eq!(rt; scopes.scopes_by_id().len(), 2);
+    for (name, number) in [("a", 2), ("b", 1)] {
+        assert_eq!(rt; scopes.fetch_by_name(name), ScopeId::new(number).as_ref());
+    }
+    let mut view = FrameView::new(alloc);
+    view.add_frame(Arc::new(alloc, frame(alloc)?)?)?;
+    let copy = view.clone()?;
+    let latest = copy.latest_frame().ok_or("a frame")?;
+    assert!(rt; written(alloc, latest, None)?.as_slice() == PACKET.as_slice());
+    assert_eq!(rt; copy.stats().frames(), 1);
+    Ok(())
+}

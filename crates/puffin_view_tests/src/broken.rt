@@ -1,0 +1,139 @@
+//! Files that are cut short, and readers and writers that fail.
+
+use crate::devices::{Full, Tired};
+use crate::files::{FILE, Outcome, are_recent, has_fault, is_written, view};
+use puffin::FileError;
+use puffin::data::{Counted, Drain, Source};
+use puffin::profile_view::FrameView;
+use std::io::ErrorKind;
+use std::test::Fail;
+
+/// How many bytes a file of one frame takes.
+const ONE_FRAME: usize = 79;
+
+/// A reader of one frame's file that gives its bytes one by one takes a call for each, and one more at their end.
+const CALLS: usize = ONE_FRAME + 1;
+
+/// Why the first so many bytes of a file of one frame are not a file.
+fn fault_of_cut(len: usize) -> Option<FileError> {
+    match len {
+        0..4 => Some(FileError::NoMagic),
+        4..8 | ONE_FRAME => None,
+        _ => Some(FileError::Truncated),
+    }
+}
+
+#[test]
+fn a_file_is_cut_at_each_byte(rt: HostRuntime) -> Outcome {
+    for len in 0..=ONE_FRAME {
+        has_fault(&rt, &[&FILE[..len]], fault_of_cut(len))?;
+    }
+    for len in 4..8 {
+        assert!(rt; view(&rt, &FILE[..len])?.is_empty());
+    }
+    are_recent(&rt, &view(&rt, &FILE[..ONE_FRAME])?, &[0])
+}
+
+/// Reads a file of one frame from a reader that gives so few bytes a call, and fails after so many calls.
+fn read_tired(
+    rt: &HostRuntime,
+    (step, calls): (usize, usize),
+    failure: ErrorKind,
+    left: &[u8],
+) -> (std::result::Result<FrameView, FileError>, u64) {
+    let mut source = Counted::new(Tired {
+        step,
+        calls,
+        failure,
+        left,
+    });
+    let read = FrameView::read(rt.alloc(), &mut source);
+    (read, Source::faults(&source))
+}
+
+#[test]
+fn a_cut_file_comes_byte_by_byte(rt: HostRuntime) -> Outcome {
+    for len in 0..=ONE_FRAME {
+        let (read, faults) = read_tired(&rt, (1, CALLS), ErrorKind::Other, &FILE[..len]);
+        assert!(rt; faults == 0);
+        match read {
+            Ok(read) => {
+                let written = if len < ONE_FRAME { 4 } else { len };
+                is_written(&rt, &read, &FILE[..written])?;
+            }
+            Err(fault) => assert!(rt; Some(fault) == fault_of_cut(len)),
+        }
+    }
+    Ok(())
+}
+
+#[test]
+fn a_reader_that_fails_gives_no_view(rt: HostRuntime) -> Outcome {
+    let file = &FILE[..ONE_FRAME];
+    for failure in [ErrorKind::Other, ErrorKind::Interrupted] {
+        for calls in 0..CALLS {
+            let (read, faults) = read_tired(&rt, (1, calls), failure, file);
+            assert!(rt; read.err() == Some(FileError::Io));
+            assert!(rt; faults == 1);
+        }
+        let (read, faults) = read_tired(&rt, (1, CALLS), failure, file);
+        assert!(rt; faults == 0);
+        is_written(&rt, &read?, file)?;
+    }
+    Ok(())
+}
+
+#[test]
+fn a_length_that_lies_cuts_the_file_short(rt: HostRuntime) -> Outcome {
+    let lies = [0xff, 0xff, 0xff, 0xff];
+    let pieces = [b"PUF0PFD4".as_slice(), &lies, &FILE[12..19]];
+    has_fault(&rt, &pieces, Some(FileError::Truncated))?;
+    // So it does before the streams and the details, and before a frame of the first form.
+    let (streams, details) = (&FILE[..19], &FILE[..74]);
+    for front in [streams, details, b"PUF0"] {
+        has_fault(
+            &rt,
+            &[front, &lies, &FILE[23..40]],
+            Some(FileError::Truncated),
+        )?;
+    }
+    Ok(())
+}
+
+/// What is written of a view to a writer that takes so much and then fails, or takes nothing; the refusal; the failures.
+fn written_to_full(
+    rt: &HostRuntime,
+    view: &FrameView,
+    (step, room): (usize, usize),
+    failure: Option<ErrorKind>,
+) -> (Vec<u8>, Option<FileError>, u64) {
+    let mut full = Full {
+        step,
+        room,
+        failure,
+        written: Vec::new(rt.alloc()),
+    };
+    let mut drain = Counted::new(&mut full);
+    let refused = view.write(&mut drain).err();
+    let faults = Drain::faults(&drain);
+    (full.written, refused, faults)
+}
+
+#[test]
+fn a_writer_that_is_full_has_a_beginning(rt: HostRuntime) -> Outcome {
+    let file = &FILE[..ONE_FRAME];
+    let view = view(&rt, file)?;
+    for failure in [None, Some(ErrorKind::Other), Some(ErrorKind::Interrupted)] {
+        for room in 0..ONE_FRAME {
+            let (written, refused, faults) = written_to_full(&rt, &view, (5, room), failure);
+            assert!(rt; refused == Some(FileError::Io));
+            assert!(rt; faults == u64::from(failure.is_some()));
+            assert!(rt; written.as_slice() == &file[..room]);
+        }
+        // The view is as it was.
+        let (written, refused, faults) = written_to_full(&rt, &view, (5, ONE_FRAME), failure);
+        assert!(rt; (refused, faults) == (None, 0));
+        assert!(rt; written.as_slice() == file);
+    }
+    Ok(())
+}
