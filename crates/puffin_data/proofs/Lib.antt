@@ -21,3 +21,5 @@ mod Visited
 mod SpelledSights
 mod Causes
 mod Filled
+mod Blocks
+mod Fronts

@@ -1,12 +1,11 @@
-ghost use Rattle.std.specs.Prelude.{◌≡◌, ◌==◌, ◌+◌, ◌-◌, ◌≤◌, [], ◌++◌, length, take, drop, IfOk, OnOk, OnErr, IfErr, IsOk, vec_len, ◌^◌, ◌∷◌};
-ghost use Rattle.std.specs.Vec.{vec_capacity};
+ghost use Rattle.std.specs.Prelude.{◌≡◌, ◌==◌, ◌+◌, ◌-◌, ◌<◌, ◌≤◌, [], ◌++◌, length, take, drop, IfOk, OnOk, OnErr, IfErr, IsOk, ◌^◌, ◌∷◌};
 ghost use Rattle.puffin_data.specs.Stream.{StreamState};
 ghost use Rattle.byteorder.specs.Endian.{little_bytes};
 ghost use Rattle.puffin_data.specs.Forest.Spelling.{begin_mark, end_mark, begin_bytes, time_bytes};
 ghost use Rattle.puffin_data.specs.Forest.Open.{ended_bytes};
 ghost use Rattle.puffin_data.specs.Text.{cut_text};
 
-use crate::data::scope::{END_SIZE, FRONT_SIZE, HEAD_SIZE, SCOPE_BEGIN, SCOPE_END, TEXT_LIMIT};
+use crate::data::scope::{END_SIZE, FRONT_SIZE, HEAD_SIZE, SCOPE_END, TEXT_LIMIT};
 use crate::data::scope_id::ScopeId;
 use crate::error::{Error, NanoSecond, Result};
 use byteorder::{ByteOrder, LittleEndian};
@@ -18,14 +17,46 @@ use std::marker::Model;
 /// Contracts see its bytes, and the room that is reserved behind them.
 #[derive(Drop)]
 pub struct Stream {
-    bytes: Vec<u8>,
+    // The bytes, and behind them the room, which is written too: so bytes are appended by writing over it.
+    block: Vec<u8>,
+    len: usize,
 }
 
 impl Model for Stream {
     ghost Value = { StreamState };
 
     ghost view = { λ s.
-        record { bytes = s.bytes.items; room = vec_capacity s.bytes - vec_len s.bytes } };
+        record { bytes = take s.len s.block.items; room = length s.block.items - s.len } };
+
+    ghost invariant = { λ s. s.len ≤ length s.block.items };
+}
+
+/// Copies eight bytes.
+#[inline(always)]
+fn copy_eight(to: &mut [u8], from: &[u8])
+    requires to { 8 ≤ length to.old }
+    requires from { 8 ≤ length from.now }
+    ensures { to.new ≡ take 8 from.now ++ drop 8 to.old }
+{
+    let word = [
+        from[0], from[1], from[2], from[3], from[4], from[5], from[6], from[7],
+    ];
+    to[..8].copy_from_slice(&word);
+}
+
+/// Copies as many bytes as there are. From 8 to 16 bytes it takes two pieces of eight, which may overlap: that needs no
+/// call.
+#[inline(always)]
+fn copy_text(to: &mut [u8], from: &[u8])
+    requires { length to.old ≡ length from.now }
+    ensures { to.new ≡ from.now }
+{
+    let size = from.len();
+    if size < 8 || size > 16 {
+        return to.copy_from_slice(from);
+    }
+    copy_eight(to, from);
+    copy_eight(&mut to[size - 8..], &from[size - 8..]);
 }
 
 /// The beginning of a text that is stored.
@@ -38,15 +69,18 @@ fn cut(text: &str) -> &str
     &text[..size]
 }
 
-/// What stands before a scope's text.
+/// What stands before a scope's text, and two bytes more. Two words are quicker to write than four numbers.
 #[inline]
-fn front(id: u32, start: NanoSecond, text_size: u8) -> [u8; FRONT_SIZE]
-    ensures { result ≡ begin_mark ∷ (little_bytes 4 id ++ (time_bytes start ++ (text_size ∷ []))) }
+fn front(id: u32, start: NanoSecond, text_size: u8) -> [u8; 16]
+    ensures { take FRONT_SIZE result
+        ≡ begin_mark ∷ (little_bytes 4 id ++ (time_bytes start ++ (text_size ∷ []))) }
 {
-    let mut front = [SCOPE_BEGIN; FRONT_SIZE];
-    LittleEndian::write_u32(&mut front[1..5], id);
-    LittleEndian::write_i64(&mut front[5..13], start);
-    front[13] = text_size;
+    let time = start.cast_unsigned();
+    let low = 40 + u64::from(id) * 0x100 + time % 0x100_0000 * 0x100_0000_0000;
+    let high = time / 0x100_0000 + u64::from(text_size) * 0x100_0000_0000;
+    let mut front = [0; 16];
+    LittleEndian::write_u64(&mut front[8..], high);
+    LittleEndian::write_u64(&mut front[..8], low);
     front
 }
 
@@ -76,7 +110,8 @@ impl Stream {
         ensures { result.bytes ≡ [] }
     {
         Stream {
-            bytes: Vec::new(alloc),
+            block: Vec::new(alloc),
+            len: 0,
         }
     }
 
@@ -84,21 +119,21 @@ impl Stream {
     pub fn is_empty(&self) -> bool
         ensures { result ≡ (length self.now.bytes == 0) }
     {
-        self.bytes.is_empty()
+        self.len == 0
     }
 
     /// How many bytes there are.
     pub fn len(&self) -> usize
         ensures { result ≡ length self.now.bytes }
     {
-        self.bytes.len()
+        self.len
     }
 
     /// The bytes.
     pub fn bytes(&self) -> &[u8]
         ensures { result.now ≡ self.now.bytes }
     {
-        self.bytes.as_slice()
+        &self.block[..self.len]
     }
 
     /// Takes the bytes away. Their memory is kept.
@@ -106,7 +141,7 @@ impl Stream {
         ensures bytes { self.new.bytes ≡ [] }
         ensures room { self.new.room ≡ self.old.room + length self.old.bytes }
     {
-        self.bytes.clear()
+        self.len = 0;
     }
 
     /// How many bytes can be appended without asking for memory.
@@ -114,7 +149,7 @@ impl Stream {
     pub fn room(&self) -> usize
         ensures { result ≡ self.now.room }
     {
-        self.bytes.capacity() - self.bytes.len()
+        self.block.len() - self.len
     }
 
     /// Makes room for so many bytes behind those that there are. Refused only with `Memory`, and never where the room is
@@ -127,7 +162,25 @@ impl Stream {
         ensures memory { IfErr result (λ e. e ≡ Error.Memory) }
         ensures succeeds { bytes ≤ self.old.room → IsOk result }
     {
-        self.bytes.reserve(bytes)?;
+        let room = self.room();
+        if bytes <= room {
+            return Ok(());
+        }
+        self.grow(bytes - room)
+    }
+
+    /// Lengthens the block by so many bytes at least. Refused only with `Memory`.
+    #[cold]
+    #[inline(never)]
+    fn grow(&mut self, more: usize) -> Result<()>
+        ensures ok { OnOk result (self.old.room + more ≤ self.new.room) }
+        ensures bytes { self.new.bytes ≡ self.old.bytes }
+        ensures room { self.old.room ≤ self.new.room }
+        ensures memory { IfErr result (λ e. e ≡ Error.Memory) }
+    {
+        self.block.reserve(more)?;
+        let whole = self.block.capacity();
+        self.block.resize(whole, 0)?;
         Ok(())
     }
 
@@ -136,8 +189,9 @@ impl Stream {
         ensures ok { IfOk result (λ stream. stream.bytes ≡ self.now.bytes) }
         ensures err { IfErr result (λ e. e ≡ Error.Memory) }
     {
-        let bytes = Vec::from_slice(*self.bytes.allocator(), self.bytes.as_slice())?;
-        Ok(Stream { bytes })
+        let block = Vec::from_slice(*self.block.allocator(), self.bytes())?;
+        let len = block.len();
+        Ok(Stream { block, len })
     }
 
     /// Appends bytes. Refused only with `Memory`, and never within the room; nothing is changed then.
@@ -148,7 +202,25 @@ impl Stream {
         ensures succeeds { length bytes.now ≤ self.old.room → IsOk result }
         ensures room { self.old.room ≤ self.new.room + length bytes.now }
     {
-        self.bytes.extend_from_slice(bytes)?;
+        if bytes.len() <= self.room() {
+            self.put(bytes);
+            return Ok(());
+        }
+        self.lengthen(bytes)
+    }
+
+    /// Appends bytes for which there is no room, and makes none behind them.
+    #[cold]
+    #[inline(never)]
+    fn lengthen(&mut self, bytes: &[u8]) -> Result<()>
+        requires { self.old.room < length bytes.now }
+        ensures ok { OnOk result (self.new.bytes ≡ self.old.bytes ++ bytes.now) }
+        ensures err { OnErr result (self.new.bytes ≡ self.old.bytes) }
+        ensures memory { IfErr result (λ e. e ≡ Error.Memory) }
+    {
+        self.block.truncate(self.len);
+        self.block.extend_from_slice(bytes)?;
+        self.len = self.block.len();
         Ok(())
     }
 
@@ -159,7 +231,39 @@ impl Stream {
         ensures bytes { self.new.bytes ≡ self.old.bytes ++ bytes.now }
         ensures room { self.old.room ≤ self.new.room + length bytes.now }
     {
-        self.bytes.extend_from_slice(bytes).unwrap()
+        if bytes.is_empty() {
+            return;
+        }
+        let end = self.len + bytes.len();
+        self.block[self.len..end].copy_from_slice(bytes);
+        self.len = end;
+    }
+
+    /// Appends the first 14 of 16 bytes. All 16 are written, for which there has to be room.
+    #[inline(always)]
+    fn put_front(&mut self, front: &[u8; 16])
+        requires { 16 ≤ self.old.room }
+        ensures bytes { self.new.bytes ≡ self.old.bytes ++ take FRONT_SIZE front.now }
+        ensures room { self.old.room ≤ self.new.room + FRONT_SIZE }
+    {
+        let place = self.len;
+        self.block[place..place + 16].copy_from_slice(front);
+        self.len = place + FRONT_SIZE;
+    }
+
+    /// Appends a text's bytes within the room, as [`Stream::put`] does.
+    #[inline(always)]
+    fn put_text(&mut self, text: &[u8])
+        requires { length text.now ≤ self.old.room }
+        ensures bytes { self.new.bytes ≡ self.old.bytes ++ text.now }
+        ensures room { self.old.room ≤ self.new.room + length text.now }
+    {
+        if text.is_empty() {
+            return;
+        }
+        let end = self.len + text.len();
+        copy_text(&mut self.block[self.len..end], text);
+        self.len = end;
     }
 
     /// Writes eight bytes over those at a place.
@@ -171,7 +275,7 @@ impl Stream {
             ≡ take place self.old.bytes ++ (word.now ++ drop (place + 8) self.old.bytes) }
         ensures room { self.new.room ≡ self.old.room }
     {
-        self.bytes[place..place + 8].copy_from_slice(word);
+        self.block[place..place + 8].copy_from_slice(word);
     }
 
     /// Writes the beginning of a scope, with an unfinished size, and returns the offset of the eight bytes of that size and
@@ -224,8 +328,8 @@ impl Stream {
         let text = cut(text);
         self.reserve(HEAD_SIZE + text.len())?;
         let start = now_ns();
-        self.put(&front(id.get(), start, text.len() as u8));
-        self.put(text.as_bytes());
+        self.put_front(&front(id.get(), start, text.len() as u8));
+        self.put_text(text.as_bytes());
         let offset = self.len();
         self.put(&size_word(u64::MAX));
         Ok((offset, start))
@@ -257,6 +361,7 @@ impl From<Vec<u8>> for Stream {
     ghost from_gives = { λ bytes stream. stream.bytes ≡ bytes.items };
 
     fn from(bytes: Vec<u8>) -> Stream {
-        Stream { bytes }
+        let len = bytes.len();
+        Stream { block: bytes, len }
     }
 }

@@ -1,6 +1,8 @@
 //! What one thread records, apart from its clock.
 
-ghost use Rattle.std.specs.Prelude.{◌≡◌, ◌+◌, ◌-◌, ◌*◌, ◌^◌, ◌<◌, ◌≤◌, ◌++◌, ℤ, pos, ◌≤ℤ◌, [], ◌==◌, length, None, OnOk, OnErr, IfOk, IfErr, IfSome, IfNone, string_bytes, slice_get, unwrap_or, option_map};
+ghost use Rattle.std.specs.Prelude.{◌≡◌, ◌+◌, ◌-◌, ◌*◌, ◌^◌, ◌<◌, ◌≤◌, ◌++◌, ℤ, pos, ◌≤ℤ◌, [], ◌==◌, length, None, max, OnOk, OnErr, IfOk, IfErr, IfSome, IfNone, string_bytes, slice_get, unwrap_or, option_map};
+ghost use Rattle.std.specs.Int.{int_min};
+ghost use Rattle.std.specs.Option.{option_or};
 ghost use Rattle.puffin_data.specs.declared.error.Error.{Error};
 ghost use Rattle.puffin_data.specs.Forest.Spelling.{begin_bytes};
 ghost use Rattle.puffin_data.specs.Text.{cut_text};
@@ -45,7 +47,17 @@ impl Model for Recording {
     ghost invariant = { IsRecording };
 }
 
+/// A copy of a name. Refused only with `Memory`.
+#[inline(never)]
+fn copy_of(name: &String) -> Result<String>
+    ensures ok { IfOk result (λ s. string_bytes s ≡ string_bytes name.now) }
+    ensures memory { IfErr result (λ e. e ≡ Error.Memory) }
+{
+    Ok(name.clone()?)
+}
+
 /// Makes the copy of a name where there is none yet. Refused only with `Memory`.
+#[inline(always)]
 fn keep_copy(spare: &mut Option<String>, name: &String) -> Result<()>
     ensures ok { OnOk result (
         option_map (λ s. string_bytes s) spare.new ≡ Some (
@@ -55,9 +67,39 @@ fn keep_copy(spare: &mut Option<String>, name: &String) -> Result<()>
     ensures memory { IfErr result (λ e. e ≡ Error.Memory) }
 {
     if spare.is_none() {
-        *spare = Some(name.clone()?);
+        *spare = Some(copy_of(name)?);
     }
     Ok(())
+}
+
+/// Keeps the first start there is. Only the first is written.
+#[inline(always)]
+fn keep_first(first: &mut Option<NanoSecond>, at: NanoSecond)
+    ensures { first.new ≡ option_or first.old (Some at) }
+{
+    if first.is_none() {
+        *first = Some(at);
+    }
+}
+
+/// Raises a number to this one. It is written only where it rises.
+#[inline(always)]
+fn raise(number: &mut usize, to: usize)
+    ensures { number.new ≡ max number.old to }
+{
+    if *number < to {
+        *number = to;
+    }
+}
+
+/// Lowers a time to this one. It is written only where it falls.
+#[inline(always)]
+fn lower(time: &mut NanoSecond, to: NanoSecond)
+    ensures { time.new ≡ int_min time.old to }
+{
+    if to < *time {
+        *time = to;
+    }
 }
 
 /// How many bytes the ends of the open scopes take, whose sizes stand at these offsets, and the end of one more.
@@ -151,11 +193,11 @@ impl Recording {
         let at = self.latest.max(clock.now_ns());
         let offset = write_begin(&mut self.info.stream, at, id, text);
         self.offsets.push_reserved(offset);
-        self.first_start = self.first_start.or(Some(at));
+        keep_first(&mut self.first_start, at);
         self.latest = at;
         self.info.num_scopes += 1;
-        self.info.depth = self.info.depth.max(self.offsets.len());
-        self.info.range_ns.0 = self.info.range_ns.0.min(at);
+        raise(&mut self.info.depth, self.offsets.len());
+        lower(&mut self.info.range_ns.0, at);
         Ok(offset)
     }
 

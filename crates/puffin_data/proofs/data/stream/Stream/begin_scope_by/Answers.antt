@@ -1,5 +1,5 @@
 -- The pieces of a scope's beginning, put one after another.
-use Rattle.std.proofs.Common.{◌∙◌, ap, List, ℕ, ℤ, ◌++◌, ◌∷◌, [], length, to_z, of_z, w64}
+use Rattle.std.proofs.Common.{◌∙◌, ap, List, ℕ, ℤ, ◌++◌, ◌∷◌, [], length, take, to_z, of_z, w64}
 use Rattle.byteorder.specs.Endian.{little_bytes}
 use Rattle.puffin_data.specs.Forest.Spelling.{begin_bytes, time_bytes}
 use Rattle.puffin_data.proofs.Written.{begun}
@@ -11,6 +11,6 @@ returns-clause-begun g c =
     let text = c.cut-text.result.now in
     let start : ℤ = to_z w64 (of_z w64 c.now_ns-start.result) in
     let front = c.front.ensures ∙ ap (λ (n : ℕ). 40 ∷ (little_bytes 4 n ++ (time_bytes start ++ (length text ∷ [])))) c.get.ensures.number in
-    let stored = c.put-2.ensures.bytes ∙ ap (λ (x : List ℕ). c.put.new.self.bytes ++ x) c.as_bytes.ensures.value in
-    begun old c.reserve.new.self.bytes c.put.new.self.bytes c.put-2.new.self.bytes c.put-3.new.self.bytes c.front.result text c.size_word.result c.args.id 18446744073709551615 start c.in_ok-reserve.ensures.bytes c.put.ensures.bytes stored c.put-3.ensures.bytes front c.size_word.ensures
+    let stored = c.put_text.ensures.bytes ∙ ap (λ (x : List ℕ). c.put_front.new.self.bytes ++ x) c.as_bytes.ensures.value in
+    begun old c.reserve.new.self.bytes c.put_front.new.self.bytes c.put_text.new.self.bytes c.put.new.self.bytes (take 14 c.front.result) text c.size_word.result c.args.id 18446744073709551615 start c.in_ok-reserve.ensures.bytes c.put_front.ensures.bytes stored c.put.ensures.bytes front c.size_word.ensures
     ∙ ap (λ (x : List ℕ). old ++ begin_bytes c.args.id start x 18446744073709551615) c.cut-text.ensures.cut

@@ -75,7 +75,7 @@ returns-clause-begun g c =
     let greatest : at ≡ int_max inside.latest x = grind (arith, ints, clamps, to_z-of_z) in
     let time : at ≡ time_of now x = greatest ∙ ap (λ (t : Thread). int_max t.latest x) c.self.view_is in
     let word : events_in c.write_begin-offset.new.stream.bytes ≡ now.word ++ (Open c.args.id text (time_of now x) ∷ []) = goes.word ∙ ap (λ (t : Thread). t.word ++ (Open c.args.id text at ∷ [])) c.self.view_is ∙ ap (λ (t : ℤ). now.word ++ (Open c.args.id text t ∷ [])) time in
-    let first : c.or-self-inside.result ≡ option_or now.first_start (Some (time_of now x)) = c.or-self-inside.ensures ∙ ap (λ (t : Thread). option_or t.first_start (Some at)) c.self.view_is ∙ ap (λ (t : ℤ). option_or now.first_start (Some t)) time in
+    let first : c.keep_first.new.first ≡ option_or now.first_start (Some (time_of now x)) = c.keep_first.ensures ∙ ap (λ (t : Thread). option_or t.first_start (Some at)) c.self.view_is ∙ ap (λ (t : ℤ). option_or now.first_start (Some t)) time in
     (x, c.now_ns.ensures.answered, c.now_ns.ensures.never_negative, same_thread _ _ (ap (λ (t : Thread). t.name) c.self.view_is) first time word (ap (λ (t : Thread). t.details) c.self.view_is))
 
 pub returns-clause-offset : goal.returns-clause-offset

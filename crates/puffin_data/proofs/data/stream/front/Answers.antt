@@ -1,0 +1,26 @@
+-- The two words that are written are the front.
+use Rattle.std.proofs.Common.{rules, ◌≡◌, ℕ, ◌+◌, ◌*◌, ◌/◌, ◌%◌, List, [], ◌∷◌, ◌++◌, take, ap, refl, ◌∙◌, of_z, w64}
+use Rattle.std.proofs.lemmas.Int.{to_z-of_z}
+use Rattle.byteorder.specs.Endian.{little_bytes}
+use Rattle.puffin_data.proofs.Fronts.{front_words}
+use Rattle.puffin_data.proofs.data.stream.front.Goals as goal
+
+-- written into an array of zeros, one behind the other
+pub returns : goal.returns
+returns c =
+    let id : ℕ = c.args.id in
+    let size : ℕ = c.args.text_size in
+    let time : ℕ = c.cast_unsigned-time.result in
+    let bits = of_z w64 c.args.start in
+    let same : time ≡ bits = c.cast_unsigned-time.ensures ∙ ap (of_z w64) (to_z-of_z w64 c.args.start c.ranges.start) in
+    let a = little_bytes 8 (40 + id * 256 + bits % 16777216 * 1099511627776) in
+    let b = little_bytes 8 (bits / 16777216 + size * 1099511627776) in
+    let ea : c.write_u64-2.new.buf ≡ a = c.write_u64-2.ensures
+    ∙ ap (λ (n : ℕ). little_bytes 8 (40 + n * 256 + time % 16777216 * 1099511627776)) c.from.ensures
+    ∙ ap (λ (n : ℕ). little_bytes 8 (40 + id * 256 + n % 16777216 * 1099511627776)) same in
+    let eb : c.write_u64.new.buf ≡ b = c.write_u64.ensures
+    ∙ ap (λ (n : ℕ). little_bytes 8 (time / 16777216 + n * 1099511627776)) c.from-2.ensures
+    ∙ ap (λ (n : ℕ). little_bytes 8 (n / 16777216 + size * 1099511627776)) same in
+    ap (λ (x : List ℕ). take 14 (x ++ (c.write_u64.new.buf ++ []))) ea
+    ∙ ap (λ (x : List ℕ). take 14 (a ++ (x ++ []))) eb
+    ∙ front_words a b id bits size c.ranges.id.fits (search rules) c.ranges.text_size.fits refl refl
