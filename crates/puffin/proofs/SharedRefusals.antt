@@ -4,8 +4,8 @@ use Rattle.std.specs.Prelude.{OnOk, IfErr}
 use Rattle.std.proofs.lemmas.List.Elements.{All-nil}
 use Rattle.puffin_data.specs.declared.error.Error.{Error}
 use Rattle.puffin_data.specs.Honesty.{Recorded}
-use Rattle.puffin_frames.specs.Thread.Info.{Info}
-use Rattle.puffin_frames.specs.Details.{Details, AllHaveIds}
+use Rattle.puffin_threads.specs.Thread.Info.{Info}
+use Rattle.puffin_threads.specs.Details.{Details, AllHaveIds}
 use Rattle.puffin_collector.specs.Profiler.State.{Collected, AcceptsReport, IsReportRefusal}
 use Rattle.puffin_collector.specs.Profiler.Collecting.{KeepsPending}
 use Rattle.puffin_collector.specs.Profiler.Registering.{AddsSome}

@@ -1,7 +1,7 @@
 -- What contracts see of a profiler: what it collects, and its sinks.
 use Rattle.std.specs.Prelude.{◌≡◌, ℕ, List, [], false}
 use Rattle.std.specs.FinMap as map
-use Rattle.puffin_frames.specs.Details.Collection.{no_details}
+use Rattle.puffin_threads.specs.Details.Collection.{no_details}
 use Rattle.puffin_collector.specs.Profiler.State.{Collected}
 use Rattle.puffin.specs.declared.global_profiler.profiler.GlobalProfiler.{GlobalProfiler}
 use Rattle.puffin.specs.declared.global_profiler.sinks.Entry.{Entry}

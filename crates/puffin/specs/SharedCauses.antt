@@ -2,7 +2,7 @@
 use Rattle.std.specs.Prelude.{◌≡◌, List, ◌⊎◌}
 use Rattle.puffin_data.specs.declared.error.Error.{Error}
 use Rattle.puffin_data.specs.declared.error.Error.TheVariants.{IdsExhausted, IndexExhausted, MissingId, TooLarge, RangeTooLong, Memory}
-use Rattle.puffin_frames.specs.Details.{Details, AllHaveIds}
+use Rattle.puffin_threads.specs.Details.{Details, AllHaveIds}
 
 -- a report without details
 abbrev pub IsScopesCause : Error → Type 0

@@ -13,11 +13,11 @@ use Rattle.std.proofs.lemmas.List.{get_or-map, length-map, map-append}
 use Rattle.std.proofs.lemmas.List.Elements.{All-map, All-get_or, All-append}
 use Rattle.puffin_data.specs.declared.error.Error.{Error}
 use Rattle.puffin_data.specs.declared.error.Error.TheVariants.{MissingId, Memory}
-use Rattle.puffin_frames.specs.declared.scope_details.details.ScopeDetails.{ScopeDetails}
-use Rattle.puffin_frames.specs.Details.{Details, details_of, details_seen, shared_details, lacks_id, AllHaveIds}
-use Rattle.puffin_frames.specs.Details.Collection.{by_ids, ids_seen}
-use Rattle.puffin_frames.proofs.lemmas.EntriesSeen.{entries-seen}
-use Rattle.puffin_frames.proofs.lemmas.Ids.{all_have}
+use Rattle.puffin_threads.specs.declared.scope_details.details.ScopeDetails.{ScopeDetails}
+use Rattle.puffin_threads.specs.Details.{Details, details_of, details_seen, shared_details, lacks_id, AllHaveIds}
+use Rattle.puffin_threads.specs.Details.Collection.{by_ids, ids_seen}
+use Rattle.puffin_threads.proofs.lemmas.EntriesSeen.{entries-seen}
+use Rattle.puffin_threads.proofs.lemmas.Ids.{all_have}
 
 -- ---- ids
 

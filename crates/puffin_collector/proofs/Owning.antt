@@ -8,8 +8,8 @@ use Rattle.std.specs.FinMap.{entries, find, is_sorted, entries_sorted, get-entri
 use Rattle.std.specs.FinMap.Entries.{below_all}
 use Rattle.std.proofs.lemmas.Cmp.{nat_cmp_total, tied_itself}
 use Rattle.std.proofs.lemmas.List.Elements.{All-cons, All-nil}
-use Rattle.puffin_frames.specs.Details.{Details, AllHaveIds}
-use Rattle.puffin_frames.specs.Details.Collection.{Collection, KeepsOwnIds}
+use Rattle.puffin_threads.specs.Details.{Details, AllHaveIds}
+use Rattle.puffin_threads.specs.Details.Collection.{Collection, KeepsOwnIds}
 use Rattle.puffin_frames.proofs.lemmas.Measured.{first, second, less}
 use Rattle.puffin_collector.specs.Profiler.State.{all_details}
 

@@ -5,7 +5,7 @@ use Rattle.std.specs.FinMap as map
 use Rattle.std.proofs.lemmas.Int.{ints, clamps}
 use Rattle.puffin_data.specs.Forest.{Forest}
 use Rattle.puffin_data.specs.Honesty.{Recorded, IsHonestRecord}
-use Rattle.puffin_frames.specs.Thread.Info.{Info}
+use Rattle.puffin_threads.specs.Thread.Info.{Info}
 use Rattle.puffin_frames.specs.Frame.Contents.{Streams, reported_to, AreHonest}
 use Rattle.puffin_frames.specs.Frame.Sums.{total_bytes, total_scopes, joined_start, joined_stop, meta_of, IsOrdered, DurationFits}
 use Rattle.puffin_frames.specs.declared.frame_data.meta.FrameMeta.{FrameMeta}

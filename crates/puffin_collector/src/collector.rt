@@ -4,9 +4,9 @@ ghost use Rattle.std.specs.List.{list_any};
 ghost use Rattle.std.specs.FinMap as map;
 ghost use Rattle.puffin_data.specs.Forest.{Forest};
 ghost use Rattle.puffin_data.specs.Honesty.{IsHonestRef, record_of_ref};
-ghost use Rattle.puffin_frames.specs.Thread.Info.{info_of};
-ghost use Rattle.puffin_frames.specs.Details.{details_of, details_seen, shared_details, lacks_id, with_id, AllHaveIds};
-ghost use Rattle.puffin_frames.specs.Details.Collection.{no_details};
+ghost use Rattle.puffin_threads.specs.Thread.Info.{info_of};
+ghost use Rattle.puffin_threads.specs.Details.{details_of, details_seen, shared_details, lacks_id, with_id, AllHaveIds};
+ghost use Rattle.puffin_threads.specs.Details.Collection.{no_details};
 ghost use Rattle.puffin_frames.specs.Frame.Contents.{AreHonest};
 ghost use Rattle.puffin_frames.specs.Frame.Sums.{total_scopes, IsOrdered, DurationFits};
 ghost use Rattle.puffin_collector.specs.Profiler.State.{AcceptsReport, RefusesReport, after_adding, after_learning, after_wanting, PendingFits, range_with, IsTooLong, IsReportRefusal};
@@ -50,7 +50,7 @@ impl Model for Collector {
     ghost coded = { collected_code };
 
     ghost use Rattle.puffin_frames.specs.Frame.Contents.{shared_streams};
-    ghost use Rattle.puffin_frames.specs.Details.{shared_details, AllHaveIds};
+    ghost use Rattle.puffin_threads.specs.Details.{shared_details, AllHaveIds};
     ghost use Rattle.puffin_collector.specs.Profiler.Collecting.{IsTallied};
 
     ghost view = { λ c.

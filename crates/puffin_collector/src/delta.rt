@@ -1,6 +1,6 @@
 ghost use Rattle.std.specs.Prelude.{◌≡◌, ◌++◌, ◌↔◌, OnOk, IfOk, IfErr, All, IsTrue, IsSome};
-ghost use Rattle.puffin_frames.specs.Details.{details_of, details_seen, shared_details, AllHaveIds};
-ghost use Rattle.puffin_frames.specs.Details.Collection.{KeepsOwnIds};
+ghost use Rattle.puffin_threads.specs.Details.{details_of, details_seen, shared_details, AllHaveIds};
+ghost use Rattle.puffin_threads.specs.Details.Collection.{KeepsOwnIds};
 ghost use Rattle.puffin_collector.specs.Profiler.State.{all_details, delta_of};
 
 use puffin_data::{Error, Result};

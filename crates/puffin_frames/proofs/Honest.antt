@@ -15,10 +15,10 @@ use Rattle.puffin_data.specs.Forest.{Forest, IsForest, append}
 use Rattle.puffin_data.specs.Forest as forest
 use Rattle.puffin_data.specs.Forest.Measures as measure
 use Rattle.puffin_data.specs.Honesty.{Recorded, IsHonestRecord, joined_record}
-use Rattle.puffin_frames.specs.Thread.Info.{Info, info_cmp, same_info}
+use Rattle.puffin_threads.specs.Thread.Info.{Info, info_cmp, same_info}
 use Rattle.puffin_frames.specs.Frame.Contents.{Streams, reported_to, no_scopes, AreHonest}
 use Rattle.puffin_frames.specs.Frame.Sums.{total_scopes, joined_start, joined_stop, joined_range, IsOrdered}
-use Rattle.puffin_frames.proofs.lemmas.Infos.{info_cmp_total, info_cmp-one}
+use Rattle.puffin_threads.proofs.lemmas.Infos.{info_cmp_total, info_cmp-one}
 use Rattle.puffin_frames.proofs.lemmas.Measured.{first, second, less, total_scopes-one}
 use Rattle.puffin_frames.proofs.lemmas.Ranges.{least_start-one, greatest_stop-one}
 

@@ -13,10 +13,4 @@ mod Joining
 mod Sharing
 mod Reports
 mod Honest
-mod RecordedScopes
-mod Recordings
-mod Inserting
-mod InsertingAll
-mod Comparing
-mod CollectionsBuilt
 mod PackedAgain

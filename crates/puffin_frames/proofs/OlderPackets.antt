@@ -6,7 +6,7 @@ use Rattle.byteorder.specs.Endian.{little_bytes, little_number}
 use Rattle.byteorder.specs.Numbers.{little_number-reads_back}
 use Rattle.puffin_data.specs.Value.Layout.{number, signed}
 use Rattle.puffin_data.proofs.lemmas.Readers.{whole_again}
-use Rattle.puffin_frames.specs.Details.{Details}
+use Rattle.puffin_threads.specs.Details.{Details}
 use Rattle.puffin_frames.specs.Packet.Structs.{meta_layout, streams_layout, Legacy, IsLegacy, legacy_layout, legacy_at}
 use Rattle.puffin_frames.specs.Packet.Stored.{Said, packed, legacy}
 use Rattle.puffin_frames.specs.Packet.Letters.{is_packet}

@@ -3,7 +3,7 @@ use Rattle.std.proofs.Common.{◌≡◌, Some, ap, ◌∙◌}
 use Rattle.std.specs.Option.{option_map}
 use Rattle.std.specs.FinMap.{entries, entries_sorted, from_sorted, entries-from_sorted, same_entries_map}
 use Rattle.puffin_data.proofs.lemmas.Readers.{whole_again}
-use Rattle.puffin_frames.specs.Thread.Info.{info_cmp}
+use Rattle.puffin_threads.specs.Thread.Info.{info_cmp}
 use Rattle.puffin_frames.specs.Frame.Streams.{Streams}
 use Rattle.puffin_frames.specs.Packet.Structs.{AreStreams, streams_layout, streams_at}
 use Rattle.puffin_frames.specs.Frame.Holding.{streams_in, plainly_packed}

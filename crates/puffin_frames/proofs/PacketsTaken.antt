@@ -11,7 +11,7 @@ use Rattle.puffin_data.specs.Device.{FromDevice}
 use Rattle.puffin_data.specs.Part.{◌>>=◌, part_of, length_at}
 use Rattle.puffin_data.proofs.lemmas.Numbers.{IsBytes-take, IsBytes-drop, IsBytes-nil, IsBytes-append, bytes_4, below_4}
 use Rattle.puffin_data.proofs.lemmas.Readers.{IsBytes-after}
-use Rattle.puffin_frames.specs.Details.{Details}
+use Rattle.puffin_threads.specs.Details.{Details}
 use Rattle.puffin_frames.specs.Packet.Structs.{meta_layout, details_layout, Legacy, legacy_layout}
 use Rattle.puffin_frames.specs.Packet.Stored.{Said, Stored, packed, legacy}
 use Rattle.puffin_frames.specs.Packet.Letters.{is_packet}

@@ -15,7 +15,7 @@ use Rattle.puffin_frames.specs.declared.frame_data.held.Held.{Held}
 use Rattle.puffin_frames.specs.declared.frame_data.held.Held.TheVariants.{Own, Shared, Packed, Both}
 use Rattle.puffin_frames.specs.Frame.Contents.{packed_as, held_as}
 use Rattle.puffin_frames.specs.inner.Tries.{DecidedInMemory}
-use Rattle.puffin_frames.specs.Thread.Info.{Info, info_cmp}
+use Rattle.puffin_threads.specs.Thread.Info.{Info, info_cmp}
 use Rattle.puffin_frames.specs.Frame.Streams.{Streams}
 use Rattle.puffin_frames.specs.Packet.Structs.{AreStreams, streams_layout, streams_at}
 use Rattle.puffin_frames.specs.Frame.Holding.{Packing, HoldsStreams, or_bad, unpacked_from, Holding, streams_in, if_packed, either_content, held_contents, Agree, IsHolding, packing, plainly_packed, as_packed, as_unpacked}

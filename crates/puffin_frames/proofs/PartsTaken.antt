@@ -12,7 +12,7 @@ use Rattle.puffin_data.specs.Part.{◌>>=◌, part_of, first_at, length_at, coun
 use Rattle.puffin_data.proofs.lemmas.Numbers.{IsBytes-take, bytes_4, below_4}
 use Rattle.puffin_data.proofs.lemmas.Readers.{IsBytes-after, whole_taken}
 use Rattle.puffin_frames.specs.declared.frame_data.meta.FrameMeta.{FrameMeta}
-use Rattle.puffin_frames.specs.Details.{Details}
+use Rattle.puffin_threads.specs.Details.{Details}
 use Rattle.puffin_frames.specs.Packet.Structs.{IsMeta, meta_layout, meta_at, AreDetails, details_layout, details_at, Legacy, IsLegacy, legacy_layout, legacy_at}
 use Rattle.puffin_data.specs.Range.{is_range_at}
 use Rattle.puffin_frames.specs.Packet.Parts.{meta_with_range, meta_from, meta_part_at, kind_from, details_from, given_details_at, legacy_with_range, legacy_from, legacy_part_at}

@@ -19,10 +19,10 @@ use Rattle.puffin_data.specs.declared.error.Error.TheVariants.{TooLarge, Memory}
 use Rattle.puffin_data.specs.Forest.{empty}
 use Rattle.puffin_data.specs.Honesty.{Recorded, IsHonest, record_of, joined_record}
 use Rattle.puffin_data.specs.declared.data.info.StreamInfo.{StreamInfo}
-use Rattle.puffin_frames.specs.declared.thread_profiler.thread_info.ThreadInfo.{ThreadInfo}
-use Rattle.puffin_frames.specs.Thread.Info.{Info, info_of, info_cmp, thread_cmp, same_info, keyed, by_info}
+use Rattle.puffin_threads.specs.declared.thread_profiler.thread_info.ThreadInfo.{ThreadInfo}
+use Rattle.puffin_threads.specs.Thread.Info.{Info, info_of, info_cmp, thread_cmp, same_info, keyed, by_info}
 use Rattle.puffin_frames.specs.Frame.Contents.{records, without_sharing, shared_streams, stream_under, reported_to, no_scopes}
-use Rattle.puffin_frames.proofs.lemmas.Infos.{info_cmp_total, info_cmp-one, same_info-one, thread_cmp_total}
+use Rattle.puffin_threads.proofs.lemmas.Infos.{info_cmp_total, info_cmp-one, same_info-one, thread_cmp_total}
 use Rattle.puffin_frames.proofs.lemmas.Keyed.{read-insert, streams_of-insert}
 
 module _ {X : Type 0} where

@@ -12,10 +12,10 @@ use Rattle.std.specs.Arc.{arc_value}
 use Rattle.std.specs.declared.sync.Arc.{Arc}
 use Rattle.std.proofs.lemmas.Map.Keys.{sorted_head, sorted_tail}
 use Rattle.puffin_data.specs.declared.data.info.StreamInfo.{StreamInfo}
-use Rattle.puffin_frames.specs.declared.thread_profiler.thread_info.ThreadInfo.{ThreadInfo}
+use Rattle.puffin_threads.specs.declared.thread_profiler.thread_info.ThreadInfo.{ThreadInfo}
 use Rattle.puffin_frames.specs.Frame.Contents.{without_sharing}
-use Rattle.puffin_frames.specs.Thread.Info.{thread_cmp}
-use Rattle.puffin_frames.proofs.lemmas.Infos.{thread_cmp_total}
+use Rattle.puffin_threads.specs.Thread.Info.{thread_cmp}
+use Rattle.puffin_threads.proofs.lemmas.Infos.{thread_cmp_total}
 
 at_middle : {K : Type 0} (P : K → Type 0) (xs : List K) (k : K) (rest : List K) → AllByRecursion P (xs ++ k ∷ rest) → P k
 at_middle P [] k rest all = all.0

@@ -5,7 +5,7 @@ use Rattle.std.specs.FinMap.{is_sorted}
 use Rattle.puffin_data.specs.Value.Layout.{number}
 use Rattle.puffin_data.proofs.lemmas.Readers.{IsReader, pair_reader, form_reader, checked_reader, optional_reader, items_reader}
 use Rattle.puffin_data.proofs.lemmas.ValueReaders.{number_reader, word_reader, signed_reader, bytes_reader, text_reader}
-use Rattle.puffin_frames.specs.Thread.Info.{info_cmp}
+use Rattle.puffin_threads.specs.Thread.Info.{info_cmp}
 use Rattle.puffin_frames.specs.Packet.Structs.{meta_layout, IsMeta, made_meta, meta_at, info_layout, IsInfo, made_info, info_at, recorded_layout, IsRecorded, made_recorded, recorded_at, streams_layout, AreStreams, streams_at, IsId, id_at, detail_layout, IsDetail, made_detail, detail_at, details_layout, AreDetails, details_at, legacy_layout, IsLegacy, made_legacy, legacy_at}
 
 pub meta_reader : IsReader IsMeta meta_layout meta_at

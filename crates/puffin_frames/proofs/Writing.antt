@@ -1,7 +1,6 @@
 -- Pieces of a packet written one after the other.
-use Rattle.std.proofs.Common.{◌≡◌, ℕ, ◌≤◌, ◌<◌, ◌^◌, ℤ, ◌-ℤ◌, ◌≤ℤ◌, FitsSigned, w64, Bool, true, false, cond, List, [], ◌∷◌, ◌++◌, length, Option, Result, Ok, Err, OnErr, IfErr, refl, sym, ap, ◌∙◌, append_assoc, arith, length-append}
-use Rattle.std.specs.Prelude.{nat_lt, int_le, int_lt, pos}
-use Rattle.std.proofs.lemmas.Int.{ints}
+use Rattle.std.proofs.Common.{◌≡◌, ℕ, ◌≤◌, ◌<◌, ◌^◌, Bool, true, false, cond, List, [], ◌∷◌, ◌++◌, length, Option, Result, Ok, Err, OnErr, IfErr, refl, sym, ap, ◌∙◌, append_assoc, arith, length-append}
+use Rattle.std.specs.Prelude.{nat_lt}
 use Rattle.byteorder.specs.Endian.{little_bytes}
 use Rattle.std.specs.Io.KnownBytes.{Appends}
 use Rattle.std.proofs.KnownBytes.{Appends-trans}
@@ -11,7 +10,6 @@ use Rattle.puffin_data.specs.Device.{WritesBeginning}
 use Rattle.puffin_data.specs.Value.Layout.{number, signed, zigzag}
 use Rattle.puffin_frames.specs.declared.frame_data.meta.FrameMeta.{FrameMeta}
 use Rattle.puffin_frames.specs.Packet.Structs.{meta_layout}
-use Rattle.puffin_data.specs.Range.{is_range_at}
 use Rattle.std.specs.Prelude.{map}
 use Rattle.std.specs.declared.cmp.Ordering.TheVariants.{Less}
 use Rattle.std.specs.declared.sync.Arc.{Arc}
@@ -24,9 +22,9 @@ use Rattle.std.specs.List.Sorted.{IsStrictlySortedBy}
 use Rattle.std.specs.FinMap.{is_sorted, values}
 use Rattle.std.specs.FinMap.Entries.{below_all}
 use Rattle.std.proofs.lemmas.Map.Keys.{sorted_head, sorted_tail}
-use Rattle.puffin_frames.specs.declared.scope_details.details.ScopeDetails.{ScopeDetails}
-use Rattle.puffin_frames.specs.Details.{Details, details_of, shared_details}
-use Rattle.puffin_frames.specs.Details.Collection.{ids_seen, by_ids}
+use Rattle.puffin_threads.specs.declared.scope_details.details.ScopeDetails.{ScopeDetails}
+use Rattle.puffin_threads.specs.Details.{Details, details_of, shared_details}
+use Rattle.puffin_threads.specs.Details.Collection.{ids_seen, by_ids}
 use Rattle.puffin_frames.proofs.Listed.{and-both, entries-sorted_list, no_entries}
 
 pub beginning_more : (old new : Option (List ℕ)) (a b : List ℕ) → WritesBeginning old new a → WritesBeginning old new (a ++ b)

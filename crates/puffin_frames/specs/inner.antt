@@ -1,5 +1,3 @@
 -- What contracts of private functions and proofs alone cite.
-pub mod ThreadRecording
-pub mod HeldCollection
 pub mod Tries
 pub mod Form

@@ -1,52 +1,21 @@
 //! Laws of infos and of what is said of them together, as contracts of functions that do nothing. A proof of another
 //! crate cites them by calling the function.
 
-ghost use Rattle.std.specs.Prelude.{List, ℤ, ◌≡◌, ◌<ℤ◌, ◌∷◌, ◌++◌, ◌+◌, [], ◌<◌, ◌≤◌, length, IsTrue};
-ghost use Rattle.std.specs.declared.cmp.Ordering.TheVariants.{Less};
-ghost use Rattle.std.specs.Ordering.{nat_cmp};
-ghost use Rattle.std.specs.Cmp.{IsTotalOrder};
-ghost use Rattle.std.specs.Cmp.Lexicographic.{slice_cmp};
+ghost use Rattle.std.specs.Prelude.{List, ◌≡◌, ◌∷◌, ◌++◌, ◌+◌, [], ◌<◌, ◌≤◌, length};
 ghost use Rattle.std.specs.Map.{keys_of};
 ghost use Rattle.std.specs.List.Sorted.{IsStrictlySortedBy};
 ghost use Rattle.std.specs.BTreeMap.{BTreeMap, insert_entry};
 ghost use Rattle.std.specs.FinMap as map;
 ghost use Rattle.std.specs.Int.{int_min, int_max};
 ghost use Rattle.puffin_data.specs.declared.data.info.StreamInfo.{StreamInfo};
-ghost use Rattle.puffin_frames.specs.declared.thread_profiler.thread_info.ThreadInfo.{ThreadInfo};
-ghost use Rattle.puffin_frames.specs.Thread.Info.{Info, info_of, info_cmp, same_info, thread_cmp, keyed};
+ghost use Rattle.puffin_threads.specs.declared.thread_profiler.thread_info.ThreadInfo.{ThreadInfo};
+ghost use Rattle.puffin_threads.specs.Thread.Info.{Info, info_of, info_cmp, thread_cmp, keyed};
 ghost use Rattle.puffin_frames.specs.Frame.Contents.{Streams, streams_of, records, all_recorded, stream_under, reported_to, AreHonest};
 ghost use Rattle.puffin_data.specs.Forest.{Forest};
 ghost use Rattle.puffin_data.specs.Honesty.{Recorded, record_of, IsHonestRecord};
 ghost use Rattle.puffin_frames.specs.Frame.Sums.{total_bytes, total_scopes, joined_start, joined_stop, joined_range, IsOrdered};
 
-use crate::thread_profiler::ThreadInfo;
-use std::hash::Hash;
-
-/// How threads are compared: by their infos alone. Equality, order and hash agree.
-pub fn threads_by_info()
-    ensures order { (a b : ThreadInfo) →
-        ⟦<ThreadInfo as Ord>⟧.cmp a b ≡ info_cmp (info_of a) (info_of b) }
-    ensures partial_order { (a b : ThreadInfo) →
-        ⟦<ThreadInfo as PartialOrd>⟧.partial_cmp a b ≡ Some (info_cmp (info_of a) (info_of b)) }
-    ensures equality { (a b : ThreadInfo) →
-        ⟦<ThreadInfo as PartialEq>⟧.eq a b ≡ same_info (info_of a) (info_of b) }
-    ensures hash { (a b : ThreadInfo) → info_of a ≡ info_of b →
-        ⟦<ThreadInfo as Hash>⟧.hash_input a ≡ ⟦<ThreadInfo as Hash>⟧.hash_input b }
-{}
-
-/// The order of infos: those without a start first, then by the start, and then by the name's bytes. It is total, and
-/// only equal infos tie.
-pub fn order_of_infos()
-    ensures none_first { (a b : Info) → a.start ≡ None → (t : ℤ) → b.start ≡ Some t →
-        info_cmp a b ≡ Less }
-    ensures earlier_first { (a b : Info) (t u : ℤ) → a.start ≡ Some t → b.start ≡ Some u → t <ℤ u →
-        info_cmp a b ≡ Less }
-    ensures then_by_name { (a b : Info) → a.start ≡ b.start →
-        info_cmp a b ≡ slice_cmp nat_cmp a.name b.name }
-    ensures total { IsTotalOrder info_cmp }
-    ensures one { map.IsAntisymmetric info_cmp }
-    ensures same { (a b : Info) → IsTrue (same_info a b) → a ≡ b }
-{}
+use puffin_threads::thread_profiler::ThreadInfo;
 
 /// Entries in their order are the entries of the map by infos, and an insertion among them is one into that map.
 pub fn streams_by_info()

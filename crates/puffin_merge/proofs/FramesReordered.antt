@@ -6,7 +6,7 @@ use Rattle.std.specs.declared.alloc.Global.{Global}
 use Rattle.std.proofs.lemmas.List.Sums.{sum_by-append}
 use Rattle.std.proofs.lemmas.List.Sorted.{IsPermutation-map}
 use Rattle.puffin_frames.specs.declared.frame_data.unpacked.UnpackedFrameData.{UnpackedFrameData}
-use Rattle.puffin_frames.specs.Thread.Info.{Info}
+use Rattle.puffin_threads.specs.Thread.Info.{Info}
 use Rattle.puffin_merge.specs.Merge.Occurrences.{Path, Occurrence, FrameScopes, is_path, occurrences_of, occurrences}
 use Rattle.puffin_merge.specs.Merge.Pieces.{Merged, pieces_at, merged_of, merged_at}
 use Rattle.puffin_merge.specs.Merge.Tree.{MergedForest}

@@ -16,9 +16,9 @@ use Rattle.puffin_data.specs.declared.data.info.StreamInfo.{StreamInfo}
 use Rattle.puffin_data.specs.Forest.{empty}
 use Rattle.puffin_data.specs.Honesty.{Recorded, record_of}
 use Rattle.puffin_data.specs.Walk.Visitor.{TakesAll, StopsEarly}
-use Rattle.puffin_frames.specs.declared.thread_profiler.thread_info.ThreadInfo.{ThreadInfo}
+use Rattle.puffin_threads.specs.declared.thread_profiler.thread_info.ThreadInfo.{ThreadInfo}
 use Rattle.puffin_frames.specs.declared.frame_data.unpacked.UnpackedFrameData.{UnpackedFrameData}
-use Rattle.puffin_frames.specs.Thread.Info.{info_of, info_cmp, thread_cmp, keyed}
+use Rattle.puffin_threads.specs.Thread.Info.{info_of, info_cmp, thread_cmp, keyed}
 use Rattle.puffin_frames.specs.Frame.Contents.{records, without_sharing}
 use Rattle.puffin_merge.specs.declared.merge.table.Table.{Table}
 use Rattle.puffin_merge.specs.declared.merge.stream.Merging.{Merging}

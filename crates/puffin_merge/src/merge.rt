@@ -1,7 +1,7 @@
 //! Scopes of many frames, merged by their paths of ids and texts.
 
 ghost use Rattle.std.specs.Prelude.{◌≡◌, ◌≤◌, ◌⊎◌, length, IfOk, IfErr};
-ghost use Rattle.puffin_frames.specs.Thread.Info.{info_of};
+ghost use Rattle.puffin_threads.specs.Thread.Info.{info_of};
 ghost use Rattle.puffin_merge.specs.Merge.Occurrences.{occurrences};
 ghost use Rattle.puffin_merge.specs.Merge.FrameBytes.{most_tries};
 ghost use Rattle.puffin_merge.specs.Merge.Refusals.{IsMergeRefusal, IsRefusalAfter, AreMerged, ReadsFew};

@@ -15,8 +15,8 @@ use Rattle.puffin_data.specs.declared.file_error.FileError.TheVariants as file
 use Rattle.puffin_data.specs.Device.{IsOutside, WritesBeginning}
 use Rattle.puffin_frames.specs.Packet.Grammar.{IsPacked}
 use Rattle.puffin_frames.specs.Packet.Writing.{HasLongPart}
-use Rattle.puffin_frames.specs.Details.{Details, lacks_id, AllHaveIds}
-use Rattle.puffin_frames.specs.Details.Collection.{Collection, with_details, with_all_details, LearnsSome}
+use Rattle.puffin_threads.specs.Details.{Details, lacks_id, AllHaveIds}
+use Rattle.puffin_threads.specs.Details.Collection.{Collection, with_details, with_all_details, LearnsSome}
 use Rattle.puffin_frames.specs.Packet.Stored.{Said}
 use Rattle.puffin_view.specs.declared.profile_view.frame_view.FrameView.{FrameView}
 use Rattle.puffin_view.specs.View.ViewedFrames.{Frame, contents_of, index_of}

@@ -7,7 +7,7 @@ use Rattle.std.specs.Str.{all_ascii_digits}
 use Rattle.std.specs.Str.Parse.{ParsesSigned, digits_value}
 use Rattle.std.proofs.lemmas.Str.Parse.{parse_signed_minus, parse_signed_plain}
 use Rattle.std.proofs.lemmas.Bool.Decides.{nat_tests}
-use Rattle.puffin_frames.specs.Thread.Info.{Info}
+use Rattle.puffin_threads.specs.Thread.Info.{Info}
 use Rattle.puffin_replay.specs.Script.Statements.{number_of, moment_in}
 use Rattle.puffin_replay.specs.Program.Arguments.{signed_moment_in, is_colon, start_in, thread_in}
 use Rattle.puffin_replay.proofs.Statements.{own, number_given, number_refused}

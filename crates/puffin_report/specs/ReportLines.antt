@@ -2,8 +2,8 @@
 use Rattle.std.specs.Prelude.{ℕ, zero, suc, ◌+◌, ℤ, List, [], ◌∷◌, ◌++◌, codes, Option, Some, None}
 use Rattle.std.specs.Fmt.{decimal, signed_decimal}
 use Rattle.std.specs.FinMap.{get}
-use Rattle.puffin_frames.specs.Details.{Details, name_of}
-use Rattle.puffin_frames.specs.Details.Collection.{Collection}
+use Rattle.puffin_threads.specs.Details.{Details, name_of}
+use Rattle.puffin_threads.specs.Details.Collection.{Collection}
 use Rattle.puffin_merge.specs.Merge.Tree.{Node, MergedForest, no_node, merged}
 use Rattle.puffin_merge.specs.Merge.Scopes.{forest_in}
 use Rattle.puffin_report.specs.declared.summary.Summary.{Summary}

@@ -8,10 +8,10 @@ use Rattle.puffin_data.specs.declared.error.Error.TheVariants.{Memory}
 use Rattle.puffin_data.specs.declared.file_error.FileError.{FileError}
 use Rattle.puffin_data.specs.declared.file_error.FileError.TheVariants.{Refused}
 use Rattle.puffin_data.specs.Honesty.{Recorded}
-use Rattle.puffin_frames.specs.Thread.Info.{Info}
+use Rattle.puffin_threads.specs.Thread.Info.{Info}
 use Rattle.puffin_frames.specs.Frame.Streams.{Streams}
-use Rattle.puffin_frames.specs.Details.{Details}
-use Rattle.puffin_frames.specs.Details.Collection.{no_details, with_all_details}
+use Rattle.puffin_threads.specs.Details.{Details}
+use Rattle.puffin_threads.specs.Details.Collection.{no_details, with_all_details}
 use Rattle.puffin_frames.specs.Frame.Holding.{unpacking}
 use Rattle.puffin_frames.specs.Packet.Stored.{Said, Stored}
 use Rattle.puffin_view.specs.View.File.{contents_in, frame_stored, details_stored, file_at, read_view, TookFrames, FailsToRead}

@@ -5,7 +5,7 @@ ghost use Rattle.std.specs.List.{AllByRecursion};
 ghost use Rattle.puffin_data.specs.declared.file_error.FileError.{FileError};
 ghost use Rattle.puffin_data.specs.Device.{IsOutside};
 ghost use Rattle.puffin_frames.specs.declared.frame_data.frame.FrameData.{FrameData};
-ghost use Rattle.puffin_frames.specs.Thread.Info.{Info};
+ghost use Rattle.puffin_threads.specs.Thread.Info.{Info};
 ghost use Rattle.puffin_frames.specs.Frame.Contents.{Streams, holding_of, frame_contents, frame_says};
 ghost use Rattle.puffin_frames.specs.Frame.Holding.{IsHolding, as_packed};
 ghost use Rattle.puffin_frames.specs.Packet.Stored.{Stored};

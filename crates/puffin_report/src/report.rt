@@ -3,7 +3,7 @@
 ghost use Rattle.std.specs.Prelude.{◌≡◌, ◌++◌, ◌+◌, ◌-◌, ◌^◌, ◌<◌, ◌⊎◌, [], ◌∷◌, OnOk, IfOk, IfErr};
 ghost use Rattle.std.specs.String.{string_bytes};
 ghost use Rattle.puffin_data.specs.Device.{TookNothing};
-ghost use Rattle.puffin_frames.specs.Thread.Info.{info_of};
+ghost use Rattle.puffin_threads.specs.Thread.Info.{info_of};
 ghost use Rattle.puffin_merge.specs.Merge.Scopes.{forest_in};
 ghost use Rattle.puffin_report.specs.ReportLines.{indent, scope_name, text_part, pieces_text, greatest_text, scope_lines, frames_line, report_lines};
 ghost use Rattle.puffin_report.specs.Report.{IsReported, IsUnreported};

@@ -1,7 +1,7 @@
 ghost use Rattle.std.specs.Prelude.{◌≡◌, ◌⊎◌, ◌<◌, ◌-◌, ◌^◌, [], ◌∷◌, List, Ok, Err, IfOk, IfErr, map};
 ghost use Rattle.std.specs.Arc.{arc_value};
 ghost use Rattle.puffin_data.specs.Device.{failures_after};
-ghost use Rattle.puffin_frames.specs.Thread.Info.{Info, info_of};
+ghost use Rattle.puffin_threads.specs.Thread.Info.{Info, info_of};
 ghost use Rattle.puffin_frames.specs.Packet.Stored.{Stored};
 ghost use Rattle.puffin_frames.specs.Frame.Contents.{frame_says};
 ghost use Rattle.puffin_view.specs.View.File.{file_at, contents_in, TookFrames};

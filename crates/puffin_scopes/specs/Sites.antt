@@ -1,7 +1,7 @@
 -- What a place in the code registers.
 use Rattle.std.specs.Prelude.{◌≡◌, ℕ, ◌⊎◌, List, Some}
-use Rattle.puffin_frames.specs.Thread.Calls.{Thread, after_registering}
-use Rattle.puffin_frames.specs.Details.{Details, default_details, with_id}
+use Rattle.puffin_threads.specs.Thread.Calls.{Thread, after_registering}
+use Rattle.puffin_threads.specs.Details.{Details, default_details, with_id}
 use Rattle.puffin_scopes.specs.Names.Files.{short_file}
 use Rattle.puffin_scopes.specs.Names.Functions.{clean}
 use Rattle.puffin_scopes.specs.declared.site.Site.{Site}

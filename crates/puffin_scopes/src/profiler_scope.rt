@@ -50,7 +50,7 @@ impl<'p, C: NsSource> ProfilerScope<'p, C> {
     ghost use Rattle.std.specs.Prelude.{◌≡◌, ◌⊎◌, None, Some, IfOk, IfErr};
     ghost use Rattle.std.specs.Borrow.{sem, RestsIfErr};
     ghost use Rattle.puffin_data.specs.declared.error.Error.{Error};
-    ghost use Rattle.puffin_frames.specs.contracts.thread_profiler.profiler.ThreadProfiler.{the_row as profiler_row};
+    ghost use Rattle.puffin_threads.specs.contracts.thread_profiler.profiler.ThreadProfiler.{the_row as profiler_row};
     ghost use Rattle.puffin_scopes.specs.Guards.Guard.{profiler_of, lender_of, offset_of, refusal_of};
     ghost use Rattle.puffin_scopes.specs.Guards.Beginning.{IsOn, IsOff};
     ghost use Rattle.puffin_scopes.specs.Guards.Ending.{Ends};

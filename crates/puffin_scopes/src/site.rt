@@ -34,7 +34,7 @@ impl Site {
     ghost use Rattle.std.specs.Prelude.{◌≡◌, ◌⊎◌, ℕ, OnOk, OnErr, IfOk, IfErr};
     ghost use Rattle.std.specs.Cow.{cow_str_bytes};
     ghost use Rattle.puffin_data.specs.declared.error.Error.{Error};
-    ghost use Rattle.puffin_frames.specs.Thread.ThreadProfiler.{thread_of, clock_of};
+    ghost use Rattle.puffin_threads.specs.Thread.ThreadProfiler.{thread_of, clock_of};
     ghost use Rattle.puffin_scopes.specs.Names.Files.{short_file};
     ghost use Rattle.puffin_scopes.specs.Names.Functions.{clean};
     ghost use Rattle.puffin_scopes.specs.Sites.{IsKnownOrNew, function_details, named_details};

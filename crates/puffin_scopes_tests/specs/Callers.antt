@@ -2,11 +2,11 @@
 use Rattle.std.specs.Prelude.{ℕ, ℤ, ◌≡◌, List, []}
 use Rattle.puffin_data.specs.declared.error.Error.{Error}
 use Rattle.puffin_data.specs.Honesty.{Recorded}
-use Rattle.puffin_frames.specs.declared.thread_profiler.reporter.Closed.{Closed}
-use Rattle.puffin_frames.specs.Thread.Calls.{Thread, after_begin, after_end}
-use Rattle.puffin_frames.specs.Thread.Closing.{Closes}
-use Rattle.puffin_frames.specs.Thread.Info.{Info}
-use Rattle.puffin_frames.specs.Details.{Details}
+use Rattle.puffin_threads.specs.declared.thread_profiler.reporter.Closed.{Closed}
+use Rattle.puffin_threads.specs.Thread.Calls.{Thread, after_begin, after_end}
+use Rattle.puffin_threads.specs.Thread.Closing.{Closes}
+use Rattle.puffin_threads.specs.Thread.Info.{Info}
+use Rattle.puffin_threads.specs.Details.{Details}
 
 -- a scope without a text was begun and ended
 pub record IsOneScope (id : ℕ) (old new : Thread) : Type 0 where

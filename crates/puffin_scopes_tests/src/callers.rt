@@ -1,7 +1,7 @@
 //! What a program can prove of its own functions by the contracts of guards.
 
 ghost use Rattle.std.specs.Prelude.{◌≡◌, Ok, None, IsTrue, IfOk, IfSome};
-ghost use Rattle.puffin_frames.specs.Thread.ThreadProfiler.{thread_of};
+ghost use Rattle.puffin_threads.specs.Thread.ThreadProfiler.{thread_of};
 ghost use Rattle.puffin_scopes_tests.specs.Callers.{IsOneScope, IsEndedScope};
 
 use crate::program::{Outcome, id, main_thread};

@@ -18,9 +18,9 @@ use Rattle.puffin_data.specs.Forest.{Forest}
 use Rattle.puffin_data.specs.Honesty.{Recorded, IsHonestRecord}
 use Rattle.puffin_data.specs.Forest.Tour.{Event}
 use Rattle.puffin_data.specs.Forest.Words.{word_size, num_begun, least_open, greatest_close}
-use Rattle.puffin_frames.specs.Thread.Events.{events_in}
-use Rattle.puffin_frames.specs.Thread.Info.{Info, info_cmp, same_info}
-use Rattle.puffin_frames.specs.Details.{Details, AllHaveIds}
+use Rattle.puffin_threads.specs.Thread.Events.{events_in}
+use Rattle.puffin_threads.specs.Thread.Info.{Info, info_cmp, same_info}
+use Rattle.puffin_threads.specs.Details.{Details, AllHaveIds}
 use Rattle.puffin_frames.specs.Frame.Contents.{Streams, AreHonest, reported_to}
 use Rattle.puffin_frames.specs.Frame.Sums.{total_bytes, total_scopes, joined_start, joined_stop}
 use Rattle.puffin_collector.specs.Profiler.State.{PendingFits, range_with, IsTooLong, IsReportRefusal}

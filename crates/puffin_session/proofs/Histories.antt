@@ -9,7 +9,7 @@ use Rattle.std.proofs.lemmas.List.Concat.{flat_map-append}
 use Rattle.std.proofs.lemmas.List.Folds.{list_any-append}
 use Rattle.puffin_data.specs.Text.{cut_text}
 use Rattle.puffin_data.specs.Forest.Tour.{Event, Open, Close}
-use Rattle.puffin_frames.specs.Thread.Info.{Info, same_info}
+use Rattle.puffin_threads.specs.Thread.Info.{Info, same_info}
 use Rattle.puffin_session.specs.Session.History.{Opening, begun, ended, Call, Action, since_last, thread_at, call_of, calls_of, greatest, latest_of}
 use Rattle.puffin_session.specs.Session.Deliveries.{Marked, marked_call, marked_calls, first_open, word_of, unreported, first_start_of, Delivery, under, all_taken, deliveries_at, deliveries_after}
 use Rattle.puffin_session.specs.Session.Due.{is_taken, due, is_under, events_under, total_under}

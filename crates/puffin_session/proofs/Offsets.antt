@@ -8,12 +8,12 @@ use Rattle.puffin_data.specs.Forest.Tour.{Event, Open, Close}
 use Rattle.puffin_data.specs.Forest.Words.{word_size, open_after}
 use Rattle.puffin_data.specs.declared.error.Error.{Error}
 use Rattle.puffin_data.specs.Honesty.{Recorded}
-use Rattle.puffin_frames.specs.declared.thread_profiler.reporter.Closed.{Closed}
-use Rattle.puffin_frames.specs.declared.thread_profiler.reporter.Closed.TheVariants.{Inner, Reported, Kept}
-use Rattle.puffin_frames.specs.Thread.Closing.{Closes}
-use Rattle.puffin_frames.specs.Thread.Info.{Info}
-use Rattle.puffin_frames.specs.Details.{Details}
-use Rattle.puffin_frames.specs.Thread.Calls.{Thread, after_begin, after_end, opened_after, open_offsets}
+use Rattle.puffin_threads.specs.declared.thread_profiler.reporter.Closed.{Closed}
+use Rattle.puffin_threads.specs.declared.thread_profiler.reporter.Closed.TheVariants.{Inner, Reported, Kept}
+use Rattle.puffin_threads.specs.Thread.Closing.{Closes}
+use Rattle.puffin_threads.specs.Thread.Info.{Info}
+use Rattle.puffin_threads.specs.Details.{Details}
+use Rattle.puffin_threads.specs.Thread.Calls.{Thread, after_begin, after_end, opened_after, open_offsets}
 
 fold_last : (word : List Event) (e : Event) (sofar : ℕ × List ℕ) → fold opened_after sofar (word ++ (e ∷ [])) ≡ opened_after (fold opened_after sofar word) e
 fold_last [] e sofar = refl

@@ -10,9 +10,9 @@ use Rattle.std.specs.FinMap.{get, entries, entries_sorted, get-entries, find, is
 use Rattle.std.specs.FinMap.Entries.{below_all}
 use Rattle.puffin_data.specs.Honesty.{Recorded}
 use Rattle.puffin_data.specs.Forest.Tour.{Event}
-use Rattle.puffin_frames.specs.Thread.Info.{Info, info_cmp, same_info}
+use Rattle.puffin_threads.specs.Thread.Info.{Info, info_cmp, same_info}
 use Rattle.puffin_frames.specs.Frame.Contents.{Streams, AreHonest}
-use Rattle.puffin_frames.specs.Thread.Events.{events_in}
+use Rattle.puffin_threads.specs.Thread.Events.{events_in}
 use Rattle.puffin_session.specs.Session.History.{since_last, thread_at}
 use Rattle.puffin_session.specs.Session.Deliveries.{Marked, Delivery, under}
 use Rattle.puffin_session.specs.Session.Due.{due, is_taken, is_under, total_under}

@@ -17,25 +17,25 @@ use Rattle.puffin_data.specs.Text.{cut_text}
 use Rattle.puffin_data.specs.Forest.Tour.{Event, tour}
 use Rattle.puffin_data.specs.Walk.{IsFault}
 use Rattle.puffin_data.specs.Forest.Words.{word_size, num_begun, open_after}
-use Rattle.puffin_frames.specs.Thread.Info.{Info, info_of}
-use Rattle.puffin_frames.specs.Thread.Calls.{Thread, after_begin, after_end, after_handing, after_registering, info_of_thread}
-use Rattle.puffin_frames.specs.Details.{Details, AllHaveIds, shared_details}
-use Rattle.puffin_frames.specs.Details.Collection.{Collection, with_all_details, Begins}
+use Rattle.puffin_threads.specs.Thread.Info.{Info, info_of}
+use Rattle.puffin_threads.specs.Thread.Calls.{Thread, after_begin, after_end, after_handing, after_registering, info_of_thread}
+use Rattle.puffin_threads.specs.Details.{Details, AllHaveIds, shared_details}
+use Rattle.puffin_threads.specs.Details.Collection.{Collection, with_all_details, Begins}
 use Rattle.puffin_frames.specs.Frame.Contents.{Streams}
 use Rattle.puffin_frames.specs.Frame.Sums.{total_scopes}
 use Rattle.puffin_frames.specs.declared.frame_data.frame.FrameData.{FrameData}
-use Rattle.puffin_frames.specs.declared.thread_profiler.thread_info.ThreadInfo.{ThreadInfo}
-use Rattle.puffin_frames.specs.declared.thread_profiler.reporter.Closed.{Closed}
-use Rattle.puffin_frames.specs.declared.thread_profiler.reporter.Closed.TheVariants.{Inner, Reported, Kept}
+use Rattle.puffin_threads.specs.declared.thread_profiler.thread_info.ThreadInfo.{ThreadInfo}
+use Rattle.puffin_threads.specs.declared.thread_profiler.reporter.Closed.{Closed}
+use Rattle.puffin_threads.specs.declared.thread_profiler.reporter.Closed.TheVariants.{Inner, Reported, Kept}
 use Rattle.puffin_collector.specs.Profiler.State.{Collected, AcceptsReport, after_frame, after_no_frame, after_adding, after_learning, after_wanting, reported_to, IsReportRefusal, delta_of}
 use Rattle.puffin_collector.specs.Profiler.Registering.{Registers, RegistersSome, Adds, AddsSome}
 use Rattle.puffin_collector.specs.Profiler.Collecting.{Collects, HoldsAll, KeepsPending}
-use Rattle.puffin_frames.specs.Thread.Closing.{IsReportOf}
+use Rattle.puffin_threads.specs.Thread.Closing.{IsReportOf}
 use Rattle.puffin_session.specs.declared.command.Command.{Command}
 use Rattle.puffin_session.specs.declared.command.Command.TheVariants.{Begin, End, Register, RegisterUser, ReportUser, Snapshot, NewFrame}
 use Rattle.puffin_session.specs.declared.command.Reply.{Reply}
 use Rattle.puffin_session.specs.declared.command.Reply.TheVariants as reply
-use Rattle.puffin_frames.specs.Thread.Events.{events_in}
+use Rattle.puffin_threads.specs.Thread.Events.{events_in}
 use Rattle.puffin_session.specs.Session.History.{Opening, begun, ended, Action, calls, hands, frames, registers, adds, learns, wants, nothing, nobody, call_of}
 use Rattle.puffin_session.specs.Session.Deliveries.{Delivery, under, all_taken, deliveries_at}
 use Rattle.puffin_session.specs.Session.Due.{due, index_after, is_numbered}

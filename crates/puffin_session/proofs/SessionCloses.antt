@@ -10,13 +10,13 @@ use Rattle.puffin_data.specs.Honesty.{Recorded, IsHonestRecord}
 use Rattle.puffin_data.specs.Walk.{IsFault}
 use Rattle.std.proofs.lemmas.List.{get_or-set_same}
 use Rattle.puffin_session.specs.Session.History.{nobody}
-use Rattle.puffin_frames.specs.Thread.Info.{Info}
-use Rattle.puffin_frames.specs.Details.{Details, AllHaveIds}
-use Rattle.puffin_frames.specs.Thread.Calls.{Thread}
-use Rattle.puffin_frames.specs.Thread.Closing.{Closes}
+use Rattle.puffin_threads.specs.Thread.Info.{Info}
+use Rattle.puffin_threads.specs.Details.{Details, AllHaveIds}
+use Rattle.puffin_threads.specs.Thread.Calls.{Thread}
+use Rattle.puffin_threads.specs.Thread.Closing.{Closes}
 use Rattle.puffin_frames.specs.declared.frame_data.frame.FrameData.{FrameData}
-use Rattle.puffin_frames.specs.declared.thread_profiler.reporter.Closed.{Closed}
-use Rattle.puffin_frames.specs.declared.thread_profiler.reporter.Closed.TheVariants.{Inner, Reported, Kept}
+use Rattle.puffin_threads.specs.declared.thread_profiler.reporter.Closed.{Closed}
+use Rattle.puffin_threads.specs.declared.thread_profiler.reporter.Closed.TheVariants.{Inner, Reported, Kept}
 use Rattle.puffin_collector.specs.Profiler.State.{Collected, AcceptsReport, RefusesReport, after_wanting, IsReportRefusal}
 use Rattle.puffin_collector.specs.Profiler.Collecting.{Collects, KeepsPending}
 use Rattle.puffin_session.specs.Session.{SessionState}

@@ -8,7 +8,7 @@ use Rattle.puffin_data.specs.Forest.Measures.{scope_count}
 use Rattle.puffin_data.specs.Honesty.{Recorded, IsHonestRecord, joined_record}
 use Rattle.puffin_data.specs.Forest.Tour.{Event, tour}
 use Rattle.puffin_data.specs.Forest.Words.{num_begun}
-use Rattle.puffin_frames.specs.Thread.Info.{Info, info_cmp, same_info}
+use Rattle.puffin_threads.specs.Thread.Info.{Info, info_cmp, same_info}
 use Rattle.puffin_frames.specs.Frame.Contents.{Streams}
 use Rattle.puffin_frames.specs.Frame.Sums.{meta_of, total_scopes}
 use Rattle.puffin_frames.specs.Frame.Contents.{holding_of, frame_meta}

@@ -12,12 +12,12 @@ use Rattle.std.specs.FinMap.{empty, entries, get}
 use Rattle.puffin_data.specs.Forest.{Forest}
 use Rattle.puffin_data.specs.Forest.Tour.{Event, tour}
 use Rattle.puffin_data.specs.Honesty.{Recorded, IsHonestRecord}
-use Rattle.puffin_frames.specs.Thread.Info.{Info}
-use Rattle.puffin_frames.specs.Thread.Calls.{Thread}
+use Rattle.puffin_threads.specs.Thread.Info.{Info}
+use Rattle.puffin_threads.specs.Thread.Calls.{Thread}
 use Rattle.puffin_frames.specs.Frame.Contents.{Streams}
-use Rattle.puffin_frames.specs.Details.Collection.{no_details}
+use Rattle.puffin_threads.specs.Details.Collection.{no_details}
 use Rattle.puffin_collector.specs.Profiler.State.{Collected}
-use Rattle.puffin_frames.specs.Thread.Events.{events_in}
+use Rattle.puffin_threads.specs.Thread.Events.{events_in}
 use Rattle.puffin_session.specs.Session.History.{Opening, Action, nobody, thread_at, latest_of}
 use Rattle.puffin_session.specs.Session.Deliveries.{Delivery, unreported, first_start_of}
 use Rattle.puffin_session.specs.Session.Notes.{details_registered, due_details, known_after, is_wanted}

@@ -2,8 +2,8 @@ ghost use Rattle.std.specs.Prelude.{◌≡◌, ◌+◌, ◌-◌, ◌<◌, ◌⊎
 ghost use Rattle.std.specs.String.{string_bytes};
 ghost use Rattle.puffin_data.specs.Text.{cut_text};
 ghost use Rattle.puffin_data.specs.Forest.Words.{word_size, open_after};
-ghost use Rattle.puffin_frames.specs.Details.{AllHaveIds};
-ghost use Rattle.puffin_frames.specs.Thread.Calls.{after_begin, after_registering};
+ghost use Rattle.puffin_threads.specs.Details.{AllHaveIds};
+ghost use Rattle.puffin_threads.specs.Thread.Calls.{after_begin, after_registering};
 ghost use Rattle.puffin_session.specs.Session.{named};
 ghost use Rattle.puffin_session.specs.Session.Actions.{details_given};
 ghost use Rattle.puffin_session.specs.inner.Serving.{clock_time, Ends};
@@ -26,9 +26,9 @@ pub(crate) struct Profiled {
 
 impl Model for Profiled {
     ghost use Rattle.std.specs.Prelude.{◌≡◌, reverse};
-    ghost use Rattle.puffin_frames.specs.Details.{AllHaveIds};
-    ghost use Rattle.puffin_frames.specs.Thread.Calls.{Thread, open_offsets};
-    ghost use Rattle.puffin_frames.specs.Thread.ThreadProfiler.{thread_of};
+    ghost use Rattle.puffin_threads.specs.Details.{AllHaveIds};
+    ghost use Rattle.puffin_threads.specs.Thread.Calls.{Thread, open_offsets};
+    ghost use Rattle.puffin_threads.specs.Thread.ThreadProfiler.{thread_of};
 
     ghost Value = { Thread };
 

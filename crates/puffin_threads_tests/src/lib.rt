@@ -1,4 +1,4 @@
-//! Thread profilers and details of scopes, tested over the public calls of `puffin_frames` alone.
+//! Thread profilers and details of scopes, tested over the public calls of `puffin_threads` alone.
 #![tactic(auto)]
 
 #[cfg(test)]

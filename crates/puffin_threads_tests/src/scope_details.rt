@@ -1,6 +1,6 @@
 use puffin_data::data::ScopeId;
 use puffin_data::{Error, Result};
-use puffin_frames::scope_details::{ScopeCollection, ScopeDetails, ScopeIds, ScopeType};
+use puffin_threads::scope_details::{ScopeCollection, ScopeDetails, ScopeIds, ScopeType};
 use std::alloc::Global;
 use std::borrow::CowStr;
 use std::process::Abort;

@@ -1,7 +1,7 @@
 use puffin_data::data::{Reader, ScopeId, Stream, StreamInfo, StreamInfoRef};
 use puffin_data::{Error, NanoSecond, Result};
-use puffin_frames::scope_details::{ScopeDetails, ScopeIds};
-use puffin_frames::thread_profiler::{
+use puffin_threads::scope_details::{ScopeDetails, ScopeIds};
+use puffin_threads::thread_profiler::{
     Closed, NsSource, Reporter, ScriptClock, SystemClock, ThreadInfo, ThreadProfiler,
 };
 use std::alloc::Global;

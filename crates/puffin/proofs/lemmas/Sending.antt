@@ -21,7 +21,7 @@ use Rattle.puffin.specs.contracts.global_profiler.shared_profiler.SharedProfiler
 use Rattle.puffin.specs.contracts.global_profiler.share.Share as Share
 use Rattle.std.proofs.MapsCrossing as maps
 use Rattle.puffin_frames.specs.contracts.frame_data.frame.FrameData as Frame
-use Rattle.puffin_frames.specs.contracts.scope_details.collection.ScopeCollection as Collection
+use Rattle.puffin_threads.specs.contracts.scope_details.collection.ScopeCollection as Collection
 use Rattle.puffin_view.specs.contracts.profile_view.held_frames.HeldFrames as Held
 use Rattle.puffin_view.specs.contracts.profile_view.frame_store.FrameStore as Store
 use Rattle.puffin_view.specs.contracts.profile_view.frame_view.FrameView as View

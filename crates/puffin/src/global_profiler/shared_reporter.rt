@@ -63,7 +63,7 @@ impl<L: Ledger, M: Ledger, R: Wait + Drop> SharedReporter<L, M, R> {
 
 impl<L: Ledger, M: Ledger, R: Wait> Reporter for SharedReporter<L, M, R> {
     ghost use Rattle.std.specs.Prelude.{◌≡◌};
-    ghost use Rattle.puffin_frames.specs.Details.{AllHaveIds};
+    ghost use Rattle.puffin_threads.specs.Details.{AllHaveIds};
     ghost use Rattle.puffin.specs.Shares.{with_reported};
     ghost use Rattle.puffin.specs.SharedCauses.{IsReportCause};
 

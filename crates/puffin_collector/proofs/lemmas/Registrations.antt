@@ -3,9 +3,9 @@ use Rattle.std.proofs.Common.{◌≡◌, ℕ, ◌+◌, ◌<◌, ◌⊎◌, inl, 
 use Rattle.std.proofs.lemmas.List.{map-append, take-append-drop, take_more}
 use Rattle.puffin_data.specs.declared.error.Error.{Error}
 use Rattle.puffin_data.specs.declared.error.Error.TheVariants.{IdsExhausted, Memory}
-use Rattle.puffin_frames.specs.declared.scope_details.details.ScopeDetails.{ScopeDetails}
-use Rattle.puffin_frames.specs.Details.{Details, details_of, details_seen, with_id}
-use Rattle.puffin_frames.specs.Details.Collection.{Collection, with_details, with_all_details}
+use Rattle.puffin_threads.specs.declared.scope_details.details.ScopeDetails.{ScopeDetails}
+use Rattle.puffin_threads.specs.Details.{Details, details_of, details_seen, with_id}
+use Rattle.puffin_threads.specs.Details.Collection.{Collection, with_details, with_all_details}
 use Rattle.puffin_collector.specs.Profiler.State.{Collected, after_adding}
 use Rattle.puffin_collector.specs.Profiler.Registering.{known_id, none_asked, known_name, new_name, Adds, AddsSome}
 

@@ -6,9 +6,9 @@ use Rattle.std.specs.declared.sync.Arc.{Arc}
 use Rattle.puffin_data.specs.declared.error.Error.{Error}
 use Rattle.puffin_data.specs.declared.error.Error.TheVariants.{IndexExhausted, Memory}
 use Rattle.puffin_data.specs.Honesty.{Recorded}
-use Rattle.puffin_frames.specs.Thread.Info.{Info}
-use Rattle.puffin_frames.specs.Details.{Details, shared_details, AllHaveIds}
-use Rattle.puffin_frames.specs.Details.Collection.{Begins}
+use Rattle.puffin_threads.specs.Thread.Info.{Info}
+use Rattle.puffin_threads.specs.Details.{Details, shared_details, AllHaveIds}
+use Rattle.puffin_threads.specs.Details.Collection.{Begins}
 use Rattle.puffin_frames.specs.declared.frame_data.frame.FrameData.{FrameData}
 use Rattle.puffin_frames.specs.declared.frame_data.meta.FrameMeta.{FrameMeta}
 use Rattle.puffin_frames.specs.Frame.Contents.{Streams, AreHonest, holding_of, frame_meta, frame_details}

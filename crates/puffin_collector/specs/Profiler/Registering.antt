@@ -3,8 +3,8 @@ use Rattle.std.specs.Prelude.{◌≡◌, ℕ, List, [], ◌∷◌, ◌++◌, Opt
 use Rattle.std.specs.FinMap as map
 use Rattle.puffin_data.specs.declared.error.Error.{Error}
 use Rattle.puffin_data.specs.declared.error.Error.TheVariants.{IdsExhausted, Memory}
-use Rattle.puffin_frames.specs.Details.{Details, name_of, with_id}
-use Rattle.puffin_frames.specs.Details.Collection.{Collection, with_all_details}
+use Rattle.puffin_threads.specs.Details.{Details, name_of, with_id}
+use Rattle.puffin_threads.specs.Details.Collection.{Collection, with_all_details}
 use Rattle.puffin_collector.specs.Profiler.State.{Collected, after_adding}
 
 -- the id that a collection has for the name of these details, if any

@@ -6,9 +6,9 @@ use Rattle.std.specs.Coded.{Coded, code_by, coded×, coded_ℕ, coded_list, code
 use Rattle.puffin_data.specs.declared.error.Error.{Error}
 use Rattle.puffin_data.specs.declared.error.Error.TheVariants.{MissingId, TooLarge, RangeTooLong, Memory}
 use Rattle.puffin_data.specs.Honesty.{Recorded}
-use Rattle.puffin_frames.specs.Thread.Info.{Info}
-use Rattle.puffin_frames.specs.Details.{Details, details_code, AllHaveIds}
-use Rattle.puffin_frames.specs.Details.Collection.{Collection, collection_code, with_all_details}
+use Rattle.puffin_threads.specs.Thread.Info.{Info}
+use Rattle.puffin_threads.specs.Details.{Details, details_code, AllHaveIds}
+use Rattle.puffin_threads.specs.Details.Collection.{Collection, collection_code, with_all_details}
 use Rattle.puffin_frames.specs.Frame.Contents.{Streams, streams_code}
 use Rattle.puffin_frames.specs.Frame.Sums.{total_bytes, total_scopes, joined_range, IsOrdered, DurationFits}
 

@@ -7,14 +7,14 @@ use Rattle.std.specs.Map.{keys_of, values_of}
 use Rattle.std.specs.List.Sorted.{IsStrictlySortedBy}
 use Rattle.std.specs.BTreeMap.{insert_entry}
 use Rattle.std.specs.FinMap.{insert, entries, values}
-use Rattle.puffin_frames.specs.declared.thread_profiler.thread_info.ThreadInfo.{ThreadInfo}
+use Rattle.puffin_threads.specs.declared.thread_profiler.thread_info.ThreadInfo.{ThreadInfo}
 use Rattle.std.proofs.lemmas.Map.Made.{keys_of-map_values}
 use Rattle.puffin_data.specs.Honesty.{record_of}
 use Rattle.puffin_data.specs.declared.data.info.StreamInfo.{StreamInfo}
 use Rattle.puffin_frames.specs.Frame.Contents.{records, streams_of}
-use Rattle.puffin_frames.specs.Thread.Info.{info_cmp, info_of, thread_cmp, keyed, by_info}
-use Rattle.puffin_frames.proofs.lemmas.Infos.{info_cmp_total, info_cmp-one}
-use Rattle.puffin_frames.proofs.lemmas.EntriesSeen.{insert-seen, entries-seen}
+use Rattle.puffin_threads.specs.Thread.Info.{info_cmp, info_of, thread_cmp, keyed, by_info}
+use Rattle.puffin_threads.proofs.lemmas.Infos.{info_cmp_total, info_cmp-one}
+use Rattle.puffin_threads.proofs.lemmas.EntriesSeen.{insert-seen, entries-seen}
 
 module _ {X : Type 0} where
   -- an insertion into the map is one by infos

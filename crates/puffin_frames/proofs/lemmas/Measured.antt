@@ -10,10 +10,10 @@ use Rattle.std.specs.FinMap.Entries.{by_order, below_all}
 use Rattle.std.proofs.lemmas.Int.{ints, clamps}
 use Rattle.std.proofs.lemmas.List.{length-append}
 use Rattle.puffin_data.specs.Honesty.{Recorded, joined_record}
-use Rattle.puffin_frames.specs.Thread.Info.{Info, info_cmp}
+use Rattle.puffin_threads.specs.Thread.Info.{Info, info_cmp}
 use Rattle.puffin_frames.specs.Frame.Contents.{Streams, stream_under, reported_to, no_scopes}
 use Rattle.puffin_frames.specs.Frame.Sums.{total_bytes, total_scopes, joined_start, joined_stop}
-use Rattle.puffin_frames.proofs.lemmas.Infos.{info_cmp_total}
+use Rattle.puffin_threads.proofs.lemmas.Infos.{info_cmp_total}
 use Rattle.puffin_frames.proofs.Joining.{bytes_from, scopes_from}
 use Rattle.puffin_frames.proofs.lemmas.Ranges.{least_start-one, greatest_stop-one, least_in_range, greatest_in_range}
 

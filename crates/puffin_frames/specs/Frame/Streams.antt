@@ -8,9 +8,9 @@ use Rattle.std.specs.declared.sync.Arc.{Arc}
 use Rattle.puffin_data.specs.Honesty.{Recorded, record_of, joined_record, IsHonestRecord}
 use Rattle.puffin_data.specs.Forest.{Forest}
 use Rattle.puffin_data.specs.declared.data.info.StreamInfo.{StreamInfo}
-use Rattle.puffin_frames.specs.declared.thread_profiler.thread_info.ThreadInfo.{ThreadInfo}
+use Rattle.puffin_threads.specs.declared.thread_profiler.thread_info.ThreadInfo.{ThreadInfo}
 use Rattle.puffin_frames.specs.declared.frame_data.unpacked.UnpackedFrameData.{UnpackedFrameData}
-use Rattle.puffin_frames.specs.Thread.Info.{Info, info_cmp, info_code, by_info, keyed}
+use Rattle.puffin_threads.specs.Thread.Info.{Info, info_cmp, info_code, by_info, keyed}
 
 -- what threads recorded, by their infos
 abbrev pub Streams : Type 0

@@ -6,7 +6,7 @@ use Rattle.puffin_data.specs.Range.{is_range_at}
 use Rattle.puffin_data.specs.Value.Decoding.{whole}
 use Rattle.puffin_data.specs.Part.{◌>>=◌, part_of, first_at, length_at, counted_part_at}
 use Rattle.puffin_frames.specs.declared.frame_data.meta.FrameMeta.{FrameMeta}
-use Rattle.puffin_frames.specs.Details.{Details}
+use Rattle.puffin_threads.specs.Details.{Details}
 use Rattle.puffin_frames.specs.Packet.Letters.{digit_2, digit_4}
 use Rattle.puffin_frames.specs.Packet.Structs.{meta_at, details_at, Legacy, legacy_at}
 

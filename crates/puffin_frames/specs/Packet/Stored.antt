@@ -1,7 +1,7 @@
 -- Frames as packets store them.
 use Rattle.std.specs.Prelude.{ℕ, List}
 use Rattle.puffin_frames.specs.declared.frame_data.meta.FrameMeta.{FrameMeta}
-use Rattle.puffin_frames.specs.Details.{Details}
+use Rattle.puffin_threads.specs.Details.{Details}
 use Rattle.puffin_frames.specs.Packet.Structs.{Legacy}
 
 -- what a frame says, however it is held: its meta, its streams as they are packed, and its details

@@ -5,8 +5,8 @@ use Rattle.puffin_data.specs.Honesty.{Recorded}
 use Rattle.puffin_data.specs.Value.Layout.{number, signed, optional, block, pair, items, IsWord, IsLong, IsSigned, IsBlock, IsText, IfAny, AreItems}
 use Rattle.puffin_data.specs.Value.Decoding.{◌>>=◌, checked, seen_as, number_at, word_at, signed_at, bytes_at, text_at, optional_at, pair_at, items_at}
 use Rattle.puffin_frames.specs.declared.frame_data.meta.FrameMeta.{FrameMeta}
-use Rattle.puffin_frames.specs.Thread.Info.{Info, info_cmp}
-use Rattle.puffin_frames.specs.Details.{Details}
+use Rattle.puffin_threads.specs.Thread.Info.{Info, info_cmp}
+use Rattle.puffin_threads.specs.Details.{Details}
 
 -- ---- meta
 

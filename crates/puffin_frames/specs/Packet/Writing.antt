@@ -6,8 +6,8 @@ use Rattle.puffin_data.specs.declared.file_error.FileError.{FileError}
 use Rattle.puffin_data.specs.declared.file_error.FileError.TheVariants.{Io, Memory, PartTooLong}
 use Rattle.puffin_data.specs.Device.{TookNothing, WritesBeginning}
 use Rattle.puffin_frames.specs.declared.frame_data.frame.FrameData.{FrameData}
-use Rattle.puffin_frames.specs.Details.{Details}
-use Rattle.puffin_frames.specs.Details.Collection.{Collection}
+use Rattle.puffin_threads.specs.Details.{Details}
+use Rattle.puffin_threads.specs.Details.Collection.{Collection}
 use Rattle.puffin_frames.specs.Frame.Contents.{frame_says, frame_details}
 use Rattle.puffin_frames.specs.Packet.Stored.{Said}
 use Rattle.puffin_frames.specs.Packet.Structs.{details_layout}

@@ -8,19 +8,19 @@ ghost use Rattle.puffin_data.specs.Honesty.{Recorded, record_of};
 ghost use Rattle.puffin_data.specs.Value.Decoding.{whole, optional_at, signed_at, text_at, times_at};
 ghost use Rattle.puffin_data.specs.Value.Outcomes.{IfSomeGives, SeenAs};
 ghost use Rattle.puffin_frames.specs.declared.frame_data.decode.Stop.TheVariants.{Memory};
-ghost use Rattle.puffin_frames.specs.Thread.Info.{Info, info_of, info_cmp};
-ghost use Rattle.puffin_frames.specs.Details.{details_of, shared_details};
+ghost use Rattle.puffin_threads.specs.Thread.Info.{Info, info_of, info_cmp};
+ghost use Rattle.puffin_threads.specs.Details.{details_of, shared_details};
 ghost use Rattle.puffin_frames.specs.Frame.Contents.{pairs_of};
 ghost use Rattle.puffin_frames.specs.Packet.Structs.{meta_at, info_at, recorded_at, stream_at, rising, streams_at, id_at, detail_at, details_at, legacy_at, Legacy};
 ghost use Rattle.puffin_frames.specs.inner.Tries.{TriesToGive, Tries};
 
 use crate::frame_data::meta::FrameMeta;
 use crate::frame_data::thread_streams::ThreadStreams;
-use crate::scope_details::ScopeDetails;
-use crate::thread_profiler::ThreadInfo;
 use puffin_data::NanoSecond;
 use puffin_data::data::{ScopeId, Stream, StreamInfo};
 use puffin_data::wire::Cursor;
+use puffin_threads::scope_details::ScopeDetails;
+use puffin_threads::thread_profiler::ThreadInfo;
 use std::alloc::{AllocError, AllocFailed, Global};
 use std::borrow::CowStr;
 use std::collections::BTreeMap;
@@ -222,12 +222,17 @@ fn read_detail(alloc: Global, cursor: &mut Cursor) -> Result<ScopeDetails, Stop>
     let function_name = read_string(alloc, cursor)?;
     let file_path = read_string(alloc, cursor)?;
     let line_nr = cursor.u32().ok_or(Stop::NoLayout)?;
-    Ok(ScopeDetails {
-        scope_id,
-        scope_name,
-        function_name: CowStr::Owned(function_name),
-        file_path: CowStr::Owned(file_path),
-        line_nr,
+    let named = match scope_name {
+        Some(name) => ScopeDetails::from_scope_name(name),
+        None => ScopeDetails::default(),
+    };
+    let details = named
+        .with_function_name(CowStr::Owned(function_name))
+        .with_file(CowStr::Owned(file_path))
+        .with_line_nr(line_nr);
+    Ok(match scope_id {
+        Some(id) => details.with_scope_id(id),
+        None => details,
     })
 }
 

@@ -3,14 +3,14 @@ ghost use Rattle.std.specs.Int.{int_min, int_max};
 ghost use Rattle.puffin_data.specs.declared.error.Error.{Error};
 ghost use Rattle.std.specs.Map.{keys_of};
 ghost use Rattle.std.specs.List.Sorted.{IsStrictlySortedBy};
-ghost use Rattle.puffin_frames.specs.Thread.Info.{thread_cmp};
+ghost use Rattle.puffin_threads.specs.Thread.Info.{thread_cmp};
 ghost use Rattle.puffin_frames.specs.Frame.Contents.{all_recorded};
 ghost use Rattle.puffin_frames.specs.Frame.Sums.{meta_of, TotalsFit};
 ghost use Rattle.puffin_data.specs.Honesty.{record_of_ref};
 
-use crate::thread_profiler::ThreadInfo;
 use puffin_data::data::{StreamInfo, StreamInfoRef};
 use puffin_data::{Error, FrameIndex, NanoSecond, Result};
+use puffin_threads::thread_profiler::ThreadInfo;
 use std::collections::BTreeMap;
 
 /// What is said of a frame's streams together. A plain record: made by hand it may say anything.

@@ -6,7 +6,7 @@ ghost use Rattle.puffin_data.specs.declared.file_error.FileError.{FileError};
 ghost use Rattle.puffin_data.specs.Device.{FromDevice, failures_after};
 ghost use Rattle.puffin_data.specs.Value.Decoding.{whole};
 ghost use Rattle.puffin_frames.specs.Packet.Structs.{details_at};
-ghost use Rattle.puffin_frames.specs.Details.{shared_details};
+ghost use Rattle.puffin_threads.specs.Details.{shared_details};
 ghost use Rattle.puffin_frames.specs.Frame.Contents.{holding_of, frame_says};
 ghost use Rattle.puffin_frames.specs.inner.Tries.{Decided, DecidedInMemory};
 ghost use Rattle.puffin_frames.specs.inner.Form.{IsFormOf};
@@ -21,12 +21,12 @@ use crate::frame_data::frame::FrameData;
 use crate::frame_data::held::{Held, PackedFrame, PackedStreams};
 use crate::frame_data::meta::FrameMeta;
 use crate::frame_data::unpacked::UnpackedFrameData;
-use crate::scope_details::ScopeDetails;
 use byteorder::{ByteOrder, LittleEndian};
 use puffin_data::FileError;
 use puffin_data::data::{
     Source, is_range, read_byte, read_counted_part, read_length, read_part, read_up_to,
 };
+use puffin_threads::scope_details::ScopeDetails;
 use std::alloc::Global;
 use std::sync::Arc;
 

@@ -3,11 +3,11 @@ ghost use Rattle.std.specs.Arc.{arc_value};
 ghost use Rattle.puffin_data.specs.Honesty.{record_of, record_of_ref, joined_record};
 ghost use Rattle.puffin_data.specs.declared.error.Error.{Error};
 ghost use Rattle.puffin_frames.specs.Frame.Contents.{without_sharing, shared_streams, stream_under, reported_to, pairs_of};
-ghost use Rattle.puffin_frames.specs.Thread.Info.{info_of};
+ghost use Rattle.puffin_threads.specs.Thread.Info.{info_of};
 
-use crate::thread_profiler::ThreadInfo;
 use puffin_data::data::{StreamInfo, StreamInfoRef};
 use puffin_data::{Error, Result};
+use puffin_threads::thread_profiler::ThreadInfo;
 use std::alloc::Global;
 use std::collections::BTreeMap;
 use std::sync::Arc;

@@ -3,9 +3,9 @@ ghost use Rattle.std.specs.Int.{w64};
 
 use crate::frame_data::meta::FrameMeta;
 use crate::frame_data::thread_streams::{ThreadStreams, shared, streams_copy};
-use crate::thread_profiler::ThreadInfo;
 use puffin_data::data::{StreamInfo, is_range};
 use puffin_data::{Error, FrameIndex, NanoSecond, Result};
+use puffin_threads::thread_profiler::ThreadInfo;
 use std::alloc::Global;
 use std::collections::BTreeMap;
 

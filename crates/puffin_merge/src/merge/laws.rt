@@ -5,7 +5,7 @@ ghost use Rattle.std.specs.declared.sync.Arc.{Arc};
 ghost use Rattle.std.specs.declared.alloc.Global.{Global};
 ghost use Rattle.puffin_data.specs.declared.error.Error.{Error};
 ghost use Rattle.puffin_frames.specs.declared.frame_data.unpacked.UnpackedFrameData.{UnpackedFrameData};
-ghost use Rattle.puffin_frames.specs.Thread.Info.{Info};
+ghost use Rattle.puffin_threads.specs.Thread.Info.{Info};
 ghost use Rattle.puffin_merge.specs.Merge.Occurrences.{FrameScopes, occurrences};
 ghost use Rattle.puffin_merge.specs.Merge.Tree.{MergedForest};
 ghost use Rattle.puffin_merge.specs.Merge.Starts.{Sibling, IsLeastFeasible, earliest_starts};

@@ -2,7 +2,7 @@
 
 ghost use Rattle.std.specs.Prelude.{◌≡◌, ◌<◌, ◌≤◌, ◌^◌, ◌⊎◌, ◌-ℤ◌, List, [], length, if◌then◌else◌, Ok, Err, IfOk, IfErr};
 ghost use Rattle.puffin_data.specs.Walk.Visitor.{TakesAll, StopsEarly};
-ghost use Rattle.puffin_frames.specs.Thread.Info.{info_of};
+ghost use Rattle.puffin_threads.specs.Thread.Info.{info_of};
 ghost use Rattle.puffin_merge.specs.Merge.Occurrences.{Occurrence};
 ghost use Rattle.puffin_merge.specs.Merge.FrameBytes.{bytes_of, most_tries_of};
 ghost use Rattle.puffin_merge.specs.Merge.Scopes.{frame_bytes};
@@ -151,7 +151,7 @@ pub(crate) fn read_frame<'s>(
     ensures short { length (bytes_of (frame_bytes (info_of info.now) frame.now)) < 2 ^ 63 }
 {
     // A law for the proof: threads are ordered by their infos.
-    puffin_frames::laws::order_of_infos();
+    puffin_threads::laws::order_of_infos();
     *tries = 0;
     merging.origin = origin_of(frame, first);
     let outside = Open::outside(merging.origin);

@@ -3,7 +3,7 @@ use Rattle.std.specs.Prelude.{ℕ, ◌+◌, ◌^◌, ◌==◌, ℤ, pos, neg_ℤ
 use Rattle.std.specs.List.{list_any, before_first, after_first}
 use Rattle.std.specs.Str.{bytes_eq}
 use Rattle.std.specs.String.{string_bytes}
-use Rattle.puffin_frames.specs.Thread.Info.{Info, info_of}
+use Rattle.puffin_threads.specs.Thread.Info.{Info, info_of}
 use Rattle.puffin_replay.specs.declared.replay.task.Task.{Task}
 use Rattle.puffin_replay.specs.declared.replay.task.Task.TheVariants as task
 use Rattle.puffin_replay.specs.Script.Statements.{number_of, moment_in}

@@ -8,7 +8,7 @@ use Rattle.puffin_data.specs.declared.file_error.FileError.{FileError}
 use Rattle.puffin_data.specs.declared.file_error.FileError.TheVariants as file
 use Rattle.puffin_data.specs.Device.{WritesBeginning}
 use Rattle.puffin_frames.specs.declared.frame_data.frame.FrameData.{FrameData}
-use Rattle.puffin_frames.specs.Details.Collection.{with_all_details, LearnsSome}
+use Rattle.puffin_threads.specs.Details.Collection.{with_all_details, LearnsSome}
 use Rattle.puffin_view.specs.declared.profile_view.frame_view.FrameView.{FrameView}
 use Rattle.puffin_view.specs.View.ViewedFrames.{Frame, index_of}
 use Rattle.puffin_view.specs.View.FrameOf.{shared_frame, details_of_frame}

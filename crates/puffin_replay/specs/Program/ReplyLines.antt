@@ -7,8 +7,8 @@ use Rattle.puffin_data.specs.Cause.{error_name}
 use Rattle.puffin_frames.specs.declared.frame_data.meta.FrameMeta.{FrameMeta}
 use Rattle.puffin_frames.specs.declared.frame_data.frame.FrameData.{FrameData}
 use Rattle.puffin_frames.specs.Frame.Contents.{Streams, holding_of, frame_meta}
-use Rattle.puffin_frames.specs.declared.thread_profiler.reporter.Closed.{Closed}
-use Rattle.puffin_frames.specs.declared.thread_profiler.reporter.Closed.TheVariants as closed
+use Rattle.puffin_threads.specs.declared.thread_profiler.reporter.Closed.{Closed}
+use Rattle.puffin_threads.specs.declared.thread_profiler.reporter.Closed.TheVariants as closed
 use Rattle.puffin_session.specs.declared.command.Reply.{Reply}
 use Rattle.puffin_session.specs.declared.command.Reply.TheVariants as reply
 use Rattle.std.specs.Arc.{arc_value}

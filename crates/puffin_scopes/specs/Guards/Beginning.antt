@@ -3,9 +3,9 @@ use Rattle.std.specs.Prelude.{ℕ, ◌+◌, ◌≡◌, ℤ, pos, ◌≤ℤ◌, L
 use Rattle.puffin_data.specs.declared.error.Error.{Error}
 use Rattle.puffin_data.specs.Text.{cut_text}
 use Rattle.puffin_data.specs.Forest.Words.{word_size}
-use Rattle.puffin_frames.specs.declared.thread_profiler.profiler.ThreadProfiler.{ThreadProfiler}
-use Rattle.puffin_frames.specs.Thread.ThreadProfiler.{thread_of, clock_of}
-use Rattle.puffin_frames.specs.Thread.Calls.{after_begin}
+use Rattle.puffin_threads.specs.declared.thread_profiler.profiler.ThreadProfiler.{ThreadProfiler}
+use Rattle.puffin_threads.specs.Thread.ThreadProfiler.{thread_of, clock_of}
+use Rattle.puffin_threads.specs.Thread.Calls.{after_begin}
 use Rattle.puffin_scopes.specs.declared.profiler_scope.ProfilerScope.{ProfilerScope}
 use Rattle.puffin_scopes.specs.Guards.Guard.{profiler_of, offset_of, refusal_of}
 

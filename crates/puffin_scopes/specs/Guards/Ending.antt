@@ -3,13 +3,13 @@ use Rattle.std.specs.Prelude.{ℕ, ◌≡◌, ◌≢◌, ℤ, pos, ◌≤ℤ◌,
 use Rattle.puffin_data.specs.declared.error.Error.{Error}
 use Rattle.puffin_data.specs.declared.error.Error.TheVariants.{MismatchedEnd}
 use Rattle.puffin_data.specs.Honesty.{Recorded}
-use Rattle.puffin_frames.specs.declared.thread_profiler.profiler.ThreadProfiler.{ThreadProfiler}
-use Rattle.puffin_frames.specs.declared.thread_profiler.reporter.Closed.{Closed}
-use Rattle.puffin_frames.specs.Thread.ThreadProfiler.{thread_of, clock_of}
-use Rattle.puffin_frames.specs.Thread.Calls.{after_end, open_offsets}
-use Rattle.puffin_frames.specs.Thread.Closing.{Closes}
-use Rattle.puffin_frames.specs.Thread.Info.{Info}
-use Rattle.puffin_frames.specs.Details.{Details}
+use Rattle.puffin_threads.specs.declared.thread_profiler.profiler.ThreadProfiler.{ThreadProfiler}
+use Rattle.puffin_threads.specs.declared.thread_profiler.reporter.Closed.{Closed}
+use Rattle.puffin_threads.specs.Thread.ThreadProfiler.{thread_of, clock_of}
+use Rattle.puffin_threads.specs.Thread.Calls.{after_end, open_offsets}
+use Rattle.puffin_threads.specs.Thread.Closing.{Closes}
+use Rattle.puffin_threads.specs.Thread.Info.{Info}
+use Rattle.puffin_threads.specs.Details.{Details}
 
 -- where the innermost open scope's size stands
 abbrev pub innermost_of : {C : Type 0} → ThreadProfiler C → Option ℕ

@@ -2,7 +2,7 @@
 use Rattle.std.specs.Prelude.{ℕ, Option, Some, None}
 use Rattle.std.specs.Borrow.{GName}
 use Rattle.puffin_data.specs.declared.error.Error.{Error}
-use Rattle.puffin_frames.specs.declared.thread_profiler.profiler.ThreadProfiler.{ThreadProfiler}
+use Rattle.puffin_threads.specs.declared.thread_profiler.profiler.ThreadProfiler.{ThreadProfiler}
 use Rattle.puffin_scopes.specs.declared.profiler_scope.Standing.{Standing}
 use Rattle.puffin_scopes.specs.declared.profiler_scope.Standing.TheVariants.{On, Off, Refused}
 use Rattle.puffin_scopes.specs.declared.profiler_scope.ProfilerScope.{ProfilerScope}

@@ -3,15 +3,15 @@ use Rattle.std.specs.Prelude.{ℕ, List, [], ◌∷◌, map, Option, Some, is_so
 use Rattle.std.specs.String.{string_bytes}
 use Rattle.std.specs.Option.{option_map}
 use Rattle.std.specs.declared.string.String.{String}
-use Rattle.puffin_frames.specs.Thread.Info.{info_of}
-use Rattle.puffin_frames.specs.declared.thread_profiler.reporter.Closed.{Closed}
-use Rattle.puffin_frames.specs.declared.thread_profiler.reporter.Closed.TheVariants as closed
-use Rattle.puffin_frames.specs.Details.{Details, default_details}
+use Rattle.puffin_threads.specs.Thread.Info.{info_of}
+use Rattle.puffin_threads.specs.declared.thread_profiler.reporter.Closed.{Closed}
+use Rattle.puffin_threads.specs.declared.thread_profiler.reporter.Closed.TheVariants as closed
+use Rattle.puffin_threads.specs.Details.{Details, default_details}
 use Rattle.puffin_session.specs.declared.command.Command.{Command}
 use Rattle.puffin_session.specs.declared.command.Command.TheVariants.{Begin, End, Register, RegisterUser, ReportUser, Snapshot, NewFrame}
 use Rattle.puffin_session.specs.declared.command.Reply.{Reply}
 use Rattle.puffin_session.specs.declared.command.Reply.TheVariants as reply
-use Rattle.puffin_frames.specs.Thread.Events.{events_in}
+use Rattle.puffin_threads.specs.Thread.Events.{events_in}
 use Rattle.puffin_session.specs.Session.History.{begun, ended, Action, calls, hands, frames, registers, adds, learns, wants, nothing}
 
 -- the outermost open scope was closed, and its report accepted

@@ -3,7 +3,7 @@ use Rattle.std.specs.Prelude.{ℕ, ℤ, Bool, false, if◌then◌else◌, List, 
 use Rattle.std.specs.Option.{option_or}
 use Rattle.puffin_data.specs.Text.{cut_text}
 use Rattle.puffin_data.specs.Forest.Tour.{Event, Open, Close}
-use Rattle.puffin_frames.specs.Thread.Info.{Info}
+use Rattle.puffin_threads.specs.Thread.Info.{Info}
 use Rattle.puffin_session.specs.Session.History.{Opening, Mark, begun, ended, Call, Action, calls, hands, frames, thread_at, calls_of, greatest, latest_of, since_last}
 
 -- an event, and whether a report was accepted behind it

@@ -3,7 +3,7 @@ use Rattle.std.specs.Prelude.{◌≡◌, ℕ, ◌+◌, Bool, true, false, if◌t
 use Rattle.std.specs.List.{list_any, flat_map, count_by, sum_by}
 use Rattle.puffin_data.specs.Forest.Tour.{Event}
 use Rattle.puffin_data.specs.Forest.Words.{word_size, num_begun}
-use Rattle.puffin_frames.specs.Thread.Info.{Info, same_info}
+use Rattle.puffin_threads.specs.Thread.Info.{Info, same_info}
 use Rattle.puffin_session.specs.Session.History.{Opening, Action, frames, since_last}
 use Rattle.puffin_session.specs.Session.Deliveries.{Delivery, under, all_taken, deliveries}
 

@@ -3,10 +3,10 @@ use Rattle.std.specs.Prelude.{ℕ, ◌==◌, ℤ, pos, Bool, if◌then◌else◌
 use Rattle.std.specs.List.{list_any, filter_map, slice_index_or}
 use Rattle.std.specs.Int.{int_max}
 use Rattle.puffin_data.specs.Forest.Tour.{Event}
-use Rattle.puffin_frames.specs.Thread.Info.{Info}
-use Rattle.puffin_frames.specs.Thread.Calls.{Thread}
-use Rattle.puffin_frames.specs.Details.{Details}
-use Rattle.puffin_frames.specs.Details.Collection.{Collection}
+use Rattle.puffin_threads.specs.Thread.Info.{Info}
+use Rattle.puffin_threads.specs.Thread.Calls.{Thread}
+use Rattle.puffin_threads.specs.Details.{Details}
+use Rattle.puffin_threads.specs.Details.Collection.{Collection}
 
 -- What stood before: the threads; what is due, events under an info in the order in which they were handed over; the next frame's index; how many scopes were ever reported; what is known of scopes, what of them is new in the next frame, in order, and whether the next frame is to tell of all.
 pub record Opening : Type 0 where

@@ -1,8 +1,8 @@
 -- What is told of scopes: the details that a thread has registered, those that are new in the next frame, and those that are known.
 use Rattle.std.specs.Prelude.{ℕ, ◌==◌, Bool, true, false, if◌then◌else◌, List, [], ◌∷◌, ◌++◌, map, fold}
 use Rattle.std.specs.List.{flat_map}
-use Rattle.puffin_frames.specs.Details.{Details}
-use Rattle.puffin_frames.specs.Details.Collection.{Collection, with_all_details}
+use Rattle.puffin_threads.specs.Details.{Details}
+use Rattle.puffin_threads.specs.Details.Collection.{Collection, with_all_details}
 use Rattle.puffin_session.specs.Session.History.{Opening, begun, ended, Action, calls, frames, registers, adds, learns, wants, thread_at, since_last}
 
 -- details one after another, and where all before went on

@@ -13,14 +13,14 @@ use Rattle.puffin_data.specs.Forest.Tour.{Event, tour}
 use Rattle.puffin_data.specs.Walk.{IsFault}
 use Rattle.puffin_data.specs.Forest.Words.{word_size, num_begun, open_after, least_open, greatest_close}
 use Rattle.std.specs.Int.{int_max}
-use Rattle.puffin_frames.specs.Thread.Calls.{after_end}
+use Rattle.puffin_threads.specs.Thread.Calls.{after_end}
 use Rattle.puffin_frames.specs.Frame.Sums.{meta_of}
 use Rattle.puffin_frames.specs.Frame.Contents.{Streams, holding_of, frame_meta}
 use Rattle.puffin_frames.specs.declared.frame_data.frame.FrameData.{FrameData}
-use Rattle.puffin_frames.specs.declared.thread_profiler.reporter.Closed.{Closed}
-use Rattle.puffin_frames.specs.declared.thread_profiler.reporter.Closed.TheVariants as closed
-use Rattle.puffin_frames.specs.Details.{Details, shared_details}
-use Rattle.puffin_frames.specs.Details.Collection.{Collection, Begins}
+use Rattle.puffin_threads.specs.declared.thread_profiler.reporter.Closed.{Closed}
+use Rattle.puffin_threads.specs.declared.thread_profiler.reporter.Closed.TheVariants as closed
+use Rattle.puffin_threads.specs.Details.{Details, shared_details}
+use Rattle.puffin_threads.specs.Details.Collection.{Collection, Begins}
 use Rattle.puffin_collector.specs.Profiler.State.{IsTooLong, delta_of}
 use Rattle.puffin_collector.specs.Profiler.Registering.{Registers, RegistersSome}
 use Rattle.puffin_collector.specs.declared.emitted.Emitted.{Emitted}
@@ -28,7 +28,7 @@ use Rattle.puffin_session.specs.declared.command.Command.{Command}
 use Rattle.puffin_session.specs.declared.command.Command.TheVariants.{Begin, End, Register, RegisterUser, ReportUser, Snapshot, NewFrame}
 use Rattle.puffin_session.specs.declared.command.Reply.{Reply}
 use Rattle.puffin_session.specs.declared.command.Reply.TheVariants as reply
-use Rattle.puffin_frames.specs.Thread.Events.{events_in}
+use Rattle.puffin_threads.specs.Thread.Events.{events_in}
 use Rattle.puffin_session.specs.Session.History.{Opening, Action}
 use Rattle.puffin_session.specs.Session.Deliveries.{Delivery, unreported}
 use Rattle.puffin_session.specs.Session.Due.{due, events_of, bytes_delivered, scopes_delivered, index_after, reported_after, NoneDue}

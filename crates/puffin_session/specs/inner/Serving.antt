@@ -4,12 +4,12 @@ use Rattle.std.specs.List.{slice_index_or, flat_map, sum_by}
 use Rattle.std.specs.Int.{int_max}
 use Rattle.std.specs.FinMap.{values}
 use Rattle.puffin_data.specs.Forest.Words.{least_open, greatest_close}
-use Rattle.puffin_frames.specs.Thread.Calls.{Thread}
-use Rattle.puffin_frames.specs.Details.{Details}
-use Rattle.puffin_frames.specs.Thread.Closing.{Closes}
+use Rattle.puffin_threads.specs.Thread.Calls.{Thread}
+use Rattle.puffin_threads.specs.Details.{Details}
+use Rattle.puffin_threads.specs.Thread.Closing.{Closes}
 use Rattle.puffin_frames.specs.Frame.Contents.{Streams}
 use Rattle.puffin_frames.specs.Frame.Sums.{total_bytes, total_scopes, joined_start, joined_stop}
-use Rattle.puffin_frames.specs.declared.thread_profiler.reporter.Closed.{Closed}
+use Rattle.puffin_threads.specs.declared.thread_profiler.reporter.Closed.{Closed}
 use Rattle.puffin_collector.specs.Profiler.State.{Collected, AcceptsReport, RefusesReport}
 use Rattle.puffin_session.specs.declared.command.Command.{Command}
 use Rattle.puffin_session.specs.declared.command.Reply.{Reply}

@@ -5,7 +5,7 @@ use Rattle.std.specs.Arc.{arc_value}
 use Rattle.std.specs.declared.sync.Arc.{Arc}
 use Rattle.puffin_frames.specs.declared.frame_data.frame.FrameData.{FrameData}
 use Rattle.puffin_frames.specs.Frame.Contents.{frame_says, holding_of}
-use Rattle.puffin_frames.specs.Details.{Details}
+use Rattle.puffin_threads.specs.Details.{Details}
 use Rattle.puffin_view.specs.View.ViewedFrames.{Frame}
 
 abbrev pub frame_of : FrameData → Frame

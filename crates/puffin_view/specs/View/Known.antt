@@ -1,9 +1,9 @@
 -- What contracts see of a view of frames.
 use Rattle.std.specs.Prelude.{Bool}
 use Rattle.std.specs.List.{list_any}
-use Rattle.puffin_frames.specs.Details.{lacks_id}
+use Rattle.puffin_threads.specs.Details.{lacks_id}
 use Rattle.puffin_frames.specs.Packet.Stored.{Said}
-use Rattle.puffin_frames.specs.Details.Collection.{Collection}
+use Rattle.puffin_threads.specs.Details.Collection.{Collection}
 use Rattle.puffin_view.specs.declared.profile_view.frame_view.FrameView.{FrameView}
 use Rattle.puffin_view.specs.View.{View}
 

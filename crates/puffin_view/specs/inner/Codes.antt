@@ -2,7 +2,7 @@
 use Rattle.std.specs.Prelude.{ℕ, ℤ, Bool, List, Option, refl}
 use Rattle.std.specs.Coded.{Coded, code_by, coded×, coded_option, coded_list, coded_ℕ, coded_ℤ, coded_bool}
 use Rattle.puffin_frames.specs.declared.frame_data.meta.FrameMeta.{FrameMeta}
-use Rattle.puffin_frames.specs.Details.{Details, details_code}
+use Rattle.puffin_threads.specs.Details.{Details, details_code}
 use Rattle.puffin_frames.specs.Packet.Stored.{Said}
 use Rattle.puffin_view.specs.View.ViewedFrames.{Frame}
 use Rattle.puffin_view.specs.View.{View}

@@ -6,7 +6,7 @@ ghost use Rattle.std.specs.Io.KnownBytes.{Appends, Consumes};
 ghost use Rattle.puffin_data.specs.declared.error.Error.{Error};
 ghost use Rattle.puffin_data.specs.declared.file_error.FileError.{FileError};
 ghost use Rattle.puffin_data.specs.Device.{TookNothing, WritesBeginning, failures_after};
-ghost use Rattle.puffin_frames.specs.Details.Collection.{with_all_details};
+ghost use Rattle.puffin_threads.specs.Details.Collection.{with_all_details};
 ghost use Rattle.puffin_frames.specs.Packet.Grammar.{IsPacked};
 ghost use Rattle.puffin_frames.specs.Packet.Writing.{HasLongPart};
 ghost use Rattle.puffin_view.specs.View.ViewedFrames.{contents_of};

@@ -1,7 +1,7 @@
 ghost use Rattle.std.specs.Prelude.{◌≡◌, ◌⊎◌, ◌↔◌, ◌++◌, ◌∷◌, [], List, OnOk, OnErr, IfOk, IfErr, IsTrue, true, false};
 ghost use Rattle.std.specs.Option.{option_map};
 ghost use Rattle.puffin_data.specs.declared.error.Error.{Error};
-ghost use Rattle.puffin_frames.specs.Details.Collection.{no_details, with_all_details, LearnsSome};
+ghost use Rattle.puffin_threads.specs.Details.Collection.{no_details, with_all_details, LearnsSome};
 ghost use Rattle.puffin_view.specs.View.Ranking.{last_of, last_in};
 ghost use Rattle.puffin_frames.specs.Packet.Stored.{Said};
 ghost use Rattle.puffin_view.specs.View.ViewedFrames.{contents_of, index_of, chronological};

@@ -1,6 +1,6 @@
 -- The copies so far are those of the details so far.
 use Rattle.std.proofs.Common.{◌≡◌, take}
-use Rattle.puffin_frames.specs.Details.{details_seen, shared_details}
+use Rattle.puffin_threads.specs.Details.{details_seen, shared_details}
 use Rattle.puffin_collector.proofs.delta.copies.Given as goal
 
 abbrev pub invariant-loop-details : goal.invariant-loop-details

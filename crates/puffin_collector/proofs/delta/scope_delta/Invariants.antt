@@ -1,6 +1,6 @@
 -- The new details so far.
 use Rattle.std.proofs.Common.{◌≡◌, take}
-use Rattle.puffin_frames.specs.Details.{shared_details}
+use Rattle.puffin_threads.specs.Details.{shared_details}
 use Rattle.puffin_collector.proofs.delta.scope_delta.Given as goal
 
 abbrev pub invariant-loop-details : goal.invariant-loop-details

@@ -1,7 +1,7 @@
 -- What is to be told of is what the collection has under its ids.
 use Rattle.std.proofs.Common.{◌++◌, List, ◌∙◌, ap, sym}
 use Rattle.std.specs.FinMap.{values}
-use Rattle.puffin_frames.specs.Details.{Details, shared_details}
+use Rattle.puffin_threads.specs.Details.{Details, shared_details}
 use Rattle.puffin_collector.proofs.Knowing.{values-by_ids}
 use Rattle.puffin_collector.proofs.delta.tell_of_all.Goals as goal
 

@@ -1,5 +1,5 @@
-use Rattle.puffin_frames.specs.Thread.Info.{info_cmp}
-use Rattle.puffin_frames.proofs.lemmas.EntriesSeen.{entries-empty}
+use Rattle.puffin_threads.specs.Thread.Info.{info_cmp}
+use Rattle.puffin_threads.proofs.lemmas.EntriesSeen.{entries-empty}
 use Rattle.std.proofs.Common.{ap, map}
 use Rattle.puffin_frames.proofs.lemmas.Measured.{after_report, bytes_measure, scopes_measure, starts_measure, stops_measure, under_one}
 use Rattle.puffin_frames.proofs.laws.reported_streams.Goals as goal

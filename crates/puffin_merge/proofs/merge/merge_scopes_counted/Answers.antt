@@ -2,7 +2,7 @@
 use Rattle.std.proofs.Common.{◌≡◌, ◌+◌, ℕ, length, arith, Bool, true, eqb}
 use Rattle.std.proofs.lemmas.Bool.Decides.{nat_tests}
 use Rattle.std.proofs.lemmas.Result.{err_from_is_err_and}
-use Rattle.puffin_frames.specs.Thread.Info.{info_of}
+use Rattle.puffin_threads.specs.Thread.Info.{info_of}
 use Rattle.puffin_merge.specs.Merge.Scopes.{frames_bytes}
 use Rattle.puffin_merge.proofs.FramesRead.{tries_of_all, read_no_frames, one_more_tries, few_read}
 use Rattle.puffin_merge.proofs.CodeFrames.{more_read, refused_read, more_tries, made_whole, made_refused, frames_size}

@@ -1,6 +1,6 @@
 -- The scopes of the frames so far are accepted and stand in the table.
 use Rattle.std.proofs.Common.{◌≤◌, ◌*◌, ◌^◌, take}
-use Rattle.puffin_frames.specs.Thread.Info.{info_of}
+use Rattle.puffin_threads.specs.Thread.Info.{info_of}
 use Rattle.puffin_merge.specs.Merge.FrameBytes.{most_tries}
 use Rattle.puffin_merge.specs.Merge.Scopes.{frames_bytes}
 use Rattle.puffin_merge.proofs.FramesRead.{HasRead}

@@ -3,7 +3,7 @@ use Rattle.std.proofs.Common.{List, ℕ, inl, inr, subst, ◌∙◌}
 use Rattle.std.proofs.lemmas.Result.{err_from_is_err_and, on_ok_weaker}
 use Rattle.std.specs.Io.KnownBytes.{Appends}
 use Rattle.puffin_data.specs.Device.{WritesBeginning}
-use Rattle.puffin_frames.specs.Thread.Info.{info_of}
+use Rattle.puffin_threads.specs.Thread.Info.{info_of}
 use Rattle.puffin_report.specs.Report.{HasSummary}
 use Rattle.puffin_report.proofs.lemmas.WrittenLines.{nothing_written, told-cut}
 use Rattle.puffin_report.proofs.report.print_report.Goals as goal

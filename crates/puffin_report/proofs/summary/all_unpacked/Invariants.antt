@@ -1,6 +1,6 @@
 -- The frames so far are unpacked, and the others are left.
 use Rattle.std.proofs.Common.{◌≡◌, map}
-use Rattle.puffin_frames.specs.Thread.Info.{Info}
+use Rattle.puffin_threads.specs.Thread.Info.{Info}
 use Rattle.puffin_view.specs.View.File.{contents_in}
 use Rattle.puffin_view.specs.View.ViewedFrames.{contents_of}
 use Rattle.puffin_view.specs.View.Known.{view_of}

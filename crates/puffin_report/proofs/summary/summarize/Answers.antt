@@ -1,7 +1,7 @@
 -- What was read is unpacked and merged.
 use Rattle.std.proofs.Common.{◌≡◌, List, Ok, length, sym, ap, ◌∙◌, arith}
 use Rattle.std.proofs.lemmas.Result.{err_from_is_err_and}
-use Rattle.puffin_frames.specs.Thread.Info.{info_of}
+use Rattle.puffin_threads.specs.Thread.Info.{info_of}
 use Rattle.puffin_view.specs.View.File.{contents_in}
 use Rattle.puffin_view.specs.View.Known.{view_of}
 use Rattle.puffin_merge.specs.Merge.Scopes.{frames_bytes}

@@ -4,8 +4,8 @@ use Rattle.std.proofs.lemmas.List.{append-nil}
 use Rattle.std.proofs.lemmas.Result.{err_from_is_err_and}
 use Rattle.puffin_data.specs.declared.error.Error.TheVariants.{Memory}
 use Rattle.puffin_frames.specs.Frame.Contents.{Streams, frame_contents, shared_streams}
-use Rattle.puffin_frames.specs.Details.{shared_details, AllHaveIds}
-use Rattle.puffin_frames.specs.Details.Collection.{with_all_details, Begins}
+use Rattle.puffin_threads.specs.Details.{shared_details, AllHaveIds}
+use Rattle.puffin_threads.specs.Details.Collection.{with_all_details, Begins}
 use Rattle.puffin_frames.specs.Frame.Holding.{held_contents}
 use Rattle.puffin_collector.specs.Profiler.State.{Collected}
 use Rattle.puffin_collector.specs.Profiler.Collecting.{KeepsPending}

@@ -2,9 +2,9 @@
 use Rattle.std.proofs.Common.{◌≡◌, ◌+◌, ◌++◌, sym, subst, ◌∙◌, ap}
 use Rattle.std.specs.FinMap as map
 use Rattle.puffin_data.specs.Honesty.{record_of_ref}
-use Rattle.puffin_frames.specs.Thread.Info.{info_of}
+use Rattle.puffin_threads.specs.Thread.Info.{info_of}
 use Rattle.puffin_frames.specs.Frame.Contents.{Streams, shared_streams}
-use Rattle.puffin_frames.specs.Details.{shared_details, AllHaveIds}
+use Rattle.puffin_threads.specs.Details.{shared_details, AllHaveIds}
 use Rattle.puffin_collector.specs.Profiler.State.{Collected}
 use Rattle.puffin_collector.specs.Profiler.Collecting.{IsTallied, AddsUp}
 use Rattle.puffin_collector.proofs.Knowing.{ids_after}

@@ -3,7 +3,7 @@ use Rattle.std.proofs.lemmas.List.{map_push}
 use Rattle.puffin_data.specs.Value.Decoding.{times_at}
 use Rattle.puffin_data.proofs.lemmas.Loops.{one_more}
 use Rattle.puffin_frames.specs.Packet.Structs.{detail_at}
-use Rattle.puffin_frames.specs.Details.{Details, details_of, shared_details}
+use Rattle.puffin_threads.specs.Details.{Details, details_of, shared_details}
 use Rattle.puffin_frames.proofs.frame_data.decode.read_details_times.Goals as goal
 
 pub details-preserved : goal.details-preserved

@@ -2,7 +2,7 @@ use Rattle.std.proofs.Common.{◌≡◌, ◌-◌}
 use Rattle.puffin_data.specs.Value.Decoding.{times_at}
 use Rattle.puffin_data.proofs.lemmas.Loops.{with_front}
 use Rattle.puffin_frames.specs.Packet.Structs.{detail_at}
-use Rattle.puffin_frames.specs.Details.{shared_details}
+use Rattle.puffin_threads.specs.Details.{shared_details}
 use Rattle.puffin_frames.proofs.frame_data.decode.read_details_times.Given as goal
 
 abbrev pub invariant-details : goal.invariant-details

@@ -1,5 +1,5 @@
 use Rattle.std.specs.Arc.{arc_value}
-use Rattle.puffin_frames.specs.Details.{details_of}
+use Rattle.puffin_threads.specs.Details.{details_of}
 use Rattle.puffin_frames.specs.Packet.Structs.{detail_layout, IsDetail}
 use Rattle.puffin_frames.proofs.Appending.{one_more, next_of, at_index}
 use Rattle.puffin_frames.proofs.frame_data.encode.put_details.Goals as goal

@@ -1,6 +1,6 @@
 use Rattle.std.proofs.Common.{drop}
 use Rattle.puffin_frames.specs.Packet.Structs.{detail_layout, IsDetail}
-use Rattle.puffin_frames.specs.Details.{shared_details}
+use Rattle.puffin_threads.specs.Details.{shared_details}
 use Rattle.puffin_frames.proofs.Appending.{Writes}
 use Rattle.puffin_frames.proofs.frame_data.encode.put_details.Given as goal
 

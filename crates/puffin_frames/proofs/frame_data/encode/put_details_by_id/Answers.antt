@@ -1,7 +1,7 @@
 use Rattle.std.proofs.Common.{ap}
 use Rattle.std.proofs.lemmas.Map.Iter.{rest_more}
 use Rattle.puffin_frames.specs.Packet.Structs.{detail_layout, IsDetail}
-use Rattle.puffin_frames.specs.Details.{shared_details}
+use Rattle.puffin_threads.specs.Details.{shared_details}
 use Rattle.puffin_frames.proofs.Appending.{one_more, next_of}
 use Rattle.puffin_frames.proofs.frame_data.encode.put_details_by_id.Goals as goal
 

@@ -1,6 +1,6 @@
 use Rattle.puffin_data.specs.Value.Layout.{pair}
 use Rattle.puffin_data.specs.Honesty.{Recorded}
-use Rattle.puffin_frames.specs.Thread.Info.{Info}
+use Rattle.puffin_threads.specs.Thread.Info.{Info}
 use Rattle.puffin_frames.specs.Packet.Structs.{info_layout, recorded_layout, IsInfo, IsRecorded}
 use Rattle.puffin_frames.specs.Frame.Contents.{pairs_of}
 use Rattle.puffin_frames.proofs.Appending.{Writes}

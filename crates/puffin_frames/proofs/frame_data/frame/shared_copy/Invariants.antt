@@ -1,5 +1,5 @@
 use Rattle.std.proofs.Common.{◌≡◌, take}
-use Rattle.puffin_frames.specs.Details.{shared_details}
+use Rattle.puffin_threads.specs.Details.{shared_details}
 use Rattle.puffin_frames.proofs.frame_data.frame.shared_copy.Given as goal
 
 abbrev pub invariant-details : goal.invariant-details

@@ -2,7 +2,7 @@ use Rattle.std.proofs.Common.{◌≡◌, Bool, cond, List, Ok, Err, ap, sym, ◌
 use Rattle.puffin_data.specs.Honesty.{Recorded}
 use Rattle.puffin_data.specs.declared.file_error.FileError.TheVariants as file
 use Rattle.puffin_frames.specs.declared.frame_data.meta.FrameMeta.{FrameMeta}
-use Rattle.puffin_frames.specs.Thread.Info.{Info}
+use Rattle.puffin_threads.specs.Thread.Info.{Info}
 use Rattle.puffin_frames.specs.Frame.Holding.{Holding}
 use Rattle.puffin_frames.specs.Frame.Contents.{pairs_of, holding_of}
 use Rattle.puffin_frames.specs.Packet.Structs.{Legacy}

@@ -1,10 +1,10 @@
 use Rattle.std.proofs.Common.{◌≡◌, sym, ap, subst, ℕ, List, Result, Ok}
 use Rattle.std.proofs.lemmas.Result.{err_from_is_err_and}
 use Rattle.puffin_data.specs.declared.file_error.FileError.{FileError}
-use Rattle.puffin_frames.specs.Details.{Details}
+use Rattle.puffin_threads.specs.Details.{Details}
 use Rattle.puffin_frames.specs.declared.frame_data.meta.FrameMeta.{FrameMeta}
 use Rattle.puffin_frames.specs.Packet.Stored.{Said}
-use Rattle.puffin_frames.specs.Details.{shared_details}
+use Rattle.puffin_threads.specs.Details.{shared_details}
 use Rattle.puffin_data.specs.Device.{FromDevice}
 use Rattle.puffin_frames.specs.Frame.Holding.{Packing}
 use Rattle.puffin_data.specs.Part.{◌>>=◌}

@@ -2,7 +2,7 @@
 use Rattle.std.proofs.Common.{◌≡◌, ℕ, ◌+◌, ◌^◌, ◌≤◌, ◌↔◌, Ok, Err, ap, ◌∙◌, sym, subst}
 use Rattle.std.specs.Option.{option_copied_mut}
 use Rattle.std.specs.BTreeMap.{insert_entry}
-use Rattle.puffin_frames.specs.Thread.Info.{thread_cmp}
+use Rattle.puffin_threads.specs.Thread.Info.{thread_cmp}
 use Rattle.std.proofs.lemmas.Result.{on_ok_weaker, on_err_weaker}
 use Rattle.puffin_data.specs.Honesty.{record_of, record_of_ref}
 use Rattle.puffin_data.specs.declared.error.Error.TheVariants as Error

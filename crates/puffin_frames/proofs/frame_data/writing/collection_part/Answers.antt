@@ -1,7 +1,7 @@
 use Rattle.std.proofs.Common.{◌≡◌, List, ap, sym, subst, ◌∙◌}
 use Rattle.std.specs.FinMap.{values}
 use Rattle.std.specs.Map.{values_of}
-use Rattle.puffin_frames.specs.Details.{Details, shared_details}
+use Rattle.puffin_threads.specs.Details.{Details, shared_details}
 use Rattle.puffin_frames.specs.Packet.Structs.{details_layout, AreDetails}
 use Rattle.puffin_frames.proofs.Writing.{values-by_ids}
 use Rattle.puffin_frames.proofs.frame_data.writing.collection_part.Goals as goal

@@ -1,7 +1,7 @@
 -- The scope's place is put last.
 use Rattle.std.proofs.Common.{◌∙◌, subst, sym}
-use Rattle.puffin_frames.specs.Details.{AllHaveIds}
-use Rattle.puffin_frames.specs.Thread.Calls.{Thread}
+use Rattle.puffin_threads.specs.Details.{AllHaveIds}
+use Rattle.puffin_threads.specs.Thread.Calls.{Thread}
 use Rattle.puffin_session.proofs.Offsets.{pushed}
 use Rattle.puffin_session.proofs.profiled.Profiled.begin.Goals as goal
 

@@ -1,7 +1,7 @@
 -- Only the innermost scope's place ends one.
 use Rattle.std.proofs.Common.{◌∙◌, ap, length, w64, rules, ◌≡◌, ◌-◌, ℕ, get_or, take, vec_len, reverse, refl, inl, arith}
 use Rattle.std.proofs.lemmas.Result.{err_from_is_err_and}
-use Rattle.puffin_frames.specs.Thread.Calls.{Thread, open_offsets}
+use Rattle.puffin_threads.specs.Thread.Calls.{Thread, open_offsets}
 use Rattle.std.proofs.lemmas.Int.{to_z-of_z}
 use Rattle.puffin_session.proofs.Offsets.{innermost_last, outer_or_none, past_all, closed_places}
 use Rattle.puffin_collector.specs.Profiler.State.{AcceptsReport, RefusesReport}

@@ -1,7 +1,7 @@
 -- What was parsed is honest for the forest that the stream spells.
 use Rattle.std.proofs.Common.{◌∙◌, ap}
 use Rattle.puffin_data.specs.Stream.{StreamState}
-use Rattle.puffin_frames.specs.Thread.Info.{info_of}
+use Rattle.puffin_threads.specs.Thread.Info.{info_of}
 use Rattle.puffin_session.proofs.SessionCloses.{Accepts-from, Refuses-from}
 use Rattle.puffin_session.proofs.session.Session.report_user.Goals as goal
 

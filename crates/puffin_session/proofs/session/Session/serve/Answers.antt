@@ -3,7 +3,7 @@ use Rattle.std.proofs.Common.{◌+◌, ℕ, List, length, ◌∙◌, ap, subst, 
 use Rattle.std.proofs.lemmas.Int.{to_z-of_z}
 use Rattle.puffin_data.specs.Text.{cut_text}
 use Rattle.puffin_data.specs.Forest.Words.{word_size}
-use Rattle.puffin_frames.specs.Thread.Calls.{after_begin}
+use Rattle.puffin_threads.specs.Thread.Calls.{after_begin}
 use Rattle.puffin_session.specs.declared.command.Command.TheVariants.{End}
 use Rattle.puffin_session.specs.inner.Serving.{clock_time, session_thread, session_with_thread, Ends}
 use Rattle.puffin_session.proofs.Serving.{Continues-began, Continues-ended, Continues-handed, Continues-taken, Continues-registered, Continues-not_registered, Continues-added, Continues-not_added, Continues-wanted, Continues-not_begun, Continues-not_ended, Continues-not_reported, Continues-not_framed, same}

@@ -1,7 +1,7 @@
 use Rattle.std.proofs.Common.{◌≡◌, Result, Ok, Err, subst, rules}
 use Rattle.std.specs.Prelude.{OnErr}
 use Rattle.std.specs.Arc.{arc_value}
-use Rattle.puffin_frames.specs.Details.{shared_details}
+use Rattle.puffin_threads.specs.Details.{shared_details}
 use Rattle.puffin_frames.specs.Frame.Contents.{frame_details}
 use Rattle.puffin.specs.Profiler.{collected_of}
 use Rattle.puffin_collector.specs.Profiler.Collecting.{KnowsSome}

@@ -1,8 +1,8 @@
 -- A refusal leaves a beginning of the details known, and the frame is taken after all that were taken before.
 use Rattle.std.proofs.Common.{List, subst, sym, ap, ◌∙◌, ◌++◌, ◌∷◌, []}
 use Rattle.std.proofs.lemmas.Result.{on_ok_weaker, err_from_is_err_and}
-use Rattle.puffin_frames.specs.Details.{Details, shared_details}
-use Rattle.puffin_frames.specs.Details.Collection.{LearnsSome}
+use Rattle.puffin_threads.specs.Details.{Details, shared_details}
+use Rattle.puffin_threads.specs.Details.Collection.{LearnsSome}
 use Rattle.puffin_view.specs.View.ViewedFrames.{contents_of}
 use Rattle.puffin_view.specs.View.FrameOf.{shared_frame, details_of_frame, frame_of}
 use Rattle.puffin_view.specs.View.{View, Holds, Took}

@@ -1,5 +1,0 @@
-use Rattle.puffin_frames.proofs.Comparing.{same_parts}
-use Rattle.puffin_frames.proofs.scope_details.laws.details_by_contents.Goals as goal
-
-pub returns-clause-equality : goal.returns-clause-equality
-returns-clause-equality c = same_parts

@@ -1,7 +1,0 @@
-use Rattle.std.proofs.Common.{refl}
-use Rattle.puffin_frames.specs.declared.scope_details.scope_type.ScopeType.TheVariants.{Function, Named}
-use Rattle.puffin_frames.proofs.scope_details.laws.types_and_ids.Goals as goal
-
-pub returns-clause-type_hashes : goal.returns-clause-type_hashes
-returns-clause-type_hashes c Function = refl
-returns-clause-type_hashes c Named = refl

@@ -1,0 +1,5 @@
+use Rattle.puffin_threads.proofs.Comparing.{same_parts}
+use Rattle.puffin_threads.proofs.scope_details.laws.details_by_contents.Goals as goal
+
+pub returns-clause-equality : goal.returns-clause-equality
+returns-clause-equality c = same_parts

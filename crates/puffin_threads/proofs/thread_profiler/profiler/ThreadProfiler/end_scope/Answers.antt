@@ -1,0 +1,21 @@
+use Rattle.std.proofs.Common.{rules, ◌≡◌, ◌∷◌, [], Some, ap, arith, slice_get, to_z, of_z, w64}
+use Rattle.std.proofs.lemmas.Option.{slice_get_within}
+use Rattle.puffin_data.specs.Forest.Tour.{Close}
+use Rattle.puffin_data.specs.Forest.Words.{open_after}
+use Rattle.puffin_data.proofs.lemmas.WordMeasures.{open_after-append}
+use Rattle.puffin_threads.specs.Thread.Calls.{Thread, open_offsets, time_of}
+use Rattle.puffin_threads.proofs.RecordedScopes.{length-open_offsets}
+use Rattle.puffin_threads.proofs.thread_profiler.profiler.ThreadProfiler.end_scope.Goals as goal
+
+pub close-requires : goal.close-requires
+close-requires g c =
+    let word = c.args.self.now.recording.word in
+    let innermost : slice_get (open_offsets word) 0 ≡ Some c.args.offset = search rules in
+    omega (arith, length-open_offsets word, slice_get_within (open_offsets word) 0 c.args.offset innermost)
+
+pub hand_over-requires-clause-none_open : goal.hand_over-requires-clause-none_open
+hand_over-requires-clause-none_open g c =
+    let old = c.args.self.now.recording in
+    let at = to_z w64 (of_z w64 c.now_ns-now_ns.result) in
+    let closed = ap (λ (t : Thread). open_after 0 t.word) c.close.ensures.closed in
+    omega (arith, closed, open_after-append 0 old.word (Close (time_of old at) ∷ []), c.in-Some.ensures.last)

@@ -1,0 +1,88 @@
+-- What contracts see of scope details, and their order.
+pub mod Collection
+pub mod Kind
+use Rattle.std.specs.Prelude.{ℕ, Bool, List, Option, Some, None, ◌++◌, ◌∷◌, [], map, refl, is_some, is_none, IsSome, All, decimal, if◌then◌else◌, ◌==◌}
+use Rattle.std.specs.declared.cmp.Ordering.{Ordering}
+use Rattle.std.specs.declared.sync.Arc.{Arc}
+use Rattle.std.specs.Ordering.{nat_cmp, on, then_cmp, eq_by_cmp}
+use Rattle.std.specs.Arc.{arc_value}
+use Rattle.std.specs.Coded.{Coded, code_by, coded×, coded_option, coded_list, coded_ℕ}
+use Rattle.std.specs.Cow.{cow_str_bytes}
+use Rattle.std.specs.Option.{option_cmp, option_map, unwrap_or}
+use Rattle.std.specs.Cmp.Lexicographic.{slice_cmp}
+use Rattle.puffin_threads.specs.declared.scope_details.details.ScopeDetails.{ScopeDetails}
+use Rattle.puffin_threads.specs.declared.scope_details.scope_type.ScopeType.{ScopeType}
+use Rattle.puffin_threads.specs.declared.scope_details.scope_type.ScopeType.TheVariants.{Function, Named}
+
+-- the number of the id and the bytes of the texts
+pub record Details : Type 0 where
+  pub id : Option ℕ
+  pub scope_name : Option (List ℕ)
+  pub function_name : List ℕ
+  pub file_path : List ℕ
+  pub line_nr : ℕ
+
+-- details are stored as the tuple of their fields
+abbrev pub details_code : Coded Details
+details_code =
+    code_by (Option ℕ × (Option (List ℕ) × (List ℕ × (List ℕ × ℕ))))
+    (coded× (coded_option coded_ℕ) (coded× (coded_option (coded_list coded_ℕ)) (coded× (coded_list coded_ℕ) (coded× (coded_list coded_ℕ) coded_ℕ))))
+    (λ d. (d.id, (d.scope_name, (d.function_name, (d.file_path, d.line_nr)))))
+    (λ p. record { id = p.0; scope_name = p.1.0; function_name = p.1.1.0; file_path = p.1.1.1.0; line_nr = p.1.1.1.1 })
+    (λ _. refl)
+
+abbrev pub details_of : ScopeDetails → Details
+details_of d = record {
+  id = d.scope_id;
+  scope_name = option_map cow_str_bytes d.scope_name;
+  function_name = cow_str_bytes d.function_name;
+  file_path = cow_str_bytes d.file_path;
+  line_nr = d.line_nr;
+}
+
+abbrev pub details_seen : List ScopeDetails → List Details
+details_seen ds = map details_of ds
+
+-- the same of shared ones
+abbrev pub shared_details : {A : Type 0} → List (Arc ScopeDetails A) → List Details
+shared_details ds = map (λ d. details_of (arc_value d)) ds
+
+-- the scope's name, or else the function's
+abbrev pub name_of : Details → List ℕ
+name_of d = unwrap_or d.scope_name d.function_name
+
+-- details with a scope name are a named scope's
+abbrev pub type_of : Details → ScopeType
+type_of d = if is_some d.scope_name then Named else Function
+
+-- the file, and after a colon the line, where there is one
+abbrev pub location_of : Details → List ℕ
+location_of d = if d.line_nr == 0 then d.file_path else d.file_path ++ (58 ∷ decimal d.line_nr)
+
+-- no id and no scope name, no text, and line 0
+abbrev pub default_details : Details
+default_details =
+    record { id = None; scope_name = None; function_name = []; file_path = []; line_nr = 0 }
+
+abbrev pub with_id : Details → ℕ → Details
+with_id d id = record d { id = Some id }
+
+abbrev pub lacks_id : Details → Bool
+lacks_id d = is_none d.id
+
+abbrev pub AllHaveIds : List Details → Type 0
+AllHaveIds ds = All (λ d. IsSome d.id) ds
+
+-- by the scope's name, none first, then by function, file and line
+abbrev pub texts_cmp : Details → Details → Ordering
+texts_cmp =
+    then_cmp (on (λ d. d.scope_name) (option_cmp (slice_cmp nat_cmp)))
+    (then_cmp (on (λ d. d.function_name) (slice_cmp nat_cmp))
+    (then_cmp (on (λ d. d.file_path) (slice_cmp nat_cmp)) (on (λ d. d.line_nr) nat_cmp)))
+
+-- by the id, none first, and then by the texts and the line
+abbrev pub details_cmp : Details → Details → Ordering
+details_cmp = then_cmp (on (λ d. d.id) (option_cmp nat_cmp)) texts_cmp
+
+abbrev pub same_details : Details → Details → Bool
+same_details = eq_by_cmp details_cmp

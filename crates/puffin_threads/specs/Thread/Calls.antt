@@ -1,0 +1,80 @@
+-- What one thread has recorded, and what its calls make of it.
+use Rattle.std.specs.Prelude.{◌≡◌, ℕ, ◌+◌, ◌⊎◌, ℤ, List, [], ◌∷◌, ◌++◌, length, drop, fold, Option, Some, Result, Ok, Err}
+use Rattle.std.specs.Int.{int_max}
+use Rattle.std.specs.Option.{option_or}
+use Rattle.puffin_data.specs.declared.error.Error.{Error}
+use Rattle.puffin_data.specs.declared.error.Error.TheVariants.{IdsExhausted, Memory}
+use Rattle.puffin_data.specs.Forest.Spelling.{front_size, head_size, end_size}
+use Rattle.puffin_data.specs.Forest.Tour.{Event, Open, Close}
+use Rattle.puffin_threads.specs.Thread.Info.{Info}
+use Rattle.puffin_threads.specs.Details.{Details, with_id}
+
+-- a thread: its name, the start of its first scope ever, its greatest time, and its events and registered details that no accepted report has handed over
+pub record Thread : Type 0 where
+  pub name : List ℕ
+  pub first_start : Option ℤ
+  pub latest : ℤ
+  pub word : List Event
+  pub details : List Details
+
+-- the time of a call where the clock answers `at`: the greatest answer so far
+abbrev pub time_of : Thread → ℤ → ℤ
+time_of thread at = int_max thread.latest at
+
+-- after a scope was begun with this id and stored text
+abbrev pub after_begin : Thread → ℕ → List ℕ → ℤ → Thread
+after_begin thread id text at = record {
+  name = thread.name;
+  first_start = option_or thread.first_start (Some (time_of thread at));
+  latest = time_of thread at;
+  word = thread.word ++ (Open id text (time_of thread at) ∷ []);
+  details = thread.details;
+}
+
+-- after the innermost scope was ended
+abbrev pub after_end : Thread → ℤ → Thread
+after_end thread at = record {
+  name = thread.name;
+  first_start = thread.first_start;
+  latest = time_of thread at;
+  word = thread.word ++ (Close (time_of thread at) ∷ []);
+  details = thread.details;
+}
+
+-- after the details of a scope were registered
+abbrev pub after_registering : Thread → Details → Thread
+after_registering thread d = record {
+  name = thread.name;
+  first_start = thread.first_start;
+  latest = thread.latest;
+  word = thread.word;
+  details = thread.details ++ (d ∷ []);
+}
+
+-- Registering a scope with these details, in which its id is drawn: it goes with the next accepted report, or nothing is changed.
+abbrev pub RegistersScope : Thread → Details → Result ℕ Error → Thread → Type 0
+RegistersScope old d (Ok id) new = new ≡ after_registering old (with_id d id)
+RegistersScope old d (Err e) new = (new ≡ old) × ((e ≡ IdsExhausted) ⊎ (e ≡ Memory))
+
+-- after an accepted report, which hands over all of its events and details
+abbrev pub after_handing : Thread → Thread
+after_handing thread = record {
+  name = thread.name;
+  first_start = thread.first_start;
+  latest = thread.latest;
+  word = [];
+  details = [];
+}
+
+-- whose scopes a report hands over
+abbrev pub info_of_thread : Thread → Info
+info_of_thread thread = record { start = thread.first_start; name = thread.name }
+
+-- the bytes so far, and the offsets of the open scopes' sizes, the innermost first
+abbrev pub opened_after : ℕ × List ℕ → Event → ℕ × List ℕ
+opened_after sofar (Open id text start) =
+    (sofar.0 + head_size + length text, (sofar.0 + front_size + length text) ∷ sofar.1)
+opened_after sofar (Close stop) = (sofar.0 + end_size, drop 1 sofar.1)
+
+abbrev pub open_offsets : List Event → List ℕ
+open_offsets word = (fold opened_after (0, []) word).1

@@ -1,0 +1,59 @@
+-- What ending a scope does to a thread and its reporter, and what a report asked for does.
+use Rattle.std.specs.Prelude.{◌≡◌, ◌≢◌, ◌<◌, ◌⊎◌, ℤ, Bool, true, false, List, [], Result, Ok, Err}
+use Rattle.puffin_data.specs.declared.error.Error.{Error}
+use Rattle.puffin_data.specs.declared.error.Error.TheVariants.{Memory, ScopesOpen}
+use Rattle.puffin_data.specs.Forest.{Forest}
+use Rattle.puffin_data.specs.Forest.Tour.{tour}
+use Rattle.puffin_data.specs.Honesty.{Recorded, IsHonestRecord}
+use Rattle.puffin_data.specs.Forest.Words.{open_after}
+use Rattle.puffin_threads.specs.declared.thread_profiler.reporter.Closed.{Closed}
+use Rattle.puffin_threads.specs.declared.thread_profiler.reporter.Closed.TheVariants.{Inner, Reported, Kept}
+use Rattle.puffin_threads.specs.Thread.Info.{Info}
+use Rattle.puffin_threads.specs.Details.{Details}
+use Rattle.puffin_threads.specs.Thread.Calls.{Thread, after_end, after_handing, info_of_thread}
+
+-- an honest record of scopes whose events are all that the thread has to report
+pub record IsReportOf (thread : Thread) (r : Recorded) : Type 0 where
+  pub forest : Forest
+  pub word : thread.word ≡ tour forest
+  pub honest : IsHonestRecord r forest
+
+-- such a record went to the reporter, under the thread's info and with its details, and it was answered so
+abbrev pub GoesTo : {R : Type 0} → (R → Info → List Details → Recorded → R → Type 0) → Thread → R →
+    R → Type 0
+GoesTo answered thread before after =
+    (r : Recorded)
+    × IsReportOf thread r
+    × answered before (info_of_thread thread) thread.details r after
+
+-- The innermost scope ends at a moment. An inner scope leaves the reporter as it was. Where it is the last, all events go to the reporter, and stay where it refuses.
+abbrev pub Closes : {R : Type 0} → (R → Info → List Details → Recorded → R → Type 0) →
+    (R → Info → List Details → Recorded → Error → R → Type 0) → Thread → Thread → ℤ → R → R →
+    Closed → Type 0
+Closes accepts refuses old new at before after Inner =
+    (1 < open_after 0 old.word) × (new ≡ after_end old at) × (after ≡ before)
+Closes accepts refuses old new at before after Reported =
+    (open_after 0 old.word ≡ 1)
+    × (new ≡ after_handing (after_end old at))
+    × GoesTo accepts (after_end old at) before after
+Closes accepts refuses old new at before after (Kept e) =
+    (open_after 0 old.word ≡ 1)
+    × (new ≡ after_end old at)
+    × GoesTo (λ b i d r a. refuses b i d r e a) (after_end old at) before after
+
+-- closed scopes wait for a report
+pub record Waits (thread : Thread) : Type 0 where
+  pub none_open : open_after 0 thread.word ≡ 0
+  pub some : thread.word ≢ []
+
+-- A report of what waits is asked for. A refusal leaves the thread as it was: a scope is open, the name couldn't be copied, or the reporter refused.
+abbrev pub Reports : {R : Type 0} → (R → Info → List Details → Recorded → R → Type 0) →
+    (R → Info → List Details → Recorded → Error → R → Type 0) → Thread → Thread → R → R →
+    Result Bool Error → Type 0
+Reports accepts refuses old new before after (Ok false) =
+    (old.word ≡ []) × (new ≡ old) × (after ≡ before)
+Reports accepts refuses old new before after (Ok true) =
+    Waits old × (new ≡ after_handing old) × GoesTo accepts old before after
+Reports accepts refuses old new before after (Err e) = (new ≡ old)
+    × (((0 < open_after 0 old.word) × (e ≡ ScopesOpen) × (after ≡ before))
+    ⊎ (Waits old × (((e ≡ Memory) × (after ≡ before)) ⊎ GoesTo (λ b i d r a. refuses b i d r e a) old before after)))

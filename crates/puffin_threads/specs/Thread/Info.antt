@@ -1,0 +1,40 @@
+-- What contracts see of a thread's info, and the order of infos.
+use Rattle.std.specs.Prelude.{ℕ, ℤ, Bool, List, Option, map, string_bytes, refl}
+use Rattle.std.specs.declared.cmp.Ordering.{Ordering}
+use Rattle.std.specs.Ordering.{nat_cmp, int_cmp, on, then_cmp, eq_by_cmp}
+use Rattle.std.specs.FinMap.{FinMap, from_entries}
+use Rattle.std.specs.Coded.{Coded, code_by, coded×, coded_option, coded_list, coded_ℕ, coded_ℤ}
+use Rattle.std.specs.Option.{option_cmp}
+use Rattle.std.specs.Cmp.Lexicographic.{slice_cmp}
+use Rattle.puffin_threads.specs.declared.thread_profiler.thread_info.ThreadInfo.{ThreadInfo}
+
+-- the start of a thread's first scope, if it is known, and the bytes of the thread's name
+pub record Info : Type 0 where
+  pub start : Option ℤ
+  pub name : List ℕ
+
+abbrev pub info_of : ThreadInfo → Info
+info_of thread = record { start = thread.start_time_ns; name = string_bytes thread.name }
+
+-- by the start, none first, and then by the name's bytes
+abbrev pub info_cmp : Info → Info → Ordering
+info_cmp = then_cmp (on (λ i. i.start) (option_cmp int_cmp)) (on (λ i. i.name) (slice_cmp nat_cmp))
+
+abbrev pub thread_cmp : ThreadInfo → ThreadInfo → Ordering
+thread_cmp = on info_of info_cmp
+
+abbrev pub same_info : Info → Info → Bool
+same_info = eq_by_cmp info_cmp
+
+-- an info is stored as the pair of its fields
+abbrev pub info_code : Coded Info
+info_code =
+    code_by (Option ℤ × List ℕ) (coded× (coded_option coded_ℤ) (coded_list coded_ℕ))
+    (λ i. (i.start, i.name)) (λ p. record { start = p.0; name = p.1 }) (λ _. refl)
+
+-- the entries of a map of threads, by the threads' infos
+abbrev pub keyed : {X : Type 0} → List (ThreadInfo × X) → List (Info × X)
+keyed entries = map (λ e. (info_of e.0, e.1)) entries
+
+abbrev pub by_info : {X : Type 0} → List (ThreadInfo × X) → FinMap info_cmp X
+by_info entries = from_entries (keyed entries)

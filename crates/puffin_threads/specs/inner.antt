@@ -1,0 +1,3 @@
+-- What contracts of private functions and proofs alone cite.
+pub mod ThreadRecording
+pub mod HeldCollection

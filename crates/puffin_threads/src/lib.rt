@@ -1,0 +1,14 @@
+//! The profilers of single threads, which record the threads' scopes, and what is known of scopes besides their times.
+//!
+//! | to | call |
+//! |---|---|
+//! | record the scopes of one thread | [`thread_profiler::ThreadProfiler::new`] with a clock, then `begin_scope` and `end_scope` with a [`thread_profiler::Reporter`] |
+//! | say where a scope stands in the code | [`thread_profiler::ThreadProfiler::register_function_scope`], `register_named_scope` |
+//! | report what still waits | [`thread_profiler::ThreadProfiler::report_closed`] |
+//! | know scopes by id and by name | [`scope_details::ScopeCollection`] |
+//! | draw ids | [`scope_details::ScopeIds::draw`] |
+#![tactic(auto)]
+
+pub mod laws;
+pub mod scope_details;
+pub mod thread_profiler;

@@ -1,0 +1,140 @@
+ghost use Rattle.std.specs.Prelude.{◌≡◌, Some, string_bytes, IfOk, IfErr};
+ghost use Rattle.std.specs.Cow.{cow_str_bytes};
+ghost use Rattle.puffin_data.specs.declared.error.Error.{Error};
+ghost use Rattle.puffin_threads.specs.Details.{details_of, default_details, name_of, type_of, location_of, with_id};
+
+use crate::scope_details::scope_type::ScopeType;
+use puffin_data::data::ScopeId;
+use puffin_data::{Error, Result};
+use std::alloc::Global;
+use std::borrow::CowStr;
+
+/// What is known of a scope besides its times. Details are ordered by their id, then by scope name, function, file and
+/// line; a missing id or name comes first.
+#[derive(Debug, PartialEq, Eq, PartialOrd, Ord, Hash, Drop)]
+pub struct ScopeDetails {
+    pub(crate) scope_id: Option<ScopeId>,
+    /// The scope's own name, or `None` where it is a whole function.
+    pub scope_name: Option<CowStr<'static>>,
+    /// The function that the scope is in.
+    pub function_name: CowStr<'static>,
+    /// The file that the scope is in.
+    pub file_path: CowStr<'static>,
+    /// The line of the file, counted from 1, or 0 where it isn't known.
+    pub line_nr: u32,
+}
+
+impl ScopeDetails {
+    /// Of a named scope. The rest is as in the default.
+    pub fn from_scope_name(scope_name: CowStr<'static>) -> ScopeDetails
+        ensures { details_of result
+            ≡ record default_details { scope_name = Some (cow_str_bytes scope_name.entry) } }
+    {
+        ScopeDetails {
+            scope_name: Some(scope_name),
+            ..ScopeDetails::default()
+        }
+    }
+
+    /// The same with this function.
+    pub fn with_function_name(mut self, function_name: CowStr<'static>) -> ScopeDetails
+        ensures { details_of result
+            ≡ record (details_of self) { function_name = cow_str_bytes function_name.entry } }
+    {
+        self.function_name = function_name;
+        self
+    }
+
+    /// The same with this file.
+    pub fn with_file(mut self, file_path: CowStr<'static>) -> ScopeDetails
+        ensures { details_of result
+            ≡ record (details_of self) { file_path = cow_str_bytes file_path.entry } }
+    {
+        self.file_path = file_path;
+        self
+    }
+
+    /// The same with this line.
+    pub fn with_line_nr(mut self, line_nr: u32) -> ScopeDetails
+        ensures { details_of result ≡ record (details_of self) { line_nr = line_nr } }
+    {
+        self.line_nr = line_nr;
+        self
+    }
+
+    /// The same with this id.
+    pub fn with_scope_id(mut self, scope_id: ScopeId) -> ScopeDetails
+        ensures { details_of result ≡ with_id (details_of self) scope_id }
+    {
+        self.scope_id = Some(scope_id);
+        self
+    }
+
+    /// The id, where there is one.
+    pub fn scope_id(&self) -> Option<ScopeId>
+        ensures { result ≡ (details_of self.now).id }
+    {
+        self.scope_id
+    }
+
+    /// The scope's name, or the function's where the scope has none.
+    pub fn name(&self) -> &CowStr<'static>
+        ensures { cow_str_bytes result.now ≡ name_of (details_of self.now) }
+    {
+        self.scope_name.as_ref().unwrap_or(&self.function_name)
+    }
+
+    /// Whether the scope is named, or a whole function.
+    pub fn scope_type(&self) -> ScopeType
+        ensures { result ≡ type_of (details_of self.now) }
+    {
+        if self.scope_name.is_some() {
+            ScopeType::Named
+        } else {
+            ScopeType::Function
+        }
+    }
+
+    /// `file:line`, or `file` where the line is 0. Refused only with `Memory`.
+    pub fn location(&self, alloc: Global) -> Result<String>
+        ensures ok { IfOk result (λ text. string_bytes text ≡ location_of (details_of self.now)) }
+        ensures err { IfErr result (λ e. e ≡ Error.Memory) }
+    {
+        let file = self.file_path.as_str();
+        let line = self.line_nr;
+        if line == 0 {
+            Ok(String::from_str(alloc, file)?)
+        } else {
+            Ok(format!(in alloc; "{file}:{line}")?)
+        }
+    }
+
+    /// A copy. Refused only with `Memory`.
+    pub fn clone(&self) -> Result<ScopeDetails>
+        ensures ok { IfOk result (λ details. details_of details ≡ details_of self.now) }
+        ensures err { IfErr result (λ e. e ≡ Error.Memory) }
+    {
+        Ok(ScopeDetails {
+            scope_id: self.scope_id,
+            scope_name: self.scope_name.clone()?,
+            function_name: self.function_name.clone()?,
+            file_path: self.file_path.clone()?,
+            line_nr: self.line_nr,
+        })
+    }
+}
+
+impl Default for ScopeDetails {
+    ghost is_default = { λ details. details_of details ≡ default_details };
+
+    /// No id and no names, no file, and line 0.
+    fn default() -> ScopeDetails {
+        ScopeDetails {
+            scope_id: None,
+            scope_name: None,
+            function_name: CowStr::Borrowed(""),
+            file_path: CowStr::Borrowed(""),
+            line_nr: 0,
+        }
+    }
+}

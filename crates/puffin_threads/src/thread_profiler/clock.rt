@@ -1,0 +1,125 @@
+//! Where the times of scopes come from.
+
+ghost use Rattle.std.specs.Prelude.{◌≡◌, ◌-◌, ◌^◌, ℤ, pos, ◌≤ℤ◌, min};
+ghost use Rattle.std.specs.Duration.{as_nanos};
+
+use puffin_data::NanoSecond;
+use std::io;
+use std::marker::Model;
+use std::rt::Clock;
+use std::time::{Duration, Instant};
+
+/// A clock that counts nanoseconds. It may fall, but it is never below 0.
+pub trait NsSource {
+    /// Asked in this state, it may return this time and be left in that state.
+    ghost answers: { Self → ℤ → Self → Type 0 };
+
+    /// The time now, in nanoseconds.
+    fn now_ns(&mut self) -> NanoSecond
+        ensures answered { answers self.old result self.new }
+        ensures never_negative { pos 0 ≤ℤ result };
+}
+
+/// A length of time in nanoseconds, at most the greatest that fits.
+fn nanoseconds(time: Duration) -> NanoSecond
+    ensures { result ≡ pos (min (as_nanos time) (2 ^ 63 - 1)) }
+{
+    NanoSecond::try_from(time.as_nanos()).unwrap_or(NanoSecond::MAX)
+}
+
+/// The system's clock: the moment when it was made, in nanoseconds since 1970, and the time that has gone by since.
+#[derive(Drop)]
+pub struct SystemClock<R> {
+    rt: R,
+    begun: Instant,
+    start_ns: NanoSecond,
+    last_ns: NanoSecond,
+    ghost since_1970: { pos 0 ≤ℤ start_ns },
+    ghost since_start: { start_ns ≤ℤ last_ns },
+}
+
+impl<R: Clock + Drop> SystemClock<R> {
+    ghost use Rattle.std.specs.Prelude.{IfOk};
+    ghost use Rattle.puffin_threads.specs.Thread.Clock.{clock_start, last_answer};
+
+    /// Takes the start: nanoseconds since 1970, 0 before, and at most the greatest that fits. Refused with the system's
+    /// error where a clock can't be read.
+    pub fn new(rt: R) -> io::Result<SystemClock<R>>
+        ensures start { IfOk result (λ clock. pos 0 ≤ℤ clock_start clock) }
+        ensures last { IfOk result (λ clock. last_answer clock ≡ clock_start clock) }
+    {
+        let begun = Instant::now(&rt)?;
+        let start_ns = match rt.since_1970() {
+            Ok(time) => nanoseconds(time),
+            // The wall clock stands before 1970.
+            Err(e) if e.kind() == io::ErrorKind::InvalidData => 0,
+            Err(e) => return Err(e),
+        };
+        Ok(SystemClock {
+            rt,
+            begun,
+            start_ns,
+            last_ns: start_ns,
+        })
+    }
+}
+
+impl<R: Clock> NsSource for SystemClock<R> {
+    ghost use Rattle.std.specs.Prelude.{◌≡◌, ◌≤ℤ◌};
+    ghost use Rattle.puffin_threads.specs.Thread.Clock.{clock_start, last_answer};
+
+    // The start stays, and no answer is below it.
+    ghost answers = { λ old at new.
+        (clock_start new ≡ clock_start old) × (last_answer new ≡ at) × (clock_start old ≤ℤ at) };
+
+    /// The start and the time gone by since, at most the greatest that fits. Where the clock can't be read, the last time returned.
+    fn now_ns(&mut self) -> NanoSecond {
+        if let Ok(elapsed) = self.begun.elapsed(&self.rt) {
+            self.last_ns = self.start_ns.saturating_add(nanoseconds(elapsed));
+        }
+        self.last_ns
+    }
+}
+
+/// A clock that returns what it was set to. A time below 0 counts as 0.
+///
+/// Contracts see the time that it was set to.
+#[derive(Drop)]
+pub struct ScriptClock {
+    at: NanoSecond,
+}
+
+impl Model for ScriptClock {
+    ghost use Rattle.std.specs.Prelude.{ℤ};
+
+    ghost Value = { ℤ };
+
+    ghost view = { λ clock. clock.at };
+}
+
+impl ScriptClock {
+    /// Returns this time, in nanoseconds.
+    pub fn new(at: NanoSecond) -> ScriptClock
+        ensures { result ≡ at }
+    {
+        ScriptClock { at }
+    }
+
+    /// Returns this time from now on, in nanoseconds.
+    pub fn set(&mut self, at: NanoSecond)
+        ensures { self.new ≡ at }
+    {
+        self.at = at;
+    }
+}
+
+impl NsSource for ScriptClock {
+    ghost use Rattle.std.specs.Prelude.{◌≡◌, pos};
+    ghost use Rattle.std.specs.Int.{int_max};
+
+    ghost answers = { λ old at new. (new ≡ old) × (at ≡ int_max (pos 0) old) };
+
+    fn now_ns(&mut self) -> NanoSecond {
+        self.at.max(0)
+    }
+}

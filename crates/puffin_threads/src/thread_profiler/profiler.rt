@@ -1,0 +1,200 @@
+use crate::scope_details::{ScopeDetails, ScopeIds};
+use crate::thread_profiler::clock::NsSource;
+use crate::thread_profiler::recording::Recording;
+use crate::thread_profiler::reporter::{Closed, Reporter};
+use puffin_data::data::ScopeId;
+use puffin_data::{Error, Result};
+use std::alloc::Global;
+use std::borrow::CowStr;
+
+/// The profiler of one thread: it writes down when the thread's scopes begin and end, by a clock of its own, and reports
+/// them whenever the last open scope has closed.
+///
+/// The time of a call is the greatest that the clock has returned so far.
+#[derive(Drop)]
+pub struct ThreadProfiler<C> {
+    recording: Recording,
+    clock: C,
+    alloc: Global,
+}
+
+impl<C: NsSource> ThreadProfiler<C> {
+    ghost use Rattle.std.specs.Prelude.{◌≡◌, ◌≢◌, ◌+◌, ℤ, pos, ◌≤ℤ◌, [], length, None, Some, OnOk, OnErr, IfOk, IfErr, string_bytes, slice_get};
+    ghost use Rattle.puffin_data.specs.declared.error.Error.{Error};
+    ghost use Rattle.std.specs.Cow.{cow_str_bytes};
+    ghost use Rattle.puffin_data.specs.Text.{cut_text};
+    ghost use Rattle.puffin_data.specs.Forest.Words.{word_size, open_after};
+    ghost use Rattle.puffin_threads.specs.Thread.Calls.{after_begin, RegistersScope, open_offsets};
+    ghost use Rattle.puffin_threads.specs.Details.{default_details};
+    ghost use Rattle.puffin_threads.specs.Thread.Closing.{Closes, Reports};
+    ghost use Rattle.puffin_threads.specs.Thread.ThreadProfiler.{thread_of, clock_of, allocator_of, with_clock};
+    ghost use Rattle.puffin_threads.specs.contracts.thread_profiler.profiler.ThreadProfiler.{the_row};
+    ghost use Rattle.std.specs.Borrow.{Lends, sem};
+
+    /// A thread without scopes, of this name.
+    pub fn new(alloc: Global, name: String, clock: C) -> ThreadProfiler<C>
+        ensures thread { thread_of result ≡ record {
+          name = string_bytes name;
+          first_start = None;
+          latest = pos 0;
+          word = [];
+          details = [];
+        } }
+        ensures clock { clock_of result ≡ clock }
+        ensures allocator { allocator_of result ≡ alloc }
+    {
+        ThreadProfiler {
+            recording: Recording::new(alloc, name),
+            clock,
+            alloc,
+        }
+    }
+
+    /// What it takes memory from.
+    pub fn allocator(&self) -> Global
+        ensures { result ≡ allocator_of self.now }
+    {
+        self.alloc
+    }
+
+    /// The clock.
+    pub fn clock(&mut self) -> &mut C
+        ensures value { result.now ≡ clock_of self.old }
+        ensures* writes_back { sem 𝓛 (
+            Lends (the_row C.row) C.row self.entry result (with_clock self.old)) }
+    {
+        &mut self.clock
+    }
+
+    /// How many scopes are open.
+    pub fn depth(&self) -> usize
+        ensures { result ≡ open_after 0 (thread_of self.now).word }
+    {
+        self.recording.depth()
+    }
+
+    /// Begins a scope and returns its offset, which [`ThreadProfiler::end_scope`] takes. Of the text its longest beginning
+    /// is kept that has at most 127 bytes and ends where a character ends.
+    ///
+    /// Refused only with `Memory`: the memory for the scope's end and for its report is taken here too. A refused call
+    /// doesn't read the clock, and changes nothing.
+    pub fn begin_scope(&mut self, id: ScopeId, text: &str) -> Result<usize>
+        ensures begun { OnOk result (
+            (at : ℤ)
+            × C.answers (clock_of self.old) at (clock_of self.new)
+            × (pos 0 ≤ℤ at)
+            × (thread_of self.new
+            ≡ after_begin (thread_of self.old) id (cut_text text.now) at)) }
+        ensures offset { IfOk result (λ offset.
+            offset ≡ word_size (thread_of self.old).word + 14 + length (cut_text text.now)) }
+        ensures unchanged { OnErr result (self.new ≡ self.old) }
+        ensures memory { IfErr result (λ e. e ≡ Error.Memory) }
+    {
+        self.recording.begin_scope(&mut self.clock, id, text)
+    }
+
+    /// Ends the innermost open scope, whose offset this has to be. Where it was the last, all scopes that have closed since
+    /// the last accepted report go to the reporter, under the thread's name and the start of its first scope ever.
+    ///
+    /// Refused with `MismatchedEnd` alone, where the offset isn't the innermost open scope's: the clock isn't read then, and
+    /// nothing changes. No memory is taken.
+    pub fn end_scope<R: Reporter>(&mut self, offset: usize, reporter: &mut R) -> Result<Closed>
+        ensures innermost { OnOk result (
+            slice_get (open_offsets (thread_of self.old).word) 0 ≡ Some offset) }
+        ensures mismatched { IfErr result (λ e.
+            (e ≡ Error.MismatchedEnd)
+            × (slice_get (open_offsets (thread_of self.old).word) 0 ≢ Some offset)) }
+        ensures unchanged { OnErr result ((self.new ≡ self.old) × (reporter.new ≡ reporter.old)) }
+        ensures closed { IfOk result (λ closed.
+            (at : ℤ)
+            × C.answers (clock_of self.old) at (clock_of self.new)
+            × (pos 0 ≤ℤ at)
+            × Closes R.accepts R.refuses (thread_of self.old) (thread_of self.new) at
+            reporter.old reporter.new closed) }
+    {
+        if self.recording.innermost() != Some(offset) {
+            return Err(Error::MismatchedEnd);
+        }
+        let now_ns = self.clock.now_ns();
+        let Some(name) = self.recording.close(now_ns) else {
+            return Ok(Closed::Inner);
+        };
+        match self.recording.hand_over(name, reporter) {
+            Ok(()) => Ok(Closed::Reported),
+            Err(e) => Ok(Closed::Kept(e)),
+        }
+    }
+
+    /// Registers a whole function as a scope, under a newly drawn id, which is returned. Its details go to the reporter with
+    /// the thread's next accepted report.
+    ///
+    /// Refused with `IdsExhausted` or `Memory`, and nothing is changed then, though an id may be used up.
+    pub fn register_function_scope(
+        &mut self,
+        ids: &ScopeIds,
+        function_name: CowStr<'static>,
+        file_path: CowStr<'static>,
+        line_nr: u32,
+    ) -> Result<ScopeId>
+        ensures registered { RegistersScope (thread_of self.old)
+            (record default_details {
+              function_name = cow_str_bytes function_name.entry;
+              file_path = cow_str_bytes file_path.entry;
+              line_nr = line_nr;
+            }) result (thread_of self.new) }
+        ensures clock { clock_of self.new ≡ clock_of self.old }
+        ensures unchanged { OnErr result (self.new ≡ self.old) }
+    {
+        let details = ScopeDetails::default()
+            .with_function_name(function_name)
+            .with_file(file_path)
+            .with_line_nr(line_nr);
+        self.recording.register(ids, details)
+    }
+
+    /// Registers a scope with a name of its own. Else as [`ThreadProfiler::register_function_scope`].
+    pub fn register_named_scope(
+        &mut self,
+        ids: &ScopeIds,
+        scope_name: CowStr<'static>,
+        function_name: CowStr<'static>,
+        file_path: CowStr<'static>,
+        line_nr: u32,
+    ) -> Result<ScopeId>
+        ensures registered { RegistersScope (thread_of self.old)
+            (record default_details {
+              scope_name = Some (cow_str_bytes scope_name.entry);
+              function_name = cow_str_bytes function_name.entry;
+              file_path = cow_str_bytes file_path.entry;
+              line_nr = line_nr;
+            }) result (thread_of self.new) }
+        ensures clock { clock_of self.new ≡ clock_of self.old }
+        ensures unchanged { OnErr result (self.new ≡ self.old) }
+    {
+        let details = ScopeDetails::from_scope_name(scope_name)
+            .with_function_name(function_name)
+            .with_file(file_path)
+            .with_line_nr(line_nr);
+        self.recording.register(ids, details)
+    }
+
+    /// Reports the closed scopes that wait since a report was refused. `Ok(false)` where none waits.
+    ///
+    /// Refused with `ScopesOpen` while a scope is open; else with the reporter's error, or with `Memory` where the name
+    /// couldn't be copied, and the reporter isn't asked then. Nothing changes for the thread.
+    pub fn report_closed<R: Reporter>(&mut self, reporter: &mut R) -> Result<bool>
+        ensures reports { Reports R.accepts R.refuses (thread_of self.old) (thread_of self.new)
+            reporter.old reporter.new result }
+        ensures clock { clock_of self.new ≡ clock_of self.old }
+    {
+        if self.recording.depth() != 0 {
+            return Err(Error::ScopesOpen);
+        }
+        if self.recording.is_empty() {
+            return Ok(false);
+        }
+        let name = self.recording.name_for_report()?;
+        self.recording.hand_over(name, reporter)?;
+        Ok(true)
+    }
+}

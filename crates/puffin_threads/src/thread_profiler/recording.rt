@@ -1,0 +1,269 @@
+//! What one thread records, apart from its clock.
+
+ghost use Rattle.std.specs.Prelude.{◌≡◌, ◌+◌, ◌-◌, ◌*◌, ◌^◌, ◌<◌, ◌≤◌, ◌++◌, ℤ, pos, ◌≤ℤ◌, [], ◌==◌, length, None, max, OnOk, OnErr, IfOk, IfErr, IfSome, IfNone, string_bytes, slice_get, unwrap_or, option_map};
+ghost use Rattle.std.specs.Int.{int_min};
+ghost use Rattle.std.specs.Option.{option_or};
+ghost use Rattle.puffin_data.specs.declared.error.Error.{Error};
+ghost use Rattle.puffin_data.specs.Forest.Spelling.{begin_bytes};
+ghost use Rattle.puffin_data.specs.Text.{cut_text};
+ghost use Rattle.puffin_data.specs.Forest.Words.{word_size, open_after};
+ghost use Rattle.puffin_threads.specs.Thread.Calls.{after_begin, after_end, after_handing, RegistersScope, open_offsets};
+ghost use Rattle.puffin_threads.specs.Thread.Closing.{GoesTo};
+ghost use Rattle.puffin_threads.specs.Details.{details_of};
+
+use crate::scope_details::{ScopeDetails, ScopeIds};
+use crate::thread_profiler::clock::NsSource;
+use crate::thread_profiler::reporter::Reporter;
+use crate::thread_profiler::thread_info::ThreadInfo;
+use puffin_data::data::{BEGIN_LIMIT, END_SIZE, ScopeId, Stream, StreamInfo};
+use puffin_data::{Error, NanoSecond, Result};
+use std::alloc::Global;
+use std::marker::Model;
+
+/// What one thread has recorded and not yet reported. Contracts see it as a `Thread`.
+#[derive(Drop)]
+pub struct Recording {
+    name: String,
+    // A copy of the name for the next report. It is there while a scope is open, since closing takes no memory.
+    spare: Option<String>,
+    info: StreamInfo,
+    first_start: Option<NanoSecond>,
+    latest: NanoSecond,
+    // Where the sizes of the open scopes stand, the innermost last.
+    offsets: Vec<usize>,
+    // What was registered since the last accepted report.
+    details: Vec<ScopeDetails>,
+}
+
+impl Model for Recording {
+    ghost use Rattle.puffin_threads.specs.Thread.Calls.{Thread};
+
+    ghost Value = { Thread };
+
+    ghost use Rattle.puffin_threads.specs.inner.ThreadRecording.{thread_in, IsRecording};
+
+    ghost view = { thread_in };
+
+    ghost invariant = { IsRecording };
+}
+
+/// A copy of a name. Refused only with `Memory`.
+#[inline(never)]
+fn copy_of(name: &String) -> Result<String>
+    ensures ok { IfOk result (λ s. string_bytes s ≡ string_bytes name.now) }
+    ensures memory { IfErr result (λ e. e ≡ Error.Memory) }
+{
+    Ok(name.clone()?)
+}
+
+/// Makes the copy of a name where there is none yet. Refused only with `Memory`.
+#[inline(always)]
+fn keep_copy(spare: &mut Option<String>, name: &String) -> Result<()>
+    ensures ok { OnOk result (
+        option_map (λ s. string_bytes s) spare.new ≡ Some (
+        unwrap_or (option_map (λ s. string_bytes s) spare.old) (
+        string_bytes name.now))) }
+    ensures err { OnErr result (spare.new ≡ spare.old) }
+    ensures memory { IfErr result (λ e. e ≡ Error.Memory) }
+{
+    if spare.is_none() {
+        *spare = Some(copy_of(name)?);
+    }
+    Ok(())
+}
+
+/// Keeps the first start there is. Only the first is written.
+#[inline(always)]
+fn keep_first(first: &mut Option<NanoSecond>, at: NanoSecond)
+    ensures { first.new ≡ option_or first.old (Some at) }
+{
+    if first.is_none() {
+        *first = Some(at);
+    }
+}
+
+/// Raises a number to this one. It is written only where it rises.
+#[inline(always)]
+fn raise(number: &mut usize, to: usize)
+    ensures { number.new ≡ max number.old to }
+{
+    if *number < to {
+        *number = to;
+    }
+}
+
+/// Lowers a time to this one. It is written only where it falls.
+#[inline(always)]
+fn lower(time: &mut NanoSecond, to: NanoSecond)
+    ensures { time.new ≡ int_min time.old to }
+{
+    if to < *time {
+        *time = to;
+    }
+}
+
+/// How many bytes the ends of the open scopes take, whose sizes stand at these offsets, and the end of one more.
+fn size_of_ends(offsets: &[usize]) -> usize
+    ensures size { result ≡ END_SIZE * (length offsets.now + 1) }
+    ensures small { result + BEGIN_LIMIT < 2 ^ 64 }
+{
+    END_SIZE * (offsets.len() + 1)
+}
+
+/// Writes a scope's beginning at a time, within the room, and returns where its size stands.
+fn write_begin(stream: &mut Stream, at: NanoSecond, id: ScopeId, text: &str) -> usize
+    requires { BEGIN_LIMIT ≤ stream.old.room }
+    ensures bytes { stream.new.bytes
+        ≡ stream.old.bytes ++ begin_bytes id at (cut_text text.now) (2 ^ 64 - 1) }
+    ensures offset { result + 8 ≡ length stream.new.bytes }
+    ensures room { stream.old.room ≤ stream.new.room + BEGIN_LIMIT }
+    ensures id { (0 < id) × (id < 2 ^ 32) }
+{
+    // The contract's last clause is what an id's number is.
+    let _number = id.get();
+    let (offset, _start) = stream.begin_scope(move || at, id, text).unwrap();
+    offset
+}
+
+impl Recording {
+    /// A thread without scopes.
+    pub(crate) fn new(alloc: Global, name: String) -> Recording
+        ensures { result ≡ record {
+          name = string_bytes name;
+          first_start = None;
+          latest = pos 0;
+          word = [];
+          details = [];
+        } }
+    {
+        Recording {
+            name,
+            spare: None,
+            info: StreamInfo::new(alloc),
+            first_start: None,
+            latest: 0,
+            offsets: Vec::new(alloc),
+            details: Vec::new(alloc),
+        }
+    }
+
+    /// How many scopes are open.
+    pub(crate) fn depth(&self) -> usize
+        ensures { result ≡ open_after 0 self.now.word }
+    {
+        self.offsets.len()
+    }
+
+    /// Whether nothing waits for a report, nor is open.
+    pub(crate) fn is_empty(&self) -> bool
+        ensures { result ≡ (length self.now.word == 0) }
+    {
+        self.info.stream.is_empty()
+    }
+
+    /// Where the size of the innermost open scope stands.
+    pub(crate) fn innermost(&self) -> Option<usize>
+        ensures { result ≡ slice_get (open_offsets self.now.word) 0 }
+    {
+        self.offsets.last().copied()
+    }
+
+    /// Begins a scope, and returns where its size stands. The memory for its end and for its report is taken first, and
+    /// then the clock is read.
+    pub(crate) fn begin_scope<C: NsSource>(
+        &mut self,
+        clock: &mut C,
+        id: ScopeId,
+        text: &str,
+    ) -> Result<usize>
+        ensures begun { OnOk result (
+            (at : ℤ)
+            × C.answers clock.old at clock.new
+            × (pos 0 ≤ℤ at)
+            × (self.new ≡ after_begin self.old id (cut_text text.now) at)) }
+        ensures offset { IfOk result (λ offset.
+            offset ≡ word_size self.old.word + 14 + length (cut_text text.now)) }
+        ensures unchanged { OnErr result ((self.new ≡ self.old) × (clock.new ≡ clock.old)) }
+        ensures memory { IfErr result (λ e. e ≡ Error.Memory) }
+    {
+        keep_copy(&mut self.spare, &self.name)?;
+        self.offsets.reserve(1)?;
+        let ends = size_of_ends(&self.offsets);
+        self.info.stream.reserve(BEGIN_LIMIT + ends)?;
+        let at = self.latest.max(clock.now_ns());
+        let offset = write_begin(&mut self.info.stream, at, id, text);
+        self.offsets.push_reserved(offset);
+        keep_first(&mut self.first_start, at);
+        self.latest = at;
+        self.info.num_scopes += 1;
+        raise(&mut self.info.depth, self.offsets.len());
+        lower(&mut self.info.range_ns.0, at);
+        Ok(offset)
+    }
+
+    /// Ends the innermost scope, without memory. Where it was the last, returns a copy of the name for the report.
+    pub(crate) fn close(&mut self, now_ns: NanoSecond) -> Option<String>
+        requires { 0 < open_after 0 self.old.word }
+        ensures closed { self.new ≡ after_end self.old now_ns }
+        ensures inner { IfNone result (1 < open_after 0 self.old.word) }
+        ensures last { IfSome result (λ name.
+            (open_after 0 self.old.word ≡ 1) × (string_bytes name ≡ self.old.name)) }
+    {
+        let offset = self.offsets.pop().unwrap();
+        let at = self.latest.max(now_ns);
+        self.info.stream.end_scope(offset, at).unwrap();
+        self.latest = at;
+        self.info.range_ns.1 = self.info.range_ns.1.max(at);
+        if self.offsets.is_empty() {
+            self.spare.take()
+        } else {
+            None
+        }
+    }
+
+    /// A copy of the name for a report. Refused only with `Memory`.
+    pub(crate) fn name_for_report(&mut self) -> Result<String>
+        requires { open_after 0 self.old.word ≡ 0 }
+        ensures name { IfOk result (λ name. string_bytes name ≡ self.old.name) }
+        ensures unchanged { self.new ≡ self.old }
+        ensures memory { IfErr result (λ e. e ≡ Error.Memory) }
+    {
+        match self.spare.take() {
+            Some(name) => Ok(name),
+            None => Ok(self.name.clone()?),
+        }
+    }
+
+    /// Registers details under a newly drawn id, which is returned, for the next accepted report.
+    ///
+    /// Refused with `IdsExhausted` or `Memory`, and nothing is changed then. The memory is taken before the id is drawn.
+    pub(crate) fn register(&mut self, ids: &ScopeIds, details: ScopeDetails) -> Result<ScopeId>
+        ensures { RegistersScope self.old (details_of details) result self.new }
+    {
+        self.details.reserve(1)?;
+        let id = ids.draw()?;
+        self.details.push_reserved(details.with_scope_id(id));
+        Ok(id)
+    }
+
+    /// Hands over all scopes under a name, with the details. Where they are refused, they stay.
+    pub(crate) fn hand_over<R: Reporter>(&mut self, name: String, reporter: &mut R) -> Result<()>
+        requires none_open { open_after 0 self.old.word ≡ 0 }
+        requires name { string_bytes name ≡ self.old.name }
+        ensures ok { OnOk result (
+            (self.new ≡ after_handing self.old)
+            × GoesTo R.accepts self.old reporter.old reporter.new) }
+        ensures err { IfErr result (λ e.
+            (self.new ≡ self.old)
+            × GoesTo (λ b i d r a. R.refuses b i d r e a) self.old reporter.old reporter.new) }
+    {
+        let info = ThreadInfo {
+            start_time_ns: self.first_start,
+            name,
+        };
+        reporter.report(info, &self.details, &self.info.as_stream_into_ref())?;
+        self.info.clear();
+        self.details.clear();
+        Ok(())
+    }
+}
