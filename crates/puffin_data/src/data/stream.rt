@@ -76,6 +76,7 @@ fn front(id: u32, start: NanoSecond, text_size: u8) -> [u8; 16]
         ≡ begin_mark ∷ (little_bytes 4 id ++ (time_bytes start ++ (text_size ∷ []))) }
 {
     let time = start.cast_unsigned();
+    // The lowest byte, 40, is `SCOPE_BEGIN`.
     let low = 40 + u64::from(id) * 0x100 + time % 0x100_0000 * 0x100_0000_0000;
     let high = time / 0x100_0000 + u64::from(text_size) * 0x100_0000_0000;
     let mut front = [0; 16];
