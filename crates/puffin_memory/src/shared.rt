@@ -1,7 +1,8 @@
 //! A profiler behind a lock: opening it, sinks, a scope of the caller's own, a frame, and the counts at the end.
-ghost use Rattle.std.specs.Prelude.{◌≡◌, IfOk};
+ghost use Rattle.std.specs.Prelude.{◌≡◌, IfOk, IfSome};
 ghost use Rattle.puffin_data.specs.Forest.{Forest};
 ghost use Rattle.puffin_data.specs.Honesty.{IsHonest};
+ghost use Rattle.puffin.specs.Profiler.{collected_of};
 
 use crate::again;
 use crate::registrations::{owned, print_frame};
@@ -64,10 +65,10 @@ fn register<L: Ledger, M: Ledger>(
     rt: &impl Wait,
     alloc: Global,
     profiler: &SharedProfiler<L, M>,
+    ids: &ScopeIds,
 ) -> Option<ScopeId> {
-    let ids = ScopeIds::new();
     let details = [ScopeDetails::from_scope_name(owned(alloc, "user")?)];
-    let ids = again!(profiler.register_user_scopes(rt, &ids, &details))?;
+    let ids = again!(profiler.register_user_scopes(rt, ids, &details))?;
     ids.first().copied()
 }
 
@@ -137,50 +138,100 @@ fn shared<L: Ledger, M: Ledger, R: Print + Wait>(
     alloc: Global,
     profiler: &SharedProfiler<L, M>,
     share: Share<L, M>,
+    ids: &ScopeIds,
 ) -> Option<()> {
     let mut share = share;
     let view = attach(rt, alloc, profiler)?;
     let other = add(rt, profiler, self::view(alloc)?)?;
-    let id = register(rt, alloc, profiler)?;
+    let id = register(rt, alloc, profiler, ids)?;
     again!(report(rt, alloc, profiler, &mut share, id))?;
     frame(rt, profiler, &mut share)?;
     close(rt, profiler, view, other)?;
     settle(rt, alloc, profiler, share)
 }
 
-/// The same with a profiler that is opened first; `Some(false)` where that is refused.
+/// The same with a clone of a profiler.
+fn cloned<L: Ledger, M: Ledger, R: Print + Wait>(
+    rt: &R,
+    alloc: Global,
+    profiler: &SharedProfiler<L, M>,
+    share: Share<L, M>,
+    ids: &ScopeIds,
+) -> Option<()> {
+    let profiler = again!(profiler.clone())?;
+    shared(rt, alloc, &profiler, share, ids)
+}
+
+/// The same with a profiler that is opened first. Where that is refused, the profiler that came back.
 fn opened<L: Ledger, M: Ledger, R: Print + Wait>(
     rt: &R,
+    profiler: GlobalProfiler,
+    ids: &ScopeIds,
     alloc: Global,
     reported: Blank,
     handed: Blank,
-) -> Option<bool>
+) -> Option<Option<GlobalProfiler>>
+    requires fresh { ((collected_of profiler).reported ≡ 0)
+        × ((collected_of profiler).emitted ≡ 0) }
     requires reported { (reported.name ≡ L.name)
         × (reported.parts ≡ L.parts)
         × (reported.parts ≡ 1) }
     requires handed { (handed.name ≡ M.name) × (handed.parts ≡ M.parts) × (handed.parts ≡ 1) }
 {
-    let profiler = GlobalProfiler::new(alloc);
     match SharedProfiler::<L, M>::open(alloc, profiler, 1, reported, handed) {
         Ok((profiler, shares)) => {
             let mut shares = shares;
-            let profiler = again!(profiler.clone())?;
-            shared(rt, alloc, &profiler, shares.pop()?)?;
-            Some(true)
+            cloned(rt, alloc, &profiler, shares.pop()?, ids)?;
+            Some(None)
         }
-        Err(_) => Some(false),
+        Err((_, profiler)) => Some(Some(profiler)),
     }
 }
 
-fn once<R: Print + AllocGlobal + Wait>(rt: &R) -> Option<bool> {
-    opened::<Brand, Brand, R>(rt, rt.alloc(), Blank::new(1), Blank::new(1))
+/// A profiler that nothing was reported to, and that knows one scope.
+fn prepared(alloc: Global, ids: &ScopeIds) -> Option<GlobalProfiler>
+    ensures { IfSome result (λ profiler.
+        ((collected_of profiler).reported ≡ 0) × ((collected_of profiler).emitted ≡ 0)) }
+{
+    let mut profiler = GlobalProfiler::new(alloc);
+    let details = [ScopeDetails::from_scope_name(owned(alloc, "early")?)];
+    let _ids = again!(profiler.register_user_scopes(ids, &details))?;
+    Some(profiler)
 }
 
-/// Shares a profiler; where it isn't opened for want of memory, another one.
+/// What is done with such a profiler; where it isn't opened, the one that came back.
+fn once<R: Print + AllocGlobal + Wait>(rt: &R) -> Option<Option<GlobalProfiler>> {
+    let ids = ScopeIds::new();
+    let profiler = prepared(rt.alloc(), &ids)?;
+    opened::<Brand, Brand, R>(rt, profiler, &ids, rt.alloc(), Blank::new(1), Blank::new(1))
+}
+
+/// Whether a profiler knows one scope, and has taken no frame: it tells of it in frame 0.
+fn is_as_prepared<R: AllocGlobal + Wait>(rt: &R, profiler: &mut GlobalProfiler) -> Option<bool> {
+    let scope = own_scope(rt.alloc(), ScopeId::new(1)?).ok()?;
+    let user = ThreadInfo {
+        start_time_ns: None,
+        name: String::from_str(rt.alloc(), "user").ok()?,
+    };
+    profiler
+        .report_user_scopes(user, &scope.as_stream_into_ref())
+        .ok()?;
+    let frame = profiler.new_frame(rt).ok()?.frame?;
+    let (index, scopes) = (frame.meta().frame_index, frame.meta().num_scopes);
+    let told = frame.scope_delta.first()?.name().as_str() == "early";
+    Some((index, scopes, frame.scope_delta.len()) == (0, 1, 1) && told)
+}
+
+/// Shares a profiler. Where it isn't opened for want of memory, it comes back as it was, and another one is shared.
 pub fn run<R: Print + AllocGlobal + Wait>(rt: &R) -> Option<()> {
-    if once(rt)? || once(rt)? {
-        Some(())
-    } else {
-        None
+    let Some(mut profiler) = once(rt)? else {
+        return Some(());
+    };
+    if !is_as_prepared(rt, &mut profiler)? {
+        return None;
+    }
+    match once(rt)? {
+        None => Some(()),
+        Some(_) => None,
     }
 }

@@ -3,3 +3,6 @@ mod Scripts
 mod CountedLines
 mod Recording
 mod StartWords
+mod DueFrames
+mod KeptFrames
+mod Promises

@@ -24,7 +24,7 @@ use Rattle.puffin_view.specs.View.FrameOf.{shared_frame, details_of_frame}
 use Rattle.puffin_frames.specs.declared.frame_data.frame.FrameData.{FrameData}
 use Rattle.std.specs.declared.sync.Arc.{Arc}
 use Rattle.std.specs.declared.alloc.Global.{Global}
-use Rattle.puffin_view.specs.View.{View, Took, empty_view, after_taking, after_all, KeepsFrames}
+use Rattle.puffin_view.specs.View.{View, Took, after_taking, after_all, KeepsFrames}
 use Rattle.puffin_view.specs.View.Known.{view_of, collection_of, lacks_ids}
 use Rattle.puffin_view.specs.View.File.{file_of, contents_held, contents_in}
 use Rattle.puffin_session.specs.declared.command.Command.{Command}
@@ -33,8 +33,8 @@ use Rattle.puffin_session.specs.declared.command.Reply.{Reply}
 use Rattle.puffin_session.specs.declared.command.Reply.TheVariants as reply
 use Rattle.puffin_session.specs.Session.Runs.{HasIds, AreReplies, details_told, details_of_reply}
 use Rattle.puffin_report.specs.Summary.{NoneLacksIds}
-use Rattle.puffin_replay.specs.Program.Recording.{frame_in, emitted_by, frames_emitted, Takes, TakesSome, file_of_view, IsBroken}
-use Rattle.puffin_replay.specs.Program.ScriptRun.{AreAnswers, view_after, IsReplayed, IsUnfinished}
+use Rattle.puffin_replay.specs.Program.Recording.{frame_in, emitted_by, frames_emitted, Takes, TakesSome, TookAlso, file_of_view, IsBroken}
+use Rattle.puffin_replay.specs.Program.ScriptRun.{AreAnswers, loose_view, view_after, IsReplayed, IsUnfinished}
 use Rattle.puffin_replay.specs.Program.ReplyLines.{reply_lines}
 use Rattle.puffin_session.specs.Session.{SessionState, new_session}
 use Rattle.puffin_report.proofs.lemmas.WrittenLines.{nothing_written}
@@ -105,10 +105,6 @@ pub ids_kept : ((p : Said → Bool) (v : View) (fs : List Frame) → list_any p 
     → (rs : List Reply) (old new : FrameView) → All HasIds rs → Takes (frames_emitted rs) old new → NoneLacksIds (contents_held (view_of old)) → NoneLacksIds (contents_held (view_of new))
 ids_kept held rs old new ids takes before =
     subst (λ (v : View). NoneLacksIds (contents_held v)) (sym takes.taken) (held lacks_ids (view_of old) (frames_emitted rs) before (replies_lack_none rs (recursion_from_All HasIds rs ids)))
-
--- a view that took a list took these frames besides
-abbrev pub TookAlso : List Frame → View → View → Type 0
-TookAlso fs old new = (cs : List Said) → Took cs old → Took (cs ++ map contents_of fs) new
 
 abbrev pub TakesAll : List Frame → FrameView → FrameView → Type 0
 TakesAll fs old new = Takes fs old new × TookAlso fs (view_of old) (view_of new)
@@ -194,7 +190,7 @@ module _ (script : Script) (names : List (List ℕ)) (commands : List Command) (
   pub answers : (replies : List Reply) (end : SessionState) → AreReplies names commands replies end → AreAnswers script replies end
   answers replies end run = subst (λ (ns : List (List ℕ)). AreReplies ns script.commands.items replies end) same_names (subst (λ (cs : List Command). AreReplies names cs replies end) same_commands run)
 
-  module _ (old new : FrameView) (empty : view_of old ≡ empty_view) where
+  module _ (old new : FrameView) (empty : view_of old ≡ loose_view) where
     pub view-after : (replies : List Reply) → Takes (frames_emitted replies) old new → view_of new ≡ view_after replies
     view-after replies takes = takes.taken ∙ ap (λ (v : View). after_all v (frames_emitted replies)) empty
 

@@ -1,3 +1,4 @@
 pub mod inner
 pub mod Script
 pub mod Program
+pub mod Promise

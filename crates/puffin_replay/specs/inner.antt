@@ -1,2 +1,3 @@
 -- What contracts of private functions and proofs alone cite.
 pub mod ScriptReading
+pub mod InMemory

@@ -4,4 +4,6 @@
 #[cfg(test)]
 mod details;
 #[cfg(test)]
+mod recording;
+#[cfg(test)]
 mod session;

@@ -1,5 +1,6 @@
 //! Threads that are profiled.
 
+mod any_thread;
 mod clock;
 pub mod laws;
 mod profiler;
@@ -7,6 +8,7 @@ mod recording;
 mod reporter;
 mod thread_info;
 
+pub use any_thread::AnyThread;
 pub use clock::{NsSource, ScriptClock, SystemClock};
 pub use profiler::ThreadProfiler;
 pub use reporter::{Closed, Reporter};

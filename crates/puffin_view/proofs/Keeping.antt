@@ -1,12 +1,12 @@
 -- A view's lists stay as they should, and packing is one replacement in each.
-use Rattle.std.proofs.Common.{◌≡◌, ℕ, zero, suc, ◌-◌, ◌<◌, ◌≤◌, Bool, true, false, cond, List, [], ◌∷◌, ◌++◌, length, take, drop, map, refl, sym, ◌∙◌, subst, arith, Option, Some, get_or}
+use Rattle.std.proofs.Common.{◌≡◌, ℕ, zero, suc, ◌<◌, Bool, true, false, cond, List, [], ◌∷◌, ◌++◌, length, take, drop, map, refl, sym, ◌∙◌, subst, arith, Option, get_or}
 use Rattle.std.proofs.Math.ListN.{set}
 use Rattle.std.proofs.lemmas.Bool.{ne_eqb}
 use Rattle.std.specs.Prelude.{nat_eq, ◌≢◌}
 use Rattle.std.specs.List.{AllByRecursion}
 use Rattle.puffin_view.specs.View.Ranking.{place, last_from}
 use Rattle.puffin_view.specs.View.ViewedFrames.{Frame, index_of, is_slower_frame, packed_under, packed_alone}
-use Rattle.puffin_view.specs.View.{View, enters, joined_by, IsUpTo}
+use Rattle.puffin_view.specs.View.{IsUpTo}
 use Rattle.puffin_view.specs.inner.Kept.{AreRising, HaveOwnIndices, AreViewLists}
 
 -- of lists

@@ -5,6 +5,7 @@ mod Keeping
 mod HoldingViews
 mod Placing
 mod Storing
+mod LettingGo
 mod JoiningPending
 mod Listing
 mod Chronology

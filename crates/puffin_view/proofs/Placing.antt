@@ -1,6 +1,6 @@
 -- Places among ranks in order.
 use Rattle.std.proofs.Common.{◌≡◌, ℕ, zero, suc, ◌<◌, ◌≤◌, Bool, true, false, List, [], ◌∷◌, length, get_or, refl, sym, ap, subst, ◌∙◌, arith}
-use Rattle.std.specs.Prelude.{nat_lt, slice_get, Option, Some, ◌||◌, ◌-◌}
+use Rattle.std.specs.Prelude.{nat_lt, Option, Some, ◌||◌, ◌-◌}
 use Rattle.std.specs.Option.{option_map_or}
 use Rattle.std.specs.List.{insert}
 use Rattle.std.specs.List.Sorted.{IsStrictlySortedBy, IsPartitionedBy, IsPartitionPoint}
@@ -69,15 +69,6 @@ placed_at r (x ∷ xs) (suc i) h low high =
 pub placed_at_point : (r : SlowRank) (xs : List SlowRank) (i : ℕ) → i ≤ length xs → IsPartitionPoint (λ y. is_up_to r y ≡ true) (λ y. is_up_to r y ≡ false) xs i → insert xs i r ≡ place is_before r xs
 placed_at_point r xs i h point = placed_at r xs i h (λ k d b. point.0 k d (omega arith) b) (λ k d a b. point.1 k d a b)
 
--- the last of a slice
-pub last_got : {A : Type 0} (hs : List A) (a : A) → Some a ≡ slice_get hs (length hs - 1) → last_in hs ≡ Some a
-last_got [] a h = cc
-last_got (x ∷ []) a h = sym h
-last_got (x ∷ (y ∷ ys)) a h =
-    let less : length (x ∷ (y ∷ ys)) - 1 ≡ suc (length (y ∷ ys) - 1) = omega arith in
-    let P : ℕ → Type 0 = λ n. Some a ≡ slice_get (x ∷ (y ∷ ys)) n in
-    last_got (y ∷ ys) a (subst P less h)
-
 not_room : (k : ℕ) (rs : List SlowRank) → k ≤ length rs → nat_lt (length rs) k ≡ false
 not_room k rs h = grind arith
 
@@ -86,8 +77,8 @@ neither_in true o p n e q = absurd (true≢false e)
 neither_in false o p n e q = ap (λ r. option_map_or n r false) q
 
 -- where there is no room, a rank comes among the others where it comes before the last
-pub enters_before : (k : ℕ) (rs : List SlowRank) (r last : SlowRank) → k ≤ length rs → Some last ≡ slice_get rs (length rs - 1) → is_before r last ≡ rank_enters k rs r
-enters_before k rs r last full got = sym (neither_in (nat_lt (length rs) k) (last_in rs) (Some last) (λ s. is_before r s) (not_room k rs full) (last_got rs last got))
+pub enters_before : (k : ℕ) (rs : List SlowRank) (r last : SlowRank) → k ≤ length rs → last_in rs ≡ Some last → is_before r last ≡ rank_enters k rs r
+enters_before k rs r last full got = sym (neither_in (nat_lt (length rs) k) (last_in rs) (Some last) (λ s. is_before r s) (not_room k rs full) got)
 
 no_below : (k : ℕ) → k < 0 → ⊥
 no_below k h = omega arith

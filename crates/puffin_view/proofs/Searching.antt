@@ -79,8 +79,8 @@ any_number i (k ∷ is) = λ j. eq_numbers k i j || any_number i is j
 pub searched_index : (is : List ℕ) (i n : ℕ) (r : Result ℕ ℕ) → n ≡ length is → IsStrictlySortedBy nat_cmp is → IsSearchInRange r n → IsBinarySearchResult (λ k. nat_cmp k i) is r → is_ok r ≡ list_any (λ k. nat_eq k i) is
 searched_index is i n r as_many sorted range found = searched nat_cmp nat_cmp_total is i r sorted (subst (IsSearchInRange r) as_many range) found ∙ any_number i is
 
-pub searched_rank : (slow : List SlowRank) (x : SlowRank) (r : Result ℕ ℕ) → IsStrictlySortedBy rank_cmp slow → IsSearchInRange r (length slow) → IsBinarySearchResult (λ y. rank_cmp y x) slow r → is_ok r ≡ list_any (λ y. is_eq (rank_cmp y x)) slow
-searched_rank slow x r sorted range found = searched rank_cmp rank_cmp_total slow x r sorted range found
+pub searched_rank : (slow : List SlowRank) (x : SlowRank) (n : ℕ) (r : Result ℕ ℕ) → n ≡ length slow → IsStrictlySortedBy rank_cmp slow → IsSearchInRange r n → IsBinarySearchResult (λ y. rank_cmp y x) slow r → is_ok r ≡ list_any (λ y. is_eq (rank_cmp y x)) slow
+searched_rank slow x n r as_many sorted range found = searched rank_cmp rank_cmp_total slow x r sorted (subst (IsSearchInRange r) as_many range) found
 
 -- a rank of the frame that is held under an index
 one_some : {A : Type 0} (a b : A) → Some a ≡ Some b → a ≡ b

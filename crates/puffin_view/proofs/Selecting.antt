@@ -1,8 +1,7 @@
 -- Steps of selecting the slowest.
-use Rattle.std.proofs.Common.{◌≡◌, ℕ, zero, suc, ◌+◌, ◌<◌, ◌≤◌, Bool, List, [], ◌∷◌, ◌++◌, length, drop, map, refl, sym, ap, ◌∙◌, arith, Option, Some, None, get_or, add-one, append_assoc, drop-cons, append-nil}
-use Rattle.std.specs.Prelude.{slice_get, filter_map}
+use Rattle.std.proofs.Common.{◌≡◌, ℕ, zero, suc, ◌+◌, ◌<◌, ◌≤◌, Bool, List, [], ◌∷◌, ◌++◌, length, drop, map, refl, sym, ap, ◌∙◌, arith, Some, None, get_or, add-one, append_assoc, drop-cons, append-nil}
+use Rattle.std.specs.Prelude.{slice_get}
 use Rattle.std.specs.Option.{option_map, option_to_list}
-use Rattle.std.specs.List.{cons_option}
 use Rattle.std.specs.List.Sorted.{IsSortedBy}
 use Rattle.puffin_view.specs.View.ViewedFrames.{Frame, index_of, duration_of}
 use Rattle.puffin_view.specs.View.Selection.{Rank, ranks_from}

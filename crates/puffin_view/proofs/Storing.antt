@@ -573,32 +573,11 @@ take_next [] k d h = absurd (no_less k h)
 take_next (x ∷ xs) zero d h = refl
 take_next (x ∷ xs) (suc k) d h = ap (λ ys. x ∷ ys) (take_next xs k d (omega arith))
 
-map_more : {A B : Type 0} (g : A → B) (xs : List A) (x : A) → map g (xs ++ x ∷ []) ≡ map g xs ++ g x ∷ []
-map_more g [] x = refl
-map_more g (y ∷ xs) x = ap (λ ys. g y ∷ ys) (map_more g xs x)
-
-ranks_next : (rs : List SlowRank) (k : ℕ) (d : SlowRank) → k < length rs → map rank_index (take k rs) ++ rank_index (get_or rs k d) ∷ [] ≡ map rank_index (take (k + 1) rs)
-ranks_next rs k d h = sym (map_more rank_index (take k rs) (get_or rs k d)) ∙ ap (map rank_index) (sym (take_next rs k d h)) ∙ ap (λ n. map rank_index (take n rs)) (sym (more k)) where
-  more : (k : ℕ) → k + 1 ≡ suc k
-  more k = omega arith
-
-any_has : (i : ℕ) (is : List ℕ) → list_any (λ y. nat_eq y i) is ≡ has i is
+pub any_has : (i : ℕ) (is : List ℕ) → list_any (λ y. nat_eq y i) is ≡ has i is
 any_has i [] = refl
 any_has i (x ∷ is) = λ j. flips x i j || any_has i is j where
   flips : (a b : ℕ) → nat_eq a b ≡ nat_eq b a
   flips a b = grind arith
-
--- one more rank, whose frame is let go where it isn't recent
-pub slow_step : (old mid new : HeldFrames) (recent : List ℕ) (rs : List SlowRank) (k : ℕ) (d : SlowRank) (b : Bool) → k < length rs → LetsGo old recent (map rank_index (take k rs)) mid → b ≡ list_any (λ y. nat_eq y (rank_index (get_or rs k d))) recent
-    → (b ≡ false → new ≡ fin.remove mid (rank_index (get_or rs k d))) → (b ≡ true → new ≡ mid) → LetsGo old recent (map rank_index (take (k + 1) rs)) new
-slow_step old mid new recent rs k d b h go is off on =
-    let i : ℕ = rank_index (get_or rs k d) in
-    let P : List ℕ → Type 0 = λ gone. LetsGo old recent gone new in
-    subst P (ranks_next rs k d h) (at b is off on) where
-      at : (b : Bool) → b ≡ list_any (λ y. nat_eq y (rank_index (get_or rs k d))) recent → (b ≡ false → new ≡ fin.remove mid (rank_index (get_or rs k d))) → (b ≡ true → new ≡ mid) → LetsGo old recent (map rank_index (take k rs) ++ rank_index (get_or rs k d) ∷ []) new
-      at true is off on = let Q : HeldFrames → Type 0 = λ m. LetsGo old recent (map rank_index (take k rs) ++ rank_index (get_or rs k d) ∷ []) m in
-          subst Q (sym (on refl)) (LetsGo-kept old mid recent (map rank_index (take k rs)) (rank_index (get_or rs k d)) go (sym (any_has (rank_index (get_or rs k d)) recent) ∙ sym is))
-      at false is off on = LetsGo-more old mid new recent (map rank_index (take k rs)) (rank_index (get_or rs k d)) go (off refl) (sym (any_has (rank_index (get_or rs k d)) recent) ∙ sym is)
 
 pub unlike : {A : Type 0} {b : Bool} → b ≡ true → b ≡ false → A
 unlike e p = absurd (true≢false (sym e ∙ p))

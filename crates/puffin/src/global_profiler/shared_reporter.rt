@@ -1,15 +1,18 @@
 //! A thread's way to a shared profiler.
-ghost use Rattle.std.specs.Prelude.{◌≡◌, ◌+◌, ◌≤◌};
+ghost use Rattle.std.specs.Prelude.{◌≡◌, ◌≢◌, ◌+◌, ◌≤◌, ℤ, pos, ◌≤ℤ◌, Some, OnOk, OnErr, IfOk, IfErr, slice_get};
+ghost use Rattle.puffin_data.specs.declared.error.Error.{Error};
 ghost use Rattle.puffin_data.specs.Forest.{Forest};
 ghost use Rattle.puffin_data.specs.Honesty.{IsHonestRef};
+ghost use Rattle.puffin_threads.specs.Thread.Calls.{open_offsets};
+ghost use Rattle.puffin_threads.specs.Thread.Closing.{Closes, Reports};
 
 use crate::global_profiler::share::Share;
 use crate::global_profiler::shared_profiler::SharedProfiler;
 use puffin_collector::Totals;
-use puffin_data::Result;
 use puffin_data::data::StreamInfoRef;
+use puffin_data::{Error, Result};
 use puffin_frames::scope_details::ScopeDetails;
-use puffin_frames::thread_profiler::{Reporter, ThreadInfo};
+use puffin_frames::thread_profiler::{AnyThread, Closed, Reporter, ThreadInfo};
 use std::sync::Wait;
 use std::sync::ledger::Ledger;
 
@@ -43,6 +46,41 @@ impl<L: Ledger, M: Ledger, R: Wait> SharedReporter<L, M, R> {
         ensures same { self.new.share ≡ self.old.share }
     {
         self.profiler.totals(&self.rt, &mut self.share)
+    }
+
+    /// Ends the innermost open scope of a thread, whose offset this has to be. Where it was the last, all that has closed
+    /// since the last accepted report goes to the profiler, and the share counts it. Refused as
+    /// [`ThreadProfiler::end_scope`](crate::thread_profiler::ThreadProfiler::end_scope) is; waits for the lock where it
+    /// reports.
+    pub fn end_scope<T: AnyThread>(&mut self, thread: &mut T, offset: usize) -> Result<Closed>
+        requires { Unit {0} }
+        ensures innermost { OnOk result (
+            slice_get (open_offsets (T.recorded thread.old).word) 0 ≡ Some offset) }
+        ensures mismatched { IfErr result (λ e.
+            (e ≡ Error.MismatchedEnd)
+            × (slice_get (open_offsets (T.recorded thread.old).word) 0 ≢ Some offset)) }
+        ensures unchanged { OnErr result ((thread.new ≡ thread.old) × (self.new ≡ self.old)) }
+        ensures closed { IfOk result (λ closed.
+            (at : ℤ)
+            × T.answers thread.old at thread.new
+            × (pos 0 ≤ℤ at)
+            × Closes ⟦<SharedReporter<L, M, R> as Reporter>⟧.accepts
+            ⟦<SharedReporter<L, M, R> as Reporter>⟧.refuses (T.recorded thread.old)
+            (T.recorded thread.new) at self.old self.new closed) }
+    {
+        thread.end_innermost(offset, self)
+    }
+
+    /// Reports the closed scopes of a thread that wait, as those do whose guards are gone. `Ok(false)` where none waits.
+    /// Refused as [`ThreadProfiler::report_closed`](crate::thread_profiler::ThreadProfiler::report_closed) is; waits for
+    /// the lock where it reports.
+    pub fn report_closed<T: AnyThread>(&mut self, thread: &mut T) -> Result<bool>
+        requires { Unit {0} }
+        ensures { Reports ⟦<SharedReporter<L, M, R> as Reporter>⟧.accepts
+            ⟦<SharedReporter<L, M, R> as Reporter>⟧.refuses (T.recorded thread.old)
+            (T.recorded thread.new) self.old self.new result }
+    {
+        thread.report_waiting(self)
     }
 }
 

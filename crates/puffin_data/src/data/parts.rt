@@ -96,7 +96,7 @@ pub fn read_length<S: Source>(source: &mut S) -> Result<usize, FileError>
 }
 
 /// Reads once up to a place behind what a vector holds, and appends what came.
-fn append_piece<S: Source>(
+pub(super) fn append_piece<S: Source>(
     source: &mut S,
     bytes: &mut Vec<u8>,
     wanted: usize,

@@ -5,35 +5,12 @@ ghost use Rattle.std.specs.Io.KnownBytes.{Consumes, Appends, IsAtEnd};
 ghost use Rattle.puffin_data.specs.Device.{IsOutside, TookNothing, WritesBeginning, failures_after};
 
 use crate::data::device::{Drain, Source};
+use crate::data::parts::append_piece;
 use crate::file_error::FileError;
 use std::alloc::Global;
 
 /// How many bytes are read at once. A length that lies asks for no more memory than that before bytes come.
 pub(super) const PIECE_SIZE: usize = 65536;
-
-/// Reads once into a piece, and appends what came.
-fn append_read<S: Source>(
-    source: &mut S,
-    piece: &mut [u8],
-    bytes: &mut Vec<u8>,
-) -> Result<usize, FileError>
-    requires { S.failures source.old < 2 ^ 64 - 1 }
-    ensures took { IfOk result (λ n.
-        (taken : List ℕ)
-        × (bytes.new.items ≡ bytes.old.items ++ taken)
-        × (length taken ≡ n)
-        × Consumes (S.remaining source.old) (S.remaining source.new) taken
-        × (n ≡ 0 → 0 < length piece.old → IsAtEnd (S.remaining source.new))) }
-    ensures outside { IfErr result IsOutside }
-    ensures failures { S.failures source.new ≡ failures_after (S.failures source.old) result }
-{
-    let n = match source.read(piece) {
-        Ok(n) => n,
-        Err(_) => return Err(FileError::Io),
-    };
-    bytes.extend_from_slice(&piece[..n])?;
-    Ok(n)
-}
 
 /// Reads to the end. Refused with `Io` where a read failed, else with `Memory`; the reader's place is then open.
 pub fn read_to_end<S: Source>(alloc: Global, source: &mut S) -> Result<Vec<u8>, FileError>
@@ -44,11 +21,11 @@ pub fn read_to_end<S: Source>(alloc: Global, source: &mut S) -> Result<Vec<u8>, 
     ensures outside { IfErr result IsOutside }
     ensures failures { S.failures source.new ≡ failures_after (S.failures source.old) result }
 {
-    let mut piece = [0; PIECE_SIZE];
     let mut bytes = Vec::new(alloc);
     'pieces: loop {
-        let n = append_read(source, &mut piece, &mut bytes)?;
-        if n == 0 {
+        let wanted = bytes.len() + PIECE_SIZE;
+        append_piece(source, &mut bytes, wanted)?;
+        if bytes.len() < wanted {
             return Ok(bytes);
         }
     }

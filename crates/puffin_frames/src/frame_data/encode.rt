@@ -26,6 +26,12 @@ use std::borrow::CowStr;
 use std::collections::BTreeMap;
 use std::sync::Arc;
 
+/// The most bytes that a number takes.
+const NUMBER_SIZE: usize = 9;
+
+/// The most bytes that a thread and what is recorded of it take beside its name and its stream.
+const RECORD_SIZE: usize = 7 * NUMBER_SIZE + 1;
+
 /// Appends a frame's meta.
 pub(crate) fn put_meta(out: &mut Vec<u8>, meta: &FrameMeta) -> Result<()>
     ensures ok { OnOk result (out.new.items ≡ out.old.items ++ meta_layout meta.now) }
@@ -92,6 +98,18 @@ fn put_recorded(out: &mut Vec<u8>, info: &StreamInfo) -> Result<()>
     put_u64(out, depth)?;
     put_i64(out, start)?;
     put_i64(out, stop)
+}
+
+/// How many bytes streams take, at most; `usize::MAX` where they wouldn't fit in memory.
+pub(crate) fn streams_size(streams: &ThreadStreams) -> usize {
+    let mut size = NUMBER_SIZE;
+    'streams: for (thread, info) in streams {
+        size = size
+            .saturating_add(RECORD_SIZE)
+            .saturating_add(thread.name.len())
+            .saturating_add(info.stream.len());
+    }
+    size
 }
 
 /// Appends streams by their threads.

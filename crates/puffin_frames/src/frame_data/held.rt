@@ -9,7 +9,7 @@ ghost use Rattle.puffin_frames.specs.Frame.Streams.{contents, streams_code};
 ghost use Rattle.puffin_frames.specs.Frame.Holding.{streams_in};
 
 use crate::frame_data::decode::{self, Stop};
-use crate::frame_data::encode::put_streams;
+use crate::frame_data::encode::{put_streams, streams_size};
 use crate::frame_data::meta::FrameMeta;
 use crate::frame_data::thread_streams::ThreadStreams;
 use crate::frame_data::unpacked::UnpackedFrameData;
@@ -81,7 +81,7 @@ impl PackedStreams {
             streams_in (packed_as packed) ≡ Some (shared_streams streams.now.entries)) }
         ensures memory { IfErr result (λ e. e ≡ Error.Memory) }
     {
-        let mut bytes = Vec::new(alloc);
+        let mut bytes = Vec::with_capacity(alloc, streams_size(streams))?;
         put_streams(&mut bytes, streams)?;
         Ok(PackedStreams::new(0, bytes))
     }

@@ -1,5 +1,5 @@
 -- What a run of commands from a new session emits, and what recording it makes of a view and of the view's file.
-use Rattle.std.specs.Prelude.{◌≡◌, ◌⊎◌, ℕ, List, [], ◌∷◌, ◌++◌, Option, Some, None}
+use Rattle.std.specs.Prelude.{◌≡◌, ◌⊎◌, ℕ, List, [], ◌∷◌, ◌++◌, map, Option, Some, None}
 use Rattle.std.specs.List.{flat_map}
 use Rattle.std.specs.declared.sync.Arc.{Arc}
 use Rattle.std.specs.declared.alloc.Global.{Global}
@@ -10,9 +10,10 @@ use Rattle.puffin_data.specs.Device.{WritesBeginning}
 use Rattle.puffin_frames.specs.declared.frame_data.frame.FrameData.{FrameData}
 use Rattle.puffin_threads.specs.Details.Collection.{with_all_details, LearnsSome}
 use Rattle.puffin_view.specs.declared.profile_view.frame_view.FrameView.{FrameView}
-use Rattle.puffin_view.specs.View.ViewedFrames.{Frame, index_of}
+use Rattle.puffin_frames.specs.Packet.Stored.{Said}
+use Rattle.puffin_view.specs.View.ViewedFrames.{Frame, contents_of, index_of}
 use Rattle.puffin_view.specs.View.FrameOf.{shared_frame, details_of_frame}
-use Rattle.puffin_view.specs.View.{after_all, KeepsFrames}
+use Rattle.puffin_view.specs.View.{View, Took, after_all, KeepsFrames}
 use Rattle.puffin_view.specs.View.Known.{view_of, collection_of}
 use Rattle.puffin_view.specs.View.File.{file_of, contents_in}
 use Rattle.puffin_session.specs.declared.command.Command.{Command}
@@ -54,6 +55,11 @@ pub record TakesSome (frames : List Frame) (old new : FrameView) : Type 0 where
   pub details : LearnsSome (with_all_details (collection_of old) (flat_map details_of_frame front))
       (details_of_frame next) (collection_of new)
 
+-- a view that took a list took these frames besides
+abbrev pub TookAlso : List Frame → View → View → Type 0
+TookAlso frames old new =
+    (cs : List Said) → Took cs old → Took (cs ++ map contents_of frames) new
+
 -- ---- recording
 
 -- the file of a view
@@ -88,6 +94,7 @@ module _ (start end : SessionState) (commands : List Command) (old new : FrameVi
       × Takes (frames_emitted replies) old new
       × WritesBeginning before after (file_of_view new)
       × IsWriteFault fault
+      × TookAlso (frames_emitted replies) (view_of old) (view_of new)
 
   -- why a recording failed, and what it left
   abbrev pub IsBroken : FileError → Type 0

@@ -1,5 +1,5 @@
 -- What a script's run writes.
-use Rattle.std.specs.Prelude.{◌≡◌, ◌⊎◌, ℕ, List, [], Option, map}
+use Rattle.std.specs.Prelude.{◌≡◌, ◌⊎◌, ℕ, false, List, [], Option, map}
 use Rattle.std.specs.List.{AllByRecursion, Any}
 use Rattle.std.specs.String.{string_bytes}
 use Rattle.std.specs.Io.KnownBytes.{Appends}
@@ -23,9 +23,13 @@ abbrev pub AreAnswers : Script → List Reply → SessionState → Type 0
 AreAnswers script replies end =
     AreReplies (map string_bytes script.names.items) script.commands.items replies end
 
--- a new view that took the frames of replies, and no others
+-- a new view that packs no frame
+abbrev pub loose_view : View
+loose_view = record empty_view { packs = false }
+
+-- such a view that took the frames of replies, and no others
 abbrev pub view_after : List Reply → View
-view_after replies = after_all empty_view (frames_emitted replies)
+view_after replies = after_all loose_view (frames_emitted replies)
 
 -- One writer got the file of a view that took the frames of a run of the script, and the other the lines of the run's replies.
 pub record IsReplayed (script : Script) (file_before file_after lines_before lines_after : Option (List ℕ)) : Type 0 where

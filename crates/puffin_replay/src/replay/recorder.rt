@@ -1,6 +1,6 @@
 //! Recording what a session emits.
 
-ghost use Rattle.std.specs.Prelude.{◌≡◌, ◌⊎◌, ◌+◌, ◌-◌, ◌^◌, ◌<◌, ◌++◌, List, All, map, option_map, IfOk, IfErr, OnOk};
+ghost use Rattle.std.specs.Prelude.{◌≡◌, ◌⊎◌, ◌+◌, ◌-◌, ◌^◌, ◌<◌, ◌++◌, [], List, All, map, option_map, IfOk, IfErr, OnOk};
 ghost use Rattle.std.specs.List.{AllByRecursion, Any};
 ghost use Rattle.std.specs.String.{string_bytes};
 ghost use Rattle.std.specs.Io.KnownBytes.{Appends};
@@ -16,7 +16,7 @@ ghost use Rattle.puffin_session.specs.Session.{SessionState, new_session};
 ghost use Rattle.puffin_session.specs.Session.Runs.{Records, AreReplies, HasIds};
 ghost use Rattle.puffin_replay.specs.Program.Recording.{frame_in, emitted_by, frames_emitted, file_of_view, Takes, TakesSome, IsBroken};
 ghost use Rattle.puffin_report.specs.Summary.{NoneLacksIds};
-ghost use Rattle.puffin_replay.specs.Program.ScriptRun.{IsReplayed, IsUnfinished};
+ghost use Rattle.puffin_replay.specs.Program.ScriptRun.{loose_view, IsReplayed, IsUnfinished};
 
 use crate::replay::reply_line::reply_lines;
 use crate::replay::script::Script;
@@ -157,6 +157,17 @@ pub fn record<D: Drain>(
     }
 }
 
+/// A view with no frame that packs none: the frames that it takes stay as the replies have them, and are packed when they
+/// are written.
+fn loose_view(alloc: Global) -> FrameView
+    ensures frames { view_of result ≡ loose_view }
+    ensures took { Took [] (view_of result) }
+{
+    let mut view = FrameView::new(alloc);
+    view.set_pack_frames(false);
+    view
+}
+
 /// Runs a script in a new session, and writes two things: first the file of a new view that took each frame of the run,
 /// then the lines of the replies.
 ///
@@ -181,7 +192,7 @@ pub fn run_script<D: Drain, E: Drain>(
         ⊎ ((E.failures lines.new ≡ E.failures lines.old + 1) ⊎ TookNothing E.takes lines.new) }
 {
     let names = script.names.clone()?;
-    let mut view = FrameView::new(alloc);
+    let mut view = loose_view(alloc);
     let replies = record(alloc, names, &script.commands, &mut view, out)?;
     let text = reply_lines(alloc, &script.lines, &replies)?;
     write_all(lines, text.as_bytes())

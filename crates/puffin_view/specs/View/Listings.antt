@@ -18,4 +18,4 @@ all_left s = map shared_frame s.rest
 
 abbrev pub slowest_left : SlowestFrames → List Frame
 slowest_left s =
-    filter (λ f. has (index_of f) (map rank_index s.slow.now)) (map shared_frame s.rest)
+    filter (λ f. has (index_of f) (map rank_index s.slow.now.items)) (map shared_frame s.rest)

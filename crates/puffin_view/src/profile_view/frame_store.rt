@@ -1,8 +1,9 @@
-ghost use Rattle.std.specs.Prelude.{◌≡◌, ◌↔◌, IsTrue, IfOk, ◌-◌, ◌<◌, ◌≤◌, OnOk, OnErr, IfErr, IfSome, [], false, take, drop, map, length, Some, vec_len, vec_capacity, insert, nat_eq};
+ghost use Rattle.std.specs.Prelude.{◌≡◌, ◌↔◌, IsTrue, IfOk, ◌-◌, ◌<◌, ◌≤◌, OnOk, OnErr, IfErr, IfSome, [], false, take, drop, map, length, Some, insert, nat_eq};
 ghost use Rattle.std.specs.Ordering.{nat_cmp};
 ghost use Rattle.std.specs.List.{list_any};
 ghost use Rattle.std.specs.FinMap as map;
 ghost use Rattle.std.specs.Option.{option_map};
+ghost use Rattle.std.specs.VecDeque.{deque_len, deque_capacity};
 ghost use Rattle.std.specs.List.Sorted.{IsStrictlySortedBy};
 ghost use Rattle.puffin_data.specs.declared.error.Error.{Error};
 ghost use Rattle.puffin_view.specs.View.FrameOf.{shared_frame};
@@ -30,7 +31,7 @@ use std::sync::Arc;
 pub(crate) struct FrameStore {
     held: HeldFrames,
     recent: VecDeque<FrameIndex>,
-    slow: Vec<SlowRank>,
+    slow: VecDeque<SlowRank>,
     last: Option<FrameIndex>,
     max_recent: usize,
     max_slow: usize,
@@ -69,7 +70,7 @@ impl FrameStore {
         FrameStore {
             held: HeldFrames::new(alloc),
             recent: VecDeque::new(alloc),
-            slow: Vec::new(alloc),
+            slow: VecDeque::new(alloc),
             last: None,
             max_recent: 1000,
             max_slow: 256,
@@ -197,7 +198,7 @@ impl FrameStore {
         FrameStore {
             held: HeldFrames::new(alloc),
             recent: VecDeque::new(alloc),
-            slow: Vec::new(alloc),
+            slow: VecDeque::new(alloc),
             last: None,
             max_recent: self.max_recent,
             max_slow: self.max_slow,
@@ -292,10 +293,10 @@ fn is_recent(recent: &VecDeque<FrameIndex>, index: FrameIndex) -> bool
 }
 
 /// Whether a frame of an index is among the slowest.
-fn is_slow(held: &HeldFrames, slow: &[SlowRank], index: FrameIndex) -> bool
-    requires sorted { IsStrictlySortedBy rank_cmp slow.now }
-    requires ranked { AreRanked held.now slow.now }
-    ensures { result ≡ list_any (λ rank. nat_eq rank.frame_index index) slow.now }
+fn is_slow(held: &HeldFrames, slow: &VecDeque<SlowRank>, index: FrameIndex) -> bool
+    requires sorted { IsStrictlySortedBy rank_cmp slow.now.items }
+    requires ranked { AreRanked held.now slow.now.items }
+    ensures { result ≡ list_any (λ rank. nat_eq rank.frame_index index) slow.now.items }
 {
     match held.get(index) {
         Some(frame) => {
@@ -313,11 +314,11 @@ fn is_slow(held: &HeldFrames, slow: &[SlowRank], index: FrameIndex) -> bool
 fn enter_slow(
     held: &mut HeldFrames,
     recent: &VecDeque<FrameIndex>,
-    slow: &mut Vec<SlowRank>,
+    slow: &mut VecDeque<SlowRank>,
     rank: SlowRank,
     max: usize,
 )
-    requires room { vec_len slow.old < vec_capacity slow.old }
+    requires room { deque_len slow.old < deque_capacity slow.old }
     requires rising { IsStrictlySortedBy nat_cmp recent.now.items }
     requires sorted { IsStrictlySortedBy rank_cmp slow.old.items }
     ensures slow { slow.new.items ≡ ranks_after max slow.old.items rank }
@@ -338,7 +339,7 @@ fn enter_slow(
 fn cut_slow(
     held: &mut HeldFrames,
     recent: &VecDeque<FrameIndex>,
-    slow: &mut Vec<SlowRank>,
+    slow: &mut VecDeque<SlowRank>,
     max: usize,
 )
     requires { IsStrictlySortedBy nat_cmp recent.now.items }
@@ -346,7 +347,7 @@ fn cut_slow(
     ensures held { LetsGo held.old recent.now.items (map rank_index (drop max slow.old.items))
         held.new }
 {
-    for rank in &slow[max.min(slow.len())..] {
+    for rank in slow.range(max.min(slow.len())..) {
         if !is_recent(recent, rank.frame_index) {
             held.remove(rank.frame_index);
         }
@@ -358,13 +359,13 @@ fn cut_slow(
 fn cut_recent(
     held: &mut HeldFrames,
     recent: &mut VecDeque<FrameIndex>,
-    slow: &[SlowRank],
+    slow: &VecDeque<SlowRank>,
     max: usize,
 )
-    requires sorted { IsStrictlySortedBy rank_cmp slow.now }
-    requires ranked { AreRanked held.old slow.now }
+    requires sorted { IsStrictlySortedBy rank_cmp slow.now.items }
+    requires ranked { AreRanked held.old slow.now.items }
     ensures recent { recent.new.items ≡ last_of max recent.old.items }
-    ensures held { LetsGo held.old (map rank_index slow.now)
+    ensures held { LetsGo held.old (map rank_index slow.now.items)
         (take (length recent.old.items - max) recent.old.items) held.new }
 {
     for _ in 0..recent.len().saturating_sub(max) {

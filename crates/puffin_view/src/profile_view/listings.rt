@@ -5,7 +5,7 @@ ghost use Rattle.puffin_view.specs.View.FrameOf.{shared_frame};
 use crate::profile_view::held_frames::HeldFrames;
 use crate::profile_view::slow_rank::{SlowRank, has_index};
 use puffin_frames::frame_data::{FrameData, FrameIndex};
-use std::collections::{btree_map, vec_deque};
+use std::collections::{VecDeque, btree_map, vec_deque};
 use std::sync::Arc;
 
 /// The recent frames of a view, oldest first.
@@ -76,13 +76,13 @@ impl<'a> Iterator for AllFrames<'a> {
 #[derive(Drop)]
 pub struct SlowestFrames<'a> {
     rest: btree_map::Values<'a, FrameIndex, Arc<FrameData>>,
-    slow: &'a [SlowRank],
+    slow: &'a VecDeque<SlowRank>,
 }
 
 impl<'a> SlowestFrames<'a> {
     pub(crate) fn new(
         rest: btree_map::Values<'a, FrameIndex, Arc<FrameData>>,
-        slow: &'a [SlowRank],
+        slow: &'a VecDeque<SlowRank>,
     ) -> Self
         ensures rest { result.rest ≡ rest.entry }
         ensures slow { result.slow.now ≡ slow.now }

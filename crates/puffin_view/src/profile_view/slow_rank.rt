@@ -9,6 +9,7 @@ ghost use Rattle.puffin_view.specs.inner.Ranks.{rank_of, rank_cmp, is_before, ra
 use puffin_data::NanoSecond;
 use puffin_frames::frame_data::{FrameData, FrameIndex};
 use std::cmp::Reverse;
+use std::collections::VecDeque;
 
 /// Where a frame stands among the slowest: by falling duration, then rising index.
 #[derive(Clone, Copy, Debug, PartialEq, Eq, PartialOrd, Ord)]
@@ -28,30 +29,30 @@ impl SlowRank {
     }
 
     /// Where it goes among others.
-    pub fn place_in(self, slow: &[SlowRank]) -> usize
-        requires { IsStrictlySortedBy rank_cmp slow.now }
-        ensures bound { result ≤ length slow.now }
-        ensures placed { insert slow.now result self ≡ place is_before self slow.now }
+    pub fn place_in(self, slow: &VecDeque<SlowRank>) -> usize
+        requires { IsStrictlySortedBy rank_cmp slow.now.items }
+        ensures bound { result ≤ length slow.now.items }
+        ensures placed { insert slow.now.items result self ≡ place is_before self slow.now.items }
     {
         slow.partition_point(|other| *other <= self)
     }
 
     /// Whether it is one of others.
-    pub fn is_among(self, slow: &[SlowRank]) -> bool
-        requires { IsStrictlySortedBy rank_cmp slow.now }
-        ensures { result ≡ list_any (λ other. is_eq (rank_cmp other self)) slow.now }
+    pub fn is_among(self, slow: &VecDeque<SlowRank>) -> bool
+        requires { IsStrictlySortedBy rank_cmp slow.now.items }
+        ensures { result ≡ list_any (λ other. is_eq (rank_cmp other self)) slow.now.items }
     {
         slow.binary_search(&self).is_ok()
     }
 
     /// Whether it comes among the slowest: where there is room, or where it comes before the last of them.
-    pub fn enters(self, slow: &[SlowRank], max: usize) -> bool
-        ensures { result ≡ rank_enters max slow.now self }
+    pub fn enters(self, slow: &VecDeque<SlowRank>, max: usize) -> bool
+        ensures { result ≡ rank_enters max slow.now.items self }
     {
         if slow.len() < max {
             return true;
         }
-        match slow.last() {
+        match slow.back() {
             Some(last) => self < *last,
             None => false,
         }
@@ -59,8 +60,8 @@ impl SlowRank {
 }
 
 /// Whether a frame of an index is among the slowest.
-pub(crate) fn has_index(slow: &[SlowRank], index: FrameIndex) -> bool
-    ensures { result ≡ list_any (λ rank. nat_eq rank.frame_index index) slow.now }
+pub(crate) fn has_index(slow: &VecDeque<SlowRank>, index: FrameIndex) -> bool
+    ensures { result ≡ list_any (λ rank. nat_eq rank.frame_index index) slow.now.items }
 {
     slow.iter().any(|rank| rank.frame_index == index)
 }

@@ -2,7 +2,7 @@
 use Rattle.std.proofs.Common.{refl, subst, inl, inr}
 use Rattle.std.proofs.lemmas.Result.{err_from_is_err_and}
 use Rattle.puffin_view.specs.View.Known.{view_of, lacks_ids}
-use Rattle.puffin_replay.specs.Program.Recording.{frames_emitted, Takes, TakesSome}
+use Rattle.puffin_replay.specs.Program.Recording.{frames_emitted, Takes, TakesSome, TookAlso}
 use Rattle.puffin_replay.proofs.Recording.{ids_kept}
 use Rattle.puffin_report.proofs.lemmas.WrittenLines.{nothing_written}
 use Rattle.puffin_replay.proofs.replay.recorder.record_session.Goals as goal
@@ -19,7 +19,8 @@ pub returns-in_err-write-clause-broken : goal.returns-in_err-write-clause-broken
 returns-in_err-write-clause-broken g c =
     let p = err_from_is_err_and c.from_residual.result c.from_residual.ensures.1 in
     let taken = subst (λ rs. Takes (frames_emitted rs) c.args.view.now c.add_frames.new.view) c.deref.ensures.value c.in-Ok-add_frames.ensures.ok in
-    rw (p.1, p.2) (inr (inr (c.in-Ok.replies.items, c.in-Ok.ensures.run, taken, c.in_err-write.ensures.begun, c.in_err-write.ensures.cause)))
+    let took = subst (λ rs. TookAlso (frames_emitted rs) (view_of c.args.view.now) (view_of c.add_frames.new.view)) c.deref.ensures.value c.in-Ok-add_frames.ensures.took in
+    rw (p.1, p.2) (inr (inr (c.in-Ok.replies.items, c.in-Ok.ensures.run, taken, c.in_err-write.ensures.begun, c.in_err-write.ensures.cause, took)))
 
 pub returns-clause-held_ids : goal.returns-clause-held_ids
 returns-clause-held_ids g c =

@@ -16,7 +16,7 @@ returns-in_err-replies-clause-fails g c =
     let script = c.args.script.now in
     let names = same_texts script.names.items c.in_ok-names.names.items c.in_ok-names.ensures.cases.0 in
     rw (p.1, p.2)
-    (unfinished script (map string_bytes c.in_ok-names.names.items) c.deref.result.now names c.deref.ensures.value c.new-view.result c.record.new.view c.new-view.ensures.frames c.in_err-replies.field-0.0 (g.D.Drain.contents c.args.out.now) (g.D.Drain.contents c.record.new.drain) (g.E.Drain.contents c.args.lines.now)
+    (unfinished script (map string_bytes c.in_ok-names.names.items) c.deref.result.now names c.deref.ensures.value c.loose_view-view.result c.record.new.view c.loose_view-view.ensures.frames c.in_err-replies.field-0.0 (g.D.Drain.contents c.args.out.now) (g.D.Drain.contents c.record.new.drain) (g.E.Drain.contents c.args.lines.now)
     c.in_err-replies.ensures.broken (λ e. c.in_err-replies.ensures.too_long (ap Err e)))
 
 pub returns-in_err-text-clause-fails : goal.returns-in_err-text-clause-fails
@@ -25,9 +25,9 @@ returns-in_err-text-clause-fails g c =
     let script = c.args.script.now in
     let names = same_texts script.names.items c.in_ok-names.names.items c.in_ok-names.ensures.cases.0 in
     let recorded = c.in_ok-replies.ensures in
-    let ids = recorded.ids (subst (λ (v : View). NoneLacksIds (contents_held v)) (sym c.new-view.ensures.frames) refl) in
+    let ids = recorded.ids (subst (λ (v : View). NoneLacksIds (contents_held v)) (sym c.loose_view-view.ensures.frames) refl) in
     rw p.1
-    (no_lines script (map string_bytes c.in_ok-names.names.items) c.deref.result.now names c.deref.ensures.value c.new-view.result c.record.new.view c.new-view.ensures.frames c.in_ok-replies.replies.items recorded.run recorded.view
+    (no_lines script (map string_bytes c.in_ok-names.names.items) c.deref.result.now names c.deref.ensures.value c.loose_view-view.result c.record.new.view c.loose_view-view.ensures.frames c.in_ok-replies.replies.items recorded.run recorded.view
     (g.D.Drain.contents c.args.out.now) (g.D.Drain.contents c.record.new.drain) recorded.written ids p.0 (g.E.Drain.contents c.args.lines.now) p.2)
 
 pub returns-clause-ok : goal.returns-clause-ok
@@ -35,11 +35,11 @@ returns-clause-ok g c =
     let script = c.args.script.now in
     let names = same_texts script.names.items c.in_ok-names.names.items c.in_ok-names.ensures.cases.0 in
     let recorded = c.in_ok-replies.ensures in
-    let ids = recorded.ids (subst (λ (v : View). NoneLacksIds (contents_held v)) (sym c.new-view.ensures.frames) refl) in
+    let ids = recorded.ids (subst (λ (v : View). NoneLacksIds (contents_held v)) (sym c.loose_view-view.ensures.frames) refl) in
     let lines = c.as_bytes.ensures.value ∙ c.in_ok-text.ensures ∙ ap (λ (ns : List ℕ). reply_lines ns c.deref-3.result.now) c.deref-2.ensures.value ∙ ap (λ (rs : List Reply). reply_lines script.lines.items rs) c.deref-3.ensures.value in
     on_ok_weaker c.write_all.result
-    (replayed script (map string_bytes c.in_ok-names.names.items) c.deref.result.now names c.deref.ensures.value c.new-view.result c.record.new.view c.new-view.ensures.frames c.in_ok-replies.replies.items recorded.run recorded.view
-    (g.D.Drain.contents c.args.out.now) (g.D.Drain.contents c.record.new.drain) recorded.written ids c.as_bytes.result.now (g.E.Drain.contents c.args.lines.now) (g.E.Drain.contents c.write_all.new.drain) recorded.took c.new-view.ensures.took lines recorded.packed)
+    (replayed script (map string_bytes c.in_ok-names.names.items) c.deref.result.now names c.deref.ensures.value c.loose_view-view.result c.record.new.view c.loose_view-view.ensures.frames c.in_ok-replies.replies.items recorded.run recorded.view
+    (g.D.Drain.contents c.args.out.now) (g.D.Drain.contents c.record.new.drain) recorded.written ids c.as_bytes.result.now (g.E.Drain.contents c.args.lines.now) (g.E.Drain.contents c.write_all.new.drain) recorded.took c.loose_view-view.ensures.took lines recorded.packed)
     c.write_all.ensures.ok
 
 pub returns-clause-fails : goal.returns-clause-fails
@@ -47,10 +47,10 @@ returns-clause-fails g c =
     let script = c.args.script.now in
     let names = same_texts script.names.items c.in_ok-names.names.items c.in_ok-names.ensures.cases.0 in
     let recorded = c.in_ok-replies.ensures in
-    let ids = recorded.ids (subst (λ (v : View). NoneLacksIds (contents_held v)) (sym c.new-view.ensures.frames) refl) in
+    let ids = recorded.ids (subst (λ (v : View). NoneLacksIds (contents_held v)) (sym c.loose_view-view.ensures.frames) refl) in
     let lines = c.as_bytes.ensures.value ∙ c.in_ok-text.ensures ∙ ap (λ (ns : List ℕ). reply_lines ns c.deref-3.result.now) c.deref-2.ensures.value ∙ ap (λ (rs : List Reply). reply_lines script.lines.items rs) c.deref-3.ensures.value in
     told-cut _ _ c.write_all.result
     (λ e io part.
-    cut_lines script (map string_bytes c.in_ok-names.names.items) c.deref.result.now names c.deref.ensures.value c.new-view.result c.record.new.view c.new-view.ensures.frames c.in_ok-replies.replies.items recorded.run recorded.view
+    cut_lines script (map string_bytes c.in_ok-names.names.items) c.deref.result.now names c.deref.ensures.value c.loose_view-view.result c.record.new.view c.loose_view-view.ensures.frames c.in_ok-replies.replies.items recorded.run recorded.view
     (g.D.Drain.contents c.args.out.now) (g.D.Drain.contents c.record.new.drain) recorded.written ids e c.as_bytes.result.now (g.E.Drain.contents c.args.lines.now) (g.E.Drain.contents c.write_all.new.drain) lines part (inl io))
     c.write_all.ensures.err c.write_all.ensures.io

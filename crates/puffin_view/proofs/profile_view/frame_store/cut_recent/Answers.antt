@@ -20,4 +20,4 @@ loop-preserved c = (
 )
 
 pub is_slow-requires-clause-ranked : goal.is_slow-requires-clause-ranked
-is_slow-requires-clause-ranked c = still_ranked _ _ c.args.slow.now _ c.loop.invariant.1 c.requires.ranked
+is_slow-requires-clause-ranked c = still_ranked _ _ c.args.slow.now.items _ c.loop.invariant.1 c.requires.ranked

@@ -13,13 +13,13 @@ use Rattle.puffin_frames.proofs.frame_data.held.PackedStreams.of.Goals as goal
 pub returns-clause-ok : goal.returns-clause-ok
 returns-clause-ok c =
     let es = c.args.streams.now.entries in
-    let put = rw c.new-bytes.ensures.items at c.in_ok-put_streams.ensures.ok in
+    let put = rw c.in_ok-bytes.ensures.items at c.in_ok-put_streams.ensures.ok in
     c.new.ensures ∙ ap (λ bytes. record { kind = 0; bytes = bytes }) (put ∙ ap streams_layout (sym (entries-listed es c.in_ok-put_streams.ensures.fit.1)))
 
 pub returns-clause-content : goal.returns-clause-content
 returns-clause-content c =
     let es = c.args.streams.now.entries in
-    let put = rw c.new-bytes.ensures.items at c.in_ok-put_streams.ensures.ok in
+    let put = rw c.in_ok-bytes.ensures.items at c.in_ok-put_streams.ensures.ok in
     let read : whole streams_at c.put_streams.new.out.items ≡ Some (pairs_of es) =
     ap (whole streams_at) put ∙ whole_again AreStreams streams_layout streams_at streams_reader (pairs_of es) c.in_ok-put_streams.ensures.fit in
     ap streams_in c.new.ensures ∙ ap (option_map from_sorted) read ∙ ap Some (streams-listed es c.in_ok-put_streams.ensures.fit.1)

@@ -1,9 +1,8 @@
 use Rattle.std.proofs.Common.{◌≡◌, refl, sym, ap, ◌∙◌, ◌++◌, ◌∷◌, [], map, take, length, ◌-◌, ℕ, subst, Some}
-use Rattle.std.specs.List.Sorted.{IsStrictlySortedBy}
 use Rattle.puffin_view.specs.View.{View, joined_by, is_past}
 use Rattle.puffin_view.specs.View.ViewedFrames.{Frame, index_of}
 use Rattle.puffin_view.specs.View.FrameOf.{frame_of, shared_frame}
-use Rattle.puffin_view.specs.inner.Ranks.{rank_of, ranks_after, ranks_gone, rank_cmp, AreRanked}
+use Rattle.puffin_view.specs.inner.Ranks.{rank_of, ranks_after, ranks_gone}
 use Rattle.puffin_view.specs.View.Ranking.{rank_index}
 use Rattle.puffin_view.specs.inner.Store.{AreStored, frames_under}
 use Rattle.puffin_view.proofs.JoiningPending.{stored_joined, pushed_rising, entered_in_order, entered_ranked, lets_as}
@@ -36,8 +35,8 @@ stored c =
     (ap (λ rs. map rank_index (ranks_gone s.max_slow rs c.of-rank.result)) c.in_ok-reserve-2.ensures.items ∙ ap (λ r. map rank_index (ranks_gone s.max_slow s.slow.items r)) (rank_is c)) c.enter_slow.ensures.held)
     c.cut_recent.new.held c.cut_recent.new.recent.items
     c.cut_recent.ensures.recent
-    (lets_as c.enter_slow.new.held c.cut_recent.new.held (map rank_index c.deref-2.result.now) (map rank_index c.enter_slow.new.slow.items) (take (length c.push_back_reserved.new.self.items - s.max_recent) c.push_back_reserved.new.self.items)
-    (take (length c.push_back_reserved.new.self.items - s.max_recent) c.push_back_reserved.new.self.items) (ap (map rank_index) c.deref-2.ensures.value) refl c.cut_recent.ensures.held)
+    (lets_as c.enter_slow.new.held c.cut_recent.new.held (map rank_index c.enter_slow.new.slow.items) (map rank_index c.enter_slow.new.slow.items) (take (length c.push_back_reserved.new.self.items - s.max_recent) c.push_back_reserved.new.self.items)
+    (take (length c.push_back_reserved.new.self.items - s.max_recent) c.push_back_reserved.new.self.items) refl refl c.cut_recent.ensures.held)
 
 pub invariant_of-self-2 : goal.invariant_of-self-2
 invariant_of-self-2 c =
@@ -67,13 +66,12 @@ cut_recent-requires-clause-sorted c =
     let v : View = record { recent = frames_under s.held s.recent.items; slow = frames_under s.held (map rank_index s.slow.items); last = s.last; max_recent = s.max_recent; max_slow = s.max_slow; packs = s.pack_frames } in
     let f : Frame = shared_frame c.args.frame in
     let rank : c.of-rank.result ≡ rank_of f = c.of-rank.ensures ∙ ap (λ f. rank_of (frame_of f)) c.deref.ensures in
-    subst (IsStrictlySortedBy rank_cmp) (sym c.deref-2.ensures.value)
-    (entered_in_order v f s.held c.insert.new.self s.recent.items c.push_back_reserved.new.self.items s.slow.items c.self.invariant (ap (λ v. is_past v (index_of f)) c.self.view_is ∙ c.requires) c.in_ok-insert.ensures.ok
+    entered_in_order v f s.held c.insert.new.self s.recent.items c.push_back_reserved.new.self.items s.slow.items c.self.invariant (ap (λ v. is_past v (index_of f)) c.self.view_is ∙ c.requires) c.in_ok-insert.ensures.ok
     (c.push_back_reserved.ensures.items ∙ ap (λ is. is ++ c.of-rank.result.frame_index ∷ []) c.in_ok-reserve.ensures.items ∙ ap (λ r. s.recent.items ++ rank_index r ∷ []) rank)
     c.enter_slow.new.held c.enter_slow.new.slow.items
     (c.enter_slow.ensures.slow ∙ ap (λ rs. ranks_after s.max_slow rs c.of-rank.result) c.in_ok-reserve-2.ensures.items ∙ ap (ranks_after s.max_slow s.slow.items) rank)
     (lets_as c.insert.new.self c.enter_slow.new.held c.push_back_reserved.new.self.items c.push_back_reserved.new.self.items (map rank_index (ranks_gone s.max_slow c.reserve-2.new.self.items c.of-rank.result)) (map rank_index (ranks_gone s.max_slow s.slow.items (rank_of f))) refl
-    (ap (λ rs. map rank_index (ranks_gone s.max_slow rs c.of-rank.result)) c.in_ok-reserve-2.ensures.items ∙ ap (λ r. map rank_index (ranks_gone s.max_slow s.slow.items r)) rank) c.enter_slow.ensures.held))
+    (ap (λ rs. map rank_index (ranks_gone s.max_slow rs c.of-rank.result)) c.in_ok-reserve-2.ensures.items ∙ ap (λ r. map rank_index (ranks_gone s.max_slow s.slow.items r)) rank) c.enter_slow.ensures.held)
 
 pub cut_recent-requires-clause-ranked : goal.cut_recent-requires-clause-ranked
 cut_recent-requires-clause-ranked c =
@@ -81,10 +79,9 @@ cut_recent-requires-clause-ranked c =
     let v : View = record { recent = frames_under s.held s.recent.items; slow = frames_under s.held (map rank_index s.slow.items); last = s.last; max_recent = s.max_recent; max_slow = s.max_slow; packs = s.pack_frames } in
     let f : Frame = shared_frame c.args.frame in
     let rank : c.of-rank.result ≡ rank_of f = c.of-rank.ensures ∙ ap (λ f. rank_of (frame_of f)) c.deref.ensures in
-    subst (AreRanked c.enter_slow.new.held) (sym c.deref-2.ensures.value)
-    (entered_ranked v f s.held c.insert.new.self s.recent.items c.push_back_reserved.new.self.items s.slow.items c.self.invariant (ap (λ v. is_past v (index_of f)) c.self.view_is ∙ c.requires) c.in_ok-insert.ensures.ok
+    entered_ranked v f s.held c.insert.new.self s.recent.items c.push_back_reserved.new.self.items s.slow.items c.self.invariant (ap (λ v. is_past v (index_of f)) c.self.view_is ∙ c.requires) c.in_ok-insert.ensures.ok
     (c.push_back_reserved.ensures.items ∙ ap (λ is. is ++ c.of-rank.result.frame_index ∷ []) c.in_ok-reserve.ensures.items ∙ ap (λ r. s.recent.items ++ rank_index r ∷ []) rank)
     c.enter_slow.new.held c.enter_slow.new.slow.items
     (c.enter_slow.ensures.slow ∙ ap (λ rs. ranks_after s.max_slow rs c.of-rank.result) c.in_ok-reserve-2.ensures.items ∙ ap (ranks_after s.max_slow s.slow.items) rank)
     (lets_as c.insert.new.self c.enter_slow.new.held c.push_back_reserved.new.self.items c.push_back_reserved.new.self.items (map rank_index (ranks_gone s.max_slow c.reserve-2.new.self.items c.of-rank.result)) (map rank_index (ranks_gone s.max_slow s.slow.items (rank_of f))) refl
-    (ap (λ rs. map rank_index (ranks_gone s.max_slow rs c.of-rank.result)) c.in_ok-reserve-2.ensures.items ∙ ap (λ r. map rank_index (ranks_gone s.max_slow s.slow.items r)) rank) c.enter_slow.ensures.held))
+    (ap (λ rs. map rank_index (ranks_gone s.max_slow rs c.of-rank.result)) c.in_ok-reserve-2.ensures.items ∙ ap (λ r. map rank_index (ranks_gone s.max_slow s.slow.items r)) rank) c.enter_slow.ensures.held)

@@ -14,5 +14,5 @@ pub returns : goal.returns
 unfolding slow_of
 returns c =
     let s = c.self.inside in
-    ap (λ rs. slow_of rs (frames_of c.new.result.rest)) (c.new.ensures.slow ∙ c.deref.ensures.value) ∙ ap (λ fs. slow_of s.slow.items (frames_of fs)) c.new.ensures.rest ∙ ap (slow_of s.slow.items) c.values.ensures
+    ap (λ q. slow_of q.items (frames_of c.new.result.rest)) c.new.ensures.slow ∙ ap (λ fs. slow_of s.slow.items (frames_of fs)) c.new.ensures.rest ∙ ap (slow_of s.slow.items) c.values.ensures
     ∙ slow_listed s.held s.recent.items s.slow.items s.last _ _ c.self.invariant ∙ ap (λ v. chronological v.slow) c.self.view_is

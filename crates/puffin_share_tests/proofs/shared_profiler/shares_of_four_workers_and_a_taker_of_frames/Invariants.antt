@@ -1,5 +1,5 @@
 -- The two ledgers of the run, told apart by the blanks.
-use Rattle.puffin_tests.proofs.shared_profiler.shares_of_four_workers_and_a_taker_of_frames.Given as goal
+use Rattle.puffin_share_tests.proofs.shared_profiler.shares_of_four_workers_and_a_taker_of_frames.Given as goal
 
 abbrev pub ghosts-four_workers-L-Ledger : goal.ghosts-four_workers-L-Ledger
 ghosts-four_workers-L-Ledger g a = record { name = a.reported.name; parts = a.reported.parts }

@@ -2,7 +2,6 @@
 
 ghost use Rattle.std.specs.Prelude.{◌≡◌};
 
-use crate::shared_profiler::ended;
 use puffin::data::ScopeId;
 use puffin::global_profiler::{GlobalProfiler, Settled, Share, SharedProfiler, SharedReporter};
 use puffin::thread_profiler::{ScriptClock, ThreadProfiler};
@@ -26,7 +25,7 @@ fn load<L: Ledger, M: Ledger, R: Wait + Drop>(
     let name = String::from_str(alloc, "loader").ok()?;
     let mut thread = ThreadProfiler::new(alloc, name, ScriptClock::new(5));
     let scope = thread.begin_scope(ScopeId::new(7)?, "image-12.png").ok()?;
-    let _closed = ended(&mut thread, scope, &mut reporter).ok()?;
+    let _closed = reporter.end_scope(&mut thread, scope).ok()?;
     Some(reporter.into_share())
 }
 

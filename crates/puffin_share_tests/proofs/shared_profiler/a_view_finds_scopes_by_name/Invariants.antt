@@ -1,5 +1,5 @@
 -- The two ledgers of the run, told apart by the blanks.
-use Rattle.puffin_tests.proofs.shared_profiler.a_view_finds_scopes_by_name.Given as goal
+use Rattle.puffin_share_tests.proofs.shared_profiler.a_view_finds_scopes_by_name.Given as goal
 
 abbrev pub ghosts-attached-L-Ledger : goal.ghosts-attached-L-Ledger
 ghosts-attached-L-Ledger g a = record { name = a.reported.name; parts = a.reported.parts }

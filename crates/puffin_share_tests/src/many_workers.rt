@@ -2,11 +2,13 @@
 
 ghost use Rattle.std.specs.Prelude.{◌≡◌};
 
-use crate::shared_profiler::{Ends, Frames, in_order, taken};
+use crate::shared_profiler::{Frames, in_order, taken};
 use puffin::data::{ScopeId, StreamInfoRef};
 use puffin::global_profiler::{GlobalProfiler, Settled, Share, SharedProfiler, SharedReporter};
 use puffin::scope_details::ScopeDetails;
-use puffin::thread_profiler::{Closed, Reporter, ScriptClock, ThreadInfo, ThreadProfiler};
+use puffin::thread_profiler::{
+    AnyThread, Closed, Reporter, ScriptClock, ThreadInfo, ThreadProfiler,
+};
 use puffin::{Error, Result};
 use std::alloc::{AllocError, Global};
 use std::marker::Brand;
@@ -55,21 +57,21 @@ impl<L: Ledger, M: Ledger, R: Wait> Reporter for Wary<L, M, R> {
 }
 
 /// Ends a scope of a thread.
-fn ended<T: Ends, L: Ledger, M: Ledger, R: Wait>(
+fn ended<T: AnyThread, L: Ledger, M: Ledger, R: Wait>(
     thread: &mut T,
     scope: usize,
     wary: &mut Wary<L, M, R>,
 ) -> Result<Closed> {
-    thread.end(scope, wary)
+    thread.end_innermost(scope, wary)
 }
 
 /// Reports what waits until nothing does, in three calls at most.
-fn reported_all<T: Ends, L: Ledger, M: Ledger, R: Wait>(
+fn reported_all<T: AnyThread, L: Ledger, M: Ledger, R: Wait>(
     thread: &mut T,
     wary: &mut Wary<L, M, R>,
 ) -> bool {
     for _ in 0..3 {
-        if thread.report_rest(wary) == Ok(false) {
+        if thread.report_waiting(wary) == Ok(false) {
             return true;
         }
     }

@@ -1,5 +1,5 @@
 -- The two ledgers of the run, told apart by the blanks.
-use Rattle.puffin_tests.proofs.example.two_threads_share_a_profiler.Given as goal
+use Rattle.puffin_share_tests.proofs.example.two_threads_share_a_profiler.Given as goal
 
 abbrev pub ghosts-loaded-L-Ledger : goal.ghosts-loaded-L-Ledger
 ghosts-loaded-L-Ledger g a = record { name = a.reported.name; parts = a.reported.parts }

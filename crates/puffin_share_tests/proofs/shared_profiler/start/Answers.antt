@@ -10,8 +10,8 @@ use Rattle.std.proofs.Crossing.{send as global_send}
 use Rattle.puffin.specs.contracts.global_profiler.shared_profiler.SharedProfiler as Shared
 use Rattle.puffin.specs.contracts.global_profiler.share.Share as Share
 use Rattle.puffin.proofs.lemmas.Sending.{shared_row_send, share_send, captures_send}
-use Rattle.puffin_tests.specs.contracts.many_workers.start.dyn-1 as dyn
-use Rattle.puffin_tests.proofs.many_workers.start.Goals as goal
+use Rattle.puffin_share_tests.specs.contracts.shared_profiler.start.dyn-1 as dyn
+use Rattle.puffin_share_tests.proofs.shared_profiler.start.Goals as goal
 
 pub spawn-requires-send-F : goal.spawn-requires-send-F
 spawn-requires-send-F g c κs within =

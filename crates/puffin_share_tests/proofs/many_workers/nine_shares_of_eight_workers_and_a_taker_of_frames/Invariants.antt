@@ -1,5 +1,5 @@
 -- The two ledgers of the run, told apart by the blanks.
-use Rattle.puffin_tests.proofs.many_workers.nine_shares_of_eight_workers_and_a_taker_of_frames.Given as goal
+use Rattle.puffin_share_tests.proofs.many_workers.nine_shares_of_eight_workers_and_a_taker_of_frames.Given as goal
 
 abbrev pub ghosts-nine_shares-L-Ledger : goal.ghosts-nine_shares-L-Ledger
 ghosts-nine_shares-L-Ledger g a = record { name = a.reported.name; parts = a.reported.parts }

@@ -6,7 +6,7 @@ use puffin::global_profiler::{
     GlobalFrameView, GlobalProfiler, Settled, Share, SharedProfiler, SharedReporter,
 };
 use puffin::scope_details::{ScopeDetails, ScopeIds};
-use puffin::thread_profiler::{Closed, NsSource, Reporter, ScriptClock, ThreadProfiler};
+use puffin::thread_profiler::{Closed, ScriptClock, ThreadProfiler};
 use std::alloc::{AllocError, Global};
 use std::borrow::CowStr;
 use std::marker::Brand;
@@ -24,32 +24,6 @@ const SCOPES: u32 = 1000;
 /// The names of the workers.
 const NAMES: [&str; 4] = ["w0", "w1", "w2", "w3"];
 
-/// A thread profiler with any clock. (One that several ledgers go by can be handed to a function over all of these alone.)
-pub trait Ends {
-    fn end<P: Reporter>(&mut self, scope: usize, reporter: &mut P) -> puffin::Result<Closed>;
-
-    fn report_rest<P: Reporter>(&mut self, reporter: &mut P) -> puffin::Result<bool>;
-}
-
-impl<C: NsSource> Ends for ThreadProfiler<C> {
-    fn end<P: Reporter>(&mut self, scope: usize, reporter: &mut P) -> puffin::Result<Closed> {
-        self.end_scope(scope, reporter)
-    }
-
-    fn report_rest<P: Reporter>(&mut self, reporter: &mut P) -> puffin::Result<bool> {
-        self.report_closed(reporter)
-    }
-}
-
-/// Ends a scope of a thread, with a report by a share.
-pub fn ended<T: Ends, L: Ledger, M: Ledger, R: Wait>(
-    thread: &mut T,
-    scope: usize,
-    reporter: &mut SharedReporter<L, M, R>,
-) -> puffin::Result<Closed> {
-    thread.end(scope, reporter)
-}
-
 /// Begins and ends scopes with rising ids one after the other, each with the thread's name for its text and reported at its
 /// end, and gives the share back. `None` where a scope isn't reported, or the totals are below what was.
 fn work<L: Ledger, M: Ledger, R: Wait + Drop>(
@@ -65,7 +39,7 @@ fn work<L: Ledger, M: Ledger, R: Wait + Drop>(
     let mut thread = ThreadProfiler::new(alloc, owned, ScriptClock::new(5));
     for number in 1..SCOPES + 1 {
         let scope = thread.begin_scope(ScopeId::new(number)?, name).ok()?;
-        if ended(&mut thread, scope, &mut reporter).ok()? != Closed::Reported {
+        if reporter.end_scope(&mut thread, scope).ok()? != Closed::Reported {
             return None;
         }
         if number == 1 && reporter.totals().reported == 0 {
@@ -245,7 +219,7 @@ fn attached<
     );
     let mut reporter = SharedReporter::new(rt, profiler.clone()?, share);
     let scope = thread.begin_scope(id, "")?;
-    assert_eq!(rt; ended(&mut thread, scope, &mut reporter)?, Closed::Reported);
+    assert_eq!(rt; reporter.end_scope(&mut thread, scope)?, Closed::Reported);
     share = reporter.into_share();
     let emitted = profiler.new_frame(&rt, &mut share)?;
     assert_eq!(rt; emitted.refused, 0);

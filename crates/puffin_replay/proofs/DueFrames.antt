@@ -1,0 +1,138 @@
+-- The emitted frames of a run, each with what was done before it; their indices rise.
+use Rattle.std.proofs.Common.{◌≡◌, ℕ, ◌+◌, ◌<◌, true, cond, List, [], ◌∷◌, ◌++◌, length, map, Option, None, Some, refl, sym, ap, subst, ◌∙◌, arith}
+use Rattle.std.specs.Prelude.{nat_lt, MatchOption, IfSome, if◌then◌else◌}
+use Rattle.std.specs.Option.{is_some}
+use Rattle.std.specs.List.{AllByRecursion, AllZip}
+use Rattle.std.specs.Arc.{arc_value}
+use Rattle.std.specs.declared.sync.Arc.{Arc}
+use Rattle.std.specs.declared.alloc.Global.{Global}
+use Rattle.std.proofs.lemmas.List.{map-append}
+use Rattle.std.proofs.lemmas.List.Sums.{sum_by-append}
+use Rattle.puffin_frames.specs.declared.frame_data.frame.FrameData.{FrameData}
+use Rattle.puffin_frames.specs.declared.frame_data.meta.FrameMeta.{FrameMeta}
+use Rattle.puffin_frames.specs.Packet.Stored.{Said}
+use Rattle.puffin_frames.specs.Frame.Contents.{frame_says}
+use Rattle.puffin_frames.specs.Frame.Holding.{held_contents}
+use Rattle.puffin_threads.specs.Details.{Details}
+use Rattle.puffin_view.specs.View.ViewedFrames.{contents_of, frame_index, rises_above, is_rising}
+use Rattle.puffin_session.specs.declared.command.Command.{Command}
+use Rattle.puffin_session.specs.declared.command.Command.TheVariants.{Begin, End, Register, RegisterUser, ReportUser, Snapshot, NewFrame}
+use Rattle.puffin_session.specs.declared.command.Reply.{Reply}
+use Rattle.puffin_session.specs.declared.command.Reply.TheVariants as reply
+use Rattle.puffin_session.specs.Session.History.{Opening, Action, frames}
+use Rattle.puffin_session.specs.Session.Due.{due, index_after, is_numbered, NoneDue}
+use Rattle.puffin_session.specs.Session.Notes.{known_after, due_details, is_wanted}
+use Rattle.puffin_session.specs.Session.Actions.{action_of, actions_of}
+use Rattle.puffin_session.specs.Session.Replies.{MayReply, SpellsFrame, TellsScopes}
+use Rattle.puffin_session.specs.Session.Runs.{EachReply}
+use Rattle.puffin_replay.specs.Program.Recording.{frame_in, emitted_by, frames_emitted}
+use Rattle.puffin_replay.specs.Promise.{is_emitted, before_frames, SaysDue, emitted}
+use Rattle.puffin_replay.specs.inner.InMemory.{UnpacksAgain, FrameHas}
+
+pairs-append : {A B : Type 0} (R : A → B → Type 0) (these bs : List A) (xs ys : List B) → AllZip R these xs → AllZip R bs ys → AllZip R (these ++ bs) (xs ++ ys)
+pairs-append R [] bs [] ys h k = k
+pairs-append R [] bs (x ∷ xs) ys h k = absurd h
+pairs-append R (a ∷ these) bs [] ys h k = absurd h
+pairs-append R (a ∷ these) bs (x ∷ xs) ys h k = (h.0, pairs-append R these bs xs ys h.1 k)
+
+-- ---- the replies of a run, one after another
+
+-- a fact of each emitted frame, and what follows of it, of what it was due and of what was done before it
+module _ (o : Opening) (P : FrameData → Type 0) (R : List Action → Said → Type 0)
+    (says : (done : List Action) (f : FrameData) → P f → SpellsFrame f (index_after o done) (due o done) → TellsScopes f (known_after o done) (due_details o done) (is_wanted o done) → R done (frame_says f)) where
+  frame_said : (done : List Action) (frame : Option (Arc FrameData Global)) → IfSome frame (λ f. P (arc_value f))
+      → MatchOption frame (NoneDue (due o done)) (λ f. SpellsFrame (arc_value f) (index_after o done) (due o done) × TellsScopes (arc_value f) (known_after o done) (due_details o done) (is_wanted o done))
+      → AllZip R (if is_some frame then done ∷ [] else []) (map contents_of (frame_in frame))
+  frame_said done None p h = tt
+  frame_said done (Some f) p h = (says done (arc_value f) p h.0 h.1, tt)
+
+  reply_said : (done : List Action) (c : Command) (r : Reply) (learnt : List Details) → FrameHas P r → MayReply o done c r learnt → AllZip R (if is_emitted (action_of c r learnt) then done ∷ [] else []) (map contents_of (emitted_by r))
+  reply_said done NewFrame (reply.Frame emitted) learnt p may = frame_said done emitted.frame p may.2
+  reply_said done NewFrame _ learnt p may = tt
+  reply_said done (Begin t at id text) (reply.Frame emitted) learnt p may = absurd may
+  reply_said done (Begin t at id text) _ learnt p may = tt
+  reply_said done (End t at back) (reply.Frame emitted) learnt p may = absurd may
+  reply_said done (End t at back) _ learnt p may = tt
+  reply_said done (Register t name function file line) (reply.Frame emitted) learnt p may = absurd may
+  reply_said done (Register t name function file line) _ learnt p may = tt
+  reply_said done (RegisterUser names) (reply.Frame emitted) learnt p may = absurd may
+  reply_said done (RegisterUser names) _ learnt p may = tt
+  reply_said done (ReportUser info stream) (reply.Frame emitted) learnt p may = absurd may
+  reply_said done (ReportUser info stream) _ learnt p may = tt
+  reply_said done Snapshot (reply.Frame emitted) learnt p may = absurd may
+  reply_said done Snapshot _ learnt p may = tt
+
+  all_so : (done : List Action) (cs : List Command) (rs : List Reply) (ls : List (List Details)) → length rs ≡ length cs → length ls ≡ length cs → AllByRecursion (FrameHas P) rs → EachReply o done cs rs ls
+      → AllZip R (before_frames done (actions_of cs rs ls)) (emitted rs)
+  all_so done [] [] ls p q each may = tt
+  all_so done [] (r ∷ rs) ls p q each may = absurd (omega arith)
+  all_so done (c ∷ cs) [] ls p q each may = absurd (omega arith)
+  all_so done (c ∷ cs) (r ∷ rs) [] p q each may = absurd (omega arith)
+  all_so done (c ∷ cs) (r ∷ rs) (l ∷ ls) p q each may =
+      let a = action_of c r l in
+      let later = all_so (done ++ (a ∷ [])) cs rs ls (omega arith) (omega arith) each.1 may.1 in
+      subst (AllZip R (before_frames done (a ∷ actions_of cs rs ls))) (sym (map-append contents_of (emitted_by r) (frames_emitted rs)))
+      (pairs-append R (if is_emitted a then done ∷ [] else []) (before_frames (done ++ (a ∷ [])) (actions_of cs rs ls)) (map contents_of (emitted_by r)) (emitted rs) (reply_said done c r l each.0 may.0) later)
+
+module _ (o : Opening) where
+  -- ---- what each frame says
+
+  says_due : (done : List Action) (f : FrameData) → UnpacksAgain f → SpellsFrame f (index_after o done) (due o done) → TellsScopes f (known_after o done) (due_details o done) (is_wanted o done) → SaysDue o done (frame_says f)
+  says_due done f unpacks spells tells = record {
+    streams = spells.streams;
+    unpacked = unpacks ∙ ap held_contents spells.held;
+    spelled = spells.spelled;
+    meta = spells.meta;
+    details = tells.delta;
+  }
+
+  pub all_said : (cs : List Command) (rs : List Reply) (ls : List (List Details)) → length rs ≡ length cs → length ls ≡ length cs → AllByRecursion (FrameHas UnpacksAgain) rs → EachReply o [] cs rs ls
+      → AllZip (SaysDue o) (before_frames [] (actions_of cs rs ls)) (emitted rs)
+  all_said = all_so o UnpacksAgain (SaysDue o) says_due []
+
+  -- ---- their indices
+
+  abbrev HasIndex : List Action → Said → Type 0
+  HasIndex done c = frame_index c ≡ index_after o done
+
+  index-more : (done : List Action) (a : Action) → index_after o (done ++ (a ∷ [])) ≡ index_after o done + cond (is_numbered a) 1 0
+  index-more done a =
+      let more = sum_by-append (λ (x : Action). cond (is_numbered x) 1 0) done (a ∷ []) in
+      omega (arith, more)
+
+  rise : (i : ℕ) (done later : List Action) (cs : List Said) → i < index_after o done → AllZip HasIndex (before_frames done later) cs → rises_above i cs ≡ true
+  rise i done [] [] below all = refl
+  rise i done [] (c ∷ cs) below all = absurd all
+  rise i done (frames true ∷ later) [] below all = absurd all
+  rise i done (frames true ∷ later) (c ∷ cs) below all =
+      let more = index-more done (frames true) in
+      let here : frame_index c ≡ index_after o done = all.0 in
+      let lt : nat_lt i (frame_index c) ≡ true = grind (arith, here, below) in
+      rw lt (rise (frame_index c) (done ++ (frames true ∷ [])) later cs (omega arith) all.1)
+  rise i done (a ∷ later) cs below all = let more = index-more done a in rise i (done ++ (a ∷ [])) later cs (omega arith) all
+
+  frames_rise : (done later : List Action) (cs : List Said) → AllZip HasIndex (before_frames done later) cs → is_rising cs ≡ true
+  frames_rise done [] [] all = refl
+  frames_rise done [] (c ∷ cs) all = absurd all
+  frames_rise done (frames true ∷ later) [] all = absurd all
+  frames_rise done (frames true ∷ later) (c ∷ cs) all =
+      let more = index-more done (frames true) in
+      let here : frame_index c ≡ index_after o done = all.0 in
+      rise (frame_index c) (done ++ (frames true ∷ [])) later cs (omega arith) all.1
+  frames_rise done (a ∷ later) cs all = frames_rise (done ++ (a ∷ [])) later cs all
+
+  frame_has : (frame : Option (Arc FrameData Global)) → IfSome frame (λ f. Unit {0})
+  frame_has None = tt
+  frame_has (Some f) = tt
+
+  reply_has : (r : Reply) → FrameHas (λ _. Unit {0}) r
+  reply_has (reply.Frame emitted) = frame_has emitted.frame
+  reply_has _ = tt
+
+  all_have : (rs : List Reply) → AllByRecursion (FrameHas (λ _. Unit {0})) rs
+  all_have [] = tt
+  all_have (r ∷ rs) = (reply_has r, all_have rs)
+
+  pub emitted_rise : (cs : List Command) (rs : List Reply) (ls : List (List Details)) → length rs ≡ length cs → length ls ≡ length cs → EachReply o [] cs rs ls → is_rising (emitted rs) ≡ true
+  emitted_rise cs rs ls p q may =
+      frames_rise [] (actions_of cs rs ls) (emitted rs) (all_so o (λ _. Unit {0}) HasIndex (λ done f _ spells tells. ap (λ (m : FrameMeta). m.frame_index) spells.meta) [] cs rs ls p q (all_have rs) may)

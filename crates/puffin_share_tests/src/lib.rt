@@ -1,0 +1,9 @@
+//! The profiler behind a lock and its shares, on threads of their own, tested over the public calls of `puffin` alone.
+#![tactic(auto)]
+
+#[cfg(test)]
+mod example;
+#[cfg(test)]
+mod many_workers;
+#[cfg(test)]
+mod shared_profiler;

@@ -1,0 +1,59 @@
+//! Thread profilers, whatever their clock.
+
+ghost use Rattle.std.specs.Prelude.{◌≡◌, ◌≢◌, ℤ, pos, ◌≤ℤ◌, Some, OnOk, OnErr, IfOk, IfErr, slice_get};
+ghost use Rattle.puffin_data.specs.declared.error.Error.{Error};
+ghost use Rattle.puffin_threads.specs.Thread.Calls.{Thread, open_offsets};
+ghost use Rattle.puffin_threads.specs.Thread.Closing.{Closes, Reports};
+
+use crate::thread_profiler::clock::NsSource;
+use crate::thread_profiler::profiler::ThreadProfiler;
+use crate::thread_profiler::reporter::{Closed, Reporter};
+use puffin_data::{Error, Result};
+
+/// A thread profiler, whatever its clock. Calls that take one over all clocks are generic over this.
+pub trait AnyThread {
+    ghost use Rattle.std.specs.Prelude.{ℤ};
+    ghost use Rattle.puffin_threads.specs.Thread.Calls.{Thread};
+
+    /// What the thread has recorded.
+    ghost recorded: { Self → Thread };
+
+    /// Its clock, asked in this state, may return this time and leave that state.
+    ghost answers: { Self → ℤ → Self → Type 0 };
+
+    /// [`ThreadProfiler::end_scope`].
+    fn end_innermost<R: Reporter>(&mut self, offset: usize, reporter: &mut R) -> Result<Closed>
+        ensures innermost { OnOk result (
+            slice_get (open_offsets (recorded self.old).word) 0 ≡ Some offset) }
+        ensures mismatched { IfErr result (λ e.
+            (e ≡ Error.MismatchedEnd)
+            × (slice_get (open_offsets (recorded self.old).word) 0 ≢ Some offset)) }
+        ensures unchanged { OnErr result ((self.new ≡ self.old) × (reporter.new ≡ reporter.old)) }
+        ensures closed { IfOk result (λ closed.
+            (at : ℤ)
+            × answers self.old at self.new
+            × (pos 0 ≤ℤ at)
+            × Closes R.accepts R.refuses (recorded self.old) (recorded self.new) at reporter.old
+            reporter.new closed) };
+
+    /// [`ThreadProfiler::report_closed`].
+    fn report_waiting<R: Reporter>(&mut self, reporter: &mut R) -> Result<bool>
+        ensures reports { Reports R.accepts R.refuses (recorded self.old) (recorded self.new)
+            reporter.old reporter.new result };
+}
+
+impl<C: NsSource> AnyThread for ThreadProfiler<C> {
+    ghost use Rattle.puffin_threads.specs.Thread.ThreadProfiler.{thread_of, clock_of};
+
+    ghost recorded = { λ profiler. thread_of profiler };
+
+    ghost answers = { λ old at new. C.answers (clock_of old) at (clock_of new) };
+
+    fn end_innermost<R: Reporter>(&mut self, offset: usize, reporter: &mut R) -> Result<Closed> {
+        self.end_scope(offset, reporter)
+    }
+
+    fn report_waiting<R: Reporter>(&mut self, reporter: &mut R) -> Result<bool> {
+        self.report_closed(reporter)
+    }
+}
