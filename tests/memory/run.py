@@ -100,6 +100,11 @@ def faults(refusing, words, given, ends):
 
 def main():
     memory, tool = (str(pathlib.Path(it).resolve()) for it in sys.argv[1:])
+    missing = [it for it in (memory, tool) if not os.path.exists(it)]
+    if missing:
+        print(f"memory ... there is no program {', '.join(missing)}: it was not proved, or not built")
+        print(f"0 passed, {len(missing)} failed")
+        return 1
     failed = 0
     with tempfile.TemporaryDirectory() as folder:
         refusing = Refusing(folder)

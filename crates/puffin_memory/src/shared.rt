@@ -188,22 +188,28 @@ fn opened<L: Ledger, M: Ledger, R: Print + Wait>(
     }
 }
 
-/// A profiler that nothing was reported to, and that knows one scope.
-fn prepared(alloc: Global, ids: &ScopeIds) -> Option<GlobalProfiler>
-    ensures { IfSome result (λ profiler.
-        ((collected_of profiler).reported ≡ 0) × ((collected_of profiler).emitted ≡ 0)) }
+/// Lets a profiler know one scope.
+fn prepare(alloc: Global, ids: &ScopeIds, profiler: &mut GlobalProfiler) -> Option<()>
+    ensures reported { (collected_of profiler.new).reported
+        ≡ (collected_of profiler.old).reported }
+    ensures emitted { (collected_of profiler.new).emitted
+        ≡ (collected_of profiler.old).emitted }
 {
-    let mut profiler = GlobalProfiler::new(alloc);
     let details = [ScopeDetails::from_scope_name(owned(alloc, "early")?)];
     let _ids = again!(profiler.register_user_scopes(ids, &details))?;
-    Some(profiler)
+    Some(())
 }
 
-/// What is done with such a profiler; where it isn't opened, the one that came back.
-fn once<R: Print + AllocGlobal + Wait>(rt: &R) -> Option<Option<GlobalProfiler>> {
-    let ids = ScopeIds::new();
-    let profiler = prepared(rt.alloc(), &ids)?;
-    opened::<Brand, Brand, R>(rt, profiler, &ids, rt.alloc(), Blank::new(1), Blank::new(1))
+/// What is done with a profiler; where it isn't opened, it comes back.
+fn once<R: Print + AllocGlobal + Wait>(
+    rt: &R,
+    ids: &ScopeIds,
+    profiler: GlobalProfiler,
+) -> Option<Option<GlobalProfiler>>
+    requires fresh { ((collected_of profiler).reported ≡ 0)
+        × ((collected_of profiler).emitted ≡ 0) }
+{
+    opened::<Brand, Brand, R>(rt, profiler, ids, rt.alloc(), Blank::new(1), Blank::new(1))
 }
 
 /// Whether a profiler knows one scope, and has taken no frame: it tells of it in frame 0.
@@ -224,13 +230,19 @@ fn is_as_prepared<R: AllocGlobal + Wait>(rt: &R, profiler: &mut GlobalProfiler) 
 
 /// Shares a profiler. Where it isn't opened for want of memory, it comes back as it was, and another one is shared.
 pub fn run<R: Print + AllocGlobal + Wait>(rt: &R) -> Option<()> {
-    let Some(mut profiler) = once(rt)? else {
+    let ids = ScopeIds::new();
+    let mut profiler = GlobalProfiler::new(rt.alloc());
+    prepare(rt.alloc(), &ids, &mut profiler)?;
+    let Some(mut profiler) = once(rt, &ids, profiler)? else {
         return Some(());
     };
     if !is_as_prepared(rt, &mut profiler)? {
         return None;
     }
-    match once(rt)? {
+    let ids = ScopeIds::new();
+    let mut profiler = GlobalProfiler::new(rt.alloc());
+    prepare(rt.alloc(), &ids, &mut profiler)?;
+    match once(rt, &ids, profiler)? {
         None => Some(()),
         Some(_) => None,
     }

@@ -36,6 +36,10 @@ use std::sync::Arc;
 /// fit, and anywhere with `Memory`.
 ///
 /// The collection is not read: a scope's details change neither what is merged nor in which order.
+///
+/// ```
+/// let merged = merge_scopes_for_thread(alloc, view.scope_collection(), &frames, &info)?;
+/// ```
 pub fn merge_scopes_for_thread<'s>(
     alloc: Global,
     collection: &ScopeCollection,

@@ -21,6 +21,11 @@ impl GlobalFrameView {
     /// finds them too. Both happen under one holding of the lock.
     ///
     /// Refused with `SinkIdsExhausted` or `Memory`, and nothing is changed then.
+    ///
+    /// ```
+    /// let view = GlobalFrameView::attach(alloc, &rt, &profiler)?;
+    /// view.lock(&rt).set_max_recent(200);
+    /// ```
     pub fn attach<L: Ledger, M: Ledger>(
         alloc: Global,
         rt: &impl Wait,

@@ -125,6 +125,12 @@ impl GlobalProfiler {
     }
 
     /// Hands out all that is pending, by one call of [`Collector::collect_frame`], refused as that is.
+    ///
+    /// ```
+    /// if let Some(frame) = profiler.collect_frame()? {
+    ///     view.add_frame(frame)?;
+    /// }
+    /// ```
     pub fn collect_frame(&mut self) -> Result<Option<Arc<FrameData>>>
         requires { Unit {0} }
         ensures ok { IfOk result (λ frame.

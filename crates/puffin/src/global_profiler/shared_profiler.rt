@@ -40,6 +40,11 @@ impl<L: Ledger, M: Ledger> SharedProfiler<L, M> {
     /// blanks have `n` parts.
     ///
     /// Refused with `Memory`: the profiler comes back.
+    ///
+    /// ```
+    /// let opened = SharedProfiler::<L, M>::open(alloc, GlobalProfiler::new(alloc), 5, reported, handed);
+    /// let Ok((profiler, shares)) = opened else { return Err(Error::Memory) };
+    /// ```
     pub fn open(
         alloc: Global,
         profiler: GlobalProfiler,

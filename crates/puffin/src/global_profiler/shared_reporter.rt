@@ -52,6 +52,11 @@ impl<L: Ledger, M: Ledger, R: Wait> SharedReporter<L, M, R> {
     /// since the last accepted report goes to the profiler, and the share counts it. Refused as
     /// [`ThreadProfiler::end_scope`](crate::thread_profiler::ThreadProfiler::end_scope) is; waits for the lock where it
     /// reports.
+    ///
+    /// ```
+    /// let scope = thread.begin_scope(id, "image-12.png")?;
+    /// reporter.end_scope(&mut thread, scope)?;
+    /// ```
     pub fn end_scope<T: AnyThread>(&mut self, thread: &mut T, offset: usize) -> Result<Closed>
         requires { Unit {0} }
         ensures innermost { OnOk result (

@@ -145,6 +145,11 @@ impl<'s> Reader<'s> {
     /// `tries` is set to the number of readings made at a byte `(`, also where the walk is refused. Refused with the
     /// fault at the least place that the walk reaches (`PrematureEnd`, `InvalidStream` or `ScopeNeverEnded`), or with
     /// `Memory` where the vector of the open regions' ends can't grow. The stream stays as it is.
+    ///
+    /// ```
+    /// let mut tries = 0;
+    /// let walk = Reader::walk(alloc, &Stream::from(bytes), &mut tries)?;
+    /// ```
     pub fn walk(alloc: Global, stream: &Stream, tries: &mut u64) -> Result<Walk>
         // What is walked is a forest, and the numbers are the forest's.
         ensures forest { IfOk result (λ w. (f : Forest) × Spells stream.now.bytes f × Counts w f) }

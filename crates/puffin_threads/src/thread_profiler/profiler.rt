@@ -32,6 +32,11 @@ impl<C: NsSource> ThreadProfiler<C> {
     ghost use Rattle.std.specs.Borrow.{Lends, sem};
 
     /// A thread without scopes, of this name.
+    ///
+    /// ```
+    /// let name = String::from_str(alloc, "main")?;
+    /// let mut thread = ThreadProfiler::new(alloc, name, SystemClock::new(rt)?);
+    /// ```
     pub fn new(alloc: Global, name: String, clock: C) -> ThreadProfiler<C>
         ensures thread { thread_of result ≡ record {
           name = string_bytes name;
@@ -98,6 +103,11 @@ impl<C: NsSource> ThreadProfiler<C> {
     ///
     /// Refused with `MismatchedEnd` alone, where the offset isn't the innermost open scope's: the clock isn't read then, and
     /// nothing changes. No memory is taken.
+    ///
+    /// ```
+    /// let scope = thread.begin_scope(id, "image-12.png")?;
+    /// thread.end_scope(scope, &mut profiler)?;
+    /// ```
     pub fn end_scope<R: Reporter>(&mut self, offset: usize, reporter: &mut R) -> Result<Closed>
         ensures innermost { OnOk result (
             slice_get (open_offsets (thread_of self.old).word) 0 ≡ Some offset) }

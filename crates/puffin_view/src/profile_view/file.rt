@@ -93,6 +93,10 @@ impl FrameView {
     ///
     /// Refused with `PartTooLong` where a part of a packet has `2^32` bytes or more, with `Memory`, and with `Io` where a
     /// write failed or took nothing of a piece that wasn't empty. A beginning of the file is then written.
+    ///
+    /// ```
+    /// view.write(&mut Counted::new(File::create(&rt, "frames.puffin")?))?;
+    /// ```
     pub fn write<D: Drain>(&self, drain: &mut D) -> Result<(), FileError>
         requires { D.failures drain.old < 2 ^ 64 - 1 }
         ensures ok { OnOk result (
@@ -125,6 +129,10 @@ impl FrameView {
     /// Refused with the first that applies: `NoMagic` where there are fewer than four bytes, or others than `PUF0`; as
     /// [`FrameData::read_next`] at each frame; `Refused(MissingId)` where some of a frame's details have no id; and
     /// `Truncated` where `2^64 - 1` frames stand before the end. The reader's place is then open.
+    ///
+    /// ```
+    /// let view = FrameView::read(alloc, &mut Counted::new(File::open(&rt, "frames.puffin")?))?;
+    /// ```
     pub fn read<S: Source>(alloc: Global, source: &mut S) -> Result<FrameView, FileError>
         requires { S.failures source.old < 2 ^ 64 - 1 }
         ensures file { ReadsView file_at (S.remaining source.old) (S.remaining source.new) result }
