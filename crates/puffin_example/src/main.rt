@@ -15,6 +15,7 @@ use puffin::thread_profiler::{SystemClock, ThreadProfiler};
 use puffin_data::data::Counted;
 use std::fs::File;
 use std::marker::Brand;
+use std::sync::atomic::Ordering;
 use std::sync::ledger::{Blank, Ledger};
 use std::sync::{Arc, Barrier, Wait};
 use std::thread::{JoinHandle, Threads};
@@ -44,7 +45,7 @@ fn work<L: Ledger, M: Ledger, R: Wait + Copy>(
     let mut reporter = SharedReporter::new(rt, profiler, share);
     for _ in 0..ROUNDS {
         studio.rounds.wait(&rt);
-        let _steps = draw(&mut painter, &studio.places, first);
+        draw(&mut painter, &studio.places, first);
         let _reported = reporter.report_closed(&mut painter);
         studio.rounds.wait(&rt);
     }
@@ -77,7 +78,7 @@ fn paint<
 >(
     rt: R,
     painters: Vec<Painter>,
-    studio: Arc<Studio>,
+    studio: &Arc<Studio>,
     reported: Blank,
     handed: Blank,
 ) -> Result<(GlobalFrameView, Settled)>
@@ -86,16 +87,14 @@ fn paint<
         × (reported.parts ≡ 5) }
     requires handed { (handed.name ≡ M.name) × (handed.parts ≡ M.parts) × (handed.parts ≡ 5) }
 {
-    let alloc = rt.alloc();
-    let profiler = GlobalProfiler::new(alloc);
-    let opened = SharedProfiler::<L, M>::open(alloc, profiler, 5, reported, handed);
+    let profiler = GlobalProfiler::new(rt.alloc());
+    let opened = SharedProfiler::<L, M>::open(rt.alloc(), profiler, 5, reported, handed);
     let (profiler, mut shares) = opened.ok().context("memory")?;
-    let view = GlobalFrameView::attach(alloc, &rt, &profiler)?;
-    view.lock(&rt).set_pack_frames(false);
+    let view = GlobalFrameView::attach(rt.alloc(), &rt, &profiler)?;
     let mut own = shares.pop().context("a share")?;
-    let mut threads = Vec::new(alloc);
+    let mut threads = Vec::new(rt.alloc());
     for ((painter, share), first) in painters.into_iter().zip(shares).zip([0, 4, 8, 12]) {
-        let (profiler, studio) = (profiler.clone()?, Arc::try_clone(&studio)?);
+        let (profiler, studio) = (profiler.clone()?, Arc::try_clone(studio)?);
         threads.push(start(rt, profiler, share, painter, studio, first)?)?;
     }
     for _ in 0..ROUNDS {
@@ -103,13 +102,13 @@ fn paint<
         studio.rounds.wait(&rt);
         let _emitted = profiler.new_frame(&rt, &mut own);
     }
-    let mut shares = Vec::new(alloc);
+    let mut shares = Vec::new(rt.alloc());
     shares.push(own)?;
     for thread in threads {
         shares.push(thread.join(&rt))?;
     }
-    let settled = profiler.settle(&rt, shares).ok().context("all shares")?;
-    Ok((view, settled))
+    let settled = profiler.settle(&rt, shares).ok();
+    Ok((view, settled.context("all shares")?))
 }
 
 /// Writes the frames and prints what they hold; on standard error, how each thread is reported.
@@ -144,7 +143,8 @@ fn main(rt: HostRuntime) -> Result<()> {
     let studio = studio.context("memory")?;
     let (reported, handed) = (Blank::new(5), Blank::new(5));
     let (view, settled) = paint::<Brand, Brand, HostRuntime>(
-        rt, painters, studio, reported, handed,
+        rt, painters, &studio, reported, handed,
     )?;
+    println!(rt; "steps {}", studio.places.steps.load(Ordering::Relaxed))?;
     written(&rt, out.as_str(), &view.lock(&rt), settled.handed)
 }
