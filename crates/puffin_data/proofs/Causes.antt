@@ -1,9 +1,12 @@
 -- What may be wrong where a scope is read.
-use Rattle.std.specs.Prelude.{◌≡◌, ℕ, ◌+◌, ◌-◌, ◌^◌, ◌⊎◌, pos, ◌-ℤ◌, int_lt, List, length, slice_index, nat_lt, nat_le, ◌==◌, not, ◌||◌, if◌then◌else◌, Bool, Option, Some, None, Result, Ok, Err}
+use Rattle.std.specs.Prelude.{◌≡◌, ℕ, ◌+◌, ◌-◌, ◌*◌, ◌^◌, ◌⊎◌, pos, ◌-ℤ◌, int_lt, List, [], ◌∷◌, length, drop, slice_index, nat_lt, nat_le, ◌==◌, not, ◌||◌, if◌then◌else◌, Bool, Option, Some, None, Result, Ok, Err}
 use Rattle.std.proofs.Common.{true, false, inl, inr}
+use Rattle.puffin_data.specs.declared.data.form.Form.{Form}
 use Rattle.puffin_data.specs.declared.error.Error.{Error}
 use Rattle.puffin_data.specs.declared.error.Error.TheVariants.{PrematureEnd, InvalidStream, ScopeNeverEnded}
-use Rattle.puffin_data.specs.Walk.Reading.{Found, reading, found_in, id_in, time_in, size_in, child_begin_in, child_end_in}
+use Rattle.puffin_data.specs.declared.data.form.Form.TheVariants.{Short, Long}
+use Rattle.puffin_data.specs.Text.Lengths.{length_at, with_second_group}
+use Rattle.puffin_data.specs.Walk.Reading.{Found, reading, sized_reading, unless_fault, text_length_in, found_in, id_in, time_in, size_in, child_begin_in, child_end_in}
 use Rattle.puffin_data.specs.Walk.{region, IsFault}
 
 abbrev Answer : Type 0
@@ -12,40 +15,60 @@ Answer = Result (Option Found) Error
 abbrev IsCause : Error → Type 0
 IsCause e = (e ≡ PrematureEnd) ⊎ (e ≡ InvalidStream) ⊎ (e ≡ ScopeNeverEnded)
 
-abbrev HasCause : Answer → Type 0
+abbrev HasCause : {A : Type 0} → Result A Error → Type 0
 HasCause r = (e : Error) → r ≡ Err e → IsCause e
 
-either : (b : Bool) (x y : Answer) → HasCause x → HasCause y → HasCause (if b then x else y)
+either : {A : Type 0} (b : Bool) (x y : Result A Error) → HasCause x → HasCause y → HasCause (if b then x else y)
 either true x y h k = h
 either false x y h k = k
 
-fine : (o : Option Found) → HasCause (Ok o)
-fine o e is = absurd (cc)
+fine : {A : Type 0} (a : A) → HasCause (Ok a)
+fine a e is = absurd (cc)
 
-premature : HasCause (Err PrematureEnd)
+premature : {A : Type 0} → HasCause {A = A} (Err PrematureEnd)
 premature e is = inl (cc)
 
-invalid : HasCause (Err InvalidStream)
+invalid : {A : Type 0} → HasCause {A = A} (Err InvalidStream)
 invalid e is = inr (inl (cc))
 
-unended : HasCause (Err ScopeNeverEnded)
+unended : {A : Type 0} → HasCause {A = A} (Err ScopeNeverEnded)
 unended e is = inr (inr (cc))
 
-causes : (part : List ℕ) → HasCause (reading part)
-unfolding reading
-causes part =
-    either (not (slice_index part 0 == 40)) _ _ (fine None)
-    (either (nat_lt (length part) (child_begin_in part) || (id_in part == 0)) _ _ premature
-    (either (size_in part == 2 ^ 64 - 1) _ _ unended
-    (either (nat_le (length part) (child_end_in part)) _ _ premature
-    (either (not (slice_index part (child_end_in part) == 41)) _ _ invalid
-    (either (nat_lt (length part) (child_end_in part + 9)) _ _ premature
-    (either (int_lt (time_in part (child_end_in part + 1)) (time_in part 5)) _ _ invalid
-    (either (not (int_lt (time_in part (child_end_in part + 1) -ℤ time_in part 5) (pos (2 ^ 63)))) _ _ invalid (fine (Some (found_in part))))))))))
+unless : {A B : Type 0} (r : Result A Error) (after : Result B Error) → HasCause r → HasCause after → HasCause (unless_fault r after)
+unless (Ok a) after h k = k
+unless (Err fault) after h k = λ e is. h e (cc)
 
-pub three_faults : (bytes : List ℕ) (fault : Error) → IsFault bytes fault → IsCause fault
-three_faults bytes fault (place, first) =
+second_causes : (low : ℕ) (rest : List ℕ) → HasCause (with_second_group low rest)
+second_causes low [] = premature
+second_causes low (c ∷ rest) = either ((c == 0) || nat_le 128 c) _ _ invalid (fine (low + 128 * c, 2))
+
+length_causes : (form : Form) (bytes : List ℕ) → HasCause (length_at form bytes)
+unfolding length_at
+length_causes form [] = premature
+length_causes Short (b ∷ rest) = fine (b, 1)
+length_causes Long (b ∷ rest) = either (nat_lt b 128) _ _ (fine (b, 1)) (second_causes (b - 128) rest)
+
+sized_causes : (form : Form) (part : List ℕ) → HasCause (sized_reading form part)
+unfolding sized_reading
+sized_causes form part =
+    either (nat_lt (length part) (child_begin_in form part)) _ _ premature
+    (either (size_in form part == 2 ^ 64 - 1) _ _ unended
+    (either (nat_le (length part) (child_end_in form part)) _ _ premature
+    (either (not (slice_index part (child_end_in form part) == 41)) _ _ invalid
+    (either (nat_lt (length part) (child_end_in form part + 9)) _ _ premature
+    (either (int_lt (time_in part (child_end_in form part + 1)) (time_in part 5)) _ _ invalid
+    (either (not (int_lt (time_in part (child_end_in form part + 1) -ℤ time_in part 5) (pos (2 ^ 63)))) _ _ invalid (fine (Some (found_in form part)))))))))
+
+causes : (form : Form) (part : List ℕ) → HasCause (reading form part)
+unfolding reading
+causes form part =
+    either (not (slice_index part 0 == 40)) _ _ (fine None)
+    (either (nat_lt (length part) 14 || (id_in part == 0)) _ _ premature
+    (unless (text_length_in form part) (sized_reading form part) (length_causes form (drop 13 part)) (sized_causes form part)))
+
+pub three_faults : (form : Form) (bytes : List ℕ) (fault : Error) → IsFault form bytes fault → IsCause fault
+three_faults form bytes fault (place, first) =
     elim first.stands [
-      | inl is ↦ causes (region bytes place first.end) fault is
+      | inl is ↦ causes form (region bytes place first.end) fault is
       | inr none ↦ inr (inl none.2)
     ]

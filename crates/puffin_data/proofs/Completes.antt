@@ -3,6 +3,7 @@ use Rattle.std.proofs.Common.{◌≡◌, ℕ, suc, ◌+◌, ◌-◌, ◌≤◌, 
 use Rattle.std.proofs.lemmas.Int.{ints, clamps}
 use Rattle.std.proofs.lemmas.List.{length-append}
 use Rattle.std.specs.Int.{int_min, int_max}
+use Rattle.puffin_data.specs.declared.data.form.Form.{Form}
 use Rattle.puffin_data.specs.declared.error.Error.{Error}
 use Rattle.puffin_data.specs.declared.data.walk.Walk.{Walk}
 use Rattle.puffin_data.specs.Forest.{Span, Forest, empty, node, IsForest}
@@ -22,65 +23,65 @@ tallied level w empty = w
 tallied level w (node s children others) = tallied level (tallied (suc level) (with_scope w (suc level) s) children) others
 
 -- what a completed walk of a region says
-pub record Completed (bytes : List ℕ) (level : ℕ) (w v : Walk) (p e : ℕ) : Type 0 where
+pub record Completed (form : Form) (bytes : List ℕ) (level : ℕ) (w v : Walk) (p e : ℕ) : Type 0 where
   pub forest : Forest
-  pub fits : IsForest forest
-  pub spelled : region bytes p e ≡ spelling forest
+  pub fits : IsForest form forest
+  pub spelled : region bytes p e ≡ spelling form forest
   pub numbers : v ≡ tallied level w forest
   pub places : List ℕ
-  pub sounds : Sounds bytes p e places
+  pub sounds : Sounds form bytes p e places
   pub number_of_places : length places ≡ scope_count forest
-  pub faultless : (q f : ℕ) (fault : Error) → Reaches bytes p e q f → IsFaultAt bytes q f fault → ⊥
+  pub faultless : (q f : ℕ) (fault : Error) → Reaches form bytes p e q f → IsFaultAt form bytes q f fault → ⊥
 
-pub nothing_reached : (bytes : List ℕ) (p e q f : ℕ) (fault : Error) → region bytes p e ≡ [] → Reaches bytes p e q f → IsFaultAt bytes q f fault → ⊥
-nothing_reached bytes p e q f fault h here at = nothing_is_no_fault (region bytes p e) fault h at
-nothing_reached bytes p e q f fault h (child {s = s} sound r) at = nothing_is_not_sound (region bytes p e) s h sound
-nothing_reached bytes p e q f fault h (sibling {s = s} sound r) at = nothing_is_not_sound (region bytes p e) s h sound
+pub nothing_reached : (form : Form) (bytes : List ℕ) (p e q f : ℕ) (fault : Error) → region bytes p e ≡ [] → Reaches form bytes p e q f → IsFaultAt form bytes q f fault → ⊥
+nothing_reached form bytes p e q f fault h here at = nothing_is_no_fault form (region bytes p e) fault h at
+nothing_reached form bytes p e q f fault h (child {s = s} sound r) at = nothing_is_not_sound form (region bytes p e) s h sound
+nothing_reached form bytes p e q f fault h (sibling {s = s} sound r) at = nothing_is_not_sound form (region bytes p e) s h sound
 
 -- what is reached from a place where a sound scope stands
-pub after_sound : (bytes : List ℕ) (p e q f : ℕ) (s : Found) (fault : Error) → IsSoundAt bytes p e s
-    → (Reaches bytes (p + s.child_begin) (p + s.child_end) q f → ⊥) → (Reaches bytes (p + s.next_sibling) e q f → ⊥) → Reaches bytes p e q f → IsFaultAt bytes q f fault → ⊥
-after_sound bytes p e q f s fault sound inner later here at = sound_is_no_fault (region bytes p e) s fault sound at
-after_sound bytes p e q f s fault sound inner later (child {s = t} other r) at =
-    inner (subst (λ (x : Found). Reaches bytes (p + x.child_begin) (p + x.child_end) q f) (one_sound (region bytes p e) t s other sound) r)
-after_sound bytes p e q f s fault sound inner later (sibling {s = t} other r) at =
-    later (subst (λ (x : Found). Reaches bytes (p + x.next_sibling) e q f) (one_sound (region bytes p e) t s other sound) r)
+pub after_sound : (form : Form) (bytes : List ℕ) (p e q f : ℕ) (s : Found) (fault : Error) → IsSoundAt form bytes p e s
+    → (Reaches form bytes (p + s.child_begin) (p + s.child_end) q f → ⊥) → (Reaches form bytes (p + s.next_sibling) e q f → ⊥) → Reaches form bytes p e q f → IsFaultAt form bytes q f fault → ⊥
+after_sound form bytes p e q f s fault sound inner later here at = sound_is_no_fault form (region bytes p e) s fault sound at
+after_sound form bytes p e q f s fault sound inner later (child {s = t} other r) at =
+    inner (subst (λ (x : Found). Reaches form bytes (p + x.child_begin) (p + x.child_end) q f) (one_sound form (region bytes p e) t s other sound) r)
+after_sound form bytes p e q f s fault sound inner later (sibling {s = t} other r) at =
+    later (subst (λ (x : Found). Reaches form bytes (p + x.next_sibling) e q f) (one_sound form (region bytes p e) t s other sound) r)
 
 -- the spelling of a scope with its children and what follows it, from those of the parts
-pub joined : (part inner rest : List ℕ) (s : Span) (size : ℕ) (f g : Forest) → part ≡ begin_bytes s.id s.start s.text size ++ (inner ++ (end_bytes s.stop ++ rest)) → length inner ≡ size → inner ≡ spelling f → rest ≡ spelling g → part ≡ spelling (node s f g)
-joined part inner rest s size f g e len ef eg =
-    e ∙ ap (λ (n : ℕ). begin_bytes s.id s.start s.text n ++ (inner ++ (end_bytes s.stop ++ rest))) (sym len) ∙ ap (λ (x : List ℕ). begin_bytes s.id s.start s.text (length x) ++ (x ++ (end_bytes s.stop ++ rest))) ef ∙ ap (λ (x : List ℕ). begin_bytes s.id s.start s.text (length (spelling f)) ++ (spelling f ++ (end_bytes s.stop ++ x))) eg
+pub joined : (form : Form) (part inner rest : List ℕ) (s : Span) (size : ℕ) (f g : Forest) → part ≡ begin_bytes form s.id s.start s.text size ++ (inner ++ (end_bytes s.stop ++ rest)) → length inner ≡ size → inner ≡ spelling form f → rest ≡ spelling form g → part ≡ spelling form (node s f g)
+joined form part inner rest s size f g e len ef eg =
+    e ∙ ap (λ (n : ℕ). begin_bytes form s.id s.start s.text n ++ (inner ++ (end_bytes s.stop ++ rest))) (sym len) ∙ ap (λ (x : List ℕ). begin_bytes form s.id s.start s.text (length x) ++ (x ++ (end_bytes s.stop ++ rest))) ef ∙ ap (λ (x : List ℕ). begin_bytes form s.id s.start s.text (length (spelling form f)) ++ (spelling form f ++ (end_bytes s.stop ++ x))) eg
 
-pub completed : (bytes : List ℕ) (level : ℕ) (w v : Walk) (p e : ℕ) → IsBytes bytes → p ≤ e → e ≤ length bytes → WalksTo bytes level w p e (Ok v) → Completed bytes level w v p e
-completed bytes level w v p e fits h k ends =
+pub completed : (form : Form) (bytes : List ℕ) (level : ℕ) (w v : Walk) (p e : ℕ) → IsBytes bytes → p ≤ e → e ≤ length bytes → WalksTo form bytes level w p e (Ok v) → Completed form bytes level w v p e
+completed form bytes level w v p e fits h k ends =
     record {
       forest = empty;
       fits = tt;
       spelled = empty_region bytes p;
       numbers = refl;
       places = [];
-      sounds = no_more (λ s sound. nothing_is_not_sound (region bytes p p) s (empty_region bytes p) sound);
+      sounds = no_more (λ s sound. nothing_is_not_sound form (region bytes p p) s (empty_region bytes p) sound);
       number_of_places = refl;
-      faultless = λ q f fault r at. nothing_reached bytes p p q f fault (empty_region bytes p) r at;
+      faultless = λ q f fault r at. nothing_reached form bytes p p q f fault (empty_region bytes p) r at;
     }
-completed bytes level w v p e fits h k (goes_on {v = u} {s = s} sound inner later) =
-    let at = found_places bytes p e s sound h k in
-    let a = completed bytes (suc level) (with_scope w (suc level) s.span) u (p + s.child_begin) (p + s.child_end) fits (omega (arith, at)) (omega (arith, at)) inner in
-    let b = completed bytes level u v (p + s.next_sibling) e fits (omega (arith, at)) k later in
+completed form bytes level w v p e fits h k (goes_on {v = u} {s = s} sound inner later) =
+    let at = found_places form bytes p e s sound h k in
+    let a = completed form bytes (suc level) (with_scope w (suc level) s.span) u (p + s.child_begin) (p + s.child_end) fits (omega (arith, at)) (omega (arith, at)) inner in
+    let b = completed form bytes level u v (p + s.next_sibling) e fits (omega (arith, at)) k later in
     let part = region bytes p e in
-    let t = spelt part s (IsBytes-take (e - p) (drop p bytes) (IsBytes-drop p bytes fits)) sound in
+    let t = spelt form part s (IsBytes-take (e - p) (drop p bytes) (IsBytes-drop p bytes fits)) sound in
     let inner_is : take (s.child_end - s.child_begin) (drop s.child_begin part) ≡ region bytes (p + s.child_begin) (p + s.child_end) = sym (part_of_region bytes p e s.child_begin s.child_end at.inside (omega (arith, at))) in
     let rest_is : drop s.next_sibling part ≡ region bytes (p + s.next_sibling) e = sym (rest_of_region bytes p e s.next_sibling (omega (arith, at))) in
     let size : length (take (s.child_end - s.child_begin) (drop s.child_begin part)) ≡ s.child_end - s.child_begin = ap length inner_is ∙ length-region bytes (p + s.child_begin) (p + s.child_end) (omega (arith, at)) ∙ omega arith in
     record {
       forest = node s.span a.forest b.forest;
       fits = (t.fits, a.fits, b.fits);
-      spelled = joined part _ _ s.span (s.child_end - s.child_begin) a.forest b.forest t.whole size (inner_is ∙ a.spelled) (rest_is ∙ b.spelled);
+      spelled = joined form part _ _ s.span (s.child_end - s.child_begin) a.forest b.forest t.whole size (inner_is ∙ a.spelled) (rest_is ∙ b.spelled);
       numbers = b.numbers ∙ ap (λ (x : Walk). tallied level x b.forest) a.numbers;
       places = p ∷ (a.places ++ b.places);
       sounds = one_more sound a.sounds b.sounds;
       number_of_places = omega (arith, length-append a.places b.places, a.number_of_places, b.number_of_places);
-      faultless = λ q f fault r x. after_sound bytes p e q f s fault sound (λ y. a.faultless q f fault y x) (λ y. b.faultless q f fault y x) r x;
+      faultless = λ q f fault r x. after_sound form bytes p e q f s fault sound (λ y. a.faultless q f fault y x) (λ y. b.faultless q f fault y x) r x;
     }
 
 -- ---- the numbers are the forest's

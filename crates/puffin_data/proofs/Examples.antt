@@ -3,18 +3,20 @@ use Rattle.std.proofs.Common.{◌≡◌, ℕ, ◌+◌, ◌<◌, ◌≤◌, List,
 use Rattle.std.specs.Prelude.{codes}
 use Rattle.std.proofs.lemmas.Int.{ints}
 use Rattle.std.proofs.lemmas.List.Elements.{All-from_recursion}
+use Rattle.puffin_data.specs.declared.data.form.Form.TheVariants.{Short}
+use Rattle.puffin_data.specs.Text.Lengths.{length_layout, length_at}
 use Rattle.puffin_data.specs.declared.error.Error.{Error}
 use Rattle.puffin_data.specs.declared.error.Error.TheVariants.{PrematureEnd, InvalidStream, ScopeNeverEnded}
 use Rattle.puffin_data.specs.Forest.{Span, Forest, empty, node, IsSpan, IsForest}
 use Rattle.puffin_data.specs.Forest.Measures.{scope_count, height, least_start, greatest_stop}
 use Rattle.puffin_data.specs.Forest.Spelling.{spelling, begin_bytes, end_bytes}
-use Rattle.puffin_data.specs.Walk.Reading.{Found, reading, found_in, id_in, time_in, size_in}
+use Rattle.puffin_data.specs.Walk.Reading.{Found, reading, sized_reading, found_in, id_in, time_in, size_in}
 use Rattle.puffin_data.specs.Walk.{region, IsSoundAt, IsFaultAt, Reaches, here, child, sibling, IsFirstFault, no_more, one_more, Refuses}
 use Rattle.puffin_data.proofs.Regions.{whole_region, between, one_sound, sound_is_no_fault, nothing_is_no_fault, nothing_is_not_sound, ok_is_not_err}
 
 -- ---- no scope
 
-spelled_none : spelling empty ≡ []
+spelled_none : spelling Short empty ≡ []
 spelled_none = refl
 
 count_of_none : scope_count empty ≡ 0
@@ -43,15 +45,15 @@ one_bytes = codes "(\u{1}\0\0\0d\0\0\0\0\0\0\0\u{4}data\0\0\0\0\0\0\0\0),\u{1}\0
 abbrev one_found : Found
 one_found = record { span = data_span; child_begin = 26; child_end = 26; next_sibling = 35 }
 
-spelled : spelling one ≡ one_bytes
-unfolding begin_bytes end_bytes
+spelled : spelling Short one ≡ one_bytes
+unfolding begin_bytes end_bytes length_layout
 spelled = refl
 
 size : length one_bytes ≡ 35
 size = refl
 
-read : reading one_bytes ≡ Ok (Some one_found)
-unfolding reading found_in id_in time_in size_in
+read : reading Short one_bytes ≡ Ok (Some one_found)
+unfolding reading found_in id_in time_in size_in length_at sized_reading
 read = refl
 
 count_of_one : scope_count one ≡ 1
@@ -66,9 +68,9 @@ start_of_one = refl
 stop_of_one : greatest_stop one ≡ pos 300
 stop_of_one = refl
 
-well_formed : IsForest one
+well_formed : IsForest Short one
 well_formed =
-    let span : IsSpan data_span = record {
+    let span : IsSpan Short data_span = record {
       id_low = omega arith;
       id_high = omega arith;
       start = omega (arith, ints);
@@ -93,8 +95,8 @@ three_bytes = codes "(\u{1}\0\0\0d\0\0\0\0\0\0\0\u{8}data_topX\0\0\0\0\0\0\0"
     ++ (codes "(\u{3}\0\0\0,\u{1}\0\0\0\0\0\0\rdata_middle_1\0\0\0\0\0\0\0\0)\u{90}\u{1}\0\0\0\0\0\0"
     ++ codes ")\u{90}\u{1}\0\0\0\0\0\0"))
 
-spelled_three : spelling three ≡ three_bytes
-unfolding begin_bytes end_bytes
+spelled_three : spelling Short three ≡ three_bytes
+unfolding begin_bytes end_bytes length_layout
 spelled_three = refl
 
 size_of_three : length three_bytes ≡ 127
@@ -112,80 +114,80 @@ start_of_three = refl
 stop_of_three : greatest_stop three ≡ pos 400
 stop_of_three = refl
 
-read_three : reading three_bytes ≡ Ok (Some (record { span = record { id = 1; start = pos 100; stop = pos 400; text = codes "data_top" }; child_begin = 30; child_end = 118; next_sibling = 127 }))
-unfolding reading found_in id_in time_in size_in
+read_three : reading Short three_bytes ≡ Ok (Some (record { span = record { id = 1; start = pos 100; stop = pos 400; text = codes "data_top" }; child_begin = 30; child_end = 118; next_sibling = 127 }))
+unfolding reading found_in id_in time_in size_in length_at sized_reading
 read_three = refl
 
 -- ---- faults at the first byte
 
-at_once : (bytes : List ℕ) (fault : Error) → reading bytes ≡ Err fault → IsFirstFault bytes 0 fault
+at_once : (bytes : List ℕ) (fault : Error) → reading Short bytes ≡ Err fault → IsFirstFault Short bytes 0 fault
 at_once bytes fault e = record {
   end = length bytes;
   reached = here;
-  stands = inl (ap reading (whole_region bytes) ∙ e);
+  stands = inl (ap (reading Short) (whole_region bytes) ∙ e);
   least = λ p e other r at. omega arith;
 }
 
 -- begun at 100 and not ended
-never_ended : IsFirstFault (codes "(\u{1}\0\0\0d\0\0\0\0\0\0\0\0ÿÿÿÿÿÿÿÿ") 0 ScopeNeverEnded
-unfolding reading id_in size_in
+never_ended : IsFirstFault Short (codes "(\u{1}\0\0\0d\0\0\0\0\0\0\0\0ÿÿÿÿÿÿÿÿ") 0 ScopeNeverEnded
+unfolding reading id_in size_in length_at sized_reading
 never_ended = at_once _ _ refl
 
 -- id 0
-no_id : IsFirstFault (codes "(\0\0\0\0d\0\0\0\0\0\0\0\u{4}data\0\0\0\0\0\0\0\0),\u{1}\0\0\0\0\0\0") 0 PrematureEnd
-unfolding reading id_in
+no_id : IsFirstFault Short (codes "(\0\0\0\0d\0\0\0\0\0\0\0\u{4}data\0\0\0\0\0\0\0\0),\u{1}\0\0\0\0\0\0") 0 PrematureEnd
+unfolding reading id_in length_at sized_reading
 no_id = at_once _ _ refl
 
 -- without the last byte
-cut : IsFirstFault (codes "(\u{1}\0\0\0d\0\0\0\0\0\0\0\u{4}data\0\0\0\0\0\0\0\0),\u{1}\0\0\0\0\0") 0 PrematureEnd
-unfolding reading id_in size_in
+cut : IsFirstFault Short (codes "(\u{1}\0\0\0d\0\0\0\0\0\0\0\u{4}data\0\0\0\0\0\0\0\0),\u{1}\0\0\0\0\0") 0 PrematureEnd
+unfolding reading id_in size_in length_at sized_reading
 cut = at_once _ _ refl
 
 -- `(` where `)` has to stand
-no_end : IsFirstFault (codes "(\u{1}\0\0\0d\0\0\0\0\0\0\0\u{4}data\0\0\0\0\0\0\0\0(,\u{1}\0\0\0\0\0\0") 0 InvalidStream
-unfolding reading id_in size_in
+no_end : IsFirstFault Short (codes "(\u{1}\0\0\0d\0\0\0\0\0\0\0\u{4}data\0\0\0\0\0\0\0\0(,\u{1}\0\0\0\0\0\0") 0 InvalidStream
+unfolding reading id_in size_in length_at sized_reading
 no_end = at_once _ _ refl
 
 -- stopped at 99
-reversed : IsFirstFault (codes "(\u{1}\0\0\0d\0\0\0\0\0\0\0\u{4}data\0\0\0\0\0\0\0\0)c\0\0\0\0\0\0\0") 0 InvalidStream
-unfolding reading id_in size_in time_in
+reversed : IsFirstFault Short (codes "(\u{1}\0\0\0d\0\0\0\0\0\0\0\u{4}data\0\0\0\0\0\0\0\0)c\0\0\0\0\0\0\0") 0 InvalidStream
+unfolding reading id_in size_in time_in length_at sized_reading
 reversed = at_once _ _ refl
 
 -- ---- faults behind a sound scope
 
 -- a fault that is reached behind a sound scope, is reached from its children or from its next sibling
-parts : (bytes : List ℕ) (p e q f place : ℕ) (s : Found) (fault : Error) → IsSoundAt bytes p e s
-    → (Reaches bytes (p + s.child_begin) (p + s.child_end) q f → place ≤ q) → (Reaches bytes (p + s.next_sibling) e q f → place ≤ q) → Reaches bytes p e q f → IsFaultAt bytes q f fault → place ≤ q
-parts bytes p e q f place s fault sound inner later here at = absurd (sound_is_no_fault (region bytes p e) s fault sound at)
+parts : (bytes : List ℕ) (p e q f place : ℕ) (s : Found) (fault : Error) → IsSoundAt Short bytes p e s
+    → (Reaches Short bytes (p + s.child_begin) (p + s.child_end) q f → place ≤ q) → (Reaches Short bytes (p + s.next_sibling) e q f → place ≤ q) → Reaches Short bytes p e q f → IsFaultAt Short bytes q f fault → place ≤ q
+parts bytes p e q f place s fault sound inner later here at = absurd (sound_is_no_fault Short (region bytes p e) s fault sound at)
 parts bytes p e q f place s fault sound inner later (child {s = t} other r) at =
-    inner (subst (λ (x : Found). Reaches bytes (p + x.child_begin) (p + x.child_end) q f) (one_sound (region bytes p e) t s other sound) r)
+    inner (subst (λ (x : Found). Reaches Short bytes (p + x.child_begin) (p + x.child_end) q f) (one_sound Short (region bytes p e) t s other sound) r)
 parts bytes p e q f place s fault sound inner later (sibling {s = t} other r) at =
-    later (subst (λ (x : Found). Reaches bytes (p + x.next_sibling) e q f) (one_sound (region bytes p e) t s other sound) r)
+    later (subst (λ (x : Found). Reaches Short bytes (p + x.next_sibling) e q f) (one_sound Short (region bytes p e) t s other sound) r)
 
 -- one scope, and a byte left over
 abbrev longer : List ℕ
 longer = one_bytes ++ (0 ∷ [])
 
-longer_sound : IsSoundAt longer 0 36 one_found
-unfolding reading found_in id_in time_in size_in
+longer_sound : IsSoundAt Short longer 0 36 one_found
+unfolding reading found_in id_in time_in size_in length_at sized_reading
 longer_sound = refl
 
-longer_rest : reading (region longer 35 36) ≡ Ok None
-unfolding reading
+longer_rest : reading Short (region longer 35 36) ≡ Ok None
+unfolding reading length_at sized_reading
 longer_rest = refl
 
 -- no fault stands among no children
-no_children : (q f : ℕ) (fault : Error) → Reaches longer 26 26 q f → IsFaultAt longer q f fault → ⊥
-no_children q f fault here at = nothing_is_no_fault [] fault refl at
-no_children q f fault (child {s = s} sound r) at = nothing_is_not_sound [] s refl sound
-no_children q f fault (sibling {s = s} sound r) at = nothing_is_not_sound [] s refl sound
+no_children : (q f : ℕ) (fault : Error) → Reaches Short longer 26 26 q f → IsFaultAt Short longer q f fault → ⊥
+no_children q f fault here at = nothing_is_no_fault Short [] fault refl at
+no_children q f fault (child {s = s} sound r) at = nothing_is_not_sound Short [] s refl sound
+no_children q f fault (sibling {s = s} sound r) at = nothing_is_not_sound Short [] s refl sound
 
-left_over : IsFirstFault longer 35 InvalidStream
+left_over : IsFirstFault Short longer 35 InvalidStream
 left_over = record {
   end = 36;
   reached = sibling longer_sound here;
   stands = inr (omega arith, longer_rest, refl);
-  least = λ q f other r at. parts longer 0 36 q f 35 one_found other longer_sound (λ x. absurd (no_children q f other x at)) (λ x. (between longer 35 36 q f (omega arith) (omega arith) x).low) r at;
+  least = λ q f other r at. parts longer 0 36 q f 35 one_found other longer_sound (λ x. absurd (no_children q f other x at)) (λ x. (between Short longer 35 36 q f (omega arith) (omega arith) x).low) r at;
 }
 
 -- A scope of 62 bytes, whose children end at 53. The child in it claims to end at 75.
@@ -198,28 +200,28 @@ past_found = record { span = record { id = 1; start = pos 0; stop = pos 0; text 
 past_size : length past ≡ 62
 past_size = refl
 
-past_sound : IsSoundAt past 0 62 past_found
-unfolding reading found_in id_in time_in size_in
+past_sound : IsSoundAt Short past 0 62 past_found
+unfolding reading found_in id_in time_in size_in length_at sized_reading
 past_sound = refl
 
-past_child : reading (region past 22 53) ≡ Err PrematureEnd
-unfolding reading id_in size_in
+past_child : reading Short (region past 22 53) ≡ Err PrematureEnd
+unfolding reading id_in size_in length_at sized_reading
 past_child = refl
 
-past_first : IsFirstFault past 22 PrematureEnd
+past_first : IsFirstFault Short past 22 PrematureEnd
 past_first = record {
   end = 53;
   reached = child past_sound here;
   stands = inl past_child;
-  least = λ q f other r at. parts past 0 62 q f 22 past_found other past_sound (λ x. (between past 22 53 q f (omega arith) (omega arith) x).low) (λ x. omega (arith, (between past 62 62 q f (omega arith) (omega arith) x).low)) r at;
+  least = λ q f other r at. parts past 0 62 q f 22 past_found other past_sound (λ x. (between Short past 22 53 q f (omega arith) (omega arith) x).low) (λ x. omega (arith, (between Short past 62 62 q f (omega arith) (omega arith) x).low)) r at;
 }
 
 -- the two tries are the sound scope at 0 and the reading at 22
-past_refused : Refuses past PrematureEnd 2
+past_refused : Refuses Short past PrematureEnd 2
 past_refused = record {
   place = 22;
   first = past_first;
   sounds = 0 ∷ [];
-  are_sounds = one_more {s = past_found} {inner = []} {later = []} past_sound (no_more (λ s sound. ok_is_not_err (Some s) PrematureEnd (sym sound ∙ past_child))) (no_more (λ s sound. nothing_is_not_sound [] s refl sound));
+  are_sounds = one_more {s = past_found} {inner = []} {later = []} past_sound (no_more (λ s sound. ok_is_not_err (Some s) PrematureEnd (sym sound ∙ past_child))) (no_more (λ s sound. nothing_is_not_sound Short [] s refl sound));
   number = refl;
 }

@@ -5,6 +5,7 @@ use Rattle.std.specs.Int.{int_min, int_max}
 use Rattle.std.proofs.lemmas.Int.{ints, clamps}
 use Rattle.std.proofs.lemmas.Bool.{cases_lt}
 use Rattle.std.proofs.lemmas.List.{get_or-take, get_or-drop}
+use Rattle.puffin_data.specs.declared.data.form.Form.{Form}
 use Rattle.puffin_data.specs.declared.error.Error.{Error}
 use Rattle.puffin_data.specs.declared.error.Error.TheVariants.{Memory}
 use Rattle.puffin_data.specs.declared.data.walk.Walk.{Walk}
@@ -28,9 +29,9 @@ pub greatest_in_range : (f : Forest) → negsuc (2 ^ 63 - 1) ≤ℤ greatest_sto
 greatest_in_range empty = omega (arith, ints)
 greatest_in_range (node s c o) = omega (arith, ints, clamps, greatest_in_range c, greatest_in_range o)
 
-pub ordered : (f : Forest) → IsForest f → 0 < scope_count f → least_start f ≤ℤ greatest_stop f
-ordered empty fits some = absurd (omega arith)
-ordered (node s c o) fits some = omega (arith, ints, clamps, fits.0.ordered)
+pub ordered : (form : Form) (f : Forest) → IsForest form f → 0 < scope_count f → least_start f ≤ℤ greatest_stop f
+ordered form empty fits some = absurd (omega arith)
+ordered form (node s c o) fits some = omega (arith, ints, clamps, fits.0.ordered)
 
 pub from_most : (z : ℤ) → z ≤ℤ pos (2 ^ 63 - 1) → int_min (pos (2 ^ 63 - 1)) z ≡ z
 from_most z h = omega (arith, ints, clamps)
@@ -48,25 +49,25 @@ counts f =
       greatest_stop = t.stop ∙ from_least (greatest_stop f) (greatest_in_range f);
     }
 
-pub told_forest : (bytes : List ℕ) (tries : ℕ) (w : Walk) → IsBytes bytes → Walked bytes tries w → (f : Forest) × Spells bytes f × Counts w f
-told_forest bytes tries w fits walked =
-    let c = completed bytes 0 no_scope_counted w 0 (length bytes) fits (omega arith) (omega arith) walked.0 in
+pub told_forest : (form : Form) (bytes : List ℕ) (tries : ℕ) (w : Walk) → IsBytes bytes → Walked form bytes tries w → (f : Forest) × Spells form bytes f × Counts w f
+told_forest form bytes tries w fits walked =
+    let c = completed form bytes 0 no_scope_counted w 0 (length bytes) fits (omega arith) (omega arith) walked.0 in
     (c.forest, record { whole = sym (whole_region bytes) ∙ c.spelled; fits = c.fits }, subst (λ (x : Walk). Counts x c.forest) (sym c.numbers) (counts c.forest))
 
 -- a fault stands on a byte of its region
-pub fault_inside : (bytes : List ℕ) (p e : ℕ) (fault : Error) → p ≤ e → IsFaultAt bytes p e fault → p < e
-fault_inside bytes p e fault h at =
+pub fault_inside : (form : Form) (bytes : List ℕ) (p e : ℕ) (fault : Error) → p ≤ e → IsFaultAt form bytes p e fault → p < e
+fault_inside form bytes p e fault h at =
     elim (cases_lt p e) [
       | inl lt ↦ lt
-      | inr le ↦ let same : p ≡ e = omega arith in absurd (nothing_is_no_fault (region bytes p e) fault (subst (λ (n : ℕ). region bytes p n ≡ []) same (empty_region bytes p)) at)
+      | inr le ↦ let same : p ≡ e = omega arith in absurd (nothing_is_no_fault form (region bytes p e) fault (subst (λ (n : ℕ). region bytes p n ≡ []) same (empty_region bytes p)) at)
     ]
 
-pub told_fault : (bytes : List ℕ) (tries : ℕ) (e : Error) → IsBytes bytes → Stopped bytes tries e → (e ≡ Memory) ⊎ Refuses bytes e tries
-told_fault bytes tries e fits (inl memory) = inl memory
-told_fault bytes tries e fits (inr stopped) =
-    let s = stopped_at bytes 0 no_scope_counted 0 (length bytes) _ fits (omega arith) (omega arith) stopped.1 in
-    let within = between bytes 0 (length bytes) stopped.0 s.end (omega arith) (omega arith) s.reached in
-    let inside = fault_inside bytes stopped.0 s.end e within.middle s.stands in
+pub told_fault : (form : Form) (bytes : List ℕ) (tries : ℕ) (e : Error) → IsBytes bytes → Stopped form bytes tries e → (e ≡ Memory) ⊎ Refuses form bytes e tries
+told_fault form bytes tries e fits (inl memory) = inl memory
+told_fault form bytes tries e fits (inr stopped) =
+    let s = stopped_at form bytes 0 no_scope_counted 0 (length bytes) _ fits (omega arith) (omega arith) stopped.1 in
+    let within = between form bytes 0 (length bytes) stopped.0 s.end (omega arith) (omega arith) s.reached in
+    let inside = fault_inside form bytes stopped.0 s.end e within.middle s.stands in
     let first : get_or (region bytes stopped.0 s.end) 0 0 ≡ get_or bytes stopped.0 0 = get_or-take (s.end - stopped.0) (drop stopped.0 bytes) 0 0 (omega (arith, inside)) ∙ get_or-drop stopped.0 bytes 0 0 ∙ ap (λ (n : ℕ). get_or bytes n 0) (omega arith) in
     let last : tries_in (region bytes stopped.0 s.end) ≡ cond {A = ℕ} (eqb (get_or bytes stopped.0 0) 40) 1 0 = ap (λ (b : ℕ). cond (eqb b 40) 1 0) first in
     inr (record {
@@ -77,27 +78,27 @@ told_fault bytes tries e fits (inr stopped) =
       number = omega (arith, s.tries, last);
     })
 
-pub told_only : (bytes : List ℕ) (tries : ℕ) (r : Result Walk Error) → IsBytes bytes → length bytes < 2 ^ 64 → MatchResult r (Walked bytes tries) (Stopped bytes tries) → (f : Forest) → Spells bytes f → MatchResult r (λ w. Counts w f) (λ e. e ≡ Memory)
-told_only bytes tries (Ok w) fits small walked f spells =
-    let t = told_forest bytes tries w fits walked in
-    subst (λ (g : Forest). Counts w g) (same_forest t.0 f t.1.fits spells.fits (omega (arith, ap length t.1.whole)) (sym t.1.whole ∙ spells.whole)) t.2
-told_only bytes tries (Err e) fits small (inl memory) f spells = memory
-told_only bytes tries (Err e) fits small (inr stopped) f spells =
-    let s = stopped_at bytes 0 no_scope_counted 0 (length bytes) _ fits (omega arith) (omega arith) stopped.1 in
-    absurd (faultless f bytes 0 (length bytes) stopped.0 s.end e spells.fits (omega arith) (omega arith) small (whole_region bytes ∙ spells.whole) s.reached s.stands)
+pub told_only : (form : Form) (bytes : List ℕ) (tries : ℕ) (r : Result Walk Error) → IsBytes bytes → length bytes < 2 ^ 64 → MatchResult r (Walked form bytes tries) (Stopped form bytes tries) → (f : Forest) → Spells form bytes f → MatchResult r (λ w. Counts w f) (λ e. e ≡ Memory)
+told_only form bytes tries (Ok w) fits small walked f spells =
+    let t = told_forest form bytes tries w fits walked in
+    subst (λ (g : Forest). Counts w g) (same_forest form t.0 f t.1.fits spells.fits (omega (arith, ap length t.1.whole)) (sym t.1.whole ∙ spells.whole)) t.2
+told_only form bytes tries (Err e) fits small (inl memory) f spells = memory
+told_only form bytes tries (Err e) fits small (inr stopped) f spells =
+    let s = stopped_at form bytes 0 no_scope_counted 0 (length bytes) _ fits (omega arith) (omega arith) stopped.1 in
+    absurd (faultless form f bytes 0 (length bytes) stopped.0 s.end e spells.fits (omega arith) (omega arith) small (whole_region bytes ∙ spells.whole) s.reached s.stands)
 
 -- ---- the same for what the walk of some bytes gave, at bytes that are equal to these
 
-abbrev pub Gave : List ℕ → ℕ → Result Walk Error → Type 0
-Gave bytes tries r = MatchResult r (Walked bytes tries) (Stopped bytes tries)
+abbrev pub Gave : (form : Form) → List ℕ → ℕ → Result Walk Error → Type 0
+Gave form bytes tries r = MatchResult r (Walked form bytes tries) (Stopped form bytes tries)
 
-pub gave_forest : (bytes stream : List ℕ) (tries : ℕ) (r : Result Walk Error) → bytes ≡ stream → IsBytes bytes → Gave bytes tries r → IfOk r (λ w. (f : Forest) × Spells stream f × Counts w f)
-gave_forest bytes stream tries (Ok w) same fits gave = subst (λ (xs : List ℕ). (f : Forest) × Spells xs f × Counts w f) same (told_forest bytes tries w fits gave)
-gave_forest bytes stream tries (Err e) same fits gave = tt
+pub gave_forest : (form : Form) (bytes stream : List ℕ) (tries : ℕ) (r : Result Walk Error) → bytes ≡ stream → IsBytes bytes → Gave form bytes tries r → IfOk r (λ w. (f : Forest) × Spells form stream f × Counts w f)
+gave_forest form bytes stream tries (Ok w) same fits gave = subst (λ (xs : List ℕ). (f : Forest) × Spells form xs f × Counts w f) same (told_forest form bytes tries w fits gave)
+gave_forest form bytes stream tries (Err e) same fits gave = tt
 
-pub gave_fault : (bytes stream : List ℕ) (tries : ℕ) (r : Result Walk Error) → bytes ≡ stream → IsBytes bytes → Gave bytes tries r → IfErr r (λ e. (e ≡ Memory) ⊎ Refuses stream e tries)
-gave_fault bytes stream tries (Ok w) same fits gave = tt
-gave_fault bytes stream tries (Err e) same fits gave = subst (λ (xs : List ℕ). (e ≡ Memory) ⊎ Refuses xs e tries) same (told_fault bytes tries e fits gave)
+pub gave_fault : (form : Form) (bytes stream : List ℕ) (tries : ℕ) (r : Result Walk Error) → bytes ≡ stream → IsBytes bytes → Gave form bytes tries r → IfErr r (λ e. (e ≡ Memory) ⊎ Refuses form stream e tries)
+gave_fault form bytes stream tries (Ok w) same fits gave = tt
+gave_fault form bytes stream tries (Err e) same fits gave = subst (λ (xs : List ℕ). (e ≡ Memory) ⊎ Refuses form xs e tries) same (told_fault form bytes tries e fits gave)
 
-pub gave_only : (bytes stream : List ℕ) (tries : ℕ) (r : Result Walk Error) → bytes ≡ stream → IsBytes bytes → length bytes < 2 ^ 64 → Gave bytes tries r → (f : Forest) → Spells stream f → MatchResult r (λ w. Counts w f) (λ e. e ≡ Memory)
-gave_only bytes stream tries r same fits small gave f spells = told_only bytes tries r fits small gave f (subst (λ (xs : List ℕ). Spells xs f) (sym same) spells)
+pub gave_only : (form : Form) (bytes stream : List ℕ) (tries : ℕ) (r : Result Walk Error) → bytes ≡ stream → IsBytes bytes → length bytes < 2 ^ 64 → Gave form bytes tries r → (f : Forest) → Spells form stream f → MatchResult r (λ w. Counts w f) (λ e. e ≡ Memory)
+gave_only form bytes stream tries r same fits small gave f spells = told_only form bytes tries r fits small gave f (subst (λ (xs : List ℕ). Spells form xs f) (sym same) spells)

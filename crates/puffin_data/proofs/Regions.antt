@@ -1,6 +1,7 @@
 -- Regions within regions, and what is reached in them.
 use Rattle.std.proofs.Common.{◌≡◌, ℕ, ◌+◌, ◌-◌, ◌≤◌, List, [], length, take, drop, refl, sym, ap, ◌∙◌, arith, Option, Some, None, Result, Ok, Err, inl, inr}
 use Rattle.std.proofs.lemmas.List.{length-take, length-drop, take-take, drop-take, drop-drop, take_all}
+use Rattle.puffin_data.specs.declared.data.form.Form.{Form}
 use Rattle.puffin_data.specs.declared.error.Error.{Error}
 use Rattle.puffin_data.specs.Walk.Reading.{Found, reading, IsFaultIn}
 use Rattle.puffin_data.specs.Walk.{region, Reaches, here, child, sibling}
@@ -36,9 +37,9 @@ whole_region bytes = take_all (length bytes - 0) bytes (omega arith)
 abbrev pub Answer : Type 0
 Answer = Result (Option Found) Error
 
-reading_nothing : reading [] ≡ Ok None
+reading_nothing : (form : Form) → reading form [] ≡ Ok None
 unfolding reading
-reading_nothing = refl
+reading_nothing form = refl
 
 pub ok_is_not_err : (o : Option Found) (d : Error) → ◌≡◌ {A = Answer} (Ok o) (Err d) → ⊥
 ok_is_not_err o d e = cc
@@ -49,19 +50,19 @@ none_is_not_some s e = cc
 some_is : (a b : Found) → ◌≡◌ {A = Answer} (Ok (Some a)) (Ok (Some b)) → a ≡ b
 some_is a b e = cc
 
-pub sound_is_no_fault : (part : List ℕ) (s : Found) (fault : Error) → reading part ≡ Ok (Some s) → IsFaultIn part fault → ⊥
-sound_is_no_fault part s fault e (inl f) = ok_is_not_err (Some s) fault (sym e ∙ f)
-sound_is_no_fault part s fault e (inr f) = none_is_not_some s (sym f.1 ∙ e)
+pub sound_is_no_fault : (form : Form) (part : List ℕ) (s : Found) (fault : Error) → reading form part ≡ Ok (Some s) → IsFaultIn form part fault → ⊥
+sound_is_no_fault form part s fault e (inl f) = ok_is_not_err (Some s) fault (sym e ∙ f)
+sound_is_no_fault form part s fault e (inr f) = none_is_not_some s (sym f.1 ∙ e)
 
-pub nothing_is_no_fault : (part : List ℕ) (fault : Error) → part ≡ [] → IsFaultIn part fault → ⊥
-nothing_is_no_fault part fault h (inl f) = ok_is_not_err None fault (sym (ap reading h ∙ reading_nothing) ∙ f)
-nothing_is_no_fault part fault h (inr f) = let size : length part ≡ 0 = ap length h in absurd (omega (arith, f.0))
+pub nothing_is_no_fault : (form : Form) (part : List ℕ) (fault : Error) → part ≡ [] → IsFaultIn form part fault → ⊥
+nothing_is_no_fault form part fault h (inl f) = ok_is_not_err None fault (sym (ap (reading form) h ∙ reading_nothing form) ∙ f)
+nothing_is_no_fault form part fault h (inr f) = let size : length part ≡ 0 = ap length h in absurd (omega (arith, f.0))
 
-pub nothing_is_not_sound : (part : List ℕ) (s : Found) → part ≡ [] → reading part ≡ Ok (Some s) → ⊥
-nothing_is_not_sound part s h e = none_is_not_some s (sym (ap reading h ∙ reading_nothing) ∙ e)
+pub nothing_is_not_sound : (form : Form) (part : List ℕ) (s : Found) → part ≡ [] → reading form part ≡ Ok (Some s) → ⊥
+nothing_is_not_sound form part s h e = none_is_not_some s (sym (ap (reading form) h ∙ reading_nothing form) ∙ e)
 
-pub one_sound : (part : List ℕ) (s t : Found) → reading part ≡ Ok (Some s) → reading part ≡ Ok (Some t) → s ≡ t
-one_sound part s t e f = some_is s t (sym e ∙ f)
+pub one_sound : (form : Form) (part : List ℕ) (s t : Found) → reading form part ≡ Ok (Some s) → reading form part ≡ Ok (Some t) → s ≡ t
+one_sound form part s t e f = some_is s t (sym e ∙ f)
 
 -- ---- what is reached lies within
 
@@ -70,13 +71,13 @@ pub record Between (p e q f : ℕ) : Type 0 where
   pub middle : q ≤ f
   pub high : f ≤ e
 
-pub between : (bytes : List ℕ) (p e q f : ℕ) → p ≤ e → e ≤ length bytes → Reaches bytes p e q f → Between p e q f
-between bytes p e q f h k here = record { low = omega arith; middle = h; high = omega arith }
-between bytes p e q f h k (child {s = s} sound r) =
-    let at = found_places bytes p e s sound h k in
-    let b = between bytes (p + s.child_begin) (p + s.child_end) q f (omega (arith, at)) (omega (arith, at)) r in
+pub between : (form : Form) (bytes : List ℕ) (p e q f : ℕ) → p ≤ e → e ≤ length bytes → Reaches form bytes p e q f → Between p e q f
+between form bytes p e q f h k here = record { low = omega arith; middle = h; high = omega arith }
+between form bytes p e q f h k (child {s = s} sound r) =
+    let at = found_places form bytes p e s sound h k in
+    let b = between form bytes (p + s.child_begin) (p + s.child_end) q f (omega (arith, at)) (omega (arith, at)) r in
     record { low = omega (arith, at, b); middle = b.middle; high = omega (arith, at, b) }
-between bytes p e q f h k (sibling {s = s} sound r) =
-    let at = found_places bytes p e s sound h k in
-    let b = between bytes (p + s.next_sibling) e q f (omega (arith, at)) k r in
+between form bytes p e q f h k (sibling {s = s} sound r) =
+    let at = found_places form bytes p e s sound h k in
+    let b = between form bytes (p + s.next_sibling) e q f (omega (arith, at)) k r in
     record { low = omega (arith, at, b); middle = b.middle; high = b.high }

@@ -1,6 +1,7 @@
 -- A walk from its place within open scopes on, whose regions' ends it keeps, the innermost first.
 use Rattle.std.proofs.Common.{◌≡◌, ℕ, suc, ◌+◌, ◌-◌, ◌*◌, ◌≤◌, List, [], ◌∷◌, ◌++◌, length, reverse, Result, Ok, Err, refl, sym, ap, subst, ◌∙◌, arith, inr}
 use Rattle.std.proofs.lemmas.List.{length-take, length-drop, length-reverse, reverse-append}
+use Rattle.puffin_data.specs.declared.data.form.Form.{Form}
 use Rattle.puffin_data.proofs.Found.{Places, places}
 use Rattle.puffin_data.specs.declared.error.Error.{Error}
 use Rattle.puffin_data.specs.declared.data.walk.Walk.{Walk}
@@ -8,10 +9,10 @@ use Rattle.puffin_data.specs.Walk.Reading.{Found}
 use Rattle.puffin_data.specs.Walk.{IsSoundAt, IsFaultAt, tries_in, region}
 use Rattle.puffin_data.specs.inner.Walking.{no_scope_counted, Stopped, Stop, WalksTo, ends, stops, stops_within, goes_on, with_scope}
 
-pub data Resumes (bytes : List ℕ) : List ℕ → Walk → ℕ → ℕ → Result Walk Stop → Type 0 where
-  outermost : {w : Walk} {p e : ℕ} {out : Result Walk Stop} → WalksTo bytes 0 w p e out → Resumes bytes [] w p e out
-  leaves : {outer : ℕ} {outers : List ℕ} {w v : Walk} {p e : ℕ} {out : Result Walk Stop} → WalksTo bytes (suc (length outers)) w p e (Ok v) → Resumes bytes outers v (e + 9) outer out → Resumes bytes (outer ∷ outers) w p e out
-  breaks : {outer : ℕ} {outers : List ℕ} {w : Walk} {p e : ℕ} {stop : Stop} → WalksTo bytes (suc (length outers)) w p e (Err stop) → Resumes bytes (outer ∷ outers) w p e (Err stop)
+pub data Resumes (form : Form) (bytes : List ℕ) : List ℕ → Walk → ℕ → ℕ → Result Walk Stop → Type 0 where
+  outermost : {w : Walk} {p e : ℕ} {out : Result Walk Stop} → WalksTo form bytes 0 w p e out → Resumes form bytes [] w p e out
+  leaves : {outer : ℕ} {outers : List ℕ} {w v : Walk} {p e : ℕ} {out : Result Walk Stop} → WalksTo form bytes (suc (length outers)) w p e (Ok v) → Resumes form bytes outers v (e + 9) outer out → Resumes form bytes (outer ∷ outers) w p e out
+  breaks : {outer : ℕ} {outers : List ℕ} {w : Walk} {p e : ℕ} {stop : Stop} → WalksTo form bytes (suc (length outers)) w p e (Err stop) → Resumes form bytes (outer ∷ outers) w p e (Err stop)
 
 -- each region ends nine bytes or more before the one around it does
 abbrev pub IsNested : ℕ → List ℕ → ℕ → Type 0
@@ -23,55 +24,55 @@ nested_bound e [] size h = omega arith
 nested_bound e (outer ∷ outers) size h = omega (arith, nested_bound outer outers size h.1)
 
 -- a region's end is reached, and its scope is left
-pub leave : (bytes : List ℕ) (outer : ℕ) (outers : List ℕ) (w : Walk) (e : ℕ) (out : Result Walk Stop) → Resumes bytes outers w (e + 9) outer out → Resumes bytes (outer ∷ outers) w e e out
-leave bytes outer outers w e out r = leaves ends r
+pub leave : (form : Form) (bytes : List ℕ) (outer : ℕ) (outers : List ℕ) (w : Walk) (e : ℕ) (out : Result Walk Stop) → Resumes form bytes outers w (e + 9) outer out → Resumes form bytes (outer ∷ outers) w e e out
+leave form bytes outer outers w e out r = leaves ends r
 
 -- the same walk, at equal numbers and places
-moved : (bytes : List ℕ) (level : ℕ) (w x : Walk) (a b p e : ℕ) (out : Result Walk Stop) → w ≡ x → a ≡ p → b ≡ e → WalksTo bytes level w a b out → WalksTo bytes level x p e out
-moved bytes level w x a b p e out ew ep ee v =
-    subst (λ (n : ℕ). WalksTo bytes level x p n out) ee (subst (λ (n : ℕ). WalksTo bytes level x n b out) ep (subst (λ (y : Walk). WalksTo bytes level y a b out) ew v))
+moved : (form : Form) (bytes : List ℕ) (level : ℕ) (w x : Walk) (a b p e : ℕ) (out : Result Walk Stop) → w ≡ x → a ≡ p → b ≡ e → WalksTo form bytes level w a b out → WalksTo form bytes level x p e out
+moved form bytes level w x a b p e out ew ep ee v =
+    subst (λ (n : ℕ). WalksTo form bytes level x p n out) ee (subst (λ (n : ℕ). WalksTo form bytes level x n b out) ep (subst (λ (y : Walk). WalksTo form bytes level y a b out) ew v))
 
 -- what a walk does first, put before the rest of it
-before : (bytes : List ℕ) (outers : List ℕ) (w v : Walk) (p q e : ℕ) (out : Result Walk Stop) → ((end : Result Walk Stop) → WalksTo bytes (length outers) v q e end → WalksTo bytes (length outers) w p e end) → Resumes bytes outers v q e out → Resumes bytes outers w p e out
-before bytes [] w v p q e out step (outermost rest) = outermost (step _ rest)
-before bytes (outer ∷ outers) w v p q e out step (leaves rest r) = leaves (step _ rest) r
-before bytes (outer ∷ outers) w v p q e out step (breaks rest) = breaks (step _ rest)
+before : (form : Form) (bytes : List ℕ) (outers : List ℕ) (w v : Walk) (p q e : ℕ) (out : Result Walk Stop) → ((end : Result Walk Stop) → WalksTo form bytes (length outers) v q e end → WalksTo form bytes (length outers) w p e end) → Resumes form bytes outers v q e out → Resumes form bytes outers w p e out
+before form bytes [] w v p q e out step (outermost rest) = outermost (step _ rest)
+before form bytes (outer ∷ outers) w v p q e out step (leaves rest r) = leaves (step _ rest) r
+before form bytes (outer ∷ outers) w v p q e out step (breaks rest) = breaks (step _ rest)
 
 -- a walk that stops in its region stops as a whole
-stopped : (bytes : List ℕ) (outers : List ℕ) (w : Walk) (p e : ℕ) (stop : Stop) → WalksTo bytes (length outers) w p e (Err stop) → Resumes bytes outers w p e (Err stop)
-stopped bytes [] w p e stop v = outermost v
-stopped bytes (outer ∷ outers) w p e stop v = breaks v
+stopped : (form : Form) (bytes : List ℕ) (outers : List ℕ) (w : Walk) (p e : ℕ) (stop : Stop) → WalksTo form bytes (length outers) w p e (Err stop) → Resumes form bytes outers w p e (Err stop)
+stopped form bytes [] w p e stop v = outermost v
+stopped form bytes (outer ∷ outers) w p e stop v = breaks v
 
-entered : (bytes : List ℕ) (outers : List ℕ) (w x : Walk) (p e : ℕ) (s : Found) (a b : ℕ) (out : Result Walk Stop) → IsSoundAt bytes p e s → x ≡ with_scope w (suc (length outers)) s.span → a ≡ p + s.child_begin → b ≡ p + s.child_end → b + 9 ≡ p + s.next_sibling → Resumes bytes (e ∷ outers) x a b out → Resumes bytes outers w p e out
-entered bytes outers w x p e s a b out sound ex ea eb next (leaves {v = y} v r) =
-    before bytes outers w y p (b + 9) e out (λ end rest. goes_on sound (moved bytes (suc (length outers)) x _ a b _ _ _ ex ea eb v) (subst (λ (n : ℕ). WalksTo bytes (length outers) y n e end) next rest)) r
-entered bytes outers w x p e s a b out sound ex ea eb next (breaks v) =
-    stopped bytes outers w p e _ (stops_within sound (moved bytes (suc (length outers)) x _ a b _ _ _ ex ea eb v))
+entered : (form : Form) (bytes : List ℕ) (outers : List ℕ) (w x : Walk) (p e : ℕ) (s : Found) (a b : ℕ) (out : Result Walk Stop) → IsSoundAt form bytes p e s → x ≡ with_scope w (suc (length outers)) s.span → a ≡ p + s.child_begin → b ≡ p + s.child_end → b + 9 ≡ p + s.next_sibling → Resumes form bytes (e ∷ outers) x a b out → Resumes form bytes outers w p e out
+entered form bytes outers w x p e s a b out sound ex ea eb next (leaves {v = y} v r) =
+    before form bytes outers w y p (b + 9) e out (λ end rest. goes_on sound (moved form bytes (suc (length outers)) x _ a b _ _ _ ex ea eb v) (subst (λ (n : ℕ). WalksTo form bytes (length outers) y n e end) next rest)) r
+entered form bytes outers w x p e s a b out sound ex ea eb next (breaks v) =
+    stopped form bytes outers w p e _ (stops_within sound (moved form bytes (suc (length outers)) x _ a b _ _ _ ex ea eb v))
 
 -- a sound scope is entered
-pub enter : (bytes : List ℕ) (outers : List ℕ) (w : Walk) (p e : ℕ) (s : Found) (out : Result Walk Stop) → IsSoundAt bytes p e s → s.child_end + 9 ≡ s.next_sibling → Resumes bytes (e ∷ outers) (with_scope w (suc (length outers)) s.span) (p + s.child_begin) (p + s.child_end) out → Resumes bytes outers w p e out
-enter bytes outers w p e s out sound next r =
-    entered bytes outers w _ p e s _ _ out sound refl refl refl (omega arith) r
+pub enter : (form : Form) (bytes : List ℕ) (outers : List ℕ) (w : Walk) (p e : ℕ) (s : Found) (out : Result Walk Stop) → IsSoundAt form bytes p e s → s.child_end + 9 ≡ s.next_sibling → Resumes form bytes (e ∷ outers) (with_scope w (suc (length outers)) s.span) (p + s.child_begin) (p + s.child_end) out → Resumes form bytes outers w p e out
+enter form bytes outers w p e s out sound next r =
+    entered form bytes outers w _ p e s _ _ out sound refl refl refl (omega arith) r
 
 -- a fault ends the walk
-pub fail : (bytes : List ℕ) (outers : List ℕ) (w : Walk) (p e : ℕ) (fault : Error) → IsFaultAt bytes p e fault → Resumes bytes outers w p e (Err (record { place = p; fault = fault; tries = w.num_scopes + tries_in (region bytes p e) }))
-fail bytes outers w p e fault h = stopped bytes outers w p e _ (stops h)
+pub fail : (form : Form) (bytes : List ℕ) (outers : List ℕ) (w : Walk) (p e : ℕ) (fault : Error) → IsFaultAt form bytes p e fault → Resumes form bytes outers w p e (Err (record { place = p; fault = fault; tries = w.num_scopes + tries_in (region bytes p e) }))
+fail form bytes outers w p e fault h = stopped form bytes outers w p e _ (stops h)
 
 -- at the end of the outermost region, nothing is left
-pub finish : (bytes : List ℕ) (w : Walk) (e : ℕ) → Resumes bytes [] w e e (Ok w)
-finish bytes w e = outermost ends
+pub finish : (form : Form) (bytes : List ℕ) (w : Walk) (e : ℕ) → Resumes form bytes [] w e e (Ok w)
+finish form bytes w e = outermost ends
 
 -- without open scopes, a walk from here is all that is left
-pub whole : (bytes : List ℕ) (w : Walk) (p e : ℕ) (out : Result Walk Stop) → Resumes bytes [] w p e out → WalksTo bytes 0 w p e out
-whole bytes w p e out (outermost v) = v
+pub whole : (form : Form) (bytes : List ℕ) (w : Walk) (p e : ℕ) (out : Result Walk Stop) → Resumes form bytes [] w p e out → WalksTo form bytes 0 w p e out
+whole form bytes w p e out (outermost v) = v
 
 -- ---- the same for the list of open scopes' ends as the walk keeps it, the innermost last
 
 -- where a scope is found, it lies within its region
-pub found_places : (bytes : List ℕ) (p e : ℕ) (s : Found) → IsSoundAt bytes p e s → p ≤ e → e ≤ length bytes → Places (e - p) s
-found_places bytes p e s sound low high =
+pub found_places : (form : Form) (bytes : List ℕ) (p e : ℕ) (s : Found) → IsSoundAt form bytes p e s → p ≤ e → e ≤ length bytes → Places (e - p) s
+found_places form bytes p e s sound low high =
     let size : length (region bytes p e) ≡ e - p = simp (length-take, length-drop) (omega arith) in
-    subst (λ (n : ℕ). Places n s) size (places (region bytes p e) s sound)
+    subst (λ (n : ℕ). Places n s) size (places form (region bytes p e) s sound)
 
 turned : (items all : List ℕ) (e : ℕ) → all ≡ items ++ e ∷ [] → reverse all ≡ e ∷ reverse items
 turned items all e h = ap reverse h ∙ reverse-append items (e ∷ [])
@@ -87,24 +88,24 @@ pub nested_pop : (items all : List ℕ) (e outer size : ℕ) → all ≡ items +
 nested_pop items all e outer size h nested =
     subst (λ (xs : List ℕ). IsNested e xs size) (turned items all outer h) nested
 
-pub enters : (bytes items all : List ℕ) (w v : Walk) (depth p e : ℕ) (s : Found) (out : Result Walk Stop) → IsSoundAt bytes p e s → s.child_end + 9 ≡ s.next_sibling → all ≡ items ++ e ∷ [] → depth ≡ length all → v ≡ with_scope w depth s.span
-    → Resumes bytes (reverse all) v (p + s.child_begin) (p + s.child_end) out → Resumes bytes (reverse items) w p e out
-enters bytes items all w v depth p e s out sound next h d ev r =
+pub enters : (form : Form) (bytes items all : List ℕ) (w v : Walk) (depth p e : ℕ) (s : Found) (out : Result Walk Stop) → IsSoundAt form bytes p e s → s.child_end + 9 ≡ s.next_sibling → all ≡ items ++ e ∷ [] → depth ≡ length all → v ≡ with_scope w depth s.span
+    → Resumes form bytes (reverse all) v (p + s.child_begin) (p + s.child_end) out → Resumes form bytes (reverse items) w p e out
+enters form bytes items all w v depth p e s out sound next h d ev r =
     let deep : depth ≡ suc (length (reverse items)) = omega (arith, ap length (turned items all e h), length-reverse all) in
     let v-is : v ≡ with_scope w (suc (length (reverse items))) s.span = ev ∙ ap (λ (n : ℕ). with_scope w n s.span) deep in
-    let r1 = subst (λ (xs : List ℕ). Resumes bytes xs v (p + s.child_begin) (p + s.child_end) out) (turned items all e h) r in
-    entered bytes (reverse items) w v p e s _ _ out sound v-is refl refl (omega arith) r1
+    let r1 = subst (λ (xs : List ℕ). Resumes form bytes xs v (p + s.child_begin) (p + s.child_end) out) (turned items all e h) r in
+    entered form bytes (reverse items) w v p e s _ _ out sound v-is refl refl (omega arith) r1
 
-pub exits : (bytes items all : List ℕ) (w : Walk) (p e outer : ℕ) (out : Result Walk Stop) → all ≡ items ++ outer ∷ [] → p ≡ e → Resumes bytes (reverse items) w (e + 9) outer out → Resumes bytes (reverse all) w p e out
-exits bytes items all w p e outer out h at r =
-    subst (λ (n : ℕ). Resumes bytes (reverse all) w n e out) (sym at) (subst (λ (xs : List ℕ). Resumes bytes xs w e e out) (sym (turned items all outer h)) (leaves ends r))
+pub exits : (form : Form) (bytes items all : List ℕ) (w : Walk) (p e outer : ℕ) (out : Result Walk Stop) → all ≡ items ++ outer ∷ [] → p ≡ e → Resumes form bytes (reverse items) w (e + 9) outer out → Resumes form bytes (reverse all) w p e out
+exits form bytes items all w p e outer out h at r =
+    subst (λ (n : ℕ). Resumes form bytes (reverse all) w n e out) (sym at) (subst (λ (xs : List ℕ). Resumes form bytes xs w e e out) (sym (turned items all outer h)) (leaves ends r))
 
-pub done : (bytes items : List ℕ) (w : Walk) (p e : ℕ) → items ≡ [] → p ≡ e → Resumes bytes (reverse items) w p e (Ok w)
-done bytes items w p e nothing at =
-    subst (λ (xs : List ℕ). Resumes bytes (reverse xs) w p e (Ok w)) (sym nothing) (subst (λ (n : ℕ). Resumes bytes [] w n e (Ok w)) (sym at) (outermost ends))
+pub done : (form : Form) (bytes items : List ℕ) (w : Walk) (p e : ℕ) → items ≡ [] → p ≡ e → Resumes form bytes (reverse items) w p e (Ok w)
+done form bytes items w p e nothing at =
+    subst (λ (xs : List ℕ). Resumes form bytes (reverse xs) w p e (Ok w)) (sym nothing) (subst (λ (n : ℕ). Resumes form bytes [] w n e (Ok w)) (sym at) (outermost ends))
 
 -- a walk that stopped, as its caller is told
-pub stops_at : (bytes items : List ℕ) (w : Walk) (p e tries : ℕ) (fault : Error) → IsFaultAt bytes p e fault → tries ≡ w.num_scopes + tries_in (region bytes p e)
-    → ((out : Result Walk Stop) → Resumes bytes (reverse items) w p e out → Resumes bytes [] no_scope_counted 0 (length bytes) out) → Stopped bytes tries fault
-stops_at bytes items w p e tries fault at tried resumes =
-    subst (λ (n : ℕ). Stopped bytes n fault) (sym tried) (inr (p, whole bytes no_scope_counted 0 (length bytes) _ (resumes _ (fail bytes (reverse items) w p e fault at))))
+pub stops_at : (form : Form) (bytes items : List ℕ) (w : Walk) (p e tries : ℕ) (fault : Error) → IsFaultAt form bytes p e fault → tries ≡ w.num_scopes + tries_in (region bytes p e)
+    → ((out : Result Walk Stop) → Resumes form bytes (reverse items) w p e out → Resumes form bytes [] no_scope_counted 0 (length bytes) out) → Stopped form bytes tries fault
+stops_at form bytes items w p e tries fault at tried resumes =
+    subst (λ (n : ℕ). Stopped form bytes n fault) (sym tried) (inr (p, whole form bytes no_scope_counted 0 (length bytes) _ (resumes _ (fail form bytes (reverse items) w p e fault at))))

@@ -2,6 +2,7 @@
 use Rattle.std.proofs.Common.{◌≡◌, ℕ, zero, suc, ◌+◌, ◌-◌, ◌<◌, ◌≤◌, List, [], ◌∷◌, ◌++◌, length, refl, sym, ap, subst, ◌∙◌, arith, Some, None, Ok, Err, ltb, cond, Bool, true, false}
 use Rattle.std.specs.Prelude.{nat_lt}
 use Rattle.std.proofs.lemmas.List.Elements.{filter-append}
+use Rattle.puffin_data.specs.declared.data.form.Form.{Form}
 use Rattle.puffin_data.specs.Forest.{Span}
 use Rattle.puffin_data.specs.Walk.Reading.{Found, reading}
 use Rattle.puffin_data.specs.Walk.{region}
@@ -11,25 +12,25 @@ use Rattle.puffin_data.proofs.Regions.{one_sound, ok_is_not_err, none_is_not_som
 
 -- ---- each has a list
 
-abbrev pub HasSights : List ℕ → ℕ → Type 0
-HasSights bytes n = (around : List Span) (p e : ℕ) → e - p < n → p ≤ e → e ≤ length bytes → (sights : List Sight) × Sees bytes around p e sights
+abbrev pub HasSights : (form : Form) → List ℕ → ℕ → Type 0
+HasSights form bytes n = (around : List Span) (p e : ℕ) → e - p < n → p ≤ e → e ≤ length bytes → (sights : List Sight) × Sees form bytes around p e sights
 
-by_reading : (bytes : List ℕ) (n : ℕ) (around : List Span) (p e : ℕ) → HasSights bytes n → e - p < suc n → p ≤ e → e ≤ length bytes → (r : Answer) → reading (region bytes p e) ≡ r → (sights : List Sight) × Sees bytes around p e sights
-by_reading bytes n around p e shorter lt h k (Ok (Some s)) is =
-    let at = found_places bytes p e s is h k in
+by_reading : (form : Form) (bytes : List ℕ) (n : ℕ) (around : List Span) (p e : ℕ) → HasSights form bytes n → e - p < suc n → p ≤ e → e ≤ length bytes → (r : Answer) → reading form (region bytes p e) ≡ r → (sights : List Sight) × Sees form bytes around p e sights
+by_reading form bytes n around p e shorter lt h k (Ok (Some s)) is =
+    let at = found_places form bytes p e s is h k in
     let inner = shorter (around ++ (s.span ∷ [])) (p + s.child_begin) (p + s.child_end) (omega (arith, at)) (omega (arith, at)) (omega (arith, at)) in
     let later = shorter around (p + s.next_sibling) e (omega (arith, at)) (omega (arith, at)) k in
     (record { place = p; scope = record { around = around; span = s.span } } ∷ (inner.0 ++ later.0), one_sight is inner.1 later.1)
-by_reading bytes n around p e shorter lt h k (Ok None) is = ([], no_sight (λ s sound. none_is_not_some s (sym is ∙ sound)))
-by_reading bytes n around p e shorter lt h k (Err d) is = ([], no_sight (λ s sound. ok_is_not_err (Some s) d (sym sound ∙ is)))
+by_reading form bytes n around p e shorter lt h k (Ok None) is = ([], no_sight (λ s sound. none_is_not_some s (sym is ∙ sound)))
+by_reading form bytes n around p e shorter lt h k (Err d) is = ([], no_sight (λ s sound. ok_is_not_err (Some s) d (sym sound ∙ is)))
 
-pub has_sights : (bytes : List ℕ) (n : ℕ) → HasSights bytes n
-has_sights bytes zero around p e lt h k = absurd (omega arith)
-has_sights bytes (suc n) around p e lt h k = by_reading bytes n around p e (has_sights bytes n) lt h k (reading (region bytes p e)) refl
+pub has_sights : (form : Form) (bytes : List ℕ) (n : ℕ) → HasSights form bytes n
+has_sights form bytes zero around p e lt h k = absurd (omega arith)
+has_sights form bytes (suc n) around p e lt h k = by_reading form bytes n around p e (has_sights form bytes n) lt h k (reading form (region bytes p e)) refl
 
 -- those of a region
-pub sights_in : (bytes : List ℕ) (around : List Span) (p e : ℕ) → p ≤ e → e ≤ length bytes → (sights : List Sight) × Sees bytes around p e sights
-sights_in bytes around p e h k = has_sights bytes (suc e) around p e (omega arith) h k
+pub sights_in : (form : Form) (bytes : List ℕ) (around : List Span) (p e : ℕ) → p ≤ e → e ≤ length bytes → (sights : List Sight) × Sees form bytes around p e sights
+sights_in form bytes around p e h k = has_sights form bytes (suc e) around p e (omega arith) h k
 
 -- ---- no region has two
 
@@ -39,14 +40,14 @@ both_parts s a b c d x y = ap (λ (t : List Sight). s ∷ (t ++ c)) x ∙ ap (λ
 first_is : (p : ℕ) (around : List Span) (s t : Found) (a : List Sight) → s ≡ t → record { place = p; scope = record { around = around; span = s.span } } ∷ a ≡ record { place = p; scope = record { around = around; span = t.span } } ∷ a
 first_is p around s t a e = ap (λ (x : Found). record { place = p; scope = record { around = around; span = x.span } } ∷ a) e
 
-pub one_list_of_sights : (bytes : List ℕ) (around : List Span) (p e : ℕ) (sights others : List Sight) → Sees bytes around p e sights → Sees bytes around p e others → sights ≡ others
-one_list_of_sights bytes around p e sights others (no_sight none) (no_sight no_other) = refl
-one_list_of_sights bytes around p e sights others (no_sight none) (one_sight {s = t} other c d) = absurd (none t other)
-one_list_of_sights bytes around p e sights others (one_sight {s = s} sound a b) (no_sight none) = absurd (none s sound)
-one_list_of_sights bytes around p e sights others (one_sight {s = s} {inner = i} {later = l} sound a b) (one_sight {s = t} {inner = j} {later = m} other c d) =
-    let same : t ≡ s = one_sound (region bytes p e) t s other sound in
-    let inner : i ≡ j = one_list_of_sights bytes (around ++ (s.span ∷ [])) (p + s.child_begin) (p + s.child_end) i j a (subst (λ (x : Found). Sees bytes (around ++ (x.span ∷ [])) (p + x.child_begin) (p + x.child_end) j) same c) in
-    let later : l ≡ m = one_list_of_sights bytes around (p + s.next_sibling) e l m b (subst (λ (x : Found). Sees bytes around (p + x.next_sibling) e m) same d) in
+pub one_list_of_sights : (form : Form) (bytes : List ℕ) (around : List Span) (p e : ℕ) (sights others : List Sight) → Sees form bytes around p e sights → Sees form bytes around p e others → sights ≡ others
+one_list_of_sights form bytes around p e sights others (no_sight none) (no_sight no_other) = refl
+one_list_of_sights form bytes around p e sights others (no_sight none) (one_sight {s = t} other c d) = absurd (none t other)
+one_list_of_sights form bytes around p e sights others (one_sight {s = s} sound a b) (no_sight none) = absurd (none s sound)
+one_list_of_sights form bytes around p e sights others (one_sight {s = s} {inner = i} {later = l} sound a b) (one_sight {s = t} {inner = j} {later = m} other c d) =
+    let same : t ≡ s = one_sound form (region bytes p e) t s other sound in
+    let inner : i ≡ j = one_list_of_sights form bytes (around ++ (s.span ∷ [])) (p + s.child_begin) (p + s.child_end) i j a (subst (λ (x : Found). Sees form bytes (around ++ (x.span ∷ [])) (p + x.child_begin) (p + x.child_end) j) same c) in
+    let later : l ≡ m = one_list_of_sights form bytes around (p + s.next_sibling) e l m b (subst (λ (x : Found). Sees form bytes around (p + x.next_sibling) e m) same d) in
     both_parts _ i j l m inner later ∙ first_is p around s t (j ++ m) (sym same)
 
 -- ---- those before a place
@@ -76,20 +77,20 @@ both_equal : (a b c d : List Sight) → a ≡ b → c ≡ d → a ++ c ≡ b ++ 
 both_equal a b c d x y = ap (λ (t : List Sight). t ++ c) x ∙ ap (λ (t : List Sight). b ++ t) y
 
 -- the sights of a region lie in it: so all of them, or none, stand before a place after it, or before it
-pub all_before : (bytes : List ℕ) (around : List Span) (p e place : ℕ) (xs : List Sight) → p ≤ e → e ≤ length bytes → e ≤ place → Sees bytes around p e xs → before place xs ≡ xs
-all_before bytes around p e place xs h k le (no_sight none) = refl
-all_before bytes around p e place xs h k le (one_sight {s = s} {inner = inner} {later = later} sound a b) =
-    let at = found_places bytes p e s sound h k in
-    let ia = all_before bytes (around ++ (s.span ∷ [])) (p + s.child_begin) (p + s.child_end) place inner (omega (arith, at)) (omega (arith, at)) (omega (arith, at)) a in
-    let ib = all_before bytes around (p + s.next_sibling) e place later (omega (arith, at)) k le b in
+pub all_before : (form : Form) (bytes : List ℕ) (around : List Span) (p e place : ℕ) (xs : List Sight) → p ≤ e → e ≤ length bytes → e ≤ place → Sees form bytes around p e xs → before place xs ≡ xs
+all_before form bytes around p e place xs h k le (no_sight none) = refl
+all_before form bytes around p e place xs h k le (one_sight {s = s} {inner = inner} {later = later} sound a b) =
+    let at = found_places form bytes p e s sound h k in
+    let ia = all_before form bytes (around ++ (s.span ∷ [])) (p + s.child_begin) (p + s.child_end) place inner (omega (arith, at)) (omega (arith, at)) (omega (arith, at)) a in
+    let ib = all_before form bytes around (p + s.next_sibling) e place later (omega (arith, at)) k le b in
     let first : Sight = record { place = p; scope = record { around = around; span = s.span } } in
     before-first place first inner later (omega (arith, at)) ∙ ap (λ (t : List Sight). first ∷ t) (both_equal (before place inner) inner (before place later) later ia ib)
 
-pub none_before : (bytes : List ℕ) (around : List Span) (p e place : ℕ) (xs : List Sight) → p ≤ e → e ≤ length bytes → place ≤ p → Sees bytes around p e xs → before place xs ≡ []
-none_before bytes around p e place xs h k le (no_sight none) = refl
-none_before bytes around p e place xs h k le (one_sight {s = s} {inner = inner} {later = later} sound a b) =
-    let at = found_places bytes p e s sound h k in
-    let ia = none_before bytes (around ++ (s.span ∷ [])) (p + s.child_begin) (p + s.child_end) place inner (omega (arith, at)) (omega (arith, at)) (omega (arith, at)) a in
-    let ib = none_before bytes around (p + s.next_sibling) e place later (omega (arith, at)) k (omega (arith, at)) b in
+pub none_before : (form : Form) (bytes : List ℕ) (around : List Span) (p e place : ℕ) (xs : List Sight) → p ≤ e → e ≤ length bytes → place ≤ p → Sees form bytes around p e xs → before place xs ≡ []
+none_before form bytes around p e place xs h k le (no_sight none) = refl
+none_before form bytes around p e place xs h k le (one_sight {s = s} {inner = inner} {later = later} sound a b) =
+    let at = found_places form bytes p e s sound h k in
+    let ia = none_before form bytes (around ++ (s.span ∷ [])) (p + s.child_begin) (p + s.child_end) place inner (omega (arith, at)) (omega (arith, at)) (omega (arith, at)) a in
+    let ib = none_before form bytes around (p + s.next_sibling) e place later (omega (arith, at)) k (omega (arith, at)) b in
     let first : Sight = record { place = p; scope = record { around = around; span = s.span } } in
     before-not_first place first inner later le ∙ both_equal (before place inner) [] (before place later) [] ia ib

@@ -1,5 +1,6 @@
 -- Lemmas about definitions alone, which the crates above cite too. Nothing else of these proofs is seen from there.
 pub mod Numbers
+pub mod Lengths
 pub mod Unique
 pub mod Extended
 pub mod Tours

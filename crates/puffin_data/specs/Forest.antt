@@ -4,9 +4,11 @@ pub mod Spelling
 pub mod Tour
 pub mod Words
 pub mod Open
-use Rattle.std.specs.Prelude.{ℕ, ◌<◌, ◌^◌, ℤ, ◌-ℤ◌, ◌≤ℤ◌, FitsSigned, List, length}
+use Rattle.std.specs.Prelude.{ℕ, ◌<◌, ◌≤◌, ◌^◌, ℤ, ◌-ℤ◌, ◌≤ℤ◌, FitsSigned, List, length}
 use Rattle.std.specs.List.{All}
 use Rattle.std.specs.Int.{w64}
+use Rattle.puffin_data.specs.declared.data.form.Form.{Form}
+use Rattle.puffin_data.specs.Text.Lengths.{stored_limit}
 
 -- one scope without its children: the text is kept as bytes, as it was stored
 pub record Span : Type 0 where
@@ -25,17 +27,18 @@ abbrev pub append : Forest → Forest → Forest
 append empty g = g
 append (node s children others) g = node s children (append others g)
 
--- A scope that can be written: the id is a u32 and not 0, the times are i64 and so is the time between them, and the text has at most 255 bytes.
-pub record IsSpan (s : Span) : Type 0 where
+-- A scope that can be written: the id is a u32 and not 0, the times are i64 and so is the time between them, and the text has no more bytes than its form allows.
+pub record IsSpan (form : Form) (s : Span) : Type 0 where
   pub id_low : 0 < s.id
   pub id_high : s.id < 2 ^ 32
   pub start : FitsSigned w64 s.start
   pub stop : FitsSigned w64 s.stop
   pub ordered : s.start ≤ℤ s.stop
   pub duration : FitsSigned w64 (s.stop -ℤ s.start)
-  pub text_size : length s.text < 256
+  pub text_size : length s.text ≤ stored_limit form
   pub text_bytes : All (λ b. b < 256) s.text
 
-abbrev pub IsForest : Forest → Type 0
-IsForest empty = Unit {0}
-IsForest (node s children others) = IsSpan s × IsForest children × IsForest others
+abbrev pub IsForest : Form → Forest → Type 0
+IsForest form empty = Unit {0}
+IsForest form (node s children others) =
+    IsSpan form s × IsForest form children × IsForest form others

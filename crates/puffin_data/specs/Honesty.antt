@@ -4,6 +4,7 @@ use Rattle.std.specs.Int.{int_min, int_max}
 use Rattle.puffin_data.specs.declared.data.walk.Walk.{Walk}
 use Rattle.puffin_data.specs.declared.data.info.StreamInfo.{StreamInfo}
 use Rattle.puffin_data.specs.declared.data.info.StreamInfoRef.{StreamInfoRef}
+use Rattle.puffin_data.specs.declared.data.form.Form.TheVariants.{Short}
 use Rattle.puffin_data.specs.Forest.{Forest}
 use Rattle.puffin_data.specs.Forest.Measures.{scope_count, height, least_start, greatest_stop}
 use Rattle.puffin_data.specs.Forest.Spelling.{Spells}
@@ -40,7 +41,7 @@ record_of_ref info = record {
 
 -- the bytes spell the forest, and the other fields are its measures
 pub record IsHonestRecord (r : Recorded) (f : Forest) : Type 0 where
-  pub stream : Spells r.bytes f
+  pub stream : Spells Short r.bytes f
   pub counts : Counts (record { num_scopes = r.num_scopes; depth = r.depth; range_ns = r.range_ns })
       f
 

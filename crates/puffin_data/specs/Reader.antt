@@ -2,8 +2,9 @@
 pub mod ReadScopes
 use Rattle.std.specs.Prelude.{◌≡◌, ℕ, ◌+◌, ℤ, ◌-ℤ◌, List, [], ◌∷◌, length, Option, Some, None, Result, Ok, Err}
 use Rattle.puffin_data.specs.declared.error.Error.{Error}
+use Rattle.puffin_data.specs.declared.data.form.Form.{Form}
 use Rattle.puffin_data.specs.Forest.{Forest, empty, node}
-use Rattle.puffin_data.specs.Forest.Spelling.{spelling, head_size, end_size}
+use Rattle.puffin_data.specs.Forest.Spelling.{spelling, end_size, head_size}
 use Rattle.puffin_data.specs.Text.{text_in}
 use Rattle.puffin_data.specs.Walk.Reading.{Found, reading}
 use Rattle.puffin_data.specs.Walk.{region}
@@ -36,11 +37,12 @@ read_from p (Ok (Some s)) = Ok (Some (read_scope p s))
 read_from p (Err fault) = Err fault
 
 -- what stands at place p, in the region that ends at e: no scope, a sound scope or a fault
-abbrev pub scope_read : List ℕ → ℕ → ℕ → Result (Option ReadScope) Error
-scope_read bytes p e = read_from p (reading (region bytes p e))
+abbrev pub scope_read : Form → List ℕ → ℕ → ℕ → Result (Option ReadScope) Error
+scope_read form bytes p e = read_from p (reading form (region bytes p e))
 
 -- where a reader stands in a stream's bytes
 pub record Place : Type 0 where
+  pub form : Form
   pub bytes : List ℕ
   pub at : ℕ
 
@@ -52,27 +54,27 @@ next_after from (Ok (Some s)) = (Some (Ok s), s.next_sibling)
 next_after from (Err fault) = (Some (Err fault), length from.bytes)
 
 abbrev pub next_read : Place → Option (Result ReadScope Error) × ℕ
-next_read from = next_after from (scope_read from.bytes from.at (length from.bytes))
+next_read from = next_after from (scope_read from.form from.bytes from.at (length from.bytes))
 
 -- All that a reader gives from place p on: the sound scopes one after the other, and behind them the fault where there is one.
-pub data ReaderGives (bytes : List ℕ) : ℕ → List (Result ReadScope Error) → Type 0 where
-  ends : {p : ℕ} → scope_read bytes p (length bytes) ≡ Ok None → ReaderGives bytes p []
-  stops : {p : ℕ} {fault : Error} → scope_read bytes p (length bytes) ≡ Err fault →
-      ReaderGives bytes p (Err fault ∷ [])
+pub data ReaderGives (form : Form) (bytes : List ℕ) : ℕ → List (Result ReadScope Error) → Type 0 where
+  ends : {p : ℕ} → scope_read form bytes p (length bytes) ≡ Ok None → ReaderGives form bytes p []
+  stops : {p : ℕ} {fault : Error} → scope_read form bytes p (length bytes) ≡ Err fault →
+      ReaderGives form bytes p (Err fault ∷ [])
   goes_on : {p : ℕ} {s : ReadScope} {later : List (Result ReadScope Error)} →
-      scope_read bytes p (length bytes) ≡ Ok (Some s) → ReaderGives bytes s.next_sibling later →
-      ReaderGives bytes p (Ok s ∷ later)
+      scope_read form bytes p (length bytes) ≡ Ok (Some s) → ReaderGives form bytes s.next_sibling later →
+      ReaderGives form bytes p (Ok s ∷ later)
 
 -- the top scopes of a forest whose spelling begins at place p
-abbrev pub top_scopes : ℕ → Forest → List ReadScope
-top_scopes p empty = []
-top_scopes p (node s children others) =
+abbrev pub top_scopes : Form → ℕ → Forest → List ReadScope
+top_scopes form p empty = []
+top_scopes form p (node s children others) =
     record {
       id = s.id;
       start = s.start;
       duration = s.stop -ℤ s.start;
       text = text_in s.text;
-      child_begin = p + (head_size + length s.text);
-      child_end = p + (head_size + length s.text + length (spelling children));
-      next_sibling = p + (head_size + length s.text + length (spelling children) + end_size);
-    } ∷ top_scopes (p + (head_size + length s.text + length (spelling children) + end_size)) others
+      child_begin = p + head_size form s.text;
+      child_end = p + (head_size form s.text + length (spelling form children));
+      next_sibling = p + (head_size form s.text + length (spelling form children) + end_size);
+    } ∷ top_scopes form (p + (head_size form s.text + length (spelling form children) + end_size)) others

@@ -1,20 +1,25 @@
 -- What of a text is stored, and what of stored bytes is text.
+pub mod Lengths
 use Rattle.std.specs.Prelude.{◌≡◌, ℕ, ◌≤◌, List, length, take, nat_le, if◌then◌else◌}
 use Rattle.std.specs.Str.{IsCharBoundary}
 use Rattle.std.specs.Str.Lossy.{utf8_valid_len}
 use Rattle.std.specs.Fmt.Cut.{floor_char_boundary}
+use Rattle.puffin_data.specs.declared.data.form.Form.{Form}
+use Rattle.puffin_data.specs.Text.Lengths.{text_limit}
 
--- what is stored of a text: all of it, or where it has more than 127 bytes those up to the last end of a character within them
-abbrev pub cut_text : List ℕ → List ℕ
-cut_text text = if nat_le (length text) 127 then text else take (floor_char_boundary text 127) text
+-- what is stored of a text: all of it, or where it has more bytes than its form writes those up to the last end of a character within them
+abbrev pub cut_text : Form → List ℕ → List ℕ
+cut_text form text =
+    if nat_le (length text) (text_limit form) then text
+    else take (floor_char_boundary text (text_limit form)) text
 
--- the longest beginning of a text that has at most 127 bytes and ends where a character ends
-pub record IsCut (text cut : List ℕ) : Type 0 where
+-- the longest beginning of a text that has no more bytes than its form writes and ends where a character ends
+pub record IsCut (form : Form) (text cut : List ℕ) : Type 0 where
   pub size : ℕ
   pub is : cut ≡ take size text
-  pub short : size ≤ 127
+  pub short : size ≤ text_limit form
   pub ends_character : IsCharBoundary text size
-  pub longest : (n : ℕ) → n ≤ 127 → IsCharBoundary text n → n ≤ size
+  pub longest : (n : ℕ) → n ≤ text_limit form → IsCharBoundary text n → n ≤ size
 
 -- the text of stored bytes: their longest beginning that is UTF-8
 abbrev pub text_in : List ℕ → List ℕ

@@ -5,6 +5,7 @@ pub mod Visitor
 pub mod Going
 use Rattle.std.specs.Prelude.{◌≡◌, ℕ, ◌+◌, ◌-◌, ◌≤◌, List, [], ◌∷◌, ◌++◌, length, take, drop, slice_index, nat_lt, ◌==◌, if◌then◌else◌, Some, Ok}
 use Rattle.std.specs.List.{count_by}
+use Rattle.puffin_data.specs.declared.data.form.Form.{Form}
 use Rattle.puffin_data.specs.declared.error.Error.{Error}
 use Rattle.puffin_data.specs.Forest.Spelling.{begin_mark}
 use Rattle.puffin_data.specs.Walk.Reading.{Found, reading, IsFaultIn}
@@ -18,43 +19,43 @@ abbrev pub tries_in : List ℕ → ℕ
 tries_in part = if slice_index part 0 == begin_mark then 1 else 0
 
 -- a sound scope stands at p, in the region that ends at e
-abbrev pub IsSoundAt : List ℕ → ℕ → ℕ → Found → Type 0
-IsSoundAt bytes p e s = reading (region bytes p e) ≡ Ok (Some s)
+abbrev pub IsSoundAt : (form : Form) → List ℕ → ℕ → ℕ → Found → Type 0
+IsSoundAt form bytes p e s = reading form (region bytes p e) ≡ Ok (Some s)
 
 -- The pairs of a place and its region's end that are reached from a pair: itself, and where a sound scope stands there, what is reached from its children and from its next sibling.
-pub data Reaches (bytes : List ℕ) : ℕ → ℕ → ℕ → ℕ → Type 0 where
-  here : {p e : ℕ} → Reaches bytes p e p e
-  child : {p e q f : ℕ} {s : Found} → IsSoundAt bytes p e s →
-      Reaches bytes (p + s.child_begin) (p + s.child_end) q f → Reaches bytes p e q f
-  sibling : {p e q f : ℕ} {s : Found} → IsSoundAt bytes p e s →
-      Reaches bytes (p + s.next_sibling) e q f → Reaches bytes p e q f
+pub data Reaches (form : Form) (bytes : List ℕ) : ℕ → ℕ → ℕ → ℕ → Type 0 where
+  here : {p e : ℕ} → Reaches form bytes p e p e
+  child : {p e q f : ℕ} {s : Found} → IsSoundAt form bytes p e s →
+      Reaches form bytes (p + s.child_begin) (p + s.child_end) q f → Reaches form bytes p e q f
+  sibling : {p e q f : ℕ} {s : Found} → IsSoundAt form bytes p e s →
+      Reaches form bytes (p + s.next_sibling) e q f → Reaches form bytes p e q f
 
 -- a fault stands at p, in the region that ends at e
-abbrev pub IsFaultAt : List ℕ → ℕ → ℕ → Error → Type 0
-IsFaultAt bytes p e fault = IsFaultIn (region bytes p e) fault
+abbrev pub IsFaultAt : (form : Form) → List ℕ → ℕ → ℕ → Error → Type 0
+IsFaultAt form bytes p e fault = IsFaultIn form (region bytes p e) fault
 
 -- the fault of the bytes as a whole: of all that are reached, the one at the least place
-pub record IsFirstFault (bytes : List ℕ) (place : ℕ) (fault : Error) : Type 0 where
+pub record IsFirstFault (form : Form) (bytes : List ℕ) (place : ℕ) (fault : Error) : Type 0 where
   pub end : ℕ
-  pub reached : Reaches bytes 0 (length bytes) place end
-  pub stands : IsFaultAt bytes place end fault
-  pub least : (p e : ℕ) (other : Error) → Reaches bytes 0 (length bytes) p e →
-      IsFaultAt bytes p e other → place ≤ p
+  pub reached : Reaches form bytes 0 (length bytes) place end
+  pub stands : IsFaultAt form bytes place end fault
+  pub least : (p e : ℕ) (other : Error) → Reaches form bytes 0 (length bytes) p e →
+      IsFaultAt form bytes p e other → place ≤ p
 
-abbrev pub IsFault : List ℕ → Error → Type 0
-IsFault bytes fault = (place : ℕ) × IsFirstFault bytes place fault
+abbrev pub IsFault : (form : Form) → List ℕ → Error → Type 0
+IsFault form bytes fault = (place : ℕ) × IsFirstFault form bytes place fault
 
 -- The places of the sound scopes of a region, from p on: where one stands at p, p, then those of its children, then those from its next sibling on.
-pub data Sounds (bytes : List ℕ) : ℕ → ℕ → List ℕ → Type 0 where
-  no_more : {p e : ℕ} → ((s : Found) → IsSoundAt bytes p e s → ⊥) → Sounds bytes p e []
-  one_more : {p e : ℕ} {s : Found} {inner later : List ℕ} → IsSoundAt bytes p e s →
-      Sounds bytes (p + s.child_begin) (p + s.child_end) inner →
-      Sounds bytes (p + s.next_sibling) e later → Sounds bytes p e (p ∷ (inner ++ later))
+pub data Sounds (form : Form) (bytes : List ℕ) : ℕ → ℕ → List ℕ → Type 0 where
+  no_more : {p e : ℕ} → ((s : Found) → IsSoundAt form bytes p e s → ⊥) → Sounds form bytes p e []
+  one_more : {p e : ℕ} {s : Found} {inner later : List ℕ} → IsSoundAt form bytes p e s →
+      Sounds form bytes (p + s.child_begin) (p + s.child_end) inner →
+      Sounds form bytes (p + s.next_sibling) e later → Sounds form bytes p e (p ∷ (inner ++ later))
 
 -- The bytes are refused with their first fault. The tries are the sound scopes before it, and one more where a scope begins at the fault.
-pub record Refuses (bytes : List ℕ) (fault : Error) (tries : ℕ) : Type 0 where
+pub record Refuses (form : Form) (bytes : List ℕ) (fault : Error) (tries : ℕ) : Type 0 where
   pub place : ℕ
-  pub first : IsFirstFault bytes place fault
+  pub first : IsFirstFault form bytes place fault
   pub sounds : List ℕ
-  pub are_sounds : Sounds bytes 0 (length bytes) sounds
+  pub are_sounds : Sounds form bytes 0 (length bytes) sounds
   pub number : tries ≡ count_by (λ q. nat_lt q place) sounds + (if slice_index bytes place == begin_mark then 1 else 0)

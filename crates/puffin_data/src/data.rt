@@ -1,6 +1,7 @@
 //! Streams of scopes: their bytes, the strict walk over them, and what is counted of them.
 
 mod device;
+mod form;
 mod info;
 mod parts;
 mod range;
@@ -14,12 +15,13 @@ mod visit;
 mod walk;
 
 pub use device::{Counted, Drain, Source};
+pub use form::Form;
 pub use info::{StreamInfo, StreamInfoRef};
 pub use parts::{read_byte, read_counted_part, read_length, read_part, read_up_to};
 pub use range::is_range;
 pub use reader::{Reader, text_of};
 pub use record::{Scope, ScopeRecord};
-pub use scope::{BEGIN_LIMIT, END_SIZE, HEAD_SIZE, Sighting};
+pub use scope::{BEGIN_LIMIT, END_SIZE, Sighting};
 pub use scope_id::ScopeId;
 pub use stream::Stream;
 pub use transfer::{read_to_end, write_all};

@@ -8,12 +8,14 @@ ghost use Rattle.std.specs.Str.{IsUtf8};
 ghost use Rattle.std.specs.Int.{int_min, int_max, w64};
 ghost use Rattle.puffin_data.specs.Forest.{Forest, IsForest, empty, append};
 ghost use Rattle.puffin_data.specs.Forest.Measures.{scope_count, height, least_start, greatest_stop};
-ghost use Rattle.puffin_data.specs.Forest.Spelling.{spelling, Spells, begin_bytes, head_size, end_size};
+ghost use Rattle.puffin_data.specs.Forest.Spelling.{spelling, Spells, begin_bytes, end_size, head_size};
 ghost use Rattle.puffin_data.specs.Honesty.{Recorded, IsHonestRecord, joined_record};
 ghost use Rattle.puffin_data.specs.Walk.{IsFault, IsFirstFault, Sounds};
 ghost use Rattle.puffin_data.specs.Walk.Sights.{nested_in, Sight, Sees, scopes_of};
 ghost use Rattle.puffin_data.specs.Forest.Tour.{Event, Open, Close, tour, IsBalanced};
 ghost use Rattle.puffin_data.specs.Forest.Words.{word_size, num_begun, open_after, most_open, least_open, greatest_close};
+ghost use Rattle.puffin_data.specs.declared.data.form.Form.{Form};
+ghost use Rattle.puffin_data.specs.Text.Lengths.{text_limit};
 ghost use Rattle.puffin_data.specs.Text.{cut_text, IsCut, text_in};
 ghost use Rattle.puffin_data.specs.Reader.{ReadScope, ReaderGives, top_scopes};
 ghost use Rattle.puffin_data.specs.Forest.Open.{Opened, IsOpened, open_spelling, open_word, size_place, ended_bytes, with_ended};
@@ -28,9 +30,11 @@ use crate::data::{Scope, ScopeRecord};
 
 /// A forest has one spelling, and it is no other forest's. The spellings of two forests one after the other are joined.
 pub fn one_forest()
-    ensures spelling { (f g : Forest) → IsForest f → IsForest g → length (spelling f) < 2 ^ 63 →
-        spelling f ≡ spelling g → f ≡ g }
-    ensures joined { (f g : Forest) → spelling (append f g) ≡ spelling f ++ spelling g }
+    ensures spelling { (form : Form) (f g : Forest) → IsForest form f → IsForest form g →
+        length (spelling form f) < 2 ^ 63 →
+        spelling form f ≡ spelling form g → f ≡ g }
+    ensures joined { (form : Form) (f g : Forest) →
+        spelling form (append f g) ≡ spelling form f ++ spelling form g }
 {}
 
 /// The measures of two forests one after the other. They can be written where both can.
@@ -42,7 +46,8 @@ pub fn joined_measures()
         least_start (append f g) ≡ int_min (least_start f) (least_start g) }
     ensures greatest_stop { (f g : Forest) →
         greatest_stop (append f g) ≡ int_max (greatest_stop f) (greatest_stop g) }
-    ensures written { (f g : Forest) → IsForest f → IsForest g → IsForest (append f g) }
+    ensures written { (form : Form) (f g : Forest) → IsForest form f → IsForest form g →
+        IsForest form (append f g) }
 {}
 
 /// The least start of a forest and its greatest stop are in the range of the numbers that they are counted in. Where
@@ -50,7 +55,7 @@ pub fn joined_measures()
 pub fn range_of_a_forest()
     ensures start { (f : Forest) → least_start f ≤ℤ pos (2 ^ 63 - 1) }
     ensures stop { (f : Forest) → negsuc (2 ^ 63 - 1) ≤ℤ greatest_stop f }
-    ensures ordered { (f : Forest) → IsForest f → 0 < scope_count f →
+    ensures ordered { (form : Form) (f : Forest) → IsForest form f → 0 < scope_count f →
         least_start f ≤ℤ greatest_stop f }
 {}
 
@@ -62,38 +67,44 @@ pub fn joined_infos()
 
 /// Bytes have at most one first fault, at one place.
 pub fn one_fault()
-    ensures { (bytes : List ℕ) (p q : ℕ) (a b : Error) → IsFirstFault bytes p a →
-        IsFirstFault bytes q b → (p ≡ q) × (a ≡ b) }
+    ensures { (form : Form) (bytes : List ℕ) (p q : ℕ) (a b : Error) → IsFirstFault form bytes p a →
+        IsFirstFault form bytes q b → (p ≡ q) × (a ≡ b) }
 {}
 
 /// Bytes that spell a forest have no fault.
 pub fn no_fault_in_a_spelling()
-    ensures { (bytes : List ℕ) (f : Forest) (fault : Error) → length bytes < 2 ^ 64 →
-        Spells bytes f → IsFault bytes fault → ⊥ }
+    ensures { (form : Form) (bytes : List ℕ) (f : Forest) (fault : Error) → length bytes < 2 ^ 64 →
+        Spells form bytes f → IsFault form bytes fault → ⊥ }
 {}
 
 /// Each stream has one list of the places of its sound scopes, and these places rise strictly.
 pub fn sounds_rise()
-    ensures has { (bytes : List ℕ) → (places : List ℕ) × Sounds bytes 0 (length bytes) places }
-    ensures one { (bytes places others : List ℕ) → Sounds bytes 0 (length bytes) places →
-        Sounds bytes 0 (length bytes) others → places ≡ others }
-    ensures rise { (bytes places : List ℕ) → Sounds bytes 0 (length bytes) places →
+    ensures has { (form : Form) (bytes : List ℕ) →
+        (places : List ℕ) × Sounds form bytes 0 (length bytes) places }
+    ensures one { (form : Form) (bytes places others : List ℕ) →
+        Sounds form bytes 0 (length bytes) places →
+        Sounds form bytes 0 (length bytes) others → places ≡ others }
+    ensures rise { (form : Form) (bytes places : List ℕ) →
+        Sounds form bytes 0 (length bytes) places →
         IsStrictlyIncreasing places }
 {}
 
 /// A walk has one list of the scopes that it meets, and in a forest's spelling these are its scopes.
 pub fn sights_of_a_walk()
-    ensures has { (bytes : List ℕ) → (sights : List Sight) × Sees bytes [] 0 (length bytes) sights }
-    ensures one { (bytes : List ℕ) (sights others : List Sight) →
-        Sees bytes [] 0 (length bytes) sights → Sees bytes [] 0 (length bytes) others →
+    ensures has { (form : Form) (bytes : List ℕ) →
+        (sights : List Sight) × Sees form bytes [] 0 (length bytes) sights }
+    ensures one { (form : Form) (bytes : List ℕ) (sights others : List Sight) →
+        Sees form bytes [] 0 (length bytes) sights → Sees form bytes [] 0 (length bytes) others →
         sights ≡ others }
-    ensures spelled { (bytes : List ℕ) (f : Forest) (sights : List Sight) → length bytes < 2 ^ 64 →
-        Spells bytes f → Sees bytes [] 0 (length bytes) sights → scopes_of sights ≡ nested_in [] f }
+    ensures spelled { (form : Form) (bytes : List ℕ) (f : Forest) (sights : List Sight) →
+        length bytes < 2 ^ 64 →
+        Spells form bytes f → Sees form bytes [] 0 (length bytes) sights →
+        scopes_of sights ≡ nested_in [] f }
 {}
 
 /// A fault is one of three.
 pub fn faults_of_a_walk()
-    ensures { (bytes : List ℕ) (fault : Error) → IsFault bytes fault →
+    ensures { (form : Form) (bytes : List ℕ) (fault : Error) → IsFault form bytes fault →
         (fault ≡ Error.PrematureEnd)
         ⊎ (fault ≡ Error.InvalidStream)
         ⊎ (fault ≡ Error.ScopeNeverEnded) }
@@ -108,7 +119,7 @@ pub fn one_tour()
 
 /// The measures of a forest are those of its tour, the bytes of its spelling among them.
 pub fn tour_measures()
-    ensures size { (f : Forest) → word_size (tour f) ≡ length (spelling f) }
+    ensures size { (form : Form) (f : Forest) → word_size form (tour f) ≡ length (spelling form f) }
     ensures begun { (f : Forest) → num_begun (tour f) ≡ scope_count f }
     ensures open { (f : Forest) → open_after 0 (tour f) ≡ 0 }
     ensures most_open { (f : Forest) → most_open 0 (tour f) ≡ height f }
@@ -118,8 +129,9 @@ pub fn tour_measures()
 
 /// What a scope that opens does to the measures of a word.
 pub fn opening_measures()
-    ensures size { (word : List Event) (id : ℕ) (text : List ℕ) (start : ℤ) →
-        word_size (word ++ (Open id text start ∷ [])) ≡ word_size word + (head_size + length text) }
+    ensures size { (form : Form) (word : List Event) (id : ℕ) (text : List ℕ) (start : ℤ) →
+        word_size form (word ++ (Open id text start ∷ []))
+        ≡ word_size form word + head_size form text }
     ensures begun { (word : List Event) (id : ℕ) (text : List ℕ) (start : ℤ) →
         num_begun (word ++ (Open id text start ∷ [])) ≡ num_begun word + 1 }
     ensures open { (word : List Event) (id : ℕ) (text : List ℕ) (start : ℤ) →
@@ -136,8 +148,8 @@ pub fn opening_measures()
 
 /// What a scope that closes does to the measures of a word.
 pub fn closing_measures()
-    ensures size { (word : List Event) (stop : ℤ) →
-        word_size (word ++ (Close stop ∷ [])) ≡ word_size word + end_size }
+    ensures size { (form : Form) (word : List Event) (stop : ℤ) →
+        word_size form (word ++ (Close stop ∷ [])) ≡ word_size form word + end_size }
     ensures begun { (word : List Event) (stop : ℤ) →
         num_begun (word ++ (Close stop ∷ [])) ≡ num_begun word }
     ensures open { (word : List Event) (stop : ℤ) →
@@ -150,45 +162,54 @@ pub fn closing_measures()
         greatest_close (word ++ (Close stop ∷ [])) ≡ int_max (greatest_close word) stop }
 {}
 
-/// The cut of a text is its longest beginning of at most 127 bytes that ends where a character ends, nothing else is, and
+/// The cut of a text is its longest beginning of no more bytes than its form writes that ends where a character ends, nothing else is, and
 /// it is the text that is read of it. Its bytes are the text's.
 pub fn cut_texts()
-    ensures is_cut { (text : List ℕ) → IsUtf8 text → IsCut text (cut_text text) }
-    ensures only { (text cut : List ℕ) → IsCut text cut → cut ≡ cut_text text }
-    ensures read_back { (text : List ℕ) → IsUtf8 text → text_in (cut_text text) ≡ cut_text text }
-    ensures short { (text : List ℕ) → length (cut_text text) ≤ 127 }
-    ensures bytes { (text : List ℕ) → All (λ b. b < 256) text → All (λ b. b < 256) (cut_text text) }
+    ensures is_cut { (form : Form) (text : List ℕ) → IsUtf8 text →
+        IsCut form text (cut_text form text) }
+    ensures only { (form : Form) (text cut : List ℕ) → IsCut form text cut →
+        cut ≡ cut_text form text }
+    ensures read_back { (form : Form) (text : List ℕ) → IsUtf8 text →
+        text_in (cut_text form text) ≡ cut_text form text }
+    ensures short { (form : Form) (text : List ℕ) → length (cut_text form text) ≤ text_limit form }
+    ensures bytes { (form : Form) (text : List ℕ) → All (λ b. b < 256) text →
+        All (λ b. b < 256) (cut_text form text) }
 {}
 
 /// A stream with open scopes, as its bytes and as its word: what a scope that begins makes of it, and the innermost scope's
 /// end; where that scope's size stands; and that without an open scope it spells a forest whose tour is the word.
 pub fn open_streams()
-    ensures begins { (opened : List Opened) (closed : Forest) (id : ℕ) (start : ℤ) (text : List ℕ) →
-        open_spelling opened closed ++ begin_bytes id start text (2 ^ 64 - 1)
-        ≡ open_spelling (record { before = closed; id = id; start = start; text = text } ∷ opened)
+    ensures begins { (form : Form) (opened : List Opened) (closed : Forest) (id : ℕ) (start : ℤ)
+        (text : List ℕ) →
+        open_spelling form opened closed ++ begin_bytes form id start text (2 ^ 64 - 1)
+        ≡ open_spelling form
+        (record { before = closed; id = id; start = start; text = text } ∷ opened)
         empty }
     ensures begins_word { (opened : List Opened) (closed : Forest) (id : ℕ) (start : ℤ) (
         text : List ℕ) →
         open_word opened closed ++ (Open id text start ∷ [])
         ≡ open_word (record { before = closed; id = id; start = start; text = text } ∷ opened)
         empty }
-    ensures begins_place { (o : Opened) (outer : List Opened) →
-        size_place o outer + 8 ≡ length (open_spelling (o ∷ outer) empty) }
-    ensures place_within { (o : Opened) (outer : List Opened) (closed : Forest) →
-        size_place o outer + 8 ≤ length (open_spelling (o ∷ outer) closed) }
-    ensures ends { (o : Opened) (outer : List Opened) (closed : Forest) (stop : ℤ) →
-        ended_bytes (open_spelling (o ∷ outer) closed) (size_place o outer) stop
-        ≡ open_spelling outer (with_ended o closed stop) }
+    ensures begins_place { (form : Form) (o : Opened) (outer : List Opened) →
+        size_place form o outer + 8 ≡ length (open_spelling form (o ∷ outer) empty) }
+    ensures place_within { (form : Form) (o : Opened) (outer : List Opened) (closed : Forest) →
+        size_place form o outer + 8 ≤ length (open_spelling form (o ∷ outer) closed) }
+    ensures ends { (form : Form) (o : Opened) (outer : List Opened) (closed : Forest) (stop : ℤ) →
+        ended_bytes (open_spelling form (o ∷ outer) closed) (size_place form o outer) stop
+        ≡ open_spelling form outer (with_ended o closed stop) }
     ensures ends_word { (o : Opened) (outer : List Opened) (closed : Forest) (stop : ℤ) →
         open_word (o ∷ outer) closed ++ (Close stop ∷ [])
         ≡ open_word outer (with_ended o closed stop) }
-    ensures ends_written { (o : Opened) (closed : Forest) (stop : ℤ) → IsOpened o →
-        IsForest closed → FitsSigned w64 stop → o.start ≤ℤ stop → FitsSigned w64 (stop -ℤ o.start) →
-        IsForest (with_ended o closed stop) }
-    ensures none_open { (closed : Forest) → open_spelling [] closed ≡ spelling closed }
+    ensures ends_written { (form : Form) (o : Opened) (closed : Forest) (stop : ℤ) →
+        IsOpened form o →
+        IsForest form closed → FitsSigned w64 stop → o.start ≤ℤ stop →
+        FitsSigned w64 (stop -ℤ o.start) →
+        IsForest form (with_ended o closed stop) }
+    ensures none_open { (form : Form) (closed : Forest) →
+        open_spelling form [] closed ≡ spelling form closed }
     ensures none_open_word { (closed : Forest) → open_word [] closed ≡ tour closed }
-    ensures size { (opened : List Opened) (closed : Forest) →
-        length (open_spelling opened closed) ≡ word_size (open_word opened closed) }
+    ensures size { (form : Form) (opened : List Opened) (closed : Forest) →
+        length (open_spelling form opened closed) ≡ word_size form (open_word opened closed) }
     ensures open { (opened : List Opened) (closed : Forest) →
         open_after 0 (open_word opened closed) ≡ length opened }
 {}
@@ -196,14 +217,15 @@ pub fn open_streams()
 /// From each place of a stream on a reader gives one list of scopes and faults, and nothing at the stream's end, which is
 /// where it stands after a fault. Of a forest's spelling it gives the top scopes.
 pub fn one_reading()
-    ensures read { (bytes : List ℕ) (p : ℕ) → p ≤ length bytes →
-        (items : List (Result ReadScope Error)) × ReaderGives bytes p items }
-    ensures one { (bytes : List ℕ) (p : ℕ) (a b : List (Result ReadScope Error)) →
-        ReaderGives bytes p a → ReaderGives bytes p b → a ≡ b }
-    ensures end { (bytes : List ℕ) (items : List (Result ReadScope Error)) →
-        ReaderGives bytes (length bytes) items → items ≡ [] }
-    ensures spelled { (bytes : List ℕ) (f : Forest) → Spells bytes f → length bytes < 2 ^ 63 →
-        ReaderGives bytes 0 (map (λ s. Ok s) (top_scopes 0 f)) }
+    ensures read { (form : Form) (bytes : List ℕ) (p : ℕ) → p ≤ length bytes →
+        (items : List (Result ReadScope Error)) × ReaderGives form bytes p items }
+    ensures one { (form : Form) (bytes : List ℕ) (p : ℕ) (a b : List (Result ReadScope Error)) →
+        ReaderGives form bytes p a → ReaderGives form bytes p b → a ≡ b }
+    ensures end { (form : Form) (bytes : List ℕ) (items : List (Result ReadScope Error)) →
+        ReaderGives form bytes (length bytes) items → items ≡ [] }
+    ensures spelled { (form : Form) (bytes : List ℕ) (f : Forest) → Spells form bytes f →
+        length bytes < 2 ^ 63 →
+        ReaderGives form bytes 0 (map (λ s. Ok s) (top_scopes form 0 f)) }
 {}
 
 /// Scopes that were read, and their records, are equal just where all their fields are.

@@ -6,6 +6,8 @@ mod error;
 #[cfg(test)]
 mod file_error;
 #[cfg(test)]
+mod form;
+#[cfg(test)]
 mod info;
 #[cfg(test)]
 mod laws;

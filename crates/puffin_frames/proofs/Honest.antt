@@ -11,6 +11,7 @@ use Rattle.std.specs.FinMap.Entries.{below_all}
 use Rattle.std.proofs.lemmas.Cmp.{tied_itself}
 use Rattle.std.proofs.lemmas.Int.{ints, clamps}
 use Rattle.std.proofs.lemmas.Grind.{merely, not_there}
+use Rattle.puffin_data.specs.declared.data.form.Form.TheVariants.{Short}
 use Rattle.puffin_data.specs.Forest.{Forest, IsForest, append}
 use Rattle.puffin_data.specs.Forest as forest
 use Rattle.puffin_data.specs.Forest.Measures as measure
@@ -75,7 +76,7 @@ all_from_each P (e ∷ es) sorted each = (
 -- ---- the joined range
 -- the law of a forest's range
 abbrev pub Ordered : Type 0
-Ordered = (f : Forest) → IsForest f → 0 < measure.scope_count f → measure.least_start f ≤ℤ measure.greatest_stop f
+Ordered = (f : Forest) → IsForest Short f → 0 < measure.scope_count f → measure.least_start f ≤ℤ measure.greatest_stop f
 
 one_ordered : Ordered → (x : Recorded) → IsHonestSomehow x → 0 < x.num_scopes → ¬ (x.range_ns.1 <ℤ x.range_ns.0)
 one_ordered law x honest some reversed =

@@ -11,17 +11,26 @@ use std::borrow::CowStr;
 use std::collections::BTreeMap;
 use std::sync::Arc;
 
+/// Writes one scope in another.
+fn nest(stream: &mut Stream, id: ScopeId, start: i64, stop: i64) -> puffin_data::Result<()> {
+    let (outer, _) = stream.begin_scope(|| start, id, "outer")?;
+    let (inner, _) = stream.begin_scope(|| start, id, "")?;
+    stream.end_scope(inner, start)?;
+    stream.end_scope(outer, stop)
+}
+
 /// The stream of one scope in another, for which memory is taken at once.
 fn stream(alloc: Global, start: i64, length: u32) -> Option<Stream> {
     let id = ScopeId::new(7)?;
     let mut stream = Stream::new(alloc);
     again!(stream.reserve(100))?;
-    let (outer, _) = stream.begin_scope(|| start, id, "outer").ok()?;
-    let (inner, _) = stream.begin_scope(|| start, id, "").ok()?;
-    stream.end_scope(inner, start).ok()?;
-    stream
-        .end_scope(outer, start.saturating_add(i64::from(length)))
-        .ok()?;
+    nest(
+        &mut stream,
+        id,
+        start,
+        start.saturating_add(i64::from(length)),
+    )
+    .ok()?;
     Some(stream)
 }
 

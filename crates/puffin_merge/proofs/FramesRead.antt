@@ -2,6 +2,7 @@
 use Rattle.std.proofs.Common.{◌≡◌, ℕ, zero, suc, ◌+◌, ◌<◌, ◌≤◌, ◌^◌, ℤ, ◌-ℤ◌, List, [], ◌∷◌, ◌++◌, length, take, drop, get_or, map, ◌⊎◌, inl, inr, refl, sym, ap, subst, ◌∙◌, arith, append_assoc}
 use Rattle.std.proofs.lemmas.List.{length-append, take-append-drop, take-take}
 use Rattle.std.proofs.lemmas.List.Sums.{sum_by-append}
+use Rattle.puffin_data.specs.declared.data.form.Form.TheVariants.{Short}
 use Rattle.puffin_data.specs.declared.error.Error.{Error}
 use Rattle.puffin_data.specs.declared.error.Error.TheVariants.{Memory, TooLarge}
 use Rattle.puffin_data.specs.Forest.{Forest}
@@ -42,7 +43,7 @@ length_mapped f [] = refl
 length_mapped f (x ∷ xs) = let e = length_mapped f xs in omega arith
 
 -- one frame more, whose scopes the table has taken
-more_scopes : (frames : List FrameBytes) (i : ℕ) (f : FrameBytes) (forest : Forest) (t u : Table) (tried made : ℕ) → take (i + 1) frames ≡ take i frames ++ (f ∷ []) → (r : HasRead frames i t tried) → Spells (bytes_of f) forest → length (bytes_of f) < 2 ^ 63
+more_scopes : (frames : List FrameBytes) (i : ℕ) (f : FrameBytes) (forest : Forest) (t u : Table) (tried made : ℕ) → take (i + 1) frames ≡ take i frames ++ (f ∷ []) → (r : HasRead frames i t tried) → Spells Short (bytes_of f) forest → length (bytes_of f) < 2 ^ 63
     → AreAccepted (occurrences_from (start_of frames) r.scopes) (occurrences_of (start_of frames) (record { start = f.start; forest = forest }))
     → IsTableOf (occurrences_from (start_of frames) r.scopes ++ occurrences_of (start_of frames) (record { start = f.start; forest = forest })) u
     → made ≡ length (nested_in [] forest) → HasRead frames (i + 1) u (tried + made)
@@ -59,7 +60,7 @@ more_scopes frames i f forest t u tried made split r spells short accepted table
       tries = omega (arith, before_tries, tries, ap length more, length-append (occurrences_from first r.scopes) (occurrences_of first s), length_mapped (occurrence_of (f.start -ℤ first)) (nested_in [] forest));
     }
 
-pub read_more : (frames : List FrameBytes) (i : ℕ) (f : FrameBytes) (v w : Merging) (tried made : ℕ) → take (i + 1) frames ≡ take i frames ++ (f ∷ []) → v.origin ≡ f.start -ℤ start_of frames → HasRead frames i v.table tried → TakesAll TakesScopes v w (bytes_of f) made → length (bytes_of f) < 2 ^ 63
+pub read_more : (frames : List FrameBytes) (i : ℕ) (f : FrameBytes) (v w : Merging) (tried made : ℕ) → take (i + 1) frames ≡ take i frames ++ (f ∷ []) → v.origin ≡ f.start -ℤ start_of frames → HasRead frames i v.table tried → TakesAll Short TakesScopes v w (bytes_of f) made → length (bytes_of f) < 2 ^ 63
     → HasRead frames (i + 1) w.table (tried + made)
 read_more frames i f v w tried made split origin r all short =
     let done = occurrences_from (start_of frames) r.scopes in
@@ -73,7 +74,7 @@ both_counted p q i = p i + q i
 
 -- a frame that is refused
 pub read_refused : (frames : List FrameBytes) (i : ℕ) (f : FrameBytes) (v w : Merging) (tried made : ℕ) (e : Error) → frames ≡ take i frames ++ (f ∷ drop (i + 1) frames) → v.origin ≡ f.start -ℤ start_of frames → HasRead frames i v.table tried
-    → StopsEarly TakesScopes RefusesScope v w (bytes_of f) made e → IsRefusalAfter frames (tried + made) e
+    → StopsEarly Short TakesScopes RefusesScope v w (bytes_of f) made e → IsRefusalAfter frames (tried + made) e
 read_refused frames i f v w tried made e split origin r (inl s) =
     let done = occurrences_from (start_of frames) r.scopes in
     subst (λ (n : ℕ). IsRefusalAfter frames n e) (sym (both_counted r.tries s.tries))

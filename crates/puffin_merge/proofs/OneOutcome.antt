@@ -1,6 +1,7 @@
 -- Frames that are merged aren't refused, and are merged into one forest.
 use Rattle.std.proofs.Common.{◌≡◌, ℕ, ◌<◌, ◌^◌, ℤ, ◌-ℤ◌, List, [], ◌∷◌, ◌++◌, length, inl, inr, refl, sym, ap, subst, ◌∙◌, arith, append_assoc}
 use Rattle.std.proofs.lemmas.List.{map-append}
+use Rattle.puffin_data.specs.declared.data.form.Form.TheVariants.{Short}
 use Rattle.puffin_data.specs.declared.error.Error.{Error}
 use Rattle.puffin_data.specs.Forest.{Forest, IsForest}
 use Rattle.puffin_data.specs.Forest.Spelling.{spelling, Spells}
@@ -17,16 +18,16 @@ use Rattle.puffin_merge.proofs.OneMerge.{one_merge}
 
 -- what is known of walks
 pub record Walks : Type 0 where
-  pub one_forest : (f g : Forest) → IsForest f → IsForest g → length (spelling f) < 2 ^ 63 → spelling f ≡ spelling g → f ≡ g
-  pub no_fault : (bytes : List ℕ) (f : Forest) (fault : Error) → length bytes < 2 ^ 64 → Spells bytes f → IsFault bytes fault → ⊥
-  pub sees : (bytes : List ℕ) (f : Forest) (sights : List Sight) → length bytes < 2 ^ 64 → Spells bytes f → Sees bytes [] 0 (length bytes) sights → scopes_of sights ≡ nested_in [] f
+  pub one_forest : (f g : Forest) → IsForest Short f → IsForest Short g → length (spelling Short f) < 2 ^ 63 → spelling Short f ≡ spelling Short g → f ≡ g
+  pub no_fault : (bytes : List ℕ) (f : Forest) (fault : Error) → length bytes < 2 ^ 64 → Spells Short bytes f → IsFault Short bytes fault → ⊥
+  pub sees : (bytes : List ℕ) (f : Forest) (sights : List Sight) → length bytes < 2 ^ 64 → Spells Short bytes f → Sees Short bytes [] 0 (length bytes) sights → scopes_of sights ≡ nested_in [] f
 
 -- ---- frames have one list of scopes
 
 one_frame : Walks → (frame : FrameBytes) (x y : FrameScopes) → HasScopes frame x → HasScopes frame y → x ≡ y
 one_frame w frame x y a b =
     let start = a.start ∙ sym b.start in
-    let short : length (spelling x.forest) < 2 ^ 63 = subst (λ (bytes : List ℕ). length bytes < 2 ^ 63) a.spells.whole a.short in
+    let short : length (spelling Short x.forest) < 2 ^ 63 = subst (λ (bytes : List ℕ). length bytes < 2 ^ 63) a.spells.whole a.short in
     let forest = w.one_forest x.forest y.forest a.spells.fits b.spells.fits short (sym a.spells.whole ∙ b.spells.whole) in
     λ i. record { start = start i; forest = forest i }
 

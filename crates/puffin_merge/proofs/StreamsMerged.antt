@@ -10,6 +10,7 @@ use Rattle.std.specs.BTreeMap.{is_at}
 use Rattle.std.specs.Arc.{arc_value}
 use Rattle.std.specs.declared.sync.Arc.{Arc}
 use Rattle.std.specs.declared.alloc.Global.{Global}
+use Rattle.puffin_data.specs.declared.data.form.Form.TheVariants.{Short}
 use Rattle.puffin_data.specs.declared.error.Error.{Error}
 use Rattle.puffin_data.specs.declared.error.Error.TheVariants.{Memory}
 use Rattle.puffin_data.specs.declared.data.info.StreamInfo.{StreamInfo}
@@ -68,7 +69,7 @@ some_tries total info frame x made e h =
 abbrev at_origin : Table → ℤ → Merging
 at_origin t o = record { table = t; origin = o }
 
-pub nothing_taken : (t : Table) (a b : ℤ) (bytes : List ℕ) → a ≡ b → bytes ≡ [] → TakesAll TakesScopes (at_origin t b) (at_origin t a) bytes 0
+pub nothing_taken : (t : Table) (a b : ℤ) (bytes : List ℕ) → a ≡ b → bytes ≡ [] → TakesAll Short TakesScopes (at_origin t b) (at_origin t a) bytes 0
 nothing_taken t a b bytes e none = record {
   forest = empty;
   spells = record { whole = none; fits = tt };
@@ -76,14 +77,14 @@ nothing_taken t a b bytes e none = record {
   tries = refl;
 }
 
-pub taken_of_frame : (t : Table) (a b : ℤ) (bytes read : List ℕ) (w : Merging) (made : ℕ) (r : Result (Unit {0}) Error) → a ≡ b → bytes ≡ read → IfOk r (λ _. TakesAll TakesScopes (at_origin t a) w bytes made) → IfOk r (λ _. TakesAll TakesScopes (at_origin t b) w read made)
+pub taken_of_frame : (t : Table) (a b : ℤ) (bytes read : List ℕ) (w : Merging) (made : ℕ) (r : Result (Unit {0}) Error) → a ≡ b → bytes ≡ read → IfOk r (λ _. TakesAll Short TakesScopes (at_origin t a) w bytes made) → IfOk r (λ _. TakesAll Short TakesScopes (at_origin t b) w read made)
 taken_of_frame t a b bytes read w made (Err e) ea eb h = tt
 taken_of_frame t a b bytes read w made (Ok x) ea eb h =
-    subst (λ (o : ℤ). TakesAll TakesScopes (at_origin t o) w read made) ea (subst (λ (xs : List ℕ). TakesAll TakesScopes (at_origin t a) w xs made) eb h)
+    subst (λ (o : ℤ). TakesAll Short TakesScopes (at_origin t o) w read made) ea (subst (λ (xs : List ℕ). TakesAll Short TakesScopes (at_origin t a) w xs made) eb h)
 
 pub refused_of_frame : (t : Table) (a b : ℤ) (bytes read : List ℕ) (w : Merging) (made : ℕ) (r : Result (Unit {0}) Error) → a ≡ b → bytes ≡ read
-    → IfErr r (λ e. (e ≡ Memory) ⊎ StopsEarly TakesScopes RefusesScope (at_origin t a) w bytes made e) → IfErr r (λ e. (e ≡ Memory) ⊎ StopsEarly TakesScopes RefusesScope (at_origin t b) w read made e)
+    → IfErr r (λ e. (e ≡ Memory) ⊎ StopsEarly Short TakesScopes RefusesScope (at_origin t a) w bytes made e) → IfErr r (λ e. (e ≡ Memory) ⊎ StopsEarly Short TakesScopes RefusesScope (at_origin t b) w read made e)
 refused_of_frame t a b bytes read w made (Ok x) ea eb h = tt
 refused_of_frame t a b bytes read w made (Err e) ea eb (inl memory) = inl memory
 refused_of_frame t a b bytes read w made (Err e) ea eb (inr stops) =
-    inr (subst (λ (o : ℤ). StopsEarly TakesScopes RefusesScope (at_origin t o) w read made e) ea (subst (λ (xs : List ℕ). StopsEarly TakesScopes RefusesScope (at_origin t a) w xs made e) eb stops))
+    inr (subst (λ (o : ℤ). StopsEarly Short TakesScopes RefusesScope (at_origin t o) w read made e) ea (subst (λ (xs : List ℕ). StopsEarly Short TakesScopes RefusesScope (at_origin t a) w xs made e) eb stops))

@@ -1,6 +1,7 @@
 -- What counting a stream from a reader to a writer comes to.
 use Rattle.std.specs.Prelude.{◌≡◌, ℕ, List, [], Option, Some, ◌⊎◌}
 use Rattle.std.specs.Io.KnownBytes.{Consumes, Appends, IsAtEnd}
+use Rattle.puffin_data.specs.declared.data.form.Form.TheVariants.{Short}
 use Rattle.puffin_data.specs.declared.error.Error.{Error}
 use Rattle.puffin_data.specs.Forest.{Forest}
 use Rattle.puffin_data.specs.Forest.Spelling.{Spells}
@@ -16,10 +17,10 @@ ReadsAll old new bytes = Consumes old new bytes × IsAtEnd new
 abbrev pub IsCounted : List ℕ → Option (List ℕ) → Option (List ℕ) → Option Error → Type 0
 IsCounted bytes old new answer =
     ((f : Forest)
-    × Spells bytes f
+    × Spells Short bytes f
     × Appends old new (lines_of f)
     × (answer ≡ refusal_of (frame_of_forest f)))
-    ⊎ ((cause : Error) × (answer ≡ Some cause) × IsFault bytes cause × Appends old new [])
+    ⊎ ((cause : Error) × (answer ≡ Some cause) × IsFault Short bytes cause × Appends old new [])
 
 -- A refused call wrote nothing, or a beginning of the lines of what the reader gave.
 abbrev pub IsCutShort : Option (List ℕ) → Option (List ℕ) → Option (List ℕ) → Option (List ℕ) →
@@ -29,5 +30,5 @@ IsCutShort unread left old new =
     ⊎ ((bytes : List ℕ)
     × (f : Forest)
     × ReadsAll unread left bytes
-    × Spells bytes f
+    × Spells Short bytes f
     × WritesBeginning old new (lines_of f))

@@ -1,6 +1,7 @@
 -- The two lines that the program prints of a stream.
 use Rattle.std.specs.Prelude.{ℕ, ◌^◌, ℤ, pos, ◌-ℤ◌, int_lt, List, ◌++◌, length, codes, Option, Some, None, Result, Ok, Err, if◌then◌else◌}
 use Rattle.std.specs.Fmt.{decimal, signed_decimal}
+use Rattle.puffin_data.specs.declared.data.form.Form.TheVariants.{Short}
 use Rattle.puffin_data.specs.declared.error.Error.{Error}
 use Rattle.puffin_data.specs.declared.error.Error.TheVariants.{Empty, RangeTooLong}
 use Rattle.puffin_data.specs.Cause.{error_name}
@@ -47,7 +48,7 @@ abbrev pub meta_of_forest : Forest → FrameMeta
 meta_of_forest f = record {
   frame_index = 0;
   range_ns = (least_start f, greatest_stop f);
-  num_bytes = length (spelling f);
+  num_bytes = length (spelling Short f);
   num_scopes = scope_count f;
 }
 

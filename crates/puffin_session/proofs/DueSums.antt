@@ -13,6 +13,7 @@ use Rattle.std.proofs.lemmas.Bool.{cases_eq}
 use Rattle.std.proofs.lemmas.Int.{ints, clamps}
 use Rattle.std.proofs.lemmas.Grind.{not_there}
 use mathlib.Core.Logic.{∥∥₁_map}
+use Rattle.puffin_data.specs.declared.data.form.Form.TheVariants.{Short}
 use Rattle.puffin_data.specs.declared.error.Error.{Error}
 use Rattle.puffin_data.specs.Forest.{Forest}
 use Rattle.puffin_data.specs.Honesty.{Recorded, IsHonestRecord}
@@ -35,8 +36,8 @@ use Rattle.puffin_session.proofs.Openings.{due_of, due-opening}
 
 -- ---- one stream
 
-size_of : (r : Recorded) (word : List Event) → SpellsWord r word → length r.bytes ≡ word_size word
-size_of r word h = ap length h.honest.stream.whole ∙ sym (word_size-tour h.forest) ∙ ap word_size h.toured
+size_of : (r : Recorded) (word : List Event) → SpellsWord r word → length r.bytes ≡ word_size Short word
+size_of r word h = ap length h.honest.stream.whole ∙ sym (word_size-tour Short h.forest) ∙ ap (word_size Short) h.toured
 
 pub scopes_of : (r : Recorded) (word : List Event) → SpellsWord r word → r.num_scopes ≡ num_begun word
 scopes_of r word h = h.honest.counts.num_scopes ∙ sym (num_begun-tour h.forest) ∙ ap num_begun h.toured
@@ -159,7 +160,7 @@ entries_sum (e ∷ es) h =
     let later = entries_sum es h.1 in
     let word = events_in e.1.bytes in
     let spells = spells_itself e.1 h.0 in
-    let size = same_there (length e.1.bytes) (word_size word) spells (size_of e.1 word) in
+    let size = same_there (length e.1.bytes) (word_size Short word) spells (size_of e.1 word) in
     let scopes = same_there e.1.num_scopes (num_begun word) spells (scopes_of e.1 word) in
     let start = same_time_there e.1.range_ns.0 (least_open word) spells (start_of e.1 word) in
     let stop = same_time_there e.1.range_ns.1 (greatest_close word) spells (stop_of e.1 word) in

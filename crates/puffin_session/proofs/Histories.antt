@@ -7,6 +7,7 @@ use Rattle.std.proofs.lemmas.List.{map-append}
 use Rattle.std.proofs.lemmas.List.Elements.{filter_map-append}
 use Rattle.std.proofs.lemmas.List.Concat.{flat_map-append}
 use Rattle.std.proofs.lemmas.List.Folds.{list_any-append}
+use Rattle.puffin_data.specs.declared.data.form.Form.TheVariants.{Short}
 use Rattle.puffin_data.specs.Text.{cut_text}
 use Rattle.puffin_data.specs.Forest.Tour.{Event, Open, Close}
 use Rattle.puffin_threads.specs.Thread.Info.{Info, same_info}
@@ -114,7 +115,7 @@ module _ (o : Opening) (t : ℕ) (done : List Action) (a : Action) where
       ∙ map-append (λ m. m.event) (since_last (λ m. m.reported) (word_of o t done)) (marked_call (int_max (latest_of o t done) c.at) c.mark ∷ [])
 
   pub unreported-begun : (at : ℤ) (id : ℕ) (text : List ℕ) → call_of t a ≡ Some (record { at = at; mark = begun id text }) →
-      unreported o t (done ++ (a ∷ [])) ≡ unreported o t done ++ (Open id (cut_text text) (int_max (latest_of o t done) at) ∷ [])
+      unreported o t (done ++ (a ∷ [])) ≡ unreported o t done ++ (Open id (cut_text Short text) (int_max (latest_of o t done) at) ∷ [])
   unreported-begun at id text e = unreported_kept (record { at = at; mark = begun id text }) e refl
 
   pub unreported-ended : (at : ℤ) → call_of t a ≡ Some (record { at = at; mark = ended false }) →

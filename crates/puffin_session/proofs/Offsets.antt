@@ -4,6 +4,8 @@ use Rattle.std.specs.Prelude.{slice_get}
 use Rattle.std.specs.List.{fold}
 use Rattle.std.proofs.lemmas.List.{get_or-reverse, length-reverse, reverse-append, take_at}
 use Rattle.std.proofs.lemmas.Option.{get_or_from_slice_get}
+use Rattle.puffin_data.specs.Forest.Spelling.{size_offset, head_size}
+use Rattle.puffin_data.specs.declared.data.form.Form.TheVariants.{Short}
 use Rattle.puffin_data.specs.Forest.Tour.{Event, Open, Close}
 use Rattle.puffin_data.specs.Forest.Words.{word_size, open_after}
 use Rattle.puffin_data.specs.declared.error.Error.{Error}
@@ -19,14 +21,14 @@ fold_last : (word : List Event) (e : Event) (sofar : ℕ × List ℕ) → fold o
 fold_last [] e sofar = refl
 fold_last (d ∷ word) e sofar = fold_last word e (opened_after sofar d)
 
-size_along : (word : List Event) (sofar : ℕ × List ℕ) → (fold opened_after sofar word).0 ≡ sofar.0 + word_size word
+size_along : (word : List Event) (sofar : ℕ × List ℕ) → (fold opened_after sofar word).0 ≡ sofar.0 + word_size Short word
 size_along [] sofar = omega arith
-size_along (Open id text start ∷ word) sofar = omega (arith, size_along word (sofar.0 + 22 + length text, (sofar.0 + 14 + length text) ∷ sofar.1))
+size_along (Open id text start ∷ word) sofar = omega (arith, size_along word (sofar.0 + head_size Short text, (sofar.0 + size_offset Short text) ∷ sofar.1))
 size_along (Close stop ∷ word) sofar = omega (arith, size_along word (sofar.0 + 9, drop 1 sofar.1))
 
-offsets-open : (word : List Event) (id : ℕ) (text : List ℕ) (start : ℤ) → open_offsets (word ++ (Open id text start ∷ [])) ≡ (word_size word + 14 + length text) ∷ open_offsets word
+offsets-open : (word : List Event) (id : ℕ) (text : List ℕ) (start : ℤ) → open_offsets (word ++ (Open id text start ∷ [])) ≡ (word_size Short word + size_offset Short text) ∷ open_offsets word
 offsets-open word id text start =
-    ap (λ (p : ℕ × List ℕ). p.1) (fold_last word (Open id text start) (0, [])) ∙ ap (λ (n : ℕ). (n + 14 + length text) ∷ open_offsets word) (size_along word (0, []) ∙ omega arith)
+    ap (λ (p : ℕ × List ℕ). p.1) (fold_last word (Open id text start) (0, [])) ∙ ap (λ (n : ℕ). (n + size_offset Short text) ∷ open_offsets word) (size_along word (0, []) ∙ omega arith)
 
 offsets-close : (word : List Event) (stop : ℤ) → open_offsets (word ++ (Close stop ∷ [])) ≡ drop 1 (open_offsets word)
 offsets-close word stop = ap (λ (p : ℕ × List ℕ). p.1) (fold_last word (Close stop) (0, []))
@@ -34,7 +36,7 @@ offsets-close word stop = ap (λ (p : ℕ × List ℕ). p.1) (fold_last word (Cl
 open_along : (word : List Event) (sofar : ℕ × List ℕ) → open_after (length sofar.1) word ≡ length (fold opened_after sofar word).1
 open_along [] sofar = refl
 open_along (Open id text start ∷ word) sofar =
-    ap (λ (n : ℕ). open_after n word) (omega arith) ∙ open_along word (sofar.0 + 22 + length text, (sofar.0 + 14 + length text) ∷ sofar.1)
+    ap (λ (n : ℕ). open_after n word) (omega arith) ∙ open_along word (sofar.0 + head_size Short text, (sofar.0 + size_offset Short text) ∷ sofar.1)
 open_along (Close stop ∷ word) sofar =
     ap (λ (n : ℕ). open_after n word) (sym (length-drop 1 sofar.1)) ∙ open_along word (sofar.0 + 9, drop 1 sofar.1)
 
@@ -47,11 +49,11 @@ open_after-offsets word = open_along word (0, [])
 reverse-first : (x : ℕ) (xs : List ℕ) → reverse (x ∷ xs) ≡ reverse xs ++ (x ∷ [])
 reverse-first x xs = reverse-append (x ∷ []) xs
 
-pub pushed : (items more : List ℕ) (old new : Thread) (id : ℕ) (text : List ℕ) (t : ℤ) (offset : ℕ) → items ≡ reverse (open_offsets old.word) → new ≡ after_begin old id text t → offset ≡ word_size old.word + 14 + length text
+pub pushed : (items more : List ℕ) (old new : Thread) (id : ℕ) (text : List ℕ) (t : ℤ) (offset : ℕ) → items ≡ reverse (open_offsets old.word) → new ≡ after_begin old id text t → offset ≡ word_size Short old.word + size_offset Short text
     → more ≡ items ++ (offset ∷ []) → more ≡ reverse (open_offsets new.word)
 pushed items more old new id text t offset was begun place is =
-    is ∙ ap (λ (n : ℕ). items ++ (n ∷ [])) place ∙ ap (λ (xs : List ℕ). xs ++ ((word_size old.word + 14 + length text) ∷ [])) was
-    ∙ sym (reverse-first (word_size old.word + 14 + length text) (open_offsets old.word)) ∙ sym (ap (λ (th : Thread). reverse (open_offsets th.word)) begun ∙ ap reverse (offsets-open old.word id text _))
+    is ∙ ap (λ (n : ℕ). items ++ (n ∷ [])) place ∙ ap (λ (xs : List ℕ). xs ++ ((word_size Short old.word + size_offset Short text) ∷ [])) was
+    ∙ sym (reverse-first (word_size Short old.word + size_offset Short text) (open_offsets old.word)) ∙ sym (ap (λ (th : Thread). reverse (open_offsets th.word)) begun ∙ ap reverse (offsets-open old.word id text _))
 
 popped_list : (xs : List ℕ) → take (length (reverse xs) - 1) (reverse xs) ≡ reverse (drop 1 xs)
 popped_list [] = refl
@@ -100,7 +102,7 @@ falls_along : (word : List Event) (sofar : ℕ × List ℕ) → Falls sofar.0 so
 unfolding Falls
 falls_along [] sofar h = h
 falls_along (Open id text start ∷ word) sofar h =
-    falls_along word (sofar.0 + 22 + length text, (sofar.0 + 14 + length text) ∷ sofar.1) (omega arith, falls_above sofar.0 (sofar.0 + 14 + length text) sofar.1 (omega arith) h)
+    falls_along word (sofar.0 + head_size Short text, (sofar.0 + size_offset Short text) ∷ sofar.1) (omega arith, falls_above sofar.0 (sofar.0 + size_offset Short text) sofar.1 (omega arith) h)
 falls_along (Close stop ∷ word) sofar h = falls_along word (sofar.0 + 9, drop 1 sofar.1) (falls_rest sofar.0 (sofar.0 + 9) sofar.1 (omega arith) h)
 
 below : (n : ℕ) (xs : List ℕ) (k d : ℕ) → Falls n xs → k < length xs → get_or xs k d < n

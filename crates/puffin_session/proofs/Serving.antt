@@ -8,6 +8,8 @@ use Rattle.std.specs.Option.{option_map}
 use Rattle.std.specs.Global.{Vec}
 use Rattle.std.specs.declared.sync.Arc.{Arc}
 use Rattle.std.proofs.lemmas.List.{length-set, get_or-set_same, get_or-set_other}
+use Rattle.puffin_data.specs.Forest.Spelling.{size_offset}
+use Rattle.puffin_data.specs.declared.data.form.Form.TheVariants.{Short}
 use Rattle.puffin_data.specs.declared.error.Error.{Error}
 use Rattle.puffin_data.specs.declared.error.Error.TheVariants.{NoThread, MismatchedEnd, IdsExhausted, IndexExhausted, Memory}
 use Rattle.puffin_data.specs.Forest.{Forest}
@@ -93,13 +95,13 @@ changes now new t changed scopes within same index reported = record {
 }
 
 pub Continues-began : (now : SessionState) (t : ℕ) (at : ℤ) (id : ℕ) (text : String Global) (offset : ℕ) → t < length now.threads
-    → offset ≡ word_size (session_thread now t).word + 14 + length (cut_text (string_bytes text))
-    → Continues now (session_with_thread now t (after_begin (session_thread now t) id (cut_text (string_bytes text)) (clock_time at)) now.collected) (Begin t at id text) (reply.Began offset)
+    → offset ≡ word_size Short (session_thread now t).word + size_offset Short (cut_text Short (string_bytes text))
+    → Continues now (session_with_thread now t (after_begin (session_thread now t) id (cut_text Short (string_bytes text)) (clock_time at)) now.collected) (Begin t at id text) (reply.Began offset)
 Continues-began now t at id text offset there place = (
   [],
   λ o done before.
       let within : t < length o.threads = omega (arith, before.stands.num_threads) in
-      let changed = after_begin (session_thread now t) id (cut_text (string_bytes text)) (clock_time at) in
+      let changed = after_begin (session_thread now t) id (cut_text Short (string_bytes text)) (clock_time at) in
       let new = session_with_thread now t changed now.collected in
       let a : Action = calls t (record { at = at; mark = begun id (string_bytes text) }) in (
         record {
@@ -107,7 +109,7 @@ Continues-began now t at id text offset there place = (
               (tells_same o done a now.collected now.collected before.stands.tells refl refl (λ w. refl) (same_told now.collected now.collected refl));
           sums = sums_same o done a now.collected.streams now.collected.streams before.sums refl refl;
         },
-        (within, place ∙ ap (λ (th : Thread). word_size th.word + 14 + length (cut_text (string_bytes text))) (before.stands.threads t within)),
+        (within, place ∙ ap (λ (th : Thread). word_size Short th.word + size_offset Short (cut_text Short (string_bytes text))) (before.stands.threads t within)),
       ),
 )
 
@@ -385,7 +387,7 @@ Continues-not_ended now t at back e why = Continues-refused now (End t at back) 
       )
 ])
 
-pub Continues-not_reported : (now : SessionState) (info : ThreadInfo) (stream : StreamState) (e : Error) → (e ≡ Memory) ⊎ IsFault stream.bytes e ⊎ ((r : Recorded) × (f : Forest) × IsHonestRecord r f × (r.bytes ≡ stream.bytes) × IsReportRefusal now.collected [] r e)
+pub Continues-not_reported : (now : SessionState) (info : ThreadInfo) (stream : StreamState) (e : Error) → (e ≡ Memory) ⊎ IsFault Short stream.bytes e ⊎ ((r : Recorded) × (f : Forest) × IsHonestRecord r f × (r.bytes ≡ stream.bytes) × IsReportRefusal now.collected [] r e)
     → Continues now now (ReportUser info stream) (reply.Refused e)
 Continues-not_reported now info stream e (inl memory) = Continues-refused now (ReportUser info stream) e refl (λ o done before. inl memory)
 Continues-not_reported now info stream e (inr (inl fault)) = Continues-refused now (ReportUser info stream) e refl (λ o done before. inr (inl fault))

@@ -3,6 +3,7 @@ use Rattle.std.proofs.Common.{◌≡◌, ◌≢◌, ℕ, zero, suc, ◌-◌, ◌
 use Rattle.std.specs.Prelude.{OnOk, IfOk, IfErr}
 use Rattle.std.specs.Int.{int_max}
 use Rattle.std.specs.declared.sync.Arc.{Arc}
+use Rattle.puffin_data.specs.declared.data.form.Form.TheVariants.{Short}
 use Rattle.puffin_data.specs.declared.error.Error.{Error}
 use Rattle.puffin_data.specs.declared.error.Error.TheVariants.{IndexExhausted, Memory}
 use Rattle.puffin_data.specs.Forest.{Forest}
@@ -93,7 +94,7 @@ Accepts-from now seen after i given r lent f bytes (Ok x) same honest read lends
     (r, f, honest, read, subst (λ (s : SessionState). AcceptsReport s.collected i [] r after) same here, ap (λ (s : SessionState). session_with_collected s after) same)
 
 pub Refuses-from : (now seen : SessionState) (after : Collected) (given : Info) (r lent : Recorded) (f : Forest) (bytes : List ℕ) (result : Result (Unit {0}) Error) → seen ≡ now → IsHonestRecord r f → r.bytes ≡ bytes → lent ≡ r
-    → IfErr result (λ e. RefusesReport seen.collected given [] lent e after) → IfErr result (λ e. (e ≡ Memory) ⊎ IsFault bytes e ⊎ ((r : Recorded) × (f : Forest) × IsHonestRecord r f × (r.bytes ≡ bytes) × IsReportRefusal now.collected [] r e))
+    → IfErr result (λ e. RefusesReport seen.collected given [] lent e after) → IfErr result (λ e. (e ≡ Memory) ⊎ IsFault Short bytes e ⊎ ((r : Recorded) × (f : Forest) × IsHonestRecord r f × (r.bytes ≡ bytes) × IsReportRefusal now.collected [] r e))
 Refuses-from now seen after given r lent f bytes (Ok x) same honest read lends refused = tt
 Refuses-from now seen after given r lent f bytes (Err e) same honest read lends refused =
     inr (inr (r, f, honest, read, subst (λ (s : SessionState). IsReportRefusal s.collected [] r e) same (subst (λ (q : Recorded). IsReportRefusal seen.collected [] q e) lends refused.0)))

@@ -5,6 +5,7 @@ use Rattle.std.proofs.lemmas.Bool.{cases_eq}
 use Rattle.std.specs.Int.{int_max}
 use Rattle.std.specs.List.{slice_index_or, sum_by}
 use Rattle.std.specs.FinMap.{empty}
+use Rattle.puffin_data.specs.declared.data.form.Form.TheVariants.{Short}
 use Rattle.puffin_data.specs.Honesty.{Recorded}
 use Rattle.puffin_data.specs.Text.{cut_text}
 use Rattle.puffin_data.specs.Forest.Tour.{Event, Close}
@@ -26,7 +27,7 @@ use Rattle.puffin_session.proofs.SessionCollects.{SpellsDue-report, SpellsDue-no
 
 -- a thread after a call of it; an accepted report leaves no events
 abbrev pub after_call : Thread → ℤ → Mark → Thread
-after_call thread at (begun id text) = after_begin thread id (cut_text text) (int_max (pos 0) at)
+after_call thread at (begun id text) = after_begin thread id (cut_text Short text) (int_max (pos 0) at)
 after_call thread at (ended false) = after_end thread (int_max (pos 0) at)
 after_call thread at (ended true) = after_handing (after_end thread (int_max (pos 0) at))
 

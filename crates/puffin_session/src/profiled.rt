@@ -1,5 +1,7 @@
 ghost use Rattle.std.specs.Prelude.{◌≡◌, ◌+◌, ◌-◌, ◌<◌, ◌⊎◌, length, option_map, IfOk, IfErr, OnOk, OnErr};
 ghost use Rattle.std.specs.String.{string_bytes};
+ghost use Rattle.puffin_data.specs.Forest.Spelling.{size_offset};
+ghost use Rattle.puffin_data.specs.declared.data.form.Form.TheVariants.{Short};
 ghost use Rattle.puffin_data.specs.Text.{cut_text};
 ghost use Rattle.puffin_data.specs.Forest.Words.{word_size, open_after};
 ghost use Rattle.puffin_threads.specs.Details.{AllHaveIds};
@@ -53,9 +55,9 @@ impl Profiled {
     /// Begins a scope at this time. Refused only with `Memory`; nothing is changed then.
     pub(crate) fn begin(&mut self, at: NanoSecond, id: ScopeId, text: &str) -> Result<usize>
         ensures ok { OnOk result (
-            self.new ≡ after_begin self.old id (cut_text text.now) (clock_time at)) }
+            self.new ≡ after_begin self.old id (cut_text Short text.now) (clock_time at)) }
         ensures offset { IfOk result (λ offset.
-            offset ≡ word_size self.old.word + 14 + length (cut_text text.now)) }
+            offset ≡ word_size Short self.old.word + size_offset Short (cut_text Short text.now)) }
         ensures err { OnErr result (self.new ≡ self.old) }
         ensures memory { IfErr result (λ e. e ≡ Error.Memory) }
     {

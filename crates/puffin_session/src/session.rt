@@ -1,5 +1,7 @@
 ghost use Rattle.std.specs.Prelude.{◌≡◌, ◌≢◌, ◌+◌, ◌-◌, ◌^◌, ◌<◌, ◌≤◌, ◌⊎◌, length, map, [], All, option_map, IfOk, IfErr, OnOk, OnErr};
 ghost use Rattle.std.specs.String.{string_bytes};
+ghost use Rattle.puffin_data.specs.Forest.Spelling.{size_offset};
+ghost use Rattle.puffin_data.specs.declared.data.form.Form.TheVariants.{Short};
 ghost use Rattle.puffin_data.specs.Forest.{Forest};
 ghost use Rattle.puffin_data.specs.Honesty.{Recorded, IsHonestRecord};
 ghost use Rattle.puffin_data.specs.Text.{cut_text};
@@ -149,11 +151,11 @@ impl Session {
         ensures ok { IfOk result (λ offset.
             (thread < length self.old.threads)
             × (self.new ≡ session_with_thread self.old thread
-            (after_begin (session_thread self.old thread) id (cut_text text.now)
+            (after_begin (session_thread self.old thread) id (cut_text Short text.now)
             (clock_time at))
             self.old.collected)
-            × (offset ≡ word_size (session_thread self.old thread).word + 14
-            + length (cut_text text.now))) }
+            × (offset ≡ word_size Short (session_thread self.old thread).word + size_offset Short
+            (cut_text Short text.now))) }
         ensures err { OnErr result (self.new ≡ self.old) }
         ensures cause { IfErr result (λ e.
             ((e ≡ Error.NoThread) × (length self.old.threads ≤ thread))
@@ -236,7 +238,7 @@ impl Session {
         ensures err { OnErr result (self.new ≡ self.old) }
         ensures cause { IfErr result (λ e.
             (e ≡ Error.Memory)
-            ⊎ IsFault stream.now.bytes e
+            ⊎ IsFault Short stream.now.bytes e
             ⊎ ((r : Recorded)
             × (f : Forest)
             × IsHonestRecord r f

@@ -5,11 +5,17 @@ use Rattle.std.specs.List.{All}
 use Rattle.std.proofs.lemmas.Int.{ints}
 use Rattle.std.proofs.lemmas.List.{length-append, length-reverse, reverse-append, get_or-reverse}
 use Rattle.std.proofs.lemmas.Option.{slice_get-get_or}
+use Rattle.puffin_data.specs.declared.data.form.Form.{Form}
+use Rattle.puffin_data.specs.declared.data.form.Form.TheVariants.{Short}
+use Rattle.puffin_data.specs.Text.{cut_text}
 use Rattle.puffin_data.specs.declared.data.info.StreamInfo.{StreamInfo}
 use Rattle.puffin_data.specs.Forest.{empty}
 use Rattle.puffin_data.specs.Honesty.{IsHonest, record_of}
 use Rattle.puffin_data.specs.Forest.Open.{ended_bytes}
-use Rattle.puffin_data.specs.Forest.Spelling.{begin_bytes}
+use Rattle.puffin_data.specs.Text.Lengths.{text_room}
+use Rattle.puffin_data.proofs.lemmas.Lengths.{room_least, short_room}
+use Rattle.puffin_data.proofs.lemmas.Cuts.{cut_text-short}
+use Rattle.puffin_data.specs.Forest.Spelling.{begin_bytes, size_offset, head_size}
 use Rattle.puffin_data.specs.Forest.Tour.{Event, Open, Close}
 use Rattle.puffin_data.specs.Forest.Words.{word_size, num_begun, open_after, most_open, least_open, greatest_close}
 use Rattle.puffin_data.proofs.lemmas.WordMeasures.{num_begun-append, most_open-opened, most_open-closed, least_open-opened, least_open-kept, greatest_close-closed, greatest_close-kept, length-begin, num_begun-tour, most_open-tour, least_open-tour, greatest_close-tour}
@@ -46,10 +52,10 @@ is_zero n h = grind arith
 is_more : (n k : ℕ) → n ≡ k + 1 → (n == 0) ≡ false
 is_more n k h = grind arith
 
-empty_test : (w : List Event) (n : ℕ) → n ≡ word_size w → (n == 0) ≡ (length w == 0)
+empty_test : (w : List Event) (n : ℕ) → n ≡ word_size Short w → (n == 0) ≡ (length w == 0)
 empty_test [] n e = is_zero n (sym e)
-empty_test (Open id text start ∷ w) n e = is_more n (21 + length text + word_size w) (omega arith) ∙ sym (is_more (length (Open id text start ∷ w)) (length w) (omega arith))
-empty_test (Close stop ∷ w) n e = is_more n (8 + word_size w) (omega arith) ∙ sym (is_more (length (Close stop ∷ w)) (length w) (omega arith))
+empty_test (Open id text start ∷ w) n e = is_more n (20 + text_room Short text + word_size Short w) (omega arith) ∙ sym (is_more (length (Open id text start ∷ w)) (length w) (omega arith))
+empty_test (Close stop ∷ w) n e = is_more n (8 + word_size Short w) (omega arith) ∙ sym (is_more (length (Close stop ∷ w)) (length w) (omega arith))
 
 pub empty_in : (r : Inside) → IsRecording r → (length r.info.stream.bytes == 0) ≡ (length (events_in r.info.stream.bytes) == 0)
 empty_in r h = empty_test (events_in r.info.stream.bytes) (length r.info.stream.bytes) (size_held r.info.stream.bytes r.latest (holds_in r h))
@@ -74,10 +80,11 @@ counted_none info w h e = record {
 pub none_in : (info : StreamInfo) → IsHonest info empty → events_in info.stream.bytes ≡ []
 none_in info h = ap events_in h.stream.whole ∙ events_of_none
 
-pub cleared_in : (r : Inside) → pos 0 ≤ℤ r.latest → IsHonest r.info empty → r.offsets.items ≡ [] → ((name : List ℕ) → spare_name r ≡ Some name → name ≡ string_bytes r.name) → IsRecording r
-cleared_in r low h none spare =
+pub cleared_in : (r : Inside) → r.info.stream.form ≡ Short → pos 0 ≤ℤ r.latest → IsHonest r.info empty → r.offsets.items ≡ [] → ((name : List ℕ) → spare_name r ≡ Some name → name ≡ string_bytes r.name) → IsRecording r
+cleared_in r form low h none spare =
     let word = none_in r.info h in
     record {
+      form = form;
       latest = low;
       scopes = ∣ nothing_held r.info.stream.bytes r.latest h.stream.whole ∣₁;
       counted = counted_none r.info (events_in r.info.stream.bytes) h word;
@@ -90,13 +97,14 @@ cleared_in r low h none spare =
 -- a scope begins
 
 pub record Begins (r next : Inside) (id : ℕ) (text : List ℕ) (at : ℤ) (offset : ℕ) : Type 0 where
+  pub form : next.info.stream.form ≡ Short
   pub later : r.latest ≤ℤ at
   pub fits : FitsSigned w64 at
   pub id_low : 0 < id
   pub id_high : id < 2 ^ 32
   pub short : length text < 256
   pub text_bytes : All (λ b. b < 256) text
-  pub bytes : next.info.stream.bytes ≡ r.info.stream.bytes ++ begin_bytes id at text (2 ^ 64 - 1)
+  pub bytes : next.info.stream.bytes ≡ r.info.stream.bytes ++ begin_bytes Short id at text (2 ^ 64 - 1)
   pub offset_is : offset + 8 ≡ length next.info.stream.bytes
   pub items : next.offsets.items ≡ r.offsets.items ++ (offset ∷ [])
   pub num_scopes : next.info.num_scopes ≡ r.info.num_scopes + 1
@@ -107,10 +115,15 @@ pub record Begins (r next : Inside) (id : ℕ) (text : List ℕ) (at : ℤ) (off
   pub room : 9 * length next.offsets.items ≤ next.info.stream.room
   pub spare : spare_name next ≡ Some (string_bytes next.name)
 
-pub offset_in : (r : Inside) (id : ℕ) (text : List ℕ) (at : ℤ) (offset : ℕ) → IsRecording r → (next : List ℕ) → next ≡ r.info.stream.bytes ++ begin_bytes id at text (2 ^ 64 - 1) → offset + 8 ≡ length next
-    → offset ≡ word_size (events_in r.info.stream.bytes) + 14 + length text
+-- the beginning of a short scope takes at most 149 bytes
+pub head_most : (form : Form) (text : List ℕ) → form ≡ Short → head_size form (cut_text form text) ≤ 149
+head_most form text short =
+    subst (λ (f : Form). head_size f (cut_text f text) ≤ 149) (sym short) (omega (arith, short_room (cut_text Short text), cut_text-short Short text))
+
+pub offset_in : (r : Inside) (id : ℕ) (text : List ℕ) (at : ℤ) (offset : ℕ) → IsRecording r → (next : List ℕ) → next ≡ r.info.stream.bytes ++ begin_bytes Short id at text (2 ^ 64 - 1) → offset + 8 ≡ length next
+    → offset ≡ word_size Short (events_in r.info.stream.bytes) + size_offset Short text
 offset_in r id text at offset h next e is =
-    omega (arith, ap length e, length-append r.info.stream.bytes (begin_bytes id at text (2 ^ 64 - 1)), length-begin id at text (2 ^ 64 - 1), size_held r.info.stream.bytes r.latest (holds_in r h))
+    omega (arith, ap length e, length-append r.info.stream.bytes (begin_bytes Short id at text (2 ^ 64 - 1)), length-begin Short id at text (2 ^ 64 - 1), size_held r.info.stream.bytes r.latest (holds_in r h))
 
 pub begun_goes : (r next : Inside) (id : ℕ) (text : List ℕ) (at : ℤ) (offset : ℕ) → IsRecording r → Begins r next id text at offset → Goes r.info.stream.bytes next.info.stream.bytes at (Open id text at)
 begun_goes r next id text at offset h b =
@@ -128,6 +141,7 @@ begun_in r next id text at offset h b =
     let nonneg : pos 0 ≤ℤ at = omega (arith, ints) in
     let deep : length next.offsets.items ≡ open_after 0 w + 1 = omega (arith, depth_in r h, ap length b.items, length-append r.offsets.items (offset ∷ [])) in
     record {
+      form = b.form;
       latest = subst (λ (t : ℤ). pos 0 ≤ℤ t) (sym b.latest) nonneg;
       scopes = ∣ subst (λ (t : ℤ). HoldsScopes next.info.stream.bytes t) (sym b.latest) goes.holds ∣₁;
       counted = record {
@@ -144,9 +158,9 @@ begun_in r next id text at offset h b =
     }
 
 -- the number of scopes that have begun is that of a stream that fits
-begun_size : (w : List Event) → 22 * num_begun w ≤ word_size w
+begun_size : (w : List Event) → 22 * num_begun w ≤ word_size Short w
 begun_size [] = omega arith
-begun_size (Open id text start ∷ w) = omega (arith, begun_size w)
+begun_size (Open id text start ∷ w) = omega (arith, begun_size w, room_least Short text)
 begun_size (Close stop ∷ w) = omega (arith, begun_size w)
 
 pub scopes_fit : (r : Inside) → IsRecording r → 22 * r.info.num_scopes ≤ length r.info.stream.bytes
@@ -155,6 +169,7 @@ scopes_fit r h = omega (arith, h.counted.num_scopes, begun_size (events_in r.inf
 -- the innermost scope ends
 
 pub record Ends (r next : Inside) (at : ℤ) (offset : ℕ) : Type 0 where
+  pub form : next.info.stream.form ≡ r.info.stream.form
   pub later : r.latest ≤ℤ at
   pub fits : FitsSigned w64 at
   pub items : r.offsets.items ≡ next.offsets.items ++ (offset ∷ [])
@@ -186,6 +201,7 @@ ended_in r next at offset h e =
     let later = e.later in
     let nonneg : pos 0 ≤ℤ at = omega (arith, ints) in
     record {
+      form = e.form ∙ h.form;
       latest = subst (λ (t : ℤ). pos 0 ≤ℤ t) (sym e.latest) nonneg;
       scopes = ∣ subst (λ (t : ℤ). HoldsScopes next.info.stream.bytes t) (sym e.latest) goes.holds ∣₁;
       counted = record {

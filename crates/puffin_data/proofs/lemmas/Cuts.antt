@@ -9,6 +9,8 @@ use Rattle.std.specs.List.{All}
 use Rattle.std.proofs.lemmas.List.{take_all, length-take}
 use Rattle.std.proofs.lemmas.List.Elements.{All-take}
 use Rattle.std.proofs.lemmas.Str.{IsCharBoundary-start, IsCharBoundary-end, IsUtf8-take, utf8_valid_len-IsUtf8}
+use Rattle.puffin_data.specs.Text.Lengths.{text_limit}
+use Rattle.puffin_data.specs.declared.data.form.Form.{Form}
 use Rattle.puffin_data.specs.Text.{cut_text, IsCut, text_in}
 
 start_from : (b : ℕ) → (128 ≤ b → 192 ≤ b) → is_char_start b ≡ true
@@ -62,43 +64,43 @@ is_floor text (suc i) utf8 lt =
     not_both b x y = cc
 
 -- whatever is the cut is what `cut_text` gives
-pub cut_text-is : (text cut : List ℕ) → IsCut text cut → cut ≡ cut_text text
-cut_text-is text cut h =
-    elim (cases_lt 127 (length text)) [
+pub cut_text-is : (form : Form) (text cut : List ℕ) → IsCut form text cut → cut ≡ cut_text form text
+cut_text-is form text cut h =
+    elim (cases_lt (text_limit form) (length text)) [
       | inl long ↦
-          let test : nat_le (length text) 127 ≡ false = grind arith in
-          let floor = floor_is text 127 h.size long (record { within = h.short; ends_character = h.ends_character; longest = h.longest }) in
+          let test : nat_le (length text) (text_limit form) ≡ false = grind arith in
+          let floor = floor_is text (text_limit form) h.size long (record { within = h.short; ends_character = h.ends_character; longest = h.longest }) in
           rw test (h.is ∙ ap (λ (k : ℕ). take k text) (sym floor))
       | inr short ↦
-          let test : nat_le (length text) 127 ≡ true = grind arith in
+          let test : nat_le (length text) (text_limit form) ≡ true = grind arith in
           let whole : length text ≤ h.size = h.longest (length text) short (omega arith, λ lt. absurd (omega arith)) in
           rw test (h.is ∙ take_all h.size text whole)
     ]
 
 -- what `cut_text` gives of a text is the cut
-pub is_cut : (text : List ℕ) → IsUtf8 text → IsCut text (cut_text text)
-is_cut text utf8 =
-    elim (cases_lt 127 (length text)) [
+pub is_cut : (form : Form) (text : List ℕ) → IsUtf8 text → IsCut form text (cut_text form text)
+is_cut form text utf8 =
+    elim (cases_lt (text_limit form) (length text)) [
       | inl long ↦
-          let test : nat_le (length text) 127 ≡ false = grind arith in
-          let floor = is_floor text 127 utf8 long in
-          rw test (record { size = floor_char_boundary text 127; is = refl; short = floor.within; ends_character = floor.ends_character; longest = floor.longest })
+          let test : nat_le (length text) (text_limit form) ≡ false = grind arith in
+          let floor = is_floor text (text_limit form) utf8 long in
+          rw test (record { size = floor_char_boundary text (text_limit form); is = refl; short = floor.within; ends_character = floor.ends_character; longest = floor.longest })
       | inr short ↦
-          let test : nat_le (length text) 127 ≡ true = grind arith in
+          let test : nat_le (length text) (text_limit form) ≡ true = grind arith in
           rw test (record { size = length text; is = sym (take_all (length text) text (omega arith)); short = short; ends_character = IsCharBoundary-end text; longest = λ n small at. at.0 })
     ]
 
 -- what is stored of a text is read back
-pub text_in-cut : (text : List ℕ) → IsUtf8 text → text_in (cut_text text) ≡ cut_text text
-text_in-cut text utf8 =
-    let h = is_cut text utf8 in
-    let valid : IsUtf8 (cut_text text) = subst IsUtf8 (sym h.is) (IsUtf8-take text h.size utf8 h.ends_character) in
-    ap (λ (n : ℕ). take n (cut_text text)) (utf8_valid_len-IsUtf8 (cut_text text) valid) ∙ take_all (length (cut_text text)) (cut_text text) (omega arith)
+pub text_in-cut : (form : Form) (text : List ℕ) → IsUtf8 text → text_in (cut_text form text) ≡ cut_text form text
+text_in-cut form text utf8 =
+    let h = is_cut form text utf8 in
+    let valid : IsUtf8 (cut_text form text) = subst IsUtf8 (sym h.is) (IsUtf8-take text h.size utf8 h.ends_character) in
+    ap (λ (n : ℕ). take n (cut_text form text)) (utf8_valid_len-IsUtf8 (cut_text form text) valid) ∙ take_all (length (cut_text form text)) (cut_text form text) (omega arith)
 
 -- what the search for the boundary ensures of it
-pub cut_text-found : (text : List ℕ) (n : ℕ) → n ≤ 127 → IsCharBoundary text n → ((i : ℕ) → n < i → i ≤ 127 → ¬ (IsCharBoundary text i)) → take n text ≡ cut_text text
-cut_text-found text n short at nearest =
-    cut_text-is text (take n text) (record { size = n; is = refl; short = short; ends_character = at; longest = λ m le b. elim (cases_lt n m) [ inl above ↦ absurd (nearest m above le b) | inr within ↦ within ] })
+pub cut_text-found : (form : Form) (text : List ℕ) (n limit : ℕ) → limit ≡ text_limit form → n ≤ limit → IsCharBoundary text n → ((i : ℕ) → n < i → i ≤ limit → ¬ (IsCharBoundary text i)) → take n text ≡ cut_text form text
+cut_text-found form text n limit same short at nearest =
+    cut_text-is form text (take n text) (record { size = n; is = refl; short = omega (arith, same); ends_character = at; longest = λ m le b. elim (cases_lt n m) [ inl above ↦ absurd (nearest m above (omega (arith, same)) b) | inr within ↦ within ] })
 
 floor_low : (text : List ℕ) (k : ℕ) → floor_char_boundary text k ≤ k
 unfolding floor_char_boundary
@@ -109,24 +111,24 @@ floor_low text (suc i) =
       | inr goes_on ↦ rw goes_on (omega (arith, floor_low text i))
     ]
 
-pub cut_text-short : (text : List ℕ) → length (cut_text text) ≤ 127
-cut_text-short text =
-    elim (cases_lt 127 (length text)) [
+pub cut_text-short : (form : Form) (text : List ℕ) → length (cut_text form text) ≤ (text_limit form)
+cut_text-short form text =
+    elim (cases_lt (text_limit form) (length text)) [
       | inl long ↦
-          let test : nat_le (length text) 127 ≡ false = grind arith in
-          rw test (omega (arith, floor_low text 127, length-take (floor_char_boundary text 127) text))
+          let test : nat_le (length text) (text_limit form) ≡ false = grind arith in
+          rw test (omega (arith, floor_low text (text_limit form), length-take (floor_char_boundary text (text_limit form)) text))
       | inr short ↦
-          let test : nat_le (length text) 127 ≡ true = grind arith in
+          let test : nat_le (length text) (text_limit form) ≡ true = grind arith in
           rw test short
     ]
 
-pub cut_text-bytes : (text : List ℕ) → All (λ b. b < 256) text → All (λ b. b < 256) (cut_text text)
-cut_text-bytes text bytes =
-    elim (cases_lt 127 (length text)) [
+pub cut_text-bytes : (form : Form) (text : List ℕ) → All (λ b. b < 256) text → All (λ b. b < 256) (cut_text form text)
+cut_text-bytes form text bytes =
+    elim (cases_lt (text_limit form) (length text)) [
       | inl long ↦
-          let test : nat_le (length text) 127 ≡ false = grind arith in
-          rw test (All-take (λ b. b < 256) (floor_char_boundary text 127) text bytes)
+          let test : nat_le (length text) (text_limit form) ≡ false = grind arith in
+          rw test (All-take (λ b. b < 256) (floor_char_boundary text (text_limit form)) text bytes)
       | inr short ↦
-          let test : nat_le (length text) 127 ≡ true = grind arith in
+          let test : nat_le (length text) (text_limit form) ≡ true = grind arith in
           rw test bytes
     ]

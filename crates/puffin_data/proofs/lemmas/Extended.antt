@@ -2,6 +2,8 @@
 use Rattle.std.proofs.Common.{◌≡◌, ℕ, ◌+◌, List, ◌++◌, max, sym, ap, ◌∙◌, arith, ℤ}
 use Rattle.std.specs.Int.{int_min, int_max}
 use Rattle.std.proofs.lemmas.Int.{ints, clamps}
+use Rattle.puffin_data.specs.declared.data.form.Form.{Form}
+use Rattle.puffin_data.specs.declared.data.form.Form.TheVariants.{Short}
 use Rattle.puffin_data.specs.Forest.{Forest, IsForest, empty, node, append}
 use Rattle.puffin_data.specs.Forest.Measures.{scope_count, height, least_start, greatest_stop}
 use Rattle.puffin_data.specs.Forest.Spelling.{spelling}
@@ -31,16 +33,16 @@ pub greatest_stop-append : (f g : Forest) → greatest_stop (append f g) ≡ int
 greatest_stop-append empty g = sym (from_least (greatest_stop g) (greatest_in_range g))
 greatest_stop-append (node s c o) g = ap (λ (t : ℤ). int_max s.stop (int_max (greatest_stop c) t)) (greatest_stop-append o g) ∙ greatest_assoc s.stop (greatest_stop c) (greatest_stop o) (greatest_stop g)
 
-pub IsForest-append : (f g : Forest) → IsForest f → IsForest g → IsForest (append f g)
-IsForest-append empty g x y = y
-IsForest-append (node s c o) g x y = (x.0, x.1, IsForest-append o g x.2 y)
+pub IsForest-append : (form : Form) (f g : Forest) → IsForest form f → IsForest form g → IsForest form (append f g)
+IsForest-append form empty g x y = y
+IsForest-append form (node s c o) g x y = (x.0, x.1, IsForest-append form o g x.2 y)
 
 pub honest_joined : (a b : Recorded) (f g : Forest) → IsHonestRecord a f → IsHonestRecord b g → IsHonestRecord (joined_record a b) (append f g)
 honest_joined a b f g x y =
     record {
       stream = record {
-        whole = ap (λ (t : List ℕ). t ++ b.bytes) x.stream.whole ∙ ap (λ (t : List ℕ). spelling f ++ t) y.stream.whole ∙ sym (spelling-append f g);
-        fits = IsForest-append f g x.stream.fits y.stream.fits;
+        whole = ap (λ (t : List ℕ). t ++ b.bytes) x.stream.whole ∙ ap (λ (t : List ℕ). spelling Short f ++ t) y.stream.whole ∙ sym (spelling-append Short f g);
+        fits = IsForest-append Short f g x.stream.fits y.stream.fits;
       };
       counts = record {
         num_scopes = omega (arith, x.counts.num_scopes, y.counts.num_scopes, scope_count-append f g);

@@ -4,9 +4,11 @@ use Rattle.std.specs.Int.{int_min, int_max, w64, cast_unsigned}
 use Rattle.std.proofs.lemmas.Int.{ints, clamps}
 use Rattle.byteorder.specs.Endian.{little_bytes}
 use Rattle.byteorder.specs.Numbers.{length-bytes_low_first}
+use Rattle.puffin_data.specs.Text.Lengths.{length_layout}
+use Rattle.puffin_data.specs.declared.data.form.Form.{Form}
 use Rattle.puffin_data.specs.Forest.{Forest, empty, node}
 use Rattle.puffin_data.specs.Forest.Measures.{scope_count, height, least_start, greatest_stop}
-use Rattle.puffin_data.specs.Forest.Spelling.{spelling, begin_bytes, end_bytes, time_bytes}
+use Rattle.puffin_data.specs.Forest.Spelling.{spelling, begin_bytes, end_bytes, time_bytes, head_size}
 use Rattle.puffin_data.specs.Forest.Tour.{Event, Open, Close, tour}
 use Rattle.puffin_data.specs.Forest.Words.{word_size, num_begun, open_after, most_open, least_open, greatest_close}
 
@@ -31,10 +33,10 @@ max_over y m h = omega (arith, ints, clamps)
 max_swap : (x y z : ℤ) → int_max x (int_max y z) ≡ int_max y (int_max x z)
 max_swap x y z = omega (arith, ints, clamps)
 
-pub word_size-append : (u v : List Event) → word_size (u ++ v) ≡ word_size u + word_size v
-word_size-append [] v = omega arith
-word_size-append (Open id text start ∷ u) v = omega (arith, word_size-append u v)
-word_size-append (Close stop ∷ u) v = omega (arith, word_size-append u v)
+pub word_size-append : (form : Form) (u v : List Event) → word_size form (u ++ v) ≡ word_size form u + word_size form v
+word_size-append form [] v = omega arith
+word_size-append form (Open id text start ∷ u) v = omega (arith, word_size-append form u v)
+word_size-append form (Close stop ∷ u) v = omega (arith, word_size-append form u v)
 
 pub num_begun-append : (u v : List Event) → num_begun (u ++ v) ≡ num_begun u + num_begun v
 num_begun-append [] v = omega arith
@@ -105,14 +107,15 @@ greatest_close-tour (node s c o) =
     greatest_close-append (tour c) (Close s.stop ∷ tour o) ∙ ap (λ x. int_max x (int_max s.stop (greatest_close (tour o)))) (greatest_close-tour c)
     ∙ ap (λ x. int_max (greatest_stop c) (int_max s.stop x)) (greatest_close-tour o) ∙ max_swap (greatest_stop c) s.stop (greatest_stop o)
 
-pub length-begin : (id : ℕ) (start : ℤ) (text : List ℕ) (size : ℕ) → length (begin_bytes id start text size) ≡ 22 + length text
+pub length-begin : (form : Form) (id : ℕ) (start : ℤ) (text : List ℕ) (size : ℕ) → length (begin_bytes form id start text size) ≡ head_size form text
 unfolding begin_bytes
-length-begin id start text size =
+length-begin form id start text size =
     omega (
       arith,
-      length-append (little_bytes 4 id) (time_bytes start ++ (length text ∷ (text ++ little_bytes 8 size))),
-      length-append (time_bytes start) (length text ∷ (text ++ little_bytes 8 size)),
-      length-append text (little_bytes 8 size),
+      length-append (little_bytes 4 id) (time_bytes start ++ ((length_layout form (length text) ++ text) ++ little_bytes 8 size)),
+      length-append (time_bytes start) ((length_layout form (length text) ++ text) ++ little_bytes 8 size),
+      length-append (length_layout form (length text) ++ text) (little_bytes 8 size),
+      length-append (length_layout form (length text)) text,
       length-bytes_low_first 0 4 id,
       length-bytes_low_first 0 8 size,
       length-bytes_low_first 0 8 (cast_unsigned w64 start),
@@ -122,19 +125,19 @@ pub length-end : (stop : ℤ) → length (end_bytes stop) ≡ 9
 unfolding end_bytes
 length-end stop = omega (arith, length-bytes_low_first 0 8 (cast_unsigned w64 stop))
 
-pub word_size-tour : (f : Forest) → word_size (tour f) ≡ length (spelling f)
-word_size-tour empty = refl
-word_size-tour (node s c o) =
+pub word_size-tour : (form : Form) (f : Forest) → word_size form (tour f) ≡ length (spelling form f)
+word_size-tour form empty = refl
+word_size-tour form (node s c o) =
     omega (
       arith,
-      word_size-append (tour c) (Close s.stop ∷ tour o),
-      word_size-tour c,
-      word_size-tour o,
-      length-begin s.id s.start s.text (length (spelling c)),
+      word_size-append form (tour c) (Close s.stop ∷ tour o),
+      word_size-tour form c,
+      word_size-tour form o,
+      length-begin form s.id s.start s.text (length (spelling form c)),
       length-end s.stop,
-      length-append (begin_bytes s.id s.start s.text (length (spelling c))) (spelling c ++ (end_bytes s.stop ++ spelling o)),
-      length-append (spelling c) (end_bytes s.stop ++ spelling o),
-      length-append (end_bytes s.stop) (spelling o),
+      length-append (begin_bytes form s.id s.start s.text (length (spelling form c))) (spelling form c ++ (end_bytes s.stop ++ spelling form o)),
+      length-append (spelling form c) (end_bytes s.stop ++ spelling form o),
+      length-append (end_bytes s.stop) (spelling form o),
     )
 
 open_le_most : (n : ℕ) (w : List Event) → open_after n w ≤ most_open n w

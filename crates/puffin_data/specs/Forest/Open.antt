@@ -1,10 +1,12 @@
 -- Streams with scopes that are begun and not ended.
-use Rattle.std.specs.Prelude.{ℕ, ◌+◌, ◌-◌, ◌^◌, ◌<◌, ℤ, FitsSigned, List, [], ◌∷◌, ◌++◌, length, take, drop}
+use Rattle.std.specs.Prelude.{ℕ, ◌+◌, ◌-◌, ◌^◌, ◌<◌, ◌≤◌, ℤ, FitsSigned, List, [], ◌∷◌, ◌++◌, length, take, drop}
 use Rattle.byteorder.specs.Endian.{little_bytes}
 use Rattle.std.specs.List.{All}
 use Rattle.std.specs.Int.{w64}
+use Rattle.puffin_data.specs.declared.data.form.Form.{Form}
+use Rattle.puffin_data.specs.Text.Lengths.{stored_limit}
 use Rattle.puffin_data.specs.Forest.{Forest, IsForest, empty, node, append}
-use Rattle.puffin_data.specs.Forest.Spelling.{spelling, begin_bytes, end_bytes, front_size}
+use Rattle.puffin_data.specs.Forest.Spelling.{spelling, begin_bytes, end_bytes, size_offset}
 use Rattle.puffin_data.specs.Forest.Tour.{Event, Open, tour}
 
 -- the bytes after the end of a scope whose size stands at this place: the number of bytes after the size is written over it, and the end behind all
@@ -21,19 +23,20 @@ pub record Opened : Type 0 where
   pub text : List ℕ
 
 -- The bytes up to the children of the innermost open scope, which stands first in the list. Their sizes are unfinished.
-abbrev pub opening_bytes : List Opened → List ℕ
-opening_bytes [] = []
-opening_bytes (o ∷ outer) =
-    opening_bytes outer ++ (spelling o.before ++ begin_bytes o.id o.start o.text (2 ^ 64 - 1))
+abbrev pub opening_bytes : Form → List Opened → List ℕ
+opening_bytes form [] = []
+opening_bytes form (o ∷ outer) =
+    opening_bytes form outer
+    ++ (spelling form o.before ++ begin_bytes form o.id o.start o.text (2 ^ 64 - 1))
 
 -- the bytes of a stream with these open scopes, and what is closed in the innermost of them
-abbrev pub open_spelling : List Opened → Forest → List ℕ
-open_spelling opened closed = opening_bytes opened ++ spelling closed
+abbrev pub open_spelling : Form → List Opened → Forest → List ℕ
+open_spelling form opened closed = opening_bytes form opened ++ spelling form closed
 
 -- where the size of the innermost open scope stands
-abbrev pub size_place : Opened → List Opened → ℕ
-size_place o outer =
-    length (opening_bytes outer ++ spelling o.before) + (front_size + length o.text)
+abbrev pub size_place : Form → Opened → List Opened → ℕ
+size_place form o outer =
+    length (opening_bytes form outer ++ spelling form o.before) + size_offset form o.text
 
 -- the closed scopes that then stand beside an open scope that ends, itself the last: closed are those within it
 abbrev pub with_ended : Opened → (closed : Forest) → (stop : ℤ) → Forest
@@ -51,10 +54,10 @@ abbrev pub open_word : List Opened → Forest → List Event
 open_word opened closed = opening_word opened ++ tour closed
 
 -- an open scope that can be written
-pub record IsOpened (o : Opened) : Type 0 where
-  pub before : IsForest o.before
+pub record IsOpened (form : Form) (o : Opened) : Type 0 where
+  pub before : IsForest form o.before
   pub id_low : 0 < o.id
   pub id_high : o.id < 2 ^ 32
   pub start : FitsSigned w64 o.start
-  pub text_size : length o.text < 256
+  pub text_size : length o.text ≤ stored_limit form
   pub text_bytes : All (λ b. b < 256) o.text

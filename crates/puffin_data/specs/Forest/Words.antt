@@ -1,14 +1,15 @@
 -- The measures of a word of events.
 use Rattle.std.specs.Prelude.{ℕ, ◌+◌, ◌-◌, ◌^◌, max, ℤ, pos, negsuc, List, [], ◌∷◌, length}
 use Rattle.std.specs.Int.{int_min, int_max}
-use Rattle.puffin_data.specs.Forest.Spelling.{head_size, end_size}
+use Rattle.puffin_data.specs.declared.data.form.Form.{Form}
+use Rattle.puffin_data.specs.Forest.Spelling.{end_size, head_size}
 use Rattle.puffin_data.specs.Forest.Tour.{Event, Open, Close}
 
 -- how many bytes its scopes take
-abbrev pub word_size : List Event → ℕ
-word_size [] = 0
-word_size (Open id text start ∷ word) = head_size + length text + word_size word
-word_size (Close stop ∷ word) = end_size + word_size word
+abbrev pub word_size : Form → List Event → ℕ
+word_size form [] = 0
+word_size form (Open id text start ∷ word) = head_size form text + word_size form word
+word_size form (Close stop ∷ word) = end_size + word_size form word
 
 -- how many scopes open
 abbrev pub num_begun : List Event → ℕ

@@ -1,5 +1,6 @@
 -- The scopes that a walk meets, each with those around it, also where the bytes have a fault.
 use Rattle.std.specs.Prelude.{ℕ, ◌+◌, List, [], ◌∷◌, ◌++◌, map, filter, nat_lt}
+use Rattle.puffin_data.specs.declared.data.form.Form.{Form}
 use Rattle.puffin_data.specs.Forest.{Span, Forest, empty, node}
 use Rattle.puffin_data.specs.Walk.Reading.{Found}
 use Rattle.puffin_data.specs.Walk.{IsSoundAt}
@@ -22,14 +23,14 @@ pub record Sight : Type 0 where
   pub scope : Nested
 
 -- The sound scopes of a region that stands within others, from p on: where one stands at p, that, then those of its children, then those from its next sibling on.
-pub data Sees (bytes : List ℕ) : List Span → ℕ → ℕ → List Sight → Type 0 where
-  no_sight : {around : List Span} {p e : ℕ} → ((s : Found) → IsSoundAt bytes p e s → ⊥) →
-      Sees bytes around p e []
+pub data Sees (form : Form) (bytes : List ℕ) : List Span → ℕ → ℕ → List Sight → Type 0 where
+  no_sight : {around : List Span} {p e : ℕ} → ((s : Found) → IsSoundAt form bytes p e s → ⊥) →
+      Sees form bytes around p e []
   one_sight : {around : List Span} {p e : ℕ} {s : Found} {inner later : List Sight} →
-      IsSoundAt bytes p e s →
-      Sees bytes (around ++ (s.span ∷ [])) (p + s.child_begin) (p + s.child_end) inner →
-      Sees bytes around (p + s.next_sibling) e later →
-      Sees bytes around p e (
+      IsSoundAt form bytes p e s →
+      Sees form bytes (around ++ (s.span ∷ [])) (p + s.child_begin) (p + s.child_end) inner →
+      Sees form bytes around (p + s.next_sibling) e later →
+      Sees form bytes around p e (
       record { place = p; scope = record { around = around; span = s.span } }
       ∷ (inner ++ later))
 

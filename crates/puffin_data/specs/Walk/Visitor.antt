@@ -1,5 +1,6 @@
 -- What a walk with a visitor comes to. A visitor in one state takes scopes, in their order, and is in another state then.
 use Rattle.std.specs.Prelude.{◌≡◌, ℕ, ◌+◌, ◌≤◌, ◌==◌, if◌then◌else◌, ◌⊎◌, List, [], ◌∷◌, ◌++◌, length, slice_index}
+use Rattle.puffin_data.specs.declared.data.form.Form.{Form}
 use Rattle.puffin_data.specs.declared.error.Error.{Error}
 use Rattle.puffin_data.specs.Forest.{Forest}
 use Rattle.puffin_data.specs.Forest.Spelling.{begin_mark, Spells}
@@ -7,36 +8,36 @@ use Rattle.puffin_data.specs.Walk.{Reaches, IsFaultAt, IsFirstFault}
 use Rattle.puffin_data.specs.Walk.Sights.{Nested, nested_in, Sight, Sees, scopes_of, before}
 
 -- the bytes spell a forest, and the visitor has taken all its scopes, each of them one try
-pub record TakesAll {V : Type 0} (takes : V → List Nested → V → Type 0) (from to : V) (bytes : List ℕ) (tried : ℕ) : Type 0 where
+pub record TakesAll (form : Form) {V : Type 0} (takes : V → List Nested → V → Type 0) (from to : V) (bytes : List ℕ) (tried : ℕ) : Type 0 where
   pub forest : Forest
-  pub spells : Spells bytes forest
+  pub spells : Spells form bytes forest
   pub taken : takes from (nested_in [] forest) to
   pub tries : tried ≡ length (nested_in [] forest)
 
 -- The first fault of the bytes is met, and the visitor has taken the sound scopes before it. These are the tries, and one more where a scope begins at the fault.
-pub record StopsAtFault {V : Type 0} (takes : V → List Nested → V → Type 0) (from to : V) (bytes : List ℕ) (tried : ℕ) (fault : Error) : Type 0 where
+pub record StopsAtFault (form : Form) {V : Type 0} (takes : V → List Nested → V → Type 0) (from to : V) (bytes : List ℕ) (tried : ℕ) (fault : Error) : Type 0 where
   pub place : ℕ
-  pub first : IsFirstFault bytes place fault
+  pub first : IsFirstFault form bytes place fault
   pub sights : List Sight
-  pub sees : Sees bytes [] 0 (length bytes) sights
+  pub sees : Sees form bytes [] 0 (length bytes) sights
   pub taken : takes from (scopes_of (before place sights)) to
   pub tries : tried ≡ length (before place sights) + (if slice_index bytes place == begin_mark then 1 else 0)
 
 -- The visitor has taken the sound scopes before one that it refuses, and no fault stands before that. These are the tries, and the one that is refused.
-pub record StopsAtRefusal {V : Type 0} (takes : V → List Nested → V → Type 0) (refuses : V → Nested → Error → Type 0) (from : V) (bytes : List ℕ) (tried : ℕ) (cause : Error) : Type 0 where
+pub record StopsAtRefusal (form : Form) {V : Type 0} (takes : V → List Nested → V → Type 0) (refuses : V → Nested → Error → Type 0) (from : V) (bytes : List ℕ) (tried : ℕ) (cause : Error) : Type 0 where
   pub earlier : List Sight
   pub sight : Sight
   pub later : List Sight
-  pub sees : Sees bytes [] 0 (length bytes) (earlier ++ (sight ∷ later))
+  pub sees : Sees form bytes [] 0 (length bytes) (earlier ++ (sight ∷ later))
   pub to : V
   pub taken : takes from (scopes_of earlier) to
   pub refused : refuses to sight.scope cause
-  pub first : (p e : ℕ) (fault : Error) → Reaches bytes 0 (length bytes) p e →
-      IsFaultAt bytes p e fault → sight.place ≤ p
+  pub first : (p e : ℕ) (fault : Error) → Reaches form bytes 0 (length bytes) p e →
+      IsFaultAt form bytes p e fault → sight.place ≤ p
   pub tries : tried ≡ length earlier + 1
 
-abbrev pub StopsEarly : {V : Type 0} → (V → List Nested → V → Type 0) →
+abbrev pub StopsEarly : (form : Form) → {V : Type 0} → (V → List Nested → V → Type 0) →
     (V → Nested → Error → Type 0) → V → V → List ℕ → ℕ → Error → Type 0
-StopsEarly takes refuses from to bytes tries cause =
-    StopsAtFault takes from to bytes tries cause
-    ⊎ StopsAtRefusal takes refuses from bytes tries cause
+StopsEarly form takes refuses from to bytes tries cause =
+    StopsAtFault form takes from to bytes tries cause
+    ⊎ StopsAtRefusal form takes refuses from bytes tries cause

@@ -1,6 +1,7 @@
 -- How a walk goes, scope by scope: what the proof of its loop stands on.
 use Rattle.std.specs.Prelude.{◌≡◌, ℕ, suc, ◌+◌, ◌-◌, ◌^◌, max, List, length, pos, negsuc, Result, Ok, Err, ◌⊎◌}
 use Rattle.std.specs.Int.{int_min, int_max}
+use Rattle.puffin_data.specs.declared.data.form.Form.{Form}
 use Rattle.puffin_data.specs.declared.error.Error.{Error}
 use Rattle.puffin_data.specs.declared.error.Error.TheVariants.{Memory}
 use Rattle.puffin_data.specs.declared.data.walk.Walk.{Walk}
@@ -28,10 +29,10 @@ pub record Stop : Type 0 where
   pub tries : ℕ
 
 -- From place p, in the region that ends at e and stands within `level` open scopes, a walk with the numbers w so far comes to this end.
-pub data WalksTo (bytes : List ℕ) : ℕ → Walk → ℕ → ℕ → Result Walk Stop → Type 0 where
-  ends : {level : ℕ} {w : Walk} {p : ℕ} → WalksTo bytes level w p p (Ok w)
-  stops : {level : ℕ} {w : Walk} {p e : ℕ} {fault : Error} → IsFaultAt bytes p e fault →
-      WalksTo bytes level w p e (
+pub data WalksTo (form : Form) (bytes : List ℕ) : ℕ → Walk → ℕ → ℕ → Result Walk Stop → Type 0 where
+  ends : {level : ℕ} {w : Walk} {p : ℕ} → WalksTo form bytes level w p p (Ok w)
+  stops : {level : ℕ} {w : Walk} {p e : ℕ} {fault : Error} → IsFaultAt form bytes p e fault →
+      WalksTo form bytes level w p e (
       Err (
       record {
         place = p;
@@ -39,24 +40,24 @@ pub data WalksTo (bytes : List ℕ) : ℕ → Walk → ℕ → ℕ → Result Wa
         tries = w.num_scopes + tries_in (region bytes p e);
       }))
   stops_within : {level : ℕ} {w : Walk} {p e : ℕ} {s : Found} {stop : Stop} →
-      IsSoundAt bytes p e s →
-      WalksTo bytes (suc level) (with_scope w (suc level) s.span) (p + s.child_begin)
+      IsSoundAt form bytes p e s →
+      WalksTo form bytes (suc level) (with_scope w (suc level) s.span) (p + s.child_begin)
       (p + s.child_end) (Err stop) →
-      WalksTo bytes level w p e (Err stop)
+      WalksTo form bytes level w p e (Err stop)
   goes_on : {level : ℕ} {w v : Walk} {p e : ℕ} {s : Found} {out : Result Walk Stop} →
-      IsSoundAt bytes p e s →
-      WalksTo bytes (suc level) (with_scope w (suc level) s.span) (p + s.child_begin)
+      IsSoundAt form bytes p e s →
+      WalksTo form bytes (suc level) (with_scope w (suc level) s.span) (p + s.child_begin)
       (p + s.child_end) (Ok v) →
-      WalksTo bytes level v (p + s.next_sibling) e out → WalksTo bytes level w p e out
+      WalksTo form bytes level v (p + s.next_sibling) e out → WalksTo form bytes level w p e out
 
 -- a walk of all the bytes came to its end, or stopped at a fault or for want of memory
-abbrev pub Walked : List ℕ → ℕ → Walk → Type 0
-Walked bytes tries w =
-    WalksTo bytes 0 no_scope_counted 0 (length bytes) (Ok w) × (tries ≡ w.num_scopes)
+abbrev pub Walked : (form : Form) → List ℕ → ℕ → Walk → Type 0
+Walked form bytes tries w =
+    WalksTo form bytes 0 no_scope_counted 0 (length bytes) (Ok w) × (tries ≡ w.num_scopes)
 
-abbrev pub Stopped : List ℕ → ℕ → Error → Type 0
-Stopped bytes tries fault =
+abbrev pub Stopped : (form : Form) → List ℕ → ℕ → Error → Type 0
+Stopped form bytes tries fault =
     (fault ≡ Memory)
     ⊎ ((place : ℕ)
-    × WalksTo bytes 0 no_scope_counted 0 (length bytes) (
+    × WalksTo form bytes 0 no_scope_counted 0 (length bytes) (
     Err (record { place = place; fault = fault; tries = tries })))

@@ -5,9 +5,9 @@ ghost use Rattle.puffin_data.specs.Forest.Spelling.{Spells};
 ghost use Rattle.puffin_data.specs.Walk.{IsFault};
 ghost use Rattle.puffin_data.specs.Honesty.{IsHonest, IsHonestRef, record_of, record_of_ref, joined_record};
 
-use crate::data::reader::Reader;
+use crate::data::form::Form;
 use crate::data::stream::Stream;
-use crate::data::walk::Walk;
+use crate::data::walk::{Walk, walk_forest};
 use crate::error::{Error, NanoSecond, Result};
 use std::alloc::Global;
 
@@ -52,7 +52,8 @@ pub fn joined_range(
 impl StreamInfo {
     /// The info of no scope.
     pub fn new(alloc: Global) -> StreamInfo
-        ensures { IsHonest result empty }
+        ensures honest { IsHonest result empty }
+        ensures form { result.stream.form ≡ Form.Short }
     {
         let walk = Walk::empty();
         StreamInfo {
@@ -63,17 +64,18 @@ impl StreamInfo {
         }
     }
 
-    /// Counts a stream, which has to be a forest of scopes. Refused as [`Reader::walk`], and the stream is then dropped.
+    /// Counts a stream, whose bytes have to be a forest of scopes with texts of the short form: infos know no other.
+    /// Refused as [`Reader::walk`](crate::data::Reader::walk), and the stream is then dropped.
     pub fn parse(alloc: Global, stream: Stream) -> Result<StreamInfo>
         ensures same { IfOk result (λ info. info.stream ≡ stream) }
         ensures honest { IfOk result (λ info. (f : Forest) × IsHonest info f) }
         // Each forest is counted, unless memory runs out.
-        ensures only { (f : Forest) → Spells stream.bytes f →
+        ensures only { (f : Forest) → Spells Form.Short stream.bytes f →
             MatchResult result (λ info. IsHonest info f) (λ e. e ≡ Error.Memory) }
-        ensures fault { IfErr result (λ e. (e ≡ Error.Memory) ⊎ IsFault stream.bytes e) }
+        ensures fault { IfErr result (λ e. (e ≡ Error.Memory) ⊎ IsFault Form.Short stream.bytes e) }
     {
         let mut tries = 0;
-        let walk = Reader::walk(alloc, &stream, &mut tries)?;
+        let walk = walk_forest(alloc, Form::Short, stream.bytes(), &mut tries)?;
         Ok(StreamInfo {
             stream,
             num_scopes: walk.num_scopes,
@@ -85,6 +87,7 @@ impl StreamInfo {
     /// Takes all scopes away. The stream keeps its memory.
     pub fn clear(&mut self)
         ensures honest { IsHonest self.new empty }
+        ensures form { self.new.stream.form ≡ self.old.stream.form }
         ensures room { self.new.stream.room ≡ self.old.stream.room + length self.old.stream.bytes }
     {
         let walk = Walk::empty();

@@ -11,11 +11,12 @@ ghost use Rattle.puffin_data.specs.inner.Sightings.{found_of};
 ghost use Rattle.puffin_data.specs.Reader.{Place, read_scope, scope_read};
 ghost use Rattle.puffin_data.specs.Reader.ReadScopes.{scope_seen, scope_answer, IsNextRead, ReadsScopes, ReadsFault};
 
+use crate::data::form::Form;
 use crate::data::record::{Scope, ScopeRecord};
 use crate::data::scope::{Sighting, scope_in};
 use crate::data::scope_id::ScopeId;
 use crate::data::stream::Stream;
-use crate::data::walk::{Walk, walk_bytes};
+use crate::data::walk::{Walk, walk_forest};
 use crate::error::{Error, Result};
 use std::alloc::Global;
 use std::marker::Model;
@@ -53,12 +54,12 @@ fn told<'s>(at: usize, found: &Sighting<'s>) -> Scope<'s>
 }
 
 /// Reads one scope at a place of a region.
-fn read_at(bytes: &[u8], at: usize, end: usize) -> Result<Option<Scope<'_>>>
+fn read_at(form: Form, bytes: &[u8], at: usize, end: usize) -> Result<Option<Scope<'_>>>
     requires ordered { at ≤ end }
     requires within { end ≤ length bytes.now }
-    ensures { scope_answer result ≡ scope_read bytes.now at end }
+    ensures { scope_answer result ≡ scope_read form bytes.now at end }
 {
-    match scope_in(&bytes[at..end])? {
+    match scope_in(form, &bytes[at..end])? {
         None => Ok(None),
         Some(found) => Ok(Some(told(at, &found))),
     }
@@ -71,6 +72,7 @@ fn read_at(bytes: &[u8], at: usize, end: usize) -> Result<Option<Scope<'_>>>
 /// `ScopeNeverEnded`) is given once, and then it ends. The children of a scope aren't read.
 #[derive(Drop)]
 pub struct Reader<'s> {
+    form: Form,
     bytes: &'s [u8],
     at: usize,
 }
@@ -78,7 +80,7 @@ pub struct Reader<'s> {
 impl<'s> Model for Reader<'s> {
     ghost Value = { Place };
 
-    ghost view = { λ r. record { bytes = r.bytes.now; at = r.at } };
+    ghost view = { λ r. record { form = r.form; bytes = r.bytes.now; at = r.at } };
 
     ghost invariant = { λ r. r.at ≤ length r.bytes.now };
 }
@@ -86,9 +88,11 @@ impl<'s> Model for Reader<'s> {
 impl<'s> Reader<'s> {
     /// Reads from a stream's first byte.
     pub fn from_start(stream: &'s Stream) -> Reader<'s>
-        ensures { result ≡ record { bytes = stream.now.bytes; at = 0 } }
+        ensures { result
+            ≡ record { form = stream.now.form; bytes = stream.now.bytes; at = 0 } }
     {
         Reader {
+            form: stream.form(),
             bytes: stream.bytes(),
             at: 0,
         }
@@ -96,7 +100,8 @@ impl<'s> Reader<'s> {
 
     /// Reads from an offset on. Refused with `InvalidOffset` where the offset is above the stream's length.
     pub fn with_offset(stream: &'s Stream, offset: u64) -> Result<Reader<'s>>
-        ensures ok { IfOk result (λ r. r ≡ record { bytes = stream.now.bytes; at = offset }) }
+        ensures ok { IfOk result (λ r.
+            r ≡ record { form = stream.now.form; bytes = stream.now.bytes; at = offset }) }
         ensures refused { IsErr result ↔ (length stream.now.bytes < offset) }
         ensures err { IfErr result (λ e. e ≡ Error.InvalidOffset) }
     {
@@ -104,6 +109,7 @@ impl<'s> Reader<'s> {
             return Err(Error::InvalidOffset);
         }
         Ok(Reader {
+            form: stream.form(),
             bytes: stream.bytes(),
             at: offset as usize,
         })
@@ -115,9 +121,9 @@ impl<'s> Reader<'s> {
     pub fn scope_at(stream: &'s Stream, at: usize, end: usize) -> Result<Option<Scope<'s>>>
         requires ordered { at ≤ end }
         requires within { end ≤ length stream.now.bytes }
-        ensures { scope_answer result ≡ scope_read stream.now.bytes at end }
+        ensures { scope_answer result ≡ scope_read stream.now.form stream.now.bytes at end }
     {
-        read_at(stream.bytes(), at, end)
+        read_at(stream.form(), stream.bytes(), at, end)
     }
 
     /// All scopes that the reader gives. Refused with the fault that it gives, or with `Memory` where the vector can't grow.
@@ -152,27 +158,30 @@ impl<'s> Reader<'s> {
     /// ```
     pub fn walk(alloc: Global, stream: &Stream, tries: &mut u64) -> Result<Walk>
         // What is walked is a forest, and the numbers are the forest's.
-        ensures forest { IfOk result (λ w. (f : Forest) × Spells stream.now.bytes f × Counts w f) }
+        ensures forest { IfOk result (λ w.
+            (f : Forest) × Spells stream.now.form stream.now.bytes f × Counts w f) }
         // Each forest is walked, unless memory runs out.
-        ensures only { (f : Forest) → Spells stream.now.bytes f →
+        ensures only { (f : Forest) → Spells stream.now.form stream.now.bytes f →
             MatchResult result (λ w. Counts w f) (λ e. e ≡ Error.Memory) }
 
         // Any other bytes are refused with their first fault.
         ensures fault { IfErr result (λ e.
-            (e ≡ Error.Memory) ⊎ Refuses stream.now.bytes e tries.new) }
+            (e ≡ Error.Memory) ⊎ Refuses stream.now.form stream.now.bytes e tries.new) }
         ensures tries { IfOk result (λ w. tries.new ≡ w.num_scopes) }
         ensures few { tries.new ≤ length stream.now.bytes / 31 + 1 }
     {
-        walk_bytes(alloc, stream.bytes(), tries)
+        walk_forest(alloc, stream.form(), stream.bytes(), tries)
     }
 
     /// The number of scopes and the height of a stream, which has to be a forest of scopes. Refused as [`Reader::walk`].
     pub fn count_scope_and_depth(alloc: Global, stream: &Stream) -> Result<(usize, usize)>
         ensures forest { IfOk result (λ n.
-            (f : Forest) × Spells stream.now.bytes f × (n ≡ (scope_count f, height f))) }
-        ensures only { (f : Forest) → Spells stream.now.bytes f →
+            (f : Forest) × Spells stream.now.form stream.now.bytes f
+            × (n ≡ (scope_count f, height f))) }
+        ensures only { (f : Forest) → Spells stream.now.form stream.now.bytes f →
             MatchResult result (λ n. n ≡ (scope_count f, height f)) (λ e. e ≡ Error.Memory) }
-        ensures fault { IfErr result (λ e. (e ≡ Error.Memory) ⊎ IsFault stream.now.bytes e) }
+        ensures fault { IfErr result (λ e.
+            (e ≡ Error.Memory) ⊎ IsFault stream.now.form stream.now.bytes e) }
     {
         let mut tries = 0;
         let walk = Reader::walk(alloc, stream, &mut tries)?;
@@ -188,7 +197,7 @@ impl<'s> Iterator for Reader<'s> {
     ghost remaining = { λ r. at_most (length r.bytes - r.at) };
 
     fn next(&mut self) -> Option<Result<Scope<'s>>> {
-        match read_at(self.bytes, self.at, self.bytes.len()) {
+        match read_at(self.form, self.bytes, self.at, self.bytes.len()) {
             Ok(None) => None,
             Ok(Some(scope)) => {
                 self.at = scope.next_sibling_position as usize;

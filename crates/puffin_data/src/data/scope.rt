@@ -1,9 +1,11 @@
 //! Reading one scope.
 
-ghost use Rattle.std.specs.Prelude.{◌≡◌, ◌+◌, ◌≤◌, length};
-ghost use Rattle.puffin_data.specs.Walk.Reading.{reading, id_in, time_in, size_in, child_begin_in};
+ghost use Rattle.std.specs.Prelude.{◌≡◌, ◌+◌, ◌≤◌, ◌<◌, ◌^◌, length, drop};
+ghost use Rattle.byteorder.specs.Endian.{little_number};
+ghost use Rattle.puffin_data.specs.Walk.Reading.{reading, sized_reading, unless_fault, text_length_in, id_in, time_in, text_begin_in, text_size_in};
 ghost use Rattle.puffin_data.specs.inner.Sightings.{reading_of};
 
+use crate::data::form::{Form, length_in};
 use crate::data::range::is_range;
 use crate::error::{Error, NanoSecond, Result};
 use byteorder::{ByteOrder, LittleEndian};
@@ -12,13 +14,11 @@ use byteorder::{ByteOrder, LittleEndian};
 pub(crate) const SCOPE_BEGIN: u8 = b'(';
 /// The byte after a scope's children.
 pub(crate) const SCOPE_END: u8 = b')';
-/// The bytes of a scope's beginning that stand before its text.
-pub(crate) const FRONT_SIZE: usize = 14;
-/// The bytes of a scope's beginning, without its text.
-pub const HEAD_SIZE: usize = 22;
-/// The most bytes of a text that are stored.
-pub(crate) const TEXT_LIMIT: usize = 127;
-/// The most bytes of a scope's beginning.
+/// The bytes of a scope's beginning that stand before its text's length.
+pub(crate) const FRONT_SIZE: usize = 13;
+/// The bytes of the size of a scope's children.
+pub(crate) const WORD_SIZE: usize = 8;
+/// The most bytes of the beginning of a scope that is written in the short form.
 pub const BEGIN_LIMIT: usize = 149;
 /// The bytes of a scope's end.
 pub const END_SIZE: usize = 9;
@@ -60,32 +60,34 @@ fn time_at(region: &[u8], place: usize) -> NanoSecond
     LittleEndian::read_i64(&region[place..])
 }
 
-/// The number of bytes of the children, as a region says it.
-#[tactic(auto, unfolding(crate::specs::Walk::Reading::size_in))]
-fn size_of_children(region: &[u8]) -> u64
-    requires { child_begin_in region.now ≤ length region.now }
-    ensures { result ≡ size_in region.now }
+/// The number of bytes of the children, which stands at a place of a region.
+fn size_at(region: &[u8], place: usize) -> u64
+    requires { place + 8 ≤ length region.now }
+    ensures { result ≡ little_number 8 (drop place region.now) }
 {
-    LittleEndian::read_u64(&region[FRONT_SIZE + region[13] as usize..])
+    LittleEndian::read_u64(&region[place..])
 }
 
-/// Reads one scope at the front of a region. `None` where none begins there.
-#[tactic(auto, unfolding(crate::specs::Walk::Reading::reading, crate::specs::Walk::Reading::found_in))]
-pub(crate) fn scope_in(region: &[u8]) -> Result<Option<Sighting<'_>>>
-    ensures { reading_of result ≡ reading region.now }
+/// What stands at the front of a region whose text begins and ends at these places.
+#[inline]
+#[tactic(auto, unfolding(crate::specs::Walk::Reading::sized_reading, crate::specs::Walk::Reading::found_in, crate::specs::Walk::Reading::size_in))]
+fn scope_around(
+    form: Form,
+    region: &[u8],
+    text_begin: usize,
+    text_end: usize,
+) -> Result<Option<Sighting<'_>>>
+    requires begin { text_begin ≡ text_begin_in form region.now }
+    requires end { text_end ≡ text_begin_in form region.now + text_size_in form region.now }
+    requires front { FRONT_SIZE ≤ text_begin }
+    requires fits { text_end + WORD_SIZE < 2 ^ 64 }
+    ensures { reading_of result ≡ sized_reading form region.now }
 {
-    if region.is_empty() || region[0] != SCOPE_BEGIN {
-        return Ok(None);
-    }
-    if region.len() < HEAD_SIZE {
+    let child_begin = text_end + WORD_SIZE;
+    if region.len() < child_begin {
         return Err(Error::PrematureEnd);
     }
-    let text_size = region[13] as usize;
-    let child_begin = HEAD_SIZE + text_size;
-    if region.len() < child_begin || id_of(region) == 0 {
-        return Err(Error::PrematureEnd);
-    }
-    let size = size_of_children(region);
+    let size = size_at(region, text_end);
     if size == u64::MAX {
         return Err(Error::ScopeNeverEnded);
     }
@@ -108,9 +110,40 @@ pub(crate) fn scope_in(region: &[u8]) -> Result<Option<Sighting<'_>>>
         id: id_of(region),
         start,
         stop,
-        text: &region[FRONT_SIZE..FRONT_SIZE + text_size],
+        text: &region[text_begin..text_end],
         child_begin,
         child_end,
         next_sibling: child_end + END_SIZE,
     }))
+}
+
+/// What stands at the front of a region after id and start.
+#[inline]
+fn scope_after(form: Form, region: &[u8]) -> Result<Option<Sighting<'_>>>
+    requires { FRONT_SIZE + 1 ≤ length region.now }
+    ensures { reading_of result
+        ≡ unless_fault (text_length_in form region.now) (sized_reading form region.now) }
+{
+    let (text_size, used) = length_in(form, &region[FRONT_SIZE..])?;
+    let text_begin = FRONT_SIZE + used;
+    scope_around(form, region, text_begin, text_begin + text_size)
+}
+
+/// Reads one scope at the front of a region. `None` where none begins there.
+#[inline]
+#[tactic(auto, unfolding(crate::specs::Walk::Reading::reading))]
+pub(crate) fn scope_in(form: Form, region: &[u8]) -> Result<Option<Sighting<'_>>>
+    ensures { reading_of result ≡ reading form region.now }
+{
+    if region.is_empty() || region[0] != SCOPE_BEGIN {
+        return Ok(None);
+    }
+    if region.len() <= FRONT_SIZE || id_of(region) == 0 {
+        return Err(Error::PrematureEnd);
+    }
+    // Each form in a branch of its own, so that the places of the short one are known.
+    match form {
+        Form::Short => scope_after(Form::Short, region),
+        Form::Long => scope_after(Form::Long, region),
+    }
 }

@@ -1,11 +1,13 @@
 ghost use Rattle.std.specs.Prelude.{◌≡◌, ◌==◌, ◌+◌, ◌-◌, ◌<◌, ◌≤◌, [], ◌++◌, length, take, drop, IfOk, OnOk, OnErr, IfErr, IsOk, ◌^◌, ◌∷◌};
 ghost use Rattle.puffin_data.specs.Stream.{StreamState};
 ghost use Rattle.byteorder.specs.Endian.{little_bytes};
-ghost use Rattle.puffin_data.specs.Forest.Spelling.{begin_mark, end_mark, begin_bytes, time_bytes};
+ghost use Rattle.puffin_data.specs.Forest.Spelling.{begin_mark, end_mark, begin_bytes, time_bytes, head_size};
 ghost use Rattle.puffin_data.specs.Forest.Open.{ended_bytes};
 ghost use Rattle.puffin_data.specs.Text.{cut_text};
+ghost use Rattle.puffin_data.specs.Text.Lengths.{text_limit, length_layout, second_byte};
 
-use crate::data::scope::{END_SIZE, FRONT_SIZE, HEAD_SIZE, SCOPE_END, TEXT_LIMIT};
+use crate::data::form::{Form, groups};
+use crate::data::scope::{END_SIZE, FRONT_SIZE, SCOPE_END, WORD_SIZE};
 use crate::data::scope_id::ScopeId;
 use crate::error::{Error, NanoSecond, Result};
 use byteorder::{ByteOrder, LittleEndian};
@@ -14,9 +16,10 @@ use std::marker::Model;
 
 /// The scopes of one thread as bytes. Any bytes may stand here: only a walk says whether they are scopes.
 ///
-/// Contracts see its bytes, and the room that is reserved behind them.
+/// Contracts see the form of its texts, its bytes, and the room that is reserved behind them.
 #[derive(Drop)]
 pub struct Stream {
+    form: Form,
     // The bytes, and behind them the room, which is written too: so bytes are appended by writing over it.
     block: Vec<u8>,
     len: usize,
@@ -26,7 +29,11 @@ impl Model for Stream {
     ghost Value = { StreamState };
 
     ghost view = { λ s.
-        record { bytes = take s.len s.block.items; room = length s.block.items - s.len } };
+        record {
+          form = s.form;
+          bytes = take s.len s.block.items;
+          room = length s.block.items - s.len;
+        } };
 
     ghost invariant = { λ s. s.len ≤ length s.block.items };
 }
@@ -61,24 +68,25 @@ fn copy_text(to: &mut [u8], from: &[u8])
 
 /// The beginning of a text that is stored.
 #[inline]
-fn cut(text: &str) -> &str
-    ensures cut { result.now ≡ cut_text text.now }
-    ensures short { length result.now ≤ TEXT_LIMIT }
+fn cut(form: Form, text: &str) -> &str
+    ensures cut { result.now ≡ cut_text form text.now }
+    ensures short { length result.now ≤ text_limit form }
 {
-    let size = text.floor_char_boundary(TEXT_LIMIT);
+    let size = text.floor_char_boundary(form.text_limit());
     &text[..size]
 }
 
-/// What stands before a scope's text, and two bytes more. Two words are quicker to write than four numbers.
+/// What stands before a scope's text up to the first byte of its length, and two bytes more. Two words are quicker to write
+/// than four numbers.
 #[inline]
-fn front(id: u32, start: NanoSecond, text_size: u8) -> [u8; 16]
-    ensures { take FRONT_SIZE result
-        ≡ begin_mark ∷ (little_bytes 4 id ++ (time_bytes start ++ (text_size ∷ []))) }
+fn front(id: u32, start: NanoSecond, group: u8) -> [u8; 16]
+    ensures { take (FRONT_SIZE + 1) result
+        ≡ begin_mark ∷ (little_bytes 4 id ++ (time_bytes start ++ (group ∷ []))) }
 {
     let time = start.cast_unsigned();
     // The lowest byte, 40, is `SCOPE_BEGIN`.
     let low = 40 + u64::from(id) * 0x100 + time % 0x100_0000 * 0x100_0000_0000;
-    let high = time / 0x100_0000 + u64::from(text_size) * 0x100_0000_0000;
+    let high = time / 0x100_0000 + u64::from(group) * 0x100_0000_0000;
     let mut front = [0; 16];
     LittleEndian::write_u64(&mut front[8..], high);
     LittleEndian::write_u64(&mut front[..8], low);
@@ -106,14 +114,45 @@ fn size_word(size: u64) -> [u8; 8]
 }
 
 impl Stream {
-    /// No scope.
+    /// No scope, for texts of the short form.
     pub fn new(alloc: Global) -> Stream
-        ensures { result.bytes ≡ [] }
+        ensures bytes { result.bytes ≡ [] }
+        ensures form { result.form ≡ Form.Short }
+    {
+        Stream::with_form(alloc, Form::Short)
+    }
+
+    /// No scope, for texts of this form.
+    pub fn with_form(alloc: Global, form: Form) -> Stream
+        ensures bytes { result.bytes ≡ [] }
+        ensures form { result.form ≡ form }
     {
         Stream {
+            form,
             block: Vec::new(alloc),
             len: 0,
         }
+    }
+
+    /// These bytes, for texts of this form. The vector is kept as it is.
+    pub fn from_bytes(bytes: Vec<u8>, form: Form) -> Stream
+        ensures bytes { result.bytes ≡ bytes.items }
+        ensures form { result.form ≡ form }
+    {
+        let len = bytes.len();
+        Stream {
+            form,
+            block: bytes,
+            len,
+        }
+    }
+
+    /// The form of its texts.
+    #[inline]
+    pub fn form(&self) -> Form
+        ensures { result ≡ self.now.form }
+    {
+        self.form
     }
 
     /// Whether there is no byte.
@@ -137,9 +176,10 @@ impl Stream {
         &self.block[..self.len]
     }
 
-    /// Takes the bytes away. Their memory is kept.
+    /// Takes the bytes away. Their memory is kept, and so is the form.
     pub fn clear(&mut self)
         ensures bytes { self.new.bytes ≡ [] }
+        ensures form { self.new.form ≡ self.old.form }
         ensures room { self.new.room ≡ self.old.room + length self.old.bytes }
     {
         self.len = 0;
@@ -159,6 +199,7 @@ impl Stream {
     pub fn reserve(&mut self, bytes: usize) -> Result<()>
         ensures ok { OnOk result (bytes ≤ self.new.room) }
         ensures bytes { self.new.bytes ≡ self.old.bytes }
+        ensures form { self.new.form ≡ self.old.form }
         ensures room { self.old.room ≤ self.new.room }
         ensures memory { IfErr result (λ e. e ≡ Error.Memory) }
         ensures succeeds { bytes ≤ self.old.room → IsOk result }
@@ -176,6 +217,7 @@ impl Stream {
     fn grow(&mut self, more: usize) -> Result<()>
         ensures ok { OnOk result (self.old.room + more ≤ self.new.room) }
         ensures bytes { self.new.bytes ≡ self.old.bytes }
+        ensures form { self.new.form ≡ self.old.form }
         ensures room { self.old.room ≤ self.new.room }
         ensures memory { IfErr result (λ e. e ≡ Error.Memory) }
     {
@@ -188,17 +230,23 @@ impl Stream {
     /// A copy of the bytes. Refused only with `Memory`.
     pub fn clone(&self) -> Result<Stream>
         ensures ok { IfOk result (λ stream. stream.bytes ≡ self.now.bytes) }
+        ensures form { IfOk result (λ stream. stream.form ≡ self.now.form) }
         ensures err { IfErr result (λ e. e ≡ Error.Memory) }
     {
         let block = Vec::from_slice(*self.block.allocator(), self.bytes())?;
         let len = block.len();
-        Ok(Stream { block, len })
+        Ok(Stream {
+            form: self.form,
+            block,
+            len,
+        })
     }
 
     /// Appends bytes. Refused only with `Memory`, and never within the room; nothing is changed then.
     pub(crate) fn append(&mut self, bytes: &[u8]) -> Result<()>
         ensures ok { OnOk result (self.new.bytes ≡ self.old.bytes ++ bytes.now) }
         ensures err { OnErr result (self.new.bytes ≡ self.old.bytes) }
+        ensures form { self.new.form ≡ self.old.form }
         ensures memory { IfErr result (λ e. e ≡ Error.Memory) }
         ensures succeeds { length bytes.now ≤ self.old.room → IsOk result }
         ensures room { self.old.room ≤ self.new.room + length bytes.now }
@@ -217,6 +265,7 @@ impl Stream {
         requires { self.old.room < length bytes.now }
         ensures ok { OnOk result (self.new.bytes ≡ self.old.bytes ++ bytes.now) }
         ensures err { OnErr result (self.new.bytes ≡ self.old.bytes) }
+        ensures form { self.new.form ≡ self.old.form }
         ensures memory { IfErr result (λ e. e ≡ Error.Memory) }
     {
         self.block.truncate(self.len);
@@ -230,6 +279,7 @@ impl Stream {
     pub(crate) fn put(&mut self, bytes: &[u8])
         requires { length bytes.now ≤ self.old.room }
         ensures bytes { self.new.bytes ≡ self.old.bytes ++ bytes.now }
+        ensures form { self.new.form ≡ self.old.form }
         ensures room { self.old.room ≤ self.new.room + length bytes.now }
     {
         if bytes.is_empty() {
@@ -244,12 +294,13 @@ impl Stream {
     #[inline(always)]
     fn put_front(&mut self, front: &[u8; 16])
         requires { 16 ≤ self.old.room }
-        ensures bytes { self.new.bytes ≡ self.old.bytes ++ take FRONT_SIZE front.now }
-        ensures room { self.old.room ≤ self.new.room + FRONT_SIZE }
+        ensures bytes { self.new.bytes ≡ self.old.bytes ++ take (FRONT_SIZE + 1) front.now }
+        ensures form { self.new.form ≡ self.old.form }
+        ensures room { self.old.room ≤ self.new.room + (FRONT_SIZE + 1) }
     {
         let place = self.len;
         self.block[place..place + 16].copy_from_slice(front);
-        self.len = place + FRONT_SIZE;
+        self.len = place + (FRONT_SIZE + 1);
     }
 
     /// Appends a text's bytes within the room, as [`Stream::put`] does.
@@ -257,6 +308,7 @@ impl Stream {
     fn put_text(&mut self, text: &[u8])
         requires { length text.now ≤ self.old.room }
         ensures bytes { self.new.bytes ≡ self.old.bytes ++ text.now }
+        ensures form { self.new.form ≡ self.old.form }
         ensures room { self.old.room ≤ self.new.room + length text.now }
     {
         if text.is_empty() {
@@ -267,6 +319,19 @@ impl Stream {
         self.len = end;
     }
 
+    /// Appends a byte within the room, where there is one.
+    #[inline]
+    fn put_second(&mut self, byte: Option<u8>)
+        requires { length (second_byte byte) ≤ self.old.room }
+        ensures bytes { self.new.bytes ≡ self.old.bytes ++ second_byte byte }
+        ensures form { self.new.form ≡ self.old.form }
+        ensures room { self.old.room ≤ self.new.room + length (second_byte byte) }
+    {
+        if let Some(byte) = byte {
+            self.put(&[byte]);
+        }
+    }
+
     /// Writes eight bytes over those at a place.
     #[inline]
     pub(crate) fn overwrite(&mut self, place: usize, word: &[u8])
@@ -274,13 +339,15 @@ impl Stream {
         requires word { length word.now ≡ 8 }
         ensures bytes { self.new.bytes
             ≡ take place self.old.bytes ++ (word.now ++ drop (place + 8) self.old.bytes) }
+        ensures form { self.new.form ≡ self.old.form }
         ensures room { self.new.room ≡ self.old.room }
     {
         self.block[place..place + 8].copy_from_slice(word);
     }
 
     /// Writes the beginning of a scope, with an unfinished size, and returns the offset of the eight bytes of that size and
-    /// the start. Of the text the longest beginning is stored that has at most 127 bytes and ends where a character ends.
+    /// the start. Of the text the longest beginning is stored that has no more bytes than the form writes (127 or 16,383) and
+    /// ends where a character ends.
     ///
     /// The clock is asked once, after there is room. Refused only with `Memory`, and never within the room; then nothing is
     /// appended and the clock isn't asked.
@@ -294,13 +361,18 @@ impl Stream {
         requires { F.IsAlwaysCallable now_ns }
         ensures begun { IfOk result (λ at.
             self.new.bytes
-            ≡ self.old.bytes ++ begin_bytes id at.1 (cut_text text.now) (2 ^ 64 - 1)) }
+            ≡ self.old.bytes
+            ++ begin_bytes self.old.form id at.1 (cut_text self.old.form text.now)
+            (2 ^ 64 - 1)) }
         ensures offset { IfOk result (λ at. at.0 + 8 ≡ length self.new.bytes) }
         ensures clock { IfOk result (λ at. F.post now_ns at.1) }
         ensures err { OnErr result (self.new.bytes ≡ self.old.bytes) }
+        ensures form { self.new.form ≡ self.old.form }
         ensures memory { IfErr result (λ e. e ≡ Error.Memory) }
-        ensures succeeds { HEAD_SIZE + length (cut_text text.now) ≤ self.old.room → IsOk result }
-        ensures room { self.old.room ≤ self.new.room + (HEAD_SIZE + length (cut_text text.now)) }
+        ensures succeeds { head_size self.old.form (cut_text self.old.form text.now)
+            ≤ self.old.room → IsOk result }
+        ensures room { self.old.room
+            ≤ self.new.room + head_size self.old.form (cut_text self.old.form text.now) }
     {
         let mut now_ns = now_ns;
         self.begin_scope_by(&mut now_ns, id, text)
@@ -317,19 +389,59 @@ impl Stream {
         requires { F.IsAlwaysCallable now_ns.old }
         ensures begun { IfOk result (λ at.
             self.new.bytes
-            ≡ self.old.bytes ++ begin_bytes id at.1 (cut_text text.now) (2 ^ 64 - 1)) }
+            ≡ self.old.bytes
+            ++ begin_bytes self.old.form id at.1 (cut_text self.old.form text.now)
+            (2 ^ 64 - 1)) }
         ensures offset { IfOk result (λ at. at.0 + 8 ≡ length self.new.bytes) }
         ensures clock { IfOk result (λ at. F.step now_ns.old at.1 now_ns.new) }
         ensures err { OnErr result (self.new.bytes ≡ self.old.bytes) }
+        ensures form { self.new.form ≡ self.old.form }
         ensures unasked { OnErr result (now_ns.new ≡ now_ns.old) }
         ensures memory { IfErr result (λ e. e ≡ Error.Memory) }
-        ensures succeeds { HEAD_SIZE + length (cut_text text.now) ≤ self.old.room → IsOk result }
-        ensures room { self.old.room ≤ self.new.room + (HEAD_SIZE + length (cut_text text.now)) }
+        ensures succeeds { head_size self.old.form (cut_text self.old.form text.now)
+            ≤ self.old.room → IsOk result }
+        ensures room { self.old.room
+            ≤ self.new.room + head_size self.old.form (cut_text self.old.form text.now) }
     {
-        let text = cut(text);
-        self.reserve(HEAD_SIZE + text.len())?;
+        match self.form {
+            Form::Short => self.begin_in(Form::Short, now_ns, id, text),
+            Form::Long => self.begin_in(Form::Long, now_ns, id, text),
+        }
+    }
+
+    /// The same in a form that its caller has looked up: so what is done in one form asks no more of it.
+    #[inline(always)]
+    fn begin_in<F: FnMut() -> NanoSecond>(
+        &mut self,
+        form: Form,
+        now_ns: &mut F,
+        id: ScopeId,
+        text: &str,
+    ) -> Result<(usize, NanoSecond)>
+        requires callable { F.IsAlwaysCallable now_ns.old }
+        requires form { form ≡ self.old.form }
+        ensures begun { IfOk result (λ at.
+            self.new.bytes
+            ≡ self.old.bytes
+            ++ begin_bytes self.old.form id at.1 (cut_text self.old.form text.now)
+            (2 ^ 64 - 1)) }
+        ensures offset { IfOk result (λ at. at.0 + 8 ≡ length self.new.bytes) }
+        ensures clock { IfOk result (λ at. F.step now_ns.old at.1 now_ns.new) }
+        ensures err { OnErr result (self.new.bytes ≡ self.old.bytes) }
+        ensures form { self.new.form ≡ self.old.form }
+        ensures unasked { OnErr result (now_ns.new ≡ now_ns.old) }
+        ensures memory { IfErr result (λ e. e ≡ Error.Memory) }
+        ensures succeeds { head_size self.old.form (cut_text self.old.form text.now)
+            ≤ self.old.room → IsOk result }
+        ensures room { self.old.room
+            ≤ self.new.room + head_size self.old.form (cut_text self.old.form text.now) }
+    {
+        let text = cut(form, text);
+        let (group, second) = groups(form, text.len());
+        self.reserve(FRONT_SIZE + 1 + usize::from(second.is_some()) + text.len() + WORD_SIZE)?;
         let start = now_ns();
-        self.put_front(&front(id.get(), start, text.len() as u8));
+        self.put_front(&front(id.get(), start, group));
+        self.put_second(second);
         self.put_text(text.as_bytes());
         let offset = self.len();
         self.put(&size_word(u64::MAX));
@@ -345,6 +457,7 @@ impl Stream {
         requires { offset + 8 ≤ length self.old.bytes }
         ensures ended { OnOk result (self.new.bytes ≡ ended_bytes self.old.bytes offset stop_ns) }
         ensures err { OnErr result (self.new.bytes ≡ self.old.bytes) }
+        ensures form { self.new.form ≡ self.old.form }
         ensures memory { IfErr result (λ e. e ≡ Error.Memory) }
         ensures succeeds { END_SIZE ≤ self.old.room → IsOk result }
         ensures room { self.old.room ≤ self.new.room + END_SIZE }
@@ -358,11 +471,13 @@ impl Stream {
 }
 
 impl From<Vec<u8>> for Stream {
-    // The vector is kept as it is.
-    ghost from_gives = { λ bytes stream. stream.bytes ≡ bytes.items };
+    ghost use Rattle.puffin_data.specs.declared.data.form.Form.{Form};
+
+    // The vector is kept as it is, and its texts are taken for short ones.
+    ghost from_gives = { λ bytes stream.
+        (stream.bytes ≡ bytes.items) × (stream.form ≡ Form.Short) };
 
     fn from(bytes: Vec<u8>) -> Stream {
-        let len = bytes.len();
-        Stream { block: bytes, len }
+        Stream::from_bytes(bytes, Form::Short)
     }
 }

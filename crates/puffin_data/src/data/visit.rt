@@ -7,6 +7,7 @@ ghost use Rattle.puffin_data.specs.Walk.Sights.{Nested};
 ghost use Rattle.puffin_data.specs.Walk.Visitor.{TakesAll, StopsEarly};
 ghost use Rattle.puffin_data.specs.Walk.Going.{Entering, Refusing};
 
+use crate::data::form::Form;
 use crate::data::scope::{END_SIZE, Sighting};
 use crate::data::walk::next_scope;
 use crate::error::{Error, Result};
@@ -15,6 +16,7 @@ use std::alloc::Global;
 /// What takes the scopes of a stream, one after the other.
 pub trait Visitor<'s> {
     ghost use Rattle.puffin_data.specs.declared.error.Error.{Error};
+    ghost use Rattle.puffin_data.specs.declared.data.form.Form.{Form};
 
     /// What is kept of an open scope while the scopes in it are taken.
     type Within: Copy;
@@ -31,7 +33,7 @@ pub trait Visitor<'s> {
     /// Takes a scope that stands directly within the one of which this is kept, and returns what is to be kept of it.
     fn enter(&mut self, within: Self::Within, scope: &Sighting<'s>) -> Result<Self::Within>
         requires stands { (around : List Span) × stands_for self.old within around }
-        requires span { IsSpan (found_of scope.now).span }
+        requires span { (form : Form) × IsSpan form (found_of scope.now).span }
         ensures ok { IfOk result (λ inner.
             Entering takes stands_for self.old within (found_of scope.now).span inner
             self.new) }
@@ -55,7 +57,8 @@ struct Region<W> {
     within: W,
 }
 
-/// Goes over all of the bytes, which have to be a forest of scopes, in one pass and without the call stack, and hands each
+/// Goes over all of the bytes, which have to be a forest of scopes with texts of this form, in one pass and without the call
+/// stack, and hands each
 /// scope to the visitor.
 ///
 /// `tries` is set to the number of readings made at a byte `(`, also where the walk is refused. Refused with the visitor's
@@ -63,16 +66,18 @@ struct Region<W> {
 /// `Memory` where the vector of the open regions can't grow.
 pub fn walk_with<'s, V: Visitor<'s>>(
     alloc: Global,
+    form: Form,
     bytes: &'s [u8],
     visitor: &mut V,
     outside: V::Within,
     tries: &mut u64,
 ) -> Result<()>
     requires { V.stands_for visitor.old outside [] }
-    ensures ok { IfOk result (λ _. TakesAll V.takes visitor.old visitor.new bytes.now tries.new) }
+    ensures ok { IfOk result (λ _.
+        TakesAll form V.takes visitor.old visitor.new bytes.now tries.new) }
     ensures err { IfErr result (λ e.
         (e ≡ Error.Memory)
-        ⊎ StopsEarly V.takes V.refuses visitor.old visitor.new bytes.now tries.new e) }
+        ⊎ StopsEarly form V.takes V.refuses visitor.old visitor.new bytes.now tries.new e) }
     ensures few { 31 * tries.new ≤ length bytes.now + 31 }
 {
     let mut outers: Vec<Region<V::Within>> = Vec::new(alloc);
@@ -84,7 +89,7 @@ pub fn walk_with<'s, V: Visitor<'s>>(
     *tries = 0;
     'scopes: loop {
         if at < region.end {
-            let scope = next_scope(&bytes[at..region.end], tries)?;
+            let scope = next_scope(form, &bytes[at..region.end], tries)?;
             let within = visitor.enter(region.within, &scope)?;
             outers.push(region)?;
             region = Region {

@@ -1,11 +1,15 @@
 //! The strict walk: one pass over the bytes of a stream, which have to be a forest of scopes.
 
-ghost use Rattle.std.specs.Prelude.{◌≡◌, ℕ, ◌+◌, ◌*◌, ◌≤◌, ◌<◌, ◌^◌, ◌==◌, if◌then◌else◌, length, slice_index, IfOk, IfErr, MatchResult};
-ghost use Rattle.puffin_data.specs.Forest.Spelling.{begin_mark};
+ghost use Rattle.std.specs.Prelude.{◌≡◌, ℕ, ◌+◌, ◌*◌, ◌/◌, ◌⊎◌, ◌≤◌, ◌<◌, ◌^◌, ◌==◌, if◌then◌else◌, length, slice_index, IfOk, IfErr, MatchResult};
+ghost use Rattle.puffin_data.specs.Forest.{Forest};
+ghost use Rattle.puffin_data.specs.Forest.Spelling.{begin_mark, Spells};
+ghost use Rattle.puffin_data.specs.Honesty.{Counts};
+ghost use Rattle.puffin_data.specs.Walk.{Refuses};
 ghost use Rattle.puffin_data.specs.Walk.Reading.{reading, IsFaultIn};
 ghost use Rattle.puffin_data.specs.inner.Sightings.{found_of};
 ghost use Rattle.puffin_data.specs.inner.Walking.{no_scope_counted, with_scope, Walked, Stopped};
 
+use crate::data::form::Form;
 use crate::data::scope::{END_SIZE, SCOPE_BEGIN, Sighting, scope_in};
 use crate::error::{Error, NanoSecond, Result};
 use std::alloc::Global;
@@ -48,26 +52,39 @@ impl Walk {
 }
 
 /// The scope that has to stand at the front of a region. A reading at its first byte is a try.
-pub(crate) fn next_scope<'s>(region: &'s [u8], tries: &mut u64) -> Result<Sighting<'s>>
+pub(crate) fn next_scope<'s>(form: Form, region: &'s [u8], tries: &mut u64) -> Result<Sighting<'s>>
     requires not_empty { 0 < length region.now }
     requires few { tries.old + 1 < 2 ^ 64 }
-    ensures sound { IfOk result (λ s. reading region.now ≡ Ok (Some (found_of s))) }
-    ensures fault { IfErr result (IsFaultIn region.now) }
+    ensures sound { IfOk result (λ s. reading form region.now ≡ Ok (Some (found_of s))) }
+    ensures fault { IfErr result (IsFaultIn form region.now) }
     ensures tried { tries.new
         ≡ tries.old + (if slice_index region.now 0 == begin_mark then 1 else 0) }
 {
     if region[0] == SCOPE_BEGIN {
         *tries += 1;
     }
-    match scope_in(region)? {
+    match scope_in(form, region)? {
         Some(scope) => Ok(scope),
         None => Err(Error::InvalidStream),
     }
 }
 
+/// Goes over all of the bytes, which have to be a forest of scopes with texts of this form.
+pub(crate) fn walk_forest(alloc: Global, form: Form, bytes: &[u8], tries: &mut u64) -> Result<Walk>
+    ensures forest { IfOk result (λ w. (f : Forest) × Spells form bytes.now f × Counts w f) }
+    ensures only { (f : Forest) → Spells form bytes.now f →
+        MatchResult result (λ w. Counts w f) (λ e. e ≡ Error.Memory) }
+    ensures fault { IfErr result (λ e. (e ≡ Error.Memory) ⊎ Refuses form bytes.now e tries.new) }
+    ensures tries { IfOk result (λ w. tries.new ≡ w.num_scopes) }
+    ensures few { tries.new ≤ length bytes.now / 31 + 1 }
+{
+    walk_bytes(alloc, form, bytes, tries)
+}
+
 /// Goes over all of the bytes, with the ends of the regions around the place where it is in a vector.
-pub(crate) fn walk_bytes(alloc: Global, bytes: &[u8], tries: &mut u64) -> Result<Walk>
-    ensures walked { MatchResult result (Walked bytes.now tries.new) (Stopped bytes.now tries.new) }
+pub(crate) fn walk_bytes(alloc: Global, form: Form, bytes: &[u8], tries: &mut u64) -> Result<Walk>
+    ensures walked { MatchResult result (Walked form bytes.now tries.new)
+        (Stopped form bytes.now tries.new) }
     ensures few { 31 * tries.new ≤ length bytes.now + 31 }
     ensures bytes { (i : ℕ) → slice_index bytes.now i < 256 }
     ensures small { length bytes.now < 2 ^ 64 }
@@ -79,7 +96,7 @@ pub(crate) fn walk_bytes(alloc: Global, bytes: &[u8], tries: &mut u64) -> Result
     *tries = 0;
     'scopes: loop {
         if at < end {
-            let scope = next_scope(&bytes[at..end], tries)?;
+            let scope = next_scope(form, &bytes[at..end], tries)?;
             ends.push(end)?;
             walk = walk.counted(ends.len(), &scope);
             end = at + scope.child_end;

@@ -1,5 +1,6 @@
 -- What merging reads of frames.
 use Rattle.std.specs.Prelude.{◌≡◌, ℕ, ◌+◌, ◌/◌, ◌<◌, ◌^◌, ℤ, pos, List, [], ◌∷◌, length, sum_by, Option, None, Some}
+use Rattle.puffin_data.specs.declared.data.form.Form.TheVariants.{Short}
 use Rattle.puffin_data.specs.Forest.Spelling.{Spells}
 use Rattle.puffin_merge.specs.Merge.Occurrences.{FrameScopes}
 
@@ -19,7 +20,7 @@ start_of (frame ∷ frames) = frame.start
 -- the frame's bytes spell the forest, and are no more than a slice may have
 pub record HasScopes (frame : FrameBytes) (scopes : FrameScopes) : Type 0 where
   pub start : scopes.start ≡ frame.start
-  pub spells : Spells (bytes_of frame) scopes.forest
+  pub spells : Spells Short (bytes_of frame) scopes.forest
   pub short : length (bytes_of frame) < 2 ^ 63
 
 -- each frame's

@@ -1,6 +1,7 @@
 -- Which refusal merging answers.
 use Rattle.std.specs.Prelude.{◌≡◌, ℕ, ◌+◌, ◌^◌, ◌<◌, ◌≤◌, ◌⊎◌, ℤ, ◌-ℤ◌, ◌+ℤ◌, FitsSigned, List, [], ◌∷◌, ◌++◌, length, take, slice_index, ◌==◌, if◌then◌else◌}
 use Rattle.std.specs.Int.{w64}
+use Rattle.puffin_data.specs.declared.data.form.Form.TheVariants.{Short}
 use Rattle.puffin_data.specs.declared.error.Error.{Error}
 use Rattle.puffin_data.specs.declared.error.Error.TheVariants.{TooDeep, TooLarge}
 use Rattle.puffin_data.specs.Walk.{Reaches, IsFaultAt, IsFirstFault}
@@ -38,14 +39,14 @@ AreAccepted done (o ∷ more) = IsShallow o × Fits done o × AreAccepted (done 
 -- What a frame is refused with after so many tries to read a scope of it, behind the occurrences of the frames before. Its top scopes' starts are counted from `origin`.
 pub data IsFrameRefusal (done : List Occurrence) (origin : ℤ) (bytes : List ℕ) : ℕ → Error → Type 0 where
   -- the first fault of the bytes, where all sound scopes before it are accepted: one try for each of these, and one more where a scope begins at the fault
-  faulty : {place : ℕ} {fault : Error} {sights : List Sight} → IsFirstFault bytes place fault → Sees bytes [] 0 (length bytes) sights → AreAccepted done (occurrences_in origin (scopes_of (before place sights))) → IsFrameRefusal done origin bytes (length (before place sights) + (if slice_index bytes place == 40 then 1 else 0)) fault
+  faulty : {place : ℕ} {fault : Error} {sights : List Sight} → IsFirstFault Short bytes place fault → Sees Short bytes [] 0 (length bytes) sights → AreAccepted done (occurrences_in origin (scopes_of (before place sights))) → IsFrameRefusal done origin bytes (length (before place sights) + (if slice_index bytes place == 40 then 1 else 0)) fault
   -- a sound scope before any fault, the first that isn't accepted: one try for each before it, and one for it
   refused : (earlier later : List Sight) (s : Sight) {refusal : Error} →
-      Sees bytes [] 0 (length bytes) (earlier ++ (s ∷ later)) →
+      Sees Short bytes [] 0 (length bytes) (earlier ++ (s ∷ later)) →
       AreAccepted done (occurrences_in origin (scopes_of earlier)) →
       IsRefusedFor (done ++ occurrences_in origin (scopes_of earlier))
       (occurrence_of origin s.scope) refusal →
-      ((p e : ℕ) (fault : Error) → Reaches bytes 0 (length bytes) p e → IsFaultAt bytes p e fault →
+      ((p e : ℕ) (fault : Error) → Reaches Short bytes 0 (length bytes) p e → IsFaultAt Short bytes p e fault →
       s.place ≤ p) →
       IsFrameRefusal done origin bytes (length earlier + 1) refusal
 

@@ -1,6 +1,7 @@
 //! Taking the scopes of a stream into the table.
 
 ghost use Rattle.std.specs.Prelude.{◌≡◌, ◌<◌, ◌≤◌, ◌^◌, ◌⊎◌, ◌-ℤ◌, List, [], length, if◌then◌else◌, Ok, Err, IfOk, IfErr};
+ghost use Rattle.puffin_data.specs.declared.data.form.Form.TheVariants.{Short};
 ghost use Rattle.puffin_data.specs.Walk.Visitor.{TakesAll, StopsEarly};
 ghost use Rattle.puffin_threads.specs.Thread.Info.{info_of};
 ghost use Rattle.puffin_merge.specs.Merge.Occurrences.{Occurrence};
@@ -11,7 +12,7 @@ ghost use Rattle.puffin_merge.specs.inner.Tables.{IsTableOf};
 ghost use Rattle.puffin_merge.specs.inner.Origins.{IsOrigin, fits_i64};
 
 use crate::merge::table::{Key, NodeNumber, Table};
-use puffin_data::data::{Sighting, Visitor, text_of, walk_with};
+use puffin_data::data::{Form, Sighting, Visitor, text_of, walk_with};
 use puffin_data::{Error, NanoSecond, Result};
 use puffin_frames::frame_data::UnpackedFrameData;
 use puffin_frames::thread_profiler::ThreadInfo;
@@ -133,7 +134,7 @@ pub(crate) fn read_frame<'s>(
 ) -> Result<()>
     requires { (all : List Occurrence) × IsTableOf all merging.old.table }
     ensures ok { IfOk result (λ _.
-        TakesAll TakesScopes
+        TakesAll Short TakesScopes
         (record {
           table = merging.old.table;
           origin = frame.now.meta.range_ns.0 -ℤ first.now.meta.range_ns.0;
@@ -141,7 +142,7 @@ pub(crate) fn read_frame<'s>(
         merging.new (bytes_of (frame_bytes (info_of info.now) frame.now)) tries.new) }
     ensures err { IfErr result (λ e.
         (e ≡ Error.Memory)
-        ⊎ StopsEarly TakesScopes RefusesScope
+        ⊎ StopsEarly Short TakesScopes RefusesScope
         (record {
           table = merging.old.table;
           origin = frame.now.meta.range_ns.0 -ℤ first.now.meta.range_ns.0;
@@ -157,6 +158,13 @@ pub(crate) fn read_frame<'s>(
     let outside = Open::outside(merging.origin);
     match frame.thread_streams.get(info) {
         None => Ok(()),
-        Some(times) => walk_with(alloc, times.stream.bytes(), merging, outside, tries),
+        Some(times) => walk_with(
+            alloc,
+            Form::Short,
+            times.stream.bytes(),
+            merging,
+            outside,
+            tries,
+        ),
     }
 }

@@ -1,5 +1,7 @@
 -- How a guard begins: with a scope, or without one.
 use Rattle.std.specs.Prelude.{ℕ, ◌+◌, ◌≡◌, ℤ, pos, ◌≤ℤ◌, List, length, Option, Some, None}
+use Rattle.puffin_data.specs.Forest.Spelling.{size_offset}
+use Rattle.puffin_data.specs.declared.data.form.Form.TheVariants.{Short}
 use Rattle.puffin_data.specs.declared.error.Error.{Error}
 use Rattle.puffin_data.specs.Text.{cut_text}
 use Rattle.puffin_data.specs.Forest.Words.{word_size}
@@ -15,8 +17,8 @@ pub record IsOn {C : Type 0} (answers : C → ℤ → C → Type 0) (old : Threa
   pub at : ℤ
   pub answered : answers (clock_of old) at (clock_of (profiler_of scope))
   pub never_negative : pos 0 ≤ℤ at
-  pub begun : thread_of (profiler_of scope) ≡ after_begin (thread_of old) id (cut_text text) at
-  pub offset : offset_of scope ≡ Some (word_size (thread_of old).word + 14 + length (cut_text text))
+  pub begun : thread_of (profiler_of scope) ≡ after_begin (thread_of old) id (cut_text Short text) at
+  pub offset : offset_of scope ≡ Some (word_size Short (thread_of old).word + size_offset Short (cut_text Short text))
   pub refusal : refusal_of scope ≡ None
 
 -- the profiler is as before, and the guard has no scope, for this reason

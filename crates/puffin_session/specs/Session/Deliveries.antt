@@ -1,6 +1,7 @@
 -- A thread's word, cut after each accepted report: what was handed over, and what is unreported.
 use Rattle.std.specs.Prelude.{ℕ, ℤ, Bool, false, if◌then◌else◌, List, [], ◌∷◌, ◌++◌, map, Option, Some, None}
 use Rattle.std.specs.Option.{option_or}
+use Rattle.puffin_data.specs.declared.data.form.Form.TheVariants.{Short}
 use Rattle.puffin_data.specs.Text.{cut_text}
 use Rattle.puffin_data.specs.Forest.Tour.{Event, Open, Close}
 use Rattle.puffin_threads.specs.Thread.Info.{Info}
@@ -13,7 +14,7 @@ pub record Marked : Type 0 where
 
 -- of a scope's text a word has what is stored
 abbrev pub marked_call : ℤ → Mark → Marked
-marked_call time (begun id text) = record { event = Open id (cut_text text) time; reported = false }
+marked_call time (begun id text) = record { event = Open id (cut_text Short text) time; reported = false }
 marked_call time (ended reported) = record { event = Close time; reported = reported }
 
 -- each call at the greatest time up to it, after the calls of the past

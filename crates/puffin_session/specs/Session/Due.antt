@@ -1,6 +1,7 @@
 -- What is due for the next frame: all that was handed over since the frame before.
 use Rattle.std.specs.Prelude.{◌≡◌, ℕ, ◌+◌, Bool, true, false, if◌then◌else◌, List, [], ◌++◌, map, Option, Some, None}
 use Rattle.std.specs.List.{list_any, flat_map, count_by, sum_by}
+use Rattle.puffin_data.specs.declared.data.form.Form.TheVariants.{Short}
 use Rattle.puffin_data.specs.Forest.Tour.{Event}
 use Rattle.puffin_data.specs.Forest.Words.{word_size, num_begun}
 use Rattle.puffin_threads.specs.Thread.Info.{Info, same_info}
@@ -50,7 +51,7 @@ index_after o done = o.index + count_by is_numbered done
 
 -- the bytes and the scopes of what was handed over
 abbrev pub bytes_delivered : Delivery → ℕ
-bytes_delivered (under i word) = word_size word
+bytes_delivered (under i word) = word_size Short word
 bytes_delivered all_taken = 0
 
 abbrev pub scopes_delivered : Delivery → ℕ

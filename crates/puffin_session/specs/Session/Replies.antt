@@ -4,10 +4,11 @@ use Rattle.std.specs.String.{string_bytes}
 use Rattle.std.specs.List.{flat_map, sum_by}
 use Rattle.std.specs.Arc.{arc_value}
 use Rattle.std.specs.FinMap.{values}
+use Rattle.puffin_data.specs.declared.data.form.Form.TheVariants.{Short}
 use Rattle.puffin_data.specs.declared.error.Error.{Error}
 use Rattle.puffin_data.specs.declared.error.Error.TheVariants.{TooLarge, RangeTooLong, MismatchedEnd, IdsExhausted, IndexExhausted, NoThread, Memory}
 use Rattle.puffin_data.specs.Forest.{Forest}
-use Rattle.puffin_data.specs.Forest.Spelling.{Spells}
+use Rattle.puffin_data.specs.Forest.Spelling.{Spells, size_offset}
 use Rattle.puffin_data.specs.Text.{cut_text}
 use Rattle.puffin_data.specs.Forest.Tour.{Event, tour}
 use Rattle.puffin_data.specs.Walk.{IsFault}
@@ -65,7 +66,7 @@ module _ (o : Opening) (done : List Action) where
 
   -- with these events more, the sums over all that is due have 64 bits, and so has that over all that was ever reported
   pub record DueFits (word : List Event) : Type 0 where
-    pub bytes : sum_by bytes_delivered (due o done) + word_size word < 2 ^ 64
+    pub bytes : sum_by bytes_delivered (due o done) + word_size Short word < 2 ^ 64
     pub scopes : sum_by scopes_delivered (due o done) + num_begun word < 2 ^ 64
     pub reported : reported_after o done + num_begun word < 2 ^ 64
 
@@ -105,7 +106,7 @@ module _ (o : Opening) (done : List Action) where
   abbrev pub MayReply : Command → Reply → List Details → Type 0
   MayReply (Begin t at id text) (reply.Began offset) learnt =
       HasThread t
-      × (offset ≡ word_size (unreported o t done) + 14 + length (cut_text (string_bytes text)))
+      × (offset ≡ word_size Short (unreported o t done) + size_offset Short (cut_text Short (string_bytes text)))
   MayReply (Begin t at id text) (reply.Refused e) learnt =
       IsNoThread t e ⊎ ((e ≡ Memory) × HasThread t)
   MayReply (End t at back) (reply.Ended closed) learnt =
@@ -120,11 +121,11 @@ module _ (o : Opening) (done : List Action) where
   MayReply (RegisterUser names) (reply.Refused e) learnt =
       RegistersSome (known_after o done) (user_details names.items) e learnt
   MayReply (ReportUser info stream) reply.Reported learnt =
-      (f : Forest) × Spells stream.bytes f × (events_in stream.bytes ≡ tour f) × MayReport (tour f)
+      (f : Forest) × Spells Short stream.bytes f × (events_in stream.bytes ≡ tour f) × MayReport (tour f)
   MayReply (ReportUser info stream) (reply.Refused e) learnt =
       (e ≡ Memory)
-      ⊎ IsFault stream.bytes e
-      ⊎ ((f : Forest) × Spells stream.bytes f × IsDueRefusal (tour f) e)
+      ⊎ IsFault Short stream.bytes e
+      ⊎ ((f : Forest) × Spells Short stream.bytes f × IsDueRefusal (tour f) e)
   MayReply Snapshot reply.Snapshot learnt = Unit {0}
   MayReply NewFrame (reply.Frame emitted) learnt =
       (emitted.refused ≡ 0) × (index_after o done ≢ 2 ^ 64 - 1) × FrameIsDue emitted

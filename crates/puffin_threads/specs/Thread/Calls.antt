@@ -4,7 +4,8 @@ use Rattle.std.specs.Int.{int_max}
 use Rattle.std.specs.Option.{option_or}
 use Rattle.puffin_data.specs.declared.error.Error.{Error}
 use Rattle.puffin_data.specs.declared.error.Error.TheVariants.{IdsExhausted, Memory}
-use Rattle.puffin_data.specs.Forest.Spelling.{front_size, head_size, end_size}
+use Rattle.puffin_data.specs.declared.data.form.Form.TheVariants.{Short}
+use Rattle.puffin_data.specs.Forest.Spelling.{size_offset, head_size, end_size}
 use Rattle.puffin_data.specs.Forest.Tour.{Event, Open, Close}
 use Rattle.puffin_threads.specs.Thread.Info.{Info}
 use Rattle.puffin_threads.specs.Details.{Details, with_id}
@@ -73,7 +74,7 @@ info_of_thread thread = record { start = thread.first_start; name = thread.name 
 -- the bytes so far, and the offsets of the open scopes' sizes, the innermost first
 abbrev pub opened_after : ℕ × List ℕ → Event → ℕ × List ℕ
 opened_after sofar (Open id text start) =
-    (sofar.0 + head_size + length text, (sofar.0 + front_size + length text) ∷ sofar.1)
+    (sofar.0 + head_size Short text, (sofar.0 + size_offset Short text) ∷ sofar.1)
 opened_after sofar (Close stop) = (sofar.0 + end_size, drop 1 sofar.1)
 
 abbrev pub open_offsets : List Event → List ℕ

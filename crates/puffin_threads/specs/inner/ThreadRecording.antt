@@ -1,6 +1,7 @@
 -- What a thread keeps of its scopes: the open ones, each in the one that stands after it, and what is closed in the innermost.
 use Rattle.std.specs.Prelude.{◌≡◌, ℕ, ◌*◌, ◌≤◌, ℤ, pos, ◌≤ℤ◌, List, [], ◌∷◌, length, reverse, fold, Option, Some, None, string_bytes}
 use Rattle.std.specs.Option.{option_map}
+use Rattle.puffin_data.specs.declared.data.form.Form.TheVariants.{Short}
 use Rattle.puffin_data.specs.Forest.Spelling.{end_size}
 use Rattle.puffin_data.specs.declared.data.info.StreamInfo.{StreamInfo}
 use Rattle.puffin_data.specs.Forest.{Forest, IsForest, empty}
@@ -28,19 +29,19 @@ scopes_in word = fold scopes_with ([], empty) word
 -- where the sizes of open scopes stand
 abbrev pub size_places : List Opened → List ℕ
 size_places [] = []
-size_places (o ∷ outer) = size_place o outer ∷ size_places outer
+size_places (o ∷ outer) = size_place Short o outer ∷ size_places outer
 
 -- open scopes that can be written, and that started from 0 on and not after this moment
 abbrev pub StartedBy : ℤ → List Opened → Type 0
 StartedBy latest [] = Unit {0}
 StartedBy latest (o ∷ outer) =
-    IsOpened o × (pos 0 ≤ℤ o.start) × (o.start ≤ℤ latest) × StartedBy latest outer
+    IsOpened Short o × (pos 0 ≤ℤ o.start) × (o.start ≤ℤ latest) × StartedBy latest outer
 
 -- the bytes are those of a stream with the scopes of their word, which can be written
 pub record HoldsScopes (bytes : List ℕ) (latest : ℤ) : Type 0 where
-  pub whole : bytes ≡ open_spelling (scopes_in (events_in bytes)).0 (scopes_in (events_in bytes)).1
+  pub whole : bytes ≡ open_spelling Short (scopes_in (events_in bytes)).0 (scopes_in (events_in bytes)).1
   pub opened : StartedBy latest (scopes_in (events_in bytes)).0
-  pub closed : IsForest (scopes_in (events_in bytes)).1
+  pub closed : IsForest Short (scopes_in (events_in bytes)).1
   pub places : open_offsets (events_in bytes) ≡ size_places (scopes_in (events_in bytes)).0
 
 -- what is said of a stream's scopes, open ones among them
@@ -65,6 +66,7 @@ spare_name r = option_map (λ s. string_bytes s) r.spare
 
 -- what is true of each recording
 pub record IsRecording (r : Inside) : Type 0 where
+  pub form : r.info.stream.form ≡ Short
   pub latest : pos 0 ≤ℤ r.latest
   pub scopes : ∥ HoldsScopes r.info.stream.bytes r.latest ∥₁
   pub counted : Counted r.info (events_in r.info.stream.bytes)

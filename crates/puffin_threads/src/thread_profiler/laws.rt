@@ -2,7 +2,8 @@
 //! the function.
 
 ghost use Rattle.std.specs.Prelude.{ℕ, ℤ, List, ◌≡◌, ◌+◌, ◌<◌, ◌^◌, ◌∷◌, ◌++◌, [], length, drop};
-ghost use Rattle.puffin_data.specs.Forest.Spelling.{front_size};
+ghost use Rattle.puffin_data.specs.declared.data.form.Form.TheVariants.{Short};
+ghost use Rattle.puffin_data.specs.Forest.Spelling.{size_offset};
 ghost use Rattle.puffin_data.specs.Forest.{Forest};
 ghost use Rattle.puffin_data.specs.Honesty.{Recorded, IsHonestRecord};
 ghost use Rattle.puffin_data.specs.Forest.Tour.{Event, Open, Close};
@@ -22,7 +23,7 @@ pub fn open_scopes()
     ensures count { (word : List Event) → length (open_offsets word) ≡ open_after 0 word }
     ensures begun { (word : List Event) (id : ℕ) (text : List ℕ) (start : ℤ) →
         open_offsets (word ++ (Open id text start ∷ []))
-        ≡ (word_size word + front_size + length text) ∷ open_offsets word }
+        ≡ (word_size Short word + size_offset Short text) ∷ open_offsets word }
     ensures ended { (word : List Event) (stop : ℤ) →
         open_offsets (word ++ (Close stop ∷ [])) ≡ drop 1 (open_offsets word) }
 {}

@@ -22,6 +22,8 @@ impl<C: NsSource> ThreadProfiler<C> {
     ghost use Rattle.std.specs.Prelude.{◌≡◌, ◌≢◌, ◌+◌, ℤ, pos, ◌≤ℤ◌, [], length, None, Some, OnOk, OnErr, IfOk, IfErr, string_bytes, slice_get};
     ghost use Rattle.puffin_data.specs.declared.error.Error.{Error};
     ghost use Rattle.std.specs.Cow.{cow_str_bytes};
+    ghost use Rattle.puffin_data.specs.declared.data.form.Form.TheVariants.{Short};
+    ghost use Rattle.puffin_data.specs.Forest.Spelling.{size_offset};
     ghost use Rattle.puffin_data.specs.Text.{cut_text};
     ghost use Rattle.puffin_data.specs.Forest.Words.{word_size, open_after};
     ghost use Rattle.puffin_threads.specs.Thread.Calls.{after_begin, RegistersScope, open_offsets};
@@ -89,9 +91,11 @@ impl<C: NsSource> ThreadProfiler<C> {
             × C.answers (clock_of self.old) at (clock_of self.new)
             × (pos 0 ≤ℤ at)
             × (thread_of self.new
-            ≡ after_begin (thread_of self.old) id (cut_text text.now) at)) }
+            ≡ after_begin (thread_of self.old) id (cut_text Short text.now) at)) }
         ensures offset { IfOk result (λ offset.
-            offset ≡ word_size (thread_of self.old).word + 14 + length (cut_text text.now)) }
+            offset
+            ≡ word_size Short (thread_of self.old).word
+            + size_offset Short (cut_text Short text.now)) }
         ensures unchanged { OnErr result (self.new ≡ self.old) }
         ensures memory { IfErr result (λ e. e ≡ Error.Memory) }
     {

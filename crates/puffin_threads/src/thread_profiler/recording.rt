@@ -1,10 +1,11 @@
 //! What one thread records, apart from its clock.
 
+ghost use Rattle.puffin_data.specs.declared.data.form.Form.TheVariants.{Short};
 ghost use Rattle.std.specs.Prelude.{◌≡◌, ◌+◌, ◌-◌, ◌*◌, ◌^◌, ◌<◌, ◌≤◌, ◌++◌, ℤ, pos, ◌≤ℤ◌, [], ◌==◌, length, None, max, OnOk, OnErr, IfOk, IfErr, IfSome, IfNone, string_bytes, slice_get, unwrap_or, option_map};
 ghost use Rattle.std.specs.Int.{int_min};
 ghost use Rattle.std.specs.Option.{option_or};
 ghost use Rattle.puffin_data.specs.declared.error.Error.{Error};
-ghost use Rattle.puffin_data.specs.Forest.Spelling.{begin_bytes};
+ghost use Rattle.puffin_data.specs.Forest.Spelling.{begin_bytes, size_offset};
 ghost use Rattle.puffin_data.specs.Text.{cut_text};
 ghost use Rattle.puffin_data.specs.Forest.Words.{word_size, open_after};
 ghost use Rattle.puffin_threads.specs.Thread.Calls.{after_begin, after_end, after_handing, RegistersScope, open_offsets};
@@ -112,10 +113,12 @@ fn size_of_ends(offsets: &[usize]) -> usize
 
 /// Writes a scope's beginning at a time, within the room, and returns where its size stands.
 fn write_begin(stream: &mut Stream, at: NanoSecond, id: ScopeId, text: &str) -> usize
-    requires { BEGIN_LIMIT ≤ stream.old.room }
+    requires room { BEGIN_LIMIT ≤ stream.old.room }
+    requires form { stream.old.form ≡ Short }
     ensures bytes { stream.new.bytes
-        ≡ stream.old.bytes ++ begin_bytes id at (cut_text text.now) (2 ^ 64 - 1) }
+        ≡ stream.old.bytes ++ begin_bytes Short id at (cut_text Short text.now) (2 ^ 64 - 1) }
     ensures offset { result + 8 ≡ length stream.new.bytes }
+    ensures form { stream.new.form ≡ Short }
     ensures room { stream.old.room ≤ stream.new.room + BEGIN_LIMIT }
     ensures id { (0 < id) × (id < 2 ^ 32) }
 {
@@ -180,9 +183,10 @@ impl Recording {
             (at : ℤ)
             × C.answers clock.old at clock.new
             × (pos 0 ≤ℤ at)
-            × (self.new ≡ after_begin self.old id (cut_text text.now) at)) }
+            × (self.new ≡ after_begin self.old id (cut_text Short text.now) at)) }
         ensures offset { IfOk result (λ offset.
-            offset ≡ word_size self.old.word + 14 + length (cut_text text.now)) }
+            offset
+            ≡ word_size Short self.old.word + size_offset Short (cut_text Short text.now)) }
         ensures unchanged { OnErr result ((self.new ≡ self.old) × (clock.new ≡ clock.old)) }
         ensures memory { IfErr result (λ e. e ≡ Error.Memory) }
     {

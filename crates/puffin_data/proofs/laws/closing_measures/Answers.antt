@@ -4,7 +4,7 @@ use Rattle.puffin_data.proofs.lemmas.WordMeasures.{word_size-append, num_begun-a
 use Rattle.puffin_data.proofs.laws.closing_measures.Goals as goal
 
 pub returns-clause-size : goal.returns-clause-size
-returns-clause-size c word stop = omega (arith, word_size-append word (Close stop ∷ []))
+returns-clause-size c form word stop = omega (arith, word_size-append form word (Close stop ∷ []))
 
 pub returns-clause-begun : goal.returns-clause-begun
 returns-clause-begun c word stop = omega (arith, num_begun-append word (Close stop ∷ []))

@@ -14,4 +14,4 @@ pub returns-clause-greatest_stop : goal.returns-clause-greatest_stop
 returns-clause-greatest_stop c f g = greatest_stop-append f g
 
 pub returns-clause-written : goal.returns-clause-written
-returns-clause-written c f g x y = IsForest-append f g x y
+returns-clause-written c form f g x y = IsForest-append form f g x y

@@ -4,5 +4,5 @@ use Rattle.puffin_data.proofs.lemmas.Unique.{faultless}
 use Rattle.puffin_data.proofs.laws.no_fault_in_a_spelling.Goals as goal
 
 pub returns : goal.returns
-returns c bytes f fault small spells (place, first) =
-    faultless f bytes 0 (length bytes) place first.end fault spells.fits (omega arith) (omega arith) small (whole_region bytes ∙ spells.whole) first.reached first.stands
+returns c form bytes f fault small spells (place, first) =
+    faultless form f bytes 0 (length bytes) place first.end fault spells.fits (omega arith) (omega arith) small (whole_region bytes ∙ spells.whole) first.reached first.stands

@@ -3,34 +3,34 @@ use Rattle.puffin_data.proofs.lemmas.Opening as Opening
 use Rattle.puffin_data.proofs.laws.open_streams.Goals as goal
 
 pub returns-clause-begins : goal.returns-clause-begins
-returns-clause-begins c opened closed id start text = Opening.begins opened closed id start text
+returns-clause-begins c form opened closed id start text = Opening.begins form opened closed id start text
 
 pub returns-clause-begins_word : goal.returns-clause-begins_word
 returns-clause-begins_word c opened closed id start text = Opening.begins-word opened closed id start text
 
 pub returns-clause-begins_place : goal.returns-clause-begins_place
-returns-clause-begins_place c o outer = Opening.size_last o outer
+returns-clause-begins_place c form o outer = Opening.size_last form o outer
 
 pub returns-clause-place_within : goal.returns-clause-place_within
-returns-clause-place_within c o outer closed = Opening.size_within o outer closed
+returns-clause-place_within c form o outer closed = Opening.size_within form o outer closed
 
 pub returns-clause-ends : goal.returns-clause-ends
-returns-clause-ends c o outer closed stop = Opening.finishes o outer closed stop
+returns-clause-ends c form o outer closed stop = Opening.finishes form o outer closed stop
 
 pub returns-clause-ends_word : goal.returns-clause-ends_word
 returns-clause-ends_word c o outer closed stop = Opening.finishes-word o outer closed stop
 
 pub returns-clause-ends_written : goal.returns-clause-ends_written
-returns-clause-ends_written c o closed stop h inner fits later lasts = Opening.ended-written o closed stop h inner fits later lasts
+returns-clause-ends_written c form o closed stop h inner fits later lasts = Opening.ended-written form o closed stop h inner fits later lasts
 
 pub returns-clause-none_open : goal.returns-clause-none_open
-returns-clause-none_open c closed = refl
+returns-clause-none_open c form closed = refl
 
 pub returns-clause-none_open_word : goal.returns-clause-none_open_word
 returns-clause-none_open_word c closed = refl
 
 pub returns-clause-size : goal.returns-clause-size
-returns-clause-size c opened closed = Opening.open_size opened closed
+returns-clause-size c form opened closed = Opening.open_size form opened closed
 
 pub returns-clause-open : goal.returns-clause-open
 returns-clause-open c opened closed = Opening.open_open opened closed

@@ -4,7 +4,7 @@ use Rattle.puffin_data.proofs.lemmas.WordMeasures.{word_size-append, num_begun-a
 use Rattle.puffin_data.proofs.laws.opening_measures.Goals as goal
 
 pub returns-clause-size : goal.returns-clause-size
-returns-clause-size c word id text start = omega (arith, word_size-append word (Open id text start ∷ []))
+returns-clause-size c form word id text start = omega (arith, word_size-append form word (Open id text start ∷ []))
 
 pub returns-clause-begun : goal.returns-clause-begun
 returns-clause-begun c word id text start = omega (arith, num_begun-append word (Open id text start ∷ []))

@@ -8,4 +8,4 @@ pub returns-clause-stop : goal.returns-clause-stop
 returns-clause-stop c f = greatest_in_range f
 
 pub returns-clause-ordered : goal.returns-clause-ordered
-returns-clause-ordered c f fits some = ordered f fits some
+returns-clause-ordered c form f fits some = ordered form f fits some

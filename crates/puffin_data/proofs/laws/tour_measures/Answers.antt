@@ -3,7 +3,7 @@ use Rattle.puffin_data.proofs.lemmas.WordMeasures.{word_size-tour, num_begun-tou
 use Rattle.puffin_data.proofs.laws.tour_measures.Goals as goal
 
 pub returns-clause-size : goal.returns-clause-size
-returns-clause-size c f = word_size-tour f
+returns-clause-size c form f = word_size-tour form f
 
 pub returns-clause-begun : goal.returns-clause-begun
 returns-clause-begun c f = num_begun-tour f

@@ -9,7 +9,7 @@ use Rattle.puffin_data.proofs.data.stream.front.Goals as goal
 pub returns : goal.returns
 returns c =
     let id : ℕ = c.args.id in
-    let size : ℕ = c.args.text_size in
+    let size : ℕ = c.args.group in
     let time : ℕ = c.cast_unsigned-time.result in
     let bits = of_z w64 c.args.start in
     let same : time ≡ bits = c.cast_unsigned-time.ensures ∙ ap (of_z w64) (to_z-of_z w64 c.args.start c.ranges.start) in
@@ -23,4 +23,4 @@ returns c =
     ∙ ap (λ (n : ℕ). little_bytes 8 (n / 16777216 + size * 1099511627776)) same in
     ap (λ (x : List ℕ). take 14 (x ++ (c.write_u64.new.buf ++ []))) ea
     ∙ ap (λ (x : List ℕ). take 14 (a ++ (x ++ []))) eb
-    ∙ front_words a b id bits size c.ranges.id.fits (search rules) c.ranges.text_size.fits refl refl
+    ∙ front_words a b id bits size c.ranges.id.fits (search rules) c.ranges.group.fits refl refl

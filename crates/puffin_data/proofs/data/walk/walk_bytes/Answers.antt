@@ -11,17 +11,17 @@ use Rattle.puffin_data.proofs.data.walk.walk_bytes.Goals as goal
 
 pub overflow_add-end : goal.overflow_add-end
 overflow_add-end c =
-    let at = found_places c.args.bytes.now c.scopes.at c.scopes.end (found_of c.in_ok-scope.scope) c.in_ok-scope.ensures.sound c.scopes.invariant.within (omega arith) in
+    let at = found_places c.args.form c.args.bytes.now c.scopes.at c.scopes.end (found_of c.in_ok-scope.scope) c.in_ok-scope.ensures.sound c.scopes.invariant.within (omega arith) in
     omega (arith, at)
 
 pub overflow_add-at : goal.overflow_add-at
 overflow_add-at c =
-    let at = found_places c.args.bytes.now c.scopes.at c.scopes.end (found_of c.in_ok-scope.scope) c.in_ok-scope.ensures.sound c.scopes.invariant.within (omega arith) in
+    let at = found_places c.args.form c.args.bytes.now c.scopes.at c.scopes.end (found_of c.in_ok-scope.scope) c.in_ok-scope.ensures.sound c.scopes.invariant.within (omega arith) in
     omega (arith, at)
 
 pub scopes-smaller-then-at-end : goal.scopes-smaller-then-at-end
 scopes-smaller-then-at-end c =
-    let at = found_places c.args.bytes.now c.scopes.at c.scopes.end (found_of c.in_ok-scope.scope) c.in_ok-scope.ensures.sound c.scopes.invariant.within (omega arith) in
+    let at = found_places c.args.form c.args.bytes.now c.scopes.at c.scopes.end (found_of c.in_ok-scope.scope) c.in_ok-scope.ensures.sound c.scopes.invariant.within (omega arith) in
     omega (arith, at)
 
 pub scopes-preserved-then-at-end : goal.scopes-preserved-then-at-end
@@ -29,11 +29,11 @@ scopes-preserved-then-at-end c =
     let bytes = c.args.bytes.now in
     let s = found_of c.in_ok-scope.scope in
     let sound = c.in_ok-scope.ensures.sound in
-    let at = found_places bytes c.scopes.at c.scopes.end s sound c.scopes.invariant.within (omega arith) in
+    let at = found_places c.args.form bytes c.scopes.at c.scopes.end s sound c.scopes.invariant.within (omega arith) in
     let grown : length c.push.new.self.items ≡ length c.scopes.ends.items + 1 = ap length c.in_ok-push.ensures.items ∙ length_push c.scopes.ends.items c.scopes.end in
     let deep : c.len.result ≡ length c.push.new.self.items = omega (arith, grown, c.len.ensures, c.in_ok-push.ensures.len) in
     let one_more : c.counted-walk.result.num_scopes ≡ c.scopes.walk.num_scopes + 1 = ap (λ (w : Walk). w.num_scopes) c.counted-walk.ensures in
-    let begins : get_or (region bytes c.scopes.at c.scopes.end) 0 0 ≡ 40 = (passes (region bytes c.scopes.at c.scopes.end) s sound).begins in
+    let begins : get_or (region bytes c.scopes.at c.scopes.end) 0 0 ≡ 40 = (passes c.args.form (region bytes c.scopes.at c.scopes.end) s sound).begins in
     let tried : c.next_scope.new.tries ≡ c.scopes.tries + tries_in (region bytes c.scopes.at c.scopes.end) = c.next_scope.ensures.tried in
     let one_try : tries_in (region bytes c.scopes.at c.scopes.end) ≡ 1 = ap (λ (b : ℕ). cond (eqb b 40) 1 0) begins in
     record {
@@ -42,7 +42,7 @@ scopes-preserved-then-at-end c =
       inside = omega (arith, at, c.in_ok-push.ensures.len);
       tried = omega (arith, tried, one_try, one_more);
       few = omega (arith, at, one_more, grown);
-      resumes = λ out r. c.scopes.invariant.resumes out (enters bytes c.scopes.ends.items c.push.new.self.items c.scopes.walk c.counted-walk.result c.len.result c.scopes.at c.scopes.end s out sound at.next c.in_ok-push.ensures.items deep c.counted-walk.ensures r);
+      resumes = λ out r. c.scopes.invariant.resumes out (enters c.args.form bytes c.scopes.ends.items c.push.new.self.items c.scopes.walk c.counted-walk.result c.len.result c.scopes.at c.scopes.end s out sound at.next c.in_ok-push.ensures.items deep c.counted-walk.ensures r);
     }
 
 pub scopes-smaller : goal.scopes-smaller
@@ -62,7 +62,7 @@ scopes-preserved c =
       inside = nested_low c.pop.new.self.items c.in-Some.outer (length bytes) out.1;
       tried = c.scopes.invariant.tried;
       few = omega (arith, shrunk);
-      resumes = λ end r. c.scopes.invariant.resumes end (exits bytes c.pop.new.self.items c.scopes.ends.items c.scopes.walk c.scopes.at c.scopes.end c.in-Some.outer end c.in-Some.ensures.items (omega arith) r);
+      resumes = λ end r. c.scopes.invariant.resumes end (exits c.args.form bytes c.pop.new.self.items c.scopes.ends.items c.scopes.walk c.scopes.at c.scopes.end c.in-Some.outer end c.in-Some.ensures.items (omega arith) r);
     }
 
 pub returns-in_err-scope-clause-walked : goal.returns-in_err-scope-clause-walked
@@ -70,7 +70,7 @@ returns-in_err-scope-clause-walked c =
     let bytes = c.args.bytes.now in
     let p = err_from_is_err_and c.from_residual.result c.from_residual.ensures.1 in
     let tried : c.next_scope.new.tries ≡ c.scopes.tries + tries_in (region bytes c.scopes.at c.scopes.end) = c.next_scope.ensures.tried in
-    let told = stops_at bytes c.scopes.ends.items c.scopes.walk c.scopes.at c.scopes.end c.next_scope.new.tries c.in_err-scope.field-0.0 c.in_err-scope.ensures.fault (omega (arith, tried)) c.scopes.invariant.resumes in
+    let told = stops_at c.args.form bytes c.scopes.ends.items c.scopes.walk c.scopes.at c.scopes.end c.next_scope.new.tries c.in_err-scope.field-0.0 c.in_err-scope.ensures.fault (omega (arith, tried)) c.scopes.invariant.resumes in
     rw (p.1, p.2) told
 
 pub returns-in-None-clause-walked : goal.returns-in-None-clause-walked
@@ -78,4 +78,4 @@ returns-in-None-clause-walked c =
     let bytes = c.args.bytes.now in
     let nothing : c.scopes.ends.items ≡ [] = nil_from_length c.scopes.ends.items (omega (arith, c.in-None.ensures.cases)) in
     let ended : c.scopes.end ≡ length bytes = subst (λ (xs : List ℕ). IsNested c.scopes.end (reverse xs) (length bytes)) nothing c.scopes.invariant.nested in
-    (whole bytes no_scope_counted 0 (length bytes) _ (c.scopes.invariant.resumes _ (done bytes c.scopes.ends.items c.scopes.walk c.scopes.at c.scopes.end nothing (omega arith))), c.scopes.invariant.tried)
+    (whole c.args.form bytes no_scope_counted 0 (length bytes) _ (c.scopes.invariant.resumes _ (done c.args.form bytes c.scopes.ends.items c.scopes.walk c.scopes.at c.scopes.end nothing (omega arith))), c.scopes.invariant.tried)

@@ -32,7 +32,7 @@ returns-clause-ok c =
     let more = ap record_of (c.in_ok-new.ensures.ok) ∙ c.in_ok-extend.ensures.ok in
     let after = c.in_ok-_before.ensures.entries ∙ ap (λ m. insert_entry thread_cmp m.entries c.args.info c.in_ok-new.field-0) c.get_mut.follows.holds-at-none in
     reported_first c.args.streams.now.entries c.args.info c.in_ok-new.field-0 c.insert.new.self.entries c.new-fresh.result (record_of_ref c.args.times.now)
-    none after c.new-fresh.ensures more
+    none after c.new-fresh.ensures.honest more
 
 pub returns-in-Some-clause-too_large : goal.returns-in-Some-clause-too_large
 returns-in-Some-clause-too_large c =
@@ -43,23 +43,23 @@ returns-in-Some-clause-too_large c =
 pub returns-in_err-extend-clause-too_large : goal.returns-in_err-extend-clause-too_large
 returns-in_err-extend-clause-too_large c =
     too_large_as c.from_residual.result _ _ _ c.args.times.now.num_scopes (same_cause c.from_residual.result c.in_err-extend.field-0.0 c.from_residual.ensures.1)
-    (c.new-fresh.ensures.counts.num_scopes ∙ sym (none_under c.args.streams.now.entries c.args.info (sym c.get_mut.ensures.value ∙ ap option_copied_mut c.in_default.is)))
+    (c.new-fresh.ensures.honest.counts.num_scopes ∙ sym (none_under c.args.streams.now.entries c.args.info (sym c.get_mut.ensures.value ∙ ap option_copied_mut c.in_default.is)))
     c.in_err-extend.ensures.too_large
 
 pub returns-in_err-new-clause-too_large : goal.returns-in_err-new-clause-too_large
 returns-in_err-new-clause-too_large c =
     not_too_large c.from_residual-in_err-new.result _ _ c.args.times.now.num_scopes (other_cause c.from_residual-in_err-new.result c.from_residual-in_err-new.ensures.1)
-    (c.new-fresh.ensures.counts.num_scopes ∙ sym (none_under c.args.streams.now.entries c.args.info (sym c.get_mut.ensures.value ∙ ap option_copied_mut c.in_default.is)))
+    (c.new-fresh.ensures.honest.counts.num_scopes ∙ sym (none_under c.args.streams.now.entries c.args.info (sym c.get_mut.ensures.value ∙ ap option_copied_mut c.in_default.is)))
     (fits_after _ _ c.in_ok-extend.ensures.too_large)
 
 pub returns-in_err-_before-clause-too_large : goal.returns-in_err-_before-clause-too_large
 returns-in_err-_before-clause-too_large c =
     not_too_large c.from_residual-in_err-_before.result _ _ c.args.times.now.num_scopes (other_cause c.from_residual-in_err-_before.result c.from_residual-in_err-_before.ensures.1)
-    (c.new-fresh.ensures.counts.num_scopes ∙ sym (none_under c.args.streams.now.entries c.args.info (sym c.get_mut.ensures.value ∙ ap option_copied_mut c.in_default.is)))
+    (c.new-fresh.ensures.honest.counts.num_scopes ∙ sym (none_under c.args.streams.now.entries c.args.info (sym c.get_mut.ensures.value ∙ ap option_copied_mut c.in_default.is)))
     (fits_after _ _ c.in_ok-extend.ensures.too_large)
 
 pub returns-clause-too_large : goal.returns-clause-too_large
 returns-clause-too_large c =
     not_too_large (Ok _) _ _ c.args.times.now.num_scopes (λ is. absurd cc)
-    (c.new-fresh.ensures.counts.num_scopes ∙ sym (none_under c.args.streams.now.entries c.args.info (sym c.get_mut.ensures.value ∙ ap option_copied_mut c.in_default.is)))
+    (c.new-fresh.ensures.honest.counts.num_scopes ∙ sym (none_under c.args.streams.now.entries c.args.info (sym c.get_mut.ensures.value ∙ ap option_copied_mut c.in_default.is)))
     (fits_after _ _ c.in_ok-extend.ensures.too_large)

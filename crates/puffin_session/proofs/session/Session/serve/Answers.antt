@@ -1,6 +1,8 @@
 -- Each call continues the history.
 use Rattle.std.proofs.Common.{◌+◌, ℕ, List, length, ◌∙◌, ap, subst, ℤ, rules, w64, String, Global}
 use Rattle.std.proofs.lemmas.Int.{to_z-of_z}
+use Rattle.puffin_data.specs.Forest.Spelling.{size_offset}
+use Rattle.puffin_data.specs.declared.data.form.Form.TheVariants.{Short}
 use Rattle.puffin_data.specs.Text.{cut_text}
 use Rattle.puffin_data.specs.Forest.Words.{word_size}
 use Rattle.puffin_threads.specs.Thread.Calls.{after_begin}
@@ -20,9 +22,9 @@ returns-in-Ok-clause-continues c =
     let at = to_z-of_z w64 c.in-Begin.at (search rules) in
     let text = c.as_str.ensures.value in
     same now c.begin.new.self _ _ _ _ c.in-Begin.is
-    (it.1 ∙ ap (λ (x : ℤ). session_with_thread now t (after_begin (session_thread now t) c.in-Begin.id (cut_text c.as_str.result.now) (clock_time x)) now.collected) at
-    ∙ ap (λ (bytes : List ℕ). session_with_thread now t (after_begin (session_thread now t) c.in-Begin.id (cut_text bytes) (clock_time c.in-Begin.at)) now.collected) text)
-    (Continues-began now t c.in-Begin.at c.in-Begin.id c.in-Begin.text c.in-Ok.offset it.0 (it.2 ∙ ap (λ (bytes : List ℕ). word_size (session_thread now t).word + 14 + length (cut_text bytes)) text))
+    (it.1 ∙ ap (λ (x : ℤ). session_with_thread now t (after_begin (session_thread now t) c.in-Begin.id (cut_text Short c.as_str.result.now) (clock_time x)) now.collected) at
+    ∙ ap (λ (bytes : List ℕ). session_with_thread now t (after_begin (session_thread now t) c.in-Begin.id (cut_text Short bytes) (clock_time c.in-Begin.at)) now.collected) text)
+    (Continues-began now t c.in-Begin.at c.in-Begin.id c.in-Begin.text c.in-Ok.offset it.0 (it.2 ∙ ap (λ (bytes : List ℕ). word_size Short (session_thread now t).word + size_offset Short (cut_text Short bytes)) text))
 
 pub returns-in-Err-clause-continues : goal.returns-in-Err-clause-continues
 returns-in-Err-clause-continues c =

@@ -1,4 +1,5 @@
 use Rattle.std.proofs.Common.{◌≡◌, length, sym, ap, subst, ◌∙◌, arith}
+use Rattle.puffin_data.specs.declared.data.form.Form.TheVariants.{Short}
 use Rattle.puffin_data.specs.Forest.{Forest}
 use Rattle.puffin_data.specs.Honesty.{Recorded, IsHonestRecord}
 use Rattle.puffin_data.proofs.lemmas.Unique.{same_forest}
@@ -14,5 +15,5 @@ same_record a b f x y bytes =
 
 pub returns : goal.returns
 returns c a b f g x y small bytes =
-    let same : f ≡ g = same_forest f g x.stream.fits y.stream.fits (omega (arith, small, ap length x.stream.whole)) (sym x.stream.whole ∙ bytes ∙ y.stream.whole) in
+    let same : f ≡ g = same_forest Short f g x.stream.fits y.stream.fits (omega (arith, small, ap length x.stream.whole)) (sym x.stream.whole ∙ bytes ∙ y.stream.whole) in
     same_record a b f x (subst (λ (h : Forest). IsHonestRecord b h) (sym same) y) bytes

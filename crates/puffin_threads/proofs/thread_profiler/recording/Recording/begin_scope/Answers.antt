@@ -4,6 +4,7 @@ use Rattle.std.specs.Int.{int_max}
 use Rattle.std.proofs.lemmas.Int.{ints, to_z-of_z, clamps}
 use Rattle.std.proofs.lemmas.List.{length-append}
 use Rattle.std.proofs.lemmas.List.Elements.{All-from_get_or}
+use Rattle.puffin_data.specs.declared.data.form.Form.TheVariants.{Short}
 use Rattle.puffin_data.specs.Forest.Spelling.{begin_bytes}
 use Rattle.puffin_data.specs.Text.{cut_text}
 use Rattle.puffin_data.specs.Forest.Tour.{Open}
@@ -20,12 +21,12 @@ pub overflow_add-self : goal.overflow_add-self
 overflow_add-self g c =
     let at = to_z w64 (of_z w64 c.max-at.result) in
     let bytes : c.reserve-2.new.self.bytes ≡ c.self.inside.info.stream.bytes = c.reserve-2.ensures.bytes in
-    let text = cut_text c.args.text.now in
-    let begin = begin_bytes c.args.id at text (2 ^ 64 - 1) in
+    let text = cut_text Short c.args.text.now in
+    let begin = begin_bytes Short c.args.id at text (2 ^ 64 - 1) in
     let more : c.write_begin-offset.new.stream.bytes ≡ c.reserve-2.new.self.bytes ++ begin = c.write_begin-offset.ensures.bytes in
     let offset : c.write_begin-offset.result + 8 ≡ length c.write_begin-offset.new.stream.bytes = c.write_begin-offset.ensures.offset in
     let n = scopes_fit c.self.inside c.self.invariant in
-    omega (arith, n, ap length bytes, ap length more, length-append c.reserve-2.new.self.bytes begin, length-begin c.args.id at text (2 ^ 64 - 1), offset)
+    omega (arith, n, ap length bytes, ap length more, length-append c.reserve-2.new.self.bytes begin, length-begin Short c.args.id at text (2 ^ 64 - 1), offset)
 
 pub invariant_of-self-2 : goal.invariant_of-self-2
 invariant_of-self-2 g c =
@@ -36,14 +37,15 @@ invariant_of-self-2 g c =
     let later : c.self.inside.latest ≤ℤ c.max-at.result = omega (arith, ints, c.max-at.ensures.self_bound) in
     let room : c.reserve-2.new.self.room ≤ c.write_begin-offset.new.stream.room + 149 = c.write_begin-offset.ensures.room in
     let items : c.push_reserved.new.self.items ≡ c.self.inside.offsets.items ++ (c.write_begin-offset.result ∷ []) = cc (c.push_reserved.ensures.items, c.reserve.ensures.items) in
-    begun_in c.self.inside _ c.args.id (cut_text c.args.text.now) at c.write_begin-offset.result c.self.invariant (record {
+    begun_in c.self.inside _ c.args.id (cut_text Short c.args.text.now) at c.write_begin-offset.result c.self.invariant (record {
+      form = c.write_begin-offset.ensures.form;
       later = subst (λ (t : ℤ). c.self.inside.latest ≤ℤ t) (sym same) later;
       fits = subst (λ (t : ℤ). FitsSigned w64 t) (sym same) fits;
       id_low = c.write_begin-offset.ensures.id.0;
       id_high = c.write_begin-offset.ensures.id.1;
-      short = omega (arith, cut_text-short c.args.text.now);
-      text_bytes = cut_text-bytes c.args.text.now (All-from_get_or (λ b. b < 256) c.args.text.now 0 (λ i _. (c.type_inv.text i).fits));
-      bytes = c.write_begin-offset.ensures.bytes ∙ ap (λ (bs : List ℕ). bs ++ begin_bytes c.args.id at (cut_text c.args.text.now) (2 ^ 64 - 1)) held;
+      short = omega (arith, cut_text-short Short c.args.text.now);
+      text_bytes = cut_text-bytes Short c.args.text.now (All-from_get_or (λ b. b < 256) c.args.text.now 0 (λ i _. (c.type_inv.text i).fits));
+      bytes = c.write_begin-offset.ensures.bytes ∙ ap (λ (bs : List ℕ). bs ++ begin_bytes Short c.args.id at (cut_text Short c.args.text.now) (2 ^ 64 - 1)) held;
       offset_is = c.write_begin-offset.ensures.offset;
       items = items;
       num_scopes = refl;
@@ -61,7 +63,7 @@ returns-clause-begun g c =
     let inside = c.self.inside in
     let x = c.now_ns.result in
     let at = to_z w64 (of_z w64 c.max-at.result) in
-    let text = cut_text c.args.text.now in
+    let text = cut_text Short c.args.text.now in
     let fits : FitsSigned w64 c.max-at.result = search rules in
     let same : at ≡ c.max-at.result = to_z-of_z w64 c.max-at.result fits in
     let held : c.reserve-2.new.self.bytes ≡ inside.info.stream.bytes = c.reserve-2.ensures.bytes in
@@ -69,9 +71,9 @@ returns-clause-begun g c =
     let least : pos 0 ≤ℤ inside.latest = c.self.invariant.latest in
     let goes = begins_held inside.info.stream.bytes c.write_begin-offset.new.stream.bytes inside.latest at c.args.id text (holds_in inside c.self.invariant)
     later (omega (arith, ints)) (subst (λ (t : ℤ). FitsSigned w64 t) (sym same) fits) c.write_begin-offset.ensures.id.0 c.write_begin-offset.ensures.id.1
-    (omega (arith, cut_text-short c.args.text.now))
-    (cut_text-bytes c.args.text.now (All-from_get_or (λ b. b < 256) c.args.text.now 0 (λ i _. (c.type_inv.text i).fits)))
-    (c.write_begin-offset.ensures.bytes ∙ ap (λ (bs : List ℕ). bs ++ begin_bytes c.args.id at text (2 ^ 64 - 1)) held) in
+    (omega (arith, cut_text-short Short c.args.text.now))
+    (cut_text-bytes Short c.args.text.now (All-from_get_or (λ b. b < 256) c.args.text.now 0 (λ i _. (c.type_inv.text i).fits)))
+    (c.write_begin-offset.ensures.bytes ∙ ap (λ (bs : List ℕ). bs ++ begin_bytes Short c.args.id at text (2 ^ 64 - 1)) held) in
     let greatest : at ≡ int_max inside.latest x = grind (arith, ints, clamps, to_z-of_z) in
     let time : at ≡ time_of now x = greatest ∙ ap (λ (t : Thread). int_max t.latest x) c.self.view_is in
     let word : events_in c.write_begin-offset.new.stream.bytes ≡ now.word ++ (Open c.args.id text (time_of now x) ∷ []) = goes.word ∙ ap (λ (t : Thread). t.word ++ (Open c.args.id text at ∷ [])) c.self.view_is ∙ ap (λ (t : ℤ). now.word ++ (Open c.args.id text t ∷ [])) time in
@@ -82,8 +84,8 @@ pub returns-clause-offset : goal.returns-clause-offset
 returns-clause-offset g c =
     let inside = c.self.inside in
     let at = to_z w64 (of_z w64 c.max-at.result) in
-    let text = cut_text c.args.text.now in
+    let text = cut_text Short c.args.text.now in
     let held : c.reserve-2.new.self.bytes ≡ inside.info.stream.bytes = c.reserve-2.ensures.bytes in
-    let bytes : c.write_begin-offset.new.stream.bytes ≡ inside.info.stream.bytes ++ begin_bytes c.args.id at text (2 ^ 64 - 1) = c.write_begin-offset.ensures.bytes ∙ ap (λ (bs : List ℕ). bs ++ begin_bytes c.args.id at text (2 ^ 64 - 1)) held in
+    let bytes : c.write_begin-offset.new.stream.bytes ≡ inside.info.stream.bytes ++ begin_bytes Short c.args.id at text (2 ^ 64 - 1) = c.write_begin-offset.ensures.bytes ∙ ap (λ (bs : List ℕ). bs ++ begin_bytes Short c.args.id at text (2 ^ 64 - 1)) held in
     let place = offset_in inside c.args.id text at c.write_begin-offset.result c.self.invariant c.write_begin-offset.new.stream.bytes bytes c.write_begin-offset.ensures.offset in
-    omega (arith, place, ap (λ (t : Thread). word_size t.word) c.self.view_is)
+    omega (arith, place, ap (λ (t : Thread). word_size Short t.word) c.self.view_is)

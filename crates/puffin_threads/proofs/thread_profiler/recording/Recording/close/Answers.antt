@@ -27,6 +27,7 @@ invariant_of-self c =
     let fits : FitsSigned w64 c.max-at.result = search rules in
     let same : at ≡ c.max-at.result = to_z-of_z w64 c.max-at.result fits in
     ended_in c.self.inside _ at c.unwrap-offset.result c.self.invariant (record {
+      form = c.end_scope.ensures.form;
       later = subst (λ (t : ℤ). c.self.inside.latest ≤ℤ t) (sym same) (omega (arith, ints, c.max-at.ensures.self_bound));
       fits = subst (λ (t : ℤ). FitsSigned w64 t) (sym same) fits;
       items = c.pop.ensures.items ∙ ap (λ o. c.pop.new.self.items ++ option_to_list o) c.unwrap-offset.ensures;
@@ -48,6 +49,7 @@ invariant_of-self-else-is_empty c =
     let same : at ≡ c.max-at.result = to_z-of_z w64 c.max-at.result fits in
     let items : c.self.inside.offsets.items ≡ c.pop.new.self.items ++ (c.unwrap-offset.result ∷ []) = c.pop.ensures.items ∙ ap (λ o. c.pop.new.self.items ++ option_to_list o) c.unwrap-offset.ensures in
     ended_in c.self.inside _ at c.unwrap-offset.result c.self.invariant (record {
+      form = c.end_scope.ensures.form;
       later = subst (λ (t : ℤ). c.self.inside.latest ≤ℤ t) (sym same) (omega (arith, ints, c.max-at.ensures.self_bound));
       fits = subst (λ (t : ℤ). FitsSigned w64 t) (sym same) fits;
       items = items;

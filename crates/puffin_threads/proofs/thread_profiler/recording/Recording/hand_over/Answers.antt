@@ -39,7 +39,7 @@ pub invariant_of-self : goal.invariant_of-self
 invariant_of-self g c =
     let h = c.self.invariant in
     let none = ap (λ (t : Thread). open_after 0 t.word) c.self.view_is ∙ c.requires.none_open in
-    cleared_in _ h.latest c.clear.ensures.honest (none_open_in c.self.inside h none) h.spare
+    cleared_in _ (c.clear.ensures.form ∙ h.form) h.latest c.clear.ensures.honest (none_open_in c.self.inside h none) h.spare
 
 pub returns-clause-ok : goal.returns-clause-ok
 returns-clause-ok g c =

@@ -1,0 +1,91 @@
+use crate::samples::{end, id};
+use puffin_data::data::{Form, Reader, Stream};
+use puffin_data::{Error, Result};
+use std::alloc::Global;
+use std::test::Fail;
+
+/// A scope of id 1 from 100 to 300 whose text is so many letters and then one character, and its offset.
+fn lettered(
+    alloc: Global,
+    form: Form,
+    letters: usize,
+    last: char,
+) -> std::result::Result<(usize, Stream), Fail> {
+    let mut text = String::new(alloc);
+    for _ in 0..letters {
+        text.push('a')?;
+    }
+    text.push(last)?;
+    let mut stream = Stream::with_form(alloc, form);
+    let (offset, _) = stream.begin_scope(|| 100, id(1)?, text.as_str())?;
+    end(&mut stream, offset, 300)?;
+    Ok((offset, stream))
+}
+
+/// How many bytes a stream has, and the two from the place of a text's length on.
+fn length_bytes(stream: &Stream) -> (usize, Option<&[u8]>) {
+    (stream.len(), stream.bytes().get(13..15))
+}
+
+/// How many scopes a walk over bytes of the long form counts, or its fault.
+fn walked(alloc: Global, bytes: &[u8]) -> Result<usize> {
+    let stream = Stream::from_bytes(Vec::from_slice(alloc, bytes)?, Form::Long);
+    let mut tries = 0;
+    Ok(Reader::walk(alloc, &stream, &mut tries)?.num_scopes)
+}
+
+#[test]
+fn texts_of_128_letters_in_both_forms(rt: HostRuntime) -> std::result::Result<(), Fail> {
+    let (offset, long) = lettered(rt.alloc(), Form::Long, 127, 'a')?;
+    assert_eq!(rt; offset, 143);
+    assert_eq!(rt; length_bytes(&long), (160, Some(b"\x80\x01".as_slice())));
+    assert_eq!(rt; walked(rt.alloc(), long.bytes()), Ok(1));
+    let (_, short) = lettered(rt.alloc(), Form::Short, 127, 'a')?;
+    assert_eq!(rt; length_bytes(&short), (158, Some(b"\x7fa".as_slice())));
+    Ok(())
+}
+
+#[test]
+fn a_long_text_is_whole_or_cut_at_16383(rt: HostRuntime) -> std::result::Result<(), Fail> {
+    let (_, whole) = lettered(rt.alloc(), Form::Long, 126, 'é')?;
+    assert_eq!(rt; length_bytes(&whole), (160, Some(b"\x80\x01".as_slice())));
+    let (_, cut) = lettered(rt.alloc(), Form::Long, 16383, 'a')?;
+    assert_eq!(rt; length_bytes(&cut), (16415, Some(b"\xff\x7f".as_slice())));
+    assert_eq!(rt; walked(rt.alloc(), cut.bytes()), Ok(1));
+    Ok(())
+}
+
+#[test]
+fn only_the_shortest_length_is_read(rt: HostRuntime) -> std::result::Result<(), Fail> {
+    let (_, stream) = lettered(rt.alloc(), Form::Long, 127, 'a')?;
+    for (second, whole, cut) in [
+        (0, Err(Error::InvalidStream), Error::InvalidStream),
+        (0x80, Err(Error::InvalidStream), Error::InvalidStream),
+        (1, Ok(1), Error::PrematureEnd),
+    ] {
+        let mut bytes = Vec::from_slice(rt.alloc(), stream.bytes())?;
+        if let Some(byte) = bytes.get_mut(14) {
+            *byte = second;
+        }
+        assert_eq!(rt; walked(rt.alloc(), bytes.as_slice()), whole);
+        // The length is read before the text and the size.
+        bytes.truncate(15);
+        assert_eq!(rt; walked(rt.alloc(), bytes.as_slice()), Err(cut));
+    }
+    let cut = stream.bytes().get(..142).unwrap_or(&[]);
+    assert_eq!(rt; walked(rt.alloc(), cut), Err(Error::PrematureEnd));
+    let cut = stream.bytes().get(..14).unwrap_or(&[]);
+    assert_eq!(rt; walked(rt.alloc(), cut), Err(Error::PrematureEnd));
+    Ok(())
+}
+
+#[test]
+fn a_copy_and_a_cleared_stream_keep_the_form(rt: HostRuntime) -> std::result::Result<(), Fail> {
+    assert_eq!(rt; Stream::new(rt.alloc()).form(), Form::Short);
+    assert_eq!(rt; Stream::from(Vec::new(rt.alloc())).form(), Form::Short);
+    let (_, mut stream) = lettered(rt.alloc(), Form::Long, 0, 'a')?;
+    assert_eq!(rt; stream.clone()?.form(), Form::Long);
+    stream.clear();
+    assert_eq!(rt; (stream.form(), stream.len()), (Form::Long, 0));
+    Ok(())
+}
