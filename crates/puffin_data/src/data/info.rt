@@ -108,7 +108,7 @@ impl StreamInfo {
     }
 
     /// Whether both have bytes, in unlike forms.
-    fn is_unlike(&self, other: &StreamInfoRef) -> bool
+    pub fn is_unlike(&self, other: &StreamInfoRef) -> bool
         ensures { (result ≡ true) ↔ AreUnlike (record_of self.now) (record_of_ref other.now) }
     {
         !self.stream.is_empty() && !other.stream.is_empty() && self.stream.form() != other.form
