@@ -4,6 +4,7 @@ ghost use Rattle.std.specs.Prelude.{◌≡◌, ◌⊎◌, ◌+◌, ◌-◌, ◌^
 ghost use Rattle.std.specs.List.{AllByRecursion, Any};
 ghost use Rattle.std.specs.String.{string_bytes};
 ghost use Rattle.std.specs.Io.KnownBytes.{Appends};
+ghost use Rattle.puffin_data.specs.declared.data.form.Form.TheVariants.{Short};
 ghost use Rattle.puffin_data.specs.Device.{TookNothing};
 ghost use Rattle.puffin_frames.specs.Packet.Stored.{Said};
 ghost use Rattle.puffin_frames.specs.Packet.Grammar.{IsPacked};
@@ -62,7 +63,7 @@ fn add_frames(view: &mut FrameView, replies: &[Reply]) -> Answer<()>
 ///
 /// Fails with `Memory`, and as [`FrameView::write`] with `PartTooLong` and `Io`. The session may then have run the commands,
 /// or none of them, and the view have taken a beginning of the frames, but nothing is written before it took all of them.
-fn record_session<D: Drain>(
+pub fn record_session<D: Drain>(
     session: &mut Session,
     commands: &[Command],
     view: &mut FrameView,
@@ -108,7 +109,7 @@ fn record_session<D: Drain>(
     Ok(replies)
 }
 
-/// Runs commands in a new session of threads with these names, adds each emitted frame to a view, in order, and writes the
+/// Runs commands in a new session of threads with these names, whose texts are short: [`record_session`] of it. It adds each emitted frame to a view, in order, and writes the
 /// view's file. Returns one reply to each command.
 ///
 /// Fails with `Memory`, and as [`FrameView::write`] with `PartTooLong` and `Io`; the view may then have taken a beginning of
@@ -124,7 +125,8 @@ pub fn record<D: Drain>(
     // The commands were run, and the view took the frames of that run.
     ensures run { IfOk result (λ replies.
         (end : SessionState)
-        × AreReplies (map string_bytes names.items) commands.now replies.items end) }
+        × AreReplies (map (λ name. (string_bytes name, Short)) names.items) commands.now
+        replies.items end) }
     ensures view { IfOk result (λ replies. Takes (frames_emitted replies.items) view.old view.new) }
     ensures took { IfOk result (λ replies.
         (cs : List Said) → Took cs (view_of view.old) →
@@ -143,8 +145,8 @@ pub fn record<D: Drain>(
 
     ensures broken { IfErr result (λ e.
         (end : SessionState)
-        × IsBroken (new_session (map string_bytes names.items)) end commands.now view.old
-        view.new (D.contents drain.old) (D.contents drain.new) e) }
+        × IsBroken (new_session (map (λ name. (string_bytes name, Short)) names.items)) end
+        commands.now view.old view.new (D.contents drain.old) (D.contents drain.new) e) }
     // The writer failed in this call, or took nothing.
     ensures io { (result ≡ Err FileError.Io) →
         (D.failures drain.new ≡ D.failures drain.old + 1) ⊎ TookNothing D.takes drain.new }
