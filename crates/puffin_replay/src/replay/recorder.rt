@@ -15,19 +15,20 @@ ghost use Rattle.puffin_view.specs.View.Known.{view_of};
 ghost use Rattle.puffin_view.specs.View.File.{contents_held, contents_in};
 ghost use Rattle.puffin_session.specs.Session.{SessionState, new_session};
 ghost use Rattle.puffin_session.specs.Session.Runs.{Records, AreReplies, HasIds};
+ghost use Rattle.puffin_replay.specs.Script.{threads_said};
 ghost use Rattle.puffin_replay.specs.Program.Recording.{frame_in, emitted_by, frames_emitted, file_of_view, Takes, TakesSome, IsBroken};
 ghost use Rattle.puffin_report.specs.Summary.{NoneLacksIds};
 ghost use Rattle.puffin_replay.specs.Program.ScriptRun.{loose_view, IsReplayed, IsUnfinished};
 
 use crate::replay::reply_line::reply_lines;
 use crate::replay::script::Script;
-use puffin_data::data::{Drain, write_all};
+use puffin_data::data::{Drain, Form, write_all};
 use puffin_data::{Error, FileError, Result as Answer};
 use puffin_frames::frame_data::FrameData;
 use puffin_session::{Command, Reply, Session};
 use puffin_view::profile_view::FrameView;
 use puffin_view::profile_view::laws::views_hold_what_they_took;
-use std::alloc::Global;
+use std::alloc::{AllocError, Global};
 use std::sync::Arc;
 
 /// The frame that a reply tells of, if any.
@@ -170,6 +171,22 @@ fn loose_view(alloc: Global) -> FrameView
     view
 }
 
+/// The threads of a script.
+fn threads_of(alloc: Global, script: &Script) -> Result<Vec<(String, Form)>, AllocError>
+    ensures { IfOk result (λ threads.
+        map (λ t. (string_bytes t.0, t.1)) threads.items ≡ threads_said script.now) }
+{
+    let mut threads = Vec::new(alloc);
+    'names: for (index, name) in script.names.iter().enumerate() {
+        let form = match script.forms.get(index) {
+            Some(form) => *form,
+            None => Form::Short,
+        };
+        threads.push((name.clone()?, form))?;
+    }
+    Ok(threads)
+}
+
 /// Runs a script in a new session, and writes two things: first the file of a new view that took each frame of the run,
 /// then the lines of the replies.
 ///
@@ -193,9 +210,13 @@ pub fn run_script<D: Drain, E: Drain>(
         ((D.failures out.new ≡ D.failures out.old + 1) ⊎ TookNothing D.takes out.new)
         ⊎ ((E.failures lines.new ≡ E.failures lines.old + 1) ⊎ TookNothing E.takes lines.new) }
 {
-    let names = script.names.clone()?;
+    let threads = threads_of(alloc, script)?;
+    let mut session = match Session::with_forms(alloc, threads) {
+        Ok(session) => session,
+        Err(_) => return Err(FileError::Memory),
+    };
     let mut view = loose_view(alloc);
-    let replies = record(alloc, names, &script.commands, &mut view, out)?;
+    let replies = record_session(&mut session, &script.commands, &mut view, out)?;
     let text = reply_lines(alloc, &script.lines, &replies)?;
     write_all(lines, text.as_bytes())
 }
