@@ -1,6 +1,6 @@
 //! Recording what a session emits.
 
-ghost use Rattle.std.specs.Prelude.{◌≡◌, ◌⊎◌, ◌+◌, ◌-◌, ◌^◌, ◌<◌, ◌++◌, [], List, All, map, option_map, IfOk, IfErr, OnOk};
+ghost use Rattle.std.specs.Prelude.{◌≡◌, ◌⊎◌, ◌+◌, ◌-◌, ◌^◌, ◌<◌, ◌++◌, [], List, All, map, option_map, IfOk, IfErr, OnOk, get_or};
 ghost use Rattle.std.specs.List.{AllByRecursion, Any};
 ghost use Rattle.std.specs.String.{string_bytes};
 ghost use Rattle.std.specs.Io.KnownBytes.{Appends};
@@ -171,6 +171,16 @@ fn loose_view(alloc: Global) -> FrameView
     view
 }
 
+/// The form at this place, short where there is none.
+fn form_at(forms: &[Form], index: usize) -> Form
+    ensures { result ≡ get_or forms.now index Short }
+{
+    match forms.get(index) {
+        Some(form) => *form,
+        None => Form::Short,
+    }
+}
+
 /// The threads of a script.
 fn threads_of(alloc: Global, script: &Script) -> Result<Vec<(String, Form)>, AllocError>
     ensures { IfOk result (λ threads.
@@ -178,11 +188,7 @@ fn threads_of(alloc: Global, script: &Script) -> Result<Vec<(String, Form)>, All
 {
     let mut threads = Vec::new(alloc);
     'names: for (index, name) in script.names.iter().enumerate() {
-        let form = match script.forms.get(index) {
-            Some(form) => *form,
-            None => Form::Short,
-        };
-        threads.push((name.clone()?, form))?;
+        threads.push((name.clone()?, form_at(&script.forms, index)))?;
     }
     Ok(threads)
 }

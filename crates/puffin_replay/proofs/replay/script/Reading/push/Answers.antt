@@ -5,9 +5,10 @@ use Rattle.puffin_replay.specs.inner.ScriptReading.{meaning_of}
 use Rattle.puffin_replay.proofs.Scripts.{lines_more, lines_same, names_more, forms_more, commands_more, commands_same}
 use Rattle.puffin_replay.proofs.replay.script.Reading.push.Goals as goal
 
-pub returns-in-Some : goal.returns-in-Some
-returns-in-Some c = λ before reading.
-    let (numbered, named, formed, is, new) = c.in-Some.ensures reading.numbered in
+pub returns-in_ok-push-2 : goal.returns-in_ok-push-2
+returns-in_ok-push-2 c = λ before reading.
+    let asked = c.in_ok-command.ensures reading.numbered in
+    let (numbered, named, formed, (is, new)) = rw c.in-Some.is at asked in
     let s : ℕ × Meaning = (c.args.number, meaning_of c.args.statement.now) in
     record {
       numbered = numbered;
@@ -17,9 +18,10 @@ returns-in-Some c = λ before reading.
       commands = commands_more _ _ _ _ _ before s is named c.in_ok-push.ensures.items reading.commands new;
     }
 
-pub returns-in-None : goal.returns-in-None
-returns-in-None c = λ before reading.
-    let (numbered, named, formed, none) = c.in-None.ensures reading.numbered in
+pub returns-in_default : goal.returns-in_default
+returns-in_default c = λ before reading.
+    let asked = c.in_ok-command.ensures reading.numbered in
+    let (numbered, named, formed, none) = rw c.in_default.is at asked in
     let s : ℕ × Meaning = (c.args.number, meaning_of c.args.statement.now) in
     record {
       numbered = numbered;
