@@ -18,6 +18,7 @@ import tempfile
 HERE = pathlib.Path(__file__).resolve().parent
 STREAM = bytes.fromhex("28 01000000 6400000000000000 04 64617461 0000000000000000 29 2c01000000000000")
 ONE_SCOPE = b"begin main 100 1 data\nend main 300\nframe\n"
+LONG_SCOPE = b"long main\nbegin main 100 1 " + 200 * b"a" + b"\nend main 300\nframe\n"
 NO_FRAMES = b"PUF0"
 SCRIPT = b"""function main load a.rs 7
 user own
@@ -75,14 +76,15 @@ def is_replied(ended, usual):
     return status == 0 and is_one and not cause and file.startswith(b"PUF0")
 
 
-def is_one_scope_replied(ended, usual):
-    """One of the three commands was refused or kept for want of memory, and there is no frame, in the lines as in the file."""
+def is_one_scope_replied(first):
+    """One of the three commands, the first of which stands in this line, was refused or kept for want of memory, and there is no
+    frame, in the lines as in the file."""
     lines = {
-        b"refused 1 Memory\nrefused 2 MismatchedEnd\nframe none\n",
-        b"kept 2 Memory\nframe none\n",
-        b"refused 3 Memory\n",
+        b"refused %d Memory\nrefused %d MismatchedEnd\nframe none\n" % (first, first + 1),
+        b"kept %d Memory\nframe none\n" % (first + 1),
+        b"refused %d Memory\n" % (first + 2),
     }
-    return ended[0] == 0 and ended[1] in lines and not ended[2] and ended[3] == NO_FRAMES
+    return lambda ended, usual: ended[0] == 0 and ended[1] in lines and not ended[2] and ended[3] == NO_FRAMES
 
 
 def faults(refusing, words, given, ends):
@@ -110,13 +112,17 @@ def main():
         refusing = Refusing(folder)
         pathlib.Path(f"{folder}/script").write_bytes(SCRIPT)
         pathlib.Path(f"{folder}/one_scope").write_bytes(ONE_SCOPE)
-        subprocess.run([tool, "replay", "script", "frames"], capture_output=True, cwd=folder, check=True)
+        pathlib.Path(f"{folder}/long_scope").write_bytes(LONG_SCOPE)
+        for script, frames in (("script", "frames"), ("long_scope", "long_frames")):
+            subprocess.run([tool, "replay", script, frames], capture_output=True, cwd=folder, check=True)
         cases = {
             "each call twice": ([memory], b"", [is_alike]),
             "count": ([tool, "count"], STREAM, [is_alike, is_told]),
             "replay": ([tool, "replay", "script", "out"], b"", [is_alike, is_told, is_replied]),
-            "replay of one scope": ([tool, "replay", "one_scope", "out"], b"", [is_alike, is_told, is_one_scope_replied]),
+            "replay of one scope": ([tool, "replay", "one_scope", "out"], b"", [is_alike, is_told, is_one_scope_replied(1)]),
+            "replay of one long scope": ([tool, "replay", "long_scope", "out"], b"", [is_alike, is_told, is_one_scope_replied(2)]),
             "report": ([tool, "report", "frames", "100:main"], b"", [is_alike, is_told]),
+            "report of long texts": ([tool, "report", "long_frames", "100:main"], b"", [is_alike, is_told]),
         }
         for name, (words, given, ends) in cases.items():
             count, found = faults(refusing, words, given, ends)

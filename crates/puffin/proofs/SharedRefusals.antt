@@ -6,28 +6,32 @@ use Rattle.puffin_data.specs.declared.error.Error.{Error}
 use Rattle.puffin_data.specs.Honesty.{Recorded}
 use Rattle.puffin_threads.specs.Thread.Info.{Info}
 use Rattle.puffin_threads.specs.Details.{Details, AllHaveIds}
-use Rattle.puffin_collector.specs.Profiler.State.{Collected, AcceptsReport, IsReportRefusal}
+use Rattle.puffin_collector.specs.Profiler.State.{Collected, AcceptsReport, IsSumRefusal, IsReportRefusal}
 use Rattle.puffin_collector.specs.Profiler.Collecting.{KeepsPending}
 use Rattle.puffin_collector.specs.Profiler.Registering.{AddsSome}
 use Rattle.puffin.specs.SharedCauses.{IsReportCause, IsScopesCause, IsFrameCause, IsAddingCause}
 
-report_cause : (c : Collected) (ds : List Details) (r : Recorded) (e : Error) → IsReportRefusal c ds r e → IsReportCause ds e
-report_cause c ds r e (inl missing) = inl missing
-report_cause c ds r e (inr (inl large)) = inr (large.1, inl large.0)
-report_cause c ds r e (inr (inr (inl long))) = inr (long.1, inr (inl long.0))
-report_cause c ds r e (inr (inr (inr memory))) = inr (memory.1, inr (inr memory.0))
+sum_cause : (c : Collected) (r : Recorded) (e : Error) → IsSumRefusal c r e → IsScopesCause e
+sum_cause c r e (inl large) = inr (inl large.0)
+sum_cause c r e (inr (inl long)) = inr (inr (inl long.0))
+sum_cause c r e (inr (inr memory)) = inr (inr (inr memory.0))
+
+report_cause : (c : Collected) (i : Info) (ds : List Details) (r : Recorded) (e : Error) → IsReportRefusal c i ds r e → IsReportCause ds e
+report_cause c i ds r e (inl missing) = inl missing
+report_cause c i ds r e (inr (inl unlike)) = inr (unlike.1, inl unlike.0)
+report_cause c i ds r e (inr (inr sums)) = inr (sums.0, sum_cause c r e sums.2)
 
 scopes_cause : (e : Error) → IsReportCause [] e → IsScopesCause e
 scopes_cause e (inl missing) = absurd (missing.1 (All-nil _))
 scopes_cause e (inr cause) = cause.1
 
-pub report_refused : {T : Type 0} (r : Result T Error) (old new : Collected) (ds : List Details) (times : Recorded) → IfErr r (λ e. IsReportRefusal old ds times e × (new ≡ old)) → IfErr r (λ e. IsReportCause ds e)
-report_refused (Ok x) old new ds times h = tt
-report_refused (Err e) old new ds times h = report_cause old ds times e h.0
+pub report_refused : {T : Type 0} (r : Result T Error) (old new : Collected) (i : Info) (ds : List Details) (times : Recorded) → IfErr r (λ e. IsReportRefusal old i ds times e × (new ≡ old)) → IfErr r (λ e. IsReportCause ds e)
+report_refused (Ok x) old new i ds times h = tt
+report_refused (Err e) old new i ds times h = report_cause old i ds times e h.0
 
-pub scopes_refused : {T : Type 0} (r : Result T Error) (old new : Collected) (times : Recorded) → IfErr r (λ e. IsReportRefusal old [] times e × (new ≡ old)) → IfErr r IsScopesCause
-scopes_refused (Ok x) old new times h = tt
-scopes_refused (Err e) old new times h = scopes_cause e (report_cause old [] times e h.0)
+pub scopes_refused : {T : Type 0} (r : Result T Error) (old new : Collected) (i : Info) (times : Recorded) → IfErr r (λ e. IsReportRefusal old i [] times e × (new ≡ old)) → IfErr r IsScopesCause
+scopes_refused (Ok x) old new i times h = tt
+scopes_refused (Err e) old new i times h = scopes_cause e (report_cause old i [] times e h.0)
 
 pub report_accepted : {T : Type 0} (r : Result T Error) (old new : Collected) (i : Info) (ds : List Details) (times : Recorded) → OnOk r (AcceptsReport old i ds times new) → OnOk r (AllHaveIds ds)
 report_accepted (Ok x) old new i ds times h = h.1

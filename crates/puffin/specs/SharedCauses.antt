@@ -1,12 +1,12 @@
 -- Why a call under a lock is refused. What stood under the lock is not the caller's to see: these are the causes that remain.
 use Rattle.std.specs.Prelude.{◌≡◌, List, ◌⊎◌}
 use Rattle.puffin_data.specs.declared.error.Error.{Error}
-use Rattle.puffin_data.specs.declared.error.Error.TheVariants.{IdsExhausted, IndexExhausted, MissingId, TooLarge, RangeTooLong, Memory}
+use Rattle.puffin_data.specs.declared.error.Error.TheVariants.{IdsExhausted, IndexExhausted, MissingId, UnlikeForms, TooLarge, RangeTooLong, Memory}
 use Rattle.puffin_threads.specs.Details.{Details, AllHaveIds}
 
 -- a report without details
 abbrev pub IsScopesCause : Error → Type 0
-IsScopesCause e = (e ≡ TooLarge) ⊎ (e ≡ RangeTooLong) ⊎ (e ≡ Memory)
+IsScopesCause e = (e ≡ UnlikeForms) ⊎ (e ≡ TooLarge) ⊎ (e ≡ RangeTooLong) ⊎ (e ≡ Memory)
 
 -- a report with these details: first, some have no ids
 abbrev pub IsReportCause : List Details → Error → Type 0

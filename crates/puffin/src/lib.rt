@@ -4,6 +4,7 @@
 //!
 //! | to | call |
 //! |---|---|
+//! | record one thread's scopes | [`thread_profiler::ThreadProfiler::new`]; `with_form` for texts of up to 16,383 bytes |
 //! | gather what threads report | [`global_profiler::GlobalProfiler::new`]; it is the [`thread_profiler::Reporter`] of each `end_scope` |
 //! | take a frame | [`global_profiler::GlobalProfiler::new_frame`] |
 //! | hand each frame to others too | [`global_profiler::GlobalProfiler::add_sink`], [`global_profiler::FrameSink`] |

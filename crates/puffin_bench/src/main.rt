@@ -21,9 +21,9 @@ use names::NameWork;
 use packets::{FileWork, Files};
 use puffin::scope_details::ScopeCollection;
 use puffin::thread_profiler::{ScriptClock, ThreadProfiler};
-use puffin_data::data::Stream;
+use puffin_data::data::{Form, Stream};
 use reports::profiled;
-use scopes::{Work, written};
+use scopes::{TEXT, Work, counted, stream_of, written};
 use sharing::{count_sharing, time_reports, time_shared_views, time_threads};
 use std::env;
 use std::time::Instant;
@@ -37,8 +37,6 @@ const NAME_ROUNDS: u32 = 1_000;
 const FILE_ROUNDS: u32 = 40;
 /// The same of views.
 const VIEW_ROUNDS: u32 = 10;
-/// A text of 12 bytes.
-const TEXT: &str = "image-12.png";
 
 /// A thread's profiler whose clock stands at 1.
 fn thread(rt: &HostRuntime) -> Result<ThreadProfiler<ScriptClock>> {
@@ -49,8 +47,8 @@ fn thread(rt: &HostRuntime) -> Result<ThreadProfiler<ScriptClock>> {
 /// Runs each work once, and prints what it counted.
 fn count(rt: &HostRuntime) -> Result<()> {
     for work in Work::ALL {
-        let mut stream = Stream::new(rt.alloc());
-        let scopes = written(&mut stream, &work).context("no memory")?;
+        let stream = stream_of(rt.alloc(), &work)?;
+        let scopes = counted(rt.alloc(), &stream)?;
         let bytes = stream.len();
         let name = work.name;
         println!(rt; "{name} scopes {scopes} bytes {bytes}")?;
@@ -67,6 +65,7 @@ fn count(rt: &HostRuntime) -> Result<()> {
 fn count_merges(rt: &HostRuntime) -> Result<()> {
     let work = MergeWork {
         name: "merge_wide",
+        form: Form::Short,
         frames: 4,
         children: 9,
         rounds: 1,
@@ -143,7 +142,7 @@ fn print(rt: &impl Print, name: &str, best: u128, units: usize) -> Result<()> {
 
 /// Times scopes in a stream whose memory is used again.
 fn time_scopes(rt: &HostRuntime, work: &Work) -> Result<()> {
-    let mut stream = Stream::new(rt.alloc());
+    let mut stream = Stream::with_form(rt.alloc(), work.form);
     let mut best = u128::MAX;
     let mut scopes = 0;
     for _ in 0..ROUNDS {
@@ -153,6 +152,25 @@ fn time_scopes(rt: &HostRuntime, work: &Work) -> Result<()> {
         best = best.min(begun.elapsed(rt)?.as_nanos());
     }
     print(rt, work.name, best, scopes)
+}
+
+/// Times a walk over the scopes of a work, which counts them.
+fn time_walk(rt: &HostRuntime, work: &Work) -> Result<()> {
+    let stream = stream_of(rt.alloc(), work)?;
+    let mut best = u128::MAX;
+    let mut scopes = 0;
+    for _ in 0..ROUNDS {
+        let begun = Instant::now(rt)?;
+        scopes = counted(rt.alloc(), &stream)?;
+        best = best.min(begun.elapsed(rt)?.as_nanos());
+    }
+    let name = work.name;
+    print(
+        rt,
+        format!(in rt.alloc(); "count_{name}")?.as_str(),
+        best,
+        scopes,
+    )
 }
 
 /// Times the scopes of a thread profiler, eight deep, with a report for each nest.
@@ -247,6 +265,9 @@ fn time_views(rt: &HostRuntime, work: &ViewWork) -> Result<()> {
 fn time(rt: &HostRuntime) -> Result<()> {
     for work in Work::ALL {
         time_scopes(rt, &work)?;
+    }
+    for work in Work::ALL {
+        time_walk(rt, &work)?;
     }
     time_thread(rt, "profiled_empty", "")?;
     time_thread(rt, "profiled_text12", TEXT)?;

@@ -1,26 +1,26 @@
 //! Frames whose scopes are merged.
 
-use crate::scopes::end;
+use crate::scopes::{TEXT, end};
 use puffin::frame_data::UnpackedFrameData;
 use puffin::merge::merge_scopes_for_thread;
 use puffin::scope_details::ScopeCollection;
 use puffin::thread_profiler::ThreadInfo;
 use puffin_data::Result;
-use puffin_data::data::{ScopeId, Stream, StreamInfo};
+use puffin_data::data::{Form, ScopeId, Stream, StreamInfo};
 use std::alloc::Global;
 use std::collections::BTreeMap;
 use std::sync::Arc;
 
 /// How many top scopes a frame has.
 const TOPS: u32 = 10;
-/// The text of each scope, of 12 bytes.
-const TEXT: &str = "image-12.png";
 
 /// Frames of one thread, of ten top scopes each.
 #[derive(Clone, Copy)]
 pub struct MergeWork {
     /// What it is called where its time is printed.
     pub name: &'static str,
+    /// The form of the streams.
+    pub form: Form,
     /// How many frames there are.
     pub frames: u32,
     /// How many scopes stand in each top scope.
@@ -30,31 +30,41 @@ pub struct MergeWork {
 }
 
 impl MergeWork {
-    /// Each kind of work: 1,000, 10,000 and 100,000 scopes a frame.
-    pub const ALL: [MergeWork; 3] = [
+    /// Each kind of work: 1,000, 10,000 and 100,000 scopes a frame, and 1,000 in the long form.
+    pub const ALL: [MergeWork; 4] = [
         MergeWork {
             name: "merge_wide",
+            form: Form::Short,
             frames: 200,
             children: 99,
             rounds: 40,
         },
         MergeWork {
             name: "merge_wide_10",
+            form: Form::Short,
             frames: 200,
             children: 999,
             rounds: 8,
         },
         MergeWork {
             name: "merge_wide_100",
+            form: Form::Short,
             frames: 20,
             children: 9_999,
             rounds: 8,
+        },
+        MergeWork {
+            name: "merge_long",
+            form: Form::Long,
+            frames: 200,
+            children: 99,
+            rounds: 40,
         },
     ];
 
     /// The stream of one frame, from a time on.
     fn stream(&self, alloc: Global, start: i64) -> Result<Stream> {
-        let mut stream = Stream::new(alloc);
+        let mut stream = Stream::with_form(alloc, self.form);
         let mut now = start;
         for top in 1..=TOPS {
             if let Some(id) = ScopeId::new(top) {

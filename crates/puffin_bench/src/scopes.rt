@@ -1,12 +1,20 @@
 //! Scopes that are begun and ended in a stream.
 
 use puffin_data::Result;
-use puffin_data::data::{ScopeId, Stream};
+use puffin_data::data::{Form, Reader, ScopeId, Stream};
+use std::alloc::Global;
 
 /// How many nests of scopes a run writes.
 const NESTS: usize = 512;
 /// How many scopes stand one within the other in a nest.
 const DEPTH: usize = 8;
+
+/// A text of 12 bytes.
+pub const TEXT: &str = "image-12.png";
+/// A text of 200 bytes, which the short form cuts.
+const LONG_TEXT: &str = "a text of two hundred bytes, as a path or a query may have it: \
+    assets/textures/environment/forest/autumn/ground/leaves-and-needles-with-stones-12-diffuse.png?\
+    size=4096&mips=all&format=bc7&repeat=xy&zz";
 
 /// A kind of work.
 #[derive(Clone, Copy)]
@@ -15,32 +23,56 @@ pub struct Work {
     pub name: &'static str,
     /// Whether the scopes stand one within the other, and not one after the other.
     pub nested: bool,
+    /// The form of the stream.
+    pub form: Form,
     /// The text of each scope.
     pub text: &'static str,
 }
 
 impl Work {
     /// Each kind of work.
-    pub const ALL: [Work; 4] = [
+    pub const ALL: [Work; 7] = [
         Work {
             name: "scope_empty",
             nested: true,
+            form: Form::Short,
             text: "",
         },
         Work {
             name: "scope_text12",
             nested: true,
-            text: "image-12.png",
+            form: Form::Short,
+            text: TEXT,
         },
         Work {
             name: "flat_empty",
             nested: false,
+            form: Form::Short,
             text: "",
         },
         Work {
             name: "flat_text12",
             nested: false,
-            text: "image-12.png",
+            form: Form::Short,
+            text: TEXT,
+        },
+        Work {
+            name: "long_text12",
+            nested: true,
+            form: Form::Long,
+            text: TEXT,
+        },
+        Work {
+            name: "long_text200",
+            nested: true,
+            form: Form::Long,
+            text: LONG_TEXT,
+        },
+        Work {
+            name: "long_flat_text200",
+            nested: false,
+            form: Form::Long,
+            text: LONG_TEXT,
         },
     ];
 }
@@ -97,4 +129,18 @@ pub fn written(stream: &mut Stream, work: &Work) -> Result<usize> {
         }
     }
     Ok(NESTS * DEPTH)
+}
+
+/// The stream of a work.
+pub fn stream_of(alloc: Global, work: &Work) -> Result<Stream> {
+    let mut stream = Stream::with_form(alloc, work.form);
+    let _scopes = written(&mut stream, work)?;
+    Ok(stream)
+}
+
+/// Counts the scopes of a stream, by a walk over it.
+#[inline(never)]
+pub fn counted(alloc: Global, stream: &Stream) -> Result<usize> {
+    let (scopes, _depth) = Reader::count_scope_and_depth(alloc, stream)?;
+    Ok(scopes)
 }

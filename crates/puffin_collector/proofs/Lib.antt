@@ -1,4 +1,5 @@
 pub mod lemmas
+mod Refusing
 mod Reporting
 mod Knowing
 mod Owning

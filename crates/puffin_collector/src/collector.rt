@@ -9,7 +9,7 @@ ghost use Rattle.puffin_threads.specs.Details.{details_of, details_seen, shared_
 ghost use Rattle.puffin_threads.specs.Details.Collection.{no_details};
 ghost use Rattle.puffin_frames.specs.Frame.Contents.{AreHonest};
 ghost use Rattle.puffin_frames.specs.Frame.Sums.{total_scopes, IsOrdered, DurationFits};
-ghost use Rattle.puffin_collector.specs.Profiler.State.{AcceptsReport, RefusesReport, after_adding, after_learning, after_wanting, PendingFits, range_with, IsTooLong, IsReportRefusal};
+ghost use Rattle.puffin_collector.specs.Profiler.State.{AcceptsReport, RefusesReport, after_adding, after_learning, after_wanting, PendingFits, range_with, IsTooLong, IsFirstCause, IsSumRefusal};
 ghost use Rattle.puffin_collector.specs.Profiler.Registering.{known_id, Adds, AddsSome};
 ghost use Rattle.puffin_collector.specs.Profiler.Collecting.{Collects, TellsIds, KeepsPending, AddsUp, KnowsSome};
 
@@ -18,7 +18,7 @@ use crate::totals::Totals;
 use puffin_data::data::{ScopeId, StreamInfoRef, is_range};
 use puffin_data::{Error, NanoSecond, Result};
 use puffin_frames::frame_data::{
-    FrameData, FrameIndex, FrameMeta, ThreadStreams, UnpackedFrameData, report_to,
+    FrameData, FrameIndex, FrameMeta, ThreadStreams, UnpackedFrameData, are_unlike, report_to,
 };
 use puffin_frames::laws;
 use puffin_frames::scope_details::{ScopeCollection, ScopeDetails, ScopeIds};
@@ -100,9 +100,10 @@ impl Collector {
     /// Appends a thread's scopes to those that are pending under its info, and details to those that are new in the next
     /// frame. The scopes have to be honest.
     ///
-    /// Refused with the first that applies, with nothing changed: `MissingId` where some details have no id; `TooLarge` where
-    /// the bytes or the scopes that are pending, or the scopes ever reported, wouldn't fit 64 bits; `RangeTooLong` where the
-    /// joined range of all that is pending wouldn't be reversed and its duration wouldn't fit `i64`; `Memory`.
+    /// Refused with the first that applies, with nothing changed: `MissingId` where some details have no id;
+    /// `UnlikeForms` where what is pending under the info and these scopes have bytes in unlike forms; `TooLarge` where
+    /// the bytes or the scopes that are pending, or the scopes ever reported, wouldn't fit 64 bits; `RangeTooLong` where
+    /// the joined range of all that is pending wouldn't be reversed and its duration wouldn't fit `i64`; `Memory`.
     pub fn report(
         &mut self,
         info: ThreadInfo,
@@ -121,9 +122,21 @@ impl Collector {
         laws::joined_ranges();
         laws::reported_streams();
         laws::honest_streams();
-        let (meta, reported) = self.with_report(details, times)?;
-        let mut fresh = copies(self.alloc, details)?;
-        self.new_details.reserve(fresh.len())?;
+        if !all_have_ids(details) {
+            return Err(Error::MissingId);
+        }
+        let (meta, reported) = match self.sums_with(times) {
+            Ok(sums) => sums,
+            Err(cause) => return Err(self.first_cause(&info, times, cause)),
+        };
+        let mut fresh = match copies(self.alloc, details) {
+            Ok(fresh) => fresh,
+            Err(cause) => return Err(self.first_cause(&info, times, cause)),
+        };
+        match self.new_details.reserve(fresh.len()) {
+            Ok(()) => {}
+            Err(_) => return Err(self.first_cause(&info, times, Error::Memory)),
+        }
         report_to(self.alloc, &mut self.pending, info, times)?;
         match self.new_details.append(&mut fresh) {
             Ok(()) => {}
@@ -134,28 +147,30 @@ impl Collector {
         Ok(())
     }
 
+    /// Why a report is refused that one cause refuses already: that cause, unless unlike forms stand before it.
+    fn first_cause(&self, info: &ThreadInfo, times: &StreamInfoRef, cause: Error) -> Error
+        ensures { IsFirstCause self.now (info_of info.now) (record_of_ref times.now) cause result }
+    {
+        if are_unlike(&self.pending, info, times) {
+            Error::UnlikeForms
+        } else {
+            cause
+        }
+    }
+
     /// What a frame of all that is pending would say with one report more, and how many scopes were ever reported then.
     /// Refused with the first cause that applies, memory aside.
-    fn with_report(
-        &self,
-        details: &[ScopeDetails],
-        times: &StreamInfoRef,
-    ) -> Result<(FrameMeta, u64)>
+    fn sums_with(&self, times: &StreamInfoRef) -> Result<(FrameMeta, u64)>
         ensures sums { IfOk result (λ sums.
             AddsUp self.now sums.0 (record_of_ref times.now)
             × (sums.1 ≡ self.now.reported + times.now.num_scopes)) }
-        ensures ids { OnOk result (AllHaveIds (details_seen details.now)) }
         ensures fits { OnOk result (
             PendingFits self.now (record_of_ref times.now)
             × ¬ IsTooLong (range_with self.now (record_of_ref times.now))) }
-        ensures refusal { IfErr result (λ e.
-            IsReportRefusal self.now (details_seen details.now) (record_of_ref times.now) e) }
+        ensures refusal { IfErr result (IsSumRefusal self.now (record_of_ref times.now)) }
     {
         // A law for the proof: the joined range with one stream more.
         laws::joined_ranges();
-        if !all_have_ids(details) {
-            return Err(Error::MissingId);
-        }
         let Some(meta) = self.meta.joined(times) else {
             return Err(Error::TooLarge);
         };

@@ -23,6 +23,7 @@ error_number error.SinkIdsExhausted = 13
 error_number error.TooDeep = 14
 error_number error.NoThread = 15
 error_number error.Memory = 16
+error_number error.UnlikeForms = 17
 
 abbrev pub error_name : Error → List ℕ
 error_name error.PrematureEnd = codes "PrematureEnd"
@@ -41,6 +42,7 @@ error_name error.SinkIdsExhausted = codes "SinkIdsExhausted"
 error_name error.TooDeep = codes "TooDeep"
 error_name error.NoThread = codes "NoThread"
 error_name error.Memory = codes "Memory"
+error_name error.UnlikeForms = codes "UnlikeForms"
 
 abbrev pub file_error_number : FileError → ℕ
 file_error_number file.Io = 1

@@ -1,10 +1,10 @@
 -- When what is said of a stream's scopes is true.
-use Rattle.std.specs.Prelude.{◌≡◌, ℕ, ◌+◌, max, ℤ, List, ◌++◌}
+use Rattle.std.specs.Prelude.{◌≡◌, ◌≢◌, ℕ, ◌+◌, ◌<◌, ◌==◌, if◌then◌else◌, max, ℤ, List, ◌++◌, length}
 use Rattle.std.specs.Int.{int_min, int_max}
 use Rattle.puffin_data.specs.declared.data.walk.Walk.{Walk}
 use Rattle.puffin_data.specs.declared.data.info.StreamInfo.{StreamInfo}
 use Rattle.puffin_data.specs.declared.data.info.StreamInfoRef.{StreamInfoRef}
-use Rattle.puffin_data.specs.declared.data.form.Form.TheVariants.{Short}
+use Rattle.puffin_data.specs.declared.data.form.Form.{Form}
 use Rattle.puffin_data.specs.Forest.{Forest}
 use Rattle.puffin_data.specs.Forest.Measures.{scope_count, height, least_start, greatest_stop}
 use Rattle.puffin_data.specs.Forest.Spelling.{Spells}
@@ -18,6 +18,7 @@ pub record Counts (w : Walk) (f : Forest) : Type 0 where
 
 -- what an info holds, whatever room its stream has
 pub record Recorded : Type 0 where
+  pub form : Form
   pub bytes : List ℕ
   pub num_scopes : ℕ
   pub depth : ℕ
@@ -25,6 +26,7 @@ pub record Recorded : Type 0 where
 
 abbrev pub record_of : StreamInfo → Recorded
 record_of info = record {
+  form = info.stream.form;
   bytes = info.stream.bytes;
   num_scopes = info.num_scopes;
   depth = info.depth;
@@ -33,15 +35,16 @@ record_of info = record {
 
 abbrev pub record_of_ref : StreamInfoRef → Recorded
 record_of_ref info = record {
+  form = info.form;
   bytes = info.stream.now;
   num_scopes = info.num_scopes;
   depth = info.depth;
   range_ns = info.range_ns;
 }
 
--- the bytes spell the forest, and the other fields are its measures
+-- the bytes spell the forest in their form, and the other fields are its measures
 pub record IsHonestRecord (r : Recorded) (f : Forest) : Type 0 where
-  pub stream : Spells Short r.bytes f
+  pub stream : Spells r.form r.bytes f
   pub counts : Counts (record { num_scopes = r.num_scopes; depth = r.depth; range_ns = r.range_ns })
       f
 
@@ -51,9 +54,18 @@ IsHonest info f = IsHonestRecord (record_of info) f
 abbrev pub IsHonestRef : StreamInfoRef → Forest → Type 0
 IsHonestRef info f = IsHonestRecord (record_of_ref info) f
 
+-- both have bytes, in unlike forms
+abbrev pub AreUnlike : Recorded → Recorded → Type 0
+AreUnlike a b = (0 < length a.bytes) × (0 < length b.bytes) × (a.form ≢ b.form)
+
+-- the form of both together: of one without bytes, the other's
+abbrev pub joined_form : Recorded → Recorded → Form
+joined_form a b = if length a.bytes == 0 then b.form else a.form
+
 -- one info after another
 abbrev pub joined_record : Recorded → Recorded → Recorded
 joined_record a b = record {
+  form = joined_form a b;
   bytes = a.bytes ++ b.bytes;
   num_scopes = a.num_scopes + b.num_scopes;
   depth = max a.depth b.depth;

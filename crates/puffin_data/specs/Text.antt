@@ -1,5 +1,6 @@
 -- What of a text is stored, and what of stored bytes is text.
 pub mod Lengths
+pub mod Flags
 use Rattle.std.specs.Prelude.{◌≡◌, ℕ, ◌≤◌, List, length, take, nat_le, if◌then◌else◌}
 use Rattle.std.specs.Str.{IsCharBoundary}
 use Rattle.std.specs.Str.Lossy.{utf8_valid_len}

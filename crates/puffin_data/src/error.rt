@@ -49,6 +49,8 @@ pub enum Error {
     NoThread,
     /// A growth, or a copy of an `Arc`, was refused.
     Memory,
+    /// Scopes with texts of one form were to be joined to scopes with texts of the other.
+    UnlikeForms,
 }
 
 impl Error {
@@ -80,6 +82,7 @@ impl Error {
             Error::TooDeep => "TooDeep",
             Error::NoThread => "NoThread",
             Error::Memory => "Memory",
+            Error::UnlikeForms => "UnlikeForms",
         }
     }
 }

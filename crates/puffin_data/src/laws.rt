@@ -9,7 +9,7 @@ ghost use Rattle.std.specs.Int.{int_min, int_max, w64};
 ghost use Rattle.puffin_data.specs.Forest.{Forest, IsForest, empty, append};
 ghost use Rattle.puffin_data.specs.Forest.Measures.{scope_count, height, least_start, greatest_stop};
 ghost use Rattle.puffin_data.specs.Forest.Spelling.{spelling, Spells, begin_bytes, end_size, head_size};
-ghost use Rattle.puffin_data.specs.Honesty.{Recorded, IsHonestRecord, joined_record};
+ghost use Rattle.puffin_data.specs.Honesty.{Recorded, IsHonestRecord, joined_record, AreUnlike};
 ghost use Rattle.puffin_data.specs.Walk.{IsFault, IsFirstFault, Sounds};
 ghost use Rattle.puffin_data.specs.Walk.Sights.{nested_in, Sight, Sees, scopes_of};
 ghost use Rattle.puffin_data.specs.Forest.Tour.{Event, Open, Close, tour, IsBalanced};
@@ -59,10 +59,10 @@ pub fn range_of_a_forest()
         least_start f ≤ℤ greatest_stop f }
 {}
 
-/// Two honest infos, one after the other, are an honest one.
+/// Two honest infos, one after the other, are an honest one, unless both have bytes in unlike forms.
 pub fn joined_infos()
-    ensures { (a b : Recorded) (f g : Forest) → IsHonestRecord a f → IsHonestRecord b g →
-        IsHonestRecord (joined_record a b) (append f g) }
+    ensures { (a b : Recorded) (f g : Forest) → ¬ AreUnlike a b → IsHonestRecord a f →
+        IsHonestRecord b g → IsHonestRecord (joined_record a b) (append f g) }
 {}
 
 /// Bytes have at most one first fault, at one place.
@@ -162,8 +162,8 @@ pub fn closing_measures()
         greatest_close (word ++ (Close stop ∷ [])) ≡ int_max (greatest_close word) stop }
 {}
 
-/// The cut of a text is its longest beginning of no more bytes than its form writes that ends where a character ends, nothing else is, and
-/// it is the text that is read of it. Its bytes are the text's.
+/// The cut of a text is its longest beginning of no more bytes than its form writes that ends where a character ends,
+/// nothing else is, and it is the text that is read of it. Its bytes are the text's.
 pub fn cut_texts()
     ensures is_cut { (form : Form) (text : List ℕ) → IsUtf8 text →
         IsCut form text (cut_text form text) }

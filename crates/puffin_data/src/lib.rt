@@ -7,6 +7,7 @@
 //! | to | call |
 //! |---|---|
 //! | write a scope | [`data::Stream::begin_scope`], [`data::Stream::end_scope`] |
+//! | write scopes with texts of up to 16,383 bytes | [`data::Stream::with_form`] and [`data::Form::Long`] |
 //! | see whether bytes are scopes, and count them | [`data::StreamInfo::parse`], [`data::Reader::count_scope_and_depth`] |
 //! | go over all scopes of a stream once | [`data::walk_with`] a [`data::Visitor`] |
 //! | look at the scopes of one level, one after the other | [`data::Reader::from_start`] as an iterator, [`data::Reader::read_top_scopes`] |

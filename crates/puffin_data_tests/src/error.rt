@@ -20,6 +20,7 @@ fn each_error_has_a_number_and_a_name(rt: HostRuntime) -> std::result::Result<()
         (Error::TooDeep, 14, "TooDeep"),
         (Error::NoThread, 15, "NoThread"),
         (Error::Memory, 16, "Memory"),
+        (Error::UnlikeForms, 17, "UnlikeForms"),
     ] {
         assert_eq!(rt; error.number(), number);
         assert_eq!(rt; error.name(), text);

@@ -1,6 +1,6 @@
 use crate::samples::{NONE, ONE, THREE, stream_of};
-use puffin_data::data::StreamInfo;
-use puffin_data::{NanoSecond, Result};
+use puffin_data::data::{Form, Stream, StreamInfo};
+use puffin_data::{Error, NanoSecond, Result};
 use std::alloc::Global;
 use std::process::Abort;
 use std::test::Fail;
@@ -56,5 +56,34 @@ fn a_copy_stays_when_an_info_is_cleared(rt: HostRuntime) -> std::result::Result<
     let mut both = Vec::from_slice(rt.alloc(), &ONE)?;
     both.extend_from_slice(THREE)?;
     assert!(rt; copy.stream.bytes() == both.as_slice());
+    Ok(())
+}
+
+/// The info of one scope without a text, in the long form. Its bytes are those of the short form.
+fn long_one(alloc: Global) -> Result<StreamInfo> {
+    let bytes = Vec::from_slice(alloc, &ONE)?;
+    StreamInfo::parse(alloc, Stream::from_bytes(bytes, Form::Long))
+}
+
+#[test]
+fn unlike_forms_are_not_joined(rt: HostRuntime) -> std::result::Result<(), Fail> {
+    let mut info = StreamInfo::parse(rt.alloc(), stream_of(rt.alloc(), THREE)?)?;
+    let long = long_one(rt.alloc())?;
+    assert_eq!(rt;
+        info.extend(&long.as_stream_into_ref()),
+        Err(Error::UnlikeForms)
+    );
+    is_info(&rt, &info, (131, 3, 2), (100, 400));
+    Ok(())
+}
+
+#[test]
+fn an_info_without_bytes_takes_the_other_s_form(rt: HostRuntime) -> std::result::Result<(), Fail> {
+    let mut info = StreamInfo::new(rt.alloc());
+    info.extend(&long_one(rt.alloc())?.as_stream_into_ref())?;
+    assert_eq!(rt; info.stream.form(), Form::Long);
+    info.extend(&StreamInfo::new(rt.alloc()).as_stream_into_ref())?;
+    assert_eq!(rt; info.stream.form(), Form::Long);
+    is_info(&rt, &info, (31, 1, 1), (100, 300));
     Ok(())
 }

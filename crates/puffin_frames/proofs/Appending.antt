@@ -12,6 +12,9 @@ three o p q r a b c f g h = two o p r a (b ++ c) f (two p q r b c g h)
 pub five : (o p q r s t a b c d e : List ℕ) → p ≡ o ++ a → q ≡ p ++ b → r ≡ q ++ c → s ≡ r ++ d → t ≡ s ++ e → t ≡ o ++ (a ++ (b ++ (c ++ (d ++ e))))
 five o p q r s t a b c d e f g h i j = two o p t a (b ++ (c ++ (d ++ e))) f (two p q t b (c ++ (d ++ e)) g (three q r s t c d e h i j))
 
+pub six : (o n p q r s t f a b c d e : List ℕ) → n ≡ o ++ f → p ≡ n ++ a → q ≡ p ++ b → r ≡ q ++ c → s ≡ r ++ d → t ≡ s ++ e → t ≡ o ++ (f ++ (a ++ (b ++ (c ++ (d ++ e)))))
+six o n p q r s t f a b c d e first g h i j k = two o n t f (a ++ (b ++ (c ++ (d ++ e)))) first (five n p q r s t a b c d e g h i j k)
+
 -- what was written of a list's items so far, and what is still to be written
 pub record Writes {A : Type 0} (layout : A → List ℕ) (fits : A → Type 0) (before now : List ℕ) (rest all : List A) : Type 0 where
   pub done : List A

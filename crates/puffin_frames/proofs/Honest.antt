@@ -11,13 +11,13 @@ use Rattle.std.specs.FinMap.Entries.{below_all}
 use Rattle.std.proofs.lemmas.Cmp.{tied_itself}
 use Rattle.std.proofs.lemmas.Int.{ints, clamps}
 use Rattle.std.proofs.lemmas.Grind.{merely, not_there}
-use Rattle.puffin_data.specs.declared.data.form.Form.TheVariants.{Short}
+use Rattle.puffin_data.specs.declared.data.form.Form.{Form}
 use Rattle.puffin_data.specs.Forest.{Forest, IsForest, append}
 use Rattle.puffin_data.specs.Forest as forest
 use Rattle.puffin_data.specs.Forest.Measures as measure
-use Rattle.puffin_data.specs.Honesty.{Recorded, IsHonestRecord, joined_record}
+use Rattle.puffin_data.specs.Honesty.{Recorded, IsHonestRecord, AreUnlike, joined_record}
 use Rattle.puffin_threads.specs.Thread.Info.{Info, info_cmp, same_info}
-use Rattle.puffin_frames.specs.Frame.Contents.{Streams, reported_to, no_scopes, AreHonest}
+use Rattle.puffin_frames.specs.Frame.Contents.{Streams, stream_under, reported_to, no_scopes, AreHonest}
 use Rattle.puffin_frames.specs.Frame.Sums.{total_scopes, joined_start, joined_stop, joined_range, IsOrdered}
 use Rattle.puffin_threads.proofs.lemmas.Infos.{info_cmp_total, info_cmp-one}
 use Rattle.puffin_frames.proofs.lemmas.Measured.{first, second, less, total_scopes-one}
@@ -28,7 +28,7 @@ IsHonestSomehow r = ∥ ((f : Forest) × IsHonestRecord r f) ∥₁
 
 -- the law of joined infos
 abbrev pub Joins : Type 0
-Joins = (a b : Recorded) (f g : Forest) → IsHonestRecord a f → IsHonestRecord b g → IsHonestRecord (joined_record a b) (append f g)
+Joins = (a b : Recorded) (f g : Forest) → (AreUnlike a b → ⊥) → IsHonestRecord a f → IsHonestRecord b g → IsHonestRecord (joined_record a b) (append f g)
 
 none_honest : IsHonestRecord no_scopes forest.empty
 none_honest = record {
@@ -39,18 +39,18 @@ none_honest = record {
 pub honest-none : AreHonest empty
 honest-none i r found = let none = get-empty {X = Recorded} info_cmp i in absurd cc
 
-joined_honest : Joins → (o : Option Recorded) (r : Recorded) (f : Forest) → IsHonestRecord r f → ((x : Recorded) → o ≡ Some x → IsHonestSomehow x) → IsHonestSomehow (joined_record (unwrap_or o no_scopes) r)
-joined_honest joins None r f h before = merely (append forest.empty f, joins no_scopes r forest.empty f none_honest h)
-joined_honest joins (Some x) r f h before = ∥∥₁_map (before x refl) (λ p. (append p.0 f, joins x r p.0 f p.1 h))
+joined_honest : Joins → (o : Option Recorded) (r : Recorded) (f : Forest) → (AreUnlike (unwrap_or o no_scopes) r → ⊥) → IsHonestRecord r f → ((x : Recorded) → o ≡ Some x → IsHonestSomehow x) → IsHonestSomehow (joined_record (unwrap_or o no_scopes) r)
+joined_honest joins None r f like h before = merely (append forest.empty f, joins no_scopes r forest.empty f like none_honest h)
+joined_honest joins (Some x) r f like h before = ∥∥₁_map (before x refl) (λ p. (append p.0 f, joins x r p.0 f like p.1 h))
 
 at_test : (b : Bool) (j x : Recorded) (o : Option Recorded) → IsHonestSomehow j → (o ≡ Some x → IsHonestSomehow x) → cond b (Some j) o ≡ Some x → IsHonestSomehow x
 at_test true j x o h before found = let same : j ≡ x = cc in subst IsHonestSomehow same h
 at_test false j x o h before found = before found
 
-pub honest-report : Joins → (streams : Streams) (i : Info) (r : Recorded) (f : Forest) → AreHonest streams → IsHonestRecord r f → AreHonest (reported_to streams i r)
-honest-report joins streams i r f honest h q x found =
+pub honest-report : Joins → (streams : Streams) (i : Info) (r : Recorded) (f : Forest) → (AreUnlike (stream_under streams i) r → ⊥) → AreHonest streams → IsHonestRecord r f → AreHonest (reported_to streams i r)
+honest-report joins streams i r f like honest h q x found =
     let more = joined_record (unwrap_or (get streams i) no_scopes) r in
-    at_test (same_info q i) more x (get streams q) (joined_honest joins (get streams i) r f h (λ y. honest i y)) (honest q x) (sym (get-insert info_cmp_total streams i more q) ∙ found)
+    at_test (same_info q i) more x (get streams q) (joined_honest joins (get streams i) r f like h (λ y. honest i y)) (honest q x) (sym (get-insert info_cmp_total streams i more q) ∙ found)
 
 -- ---- what holds at each info holds of each stream
 none_at : (x : Info) (es : List (Info × Recorded)) → T (below_all info_cmp x es) → find info_cmp x es ≡ None
@@ -76,13 +76,13 @@ all_from_each P (e ∷ es) sorted each = (
 -- ---- the joined range
 -- the law of a forest's range
 abbrev pub Ordered : Type 0
-Ordered = (f : Forest) → IsForest Short f → 0 < measure.scope_count f → measure.least_start f ≤ℤ measure.greatest_stop f
+Ordered = (form : Form) (f : Forest) → IsForest form f → 0 < measure.scope_count f → measure.least_start f ≤ℤ measure.greatest_stop f
 
 one_ordered : Ordered → (x : Recorded) → IsHonestSomehow x → 0 < x.num_scopes → ¬ (x.range_ns.1 <ℤ x.range_ns.0)
 one_ordered law x honest some reversed =
     not_there honest (λ p.
     let h = p.1 in
-    let ordered = law p.0 h.stream.fits (omega (arith, h.counts.num_scopes)) in
+    let ordered = law x.form p.0 h.stream.fits (omega (arith, h.counts.num_scopes)) in
     omega (arith, ints, ordered, h.counts.least_start, h.counts.greatest_stop, reversed))
 
 not_above : (a b : ℤ) → ¬ (b <ℤ a) → a ≤ℤ b

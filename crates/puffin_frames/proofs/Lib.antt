@@ -1,6 +1,7 @@
 pub mod lemmas
 mod Appending
 mod Listed
+mod FormsOfAll
 mod Structs
 mod PacketsRead
 mod Writing

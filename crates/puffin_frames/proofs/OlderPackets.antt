@@ -4,6 +4,8 @@ use Rattle.std.proofs.lemmas.Bool.{le-ltb}
 use Rattle.std.proofs.lemmas.List.{length-append}
 use Rattle.byteorder.specs.Endian.{little_bytes, little_number}
 use Rattle.byteorder.specs.Numbers.{little_number-reads_back}
+use Rattle.puffin_data.specs.declared.data.form.Form.{Form}
+use Rattle.puffin_data.specs.declared.data.form.Form.TheVariants.{Short}
 use Rattle.puffin_data.specs.Value.Layout.{number, signed}
 use Rattle.puffin_data.proofs.lemmas.Readers.{whole_again}
 use Rattle.puffin_threads.specs.Details.{Details}
@@ -25,10 +27,14 @@ streams_51 : (p : Said) (rest : List ℕ) → IsPacked p → streams_part_at 51 
 streams_51 p rest h =
     rw (length_again (length p.streams) (p.kind ∷ (p.streams ++ rest)) h.short, part_again 1 (p.kind ∷ []) (p.streams ++ rest) refl, h.kind, part_again (length p.streams) p.streams rest refl) refl
 
-parts_51 : (p : Said) (rest : List ℕ) → IsPacked p → p.details ≡ []
+-- what older packets can't say otherwise
+without : (p : Said) → p.form ≡ Short → p.details ≡ [] → record p { form = Short; details = [] } ≡ p
+without p short none = ap (λ (form : Form). record p { form = form; details = [] }) (sym short) ∙ ap (λ (ds : List Details). record p { details = ds }) (sym none)
+
+parts_51 : (p : Said) (rest : List ℕ) → IsPacked p → p.form ≡ Short → p.details ≡ []
     → packet_at 51 (counted_part (meta_layout p.meta) ++ (little_bytes 4 (length p.streams) ++ (p.kind ∷ (p.streams ++ rest)))) ≡ Ok (p, rest)
-parts_51 p rest h none =
-    rw (meta_again p (little_bytes 4 (length p.streams) ++ (p.kind ∷ (p.streams ++ rest))) h, streams_51 p rest h) (ap (λ (ds : List Details). Ok (record p { details = ds }, rest)) (sym none))
+parts_51 p rest h short none =
+    rw (meta_again p (little_bytes 4 (length p.streams) ++ (p.kind ∷ (p.streams ++ rest))) h, streams_51 p rest h) (ap (λ (s : Said). Ok (s, rest)) (without p short none))
 
 after_51 : (xs : List ℕ) → next_at (80 ∷ 70 ∷ 68 ∷ 51 ∷ xs) ≡ as_stored packed (packet_at 51 xs)
 unfolding next_at
@@ -39,11 +45,11 @@ after_51 xs =
 pub row_51 : (m l s rest : List ℕ) (kind : ℕ) → ((80 ∷ 70 ∷ 68 ∷ 51 ∷ []) ++ (m ++ (l ++ (kind ∷ s)))) ++ rest ≡ 80 ∷ 70 ∷ 68 ∷ 51 ∷ (m ++ (l ++ (kind ∷ (s ++ rest))))
 row_51 m l s rest kind = simp append_assoc
 
-pub without_details_again : (p : Said) (rest : List ℕ) → IsPacked p → p.details ≡ [] → next_at (packet_without_details p ++ rest) ≡ Ok (Some (packed p), rest)
-without_details_again p rest h none =
+pub without_details_again : (p : Said) (rest : List ℕ) → IsPacked p → p.form ≡ Short → p.details ≡ [] → next_at (packet_without_details p ++ rest) ≡ Ok (Some (packed p), rest)
+without_details_again p rest h short none =
     let m = counted_part (meta_layout p.meta) in
     let l = little_bytes 4 (length p.streams) in
-    ap next_at (row_51 m l p.streams rest p.kind) ∙ (after_51 (m ++ (l ++ (p.kind ∷ (p.streams ++ rest)))) ∙ ap (as_stored packed) (parts_51 p rest h none))
+    ap next_at (row_51 m l p.streams rest p.kind) ∙ (after_51 (m ++ (l ++ (p.kind ∷ (p.streams ++ rest)))) ∙ ap (as_stored packed) (parts_51 p rest h short none))
 
 -- ---- without a kind
 
@@ -51,13 +57,13 @@ streams_50 : (p : Said) (rest : List ℕ) → IsPacked p → streams_part_at 50 
 streams_50 p rest h =
     rw (length_again (length p.streams) (p.streams ++ rest) h.short, part_again (length p.streams) p.streams rest refl) refl
 
-older : (p : Said) → p.kind ≡ 2 → p.details ≡ [] → record p { kind = 2; details = [] } ≡ p
-older p two none = ap (λ (k : ℕ). record p { kind = k; details = [] }) (sym two) ∙ ap (λ (ds : List Details). record p { details = ds }) (sym none)
+older : (p : Said) → p.form ≡ Short → p.kind ≡ 2 → p.details ≡ [] → record p { form = Short; kind = 2; details = [] } ≡ p
+older p short two none = ap (λ (k : ℕ). record p { form = Short; kind = k; details = [] }) (sym two) ∙ without p short none
 
-parts_50 : (p : Said) (rest : List ℕ) → IsPacked p → p.kind ≡ 2 → p.details ≡ []
+parts_50 : (p : Said) (rest : List ℕ) → IsPacked p → p.form ≡ Short → p.kind ≡ 2 → p.details ≡ []
     → packet_at 50 (counted_part (meta_layout p.meta) ++ (little_bytes 4 (length p.streams) ++ (p.streams ++ rest))) ≡ Ok (p, rest)
-parts_50 p rest h two none =
-    rw (meta_again p (little_bytes 4 (length p.streams) ++ (p.streams ++ rest)) h, streams_50 p rest h) (ap (λ (s : Said). Ok (s, rest)) (older p two none))
+parts_50 p rest h short two none =
+    rw (meta_again p (little_bytes 4 (length p.streams) ++ (p.streams ++ rest)) h, streams_50 p rest h) (ap (λ (s : Said). Ok (s, rest)) (older p short two none))
 
 after_50 : (xs : List ℕ) → next_at (80 ∷ 70 ∷ 68 ∷ 50 ∷ xs) ≡ as_stored packed (packet_at 50 xs)
 unfolding next_at
@@ -68,18 +74,18 @@ after_50 xs =
 pub row_50 : (m l s rest : List ℕ) → ((80 ∷ 70 ∷ 68 ∷ 50 ∷ []) ++ (m ++ (l ++ s))) ++ rest ≡ 80 ∷ 70 ∷ 68 ∷ 50 ∷ (m ++ (l ++ (s ++ rest)))
 row_50 m l s rest = simp append_assoc
 
-pub without_kind_again : (p : Said) (rest : List ℕ) → IsPacked p → p.kind ≡ 2 → p.details ≡ [] → next_at (packet_without_kind p ++ rest) ≡ Ok (Some (packed p), rest)
-without_kind_again p rest h two none =
+pub without_kind_again : (p : Said) (rest : List ℕ) → IsPacked p → p.form ≡ Short → p.kind ≡ 2 → p.details ≡ [] → next_at (packet_without_kind p ++ rest) ≡ Ok (Some (packed p), rest)
+without_kind_again p rest h short two none =
     let m = counted_part (meta_layout p.meta) in
     let l = little_bytes 4 (length p.streams) in
-    ap next_at (row_50 m l p.streams rest) ∙ (after_50 (m ++ (l ++ (p.streams ++ rest))) ∙ ap (as_stored packed) (parts_50 p rest h two none))
+    ap next_at (row_50 m l p.streams rest) ∙ (after_50 (m ++ (l ++ (p.streams ++ rest))) ∙ ap (as_stored packed) (parts_50 p rest h short two none))
 
 -- ---- the first form
 
 legacy_long : (l : Legacy) → 0 < length (legacy_layout l)
 legacy_long l =
     let index = number l.meta.frame_index in
-    let rest = streams_layout l.streams ++ (signed l.meta.range_ns.0 ++ (signed l.meta.range_ns.1 ++ (number l.meta.num_bytes ++ number l.meta.num_scopes))) in
+    let rest = streams_layout Short l.streams ++ (signed l.meta.range_ns.0 ++ (signed l.meta.range_ns.1 ++ (number l.meta.num_bytes ++ number l.meta.num_scopes))) in
     omega (arith, length-append index rest, number_long l.meta.frame_index)
 
 legacy_part_again : (l : Legacy) (rest : List ℕ) → IsFirstForm l → legacy_part_at (length (legacy_layout l)) (legacy_layout l ++ rest) ≡ Ok (l, rest)

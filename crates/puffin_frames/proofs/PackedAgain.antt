@@ -5,13 +5,14 @@ use Rattle.std.specs.FinMap.{entries, entries_sorted, from_sorted, entries-from_
 use Rattle.puffin_data.proofs.lemmas.Readers.{whole_again}
 use Rattle.puffin_threads.specs.Thread.Info.{info_cmp}
 use Rattle.puffin_frames.specs.Frame.Streams.{Streams}
-use Rattle.puffin_frames.specs.Packet.Structs.{AreStreams, streams_layout, streams_at}
+use Rattle.puffin_frames.specs.Packet.Structs.{form_of_all, AreStreams, streams_layout, streams_at}
 use Rattle.puffin_frames.specs.Frame.Holding.{streams_in, plainly_packed}
 use Rattle.puffin_frames.proofs.Structs.{streams_reader}
 
 from_entries_back : (m : Streams) → from_sorted {R = info_cmp} (entries m) ≡ m
 from_entries_back m = same_entries_map (from_sorted (entries m)) m (entries-from_sorted info_cmp (entries m) (entries_sorted m))
 
-pub packed_again : (m : Streams) → AreStreams (entries m) → streams_in (plainly_packed m) ≡ Some m
+pub packed_again : (m : Streams) → AreStreams (form_of_all (entries m)) (entries m) → streams_in (plainly_packed m) ≡ Some m
 packed_again m h =
-    ap (option_map from_sorted) (whole_again AreStreams streams_layout streams_at streams_reader (entries m) h) ∙ ap Some (from_entries_back m)
+    let packed = form_of_all (entries m) in
+    ap (option_map from_sorted) (whole_again (AreStreams packed) (streams_layout packed) (streams_at packed) (streams_reader packed) (entries m) h) ∙ ap Some (from_entries_back m)

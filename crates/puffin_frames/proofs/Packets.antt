@@ -1,15 +1,18 @@
 -- A packet that was written is read again, whatever follows it.
-use Rattle.std.proofs.Common.{◌≡◌, ℕ, ◌^◌, ◌<◌, false, ltb, List, [], ◌∷◌, ◌++◌, length, Option, Some, Result, Ok, refl, sym, ap, ◌∙◌, append_assoc, arith}
+use Rattle.std.proofs.Common.{◌≡◌, ℕ, Bool, true, eqb, ◌||◌, ◌^◌, ◌<◌, false, ltb, List, [], ◌∷◌, ◌++◌, length, Option, Some, Result, Ok, refl, sym, ap, ◌∙◌, append_assoc, arith}
 use Rattle.std.proofs.lemmas.Bool.{le-ltb}
 use Rattle.std.proofs.lemmas.List.{take_at, drop_at, length-append}
 use Rattle.byteorder.specs.Endian.{little_bytes, little_number}
 use Rattle.byteorder.specs.Numbers.{little_number-reads_back}
+use Rattle.puffin_data.specs.declared.data.form.Form.{Form}
+use Rattle.puffin_data.specs.declared.data.form.Form.TheVariants.{Short, Long}
 use Rattle.puffin_data.specs.declared.file_error.FileError.{FileError}
 use Rattle.puffin_data.specs.Part.{part_of, length_at, counted_part_at}
 use Rattle.puffin_data.specs.Value.Layout.{NoneBeginsAnother}
 use Rattle.puffin_data.proofs.lemmas.Readers.{whole_again}
 use Rattle.puffin_frames.specs.Packet.Structs.{IsMeta, meta_layout, meta_at, AreDetails, details_layout, details_at}
 use Rattle.puffin_frames.specs.Packet.Stored.{Said, Stored, packed}
+use Rattle.puffin_frames.specs.Packet.Letters.{letter_for, form_behind}
 use Rattle.puffin_frames.specs.Packet.Parts.{meta_part_at, streams_part_at, details_part_at}
 use Rattle.puffin_frames.specs.Packet.Forms.{packet_at, as_stored}
 use Rattle.puffin_frames.specs.Packet.Front.{next_at}
@@ -35,29 +38,42 @@ pub meta_again : (p : Said) (rest : List ℕ) → IsPacked p → meta_part_at (c
 meta_again p rest h =
     rw (counted_again (meta_layout p.meta) rest (meta_short p.meta), whole_again IsMeta meta_layout meta_at meta_reader p.meta h.meta, h.range) refl
 
-streams_again : (p : Said) (rest : List ℕ) → IsPacked p → streams_part_at 52 (little_bytes 4 (length p.streams) ++ (p.kind ∷ (p.streams ++ rest))) ≡ Ok ((p.kind, p.streams), rest)
-streams_again p rest h =
-    rw (length_again (length p.streams) (p.kind ∷ (p.streams ++ rest)) h.short, part_again 1 (p.kind ∷ []) (p.streams ++ rest) refl, h.kind, part_again (length p.streams) p.streams rest refl) refl
+-- what the letter of a packet that is written says
+pub record Letter (form : Form) (letter : ℕ) : Type 0 where
+  pub other : eqb letter 50 ≡ false
+  pub details : (eqb letter 52 || eqb letter 76) ≡ true
+  pub behind : form_behind letter ≡ form
 
-details_again : (p : Said) (rest : List ℕ) → IsPacked p → details_part_at 52 (counted_part (details_layout p.details) ++ rest) ≡ Ok (p.details, rest)
+pub letter_of : (form : Form) → Letter form (letter_for form)
+letter_of Short = record { other = refl; details = refl; behind = refl }
+letter_of Long = record { other = refl; details = refl; behind = refl }
+
+streams_again : (p : Said) (rest : List ℕ) → IsPacked p → streams_part_at (letter_for p.form) (little_bytes 4 (length p.streams) ++ (p.kind ∷ (p.streams ++ rest))) ≡ Ok ((p.kind, p.streams), rest)
+streams_again p rest h =
+    rw ((letter_of p.form).other, length_again (length p.streams) (p.kind ∷ (p.streams ++ rest)) h.short, part_again 1 (p.kind ∷ []) (p.streams ++ rest) refl, h.kind, part_again (length p.streams) p.streams rest refl) refl
+
+details_again : (p : Said) (rest : List ℕ) → IsPacked p → details_part_at (letter_for p.form) (counted_part (details_layout p.details) ++ rest) ≡ Ok (p.details, rest)
 details_again p rest h =
-    rw (counted_again (details_layout p.details) rest h.details_short, whole_again AreDetails details_layout details_at details_reader p.details h.details) refl
+    rw ((letter_of p.form).details, counted_again (details_layout p.details) rest h.details_short, whole_again AreDetails details_layout details_at details_reader p.details h.details) refl
 
 parts_again : (p : Said) (rest : List ℕ) → IsPacked p
-    → packet_at 52 (counted_part (meta_layout p.meta) ++ (little_bytes 4 (length p.streams) ++ (p.kind ∷ (p.streams ++ (counted_part (details_layout p.details) ++ rest))))) ≡ Ok (p, rest)
+    → packet_at (letter_for p.form) (counted_part (meta_layout p.meta) ++ (little_bytes 4 (length p.streams) ++ (p.kind ∷ (p.streams ++ (counted_part (details_layout p.details) ++ rest))))) ≡ Ok (p, rest)
 parts_again p rest h =
     let d = counted_part (details_layout p.details) ++ rest in
-    rw (meta_again p (little_bytes 4 (length p.streams) ++ (p.kind ∷ (p.streams ++ d))) h, streams_again p d h, details_again p rest h) refl
+    rw (meta_again p (little_bytes 4 (length p.streams) ++ (p.kind ∷ (p.streams ++ d))) h, streams_again p d h, details_again p rest h) (ap (λ (form : Form). Ok (record p { form = form }, rest)) (letter_of p.form).behind)
 
-after_letters : (xs : List ℕ) → next_at (80 ∷ 70 ∷ 68 ∷ 52 ∷ xs) ≡ as_stored packed (packet_at 52 xs)
+after_letters : (form : Form) (xs : List ℕ) → next_at (80 ∷ 70 ∷ 68 ∷ letter_for form ∷ xs) ≡ as_stored packed (packet_at (letter_for form) xs)
 unfolding next_at
-after_letters xs =
+after_letters Short xs =
     let long : ltb (length (80 ∷ 70 ∷ 68 ∷ 52 ∷ xs)) 4 ≡ false = le-ltb _ _ (omega arith) in
+    rw long refl
+after_letters Long xs =
+    let long : ltb (length (80 ∷ 70 ∷ 68 ∷ 76 ∷ xs)) 4 ≡ false = le-ltb _ _ (omega arith) in
     rw long refl
 
 -- a packet with its parts in a row
-pub in_a_row : (m l s d rest : List ℕ) (kind : ℕ) → ((((80 ∷ 70 ∷ 68 ∷ 52 ∷ []) ++ (m ++ (l ++ (kind ∷ [])))) ++ s) ++ d) ++ rest ≡ 80 ∷ 70 ∷ 68 ∷ 52 ∷ (m ++ (l ++ (kind ∷ (s ++ (d ++ rest)))))
-in_a_row m l s d rest kind = simp append_assoc
+pub in_a_row : (m l s d rest : List ℕ) (letter kind : ℕ) → ((((80 ∷ 70 ∷ 68 ∷ letter ∷ []) ++ (m ++ (l ++ (kind ∷ [])))) ++ s) ++ d) ++ rest ≡ 80 ∷ 70 ∷ 68 ∷ letter ∷ (m ++ (l ++ (kind ∷ (s ++ (d ++ rest)))))
+in_a_row m l s d rest letter kind = simp append_assoc
 
 pub packet_again : (p : Said) (rest : List ℕ) → IsPacked p → next_at (packet p ++ rest) ≡ Ok (Some (packed p), rest)
 unfolding packet_head
@@ -65,7 +81,7 @@ packet_again p rest h =
     let m = counted_part (meta_layout p.meta) in
     let l = little_bytes 4 (length p.streams) in
     let d = counted_part (details_layout p.details) in
-    ap next_at (in_a_row m l p.streams d rest p.kind) ∙ (after_letters (m ++ (l ++ (p.kind ∷ (p.streams ++ (d ++ rest))))) ∙ ap (as_stored packed) (parts_again p rest h))
+    ap next_at (in_a_row m l p.streams d rest (letter_for p.form) p.kind) ∙ (after_letters p.form (m ++ (l ++ (p.kind ∷ (p.streams ++ (d ++ rest))))) ∙ ap (as_stored packed) (parts_again p rest h))
 
 said_is : (a b : Said) → packed a ≡ packed b → a ≡ b
 said_is a b e = cc

@@ -4,6 +4,8 @@ use Rattle.std.specs.Prelude.{◌↔◌, nat_lt, slice_index}
 use Rattle.std.proofs.lemmas.Bool.{ltb-false, eqb-true}
 use Rattle.std.proofs.lemmas.List.{append-nil, take_all, take-append-drop, length-take, length-append}
 use Rattle.byteorder.specs.Endian.{little_bytes, little_number}
+use Rattle.puffin_data.specs.declared.data.form.Form.{Form}
+use Rattle.puffin_data.specs.declared.data.form.Form.TheVariants.{Short, Long}
 use Rattle.puffin_data.specs.declared.file_error.FileError.{FileError}
 use Rattle.puffin_data.specs.declared.file_error.FileError.TheVariants as file
 use Rattle.puffin_data.specs.Value.Layout.{IsBytes, number}
@@ -14,8 +16,8 @@ use Rattle.puffin_data.proofs.lemmas.Readers.{IsBytes-after}
 use Rattle.puffin_threads.specs.Details.{Details}
 use Rattle.puffin_frames.specs.Packet.Structs.{meta_layout, details_layout, Legacy, legacy_layout}
 use Rattle.puffin_frames.specs.Packet.Stored.{Said, Stored, packed, legacy}
-use Rattle.puffin_frames.specs.Packet.Letters.{is_packet}
-use Rattle.puffin_frames.specs.Packet.Parts.{meta_part_at, kind_at, streams_part_at, details_part_at, legacy_part_at}
+use Rattle.puffin_frames.specs.Packet.Letters.{letter_for, form_behind, is_packet}
+use Rattle.puffin_frames.specs.Packet.Parts.{meta_part_at, kind_at, streams_part_at, given_details_at, details_part_at, legacy_part_at}
 use Rattle.puffin_frames.specs.Packet.Forms.{packet_at, form_at, as_stored, stored_after}
 use Rattle.puffin_frames.specs.Packet.Front.{is_end, next_at}
 use Rattle.puffin_frames.specs.Packet.Grammar.{counted_part, packet_head, packet, IsPacked, packet_without_details, packet_without_kind, legacy_bytes, Stores, TookStored}
@@ -23,7 +25,7 @@ use Rattle.puffin_frames.proofs.Listed.{and-first, and-second}
 use Rattle.puffin_frames.proofs.Writing.{number_short}
 use Rattle.puffin_frames.proofs.PartsTaken.{bind_ok, same_ok, part_taken, length_taken, meta_taken, given_kind_at, kind_taken, details_taken, LegacyTaken, legacy_taken}
 use Rattle.puffin_frames.proofs.OlderPackets.{row_51, row_50, without_details_again, without_kind_again, legacy_again}
-use Rattle.puffin_frames.proofs.Packets.{packet_again, in_a_row}
+use Rattle.puffin_frames.proofs.Packets.{Letter, letter_of, packet_again, in_a_row}
 
 -- ---- streams
 
@@ -34,6 +36,9 @@ record StreamsTaken (bytes : List ℕ) (k : ℕ) (s rest : List ℕ) : Type 0 wh
 
 otherwise : {A : Type 0} (b : Bool) (x y z : A) → b ≡ false → cond b x y ≡ z → y ≡ z
 otherwise b x y z fails e = rw fails at e
+
+only : {A : Type 0} (b : Bool) (x y z : A) → b ≡ true → cond b x y ≡ z → x ≡ z
+only b x y z holds e = rw holds at e
 
 streams_taken : (letter : ℕ) (bytes : List ℕ) (ks : ℕ × List ℕ) (rest : List ℕ) → eqb letter 50 ≡ false → IsBytes bytes → streams_part_at letter bytes ≡ Ok (ks, rest) → StreamsTaken bytes ks.0 ks.1 rest
 streams_taken letter bytes ks rest other is e =
@@ -70,44 +75,48 @@ plain_taken bytes ks rest is e =
 none_short : length (details_layout []) < 2 ^ 32
 none_short = omega (arith, number_short 0, length-append (number 0) [])
 
-record FullTaken (bytes : List ℕ) (p : Said) (rest : List ℕ) : Type 0 where
+record FullTaken (form : Form) (bytes : List ℕ) (p : Said) (rest : List ℕ) : Type 0 where
   is_packed : IsPacked p
+  form_is : p.form ≡ form
   text : bytes ≡ counted_part (meta_layout p.meta) ++ (little_bytes 4 (length p.streams) ++ (p.kind ∷ (p.streams ++ (counted_part (details_layout p.details) ++ rest))))
 
-full_taken : (bytes : List ℕ) (p : Said) (rest : List ℕ) → IsBytes bytes → packet_at 52 bytes ≡ Ok (p, rest) → FullTaken bytes p rest
-full_taken bytes p rest is e =
-    let a = bind_ok (meta_part_at bytes) (λ meta. streams_part_at 52 meta.1 >>= λ streams. details_part_at 52 streams.1 >>= λ details. Ok (record { meta = meta.0; kind = streams.0.0; streams = streams.0.1; details = details.0 }, details.1)) (p, rest) e in
-    let b = bind_ok (streams_part_at 52 a.0.1) (λ streams. details_part_at 52 streams.1 >>= λ details. Ok (record { meta = a.0.0; kind = streams.0.0; streams = streams.0.1; details = details.0 }, details.1)) (p, rest) a.2 in
-    let d = bind_ok (details_part_at 52 b.0.1) (λ details. Ok (record { meta = a.0.0; kind = b.0.0.0; streams = b.0.0.1; details = details.0 }, details.1)) (p, rest) b.2 in
+full_taken : (form : Form) (letter : ℕ) → Letter form letter → (bytes : List ℕ) (p : Said) (rest : List ℕ) → IsBytes bytes → packet_at letter bytes ≡ Ok (p, rest) → FullTaken form bytes p rest
+full_taken form letter says bytes p rest is e =
+    let a = bind_ok (meta_part_at bytes) (λ meta. streams_part_at letter meta.1 >>= λ streams. details_part_at letter streams.1 >>= λ details. Ok (record { meta = meta.0; form = form_behind letter; kind = streams.0.0; streams = streams.0.1; details = details.0 }, details.1)) (p, rest) e in
+    let b = bind_ok (streams_part_at letter a.0.1) (λ streams. details_part_at letter streams.1 >>= λ details. Ok (record { meta = a.0.0; form = form_behind letter; kind = streams.0.0; streams = streams.0.1; details = details.0 }, details.1)) (p, rest) a.2 in
+    let d = bind_ok (details_part_at letter b.0.1) (λ details. Ok (record { meta = a.0.0; form = form_behind letter; kind = b.0.0.0; streams = b.0.0.1; details = details.0 }, details.1)) (p, rest) b.2 in
     let m = meta_taken bytes a.0.0 a.0.1 is a.1 in
     let after_meta : IsBytes a.0.1 = IsBytes-after bytes (counted_part (meta_layout a.0.0)) a.0.1 m.text is in
-    let s = streams_taken 52 a.0.1 b.0.0 b.0.1 refl after_meta b.1 in
+    let s = streams_taken letter a.0.1 b.0.0 b.0.1 says.other after_meta b.1 in
     let after_streams : IsBytes b.0.1 = IsBytes-after (b.0.0.1 ++ b.0.1) b.0.0.1 b.0.1 refl (IsBytes-after a.0.1 (little_bytes 4 (length b.0.0.1) ++ (b.0.0.0 ∷ [])) (b.0.0.1 ++ b.0.1) (s.text ∙ sym (append_assoc (little_bytes 4 (length b.0.0.1)) (b.0.0.0 ∷ []) (b.0.0.1 ++ b.0.1))) after_meta) in
-    let t = details_taken b.0.1 d.0.0 d.0.1 after_streams d.1 in
-    let said : Said = record { meta = a.0.0; kind = b.0.0.0; streams = b.0.0.1; details = d.0.0 } in
+    let t = details_taken b.0.1 d.0.0 d.0.1 after_streams (only (eqb letter 52 || eqb letter 76) (given_details_at b.0.1) (Ok ([], b.0.1)) (Ok d.0) says.details d.1) in
+    let said : Said = record { meta = a.0.0; form = form_behind letter; kind = b.0.0.0; streams = b.0.0.1; details = d.0.0 } in
     let made : (Said × List ℕ) = (said, d.0.1) in
-    let taken : FullTaken bytes said d.0.1 = record {
+    let taken : FullTaken form bytes said d.0.1 = record {
+      form_is = says.behind;
       is_packed = record { meta = m.fits; range = m.range; kind = s.known; short = s.short; details = t.fits; details_short = t.short };
       text = m.text ∙ ap (λ (x : List ℕ). counted_part (meta_layout a.0.0) ++ x) (s.text ∙ ap (λ (x : List ℕ). little_bytes 4 (length b.0.0.1) ++ (b.0.0.0 ∷ (b.0.0.1 ++ x))) t.text);
     } in
-    subst (λ (y : Said × List ℕ). FullTaken bytes y.0 y.1) (same_ok made (p, rest) d.2) taken
+    subst (λ (y : Said × List ℕ). FullTaken form bytes y.0 y.1) (same_ok made (p, rest) d.2) taken
 
 record KindTaken (bytes : List ℕ) (p : Said) (rest : List ℕ) : Type 0 where
   is_packed : IsPacked p
+  form_is : p.form ≡ Short
   none : p.details ≡ []
   text : bytes ≡ counted_part (meta_layout p.meta) ++ (little_bytes 4 (length p.streams) ++ (p.kind ∷ (p.streams ++ rest)))
 
 without_details_taken : (bytes : List ℕ) (p : Said) (rest : List ℕ) → IsBytes bytes → packet_at 51 bytes ≡ Ok (p, rest) → KindTaken bytes p rest
 without_details_taken bytes p rest is e =
     let none : List Details = [] in
-    let a = bind_ok (meta_part_at bytes) (λ meta. streams_part_at 51 meta.1 >>= λ streams. Ok (record { meta = meta.0; kind = streams.0.0; streams = streams.0.1; details = none }, streams.1)) (p, rest) e in
-    let b = bind_ok (streams_part_at 51 a.0.1) (λ streams. Ok (record { meta = a.0.0; kind = streams.0.0; streams = streams.0.1; details = none }, streams.1)) (p, rest) a.2 in
+    let a = bind_ok (meta_part_at bytes) (λ meta. streams_part_at 51 meta.1 >>= λ streams. Ok (record { meta = meta.0; form = Short; kind = streams.0.0; streams = streams.0.1; details = none }, streams.1)) (p, rest) e in
+    let b = bind_ok (streams_part_at 51 a.0.1) (λ streams. Ok (record { meta = a.0.0; form = Short; kind = streams.0.0; streams = streams.0.1; details = none }, streams.1)) (p, rest) a.2 in
     let m = meta_taken bytes a.0.0 a.0.1 is a.1 in
     let after_meta : IsBytes a.0.1 = IsBytes-after bytes (counted_part (meta_layout a.0.0)) a.0.1 m.text is in
     let s = streams_taken 51 a.0.1 b.0.0 b.0.1 refl after_meta b.1 in
-    let said : Said = record { meta = a.0.0; kind = b.0.0.0; streams = b.0.0.1; details = none } in
+    let said : Said = record { meta = a.0.0; form = Short; kind = b.0.0.0; streams = b.0.0.1; details = none } in
     let made : (Said × List ℕ) = (said, b.0.1) in
     let taken : KindTaken bytes said b.0.1 = record {
+      form_is = refl;
       is_packed = record { meta = m.fits; range = m.range; kind = s.known; short = s.short; details = (omega arith, tt); details_short = none_short };
       none = refl;
       text = m.text ∙ ap (λ (x : List ℕ). counted_part (meta_layout a.0.0) ++ x) s.text;
@@ -116,6 +125,7 @@ without_details_taken bytes p rest is e =
 
 record NoKindTaken (bytes : List ℕ) (p : Said) (rest : List ℕ) : Type 0 where
   is_packed : IsPacked p
+  form_is : p.form ≡ Short
   two : p.kind ≡ 2
   none : p.details ≡ []
   text : bytes ≡ counted_part (meta_layout p.meta) ++ (little_bytes 4 (length p.streams) ++ (p.streams ++ rest))
@@ -126,14 +136,15 @@ two_known k e = ap (nat_lt 2) e
 without_kind_taken : (bytes : List ℕ) (p : Said) (rest : List ℕ) → IsBytes bytes → packet_at 50 bytes ≡ Ok (p, rest) → NoKindTaken bytes p rest
 without_kind_taken bytes p rest is e =
     let none : List Details = [] in
-    let a = bind_ok (meta_part_at bytes) (λ meta. streams_part_at 50 meta.1 >>= λ streams. Ok (record { meta = meta.0; kind = streams.0.0; streams = streams.0.1; details = none }, streams.1)) (p, rest) e in
-    let b = bind_ok (streams_part_at 50 a.0.1) (λ streams. Ok (record { meta = a.0.0; kind = streams.0.0; streams = streams.0.1; details = none }, streams.1)) (p, rest) a.2 in
+    let a = bind_ok (meta_part_at bytes) (λ meta. streams_part_at 50 meta.1 >>= λ streams. Ok (record { meta = meta.0; form = Short; kind = streams.0.0; streams = streams.0.1; details = none }, streams.1)) (p, rest) e in
+    let b = bind_ok (streams_part_at 50 a.0.1) (λ streams. Ok (record { meta = a.0.0; form = Short; kind = streams.0.0; streams = streams.0.1; details = none }, streams.1)) (p, rest) a.2 in
     let m = meta_taken bytes a.0.0 a.0.1 is a.1 in
     let after_meta : IsBytes a.0.1 = IsBytes-after bytes (counted_part (meta_layout a.0.0)) a.0.1 m.text is in
     let s = plain_taken a.0.1 b.0.0 b.0.1 after_meta b.1 in
-    let said : Said = record { meta = a.0.0; kind = b.0.0.0; streams = b.0.0.1; details = none } in
+    let said : Said = record { meta = a.0.0; form = Short; kind = b.0.0.0; streams = b.0.0.1; details = none } in
     let made : (Said × List ℕ) = (said, b.0.1) in
     let taken : NoKindTaken bytes said b.0.1 = record {
+      form_is = refl;
       is_packed = record { meta = m.fits; range = m.range; kind = two_known b.0.0.0 s.two; short = s.short; details = (omega arith, tt); details_short = none_short };
       two = s.two;
       none = refl;
@@ -147,27 +158,27 @@ without_kind_taken bytes p rest is e =
 StoredFrom : List ℕ → Stored → List ℕ → Type 0
 StoredFrom bytes s rest = (front : List ℕ) × Stores front s × (bytes ≡ front ++ rest)
 
-full_from : (bytes xs : List ℕ) (p : Said) (rest : List ℕ) → bytes ≡ 80 ∷ 70 ∷ 68 ∷ 52 ∷ xs → FullTaken xs p rest → StoredFrom bytes (packed p) rest
+full_from : (form : Form) (bytes xs : List ℕ) (p : Said) (rest : List ℕ) → bytes ≡ 80 ∷ 70 ∷ 68 ∷ letter_for form ∷ xs → FullTaken form xs p rest → StoredFrom bytes (packed p) rest
 unfolding packet_head StoredFrom
-full_from bytes xs p rest e t =
+full_from form bytes xs p rest e t =
     let m = counted_part (meta_layout p.meta) in
     let l = little_bytes 4 (length p.streams) in
     let d = counted_part (details_layout p.details) in
-    (packet p, (t.is_packed, inl refl), e ∙ (ap (λ (x : List ℕ). 80 ∷ 70 ∷ 68 ∷ 52 ∷ x) t.text ∙ sym (in_a_row m l p.streams d rest p.kind)))
+    (packet p, (t.is_packed, inl refl), e ∙ (ap (λ (x : List ℕ). 80 ∷ 70 ∷ 68 ∷ letter_for form ∷ x) t.text ∙ (ap (λ (f : Form). 80 ∷ 70 ∷ 68 ∷ letter_for f ∷ (m ++ (l ++ (p.kind ∷ (p.streams ++ (d ++ rest)))))) (sym t.form_is) ∙ sym (in_a_row m l p.streams d rest (letter_for p.form) p.kind))))
 
 without_details_from : (bytes xs : List ℕ) (p : Said) (rest : List ℕ) → bytes ≡ 80 ∷ 70 ∷ 68 ∷ 51 ∷ xs → KindTaken xs p rest → StoredFrom bytes (packed p) rest
 unfolding StoredFrom
 without_details_from bytes xs p rest e t =
     let m = counted_part (meta_layout p.meta) in
     let l = little_bytes 4 (length p.streams) in
-    (packet_without_details p, (t.is_packed, inr (inl (refl, t.none))), e ∙ (ap (λ (x : List ℕ). 80 ∷ 70 ∷ 68 ∷ 51 ∷ x) t.text ∙ sym (row_51 m l p.streams rest p.kind)))
+    (packet_without_details p, (t.is_packed, inr (inl (refl, t.form_is, t.none))), e ∙ (ap (λ (x : List ℕ). 80 ∷ 70 ∷ 68 ∷ 51 ∷ x) t.text ∙ sym (row_51 m l p.streams rest p.kind)))
 
 without_kind_from : (bytes xs : List ℕ) (p : Said) (rest : List ℕ) → bytes ≡ 80 ∷ 70 ∷ 68 ∷ 50 ∷ xs → NoKindTaken xs p rest → StoredFrom bytes (packed p) rest
 unfolding StoredFrom
 without_kind_from bytes xs p rest e t =
     let m = counted_part (meta_layout p.meta) in
     let l = little_bytes 4 (length p.streams) in
-    (packet_without_kind p, (t.is_packed, inr (inr (refl, t.two, t.none))), e ∙ (ap (λ (x : List ℕ). 80 ∷ 70 ∷ 68 ∷ 50 ∷ x) t.text ∙ sym (row_50 m l p.streams rest)))
+    (packet_without_kind p, (t.is_packed, inr (inr (refl, t.form_is, t.two, t.none))), e ∙ (ap (λ (x : List ℕ). 80 ∷ 70 ∷ 68 ∷ 50 ∷ x) t.text ∙ sym (row_50 m l p.streams rest)))
 
 either_so : (a b : Bool) → (a || b) ≡ true → (a ≡ true) ⊎ (b ≡ true)
 either_so true b e = inl refl
@@ -181,7 +192,7 @@ no_fault : {A : Type 0} (fault : FileError) (x : A) → ◌≡◌ {A = Result A 
 no_fault fault x e = absurd cc
 
 record FormTaken (letter : ℕ) (xs : List ℕ) (p : Said) (rest : List ℕ) : Type 0 where
-  known : ((eqb letter 50 || eqb letter 51) || eqb letter 52) ≡ true
+  known : (((eqb letter 50 || eqb letter 51) || eqb letter 52) || eqb letter 76) ≡ true
   read : packet_at letter xs ≡ Ok (p, rest)
 
 form_taken : (letter : ℕ) (xs : List ℕ) (p : Said) (rest : List ℕ) → form_at letter xs ≡ Ok (p, rest) → FormTaken letter xs p rest
@@ -189,7 +200,7 @@ form_taken letter xs p rest e =
     let out : Result (Said × List ℕ) FileError = Ok (p, rest) in
     let newer : Result (Said × List ℕ) FileError = Err file.Newer in
     let old : Result (Said × List ℕ) FileError = Err file.Legacy in
-    let read : Bool = (eqb letter 50 || eqb letter 51) || eqb letter 52 in
+    let read : Bool = ((eqb letter 50 || eqb letter 51) || eqb letter 52) || eqb letter 76 in
     elim (chosen (eqb letter 48 || eqb letter 49) old (cond read (packet_at letter xs) newer) out e) [
       | inl h ↦ absurd (no_fault file.Legacy (p, rest) h.1)
       | inr h ↦ elim (chosen read (packet_at letter xs) newer out h.1) [
@@ -204,12 +215,15 @@ at_letter letter n bytes xs p rest same text read =
 
 packed_from : (letter : ℕ) (bytes xs : List ℕ) (p : Said) (rest : List ℕ) → IsBytes xs → bytes ≡ 80 ∷ 70 ∷ 68 ∷ letter ∷ xs → FormTaken letter xs p rest → StoredFrom bytes (packed p) rest
 packed_from letter bytes xs p rest is text t =
-    elim (either_so (eqb letter 50 || eqb letter 51) (eqb letter 52) t.known) [
-      | inl older ↦ elim (either_so (eqb letter 50) (eqb letter 51) older) [
-        | inl h ↦ (let k = at_letter letter 50 bytes xs p rest (eqb-true _ _ h) text t.read in without_kind_from bytes xs p rest k.0 (without_kind_taken xs p rest is k.1))
-        | inr h ↦ (let k = at_letter letter 51 bytes xs p rest (eqb-true _ _ h) text t.read in without_details_from bytes xs p rest k.0 (without_details_taken xs p rest is k.1))
+    elim (either_so ((eqb letter 50 || eqb letter 51) || eqb letter 52) (eqb letter 76) t.known) [
+      | inl short ↦ elim (either_so (eqb letter 50 || eqb letter 51) (eqb letter 52) short) [
+        | inl older ↦ elim (either_so (eqb letter 50) (eqb letter 51) older) [
+          | inl h ↦ (let k = at_letter letter 50 bytes xs p rest (eqb-true _ _ h) text t.read in without_kind_from bytes xs p rest k.0 (without_kind_taken xs p rest is k.1))
+          | inr h ↦ (let k = at_letter letter 51 bytes xs p rest (eqb-true _ _ h) text t.read in without_details_from bytes xs p rest k.0 (without_details_taken xs p rest is k.1))
+        ]
+        | inr h ↦ (let k = at_letter letter 52 bytes xs p rest (eqb-true _ _ h) text t.read in full_from Short bytes xs p rest k.0 (full_taken Short 52 (letter_of Short) xs p rest is k.1))
       ]
-      | inr h ↦ (let k = at_letter letter 52 bytes xs p rest (eqb-true _ _ h) text t.read in full_from bytes xs p rest k.0 (full_taken xs p rest is k.1))
+      | inr h ↦ (let k = at_letter letter 76 bytes xs p rest (eqb-true _ _ h) text t.read in full_from Long bytes xs p rest k.0 (full_taken Long 76 (letter_of Long) xs p rest is k.1))
     ]
 
 -- ---- the header
@@ -305,8 +319,8 @@ stores_again front rest (packed p) h =
     elim (h.1) [
       | inl now ↦ ap (λ (t : List ℕ). next_at (t ++ rest)) now ∙ packet_again p rest h.0
       | inr older ↦ elim older [
-        | inl k ↦ ap (λ (t : List ℕ). next_at (t ++ rest)) k.0 ∙ without_details_again p rest h.0 k.1
-        | inr k ↦ ap (λ (t : List ℕ). next_at (t ++ rest)) k.0 ∙ without_kind_again p rest h.0 k.1 k.2
+        | inl k ↦ ap (λ (t : List ℕ). next_at (t ++ rest)) k.0 ∙ without_details_again p rest h.0 k.1 k.2
+        | inr k ↦ ap (λ (t : List ℕ). next_at (t ++ rest)) k.0 ∙ without_kind_again p rest h.0 k.1 k.2 k.3
       ]
     ]
 stores_again front rest (legacy l) h = ap (λ (t : List ℕ). next_at (t ++ rest)) h.1 ∙ legacy_again l rest h.0

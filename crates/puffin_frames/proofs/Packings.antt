@@ -7,22 +7,30 @@ use Rattle.std.proofs.lemmas.Bool.{eqb-true}
 use Rattle.std.proofs.lemmas.Option.{same_Some}
 use Rattle.puffin_data.specs.declared.file_error.FileError.{FileError}
 use Rattle.puffin_data.specs.declared.file_error.FileError.TheVariants as file
+use Rattle.puffin_data.specs.declared.data.form.Form.{Form}
 use Rattle.puffin_data.specs.Honesty.{Recorded}
 use Rattle.puffin_data.specs.Value.Layout.{IsBytes}
 use Rattle.puffin_data.specs.Value.Decoding.{whole}
 use Rattle.puffin_data.proofs.lemmas.Readers.{whole_taken}
 use Rattle.puffin_frames.specs.declared.frame_data.held.Held.{Held}
 use Rattle.puffin_frames.specs.declared.frame_data.held.Held.TheVariants.{Own, Shared, Packed, Both}
-use Rattle.puffin_frames.specs.Frame.Contents.{packed_as, held_as}
+use Rattle.puffin_frames.specs.Frame.Contents.{packed_as, held_as, said_of}
+use Rattle.puffin_frames.specs.declared.frame_data.meta.FrameMeta.{FrameMeta}
+use Rattle.puffin_threads.specs.Details.{Details}
 use Rattle.puffin_frames.specs.inner.Tries.{DecidedInMemory}
 use Rattle.puffin_threads.specs.Thread.Info.{Info, info_cmp}
 use Rattle.puffin_frames.specs.Frame.Streams.{Streams}
-use Rattle.puffin_frames.specs.Packet.Structs.{AreStreams, streams_layout, streams_at}
+use Rattle.puffin_frames.specs.Packet.Structs.{form_of_all, AreStreams, streams_layout, streams_at}
 use Rattle.puffin_frames.specs.Frame.Holding.{Packing, HoldsStreams, or_bad, unpacked_from, Holding, streams_in, if_packed, either_content, held_contents, Agree, IsHolding, packing, plainly_packed, as_packed, as_unpacked}
 use Rattle.puffin_frames.proofs.Structs.{streams_reader}
 use Rattle.puffin_frames.proofs.Listed.{holds}
 use Rattle.puffin_frames.proofs.PackedAgain.{packed_again}
 use Rattle.puffin_frames.proofs.PartsTaken.{same_ok}
+use Rattle.puffin_frames.proofs.FormsOfAll.{sorted_in, form_stored}
+
+-- what a frame says goes by its meta and its packing
+pub said_same : (m n : FrameMeta) (p q : Packing) (ds : List Details) → m ≡ n → p ≡ q → said_of m p ds ≡ said_of n q ds
+said_same m n p q ds metas packings = ap (λ x. said_of x p ds) metas ∙ ap (λ x. said_of n x ds) packings
 
 packing-keeps : (p : Option Packing) (u : Option Streams) → Agree p u → streams_in (packing p u) ≡ either_content p u
 packing-keeps None None h = absurd h
@@ -53,11 +61,11 @@ streams_from (Some es) streams e = (es, refl, same_Some (from_sorted es) streams
 
 streams_taken : (p : Packing) (streams : Streams) → IsBytes p.bytes → streams_in p ≡ Some streams → HoldsStreams p streams
 streams_taken p streams is e =
-    let g = cond_option (eqb p.kind 0) (option_map from_sorted (whole streams_at p.bytes)) streams e in
-    let o = streams_from (whole streams_at p.bytes) streams g.1 in
-    let w = whole_taken AreStreams streams_layout streams_at streams_reader p.bytes o.0 is o.1 in
-    let back : entries streams ≡ o.0 = ap entries (sym o.2) ∙ entries-from_sorted info_cmp o.0 (holds _ w.0.1) in
-    (eqb-true _ _ g.0, rw back w.0, w.1 ∙ ap streams_layout (sym back))
+    let g = cond_option (eqb p.kind 0) (option_map from_sorted (whole (streams_at p.form) p.bytes)) streams e in
+    let o = streams_from (whole (streams_at p.form) p.bytes) streams g.1 in
+    let w = whole_taken (AreStreams p.form) (streams_layout p.form) (streams_at p.form) (streams_reader p.form) p.bytes o.0 is o.1 in
+    let back : entries streams ≡ o.0 = ap entries (sym o.2) ∙ entries-from_sorted info_cmp o.0 (holds _ (sorted_in p.form o.0 w.0.1)) in
+    (eqb-true _ _ g.0, subst (λ (es : List (Info × Recorded)). AreStreams p.form es) (sym back) w.0, w.1 ∙ ap (streams_layout p.form) (sym back))
   where
     cond_option : (b : Bool) (o : Option Streams) (streams : Streams) → cond b o None ≡ Some streams → (b ≡ true) × (o ≡ Some streams)
     cond_option true o streams e = (refl, e)
@@ -65,8 +73,13 @@ streams_taken p streams is e =
 
 streams_given : (p : Packing) (streams : Streams) → HoldsStreams p streams → streams_in p ≡ Some streams
 streams_given p streams h =
-    let same : p ≡ plainly_packed streams = ap (λ (k : ℕ). record p { kind = k }) h.0 ∙ ap (λ (bytes : List ℕ). record { kind = 0; bytes = bytes }) h.2 in
-    ap streams_in same ∙ packed_again streams h.1
+    let form : p.form ≡ form_of_all (entries streams) = form_stored p.form (entries streams) h.1 in
+    let fit = subst (λ (f : Form). AreStreams f (entries streams)) form h.1 in
+    let same : p ≡ plainly_packed streams =
+    ap (λ (k : ℕ). record p { kind = k }) h.0
+    ∙ ap (λ (bytes : List ℕ). record { form = p.form; kind = 0; bytes = bytes }) h.2
+    ∙ ap (λ (f : Form). record { form = f; kind = 0; bytes = streams_layout f (entries streams) }) form in
+    ap streams_in same ∙ packed_again streams fit
 
 pub holds_streams : (p : Packing) (streams : Streams) → IsBytes p.bytes → (streams_in p ≡ Some streams) ↔ HoldsStreams p streams
 holds_streams p streams is = (streams_taken p streams is, streams_given p streams)
@@ -88,7 +101,7 @@ layout_of : (h : Held) (streams : Streams) → unpacked_from (held_as h) ≡ Ok 
 layout_of (Own u) streams e = tt
 layout_of (Shared u) streams e = tt
 layout_of (Packed p) streams e =
-    let o : Option Streams = option_map from_sorted (whole streams_at p.streams.bytes.items) in
+    let o : Option Streams = option_map from_sorted (whole (streams_at p.streams.form) p.streams.bytes.items) in
     streams_taken (packed_as p.streams) streams p.streams.are_bytes (unpacked_so (eqb p.streams.kind 0) p.streams.kind o streams e)
 layout_of (Both b) streams e =
     streams_taken (packed_as b.packed) streams b.packed.are_bytes (b.same ∙ ap Some (same_ok _ streams e))
@@ -101,7 +114,7 @@ bad_of : (h : Held) → unpacked_from (held_as h) ≡ Err file.BadStreams → If
 bad_of (Own u) e = tt
 bad_of (Shared u) e = tt
 bad_of (Packed p) e = λ streams held.
-    let o : Option Streams = option_map from_sorted (whole streams_at p.streams.bytes.items) in
+    let o : Option Streams = option_map from_sorted (whole (streams_at p.streams.form) p.streams.bytes.items) in
     bad_so (eqb p.streams.kind 0) p.streams.kind o streams e (streams_given (packed_as p.streams) streams held)
 bad_of (Both b) e = absurd cc
 

@@ -1,5 +1,5 @@
 -- Appending what is reported to the streams of a map.
-use Rattle.std.proofs.Common.{◌≡◌, List, [], ◌∷◌, Bool, true, false, cond, None, Some, Result, Ok, Err, IsErrAnd, ℕ, ◌+◌, ◌^◌, ◌≤◌, ◌↔◌, ◌≢◌, refl, sym, ap, subst, ◌∙◌, arith}
+use Rattle.std.proofs.Common.{◌≡◌, length, List, [], ◌∷◌, Bool, true, false, cond, None, Some, Result, Ok, Err, IsErrAnd, ℕ, ◌+◌, ◌^◌, ◌≤◌, ◌↔◌, ◌≢◌, refl, sym, ap, subst, ◌∙◌, arith}
 use Rattle.std.specs.declared.cmp.Ordering.{Ordering}
 use Rattle.std.specs.declared.cmp.Ordering.TheVariants.{Less, Equal, Greater}
 use Rattle.std.specs.Ordering.{is_eq, match_ordering}
@@ -15,9 +15,10 @@ use Rattle.std.proofs.lemmas.Map.Keys.{sorted_tail}
 use Rattle.std.proofs.lemmas.Map.Entries.{none_below_head}
 use Rattle.std.proofs.lemmas.Map.Made.{lookup-map_values}
 use Rattle.puffin_data.specs.declared.error.Error.{Error}
-use Rattle.puffin_data.specs.declared.error.Error.TheVariants.{TooLarge, Memory}
+use Rattle.puffin_data.specs.declared.error.Error.TheVariants.{TooLarge, Memory, UnlikeForms}
+use Rattle.puffin_data.specs.declared.data.form.Form.TheVariants.{Short}
 use Rattle.puffin_data.specs.Forest.{empty}
-use Rattle.puffin_data.specs.Honesty.{Recorded, IsHonest, record_of, joined_record}
+use Rattle.puffin_data.specs.Honesty.{Recorded, IsHonest, record_of, AreUnlike, joined_record}
 use Rattle.puffin_data.specs.declared.data.info.StreamInfo.{StreamInfo}
 use Rattle.puffin_threads.specs.declared.thread_profiler.thread_info.ThreadInfo.{ThreadInfo}
 use Rattle.puffin_threads.specs.Thread.Info.{Info, info_of, info_cmp, thread_cmp, same_info, keyed, by_info}
@@ -53,8 +54,9 @@ module _ {X : Type 0} where
   insert-same : (m : FinMap info_cmp X) (i : Info) (v : X) → get m i ≡ Some v → insert m i v ≡ m
   insert-same m i v found = same_map info_cmp_total info_cmp-one (insert m i v) m (λ q. get-insert info_cmp_total m i v q ∙ at_test m i q v (same_info q i) refl found)
 
-recorded-none : (fresh : StreamInfo) → IsHonest fresh empty → record_of fresh ≡ no_scopes
-recorded-none fresh h = λ i. record {
+pub recorded-none : (fresh : StreamInfo) → fresh.stream.form ≡ Short → IsHonest fresh empty → record_of fresh ≡ no_scopes
+recorded-none fresh form h = λ i. record {
+  form = form i;
   bytes = h.stream.whole i;
   num_scopes = h.counts.num_scopes i;
   depth = h.counts.depth i;
@@ -76,8 +78,8 @@ module _ {A : Type 0} where
   pub under_there : (es : List (ThreadInfo × Arc StreamInfo A)) (k : ThreadInfo) (old : Arc StreamInfo A) → lookup (is_at (thread_cmp k)) es ≡ Some old → stream_under (shared_streams es) (info_of k) ≡ record_of (arc_value old)
   under_there es k old found = ap (λ o. unwrap_or o no_scopes) (get-shared es k ∙ ap (λ o. option_map record_of (option_map arc_value o)) found)
 
-  pub none_under : (es : List (ThreadInfo × Arc StreamInfo A)) (k : ThreadInfo) → lookup (is_at (thread_cmp k)) es ≡ None → (stream_under (shared_streams es) (info_of k)).num_scopes ≡ 0
-  none_under es k none = ap (λ o. (unwrap_or o no_scopes).num_scopes) (get-shared es k ∙ ap (λ o. option_map record_of (option_map arc_value o)) none)
+  pub none_under : (es : List (ThreadInfo × Arc StreamInfo A)) (k : ThreadInfo) → lookup (is_at (thread_cmp k)) es ≡ None → stream_under (shared_streams es) (info_of k) ≡ no_scopes
+  none_under es k none = ap (λ o. unwrap_or o no_scopes) (get-shared es k ∙ ap (λ o. option_map record_of (option_map arc_value o)) none)
 
   -- a write through what was lent for a key
   pub record WritesAt (es : List (ThreadInfo × Arc StreamInfo A)) (k : ThreadInfo) (old w : Arc StreamInfo A) (fs : List (ThreadInfo × Arc StreamInfo A)) : Type 0 where
@@ -99,31 +101,49 @@ module _ {A : Type 0} where
   refused_over es k old w fs h same =
       written es k old w fs h ∙ ap (insert (shared_streams es) (info_of k)) same ∙ insert-same (shared_streams es) (info_of k) (record_of (arc_value old)) (there es k old w fs h)
 
-  pub reported_first : (es : List (ThreadInfo × Arc StreamInfo A)) (k : ThreadInfo) (arc : Arc StreamInfo A) (fs : List (ThreadInfo × Arc StreamInfo A)) (fresh : StreamInfo) (r : Recorded) → lookup (is_at (thread_cmp k)) es ≡ None → fs ≡ insert_entry thread_cmp es k arc → IsHonest fresh empty → record_of (arc_value arc) ≡ joined_record (record_of fresh) r
+  pub reported_first : (es : List (ThreadInfo × Arc StreamInfo A)) (k : ThreadInfo) (arc : Arc StreamInfo A) (fs : List (ThreadInfo × Arc StreamInfo A)) (fresh : StreamInfo) (r : Recorded) → lookup (is_at (thread_cmp k)) es ≡ None → fs ≡ insert_entry thread_cmp es k arc → fresh.stream.form ≡ Short → IsHonest fresh empty → record_of (arc_value arc) ≡ joined_record (record_of fresh) r
       → shared_streams fs ≡ reported_to (shared_streams es) (info_of k) r
-  reported_first es k arc fs fresh r none after honest more =
+  reported_first es k arc fs fresh r none after form honest more =
       let absent = get-shared es k ∙ ap (λ o. option_map record_of (option_map arc_value o)) none in
       ap shared_streams after ∙ shared-insert es k arc
-      ∙ ap (insert (shared_streams es) (info_of k)) (more ∙ ap (λ n. joined_record n r) (recorded-none fresh honest) ∙ ap (λ o. joined_record (unwrap_or o no_scopes) r) (sym absent))
+      ∙ ap (insert (shared_streams es) (info_of k)) (more ∙ ap (λ n. joined_record n r) (recorded-none fresh form honest) ∙ ap (λ o. joined_record (unwrap_or o no_scopes) r) (sym absent))
 
--- ---- when a report is too large
+-- ---- when a report is refused
+
+-- why scopes aren't appended to others: unlike forms, and then a number that doesn't fit
+pub record IsRefusedBy {A : Type 0} (r : Result A Error) (u t : Recorded) : Type 0 where
+  pub unlike : (r ≡ Err UnlikeForms) ↔ AreUnlike u t
+  pub too_large : (r ≡ Err TooLarge) ↔ ((AreUnlike u t → ⊥) × (2 ^ 64 ≤ u.num_scopes + t.num_scopes))
+
+-- what has no bytes is like all
+pub none_unlike : (u t : Recorded) → u ≡ no_scopes → AreUnlike u t → ⊥
+none_unlike u t none apart = let bytes = ap (λ (r : Recorded). length r.bytes) none in omega (arith, bytes, apart.0)
+
 module _ {A : Type 0} where
   pub same_cause : (r : Result A Error) (cause : Error) → IsErrAnd r (λ e. e ≡ cause) → r ≡ Err cause
   same_cause (Ok x) cause is = absurd is
   same_cause (Err e) cause is = ap Err is
 
-  pub other_cause : (r : Result A Error) → IsErrAnd r (λ e. e ≡ Memory) → r ≢ Err TooLarge
-  other_cause (Ok x) is same = absurd is
-  other_cause (Err e) is same = cc
+  pub refused_as : (r answer : Result A Error) (u v t : Recorded) → r ≡ answer → u ≡ v → IsRefusedBy answer u t → IsRefusedBy r v t
+  refused_as r answer u v t is same h =
+      subst (λ (w : Recorded). IsRefusedBy r w t) same (subst (λ (s : Result A Error). IsRefusedBy s u t) (sym is) h)
 
-  -- the number of scopes fits where nothing was refused
-  pub fits_after : (x : A) (sum : ℕ) → (Ok x ≡ Err TooLarge) ↔ (2 ^ 64 ≤ sum) → ¬ (2 ^ 64 ≤ sum)
-  fits_after x sum h over = let refused = h.1 over in absurd cc
+  pub not_unlike : (r : Result A Error) → IsErrAnd r (λ e. e ≡ Memory) → r ≢ Err UnlikeForms
+  not_unlike (Ok x) is same = absurd is
+  not_unlike (Err e) is same = cc
 
-  pub too_large_as : (r answer : Result A Error) (n under times : ℕ) → r ≡ answer → n ≡ under → (answer ≡ Err TooLarge) ↔ (2 ^ 64 ≤ n + times) → (r ≡ Err TooLarge) ↔ (2 ^ 64 ≤ under + times)
-  too_large_as r answer n under times is same h =
-      let there = subst (λ (s : Result A Error). (s ≡ Err TooLarge) ↔ (2 ^ 64 ≤ n + times)) (sym is) h in
-      subst (λ (m : ℕ). (r ≡ Err TooLarge) ↔ (2 ^ 64 ≤ m + times)) same there
+  pub not_too_large : (r : Result A Error) → IsErrAnd r (λ e. e ≡ Memory) → r ≢ Err TooLarge
+  not_too_large (Ok x) is same = absurd is
+  not_too_large (Err e) is same = cc
 
-  pub not_too_large : (r : Result A Error) (n under times : ℕ) → r ≢ Err TooLarge → n ≡ under → ¬ (2 ^ 64 ≤ n + times) → (r ≡ Err TooLarge) ↔ (2 ^ 64 ≤ under + times)
-  not_too_large r n under times other same fits = (λ is. absurd (other is), λ over. absurd (fits (omega (arith, same, over))))
+  -- a report under a thread that had none, which is refused for another cause or accepted
+  pub not_refused : {B : Type 0} (r : Result A Error) (x : B) (u v t : Recorded) → r ≢ Err UnlikeForms → r ≢ Err TooLarge → u ≡ v → u ≡ no_scopes → IsRefusedBy {A = B} (Ok x) u t → IsRefusedBy r v t
+  not_refused {B = B} r x u v t unlike large same none h =
+      let fits : ¬ (2 ^ 64 ≤ u.num_scopes + t.num_scopes) = fits_so x u t none h in
+      subst (λ (w : Recorded). IsRefusedBy r w t) same (record {
+        unlike = (λ is. absurd (unlike is), λ apart. absurd (none_unlike u t none apart));
+        too_large = (λ is. absurd (large is), λ over. absurd (fits over.1));
+      })
+    where
+      fits_so : {B : Type 0} (x : B) (u t : Recorded) → u ≡ no_scopes → IsRefusedBy {A = B} (Ok x) u t → ¬ (2 ^ 64 ≤ u.num_scopes + t.num_scopes)
+      fits_so x u t none h over = let refused = h.too_large.1 (none_unlike u t none, over) in absurd cc

@@ -1,3 +1,3 @@
 -- What contracts of private functions and proofs alone cite.
 pub mod Tries
-pub mod Form
+pub mod Age

@@ -16,5 +16,5 @@ pub use frame::FrameData;
 pub use meta::FrameMeta;
 pub use packing_info::PackingInfo;
 pub use puffin_data::FrameIndex;
-pub use thread_streams::{ThreadStreams, report_to};
+pub use thread_streams::{ThreadStreams, are_unlike, report_to};
 pub use unpacked::UnpackedFrameData;

@@ -12,7 +12,7 @@ ghost use Rattle.puffin_threads.specs.declared.thread_profiler.thread_info.Threa
 ghost use Rattle.puffin_threads.specs.Thread.Info.{Info, info_of, info_cmp, thread_cmp, keyed};
 ghost use Rattle.puffin_frames.specs.Frame.Contents.{Streams, streams_of, records, all_recorded, stream_under, reported_to, AreHonest};
 ghost use Rattle.puffin_data.specs.Forest.{Forest};
-ghost use Rattle.puffin_data.specs.Honesty.{Recorded, record_of, IsHonestRecord};
+ghost use Rattle.puffin_data.specs.Honesty.{Recorded, record_of, IsHonestRecord, AreUnlike};
 ghost use Rattle.puffin_frames.specs.Frame.Sums.{total_bytes, total_scopes, joined_start, joined_stop, joined_range, IsOrdered};
 
 use puffin_threads::thread_profiler::ThreadInfo;
@@ -63,12 +63,13 @@ pub fn reported_streams()
         (stream_under streams i).num_scopes ≤ total_scopes (map.values streams) }
 {}
 
-/// What a report does to honest streams. Where there is a scope among them, their joined range isn't reversed, and where
-/// there is none, no stream has one.
+/// What a report does to honest streams, unless its scopes and those under its info have bytes in unlike forms. Where
+/// there is a scope among them, their joined range isn't reversed, and where there is none, no stream has one.
 pub fn honest_streams()
     ensures none { AreHonest map.empty }
     ensures report { (streams : Streams) (i : Info) (r : Recorded) (f : Forest) →
-        AreHonest streams → IsHonestRecord r f → AreHonest (reported_to streams i r) }
+        ¬ AreUnlike (stream_under streams i) r → AreHonest streams → IsHonestRecord r f →
+        AreHonest (reported_to streams i r) }
     ensures ordered { (streams : Streams) → AreHonest streams →
         0 < total_scopes (map.values streams) → IsOrdered (joined_range (map.values streams)) }
     ensures no_scopes { (streams : Streams) (i : Info) (r : Recorded) →

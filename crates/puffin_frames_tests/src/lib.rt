@@ -4,4 +4,6 @@
 #[cfg(test)]
 mod frames;
 #[cfg(test)]
+mod long_packets;
+#[cfg(test)]
 mod packets;

@@ -4,7 +4,6 @@ use Rattle.std.specs.Prelude.{IfOk, IfErr}
 use Rattle.std.specs.Arc.{arc_value}
 use Rattle.std.specs.declared.sync.Arc.{Arc}
 use Rattle.std.specs.declared.alloc.Global.{Global}
-use Rattle.puffin_data.specs.declared.data.form.Form.TheVariants.{Short}
 use Rattle.puffin_data.specs.declared.error.Error.{Error}
 use Rattle.puffin_data.specs.declared.error.Error.TheVariants.{Memory, TooLarge}
 use Rattle.puffin_data.specs.Walk.Visitor.{TakesAll, StopsEarly}
@@ -16,7 +15,7 @@ use Rattle.puffin_merge.specs.declared.merge.scope.MergeScope.{MergeScope}
 use Rattle.puffin_merge.specs.Merge.Occurrences.{Occurrence, occurrences}
 use Rattle.puffin_merge.specs.Merge.Tree.{MergedForest}
 use Rattle.puffin_merge.specs.Merge.{IsMerge}
-use Rattle.puffin_merge.specs.Merge.FrameBytes.{FrameBytes, bytes_of, start_of, most_tries_of, most_tries}
+use Rattle.puffin_merge.specs.Merge.FrameBytes.{FrameBytes, form_of, bytes_of, start_of, most_tries_of, most_tries}
 use Rattle.puffin_merge.specs.Merge.Refusals.{IsRefusalAfter, EndsFit, AreMerged}
 use Rattle.puffin_merge.specs.Merge.Scopes.{frame_bytes, frames_bytes, forest_in}
 use Rattle.puffin_merge.specs.inner.Tables.{IsTableOf}
@@ -46,19 +45,19 @@ origin_is info frames i x z frame first lt ez ef eg =
     ∙ ap (λ (s : ℤ). (arc_value x).meta.range_ns.0 -ℤ s) (ap (λ (y : UnpackedFrameData). y.meta.range_ns.0) eg ∙ sym (first_is info frames z (omega arith) ez))
 
 pub more_read : (info : Info) (frames : List Held) (i : ℕ) (x z : Held) (frame first : UnpackedFrameData) (t : Table) (w : Merging) (tried made : ℕ) → i < length frames → x ≡ get_or frames i x → z ≡ get_or frames 0 z → frame ≡ arc_value x → first ≡ arc_value z
-    → HasRead (frames_bytes info frames) i t tried → TakesAll Short TakesScopes (from t frame first) w (bytes_of (frame_bytes info frame)) made → length (bytes_of (frame_bytes info frame)) < 2 ^ 63
+    → HasRead (frames_bytes info frames) i t tried → TakesAll (form_of (frame_bytes info frame)) TakesScopes (from t frame first) w (bytes_of (frame_bytes info frame)) made → length (bytes_of (frame_bytes info frame)) < 2 ^ 63
     → HasRead (frames_bytes info frames) (i + 1) w.table (tried + made)
 more_read info frames i x z frame first t w tried made lt ex ez ef eg r all short =
     read_more (frames_bytes info frames) i (bytes_in info x) (from t frame first) w tried made (take_push (bytes_in info) frames i x lt ex) (origin_is info frames i x z frame first lt ez ef eg) r
-    (subst (λ (y : UnpackedFrameData). TakesAll Short TakesScopes (from t frame first) w (bytes_of (frame_bytes info y)) made) ef all)
+    (subst (λ (y : UnpackedFrameData). TakesAll (form_of (frame_bytes info y)) TakesScopes (from t frame first) w (bytes_of (frame_bytes info y)) made) ef all)
     (subst (λ (y : UnpackedFrameData). length (bytes_of (frame_bytes info y)) < 2 ^ 63) ef short)
 
 pub refused_read : (info : Info) (frames : List Held) (i : ℕ) (x z : Held) (frame first : UnpackedFrameData) (t : Table) (w : Merging) (tried made : ℕ) (e : Error) → i < length frames → x ≡ get_or frames i x → z ≡ get_or frames 0 z → frame ≡ arc_value x → first ≡ arc_value z
-    → HasRead (frames_bytes info frames) i t tried → (e ≡ Memory) ⊎ StopsEarly Short TakesScopes RefusesScope (from t frame first) w (bytes_of (frame_bytes info frame)) made e → (e ≡ Memory) ⊎ IsRefusalAfter (frames_bytes info frames) (tried + made) e
+    → HasRead (frames_bytes info frames) i t tried → (e ≡ Memory) ⊎ StopsEarly (form_of (frame_bytes info frame)) TakesScopes RefusesScope (from t frame first) w (bytes_of (frame_bytes info frame)) made e → (e ≡ Memory) ⊎ IsRefusalAfter (frames_bytes info frames) (tried + made) e
 refused_read info frames i x z frame first t w tried made e lt ex ez ef eg r (inl memory) = inl memory
 refused_read info frames i x z frame first t w tried made e lt ex ez ef eg r (inr stops) =
     inr (read_refused (frames_bytes info frames) i (bytes_in info x) (from t frame first) w tried made e (split_at (bytes_in info) frames i x lt ex) (origin_is info frames i x z frame first lt ez ef eg) r
-    (subst (λ (y : UnpackedFrameData). StopsEarly Short TakesScopes RefusesScope (from t frame first) w (bytes_of (frame_bytes info y)) made e) ef stops))
+    (subst (λ (y : UnpackedFrameData). StopsEarly (form_of (frame_bytes info y)) TakesScopes RefusesScope (from t frame first) w (bytes_of (frame_bytes info y)) made e) ef stops))
 
 pub more_tries : (info : Info) (frames : List Held) (i : ℕ) (x : Held) (frame : UnpackedFrameData) (tried made : ℕ) → i < length frames → x ≡ get_or frames i x → frame ≡ arc_value x
     → tried ≤ most_tries (take i (frames_bytes info frames)) → made ≤ most_tries_of (frame_bytes info frame) → tried + made ≤ most_tries (take (i + 1) (frames_bytes info frames))

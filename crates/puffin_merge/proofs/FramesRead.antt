@@ -2,7 +2,6 @@
 use Rattle.std.proofs.Common.{◌≡◌, ℕ, zero, suc, ◌+◌, ◌<◌, ◌≤◌, ◌^◌, ℤ, ◌-ℤ◌, List, [], ◌∷◌, ◌++◌, length, take, drop, get_or, map, ◌⊎◌, inl, inr, refl, sym, ap, subst, ◌∙◌, arith, append_assoc}
 use Rattle.std.proofs.lemmas.List.{length-append, take-append-drop, take-take}
 use Rattle.std.proofs.lemmas.List.Sums.{sum_by-append}
-use Rattle.puffin_data.specs.declared.data.form.Form.TheVariants.{Short}
 use Rattle.puffin_data.specs.declared.error.Error.{Error}
 use Rattle.puffin_data.specs.declared.error.Error.TheVariants.{Memory, TooLarge}
 use Rattle.puffin_data.specs.Forest.{Forest}
@@ -14,7 +13,7 @@ use Rattle.puffin_merge.specs.declared.merge.stream.Merging.{Merging}
 use Rattle.puffin_merge.specs.Merge.Occurrences.{Occurrence, FrameScopes, occurrence_of, occurrences_in, occurrences_of, occurrences_from, first_start, occurrences}
 use Rattle.puffin_merge.specs.Merge.Tree.{MergedForest, no_node}
 use Rattle.puffin_merge.specs.Merge.{IsMerge}
-use Rattle.puffin_merge.specs.Merge.FrameBytes.{FrameBytes, bytes_of, start_of, HasScopes, HaveScopes, most_tries_of, most_tries}
+use Rattle.puffin_merge.specs.Merge.FrameBytes.{FrameBytes, form_of, bytes_of, start_of, HasScopes, HaveScopes, most_tries_of, most_tries}
 use Rattle.puffin_merge.specs.Merge.Refusals.{IsRefusedFor, AreAccepted, faulty, refused, IsRefusalAfter, in_frame, at_end, EndsFit, AreMerged, ReadsFew}
 use Rattle.puffin_merge.specs.inner.Tables.{IsTableOf}
 use Rattle.puffin_merge.specs.inner.Merging.{TakesScopes, RefusesScope, accepted-append, append-nil}
@@ -43,7 +42,7 @@ length_mapped f [] = refl
 length_mapped f (x ∷ xs) = let e = length_mapped f xs in omega arith
 
 -- one frame more, whose scopes the table has taken
-more_scopes : (frames : List FrameBytes) (i : ℕ) (f : FrameBytes) (forest : Forest) (t u : Table) (tried made : ℕ) → take (i + 1) frames ≡ take i frames ++ (f ∷ []) → (r : HasRead frames i t tried) → Spells Short (bytes_of f) forest → length (bytes_of f) < 2 ^ 63
+more_scopes : (frames : List FrameBytes) (i : ℕ) (f : FrameBytes) (forest : Forest) (t u : Table) (tried made : ℕ) → take (i + 1) frames ≡ take i frames ++ (f ∷ []) → (r : HasRead frames i t tried) → Spells (form_of f) (bytes_of f) forest → length (bytes_of f) < 2 ^ 63
     → AreAccepted (occurrences_from (start_of frames) r.scopes) (occurrences_of (start_of frames) (record { start = f.start; forest = forest }))
     → IsTableOf (occurrences_from (start_of frames) r.scopes ++ occurrences_of (start_of frames) (record { start = f.start; forest = forest })) u
     → made ≡ length (nested_in [] forest) → HasRead frames (i + 1) u (tried + made)
@@ -60,7 +59,7 @@ more_scopes frames i f forest t u tried made split r spells short accepted table
       tries = omega (arith, before_tries, tries, ap length more, length-append (occurrences_from first r.scopes) (occurrences_of first s), length_mapped (occurrence_of (f.start -ℤ first)) (nested_in [] forest));
     }
 
-pub read_more : (frames : List FrameBytes) (i : ℕ) (f : FrameBytes) (v w : Merging) (tried made : ℕ) → take (i + 1) frames ≡ take i frames ++ (f ∷ []) → v.origin ≡ f.start -ℤ start_of frames → HasRead frames i v.table tried → TakesAll Short TakesScopes v w (bytes_of f) made → length (bytes_of f) < 2 ^ 63
+pub read_more : (frames : List FrameBytes) (i : ℕ) (f : FrameBytes) (v w : Merging) (tried made : ℕ) → take (i + 1) frames ≡ take i frames ++ (f ∷ []) → v.origin ≡ f.start -ℤ start_of frames → HasRead frames i v.table tried → TakesAll (form_of f) TakesScopes v w (bytes_of f) made → length (bytes_of f) < 2 ^ 63
     → HasRead frames (i + 1) w.table (tried + made)
 read_more frames i f v w tried made split origin r all short =
     let done = occurrences_from (start_of frames) r.scopes in
@@ -74,7 +73,7 @@ both_counted p q i = p i + q i
 
 -- a frame that is refused
 pub read_refused : (frames : List FrameBytes) (i : ℕ) (f : FrameBytes) (v w : Merging) (tried made : ℕ) (e : Error) → frames ≡ take i frames ++ (f ∷ drop (i + 1) frames) → v.origin ≡ f.start -ℤ start_of frames → HasRead frames i v.table tried
-    → StopsEarly Short TakesScopes RefusesScope v w (bytes_of f) made e → IsRefusalAfter frames (tried + made) e
+    → StopsEarly (form_of f) TakesScopes RefusesScope v w (bytes_of f) made e → IsRefusalAfter frames (tried + made) e
 read_refused frames i f v w tried made e split origin r (inl s) =
     let done = occurrences_from (start_of frames) r.scopes in
     subst (λ (n : ℕ). IsRefusalAfter frames n e) (sym (both_counted r.tries s.tries))

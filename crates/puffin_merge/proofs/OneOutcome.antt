@@ -1,7 +1,7 @@
 -- Frames that are merged aren't refused, and are merged into one forest.
 use Rattle.std.proofs.Common.{◌≡◌, ℕ, ◌<◌, ◌^◌, ℤ, ◌-ℤ◌, List, [], ◌∷◌, ◌++◌, length, inl, inr, refl, sym, ap, subst, ◌∙◌, arith, append_assoc}
 use Rattle.std.proofs.lemmas.List.{map-append}
-use Rattle.puffin_data.specs.declared.data.form.Form.TheVariants.{Short}
+use Rattle.puffin_data.specs.declared.data.form.Form.{Form}
 use Rattle.puffin_data.specs.declared.error.Error.{Error}
 use Rattle.puffin_data.specs.Forest.{Forest, IsForest}
 use Rattle.puffin_data.specs.Forest.Spelling.{spelling, Spells}
@@ -10,7 +10,7 @@ use Rattle.puffin_data.specs.Walk.Sights.{Nested, nested_in, Sight, Sees, scopes
 use Rattle.puffin_merge.specs.Merge.Occurrences.{Occurrence, FrameScopes, occurrence_of, occurrences_in, occurrences_of, occurrences_from, occurrences}
 use Rattle.puffin_merge.specs.Merge.Tree.{MergedForest}
 use Rattle.puffin_merge.specs.Merge.{IsMerge}
-use Rattle.puffin_merge.specs.Merge.FrameBytes.{FrameBytes, bytes_of, start_of, HasScopes, HaveScopes}
+use Rattle.puffin_merge.specs.Merge.FrameBytes.{FrameBytes, form_of, bytes_of, start_of, HasScopes, HaveScopes}
 use Rattle.puffin_merge.specs.Merge.Refusals.{IsRefusedFor, AreAccepted, IsFrameRefusal, faulty, refused, IsMergeRefusal, IsRefusalAfter, in_frame, at_end, EndsFit, AreMerged}
 use Rattle.puffin_merge.specs.inner.Merging.{append-nil}
 use Rattle.puffin_merge.proofs.FramesRead.{starts_same}
@@ -18,17 +18,17 @@ use Rattle.puffin_merge.proofs.OneMerge.{one_merge}
 
 -- what is known of walks
 pub record Walks : Type 0 where
-  pub one_forest : (f g : Forest) → IsForest Short f → IsForest Short g → length (spelling Short f) < 2 ^ 63 → spelling Short f ≡ spelling Short g → f ≡ g
-  pub no_fault : (bytes : List ℕ) (f : Forest) (fault : Error) → length bytes < 2 ^ 64 → Spells Short bytes f → IsFault Short bytes fault → ⊥
-  pub sees : (bytes : List ℕ) (f : Forest) (sights : List Sight) → length bytes < 2 ^ 64 → Spells Short bytes f → Sees Short bytes [] 0 (length bytes) sights → scopes_of sights ≡ nested_in [] f
+  pub one_forest : (form : Form) (f g : Forest) → IsForest form f → IsForest form g → length (spelling form f) < 2 ^ 63 → spelling form f ≡ spelling form g → f ≡ g
+  pub no_fault : (form : Form) (bytes : List ℕ) (f : Forest) (fault : Error) → length bytes < 2 ^ 64 → Spells form bytes f → IsFault form bytes fault → ⊥
+  pub sees : (form : Form) (bytes : List ℕ) (f : Forest) (sights : List Sight) → length bytes < 2 ^ 64 → Spells form bytes f → Sees form bytes [] 0 (length bytes) sights → scopes_of sights ≡ nested_in [] f
 
 -- ---- frames have one list of scopes
 
 one_frame : Walks → (frame : FrameBytes) (x y : FrameScopes) → HasScopes frame x → HasScopes frame y → x ≡ y
 one_frame w frame x y a b =
     let start = a.start ∙ sym b.start in
-    let short : length (spelling Short x.forest) < 2 ^ 63 = subst (λ (bytes : List ℕ). length bytes < 2 ^ 63) a.spells.whole a.short in
-    let forest = w.one_forest x.forest y.forest a.spells.fits b.spells.fits short (sym a.spells.whole ∙ b.spells.whole) in
+    let short : length (spelling (form_of frame) x.forest) < 2 ^ 63 = subst (λ (bytes : List ℕ). length bytes < 2 ^ 63) a.spells.whole a.short in
+    let forest = w.one_forest (form_of frame) x.forest y.forest a.spells.fits b.spells.fits short (sym a.spells.whole ∙ b.spells.whole) in
     λ i. record { start = start i; forest = forest i }
 
 one_list : Walks → (frames : List FrameBytes) (xs ys : List FrameScopes) → HaveScopes frames xs → HaveScopes frames ys → xs ≡ ys
@@ -77,13 +77,13 @@ not_refused done more o refusal a (inr large) = large.1 a.1
 
 -- ---- a frame whose scopes are accepted isn't refused
 
-frame_fine : Walks → (frame : FrameBytes) (this : FrameScopes) (done more : List Occurrence) (origin : ℤ) (refusal : Error) (tries : ℕ) → HasScopes frame this → AreAccepted done (occurrences_in origin (nested_in [] this.forest) ++ more) → IsFrameRefusal done origin (bytes_of frame) tries refusal → ⊥
+frame_fine : Walks → (frame : FrameBytes) (this : FrameScopes) (done more : List Occurrence) (origin : ℤ) (refusal : Error) (tries : ℕ) → HasScopes frame this → AreAccepted done (occurrences_in origin (nested_in [] this.forest) ++ more) → IsFrameRefusal done origin (form_of frame) (bytes_of frame) tries refusal → ⊥
 frame_fine w frame this done more origin refusal tries has a (faulty {place = place} {fault = fault} first sees accepted) =
-    let short = has.short in w.no_fault (bytes_of frame) this.forest fault (omega arith) has.spells (place, first)
+    let short = has.short in w.no_fault (form_of frame) (bytes_of frame) this.forest fault (omega arith) has.spells (place, first)
 frame_fine w frame this done more origin refusal tries has a (refused earlier later s {refusal = cause} sees accepted is_refused first) =
     let short = has.short in
     let scopes : nested_in [] this.forest ≡ scopes_of earlier ++ (s.scope ∷ scopes_of later) =
-    sym (w.sees (bytes_of frame) this.forest (earlier ++ (s ∷ later)) (omega arith) has.spells sees) ∙ map-append (λ (x : Sight). x.scope) earlier (s ∷ later) in
+    sym (w.sees (form_of frame) (bytes_of frame) this.forest (earlier ++ (s ∷ later)) (omega arith) has.spells sees) ∙ map-append (λ (x : Sight). x.scope) earlier (s ∷ later) in
     let split : occurrences_in origin (nested_in [] this.forest) ++ more ≡ occurrences_in origin (scopes_of earlier) ++ (occurrence_of origin s.scope ∷ (occurrences_in origin (scopes_of later) ++ more)) =
     ap (λ (xs : List Nested). occurrences_in origin xs ++ more) scopes
     ∙ ap (λ (xs : List Occurrence). xs ++ more) (map-append (occurrence_of origin) (scopes_of earlier) (s.scope ∷ scopes_of later))
@@ -94,7 +94,7 @@ frame_fine w frame this done more origin refusal tries has a (refused earlier la
 -- ---- the frames
 
 not_in_frame : Walks → (frames earlier later : List FrameBytes) (frame : FrameBytes) (early : List FrameScopes) (f : MergedForest) (refusal : Error) (tries : ℕ) → frames ≡ earlier ++ (frame ∷ later) → HaveScopes earlier early → AreMerged frames f
-    → IsFrameRefusal (occurrences_from (start_of frames) early) (frame.start -ℤ start_of frames) (bytes_of frame) tries refusal → ⊥
+    → IsFrameRefusal (occurrences_from (start_of frames) early) (frame.start -ℤ start_of frames) (form_of frame) (bytes_of frame) tries refusal → ⊥
 not_in_frame w frames earlier later frame early f refusal tries split have m is =
     let at = has_at w earlier later frame early m.scopes have (subst (λ (xs : List FrameBytes). HaveScopes xs m.scopes) split m.have) in
     let first = start_of frames in

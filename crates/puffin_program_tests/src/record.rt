@@ -28,6 +28,7 @@ fn script(rt: &HostRuntime, name: &str, commands: Vec<Command>) -> Outcome<Scrip
     }
     Ok(Script {
         names: names(rt, name)?,
+        forms: Vec::new(rt.alloc()),
         commands,
         lines,
     })

@@ -66,6 +66,18 @@ fn a_file_s_frames_and_scopes_are_printed(rt: HostRuntime) -> Outcome<()> {
 }
 
 #[test]
+fn a_long_thread_s_frame_is_printed_as_a_short_one_s(rt: HostRuntime) -> Outcome<()> {
+    let mut script = Vec::from_slice(rt.alloc(), b"long main\n")?;
+    script.extend_from_slice(ONE)?;
+    let (file, lines) = made(&rt, script.as_slice())?;
+    assert_eq!(rt; file.len(), 80);
+    assert!(rt; file.as_slice().starts_with(b"PUF0PFDL"));
+    assert!(rt; lines.as_slice() == b"frame 0 threads 1 scopes 1 bytes 35 duration 200\n");
+    assert!(rt; prints(&rt, script.as_slice(), ONE_LINES)?);
+    Ok(())
+}
+
+#[test]
 fn scopes_in_a_scope_stand_below_it_two_blanks_deeper(rt: HostRuntime) -> Outcome<()> {
     let (_, lines) = made(&rt, TWO)?;
     assert_eq!(rt;

@@ -1,6 +1,6 @@
 use crate::count::{NEVER, device};
 use puffin_data::FileError;
-use puffin_data::data::{Counted, Source};
+use puffin_data::data::{Counted, Form, Source};
 use puffin_replay::replay::{Command, Script, ToolFault, read_script, run_script};
 use std::io;
 use std::test::Fail;
@@ -171,6 +171,19 @@ fn other_lines_are_refused(rt: HostRuntime) {
     ] {
         assert_eq!(rt; fault(&rt, line.as_bytes()), Some(ToolFault::Line(1)));
     }
+}
+
+#[test]
+fn a_long_line_is_the_first_that_names_its_thread(rt: HostRuntime) {
+    let Ok(long) = script(&rt, b"long b\nbegin a 1 1\nbegin b 2 1\nlong c") else {
+        panic!(rt; "the script is refused");
+    };
+    assert!(rt; long.forms.as_slice() == [Form::Long, Form::Short, Form::Long]);
+    assert!(rt; long.lines.as_slice() == [2, 3]);
+    assert!(rt; fault(&rt, b"begin b 2 1\nlong b") == Some(ToolFault::Line(2)));
+    assert!(rt; fault(&rt, b"long b\nlong b") == Some(ToolFault::Line(2)));
+    assert!(rt; fault(&rt, b"long") == Some(ToolFault::Line(1)));
+    assert!(rt; fault(&rt, b"long b c") == Some(ToolFault::Line(1)));
 }
 
 #[test]

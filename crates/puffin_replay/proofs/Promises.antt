@@ -3,6 +3,7 @@ use Rattle.std.proofs.Common.{◌≡◌, ◌⊎◌, inl, inr, ℕ, zero, suc, �
 use Rattle.std.specs.Prelude.{Bool}
 use Rattle.std.specs.List.{AllByRecursion, All, Any, list_any, flat_map}
 use Rattle.std.proofs.lemmas.List.Elements.{recursion_from_All}
+use Rattle.puffin_data.specs.declared.data.form.Form.{Form}
 use Rattle.puffin_data.specs.declared.error.Error.TheVariants.{MissingId}
 use Rattle.puffin_data.specs.declared.file_error.FileError.{FileError}
 use Rattle.puffin_data.specs.declared.file_error.FileError.TheVariants as file
@@ -93,7 +94,7 @@ read_outside fault_again v bytes new e of short fails =
 
 -- ---- the promise
 
-module _ (names : List (List ℕ)) (commands : List Command) (replies : List Reply) (run : (end : SessionState) × AreReplies names commands replies end) where
+module _ (names : List (List ℕ × Form)) (commands : List Command) (replies : List Reply) (run : (end : SessionState) × AreReplies names commands replies end) where
   rising : is_rising (emitted replies) ≡ true
   rising = emitted_rise (opening_of (new_session names)) commands replies run.1.learnt run.1.num_replies run.1.num_learnt run.1.replies_stand
 
@@ -149,7 +150,7 @@ none_took v recent slow last = record {
   last = last;
 }
 
-module _ (names : List (List ℕ)) (commands : List Command) (max_recent max_slow : ℕ) (packs : Bool) (old new : FrameView) (limited : view_of old ≡ record empty_view { max_recent = max_recent; max_slow = max_slow; packs = packs }) where
+module _ (names : List (List ℕ × Form)) (commands : List Command) (max_recent max_slow : ℕ) (packs : Bool) (old new : FrameView) (limited : view_of old ≡ record empty_view { max_recent = max_recent; max_slow = max_slow; packs = packs }) where
   recent_limit : (view_of old).max_recent ≡ max_recent
   recent_limit = ap (λ (v : View). v.max_recent) limited
 

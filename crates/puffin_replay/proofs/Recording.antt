@@ -31,6 +31,8 @@ use Rattle.puffin_session.specs.declared.command.Command.{Command}
 use Rattle.puffin_replay.specs.declared.replay.script.Script.{Script}
 use Rattle.puffin_session.specs.declared.command.Reply.{Reply}
 use Rattle.puffin_session.specs.declared.command.Reply.TheVariants as reply
+use Rattle.puffin_data.specs.declared.data.form.Form.{Form}
+use Rattle.puffin_replay.specs.Script.{threads_said}
 use Rattle.puffin_session.specs.Session.Runs.{HasIds, AreReplies, details_told, details_of_reply}
 use Rattle.puffin_report.specs.Summary.{NoneLacksIds}
 use Rattle.puffin_replay.specs.Program.Recording.{frame_in, emitted_by, frames_emitted, Takes, TakesSome, TookAlso, file_of_view, IsBroken}
@@ -186,9 +188,9 @@ module _ (rs : List Reply) (i : ℕ) (r : Reply) (h : i < length rs) (is : r ≡
 -- ---- a script's run
 
 -- the lines weren't written whole
-module _ (script : Script) (names : List (List ℕ)) (commands : List Command) (same_names : names ≡ map string_bytes script.names.items) (same_commands : commands ≡ script.commands.items) where
+module _ (script : Script) (names : List (List ℕ × Form)) (commands : List Command) (same_names : names ≡ threads_said script) (same_commands : commands ≡ script.commands.items) where
   pub answers : (replies : List Reply) (end : SessionState) → AreReplies names commands replies end → AreAnswers script replies end
-  answers replies end run = subst (λ (ns : List (List ℕ)). AreReplies ns script.commands.items replies end) same_names (subst (λ (cs : List Command). AreReplies names cs replies end) same_commands run)
+  answers replies end run = subst (λ (ns : List (List ℕ × Form)). AreReplies ns script.commands.items replies end) same_names (subst (λ (cs : List Command). AreReplies names cs replies end) same_commands run)
 
   module _ (old new : FrameView) (empty : view_of old ≡ loose_view) where
     pub view-after : (replies : List Reply) → Takes (frames_emitted replies) old new → view_of new ≡ view_after replies
@@ -242,10 +244,3 @@ module _ (script : Script) (names : List (List ℕ)) (commands : List Command) (
         ids = ids-after;
         told = subst (λ (bs : List ℕ). Appends lines_before lines_after bs) same printed;
       }
-
--- copies of texts have their bytes
-pub same_texts : {A : Type 0} (texts copies : List (String A)) → AllZip (λ s t. string_bytes t ≡ string_bytes s) texts copies → map string_bytes copies ≡ map string_bytes texts
-same_texts [] [] same = refl
-same_texts [] (t ∷ ts) same = absurd same
-same_texts (s ∷ ss) [] same = absurd same
-same_texts (s ∷ ss) (t ∷ ts) same = ap (λ (b : List ℕ). b ∷ map string_bytes ts) same.0 ∙ ap (λ (bs : List (List ℕ)). string_bytes s ∷ bs) (same_texts ss ts same.1)

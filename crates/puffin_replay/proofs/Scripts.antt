@@ -1,7 +1,10 @@
 -- How a script is read: its lines, the numbers of its threads, its commands.
-use Rattle.std.proofs.Common.{◌≡◌, ◌==◌, ℕ, ◌+◌, ◌-◌, ◌<◌, ◌≤◌, List, [], ◌∷◌, ◌++◌, length, map, take, drop, append_assoc, zero, suc, if◌then◌else◌, Bool, true, false, cond, not, Option, Some, None, option_map, Result, Ok, Err, refl, ap, sym, subst, ◌∙◌, arith, length-drop, slice_get, position, MatchOption}
+use Rattle.std.proofs.Common.{◌≡◌, ◌==◌, ℕ, ◌+◌, ◌-◌, ◌<◌, ◌≤◌, List, [], ◌∷◌, ◌++◌, length, map, take, drop, append_assoc, zero, suc, if◌then◌else◌, Bool, true, false, cond, not, Option, Some, None, option_map, Result, Ok, Err, refl, ap, sym, subst, ◌∙◌, arith, length-drop, append-nil, get_or, is_some, slice_get, position, MatchOption}
 use Rattle.std.specs.List.{position_or_len, list_any}
 use Rattle.std.proofs.lemmas.List.{take_all, map-append}
+use Rattle.std.proofs.lemmas.List.Elements.{filter-append}
+use Rattle.puffin_data.specs.declared.data.form.Form.{Form}
+use Rattle.puffin_data.specs.declared.data.form.Form.TheVariants.{Short}
 use Rattle.std.proofs.lemmas.List.Splits.{slice_split_first, length-slice_split}
 use Rattle.std.proofs.lemmas.List.Sums.{prefix_len-le-length, count_by-le-length}
 use Rattle.std.specs.Str.{is_utf8, IsUtf8}
@@ -13,7 +16,7 @@ use Rattle.std.proofs.lemmas.Bool.{false_from_ne_true}
 use Rattle.std.proofs.lemmas.Bool.Decides.{nat_tests}
 use Rattle.puffin_replay.specs.Script.Statements.{Meaning, line_meaning, words_in}
 use Rattle.puffin_replay.specs.inner.ScriptReading.{meaning_of}
-use Rattle.puffin_replay.specs.Script.{is_line_feed, lines_in, is_skipped, known, told_by, onto, statements_from, with_name, with_if_named, with_thread_of, thread_named_by, threads_after, command_said}
+use Rattle.puffin_replay.specs.Script.{is_line_feed, lines_in, is_skipped, known, told_by, onto, is_late, statements_from, with_name, with_if_named, with_thread_of, with_form, with_form_of, thread_named_by, threads_after, forms_after, is_command, commands_in, command_said, with_forms}
 use Rattle.std.proofs.lemmas.List.Folds.{list_any-append}
 use Rattle.std.proofs.lemmas.Slice.Eq.{bytes_eq-Decides}
 use Rattle.std.specs.Str.{bytes_eq}
@@ -124,6 +127,13 @@ new_name names name unknown = rw unknown refl
 pub place_of_new : (names named : List (List ℕ)) (name : List ℕ) (number : ℕ) → named ≡ names ++ name ∷ [] → number ≡ length names → slice_get named number ≡ Some name
 place_of_new names named name number more next = rw (more, next) (slice_get-last names name)
 
+-- the forms stay where the name is known, and have one more where it is new
+pub known_form : (names : List (List ℕ)) (forms : List Form) (i : ℕ) (name : List ℕ) (form : Form) → slice_get names i ≡ Some name → forms ≡ with_form names forms (Some name) form
+known_form names forms i name form h = let there = any_there names i name h in rw there refl
+
+pub new_form : (names : List (List ℕ)) (forms : List Form) (name : List ℕ) (form : Form) → list_any (bytes_eq name) names ≡ false → forms ++ form ∷ [] ≡ with_form names forms (Some name) form
+new_form names forms name form unknown = rw unknown refl
+
 -- ---- commands
 
 kept_map : {X : Type 0} (f : List ℕ → X) (names more : List (List ℕ)) (i : ℕ) (x : X) → option_map f (slice_get names i) ≡ Some x → option_map f (slice_get (names ++ more) i) ≡ Some x
@@ -169,18 +179,41 @@ threads_after-append names (x ∷ ss) s = threads_after-append (with_thread_of n
 
 -- ---- one more command
 
-pub lines_more : (lines lines' : List ℕ) (before : List (ℕ × Meaning)) (s : ℕ × Meaning) → lines' ≡ lines ++ s.0 ∷ [] → lines ≡ map (λ x. x.0) before → lines' ≡ map (λ x. x.0) (before ++ s ∷ [])
-lines_more lines lines' before s more same = rw (more, same, map-append) refl
+commands_with : (before : List (ℕ × Meaning)) (s : ℕ × Meaning) → is_command s.1 ≡ true → commands_in (before ++ s ∷ []) ≡ commands_in before ++ s ∷ []
+commands_with before s is = filter-append (λ x. is_command x.1) before (s ∷ []) ∙ rw is refl
+
+commands_without : (before : List (ℕ × Meaning)) (s : ℕ × Meaning) → is_command s.1 ≡ false → commands_in (before ++ s ∷ []) ≡ commands_in before
+commands_without before s none = filter-append (λ x. is_command x.1) before (s ∷ []) ∙ rw none (append-nil (commands_in before))
+
+pub lines_more : (lines lines' : List ℕ) (before : List (ℕ × Meaning)) (s : ℕ × Meaning) → is_command s.1 ≡ true → lines' ≡ lines ++ s.0 ∷ [] → lines ≡ map (λ x. x.0) (commands_in before) → lines' ≡ map (λ x. x.0) (commands_in (before ++ s ∷ []))
+lines_more lines lines' before s is more same = rw (commands_with before s is, more, same, map-append) refl
+
+pub lines_same : (lines : List ℕ) (before : List (ℕ × Meaning)) (s : ℕ × Meaning) → is_command s.1 ≡ false → lines ≡ map (λ x. x.0) (commands_in before) → lines ≡ map (λ x. x.0) (commands_in (before ++ s ∷ []))
+lines_same lines before s none same = same ∙ ap (map (λ x. x.0)) (sym (commands_without before s none))
 
 pub names_more : (names names' : List (List ℕ)) (before : List (ℕ × Meaning)) (s : ℕ × Meaning) → names' ≡ with_thread_of names s.1 → names ≡ threads_after [] before → names' ≡ threads_after [] (before ++ s ∷ [])
 names_more names names' before s more same = more ∙ ap (λ (ns : List (List ℕ)). with_thread_of ns s.1) same ∙ sym (threads_after-append [] before s)
 
-pub commands_more : (names names' : List (List ℕ)) (cs cs' : List Command) (c : Command) (before : List (ℕ × Meaning)) (s : ℕ × Meaning) → names' ≡ with_thread_of names s.1 → cs' ≡ cs ++ c ∷ []
-    → map (command_said names) cs ≡ map (λ x. Some x.1) before → command_said names' c ≡ Some s.1 → map (command_said names') cs' ≡ map (λ x. Some x.1) (before ++ s ∷ [])
-commands_more names names' cs cs' c before s named more same new =
-    let still = all_said_with names (thread_named_by s.1) cs before same in
-    let old : map (command_said names') cs ≡ map (λ (x : ℕ × Meaning). Some x.1) before = ap (λ (ns : List (List ℕ)). map (command_said ns) cs) named ∙ still in
-    rw (more, map-append, map-append, old, new) refl
+forms_after-append : (names : List (List ℕ)) (forms : List Form) (ss : List (ℕ × Meaning)) (s : ℕ × Meaning) → forms_after names forms (ss ++ s ∷ []) ≡ with_form_of (threads_after names ss) (forms_after names forms ss) s.1
+forms_after-append names forms [] s = refl
+forms_after-append names forms (x ∷ ss) s = forms_after-append (with_thread_of names x.1) (with_form_of names forms x.1) ss s
+
+pub forms_more : (names : List (List ℕ)) (forms forms' : List Form) (before : List (ℕ × Meaning)) (s : ℕ × Meaning) → forms' ≡ with_form_of names forms s.1 → names ≡ threads_after [] before → forms ≡ forms_after [] [] before → forms' ≡ forms_after [] [] (before ++ s ∷ [])
+forms_more names forms forms' before s more named same =
+    more ∙ (λ i. with_form_of (named i) (same i) s.1) ∙ sym (forms_after-append [] [] before s)
+
+-- a line that is no command
+pub commands_same : (names names' : List (List ℕ)) (cs : List Command) (before : List (ℕ × Meaning)) (s : ℕ × Meaning) → is_command s.1 ≡ false → names' ≡ with_thread_of names s.1
+    → map (command_said names) cs ≡ map (λ x. Some x.1) (commands_in before) → map (command_said names') cs ≡ map (λ x. Some x.1) (commands_in (before ++ s ∷ []))
+commands_same names names' cs before s none named same =
+    ap (λ (ns : List (List ℕ)). map (command_said ns) cs) named ∙ all_said_with names (thread_named_by s.1) cs (commands_in before) same ∙ ap (map (λ x. Some x.1)) (sym (commands_without before s none))
+
+pub commands_more : (names names' : List (List ℕ)) (cs cs' : List Command) (c : Command) (before : List (ℕ × Meaning)) (s : ℕ × Meaning) → is_command s.1 ≡ true → names' ≡ with_thread_of names s.1 → cs' ≡ cs ++ c ∷ []
+    → map (command_said names) cs ≡ map (λ x. Some x.1) (commands_in before) → command_said names' c ≡ Some s.1 → map (command_said names') cs' ≡ map (λ x. Some x.1) (commands_in (before ++ s ∷ []))
+commands_more names names' cs cs' c before s is named more same new =
+    let still = all_said_with names (thread_named_by s.1) cs (commands_in before) same in
+    let old : map (command_said names') cs ≡ map (λ (x : ℕ × Meaning). Some x.1) (commands_in before) = ap (λ (ns : List (List ℕ)). map (command_said ns) cs) named ∙ still in
+    rw (commands_with before s is, more, map-append, map-append, old, new) refl
 
 -- ---- reading on
 
@@ -193,5 +226,31 @@ after_onto : (before : List (ℕ × Meaning)) (s : ℕ × Meaning) (later : Resu
 after_onto before s (Ok later) = ap (λ (xs : List (ℕ × Meaning)). Ok xs) (sym (append_assoc before (s ∷ []) later))
 after_onto before s (Err wrong) = refl
 
-pub after_said : (before : List (ℕ × Meaning)) (number : ℕ) (line : List ℕ) (lines left : List (List ℕ)) (s : Meaning) → left ≡ line ∷ lines → told_by number line ≡ Ok (Some s) → after before (statements_from number left) ≡ after (before ++ (number, s) ∷ []) (statements_from (number + 1) lines)
-after_said before number line lines left s e told = rw (e, told) (after_onto before (number, s) (statements_from (number + 1) lines))
+pub after_said : (before : List (ℕ × Meaning)) (number : ℕ) (line : List ℕ) (lines left : List (List ℕ)) (s : Meaning) → left ≡ line ∷ lines → told_by number line ≡ Ok (Some s) → is_late (threads_after [] before) s ≡ false
+    → after before (statements_from number (threads_after [] before) left) ≡ after (before ++ (number, s) ∷ []) (statements_from (number + 1) (threads_after [] (before ++ (number, s) ∷ [])) lines)
+after_said before number line lines left s e told early =
+    let named = threads_after-append [] before (number, s) in
+    rw (e, told, early, named) (after_onto before (number, s) (statements_from (number + 1) (with_thread_of (threads_after [] before) s) lines))
+
+-- a line that comes too late is the first that is wrong
+pub after_late : (before : List (ℕ × Meaning)) (number : ℕ) (line : List ℕ) (lines left : List (List ℕ)) (s : Meaning) → left ≡ line ∷ lines → told_by number line ≡ Ok (Some s) → is_late (threads_after [] before) s ≡ true
+    → after before (statements_from number (threads_after [] before) left) ≡ Err number
+after_late before number line lines left s e told late = rw (e, told, late) refl
+
+-- a thread that has a number is named
+pub named_there : (names : List (List ℕ)) (q : List ℕ) (o : Option ℕ) → Places names q o → is_some o ≡ list_any (bytes_eq q) names
+named_there names q None h = sym h
+named_there names q (Some i) h = sym (any_there names i q h)
+
+-- ---- the threads of a script
+
+with_forms-none : (names : List (List ℕ)) (name : List ℕ) → with_forms (names ++ name ∷ []) [] ≡ with_forms names [] ++ (name, Short) ∷ []
+with_forms-none [] name = refl
+with_forms-none (n ∷ names) name = ap (λ ts. (n, Short) ∷ ts) (with_forms-none names name)
+
+-- with one name more
+pub with_forms-more : (names : List (List ℕ)) (forms : List Form) (name : List ℕ) → with_forms (names ++ name ∷ []) forms ≡ with_forms names forms ++ (name, get_or forms (length names) Short) ∷ []
+with_forms-more [] [] name = refl
+with_forms-more [] (f ∷ forms) name = refl
+with_forms-more (n ∷ names) [] name = ap (λ ts. (n, Short) ∷ ts) (with_forms-none names name)
+with_forms-more (n ∷ names) (f ∷ forms) name = ap (λ ts. (n, f) ∷ ts) (with_forms-more names forms name)

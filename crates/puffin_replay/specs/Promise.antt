@@ -2,6 +2,7 @@
 use Rattle.std.specs.Prelude.{◌≡◌, ℕ, Bool, true, false, if◌then◌else◌, List, [], ◌∷◌, ◌++◌, map, Some}
 use Rattle.std.specs.List.{AllZip, Any, filter}
 use Rattle.std.specs.FinMap.{values}
+use Rattle.puffin_data.specs.declared.data.form.Form.{Form}
 use Rattle.puffin_frames.specs.Packet.Stored.{Said}
 use Rattle.puffin_frames.specs.Packet.Writing.{HasLongPart}
 use Rattle.puffin_frames.specs.Frame.Sums.{meta_of}
@@ -37,7 +38,7 @@ before_frames done (a ∷ later) =
 -- What a frame says that was emitted after these actions. It has a stream under just those starts and names of threads under which scopes were reported since the frame before, and each spells these scopes and no others, in order, with their true count, depth and range. Its meta is that of all of them, with the next index, and it tells of the scope details that were due.
 pub record SaysDue (o : Opening) (done : List Action) (frame : Said) : Type 0 where
   pub streams : Streams
-  pub unpacked : streams_in (record { kind = frame.kind; bytes = frame.streams }) ≡ Some streams
+  pub unpacked : streams_in (record { form = frame.form; kind = frame.kind; bytes = frame.streams }) ≡ Some streams
   pub spelled : SpellsDue streams (due o done)
   pub meta : frame.meta ≡ meta_of (index_after o done) (values streams)
   pub details : frame.details
@@ -54,13 +55,13 @@ kept n k cs =
 
 -- ---- the promise
 
--- Of commands that a new session of threads with these names ran, of their replies, and of the view that was read of the file that a view with these limits wrote.
-pub record KeepsPromise (names : List (List ℕ)) (commands : List Command) (max_recent max_slow : ℕ) (replies : List Reply) (read : View) : Type 0 where
+-- Of commands that a new session of threads with these names and forms ran, of their replies, and of the view that was read of the file that a view with these limits wrote.
+pub record KeepsPromise (threads : List (List ℕ × Form)) (commands : List Command) (max_recent max_slow : ℕ) (replies : List Reply) (read : View) : Type 0 where
   -- each command got a reply that it may get after those before it, be it a refusal
   pub end : SessionState
-  pub run : AreReplies names commands replies end
+  pub run : AreReplies threads commands replies end
   -- each action that emitted a frame has its own frame, in order, and that says what was due
-  pub due : AllZip (SaysDue (opening_of (new_session names)))
+  pub due : AllZip (SaysDue (opening_of (new_session threads)))
       (before_frames [] (actions_of commands replies run.learnt)) (emitted replies)
   pub rising : is_rising (emitted replies) ≡ true
   -- what is read are the last and the slowest of these frames, and nothing else
@@ -69,9 +70,9 @@ pub record KeepsPromise (names : List (List ℕ)) (commands : List Command) (max
       ≡ slowest read.max_slow (kept max_recent max_slow (emitted replies))
 
 -- The commands may get replies whose frames, as far as they are kept, have a part that is too long to be written.
-abbrev pub MayBeTooLong : List (List ℕ) → List Command → ℕ → ℕ → Type 0
-MayBeTooLong names commands max_recent max_slow =
+abbrev pub MayBeTooLong : List (List ℕ × Form) → List Command → ℕ → ℕ → Type 0
+MayBeTooLong threads commands max_recent max_slow =
     (replies : List Reply)
     × (end : SessionState)
-    × AreReplies names commands replies end
+    × AreReplies threads commands replies end
     × Any HasLongPart (kept max_recent max_slow (emitted replies))

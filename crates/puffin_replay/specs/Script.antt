@@ -1,10 +1,12 @@
 -- What a script asks for.
 pub mod Statements
-use Rattle.std.specs.Prelude.{◌≡◌, ℕ, ◌+◌, ◌==◌, List, [], ◌∷◌, ◌++◌, map, Bool, true, Option, Some, None, option_map, Result, Ok, Err, if◌then◌else◌, slice_get}
-use Rattle.std.specs.List.{slice_split, list_any}
+use Rattle.std.specs.Prelude.{◌≡◌, ℕ, ◌+◌, ◌==◌, List, [], ◌∷◌, ◌++◌, map, Bool, true, false, Option, Some, None, option_map, Result, Ok, Err, if◌then◌else◌, slice_get}
+use Rattle.std.specs.List.{slice_split, list_any, filter}
 use Rattle.std.specs.Str.{bytes_eq, is_utf8}
 use Rattle.std.specs.String.{string_bytes}
-use Rattle.puffin_replay.specs.Script.Statements.{Meaning, begins, ends, registers, registers_user, tells_all, takes_frame, words_in, line_meaning}
+use Rattle.puffin_replay.specs.Script.Statements.{Meaning, makes_long, begins, ends, registers, registers_user, tells_all, takes_frame, words_in, line_meaning}
+use Rattle.puffin_data.specs.declared.data.form.Form.{Form}
+use Rattle.puffin_data.specs.declared.data.form.Form.TheVariants.{Short, Long}
 use Rattle.puffin_session.specs.declared.command.Command.{Command}
 use Rattle.puffin_session.specs.declared.command.Command.TheVariants as command
 use Rattle.puffin_replay.specs.declared.replay.fault.ToolFault.{ToolFault}
@@ -33,26 +35,10 @@ known number (Some s) = Ok (Some s)
 unfoldable pub told_by : ℕ → List ℕ → Result (Option Meaning) ℕ
 told_by number line = if is_utf8 line then (if is_skipped line then Ok None else known number (line_meaning (words_in line))) else Err number
 
-abbrev pub onto : ℕ × Meaning → Result (List (ℕ × Meaning)) ℕ → Result (List (ℕ × Meaning)) ℕ
-onto first (Ok later) = Ok (first ∷ later)
-onto first (Err wrong) = Err wrong
-
--- what a line says, before what the later ones say
-abbrev pub with_first : ℕ → Result (Option Meaning) ℕ → Result (List (ℕ × Meaning)) ℕ →
-    Result (List (ℕ × Meaning)) ℕ
-with_first number (Err wrong) later = Err wrong
-with_first number (Ok None) later = later
-with_first number (Ok (Some s)) later = onto (number, s) later
-
--- what the lines from this number on say, in order, each with its number; or the number of the first that says nothing that is known
-abbrev pub statements_from : ℕ → List (List ℕ) → Result (List (ℕ × Meaning)) ℕ
-statements_from number [] = Ok []
-statements_from number (line ∷ lines) =
-    with_first number (told_by number line) (statements_from (number + 1) lines)
-
 -- ---- threads
 
 abbrev pub thread_named_by : Meaning → Option (List ℕ)
+thread_named_by (makes_long thread) = Some thread
 thread_named_by (begins thread at id text) = Some thread
 thread_named_by (ends thread at) = Some thread
 thread_named_by (registers thread name function file line) = Some thread
@@ -73,6 +59,56 @@ with_thread_of names s = with_if_named names (thread_named_by s)
 abbrev pub threads_after : List (List ℕ) → List (ℕ × Meaning) → List (List ℕ)
 threads_after names [] = names
 threads_after names (s ∷ ss) = threads_after (with_thread_of names s.1) ss
+
+-- the form that a thread's texts have where this is its first line
+abbrev pub form_begun : Meaning → Form
+form_begun (makes_long thread) = Long
+form_begun _ = Short
+
+-- the form of a new name comes behind the others
+abbrev pub with_form : List (List ℕ) → List Form → Option (List ℕ) → Form → List Form
+with_form names forms None form = forms
+with_form names forms (Some name) form =
+    if list_any (bytes_eq name) names then forms else forms ++ form ∷ []
+
+abbrev pub with_form_of : List (List ℕ) → List Form → Meaning → List Form
+with_form_of names forms s = with_form names forms (thread_named_by s) (form_begun s)
+
+-- the forms of the threads, one for each name
+abbrev pub forms_after : List (List ℕ) → List Form → List (ℕ × Meaning) → List Form
+forms_after names forms [] = forms
+forms_after names forms (s ∷ ss) =
+    forms_after (with_thread_of names s.1) (with_form_of names forms s.1) ss
+
+-- ---- statements
+
+-- a line makes a thread's texts long that an earlier one has named
+abbrev pub is_late : List (List ℕ) → Meaning → Bool
+is_late names (makes_long thread) = list_any (bytes_eq thread) names
+is_late names _ = false
+
+abbrev pub unless_late : ℕ → List (List ℕ) → Result (Option Meaning) ℕ → Result (Option Meaning) ℕ
+unless_late number names (Err wrong) = Err wrong
+unless_late number names (Ok None) = Ok None
+unless_late number names (Ok (Some s)) = if is_late names s then Err number else Ok (Some s)
+
+abbrev pub onto : ℕ × Meaning → Result (List (ℕ × Meaning)) ℕ → Result (List (ℕ × Meaning)) ℕ
+onto first (Ok later) = Ok (first ∷ later)
+onto first (Err wrong) = Err wrong
+
+-- what a line says, before what the later ones say, which stand after its thread
+abbrev pub with_first : ℕ → List (List ℕ) → Result (Option Meaning) ℕ →
+    (List (List ℕ) → Result (List (ℕ × Meaning)) ℕ) → Result (List (ℕ × Meaning)) ℕ
+with_first number names (Err wrong) later = Err wrong
+with_first number names (Ok None) later = later names
+with_first number names (Ok (Some s)) later = onto (number, s) (later (with_thread_of names s))
+
+-- what the lines from this number on say after these threads, in order, each with its number; or the number of the first that says nothing that is known, or comes too late
+abbrev pub statements_from : ℕ → List (List ℕ) → List (List ℕ) → Result (List (ℕ × Meaning)) ℕ
+statements_from number names [] = Ok []
+statements_from number names (line ∷ lines) =
+    with_first number names (unless_late number names (told_by number line))
+    (λ named. statements_from (number + 1) named lines)
 
 -- ---- commands
 
@@ -96,16 +132,38 @@ command_said names (command.ReportUser info stream) = None
 command_said names command.Snapshot = Some tells_all
 command_said names command.NewFrame = Some takes_frame
 
+-- a line that makes a thread's texts long is no command
+abbrev pub is_command : Meaning → Bool
+is_command (makes_long thread) = false
+is_command _ = true
+
+abbrev pub commands_in : List (ℕ × Meaning) → List (ℕ × Meaning)
+commands_in ss = filter (λ s. is_command s.1) ss
+
 -- The lines say what the commands do, by threads that are numbered as they appear, and each command has its line's number.
 pub record IsScript (bytes : List ℕ) (script : Script) : Type 0 where
   pub statements : List (ℕ × Meaning)
-  pub told : statements_from 1 (lines_in bytes) ≡ Ok statements
-  pub lines : script.lines.items ≡ map (λ s. s.0) statements
+  pub told : statements_from 1 [] (lines_in bytes) ≡ Ok statements
+  pub lines : script.lines.items ≡ map (λ s. s.0) (commands_in statements)
   pub names : map string_bytes script.names.items ≡ threads_after [] statements
+  pub forms : script.forms.items ≡ forms_after [] [] statements
   pub commands : map (command_said (map string_bytes script.names.items)) script.commands.items
-      ≡ map (λ s. Some s.1) statements
+      ≡ map (λ s. Some s.1) (commands_in statements)
 
--- the fault is the number of the first line that says nothing that is known
+-- the fault is the number of the first line that says nothing that is known, or comes too late
 abbrev pub IsLineFault : List ℕ → ToolFault → Type 0
 IsLineFault bytes told =
-    (number : ℕ) × (told ≡ fault.Line number) × (statements_from 1 (lines_in bytes) ≡ Err number)
+    (number : ℕ)
+    × (told ≡ fault.Line number)
+    × (statements_from 1 [] (lines_in bytes) ≡ Err number)
+
+-- ---- the threads of a script
+
+-- names with their forms, short where there is none
+abbrev pub with_forms : List (List ℕ) → List Form → List (List ℕ × Form)
+with_forms [] forms = []
+with_forms (name ∷ names) [] = (name, Short) ∷ with_forms names []
+with_forms (name ∷ names) (form ∷ forms) = (name, form) ∷ with_forms names forms
+
+abbrev pub threads_said : Script → List (List ℕ × Form)
+threads_said script = with_forms (map string_bytes script.names.items) script.forms.items

@@ -5,7 +5,7 @@
 //! | to | call |
 //! |---|---|
 //! | drive threads and their profiler by commands | [`replay::Session::new`], [`replay::Session::run`] |
-//! | run commands into a file | [`replay::record`] |
+//! | run commands into a file | [`replay::record`]; [`replay::record_session`] of a session that there is |
 //! | run commands, and read their frames again | [`replay::record_and_read`] |
 //! | read a script, and run it into a file and lines | [`replay::read_script`], [`replay::run_script`] |
 //! | sum up a file for one thread, and print that | [`replay::summarize`], [`replay::print_report`] |

@@ -11,7 +11,7 @@ mod task;
 pub use fault::{ToolFault, finish};
 pub use puffin_report::{Summary, count_stream, laws, print_report, summarize};
 pub use puffin_session::{Command, Reply, Session};
-pub use recorder::{record, run_script};
+pub use recorder::{record, record_session, run_script};
 pub use recording::{Limits, Recording, record_and_read};
 pub use script::{Script, read_script};
 pub use task::{Task, read_words};

@@ -1,5 +1,6 @@
 use crate::session::{Outcome, begin, end};
 use puffin_data::NanoSecond;
+use puffin_data::data::Form;
 use puffin_frames::frame_data::FrameData;
 use puffin_replay::replay::{Command, Limits, Recording, record_and_read};
 use std::test::Fail;
@@ -26,7 +27,7 @@ fn recorded(
     packs: bool,
 ) -> Outcome<Recording> {
     let mut names = Vec::new(rt.alloc());
-    names.push(String::from_str(rt.alloc(), "main")?)?;
+    names.push((String::from_str(rt.alloc(), "main")?, Form::Short))?;
     let limits = Limits {
         max_recent,
         max_slow,

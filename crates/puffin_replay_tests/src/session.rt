@@ -1,4 +1,4 @@
-use puffin_data::data::{ScopeId, Stream};
+use puffin_data::data::{Form, ScopeId, Stream};
 use puffin_data::{Error, NanoSecond};
 use puffin_frames::thread_profiler::{Closed, ThreadInfo};
 use puffin_replay::replay::{Command, Reply, Session};
@@ -232,5 +232,38 @@ fn a_clock_that_falls_stands_still(rt: HostRuntime) -> Outcome<()> {
     let replies = session.run(&[end(0, 20), end(0, 30), Command::NewFrame])?;
     assert_eq!(rt; replies.len(), 3);
     assert!(rt; is_frame(replies.get(2), 0, Some(0), "a", 62, (0, 50)));
+    Ok(())
+}
+
+/// A session of two threads named `t`, the first of which is short and the second long.
+fn two_forms(rt: &HostRuntime) -> Outcome<Session> {
+    let mut threads = Vec::new(rt.alloc());
+    threads.push((String::from_str(rt.alloc(), "t")?, Form::Short))?;
+    threads.push((String::from_str(rt.alloc(), "t")?, Form::Long))?;
+    Ok(Session::with_forms(rt.alloc(), threads)?)
+}
+
+#[test]
+fn unlike_forms_under_one_info_come_in_frames_of_their_own(rt: HostRuntime) -> Outcome<()> {
+    let replies = two_forms(&rt)?.run(&[
+        begin(&rt, 0, 100, 1, "")?,
+        end(0, 200),
+        begin(&rt, 1, 100, 1, "")?,
+        end(1, 200),
+        Command::NewFrame,
+        begin(&rt, 1, 300, 1, "")?,
+        end(1, 400),
+        Command::NewFrame,
+    ])?;
+    assert!(rt; matches!(replies.get(1), Some(Reply::Ended(Closed::Reported))));
+    assert!(rt;
+        matches!(
+            replies.get(3),
+            Some(Reply::Ended(Closed::Kept(Error::UnlikeForms)))
+        )
+    );
+    assert!(rt; is_frame(replies.get(4), 0, Some(100), "t", 31, (100, 200)));
+    assert!(rt; matches!(replies.get(6), Some(Reply::Ended(Closed::Reported))));
+    assert!(rt; is_frame(replies.get(7), 1, Some(100), "t", 62, (100, 400)));
     Ok(())
 }

@@ -139,7 +139,7 @@ first_or_later (Ok b) (Ok os) e is = absurd (cc)
 none_io : (info : Info) (cs : List Said) (e : FileError) → all_bytes_in info cs ≡ Err e → NoIo e
 none_io info [] e is = absurd (cc)
 none_io info (c ∷ cs) e is = elim (first_or_later (bytes_in info c) (all_bytes_in info cs) e is) [
-  | inl first ↦ not_unpacked (record { kind = c.kind; bytes = c.streams }) e (under info c (unpacking (record { kind = c.kind; bytes = c.streams })) e first)
+  | inl first ↦ not_unpacked (record { form = c.form; kind = c.kind; bytes = c.streams }) e (under info c (unpacking (record { form = c.form; kind = c.kind; bytes = c.streams })) e first)
   | inr later ↦ none_io info cs e later
 ]
 

@@ -18,8 +18,8 @@ abbrev pub IsCounted : List ℕ → Option (List ℕ) → Option (List ℕ) → 
 IsCounted bytes old new answer =
     ((f : Forest)
     × Spells Short bytes f
-    × Appends old new (lines_of f)
-    × (answer ≡ refusal_of (frame_of_forest f)))
+    × Appends old new (lines_of Short f)
+    × (answer ≡ refusal_of (frame_of_forest Short f)))
     ⊎ ((cause : Error) × (answer ≡ Some cause) × IsFault Short bytes cause × Appends old new [])
 
 -- A refused call wrote nothing, or a beginning of the lines of what the reader gave.
@@ -31,4 +31,4 @@ IsCutShort unread left old new =
     × (f : Forest)
     × ReadsAll unread left bytes
     × Spells Short bytes f
-    × WritesBeginning old new (lines_of f))
+    × WritesBeginning old new (lines_of Short f))

@@ -1,7 +1,7 @@
 -- The two lines that the program prints of a stream.
 use Rattle.std.specs.Prelude.{ℕ, ◌^◌, ℤ, pos, ◌-ℤ◌, int_lt, List, ◌++◌, length, codes, Option, Some, None, Result, Ok, Err, if◌then◌else◌}
 use Rattle.std.specs.Fmt.{decimal, signed_decimal}
-use Rattle.puffin_data.specs.declared.data.form.Form.TheVariants.{Short}
+use Rattle.puffin_data.specs.declared.data.form.Form.{Form}
 use Rattle.puffin_data.specs.declared.error.Error.{Error}
 use Rattle.puffin_data.specs.declared.error.Error.TheVariants.{Empty, RangeTooLong}
 use Rattle.puffin_data.specs.Cause.{error_name}
@@ -43,20 +43,20 @@ meta_line meta =
 abbrev pub none_line : Error → List ℕ
 none_line cause = codes "frame none " ++ (error_name cause ++ codes "\n")
 
--- what frame 0 says of a forest, as the stream of one thread
-abbrev pub meta_of_forest : Forest → FrameMeta
-meta_of_forest f = record {
+-- what frame 0 says of a forest whose bytes have a form, as the stream of one thread
+abbrev pub meta_of_forest : Form → Forest → FrameMeta
+meta_of_forest form f = record {
   frame_index = 0;
   range_ns = (least_start f, greatest_stop f);
-  num_bytes = length (spelling Short f);
+  num_bytes = length (spelling form f);
   num_scopes = scope_count f;
 }
 
 -- what making that frame comes to: there is none of no scope, and none where the time from the least start to the greatest stop is no i64
-abbrev pub frame_of_forest : Forest → Result FrameMeta Error
-frame_of_forest empty = Err Empty
-frame_of_forest (node s children others) =
-    let f = node s children others in if int_lt (greatest_stop f -ℤ least_start f) (pos (2 ^ 63)) then Ok (meta_of_forest f) else Err RangeTooLong
+abbrev pub frame_of_forest : Form → Forest → Result FrameMeta Error
+frame_of_forest form empty = Err Empty
+frame_of_forest form (node s children others) =
+    let f = node s children others in if int_lt (greatest_stop f -ℤ least_start f) (pos (2 ^ 63)) then Ok (meta_of_forest form f) else Err RangeTooLong
 
 abbrev pub outcome_line : Result FrameMeta Error → List ℕ
 outcome_line (Ok meta) = meta_line meta
@@ -69,5 +69,5 @@ refusal_of (Err Empty) = None
 refusal_of (Err cause) = Some cause
 
 -- the two lines of a forest
-abbrev pub lines_of : Forest → List ℕ
-lines_of f = count_line f ++ outcome_line (frame_of_forest f)
+abbrev pub lines_of : Form → Forest → List ℕ
+lines_of form f = count_line f ++ outcome_line (frame_of_forest form f)

@@ -7,7 +7,6 @@ use Rattle.puffin_data.specs.declared.error.Error.{Error}
 use Rattle.puffin_data.specs.declared.error.Error.TheVariants.{Memory}
 use Rattle.puffin_data.specs.declared.file_error.FileError.{FileError}
 use Rattle.puffin_data.specs.declared.file_error.FileError.TheVariants.{Refused}
-use Rattle.puffin_data.specs.Honesty.{Recorded}
 use Rattle.puffin_threads.specs.Thread.Info.{Info}
 use Rattle.puffin_frames.specs.Frame.Streams.{Streams}
 use Rattle.puffin_threads.specs.Details.{Details}
@@ -17,7 +16,7 @@ use Rattle.puffin_frames.specs.Packet.Stored.{Said, Stored}
 use Rattle.puffin_view.specs.View.File.{contents_in, frame_stored, details_stored, file_at, read_view, TookFrames, FailsToRead}
 use Rattle.puffin_merge.specs.Merge.FrameBytes.{FrameBytes}
 use Rattle.puffin_merge.specs.Merge.Refusals.{IsMergeRefusal, AreMerged}
-use Rattle.puffin_merge.specs.Merge.Scopes.{forest_in}
+use Rattle.puffin_merge.specs.Merge.Scopes.{stream_in, forest_in}
 use Rattle.puffin_view.specs.View.Known.{lacks_ids}
 use Rattle.puffin_view.specs.View.{after_all}
 use Rattle.puffin_report.specs.declared.summary.Summary.{Summary}
@@ -28,13 +27,13 @@ bytes_under info c (Ok streams) =
     Ok (
     record {
       start = c.meta.range_ns.0;
-      stream = option_map (λ (r : Recorded). r.bytes) (tree.get streams info);
+      stream = option_map stream_in (tree.get streams info);
     })
 bytes_under info c (Err cause) = Err cause
 
 -- the streams that a frame's packed copy is unpacked to, or why it isn't
 abbrev pub streams_said : Said → Result Streams FileError
-streams_said c = unpacking (record { kind = c.kind; bytes = c.streams })
+streams_said c = unpacking (record { form = c.form; kind = c.kind; bytes = c.streams })
 
 -- what merging reads of a frame whose streams are packed, or why they aren't unpacked
 abbrev pub bytes_in : Info → Said → Result FrameBytes FileError

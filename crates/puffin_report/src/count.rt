@@ -85,8 +85,8 @@ fn none_line(alloc: Global, cause: Error) -> Result<String, AllocError>
 /// An honest info as the one stream of frame 0.
 fn frame_of(alloc: Global, info: StreamInfo) -> Result<UnpackedFrameData, Error>
     ensures { (f : Forest) → IsHonest info f →
-        MatchResult result (λ frame. frame_of_forest f ≡ Ok frame.meta) (λ e.
-        (e ≡ Error.Memory) ⊎ (frame_of_forest f ≡ Err e)) }
+        MatchResult result (λ frame. frame_of_forest info.stream.form f ≡ Ok frame.meta) (λ e.
+        (e ≡ Error.Memory) ⊎ (frame_of_forest info.stream.form f ≡ Err e)) }
 {
     // For the proof alone: a law about forests.
     range_of_a_forest();
@@ -103,8 +103,8 @@ fn frame_of(alloc: Global, info: StreamInfo) -> Result<UnpackedFrameData, Error>
 fn frame_line(alloc: Global, info: StreamInfo) -> Result<(String, Option<Error>), FileError>
     ensures ok { IfOk result (λ it.
         (f : Forest) → IsHonest info f →
-        (string_bytes it.0 ≡ outcome_line (frame_of_forest f))
-        × (it.1 ≡ refusal_of (frame_of_forest f))) }
+        (string_bytes it.0 ≡ outcome_line (frame_of_forest info.stream.form f))
+        × (it.1 ≡ refusal_of (frame_of_forest info.stream.form f))) }
     ensures err { IfErr result (λ e. e ≡ FileError.Memory) }
 {
     match frame_of(alloc, info) {

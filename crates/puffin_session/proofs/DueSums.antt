@@ -7,13 +7,12 @@ use Rattle.std.specs.List.{flat_map, sum_by}
 use Rattle.std.proofs.lemmas.List.Concat.{flat_map-append}
 use Rattle.std.proofs.lemmas.List.Sums.{sum_by-cons, sum_by_push}
 use Rattle.std.specs.Int.{int_min, int_max}
-use Rattle.std.specs.FinMap.{entries, entries_sorted, get-entries, values, empty, find, is_sorted, len-entries, len-empty}
+use Rattle.std.specs.FinMap.{get, entries, entries_sorted, get-entries, values, empty, find, is_sorted, len-entries, len-empty}
 use Rattle.std.specs.FinMap.Entries.{below_all}
 use Rattle.std.proofs.lemmas.Bool.{cases_eq}
 use Rattle.std.proofs.lemmas.Int.{ints, clamps}
 use Rattle.std.proofs.lemmas.Grind.{not_there}
 use mathlib.Core.Logic.{∥∥₁_map}
-use Rattle.puffin_data.specs.declared.data.form.Form.TheVariants.{Short}
 use Rattle.puffin_data.specs.declared.error.Error.{Error}
 use Rattle.puffin_data.specs.Forest.{Forest}
 use Rattle.puffin_data.specs.Honesty.{Recorded, IsHonestRecord}
@@ -24,43 +23,41 @@ use Rattle.puffin_threads.specs.Thread.Info.{Info, info_cmp, same_info}
 use Rattle.puffin_threads.specs.Details.{Details, AllHaveIds}
 use Rattle.puffin_frames.specs.Frame.Contents.{Streams, AreHonest, reported_to}
 use Rattle.puffin_frames.specs.Frame.Sums.{total_bytes, total_scopes, joined_start, joined_stop}
-use Rattle.puffin_collector.specs.Profiler.State.{PendingFits, range_with, IsTooLong, IsReportRefusal}
-use Rattle.puffin_session.specs.Session.History.{Opening, Action}
+use Rattle.puffin_collector.specs.Profiler.State.{PendingFits, range_with, IsTooLong, IsUnlike, IsReportRefusal}
+use Rattle.puffin_session.specs.Session.History.{Word, Opening, Action}
 use Rattle.puffin_session.specs.Session.Deliveries.{Delivery, under}
-use Rattle.puffin_session.specs.Session.Due.{due, events_of, bytes_delivered, scopes_delivered}
+use Rattle.puffin_session.specs.Session.Due.{due, total_under, IsUnlikeDue, events_of, bytes_delivered, scopes_delivered}
 use Rattle.puffin_session.specs.Session.{SessionState, opening_of, StandsAfter, SpellsWord}
 use Rattle.puffin_session.specs.Session.Replies.{DueFits, MayReport, IsDueRefusal}
 use Rattle.puffin_session.specs.inner.Serving.{SumsTo}
-use Rattle.puffin_session.proofs.Laws.{least_open-append, greatest_close-append, word_size-tour, num_begun-tour, least_open-tour, greatest_close-tour, same_info-one, same_info-itself, events_in-spelling, after_report, bytes_measure, scopes_measure, starts_measure, stops_measure, total_bytes-one, total_scopes-one, least_start-one, greatest_stop-one}
-use Rattle.puffin_session.proofs.Openings.{due_of, due-opening}
+use Rattle.puffin_session.proofs.Laws.{least_open-append, greatest_close-append, num_begun-tour, least_open-tour, greatest_close-tour, same_info-one, same_info-itself, events_in-spelling, after_report, bytes_measure, scopes_measure, starts_measure, stops_measure, total_bytes-one, total_scopes-one, least_start-one, greatest_stop-one}
+use Rattle.puffin_session.proofs.Openings.{word_of_record, due_of, due-opening}
+use Rattle.puffin_session.proofs.SpelledWords.{size_of, unlike_due, unlike_pending}
 
 -- ---- one stream
 
-size_of : (r : Recorded) (word : List Event) → SpellsWord r word → length r.bytes ≡ word_size Short word
-size_of r word h = ap length h.honest.stream.whole ∙ sym (word_size-tour Short h.forest) ∙ ap (word_size Short) h.toured
-
-pub scopes_of : (r : Recorded) (word : List Event) → SpellsWord r word → r.num_scopes ≡ num_begun word
+pub scopes_of : (r : Recorded) (word : Word) → SpellsWord r word → r.num_scopes ≡ num_begun word.events
 scopes_of r word h = h.honest.counts.num_scopes ∙ sym (num_begun-tour h.forest) ∙ ap num_begun h.toured
 
-start_of : (r : Recorded) (word : List Event) → SpellsWord r word → r.range_ns.0 ≡ least_open word
+start_of : (r : Recorded) (word : Word) → SpellsWord r word → r.range_ns.0 ≡ least_open word.events
 start_of r word h = h.honest.counts.least_start ∙ sym (least_open-tour h.forest) ∙ ap least_open h.toured
 
-stop_of : (r : Recorded) (word : List Event) → SpellsWord r word → r.range_ns.1 ≡ greatest_close word
+stop_of : (r : Recorded) (word : Word) → SpellsWord r word → r.range_ns.1 ≡ greatest_close word.events
 stop_of r word h = h.honest.counts.greatest_stop ∙ sym (greatest_close-tour h.forest) ∙ ap greatest_close h.toured
 
 -- ---- one more report
 
-events_with : (ds : List Delivery) (i : Info) (word : List Event) → flat_map events_of (ds ++ (under i word ∷ [])) ≡ flat_map events_of ds ++ word
-events_with ds i word = flat_map-append events_of ds (under i word ∷ []) ∙ ap (λ (w : List Event). flat_map events_of ds ++ w) (append-nil word)
+events_with : (ds : List Delivery) (i : Info) (word : Word) → flat_map events_of (ds ++ (under i word ∷ [])) ≡ flat_map events_of ds ++ word.events
+events_with ds i word = flat_map-append events_of ds (under i word ∷ []) ∙ ap (λ (w : List Event). flat_map events_of ds ++ w) (append-nil word.events)
 
-pub SumsTo-reported : (streams : Streams) (ds : List Delivery) (i : Info) (r : Recorded) (word : List Event) → SumsTo streams ds → SpellsWord r word → SumsTo (reported_to streams i r) (ds ++ (under i word ∷ []))
+pub SumsTo-reported : (streams : Streams) (ds : List Delivery) (i : Info) (r : Recorded) (word : Word) → SumsTo streams ds → SpellsWord r word → SumsTo (reported_to streams i r) (ds ++ (under i word ∷ []))
 SumsTo-reported streams ds i r word before spells =
     let events = flat_map events_of ds in
     record {
       bytes = omega (arith, after_report bytes_measure streams i r, before.bytes, size_of r word spells, sum_by_push bytes_delivered ds (under i word));
       scopes = omega (arith, after_report scopes_measure streams i r, before.scopes, scopes_of r word spells, sum_by_push scopes_delivered ds (under i word));
-      start = after_report starts_measure streams i r ∙ ap (λ x. int_min x r.range_ns.0) before.start ∙ ap (int_min (least_open events)) (start_of r word spells) ∙ sym (ap least_open (events_with ds i word) ∙ least_open-append events word);
-      stop = after_report stops_measure streams i r ∙ ap (λ x. int_max x r.range_ns.1) before.stop ∙ ap (int_max (greatest_close events)) (stop_of r word spells) ∙ sym (ap greatest_close (events_with ds i word) ∙ greatest_close-append events word);
+      start = after_report starts_measure streams i r ∙ ap (λ x. int_min x r.range_ns.0) before.start ∙ ap (int_min (least_open events)) (start_of r word spells) ∙ sym (ap least_open (events_with ds i word) ∙ least_open-append events word.events);
+      stop = after_report stops_measure streams i r ∙ ap (λ x. int_max x r.range_ns.1) before.stop ∙ ap (int_max (greatest_close events)) (stop_of r word spells) ∙ sym (ap greatest_close (events_with ds i word) ∙ greatest_close-append events word.events);
     }
 
 -- ---- before any report
@@ -140,8 +137,8 @@ each_honest (e ∷ es) h all =
 abbrev events_at : List (Info × Recorded) → List Event
 events_at es = flat_map events_of (due_of es)
 
-spells_itself : (r : Recorded) → ∥ ((f : Forest) × IsHonestRecord r f) ∥₁ → ∥ SpellsWord r (events_in r.bytes) ∥₁
-spells_itself r somehow = ∥∥₁_map somehow (λ it. record { forest = it.0; honest = it.1; toured = sym (ap events_in it.1.stream.whole ∙ events_in-spelling it.0 it.1.stream.fits) })
+spells_itself : (r : Recorded) → ∥ ((f : Forest) × IsHonestRecord r f) ∥₁ → ∥ SpellsWord r (word_of_record r) ∥₁
+spells_itself r somehow = ∥∥₁_map somehow (λ it. record { forest = it.0; honest = it.1; form = refl; toured = sym (ap (events_in r.form) it.1.stream.whole ∙ events_in-spelling r.form it.0 it.1.stream.fits) })
 
 abbrev records_of : List (Info × Recorded) → List Recorded
 records_of es = map (λ e. e.1) es
@@ -158,17 +155,17 @@ unfolding EachHonest
 entries_sum [] h = record { bytes = refl; scopes = refl; start = refl; stop = refl }
 entries_sum (e ∷ es) h =
     let later = entries_sum es h.1 in
-    let word = events_in e.1.bytes in
+    let word = word_of_record e.1 in
     let spells = spells_itself e.1 h.0 in
-    let size = same_there (length e.1.bytes) (word_size Short word) spells (size_of e.1 word) in
-    let scopes = same_there e.1.num_scopes (num_begun word) spells (scopes_of e.1 word) in
-    let start = same_time_there e.1.range_ns.0 (least_open word) spells (start_of e.1 word) in
-    let stop = same_time_there e.1.range_ns.1 (greatest_close word) spells (stop_of e.1 word) in
+    let size = same_there (length e.1.bytes) (word_size word.form word.events) spells (size_of e.1 word) in
+    let scopes = same_there e.1.num_scopes (num_begun word.events) spells (scopes_of e.1 word) in
+    let start = same_time_there e.1.range_ns.0 (least_open word.events) spells (start_of e.1 word) in
+    let stop = same_time_there e.1.range_ns.1 (greatest_close word.events) spells (stop_of e.1 word) in
     record {
       bytes = omega (arith, total_bytes-one e.1 (records_of es), later.bytes, size, sum_by-cons bytes_delivered (under e.0 word) (due_of es));
       scopes = omega (arith, total_scopes-one e.1 (records_of es), later.scopes, scopes, sum_by-cons scopes_delivered (under e.0 word) (due_of es));
-      start = least_start-one e.1 (records_of es) ∙ ap (λ x. int_min x (joined_start (records_of es))) start ∙ ap (int_min (least_open word)) later.start ∙ sym (least_open-append word (events_at es));
-      stop = greatest_stop-one e.1 (records_of es) ∙ ap (λ x. int_max x (joined_stop (records_of es))) stop ∙ ap (int_max (greatest_close word)) later.stop ∙ sym (greatest_close-append word (events_at es));
+      start = least_start-one e.1 (records_of es) ∙ ap (λ x. int_min x (joined_start (records_of es))) start ∙ ap (int_min (least_open word.events)) later.start ∙ sym (least_open-append word.events (events_at es));
+      stop = greatest_stop-one e.1 (records_of es) ∙ ap (λ x. int_max x (joined_stop (records_of es))) stop ∙ ap (int_max (greatest_close word.events)) later.stop ∙ sym (greatest_close-append word.events (events_at es));
     }
 
 pub SumsTo-opening : (s : SessionState) → AreHonest s.collected.streams → SumsTo s.collected.streams (due (opening_of s) [])
@@ -187,7 +184,7 @@ min_comm x y = omega (arith, ints, clamps)
 max_comm : (x y : ℤ) → int_max x y ≡ int_max y x
 max_comm x y = omega (arith, ints, clamps)
 
-module _ (o : Opening) (done : List Action) (now : SessionState) (r : Recorded) (word : List Event) (stands : StandsAfter o done now) (sums : SumsTo now.collected.streams (due o done)) (spells : SpellsWord r word) where
+module _ (o : Opening) (done : List Action) (now : SessionState) (i : Info) (r : Recorded) (word : Word) (stands : StandsAfter o done now) (sums : SumsTo now.collected.streams (due o done)) (spells : SpellsWord r word) where
   abbrev events : List Event
   events = flat_map events_of (due o done)
 
@@ -205,23 +202,30 @@ module _ (o : Opening) (done : List Action) (now : SessionState) (r : Recorded) 
     reported = omega (arith, h.reported, stands.reported, scopes_of r word spells);
   }
 
-  start_with : joined_start (r ∷ values now.collected.streams) ≡ least_open (events ++ word)
+  start_with : joined_start (r ∷ values now.collected.streams) ≡ least_open (events ++ word.events)
   start_with =
-      least_start-one r (values now.collected.streams) ∙ ap (int_min r.range_ns.0) sums.start ∙ min_comm r.range_ns.0 (least_open events) ∙ ap (int_min (least_open events)) (start_of r word spells) ∙ sym (least_open-append events word)
+      least_start-one r (values now.collected.streams) ∙ ap (int_min r.range_ns.0) sums.start ∙ min_comm r.range_ns.0 (least_open events) ∙ ap (int_min (least_open events)) (start_of r word spells) ∙ sym (least_open-append events word.events)
 
-  stop_with : joined_stop (r ∷ values now.collected.streams) ≡ greatest_close (events ++ word)
+  stop_with : joined_stop (r ∷ values now.collected.streams) ≡ greatest_close (events ++ word.events)
   stop_with =
-      greatest_stop-one r (values now.collected.streams) ∙ ap (int_max r.range_ns.1) sums.stop ∙ max_comm r.range_ns.1 (greatest_close events) ∙ ap (int_max (greatest_close events)) (stop_of r word spells) ∙ sym (greatest_close-append events word)
+      greatest_stop-one r (values now.collected.streams) ∙ ap (int_max r.range_ns.1) sums.stop ∙ max_comm r.range_ns.1 (greatest_close events) ∙ ap (int_max (greatest_close events)) (stop_of r word spells) ∙ sym (greatest_close-append events word.events)
 
-  range : range_with now.collected r ≡ (least_open (events ++ word), greatest_close (events ++ word))
+  range : range_with now.collected r ≡ (least_open (events ++ word.events), greatest_close (events ++ word.events))
   range i = (start_with i, stop_with i)
 
-  pub MayReport-from : PendingFits now.collected r → ¬ IsTooLong (range_with now.collected r) → MayReport o done word
-  MayReport-from h short = (fits h, λ long. short (subst IsTooLong (sym range) long))
+  unlike : IsUnlike now.collected i r → IsUnlikeDue (due o done) i word
+  unlike = unlike_due (get now.collected.streams i) (total_under (due o done) i) r word (stands.collected i) spells
+
+  like : ¬ IsUnlike now.collected i r → ¬ IsUnlikeDue (due o done) i word
+  like none apart = none (unlike_pending (get now.collected.streams i) (total_under (due o done) i) r word (stands.collected i) spells apart)
+
+  pub MayReport-from : ¬ IsUnlike now.collected i r → PendingFits now.collected r → ¬ IsTooLong (range_with now.collected r) → MayReport o done i word
+  MayReport-from none h short = (like none, fits h, λ long. short (subst IsTooLong (sym range) long))
 
   -- where all details have their ids
-  pub IsRefusal-from : (ds : List Details) (e : Error) → AllHaveIds ds → IsReportRefusal now.collected ds r e → IsDueRefusal o done word e
+  pub IsRefusal-from : (ds : List Details) (e : Error) → AllHaveIds ds → IsReportRefusal now.collected i ds r e → IsDueRefusal o done i word e
   IsRefusal-from ds e ids (inl missing) = absurd (missing.1 ids)
-  IsRefusal-from ds e ids (inr (inl large)) = inl (large.0, λ h. large.2 (fits_back h))
-  IsRefusal-from ds e ids (inr (inr (inl long))) = inr (inl (long.0, fits long.2, subst IsTooLong range long.3))
-  IsRefusal-from ds e ids (inr (inr (inr memory))) = inr (inr (memory.0, MayReport-from memory.2 memory.3))
+  IsRefusal-from ds e ids (inr (inl apart)) = inl (apart.0, unlike apart.2)
+  IsRefusal-from ds e ids (inr (inr (all, none, (inl large)))) = inr (inl (large.0, like none, λ h. large.1 (fits_back h)))
+  IsRefusal-from ds e ids (inr (inr (all, none, (inr (inl long))))) = inr (inr (inl (long.0, like none, fits long.1, subst IsTooLong range long.2)))
+  IsRefusal-from ds e ids (inr (inr (all, none, (inr (inr memory))))) = inr (inr (inr (memory.0, MayReport-from none memory.1 memory.2)))

@@ -1,19 +1,19 @@
 -- What one more action changes in what a history records.
 use Rattle.std.proofs.Common.{◌≡◌, ℕ, ℤ, Bool, true, false, cond, ◌||◌, List, [], ◌∷◌, ◌++◌, map, Option, Some, None, unwrap_or, refl, sym, ap, ◌∙◌, append_assoc, append-nil}
-use Rattle.std.specs.List.{list_any, flat_map}
+use Rattle.std.specs.List.{list_any}
 use Rattle.std.specs.Int.{int_max}
 use Rattle.std.specs.Option.{option_or}
 use Rattle.std.proofs.lemmas.List.{map-append}
 use Rattle.std.proofs.lemmas.List.Elements.{filter_map-append}
-use Rattle.std.proofs.lemmas.List.Concat.{flat_map-append}
+use Rattle.std.proofs.lemmas.List.Sums.{fold-append}
 use Rattle.std.proofs.lemmas.List.Folds.{list_any-append}
-use Rattle.puffin_data.specs.declared.data.form.Form.TheVariants.{Short}
+use Rattle.puffin_data.specs.declared.data.form.Form.{Form}
 use Rattle.puffin_data.specs.Text.{cut_text}
 use Rattle.puffin_data.specs.Forest.Tour.{Event, Open, Close}
 use Rattle.puffin_threads.specs.Thread.Info.{Info, same_info}
-use Rattle.puffin_session.specs.Session.History.{Opening, begun, ended, Call, Action, since_last, thread_at, call_of, calls_of, greatest, latest_of}
+use Rattle.puffin_session.specs.Session.History.{Word, Opening, begun, ended, Call, Action, since_last, thread_at, call_of, calls_of, greatest, latest_of}
 use Rattle.puffin_session.specs.Session.Deliveries.{Marked, marked_call, marked_calls, first_open, word_of, unreported, first_start_of, Delivery, under, all_taken, deliveries_at, deliveries_after}
-use Rattle.puffin_session.specs.Session.Due.{is_taken, due, is_under, events_under, total_under}
+use Rattle.puffin_session.specs.Session.Due.{is_taken, due, no_word, joined_word, with_delivery, total_under}
 
 -- ---- the part since the last that passes
 
@@ -53,11 +53,11 @@ pub greatest-more : (latest : ℤ) (cs : List Call) (c : Call) → greatest late
 greatest-more latest [] c = refl
 greatest-more latest (d ∷ cs) c = greatest-more (int_max latest d.at) cs c
 
-pub marked-more : (latest : ℤ) (past cs : List Call) (c : Call) → marked_calls latest past (cs ++ (c ∷ [])) ≡ marked_calls latest past cs ++ (marked_call (int_max (greatest latest (past ++ cs)) c.at) c.mark ∷ [])
-marked-more latest past [] c = ap (λ time. marked_call time c.mark ∷ []) (greatest-more latest past c ∙ ap (λ cs. int_max (greatest latest cs) c.at) (sym (append-nil past)))
-marked-more latest past (d ∷ cs) c =
-    ap (λ ms. marked_call (greatest latest (past ++ (d ∷ []))) d.mark ∷ ms)
-    (marked-more latest (past ++ (d ∷ [])) cs c ∙ ap (λ ds. marked_calls latest (past ++ (d ∷ [])) cs ++ (marked_call (int_max (greatest latest ds) c.at) c.mark ∷ [])) (append_assoc past (d ∷ []) cs))
+pub marked-more : (form : Form) (latest : ℤ) (past cs : List Call) (c : Call) → marked_calls form latest past (cs ++ (c ∷ [])) ≡ marked_calls form latest past cs ++ (marked_call form (int_max (greatest latest (past ++ cs)) c.at) c.mark ∷ [])
+marked-more form latest past [] c = ap (λ time. marked_call form time c.mark ∷ []) (greatest-more latest past c ∙ ap (λ cs. int_max (greatest latest cs) c.at) (sym (append-nil past)))
+marked-more form latest past (d ∷ cs) c =
+    ap (λ ms. marked_call form (greatest latest (past ++ (d ∷ []))) d.mark ∷ ms)
+    (marked-more form latest (past ++ (d ∷ [])) cs c ∙ ap (λ ds. marked_calls form latest (past ++ (d ∷ [])) cs ++ (marked_call form (int_max (greatest latest ds) c.at) c.mark ∷ [])) (append_assoc past (d ∷ []) cs))
 
 pub first_open-append : (ms ns : List Marked) → first_open (ms ++ ns) ≡ option_or (first_open ms) (first_open ns)
 first_open-append [] ns = refl
@@ -103,19 +103,19 @@ module _ (o : Opening) (t : ℕ) (done : List Action) (a : Action) where
   pub latest_of-more : (c : Call) → call_of t a ≡ Some c → latest_of o t (done ++ (a ∷ [])) ≡ int_max (latest_of o t done) c.at
   latest_of-more c e = rw (calls_of-more c e) (greatest-more (thread_at o t).latest (calls_of t done) c)
 
-  pub word_of-more : (c : Call) → call_of t a ≡ Some c → word_of o t (done ++ (a ∷ [])) ≡ word_of o t done ++ (marked_call (int_max (latest_of o t done) c.at) c.mark ∷ [])
-  word_of-more c e = rw (calls_of-more c e, marked-more (thread_at o t).latest [] (calls_of t done) c)
-      (sym (append_assoc (map (λ e. record { event = e; reported = false }) (thread_at o t).word) (marked_calls (thread_at o t).latest [] (calls_of t done)) (marked_call (int_max (latest_of o t done) c.at) c.mark ∷ [])))
+  pub word_of-more : (c : Call) → call_of t a ≡ Some c → word_of o t (done ++ (a ∷ [])) ≡ word_of o t done ++ (marked_call (thread_at o t).form (int_max (latest_of o t done) c.at) c.mark ∷ [])
+  word_of-more c e = rw (calls_of-more c e, marked-more (thread_at o t).form (thread_at o t).latest [] (calls_of t done) c)
+      (sym (append_assoc (map (λ e. record { event = e; reported = false }) (thread_at o t).word) (marked_calls (thread_at o t).form (thread_at o t).latest [] (calls_of t done)) (marked_call (thread_at o t).form (int_max (latest_of o t done) c.at) c.mark ∷ [])))
 
-  unreported_kept : (c : Call) → call_of t a ≡ Some c → (marked_call (int_max (latest_of o t done) c.at) c.mark).reported ≡ false →
-      unreported o t (done ++ (a ∷ [])) ≡ unreported o t done ++ ((marked_call (int_max (latest_of o t done) c.at) c.mark).event ∷ [])
+  unreported_kept : (c : Call) → call_of t a ≡ Some c → (marked_call (thread_at o t).form (int_max (latest_of o t done) c.at) c.mark).reported ≡ false →
+      unreported o t (done ++ (a ∷ [])) ≡ unreported o t done ++ ((marked_call (thread_at o t).form (int_max (latest_of o t done) c.at) c.mark).event ∷ [])
   unreported_kept c e goes_on =
       ap (λ w. map (λ m. m.event) (since_last (λ m. m.reported) w)) (word_of-more c e)
-      ∙ ap (map (λ m. m.event)) (since_last-no (λ m. m.reported) (word_of o t done) (marked_call (int_max (latest_of o t done) c.at) c.mark) goes_on)
-      ∙ map-append (λ m. m.event) (since_last (λ m. m.reported) (word_of o t done)) (marked_call (int_max (latest_of o t done) c.at) c.mark ∷ [])
+      ∙ ap (map (λ m. m.event)) (since_last-no (λ m. m.reported) (word_of o t done) (marked_call (thread_at o t).form (int_max (latest_of o t done) c.at) c.mark) goes_on)
+      ∙ map-append (λ m. m.event) (since_last (λ m. m.reported) (word_of o t done)) (marked_call (thread_at o t).form (int_max (latest_of o t done) c.at) c.mark ∷ [])
 
   pub unreported-begun : (at : ℤ) (id : ℕ) (text : List ℕ) → call_of t a ≡ Some (record { at = at; mark = begun id text }) →
-      unreported o t (done ++ (a ∷ [])) ≡ unreported o t done ++ (Open id (cut_text Short text) (int_max (latest_of o t done) at) ∷ [])
+      unreported o t (done ++ (a ∷ [])) ≡ unreported o t done ++ (Open id (cut_text (thread_at o t).form text) (int_max (latest_of o t done) at) ∷ [])
   unreported-begun at id text e = unreported_kept (record { at = at; mark = begun id text }) e refl
 
   pub unreported-ended : (at : ℤ) → call_of t a ≡ Some (record { at = at; mark = ended false }) →
@@ -126,22 +126,22 @@ module _ (o : Opening) (t : ℕ) (done : List Action) (a : Action) where
   unreported-reported at e =
       let c : Call = record { at = at; mark = ended true } in
       ap (λ w. map (λ m. m.event) (since_last (λ m. m.reported) w)) (word_of-more c e)
-      ∙ ap (map (λ m. m.event)) (since_last-yes (λ m. m.reported) (word_of o t done) (marked_call (int_max (latest_of o t done) at) (ended true)) refl)
+      ∙ ap (map (λ m. m.event)) (since_last-yes (λ m. m.reported) (word_of o t done) (marked_call (thread_at o t).form (int_max (latest_of o t done) at) (ended true)) refl)
 
   first_start_more : (c : Call) → call_of t a ≡ Some c →
-      first_start_of o t (done ++ (a ∷ [])) ≡ option_or (thread_at o t).first_start (option_or (first_open (marked_calls (thread_at o t).latest [] (calls_of t done))) (first_open (marked_call (int_max (latest_of o t done) c.at) c.mark ∷ [])))
+      first_start_of o t (done ++ (a ∷ [])) ≡ option_or (thread_at o t).first_start (option_or (first_open (marked_calls (thread_at o t).form (thread_at o t).latest [] (calls_of t done))) (first_open (marked_call (thread_at o t).form (int_max (latest_of o t done) c.at) c.mark ∷ [])))
   first_start_more c e =
-      ap (λ cs. option_or (thread_at o t).first_start (first_open (marked_calls (thread_at o t).latest [] cs))) (calls_of-more c e)
-      ∙ ap (λ ms. option_or (thread_at o t).first_start (first_open ms)) (marked-more (thread_at o t).latest [] (calls_of t done) c)
-      ∙ ap (option_or (thread_at o t).first_start) (first_open-append (marked_calls (thread_at o t).latest [] (calls_of t done)) (marked_call (int_max (latest_of o t done) c.at) c.mark ∷ []))
+      ap (λ cs. option_or (thread_at o t).first_start (first_open (marked_calls (thread_at o t).form (thread_at o t).latest [] cs))) (calls_of-more c e)
+      ∙ ap (λ ms. option_or (thread_at o t).first_start (first_open ms)) (marked-more (thread_at o t).form (thread_at o t).latest [] (calls_of t done) c)
+      ∙ ap (option_or (thread_at o t).first_start) (first_open-append (marked_calls (thread_at o t).form (thread_at o t).latest [] (calls_of t done)) (marked_call (thread_at o t).form (int_max (latest_of o t done) c.at) c.mark ∷ []))
 
   pub first_start_of-begun : (at : ℤ) (id : ℕ) (text : List ℕ) → call_of t a ≡ Some (record { at = at; mark = begun id text }) →
       first_start_of o t (done ++ (a ∷ [])) ≡ option_or (first_start_of o t done) (Some (int_max (latest_of o t done) at))
-  first_start_of-begun at id text e = first_start_more (record { at = at; mark = begun id text }) e ∙ option_or-assoc (thread_at o t).first_start (first_open (marked_calls (thread_at o t).latest [] (calls_of t done))) (Some (int_max (latest_of o t done) at))
+  first_start_of-begun at id text e = first_start_more (record { at = at; mark = begun id text }) e ∙ option_or-assoc (thread_at o t).first_start (first_open (marked_calls (thread_at o t).form (thread_at o t).latest [] (calls_of t done))) (Some (int_max (latest_of o t done) at))
 
   pub first_start_of-ended : (at : ℤ) (reported : Bool) → call_of t a ≡ Some (record { at = at; mark = ended reported }) →
       first_start_of o t (done ++ (a ∷ [])) ≡ first_start_of o t done
-  first_start_of-ended at reported e = first_start_more (record { at = at; mark = ended reported }) e ∙ ap (option_or (thread_at o t).first_start) (option_or-none (first_open (marked_calls (thread_at o t).latest [] (calls_of t done))))
+  first_start_of-ended at reported e = first_start_more (record { at = at; mark = ended reported }) e ∙ ap (option_or (thread_at o t).first_start) (option_or-none (first_open (marked_calls (thread_at o t).form (thread_at o t).latest [] (calls_of t done))))
 
 -- ---- what is due after one more action
 
@@ -158,7 +158,7 @@ module _ (o : Opening) (done : List Action) (a : Action) where
   pub due-same : deliveries_at o done a ≡ [] → due o (done ++ (a ∷ [])) ≡ due o done
   due-same e = ap (since_last is_taken) (all_more ∙ ap (λ d. (map (λ d. under d.0 d.1) o.due ++ deliveries_after o [] done) ++ d) e ∙ append-nil (map (λ d. under d.0 d.1) o.due ++ deliveries_after o [] done))
 
-  pub due-more : (i : Info) (word : List Event) → deliveries_at o done a ≡ under i word ∷ [] → due o (done ++ (a ∷ [])) ≡ due o done ++ (under i word ∷ [])
+  pub due-more : (i : Info) (word : Word) → deliveries_at o done a ≡ under i word ∷ [] → due o (done ++ (a ∷ [])) ≡ due o done ++ (under i word ∷ [])
   due-more i word e = ap (since_last is_taken) (all_more ∙ ap (λ d. (map (λ d. under d.0 d.1) o.due ++ deliveries_after o [] done) ++ d) e)
       ∙ since_last-no is_taken (map (λ d. under d.0 d.1) o.due ++ deliveries_after o [] done) (under i word) refl
 
@@ -168,31 +168,10 @@ module _ (o : Opening) (done : List Action) (a : Action) where
 
 -- ---- what is delivered under an info, after one more handed_at
 
-not_under : (b c : Bool) → (b || c) ≡ false → (b ≡ false) × (c ≡ false)
-not_under true c h = cc
-not_under false c h = (refl, h)
-
-pub none_under : (j : Info) (ds : List Delivery) → list_any (is_under j) ds ≡ false → flat_map (events_under j) ds ≡ []
-none_under j [] e = refl
-none_under j (all_taken ∷ ds) e = none_under j ds e
-none_under j (under i word ∷ ds) e =
-    let parts = not_under (same_info j i) (list_any (is_under j) ds) e in
-    rw parts.0 (none_under j ds parts.1)
-
--- the events under an info, where nothing is there too
-pub events-total : (j : Info) (ds : List Delivery) → unwrap_or (total_under ds j) [] ≡ flat_map (events_under j) ds
-events-total j ds = at_test (list_any (is_under j) ds) refl
-  where
-    at_test : (b : Bool) → list_any (is_under j) ds ≡ b → unwrap_or (cond b (Some (flat_map (events_under j) ds)) None) [] ≡ flat_map (events_under j) ds
-    at_test true h = refl
-    at_test false h = sym (none_under j ds h)
-
-pub total_under-itself : (ds : List Delivery) (i j : Info) (word : List Event) → same_info j i ≡ true → total_under (ds ++ (under i word ∷ [])) j ≡ Some (unwrap_or (total_under ds j) [] ++ word)
+pub total_under-itself : (ds : List Delivery) (i j : Info) (word : Word) → same_info j i ≡ true → total_under (ds ++ (under i word ∷ [])) j ≡ Some (joined_word (unwrap_or (total_under ds j) no_word) word)
 total_under-itself ds i j word e =
-    let any : list_any (is_under j) (ds ++ (under i word ∷ [])) ≡ true = any_more (is_under j) ds (under i word) true e ∙ or_true (list_any (is_under j) ds) in
-    rw any (ap Some (flat_map-append (events_under j) ds (under i word ∷ []) ∙ ap (λ b. flat_map (events_under j) ds ++ (cond b word [] ++ [])) e ∙ ap (λ w. flat_map (events_under j) ds ++ w) (append-nil word) ∙ ap (λ w. w ++ word) (sym (events-total j ds))))
+    fold-append (with_delivery j) None ds (under i word ∷ []) ∙ ap (λ b. cond b (Some (joined_word (unwrap_or (total_under ds j) no_word) word)) (total_under ds j)) e
 
-pub total_under-other : (ds : List Delivery) (i j : Info) (word : List Event) → same_info j i ≡ false → total_under (ds ++ (under i word ∷ [])) j ≡ total_under ds j
+pub total_under-other : (ds : List Delivery) (i j : Info) (word : Word) → same_info j i ≡ false → total_under (ds ++ (under i word ∷ [])) j ≡ total_under ds j
 total_under-other ds i j word e =
-    let any : list_any (is_under j) (ds ++ (under i word ∷ [])) ≡ list_any (is_under j) ds = any_more (is_under j) ds (under i word) false e ∙ or_false (list_any (is_under j) ds) in
-    rw any (ap (λ w. cond (list_any (is_under j) ds) (Some w) None) (flat_map-append (events_under j) ds (under i word ∷ []) ∙ ap (λ b. flat_map (events_under j) ds ++ (cond b word [] ++ [])) e ∙ append-nil (flat_map (events_under j) ds)))
+    fold-append (with_delivery j) None ds (under i word ∷ []) ∙ ap (λ b. cond b (Some (joined_word (unwrap_or (total_under ds j) no_word) word)) (total_under ds j)) e

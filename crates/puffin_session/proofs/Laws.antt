@@ -1,6 +1,6 @@
 -- The lemmas of the crates below that the proofs here stand on.
 use Rattle.std.proofs.Common.{◌≡◌, pos, []}
-use Rattle.puffin_data.specs.declared.data.form.Form.TheVariants.{Short}
+use Rattle.puffin_data.specs.declared.data.form.Form.{Form}
 use Rattle.puffin_data.specs.Forest.{Forest, IsForest}
 use Rattle.puffin_data.specs.Forest.Spelling.{spelling}
 use Rattle.puffin_data.specs.Forest.Tour.{tour}
@@ -14,5 +14,5 @@ pub use Rattle.puffin_frames.proofs.lemmas.Measured.{after_report, bytes_measure
 pub use Rattle.puffin_frames.proofs.lemmas.Ranges.{least_start-one, greatest_stop-one}
 
 -- of bytes that spell a forest, the events are its tour
-pub events_in-spelling : (f : Forest) → IsForest Short f → events_in (spelling Short f) ≡ tour f
-events_in-spelling f fits = events_open (pos 0) [] f tt fits
+pub events_in-spelling : (form : Form) (f : Forest) → IsForest form f → events_in form (spelling form f) ≡ tour f
+events_in-spelling form f fits = events_open form (pos 0) [] f tt fits

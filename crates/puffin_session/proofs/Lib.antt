@@ -1,4 +1,5 @@
 mod Laws
+mod SpelledWords
 mod Histories
 mod Telling
 mod SessionCollects

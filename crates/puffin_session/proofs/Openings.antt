@@ -1,5 +1,5 @@
 -- A session stands where it stands: before any command, what is collected spells what is due.
-use Rattle.std.proofs.Common.{◌≡◌, ℤ, Bool, true, false, cond, ◌||◌, ◌&&◌, T, List, [], ◌∷◌, ◌++◌, map, Option, Some, None, refl, sym, ap, ◌∙◌, subst, append-nil, arith}
+use Rattle.std.proofs.Common.{◌≡◌, ℤ, Bool, true, false, cond, ◌&&◌, T, List, [], ◌∷◌, ◌++◌, map, fold, unwrap_or, Option, Some, None, refl, sym, ap, ◌∙◌, subst, append-nil, arith}
 use Rattle.std.specs.declared.cmp.Ordering.{Ordering}
 use Rattle.std.specs.declared.cmp.Ordering.TheVariants.{Less, Equal, Greater}
 use Rattle.std.specs.Ordering.{is_lt, is_eq}
@@ -13,18 +13,21 @@ use Rattle.puffin_data.specs.Forest.Tour.{Event}
 use Rattle.puffin_threads.specs.Thread.Info.{Info, info_cmp, same_info}
 use Rattle.puffin_frames.specs.Frame.Contents.{Streams, AreHonest}
 use Rattle.puffin_threads.specs.Thread.Events.{events_in}
-use Rattle.puffin_session.specs.Session.History.{since_last, thread_at}
+use Rattle.puffin_session.specs.Session.History.{Word, since_last, thread_at}
 use Rattle.puffin_session.specs.Session.Deliveries.{Marked, Delivery, under}
-use Rattle.puffin_session.specs.Session.Due.{due, is_taken, is_under, total_under}
-use Rattle.puffin_session.specs.Session.{SessionState, opening_of, StandsAfter, SpellsIfAny, SpellsDue}
+use Rattle.puffin_session.specs.Session.Due.{due, is_taken, no_word, joined_word, with_delivery, total_under}
+use Rattle.puffin_session.specs.Session.{SessionState, word_in, opening_of, StandsAfter, SpellsIfAny, SpellsDue}
 use Rattle.puffin_session.proofs.Laws.{same_info-one, events_in-spelling}
-use Rattle.puffin_session.proofs.Histories.{none_under}
 use Rattle.puffin_session.proofs.Telling.{registered-opening, due_details-opening}
 
 -- ---- what is collected, as what is due
 
+-- the word that a record's bytes spell
+abbrev pub word_of_record : Recorded → Word
+word_of_record r = word_in r.form r.bytes
+
 abbrev pub due_of : List (Info × Recorded) → List Delivery
-due_of es = map (λ (d : Info × List Event). under d.0 d.1) (map (λ (e : Info × Recorded). (e.0, events_in e.1.bytes)) es)
+due_of es = map (λ (d : Info × Word). under d.0 d.1) (map (λ (e : Info × Recorded). (e.0, word_of_record e.1)) es)
 
 first : (a b : Bool) → T (a && b) → T a
 first true b p = tt
@@ -39,43 +42,39 @@ less_apart Less p = refl
 less_apart Equal p = absurd p
 less_apart Greater p = absurd p
 
-either_false : (a b : Bool) → a ≡ false → b ≡ false → (a || b) ≡ false
-either_false true b p q = p
-either_false false b p q = q
-
-none_below : (k : Info) (es : List (Info × Recorded)) → T (below_all info_cmp k es) → list_any (is_under k) (due_of es) ≡ false
-none_below k [] h = refl
-none_below k (e ∷ es) h =
-    either_false (same_info k e.0) (list_any (is_under k) (due_of es)) (less_apart (info_cmp k e.0) (first (is_lt (info_cmp k e.0)) (below_all info_cmp k es) h))
-    (none_below k es (second (is_lt (info_cmp k e.0)) (below_all info_cmp k es) h))
+-- what is due under greater infos alone adds nothing
+kept_below : (k : Info) (es : List (Info × Recorded)) (sofar : Option Word) → T (below_all info_cmp k es) → fold (with_delivery k) sofar (due_of es) ≡ sofar
+kept_below k [] sofar h = refl
+kept_below k (e ∷ es) sofar h =
+    ap (λ b. fold (with_delivery k) (cond b (Some (joined_word (unwrap_or sofar no_word) (word_of_record e.1))) sofar) (due_of es)) (less_apart (info_cmp k e.0) (first (is_lt (info_cmp k e.0)) (below_all info_cmp k es) h))
+    ∙ kept_below k es sofar (second (is_lt (info_cmp k e.0)) (below_all info_cmp k es) h)
 
 total_at : (i : Info) (e : Info × Recorded) (es : List (Info × Recorded)) (b : Bool) → same_info i e.0 ≡ b → T (below_all info_cmp e.0 es)
-    → total_under (due_of es) i ≡ option_map (λ s. events_in s.bytes) (find info_cmp i es)
-    → total_under (due_of (e ∷ es)) i ≡ option_map (λ s. events_in s.bytes) (cond b (Some e.1) (find info_cmp i es))
+    → total_under (due_of es) i ≡ option_map word_of_record (find info_cmp i es)
+    → total_under (due_of (e ∷ es)) i ≡ option_map word_of_record (cond b (Some e.1) (find info_cmp i es))
 total_at i e es true same below later =
-    let none : list_any (is_under i) (due_of es) ≡ false = subst (λ k. list_any (is_under k) (due_of es) ≡ false) (sym (same_info-one i e.0 same)) (none_below e.0 es below) in
-    let rest = none_under i (due_of es) none in
-    rw same (ap Some (ap (λ w. events_in e.1.bytes ++ w) rest ∙ append-nil (events_in e.1.bytes)))
-total_at i e es false same below later = rw same later
+    ap (λ b. fold (with_delivery i) (cond b (Some (word_of_record e.1)) None) (due_of es)) same
+    ∙ subst (λ k. fold (with_delivery k) (Some (word_of_record e.1)) (due_of es) ≡ Some (word_of_record e.1)) (sym (same_info-one i e.0 same)) (kept_below e.0 es (Some (word_of_record e.1)) below)
+total_at i e es false same below later = ap (λ b. fold (with_delivery i) (cond b (Some (word_of_record e.1)) None) (due_of es)) same ∙ later
 
-total_sorted : (i : Info) (es : List (Info × Recorded)) → T (is_sorted info_cmp es) → total_under (due_of es) i ≡ option_map (λ s. events_in s.bytes) (find info_cmp i es)
+total_sorted : (i : Info) (es : List (Info × Recorded)) → T (is_sorted info_cmp es) → total_under (due_of es) i ≡ option_map word_of_record (find info_cmp i es)
 total_sorted i [] h = refl
 total_sorted i (e ∷ es) h =
     total_at i e es (same_info i e.0) refl (first (below_all info_cmp e.0 es) (is_sorted info_cmp es) h)
     (total_sorted i es (second (below_all info_cmp e.0 es) (is_sorted info_cmp es) h))
 
-spells_if_honest : (streams : Streams) (i : Info) → AreHonest streams → (a : Option Recorded) → get streams i ≡ a → SpellsIfAny a (option_map (λ s. events_in s.bytes) a)
+spells_if_honest : (streams : Streams) (i : Info) → AreHonest streams → (a : Option Recorded) → get streams i ≡ a → SpellsIfAny a (option_map word_of_record a)
 spells_if_honest streams i honest None e = tt
 spells_if_honest streams i honest (Some r) e =
-    ∥∥₁_map (honest i r e) (λ known. record { forest = known.0; honest = known.1; toured = sym (ap events_in known.1.stream.whole ∙ events_in-spelling known.0 known.1.stream.fits) })
+    ∥∥₁_map (honest i r e) (λ known. record { forest = known.0; honest = known.1; form = refl; toured = sym (ap (events_in r.form) known.1.stream.whole ∙ events_in-spelling r.form known.0 known.1.stream.fits) })
 
 pub SpellsDue-collected : (streams : Streams) → AreHonest streams → SpellsDue streams (due_of (entries streams))
 SpellsDue-collected streams honest i =
-    rw (total_sorted i (entries streams) (entries_sorted streams) ∙ ap (option_map (λ s. events_in s.bytes)) (sym (get-entries streams i))) (spells_if_honest streams i honest (get streams i) refl)
+    rw (total_sorted i (entries streams) (entries_sorted streams) ∙ ap (option_map word_of_record) (sym (get-entries streams i))) (spells_if_honest streams i honest (get streams i) refl)
 
 -- ---- no frame, and no report, before any command
 
-no_frame : (ds : List (Info × List Event)) → (list_any is_taken (map (λ d. under d.0 d.1) ds) ≡ false) × (since_last is_taken (map (λ d. under d.0 d.1) ds) ≡ map (λ d. under d.0 d.1) ds)
+no_frame : (ds : List (Info × Word)) → (list_any is_taken (map (λ d. under d.0 d.1) ds) ≡ false) × (since_last is_taken (map (λ d. under d.0 d.1) ds) ≡ map (λ d. under d.0 d.1) ds)
 no_frame [] = (refl, refl)
 no_frame (d ∷ ds) = let rest = no_frame ds in (rest.0, rw rest.0)
 
@@ -93,13 +92,14 @@ or_none None = refl
 or_none (Some x) = refl
 
 pub due-opening : (s : SessionState) → due (opening_of s) [] ≡ due_of (entries s.collected.streams)
-due-opening s = ap (since_last is_taken) (append-nil (due_of (entries s.collected.streams))) ∙ (no_frame (map (λ e. (e.0, events_in e.1.bytes)) (entries s.collected.streams))).1
+due-opening s = ap (since_last is_taken) (append-nil (due_of (entries s.collected.streams))) ∙ (no_frame (map (λ e. (e.0, word_of_record e.1)) (entries s.collected.streams))).1
 
 pub StandsAfter-opening : (s : SessionState) → AreHonest s.collected.streams → StandsAfter (opening_of s) [] s
 StandsAfter-opening s honest = record {
   num_threads = refl;
   threads = λ t lt i. record {
     name = (thread_at (opening_of s) t).name;
+    form = (thread_at (opening_of s) t).form;
     first_start = sym (or_none (thread_at (opening_of s) t).first_start) i;
     latest = (thread_at (opening_of s) t).latest;
     word = sym (ap (λ ms. map (λ (m : Marked). m.event) (since_last (λ m. m.reported) ms)) (append-nil (map (λ e. record { event = e; reported = false }) (thread_at (opening_of s) t).word)) ∙ (no_report (thread_at (opening_of s) t).word).1) i;

@@ -3,7 +3,7 @@ use Rattle.std.proofs.Common.{◌≡◌, ◌≢◌, ℕ, zero, suc, ◌-◌, ◌
 use Rattle.std.specs.Prelude.{OnOk, IfOk, IfErr}
 use Rattle.std.specs.Int.{int_max}
 use Rattle.std.specs.declared.sync.Arc.{Arc}
-use Rattle.puffin_data.specs.declared.data.form.Form.TheVariants.{Short}
+use Rattle.puffin_data.specs.declared.data.form.Form.{Form}
 use Rattle.puffin_data.specs.declared.error.Error.{Error}
 use Rattle.puffin_data.specs.declared.error.Error.TheVariants.{IndexExhausted, Memory}
 use Rattle.puffin_data.specs.Forest.{Forest}
@@ -85,19 +85,19 @@ Ends-there now threads collected after t thread new at back (Ok closed) same lt 
     )
 
 -- what an accepted report of a user's scopes gives, and a refused one
-pub Accepts-from : (now seen : SessionState) (after : Collected) (i given : Info) (r lent : Recorded) (f : Forest) (bytes : List ℕ) (result : Result (Unit {0}) Error) → seen ≡ now → IsHonestRecord r f → r.bytes ≡ bytes → lent ≡ r → given ≡ i
+pub Accepts-from : (now seen : SessionState) (after : Collected) (i given : Info) (r lent : Recorded) (f : Forest) (form : Form) (bytes : List ℕ) (result : Result (Unit {0}) Error) → seen ≡ now → IsHonestRecord r f → r.form ≡ form → r.bytes ≡ bytes → lent ≡ r → given ≡ i
     → OnOk result (AcceptsReport seen.collected given [] lent after)
-    → OnOk result ((r : Recorded) × (f : Forest) × IsHonestRecord r f × (r.bytes ≡ bytes) × AcceptsReport now.collected i [] r after × (session_with_collected seen after ≡ session_with_collected now after))
-Accepts-from now seen after i given r lent f bytes (Err e) same honest read lends names took = tt
-Accepts-from now seen after i given r lent f bytes (Ok x) same honest read lends names took =
+    → OnOk result ((r : Recorded) × (f : Forest) × IsHonestRecord r f × (r.form ≡ form) × (r.bytes ≡ bytes) × AcceptsReport now.collected i [] r after × (session_with_collected seen after ≡ session_with_collected now after))
+Accepts-from now seen after i given r lent f form bytes (Err e) same honest in_form read lends names took = tt
+Accepts-from now seen after i given r lent f form bytes (Ok x) same honest in_form read lends names took =
     let here : AcceptsReport seen.collected i [] r after = subst (λ (q : Recorded). AcceptsReport seen.collected i [] q after) lends (subst (λ (j : Info). AcceptsReport seen.collected j [] lent after) names took) in
-    (r, f, honest, read, subst (λ (s : SessionState). AcceptsReport s.collected i [] r after) same here, ap (λ (s : SessionState). session_with_collected s after) same)
+    (r, f, honest, in_form, read, subst (λ (s : SessionState). AcceptsReport s.collected i [] r after) same here, ap (λ (s : SessionState). session_with_collected s after) same)
 
-pub Refuses-from : (now seen : SessionState) (after : Collected) (given : Info) (r lent : Recorded) (f : Forest) (bytes : List ℕ) (result : Result (Unit {0}) Error) → seen ≡ now → IsHonestRecord r f → r.bytes ≡ bytes → lent ≡ r
-    → IfErr result (λ e. RefusesReport seen.collected given [] lent e after) → IfErr result (λ e. (e ≡ Memory) ⊎ IsFault Short bytes e ⊎ ((r : Recorded) × (f : Forest) × IsHonestRecord r f × (r.bytes ≡ bytes) × IsReportRefusal now.collected [] r e))
-Refuses-from now seen after given r lent f bytes (Ok x) same honest read lends refused = tt
-Refuses-from now seen after given r lent f bytes (Err e) same honest read lends refused =
-    inr (inr (r, f, honest, read, subst (λ (s : SessionState). IsReportRefusal s.collected [] r e) same (subst (λ (q : Recorded). IsReportRefusal seen.collected [] q e) lends refused.0)))
+pub Refuses-from : (now seen : SessionState) (after : Collected) (i given : Info) (r lent : Recorded) (f : Forest) (form : Form) (bytes : List ℕ) (result : Result (Unit {0}) Error) → seen ≡ now → IsHonestRecord r f → r.form ≡ form → r.bytes ≡ bytes → lent ≡ r → given ≡ i
+    → IfErr result (λ e. RefusesReport seen.collected given [] lent e after) → IfErr result (λ e. (e ≡ Memory) ⊎ IsFault form bytes e ⊎ ((r : Recorded) × (f : Forest) × IsHonestRecord r f × (r.form ≡ form) × (r.bytes ≡ bytes) × IsReportRefusal now.collected i [] r e))
+Refuses-from now seen after i given r lent f form bytes (Ok x) same honest in_form read lends names refused = tt
+Refuses-from now seen after i given r lent f form bytes (Err e) same honest in_form read lends names refused =
+    inr (inr (r, f, honest, in_form, read, subst (λ (s : SessionState). IsReportRefusal s.collected i [] r e) same (subst (λ (q : Recorded). IsReportRefusal seen.collected i [] q e) lends (subst (λ (j : Info). IsReportRefusal seen.collected j [] lent e) names refused.0))))
 
 -- what a wanted snapshot gives
 pub wanted-from : (now seen : SessionState) (new : Collected) → seen ≡ now → new ≡ after_wanting seen.collected → session_with_collected seen new ≡ session_with_collected now (after_wanting now.collected)

@@ -5,8 +5,8 @@ use Rattle.std.proofs.lemmas.Bool.{cases_eq}
 use Rattle.std.specs.Int.{int_max}
 use Rattle.std.specs.List.{slice_index_or, sum_by}
 use Rattle.std.specs.FinMap.{empty}
-use Rattle.puffin_data.specs.declared.data.form.Form.TheVariants.{Short}
-use Rattle.puffin_data.specs.Honesty.{Recorded}
+use Rattle.puffin_data.specs.declared.data.form.Form.{Form}
+use Rattle.puffin_data.specs.Honesty.{Recorded, AreUnlike}
 use Rattle.puffin_data.specs.Text.{cut_text}
 use Rattle.puffin_data.specs.Forest.Tour.{Event, Close}
 use Rattle.puffin_data.specs.Forest.Words.{num_begun}
@@ -14,11 +14,12 @@ use Rattle.puffin_threads.specs.Thread.Info.{Info}
 use Rattle.puffin_threads.specs.Thread.Calls.{Thread, after_begin, after_end, after_handing, after_registering, info_of_thread}
 use Rattle.puffin_threads.specs.Details.{Details}
 use Rattle.puffin_collector.specs.Profiler.State.{reported_to}
-use Rattle.puffin_session.specs.Session.History.{Opening, Mark, begun, ended, Call, Action, calls, hands, frames, registers, nobody, thread_at, call_of}
-use Rattle.puffin_session.specs.Session.Deliveries.{under, unreported, info_under, deliveries_at, deliveries_after}
+use Rattle.puffin_frames.specs.Frame.Contents.{stream_under}
+use Rattle.puffin_session.specs.Session.History.{Word, Opening, Mark, begun, ended, Call, Action, calls, hands, frames, registers, nobody, thread_at, call_of}
+use Rattle.puffin_session.specs.Session.Deliveries.{under, unreported, word_with, info_under, deliveries_at, deliveries_after}
 use Rattle.puffin_session.specs.Session.Due.{due, scopes_delivered, is_numbered, index_after, reported_after}
 use Rattle.puffin_session.specs.Session.Notes.{Note, noted, sent, notes_at, details_registered}
-use Rattle.puffin_session.specs.Session.{SessionState, opening_of, SpellsWord, SpellsDue, StandsAfter, TellsAfter, thread_after}
+use Rattle.puffin_session.specs.Session.{SessionState, word_of_thread, opening_of, SpellsWord, SpellsDue, StandsAfter, TellsAfter, thread_after}
 use Rattle.puffin_session.proofs.Histories.{latest_of-same, latest_of-more, unreported-same, unreported-begun, unreported-ended, unreported-reported, first_start_of-same, first_start_of-begun, first_start_of-ended, handed_after-more, due-same, due-more, due-anew}
 use Rattle.puffin_session.proofs.Telling.{waiting_with, registered-more}
 use Rattle.puffin_session.proofs.SessionCollects.{SpellsDue-report, SpellsDue-none}
@@ -27,17 +28,17 @@ use Rattle.puffin_session.proofs.SessionCollects.{SpellsDue-report, SpellsDue-no
 
 -- a thread after a call of it; an accepted report leaves no events
 abbrev pub after_call : Thread → ℤ → Mark → Thread
-after_call thread at (begun id text) = after_begin thread id (cut_text Short text) (int_max (pos 0) at)
+after_call thread at (begun id text) = after_begin thread id (cut_text thread.form text) (int_max (pos 0) at)
 after_call thread at (ended false) = after_end thread (int_max (pos 0) at)
 after_call thread at (ended true) = after_handing (after_end thread (int_max (pos 0) at))
 
 -- the word that a report hands over where the last open scope ends
-abbrev pub handed_at_end : Thread → ℤ → List Event
-handed_at_end thread at = (after_end thread (int_max (pos 0) at)).word
+abbrev pub handed_at_end : Thread → ℤ → Word
+handed_at_end thread at = word_of_thread (after_end thread (int_max (pos 0) at))
 
-same_thread : {n n' : List ℕ} {f f' : Option ℤ} {l l' : ℤ} {w w' : List Event} {ds ds' : List Details} → n ≡ n' → f ≡ f' → l ≡ l' → w ≡ w' → ds ≡ ds' →
-    ◌≡◌ {A = Thread} (record { name = n; first_start = f; latest = l; word = w; details = ds }) (record { name = n'; first_start = f'; latest = l'; word = w'; details = ds' })
-same_thread a b c d e i = record { name = a i; first_start = b i; latest = c i; word = d i; details = e i }
+same_thread : {n n' : List ℕ} {form : Form} {f f' : Option ℤ} {l l' : ℤ} {w w' : List Event} {ds ds' : List Details} → n ≡ n' → f ≡ f' → l ≡ l' → w ≡ w' → ds ≡ ds' →
+    ◌≡◌ {A = Thread} (record { name = n; form = form; first_start = f; latest = l; word = w; details = ds }) (record { name = n'; form = form; first_start = f'; latest = l'; word = w'; details = ds' })
+same_thread {form = form} a b c d e i = record { name = a i; form = form; first_start = b i; latest = c i; word = d i; details = e i }
 
 itself : (t : ℕ) → (t == t) ≡ true
 itself t = grind arith
@@ -89,7 +90,7 @@ module _ (o : Opening) (t : ℕ) (done : List Action) where
 
   -- what an accepted report delivers
   pub handed_at-reported : (at : ℤ) → deliveries_at o done (calls t (record { at = at; mark = ended true })) ≡ under (info_of_thread (thread_after o done t)) (handed_at_end (thread_after o done t) at) ∷ []
-  handed_at-reported at = ap (λ time. under (info_under o t done) (unreported o t done ++ (Close time ∷ [])) ∷ [])
+  handed_at-reported at = ap (λ time. under (info_under o t done) (word_with o t done (Close time ∷ [])) ∷ [])
       (latest_of-more o t done (calls t (record { at = at; mark = ended true })) (record { at = int_max (pos 0) at; mark = ended true }) (own_call t (record { at = at; mark = ended true })))
 
 -- ---- a session
@@ -158,18 +159,18 @@ module _ (o : Opening) (done : List Action) (now new : SessionState) (before : S
       called t at (ended false) within change (rw (same, due-same o done (calls t (record { at = at; mark = ended false })) refl) before.collected) tells
 
   scopes_reported : (t : ℕ) (at : ℤ) → thread_at (opening_of now) t ≡ thread_after o done t
-      → num_begun (handed_at_end (thread_at (opening_of now) t) at) ≡ sum_by scopes_delivered (deliveries_at o done (calls t (record { at = at; mark = ended true })))
+      → num_begun (handed_at_end (thread_at (opening_of now) t) at).events ≡ sum_by scopes_delivered (deliveries_at o done (calls t (record { at = at; mark = ended true })))
   scopes_reported t at th =
-      ap (λ v. num_begun (handed_at_end v at)) th ∙ sym (zero-add (num_begun (handed_at_end (thread_after o done t) at))) ∙ ap (λ ds. sum_by scopes_delivered ds) (sym (handed_at-reported o t done at))
+      ap (λ v. num_begun (handed_at_end v at).events) th ∙ sym (zero-add (num_begun (handed_at_end (thread_after o done t) at).events)) ∙ ap (λ ds. sum_by scopes_delivered ds) (sym (handed_at-reported o t done at))
 
-  pub StandsAfter-reported : (t : ℕ) (at : ℤ) (s : Recorded) → t < length o.threads → ChangesThread now new t (after_call (thread_at (opening_of now) t) at (ended true)) (num_begun (handed_at_end (thread_at (opening_of now) t) at))
-      → SpellsWord s (handed_at_end (thread_at (opening_of now) t) at) → new.collected.streams ≡ reported_to now.collected.streams (info_of_thread (thread_at (opening_of now) t)) s
+  pub StandsAfter-reported : (t : ℕ) (at : ℤ) (s : Recorded) → t < length o.threads → ChangesThread now new t (after_call (thread_at (opening_of now) t) at (ended true)) (num_begun (handed_at_end (thread_at (opening_of now) t) at).events)
+      → SpellsWord s (handed_at_end (thread_at (opening_of now) t) at) → (AreUnlike (stream_under now.collected.streams (info_of_thread (thread_at (opening_of now) t))) s → ⊥) → new.collected.streams ≡ reported_to now.collected.streams (info_of_thread (thread_at (opening_of now) t)) s
       → TellsAfter o (done ++ (calls t (record { at = at; mark = ended true }) ∷ [])) new.collected → StandsAfter o (done ++ (calls t (record { at = at; mark = ended true }) ∷ [])) new
-  StandsAfter-reported t at s within change spells same tells =
+  StandsAfter-reported t at s within change spells like same tells =
       let a : Action = calls t (record { at = at; mark = ended true }) in
       let th = before.threads t within in
       let more = due-more o done a (info_of_thread (thread_after o done t)) (handed_at_end (thread_after o done t) at) (handed_at-reported o t done at) in
-      let ready = SpellsDue-report now.collected.streams (due o done) (info_of_thread (thread_after o done t)) s (handed_at_end (thread_after o done t) at) before.collected (subst (λ v. SpellsWord s (handed_at_end v at)) th spells) in
+      let ready = SpellsDue-report now.collected.streams (due o done) (info_of_thread (thread_after o done t)) s (handed_at_end (thread_after o done t) at) (subst (λ v. AreUnlike (stream_under now.collected.streams (info_of_thread v)) s → ⊥) th like) before.collected (subst (λ v. SpellsWord s (handed_at_end v at)) th spells) in
       called t at (ended true) within (record { num_threads = change.num_threads; there = change.there; others = change.others; index = change.index; reported = change.reported ∙ ap (λ n. now.collected.reported + n) (scopes_reported t at th) })
       (subst (λ ds. SpellsDue new.collected.streams ds) (sym more) (subst (λ ss. SpellsDue ss (due o done ++ (under (info_of_thread (thread_after o done t)) (handed_at_end (thread_after o done t) at) ∷ []))) (sym (same ∙ ap (λ v. reported_to now.collected.streams (info_of_thread v) s) th)) ready)) tells
 
@@ -185,11 +186,11 @@ module _ (o : Opening) (done : List Action) (now new : SessionState) (before : S
     tells = tells;
   }
 
-  pub StandsAfter-handed : (i : Info) (s : Recorded) (word : List Event) → ChangesPending now new now.collected.index (num_begun word) → SpellsWord s word → new.collected.streams ≡ reported_to now.collected.streams i s
+  pub StandsAfter-handed : (i : Info) (s : Recorded) (word : Word) → ChangesPending now new now.collected.index (num_begun word.events) → SpellsWord s word → (AreUnlike (stream_under now.collected.streams i) s → ⊥) → new.collected.streams ≡ reported_to now.collected.streams i s
       → TellsAfter o (done ++ (hands i word ∷ [])) new.collected → StandsAfter o (done ++ (hands i word ∷ [])) new
-  StandsAfter-handed i s word change spells same tells =
-      unthreaded (hands i word) (λ t. (refl, refl)) (record { threads = change.threads; raised = omega (arith, change.raised); reported = change.reported ∙ ap (λ n. now.collected.reported + n) (sym (zero-add (num_begun word))) })
-      (rw (same, due-more o done (hands i word) i word refl) (SpellsDue-report now.collected.streams (due o done) i s word before.collected spells)) tells
+  StandsAfter-handed i s word change spells like same tells =
+      unthreaded (hands i word) (λ t. (refl, refl)) (record { threads = change.threads; raised = omega (arith, change.raised); reported = change.reported ∙ ap (λ n. now.collected.reported + n) (sym (zero-add (num_begun word.events))) })
+      (rw (same, due-more o done (hands i word) i word refl) (SpellsDue-report now.collected.streams (due o done) i s word like before.collected spells)) tells
 
   -- a frame took all that was collected
   pub StandsAfter-framed : ChangesPending now new (now.collected.index + 1) 0 → new.collected.streams ≡ empty → TellsAfter o (done ++ (frames true ∷ [])) new.collected → StandsAfter o (done ++ (frames true ∷ [])) new

@@ -6,11 +6,15 @@ pub mod Notes
 pub mod Actions
 pub mod Replies
 pub mod Runs
-use Rattle.std.specs.Prelude.{◌≡◌, ℕ, ◌<◌, pos, false, List, [], length, map, Option, Some, None}
+use Rattle.std.specs.Prelude.{◌≡◌, ℕ, ◌+◌, ◌<◌, pos, false, List, [], length, map, Option, Some, None}
 use Rattle.std.specs.List.{slice_index_or}
 use Rattle.std.specs.FinMap.{empty, entries, get}
+use Rattle.puffin_data.specs.declared.data.form.Form.{Form}
 use Rattle.puffin_data.specs.Forest.{Forest}
-use Rattle.puffin_data.specs.Forest.Tour.{Event, tour}
+use Rattle.puffin_data.specs.Forest.Tour.{tour}
+use Rattle.puffin_data.specs.Forest.Spelling.{size_offset}
+use Rattle.puffin_data.specs.Forest.Words.{word_size}
+use Rattle.puffin_data.specs.Text.{cut_text}
 use Rattle.puffin_data.specs.Honesty.{Recorded, IsHonestRecord}
 use Rattle.puffin_threads.specs.Thread.Info.{Info}
 use Rattle.puffin_threads.specs.Thread.Calls.{Thread}
@@ -18,7 +22,7 @@ use Rattle.puffin_frames.specs.Frame.Contents.{Streams}
 use Rattle.puffin_threads.specs.Details.Collection.{no_details}
 use Rattle.puffin_collector.specs.Profiler.State.{Collected}
 use Rattle.puffin_threads.specs.Thread.Events.{events_in}
-use Rattle.puffin_session.specs.Session.History.{Opening, Action, nobody, thread_at, latest_of}
+use Rattle.puffin_session.specs.Session.History.{Word, Opening, Action, nobody, thread_at, latest_of}
 use Rattle.puffin_session.specs.Session.Deliveries.{Delivery, unreported, first_start_of}
 use Rattle.puffin_session.specs.Session.Notes.{details_registered, due_details, known_after, is_wanted}
 use Rattle.puffin_session.specs.Session.Due.{due, total_under, index_after, reported_after}
@@ -28,8 +32,16 @@ pub record SessionState : Type 0 where
   pub threads : List Thread
   pub collected : Collected
 
-abbrev pub named : List ℕ → Thread
-named name = record { name = name; first_start = None; latest = pos 0; word = []; details = [] }
+-- a thread of this name whose texts have this form, before its first scope
+abbrev pub named : List ℕ × Form → Thread
+named thread = record {
+  name = thread.0;
+  form = thread.1;
+  first_start = None;
+  latest = pos 0;
+  word = [];
+  details = [];
+}
 
 abbrev pub nothing_collected : Collected
 nothing_collected = record {
@@ -43,14 +55,18 @@ nothing_collected = record {
 }
 
 -- with these threads, before any command
-abbrev pub new_session : List (List ℕ) → SessionState
-new_session names = record { threads = map named names; collected = nothing_collected }
+abbrev pub new_session : List (List ℕ × Form) → SessionState
+new_session threads = record { threads = map named threads; collected = nothing_collected }
+
+-- the word that bytes spell in a form
+abbrev pub word_in : Form → List ℕ → Word
+word_in form bytes = record { form = form; events = events_in form bytes }
 
 -- what stands before a run
 abbrev pub opening_of : SessionState → Opening
 opening_of s = record {
   threads = s.threads;
-  due = map (λ e. (e.0, events_in e.1.bytes)) (entries s.collected.streams);
+  due = map (λ e. (e.0, word_in e.1.form e.1.bytes)) (entries s.collected.streams);
   index = s.collected.index;
   reported = s.collected.reported;
   collection = s.collected.collection;
@@ -58,13 +74,14 @@ opening_of s = record {
   wants_all = s.collected.wants_all;
 }
 
--- an honest info of the scopes of these events
-pub record SpellsWord (r : Recorded) (word : List Event) : Type 0 where
+-- an honest info of the scopes of this word, in its form
+pub record SpellsWord (r : Recorded) (word : Word) : Type 0 where
   pub forest : Forest
   pub honest : IsHonestRecord r forest
-  pub toured : tour forest ≡ word
+  pub form : r.form ≡ word.form
+  pub toured : tour forest ≡ word.events
 
-abbrev pub SpellsIfAny : Option Recorded → Option (List Event) → Type 0
+abbrev pub SpellsIfAny : Option Recorded → Option Word → Type 0
 SpellsIfAny None None = Unit {0}
 SpellsIfAny (Some r) (Some word) = ∥ SpellsWord r word ∥₁
 SpellsIfAny None (Some word) = ⊥
@@ -78,11 +95,21 @@ SpellsDue streams ds = (i : Info) → SpellsIfAny (get streams i) (total_under d
 abbrev pub thread_after : Opening → List Action → ℕ → Thread
 thread_after o done t = record {
   name = (thread_at o t).name;
+  form = (thread_at o t).form;
   first_start = first_start_of o t done;
   latest = latest_of o t done;
   word = unreported o t done;
   details = details_registered o t done;
 }
+
+-- a thread's unreported scopes, in its form
+abbrev pub word_of_thread : Thread → Word
+word_of_thread thread = record { form = thread.form; events = thread.word }
+
+-- where the size of a scope with this text stands, begun now
+abbrev pub begun_place : Thread → List ℕ → ℕ
+begun_place thread text =
+    word_size thread.form thread.word + size_offset thread.form (cut_text thread.form text)
 
 -- what is known of scopes, what of them is new in the next frame, and whether that is to tell of all
 pub record TellsAfter (o : Opening) (done : List Action) (now : Collected) : Type 0 where

@@ -3,7 +3,7 @@
 //!
 //! | to | call |
 //! |---|---|
-//! | drive threads and their profiler by commands | [`Session::new`], [`Session::run`] |
+//! | drive threads and their profiler by commands | [`Session::new`], or [`Session::with_forms`] where some have long texts; [`Session::run`] |
 //! | say what a thread does | [`Command`] |
 //! | see what became of it | [`Reply`] |
 #![tactic(auto)]

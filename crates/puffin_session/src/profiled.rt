@@ -1,17 +1,15 @@
 ghost use Rattle.std.specs.Prelude.{◌≡◌, ◌+◌, ◌-◌, ◌<◌, ◌⊎◌, length, option_map, IfOk, IfErr, OnOk, OnErr};
 ghost use Rattle.std.specs.String.{string_bytes};
-ghost use Rattle.puffin_data.specs.Forest.Spelling.{size_offset};
-ghost use Rattle.puffin_data.specs.declared.data.form.Form.TheVariants.{Short};
 ghost use Rattle.puffin_data.specs.Text.{cut_text};
-ghost use Rattle.puffin_data.specs.Forest.Words.{word_size, open_after};
+ghost use Rattle.puffin_data.specs.Forest.Words.{open_after};
 ghost use Rattle.puffin_threads.specs.Details.{AllHaveIds};
 ghost use Rattle.puffin_threads.specs.Thread.Calls.{after_begin, after_registering};
-ghost use Rattle.puffin_session.specs.Session.{named};
+ghost use Rattle.puffin_session.specs.Session.{named, begun_place};
 ghost use Rattle.puffin_session.specs.Session.Actions.{details_given};
 ghost use Rattle.puffin_session.specs.inner.Serving.{clock_time, Ends};
 
 use puffin_collector::Collector;
-use puffin_data::data::ScopeId;
+use puffin_data::data::{Form, ScopeId};
 use puffin_data::{Error, NanoSecond, Result};
 use puffin_frames::scope_details::ScopeIds;
 use puffin_frames::thread_profiler::{Closed, ScriptClock, ThreadProfiler};
@@ -29,7 +27,7 @@ pub(crate) struct Profiled {
 impl Model for Profiled {
     ghost use Rattle.std.specs.Prelude.{◌≡◌, reverse};
     ghost use Rattle.puffin_threads.specs.Details.{AllHaveIds};
-    ghost use Rattle.puffin_threads.specs.Thread.Calls.{Thread, open_offsets};
+    ghost use Rattle.puffin_threads.specs.Thread.Calls.{Thread, offsets_of};
     ghost use Rattle.puffin_threads.specs.Thread.ThreadProfiler.{thread_of};
 
     ghost Value = { Thread };
@@ -37,17 +35,17 @@ impl Model for Profiled {
     ghost view = { λ p. thread_of p.profiler };
 
     ghost invariant = { λ p.
-        (p.offsets.items ≡ reverse (open_offsets (thread_of p.profiler).word))
+        (p.offsets.items ≡ reverse (offsets_of (thread_of p.profiler)))
         × AllHaveIds (thread_of p.profiler).details };
 }
 
 impl Profiled {
-    /// A thread before its first scope.
-    pub(crate) fn new(alloc: Global, name: String) -> Profiled
-        ensures { result ≡ named (string_bytes name) }
+    /// A thread whose texts have this form, before its first scope.
+    pub(crate) fn new(alloc: Global, name: String, form: Form) -> Profiled
+        ensures { result ≡ named (string_bytes name, form) }
     {
         Profiled {
-            profiler: ThreadProfiler::new(alloc, name, ScriptClock::new(0)),
+            profiler: ThreadProfiler::with_form(alloc, name, ScriptClock::new(0), form),
             offsets: Vec::new(alloc),
         }
     }
@@ -55,9 +53,8 @@ impl Profiled {
     /// Begins a scope at this time. Refused only with `Memory`; nothing is changed then.
     pub(crate) fn begin(&mut self, at: NanoSecond, id: ScopeId, text: &str) -> Result<usize>
         ensures ok { OnOk result (
-            self.new ≡ after_begin self.old id (cut_text Short text.now) (clock_time at)) }
-        ensures offset { IfOk result (λ offset.
-            offset ≡ word_size Short self.old.word + size_offset Short (cut_text Short text.now)) }
+            self.new ≡ after_begin self.old id (cut_text self.old.form text.now) (clock_time at)) }
+        ensures offset { IfOk result (λ offset. offset ≡ begun_place self.old text.now) }
         ensures err { OnErr result (self.new ≡ self.old) }
         ensures memory { IfErr result (λ e. e ≡ Error.Memory) }
     {

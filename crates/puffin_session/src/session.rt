@@ -1,19 +1,18 @@
 ghost use Rattle.std.specs.Prelude.{◌≡◌, ◌≢◌, ◌+◌, ◌-◌, ◌^◌, ◌<◌, ◌≤◌, ◌⊎◌, length, map, [], All, option_map, IfOk, IfErr, OnOk, OnErr};
 ghost use Rattle.std.specs.String.{string_bytes};
-ghost use Rattle.puffin_data.specs.Forest.Spelling.{size_offset};
 ghost use Rattle.puffin_data.specs.declared.data.form.Form.TheVariants.{Short};
 ghost use Rattle.puffin_data.specs.Forest.{Forest};
 ghost use Rattle.puffin_data.specs.Honesty.{Recorded, IsHonestRecord};
 ghost use Rattle.puffin_data.specs.Text.{cut_text};
 ghost use Rattle.puffin_data.specs.Walk.{IsFault};
-ghost use Rattle.puffin_data.specs.Forest.Words.{word_size, open_after};
+ghost use Rattle.puffin_data.specs.Forest.Words.{open_after};
 ghost use Rattle.puffin_threads.specs.Thread.Info.{info_of};
 ghost use Rattle.puffin_threads.specs.Details.{AllHaveIds, details_seen};
 ghost use Rattle.puffin_threads.specs.Thread.Calls.{after_begin, after_registering};
 ghost use Rattle.puffin_collector.specs.Profiler.State.{AcceptsReport, IsReportRefusal, after_wanting};
 ghost use Rattle.puffin_collector.specs.Profiler.Collecting.{Collects, TellsIds, KeepsPending};
 ghost use Rattle.puffin_collector.specs.Profiler.Registering.{Adds, AddsSome};
-ghost use Rattle.puffin_session.specs.Session.{new_session};
+ghost use Rattle.puffin_session.specs.Session.{new_session, nothing_collected, begun_place};
 ghost use Rattle.puffin_session.specs.Session.Runs.{Records, HasIds};
 ghost use Rattle.puffin_session.specs.Session.Actions.{details_given, user_details};
 ghost use Rattle.puffin_session.specs.inner.Serving.{clock_time, session_thread, session_with_thread, session_with_collected, Ends, Continues};
@@ -21,7 +20,7 @@ ghost use Rattle.puffin_session.specs.inner.Serving.{clock_time, session_thread,
 use crate::command::{Command, Reply};
 use crate::profiled::Profiled;
 use puffin_collector::{Collector, Emitted};
-use puffin_data::data::{ScopeId, Stream, StreamInfo};
+use puffin_data::data::{Form, ScopeId, Stream, StreamInfo};
 use puffin_data::{Error, NanoSecond, Result};
 use puffin_frames::frame_data::FrameData;
 use puffin_frames::scope_details::{ScopeDetails, ScopeIds};
@@ -59,22 +58,43 @@ impl Model for Session {
 }
 
 impl Session {
-    /// One thread a name, before its first scope. The first id that is drawn is 1. Refused only with `Memory`.
+    /// One thread a name, before its first scope, whose texts are short. The first id that is drawn is 1. Refused only with
+    /// `Memory`.
     pub fn new(alloc: Global, names: Vec<String>) -> Result<Session>
         ensures new { IfOk result (λ session.
-            session ≡ new_session (map string_bytes names.items)) }
+            session ≡ new_session (map (λ name. (string_bytes name, Short)) names.items)) }
         ensures memory { IfErr result (λ e. e ≡ Error.Memory) }
     {
         let mut profiled = Vec::new(alloc);
         for name in names {
-            profiled.push(Profiled::new(alloc, name))?;
+            profiled.push(Profiled::new(alloc, name, Form::Short))?;
         }
-        Ok(Session {
+        Ok(Session::of(alloc, profiled))
+    }
+
+    /// One thread a name, before its first scope, whose texts have the form beside the name; else as [`Session::new`].
+    pub fn with_forms(alloc: Global, threads: Vec<(String, Form)>) -> Result<Session>
+        ensures new { IfOk result (λ session.
+            session ≡ new_session (map (λ t. (string_bytes t.0, t.1)) threads.items)) }
+        ensures memory { IfErr result (λ e. e ≡ Error.Memory) }
+    {
+        let mut profiled = Vec::new(alloc);
+        for (name, form) in threads {
+            profiled.push(Profiled::new(alloc, name, form))?;
+        }
+        Ok(Session::of(alloc, profiled))
+    }
+
+    /// Of these threads, with nothing collected.
+    fn of(alloc: Global, profiled: Vec<Profiled>) -> Session
+        ensures { result ≡ record { threads = profiled.items; collected = nothing_collected } }
+    {
+        Session {
             profiled,
             collector: Collector::new(alloc, 0),
             ids: ScopeIds::new(),
             alloc,
-        })
+        }
     }
 
     /// Runs commands in order, with one reply each. Each accepted scope is then once in an emitted frame, in what is due
@@ -151,11 +171,10 @@ impl Session {
         ensures ok { IfOk result (λ offset.
             (thread < length self.old.threads)
             × (self.new ≡ session_with_thread self.old thread
-            (after_begin (session_thread self.old thread) id (cut_text Short text.now)
-            (clock_time at))
+            (after_begin (session_thread self.old thread) id
+            (cut_text (session_thread self.old thread).form text.now) (clock_time at))
             self.old.collected)
-            × (offset ≡ word_size Short (session_thread self.old thread).word + size_offset Short
-            (cut_text Short text.now))) }
+            × (offset ≡ begun_place (session_thread self.old thread) text.now)) }
         ensures err { OnErr result (self.new ≡ self.old) }
         ensures cause { IfErr result (λ e.
             ((e ≡ Error.NoThread) × (length self.old.threads ≤ thread))
@@ -232,18 +251,20 @@ impl Session {
             (r : Recorded)
             × (f : Forest)
             × IsHonestRecord r f
+            × (r.form ≡ stream.now.form)
             × (r.bytes ≡ stream.now.bytes)
             × AcceptsReport self.old.collected (info_of info.now) [] r self.new.collected
             × (self.new ≡ session_with_collected self.old self.new.collected)) }
         ensures err { OnErr result (self.new ≡ self.old) }
         ensures cause { IfErr result (λ e.
             (e ≡ Error.Memory)
-            ⊎ IsFault Short stream.now.bytes e
+            ⊎ IsFault stream.now.form stream.now.bytes e
             ⊎ ((r : Recorded)
             × (f : Forest)
             × IsHonestRecord r f
+            × (r.form ≡ stream.now.form)
             × (r.bytes ≡ stream.now.bytes)
-            × IsReportRefusal self.old.collected [] r e)) }
+            × IsReportRefusal self.old.collected (info_of info.now) [] r e)) }
     {
         let times = StreamInfo::parse(self.alloc, stream.clone()?)?;
         let info = info.clone()?;

@@ -3,6 +3,7 @@ use Rattle.std.proofs.Common.{◌≡◌, ℕ, true, false, List, [], ◌∷◌, 
 use Rattle.std.specs.List.{flat_map}
 use Rattle.std.proofs.lemmas.List.{map-append, flat_map_more}
 use Rattle.std.proofs.lemmas.List.Sums.{fold-append}
+use Rattle.puffin_data.specs.declared.data.form.Form.{Form}
 use Rattle.puffin_frames.specs.declared.frame_data.frame.FrameData.{FrameData}
 use Rattle.puffin_frames.specs.declared.frame_data.meta.FrameMeta.{FrameMeta}
 use Rattle.puffin_frames.specs.declared.frame_data.held.Held.{Held}
@@ -21,18 +22,18 @@ use Rattle.puffin_view.proofs.Taking.{Took-all, Took-none}
 
 -- ---- a frame that was read, as a view sees it
 
-abbrev frame_said : FrameMeta → List ℕ → List Details → Frame
-frame_said m streams ds = record { contents = record { meta = m; kind = 0; streams = streams; details = ds }; is_unpacked = true; is_packed = false }
+abbrev frame_said : FrameMeta → Form → List ℕ → List Details → Frame
+frame_said m form streams ds = record { contents = record { meta = m; form = form; kind = 0; streams = streams; details = ds }; is_unpacked = true; is_packed = false }
 
 true_is_not_false : true ≡ false → ⊥
 true_is_not_false e = cc
 
-no_details_said : (m : FrameMeta) (streams : List ℕ) (ds : List Details) → ds ≡ [] → frame_said m streams ds ≡ frame_said m streams []
-no_details_said m streams ds e = ap (frame_said m streams) e
+no_details_said : (m : FrameMeta) (form : Form) (streams : List ℕ) (ds : List Details) → ds ≡ [] → frame_said m form streams ds ≡ frame_said m form streams []
+no_details_said m form streams ds e = ap (frame_said m form streams) e
 
 fresh_by : (frame : FrameData) (h : Held) → IsFresh (record frame { held = h }) → frame_of (record frame { held = h }) ≡ frame_stored (stored_of (record frame { held = h }))
-fresh_by frame (Own u) fresh = no_details_said _ _ _ (fresh.no_details refl)
-fresh_by frame (Shared u) fresh = no_details_said _ _ _ (fresh.no_details refl)
+fresh_by frame (Own u) fresh = no_details_said _ _ _ _ (fresh.no_details refl)
+fresh_by frame (Shared u) fresh = no_details_said _ _ _ _ (fresh.no_details refl)
 fresh_by frame (Packed p) fresh = refl
 fresh_by frame (Both b) fresh = absurd (true_is_not_false fresh.one_way)
 

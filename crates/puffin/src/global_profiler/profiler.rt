@@ -64,7 +64,8 @@ impl GlobalProfiler {
         }
     }
 
-    /// Appends a thread's scopes to those that are pending, and details to the new ones, by one call of [`Collector::report`], refused as that is.
+    /// Appends a thread's scopes to those that are pending, and details to the new ones, by one call of
+    /// [`Collector::report`], refused as that is.
     pub fn report(
         &mut self,
         info: ThreadInfo,

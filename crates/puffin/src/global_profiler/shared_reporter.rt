@@ -3,7 +3,7 @@ ghost use Rattle.std.specs.Prelude.{◌≡◌, ◌≢◌, ◌+◌, ◌≤◌, �
 ghost use Rattle.puffin_data.specs.declared.error.Error.{Error};
 ghost use Rattle.puffin_data.specs.Forest.{Forest};
 ghost use Rattle.puffin_data.specs.Honesty.{IsHonestRef};
-ghost use Rattle.puffin_threads.specs.Thread.Calls.{open_offsets};
+ghost use Rattle.puffin_threads.specs.Thread.Calls.{offsets_of};
 ghost use Rattle.puffin_threads.specs.Thread.Closing.{Closes, Reports};
 
 use crate::global_profiler::share::Share;
@@ -60,10 +60,10 @@ impl<L: Ledger, M: Ledger, R: Wait> SharedReporter<L, M, R> {
     pub fn end_scope<T: AnyThread>(&mut self, thread: &mut T, offset: usize) -> Result<Closed>
         requires { Unit {0} }
         ensures innermost { OnOk result (
-            slice_get (open_offsets (T.recorded thread.old).word) 0 ≡ Some offset) }
+            slice_get (offsets_of (T.recorded thread.old)) 0 ≡ Some offset) }
         ensures mismatched { IfErr result (λ e.
             (e ≡ Error.MismatchedEnd)
-            × (slice_get (open_offsets (T.recorded thread.old).word) 0 ≢ Some offset)) }
+            × (slice_get (offsets_of (T.recorded thread.old)) 0 ≢ Some offset)) }
         ensures unchanged { OnErr result ((thread.new ≡ thread.old) × (self.new ≡ self.old)) }
         ensures closed { IfOk result (λ closed.
             (at : ℤ)

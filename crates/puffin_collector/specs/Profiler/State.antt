@@ -4,12 +4,12 @@ use Rattle.std.specs.Prelude.{◌≡◌, ℕ, ◌+◌, ◌^◌, ◌<◌, ℤ, Li
 use Rattle.std.specs.FinMap as map
 use Rattle.std.specs.Coded.{Coded, code_by, coded×, coded_ℕ, coded_list, coded_bool}
 use Rattle.puffin_data.specs.declared.error.Error.{Error}
-use Rattle.puffin_data.specs.declared.error.Error.TheVariants.{MissingId, TooLarge, RangeTooLong, Memory}
-use Rattle.puffin_data.specs.Honesty.{Recorded}
+use Rattle.puffin_data.specs.declared.error.Error.TheVariants.{MissingId, UnlikeForms, TooLarge, RangeTooLong, Memory}
+use Rattle.puffin_data.specs.Honesty.{Recorded, AreUnlike}
 use Rattle.puffin_threads.specs.Thread.Info.{Info}
 use Rattle.puffin_threads.specs.Details.{Details, details_code, AllHaveIds}
 use Rattle.puffin_threads.specs.Details.Collection.{Collection, collection_code, with_all_details}
-use Rattle.puffin_frames.specs.Frame.Contents.{Streams, streams_code}
+use Rattle.puffin_frames.specs.Frame.Contents.{Streams, streams_code, stream_under}
 use Rattle.puffin_frames.specs.Frame.Sums.{total_bytes, total_scopes, joined_range, IsOrdered, DurationFits}
 
 -- The index of the next frame, how many scopes were ever reported, how many of them were handed out in frames, and the streams that the next frame will hold; the details that it knows of scopes, those that are new in the next frame, in order, and whether the next frame is to tell of all.
@@ -54,24 +54,40 @@ range_with c r = joined_range (r ∷ map.values c.streams)
 abbrev pub IsTooLong : ℤ × ℤ → Type 0
 IsTooLong range = IsOrdered range × ¬ DurationFits range
 
+-- what is pending under an info and one more under it have bytes in unlike forms
+abbrev pub IsUnlike : Collected → Info → Recorded → Type 0
+IsUnlike c i r = AreUnlike (stream_under c.streams i) r
+
+-- unlike forms, or else this cause
+abbrev pub IsFirstCause : Collected → Info → Recorded → Error → Error → Type 0
+IsFirstCause c i r cause e =
+    ((e ≡ UnlikeForms) × IsUnlike c i r) ⊎ ((e ≡ cause) × ¬ IsUnlike c i r)
+
+-- why a report is refused whose details have ids and whose form is that of what is pending: the first that applies
+abbrev pub IsSumRefusal : Collected → Recorded → Error → Type 0
+IsSumRefusal c r e =
+    ((e ≡ TooLarge) × ¬ PendingFits c r)
+    ⊎ ((e ≡ RangeTooLong) × PendingFits c r × IsTooLong (range_with c r))
+    ⊎ ((e ≡ Memory) × PendingFits c r × ¬ IsTooLong (range_with c r))
+
 -- Why a report is refused: the first that applies.
-abbrev pub IsReportRefusal : Collected → List Details → Recorded → Error → Type 0
-IsReportRefusal c ds r e =
+abbrev pub IsReportRefusal : Collected → Info → List Details → Recorded → Error → Type 0
+IsReportRefusal c i ds r e =
     ((e ≡ MissingId) × ¬ AllHaveIds ds)
-    ⊎ ((e ≡ TooLarge) × AllHaveIds ds × ¬ PendingFits c r)
-    ⊎ ((e ≡ RangeTooLong) × AllHaveIds ds × PendingFits c r × IsTooLong (range_with c r))
-    ⊎ ((e ≡ Memory) × AllHaveIds ds × PendingFits c r × ¬ IsTooLong (range_with c r))
+    ⊎ ((e ≡ UnlikeForms) × AllHaveIds ds × IsUnlike c i r)
+    ⊎ (AllHaveIds ds × (¬ IsUnlike c i r) × IsSumRefusal c r e)
 
 -- what a call of `report` that isn't refused makes of it, and what one that is refused leaves
 abbrev pub AcceptsReport : Collected → Info → List Details → Recorded → Collected → Type 0
 AcceptsReport old i ds r new =
     (new ≡ after_report old i ds r)
     × AllHaveIds ds
+    × (¬ IsUnlike old i r)
     × PendingFits old r
     × ¬ IsTooLong (range_with old r)
 
 abbrev pub RefusesReport : Collected → Info → List Details → Recorded → Error → Collected → Type 0
-RefusesReport old i ds r e new = IsReportRefusal old ds r e × (new ≡ old)
+RefusesReport old i ds r e new = IsReportRefusal old i ds r e × (new ≡ old)
 
 -- ---- frames
 

@@ -122,6 +122,17 @@ cut_text-short form text =
           rw test short
     ]
 
+pub cut_text-within : (form : Form) (text : List ℕ) → length (cut_text form text) ≤ length text
+cut_text-within form text =
+    elim (cases_lt (text_limit form) (length text)) [
+      | inl long ↦
+          let test : nat_le (length text) (text_limit form) ≡ false = grind arith in
+          rw test (omega (arith, length-take (floor_char_boundary text (text_limit form)) text))
+      | inr short ↦
+          let test : nat_le (length text) (text_limit form) ≡ true = grind arith in
+          rw test (omega arith)
+    ]
+
 pub cut_text-bytes : (form : Form) (text : List ℕ) → All (λ b. b < 256) text → All (λ b. b < 256) (cut_text form text)
 cut_text-bytes form text bytes =
     elim (cases_lt (text_limit form) (length text)) [

@@ -1,14 +1,15 @@
 -- The measures of two forests one after the other.
-use Rattle.std.proofs.Common.{◌≡◌, ℕ, ◌+◌, List, ◌++◌, max, sym, ap, ◌∙◌, arith, ℤ}
+use Rattle.std.proofs.Common.{◌≡◌, ◌≢◌, ℕ, ◌+◌, Bool, true, false, cond, eqb, List, ◌++◌, length, inl, inr, max, refl, sym, ap, subst, ◌∙◌, arith, ℤ}
 use Rattle.std.specs.Int.{int_min, int_max}
+use Rattle.std.proofs.lemmas.Bool.{cases_eq, eqb-true}
 use Rattle.std.proofs.lemmas.Int.{ints, clamps}
 use Rattle.puffin_data.specs.declared.data.form.Form.{Form}
-use Rattle.puffin_data.specs.declared.data.form.Form.TheVariants.{Short}
+use Rattle.puffin_data.specs.declared.data.form.Form.TheVariants.{Short, Long}
 use Rattle.puffin_data.specs.Forest.{Forest, IsForest, empty, node, append}
 use Rattle.puffin_data.specs.Forest.Measures.{scope_count, height, least_start, greatest_stop}
-use Rattle.puffin_data.specs.Forest.Spelling.{spelling}
-use Rattle.puffin_data.specs.Honesty.{Recorded, IsHonestRecord, joined_record}
-use Rattle.puffin_data.proofs.lemmas.Unique.{spelling-append}
+use Rattle.puffin_data.specs.Forest.Spelling.{spelling, Spells}
+use Rattle.puffin_data.specs.Honesty.{Recorded, IsHonestRecord, AreUnlike, joined_form, joined_record}
+use Rattle.puffin_data.proofs.lemmas.Unique.{spelling-append, long}
 use Rattle.puffin_data.proofs.RangesTold.{least_in_range, greatest_in_range, from_most, from_least}
 
 pub scope_count-append : (f g : Forest) → scope_count (append f g) ≡ scope_count f + scope_count g
@@ -37,12 +38,35 @@ pub IsForest-append : (form : Form) (f g : Forest) → IsForest form f → IsFor
 IsForest-append form empty g x y = y
 IsForest-append form (node s c o) g x y = (x.0, x.1, IsForest-append form o g x.2 y)
 
-pub honest_joined : (a b : Recorded) (f g : Forest) → IsHonestRecord a f → IsHonestRecord b g → IsHonestRecord (joined_record a b) (append f g)
-honest_joined a b f g x y =
+-- no scope has one spelling in all forms
+respelled : (x y : Form) (f : Forest) (bytes : List ℕ) → length bytes ≡ 0 → Spells x bytes f → Spells y bytes f
+respelled x y empty bytes none h = record { whole = h.whole; fits = tt }
+respelled x y (node s c o) bytes none h = absurd (omega (arith, none, ap length h.whole, long x s (spelling x c) (spelling x o)))
+
+same_form : (x y : Form) → (x ≢ y → ⊥) → x ≡ y
+same_form Short Short h = refl
+same_form Short Long h = absurd (h (λ e. cc))
+same_form Long Short h = absurd (h (λ e. cc))
+same_form Long Long h = refl
+
+on_one_form : (a b : Recorded) (f g : Forest) (none : Bool) → eqb (length a.bytes) 0 ≡ none → (AreUnlike a b → ⊥) → Spells a.form a.bytes f → Spells b.form b.bytes g → Spells (cond none b.form a.form) a.bytes f × Spells (cond none b.form a.form) b.bytes g
+on_one_form a b f g true e may x y = (respelled a.form b.form f a.bytes (eqb-true _ _ e) x, y)
+on_one_form a b f g false e may x y = (
+  x,
+  elim (cases_eq (length b.bytes) 0) [
+    | inl none ↦ respelled b.form a.form g b.bytes none y
+    | inr some ↦ subst (λ (form : Form). Spells form b.bytes g) (sym (same_form a.form b.form (λ apart. may (grind arith, omega (arith, some), apart)))) y
+  ],
+)
+
+pub honest_joined : (a b : Recorded) (f g : Forest) → (AreUnlike a b → ⊥) → IsHonestRecord a f → IsHonestRecord b g → IsHonestRecord (joined_record a b) (append f g)
+honest_joined a b f g may x y =
+    let form = joined_form a b in
+    let both = on_one_form a b f g (eqb (length a.bytes) 0) refl may x.stream y.stream in
     record {
       stream = record {
-        whole = ap (λ (t : List ℕ). t ++ b.bytes) x.stream.whole ∙ ap (λ (t : List ℕ). spelling Short f ++ t) y.stream.whole ∙ sym (spelling-append Short f g);
-        fits = IsForest-append Short f g x.stream.fits y.stream.fits;
+        whole = ap (λ (t : List ℕ). t ++ b.bytes) both.0.whole ∙ ap (λ (t : List ℕ). spelling form f ++ t) both.1.whole ∙ sym (spelling-append form f g);
+        fits = IsForest-append form f g both.0.fits both.1.fits;
       };
       counts = record {
         num_scopes = omega (arith, x.counts.num_scopes, y.counts.num_scopes, scope_count-append f g);
@@ -53,11 +77,15 @@ honest_joined a b f g x y =
     }
 
 -- an info that was extended field by field
-pub extended : (n a b : Recorded) (f g : Forest) → n.bytes ≡ a.bytes ++ b.bytes → n.num_scopes ≡ a.num_scopes + b.num_scopes → n.depth ≡ max a.depth b.depth → n.range_ns.0 ≡ int_min a.range_ns.0 b.range_ns.0 → n.range_ns.1 ≡ int_max a.range_ns.1 b.range_ns.1
+pub extended : (n a b : Recorded) (f g : Forest) → n.form ≡ joined_form a b → (AreUnlike a b → ⊥) → n.bytes ≡ a.bytes ++ b.bytes → n.num_scopes ≡ a.num_scopes + b.num_scopes → n.depth ≡ max a.depth b.depth → n.range_ns.0 ≡ int_min a.range_ns.0 b.range_ns.0 → n.range_ns.1 ≡ int_max a.range_ns.1 b.range_ns.1
     → IsHonestRecord a f → IsHonestRecord b g → IsHonestRecord n (append f g)
-extended n a b f g e1 e2 e3 e4 e5 x y =
-    let h = honest_joined a b f g x y in
+extended n a b f g en may e1 e2 e3 e4 e5 x y =
+    let h = honest_joined a b f g may x y in
     record {
-      stream = record { whole = e1 ∙ h.stream.whole; fits = h.stream.fits };
+      stream = subst (λ (form : Form). Spells form n.bytes (append f g)) (sym en) (record { whole = e1 ∙ h.stream.whole; fits = h.stream.fits });
       counts = record { num_scopes = e2 ∙ h.counts.num_scopes; depth = e3 ∙ h.counts.depth; least_start = e4 ∙ h.counts.least_start; greatest_stop = e5 ∙ h.counts.greatest_stop };
     }
+
+-- a test isn't both
+pub true_not_false : (b : Bool) → b ≡ true → b ≡ false → ⊥
+true_not_false b x y = cc

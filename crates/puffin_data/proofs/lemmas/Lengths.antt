@@ -6,7 +6,7 @@ use Rattle.puffin_data.specs.declared.error.Error.{Error}
 use Rattle.puffin_data.specs.declared.error.Error.TheVariants.{PrematureEnd, InvalidStream}
 use Rattle.puffin_data.specs.declared.data.form.Form.{Form}
 use Rattle.puffin_data.specs.declared.data.form.Form.TheVariants.{Short, Long}
-use Rattle.puffin_data.specs.Text.Lengths.{stored_limit, length_layout, text_layout, text_room, length_at, length_or_none, with_second_group}
+use Rattle.puffin_data.specs.Text.Lengths.{stored_limit, text_limit, length_layout, text_layout, text_room, length_at, length_or_none, with_second_group}
 use Rattle.puffin_data.proofs.lemmas.Numbers.{IsBytes}
 
 abbrev Length : Type 0
@@ -14,6 +14,11 @@ Length = Result (ℕ × ℕ) Error
 
 abbrev groups : ℕ → Bool → List ℕ
 groups n one = cond one (n ∷ []) ((128 + n % 128) ∷ (n / 128) ∷ [])
+
+-- what a text is cut to can be stored
+pub limit_stored : (form : Form) (text : List ℕ) → length text ≤ text_limit form → length text ≤ stored_limit form
+limit_stored Short text short = omega arith
+limit_stored Long text short = short
 
 -- ---- a layout is read again
 
@@ -55,6 +60,10 @@ room_least form text = omega (arith, (layout_size form (length text)).least)
 pub short_room : (text : List ℕ) → text_room Short text ≡ 1 + length text
 unfolding length_layout
 short_room text = refl
+
+-- a text in any form at most two
+pub long_room : (text : List ℕ) → text_room Long text ≤ 2 + length text
+long_room text = omega (arith, (layout_size Long (length text)).most)
 
 -- a length takes a byte at least
 second_least : (low : ℕ) (rest : List ℕ) → 1 ≤ (length_or_none (with_second_group low rest)).1

@@ -1,8 +1,11 @@
 //! How the length of a scope's text is written.
 
 ghost use Rattle.std.specs.Prelude.{◌≡◌, ◌≤◌, ◌<◌, ◌^◌, ◌∷◌, IfOk};
+ghost use Rattle.puffin_data.specs.Text.{cut_text};
 ghost use Rattle.puffin_data.specs.Text.Lengths.{length_at, length_layout, text_limit, second_byte};
+ghost use Rattle.puffin_data.specs.Forest.Spelling.{head_size};
 
+use crate::data::scope::{BEGIN_LIMIT, FRONT_SIZE, WORD_SIZE};
 use crate::error::{Error, Result};
 
 /// How the length of a scope's text is written: in one byte, or in one or two groups of 7 bits.
@@ -23,6 +26,18 @@ impl Form {
         match self {
             Form::Short => 127,
             Form::Long => 16383,
+        }
+    }
+
+    /// The most bytes that the beginning of a scope with this text takes: of a short one always the same number.
+    #[inline]
+    pub fn begin_limit(self, text: &str) -> usize
+        ensures most { head_size self (cut_text self text.now) ≤ result }
+        ensures small { result < 2 ^ 15 }
+    {
+        match self {
+            Form::Short => BEGIN_LIMIT,
+            Form::Long => FRONT_SIZE + 2 + text.len().min(16383) + WORD_SIZE,
         }
     }
 }

@@ -155,6 +155,16 @@ impl Stream {
         self.form
     }
 
+    /// Takes its texts for texts of this form.
+    #[inline]
+    pub(crate) fn set_form(&mut self, form: Form)
+        ensures form { self.new.form ≡ form }
+        ensures bytes { self.new.bytes ≡ self.old.bytes }
+        ensures room { self.new.room ≡ self.old.room }
+    {
+        self.form = form;
+    }
+
     /// Whether there is no byte.
     pub fn is_empty(&self) -> bool
         ensures { result ≡ (length self.now.bytes == 0) }

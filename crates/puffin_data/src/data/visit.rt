@@ -57,9 +57,8 @@ struct Region<W> {
     within: W,
 }
 
-/// Goes over all of the bytes, which have to be a forest of scopes with texts of this form, in one pass and without the call
-/// stack, and hands each
-/// scope to the visitor.
+/// Goes over all of the bytes, which have to be a forest of scopes with texts of this form, in one pass and without the
+/// call stack, and hands each scope to the visitor.
 ///
 /// `tries` is set to the number of readings made at a byte `(`, also where the walk is refused. Refused with the visitor's
 /// first refusal or the first fault (`PrematureEnd`, `InvalidStream` or `ScopeNeverEnded`), whichever stands first, or with

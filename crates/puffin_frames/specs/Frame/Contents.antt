@@ -12,7 +12,7 @@ use Rattle.puffin_frames.specs.Packet.Stored.{Said}
 pub use Rattle.puffin_frames.specs.Frame.Streams.{Streams, recorded_code, streams_code, records, all_recorded, streams_of, without_sharing, shared_streams, pairs_of, no_scopes, stream_under, reported_to, AreHonest, contents}
 
 abbrev pub packed_as : PackedStreams → Packing
-packed_as p = record { kind = p.kind; bytes = p.bytes.items }
+packed_as p = record { form = p.form; kind = p.kind; bytes = p.bytes.items }
 
 abbrev pub held_as : Held → Holding
 held_as (Own u) = record { packed = None; unpacked = Some (contents u) }
@@ -47,14 +47,13 @@ frame_meta frame = held_meta frame.held
 abbrev pub frame_details : FrameData → List Details
 frame_details frame = shared_details frame.scope_delta.items
 
+abbrev pub said_of : FrameMeta → Packing → List Details → Said
+said_of meta p details =
+    record { meta = meta; form = p.form; kind = p.kind; streams = p.bytes; details = details }
+
 -- what a frame says, however it is held
 abbrev pub frame_says : FrameData → Said
-frame_says frame = record {
-  meta = frame_meta frame;
-  kind = (packing_of (holding_of frame)).kind;
-  streams = (packing_of (holding_of frame)).bytes;
-  details = frame_details frame;
-}
+frame_says frame = said_of (frame_meta frame) (packing_of (holding_of frame)) (frame_details frame)
 
 -- whether a frame holds its data as it is, and no other frame does
 abbrev pub is_alone : FrameData → Bool

@@ -2,14 +2,17 @@
 use Rattle.std.specs.Prelude.{◌≡◌, ℕ, List, [], Option, Some, None, Result, Ok, Err, ◌==◌, if◌then◌else◌}
 use Rattle.std.specs.FinMap.{entries, from_sorted}
 use Rattle.std.specs.Option.{option_map}
+use Rattle.puffin_data.specs.declared.data.form.Form.{Form}
+use Rattle.puffin_data.specs.declared.data.form.Form.TheVariants.{Short}
 use Rattle.puffin_data.specs.declared.file_error.FileError.{FileError}
 use Rattle.puffin_data.specs.declared.file_error.FileError.TheVariants as file
 use Rattle.puffin_data.specs.Value.Decoding.{whole}
 use Rattle.puffin_frames.specs.Frame.Streams.{Streams}
-use Rattle.puffin_frames.specs.Packet.Structs.{streams_layout, streams_at, AreStreams}
+use Rattle.puffin_frames.specs.Packet.Structs.{form_of_all, streams_layout, streams_at, AreStreams}
 
--- streams as they are packed: the kind, and the bytes
+-- streams as they are packed: the form of their packet, the kind, and the bytes
 pub record Packing : Type 0 where
+  pub form : Form
   pub kind : ℕ
   pub bytes : List ℕ
 
@@ -21,11 +24,12 @@ pub record Holding : Type 0 where
 -- the bytes are the layout of these streams, packed as they are
 abbrev pub HoldsStreams : Packing → Streams → Type 0
 HoldsStreams p streams =
-    (p.kind ≡ 0) × AreStreams (entries streams) × (p.bytes ≡ streams_layout (entries streams))
+    (p.kind ≡ 0) × AreStreams p.form (entries streams)
+    × (p.bytes ≡ streams_layout p.form (entries streams))
 
 -- the streams whose layout packed bytes are; bytes of another kind hold none here
 abbrev pub streams_in : Packing → Option Streams
-streams_in p = if p.kind == 0 then option_map from_sorted (whole streams_at p.bytes) else None
+streams_in p = if p.kind == 0 then option_map from_sorted (whole (streams_at p.form) p.bytes) else None
 
 abbrev pub if_packed : Option Packing → Option Streams
 if_packed None = None
@@ -43,7 +47,7 @@ held_contents h = either_content h.packed h.unpacked
 abbrev pub Agree : Option Packing → Option Streams → Type 0
 Agree None None = ⊥
 Agree (Some p) None = Unit {0}
-Agree None (Some streams) = AreStreams (entries streams)
+Agree None (Some streams) = AreStreams (form_of_all (entries streams)) (entries streams)
 Agree (Some p) (Some streams) = streams_in p ≡ Some streams
 
 abbrev pub IsHolding : Holding → Type 0
@@ -51,13 +55,17 @@ IsHolding h = Agree h.packed h.unpacked
 
 -- streams packed as they are
 abbrev pub plainly_packed : Streams → Packing
-plainly_packed streams = record { kind = 0; bytes = streams_layout (entries streams) }
+plainly_packed streams = record {
+  form = form_of_all (entries streams);
+  kind = 0;
+  bytes = streams_layout (form_of_all (entries streams)) (entries streams);
+}
 
 -- the streams as a packet has them: what is packed stays as it is
 abbrev pub packing : Option Packing → Option Streams → Packing
 packing (Some p) u = p
 packing None (Some streams) = plainly_packed streams
-packing None None = record { kind = 0; bytes = [] }
+packing None None = record { form = Short; kind = 0; bytes = [] }
 
 abbrev pub packing_of : Holding → Packing
 packing_of h = packing h.packed h.unpacked
@@ -76,7 +84,7 @@ or_bad None = Err file.BadStreams
 or_bad (Some streams) = Ok streams
 
 abbrev pub unpacking : Packing → Result Streams FileError
-unpacking p = if p.kind == 0 then or_bad (option_map from_sorted (whole streams_at p.bytes)) else Err (file.Compressed p.kind)
+unpacking p = if p.kind == 0 then or_bad (option_map from_sorted (whole (streams_at p.form) p.bytes)) else Err (file.Compressed p.kind)
 
 abbrev pub unpacked_of : Option Packing → Option Streams → Result Streams FileError
 unpacked_of p (Some streams) = Ok streams

@@ -5,6 +5,9 @@ use Rattle.std.specs.Coded.{Coded, code_by, coded×, coded_list, coded_ℕ, code
 use Rattle.std.specs.Arc.{arc_value}
 use Rattle.std.specs.BTreeMap.{BTreeMap, values}
 use Rattle.std.specs.declared.sync.Arc.{Arc}
+use Rattle.puffin_data.specs.declared.data.form.Form.{Form}
+use Rattle.puffin_data.specs.declared.data.form.Form.TheVariants.{Short}
+use Rattle.puffin_data.specs.Text.Flags.{form_code}
 use Rattle.puffin_data.specs.Honesty.{Recorded, record_of, joined_record, IsHonestRecord}
 use Rattle.puffin_data.specs.Forest.{Forest}
 use Rattle.puffin_data.specs.declared.data.info.StreamInfo.{StreamInfo}
@@ -19,10 +22,17 @@ Streams = map.FinMap info_cmp Recorded
 -- what is recorded is stored as the tuple of its fields
 abbrev pub recorded_code : Coded Recorded
 recorded_code =
-    code_by (List ℕ × (ℕ × (ℕ × (ℤ × ℤ))))
-    (coded× (coded_list coded_ℕ) (coded× coded_ℕ (coded× coded_ℕ (coded× coded_ℤ coded_ℤ))))
-    (λ r. (r.bytes, (r.num_scopes, (r.depth, r.range_ns))))
-    (λ p. record { bytes = p.0; num_scopes = p.1.0; depth = p.1.1.0; range_ns = p.1.1.1 })
+    code_by (Form × (List ℕ × (ℕ × (ℕ × (ℤ × ℤ)))))
+    (coded× form_code (
+    coded× (coded_list coded_ℕ) (coded× coded_ℕ (coded× coded_ℕ (coded× coded_ℤ coded_ℤ)))))
+    (λ r. (r.form, (r.bytes, (r.num_scopes, (r.depth, r.range_ns)))))
+    (λ p. record {
+      form = p.0;
+      bytes = p.1.0;
+      num_scopes = p.1.1.0;
+      depth = p.1.1.1.0;
+      range_ns = p.1.1.1.1;
+    })
     (λ _. refl)
 
 abbrev pub streams_code : Coded Streams
@@ -54,6 +64,7 @@ pairs_of entries = keyed (records (without_sharing entries))
 -- what is recorded where there is no scope
 abbrev pub no_scopes : Recorded
 no_scopes = record {
+  form = Short;
   bytes = [];
   num_scopes = 0;
   depth = 0;

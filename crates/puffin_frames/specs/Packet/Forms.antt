@@ -6,7 +6,7 @@ use Rattle.puffin_data.specs.declared.file_error.FileError.{FileError}
 use Rattle.puffin_data.specs.declared.file_error.FileError.TheVariants as file
 use Rattle.puffin_data.specs.Part.{◌>>=◌}
 use Rattle.puffin_frames.specs.Packet.Stored.{Said, Stored, packed, legacy}
-use Rattle.puffin_frames.specs.Packet.Letters.{digit_0, digit_1, digit_2, digit_3, digit_4, is_packet}
+use Rattle.puffin_frames.specs.Packet.Letters.{digit_0, digit_1, digit_2, digit_3, digit_4, letter_l, form_behind, is_packet}
 use Rattle.puffin_frames.specs.Packet.Parts.{meta_part_at, streams_part_at, details_part_at, legacy_part_at}
 
 abbrev pub packet_at : ℕ → List ℕ → Result (Said × List ℕ) FileError
@@ -14,13 +14,14 @@ packet_at letter bytes = do
   meta ← meta_part_at bytes
   streams ← streams_part_at letter meta.1
   details ← details_part_at letter streams.1
-  Ok (record { meta = meta.0; kind = streams.0.0; streams = streams.0.1; details = details.0 }, details.1)
+  Ok (record { meta = meta.0; form = form_behind letter; kind = streams.0.0; streams = streams.0.1; details = details.0 }, details.1)
 
 -- what follows the four letters, the last of which is letter
 abbrev pub form_at : ℕ → List ℕ → Result (Said × List ℕ) FileError
 form_at letter bytes =
     if (letter == digit_0) || (letter == digit_1) then Err file.Legacy
-    else if (letter == digit_2) || (letter == digit_3) || (letter == digit_4) then packet_at letter bytes
+    else if (letter == digit_2) || (letter == digit_3) || (letter == digit_4) || (letter == letter_l)
+    then packet_at letter bytes
     else Err file.Newer
 
 abbrev pub as_stored : {A : Type 0} → (A → Stored) → Result (A × List ℕ) FileError →

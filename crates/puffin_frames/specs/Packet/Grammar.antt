@@ -2,9 +2,11 @@
 use Rattle.std.specs.Prelude.{◌≡◌, ◌^◌, ◌<◌, ◌⊎◌, ℕ, true, false, List, [], ◌∷◌, ◌++◌, length, nat_lt, Option}
 use Rattle.std.specs.Io.KnownBytes.{Consumes}
 use Rattle.byteorder.specs.Endian.{little_bytes}
+use Rattle.puffin_data.specs.declared.data.form.Form.{Form}
+use Rattle.puffin_data.specs.declared.data.form.Form.TheVariants.{Short}
 use Rattle.puffin_data.specs.Range.{is_range_at}
 use Rattle.puffin_frames.specs.declared.frame_data.meta.FrameMeta.{FrameMeta}
-use Rattle.puffin_frames.specs.Packet.Letters.{digit_2, digit_3, digit_4, letters_of, is_packet}
+use Rattle.puffin_frames.specs.Packet.Letters.{digit_2, digit_3, letter_for, letters_of, is_packet}
 use Rattle.puffin_frames.specs.Packet.Structs.{IsMeta, meta_layout, AreDetails, details_layout, Legacy, IsLegacy, legacy_layout}
 use Rattle.puffin_frames.specs.Packet.Stored.{Said, Stored, packed, legacy}
 
@@ -12,18 +14,18 @@ abbrev pub counted_part : List ℕ → List ℕ
 counted_part part = little_bytes 4 (length part) ++ part
 
 -- the letters and the meta, and of the streams their length and their kind
-unfoldable pub packet_head : FrameMeta → ℕ → ℕ → List ℕ
-packet_head meta kind len =
-    letters_of digit_4 ++ (counted_part (meta_layout meta) ++ (little_bytes 4 len ++ (kind ∷ [])))
+unfoldable pub packet_head : Form → FrameMeta → ℕ → ℕ → List ℕ
+packet_head form meta kind len =
+    letters_of (letter_for form) ++ (counted_part (meta_layout meta) ++ (little_bytes 4 len ++ (kind ∷ [])))
 
 -- a packet of these streams and this part of details
-abbrev pub packet_with : FrameMeta → ℕ → List ℕ → List ℕ → List ℕ
-packet_with meta kind streams details =
-    (packet_head meta kind (length streams) ++ streams) ++ counted_part details
+abbrev pub packet_with : Form → FrameMeta → ℕ → List ℕ → List ℕ → List ℕ
+packet_with form meta kind streams details =
+    (packet_head form meta kind (length streams) ++ streams) ++ counted_part details
 
--- a packet of the form that is written
+-- a packet as it is written: `PFD4`, or `PFDL` where a stream is long
 abbrev pub packet : Said → List ℕ
-packet p = packet_with p.meta p.kind p.streams (details_layout p.details)
+packet p = packet_with p.form p.meta p.kind p.streams (details_layout p.details)
 
 -- what has a packet
 pub record IsPacked (p : Said) : Type 0 where
@@ -53,8 +55,8 @@ legacy_bytes l = counted_part (legacy_layout l)
 abbrev pub IsPacketFor : Said → List ℕ → Type 0
 IsPacketFor p bytes =
     (bytes ≡ packet p)
-    ⊎ ((bytes ≡ packet_without_details p) × (p.details ≡ []))
-    ⊎ ((bytes ≡ packet_without_kind p) × (p.kind ≡ 2) × (p.details ≡ []))
+    ⊎ ((bytes ≡ packet_without_details p) × (p.form ≡ Short) × (p.details ≡ []))
+    ⊎ ((bytes ≡ packet_without_kind p) × (p.form ≡ Short) × (p.kind ≡ 2) × (p.details ≡ []))
 
 -- what can be stored in the first form: its length isn't taken for the letters of a packet
 pub record IsFirstForm (l : Legacy) : Type 0 where

@@ -1,5 +1,7 @@
--- The letters that packets begin with: `PFD` and the digit of the packet's form.
-use Rattle.std.specs.Prelude.{ℕ, Bool, ◌&&◌, List, [], ◌∷◌, slice_index, ◌==◌}
+-- The letters that packets begin with: `PFD`, and a digit or, where a stream is long, an `L`.
+use Rattle.puffin_data.specs.declared.data.form.Form.{Form}
+use Rattle.puffin_data.specs.declared.data.form.Form.TheVariants.{Short, Long}
+use Rattle.std.specs.Prelude.{ℕ, Bool, ◌&&◌, ◌||◌, List, [], ◌∷◌, slice_index, ◌==◌, if◌then◌else◌}
 
 abbrev pub letter_p : ℕ
 letter_p = 80
@@ -24,6 +26,22 @@ digit_3 = 51
 
 abbrev pub digit_4 : ℕ
 digit_4 = 52
+
+abbrev pub letter_l : ℕ
+letter_l = 76
+
+-- the last letter of a packet that is written in a form
+abbrev pub letter_for : Form → ℕ
+letter_for Short = digit_4
+letter_for Long = letter_l
+
+-- whether packets with this last letter have details: those that are written
+abbrev pub has_details : ℕ → Bool
+has_details letter = (letter == digit_4) || (letter == letter_l)
+
+-- the form of the packets with this last letter
+abbrev pub form_behind : ℕ → Form
+form_behind letter = if letter == letter_l then Long else Short
 
 -- the four letters of a packet of this form
 abbrev pub letters_of : ℕ → List ℕ

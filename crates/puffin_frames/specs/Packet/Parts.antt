@@ -7,7 +7,7 @@ use Rattle.puffin_data.specs.Value.Decoding.{whole}
 use Rattle.puffin_data.specs.Part.{◌>>=◌, part_of, first_at, length_at, counted_part_at}
 use Rattle.puffin_frames.specs.declared.frame_data.meta.FrameMeta.{FrameMeta}
 use Rattle.puffin_threads.specs.Details.{Details}
-use Rattle.puffin_frames.specs.Packet.Letters.{digit_2, digit_4}
+use Rattle.puffin_frames.specs.Packet.Letters.{digit_2, has_details}
 use Rattle.puffin_frames.specs.Packet.Structs.{meta_at, details_at, Legacy, legacy_at}
 
 abbrev pub meta_with_range : Option FrameMeta → Result FrameMeta FileError
@@ -43,9 +43,10 @@ given_details_at bytes = do
   ds ← details_from (whole details_at part.0)
   Ok (ds, part.1)
 
--- only the fourth form has details
+-- only packets that are written have details
 abbrev pub details_part_at : ℕ → List ℕ → Result (List Details × List ℕ) FileError
-details_part_at letter bytes = if letter == digit_4 then given_details_at bytes else Ok ([], bytes)
+details_part_at letter bytes =
+    if has_details letter then given_details_at bytes else Ok ([], bytes)
 
 -- the kind and the bytes of the streams: their length stands first, and doesn't count the kind
 abbrev pub streams_part_at : ℕ → List ℕ → Result ((ℕ × List ℕ) × List ℕ) FileError

@@ -1,12 +1,14 @@
 -- Frames as packets store them.
 use Rattle.std.specs.Prelude.{ℕ, List}
+use Rattle.puffin_data.specs.declared.data.form.Form.{Form}
 use Rattle.puffin_frames.specs.declared.frame_data.meta.FrameMeta.{FrameMeta}
 use Rattle.puffin_threads.specs.Details.{Details}
 use Rattle.puffin_frames.specs.Packet.Structs.{Legacy}
 
--- what a frame says, however it is held: its meta, its streams as they are packed, and its details
+-- what a frame says, however it is held: its meta, its streams as they are packed, with the form of their packet, and its details
 pub record Said : Type 0 where
   pub meta : FrameMeta
+  pub form : Form
   pub kind : ℕ
   pub streams : List ℕ
   pub details : List Details

@@ -1,9 +1,13 @@
 -- What packets hold: the values, their bytes, and how they are read. Fields stand in the order of their bytes.
-use Rattle.std.specs.Prelude.{◌≡◌, ℕ, ℤ, true, List, ◌++◌, Option, Some, None, nat_lt, if◌then◌else◌}
+use Rattle.std.specs.Prelude.{◌≡◌, ℕ, ℤ, Bool, true, false, ◌&&◌, List, [], ◌++◌, Option, Some, None, nat_lt, if◌then◌else◌}
+use Rattle.std.specs.List.{list_any}
 use Rattle.std.specs.FinMap.{is_sorted}
+use Rattle.puffin_data.specs.declared.data.form.Form.{Form}
+use Rattle.puffin_data.specs.declared.data.form.Form.TheVariants.{Short, Long}
+use Rattle.puffin_data.specs.Text.Flags.{is_long, form_of_flag}
 use Rattle.puffin_data.specs.Honesty.{Recorded}
-use Rattle.puffin_data.specs.Value.Layout.{number, signed, optional, block, pair, items, IsWord, IsLong, IsSigned, IsBlock, IsText, IfAny, AreItems}
-use Rattle.puffin_data.specs.Value.Decoding.{◌>>=◌, checked, seen_as, number_at, word_at, signed_at, bytes_at, text_at, optional_at, pair_at, items_at}
+use Rattle.puffin_data.specs.Value.Layout.{number, signed, optional, flag, block, pair, items, IsWord, IsLong, IsSigned, IsBlock, IsText, IfAny, AreItems}
+use Rattle.puffin_data.specs.Value.Decoding.{◌>>=◌, checked, seen_as, number_at, word_at, signed_at, flag_at, bytes_at, text_at, optional_at, pair_at, items_at}
 use Rattle.puffin_frames.specs.declared.frame_data.meta.FrameMeta.{FrameMeta}
 use Rattle.puffin_threads.specs.Thread.Info.{Info, info_cmp}
 use Rattle.puffin_threads.specs.Details.{Details}
@@ -47,38 +51,76 @@ made_info p = record { start = p.0; name = p.1 }
 unfoldable pub info_at : List ℕ → Option (Info × List ℕ)
 info_at = seen_as made_info (pair_at (optional_at signed_at) text_at)
 
--- ---- what is recorded of a thread
+-- ---- the form of a stream's texts: in packets of the long form a byte, in those of the short form nothing, as there all are short
 
-abbrev pub recorded_layout : Recorded → List ℕ
-recorded_layout r =
-    block r.bytes
-    ++ (number r.num_scopes ++ (number r.depth ++ (signed r.range_ns.0 ++ signed r.range_ns.1)))
+abbrev pub form_layout : Form → Form → List ℕ
+form_layout Short form = []
+form_layout Long form = flag (is_long form)
 
-abbrev pub IsRecorded : Recorded → Type 0
-IsRecorded r =
+abbrev pub IsFormIn : Form → Form → Type 0
+IsFormIn Short form = form ≡ Short
+IsFormIn Long form = Unit {0}
+
+abbrev pub form_in_at : Form → List ℕ → Option (Form × List ℕ)
+form_in_at Short bytes = Some (Short, bytes)
+form_in_at Long bytes = seen_as form_of_flag flag_at bytes
+
+-- ---- what is recorded of a thread, in packets of a form
+
+abbrev pub recorded_layout : Form → Recorded → List ℕ
+recorded_layout packed r =
+    form_layout packed r.form
+    ++ (block r.bytes
+    ++ (number r.num_scopes ++ (number r.depth ++ (signed r.range_ns.0 ++ signed r.range_ns.1))))
+
+-- its numbers and its bytes
+abbrev pub AreCounts : Recorded → Type 0
+AreCounts r =
     IsBlock r.bytes
     × (IsLong r.num_scopes × (IsLong r.depth × (IsSigned r.range_ns.0 × IsSigned r.range_ns.1)))
 
-abbrev pub made_recorded : List ℕ × (ℕ × (ℕ × (ℤ × ℤ))) → Recorded
-made_recorded p = record { bytes = p.0; num_scopes = p.1.0; depth = p.1.1.0; range_ns = p.1.1.1 }
+abbrev pub IsRecorded : Form → Recorded → Type 0
+IsRecorded packed r = IsFormIn packed r.form × AreCounts r
 
-unfoldable pub recorded_at : List ℕ → Option (Recorded × List ℕ)
-recorded_at =
+abbrev pub made_recorded : Form × (List ℕ × (ℕ × (ℕ × (ℤ × ℤ)))) → Recorded
+made_recorded p = record {
+  form = p.0;
+  bytes = p.1.0;
+  num_scopes = p.1.1.0;
+  depth = p.1.1.1.0;
+  range_ns = p.1.1.1.1;
+}
+
+unfoldable pub recorded_at : Form → List ℕ → Option (Recorded × List ℕ)
+recorded_at packed =
     seen_as made_recorded (
-    pair_at bytes_at (pair_at number_at (pair_at number_at (pair_at signed_at signed_at))))
+    pair_at (form_in_at packed) (
+    pair_at bytes_at (pair_at number_at (pair_at number_at (pair_at signed_at signed_at)))))
 
 -- ---- the streams of a frame: a map, as the list of its pairs by rising keys
 
-abbrev pub streams_layout : List (Info × Recorded) → List ℕ
-streams_layout = items (pair info_layout recorded_layout)
+-- whether some stream is long, and the form of the packets that store all of them
+abbrev pub some_long : List (Info × Recorded) → Bool
+some_long es = list_any (λ (e : Info × Recorded). is_long e.1.form) es
 
-abbrev pub AreStreams : List (Info × Recorded) → Type 0
-AreStreams es =
-    AreItems (λ (e : Info × Recorded). IsInfo e.0 × IsRecorded e.1) es
-    × (is_sorted info_cmp es ≡ true)
+abbrev pub form_of_all : List (Info × Recorded) → Form
+form_of_all es = form_of_flag (some_long es)
 
-abbrev pub stream_at : List ℕ → Option ((Info × Recorded) × List ℕ)
-stream_at = pair_at info_at recorded_at
+-- in order, and in packets of the long form some are long
+abbrev pub are_ordered : Form → List (Info × Recorded) → Bool
+are_ordered Short es = is_sorted info_cmp es
+are_ordered Long es = is_sorted info_cmp es && some_long es
+
+abbrev pub streams_layout : Form → List (Info × Recorded) → List ℕ
+streams_layout packed = items (pair info_layout (recorded_layout packed))
+
+abbrev pub AreStreams : Form → List (Info × Recorded) → Type 0
+AreStreams packed es =
+    AreItems (λ (e : Info × Recorded). IsInfo e.0 × IsRecorded packed e.1) es
+    × (are_ordered packed es ≡ true)
+
+abbrev pub stream_at : Form → List ℕ → Option ((Info × Recorded) × List ℕ)
+stream_at packed = pair_at info_at (recorded_at packed)
 
 -- what was read, where the keys rise
 abbrev pub rising : Option (List (Info × Recorded) × List ℕ) →
@@ -87,8 +129,8 @@ rising read = do
   es ← read
   if is_sorted info_cmp es.0 then Some es else None
 
-unfoldable pub streams_at : List ℕ → Option (List (Info × Recorded) × List ℕ)
-streams_at = checked (is_sorted info_cmp) (items_at stream_at)
+unfoldable pub streams_at : Form → List ℕ → Option (List (Info × Recorded) × List ℕ)
+streams_at packed = checked (are_ordered packed) (items_at (stream_at packed))
 
 -- ---- scope details
 
@@ -133,7 +175,7 @@ AreDetails = AreItems IsDetail
 unfoldable pub details_at : List ℕ → Option (List Details × List ℕ)
 details_at = items_at detail_at
 
--- ---- a frame as it was written at first: meta and streams in one
+-- ---- a frame as it was written at first: meta and streams in one, and all streams short
 
 pub record Legacy : Type 0 where
   pub meta : FrameMeta
@@ -142,13 +184,13 @@ pub record Legacy : Type 0 where
 abbrev pub legacy_layout : Legacy → List ℕ
 legacy_layout l =
     number l.meta.frame_index
-    ++ (streams_layout l.streams ++ (signed l.meta.range_ns.0 ++ (signed l.meta.range_ns.1
+    ++ (streams_layout Short l.streams ++ (signed l.meta.range_ns.0 ++ (signed l.meta.range_ns.1
     ++ (number l.meta.num_bytes ++ number l.meta.num_scopes))))
 
 abbrev pub IsLegacy : Legacy → Type 0
 IsLegacy l =
     IsLong l.meta.frame_index
-    × (AreStreams l.streams
+    × (AreStreams Short l.streams
     × (IsSigned l.meta.range_ns.0
     × (IsSigned l.meta.range_ns.1 × (IsLong l.meta.num_bytes × IsLong l.meta.num_scopes))))
 
@@ -163,5 +205,5 @@ unfoldable pub legacy_at : List ℕ → Option (Legacy × List ℕ)
 legacy_at =
     seen_as made_legacy (
     pair_at number_at (
-    pair_at streams_at (
+    pair_at (streams_at Short) (
     pair_at signed_at (pair_at signed_at (pair_at number_at number_at)))))

@@ -11,13 +11,14 @@ ghost use Rattle.puffin_frames.specs.declared.frame_data.decode.Stop.TheVariants
 ghost use Rattle.puffin_threads.specs.Thread.Info.{Info, info_of, info_cmp};
 ghost use Rattle.puffin_threads.specs.Details.{details_of, shared_details};
 ghost use Rattle.puffin_frames.specs.Frame.Contents.{pairs_of};
-ghost use Rattle.puffin_frames.specs.Packet.Structs.{meta_at, info_at, recorded_at, stream_at, rising, streams_at, id_at, detail_at, details_at, legacy_at, Legacy};
+ghost use Rattle.puffin_frames.specs.Packet.Structs.{meta_at, info_at, form_in_at, recorded_at, stream_at, rising, streams_at, id_at, detail_at, details_at, legacy_at, Legacy};
 ghost use Rattle.puffin_frames.specs.inner.Tries.{TriesToGive, Tries};
 
+use crate::frame_data::encode::packed_form;
 use crate::frame_data::meta::FrameMeta;
 use crate::frame_data::thread_streams::ThreadStreams;
 use puffin_data::NanoSecond;
-use puffin_data::data::{ScopeId, Stream, StreamInfo};
+use puffin_data::data::{Form, ScopeId, Stream, StreamInfo};
 use puffin_data::wire::Cursor;
 use puffin_threads::scope_details::ScopeDetails;
 use puffin_threads::thread_profiler::ThreadInfo;
@@ -107,18 +108,32 @@ fn read_thread(alloc: Global, cursor: &mut Cursor) -> Result<ThreadInfo, Stop>
     })
 }
 
+/// The form of a stream, in a packet of this form.
+fn read_form(cursor: &mut Cursor, packed: Form) -> Option<Form>
+    ensures { IfSomeGives (λ f. f) result cursor.new (form_in_at packed cursor.old) }
+{
+    match packed {
+        Form::Short => Some(Form::Short),
+        Form::Long => {
+            let is_long = cursor.flag()?;
+            Some(if is_long { Form::Long } else { Form::Short })
+        }
+    }
+}
+
 /// What is recorded of a thread, its stream copied as one block.
 #[tactic(auto, unfolding(crate::specs::Packet::Structs::recorded_at))]
-fn read_recorded(alloc: Global, cursor: &mut Cursor) -> Result<StreamInfo, Stop>
-    ensures { TriesToGive record_of result cursor.new (recorded_at cursor.old) }
+fn read_recorded(alloc: Global, cursor: &mut Cursor, packed: Form) -> Result<StreamInfo, Stop>
+    ensures { TriesToGive record_of result cursor.new (recorded_at packed cursor.old) }
 {
+    let form = read_form(cursor, packed).ok_or(Stop::NoLayout)?;
     let bytes = cursor.bytes().ok_or(Stop::NoLayout)?;
     let num_scopes = cursor.u64().ok_or(Stop::NoLayout)? as usize;
     let depth = cursor.u64().ok_or(Stop::NoLayout)? as usize;
     let start = cursor.i64().ok_or(Stop::NoLayout)?;
     let stop = cursor.i64().ok_or(Stop::NoLayout)?;
     Ok(StreamInfo {
-        stream: Stream::from(Vec::from_slice(alloc, bytes)?),
+        stream: Stream::from_bytes(Vec::from_slice(alloc, bytes)?, form),
         num_scopes,
         depth,
         range_ns: (start, stop),
@@ -140,23 +155,32 @@ fn comes_last(streams: &ThreadStreams, thread: &ThreadInfo) -> bool
     }
 }
 
-fn read_stream(alloc: Global, cursor: &mut Cursor) -> Result<(ThreadInfo, StreamInfo), Stop>
+fn read_stream(
+    alloc: Global,
+    cursor: &mut Cursor,
+    packed: Form,
+) -> Result<(ThreadInfo, StreamInfo), Stop>
     ensures { TriesToGive (λ p. (info_of p.0, record_of p.1)) result cursor.new (
-        stream_at cursor.old) }
+        stream_at packed cursor.old) }
 {
     let thread = read_thread(alloc, cursor)?;
-    let info = read_recorded(alloc, cursor)?;
+    let info = read_recorded(alloc, cursor, packed)?;
     Ok((thread, info))
 }
 
-fn read_streams_times(alloc: Global, cursor: &mut Cursor, count: u64) -> Result<ThreadStreams, Stop>
+fn read_streams_times(
+    alloc: Global,
+    cursor: &mut Cursor,
+    packed: Form,
+    count: u64,
+) -> Result<ThreadStreams, Stop>
     ensures given { TriesToGive (λ m. pairs_of m.entries) result cursor.new (
-        rising (times_at stream_at count cursor.old)) }
+        rising (times_at (stream_at packed) count cursor.old)) }
     ensures sorted { IfOk result (λ m. is_sorted info_cmp (pairs_of m.entries) ≡ true) }
 {
     let mut streams = BTreeMap::new(alloc);
     'streams: for _ in 0..count {
-        let (thread, info) = read_stream(alloc, cursor)?;
+        let (thread, info) = read_stream(alloc, cursor, packed)?;
         if !comes_last(&streams, &thread) {
             return Err(Stop::NoLayout);
         }
@@ -165,23 +189,31 @@ fn read_streams_times(alloc: Global, cursor: &mut Cursor, count: u64) -> Result<
     Ok(streams)
 }
 
+/// Streams in a packet of this form, of which some are long where it is the long one.
 #[tactic(auto, unfolding(crate::specs::Packet::Structs::streams_at))]
-fn read_streams(alloc: Global, cursor: &mut Cursor) -> Result<ThreadStreams, Stop>
+fn read_streams(alloc: Global, cursor: &mut Cursor, packed: Form) -> Result<ThreadStreams, Stop>
     ensures given { TriesToGive (λ m. pairs_of m.entries) result cursor.new (
-        streams_at cursor.old) }
+        streams_at packed cursor.old) }
     ensures sorted { IfOk result (λ m. is_sorted info_cmp (pairs_of m.entries) ≡ true) }
 {
     let count = cursor.u64().ok_or(Stop::NoLayout)?;
-    read_streams_times(alloc, cursor, count)
+    let streams = read_streams_times(alloc, cursor, packed, count)?;
+    match packed {
+        Form::Short => Ok(streams),
+        Form::Long => match packed_form(&streams) {
+            Form::Short => Err(Stop::NoLayout),
+            Form::Long => Ok(streams),
+        },
+    }
 }
 
-/// The streams whose layout the bytes are, all of them.
-pub(crate) fn streams_in(alloc: Global, bytes: &[u8]) -> Result<ThreadStreams, Stop>
-    ensures given { Tries (λ m. pairs_of m.entries) result (whole streams_at bytes.now) }
+/// The streams whose layout in packets of a form the bytes are, all of them.
+pub(crate) fn streams_in(alloc: Global, packed: Form, bytes: &[u8]) -> Result<ThreadStreams, Stop>
+    ensures given { Tries (λ m. pairs_of m.entries) result (whole (streams_at packed) bytes.now) }
     ensures sorted { IfOk result (λ m. is_sorted info_cmp (pairs_of m.entries) ≡ true) }
 {
     let mut cursor = Cursor::new(bytes);
-    let streams = read_streams(alloc, &mut cursor)?;
+    let streams = read_streams(alloc, &mut cursor, packed)?;
     if cursor.rest() == 0 {
         Ok(streams)
     } else {
@@ -280,7 +312,7 @@ fn read_legacy(alloc: Global, cursor: &mut Cursor) -> Result<(FrameMeta, ThreadS
     ensures sorted { IfOk result (λ p. is_sorted info_cmp (pairs_of p.1.entries) ≡ true) }
 {
     let frame_index = cursor.u64().ok_or(Stop::NoLayout)?;
-    let streams = read_streams(alloc, cursor)?;
+    let streams = read_streams(alloc, cursor, Form::Short)?;
     let start = cursor.i64().ok_or(Stop::NoLayout)?;
     let stop = cursor.i64().ok_or(Stop::NoLayout)?;
     let num_bytes = cursor.u64().ok_or(Stop::NoLayout)? as usize;

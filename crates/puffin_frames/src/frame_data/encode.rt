@@ -13,12 +13,12 @@ ghost use Rattle.puffin_data.specs.Value.Layout.{optional, number, block, signed
 ghost use Rattle.puffin_threads.specs.Thread.Info.{info_of, thread_cmp};
 ghost use Rattle.puffin_threads.specs.Details.{details_of, shared_details};
 ghost use Rattle.puffin_frames.specs.Frame.Contents.{pairs_of};
-ghost use Rattle.puffin_frames.specs.Packet.Structs.{meta_layout, IsMeta, info_layout, IsInfo, recorded_layout, IsRecorded, streams_layout, AreStreams, detail_layout, IsDetail, details_layout, AreDetails, IsId};
+ghost use Rattle.puffin_frames.specs.Packet.Structs.{meta_layout, IsMeta, info_layout, IsInfo, form_layout, form_of_all, recorded_layout, AreCounts, streams_layout, AreStreams, detail_layout, IsDetail, details_layout, AreDetails, IsId};
 
 use crate::frame_data::meta::FrameMeta;
 use crate::frame_data::thread_streams::ThreadStreams;
 use puffin_data::Result;
-use puffin_data::data::{ScopeId, StreamInfo};
+use puffin_data::data::{Form, ScopeId, StreamInfo};
 use puffin_data::wire::{put_bytes, put_i64, put_text, put_u8, put_u32, put_u64};
 use puffin_threads::scope_details::ScopeDetails;
 use puffin_threads::thread_profiler::ThreadInfo;
@@ -30,7 +30,7 @@ use std::sync::Arc;
 const NUMBER_SIZE: usize = 9;
 
 /// The most bytes that a thread and what is recorded of it take beside its name and its stream.
-const RECORD_SIZE: usize = 7 * NUMBER_SIZE + 1;
+const RECORD_SIZE: usize = 7 * NUMBER_SIZE + 2;
 
 /// Appends a frame's meta.
 pub(crate) fn put_meta(out: &mut Vec<u8>, meta: &FrameMeta) -> Result<()>
@@ -81,11 +81,25 @@ fn put_thread(out: &mut Vec<u8>, thread: &ThreadInfo) -> Result<()>
     put_text(out, name)
 }
 
-/// Appends what is recorded of a thread, its stream as one block.
-fn put_recorded(out: &mut Vec<u8>, info: &StreamInfo) -> Result<()>
+/// Appends a stream's form, in a packet of the long form; nothing in one of the short form.
+fn put_form(out: &mut Vec<u8>, packed: Form, form: Form) -> Result<()>
+    ensures ok { OnOk result (out.new.items ≡ out.old.items ++ form_layout packed form) }
+    ensures memory { IfErr result (λ e. e ≡ Error.Memory) }
+{
+    match packed {
+        Form::Short => Ok(()),
+        Form::Long => match form {
+            Form::Short => put_u8(out, 0),
+            Form::Long => put_u8(out, 1),
+        },
+    }
+}
+
+/// Appends what is recorded of a thread, its stream as one block, in a packet of this form.
+fn put_recorded(out: &mut Vec<u8>, packed: Form, info: &StreamInfo) -> Result<()>
     ensures ok { OnOk result (
-        out.new.items ≡ out.old.items ++ recorded_layout (record_of info.now)) }
-    ensures fits { IsRecorded (record_of info.now) }
+        out.new.items ≡ out.old.items ++ recorded_layout packed (record_of info.now)) }
+    ensures fits { AreCounts (record_of info.now) }
     ensures memory { IfErr result (λ e. e ≡ Error.Memory) }
 {
     // All is read before anything is written, for the proof: so the ranges of the numbers are known.
@@ -93,6 +107,7 @@ fn put_recorded(out: &mut Vec<u8>, info: &StreamInfo) -> Result<()>
     let num_scopes = info.num_scopes as u64;
     let depth = info.depth as u64;
     let (start, stop) = info.range_ns;
+    put_form(out, packed, info.stream.form())?;
     put_bytes(out, stream)?;
     put_u64(out, num_scopes)?;
     put_u64(out, depth)?;
@@ -112,18 +127,31 @@ pub(crate) fn streams_size(streams: &ThreadStreams) -> usize {
     size
 }
 
-/// Appends streams by their threads.
-pub(crate) fn put_streams(out: &mut Vec<u8>, streams: &ThreadStreams) -> Result<()>
+/// The form of the packets that store these streams: long where some stream is.
+pub(crate) fn packed_form(streams: &ThreadStreams) -> Form
+    ensures { result ≡ form_of_all (pairs_of streams.now.entries) }
+{
+    'streams: for (_thread, info) in streams {
+        if info.stream.form() == Form::Long {
+            return Form::Long;
+        }
+    }
+    Form::Short
+}
+
+/// Appends streams by their threads, in the form of the packets that store them.
+pub(crate) fn put_streams(out: &mut Vec<u8>, packed: Form, streams: &ThreadStreams) -> Result<()>
+    requires { packed ≡ form_of_all (pairs_of streams.now.entries) }
     ensures ok { OnOk result (
-        out.new.items ≡ out.old.items ++ streams_layout (pairs_of streams.now.entries)) }
-    ensures fit { OnOk result (AreStreams (pairs_of streams.now.entries)) }
+        out.new.items ≡ out.old.items ++ streams_layout packed (pairs_of streams.now.entries)) }
+    ensures fit { OnOk result (AreStreams packed (pairs_of streams.now.entries)) }
     ensures sorted { IsStrictlySortedBy thread_cmp (keys_of streams.now.entries) }
     ensures memory { IfErr result (λ e. e ≡ Error.Memory) }
 {
     put_u64(out, streams.len() as u64)?;
     'streams: for (thread, info) in streams {
         put_thread(out, thread)?;
-        put_recorded(out, info)?;
+        put_recorded(out, packed, info)?;
     }
     Ok(())
 }

@@ -9,17 +9,22 @@ ghost use Rattle.puffin_frames.specs.Frame.Streams.{contents, streams_code};
 ghost use Rattle.puffin_frames.specs.Frame.Holding.{streams_in};
 
 use crate::frame_data::decode::{self, Stop};
-use crate::frame_data::encode::{put_streams, streams_size};
+use crate::frame_data::encode::{packed_form, put_streams, streams_size};
 use crate::frame_data::meta::FrameMeta;
 use crate::frame_data::thread_streams::ThreadStreams;
 use crate::frame_data::unpacked::UnpackedFrameData;
+use puffin_data::data::Form;
 use puffin_data::{FileError, Result};
 use std::alloc::Global;
 use std::sync::Arc;
 
 /// The streams of a frame as bytes. Kind 0 is their layout as it is, kind 1 was compressed by lz4, and kind 2 by zstd.
+///
+/// The layout is that of packets of a form: of the short one where all streams are short, else of the long one, in which
+/// each has its form before it.
 #[derive(Drop)]
 pub(crate) struct PackedStreams {
+    pub(crate) form: Form,
     pub(crate) kind: u8,
     pub(crate) bytes: Vec<u8>,
     ghost known: { kind ≤ 2 },
@@ -40,7 +45,11 @@ pub(crate) struct PackedFrame {
 pub(crate) struct UnpackedToo {
     pub(crate) unpacked: Arc<UnpackedFrameData>,
     pub(crate) packed: PackedStreams,
-    ghost same: { streams_in (record { kind = packed.kind; bytes = packed.bytes.items })
+    ghost same: { streams_in (record {
+      form = packed.form;
+      kind = packed.kind;
+      bytes = packed.bytes.items;
+    })
         ≡ Some (contents (arc_value unpacked)) } by { Coded-set (coded_option streams_code) _ _ },
 }
 
@@ -66,11 +75,11 @@ impl PackedStreams {
     ghost use Rattle.puffin_frames.specs.inner.Tries.{DecidedInMemory};
 
     /// Streams as they are packed. Takes no memory.
-    pub(crate) fn new(kind: u8, bytes: Vec<u8>) -> PackedStreams
+    pub(crate) fn new(form: Form, kind: u8, bytes: Vec<u8>) -> PackedStreams
         requires { kind ≤ 2 }
-        ensures { packed_as result ≡ record { kind = kind; bytes = bytes.items } }
+        ensures { packed_as result ≡ record { form = form; kind = kind; bytes = bytes.items } }
     {
-        PackedStreams { kind, bytes }
+        PackedStreams { form, kind, bytes }
     }
 
     /// Streams as they are, as bytes. Refused only with `Memory`.
@@ -81,9 +90,10 @@ impl PackedStreams {
             streams_in (packed_as packed) ≡ Some (shared_streams streams.now.entries)) }
         ensures memory { IfErr result (λ e. e ≡ Error.Memory) }
     {
+        let form = packed_form(streams);
         let mut bytes = Vec::with_capacity(alloc, streams_size(streams))?;
-        put_streams(&mut bytes, streams)?;
-        Ok(PackedStreams::new(0, bytes))
+        put_streams(&mut bytes, form, streams)?;
+        Ok(PackedStreams::new(form, 0, bytes))
     }
 
     /// A copy. Refused only with `Memory`.
@@ -92,7 +102,7 @@ impl PackedStreams {
         ensures memory { IfErr result (λ e. e ≡ Error.Memory) }
     {
         let bytes = Vec::from_slice(*self.bytes.allocator(), self.bytes.as_slice())?;
-        Ok(PackedStreams::new(self.kind, bytes))
+        Ok(PackedStreams::new(self.form, self.kind, bytes))
     }
 
     /// The streams. Refused with `Compressed` where the kind isn't 0, with `BadStreams` where the bytes aren't a layout of
@@ -104,7 +114,7 @@ impl PackedStreams {
         if self.kind != 0 {
             return Err(FileError::Compressed(self.kind));
         }
-        match decode::streams_in(alloc, &self.bytes) {
+        match decode::streams_in(alloc, self.form, &self.bytes) {
             Ok(streams) => Ok(streams),
             Err(Stop::Memory) => Err(FileError::Memory),
             Err(Stop::NoLayout) => Err(FileError::BadStreams),
@@ -128,7 +138,7 @@ impl PackedFrame {
                 num_bytes: 0,
                 num_scopes: 0,
             },
-            streams: PackedStreams::new(0, Vec::new(alloc)),
+            streams: PackedStreams::new(Form::Short, 0, Vec::new(alloc)),
         }
     }
 
@@ -177,7 +187,7 @@ impl PackedFrame {
 
 impl Held {
     ghost use Rattle.std.specs.Prelude.{None, IfOk, IfErr, OnOk, OnErr};
-    ghost use Rattle.puffin_frames.specs.Frame.Holding.{unpacking, unpacked_from, held_contents, as_packed, as_unpacked};
+    ghost use Rattle.puffin_frames.specs.Frame.Holding.{unpacking, unpacked_from, packing_of, held_contents, as_packed, as_unpacked};
     ghost use Rattle.puffin_data.specs.declared.error.Error.{Error};
     ghost use Rattle.puffin_data.specs.declared.file_error.FileError.{FileError};
     ghost use Rattle.puffin_frames.specs.Frame.Contents.{packed_as, held_as, held_meta};
@@ -191,6 +201,7 @@ impl Held {
     /// The frame packed only, and as it was where that is refused, which is with `Memory` alone.
     pub(crate) fn pack(self, alloc: Global) -> (Held, Result<()>)
         ensures ok { OnOk result.1 (held_as result.0 ≡ as_packed (held_as self)) }
+        ensures packing { packing_of (held_as result.0) ≡ packing_of (held_as self) }
         ensures contents { held_contents (held_as result.0) ≡ held_contents (held_as self) }
         ensures err { OnErr result.1 (result.0 ≡ self) }
         ensures meta { held_meta result.0 ≡ held_meta self }
@@ -216,6 +227,7 @@ impl Held {
         alloc: Global,
     ) -> (Held, std::result::Result<Arc<UnpackedFrameData>, FileError>)
         ensures ok { OnOk result.1 (held_as result.0 ≡ as_unpacked (held_as self)) }
+        ensures packing { packing_of (held_as result.0) ≡ packing_of (held_as self) }
         ensures contents { held_contents (held_as result.0) ≡ held_contents (held_as self) }
         ensures err { OnErr result.1 (held_as result.0 ≡ held_as self) }
         ensures meta { held_meta result.0 ≡ held_meta self }

@@ -2,6 +2,7 @@
 //! the function.
 
 ghost use Rattle.std.specs.Prelude.{List, ℕ, ◌≡◌, ◌↔◌, ◌++◌, Some, Ok};
+ghost use Rattle.puffin_data.specs.declared.data.form.Form.{Form};
 ghost use Rattle.puffin_data.specs.Value.Layout.{IsBytes, NoneBeginsAnother, ReadsLayouts};
 ghost use Rattle.puffin_frames.specs.Packet.Structs.{meta_layout, IsMeta, meta_at, info_layout, IsInfo, info_at, recorded_layout, IsRecorded, recorded_at, streams_layout, AreStreams, streams_at, details_layout, AreDetails, details_at, legacy_layout, IsLegacy, legacy_at};
 ghost use Rattle.puffin_frames.specs.Frame.Streams.{Streams};
@@ -14,8 +15,10 @@ ghost use Rattle.puffin_frames.specs.Packet.Grammar.{packet, IsPacked, Stores};
 pub fn no_layout_begins_another()
     ensures metas { NoneBeginsAnother IsMeta meta_layout }
     ensures threads { NoneBeginsAnother IsInfo info_layout }
-    ensures infos { NoneBeginsAnother IsRecorded recorded_layout }
-    ensures streams { NoneBeginsAnother AreStreams streams_layout }
+    ensures infos { (packed : Form) →
+        NoneBeginsAnother (IsRecorded packed) (recorded_layout packed) }
+    ensures streams { (packed : Form) →
+        NoneBeginsAnother (AreStreams packed) (streams_layout packed) }
     ensures details { NoneBeginsAnother AreDetails details_layout }
     ensures legacy { NoneBeginsAnother IsLegacy legacy_layout }
 {}
@@ -25,14 +28,16 @@ pub fn no_layout_begins_another()
 pub fn only_layouts_are_read()
     ensures metas { ReadsLayouts IsMeta meta_layout meta_at }
     ensures threads { ReadsLayouts IsInfo info_layout info_at }
-    ensures infos { ReadsLayouts IsRecorded recorded_layout recorded_at }
-    ensures streams { ReadsLayouts AreStreams streams_layout streams_at }
+    ensures infos { (packed : Form) →
+        ReadsLayouts (IsRecorded packed) (recorded_layout packed) (recorded_at packed) }
+    ensures streams { (packed : Form) →
+        ReadsLayouts (AreStreams packed) (streams_layout packed) (streams_at packed) }
     ensures details { ReadsLayouts AreDetails details_layout details_at }
     ensures legacy { ReadsLayouts IsLegacy legacy_layout legacy_at }
 {}
 
 /// A frame is read exactly from bytes that store it, whatever follows them: a packet that says it,
-/// of the form that is written or an older one, or a frame as it was written at first.
+/// as it is written or an older one, or a frame as it was written at first.
 pub fn only_packets_are_read()
     ensures { (bytes rest : List ℕ) (s : Stored) → IsBytes bytes →
         (next_at bytes ≡ Ok (Some s, rest))
@@ -45,7 +50,7 @@ pub fn packed_contents()
         (streams_in p ≡ Some streams) ↔ HoldsStreams p streams }
 {}
 
-/// A packet that was written is read again, whatever follows it, and no packet begins another.
+/// A packet that was written is read again, whatever follows it, and no packet begins another, over both forms.
 pub fn written_is_read()
     ensures again { (p : Said) (rest : List ℕ) → IsPacked p →
         next_at (packet p ++ rest) ≡ Ok (Some (packed p), rest) }

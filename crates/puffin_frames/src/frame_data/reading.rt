@@ -9,8 +9,8 @@ ghost use Rattle.puffin_frames.specs.Packet.Structs.{details_at};
 ghost use Rattle.puffin_threads.specs.Details.{shared_details};
 ghost use Rattle.puffin_frames.specs.Frame.Contents.{holding_of, frame_says};
 ghost use Rattle.puffin_frames.specs.inner.Tries.{Decided, DecidedInMemory};
-ghost use Rattle.puffin_frames.specs.inner.Form.{IsFormOf};
-ghost use Rattle.puffin_frames.specs.Packet.Letters.{is_packet};
+ghost use Rattle.puffin_frames.specs.inner.Age.{IsAgeOf};
+ghost use Rattle.puffin_frames.specs.Packet.Letters.{form_behind, has_details, is_packet};
 ghost use Rattle.puffin_frames.specs.Packet.Parts.{meta_from, meta_part_at, kind_from, kind_at, details_from, details_part_at, streams_part_at, legacy_from, legacy_part_at};
 ghost use Rattle.puffin_frames.specs.Packet.Forms.{packet_at, form_at, stored_after};
 ghost use Rattle.puffin_frames.specs.Packet.Grammar.{TookStored};
@@ -24,7 +24,7 @@ use crate::frame_data::unpacked::UnpackedFrameData;
 use byteorder::{ByteOrder, LittleEndian};
 use puffin_data::FileError;
 use puffin_data::data::{
-    Source, is_range, read_byte, read_counted_part, read_length, read_part, read_up_to,
+    Form, Source, is_range, read_byte, read_counted_part, read_length, read_part, read_up_to,
 };
 use puffin_threads::scope_details::ScopeDetails;
 use std::alloc::Global;
@@ -116,7 +116,14 @@ fn parsed_details(alloc: Global, bytes: &[u8]) -> Result<Vec<Arc<ScopeDetails>>,
     }
 }
 
-/// Reads the scope details, which only the fourth form has.
+/// Whether packets with this last letter have details.
+fn has_details(letter: u8) -> bool
+    ensures { result ≡ has_details letter }
+{
+    letter == b'4' || letter == b'L'
+}
+
+/// Reads the scope details, which only packets that are written have.
 fn read_details_part<S: Source>(
     alloc: Global,
     source: &mut S,
@@ -127,11 +134,22 @@ fn read_details_part<S: Source>(
         (S.remaining source.new) result (details_part_at letter) }
     ensures failures { S.failures source.new ≡ failures_after (S.failures source.old) result }
 {
-    if letter != b'4' {
+    if !has_details(letter) {
         return Ok(Vec::new(alloc));
     }
     let part = read_counted_part(alloc, source)?;
     parsed_details(alloc, &part)
+}
+
+/// The form of the packets with this last letter.
+fn packed_form_of(letter: u8) -> Form
+    ensures { result ≡ form_behind letter }
+{
+    if letter == b'L' {
+        Form::Long
+    } else {
+        Form::Short
+    }
 }
 
 /// Reads what follows the four letters of a packet, of which this is the last.
@@ -151,13 +169,13 @@ fn read_packed<S: Source>(alloc: Global, source: &mut S, letter: u8) -> Result<F
         full_delta: false,
         held: Held::Packed(PackedFrame {
             meta,
-            streams: PackedStreams::new(kind, bytes),
+            streams: PackedStreams::new(packed_form_of(letter), kind, bytes),
         }),
     })
 }
 
 /// What a packet's fourth letter says of it.
-enum Form {
+enum Age {
     /// No longer read.
     Old,
     /// Read.
@@ -166,13 +184,13 @@ enum Form {
     New,
 }
 
-fn form_of(letter: u8) -> Form
-    ensures { IsFormOf letter result }
+fn age_of(letter: u8) -> Age
+    ensures { IsAgeOf letter result }
 {
     match letter {
-        b'0' | b'1' => Form::Old,
-        b'2' | b'3' | b'4' => Form::Read,
-        _ => Form::New,
+        b'0' | b'1' => Age::Old,
+        b'2' | b'3' | b'4' | b'L' => Age::Read,
+        _ => Age::New,
     }
 }
 
@@ -185,10 +203,10 @@ fn read_form<S: Source>(alloc: Global, source: &mut S, letter: u8) -> Result<Fra
     ensures fresh { IfOk result IsFresh }
     ensures failures { S.failures source.new ≡ failures_after (S.failures source.old) result }
 {
-    match form_of(letter) {
-        Form::Old => Err(FileError::Legacy),
-        Form::Read => read_packed(alloc, source, letter),
-        Form::New => Err(FileError::Newer),
+    match age_of(letter) {
+        Age::Old => Err(FileError::Legacy),
+        Age::Read => read_packed(alloc, source, letter),
+        Age::New => Err(FileError::Newer),
     }
 }
 

@@ -1,6 +1,6 @@
-ghost use Rattle.std.specs.Prelude.{◌≡◌, ◌⊎◌, ◌↔◌, ◌+◌, ◌^◌, ◌≤◌, IfOk, IfErr, OnOk, OnErr};
+ghost use Rattle.std.specs.Prelude.{◌≡◌, ◌⊎◌, ◌↔◌, ◌+◌, ◌^◌, ◌≤◌, true, IfOk, IfErr, OnOk, OnErr};
 ghost use Rattle.std.specs.Arc.{arc_value};
-ghost use Rattle.puffin_data.specs.Honesty.{record_of, record_of_ref, joined_record};
+ghost use Rattle.puffin_data.specs.Honesty.{record_of, record_of_ref, joined_record, AreUnlike};
 ghost use Rattle.puffin_data.specs.declared.error.Error.{Error};
 ghost use Rattle.puffin_frames.specs.Frame.Contents.{without_sharing, shared_streams, stream_under, reported_to, pairs_of};
 ghost use Rattle.puffin_threads.specs.Thread.Info.{info_of};
@@ -44,20 +44,27 @@ pub(crate) fn streams_copy(alloc: Global, streams: &ThreadStreams) -> Result<Thr
 
 /// Appends an info's scopes to a shared one. Where it has another owner, that one keeps what it had.
 ///
-/// Refused with `TooLarge` where the number of scopes wouldn't fit `usize`, else only with `Memory`; what is recorded is
-/// then as before.
+/// Refused with `UnlikeForms` where both have bytes in unlike forms, else with `TooLarge` where the number of scopes
+/// wouldn't fit `usize`, else only with `Memory`; what is recorded is then as before.
 fn extend_shared(alloc: Global, shared: &mut Arc<StreamInfo>, times: &StreamInfoRef) -> Result<()>
     ensures ok { OnOk result (
         record_of (arc_value shared.new)
         ≡ joined_record (record_of (arc_value shared.old)) (record_of_ref times.now)) }
+    ensures unlike { (result ≡ Err Error.UnlikeForms)
+        ↔ AreUnlike (record_of (arc_value shared.old)) (record_of_ref times.now) }
     ensures too_large { (result ≡ Err Error.TooLarge)
-        ↔ (2 ^ 64 ≤ (arc_value shared.old).num_scopes + times.now.num_scopes) }
+        ↔ ((¬ AreUnlike (record_of (arc_value shared.old)) (record_of_ref times.now))
+        × (2 ^ 64 ≤ (arc_value shared.old).num_scopes + times.now.num_scopes)) }
     ensures err { OnErr result (
         record_of (arc_value shared.new) ≡ record_of (arc_value shared.old)) }
-    ensures cause { IfErr result (λ e. (e ≡ Error.TooLarge) ⊎ (e ≡ Error.Memory)) }
+    ensures cause { IfErr result (λ e.
+        (e ≡ Error.UnlikeForms) ⊎ (e ≡ Error.TooLarge) ⊎ (e ≡ Error.Memory)) }
 {
     if let Some(alone) = Arc::get_mut(shared) {
         return alone.extend(times);
+    }
+    if shared.is_unlike(times) {
+        return Err(Error::UnlikeForms);
     }
     if shared.num_scopes.checked_add(times.num_scopes).is_none() {
         return Err(Error::TooLarge);
@@ -68,10 +75,23 @@ fn extend_shared(alloc: Global, shared: &mut Arc<StreamInfo>, times: &StreamInfo
     Ok(())
 }
 
+/// Whether an info's scopes and those that a map has under their thread have bytes in unlike forms. Takes no memory.
+pub fn are_unlike(streams: &ThreadStreams, info: &ThreadInfo, times: &StreamInfoRef) -> bool
+    ensures { (result ≡ true)
+        ↔ AreUnlike (stream_under (shared_streams streams.now.entries) (info_of info.now))
+        (record_of_ref times.now) }
+{
+    match streams.get(info) {
+        Some(shared) => shared.is_unlike(times),
+        None => false,
+    }
+}
+
 /// Appends an info's scopes to those that a map has under their thread.
 ///
-/// Refused with `TooLarge` where the number of scopes under that thread wouldn't fit `usize`, else only with `Memory`; what
-/// the map has under each thread is then as before. Other owners of a stream of the map keep what they had.
+/// Refused with `UnlikeForms` where those and the info's have bytes in unlike forms, else with `TooLarge` where the
+/// number of scopes under that thread wouldn't fit `usize`, else only with `Memory`; what the map has under each thread
+/// is then as before. Other owners of a stream of the map keep what they had.
 pub fn report_to(
     alloc: Global,
     streams: &mut ThreadStreams,
@@ -82,12 +102,18 @@ pub fn report_to(
         shared_streams streams.new.entries
         ≡ reported_to (shared_streams streams.old.entries) (info_of info) (
         record_of_ref times.now)) }
+    ensures unlike { (result ≡ Err Error.UnlikeForms)
+        ↔ AreUnlike (stream_under (shared_streams streams.old.entries) (info_of info))
+        (record_of_ref times.now) }
     ensures too_large { (result ≡ Err Error.TooLarge)
-        ↔ (2 ^ 64 ≤ (stream_under (shared_streams streams.old.entries) (info_of info)).num_scopes
-        + times.now.num_scopes) }
+        ↔ ((¬ AreUnlike (stream_under (shared_streams streams.old.entries) (info_of info))
+        (record_of_ref times.now))
+        × (2 ^ 64 ≤ (stream_under (shared_streams streams.old.entries) (info_of info)).num_scopes
+        + times.now.num_scopes)) }
     ensures err { OnErr result (
         shared_streams streams.new.entries ≡ shared_streams streams.old.entries) }
-    ensures cause { IfErr result (λ e. (e ≡ Error.TooLarge) ⊎ (e ≡ Error.Memory)) }
+    ensures cause { IfErr result (λ e.
+        (e ≡ Error.UnlikeForms) ⊎ (e ≡ Error.TooLarge) ⊎ (e ≡ Error.Memory)) }
 {
     if let Some(shared) = streams.get_mut(&info) {
         return extend_shared(alloc, shared, times);

@@ -9,6 +9,7 @@ ghost use Rattle.puffin_threads.specs.Details.{shared_details};
 ghost use Rattle.puffin_frames.specs.Packet.Structs.{meta_layout, IsMeta, details_layout, AreDetails};
 ghost use Rattle.puffin_frames.specs.Frame.Contents.{frame_details, contents};
 ghost use Rattle.puffin_frames.specs.Frame.Holding.{plainly_packed};
+ghost use Rattle.puffin_frames.specs.Packet.Letters.{letter_for, letters_of};
 ghost use Rattle.puffin_frames.specs.Packet.Grammar.{packet_head, packet_with, packet, IsPacked};
 ghost use Rattle.puffin_frames.specs.Packet.Writing.{details_or, says_with, HasLongPart, WritesPacket};
 
@@ -18,7 +19,7 @@ use crate::frame_data::held::{Held, PackedStreams};
 use crate::frame_data::meta::FrameMeta;
 use crate::frame_data::unpacked::UnpackedFrameData;
 use puffin_data::FileError;
-use puffin_data::data::{Drain, write_all};
+use puffin_data::data::{Drain, Form, write_all};
 use puffin_threads::scope_details::{ScopeCollection, ScopeDetails};
 use std::alloc::Global;
 use std::sync::Arc;
@@ -59,16 +60,32 @@ fn meta_part(alloc: Global, meta: FrameMeta) -> Result<Vec<u8>, FileError>
     }
 }
 
+/// The letters of a packet that is written in this form.
+fn letters(form: Form) -> &'static [u8]
+    ensures { result.now ≡ letters_of (letter_for form) }
+{
+    match form {
+        Form::Short => b"PFD4",
+        Form::Long => b"PFDL",
+    }
+}
+
 /// A packet's letters, its meta part, and the length and the kind of its streams.
 #[tactic(auto, unfolding(crate::specs::Packet::Grammar::packet_head))]
-fn head(alloc: Global, meta: &FrameMeta, kind: u8, len: u32) -> Result<Vec<u8>, FileError>
-    ensures ok { IfOk result (λ bytes. bytes.items ≡ packet_head meta.now kind len) }
+fn head(
+    alloc: Global,
+    form: Form,
+    meta: &FrameMeta,
+    kind: u8,
+    len: u32,
+) -> Result<Vec<u8>, FileError>
+    ensures ok { IfOk result (λ bytes. bytes.items ≡ packet_head form meta.now kind len) }
     ensures fits { IsMeta meta.now }
     ensures memory { IfErr result (λ e. e ≡ FileError.Memory) }
 {
     let part = meta_part(alloc, *meta)?;
     let mut bytes = Vec::with_capacity(alloc, PACKET_HEAD_SIZE + part.len())?;
-    bytes.extend_from_slice(b"PFD4")?;
+    bytes.extend_from_slice(letters(form))?;
     bytes.extend_from_slice(&(part.len() as u32).to_le_bytes())?;
     bytes.extend_from_slice(&part)?;
     bytes.extend_from_slice(&len.to_le_bytes())?;
@@ -86,7 +103,8 @@ fn write_packed<D: Drain>(
 ) -> Result<(), FileError>
     requires { D.failures drain.old < 2 ^ 64 - 1 }
     ensures written { WritesPacket D.contents D.failures D.takes drain.old drain.new
-        (packet_with meta.now streams.now.kind streams.now.bytes.items details.now)
+        (packet_with streams.now.form meta.now streams.now.kind streams.now.bytes.items
+        details.now)
         ((2 ^ 32 ≤ length streams.now.bytes.items) ⊎ (2 ^ 32 ≤ length details.now)) result }
     ensures short { OnOk result (
         (length streams.now.bytes.items < 2 ^ 32) × (length details.now < 2 ^ 32)) }
@@ -95,7 +113,8 @@ fn write_packed<D: Drain>(
     if streams.bytes.len() > u32::MAX as usize || details.len() > u32::MAX as usize {
         return Err(FileError::PartTooLong);
     }
-    let head = head(alloc, meta, streams.kind, streams.bytes.len() as u32)?;
+    let len = streams.bytes.len() as u32;
+    let head = head(alloc, streams.form, meta, streams.kind, len)?;
     write_both(drain, &head, &streams.bytes)?;
     write_both(drain, &(details.len() as u32).to_le_bytes(), details)
 }
@@ -109,7 +128,8 @@ fn write_unpacked<D: Drain>(
 ) -> Result<(), FileError>
     requires { D.failures drain.old < 2 ^ 64 - 1 }
     ensures written { WritesPacket D.contents D.failures D.takes drain.old drain.new
-        (packet_with frame.now.meta 0 (plainly_packed (contents frame.now)).bytes details.now)
+        (packet_with (plainly_packed (contents frame.now)).form frame.now.meta 0
+        (plainly_packed (contents frame.now)).bytes details.now)
         ((2 ^ 32 ≤ length (plainly_packed (contents frame.now)).bytes)
         ⊎ (2 ^ 32 ≤ length details.now)) result }
     ensures short { OnOk result (
@@ -168,8 +188,8 @@ impl FrameData {
         }
     }
 
-    /// Writes the frame as one packet, with the details of a collection by rising id, or else with the frame's own. Streams
-    /// that are packed are written as they are.
+    /// Writes the frame as one packet, `PFD4`, or `PFDL` where a stream is long, with the details of a collection by
+    /// rising id, or else with the frame's own. Streams that are packed are written as they are.
     ///
     /// Refused with `PartTooLong` where a part has `2^32` bytes or more, with `Memory`, and with `Io` where a write failed or
     /// took nothing of a piece that wasn't empty. Only after `Io` is anything written: a beginning of the packet.

@@ -1,26 +1,41 @@
 -- What merging reads of frames.
-use Rattle.std.specs.Prelude.{◌≡◌, ℕ, ◌+◌, ◌/◌, ◌<◌, ◌^◌, ℤ, pos, List, [], ◌∷◌, length, sum_by, Option, None, Some}
+use Rattle.std.specs.Prelude.{◌≡◌, ℕ, ◌+◌, ◌/◌, ◌<◌, ◌^◌, ℤ, pos, List, [], ◌∷◌, length, sum_by, Option, None, Some, unwrap_or}
+use Rattle.puffin_data.specs.declared.data.form.Form.{Form}
 use Rattle.puffin_data.specs.declared.data.form.Form.TheVariants.{Short}
 use Rattle.puffin_data.specs.Forest.Spelling.{Spells}
 use Rattle.puffin_merge.specs.Merge.Occurrences.{FrameScopes}
 
--- where a frame's range starts, and the bytes of its stream under the info
+-- a stream: the form of its texts, and its bytes
+pub record StreamBytes : Type 0 where
+  pub form : Form
+  pub bytes : List ℕ
+
+-- where a frame's range starts, and its stream under the info
 pub record FrameBytes : Type 0 where
   pub start : ℤ
-  pub stream : Option (List ℕ)
+  pub stream : Option StreamBytes
 
 -- no bytes where there is no stream
+abbrev pub no_stream : StreamBytes
+no_stream = record { form = Short; bytes = [] }
+
+abbrev pub stream_of : FrameBytes → StreamBytes
+stream_of frame = unwrap_or frame.stream no_stream
+
+abbrev pub form_of : FrameBytes → Form
+form_of frame = (stream_of frame).form
+
 abbrev pub bytes_of : FrameBytes → List ℕ
-bytes_of frame = elim (frame.stream) as (λ _. List ℕ) [ None ↦ [] | Some bytes ↦ bytes ]
+bytes_of frame = (stream_of frame).bytes
 
 abbrev pub start_of : List FrameBytes → ℤ
 start_of [] = pos 0
 start_of (frame ∷ frames) = frame.start
 
--- the frame's bytes spell the forest, and are no more than a slice may have
+-- the frame's bytes spell the forest in their form, and are no more than a slice may have
 pub record HasScopes (frame : FrameBytes) (scopes : FrameScopes) : Type 0 where
   pub start : scopes.start ≡ frame.start
-  pub spells : Spells Short (bytes_of frame) scopes.forest
+  pub spells : Spells (form_of frame) (bytes_of frame) scopes.forest
   pub short : length (bytes_of frame) < 2 ^ 63
 
 -- each frame's
@@ -32,7 +47,7 @@ HaveScopes (frame ∷ frames) (scopes ∷ more) = HasScopes frame scopes × Have
 
 -- how often a scope is tried to be read in a stream at most
 abbrev pub most_tries_of : FrameBytes → ℕ
-most_tries_of frame = elim (frame.stream) as (λ _. ℕ) [ None ↦ 0 | Some bytes ↦ length bytes / 31 + 1 ]
+most_tries_of frame = elim (frame.stream) as (λ _. ℕ) [ None ↦ 0 | Some stream ↦ length stream.bytes / 31 + 1 ]
 
 abbrev pub most_tries : List FrameBytes → ℕ
 most_tries frames = sum_by most_tries_of frames

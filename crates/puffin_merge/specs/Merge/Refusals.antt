@@ -1,7 +1,7 @@
 -- Which refusal merging answers.
 use Rattle.std.specs.Prelude.{◌≡◌, ℕ, ◌+◌, ◌^◌, ◌<◌, ◌≤◌, ◌⊎◌, ℤ, ◌-ℤ◌, ◌+ℤ◌, FitsSigned, List, [], ◌∷◌, ◌++◌, length, take, slice_index, ◌==◌, if◌then◌else◌}
 use Rattle.std.specs.Int.{w64}
-use Rattle.puffin_data.specs.declared.data.form.Form.TheVariants.{Short}
+use Rattle.puffin_data.specs.declared.data.form.Form.{Form}
 use Rattle.puffin_data.specs.declared.error.Error.{Error}
 use Rattle.puffin_data.specs.declared.error.Error.TheVariants.{TooDeep, TooLarge}
 use Rattle.puffin_data.specs.Walk.{Reaches, IsFaultAt, IsFirstFault}
@@ -10,7 +10,7 @@ use Rattle.puffin_merge.specs.Merge.Occurrences.{Occurrence, FrameScopes, occurr
 use Rattle.puffin_merge.specs.Merge.Pieces.{merged_at}
 use Rattle.puffin_merge.specs.Merge.Tree.{MergedForest, no_node, merged}
 use Rattle.puffin_merge.specs.Merge.{IsMerge}
-use Rattle.puffin_merge.specs.Merge.FrameBytes.{FrameBytes, bytes_of, start_of, HaveScopes, most_tries}
+use Rattle.puffin_merge.specs.Merge.FrameBytes.{FrameBytes, form_of, bytes_of, start_of, HaveScopes, most_tries}
 
 -- a scope that stands within at most 1,023 others
 abbrev pub IsShallow : Occurrence → Type 0
@@ -36,19 +36,19 @@ abbrev pub AreAccepted : List Occurrence → List Occurrence → Type 0
 AreAccepted done [] = Unit {0}
 AreAccepted done (o ∷ more) = IsShallow o × Fits done o × AreAccepted (done ++ (o ∷ [])) more
 
--- What a frame is refused with after so many tries to read a scope of it, behind the occurrences of the frames before. Its top scopes' starts are counted from `origin`.
-pub data IsFrameRefusal (done : List Occurrence) (origin : ℤ) (bytes : List ℕ) : ℕ → Error → Type 0 where
+-- What a frame whose stream is of a form is refused with after so many tries to read a scope of it, behind the occurrences of the frames before. Its top scopes' starts are counted from `origin`.
+pub data IsFrameRefusal (done : List Occurrence) (origin : ℤ) (form : Form) (bytes : List ℕ) : ℕ → Error → Type 0 where
   -- the first fault of the bytes, where all sound scopes before it are accepted: one try for each of these, and one more where a scope begins at the fault
-  faulty : {place : ℕ} {fault : Error} {sights : List Sight} → IsFirstFault Short bytes place fault → Sees Short bytes [] 0 (length bytes) sights → AreAccepted done (occurrences_in origin (scopes_of (before place sights))) → IsFrameRefusal done origin bytes (length (before place sights) + (if slice_index bytes place == 40 then 1 else 0)) fault
+  faulty : {place : ℕ} {fault : Error} {sights : List Sight} → IsFirstFault form bytes place fault → Sees form bytes [] 0 (length bytes) sights → AreAccepted done (occurrences_in origin (scopes_of (before place sights))) → IsFrameRefusal done origin form bytes (length (before place sights) + (if slice_index bytes place == 40 then 1 else 0)) fault
   -- a sound scope before any fault, the first that isn't accepted: one try for each before it, and one for it
   refused : (earlier later : List Sight) (s : Sight) {refusal : Error} →
-      Sees Short bytes [] 0 (length bytes) (earlier ++ (s ∷ later)) →
+      Sees form bytes [] 0 (length bytes) (earlier ++ (s ∷ later)) →
       AreAccepted done (occurrences_in origin (scopes_of earlier)) →
       IsRefusedFor (done ++ occurrences_in origin (scopes_of earlier))
       (occurrence_of origin s.scope) refusal →
-      ((p e : ℕ) (fault : Error) → Reaches Short bytes 0 (length bytes) p e → IsFaultAt Short bytes p e fault →
+      ((p e : ℕ) (fault : Error) → Reaches form bytes 0 (length bytes) p e → IsFaultAt form bytes p e fault →
       s.place ≤ p) →
-      IsFrameRefusal done origin bytes (length earlier + 1) refusal
+      IsFrameRefusal done origin form bytes (length earlier + 1) refusal
 
 -- each node ends at a time that fits
 abbrev pub EndsFit : MergedForest → Type 0
@@ -63,7 +63,7 @@ pub data IsRefusalAfter (frames : List FrameBytes) : ℕ → Error → Type 0 wh
       frames ≡ earlier ++ (frame ∷ later) → HaveScopes earlier scopes →
       AreAccepted [] (occurrences_from (start_of frames) scopes) →
       IsFrameRefusal (occurrences_from (start_of frames) scopes) (frame.start -ℤ start_of frames)
-      (bytes_of frame) tries refusal →
+      (form_of frame) (bytes_of frame) tries refusal →
       IsRefusalAfter frames (length (occurrences_from (start_of frames) scopes) + tries) refusal
   at_end : (scopes : List FrameScopes) (f : MergedForest) → HaveScopes frames scopes →
       AreAccepted [] (occurrences scopes) → IsMerge (occurrences scopes) (length frames) f →

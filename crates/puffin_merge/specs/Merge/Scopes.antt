@@ -10,14 +10,17 @@ use Rattle.puffin_frames.specs.declared.frame_data.unpacked.UnpackedFrameData.{U
 use Rattle.puffin_threads.specs.Thread.Info.{Info}
 use Rattle.puffin_frames.specs.Frame.Contents.{contents}
 use Rattle.puffin_merge.specs.declared.merge.scope.MergeScope.{MergeScope, MergeScope', Row_of-MergeScope, end_of-MergeScope, more_of-MergeScope}
-use Rattle.puffin_merge.specs.Merge.FrameBytes.{FrameBytes}
+use Rattle.puffin_merge.specs.Merge.FrameBytes.{StreamBytes, FrameBytes}
 use Rattle.puffin_merge.specs.Merge.Tree.{MergedForest, no_node, merged}
+
+abbrev pub stream_in : Recorded → StreamBytes
+stream_in r = record { form = r.form; bytes = r.bytes }
 
 -- a frame's range start, and its stream under an info
 abbrev pub frame_bytes : Info → UnpackedFrameData → FrameBytes
 frame_bytes info frame = record {
   start = frame.meta.range_ns.0;
-  stream = option_map (λ (r : Recorded). r.bytes) (tree.get (contents frame) info);
+  stream = option_map stream_in (tree.get (contents frame) info);
 }
 
 abbrev pub frames_bytes : Info → List (Arc UnpackedFrameData Global) → List FrameBytes

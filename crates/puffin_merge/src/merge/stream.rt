@@ -1,18 +1,17 @@
 //! Taking the scopes of a stream into the table.
 
 ghost use Rattle.std.specs.Prelude.{◌≡◌, ◌<◌, ◌≤◌, ◌^◌, ◌⊎◌, ◌-ℤ◌, List, [], length, if◌then◌else◌, Ok, Err, IfOk, IfErr};
-ghost use Rattle.puffin_data.specs.declared.data.form.Form.TheVariants.{Short};
 ghost use Rattle.puffin_data.specs.Walk.Visitor.{TakesAll, StopsEarly};
 ghost use Rattle.puffin_threads.specs.Thread.Info.{info_of};
 ghost use Rattle.puffin_merge.specs.Merge.Occurrences.{Occurrence};
-ghost use Rattle.puffin_merge.specs.Merge.FrameBytes.{bytes_of, most_tries_of};
+ghost use Rattle.puffin_merge.specs.Merge.FrameBytes.{form_of, bytes_of, most_tries_of};
 ghost use Rattle.puffin_merge.specs.Merge.Scopes.{frame_bytes};
 ghost use Rattle.puffin_merge.specs.inner.Merging.{TakesScopes, RefusesScope};
 ghost use Rattle.puffin_merge.specs.inner.Tables.{IsTableOf};
 ghost use Rattle.puffin_merge.specs.inner.Origins.{IsOrigin, fits_i64};
 
 use crate::merge::table::{Key, NodeNumber, Table};
-use puffin_data::data::{Form, Sighting, Visitor, text_of, walk_with};
+use puffin_data::data::{Sighting, Visitor, text_of, walk_with};
 use puffin_data::{Error, NanoSecond, Result};
 use puffin_frames::frame_data::UnpackedFrameData;
 use puffin_frames::thread_profiler::ThreadInfo;
@@ -134,7 +133,7 @@ pub(crate) fn read_frame<'s>(
 ) -> Result<()>
     requires { (all : List Occurrence) × IsTableOf all merging.old.table }
     ensures ok { IfOk result (λ _.
-        TakesAll Short TakesScopes
+        TakesAll (form_of (frame_bytes (info_of info.now) frame.now)) TakesScopes
         (record {
           table = merging.old.table;
           origin = frame.now.meta.range_ns.0 -ℤ first.now.meta.range_ns.0;
@@ -142,7 +141,8 @@ pub(crate) fn read_frame<'s>(
         merging.new (bytes_of (frame_bytes (info_of info.now) frame.now)) tries.new) }
     ensures err { IfErr result (λ e.
         (e ≡ Error.Memory)
-        ⊎ StopsEarly Short TakesScopes RefusesScope
+        ⊎ StopsEarly (form_of (frame_bytes (info_of info.now) frame.now)) TakesScopes
+        RefusesScope
         (record {
           table = merging.old.table;
           origin = frame.now.meta.range_ns.0 -ℤ first.now.meta.range_ns.0;
@@ -160,7 +160,7 @@ pub(crate) fn read_frame<'s>(
         None => Ok(()),
         Some(times) => walk_with(
             alloc,
-            Form::Short,
+            times.stream.form(),
             times.stream.bytes(),
             merging,
             outside,

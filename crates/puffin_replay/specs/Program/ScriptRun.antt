@@ -1,7 +1,6 @@
 -- What a script's run writes.
 use Rattle.std.specs.Prelude.{◌≡◌, ◌⊎◌, ℕ, false, List, [], Option, map}
 use Rattle.std.specs.List.{AllByRecursion, Any}
-use Rattle.std.specs.String.{string_bytes}
 use Rattle.std.specs.Io.KnownBytes.{Appends}
 use Rattle.puffin_data.specs.declared.file_error.FileError.{FileError}
 use Rattle.puffin_data.specs.declared.file_error.FileError.TheVariants as file
@@ -13,6 +12,7 @@ use Rattle.puffin_view.specs.View.{View, Took, empty_view, after_all}
 use Rattle.puffin_view.specs.View.File.{file_of, contents_in}
 use Rattle.puffin_session.specs.declared.command.Reply.{Reply}
 use Rattle.puffin_replay.specs.declared.replay.script.Script.{Script}
+use Rattle.puffin_replay.specs.Script.{threads_said}
 use Rattle.puffin_replay.specs.Program.ReplyLines.{reply_lines}
 use Rattle.puffin_session.specs.Session.{SessionState}
 use Rattle.puffin_session.specs.Session.Runs.{AreReplies}
@@ -21,7 +21,7 @@ use Rattle.puffin_report.specs.Summary.{NoneLacksIds}
 
 abbrev pub AreAnswers : Script → List Reply → SessionState → Type 0
 AreAnswers script replies end =
-    AreReplies (map string_bytes script.names.items) script.commands.items replies end
+    AreReplies (threads_said script) script.commands.items replies end
 
 -- a new view that packs no frame
 abbrev pub loose_view : View

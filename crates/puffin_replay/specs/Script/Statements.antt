@@ -6,6 +6,8 @@ use Rattle.std.specs.Str.{bytes_eq, all_ascii_digits}
 use Rattle.std.specs.Str.Parse.{digits_value}
 
 pub data Meaning : Type 0 where
+  -- a thread's texts are long
+  makes_long : (thread : List ℕ) → Meaning
   -- a scope begins
   begins : (thread : List ℕ) → (at : ℤ) → (id : ℕ) → (text : List ℕ) → Meaning
   -- the innermost open scope of a thread ends
@@ -75,6 +77,10 @@ begin_of (thread ∷ time ∷ id ∷ text) =
     (name_in thread)
 begin_of _ = None
 
+abbrev pub long_of : List (List ℕ) → Option Meaning
+long_of (thread ∷ []) = option_map (λ t. makes_long t) (name_in thread)
+long_of _ = None
+
 abbrev pub end_of : List (List ℕ) → Option Meaning
 end_of (thread ∷ time ∷ []) =
     option_and_then (λ t. option_map (λ at. ends t at) (moment_in time)) (name_in thread)
@@ -119,4 +125,5 @@ line_meaning (verb ∷ words) =
     if bytes_eq verb (codes "scope") then scope_of words else
     if bytes_eq verb (codes "user") then user_of words else
     if bytes_eq verb (codes "snapshot") then alone tells_all words else
-    if bytes_eq verb (codes "frame") then alone takes_frame words else None
+    if bytes_eq verb (codes "frame") then alone takes_frame words else
+    if bytes_eq verb (codes "long") then long_of words else None

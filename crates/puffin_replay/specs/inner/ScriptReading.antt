@@ -1,5 +1,5 @@
 -- What is read of a script so far, and what is left of it.
-use Rattle.std.specs.Prelude.{◌≡◌, ℕ, List, [], map, false, Option, Some, None, option_map, slice_get, MatchOption}
+use Rattle.std.specs.Prelude.{◌≡◌, ℕ, List, [], map, true, false, Option, Some, None, option_map, slice_get, MatchOption}
 use Rattle.std.specs.List.{list_any}
 use Rattle.std.specs.Ordering.{nat_cmp}
 use Rattle.std.specs.Cmp.Lexicographic.{slice_cmp}
@@ -13,8 +13,9 @@ use Rattle.puffin_replay.specs.declared.replay.script.Threads.{Threads}
 use Rattle.puffin_replay.specs.declared.replay.statement.Statement.{Statement}
 use Rattle.puffin_replay.specs.declared.replay.statement.Statement.TheVariants as statement
 use Rattle.puffin_replay.specs.declared.replay.statement.Words.{Words}
-use Rattle.puffin_replay.specs.Script.Statements.{Meaning, words_in, begins, ends, registers, registers_user, takes_frame, tells_all}
-use Rattle.puffin_replay.specs.Script.{lines_in, threads_after, command_said}
+use Rattle.puffin_replay.specs.Script.Statements.{Meaning, words_in, makes_long, begins, ends, registers, registers_user, takes_frame, tells_all}
+use Rattle.puffin_replay.specs.Script.{lines_in, threads_after, forms_after, is_command, commands_in, command_said}
+use Rattle.puffin_session.specs.declared.command.Command.{Command}
 
 -- ---- a line
 
@@ -28,6 +29,7 @@ words_left words = words_behind words.left
 
 -- what a line says, as the code holds it
 abbrev pub meaning_of : Statement → Meaning
+meaning_of (statement.Long thread) = makes_long thread.now
 meaning_of (statement.Begin thread at id text) = begins thread.now at id text.now
 meaning_of (statement.End thread at) = ends thread.now at
 meaning_of (statement.Register thread name function file line) =
@@ -55,10 +57,16 @@ IsNumbered threads =
     (list_any (bytes_eq name) (names_in threads) ≡ false)
     (λ number. slice_get (names_in threads) number ≡ Some name)
 
+-- a command says what a line says; where there is none the line is no command
+abbrev pub Asks : List (List ℕ) → Option Command → Meaning → Type 0
+Asks names None s = is_command s ≡ false
+Asks names (Some c) s = (is_command s ≡ true) × (command_said names c ≡ Some s)
+
 -- what was read so far
 pub record IsReading (reading : Reading) (statements : List (ℕ × Meaning)) : Type 0 where
   pub numbered : IsNumbered reading.threads
-  pub lines : reading.lines.items ≡ map (λ s. s.0) statements
+  pub lines : reading.lines.items ≡ map (λ s. s.0) (commands_in statements)
   pub names : names_in reading.threads ≡ threads_after [] statements
+  pub forms : reading.threads.forms.items ≡ forms_after [] [] statements
   pub commands : map (command_said (names_in reading.threads)) reading.commands.items
-      ≡ map (λ s. Some s.1) statements
+      ≡ map (λ s. Some s.1) (commands_in statements)

@@ -1,9 +1,10 @@
 //! Recording what a session emits.
 
-ghost use Rattle.std.specs.Prelude.{◌≡◌, ◌⊎◌, ◌+◌, ◌-◌, ◌^◌, ◌<◌, ◌++◌, [], List, All, map, option_map, IfOk, IfErr, OnOk};
+ghost use Rattle.std.specs.Prelude.{◌≡◌, ◌⊎◌, ◌+◌, ◌-◌, ◌^◌, ◌<◌, ◌++◌, [], List, All, map, option_map, IfOk, IfErr, OnOk, get_or};
 ghost use Rattle.std.specs.List.{AllByRecursion, Any};
 ghost use Rattle.std.specs.String.{string_bytes};
 ghost use Rattle.std.specs.Io.KnownBytes.{Appends};
+ghost use Rattle.puffin_data.specs.declared.data.form.Form.TheVariants.{Short};
 ghost use Rattle.puffin_data.specs.Device.{TookNothing};
 ghost use Rattle.puffin_frames.specs.Packet.Stored.{Said};
 ghost use Rattle.puffin_frames.specs.Packet.Grammar.{IsPacked};
@@ -14,19 +15,20 @@ ghost use Rattle.puffin_view.specs.View.Known.{view_of};
 ghost use Rattle.puffin_view.specs.View.File.{contents_held, contents_in};
 ghost use Rattle.puffin_session.specs.Session.{SessionState, new_session};
 ghost use Rattle.puffin_session.specs.Session.Runs.{Records, AreReplies, HasIds};
+ghost use Rattle.puffin_replay.specs.Script.{threads_said};
 ghost use Rattle.puffin_replay.specs.Program.Recording.{frame_in, emitted_by, frames_emitted, file_of_view, Takes, TakesSome, IsBroken};
 ghost use Rattle.puffin_report.specs.Summary.{NoneLacksIds};
 ghost use Rattle.puffin_replay.specs.Program.ScriptRun.{loose_view, IsReplayed, IsUnfinished};
 
 use crate::replay::reply_line::reply_lines;
 use crate::replay::script::Script;
-use puffin_data::data::{Drain, write_all};
+use puffin_data::data::{Drain, Form, write_all};
 use puffin_data::{Error, FileError, Result as Answer};
 use puffin_frames::frame_data::FrameData;
 use puffin_session::{Command, Reply, Session};
 use puffin_view::profile_view::FrameView;
 use puffin_view::profile_view::laws::views_hold_what_they_took;
-use std::alloc::Global;
+use std::alloc::{AllocError, Global};
 use std::sync::Arc;
 
 /// The frame that a reply tells of, if any.
@@ -62,7 +64,7 @@ fn add_frames(view: &mut FrameView, replies: &[Reply]) -> Answer<()>
 ///
 /// Fails with `Memory`, and as [`FrameView::write`] with `PartTooLong` and `Io`. The session may then have run the commands,
 /// or none of them, and the view have taken a beginning of the frames, but nothing is written before it took all of them.
-fn record_session<D: Drain>(
+pub fn record_session<D: Drain>(
     session: &mut Session,
     commands: &[Command],
     view: &mut FrameView,
@@ -108,8 +110,8 @@ fn record_session<D: Drain>(
     Ok(replies)
 }
 
-/// Runs commands in a new session of threads with these names, adds each emitted frame to a view, in order, and writes the
-/// view's file. Returns one reply to each command.
+/// Runs commands in a new session of threads with these names, whose texts are short: [`record_session`] of it. It adds
+/// each emitted frame to a view, in order, and writes the view's file. Returns one reply to each command.
 ///
 /// Fails with `Memory`, and as [`FrameView::write`] with `PartTooLong` and `Io`; the view may then have taken a beginning of
 /// the frames, but nothing is written before it took all of them.
@@ -124,7 +126,8 @@ pub fn record<D: Drain>(
     // The commands were run, and the view took the frames of that run.
     ensures run { IfOk result (λ replies.
         (end : SessionState)
-        × AreReplies (map string_bytes names.items) commands.now replies.items end) }
+        × AreReplies (map (λ name. (string_bytes name, Short)) names.items) commands.now
+        replies.items end) }
     ensures view { IfOk result (λ replies. Takes (frames_emitted replies.items) view.old view.new) }
     ensures took { IfOk result (λ replies.
         (cs : List Said) → Took cs (view_of view.old) →
@@ -143,8 +146,8 @@ pub fn record<D: Drain>(
 
     ensures broken { IfErr result (λ e.
         (end : SessionState)
-        × IsBroken (new_session (map string_bytes names.items)) end commands.now view.old
-        view.new (D.contents drain.old) (D.contents drain.new) e) }
+        × IsBroken (new_session (map (λ name. (string_bytes name, Short)) names.items)) end
+        commands.now view.old view.new (D.contents drain.old) (D.contents drain.new) e) }
     // The writer failed in this call, or took nothing.
     ensures io { (result ≡ Err FileError.Io) →
         (D.failures drain.new ≡ D.failures drain.old + 1) ⊎ TookNothing D.takes drain.new }
@@ -166,6 +169,28 @@ fn loose_view(alloc: Global) -> FrameView
     let mut view = FrameView::new(alloc);
     view.set_pack_frames(false);
     view
+}
+
+/// The form at this place, short where there is none.
+fn form_at(forms: &[Form], index: usize) -> Form
+    ensures { result ≡ get_or forms.now index Short }
+{
+    match forms.get(index) {
+        Some(form) => *form,
+        None => Form::Short,
+    }
+}
+
+/// The threads of a script.
+fn threads_of(alloc: Global, script: &Script) -> Result<Vec<(String, Form)>, AllocError>
+    ensures { IfOk result (λ threads.
+        map (λ t. (string_bytes t.0, t.1)) threads.items ≡ threads_said script.now) }
+{
+    let mut threads = Vec::new(alloc);
+    'names: for (index, name) in script.names.iter().enumerate() {
+        threads.push((name.clone()?, form_at(&script.forms, index)))?;
+    }
+    Ok(threads)
 }
 
 /// Runs a script in a new session, and writes two things: first the file of a new view that took each frame of the run,
@@ -191,9 +216,13 @@ pub fn run_script<D: Drain, E: Drain>(
         ((D.failures out.new ≡ D.failures out.old + 1) ⊎ TookNothing D.takes out.new)
         ⊎ ((E.failures lines.new ≡ E.failures lines.old + 1) ⊎ TookNothing E.takes lines.new) }
 {
-    let names = script.names.clone()?;
+    let threads = threads_of(alloc, script)?;
+    let mut session = match Session::with_forms(alloc, threads) {
+        Ok(session) => session,
+        Err(_) => return Err(FileError::Memory),
+    };
     let mut view = loose_view(alloc);
-    let replies = record(alloc, names, &script.commands, &mut view, out)?;
+    let replies = record_session(&mut session, &script.commands, &mut view, out)?;
     let text = reply_lines(alloc, &script.lines, &replies)?;
     write_all(lines, text.as_bytes())
 }

@@ -12,11 +12,11 @@ ghost use Rattle.puffin_view.specs.View.File.{contents_in};
 ghost use Rattle.puffin_replay.specs.Promise.{KeepsPromise, MayBeTooLong};
 ghost use Rattle.puffin_replay.specs.inner.InMemory.{UnpacksAgain, FrameHas, IsFileOf, HasJust};
 
-use crate::replay::recorder::record;
-use puffin_data::data::{Counted, Drain};
+use crate::replay::recorder::record_session;
+use puffin_data::data::{Counted, Drain, Form};
 use puffin_data::{FileError, Result as Answer};
 use puffin_frames::frame_data::FrameData;
-use puffin_session::{Command, Reply};
+use puffin_session::{Command, Reply, Session};
 use puffin_view::profile_view::FrameView;
 use puffin_view::profile_view::laws::what_was_written_is_read;
 use std::alloc::Global;
@@ -143,9 +143,9 @@ fn read_file(alloc: Global, bytes: &[u8]) -> Result<FrameView, FileError>
     }
 }
 
-/// Runs commands in a new session of threads with these names, adds each emitted frame to a new view with these limits, in
-/// order, writes the view's file into memory, and reads that into another view. Returns one reply to each command, and the
-/// view that was read.
+/// Runs commands in a new session of threads with these names, whose texts have the form beside the name, adds each
+/// emitted frame to a new view with these limits, in order, writes the view's file into memory, and reads that into
+/// another view. Returns one reply to each command, and the view that was read.
 ///
 /// So the last and the slowest of the emitted frames are read again, and nothing else; and each of them has, under each
 /// thread's start and name, the scopes that were reported there since the frame before it.
@@ -154,25 +154,29 @@ fn read_file(alloc: Global, bytes: &[u8]) -> Result<FrameView, FileError>
 /// `Memory`, and with `PartTooLong` where a part of a packet has `2^32` bytes or more.
 pub fn record_and_read(
     alloc: Global,
-    names: Vec<String>,
+    threads: Vec<(String, Form)>,
     commands: &[Command],
     limits: Limits,
 ) -> Result<Recording, FileError>
     ensures promise { IfOk result (λ recording.
-        KeepsPromise (map string_bytes names.items) commands.now limits.max_recent
-        limits.max_slow recording.replies.items (view_of recording.view)) }
+        KeepsPromise (map (λ t. (string_bytes t.0, t.1)) threads.items) commands.now
+        limits.max_recent limits.max_slow recording.replies.items (view_of recording.view)) }
     ensures refusal { IfErr result (λ e.
         (e ≡ FileError.Memory)
         ⊎ ((e ≡ FileError.PartTooLong)
-        × MayBeTooLong (map string_bytes names.items) commands.now limits.max_recent
-        limits.max_slow)) }
+        × MayBeTooLong (map (λ t. (string_bytes t.0, t.1)) threads.items) commands.now
+        limits.max_recent limits.max_slow)) }
 {
     let mut view = limited_view(alloc, limits);
     let mut file = MemoryFile {
         bytes: Vec::new(alloc),
         faults: 0,
     };
-    let replies = match record(alloc, names, commands, &mut view, &mut file) {
+    let mut session = match Session::with_forms(alloc, threads) {
+        Ok(session) => session,
+        Err(_) => return Err(FileError::Memory),
+    };
+    let replies = match record_session(&mut session, commands, &mut view, &mut file) {
         Ok(replies) => replies,
         Err(fault) => return Err(in_memory(fault)),
     };

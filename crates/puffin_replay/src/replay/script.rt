@@ -4,13 +4,13 @@ ghost use Rattle.std.specs.Prelude.{◌≡◌, ◌+◌, ◌-◌, ◌^◌, ◌<�
 ghost use Rattle.std.specs.String.{string_bytes};
 ghost use Rattle.puffin_report.specs.Count.{ReadsAll};
 ghost use Rattle.puffin_replay.specs.Script.Statements.{Meaning};
-ghost use Rattle.puffin_replay.specs.inner.ScriptReading.{meaning_of, lines_left, names_in, IsNumbered, IsReading};
-ghost use Rattle.puffin_replay.specs.Script.{is_line_feed, is_skipped, told_by, with_name, with_thread_of, command_said, IsScript, IsLineFault};
+ghost use Rattle.puffin_replay.specs.inner.ScriptReading.{meaning_of, lines_left, names_in, IsNumbered, Asks, IsReading};
+ghost use Rattle.puffin_replay.specs.Script.{is_line_feed, is_skipped, told_by, with_name, with_thread_of, with_form, with_form_of, is_late, command_said, IsScript, IsLineFault};
 
 use crate::replay::fault::ToolFault;
 use crate::replay::statement::{Statement, read_statement};
 use puffin_data::FileError;
-use puffin_data::data::{Source, read_to_end};
+use puffin_data::data::{Form, Source, read_to_end};
 use puffin_session::Command;
 use std::alloc::{AllocError, Global};
 use std::collections::BTreeMap;
@@ -20,6 +20,8 @@ use std::collections::BTreeMap;
 pub struct Script {
     /// The threads' names, in the order in which they appear first.
     pub names: Vec<String>,
+    /// The form of each thread's texts, one a name: long where the first line that names the thread makes it so.
+    pub forms: Vec<Form>,
     /// The commands, in order. A thread's number is the place of its name.
     pub commands: Vec<Command>,
     /// The line of each command, counted from 1 over all lines.
@@ -30,6 +32,7 @@ pub struct Script {
 #[derive(Drop)]
 struct Threads<'s> {
     names: Vec<String>,
+    forms: Vec<Form>,
     numbers: BTreeMap<&'s str, usize>,
     alloc: Global,
 }
@@ -37,21 +40,25 @@ struct Threads<'s> {
 impl<'s> Threads<'s> {
     fn new(alloc: Global) -> Threads<'s>
         ensures none { names_in result ≡ [] }
+        ensures no_forms { result.forms.items ≡ [] }
         ensures numbered { IsNumbered result }
     {
         Threads {
             names: Vec::new(alloc),
+            forms: Vec::new(alloc),
             numbers: BTreeMap::new(alloc),
             alloc,
         }
     }
 
-    /// The number of this name, which is the next one where it is new.
-    fn number(&mut self, name: &'s str) -> Result<usize, AllocError>
+    /// The number of this name, which is the next one where it is new, and its thread then has this form.
+    fn number(&mut self, name: &'s str, form: Form) -> Result<usize, AllocError>
         ensures { IfOk result (λ number.
             IsNumbered self.old →
             IsNumbered self.new
             × (names_in self.new ≡ with_name (names_in self.old) name.now)
+            × (self.new.forms.items
+            ≡ with_form (names_in self.old) self.old.forms.items (Some name.now) form)
             × (slice_get (names_in self.new) number ≡ Some name.now)) }
     {
         if let Some(number) = self.numbers.get(name) {
@@ -59,34 +66,52 @@ impl<'s> Threads<'s> {
         }
         let number = self.names.len();
         self.names.push(String::from_str(self.alloc, name)?)?;
+        self.forms.push(form)?;
         self.numbers.insert(name, number)?;
         Ok(number)
     }
 
-    /// The command that a statement asks for.
-    fn command(&mut self, statement: &Statement<'s>) -> Result<Command, AllocError>
+    /// Whether a statement makes a thread's texts long that an earlier one has named.
+    fn is_late(&self, statement: &Statement<'s>) -> bool
+        ensures { IsNumbered self.now →
+            result ≡ is_late (names_in self.now) (meaning_of statement.now) }
+    {
+        match statement {
+            Statement::Long { thread } => self.numbers.get(*thread).is_some(),
+            _ => false,
+        }
+    }
+
+    /// The command that a statement asks for, or `None` where it only says how a thread's texts are stored.
+    fn command(&mut self, statement: &Statement<'s>) -> Result<Option<Command>, AllocError>
         ensures { IfOk result (λ command.
             IsNumbered self.old →
             IsNumbered self.new
             × (names_in self.new
             ≡ with_thread_of (names_in self.old) (meaning_of statement.now))
-            × (command_said (names_in self.new) command ≡ Some (meaning_of statement.now))) }
+            × (self.new.forms.items
+            ≡ with_form_of (names_in self.old) self.old.forms.items (meaning_of statement.now))
+            × Asks (names_in self.new) command (meaning_of statement.now)) }
     {
         let alloc = self.alloc;
-        Ok(match statement {
+        Ok(Some(match statement {
+            Statement::Long { thread } => {
+                let _number = self.number(*thread, Form::Long)?;
+                return Ok(None);
+            }
             Statement::Begin {
                 thread,
                 at,
                 id,
                 text,
             } => Command::Begin {
-                thread: self.number(*thread)?,
+                thread: self.number(*thread, Form::Short)?,
                 at: *at,
                 id: *id,
                 text: String::from_str(alloc, *text)?,
             },
             Statement::End { thread, at } => Command::End {
-                thread: self.number(*thread)?,
+                thread: self.number(*thread, Form::Short)?,
                 at: *at,
                 back: 0,
             },
@@ -97,7 +122,7 @@ impl<'s> Threads<'s> {
                 file,
                 line,
             } => Command::Register {
-                thread: self.number(*thread)?,
+                thread: self.number(*thread, Form::Short)?,
                 name: match name {
                     Some(name) => Some(String::from_str(alloc, *name)?),
                     None => None,
@@ -113,7 +138,7 @@ impl<'s> Threads<'s> {
             }
             Statement::Snapshot => Command::Snapshot,
             Statement::NewFrame => Command::NewFrame,
-        })
+        }))
     }
 }
 
@@ -198,6 +223,7 @@ impl<'s> Reading<'s> {
 
     fn into_script(self) -> Script
         ensures names { map string_bytes result.names.items ≡ names_in self.entry.threads }
+        ensures forms { result.forms ≡ self.entry.threads.forms }
         ensures commands { result.commands ≡ self.entry.commands }
         ensures lines { result.lines ≡ self.entry.lines }
     {
@@ -208,19 +234,22 @@ impl<'s> Reading<'s> {
         } = self;
         Script {
             names: threads.names,
+            forms: threads.forms,
             commands,
             lines,
         }
     }
 
-    /// Appends the command of this line.
+    /// Appends the command of this line, if it is one.
     fn push(&mut self, number: u64, statement: &Statement<'s>) -> Result<(), AllocError>
         ensures { OnOk result (
             (before : List (ℕ × Meaning)) → IsReading self.old before →
             IsReading self.new (before ++ (number, meaning_of statement.now) ∷ [])) }
     {
-        self.commands.push(self.threads.command(statement)?)?;
-        self.lines.push(number)?;
+        if let Some(command) = self.threads.command(statement)? {
+            self.commands.push(command)?;
+            self.lines.push(number)?;
+        }
         Ok(())
     }
 }
@@ -242,14 +271,18 @@ fn script_of(alloc: Global, bytes: &[u8]) -> Result<Script, ToolFault>
             Err(fault) => return Err(fault),
         };
         if let Some(statement) = &statement {
+            if reading.threads.is_late(statement) {
+                return Err(ToolFault::Line(number));
+            }
             reading.push(number, statement)?;
         }
     }
     Ok(reading.into_script())
 }
 
-/// Reads a script to its end: a command in each line, but for those that are empty or begin with `#`. Refused with the
-/// number of the first line that isn't UTF-8 or isn't a command; else with `Io` where the reader failed, or with `Memory`,
+/// Reads a script to its end: a command in each line, but for those that are empty or begin with `#`, and for `long T`,
+/// which makes the texts of thread `T` long and has to be the first line that names it. Refused with the number of the first
+/// line that isn't UTF-8 or says nothing that is known there; else with `Io` where the reader failed, or with `Memory`,
 /// and the reader's place is then open.
 pub fn read_script<S: Source>(alloc: Global, source: &mut S) -> Result<Script, ToolFault>
     requires { S.failures source.old < 2 ^ 64 - 1 }

@@ -2,7 +2,7 @@
 
 ghost use Rattle.std.specs.Prelude.{◌≡◌, ◌^◌, List, ℕ, [], ◌∷◌, Some, None, option_map, MatchOption};
 ghost use Rattle.puffin_replay.specs.inner.ScriptReading.{meaning_of, words_left};
-ghost use Rattle.puffin_replay.specs.Script.Statements.{line_meaning, words_in, joined_words, number_of, moment_in, id_of, line_of, name_in, begin_of, end_of, registration_of, function_of, scope_of, user_of};
+ghost use Rattle.puffin_replay.specs.Script.Statements.{line_meaning, words_in, joined_words, number_of, moment_in, id_of, line_of, name_in, long_of, begin_of, end_of, registration_of, function_of, scope_of, user_of};
 
 use puffin_data::NanoSecond;
 use puffin_data::data::ScopeId;
@@ -10,6 +10,10 @@ use puffin_data::data::ScopeId;
 /// What one line says.
 #[derive(Clone, Copy, Debug, PartialEq, Eq)]
 pub(crate) enum Statement<'l> {
+    /// A thread's texts are long.
+    Long {
+        thread: &'l str,
+    },
     /// A scope begins.
     Begin {
         thread: &'l str,
@@ -192,6 +196,15 @@ fn scope<'l>(mut words: Words<'l>) -> Option<Statement<'l>>
     details(thread, Some(scope), words)
 }
 
+/// `T`.
+fn long<'l>(mut words: Words<'l>) -> Option<Statement<'l>>
+    ensures { option_map meaning_of result ≡ long_of (words_left words.entry) }
+{
+    let thread = name(words.next()?)?;
+    words.end()?;
+    Some(Statement::Long { thread })
+}
+
 /// `NAME`.
 fn user<'l>(mut words: Words<'l>) -> Option<Statement<'l>>
     ensures { option_map meaning_of result ≡ user_of (words_left words.entry) }
@@ -214,6 +227,7 @@ pub(crate) fn read_statement(line: &str) -> Option<Statement<'_>>
         "user" => user(words),
         "snapshot" => words.end().map(|()| Statement::Snapshot),
         "frame" => words.end().map(|()| Statement::NewFrame),
+        "long" => long(words),
         _ => None,
     }
 }

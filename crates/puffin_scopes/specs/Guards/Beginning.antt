@@ -1,15 +1,19 @@
 -- How a guard begins: with a scope, or without one.
 use Rattle.std.specs.Prelude.{ℕ, ◌+◌, ◌≡◌, ℤ, pos, ◌≤ℤ◌, List, length, Option, Some, None}
 use Rattle.puffin_data.specs.Forest.Spelling.{size_offset}
-use Rattle.puffin_data.specs.declared.data.form.Form.TheVariants.{Short}
 use Rattle.puffin_data.specs.declared.error.Error.{Error}
 use Rattle.puffin_data.specs.Text.{cut_text}
 use Rattle.puffin_data.specs.Forest.Words.{word_size}
 use Rattle.puffin_threads.specs.declared.thread_profiler.profiler.ThreadProfiler.{ThreadProfiler}
 use Rattle.puffin_threads.specs.Thread.ThreadProfiler.{thread_of, clock_of}
-use Rattle.puffin_threads.specs.Thread.Calls.{after_begin}
+use Rattle.puffin_threads.specs.Thread.Calls.{Thread, after_begin}
 use Rattle.puffin_scopes.specs.declared.profiler_scope.ProfilerScope.{ProfilerScope}
 use Rattle.puffin_scopes.specs.Guards.Guard.{profiler_of, offset_of, refusal_of}
+
+-- where the size of a scope with this text stands, begun now
+abbrev pub begun_offset : Thread → List ℕ → ℕ
+begun_offset thread text =
+    word_size thread.form thread.word + size_offset thread.form (cut_text thread.form text)
 
 -- A scope was begun as the profiler's own call does, and is the guard's. The clock answered by this relation.
 pub record IsOn {C : Type 0} (answers : C → ℤ → C → Type 0) (old : ThreadProfiler C) (id : ℕ)
@@ -17,8 +21,8 @@ pub record IsOn {C : Type 0} (answers : C → ℤ → C → Type 0) (old : Threa
   pub at : ℤ
   pub answered : answers (clock_of old) at (clock_of (profiler_of scope))
   pub never_negative : pos 0 ≤ℤ at
-  pub begun : thread_of (profiler_of scope) ≡ after_begin (thread_of old) id (cut_text Short text) at
-  pub offset : offset_of scope ≡ Some (word_size Short (thread_of old).word + size_offset Short (cut_text Short text))
+  pub begun : thread_of (profiler_of scope) ≡ after_begin (thread_of old) id (cut_text (thread_of old).form text) at
+  pub offset : offset_of scope ≡ Some (begun_offset (thread_of old) text)
   pub refusal : refusal_of scope ≡ None
 
 -- the profiler is as before, and the guard has no scope, for this reason

@@ -6,14 +6,14 @@ use Rattle.puffin_data.specs.Honesty.{Recorded}
 use Rattle.puffin_threads.specs.declared.thread_profiler.profiler.ThreadProfiler.{ThreadProfiler}
 use Rattle.puffin_threads.specs.declared.thread_profiler.reporter.Closed.{Closed}
 use Rattle.puffin_threads.specs.Thread.ThreadProfiler.{thread_of, clock_of}
-use Rattle.puffin_threads.specs.Thread.Calls.{after_end, open_offsets}
+use Rattle.puffin_threads.specs.Thread.Calls.{after_end, offsets_of}
 use Rattle.puffin_threads.specs.Thread.Closing.{Closes}
 use Rattle.puffin_threads.specs.Thread.Info.{Info}
 use Rattle.puffin_threads.specs.Details.{Details}
 
 -- where the innermost open scope's size stands
 abbrev pub innermost_of : {C : Type 0} → ThreadProfiler C → Option ℕ
-innermost_of profiler = slice_get (open_offsets (thread_of profiler).word) 0
+innermost_of profiler = slice_get (offsets_of (thread_of profiler)) 0
 
 -- the scope at this offset was ended, as the profiler's own call does
 pub record IsEnded {C R : Type 0} (answers : C → ℤ → C → Type 0)

@@ -11,7 +11,7 @@ use Rattle.puffin_session.specs.declared.command.Command.{Command}
 use Rattle.puffin_session.specs.declared.command.Command.TheVariants.{Begin, End, Register, RegisterUser, ReportUser, Snapshot, NewFrame}
 use Rattle.puffin_session.specs.declared.command.Reply.{Reply}
 use Rattle.puffin_session.specs.declared.command.Reply.TheVariants as reply
-use Rattle.puffin_threads.specs.Thread.Events.{events_in}
+use Rattle.puffin_session.specs.Session.{word_in}
 use Rattle.puffin_session.specs.Session.History.{begun, ended, Action, calls, hands, frames, registers, adds, learns, wants, nothing}
 
 -- the outermost open scope was closed, and its report accepted
@@ -47,7 +47,7 @@ action_of (Register thread name function file line) (reply.Registered id) learnt
 action_of (RegisterUser names) (reply.RegisteredUser ids) learnt = adds learnt
 action_of (RegisterUser names) (reply.Refused e) learnt = adds learnt
 action_of (ReportUser info stream) reply.Reported learnt =
-    hands (info_of info) (events_in stream.bytes)
+    hands (info_of info) (word_in stream.form stream.bytes)
 action_of Snapshot reply.Snapshot learnt = wants
 action_of NewFrame (reply.Frame emitted) learnt = frames (is_some emitted.frame)
 action_of NewFrame (reply.Refused e) learnt = learns learnt

@@ -1,28 +1,29 @@
 -- A thread's word, cut after each accepted report: what was handed over, and what is unreported.
 use Rattle.std.specs.Prelude.{ℕ, ℤ, Bool, false, if◌then◌else◌, List, [], ◌∷◌, ◌++◌, map, Option, Some, None}
 use Rattle.std.specs.Option.{option_or}
-use Rattle.puffin_data.specs.declared.data.form.Form.TheVariants.{Short}
+use Rattle.puffin_data.specs.declared.data.form.Form.{Form}
 use Rattle.puffin_data.specs.Text.{cut_text}
 use Rattle.puffin_data.specs.Forest.Tour.{Event, Open, Close}
 use Rattle.puffin_threads.specs.Thread.Info.{Info}
-use Rattle.puffin_session.specs.Session.History.{Opening, Mark, begun, ended, Call, Action, calls, hands, frames, thread_at, calls_of, greatest, latest_of, since_last}
+use Rattle.puffin_session.specs.Session.History.{Word, Opening, Mark, begun, ended, Call, Action, calls, hands, frames, thread_at, calls_of, greatest, latest_of, since_last}
 
 -- an event, and whether a report was accepted behind it
 pub record Marked : Type 0 where
   pub event : Event
   pub reported : Bool
 
--- of a scope's text a word has what is stored
-abbrev pub marked_call : ℤ → Mark → Marked
-marked_call time (begun id text) = record { event = Open id (cut_text Short text) time; reported = false }
-marked_call time (ended reported) = record { event = Close time; reported = reported }
+-- of a scope's text a word has what is stored in the thread's form
+abbrev pub marked_call : Form → ℤ → Mark → Marked
+marked_call form time (begun id text) =
+    record { event = Open id (cut_text form text) time; reported = false }
+marked_call form time (ended reported) = record { event = Close time; reported = reported }
 
 -- each call at the greatest time up to it, after the calls of the past
-abbrev pub marked_calls : ℤ → List Call → List Call → List Marked
-marked_calls latest past [] = []
-marked_calls latest past (c ∷ later) =
-    marked_call (greatest latest (past ++ (c ∷ []))) c.mark
-    ∷ marked_calls latest (past ++ (c ∷ [])) later
+abbrev pub marked_calls : Form → ℤ → List Call → List Call → List Marked
+marked_calls form latest past [] = []
+marked_calls form latest past (c ∷ later) =
+    marked_call form (greatest latest (past ++ (c ∷ []))) c.mark
+    ∷ marked_calls form latest (past ++ (c ∷ [])) later
 
 -- the start of the first scope
 abbrev pub first_open : List Marked → Option ℤ
@@ -34,7 +35,7 @@ module _ (o : Opening) where
   abbrev pub word_of : ℕ → List Action → List Marked
   word_of t done =
       map (λ e. record { event = e; reported = false }) (thread_at o t).word
-      ++ marked_calls (thread_at o t).latest [] (calls_of t done)
+      ++ marked_calls (thread_at o t).form (thread_at o t).latest [] (calls_of t done)
 
   -- its last piece, behind the last accepted report
   abbrev pub unreported : ℕ → List Action → List Event
@@ -44,14 +45,19 @@ module _ (o : Opening) where
   abbrev pub first_start_of : ℕ → List Action → Option ℤ
   first_start_of t done =
       option_or (thread_at o t).first_start (
-      first_open (marked_calls (thread_at o t).latest [] (calls_of t done)))
+      first_open (marked_calls (thread_at o t).form (thread_at o t).latest [] (calls_of t done)))
+
+  -- its last piece with these events more, in its form
+  abbrev pub word_with : ℕ → List Action → List Event → Word
+  word_with t done more =
+      record { form = (thread_at o t).form; events = unreported t done ++ more }
 
   abbrev pub info_under : ℕ → List Action → Info
   info_under t done = record { start = first_start_of t done; name = (thread_at o t).name }
 
 -- words under their infos, one after another, and the frames that took what was handed over before
 pub data Delivery : Type 0 where
-  under : Info → List Event → Delivery
+  under : Info → Word → Delivery
   all_taken : Delivery
 
 module _ (o : Opening) where
@@ -59,7 +65,7 @@ module _ (o : Opening) where
   abbrev pub deliveries_at : List Action → Action → List Delivery
   deliveries_at done (calls t c) = elim c.mark [
     | begun id text ↦ []
-    | ended reported ↦ if reported then under (info_under o t done) (unreported o t done ++ (Close (latest_of o t (done ++ (calls t c ∷ []))) ∷ [])) ∷ [] else []
+    | ended reported ↦ if reported then under (info_under o t done) (word_with o t done (Close (latest_of o t (done ++ (calls t c ∷ []))) ∷ [])) ∷ [] else []
   ]
   deliveries_at done (hands i word) = under i word ∷ []
   deliveries_at done (frames emitted) = if emitted then all_taken ∷ [] else []

@@ -1,11 +1,12 @@
 -- What is due for the next frame: all that was handed over since the frame before.
-use Rattle.std.specs.Prelude.{◌≡◌, ℕ, ◌+◌, Bool, true, false, if◌then◌else◌, List, [], ◌++◌, map, Option, Some, None}
-use Rattle.std.specs.List.{list_any, flat_map, count_by, sum_by}
+use Rattle.std.specs.Prelude.{◌≡◌, ◌≢◌, ℕ, ◌+◌, ◌<◌, ◌==◌, Bool, true, false, if◌then◌else◌, List, [], ◌++◌, length, map, fold, Option, Some, None}
+use Rattle.std.specs.Option.{unwrap_or}
+use Rattle.std.specs.List.{count_by, sum_by}
 use Rattle.puffin_data.specs.declared.data.form.Form.TheVariants.{Short}
 use Rattle.puffin_data.specs.Forest.Tour.{Event}
 use Rattle.puffin_data.specs.Forest.Words.{word_size, num_begun}
 use Rattle.puffin_threads.specs.Thread.Info.{Info, same_info}
-use Rattle.puffin_session.specs.Session.History.{Opening, Action, frames, since_last}
+use Rattle.puffin_session.specs.Session.History.{Word, Opening, Action, frames, since_last}
 use Rattle.puffin_session.specs.Session.Deliveries.{Delivery, under, all_taken, deliveries}
 
 abbrev pub is_taken : Delivery → Bool
@@ -18,26 +19,42 @@ due o done = since_last is_taken (map (λ d. under d.0 d.1) o.due ++ deliveries 
 
 -- ---- under one info
 
-abbrev pub is_under : Info → Delivery → Bool
-is_under i (under j word) = same_info i j
-is_under i all_taken = false
+abbrev pub no_word : Word
+no_word = record { form = Short; events = [] }
 
-abbrev pub events_under : Info → Delivery → List Event
-events_under i (under j word) = if same_info i j then word else []
-events_under i all_taken = []
+-- one word after another: of one without events the form is the other's
+abbrev pub joined_word : Word → Word → Word
+joined_word a b = record {
+  form = if length a.events == 0 then b.form else a.form;
+  events = a.events ++ b.events;
+}
+
+-- both have events, in unlike forms
+abbrev pub AreUnlikeWords : Word → Word → Type 0
+AreUnlikeWords a b = (0 < length a.events) × (0 < length b.events) × (a.form ≢ b.form)
+
+-- what was handed over under an info, with one delivery more
+abbrev pub with_delivery : Info → Option Word → Delivery → Option Word
+with_delivery i sofar (under j word) =
+    if same_info i j then Some (joined_word (unwrap_or sofar no_word) word) else sofar
+with_delivery i sofar all_taken = sofar
 
 -- what was handed over under an info: nothing, or these words joined
-abbrev pub total_under : List Delivery → Info → Option (List Event)
-total_under ds i = if list_any (is_under i) ds then Some (flat_map (events_under i) ds) else None
+abbrev pub total_under : List Delivery → Info → Option Word
+total_under ds i = fold (with_delivery i) None ds
+
+-- what was handed over under an info, and this word, have events in unlike forms
+abbrev pub IsUnlikeDue : List Delivery → Info → Word → Type 0
+IsUnlikeDue ds i word = AreUnlikeWords (unwrap_or (total_under ds i) no_word) word
 
 -- no scope is due, though there may be infos
 abbrev pub NoneDue : List Delivery → Type 0
-NoneDue ds = (i : Info) (word : List Event) → total_under ds i ≡ Some word → word ≡ []
+NoneDue ds = (i : Info) (word : Word) → total_under ds i ≡ Some word → word.events ≡ []
 
 -- ---- in all
 
 abbrev pub events_of : Delivery → List Event
-events_of (under i word) = word
+events_of (under i word) = word.events
 events_of all_taken = []
 
 -- an accepted command for a frame, with a frame or without
@@ -51,11 +68,11 @@ index_after o done = o.index + count_by is_numbered done
 
 -- the bytes and the scopes of what was handed over
 abbrev pub bytes_delivered : Delivery → ℕ
-bytes_delivered (under i word) = word_size Short word
+bytes_delivered (under i word) = word_size word.form word.events
 bytes_delivered all_taken = 0
 
 abbrev pub scopes_delivered : Delivery → ℕ
-scopes_delivered (under i word) = num_begun word
+scopes_delivered (under i word) = num_begun word.events
 scopes_delivered all_taken = 0
 
 -- how many scopes were ever reported

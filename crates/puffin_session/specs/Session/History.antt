@@ -2,16 +2,23 @@
 use Rattle.std.specs.Prelude.{ℕ, ◌==◌, ℤ, pos, Bool, if◌then◌else◌, List, [], ◌∷◌, fold, Option, Some, None}
 use Rattle.std.specs.List.{list_any, filter_map, slice_index_or}
 use Rattle.std.specs.Int.{int_max}
+use Rattle.puffin_data.specs.declared.data.form.Form.{Form}
+use Rattle.puffin_data.specs.declared.data.form.Form.TheVariants.{Short}
 use Rattle.puffin_data.specs.Forest.Tour.{Event}
 use Rattle.puffin_threads.specs.Thread.Info.{Info}
 use Rattle.puffin_threads.specs.Thread.Calls.{Thread}
 use Rattle.puffin_threads.specs.Details.{Details}
 use Rattle.puffin_threads.specs.Details.Collection.{Collection}
 
--- What stood before: the threads; what is due, events under an info in the order in which they were handed over; the next frame's index; how many scopes were ever reported; what is known of scopes, what of them is new in the next frame, in order, and whether the next frame is to tell of all.
+-- events, and the form that their texts have in bytes
+pub record Word : Type 0 where
+  pub form : Form
+  pub events : List Event
+
+-- What stood before: the threads; what is due, words under an info in the order in which they were handed over; the next frame's index; how many scopes were ever reported; what is known of scopes, what of them is new in the next frame, in order, and whether the next frame is to tell of all.
 pub record Opening : Type 0 where
   pub threads : List Thread
-  pub due : List (Info × List Event)
+  pub due : List (Info × Word)
   pub index : ℕ
   pub reported : ℕ
   pub collection : Collection
@@ -31,7 +38,7 @@ pub record Call : Type 0 where
 -- What a command with its reply did. A refused one did nothing, but some of what it was to learn may be known.
 pub data Action : Type 0 where
   calls : (thread : ℕ) → Call → Action
-  hands : Info → List Event → Action
+  hands : Info → Word → Action
   -- the frame index rose, with a frame or without
   frames : (emitted : Bool) → Action
   -- a thread registered details
@@ -47,7 +54,7 @@ pub data Action : Type 0 where
 -- ---- the calls of one thread
 
 abbrev pub nobody : Thread
-nobody = record { name = []; first_start = None; latest = pos 0; word = []; details = [] }
+nobody = record { name = []; form = Short; first_start = None; latest = pos 0; word = []; details = [] }
 
 abbrev pub thread_at : Opening → ℕ → Thread
 thread_at o t = slice_index_or o.threads t nobody

@@ -4,17 +4,16 @@ use Rattle.std.specs.String.{string_bytes}
 use Rattle.std.specs.List.{flat_map, sum_by}
 use Rattle.std.specs.Arc.{arc_value}
 use Rattle.std.specs.FinMap.{values}
-use Rattle.puffin_data.specs.declared.data.form.Form.TheVariants.{Short}
 use Rattle.puffin_data.specs.declared.error.Error.{Error}
-use Rattle.puffin_data.specs.declared.error.Error.TheVariants.{TooLarge, RangeTooLong, MismatchedEnd, IdsExhausted, IndexExhausted, NoThread, Memory}
+use Rattle.puffin_data.specs.declared.error.Error.TheVariants.{UnlikeForms, TooLarge, RangeTooLong, MismatchedEnd, IdsExhausted, IndexExhausted, NoThread, Memory}
 use Rattle.puffin_data.specs.Forest.{Forest}
-use Rattle.puffin_data.specs.Forest.Spelling.{Spells, size_offset}
-use Rattle.puffin_data.specs.Text.{cut_text}
+use Rattle.puffin_data.specs.Forest.Spelling.{Spells}
 use Rattle.puffin_data.specs.Forest.Tour.{Event, tour}
 use Rattle.puffin_data.specs.Walk.{IsFault}
 use Rattle.puffin_data.specs.Forest.Words.{word_size, num_begun, open_after, least_open, greatest_close}
 use Rattle.std.specs.Int.{int_max}
-use Rattle.puffin_threads.specs.Thread.Calls.{after_end}
+use Rattle.puffin_threads.specs.Thread.Calls.{after_end, info_of_thread}
+use Rattle.puffin_threads.specs.Thread.Info.{Info, info_of}
 use Rattle.puffin_frames.specs.Frame.Sums.{meta_of}
 use Rattle.puffin_frames.specs.Frame.Contents.{Streams, holding_of, frame_meta}
 use Rattle.puffin_frames.specs.declared.frame_data.frame.FrameData.{FrameData}
@@ -30,11 +29,11 @@ use Rattle.puffin_session.specs.declared.command.Command.TheVariants.{Begin, End
 use Rattle.puffin_session.specs.declared.command.Reply.{Reply}
 use Rattle.puffin_session.specs.declared.command.Reply.TheVariants as reply
 use Rattle.puffin_threads.specs.Thread.Events.{events_in}
-use Rattle.puffin_session.specs.Session.History.{Opening, Action}
+use Rattle.puffin_session.specs.Session.History.{Word, Opening, Action}
 use Rattle.puffin_session.specs.Session.Deliveries.{Delivery, unreported}
-use Rattle.puffin_session.specs.Session.Due.{due, events_of, bytes_delivered, scopes_delivered, index_after, reported_after, NoneDue}
+use Rattle.puffin_session.specs.Session.Due.{due, IsUnlikeDue, events_of, bytes_delivered, scopes_delivered, index_after, reported_after, NoneDue}
 use Rattle.puffin_session.specs.Session.Notes.{due_details, known_after, is_wanted}
-use Rattle.puffin_session.specs.Session.{thread_after, SpellsDue}
+use Rattle.puffin_session.specs.Session.{thread_after, word_of_thread, begun_place, SpellsDue}
 use Rattle.puffin_session.specs.Session.Actions.{user_details}
 
 -- The frame with this index spells what was due, and its meta is that of its streams, which have some scope. It holds them as they are, and not packed.
@@ -60,40 +59,44 @@ module _ (o : Opening) (done : List Action) where
   abbrev pub num_open : ℕ → ℕ
   num_open t = open_after 0 (unreported o t done)
 
-  -- the word that a thread's report hands over, where its last open scope ends at this time
-  abbrev pub ending_word : ℕ → ℤ → List Event
-  ending_word t at = (after_end (thread_after o done t) (int_max (pos 0) at)).word
+  -- the info and the word that a thread's report hands over, where its last open scope ends at this time
+  abbrev pub ending_info : ℕ → Info
+  ending_info t = info_of_thread (thread_after o done t)
 
-  -- with these events more, the sums over all that is due have 64 bits, and so has that over all that was ever reported
-  pub record DueFits (word : List Event) : Type 0 where
-    pub bytes : sum_by bytes_delivered (due o done) + word_size Short word < 2 ^ 64
-    pub scopes : sum_by scopes_delivered (due o done) + num_begun word < 2 ^ 64
-    pub reported : reported_after o done + num_begun word < 2 ^ 64
+  abbrev pub ending_word : ℕ → ℤ → Word
+  ending_word t at = word_of_thread (after_end (thread_after o done t) (int_max (pos 0) at))
 
-  -- all events that are due, and these
-  abbrev pub due_with : List Event → List Event
-  due_with word = flat_map events_of (due o done) ++ word
+  -- with this word more, the sums over all that is due have 64 bits, and so has that over all that was ever reported
+  pub record DueFits (word : Word) : Type 0 where
+    pub bytes : sum_by bytes_delivered (due o done) + word_size word.form word.events < 2 ^ 64
+    pub scopes : sum_by scopes_delivered (due o done) + num_begun word.events < 2 ^ 64
+    pub reported : reported_after o done + num_begun word.events < 2 ^ 64
 
-  -- with these events more, the range of all that is due isn't reversed, and its duration is no i64
-  abbrev pub DueIsTooLong : List Event → Type 0
+  -- all events that are due, and this word's
+  abbrev pub due_with : Word → List Event
+  due_with word = flat_map events_of (due o done) ++ word.events
+
+  -- with this word more, the range of all that is due isn't reversed, and its duration is no i64
+  abbrev pub DueIsTooLong : Word → Type 0
   DueIsTooLong word = IsTooLong (least_open (due_with word), greatest_close (due_with word))
 
-  -- a report of these events may be accepted
-  abbrev pub MayReport : List Event → Type 0
-  MayReport word = DueFits word × ¬ DueIsTooLong word
+  -- a report of this word under this info may be accepted
+  abbrev pub MayReport : Info → Word → Type 0
+  MayReport i word = (¬ IsUnlikeDue (due o done) i word) × DueFits word × ¬ DueIsTooLong word
 
-  -- why a report of these events is refused: the first that applies
-  abbrev pub IsDueRefusal : List Event → Error → Type 0
-  IsDueRefusal word e =
-      ((e ≡ TooLarge) × ¬ DueFits word)
-      ⊎ ((e ≡ RangeTooLong) × DueFits word × DueIsTooLong word)
-      ⊎ ((e ≡ Memory) × MayReport word)
+  -- why a report of this word under this info is refused: the first that applies
+  abbrev pub IsDueRefusal : Info → Word → Error → Type 0
+  IsDueRefusal i word e =
+      ((e ≡ UnlikeForms) × IsUnlikeDue (due o done) i word)
+      ⊎ ((e ≡ TooLarge) × (¬ IsUnlikeDue (due o done) i word) × ¬ DueFits word)
+      ⊎ ((e ≡ RangeTooLong) × (¬ IsUnlikeDue (due o done) i word) × DueFits word × DueIsTooLong word)
+      ⊎ ((e ≡ Memory) × MayReport i word)
 
   -- what ending the innermost scope leads to, where so many are open, with the report that it may make
-  abbrev pub MayClose : ℕ → List Event → Closed → Type 0
-  MayClose depth word closed.Inner = 1 < depth
-  MayClose depth word closed.Reported = (depth ≡ 1) × MayReport word
-  MayClose depth word (closed.Kept e) = (depth ≡ 1) × IsDueRefusal word e
+  abbrev pub MayClose : ℕ → Info → Word → Closed → Type 0
+  MayClose depth i word closed.Inner = 1 < depth
+  MayClose depth i word closed.Reported = (depth ≡ 1) × MayReport i word
+  MayClose depth i word (closed.Kept e) = (depth ≡ 1) × IsDueRefusal i word e
 
   -- an emitted frame spells what was due and tells of the details that were due, and there is none only where no scope was due
   abbrev pub FrameIsDue : Emitted → Type 0
@@ -106,11 +109,11 @@ module _ (o : Opening) (done : List Action) where
   abbrev pub MayReply : Command → Reply → List Details → Type 0
   MayReply (Begin t at id text) (reply.Began offset) learnt =
       HasThread t
-      × (offset ≡ word_size Short (unreported o t done) + size_offset Short (cut_text Short (string_bytes text)))
+      × (offset ≡ begun_place (thread_after o done t) (string_bytes text))
   MayReply (Begin t at id text) (reply.Refused e) learnt =
       IsNoThread t e ⊎ ((e ≡ Memory) × HasThread t)
   MayReply (End t at back) (reply.Ended closed) learnt =
-      HasThread t × (back ≡ 0) × MayClose (num_open t) (ending_word t at) closed
+      HasThread t × (back ≡ 0) × MayClose (num_open t) (ending_info t) (ending_word t at) closed
   MayReply (End t at back) (reply.Refused e) learnt =
       IsNoThread t e ⊎ ((e ≡ MismatchedEnd) × HasThread t × ((0 < back) ⊎ (num_open t ≡ 0)))
   MayReply (Register t name function file line) (reply.Registered id) learnt = HasThread t
@@ -121,11 +124,15 @@ module _ (o : Opening) (done : List Action) where
   MayReply (RegisterUser names) (reply.Refused e) learnt =
       RegistersSome (known_after o done) (user_details names.items) e learnt
   MayReply (ReportUser info stream) reply.Reported learnt =
-      (f : Forest) × Spells Short stream.bytes f × (events_in stream.bytes ≡ tour f) × MayReport (tour f)
+      (f : Forest)
+      × Spells stream.form stream.bytes f
+      × (events_in stream.form stream.bytes ≡ tour f)
+      × MayReport (info_of info) (record { form = stream.form; events = tour f })
   MayReply (ReportUser info stream) (reply.Refused e) learnt =
       (e ≡ Memory)
-      ⊎ IsFault Short stream.bytes e
-      ⊎ ((f : Forest) × Spells Short stream.bytes f × IsDueRefusal (tour f) e)
+      ⊎ IsFault stream.form stream.bytes e
+      ⊎ ((f : Forest) × Spells stream.form stream.bytes f
+      × IsDueRefusal (info_of info) (record { form = stream.form; events = tour f }) e)
   MayReply Snapshot reply.Snapshot learnt = Unit {0}
   MayReply NewFrame (reply.Frame emitted) learnt =
       (emitted.refused ≡ 0) × (index_after o done ≢ 2 ^ 64 - 1) × FrameIsDue emitted

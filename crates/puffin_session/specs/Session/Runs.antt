@@ -3,6 +3,7 @@ use Rattle.std.specs.Prelude.{◌≡◌, ℕ, List, [], ◌∷◌, ◌++◌, len
 use Rattle.std.specs.Arc.{arc_value}
 use Rattle.std.specs.declared.sync.Arc.{Arc}
 use Rattle.std.specs.declared.alloc.Global.{Global}
+use Rattle.puffin_data.specs.declared.data.form.Form.{Form}
 use Rattle.puffin_frames.specs.declared.frame_data.frame.FrameData.{FrameData}
 use Rattle.puffin_frames.specs.Frame.Contents.{frame_says}
 use Rattle.puffin_threads.specs.Details.{Details, AllHaveIds}
@@ -32,8 +33,8 @@ pub record Records (old new : SessionState) (commands : List Command) (replies :
   pub stands : StandsAfter (opening_of old) (actions_of commands replies learnt) new
 
 -- These replies are those of a run of the commands from a new session with these threads, which ends in this state.
-abbrev pub AreReplies : List (List ℕ) → List Command → List Reply → SessionState → Type 0
-AreReplies names commands replies end = Records (new_session names) end commands replies
+abbrev pub AreReplies : List (List ℕ × Form) → List Command → List Reply → SessionState → Type 0
+AreReplies threads commands replies end = Records (new_session threads) end commands replies
 
 -- the details that a frame tells, if there is one
 abbrev pub details_told : Option (Arc FrameData Global) → List Details

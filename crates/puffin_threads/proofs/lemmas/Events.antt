@@ -1,20 +1,22 @@
 -- The bytes of a stream with open scopes spell the events of its word.
-use Rattle.std.proofs.Common.{◌≡◌, ◌≢◌, ℕ, zero, suc, ◌+◌, ◌-◌, ◌^◌, ◌<◌, ◌≤◌, ◌==◌, List, [], ◌∷◌, ◌++◌, length, get_or, slice_index, take, drop, refl, sym, ap, ◌∙◌, arith, append_assoc, w64, ℤ, FitsSigned, Bool, true, false, eqb}
+use Rattle.std.proofs.Common.{◌≡◌, ◌≢◌, ℕ, zero, suc, ◌+◌, ◌-◌, ◌^◌, ◌<◌, ◌≤◌, ◌==◌, List, [], ◌∷◌, ◌++◌, length, get_or, slice_index, take, drop, refl, sym, ap, ◌∙◌, arith, append_assoc, w64, ℤ, FitsSigned, Bool, true, false, eqb, Result, Ok}
 use Rattle.std.specs.Int.{cast_signed, cast_unsigned}
 use Rattle.std.proofs.lemmas.Int.{to_z-of_z}
 use Rattle.std.proofs.lemmas.List.{length-append, take_at, drop_at, drop-drop, get_or-drop}
 use Rattle.std.proofs.Math.Facts.{Fits-of_z}
 use Rattle.byteorder.specs.Endian.{little_bytes, little_number}
 use Rattle.byteorder.specs.Numbers.{little_number-reads_back, length-bytes_low_first}
-use Rattle.puffin_data.specs.declared.data.form.Form.TheVariants.{Short}
+use Rattle.puffin_data.specs.declared.data.form.Form.{Form}
 use Rattle.puffin_data.specs.Forest.{Forest, IsForest, empty, node}
 use Rattle.puffin_data.specs.Forest.Spelling.{spelling, begin_bytes, end_bytes, time_bytes}
-use Rattle.puffin_data.specs.Walk.Reading.{id_in, time_in, text_size_in, text_begin_in, child_begin_in}
-use Rattle.puffin_data.specs.Text.Lengths.{length_layout, length_at, length_or_none}
+use Rattle.puffin_data.specs.Walk.Reading.{id_in, time_in, text_length_in, text_size_in, text_begin_in, child_begin_in}
+use Rattle.puffin_data.specs.Text.Lengths.{stored_limit, length_layout, length_at, length_or_none}
 use Rattle.puffin_data.specs.Forest.Tour.{Event, Open, Close, tour}
 use Rattle.puffin_data.specs.Forest.Words.{word_size}
 use Rattle.puffin_data.specs.Forest.Open.{Opened, opening_bytes, open_spelling, opening_word, open_word}
 use Rattle.puffin_data.proofs.lemmas.Opening.{open_size}
+use Rattle.puffin_data.proofs.lemmas.Lengths.{length_again}
+use Rattle.puffin_data.specs.declared.error.Error.{Error}
 use Rattle.puffin_threads.specs.Thread.Events.{open_in, events_from, events_in}
 use Rattle.puffin_threads.specs.inner.ThreadRecording.{StartedBy}
 
@@ -41,10 +43,6 @@ unfolding time_in
 time_there place t rest xs fits e =
     ap (cast_signed w64) (number_there 8 place (cast_unsigned w64 t) rest xs e (Fits-of_z fits).fits) ∙ to_z-of_z w64 t fits
 
--- what stands at the front of a region: an event, and what follows it
-record Fronts (region : List ℕ) (e : Event) (more : List ℕ) : Type 0 where
-  step : (n : ℕ) → events_from (suc n) region ≡ e ∷ events_from n more
-
 first : (b : Bool) (x y : List Event) → b ≡ true → (elim b [ true ↦ x | false ↦ y ]) ≡ x
 first true x y e = refl
 first false x y e = cc
@@ -56,102 +54,20 @@ second false x y e = refl
 same_open : (id id' : ℕ) (start start' : ℤ) (text text' : List ℕ) → id ≡ id' → start ≡ start' → text ≡ text' → Open id text start ≡ Open id' text' start'
 same_open id id' start start' text text' e1 e2 e3 = cc
 
-regroup : (id start text size more : List ℕ) (len : ℕ) → (40 ∷ (id ++ (start ++ (len ∷ (text ++ size))))) ++ more ≡ 40 ∷ (id ++ (start ++ (len ∷ (text ++ (size ++ more)))))
-regroup id start text size more len = simp append_assoc
+regroup : (id start len text size more : List ℕ) → (40 ∷ (id ++ (start ++ ((len ++ text) ++ size)))) ++ more ≡ 40 ∷ (id ++ (start ++ (len ++ (text ++ (size ++ more)))))
+regroup id start len text size more = simp append_assoc
 
-opens : (id size : ℕ) (start : ℤ) (text more region : List ℕ) → id < 2 ^ 32 → FitsSigned w64 start → region ≡ begin_bytes Short id start text size ++ more → Fronts region (Open id text start) more
-unfolding events_from begin_bytes id_in length_layout length_at
-opens id size start text more region high fits e =
-    let n = length text in
-    let d0 = e ∙ regroup (little_bytes 4 id) (time_bytes start) text (little_bytes 8 size) more n in
-    let d1 = follows 0 1 1 (40 ∷ []) _ region d0 refl refl in
-    let d5 = follows 1 4 5 (little_bytes 4 id) _ region d1 (length-bytes_low_first 0 4 id) refl in
-    let d13 = follows 5 8 13 (time_bytes start) _ region d5 (length-bytes_low_first 0 8 (cast_unsigned w64 start)) refl in
-    let d14 = follows 13 1 14 (n ∷ []) _ region d13 refl refl in
-    let dt = follows 14 n (14 + n) text _ region d14 refl refl in
-    let dc = follows (14 + n) 8 (22 + n) (little_bytes 8 size) more region dt (length-bytes_low_first 0 8 size) (omega arith) in
-    let text_size : text_size_in Short region ≡ n = ap (λ (part : List ℕ). (length_or_none (length_at Short part)).0) d13 in
-    let text_begin : text_begin_in Short region ≡ 14 = ap (λ (part : List ℕ). 13 + (length_or_none (length_at Short part)).1) d13 in
-    let read_id : id_in region ≡ id = number_there 4 1 id _ region d1 high in
-    let read_start : time_in region 5 ≡ start = time_there 5 start _ region fits d5 in
-    let read_text : take (text_size_in Short region) (drop (text_begin_in Short region) region) ≡ text =
-    ap (λ (k : ℕ). take k (drop (text_begin_in Short region) region)) text_size ∙ ap (λ (k : ℕ). take n (drop k region)) text_begin ∙ ap (take n) d14 ∙ take_at text _ n refl in
-    let event : open_in region ≡ Open id text start = same_open (id_in region) id (time_in region 5) start (take (text_size_in Short region) (drop (text_begin_in Short region) region)) text read_id read_start read_text in
-    let place : child_begin_in Short region ≡ 22 + n = omega (arith, text_size, text_begin) in
-    let rest : drop (child_begin_in Short region) region ≡ more = ap (λ (k : ℕ). drop k region) place ∙ dc in
-    record {
-      step = λ n.
-          first (slice_index region 0 == 40) _ _ (test_eq (slice_index region 0) 40 (there 0 40 _ region d0))
-          ∙ ap (λ (x : Event). x ∷ events_from n (drop (child_begin_in Short region) region)) event
-          ∙ ap (λ (xs : List ℕ). Open id text start ∷ events_from n xs) rest;
-    }
-
-closes : (stop : ℤ) (more region : List ℕ) → FitsSigned w64 stop → region ≡ end_bytes stop ++ more → Fronts region (Close stop) more
-unfolding events_from end_bytes
-closes stop more region fits e =
-    let d1 = follows 0 1 1 (41 ∷ []) _ region e refl refl in
-    let d9 = follows 1 8 9 (time_bytes stop) more region d1 (length-bytes_low_first 0 8 (cast_unsigned w64 stop)) refl in
-    let byte : slice_index region 0 ≡ 41 = there 0 41 _ region e in
-    record {
-      step = λ n.
-          second (slice_index region 0 == 40) _ _ (test_ne (slice_index region 0) 40 (omega arith))
-          ∙ first (slice_index region 0 == 41) _ _ (test_eq (slice_index region 0) 41 byte)
-          ∙ ap (λ (t : ℤ). Close t ∷ events_from n (drop 9 region)) (time_there 1 stop more region fits d1)
-          ∙ ap (λ (xs : List ℕ). Close stop ∷ events_from n xs) d9;
-    }
-
--- with any surplus of steps, a forest's bytes give its tour, and what follows them what it gives
 regroup_node : (begin inner end others more : List ℕ) → (begin ++ (inner ++ (end ++ others))) ++ more ≡ begin ++ (inner ++ (end ++ (others ++ more)))
 regroup_node begin inner end others more = simp append_assoc
 
 regroup_tour : (inner others rest : List Event) (e : Event) → inner ++ (e ∷ (others ++ rest)) ≡ (inner ++ (e ∷ others)) ++ rest
 regroup_tour inner others rest e = simp append_assoc
 
-forest_events : (f : Forest) → IsForest Short f → (n : ℕ) (more : List ℕ) → events_from (length (tour f) + n) (spelling Short f ++ more) ≡ tour f ++ events_from n more
-forest_events empty h n more = ap (λ (k : ℕ). events_from k more) (omega arith)
-forest_events (node s children others) h n more =
-    let begin = begin_bytes Short s.id s.start s.text (length (spelling Short children)) in
-    let later = length (tour others) + n in
-    let fuel : length (tour (node s children others)) + n ≡ suc (length (tour children) + suc later) = omega (arith, length-append (tour children) (Close s.stop ∷ tour others)) in
-    let behind = spelling Short others ++ more in
-    let inner = spelling Short children ++ (end_bytes s.stop ++ behind) in
-    ap (λ (k : ℕ). events_from k (spelling Short (node s children others) ++ more)) fuel
-    ∙ (opens s.id (length (spelling Short children)) s.start s.text inner _ h.0.id_high h.0.start (regroup_node begin (spelling Short children) (end_bytes s.stop) (spelling Short others) more)).step (length (tour children) + suc later)
-    ∙ ap (λ (w : List Event). Open s.id s.text s.start ∷ w)
-    (forest_events children h.1 (suc later) (end_bytes s.stop ++ behind)
-    ∙ ap (λ (w : List Event). tour children ++ w) ((closes s.stop behind _ h.0.stop refl).step later ∙ ap (λ (w : List Event). Close s.stop ∷ w) (forest_events others h.2 n more))
-    ∙ regroup_tour (tour children) (tour others) (events_from n more) (Close s.stop))
-
 regroup_opened : (outer before begin more : List ℕ) → (outer ++ (before ++ begin)) ++ more ≡ outer ++ (before ++ (begin ++ more))
 regroup_opened outer before begin more = simp append_assoc
 
 regroup_word : (outer before rest : List Event) (e : Event) → outer ++ (before ++ (e ∷ rest)) ≡ (outer ++ (before ++ (e ∷ []))) ++ rest
 regroup_word outer before rest e = simp append_assoc
-
-opening_events : (latest : ℤ) (opened : List Opened) → StartedBy latest opened → (n : ℕ) (more : List ℕ) → events_from (length (opening_word opened) + n) (opening_bytes Short opened ++ more) ≡ opening_word opened ++ events_from n more
-opening_events latest [] h n more = ap (λ (k : ℕ). events_from k more) (omega arith)
-opening_events latest (o ∷ outer) h n more =
-    let begin = begin_bytes Short o.id o.start o.text (2 ^ 64 - 1) in
-    let event = Open o.id o.text o.start in
-    let later = length (tour o.before) + suc n in
-    let fuel : length (opening_word (o ∷ outer)) + n ≡ length (opening_word outer) + later = omega (arith, length-append (opening_word outer) (tour o.before ++ (event ∷ [])), length-append (tour o.before) (event ∷ [])) in
-    ap (λ (k : ℕ). events_from k (opening_bytes Short (o ∷ outer) ++ more)) fuel
-    ∙ ap (events_from (length (opening_word outer) + later)) (regroup_opened (opening_bytes Short outer) (spelling Short o.before) begin more)
-    ∙ opening_events latest outer h.3 later (spelling Short o.before ++ (begin ++ more))
-    ∙ ap (λ (w : List Event). opening_word outer ++ w)
-    (forest_events o.before h.0.before (suc n) (begin ++ more)
-    ∙ ap (λ (w : List Event). tour o.before ++ w) ((opens o.id (2 ^ 64 - 1) o.start o.text more _ h.0.id_high h.0.start refl).step n))
-    ∙ regroup_word (opening_word outer) (tour o.before) (events_from n more) event
-
-no_bytes : (n : ℕ) → events_from n [] ≡ []
-unfolding events_from
-no_bytes zero = refl
-no_bytes (suc n) = refl
-
-short : (w : List Event) → length w ≤ word_size Short w
-short [] = omega arith
-short (Open id text start ∷ w) = omega (arith, short w)
-short (Close stop ∷ w) = omega (arith, short w)
 
 append_nil : (w : List Event) → w ++ [] ≡ w
 append_nil [] = refl
@@ -161,20 +77,110 @@ append_none : (bytes : List ℕ) → bytes ++ [] ≡ bytes
 append_none [] = refl
 append_none (b ∷ bytes) = ap (λ (x : List ℕ). b ∷ x) (append_none bytes)
 
-pub events_of_none : events_in [] ≡ []
-unfolding events_in
-events_of_none = no_bytes 0
+module _ (form : Form) where
+  -- what stands at the front of a region: an event, and what follows it
+  record Fronts (region : List ℕ) (e : Event) (more : List ℕ) : Type 0 where
+    step : (n : ℕ) → events_from form (suc n) region ≡ e ∷ events_from form n more
 
-pub events_open : (latest : ℤ) (opened : List Opened) (closed : Forest) → StartedBy latest opened → IsForest Short closed → events_in (open_spelling Short opened closed) ≡ open_word opened closed
-unfolding events_in
-events_open latest opened closed ho hc =
-    let bytes = open_spelling Short opened closed in
-    let surplus = length bytes - length (open_word opened closed) in
-    let fuel : length bytes ≡ length (opening_word opened) + (length (tour closed) + surplus) = omega (arith, open_size Short opened closed, short (open_word opened closed), length-append (opening_word opened) (tour closed)) in
-    ap (λ (k : ℕ). events_from k bytes) fuel
-    ∙ opening_events latest opened ho (length (tour closed) + surplus) (spelling Short closed)
-    ∙ ap (λ (w : List Event). opening_word opened ++ w)
-    (ap (events_from (length (tour closed) + surplus)) (sym (append_none (spelling Short closed)))
-    ∙ forest_events closed hc surplus []
-    ∙ ap (λ (w : List Event). tour closed ++ w) (no_bytes surplus)
-    ∙ append_nil (tour closed))
+  opens : (id size : ℕ) (start : ℤ) (text more region : List ℕ) → id < 2 ^ 32 → FitsSigned w64 start → length text ≤ stored_limit form → region ≡ begin_bytes form id start text size ++ more → Fronts region (Open id text start) more
+  unfolding events_from begin_bytes id_in
+  opens id size start text more region high fits stored e =
+      let n = length text in
+      let len = length_layout form n in
+      let u = length len in
+      let d0 = e ∙ regroup (little_bytes 4 id) (time_bytes start) len text (little_bytes 8 size) more in
+      let d1 = follows 0 1 1 (40 ∷ []) _ region d0 refl refl in
+      let d5 = follows 1 4 5 (little_bytes 4 id) _ region d1 (length-bytes_low_first 0 4 id) refl in
+      let d13 = follows 5 8 13 (time_bytes start) _ region d5 (length-bytes_low_first 0 8 (cast_unsigned w64 start)) refl in
+      let d14 = follows 13 u (13 + u) len _ region d13 refl refl in
+      let dt = follows (13 + u) n (13 + u + n) text _ region d14 refl refl in
+      let dc = follows (13 + u + n) 8 (21 + u + n) (little_bytes 8 size) more region dt (length-bytes_low_first 0 8 size) (omega arith) in
+      let read : text_length_in form region ≡ Ok (n, u) = ap (length_at form) d13 ∙ length_again form n _ stored in
+      let text_size : text_size_in form region ≡ n = ap (λ (r : Result (ℕ × ℕ) Error). (length_or_none r).0) read in
+      let text_begin : text_begin_in form region ≡ 13 + u = ap (λ (r : Result (ℕ × ℕ) Error). 13 + (length_or_none r).1) read in
+      let read_id : id_in region ≡ id = number_there 4 1 id _ region d1 high in
+      let read_start : time_in region 5 ≡ start = time_there 5 start _ region fits d5 in
+      let read_text : take (text_size_in form region) (drop (text_begin_in form region) region) ≡ text =
+      ap (λ (k : ℕ). take k (drop (text_begin_in form region) region)) text_size ∙ ap (λ (k : ℕ). take n (drop k region)) text_begin ∙ ap (take n) d14 ∙ take_at text _ n refl in
+      let event : open_in form region ≡ Open id text start = same_open (id_in region) id (time_in region 5) start (take (text_size_in form region) (drop (text_begin_in form region) region)) text read_id read_start read_text in
+      let place : child_begin_in form region ≡ 21 + u + n = omega (arith, text_size, text_begin) in
+      let rest : drop (child_begin_in form region) region ≡ more = ap (λ (k : ℕ). drop k region) place ∙ dc in
+      record {
+        step = λ n.
+            first (slice_index region 0 == 40) _ _ (test_eq (slice_index region 0) 40 (there 0 40 _ region d0))
+            ∙ ap (λ (x : Event). x ∷ events_from form n (drop (child_begin_in form region) region)) event
+            ∙ ap (λ (xs : List ℕ). Open id text start ∷ events_from form n xs) rest;
+      }
+
+  closes : (stop : ℤ) (more region : List ℕ) → FitsSigned w64 stop → region ≡ end_bytes stop ++ more → Fronts region (Close stop) more
+  unfolding events_from end_bytes
+  closes stop more region fits e =
+      let d1 = follows 0 1 1 (41 ∷ []) _ region e refl refl in
+      let d9 = follows 1 8 9 (time_bytes stop) more region d1 (length-bytes_low_first 0 8 (cast_unsigned w64 stop)) refl in
+      let byte : slice_index region 0 ≡ 41 = there 0 41 _ region e in
+      record {
+        step = λ n.
+            second (slice_index region 0 == 40) _ _ (test_ne (slice_index region 0) 40 (omega arith))
+            ∙ first (slice_index region 0 == 41) _ _ (test_eq (slice_index region 0) 41 byte)
+            ∙ ap (λ (t : ℤ). Close t ∷ events_from form n (drop 9 region)) (time_there 1 stop more region fits d1)
+            ∙ ap (λ (xs : List ℕ). Close stop ∷ events_from form n xs) d9;
+      }
+
+  -- with any surplus of steps, a forest's bytes give its tour, and what follows them what it gives
+  forest_events : (f : Forest) → IsForest form f → (n : ℕ) (more : List ℕ) → events_from form (length (tour f) + n) (spelling form f ++ more) ≡ tour f ++ events_from form n more
+  forest_events empty h n more = ap (λ (k : ℕ). events_from form k more) (omega arith)
+  forest_events (node s children others) h n more =
+      let begin = begin_bytes form s.id s.start s.text (length (spelling form children)) in
+      let later = length (tour others) + n in
+      let fuel : length (tour (node s children others)) + n ≡ suc (length (tour children) + suc later) = omega (arith, length-append (tour children) (Close s.stop ∷ tour others)) in
+      let behind = spelling form others ++ more in
+      let inner = spelling form children ++ (end_bytes s.stop ++ behind) in
+      ap (λ (k : ℕ). events_from form k (spelling form (node s children others) ++ more)) fuel
+      ∙ (opens s.id (length (spelling form children)) s.start s.text inner _ h.0.id_high h.0.start h.0.text_size (regroup_node begin (spelling form children) (end_bytes s.stop) (spelling form others) more)).step (length (tour children) + suc later)
+      ∙ ap (λ (w : List Event). Open s.id s.text s.start ∷ w)
+      (forest_events children h.1 (suc later) (end_bytes s.stop ++ behind)
+      ∙ ap (λ (w : List Event). tour children ++ w) ((closes s.stop behind _ h.0.stop refl).step later ∙ ap (λ (w : List Event). Close s.stop ∷ w) (forest_events others h.2 n more))
+      ∙ regroup_tour (tour children) (tour others) (events_from form n more) (Close s.stop))
+
+  opening_events : (latest : ℤ) (opened : List Opened) → StartedBy form latest opened → (n : ℕ) (more : List ℕ) → events_from form (length (opening_word opened) + n) (opening_bytes form opened ++ more) ≡ opening_word opened ++ events_from form n more
+  opening_events latest [] h n more = ap (λ (k : ℕ). events_from form k more) (omega arith)
+  opening_events latest (o ∷ outer) h n more =
+      let begin = begin_bytes form o.id o.start o.text (2 ^ 64 - 1) in
+      let event = Open o.id o.text o.start in
+      let later = length (tour o.before) + suc n in
+      let fuel : length (opening_word (o ∷ outer)) + n ≡ length (opening_word outer) + later = omega (arith, length-append (opening_word outer) (tour o.before ++ (event ∷ [])), length-append (tour o.before) (event ∷ [])) in
+      ap (λ (k : ℕ). events_from form k (opening_bytes form (o ∷ outer) ++ more)) fuel
+      ∙ ap (events_from form (length (opening_word outer) + later)) (regroup_opened (opening_bytes form outer) (spelling form o.before) begin more)
+      ∙ opening_events latest outer h.3 later (spelling form o.before ++ (begin ++ more))
+      ∙ ap (λ (w : List Event). opening_word outer ++ w)
+      (forest_events o.before h.0.before (suc n) (begin ++ more)
+      ∙ ap (λ (w : List Event). tour o.before ++ w) ((opens o.id (2 ^ 64 - 1) o.start o.text more _ h.0.id_high h.0.start h.0.text_size refl).step n))
+      ∙ regroup_word (opening_word outer) (tour o.before) (events_from form n more) event
+
+  no_bytes : (n : ℕ) → events_from form n [] ≡ []
+  unfolding events_from
+  no_bytes zero = refl
+  no_bytes (suc n) = refl
+
+  short : (w : List Event) → length w ≤ word_size form w
+  short [] = omega arith
+  short (Open id text start ∷ w) = omega (arith, short w)
+  short (Close stop ∷ w) = omega (arith, short w)
+
+  pub events_of_none : events_in form [] ≡ []
+  unfolding events_in
+  events_of_none = no_bytes 0
+
+  pub events_open : (latest : ℤ) (opened : List Opened) (closed : Forest) → StartedBy form latest opened → IsForest form closed → events_in form (open_spelling form opened closed) ≡ open_word opened closed
+  unfolding events_in
+  events_open latest opened closed ho hc =
+      let bytes = open_spelling form opened closed in
+      let surplus = length bytes - length (open_word opened closed) in
+      let fuel : length bytes ≡ length (opening_word opened) + (length (tour closed) + surplus) = omega (arith, open_size form opened closed, short (open_word opened closed), length-append (opening_word opened) (tour closed)) in
+      ap (λ (k : ℕ). events_from form k bytes) fuel
+      ∙ opening_events latest opened ho (length (tour closed) + surplus) (spelling form closed)
+      ∙ ap (λ (w : List Event). opening_word opened ++ w)
+      (ap (events_from form (length (tour closed) + surplus)) (sym (append_none (spelling form closed)))
+      ∙ forest_events closed hc surplus []
+      ∙ ap (λ (w : List Event). tour closed ++ w) (no_bytes surplus)
+      ∙ append_nil (tour closed))

@@ -4,15 +4,16 @@ use Rattle.std.specs.Int.{int_max}
 use Rattle.std.specs.Option.{option_or}
 use Rattle.puffin_data.specs.declared.error.Error.{Error}
 use Rattle.puffin_data.specs.declared.error.Error.TheVariants.{IdsExhausted, Memory}
-use Rattle.puffin_data.specs.declared.data.form.Form.TheVariants.{Short}
+use Rattle.puffin_data.specs.declared.data.form.Form.{Form}
 use Rattle.puffin_data.specs.Forest.Spelling.{size_offset, head_size, end_size}
 use Rattle.puffin_data.specs.Forest.Tour.{Event, Open, Close}
 use Rattle.puffin_threads.specs.Thread.Info.{Info}
 use Rattle.puffin_threads.specs.Details.{Details, with_id}
 
--- a thread: its name, the start of its first scope ever, its greatest time, and its events and registered details that no accepted report has handed over
+-- a thread: its name, the form of its texts, the start of its first scope ever, its greatest time, and its events and registered details that no accepted report has handed over
 pub record Thread : Type 0 where
   pub name : List ℕ
+  pub form : Form
   pub first_start : Option ℤ
   pub latest : ℤ
   pub word : List Event
@@ -26,6 +27,7 @@ time_of thread at = int_max thread.latest at
 abbrev pub after_begin : Thread → ℕ → List ℕ → ℤ → Thread
 after_begin thread id text at = record {
   name = thread.name;
+  form = thread.form;
   first_start = option_or thread.first_start (Some (time_of thread at));
   latest = time_of thread at;
   word = thread.word ++ (Open id text (time_of thread at) ∷ []);
@@ -36,6 +38,7 @@ after_begin thread id text at = record {
 abbrev pub after_end : Thread → ℤ → Thread
 after_end thread at = record {
   name = thread.name;
+  form = thread.form;
   first_start = thread.first_start;
   latest = time_of thread at;
   word = thread.word ++ (Close (time_of thread at) ∷ []);
@@ -46,6 +49,7 @@ after_end thread at = record {
 abbrev pub after_registering : Thread → Details → Thread
 after_registering thread d = record {
   name = thread.name;
+  form = thread.form;
   first_start = thread.first_start;
   latest = thread.latest;
   word = thread.word;
@@ -61,6 +65,7 @@ RegistersScope old d (Err e) new = (new ≡ old) × ((e ≡ IdsExhausted) ⊎ (e
 abbrev pub after_handing : Thread → Thread
 after_handing thread = record {
   name = thread.name;
+  form = thread.form;
   first_start = thread.first_start;
   latest = thread.latest;
   word = [];
@@ -72,10 +77,14 @@ abbrev pub info_of_thread : Thread → Info
 info_of_thread thread = record { start = thread.first_start; name = thread.name }
 
 -- the bytes so far, and the offsets of the open scopes' sizes, the innermost first
-abbrev pub opened_after : ℕ × List ℕ → Event → ℕ × List ℕ
-opened_after sofar (Open id text start) =
-    (sofar.0 + head_size Short text, (sofar.0 + size_offset Short text) ∷ sofar.1)
-opened_after sofar (Close stop) = (sofar.0 + end_size, drop 1 sofar.1)
+abbrev pub opened_after : Form → ℕ × List ℕ → Event → ℕ × List ℕ
+opened_after form sofar (Open id text start) =
+    (sofar.0 + head_size form text, (sofar.0 + size_offset form text) ∷ sofar.1)
+opened_after form sofar (Close stop) = (sofar.0 + end_size, drop 1 sofar.1)
 
-abbrev pub open_offsets : List Event → List ℕ
-open_offsets word = (fold opened_after (0, []) word).1
+abbrev pub open_offsets : Form → List Event → List ℕ
+open_offsets form word = (fold (opened_after form) (0, []) word).1
+
+-- those of a thread's open scopes
+abbrev pub offsets_of : Thread → List ℕ
+offsets_of thread = open_offsets thread.form thread.word

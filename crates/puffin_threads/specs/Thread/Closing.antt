@@ -12,9 +12,10 @@ use Rattle.puffin_threads.specs.Thread.Info.{Info}
 use Rattle.puffin_threads.specs.Details.{Details}
 use Rattle.puffin_threads.specs.Thread.Calls.{Thread, after_end, after_handing, info_of_thread}
 
--- an honest record of scopes whose events are all that the thread has to report
+-- an honest record, in the thread's form, of scopes whose events are all that the thread has to report
 pub record IsReportOf (thread : Thread) (r : Recorded) : Type 0 where
   pub forest : Forest
+  pub form : r.form ≡ thread.form
   pub word : thread.word ≡ tour forest
   pub honest : IsHonestRecord r forest
 

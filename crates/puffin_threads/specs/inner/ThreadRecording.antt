@@ -1,7 +1,7 @@
 -- What a thread keeps of its scopes: the open ones, each in the one that stands after it, and what is closed in the innermost.
 use Rattle.std.specs.Prelude.{◌≡◌, ℕ, ◌*◌, ◌≤◌, ℤ, pos, ◌≤ℤ◌, List, [], ◌∷◌, length, reverse, fold, Option, Some, None, string_bytes}
 use Rattle.std.specs.Option.{option_map}
-use Rattle.puffin_data.specs.declared.data.form.Form.TheVariants.{Short}
+use Rattle.puffin_data.specs.declared.data.form.Form.{Form}
 use Rattle.puffin_data.specs.Forest.Spelling.{end_size}
 use Rattle.puffin_data.specs.declared.data.info.StreamInfo.{StreamInfo}
 use Rattle.puffin_data.specs.Forest.{Forest, IsForest, empty}
@@ -27,22 +27,24 @@ unfoldable pub scopes_in : List Event → List Opened × Forest
 scopes_in word = fold scopes_with ([], empty) word
 
 -- where the sizes of open scopes stand
-abbrev pub size_places : List Opened → List ℕ
-size_places [] = []
-size_places (o ∷ outer) = size_place Short o outer ∷ size_places outer
+abbrev pub size_places : Form → List Opened → List ℕ
+size_places form [] = []
+size_places form (o ∷ outer) = size_place form o outer ∷ size_places form outer
 
 -- open scopes that can be written, and that started from 0 on and not after this moment
-abbrev pub StartedBy : ℤ → List Opened → Type 0
-StartedBy latest [] = Unit {0}
-StartedBy latest (o ∷ outer) =
-    IsOpened Short o × (pos 0 ≤ℤ o.start) × (o.start ≤ℤ latest) × StartedBy latest outer
+abbrev pub StartedBy : Form → ℤ → List Opened → Type 0
+StartedBy form latest [] = Unit {0}
+StartedBy form latest (o ∷ outer) =
+    IsOpened form o × (pos 0 ≤ℤ o.start) × (o.start ≤ℤ latest) × StartedBy form latest outer
 
 -- the bytes are those of a stream with the scopes of their word, which can be written
-pub record HoldsScopes (bytes : List ℕ) (latest : ℤ) : Type 0 where
-  pub whole : bytes ≡ open_spelling Short (scopes_in (events_in bytes)).0 (scopes_in (events_in bytes)).1
-  pub opened : StartedBy latest (scopes_in (events_in bytes)).0
-  pub closed : IsForest Short (scopes_in (events_in bytes)).1
-  pub places : open_offsets (events_in bytes) ≡ size_places (scopes_in (events_in bytes)).0
+pub record HoldsScopes (form : Form) (bytes : List ℕ) (latest : ℤ) : Type 0 where
+  pub whole : bytes ≡ open_spelling form (scopes_in (events_in form bytes)).0
+      (scopes_in (events_in form bytes)).1
+  pub opened : StartedBy form latest (scopes_in (events_in form bytes)).0
+  pub closed : IsForest form (scopes_in (events_in form bytes)).1
+  pub places : open_offsets form (events_in form bytes)
+      ≡ size_places form (scopes_in (events_in form bytes)).0
 
 -- what is said of a stream's scopes, open ones among them
 pub record Counted (info : StreamInfo) (word : List Event) : Type 0 where
@@ -54,9 +56,10 @@ pub record Counted (info : StreamInfo) (word : List Event) : Type 0 where
 abbrev pub thread_in : Inside → Thread
 thread_in r = record {
   name = string_bytes r.name;
+  form = r.info.stream.form;
   first_start = r.first_start;
   latest = r.latest;
-  word = events_in r.info.stream.bytes;
+  word = events_in r.info.stream.form r.info.stream.bytes;
   details = details_seen r.details.items;
 }
 
@@ -64,14 +67,16 @@ thread_in r = record {
 abbrev pub spare_name : Inside → Option (List ℕ)
 spare_name r = option_map (λ s. string_bytes s) r.spare
 
--- what is true of each recording
-pub record IsRecording (r : Inside) : Type 0 where
-  pub form : r.info.stream.form ≡ Short
+-- what is true of each recording, whose texts are of this form
+pub record IsRecordingIn (form : Form) (r : Inside) : Type 0 where
   pub latest : pos 0 ≤ℤ r.latest
-  pub scopes : ∥ HoldsScopes r.info.stream.bytes r.latest ∥₁
-  pub counted : Counted r.info (events_in r.info.stream.bytes)
-  pub offsets : reverse r.offsets.items ≡ open_offsets (events_in r.info.stream.bytes)
+  pub scopes : ∥ HoldsScopes form r.info.stream.bytes r.latest ∥₁
+  pub counted : Counted r.info (events_in form r.info.stream.bytes)
+  pub offsets : reverse r.offsets.items ≡ open_offsets form (events_in form r.info.stream.bytes)
   -- each open scope can end without memory, and a copy of the name waits for the report of the last
   pub room : end_size * length r.offsets.items ≤ r.info.stream.room
   pub has_spare : spare_name r ≡ None → r.offsets.items ≡ []
   pub spare : (name : List ℕ) → spare_name r ≡ Some name → name ≡ string_bytes r.name
+
+abbrev pub IsRecording : Inside → Type 0
+IsRecording r = IsRecordingIn r.info.stream.form r

@@ -2,7 +2,7 @@
 
 ghost use Rattle.std.specs.Prelude.{◌≡◌, ◌≢◌, ℤ, pos, ◌≤ℤ◌, Some, OnOk, OnErr, IfOk, IfErr, slice_get};
 ghost use Rattle.puffin_data.specs.declared.error.Error.{Error};
-ghost use Rattle.puffin_threads.specs.Thread.Calls.{Thread, open_offsets};
+ghost use Rattle.puffin_threads.specs.Thread.Calls.{Thread, offsets_of};
 ghost use Rattle.puffin_threads.specs.Thread.Closing.{Closes, Reports};
 
 use crate::thread_profiler::clock::NsSource;
@@ -24,10 +24,10 @@ pub trait AnyThread {
     /// [`ThreadProfiler::end_scope`].
     fn end_innermost<R: Reporter>(&mut self, offset: usize, reporter: &mut R) -> Result<Closed>
         ensures innermost { OnOk result (
-            slice_get (open_offsets (recorded self.old).word) 0 ≡ Some offset) }
+            slice_get (offsets_of (recorded self.old)) 0 ≡ Some offset) }
         ensures mismatched { IfErr result (λ e.
             (e ≡ Error.MismatchedEnd)
-            × (slice_get (open_offsets (recorded self.old).word) 0 ≢ Some offset)) }
+            × (slice_get (offsets_of (recorded self.old)) 0 ≢ Some offset)) }
         ensures unchanged { OnErr result ((self.new ≡ self.old) × (reporter.new ≡ reporter.old)) }
         ensures closed { IfOk result (λ closed.
             (at : ℤ)

@@ -2,7 +2,7 @@
 //! the function.
 
 ghost use Rattle.std.specs.Prelude.{ℕ, ℤ, List, ◌≡◌, ◌+◌, ◌<◌, ◌^◌, ◌∷◌, ◌++◌, [], length, drop};
-ghost use Rattle.puffin_data.specs.declared.data.form.Form.TheVariants.{Short};
+ghost use Rattle.puffin_data.specs.declared.data.form.Form.{Form};
 ghost use Rattle.puffin_data.specs.Forest.Spelling.{size_offset};
 ghost use Rattle.puffin_data.specs.Forest.{Forest};
 ghost use Rattle.puffin_data.specs.Honesty.{Recorded, IsHonestRecord};
@@ -10,20 +10,21 @@ ghost use Rattle.puffin_data.specs.Forest.Tour.{Event, Open, Close};
 ghost use Rattle.puffin_data.specs.Forest.Words.{word_size, open_after};
 ghost use Rattle.puffin_threads.specs.Thread.Calls.{open_offsets};
 
-/// All that is honest of the same bytes is the same. So what a thread reports is what a successful
+/// All that is honest of the same bytes in one form is the same. So what a thread reports is what a successful
 /// [`puffin_data::data::StreamInfo::parse`] of the bytes gives.
 pub fn one_record()
     ensures { (a b : Recorded) (f g : Forest) → IsHonestRecord a f → IsHonestRecord b g →
-        length a.bytes < 2 ^ 63 → a.bytes ≡ b.bytes → a ≡ b }
+        length a.bytes < 2 ^ 63 → a.form ≡ b.form → a.bytes ≡ b.bytes → a ≡ b }
 {}
 
 /// The offsets of the open scopes: there are as many as scopes are open, a scope that begins puts its own before the
 /// others, and one that ends takes the first away.
 pub fn open_scopes()
-    ensures count { (word : List Event) → length (open_offsets word) ≡ open_after 0 word }
-    ensures begun { (word : List Event) (id : ℕ) (text : List ℕ) (start : ℤ) →
-        open_offsets (word ++ (Open id text start ∷ []))
-        ≡ (word_size Short word + size_offset Short text) ∷ open_offsets word }
-    ensures ended { (word : List Event) (stop : ℤ) →
-        open_offsets (word ++ (Close stop ∷ [])) ≡ drop 1 (open_offsets word) }
+    ensures count { (form : Form) (word : List Event) →
+        length (open_offsets form word) ≡ open_after 0 word }
+    ensures begun { (form : Form) (word : List Event) (id : ℕ) (text : List ℕ) (start : ℤ) →
+        open_offsets form (word ++ (Open id text start ∷ []))
+        ≡ (word_size form word + size_offset form text) ∷ open_offsets form word }
+    ensures ended { (form : Form) (word : List Event) (stop : ℤ) →
+        open_offsets form (word ++ (Close stop ∷ [])) ≡ drop 1 (open_offsets form word) }
 {}

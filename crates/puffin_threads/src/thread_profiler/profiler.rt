@@ -2,7 +2,7 @@ use crate::scope_details::{ScopeDetails, ScopeIds};
 use crate::thread_profiler::clock::NsSource;
 use crate::thread_profiler::recording::Recording;
 use crate::thread_profiler::reporter::{Closed, Reporter};
-use puffin_data::data::ScopeId;
+use puffin_data::data::{Form, ScopeId};
 use puffin_data::{Error, Result};
 use std::alloc::Global;
 use std::borrow::CowStr;
@@ -22,18 +22,17 @@ impl<C: NsSource> ThreadProfiler<C> {
     ghost use Rattle.std.specs.Prelude.{◌≡◌, ◌≢◌, ◌+◌, ℤ, pos, ◌≤ℤ◌, [], length, None, Some, OnOk, OnErr, IfOk, IfErr, string_bytes, slice_get};
     ghost use Rattle.puffin_data.specs.declared.error.Error.{Error};
     ghost use Rattle.std.specs.Cow.{cow_str_bytes};
-    ghost use Rattle.puffin_data.specs.declared.data.form.Form.TheVariants.{Short};
     ghost use Rattle.puffin_data.specs.Forest.Spelling.{size_offset};
     ghost use Rattle.puffin_data.specs.Text.{cut_text};
     ghost use Rattle.puffin_data.specs.Forest.Words.{word_size, open_after};
-    ghost use Rattle.puffin_threads.specs.Thread.Calls.{after_begin, RegistersScope, open_offsets};
+    ghost use Rattle.puffin_threads.specs.Thread.Calls.{after_begin, RegistersScope, offsets_of};
     ghost use Rattle.puffin_threads.specs.Details.{default_details};
     ghost use Rattle.puffin_threads.specs.Thread.Closing.{Closes, Reports};
     ghost use Rattle.puffin_threads.specs.Thread.ThreadProfiler.{thread_of, clock_of, allocator_of, with_clock};
     ghost use Rattle.puffin_threads.specs.contracts.thread_profiler.profiler.ThreadProfiler.{the_row};
     ghost use Rattle.std.specs.Borrow.{Lends, sem};
 
-    /// A thread without scopes, of this name.
+    /// A thread without scopes, of this name, for texts of the short form.
     ///
     /// ```
     /// let name = String::from_str(alloc, "main")?;
@@ -42,6 +41,23 @@ impl<C: NsSource> ThreadProfiler<C> {
     pub fn new(alloc: Global, name: String, clock: C) -> ThreadProfiler<C>
         ensures thread { thread_of result ≡ record {
           name = string_bytes name;
+          form = Form.Short;
+          first_start = None;
+          latest = pos 0;
+          word = [];
+          details = [];
+        } }
+        ensures clock { clock_of result ≡ clock }
+        ensures allocator { allocator_of result ≡ alloc }
+    {
+        ThreadProfiler::with_form(alloc, name, clock, Form::Short)
+    }
+
+    /// A thread without scopes, of this name, for texts of this form.
+    pub fn with_form(alloc: Global, name: String, clock: C, form: Form) -> ThreadProfiler<C>
+        ensures thread { thread_of result ≡ record {
+          name = string_bytes name;
+          form = form;
           first_start = None;
           latest = pos 0;
           word = [];
@@ -51,7 +67,7 @@ impl<C: NsSource> ThreadProfiler<C> {
         ensures allocator { allocator_of result ≡ alloc }
     {
         ThreadProfiler {
-            recording: Recording::new(alloc, name),
+            recording: Recording::new(alloc, name, form),
             clock,
             alloc,
         }
@@ -91,11 +107,13 @@ impl<C: NsSource> ThreadProfiler<C> {
             × C.answers (clock_of self.old) at (clock_of self.new)
             × (pos 0 ≤ℤ at)
             × (thread_of self.new
-            ≡ after_begin (thread_of self.old) id (cut_text Short text.now) at)) }
+            ≡ after_begin (thread_of self.old) id
+            (cut_text (thread_of self.old).form text.now) at)) }
         ensures offset { IfOk result (λ offset.
             offset
-            ≡ word_size Short (thread_of self.old).word
-            + size_offset Short (cut_text Short text.now)) }
+            ≡ word_size (thread_of self.old).form (thread_of self.old).word
+            + size_offset (thread_of self.old).form
+            (cut_text (thread_of self.old).form text.now)) }
         ensures unchanged { OnErr result (self.new ≡ self.old) }
         ensures memory { IfErr result (λ e. e ≡ Error.Memory) }
     {
@@ -114,10 +132,10 @@ impl<C: NsSource> ThreadProfiler<C> {
     /// ```
     pub fn end_scope<R: Reporter>(&mut self, offset: usize, reporter: &mut R) -> Result<Closed>
         ensures innermost { OnOk result (
-            slice_get (open_offsets (thread_of self.old).word) 0 ≡ Some offset) }
+            slice_get (offsets_of (thread_of self.old)) 0 ≡ Some offset) }
         ensures mismatched { IfErr result (λ e.
             (e ≡ Error.MismatchedEnd)
-            × (slice_get (open_offsets (thread_of self.old).word) 0 ≢ Some offset)) }
+            × (slice_get (offsets_of (thread_of self.old)) 0 ≢ Some offset)) }
         ensures unchanged { OnErr result ((self.new ≡ self.old) × (reporter.new ≡ reporter.old)) }
         ensures closed { IfOk result (λ closed.
             (at : ℤ)

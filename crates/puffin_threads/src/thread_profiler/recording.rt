@@ -1,14 +1,13 @@
 //! What one thread records, apart from its clock.
 
-ghost use Rattle.puffin_data.specs.declared.data.form.Form.TheVariants.{Short};
 ghost use Rattle.std.specs.Prelude.{◌≡◌, ◌+◌, ◌-◌, ◌*◌, ◌^◌, ◌<◌, ◌≤◌, ◌++◌, ℤ, pos, ◌≤ℤ◌, [], ◌==◌, length, None, max, OnOk, OnErr, IfOk, IfErr, IfSome, IfNone, string_bytes, slice_get, unwrap_or, option_map};
 ghost use Rattle.std.specs.Int.{int_min};
 ghost use Rattle.std.specs.Option.{option_or};
 ghost use Rattle.puffin_data.specs.declared.error.Error.{Error};
-ghost use Rattle.puffin_data.specs.Forest.Spelling.{begin_bytes, size_offset};
+ghost use Rattle.puffin_data.specs.Forest.Spelling.{begin_bytes, size_offset, head_size};
 ghost use Rattle.puffin_data.specs.Text.{cut_text};
 ghost use Rattle.puffin_data.specs.Forest.Words.{word_size, open_after};
-ghost use Rattle.puffin_threads.specs.Thread.Calls.{after_begin, after_end, after_handing, RegistersScope, open_offsets};
+ghost use Rattle.puffin_threads.specs.Thread.Calls.{after_begin, after_end, after_handing, RegistersScope, offsets_of};
 ghost use Rattle.puffin_threads.specs.Thread.Closing.{GoesTo};
 ghost use Rattle.puffin_threads.specs.Details.{details_of};
 
@@ -16,7 +15,7 @@ use crate::scope_details::{ScopeDetails, ScopeIds};
 use crate::thread_profiler::clock::NsSource;
 use crate::thread_profiler::reporter::Reporter;
 use crate::thread_profiler::thread_info::ThreadInfo;
-use puffin_data::data::{BEGIN_LIMIT, END_SIZE, ScopeId, Stream, StreamInfo};
+use puffin_data::data::{END_SIZE, Form, ScopeId, Stream, StreamInfo};
 use puffin_data::{Error, NanoSecond, Result};
 use std::alloc::Global;
 use std::marker::Model;
@@ -106,20 +105,22 @@ fn lower(time: &mut NanoSecond, to: NanoSecond)
 /// How many bytes the ends of the open scopes take, whose sizes stand at these offsets, and the end of one more.
 fn size_of_ends(offsets: &[usize]) -> usize
     ensures size { result ≡ END_SIZE * (length offsets.now + 1) }
-    ensures small { result + BEGIN_LIMIT < 2 ^ 64 }
+    ensures small { result + 2 ^ 15 < 2 ^ 64 }
 {
     END_SIZE * (offsets.len() + 1)
 }
 
 /// Writes a scope's beginning at a time, within the room, and returns where its size stands.
 fn write_begin(stream: &mut Stream, at: NanoSecond, id: ScopeId, text: &str) -> usize
-    requires room { BEGIN_LIMIT ≤ stream.old.room }
-    requires form { stream.old.form ≡ Short }
+    requires { head_size stream.old.form (cut_text stream.old.form text.now) ≤ stream.old.room }
     ensures bytes { stream.new.bytes
-        ≡ stream.old.bytes ++ begin_bytes Short id at (cut_text Short text.now) (2 ^ 64 - 1) }
+        ≡ stream.old.bytes
+        ++ begin_bytes stream.old.form id at (cut_text stream.old.form text.now)
+        (2 ^ 64 - 1) }
     ensures offset { result + 8 ≡ length stream.new.bytes }
-    ensures form { stream.new.form ≡ Short }
-    ensures room { stream.old.room ≤ stream.new.room + BEGIN_LIMIT }
+    ensures form { stream.new.form ≡ stream.old.form }
+    ensures room { stream.old.room
+        ≤ stream.new.room + head_size stream.old.form (cut_text stream.old.form text.now) }
     ensures id { (0 < id) × (id < 2 ^ 32) }
 {
     // The contract's last clause is what an id's number is.
@@ -129,10 +130,11 @@ fn write_begin(stream: &mut Stream, at: NanoSecond, id: ScopeId, text: &str) -> 
 }
 
 impl Recording {
-    /// A thread without scopes.
-    pub(crate) fn new(alloc: Global, name: String) -> Recording
+    /// A thread without scopes, for texts of this form.
+    pub(crate) fn new(alloc: Global, name: String, form: Form) -> Recording
         ensures { result ≡ record {
           name = string_bytes name;
+          form = form;
           first_start = None;
           latest = pos 0;
           word = [];
@@ -142,7 +144,7 @@ impl Recording {
         Recording {
             name,
             spare: None,
-            info: StreamInfo::new(alloc),
+            info: StreamInfo::with_form(alloc, form),
             first_start: None,
             latest: 0,
             offsets: Vec::new(alloc),
@@ -166,7 +168,7 @@ impl Recording {
 
     /// Where the size of the innermost open scope stands.
     pub(crate) fn innermost(&self) -> Option<usize>
-        ensures { result ≡ slice_get (open_offsets self.now.word) 0 }
+        ensures { result ≡ slice_get (offsets_of self.now) 0 }
     {
         self.offsets.last().copied()
     }
@@ -183,17 +185,19 @@ impl Recording {
             (at : ℤ)
             × C.answers clock.old at clock.new
             × (pos 0 ≤ℤ at)
-            × (self.new ≡ after_begin self.old id (cut_text Short text.now) at)) }
+            × (self.new ≡ after_begin self.old id (cut_text self.old.form text.now) at)) }
         ensures offset { IfOk result (λ offset.
             offset
-            ≡ word_size Short self.old.word + size_offset Short (cut_text Short text.now)) }
+            ≡ word_size self.old.form self.old.word
+            + size_offset self.old.form (cut_text self.old.form text.now)) }
         ensures unchanged { OnErr result ((self.new ≡ self.old) × (clock.new ≡ clock.old)) }
         ensures memory { IfErr result (λ e. e ≡ Error.Memory) }
     {
         keep_copy(&mut self.spare, &self.name)?;
         self.offsets.reserve(1)?;
         let ends = size_of_ends(&self.offsets);
-        self.info.stream.reserve(BEGIN_LIMIT + ends)?;
+        let begin = self.info.stream.form().begin_limit(text);
+        self.info.stream.reserve(begin + ends)?;
         let at = self.latest.max(clock.now_ns());
         let offset = write_begin(&mut self.info.stream, at, id, text);
         self.offsets.push_reserved(offset);

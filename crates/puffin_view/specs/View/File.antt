@@ -8,7 +8,7 @@ use Rattle.puffin_data.specs.declared.file_error.FileError.TheVariants as file
 use Rattle.puffin_data.specs.Part.{◌>>=◌}
 use Rattle.puffin_threads.specs.Details.{Details}
 use Rattle.puffin_threads.specs.Details.Collection.{no_details, with_all_details}
-use Rattle.puffin_frames.specs.Packet.Structs.{Legacy, streams_layout}
+use Rattle.puffin_frames.specs.Packet.Structs.{Legacy, form_of_all, streams_layout}
 use Rattle.puffin_frames.specs.Packet.Stored.{Said, Stored, packed, legacy}
 use Rattle.puffin_frames.specs.Packet.Front.{next_at}
 use Rattle.puffin_frames.specs.Packet.Grammar.{packet}
@@ -40,8 +40,13 @@ contents_in v = map contents_of (all_uniq v)
 
 -- what a frame says that was written at first: it has no details
 abbrev pub said_at_first : Legacy → Said
-said_at_first l =
-    record { meta = l.meta; kind = 0; streams = streams_layout l.streams; details = [] }
+said_at_first l = record {
+  meta = l.meta;
+  form = form_of_all l.streams;
+  kind = 0;
+  streams = streams_layout (form_of_all l.streams) l.streams;
+  details = [];
+}
 
 -- a frame that was read, as a view sees it
 abbrev pub frame_stored : Stored → Frame

@@ -1,6 +1,8 @@
 -- Frames and views as plain data.
 use Rattle.std.specs.Prelude.{ℕ, ℤ, Bool, List, Option, refl}
 use Rattle.std.specs.Coded.{Coded, code_by, coded×, coded_option, coded_list, coded_ℕ, coded_ℤ, coded_bool}
+use Rattle.puffin_data.specs.declared.data.form.Form.{Form}
+use Rattle.puffin_data.specs.Text.Flags.{form_code}
 use Rattle.puffin_frames.specs.declared.frame_data.meta.FrameMeta.{FrameMeta}
 use Rattle.puffin_threads.specs.Details.{Details, details_code}
 use Rattle.puffin_frames.specs.Packet.Stored.{Said}
@@ -17,10 +19,17 @@ meta_code =
 
 abbrev pub said_code : Coded Said
 said_code =
-    code_by (FrameMeta × (ℕ × (List ℕ × List Details))) (
-    coded× meta_code (coded× coded_ℕ (coded× (coded_list coded_ℕ) (coded_list details_code))))
-    (λ c. (c.meta, (c.kind, (c.streams, c.details))))
-    (λ p. record { meta = p.0; kind = p.1.0; streams = p.1.1.0; details = p.1.1.1 })
+    code_by (FrameMeta × (Form × (ℕ × (List ℕ × List Details)))) (
+    coded× meta_code (
+    coded× form_code (coded× coded_ℕ (coded× (coded_list coded_ℕ) (coded_list details_code)))))
+    (λ c. (c.meta, (c.form, (c.kind, (c.streams, c.details)))))
+    (λ p. record {
+      meta = p.0;
+      form = p.1.0;
+      kind = p.1.1.0;
+      streams = p.1.1.1.0;
+      details = p.1.1.1.1;
+    })
     (λ _. refl)
 
 abbrev pub frame_code : Coded Frame

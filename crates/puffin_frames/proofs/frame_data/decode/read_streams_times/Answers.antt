@@ -20,6 +20,6 @@ streams-preserved c =
     let whole : pairs_of c.insert.new.self.entries ≡ pairs_of es ++ (info_of k, record_of c.in_ok-thread.info) ∷ [] =
     pushed ∙ ap (λ (r : Recorded). pairs_of es ++ (info_of k, r) ∷ []) (ap record_of c.in_ok-new.ensures.ok) in
     record {
-      so_far = rw whole (one_more stream_at (pairs_of es) c.args.count c.streams.counter c.streams.cursor (info_of k, record_of c.in_ok-thread.info) c.read_stream.new.cursor (times_at stream_at c.args.count c.args.cursor.now) c.streams-test.true c.in_ok-thread.ensures c.streams.invariant.so_far);
+      so_far = rw whole (one_more (stream_at c.args.packed) (pairs_of es) c.args.count c.streams.counter c.streams.cursor (info_of k, record_of c.in_ok-thread.info) c.read_stream.new.cursor (times_at (stream_at c.args.packed) c.args.count c.args.cursor.now) c.streams-test.true c.in_ok-thread.ensures c.streams.invariant.so_far);
       sorted = rw pushed sorted;
     }

@@ -9,6 +9,6 @@ use Rattle.puffin_frames.proofs.frame_data.decode.read_streams_times.Given as go
 
 abbrev pub invariant-streams : goal.invariant-streams
 invariant-streams l = record {
-  so_far : with_front (pairs_of l.streams.entries) (times_at stream_at (l.count - l.counter) l.cursor) ≡ times_at stream_at l.count l.initial.cursor;
+  so_far : with_front (pairs_of l.streams.entries) (times_at (stream_at l.packed) (l.count - l.counter) l.cursor) ≡ times_at (stream_at l.packed) l.count l.initial.cursor;
   sorted : is_sorted info_cmp (pairs_of l.streams.entries) ≡ true;
 }

@@ -1,4 +1,4 @@
-use Rattle.std.proofs.Common.{◌≡◌, sym, ap, subst, ℕ, List, Result, Ok}
+use Rattle.std.proofs.Common.{◌≡◌, sym, ap, ◌∙◌, subst, ℕ, List, Result, Ok}
 use Rattle.std.proofs.lemmas.Result.{err_from_is_err_and}
 use Rattle.puffin_data.specs.declared.file_error.FileError.{FileError}
 use Rattle.puffin_threads.specs.Details.{Details}
@@ -10,19 +10,22 @@ use Rattle.puffin_frames.specs.Frame.Holding.{Packing}
 use Rattle.puffin_data.specs.Part.{◌>>=◌}
 use Rattle.puffin_frames.specs.Packet.Parts.{meta_part_at, streams_part_at, details_part_at}
 use Rattle.puffin_frames.specs.Packet.Forms.{packet_at}
+use Rattle.puffin_frames.specs.Packet.Letters.{form_behind}
+use Rattle.puffin_frames.specs.Frame.Contents.{packed_as}
+use Rattle.puffin_data.specs.declared.data.form.Form.{Form}
 use Rattle.puffin_data.proofs.lemmas.Devices.{fails_on, gives_on, stops, given}
 use Rattle.puffin_frames.proofs.frame_data.reading.read_packed.Goals as goal
 
-made : FrameMeta → ℕ × List ℕ → List Details → Said
-made m s ds = record { meta = m; kind = s.0; streams = s.1; details = ds }
+made : ℕ → FrameMeta → ℕ × List ℕ → List Details → Said
+made letter m s ds = record { meta = m; form = form_behind letter; kind = s.0; streams = s.1; details = ds }
 
 -- what follows the meta, and what follows the streams
 after_meta : ℕ → FrameMeta → List ℕ → Result (Said × List ℕ) FileError
 unfolding made
-after_meta letter m bytes = streams_part_at letter bytes >>= λ s. details_part_at letter s.1 >>= λ d. Ok (made m s.0 d.0, d.1)
+after_meta letter m bytes = streams_part_at letter bytes >>= λ s. details_part_at letter s.1 >>= λ d. Ok (made letter m s.0 d.0, d.1)
 
 after_streams : ℕ → FrameMeta → ℕ × List ℕ → List ℕ → Result (Said × List ℕ) FileError
-after_streams letter m s bytes = details_part_at letter bytes >>= λ d. Ok (made m s d.0, d.1)
+after_streams letter m s bytes = details_part_at letter bytes >>= λ d. Ok (made letter m s d.0, d.1)
 
 pub returns-in_err-kind-clause-part : goal.returns-in_err-kind-clause-part
 unfolding made after_meta after_streams
@@ -44,7 +47,7 @@ returns-in_err-scope_delta-clause-part g c =
     let s : (ℕ × List ℕ) = (c.in_ok-kind.kind, c.in_ok-kind.bytes.items) in
     rw (p.1, p.2) (fails_on e m _ _ _ meta_part_at (after_meta letter) c.in_ok-meta.ensures.part
     (fails_on e s _ _ _ (streams_part_at letter) (after_streams letter m) c.in_ok-kind.ensures.part
-    (stops e _ _ (details_part_at letter) (λ d bytes. Ok (made m s d, bytes)) c.in_err-scope_delta.ensures.part)))
+    (stops e _ _ (details_part_at letter) (λ d bytes. Ok (made letter m s d, bytes)) c.in_err-scope_delta.ensures.part)))
 
 pub returns-clause-part : goal.returns-clause-part
 unfolding made after_meta after_streams
@@ -53,12 +56,13 @@ returns-clause-part g c =
     let m = c.in_ok-meta.meta in
     let s : (ℕ × List ℕ) = (c.in_ok-kind.kind, c.in_ok-kind.bytes.items) in
     let d = shared_details c.in_ok-scope_delta.scope_delta.items in
-    let out : Said = made m s d in
-    let same : made m (c.new.result.kind, c.new.result.bytes.items) d ≡ out = ap (λ (p : Packing). made m (p.kind, p.bytes) d) c.new.ensures in
+    let out : Said = made letter m s d in
+    let says : Packing → Said = λ (p : Packing). record { meta = m; form = p.form; kind = p.kind; streams = p.bytes; details = d } in
+    let same : says (packed_as c.new.result) ≡ out = ap says c.new.ensures ∙ ap (λ (form : Form). record { meta = m; form = form; kind = s.0; streams = s.1; details = d }) c.packed_form_of.ensures in
     let old = g.S.Source.remaining c.args.source.now in
     let now = g.S.Source.remaining c.read_details_part.new.source in
     subst (λ (said : Said). FromDevice (λ (x : Said). x) old now (Ok said) (packet_at letter)) (sym same)
     (gives_on m out _ _ _ meta_part_at (after_meta letter) c.in_ok-meta.ensures.part
     (gives_on s out _ _ _ (streams_part_at letter) (after_streams letter m) c.in_ok-kind.ensures.part
-    (gives_on d out _ _ _ (details_part_at letter) (λ x bytes. Ok (made m s x, bytes)) c.in_ok-scope_delta.ensures.part
+    (gives_on d out _ _ _ (details_part_at letter) (λ x bytes. Ok (made letter m s x, bytes)) c.in_ok-scope_delta.ensures.part
     (given out _))))

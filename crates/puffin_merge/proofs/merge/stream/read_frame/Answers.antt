@@ -7,7 +7,7 @@ use Rattle.puffin_merge.specs.inner.Merging.{StandsFor}
 use Rattle.puffin_merge.specs.inner.Origins.{IsOrigin}
 use Rattle.puffin_merge.proofs.Paths.{top_path}
 use Rattle.puffin_merge.proofs.Entering.{origin_fits, passed_128}
-use Rattle.puffin_merge.proofs.StreamsMerged.{no_bytes, some_bytes, some_tries, nothing_taken, taken_of_frame, refused_of_frame}
+use Rattle.puffin_merge.proofs.StreamsMerged.{no_bytes, some_bytes, some_form, some_tries, nothing_taken, taken_of_frame, refused_of_frame}
 use Rattle.puffin_merge.proofs.merge.stream.read_frame.Goals as goal
 
 pub walk_with-requires : goal.walk_with-requires
@@ -28,25 +28,27 @@ walk_with-requires c κs =
 pub returns-in-None-clause-ok : goal.returns-in-None-clause-ok
 returns-in-None-clause-ok c =
     let same = passed_128 c.origin_of-merging.result (origin_fits c.origin_of-merging.result c.origin_of-merging.ensures.is) in
-    nothing_taken c.args.merging.now.table (to_z w128 (of_z w128 c.origin_of-merging.result)) _ _ (same ∙ c.origin_of-merging.ensures.origin) (no_bytes c.order_of_infos.ensures.total c.args.info.now c.args.frame.now c.in-None.ensures.value)
+    nothing_taken _ c.args.merging.now.table (to_z w128 (of_z w128 c.origin_of-merging.result)) _ _ (same ∙ c.origin_of-merging.ensures.origin) (no_bytes c.order_of_infos.ensures.total c.args.info.now c.args.frame.now c.in-None.ensures.value)
 
 pub returns-in-Some-clause-ok : goal.returns-in-Some-clause-ok
 returns-in-Some-clause-ok c =
     let same = passed_128 c.origin_of-merging.result (origin_fits c.origin_of-merging.result c.origin_of-merging.ensures.is) in
     let bytes = some_bytes c.order_of_infos.ensures.total c.args.info.now c.args.frame.now c.in-Some.times.now c.in-Some.ensures.value in
-    taken_of_frame c.args.merging.now.table (to_z w128 (of_z w128 c.origin_of-merging.result)) _ c.bytes.result.now _ c.walk_with.new.visitor c.walk_with.new.tries c.walk_with.result (same ∙ c.origin_of-merging.ensures.origin)
-    (c.bytes.ensures ∙ ap (λ s. s.stream.bytes) c.deref.ensures ∙ sym bytes) c.walk_with.ensures.ok
+    let form = some_form c.order_of_infos.ensures.total c.args.info.now c.args.frame.now c.in-Some.times.now c.in-Some.ensures.value in
+    taken_of_frame c.form.result _ c.args.merging.now.table (to_z w128 (of_z w128 c.origin_of-merging.result)) _ c.bytes.result.now _ c.walk_with.new.visitor c.walk_with.new.tries c.walk_with.result (c.form.ensures ∙ ap (λ s. s.stream.form) c.deref.ensures ∙ sym form) (same ∙ c.origin_of-merging.ensures.origin)
+    (c.bytes.ensures ∙ ap (λ s. s.stream.bytes) c.deref-in-Some.ensures ∙ sym bytes) c.walk_with.ensures.ok
 
 pub returns-in-Some-clause-err : goal.returns-in-Some-clause-err
 returns-in-Some-clause-err c =
     let same = passed_128 c.origin_of-merging.result (origin_fits c.origin_of-merging.result c.origin_of-merging.ensures.is) in
     let bytes = some_bytes c.order_of_infos.ensures.total c.args.info.now c.args.frame.now c.in-Some.times.now c.in-Some.ensures.value in
-    refused_of_frame c.args.merging.now.table (to_z w128 (of_z w128 c.origin_of-merging.result)) _ c.bytes.result.now _ c.walk_with.new.visitor c.walk_with.new.tries c.walk_with.result (same ∙ c.origin_of-merging.ensures.origin)
-    (c.bytes.ensures ∙ ap (λ s. s.stream.bytes) c.deref.ensures ∙ sym bytes) c.walk_with.ensures.err
+    let form = some_form c.order_of_infos.ensures.total c.args.info.now c.args.frame.now c.in-Some.times.now c.in-Some.ensures.value in
+    refused_of_frame c.form.result _ c.args.merging.now.table (to_z w128 (of_z w128 c.origin_of-merging.result)) _ c.bytes.result.now _ c.walk_with.new.visitor c.walk_with.new.tries c.walk_with.result (c.form.ensures ∙ ap (λ s. s.stream.form) c.deref.ensures ∙ sym form) (same ∙ c.origin_of-merging.ensures.origin)
+    (c.bytes.ensures ∙ ap (λ s. s.stream.bytes) c.deref-in-Some.ensures ∙ sym bytes) c.walk_with.ensures.err
 
 pub returns-in-Some-clause-few : goal.returns-in-Some-clause-few
 returns-in-Some-clause-few c =
-    let size = ap length (c.bytes.ensures ∙ ap (λ s. s.stream.bytes) c.deref.ensures) in
+    let size = ap length (c.bytes.ensures ∙ ap (λ s. s.stream.bytes) c.deref-in-Some.ensures) in
     some_tries c.order_of_infos.ensures.total c.args.info.now c.args.frame.now c.in-Some.times.now c.walk_with.new.tries c.in-Some.ensures.value (omega (arith, size, c.walk_with.ensures.few))
 
 pub returns-in-None-clause-short : goal.returns-in-None-clause-short
@@ -57,5 +59,5 @@ returns-in-None-clause-short c =
 pub returns-in-Some-clause-short : goal.returns-in-Some-clause-short
 returns-in-Some-clause-short c =
     let bytes = some_bytes c.order_of_infos.ensures.total c.args.info.now c.args.frame.now c.in-Some.times.now c.in-Some.ensures.value in
-    let size = ap length (c.bytes.ensures ∙ ap (λ s. s.stream.bytes) c.deref.ensures ∙ sym bytes) in
+    let size = ap length (c.bytes.ensures ∙ ap (λ s. s.stream.bytes) c.deref-in-Some.ensures ∙ sym bytes) in
     omega (arith, size)

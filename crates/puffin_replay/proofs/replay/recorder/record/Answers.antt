@@ -1,6 +1,7 @@
 -- The session is new before the run; or there is none.
 use Rattle.std.proofs.Common.{refl, subst, inl, map, string_bytes}
 use Rattle.std.proofs.lemmas.Result.{IfOk-weaker, IfErr-weaker}
+use Rattle.puffin_data.specs.declared.data.form.Form.TheVariants.{Short}
 use Rattle.puffin_session.specs.Session.Runs.{Records}
 use Rattle.puffin_replay.specs.Program.Recording.{IsBroken}
 use Rattle.puffin_session.specs.Session.{SessionState, new_session}
@@ -21,4 +22,4 @@ returns-in-Ok-clause-broken g c =
     c.record_session.ensures.broken
 
 pub returns-in-Err-clause-broken : goal.returns-in-Err-clause-broken
-returns-in-Err-clause-broken g c = (new_session (map string_bytes c.args.names.items), inl (refl, refl, record { taken = refl; details = refl }, nothing_written (g.D.Drain.contents c.args.drain.now)))
+returns-in-Err-clause-broken g c = (new_session (map (λ name. (string_bytes name, Short)) c.args.names.items), inl (refl, refl, record { taken = refl; details = refl }, nothing_written (g.D.Drain.contents c.args.drain.now)))

@@ -1,7 +1,7 @@
 -- Only the innermost scope's place ends one.
 use Rattle.std.proofs.Common.{◌∙◌, ap, length, w64, rules, ◌≡◌, ◌-◌, ℕ, get_or, take, vec_len, reverse, refl, inl, arith}
 use Rattle.std.proofs.lemmas.Result.{err_from_is_err_and}
-use Rattle.puffin_threads.specs.Thread.Calls.{Thread, open_offsets}
+use Rattle.puffin_threads.specs.Thread.Calls.{Thread, offsets_of}
 use Rattle.std.proofs.lemmas.Int.{to_z-of_z}
 use Rattle.puffin_session.proofs.Offsets.{innermost_last, outer_or_none, past_all, closed_places}
 use Rattle.puffin_collector.specs.Profiler.State.{AcceptsReport, RefusesReport}
@@ -12,7 +12,7 @@ pub returns-clause-back : goal.returns-clause-back
 returns-clause-back c =
     let items = c.self.inside.offsets.items in
     let depth : c.len-depth.result ≡ length items = search rules in
-    innermost_last items c.self.inside.profiler.recording.word c.args.back c.index-offset.result.now
+    innermost_last items c.self.inside.profiler.recording.form c.self.inside.profiler.recording.word c.args.back c.index-offset.result.now
     c.self.invariant.0
     (omega (arith, depth, c.if-depth-back.false))
     (c.index-offset.ensures ∙ ap (λ (n : ℕ). get_or items (n - 1 - c.args.back) c.index-offset.result.now) depth)
@@ -28,7 +28,7 @@ returns-then-depth-back-clause-cause c =
     let items = c.self.inside.offsets.items in
     let depth : c.len-depth.result ≡ length items = search rules in (
       refl,
-      past_all items c.args.self.now.word c.args.back (c.self.invariant.0 ∙ ap (λ (th : Thread). reverse (open_offsets th.word)) c.self.view_is) (omega (arith, depth, c.if-depth-back.true)),
+      past_all items c.args.self.now.form c.args.self.now.word c.args.back (c.self.invariant.0 ∙ ap (λ (th : Thread). reverse (offsets_of th)) c.self.view_is) (omega (arith, depth, c.if-depth-back.true)),
     )
 
 pub returns-in_err-closed-clause-cause : goal.returns-in_err-closed-clause-cause
@@ -36,7 +36,7 @@ returns-in_err-closed-clause-cause c =
     let items = c.self.inside.offsets.items in
     let depth : c.len-depth.result ≡ length items = search rules in
     let refused = c.in_err-closed.ensures.mismatched in
-    let outer = outer_or_none items c.self.inside.profiler.recording.word c.args.back c.index-offset.result.now
+    let outer = outer_or_none items c.self.inside.profiler.recording.form c.self.inside.profiler.recording.word c.args.back c.index-offset.result.now
     c.self.invariant.0
     (omega (arith, depth, c.if-depth-back.false))
     (c.index-offset.ensures ∙ ap (λ (n : ℕ). get_or items (n - 1 - c.args.back) c.index-offset.result.now) depth)

@@ -1,14 +1,12 @@
 -- Each call continues the history.
 use Rattle.std.proofs.Common.{◌+◌, ℕ, List, length, ◌∙◌, ap, subst, ℤ, rules, w64, String, Global}
 use Rattle.std.proofs.lemmas.Int.{to_z-of_z}
-use Rattle.puffin_data.specs.Forest.Spelling.{size_offset}
-use Rattle.puffin_data.specs.declared.data.form.Form.TheVariants.{Short}
 use Rattle.puffin_data.specs.Text.{cut_text}
-use Rattle.puffin_data.specs.Forest.Words.{word_size}
 use Rattle.puffin_threads.specs.Thread.Calls.{after_begin}
 use Rattle.puffin_session.specs.declared.command.Command.TheVariants.{End}
 use Rattle.puffin_session.specs.inner.Serving.{clock_time, session_thread, session_with_thread, Ends}
 use Rattle.puffin_session.proofs.Serving.{Continues-began, Continues-ended, Continues-handed, Continues-taken, Continues-registered, Continues-not_registered, Continues-added, Continues-not_added, Continues-wanted, Continues-not_begun, Continues-not_ended, Continues-not_reported, Continues-not_framed, same}
+use Rattle.puffin_session.specs.Session.{begun_place}
 use Rattle.puffin_session.specs.Session.Actions.{user_details}
 use Rattle.puffin_collector.specs.Profiler.Registering.{Adds, AddsSome}
 use Rattle.puffin_session.proofs.SessionCloses.{wanted-from}
@@ -22,9 +20,9 @@ returns-in-Ok-clause-continues c =
     let at = to_z-of_z w64 c.in-Begin.at (search rules) in
     let text = c.as_str.ensures.value in
     same now c.begin.new.self _ _ _ _ c.in-Begin.is
-    (it.1 ∙ ap (λ (x : ℤ). session_with_thread now t (after_begin (session_thread now t) c.in-Begin.id (cut_text Short c.as_str.result.now) (clock_time x)) now.collected) at
-    ∙ ap (λ (bytes : List ℕ). session_with_thread now t (after_begin (session_thread now t) c.in-Begin.id (cut_text Short bytes) (clock_time c.in-Begin.at)) now.collected) text)
-    (Continues-began now t c.in-Begin.at c.in-Begin.id c.in-Begin.text c.in-Ok.offset it.0 (it.2 ∙ ap (λ (bytes : List ℕ). word_size Short (session_thread now t).word + size_offset Short (cut_text Short bytes)) text))
+    (it.1 ∙ ap (λ (x : ℤ). session_with_thread now t (after_begin (session_thread now t) c.in-Begin.id (cut_text (session_thread now t).form c.as_str.result.now) (clock_time x)) now.collected) at
+    ∙ ap (λ (bytes : List ℕ). session_with_thread now t (after_begin (session_thread now t) c.in-Begin.id (cut_text (session_thread now t).form bytes) (clock_time c.in-Begin.at)) now.collected) text)
+    (Continues-began now t c.in-Begin.at c.in-Begin.id c.in-Begin.text c.in-Ok.offset it.0 (it.2 ∙ ap (begun_place (session_thread now t)) text))
 
 pub returns-in-Err-clause-continues : goal.returns-in-Err-clause-continues
 returns-in-Err-clause-continues c =
@@ -48,7 +46,7 @@ returns-in-Err-end-clause-continues c =
 pub returns-in-Ok-report_user-clause-continues : goal.returns-in-Ok-report_user-clause-continues
 returns-in-Ok-report_user-clause-continues c =
     let it = c.in-Ok-report_user.ensures.ok in
-    same c.args.self.now c.report_user.new.self _ _ _ _ c.in-ReportUser.is it.5 (Continues-handed c.args.self.now c.report_user.new.self.collected c.in-ReportUser.info c.in-ReportUser.stream it.0 it.1 it.2 it.3 it.4)
+    same c.args.self.now c.report_user.new.self _ _ _ _ c.in-ReportUser.is it.6 (Continues-handed c.args.self.now c.report_user.new.self.collected c.in-ReportUser.info c.in-ReportUser.stream it.0 it.1 it.2 it.3 it.4 it.5)
 
 pub returns-in-Err-report_user-clause-continues : goal.returns-in-Err-report_user-clause-continues
 returns-in-Err-report_user-clause-continues c =

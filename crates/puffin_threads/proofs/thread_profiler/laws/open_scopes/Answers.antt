@@ -2,10 +2,10 @@ use Rattle.puffin_threads.proofs.RecordedScopes.{length-open_offsets, offsets_op
 use Rattle.puffin_threads.proofs.thread_profiler.laws.open_scopes.Goals as goal
 
 pub returns-clause-count : goal.returns-clause-count
-returns-clause-count c word = length-open_offsets word
+returns-clause-count c form word = length-open_offsets form word
 
 pub returns-clause-begun : goal.returns-clause-begun
-returns-clause-begun c word id text start = offsets_opened word id text start
+returns-clause-begun c form word id text start = offsets_opened form word id text start
 
 pub returns-clause-ended : goal.returns-clause-ended
-returns-clause-ended c word stop = offsets_closed word stop
+returns-clause-ended c form word stop = offsets_closed form word stop

@@ -5,4 +5,4 @@ pub returns-clause-ids : goal.returns-clause-ids
 returns-clause-ids g c = report_accepted c.report.result _ _ _ _ _ c.report.ensures.ok
 
 pub returns-clause-cause : goal.returns-clause-cause
-returns-clause-cause g c = report_refused c.report.result _ _ _ _ c.report.ensures.err
+returns-clause-cause g c = report_refused c.report.result _ _ _ _ _ c.report.ensures.err

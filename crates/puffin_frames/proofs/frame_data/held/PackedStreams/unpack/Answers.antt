@@ -13,5 +13,5 @@ returns-in-Ok c =
     let es = c.in-Ok.streams.entries in
     let bytes = c.args.self.now.bytes.items in
     let h = c.if-self-ne0.false in
-    let read : whole streams_at bytes ≡ Some (pairs_of es) = rw c.deref.ensures.value at c.in-Ok.ensures.given in
+    let read : whole (streams_at c.args.self.now.form) bytes ≡ Some (pairs_of es) = rw c.deref.ensures.value at c.in-Ok.ensures.given in
     rw (h) (ap or_bad (ap (option_map from_sorted) read) ∙ ap Ok (streams-listed es c.in-Ok.ensures.sorted))

@@ -3,15 +3,15 @@ use Rattle.std.proofs.lemmas.Option.{slice_get_within}
 use Rattle.puffin_data.specs.Forest.Tour.{Close}
 use Rattle.puffin_data.specs.Forest.Words.{open_after}
 use Rattle.puffin_data.proofs.lemmas.WordMeasures.{open_after-append}
-use Rattle.puffin_threads.specs.Thread.Calls.{Thread, open_offsets, time_of}
+use Rattle.puffin_threads.specs.Thread.Calls.{Thread, offsets_of, time_of}
 use Rattle.puffin_threads.proofs.RecordedScopes.{length-open_offsets}
 use Rattle.puffin_threads.proofs.thread_profiler.profiler.ThreadProfiler.end_scope.Goals as goal
 
 pub close-requires : goal.close-requires
 close-requires g c =
-    let word = c.args.self.now.recording.word in
-    let innermost : slice_get (open_offsets word) 0 ≡ Some c.args.offset = search rules in
-    omega (arith, length-open_offsets word, slice_get_within (open_offsets word) 0 c.args.offset innermost)
+    let thread = c.args.self.now.recording in
+    let innermost : slice_get (offsets_of thread) 0 ≡ Some c.args.offset = search rules in
+    omega (arith, length-open_offsets thread.form thread.word, slice_get_within (offsets_of thread) 0 c.args.offset innermost)
 
 pub hand_over-requires-clause-none_open : goal.hand_over-requires-clause-none_open
 hand_over-requires-clause-none_open g c =

@@ -4,6 +4,7 @@ use Rattle.std.specs.Int.{int_max}
 use Rattle.std.proofs.lemmas.Bool.Decides.{nat_tests}
 use Rattle.std.proofs.lemmas.Int.{ints, to_z-of_z, clamps}
 use Rattle.std.proofs.lemmas.List.{length-append}
+use Rattle.puffin_data.specs.declared.data.form.Form.{Form}
 use Rattle.puffin_data.specs.Forest.Tour.{Close}
 use Rattle.puffin_data.specs.Forest.Words.{open_after}
 use Rattle.puffin_threads.specs.Thread.Events.{events_in}
@@ -78,8 +79,8 @@ returns-then-is_empty-clause-closed c =
     (search rules) in
     let greatest : at ≡ int_max inside.latest c.args.now_ns = grind (arith, ints, clamps, to_z-of_z) in
     let time : at ≡ time_of now c.args.now_ns = greatest ∙ ap (λ (t : Thread). int_max t.latest c.args.now_ns) c.self.view_is in
-    let word : events_in c.end_scope.new.self.bytes ≡ now.word ++ (Close (time_of now c.args.now_ns) ∷ []) = goes.word ∙ ap (λ (t : Thread). t.word ++ (Close at ∷ [])) c.self.view_is ∙ ap (λ (t : ℤ). now.word ++ (Close t ∷ [])) time in
-    same_thread _ _ (ap (λ (t : Thread). t.name) c.self.view_is) (ap (λ (t : Thread). t.first_start) c.self.view_is) time word (ap (λ (t : Thread). t.details) c.self.view_is)
+    let word : events_in c.end_scope.new.self.form c.end_scope.new.self.bytes ≡ now.word ++ (Close (time_of now c.args.now_ns) ∷ []) = ap (λ (form : Form). events_in form c.end_scope.new.self.bytes) c.end_scope.ensures.form ∙ goes.word ∙ ap (λ (t : Thread). t.word ++ (Close at ∷ [])) c.self.view_is ∙ ap (λ (t : ℤ). now.word ++ (Close t ∷ [])) time in
+    same_thread _ _ (ap (λ (t : Thread). t.name) c.self.view_is) (c.end_scope.ensures.form ∙ ap (λ (t : Thread). t.form) c.self.view_is) (ap (λ (t : Thread). t.first_start) c.self.view_is) time word (ap (λ (t : Thread). t.details) c.self.view_is)
 
 -- what holds of the value, where there is one
 if_some : {S : Type 0} (o : Option S) (P : S → Type 0) → ((x : S) → o ≡ Some x → P x) → IfSome o P
@@ -110,8 +111,8 @@ returns-else-is_empty-clause-closed c =
     (search rules) in
     let greatest : at ≡ int_max inside.latest c.args.now_ns = grind (arith, ints, clamps, to_z-of_z) in
     let time : at ≡ time_of now c.args.now_ns = greatest ∙ ap (λ (t : Thread). int_max t.latest c.args.now_ns) c.self.view_is in
-    let word : events_in c.end_scope.new.self.bytes ≡ now.word ++ (Close (time_of now c.args.now_ns) ∷ []) = goes.word ∙ ap (λ (t : Thread). t.word ++ (Close at ∷ [])) c.self.view_is ∙ ap (λ (t : ℤ). now.word ++ (Close t ∷ [])) time in
-    same_thread _ _ (ap (λ (t : Thread). t.name) c.self.view_is) (ap (λ (t : Thread). t.first_start) c.self.view_is) time word (ap (λ (t : Thread). t.details) c.self.view_is)
+    let word : events_in c.end_scope.new.self.form c.end_scope.new.self.bytes ≡ now.word ++ (Close (time_of now c.args.now_ns) ∷ []) = ap (λ (form : Form). events_in form c.end_scope.new.self.bytes) c.end_scope.ensures.form ∙ goes.word ∙ ap (λ (t : Thread). t.word ++ (Close at ∷ [])) c.self.view_is ∙ ap (λ (t : ℤ). now.word ++ (Close t ∷ [])) time in
+    same_thread _ _ (ap (λ (t : Thread). t.name) c.self.view_is) (c.end_scope.ensures.form ∙ ap (λ (t : Thread). t.form) c.self.view_is) (ap (λ (t : Thread). t.first_start) c.self.view_is) time word (ap (λ (t : Thread). t.details) c.self.view_is)
 
 pub returns-else-is_empty-clause-inner : goal.returns-else-is_empty-clause-inner
 returns-else-is_empty-clause-inner c =

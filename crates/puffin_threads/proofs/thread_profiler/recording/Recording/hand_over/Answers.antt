@@ -39,14 +39,14 @@ pub invariant_of-self : goal.invariant_of-self
 invariant_of-self g c =
     let h = c.self.invariant in
     let none = ap (λ (t : Thread). open_after 0 t.word) c.self.view_is ∙ c.requires.none_open in
-    cleared_in _ (c.clear.ensures.form ∙ h.form) h.latest c.clear.ensures.honest (none_open_in c.self.inside h none) h.spare
+    cleared_in _ h.latest c.clear.ensures.honest (none_open_in c.self.inside h none) h.spare
 
 pub returns-clause-ok : goal.returns-clause-ok
 returns-clause-ok g c =
     let none = ap (λ (t : Thread). open_after 0 t.word) c.self.view_is ∙ c.requires.none_open in
     let told = subst (λ (t : Thread). IsReportOf t (record_of c.self.inside.info)) c.self.view_is (report_in c.self.inside c.self.invariant none) in
     let same : (record { start = c.self.inside.first_start; name = string_bytes c.args.name }) ≡ info_of_thread c.args.self.now = λ i. record { start = (c.self.view_is i).first_start; name = c.requires.name i } in (
-      same_thread _ _ (ap (λ (t : Thread). t.name) c.self.view_is) (ap (λ (t : Thread). t.first_start) c.self.view_is) (ap (λ (t : Thread). t.latest) c.self.view_is) (none_in c.clear.new.self c.clear.ensures.honest) (ap details_seen c.clear-2.ensures.items),
+      same_thread _ _ (ap (λ (t : Thread). t.name) c.self.view_is) (c.clear.ensures.form ∙ ap (λ (t : Thread). t.form) c.self.view_is) (ap (λ (t : Thread). t.first_start) c.self.view_is) (ap (λ (t : Thread). t.latest) c.self.view_is) (none_in c.clear.new.self c.clear.ensures.honest) (ap details_seen c.clear-2.ensures.items),
       (
         record_of c.self.inside.info,
         told,

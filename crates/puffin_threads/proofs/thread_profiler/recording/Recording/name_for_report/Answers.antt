@@ -8,7 +8,6 @@ pub invariant_of-self-2 : goal.invariant_of-self-2
 invariant_of-self-2 c =
     let h = c.self.invariant in
     record {
-      form = c.self.invariant.form;
       latest = h.latest;
       scopes = h.scopes;
       counted = h.counted;

@@ -4,9 +4,8 @@ use Rattle.std.specs.FinMap as map
 use Rattle.puffin_data.specs.Honesty.{record_of_ref}
 use Rattle.puffin_frames.specs.Frame.Sums.{meta_of}
 use Rattle.puffin_collector.specs.Profiler.State.{Collected, PendingFits}
-use Rattle.puffin_collector.proofs.Knowing.{all_ids, not_all_ids}
 use Rattle.puffin_collector.proofs.Reporting.{Joins, sums_fit, range_is, adds_up, too_large, too_long, not_too_long, duration_fits}
-use Rattle.puffin_collector.proofs.collector.Collector.with_report.Goals as goal
+use Rattle.puffin_collector.proofs.collector.Collector.sums_with.Goals as goal
 
 -- how it adds up, where the range is too long and where it isn't
 at_test : (c : goal.Then-is_too_long) → Joins c.args.self.now c.self.inside.meta c.in-Some.meta (record_of_ref c.args.times.now)
@@ -33,26 +32,22 @@ after c = record {
   reported = subst (λ (v : Collected). v.reported + c.args.times.now.num_scopes < 2 ^ 64) c.self.view_is (omega arith);
 }
 
-pub returns-then-not-all_have_ids-clause-refusal : goal.returns-then-not-all_have_ids-clause-refusal
-returns-then-not-all_have_ids-clause-refusal c = inl (refl, not_all_ids _ c.args.details.now c.all_have_ids.ensures c.if-not-all_have_ids.true)
-
 pub returns-in_default-clause-refusal : goal.returns-in_default-clause-refusal
 returns-in_default-clause-refusal c =
     let sums = subst (λ (v : Collected). c.self.inside.meta ≡ meta_of v.index (map.values v.streams)) c.self.view_is c.self.invariant.0.sums in
-    inr (inl (refl, all_ids _ c.args.details.now c.all_have_ids.ensures c.if-not-all_have_ids.false, too_large _ _ _ sums c.in_default.ensures.none))
+    inl (refl, too_large _ _ _ sums c.in_default.ensures.none)
 
 pub returns-in_default-checked_add-clause-refusal : goal.returns-in_default-checked_add-clause-refusal
 returns-in_default-checked_add-clause-refusal c =
-    inr (inl (
+    inl (
       refl,
-      all_ids _ c.args.details.now c.all_have_ids.ensures c.if-not-all_have_ids.false,
       λ (fits : PendingFits c.args.self.now (record_of_ref c.args.times.now)). c.in_default-checked_add.ensures (subst (λ (v : Collected). v.reported + c.args.times.now.num_scopes < 2 ^ 64) (sym c.self.view_is) fits.reported),
-    ))
+    )
 
 pub returns-then-is_too_long-clause-refusal : goal.returns-then-is_too_long-clause-refusal
 returns-then-is_too_long-clause-refusal c =
     let range = range_is _ _ _ _ (at_test c) c.joined_ranges.ensures.start_of_one_more c.joined_ranges.ensures.stop_of_one_more in
-    inr (inr (inl (refl, all_ids _ c.args.details.now c.all_have_ids.ensures c.if-not-all_have_ids.false, sums_fit _ _ _ _ (at_test c), too_long _ _ _ range c.is_too_long.ensures c.if-is_too_long.true)))
+    inr (inl (refl, sums_fit _ _ _ _ (at_test c), too_long _ _ _ range c.is_too_long.ensures c.if-is_too_long.true))
 
 pub returns-clause-sums : goal.returns-clause-sums
 returns-clause-sums c =
@@ -60,9 +55,6 @@ returns-clause-sums c =
       adds_up _ _ _ _ (after c) range (duration_fits _ _ c.is_too_long.ensures c.if-is_too_long.false),
       subst (λ (v : Collected). c.in-Some-checked_add.reported ≡ v.reported + c.args.times.now.num_scopes) c.self.view_is (omega arith),
     )
-
-pub returns-clause-ids : goal.returns-clause-ids
-returns-clause-ids c = all_ids _ c.args.details.now c.all_have_ids.ensures c.if-not-all_have_ids.false
 
 pub returns-clause-fits : goal.returns-clause-fits
 returns-clause-fits c =
