@@ -61,7 +61,7 @@ pub(crate) fn groups(form: Form, text_size: usize) -> (u8, Option<u8>)
 }
 
 /// The length of a text at the front of a region, and how many bytes it takes there.
-#[inline]
+#[inline(always)]
 #[tactic(auto, unfolding(crate::specs::Text::Lengths::length_at))]
 pub(crate) fn length_in(form: Form, region: &[u8]) -> Result<(usize, usize)>
     ensures read { result ≡ length_at form region.now }

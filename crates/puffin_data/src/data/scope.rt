@@ -69,7 +69,7 @@ fn size_at(region: &[u8], place: usize) -> u64
 }
 
 /// What stands at the front of a region whose text begins and ends at these places.
-#[inline]
+#[inline(always)]
 #[tactic(auto, unfolding(crate::specs::Walk::Reading::sized_reading, crate::specs::Walk::Reading::found_in, crate::specs::Walk::Reading::size_in))]
 fn scope_around(
     form: Form,
@@ -88,11 +88,12 @@ fn scope_around(
         return Err(Error::PrematureEnd);
     }
     let size = size_at(region, text_end);
-    if size == u64::MAX {
-        return Err(Error::ScopeNeverEnded);
-    }
     if size >= (region.len() - child_begin) as u64 {
-        return Err(Error::PrematureEnd);
+        return Err(if size == u64::MAX {
+            Error::ScopeNeverEnded
+        } else {
+            Error::PrematureEnd
+        });
     }
     let child_end = child_begin + size as usize;
     if region[child_end] != SCOPE_END {
@@ -118,7 +119,7 @@ fn scope_around(
 }
 
 /// What stands at the front of a region after id and start.
-#[inline]
+#[inline(always)]
 fn scope_after(form: Form, region: &[u8]) -> Result<Option<Sighting<'_>>>
     requires { FRONT_SIZE + 1 ≤ length region.now }
     ensures { reading_of result
@@ -130,7 +131,7 @@ fn scope_after(form: Form, region: &[u8]) -> Result<Option<Sighting<'_>>>
 }
 
 /// Reads one scope at the front of a region. `None` where none begins there.
-#[inline]
+#[inline(always)]
 #[tactic(auto, unfolding(crate::specs::Walk::Reading::reading))]
 pub(crate) fn scope_in(form: Form, region: &[u8]) -> Result<Option<Sighting<'_>>>
     ensures { reading_of result ≡ reading form region.now }
