@@ -21,8 +21,28 @@ use puffin_frames::frame_data::FrameData;
 use puffin_frames::scope_details::{ScopeDetails, ScopeIds};
 use puffin_frames::thread_profiler::ThreadInfo;
 use std::alloc::Global;
+use std::hint::spin_loop;
 use std::sync::ledger::{Blank, Ledger};
 use std::sync::{Arc, Mutex, MutexGuard, Wait};
+use std::thread::yield_now;
+
+/// How often a thread looks whether the lock is free before it sleeps.
+const LOOKS: u32 = 20;
+/// How often the processor pauses after the first look.
+const FIRST_PAUSES: u32 = 16;
+/// After how many looks the pauses grow no longer, and other threads may run too.
+const GROWING: u32 = 5;
+
+/// Lets some time go by after so many looks at the lock, at first twice as much each time: so a thread waits at most about
+/// twice as long as it has to.
+fn pause(looks: u32) {
+    for _ in 0..FIRST_PAUSES << looks.min(GROWING) {
+        spin_loop();
+    }
+    if looks > GROWING {
+        yield_now();
+    }
+}
 
 /// A profiler behind a lock, for several threads. Each call but `clone` waits for the lock, and makes the call of that name of
 /// [`Booked`] under it.
@@ -97,9 +117,18 @@ impl<L: Ledger, M: Ledger> SharedProfiler<L, M> {
     }
 
     /// Waits for the lock, and lends what it keeps until the guard is dropped.
+    ///
+    /// A thread looks at the lock a few times, after longer and longer pauses, before it sleeps: most calls hold it for less
+    /// time than it takes to wake a thread.
     pub fn lock(&self, rt: &impl Wait) -> MutexGuard<'_, Booked<L, M>>
         requires { Unit {0} }
     {
+        for look in 0..LOOKS {
+            if let Some(guard) = self.booked.try_lock() {
+                return guard;
+            }
+            pause(look);
+        }
         self.booked.lock(rt)
     }
 
