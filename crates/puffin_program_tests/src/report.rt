@@ -72,7 +72,9 @@ fn a_long_thread_s_frame_is_printed_as_a_short_one_s(rt: HostRuntime) -> Outcome
     let (file, lines) = made(&rt, script.as_slice())?;
     assert_eq!(rt; file.len(), 80);
     assert!(rt; file.as_slice().starts_with(b"PUF0PFDL"));
-    assert!(rt; lines.as_slice() == b"frame 0 threads 1 scopes 1 bytes 35 duration 200\n");
+    assert!(rt;
+        lines.as_slice() == b"frame 0 threads 1 scopes 1 bytes 35 duration 200\n".as_slice()
+    );
     assert!(rt; prints(&rt, script.as_slice(), ONE_LINES)?);
     Ok(())
 }

@@ -178,8 +178,8 @@ fn a_long_line_is_the_first_that_names_its_thread(rt: HostRuntime) {
     let Ok(long) = script(&rt, b"long b\nbegin a 1 1\nbegin b 2 1\nlong c") else {
         panic!(rt; "the script is refused");
     };
-    assert!(rt; long.forms.as_slice() == [Form::Long, Form::Short, Form::Long]);
-    assert!(rt; long.lines.as_slice() == [2, 3]);
+    assert!(rt; long.forms.as_slice() == [Form::Long, Form::Short, Form::Long].as_slice());
+    assert!(rt; long.lines.as_slice() == [2, 3].as_slice());
     assert!(rt; fault(&rt, b"begin b 2 1\nlong b") == Some(ToolFault::Line(2)));
     assert!(rt; fault(&rt, b"long b\nlong b") == Some(ToolFault::Line(2)));
     assert!(rt; fault(&rt, b"long") == Some(ToolFault::Line(1)));
