@@ -59,7 +59,7 @@ fn a_copy_stays_when_an_info_is_cleared(rt: HostRuntime) -> std::result::Result<
     Ok(())
 }
 
-/// The info of one scope without a text, in the long form. Its bytes are those of the short form.
+/// The info of one scope in the long form. Its text is short, so its bytes are those of the short form.
 fn long_one(alloc: Global) -> Result<StreamInfo> {
     let bytes = Vec::from_slice(alloc, &ONE)?;
     StreamInfo::parse(alloc, Stream::from_bytes(bytes, Form::Long))
@@ -73,7 +73,7 @@ fn unlike_forms_are_not_joined(rt: HostRuntime) -> std::result::Result<(), Fail>
         info.extend(&long.as_stream_into_ref()),
         Err(Error::UnlikeForms)
     );
-    is_info(&rt, &info, (131, 3, 2), (100, 400));
+    is_info(&rt, &info, (127, 3, 2), (100, 400));
     Ok(())
 }
 
@@ -84,6 +84,6 @@ fn an_info_without_bytes_takes_the_other_s_form(rt: HostRuntime) -> std::result:
     assert_eq!(rt; info.stream.form(), Form::Long);
     info.extend(&StreamInfo::new(rt.alloc()).as_stream_into_ref())?;
     assert_eq!(rt; info.stream.form(), Form::Long);
-    is_info(&rt, &info, (31, 1, 1), (100, 300));
+    is_info(&rt, &info, (35, 1, 1), (100, 300));
     Ok(())
 }
