@@ -1,12 +1,12 @@
 -- Numbers that rise strictly, with one more behind them or one taken out.
-use Rattle.std.proofs.Common.{◌≡◌, ℕ, ◌+◌, ◌<◌, List, [], ◌∷◌, ◌++◌, length, take, drop, map, suc, zero, refl, sym, ap, ◌∙◌, subst, arith, rules}
+use Rattle.std.proofs.Common.{◌≡◌, ℕ, ◌+◌, ◌<◌, List, [], ◌∷◌, ◌++◌, length, take, drop, map, suc, zero, sym, ap, ◌∙◌, subst, arith, rules}
 use Rattle.std.specs.Prelude.{⊤, slice_get, slice_index, get_or, remove, Some}
 use Rattle.std.specs.List.Sorted.{IsStrictlyIncreasing}
 use Rattle.std.proofs.lemmas.List.{map-append, append_assoc}
 use Rattle.std.proofs.lemmas.Option.{get_or_from_slice_get}
 use Rattle.puffin.specs.declared.global_profiler.sink.Sink.{Sink}
 use Rattle.puffin.specs.declared.global_profiler.sinks.Entry.{Entry}
-use Rattle.puffin.specs.Sinks.{AreNumbered, PutsIn, TakesOut}
+use Rattle.puffin.specs.Sinks.{AreNumbered, TakesOut}
 
 -- each number is above the one before it, the first above this one
 abbrev Rises : ℕ → List ℕ → Type 0

@@ -1,5 +1,5 @@
 -- What remains of a refusal where the state that it speaks of is forgotten.
-use Rattle.std.proofs.Common.{◌≡◌, List, [], Result, Ok, Err, ◌⊎◌, inl, inr}
+use Rattle.std.proofs.Common.{◌≡◌, List, [], Result, Ok, Err, inl, inr}
 use Rattle.std.specs.Prelude.{OnOk, IfErr}
 use Rattle.std.proofs.lemmas.List.Elements.{All-nil}
 use Rattle.puffin_data.specs.declared.error.Error.{Error}

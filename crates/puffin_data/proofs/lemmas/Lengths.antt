@@ -1,6 +1,6 @@
 -- Lengths of texts: a layout is read again, what is read is a layout, and no layout begins another.
 use Rattle.std.proofs.Common.{◌≡◌, ℕ, ◌+◌, ◌-◌, ◌*◌, ◌/◌, ◌%◌, ◌<◌, ◌≤◌, Bool, true, false, cond, List, [], ◌∷◌, ◌++◌, length, take, drop, refl, sym, ap, ◌∙◌, arith, Result, Ok, Err, eqb, ltb, leb, ◌||◌, append_assoc}
-use Rattle.std.proofs.lemmas.List.{append_cancel_left, drop_at, take_at}
+use Rattle.std.proofs.lemmas.List.{append_cancel_left, take_at}
 use Rattle.std.specs.Prelude.{nat_le, ◌==◌}
 use Rattle.puffin_data.specs.declared.error.Error.{Error}
 use Rattle.puffin_data.specs.declared.error.Error.TheVariants.{PrematureEnd, InvalidStream}

@@ -1,5 +1,5 @@
 -- The measures of a word of events.
-use Rattle.std.specs.Prelude.{ℕ, ◌+◌, ◌-◌, ◌^◌, max, ℤ, pos, negsuc, List, [], ◌∷◌, length}
+use Rattle.std.specs.Prelude.{ℕ, ◌+◌, ◌-◌, ◌^◌, max, ℤ, pos, negsuc, List, [], ◌∷◌}
 use Rattle.std.specs.Int.{int_min, int_max}
 use Rattle.puffin_data.specs.declared.data.form.Form.{Form}
 use Rattle.puffin_data.specs.Forest.Spelling.{end_size, head_size}
