@@ -10,10 +10,10 @@ use std::process::Abort;
 use std::sync::Arc;
 use std::test::Fail;
 
-pub type Outcome = std::result::Result<(), Fail>;
+pub(crate) type Outcome = std::result::Result<(), Fail>;
 
 /// Frame 0 with one scope `data` of id 1 on the thread `main`, from 100 to 300.
-pub static PACKET: [u8; 75] = [
+pub(crate) static PACKET: [u8; 75] = [
     80, 70, 68, 52, 7, 0, 0, 0, 0, 200, 251, 88, 2, 35, 1, 50, 0, 0, 0, 0, 1, 1, 200, 4, 109, 97,
     105, 110, 35, 40, 1, 0, 0, 0, 100, 0, 0, 0, 0, 0, 0, 0, 4, 100, 97, 116, 97, 0, 0, 0, 0, 0, 0,
     0, 0, 41, 44, 1, 0, 0, 0, 0, 0, 0, 1, 1, 200, 251, 88, 2, 1, 0, 0, 0, 0,
@@ -38,7 +38,7 @@ static RUST_PACKETS: [u8; 314] = [
 ];
 
 /// Pieces, one after the other.
-pub fn bytes_of(alloc: Global, pieces: &[&[u8]]) -> std::result::Result<Vec<u8>, Fail> {
+pub(crate) fn bytes_of(alloc: Global, pieces: &[&[u8]]) -> std::result::Result<Vec<u8>, Fail> {
     let mut bytes = Vec::new(alloc);
     for piece in pieces {
         bytes.extend_from_slice(piece)?;
@@ -51,7 +51,7 @@ fn read(alloc: Global, bytes: &[u8]) -> std::result::Result<Option<FrameData>, F
     FrameData::read_next(alloc, &mut Counted::new(bytes))
 }
 
-pub fn read_one(alloc: Global, bytes: &[u8]) -> std::result::Result<FrameData, Fail> {
+pub(crate) fn read_one(alloc: Global, bytes: &[u8]) -> std::result::Result<FrameData, Fail> {
     Ok(read(alloc, bytes)?.ok_or("a frame")?)
 }
 
@@ -82,7 +82,12 @@ fn written(
 }
 
 /// Just these bytes are written of a frame.
-pub fn is_written(rt: &impl Abort, alloc: Global, frame: &FrameData, expected: &[u8]) -> Outcome {
+pub(crate) fn is_written(
+    rt: &impl Abort,
+    alloc: Global,
+    frame: &FrameData,
+    expected: &[u8],
+) -> Outcome {
     assert_eq!(rt; written(alloc, frame, None)?.as_slice(), expected);
     Ok(())
 }
@@ -93,7 +98,7 @@ fn info(alloc: Global) -> std::result::Result<StreamInfo, Fail> {
     Ok(StreamInfo::parse(alloc, stream)?)
 }
 
-pub fn main_thread(alloc: Global) -> std::result::Result<ThreadInfo, Fail> {
+pub(crate) fn main_thread(alloc: Global) -> std::result::Result<ThreadInfo, Fail> {
     Ok(ThreadInfo {
         start_time_ns: Some(100),
         name: String::from_str(alloc, "main")?,
@@ -126,7 +131,7 @@ fn in_file(details: ScopeDetails) -> ScopeDetails {
 }
 
 /// What a frame says: its index, its range, its bytes and scopes, and the size of its packed streams.
-pub fn facts(frame: &FrameData) -> (u64, (i64, i64), (usize, usize), Option<usize>) {
+pub(crate) fn facts(frame: &FrameData) -> (u64, (i64, i64), (usize, usize), Option<usize>) {
     let meta = frame.meta();
     let counts = (meta.num_bytes, meta.num_scopes);
     (
@@ -157,7 +162,7 @@ fn count_streams(frame: &mut FrameData) -> std::result::Result<usize, Fail> {
 }
 
 /// Why a frame isn't unpacked.
-pub fn fault_of_streams(frame: &mut FrameData) -> Option<FileError> {
+pub(crate) fn fault_of_streams(frame: &mut FrameData) -> Option<FileError> {
     frame.unpacked().err()
 }
 
