@@ -14,5 +14,5 @@ pub fn is_range(range: (NanoSecond, NanoSecond)) -> bool
     ensures too_long { result ≡ false → range.0 ≤ℤ range.1 → ¬ FitsSigned w64 (range.1 -ℤ range.0) }
 {
     let (start, stop) = range;
-    start <= stop && stop.checked_sub(start).is_some()
+    start <= stop && stop.wrapping_sub(start) >= 0
 }
