@@ -1,6 +1,7 @@
-use crate::samples::{ONE, end, id, stream_of};
+use crate::samples::{ONE, THREE, end, id, stream_of};
 use puffin_data::data::{Reader, Scope, Stream};
 use puffin_data::{Error, Result};
+use std::alloc::Global;
 use std::test::Fail;
 
 /// What stands at a place of a region, where there is such a region.
@@ -51,26 +52,45 @@ pub(crate) fn top_scopes<'s>(
     Ok((scopes, fault))
 }
 
-#[test]
-fn the_positions_of_a_scope_with_two_children(rt: HostRuntime) -> std::result::Result<(), Fail> {
-    let (one, two, three) = (id(1)?, id(2)?, id(3)?);
-    let mut stream = Stream::new(rt.alloc());
-    let (top, _) = stream.begin_scope(|| 100, one, "data_top")?;
-    let (first, _) = stream.begin_scope(|| 200, two, "data_middle_0")?;
+/// A scope with two children, written by calls.
+fn two_children(alloc: Global) -> std::result::Result<Stream, Fail> {
+    let mut stream = Stream::new(alloc);
+    let (top, _) = stream.begin_scope(|| 100, id(1)?, "data_top")?;
+    let (first, _) = stream.begin_scope(|| 200, id(2)?, "data_middle_0")?;
     end(&mut stream, first, 300)?;
-    let (second, _) = stream.begin_scope(|| 300, three, "data_middle_1")?;
+    let (second, _) = stream.begin_scope(|| 300, id(3)?, "data_middle_1")?;
     end(&mut stream, second, 400)?;
     end(&mut stream, top, 400)?;
-    assert_eq!(rt; stream.len(), 127);
+    Ok(stream)
+}
+
+/// When a scope begins, how long it is, where its children begin and end, and where its next sibling stands.
+fn places(scope: &Scope<'_>) -> (i64, i64, u64, u64, u64) {
+    (
+        scope.rec.start_ns,
+        scope.rec.duration_ns,
+        scope.child_begin_position,
+        scope.child_end_position,
+        scope.next_sibling_position,
+    )
+}
+
+#[test]
+fn the_positions_of_a_scope_with_two_children(rt: HostRuntime) -> std::result::Result<(), Fail> {
+    let stream = two_children(rt.alloc())?;
+    assert_eq!(rt; stream.bytes(), THREE.as_slice());
     let scopes = Reader::from_start(&stream).read_top_scopes(rt.alloc())?;
     assert_eq!(rt; scopes.len(), 1);
-    let Some(top) = scopes.first() else {
-        return Err(Fail::from("a top scope"));
-    };
-    assert_eq!(rt; (top.rec.start_ns, top.rec.duration_ns), (100, 300));
-    assert_eq!(rt; top.child_begin_position, 30);
-    assert_eq!(rt; top.child_end_position, 118);
-    assert_eq!(rt; top.next_sibling_position, 127);
+    assert_eq!(rt;
+        scopes.first().map(|scope| places(scope)),
+        Some((100, 300, 30, 118, 127))
+    );
+    Ok(())
+}
+
+#[test]
+fn the_times_of_two_children(rt: HostRuntime) -> std::result::Result<(), Fail> {
+    let stream = stream_of(rt.alloc(), THREE)?;
     let (inner, fault) = top_scopes(&rt, Reader::with_offset(&stream, 30)?)?;
     assert_eq!(rt; fault, None);
     let times: Vec<(i64, i64)> = inner
@@ -78,6 +98,12 @@ fn the_positions_of_a_scope_with_two_children(rt: HostRuntime) -> std::result::R
         .map(|s| (s.rec.start_ns, s.rec.duration_ns))
         .collect(rt.alloc())?;
     assert_eq!(rt; times.as_slice(), [(200, 100), (300, 100)].as_slice());
+    Ok(())
+}
+
+#[test]
+fn the_regions_of_two_children(rt: HostRuntime) -> std::result::Result<(), Fail> {
+    let stream = stream_of(rt.alloc(), THREE)?;
     assert_eq!(rt; next_of(&stream, 30, 118), Some(74));
     assert_eq!(rt; next_of(&stream, 118, 118), None);
     assert_eq!(rt; fault_at(&stream, 118, 118), None);

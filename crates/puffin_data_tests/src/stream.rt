@@ -1,7 +1,7 @@
 use crate::reader::{scope_at, top_scopes};
 use crate::samples::{ONE, end, id, stream_of};
 use puffin_data::Error;
-use puffin_data::data::{Reader, Stream};
+use puffin_data::data::{Reader, Scope, Stream};
 use std::test::Fail;
 
 #[test]
@@ -25,14 +25,28 @@ fn one_scope_takes_35_bytes(rt: HostRuntime) -> std::result::Result<(), Fail> {
     end(&mut stream, offset, 300)?;
     assert_eq!(rt; stream.bytes(), ONE.as_slice());
     assert_eq!(rt; stream.len(), 35);
+    Ok(())
+}
+
+/// What is read of a scope: its id, its times and its text.
+fn read_of<'s>(scope: &Scope<'s>) -> (u32, i64, i64, i64, &'s str) {
+    let record = scope.rec;
+    (
+        scope.id.get(),
+        record.start_ns,
+        record.duration_ns,
+        record.stop_ns(),
+        record.text,
+    )
+}
+
+#[test]
+fn one_scope_is_read_as_it_was_written(rt: HostRuntime) -> std::result::Result<(), Fail> {
+    let stream = stream_of(rt.alloc(), &ONE)?;
     let (scopes, fault) = top_scopes(&rt, Reader::from_start(&stream))?;
-    assert_eq!(rt; scopes.len(), 1);
-    assert_eq!(rt; fault, None);
-    assert_eq!(rt; scopes.first().map(|s| s.rec.start_ns), Some(100));
-    assert_eq!(rt; scopes.first().map(|s| s.rec.duration_ns), Some(200));
-    assert_eq!(rt; scopes.first().map(|s| s.rec.stop_ns()), Some(300));
-    assert_eq!(rt; scopes.first().map(|s| s.rec.text), Some("data"));
-    assert_eq!(rt; scopes.first().map(|s| s.id.get()), Some(1));
+    assert_eq!(rt; (scopes.len(), fault), (1, None));
+    let read = scopes.first().map(|scope| read_of(scope));
+    assert_eq!(rt; read, Some((1, 100, 200, 300, "data")));
     Ok(())
 }
 

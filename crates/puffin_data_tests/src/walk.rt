@@ -25,17 +25,22 @@ fn finds(
     let stream = stream_of(alloc, bytes)?;
     let mut tries = 99;
     let walk = Reader::walk(alloc, &stream, &mut tries)?;
-    assert_eq!(rt; (walk.num_scopes, walk.depth), (scopes, depth), "{what}");
-    assert_eq!(rt; walk.range_ns, range_ns, "{what}");
-    assert_eq!(rt; tries, scopes as u64, "{what}");
+    assert_eq!(rt;
+        (walk.num_scopes, walk.depth, walk.range_ns, tries),
+        (scopes, depth, range_ns, scopes as u64),
+        "{what}"
+    );
     assert_eq!(rt;
         Reader::count_scope_and_depth(alloc, &stream)?,
         (scopes, depth),
         "{what}"
     );
     let info = StreamInfo::parse(alloc, stream)?;
-    assert_eq!(rt; (info.num_scopes, info.depth), (scopes, depth), "{what}");
-    assert_eq!(rt; info.range_ns, range_ns, "{what}");
+    assert_eq!(rt;
+        (info.num_scopes, info.depth, info.range_ns),
+        (scopes, depth, range_ns),
+        "{what}"
+    );
     assert_eq!(rt; info.stream.bytes(), bytes, "{what}");
     Ok(())
 }
@@ -161,9 +166,8 @@ fn want_of_memory_is_told(rt: HostRuntime) {
     let mut tries = 99;
     match Reader::walk(alloc, &stream, &mut tries) {
         Ok(walk) => {
-            assert_eq!(rt; (walk.num_scopes, walk.depth), (40, 40));
-            assert_eq!(rt; walk.range_ns, (5, 7));
-            assert_eq!(rt; tries, 40);
+            let read = (walk.num_scopes, walk.depth, walk.range_ns, tries);
+            assert_eq!(rt; read, (40, 40, (5, 7), 40));
         }
         Err(e) => {
             assert_eq!(rt; e, Error::Memory);

@@ -33,6 +33,8 @@ use std::sync::{Arc, Wait};
 /// that name of [`GlobalProfiler`], and counts it in a share.
 #[derive(Drop)]
 pub struct Booked<L: Ledger, M: Ledger> {
+    /// Keeps the profiler off the cache line of the lock, at which other threads look while one has it.
+    apart: [u64; 16],
     profiler: GlobalProfiler,
     reported: Book<L>,
     handed: Book<M>,
@@ -64,6 +66,7 @@ impl<L: Ledger, M: Ledger> Booked<L, M> {
         ensures { result.profiler ≡ profiler }
     {
         Booked {
+            apart: [0; 16],
             profiler,
             reported,
             handed,
@@ -75,6 +78,7 @@ impl<L: Ledger, M: Ledger> Booked<L, M> {
         ensures { result ≡ self.profiler }
     {
         let Booked {
+            apart: _,
             profiler,
             reported: _,
             handed: _,

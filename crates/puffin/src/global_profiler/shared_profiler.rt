@@ -29,9 +29,9 @@ use std::thread::yield_now;
 /// How often a thread looks whether the lock is free before it sleeps.
 const LOOKS: u32 = 20;
 /// How often the processor pauses after the first look.
-const FIRST_PAUSES: u32 = 16;
+const FIRST_PAUSES: u32 = 64;
 /// After how many looks the pauses grow no longer, and other threads may run too.
-const GROWING: u32 = 5;
+const GROWING: u32 = 4;
 
 /// Lets some time go by after so many looks at the lock, at first twice as much each time: so a thread waits at most about
 /// twice as long as it has to.

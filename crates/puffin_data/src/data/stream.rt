@@ -72,6 +72,19 @@ fn cut(form: Form, text: &str) -> &str
     ensures cut { result.now ≡ cut_text form text.now }
     ensures short { length result.now ≤ text_limit form }
 {
+    if text.len() <= form.text_limit() {
+        return text;
+    }
+    cut_off(form, text)
+}
+
+/// The beginning of a text that has more bytes than are stored.
+#[cold]
+#[inline(never)]
+fn cut_off(form: Form, text: &str) -> &str
+    ensures cut { result.now ≡ cut_text form text.now }
+    ensures short { length result.now ≤ text_limit form }
+{
     let size = text.floor_char_boundary(form.text_limit());
     &text[..size]
 }

@@ -1,6 +1,8 @@
 ghost use Rattle.std.specs.Prelude.{◌≡◌, ◌⊎◌, ◌↔◌, ◌+◌, ◌^◌, ◌≤◌, true, IfOk, IfErr, OnOk, OnErr};
 ghost use Rattle.std.specs.Arc.{arc_value};
-ghost use Rattle.puffin_data.specs.Honesty.{record_of, record_of_ref, joined_record, AreUnlike};
+ghost use Rattle.puffin_data.specs.Forest.{empty};
+ghost use Rattle.puffin_data.specs.Honesty.{IsHonest, record_of, record_of_ref, joined_record, AreUnlike};
+ghost use Rattle.puffin_data.specs.declared.data.form.Form.{Form};
 ghost use Rattle.puffin_data.specs.declared.error.Error.{Error};
 ghost use Rattle.puffin_frames.specs.Frame.Contents.{without_sharing, shared_streams, stream_under, reported_to, pairs_of};
 ghost use Rattle.puffin_threads.specs.Thread.Info.{info_of};
@@ -11,6 +13,9 @@ use puffin_threads::thread_profiler::ThreadInfo;
 use std::alloc::Global;
 use std::collections::BTreeMap;
 use std::sync::Arc;
+
+/// The room, in bytes, for the first reports of a thread: of a few scopes each, they follow each other closely.
+const FIRST_ROOM: usize = 256;
 
 /// Streams by the infos of their threads.
 pub type ThreadStreams = BTreeMap<ThreadInfo, Arc<StreamInfo>>;
@@ -87,6 +92,19 @@ pub fn are_unlike(streams: &ThreadStreams, info: &ThreadInfo, times: &StreamInfo
     }
 }
 
+/// The info of no scope, for so many bytes. Where they are few there is room for more, if there is memory.
+fn fresh_info(alloc: Global, bytes: usize) -> StreamInfo
+    ensures honest { IsHonest result empty }
+    ensures form { result.stream.form ≡ Form.Short }
+{
+    let mut fresh = StreamInfo::new(alloc);
+    if bytes < FIRST_ROOM {
+        // Without the room it is only slower.
+        let _reserved = fresh.stream.reserve(FIRST_ROOM);
+    }
+    fresh
+}
+
 /// Appends an info's scopes to those that a map has under their thread.
 ///
 /// Refused with `UnlikeForms` where those and the info's have bytes in unlike forms, else with `TooLarge` where the
@@ -118,7 +136,7 @@ pub fn report_to(
     if let Some(shared) = streams.get_mut(&info) {
         return extend_shared(alloc, shared, times);
     }
-    let mut fresh = StreamInfo::new(alloc);
+    let mut fresh = fresh_info(alloc, times.stream.len());
     fresh.extend(times)?;
     let _before = streams.insert(info, Arc::new(alloc, fresh)?)?;
     Ok(())

@@ -40,8 +40,8 @@ returns-clause-ok c =
     let none = sym c.get_mut.ensures.value ∙ ap option_copied_mut c.in_default.is in
     let more = ap record_of (c.in_ok-new.ensures.ok) ∙ c.in_ok-extend.ensures.ok in
     let after = c.in_ok-_before.ensures.entries ∙ ap (λ m. insert_entry thread_cmp m.entries c.args.info c.in_ok-new.field-0) c.get_mut.follows.holds-at-none in
-    reported_first c.args.streams.now.entries c.args.info c.in_ok-new.field-0 c.insert.new.self.entries c.new-fresh.result (record_of_ref c.args.times.now)
-    none after c.new-fresh.ensures.form c.new-fresh.ensures.honest more
+    reported_first c.args.streams.now.entries c.args.info c.in_ok-new.field-0 c.insert.new.self.entries c.fresh_info-fresh.result (record_of_ref c.args.times.now)
+    none after c.fresh_info-fresh.ensures.form c.fresh_info-fresh.ensures.honest more
 
 there : (c : goal.After-drop-info) → IsRefusedBy c.extend_shared.result (stream_under (shared_streams c.args.streams.now.entries) (info_of c.args.info)) (record_of_ref c.args.times.now)
 there c =
@@ -57,47 +57,47 @@ returns-in-Some-clause-too_large c = (there c).too_large
 pub returns-in_err-extend-clause-unlike : goal.returns-in_err-extend-clause-unlike
 returns-in_err-extend-clause-unlike c =
     let none = none_under c.args.streams.now.entries c.args.info (sym c.get_mut.ensures.value ∙ ap option_copied_mut c.in_default.is) in
-    let fresh : record_of c.new-fresh.result ≡ no_scopes = recorded-none c.new-fresh.result c.new-fresh.ensures.form c.new-fresh.ensures.honest in
-    (refused_as c.from_residual.result _ (record_of c.new-fresh.result) _ (record_of_ref c.args.times.now) (same_cause c.from_residual.result c.in_err-extend.field-0.0 c.from_residual.ensures.1) (fresh ∙ sym none) (record { unlike = c.in_err-extend.ensures.unlike; too_large = c.in_err-extend.ensures.too_large })).unlike
+    let fresh : record_of c.fresh_info-fresh.result ≡ no_scopes = recorded-none c.fresh_info-fresh.result c.fresh_info-fresh.ensures.form c.fresh_info-fresh.ensures.honest in
+    (refused_as c.from_residual.result _ (record_of c.fresh_info-fresh.result) _ (record_of_ref c.args.times.now) (same_cause c.from_residual.result c.in_err-extend.field-0.0 c.from_residual.ensures.1) (fresh ∙ sym none) (record { unlike = c.in_err-extend.ensures.unlike; too_large = c.in_err-extend.ensures.too_large })).unlike
 
 pub returns-in_err-new-clause-unlike : goal.returns-in_err-new-clause-unlike
 returns-in_err-new-clause-unlike c =
     let none = none_under c.args.streams.now.entries c.args.info (sym c.get_mut.ensures.value ∙ ap option_copied_mut c.in_default.is) in
-    let fresh : record_of c.new-fresh.result ≡ no_scopes = recorded-none c.new-fresh.result c.new-fresh.ensures.form c.new-fresh.ensures.honest in
-    (not_refused c.from_residual-in_err-new.result _ (record_of c.new-fresh.result) _ (record_of_ref c.args.times.now) (not_unlike c.from_residual-in_err-new.result c.from_residual-in_err-new.ensures.1) (not_too_large c.from_residual-in_err-new.result c.from_residual-in_err-new.ensures.1) (fresh ∙ sym none) fresh (record { unlike = c.in_ok-extend.ensures.unlike; too_large = c.in_ok-extend.ensures.too_large })).unlike
+    let fresh : record_of c.fresh_info-fresh.result ≡ no_scopes = recorded-none c.fresh_info-fresh.result c.fresh_info-fresh.ensures.form c.fresh_info-fresh.ensures.honest in
+    (not_refused c.from_residual-in_err-new.result _ (record_of c.fresh_info-fresh.result) _ (record_of_ref c.args.times.now) (not_unlike c.from_residual-in_err-new.result c.from_residual-in_err-new.ensures.1) (not_too_large c.from_residual-in_err-new.result c.from_residual-in_err-new.ensures.1) (fresh ∙ sym none) fresh (record { unlike = c.in_ok-extend.ensures.unlike; too_large = c.in_ok-extend.ensures.too_large })).unlike
 
 pub returns-in_err-_before-clause-unlike : goal.returns-in_err-_before-clause-unlike
 returns-in_err-_before-clause-unlike c =
     let none = none_under c.args.streams.now.entries c.args.info (sym c.get_mut.ensures.value ∙ ap option_copied_mut c.in_default.is) in
-    let fresh : record_of c.new-fresh.result ≡ no_scopes = recorded-none c.new-fresh.result c.new-fresh.ensures.form c.new-fresh.ensures.honest in
-    (not_refused c.from_residual-in_err-_before.result _ (record_of c.new-fresh.result) _ (record_of_ref c.args.times.now) (not_unlike c.from_residual-in_err-_before.result c.from_residual-in_err-_before.ensures.1) (not_too_large c.from_residual-in_err-_before.result c.from_residual-in_err-_before.ensures.1) (fresh ∙ sym none) fresh (record { unlike = c.in_ok-extend.ensures.unlike; too_large = c.in_ok-extend.ensures.too_large })).unlike
+    let fresh : record_of c.fresh_info-fresh.result ≡ no_scopes = recorded-none c.fresh_info-fresh.result c.fresh_info-fresh.ensures.form c.fresh_info-fresh.ensures.honest in
+    (not_refused c.from_residual-in_err-_before.result _ (record_of c.fresh_info-fresh.result) _ (record_of_ref c.args.times.now) (not_unlike c.from_residual-in_err-_before.result c.from_residual-in_err-_before.ensures.1) (not_too_large c.from_residual-in_err-_before.result c.from_residual-in_err-_before.ensures.1) (fresh ∙ sym none) fresh (record { unlike = c.in_ok-extend.ensures.unlike; too_large = c.in_ok-extend.ensures.too_large })).unlike
 
 pub returns-clause-unlike : goal.returns-clause-unlike
 returns-clause-unlike c =
     let none = none_under c.args.streams.now.entries c.args.info (sym c.get_mut.ensures.value ∙ ap option_copied_mut c.in_default.is) in
-    let fresh : record_of c.new-fresh.result ≡ no_scopes = recorded-none c.new-fresh.result c.new-fresh.ensures.form c.new-fresh.ensures.honest in
-    (not_refused (Ok nothing) _ (record_of c.new-fresh.result) _ (record_of_ref c.args.times.now) (done_is_no UnlikeForms) (done_is_no TooLarge) (fresh ∙ sym none) fresh (record { unlike = c.in_ok-extend.ensures.unlike; too_large = c.in_ok-extend.ensures.too_large })).unlike
+    let fresh : record_of c.fresh_info-fresh.result ≡ no_scopes = recorded-none c.fresh_info-fresh.result c.fresh_info-fresh.ensures.form c.fresh_info-fresh.ensures.honest in
+    (not_refused (Ok nothing) _ (record_of c.fresh_info-fresh.result) _ (record_of_ref c.args.times.now) (done_is_no UnlikeForms) (done_is_no TooLarge) (fresh ∙ sym none) fresh (record { unlike = c.in_ok-extend.ensures.unlike; too_large = c.in_ok-extend.ensures.too_large })).unlike
 
 pub returns-in_err-extend-clause-too_large : goal.returns-in_err-extend-clause-too_large
 returns-in_err-extend-clause-too_large c =
     let none = none_under c.args.streams.now.entries c.args.info (sym c.get_mut.ensures.value ∙ ap option_copied_mut c.in_default.is) in
-    let fresh : record_of c.new-fresh.result ≡ no_scopes = recorded-none c.new-fresh.result c.new-fresh.ensures.form c.new-fresh.ensures.honest in
-    (refused_as c.from_residual.result _ (record_of c.new-fresh.result) _ (record_of_ref c.args.times.now) (same_cause c.from_residual.result c.in_err-extend.field-0.0 c.from_residual.ensures.1) (fresh ∙ sym none) (record { unlike = c.in_err-extend.ensures.unlike; too_large = c.in_err-extend.ensures.too_large })).too_large
+    let fresh : record_of c.fresh_info-fresh.result ≡ no_scopes = recorded-none c.fresh_info-fresh.result c.fresh_info-fresh.ensures.form c.fresh_info-fresh.ensures.honest in
+    (refused_as c.from_residual.result _ (record_of c.fresh_info-fresh.result) _ (record_of_ref c.args.times.now) (same_cause c.from_residual.result c.in_err-extend.field-0.0 c.from_residual.ensures.1) (fresh ∙ sym none) (record { unlike = c.in_err-extend.ensures.unlike; too_large = c.in_err-extend.ensures.too_large })).too_large
 
 pub returns-in_err-new-clause-too_large : goal.returns-in_err-new-clause-too_large
 returns-in_err-new-clause-too_large c =
     let none = none_under c.args.streams.now.entries c.args.info (sym c.get_mut.ensures.value ∙ ap option_copied_mut c.in_default.is) in
-    let fresh : record_of c.new-fresh.result ≡ no_scopes = recorded-none c.new-fresh.result c.new-fresh.ensures.form c.new-fresh.ensures.honest in
-    (not_refused c.from_residual-in_err-new.result _ (record_of c.new-fresh.result) _ (record_of_ref c.args.times.now) (not_unlike c.from_residual-in_err-new.result c.from_residual-in_err-new.ensures.1) (not_too_large c.from_residual-in_err-new.result c.from_residual-in_err-new.ensures.1) (fresh ∙ sym none) fresh (record { unlike = c.in_ok-extend.ensures.unlike; too_large = c.in_ok-extend.ensures.too_large })).too_large
+    let fresh : record_of c.fresh_info-fresh.result ≡ no_scopes = recorded-none c.fresh_info-fresh.result c.fresh_info-fresh.ensures.form c.fresh_info-fresh.ensures.honest in
+    (not_refused c.from_residual-in_err-new.result _ (record_of c.fresh_info-fresh.result) _ (record_of_ref c.args.times.now) (not_unlike c.from_residual-in_err-new.result c.from_residual-in_err-new.ensures.1) (not_too_large c.from_residual-in_err-new.result c.from_residual-in_err-new.ensures.1) (fresh ∙ sym none) fresh (record { unlike = c.in_ok-extend.ensures.unlike; too_large = c.in_ok-extend.ensures.too_large })).too_large
 
 pub returns-in_err-_before-clause-too_large : goal.returns-in_err-_before-clause-too_large
 returns-in_err-_before-clause-too_large c =
     let none = none_under c.args.streams.now.entries c.args.info (sym c.get_mut.ensures.value ∙ ap option_copied_mut c.in_default.is) in
-    let fresh : record_of c.new-fresh.result ≡ no_scopes = recorded-none c.new-fresh.result c.new-fresh.ensures.form c.new-fresh.ensures.honest in
-    (not_refused c.from_residual-in_err-_before.result _ (record_of c.new-fresh.result) _ (record_of_ref c.args.times.now) (not_unlike c.from_residual-in_err-_before.result c.from_residual-in_err-_before.ensures.1) (not_too_large c.from_residual-in_err-_before.result c.from_residual-in_err-_before.ensures.1) (fresh ∙ sym none) fresh (record { unlike = c.in_ok-extend.ensures.unlike; too_large = c.in_ok-extend.ensures.too_large })).too_large
+    let fresh : record_of c.fresh_info-fresh.result ≡ no_scopes = recorded-none c.fresh_info-fresh.result c.fresh_info-fresh.ensures.form c.fresh_info-fresh.ensures.honest in
+    (not_refused c.from_residual-in_err-_before.result _ (record_of c.fresh_info-fresh.result) _ (record_of_ref c.args.times.now) (not_unlike c.from_residual-in_err-_before.result c.from_residual-in_err-_before.ensures.1) (not_too_large c.from_residual-in_err-_before.result c.from_residual-in_err-_before.ensures.1) (fresh ∙ sym none) fresh (record { unlike = c.in_ok-extend.ensures.unlike; too_large = c.in_ok-extend.ensures.too_large })).too_large
 
 pub returns-clause-too_large : goal.returns-clause-too_large
 returns-clause-too_large c =
     let none = none_under c.args.streams.now.entries c.args.info (sym c.get_mut.ensures.value ∙ ap option_copied_mut c.in_default.is) in
-    let fresh : record_of c.new-fresh.result ≡ no_scopes = recorded-none c.new-fresh.result c.new-fresh.ensures.form c.new-fresh.ensures.honest in
-    (not_refused (Ok nothing) _ (record_of c.new-fresh.result) _ (record_of_ref c.args.times.now) (done_is_no UnlikeForms) (done_is_no TooLarge) (fresh ∙ sym none) fresh (record { unlike = c.in_ok-extend.ensures.unlike; too_large = c.in_ok-extend.ensures.too_large })).too_large
+    let fresh : record_of c.fresh_info-fresh.result ≡ no_scopes = recorded-none c.fresh_info-fresh.result c.fresh_info-fresh.ensures.form c.fresh_info-fresh.ensures.honest in
+    (not_refused (Ok nothing) _ (record_of c.fresh_info-fresh.result) _ (record_of_ref c.args.times.now) (done_is_no UnlikeForms) (done_is_no TooLarge) (fresh ∙ sym none) fresh (record { unlike = c.in_ok-extend.ensures.unlike; too_large = c.in_ok-extend.ensures.too_large })).too_large

@@ -1,7 +1,7 @@
 -- What the search for a boundary finds is where the cut ends.
 use Rattle.std.proofs.Common.{◌≡◌, ℕ, ◌-◌, ◌∙◌, ap, take, arith}
 use Rattle.puffin_data.proofs.lemmas.Cuts.{cut_text-found}
-use Rattle.puffin_data.proofs.data.stream.cut.Goals as goal
+use Rattle.puffin_data.proofs.data.stream.cut_off.Goals as goal
 
 pub returns-clause-cut : goal.returns-clause-cut
 returns-clause-cut c =
