@@ -18,7 +18,7 @@ module _ {I : Type 0} {F : I → Type 0} where
   next_sink_of profiler = profiler.sinks.next
 
   -- nothing was reported, the next frame has this index, and there are no sinks
-  pub record IsFresh (index : ℕ) (profiler : GlobalProfiler I F) : Type 0 where
+  pub record IsNewProfiler (index : ℕ) (profiler : GlobalProfiler I F) : Type 0 where
     pub collected : collected_of profiler ≡ record {
       index = index;
       reported = 0;

@@ -8,29 +8,29 @@ use Rattle.puffin_frames.specs.Frame.Contents.{Streams, AreHonest, holding_of, f
 use Rattle.puffin_frames.specs.Frame.Sums.{total_scopes}
 
 -- how many scopes were reported by it, and how many were in the frames that were handed out to it
-pub record Counts : Type 0 where
+pub record ShareCounts : Type 0 where
   pub reported : ℕ
   pub handed : ℕ
 
 -- a share that counts nothing yet
-abbrev pub no_counts : Counts
+abbrev pub no_counts : ShareCounts
 no_counts = record { reported = 0; handed = 0 }
 
-abbrev pub with_reported : Counts → ℕ → Counts
+abbrev pub with_reported : ShareCounts → ℕ → ShareCounts
 with_reported c n = record c { reported = c.reported + n }
 
-abbrev pub with_handed : Counts → ℕ → Counts
+abbrev pub with_handed : ShareCounts → ℕ → ShareCounts
 with_handed c n = record c { handed = c.handed + n }
 
 -- what all shares count together
-abbrev pub all_reported : List Counts → ℕ
+abbrev pub all_reported : List ShareCounts → ℕ
 all_reported shares = sum_by (λ c. c.reported) shares
 
-abbrev pub all_handed : List Counts → ℕ
+abbrev pub all_handed : List ShareCounts → ℕ
 all_handed shares = sum_by (λ c. c.handed) shares
 
 -- a share counts the scopes of a frame that is handed out to it, if there is one
-abbrev pub CountsFrame : {A : Type 0} → Counts → Option (Arc FrameData A) → Counts → Type 0
+abbrev pub CountsFrame : {A : Type 0} → ShareCounts → Option (Arc FrameData A) → ShareCounts → Type 0
 CountsFrame old None new = new ≡ old
 CountsFrame old (Some frame) new =
     new ≡ with_handed old (frame_meta (arc_value frame)).num_scopes

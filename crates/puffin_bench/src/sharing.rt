@@ -51,11 +51,16 @@ pub fn time_shared_views<R: Runtime + AllocGlobal + Wait>(rt: &R) -> Result<()> 
     print(rt, "new_frame_view", best, shared_views::FRAMES)
 }
 
-/// Times 2, 4 and 8 threads that report to one profiler, a report being a unit.
+/// Times 1, 2, 4 and 8 threads that report to one profiler, a report being a unit.
 pub fn time_threads<
     R: Runtime + AllocGlobal + Threads + Wait + Clock + Copy + Send + Sync + 'static,
 >(rt: R) -> Result<()> {
-    for (name, count) in [("threads_2", 2), ("threads_4", 4), ("threads_8", 8)] {
+    for (name, count) in [
+        ("threads_1", 1),
+        ("threads_2", 2),
+        ("threads_4", 4),
+        ("threads_8", 8),
+    ] {
         let mut best = u128::MAX;
         for _ in 0..THREAD_ROUNDS {
             best = best.min(threads::run(rt, rt.alloc(), count)?);

@@ -21,13 +21,13 @@ first_at bytes = do
   Ok (slice_index one.0 0, one.1)
 
 -- four bytes, as a number with its lowest byte first
-abbrev pub length_at : List ℕ → Result (ℕ × List ℕ) FileError
-length_at bytes = do
+abbrev pub part_length_at : List ℕ → Result (ℕ × List ℕ) FileError
+part_length_at bytes = do
   four ← part_of 4 bytes
   Ok (little_number 4 four.0, four.1)
 
 -- a length, and that many bytes
 abbrev pub counted_part_at : List ℕ → Result (List ℕ × List ℕ) FileError
 counted_part_at bytes = do
-  n ← length_at bytes
+  n ← part_length_at bytes
   part_of n.0 n.1

@@ -1,5 +1,6 @@
 -- What a walk over bytes reaches, where its first fault stands, and how many scopes it tries to read.
 pub mod Reading
+pub mod Sightings
 pub mod Sights
 pub mod Visitor
 pub mod Going

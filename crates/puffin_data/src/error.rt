@@ -19,7 +19,8 @@ pub type Result<T> = std::result::Result<T, Error>;
 pub enum Error {
     /// The bytes end within a scope, or a scope's id is 0.
     PrematureEnd,
-    /// Something else stands where a scope or its end has to stand, or a scope stops before it starts.
+    /// Something else stands where a scope or its end has to stand, a scope stops before it starts or lasts longer than fits,
+    /// or a long text's length has a second byte of 0 or one that a third follows.
     InvalidStream,
     /// A scope was begun and not ended.
     ScopeNeverEnded,

@@ -1,3 +1,4 @@
+use crate::equal::equal;
 use puffin_data::Error;
 use std::test::Fail;
 
@@ -22,9 +23,9 @@ fn each_error_has_a_number_and_a_name(rt: HostRuntime) -> std::result::Result<()
         (Error::Memory, 16, "Memory"),
         (Error::UnlikeForms, 17, "UnlikeForms"),
     ] {
-        assert_eq!(rt; error.number(), number);
-        assert_eq!(rt; error.name(), text);
-        assert_eq!(rt; error.to_string(rt.alloc())?.as_str(), text);
+        equal(&rt, error.number(), number);
+        equal(&rt, error.name(), text);
+        equal(&rt, error.to_string(rt.alloc())?.as_str(), text);
     }
     Ok(())
 }

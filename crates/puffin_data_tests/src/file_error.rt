@@ -1,3 +1,4 @@
+use crate::equal::equal;
 use puffin_data::{Error, FileError};
 use std::test::Fail;
 
@@ -23,8 +24,8 @@ fn each_file_error_has_a_number_and_a_text(rt: HostRuntime) -> std::result::Resu
         ),
         (FileError::Memory, 14, "Memory"),
     ] {
-        assert_eq!(rt; error.number(), number);
-        assert_eq!(rt; error.to_string(rt.alloc())?.as_str(), text);
+        equal(&rt, error.number(), number);
+        equal(&rt, error.to_string(rt.alloc())?.as_str(), text);
     }
     Ok(())
 }

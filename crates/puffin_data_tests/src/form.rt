@@ -1,3 +1,4 @@
+use crate::equal::equal;
 use crate::samples::{end, id};
 use puffin_data::data::{Form, Reader, Stream};
 use puffin_data::{Error, Result};
@@ -37,21 +38,33 @@ fn walked(alloc: Global, bytes: &[u8]) -> Result<usize> {
 #[test]
 fn texts_of_128_letters_in_both_forms(rt: HostRuntime) -> std::result::Result<(), Fail> {
     let (offset, long) = lettered(rt.alloc(), Form::Long, 127, 'a')?;
-    assert_eq!(rt; offset, 143);
-    assert_eq!(rt; length_bytes(&long), (160, Some(b"\x80\x01".as_slice())));
-    assert_eq!(rt; walked(rt.alloc(), long.bytes()), Ok(1));
+    equal(&rt, offset, 143);
+    equal(
+        &rt,
+        length_bytes(&long),
+        (160, Some(b"\x80\x01".as_slice())),
+    );
+    equal(&rt, walked(rt.alloc(), long.bytes()), Ok(1));
     let (_, short) = lettered(rt.alloc(), Form::Short, 127, 'a')?;
-    assert_eq!(rt; length_bytes(&short), (158, Some(b"\x7fa".as_slice())));
+    equal(&rt, length_bytes(&short), (158, Some(b"\x7fa".as_slice())));
     Ok(())
 }
 
 #[test]
 fn a_long_text_is_whole_or_cut_at_16383(rt: HostRuntime) -> std::result::Result<(), Fail> {
     let (_, whole) = lettered(rt.alloc(), Form::Long, 126, 'é')?;
-    assert_eq!(rt; length_bytes(&whole), (160, Some(b"\x80\x01".as_slice())));
+    equal(
+        &rt,
+        length_bytes(&whole),
+        (160, Some(b"\x80\x01".as_slice())),
+    );
     let (_, cut) = lettered(rt.alloc(), Form::Long, 16383, 'a')?;
-    assert_eq!(rt; length_bytes(&cut), (16415, Some(b"\xff\x7f".as_slice())));
-    assert_eq!(rt; walked(rt.alloc(), cut.bytes()), Ok(1));
+    equal(
+        &rt,
+        length_bytes(&cut),
+        (16415, Some(b"\xff\x7f".as_slice())),
+    );
+    equal(&rt, walked(rt.alloc(), cut.bytes()), Ok(1));
     Ok(())
 }
 
@@ -67,25 +80,36 @@ fn only_the_shortest_length_is_read(rt: HostRuntime) -> std::result::Result<(), 
         if let Some(byte) = bytes.get_mut(14) {
             *byte = second;
         }
-        assert_eq!(rt; walked(rt.alloc(), bytes.as_slice()), whole);
+        equal(&rt, walked(rt.alloc(), bytes.as_slice()), whole);
         // The length is read before the text and the size.
         bytes.truncate(15);
-        assert_eq!(rt; walked(rt.alloc(), bytes.as_slice()), Err(cut));
+        equal(&rt, walked(rt.alloc(), bytes.as_slice()), Err(cut));
     }
+    let mut bytes = Vec::from_slice(rt.alloc(), stream.bytes())?;
+    for (place, byte) in [(13, 0xff), (14, 0x80)] {
+        if let Some(at) = bytes.get_mut(place) {
+            *at = byte;
+        }
+    }
+    equal(
+        &rt,
+        walked(rt.alloc(), bytes.as_slice()),
+        Err(Error::InvalidStream),
+    );
     let cut = stream.bytes().get(..142).unwrap_or(&[]);
-    assert_eq!(rt; walked(rt.alloc(), cut), Err(Error::PrematureEnd));
+    equal(&rt, walked(rt.alloc(), cut), Err(Error::PrematureEnd));
     let cut = stream.bytes().get(..14).unwrap_or(&[]);
-    assert_eq!(rt; walked(rt.alloc(), cut), Err(Error::PrematureEnd));
+    equal(&rt, walked(rt.alloc(), cut), Err(Error::PrematureEnd));
     Ok(())
 }
 
 #[test]
 fn a_copy_and_a_cleared_stream_keep_the_form(rt: HostRuntime) -> std::result::Result<(), Fail> {
-    assert_eq!(rt; Stream::new(rt.alloc()).form(), Form::Short);
-    assert_eq!(rt; Stream::from(Vec::new(rt.alloc())).form(), Form::Short);
+    equal(&rt, Stream::new(rt.alloc()).form(), Form::Short);
+    equal(&rt, Stream::from(Vec::new(rt.alloc())).form(), Form::Short);
     let (_, mut stream) = lettered(rt.alloc(), Form::Long, 0, 'a')?;
-    assert_eq!(rt; stream.clone()?.form(), Form::Long);
+    equal(&rt, stream.clone()?.form(), Form::Long);
     stream.clear();
-    assert_eq!(rt; (stream.form(), stream.len()), (Form::Long, 0));
+    equal(&rt, (stream.form(), stream.len()), (Form::Long, 0));
     Ok(())
 }

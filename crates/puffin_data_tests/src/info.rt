@@ -1,3 +1,4 @@
+use crate::equal::equal;
 use crate::samples::{NONE, ONE, THREE, stream_of};
 use puffin_data::data::{Form, Stream, StreamInfo};
 use puffin_data::{Error, NanoSecond, Result};
@@ -69,9 +70,10 @@ fn long_one(alloc: Global) -> Result<StreamInfo> {
 fn unlike_forms_are_not_joined(rt: HostRuntime) -> std::result::Result<(), Fail> {
     let mut info = StreamInfo::parse(rt.alloc(), stream_of(rt.alloc(), THREE)?)?;
     let long = long_one(rt.alloc())?;
-    assert_eq!(rt;
+    equal(
+        &rt,
         info.extend(&long.as_stream_into_ref()),
-        Err(Error::UnlikeForms)
+        Err(Error::UnlikeForms),
     );
     is_info(&rt, &info, (127, 3, 2), (100, 400));
     Ok(())
@@ -81,9 +83,9 @@ fn unlike_forms_are_not_joined(rt: HostRuntime) -> std::result::Result<(), Fail>
 fn an_info_without_bytes_takes_the_other_s_form(rt: HostRuntime) -> std::result::Result<(), Fail> {
     let mut info = StreamInfo::new(rt.alloc());
     info.extend(&long_one(rt.alloc())?.as_stream_into_ref())?;
-    assert_eq!(rt; info.stream.form(), Form::Long);
+    equal(&rt, info.stream.form(), Form::Long);
     info.extend(&StreamInfo::new(rt.alloc()).as_stream_into_ref())?;
-    assert_eq!(rt; info.stream.form(), Form::Long);
+    equal(&rt, info.stream.form(), Form::Long);
     is_info(&rt, &info, (35, 1, 1), (100, 300));
     Ok(())
 }

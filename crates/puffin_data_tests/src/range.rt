@@ -1,3 +1,4 @@
+use crate::equal::equal;
 use puffin_data::data::is_range;
 
 #[test]
@@ -10,6 +11,6 @@ fn a_range_is_ordered_and_its_duration_fits(rt: HostRuntime) {
         ((i64::MIN, -1), true),
         ((i64::MIN, 0), false),
     ] {
-        assert_eq!(rt; is_range(range), expected);
+        equal(&rt, is_range(range), expected);
     }
 }

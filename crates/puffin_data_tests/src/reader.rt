@@ -1,3 +1,4 @@
+use crate::equal::equal;
 use crate::samples::{ONE, THREE, end, id, stream_of};
 use puffin_data::data::{Reader, Scope, Stream};
 use puffin_data::{Error, Result};
@@ -78,12 +79,13 @@ fn places(scope: &Scope<'_>) -> (i64, i64, u64, u64, u64) {
 #[test]
 fn the_positions_of_a_scope_with_two_children(rt: HostRuntime) -> std::result::Result<(), Fail> {
     let stream = two_children(rt.alloc())?;
-    assert_eq!(rt; stream.bytes(), THREE.as_slice());
+    equal(&rt, stream.bytes(), THREE.as_slice());
     let scopes = Reader::from_start(&stream).read_top_scopes(rt.alloc())?;
-    assert_eq!(rt; scopes.len(), 1);
-    assert_eq!(rt;
+    equal(&rt, scopes.len(), 1);
+    equal(
+        &rt,
         scopes.first().map(|scope| places(scope)),
-        Some((100, 300, 30, 118, 127))
+        Some((100, 300, 30, 118, 127)),
     );
     Ok(())
 }
@@ -92,22 +94,22 @@ fn the_positions_of_a_scope_with_two_children(rt: HostRuntime) -> std::result::R
 fn the_times_of_two_children(rt: HostRuntime) -> std::result::Result<(), Fail> {
     let stream = stream_of(rt.alloc(), THREE)?;
     let (inner, fault) = top_scopes(&rt, Reader::with_offset(&stream, 30)?)?;
-    assert_eq!(rt; fault, None);
+    equal(&rt, fault, None);
     let times: Vec<(i64, i64)> = inner
         .iter()
         .map(|s| (s.rec.start_ns, s.rec.duration_ns))
         .collect(rt.alloc())?;
-    assert_eq!(rt; times.as_slice(), [(200, 100), (300, 100)].as_slice());
+    equal(&rt, times.as_slice(), [(200, 100), (300, 100)].as_slice());
     Ok(())
 }
 
 #[test]
 fn the_regions_of_two_children(rt: HostRuntime) -> std::result::Result<(), Fail> {
     let stream = stream_of(rt.alloc(), THREE)?;
-    assert_eq!(rt; next_of(&stream, 30, 118), Some(74));
-    assert_eq!(rt; next_of(&stream, 118, 118), None);
-    assert_eq!(rt; fault_at(&stream, 118, 118), None);
-    assert_eq!(rt; fault_at(&stream, 30, 73), Some(Error::PrematureEnd));
+    equal(&rt, next_of(&stream, 30, 118), Some(74));
+    equal(&rt, next_of(&stream, 118, 118), None);
+    equal(&rt, fault_at(&stream, 118, 118), None);
+    equal(&rt, fault_at(&stream, 30, 73), Some(Error::PrematureEnd));
     Ok(())
 }
 
@@ -115,9 +117,10 @@ fn the_regions_of_two_children(rt: HostRuntime) -> std::result::Result<(), Fail>
 fn offsets_of_an_empty_stream(rt: HostRuntime) -> std::result::Result<(), Fail> {
     let stream = Stream::new(rt.alloc());
     assert!(rt; Reader::with_offset(&stream, 0).is_ok());
-    assert_eq!(rt;
+    equal(
+        &rt,
         Reader::with_offset(&stream, 1).err(),
-        Some(Error::InvalidOffset)
+        Some(Error::InvalidOffset),
     );
     assert!(rt; Reader::from_start(&stream).next().is_none());
     Ok(())
@@ -129,10 +132,11 @@ fn a_byte_left_over_ends_the_reader(rt: HostRuntime) -> std::result::Result<(), 
     bytes.push(0)?;
     let stream = Stream::from(bytes);
     let scopes = Reader::from_start(&stream).read_top_scopes(rt.alloc())?;
-    assert_eq!(rt; scopes.len(), 1);
-    assert_eq!(rt;
+    equal(&rt, scopes.len(), 1);
+    equal(
+        &rt,
         Reader::count_scope_and_depth(rt.alloc(), &stream).err(),
-        Some(Error::InvalidStream)
+        Some(Error::InvalidStream),
     );
     Ok(())
 }
@@ -158,12 +162,12 @@ fn a_fault_is_given_once(rt: HostRuntime) -> std::result::Result<(), Fail> {
         bytes.extend_from_slice(faulty)?;
         let stream = Stream::from(bytes);
         let (scopes, fault) = top_scopes(&rt, Reader::from_start(&stream))?;
-        assert_eq!(rt; scopes.len(), 1);
-        assert_eq!(rt; fault, Some(want));
+        equal(&rt, scopes.len(), 1);
+        equal(&rt, fault, Some(want));
         let refused = Reader::from_start(&stream)
             .read_top_scopes(rt.alloc())
             .err();
-        assert_eq!(rt; refused, Some(want));
+        equal(&rt, refused, Some(want));
     }
     Ok(())
 }
@@ -174,10 +178,10 @@ fn children_are_not_read(rt: HostRuntime) -> std::result::Result<(), Fail> {
         rt.alloc(),
         b"(\x01\0\0\0\0\0\0\0\0\0\0\0\0\x1f\0\0\0\0\0\0\0(\x02\0\0\0\0\0\0\0\0\0\0\0\0\x1f\0\0\0\0\0\0\0)\0\0\0\0\0\0\0\0)\0\0\0\0\0\0\0\0",
     )?;
-    assert_eq!(rt; stream.len(), 62);
+    equal(&rt, stream.len(), 62);
     let scopes = Reader::from_start(&stream).read_top_scopes(rt.alloc())?;
-    assert_eq!(rt; scopes.len(), 1);
-    assert_eq!(rt; fault_at(&stream, 22, 53), Some(Error::PrematureEnd));
+    equal(&rt, scopes.len(), 1);
+    equal(&rt, fault_at(&stream, 22, 53), Some(Error::PrematureEnd));
     Ok(())
 }
 
@@ -189,7 +193,7 @@ fn stored_bytes_that_are_not_text(rt: HostRuntime) -> std::result::Result<(), Fa
     )?;
     let len = stream.len();
     match scope_at(&stream, 0, len) {
-        Ok(Some(scope)) => assert_eq!(rt; scope.rec.text, "a"),
+        Ok(Some(scope)) => equal(&rt, scope.rec.text, "a"),
         _ => return Err(Fail::from("no scope is read")),
     }
     Ok(())

@@ -1,3 +1,4 @@
+use crate::equal::equal;
 use crate::reader::{scope_at, top_scopes};
 use crate::samples::{ONE, end, id, stream_of};
 use puffin_data::Error;
@@ -9,11 +10,11 @@ fn a_copy_stays_when_a_stream_is_cleared(rt: HostRuntime) -> std::result::Result
     let alloc = rt.alloc();
     assert!(rt; Stream::new(alloc).is_empty());
     let mut stream = stream_of(alloc, &ONE)?;
-    assert_eq!(rt; (stream.is_empty(), stream.len()), (false, 35));
+    equal(&rt, (stream.is_empty(), stream.len()), (false, 35));
     let copy = stream.clone()?;
     stream.clear();
-    assert_eq!(rt; (stream.is_empty(), stream.len()), (true, 0));
-    assert_eq!(rt; copy.bytes(), ONE.as_slice());
+    equal(&rt, (stream.is_empty(), stream.len()), (true, 0));
+    equal(&rt, copy.bytes(), ONE.as_slice());
     Ok(())
 }
 
@@ -21,10 +22,10 @@ fn a_copy_stays_when_a_stream_is_cleared(rt: HostRuntime) -> std::result::Result
 fn one_scope_takes_35_bytes(rt: HostRuntime) -> std::result::Result<(), Fail> {
     let mut stream = Stream::new(rt.alloc());
     let (offset, start) = stream.begin_scope(|| 100, id(1)?, "data")?;
-    assert_eq!(rt; (offset, start), (18, 100));
+    equal(&rt, (offset, start), (18, 100));
     end(&mut stream, offset, 300)?;
-    assert_eq!(rt; stream.bytes(), ONE.as_slice());
-    assert_eq!(rt; stream.len(), 35);
+    equal(&rt, stream.bytes(), ONE.as_slice());
+    equal(&rt, stream.len(), 35);
     Ok(())
 }
 
@@ -44,9 +45,9 @@ fn read_of<'s>(scope: &Scope<'s>) -> (u32, i64, i64, i64, &'s str) {
 fn one_scope_is_read_as_it_was_written(rt: HostRuntime) -> std::result::Result<(), Fail> {
     let stream = stream_of(rt.alloc(), &ONE)?;
     let (scopes, fault) = top_scopes(&rt, Reader::from_start(&stream))?;
-    assert_eq!(rt; (scopes.len(), fault), (1, None));
+    equal(&rt, (scopes.len(), fault), (1, None));
     let read = scopes.first().map(|scope| read_of(scope));
-    assert_eq!(rt; read, Some((1, 100, 200, 300, "data")));
+    equal(&rt, read, Some((1, 100, 200, 300, "data")));
     Ok(())
 }
 
@@ -84,10 +85,14 @@ fn long_texts_are_cut_at_a_character(rt: HostRuntime) -> std::result::Result<(),
     for (last, want) in cases {
         for (size, want) in (126..130).zip(want.iter()) {
             let letters = usize::saturating_sub(size, last.len_utf8());
-            assert_eq!(rt; stored_size(&rt, letters, last)?, *want, "{last} {size}");
+            equal(
+                &rt,
+                (last, size, stored_size(&rt, letters, last)?),
+                (last, size, *want),
+            );
         }
     }
-    assert_eq!(rt; stored_size(&rt, 126, 'é')?, 126);
+    equal(&rt, stored_size(&rt, 126, 'é')?, 126);
     Ok(())
 }
 
@@ -102,7 +107,7 @@ fn within_the_room_nothing_is_refused(rt: HostRuntime) -> std::result::Result<()
         end(&mut stream, offset, 300)?;
         assert!(rt; left <= stream.room());
     }
-    assert_eq!(rt; stream.len(), 70);
+    equal(&rt, stream.len(), 70);
     Ok(())
 }
 
@@ -120,14 +125,14 @@ fn a_refusal_leaves_stream_and_clock(rt: HostRuntime) -> std::result::Result<(),
     );
     match begun {
         Ok((offset, start)) => {
-            assert_eq!(rt; (offset, start), (18, 100));
-            assert_eq!(rt; stream.len(), 26);
-            assert_eq!(rt; asked, 1);
+            equal(&rt, (offset, start), (18, 100));
+            equal(&rt, stream.len(), 26);
+            equal(&rt, asked, 1);
         }
         Err(fault) => {
-            assert_eq!(rt; fault, Error::Memory);
+            equal(&rt, fault, Error::Memory);
             assert!(rt; stream.is_empty());
-            assert_eq!(rt; asked, 0);
+            equal(&rt, asked, 0);
         }
     }
     Ok(())
@@ -150,6 +155,6 @@ fn the_bytes_of_the_rust_crate(rt: HostRuntime) -> std::result::Result<(), Fail>
         b"(\x12\0\0\0\x91\x04\0\0\0\0\0\0\x04mesh\0\0\0\0\0\0\0\0)\x9b\x04\0\0\0\0\0\0",
     )?;
     want.extend_from_slice(b")\xc2\x04\0\0\0\0\0\0)\xc2\x04\0\0\0\0\0\0")?;
-    assert_eq!(rt; stream.bytes(), want.as_slice());
+    equal(&rt, stream.bytes(), want.as_slice());
     Ok(())
 }

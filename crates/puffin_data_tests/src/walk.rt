@@ -1,3 +1,4 @@
+use crate::equal::equal;
 use crate::samples::{NONE, ONE, THREE, leaf, nest, stream_of};
 use puffin_data::data::{Reader, Stream, StreamInfo};
 use puffin_data::{Error, NanoSecond, Result};
@@ -25,23 +26,23 @@ fn finds(
     let stream = stream_of(alloc, bytes)?;
     let mut tries = 99;
     let walk = Reader::walk(alloc, &stream, &mut tries)?;
-    assert_eq!(rt;
-        (walk.num_scopes, walk.depth, walk.range_ns, tries),
-        (scopes, depth, range_ns, scopes as u64),
-        "{what}"
+    equal(
+        rt,
+        (what, (walk.num_scopes, walk.depth, walk.range_ns, tries)),
+        (what, (scopes, depth, range_ns, scopes as u64)),
     );
-    assert_eq!(rt;
-        Reader::count_scope_and_depth(alloc, &stream)?,
-        (scopes, depth),
-        "{what}"
+    equal(
+        rt,
+        (what, Reader::count_scope_and_depth(alloc, &stream)?),
+        (what, (scopes, depth)),
     );
     let info = StreamInfo::parse(alloc, stream)?;
-    assert_eq!(rt;
-        (info.num_scopes, info.depth, info.range_ns),
-        (scopes, depth, range_ns),
-        "{what}"
+    equal(
+        rt,
+        (what, (info.num_scopes, info.depth, info.range_ns)),
+        (what, (scopes, depth, range_ns)),
     );
-    assert_eq!(rt; info.stream.bytes(), bytes, "{what}");
+    equal(rt, (what, info.stream.bytes()), (what, bytes));
     Ok(())
 }
 
@@ -56,22 +57,22 @@ fn refuses(
 ) -> Result<()> {
     let stream = stream_of(alloc, bytes)?;
     let mut tries = 99;
-    assert_eq!(rt;
-        Reader::walk(alloc, &stream, &mut tries).err(),
-        Some(fault),
-        "{what}"
+    equal(
+        rt,
+        (what, Reader::walk(alloc, &stream, &mut tries).err()),
+        (what, Some(fault)),
     );
-    assert_eq!(rt; tries, made, "{what}");
-    assert_eq!(rt;
-        Reader::count_scope_and_depth(alloc, &stream).err(),
-        Some(fault),
-        "{what}"
+    equal(rt, (what, tries), (what, made));
+    equal(
+        rt,
+        (what, Reader::count_scope_and_depth(alloc, &stream).err()),
+        (what, Some(fault)),
     );
-    assert_eq!(rt; stream.bytes(), bytes, "{what}");
-    assert_eq!(rt;
-        StreamInfo::parse(alloc, stream).err(),
-        Some(fault),
-        "{what}"
+    equal(rt, (what, stream.bytes()), (what, bytes));
+    equal(
+        rt,
+        (what, StreamInfo::parse(alloc, stream).err()),
+        (what, Some(fault)),
     );
     Ok(())
 }
@@ -167,41 +168,41 @@ fn want_of_memory_is_told(rt: HostRuntime) {
     match Reader::walk(alloc, &stream, &mut tries) {
         Ok(walk) => {
             let read = (walk.num_scopes, walk.depth, walk.range_ns, tries);
-            assert_eq!(rt; read, (40, 40, (5, 7), 40));
+            equal(&rt, read, (40, 40, (5, 7), 40));
         }
         Err(e) => {
-            assert_eq!(rt; e, Error::Memory);
+            equal(&rt, e, Error::Memory);
             assert!(rt; tries <= 41);
         }
     }
     match Reader::count_scope_and_depth(alloc, &stream) {
-        Ok(counted) => assert_eq!(rt; counted, (40, 40)),
-        Err(e) => assert_eq!(rt; e, Error::Memory),
+        Ok(counted) => equal(&rt, counted, (40, 40)),
+        Err(e) => equal(&rt, e, Error::Memory),
     }
     let mut info = match StreamInfo::parse(alloc, stream) {
         Ok(info) => info,
         Err(e) => {
-            assert_eq!(rt; e, Error::Memory);
+            equal(&rt, e, Error::Memory);
             return;
         }
     };
     let mut copy = match info.clone() {
         Ok(copy) => copy,
         Err(e) => {
-            assert_eq!(rt; e, Error::Memory);
+            equal(&rt, e, Error::Memory);
             return;
         }
     };
-    assert_eq!(rt; copy.stream.bytes(), info.stream.bytes());
+    equal(&rt, copy.stream.bytes(), info.stream.bytes());
     match info.extend(&copy.as_stream_into_ref()) {
         Ok(()) => {
-            assert_eq!(rt; (info.num_scopes, info.depth), (80, 40));
-            assert_eq!(rt; info.stream.len(), 2480);
+            equal(&rt, (info.num_scopes, info.depth), (80, 40));
+            equal(&rt, info.stream.len(), 2480);
         }
         Err(e) => {
-            assert_eq!(rt; e, Error::Memory);
-            assert_eq!(rt; (info.num_scopes, info.depth), (40, 40));
-            assert_eq!(rt; info.stream.bytes(), copy.stream.bytes());
+            equal(&rt, e, Error::Memory);
+            equal(&rt, (info.num_scopes, info.depth), (40, 40));
+            equal(&rt, info.stream.bytes(), copy.stream.bytes());
         }
     }
     copy.clear();

@@ -7,7 +7,7 @@ use Rattle.byteorder.specs.Numbers.{little_number-reads_back}
 use Rattle.puffin_data.specs.declared.data.form.Form.{Form}
 use Rattle.puffin_data.specs.declared.data.form.Form.TheVariants.{Short, Long}
 use Rattle.puffin_data.specs.declared.file_error.FileError.{FileError}
-use Rattle.puffin_data.specs.Part.{part_of, length_at, counted_part_at}
+use Rattle.puffin_data.specs.Part.{part_of, part_length_at, counted_part_at}
 use Rattle.puffin_data.specs.Value.Layout.{NoneBeginsAnother}
 use Rattle.puffin_data.proofs.lemmas.Readers.{whole_again}
 use Rattle.puffin_frames.specs.Packet.Structs.{IsMeta, meta_layout, meta_at, AreDetails, details_layout, details_at}
@@ -25,7 +25,7 @@ part_again n t rest len =
     let long : ltb (length (t ++ rest)) n ≡ false = le-ltb _ _ (omega (arith, length-append t rest, len)) in
     rw (long, take_at t rest n len, drop_at t rest n len) refl
 
-pub length_again : (n : ℕ) (rest : List ℕ) → n < 2 ^ 32 → length_at (little_bytes 4 n ++ rest) ≡ Ok (n, rest)
+pub length_again : (n : ℕ) (rest : List ℕ) → n < 2 ^ 32 → part_length_at (little_bytes 4 n ++ rest) ≡ Ok (n, rest)
 length_again n rest h =
     let back : little_number 4 (little_bytes 4 n ++ []) ≡ n = little_number-reads_back 4 n [] (omega arith) in
     rw (part_again 4 (little_bytes 4 n) rest refl) (ap (λ (k : ℕ). Ok (k, rest)) back)

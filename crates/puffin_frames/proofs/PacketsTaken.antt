@@ -10,7 +10,7 @@ use Rattle.puffin_data.specs.declared.file_error.FileError.{FileError}
 use Rattle.puffin_data.specs.declared.file_error.FileError.TheVariants as file
 use Rattle.puffin_data.specs.Value.Layout.{IsBytes, number}
 use Rattle.puffin_data.specs.Device.{FromDevice}
-use Rattle.puffin_data.specs.Part.{◌>>=◌, part_of, length_at}
+use Rattle.puffin_data.specs.Part.{◌>>=◌, part_of, part_length_at}
 use Rattle.puffin_data.proofs.lemmas.Numbers.{IsBytes-take, IsBytes-drop, IsBytes-nil, IsBytes-append, bytes_4, below_4}
 use Rattle.puffin_data.proofs.lemmas.Readers.{IsBytes-after}
 use Rattle.puffin_threads.specs.Details.{Details}
@@ -42,7 +42,7 @@ only b x y z holds e = rw holds at e
 
 streams_taken : (letter : ℕ) (bytes : List ℕ) (ks : ℕ × List ℕ) (rest : List ℕ) → eqb letter 50 ≡ false → IsBytes bytes → streams_part_at letter bytes ≡ Ok (ks, rest) → StreamsTaken bytes ks.0 ks.1 rest
 streams_taken letter bytes ks rest other is e =
-    let a = bind_ok (length_at bytes) (λ n. kind_at letter n.1 >>= λ kind. part_of n.0 kind.1 >>= λ streams. Ok ((kind.0, streams.0), streams.1)) (ks, rest) e in
+    let a = bind_ok (part_length_at bytes) (λ n. kind_at letter n.1 >>= λ kind. part_of n.0 kind.1 >>= λ streams. Ok ((kind.0, streams.0), streams.1)) (ks, rest) e in
     let b = bind_ok (kind_at letter a.0.1) (λ kind. part_of a.0.0 kind.1 >>= λ streams. Ok ((kind.0, streams.0), streams.1)) (ks, rest) a.2 in
     let d = bind_ok (part_of a.0.0 b.0.1) (λ streams. Ok ((b.0.0, streams.0), streams.1)) (ks, rest) b.2 in
     let l = length_taken bytes a.0.0 a.0.1 is a.1 in
@@ -61,7 +61,7 @@ record PlainTaken (bytes : List ℕ) (k : ℕ) (s rest : List ℕ) : Type 0 wher
 -- without a kind
 plain_taken : (bytes : List ℕ) (ks : ℕ × List ℕ) (rest : List ℕ) → IsBytes bytes → streams_part_at 50 bytes ≡ Ok (ks, rest) → PlainTaken bytes ks.0 ks.1 rest
 plain_taken bytes ks rest is e =
-    let a = bind_ok (length_at bytes) (λ n. part_of n.0 n.1 >>= λ streams. Ok ((2, streams.0), streams.1)) (ks, rest) e in
+    let a = bind_ok (part_length_at bytes) (λ n. part_of n.0 n.1 >>= λ streams. Ok ((2, streams.0), streams.1)) (ks, rest) e in
     let d = bind_ok (part_of a.0.0 a.0.1) (λ streams. Ok ((2, streams.0), streams.1)) (ks, rest) a.2 in
     let l = length_taken bytes a.0.0 a.0.1 is a.1 in
     let p = part_taken a.0.0 a.0.1 d.0.0 d.0.1 d.1 in

@@ -17,7 +17,7 @@ use Rattle.puffin_frames.specs.declared.frame_data.held.Held.TheVariants.{Own, S
 use Rattle.puffin_frames.specs.Frame.Contents.{packed_as, held_as, said_of}
 use Rattle.puffin_frames.specs.declared.frame_data.meta.FrameMeta.{FrameMeta}
 use Rattle.puffin_threads.specs.Details.{Details}
-use Rattle.puffin_frames.specs.inner.Tries.{DecidedInMemory}
+use Rattle.puffin_frames.specs.Packet.Tries.{DecidedInMemory}
 use Rattle.puffin_threads.specs.Thread.Info.{Info, info_cmp}
 use Rattle.puffin_frames.specs.Frame.Streams.{Streams}
 use Rattle.puffin_frames.specs.Packet.Structs.{form_of_all, AreStreams, streams_layout, streams_at}

@@ -8,7 +8,7 @@ use Rattle.puffin_data.specs.declared.file_error.FileError.{FileError}
 use Rattle.puffin_data.specs.declared.file_error.FileError.TheVariants as file
 use Rattle.puffin_data.specs.Value.Layout.{IsBytes}
 use Rattle.puffin_data.specs.Value.Decoding.{whole}
-use Rattle.puffin_data.specs.Part.{◌>>=◌, part_of, first_at, length_at, counted_part_at}
+use Rattle.puffin_data.specs.Part.{◌>>=◌, part_of, first_at, part_length_at, counted_part_at}
 use Rattle.puffin_data.proofs.lemmas.Numbers.{IsBytes-take, bytes_4, below_4}
 use Rattle.puffin_data.proofs.lemmas.Readers.{IsBytes-after, whole_taken}
 use Rattle.puffin_frames.specs.declared.frame_data.meta.FrameMeta.{FrameMeta}
@@ -52,7 +52,7 @@ part_taken n bytes t rest e =
     let size : length (take n bytes) ≡ n = omega (arith, length-take n bytes) in
     subst (λ (y : List ℕ × List ℕ). (length y.0 ≡ n) × (bytes ≡ y.0 ++ y.1)) g.1 (size, sym (take-append-drop n bytes))
 
-pub length_taken : (bytes : List ℕ) (n : ℕ) (rest : List ℕ) → IsBytes bytes → length_at bytes ≡ Ok (n, rest) → (n < 2 ^ 32) × (bytes ≡ little_bytes 4 n ++ rest)
+pub length_taken : (bytes : List ℕ) (n : ℕ) (rest : List ℕ) → IsBytes bytes → part_length_at bytes ≡ Ok (n, rest) → (n < 2 ^ 32) × (bytes ≡ little_bytes 4 n ++ rest)
 length_taken bytes n rest is e =
     let b = bind_ok (part_of 4 bytes) (λ four. Ok (little_number 4 four.0, four.1)) (n, rest) e in
     let p = part_taken 4 bytes b.0.0 b.0.1 b.1 in
@@ -64,7 +64,7 @@ length_taken bytes n rest is e =
 
 pub counted_taken : (bytes t rest : List ℕ) → IsBytes bytes → counted_part_at bytes ≡ Ok (t, rest) → (length t < 2 ^ 32) × (bytes ≡ counted_part t ++ rest)
 counted_taken bytes t rest is e =
-    let a = bind_ok (length_at bytes) (λ n. part_of n.0 n.1) (t, rest) e in
+    let a = bind_ok (part_length_at bytes) (λ n. part_of n.0 n.1) (t, rest) e in
     let l = length_taken bytes a.0.0 a.0.1 is a.1 in
     let p = part_taken a.0.0 a.0.1 t rest a.2 in
     let short : length t < 2 ^ 32 = rw p.0 l.0 in

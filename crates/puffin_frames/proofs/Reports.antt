@@ -21,7 +21,7 @@ use Rattle.puffin_data.specs.Forest.{empty}
 use Rattle.puffin_data.specs.Honesty.{Recorded, IsHonest, record_of, AreUnlike, joined_record}
 use Rattle.puffin_data.specs.declared.data.info.StreamInfo.{StreamInfo}
 use Rattle.puffin_threads.specs.declared.thread_profiler.thread_info.ThreadInfo.{ThreadInfo}
-use Rattle.puffin_threads.specs.Thread.Info.{Info, info_of, info_cmp, thread_cmp, same_info, keyed, by_info}
+use Rattle.puffin_threads.specs.Thread.Info.{Info, info_of, info_cmp, thread_cmp, same_info, info_entries, by_info}
 use Rattle.puffin_frames.specs.Frame.Contents.{records, without_sharing, shared_streams, stream_under, reported_to, no_scopes}
 use Rattle.puffin_threads.proofs.lemmas.Infos.{info_cmp_total, info_cmp-one, same_info-one, thread_cmp_total}
 use Rattle.puffin_frames.proofs.lemmas.Keyed.{read-insert, streams_of-insert}
@@ -42,9 +42,9 @@ module _ {X : Type 0} where
   set_is_insert [] k old w sorted found = absurd cc
   set_is_insert (e ∷ es) k old w sorted found = set_at_order (thread_cmp k e.0) k old w e es refl sorted found (set_is_insert es k old w (sorted_tail thread_cmp e.0 _ sorted))
 
-  find-keyed : (es : List (ThreadInfo × X)) (k : ThreadInfo) → find info_cmp (info_of k) (keyed es) ≡ lookup (is_at (thread_cmp k)) es
-  find-keyed [] k = refl
-  find-keyed (e ∷ es) k = ap (λ o. cond (is_eq (thread_cmp k e.0)) (Some e.1) o) (find-keyed es k)
+  find-info_entries : (es : List (ThreadInfo × X)) (k : ThreadInfo) → find info_cmp (info_of k) (info_entries es) ≡ lookup (is_at (thread_cmp k)) es
+  find-info_entries [] k = refl
+  find-info_entries (e ∷ es) k = ap (λ o. cond (is_eq (thread_cmp k e.0)) (Some e.1) o) (find-info_entries es k)
 
   -- an insertion of what is there changes nothing
   at_test : (m : FinMap info_cmp X) (i q : Info) (v : X) (b : Bool) → same_info q i ≡ b → get m i ≡ Some v → cond b (Some v) (get m q) ≡ get m q
@@ -66,8 +66,8 @@ recorded-none fresh form h = λ i. record {
 module _ {A : Type 0} where
   get-shared : (es : List (ThreadInfo × Arc StreamInfo A)) (k : ThreadInfo) → get (shared_streams es) (info_of k) ≡ option_map record_of (option_map arc_value (lookup (is_at (thread_cmp k)) es))
   get-shared es k =
-      get-from_entries info_cmp_total (keyed (records (without_sharing es))) (info_of k)
-      ∙ find-keyed (records (without_sharing es)) k
+      get-from_entries info_cmp_total (info_entries (records (without_sharing es))) (info_of k)
+      ∙ find-info_entries (records (without_sharing es)) k
       ∙ lookup-map_values record_of (is_at (thread_cmp k)) (without_sharing es)
       ∙ ap (option_map record_of) (lookup-map_values arc_value (is_at (thread_cmp k)) es)
 

@@ -7,4 +7,5 @@ pub mod Forms
 pub mod Front
 pub mod Next
 pub mod Writing
+pub mod Tries
 pub mod Grammar

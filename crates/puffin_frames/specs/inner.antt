@@ -1,3 +1,2 @@
 -- What contracts of private functions and proofs alone cite.
-pub mod Tries
 pub mod Age

@@ -9,7 +9,7 @@ ghost use Rattle.std.specs.FinMap as map;
 ghost use Rattle.std.specs.Int.{int_min, int_max};
 ghost use Rattle.puffin_data.specs.declared.data.info.StreamInfo.{StreamInfo};
 ghost use Rattle.puffin_threads.specs.declared.thread_profiler.thread_info.ThreadInfo.{ThreadInfo};
-ghost use Rattle.puffin_threads.specs.Thread.Info.{Info, info_of, info_cmp, thread_cmp, keyed};
+ghost use Rattle.puffin_threads.specs.Thread.Info.{Info, info_of, info_cmp, thread_cmp, info_entries};
 ghost use Rattle.puffin_frames.specs.Frame.Contents.{Streams, streams_of, records, all_recorded, stream_under, reported_to, AreHonest};
 ghost use Rattle.puffin_data.specs.Forest.{Forest};
 ghost use Rattle.puffin_data.specs.Honesty.{Recorded, record_of, IsHonestRecord, AreUnlike};
@@ -21,7 +21,7 @@ use puffin_threads::thread_profiler::ThreadInfo;
 pub fn streams_by_info()
     ensures entries { (entries : List (ThreadInfo × StreamInfo)) →
         IsStrictlySortedBy thread_cmp (keys_of entries) →
-        map.entries (streams_of entries) ≡ keyed (records entries) }
+        map.entries (streams_of entries) ≡ info_entries (records entries) }
     ensures values { (streams : BTreeMap ThreadInfo StreamInfo) →
         IsStrictlySortedBy thread_cmp (keys_of streams.entries) →
         map.values (streams_of streams.entries) ≡ all_recorded streams }

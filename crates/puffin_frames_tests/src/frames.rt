@@ -1,3 +1,4 @@
+use crate::equal::equal;
 use puffin_data::data::{Stream, StreamInfo};
 use puffin_data::{Error, NanoSecond};
 use puffin_frames::frame_data::{FrameData, ThreadStreams, UnpackedFrameData, report_to};
@@ -95,15 +96,17 @@ fn counts_of_main(
 #[test]
 fn one_stream_makes_a_frame(rt: HostRuntime) -> Outcome {
     let frame = UnpackedFrameData::new(rt.alloc(), 7, main_stream(rt.alloc())?)?;
-    assert_eq!(rt; facts(&frame), (7, (100, 400), 300, (127, 3)));
-    assert_eq!(rt;
+    equal(&rt, facts(&frame), (7, (100, 400), 300, (127, 3)));
+    equal(
+        &rt,
         (frame.meta.frame_index, frame.meta.range_ns),
-        (7, (100, 400))
+        (7, (100, 400)),
     );
-    assert_eq!(rt; frame.thread_streams.len(), 1);
-    assert_eq!(rt;
+    equal(&rt, frame.thread_streams.len(), 1);
+    equal(
+        &rt,
         counts_of_main(rt.alloc(), &frame.thread_streams)?,
-        (127, 3)
+        (127, 3),
     );
     Ok(())
 }
@@ -114,7 +117,7 @@ fn two_streams_are_summed_and_joined(rt: HostRuntime) -> Outcome {
     let other = thread(rt.alloc(), None, "other")?;
     let _ = streams.insert(other, told(rt.alloc(), 2, (-5, 250)))?;
     let frame = UnpackedFrameData::new(rt.alloc(), 0, streams)?;
-    assert_eq!(rt; facts(&frame), (0, (-5, 400), 405, (127, 5)));
+    equal(&rt, facts(&frame), (0, (-5, 400), 405, (127, 5)));
     Ok(())
 }
 
@@ -126,11 +129,19 @@ fn frame_with_delta(alloc: Global) -> std::result::Result<FrameData, Fail> {
 #[test]
 fn a_frame_with_its_delta(rt: HostRuntime) -> Outcome {
     let frame = frame_with_delta(rt.alloc())?;
-    assert_eq!(rt; (frame.frame_index(), frame.range_ns()), (7, (100, 400)));
-    assert_eq!(rt; (frame.duration_ns(), frame.meta().num_bytes), (300, 127));
+    equal(
+        &rt,
+        (frame.frame_index(), frame.range_ns()),
+        (7, (100, 400)),
+    );
+    equal(
+        &rt,
+        (frame.duration_ns(), frame.meta().num_bytes),
+        (300, 127),
+    );
     assert!(rt; frame.full_delta);
     let count = frame.as_unpacked().map(|held| held.thread_streams.len());
-    assert_eq!(rt; count, Some(1));
+    equal(&rt, count, Some(1));
     Ok(())
 }
 
@@ -139,9 +150,9 @@ fn a_frame_made_again_of_its_streams(rt: HostRuntime) -> Outcome {
     let streams = main_stream(rt.alloc())?;
     let frame = FrameData::new(rt.alloc(), 7, streams, Vec::new(rt.alloc()), true)?;
     let unpacked = frame.into_unpacked();
-    assert_eq!(rt; unpacked.meta.num_scopes, 3);
+    equal(&rt, unpacked.meta.num_scopes, 3);
     let again = FrameData::of_unpacked(unpacked, Vec::new(rt.alloc()), false);
-    assert_eq!(rt; again.frame_index(), 7);
+    equal(&rt, again.frame_index(), 7);
     Ok(())
 }
 
@@ -166,24 +177,24 @@ fn a_report_leaves_what_another_owner_has(rt: HostRuntime) -> Outcome {
         .map(|shared| shared.clone())
         .transpose()?;
     report_main(rt.alloc(), &mut streams)?;
-    assert_eq!(rt; before.map(|shared| shared.stream.len()), Some(127));
-    assert_eq!(rt; counts_of_main(rt.alloc(), &streams)?, (254, 6));
+    equal(&rt, before.map(|shared| shared.stream.len()), Some(127));
+    equal(&rt, counts_of_main(rt.alloc(), &streams)?, (254, 6));
     report_main(rt.alloc(), &mut streams)?;
-    assert_eq!(rt; counts_of_main(rt.alloc(), &streams)?, (381, 9));
+    equal(&rt, counts_of_main(rt.alloc(), &streams)?, (381, 9));
     Ok(())
 }
 
 #[test]
 fn no_streams_make_no_frame(rt: HostRuntime) {
     let streams = BTreeMap::new(rt.alloc());
-    assert_eq!(rt; refusal(rt.alloc(), streams), Some(Error::Empty));
+    equal(&rt, refusal(rt.alloc(), streams), Some(Error::Empty));
 }
 
 #[test]
 fn a_duration_that_does_not_fit(rt: HostRuntime) -> Outcome {
     let first = told(rt.alloc(), 1, (NanoSecond::MIN, NanoSecond::MIN));
     let streams = two_streams(rt.alloc(), first, told(rt.alloc(), 1, (0, 0)))?;
-    assert_eq!(rt; refusal(rt.alloc(), streams), Some(Error::RangeTooLong));
+    equal(&rt, refusal(rt.alloc(), streams), Some(Error::RangeTooLong));
     Ok(())
 }
 
@@ -192,7 +203,7 @@ fn a_sum_that_does_not_fit(rt: HostRuntime) -> Outcome {
     // The joined range is reversed too: the sum is looked at first.
     let first = told(rt.alloc(), usize::MAX, (9, 0));
     let streams = two_streams(rt.alloc(), first, told(rt.alloc(), 1, (9, 0)))?;
-    assert_eq!(rt; refusal(rt.alloc(), streams), Some(Error::TooLarge));
+    equal(&rt, refusal(rt.alloc(), streams), Some(Error::TooLarge));
     Ok(())
 }
 

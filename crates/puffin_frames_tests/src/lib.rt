@@ -2,8 +2,12 @@
 #![tactic(auto)]
 
 #[cfg(test)]
+mod equal;
+#[cfg(test)]
 mod frames;
 #[cfg(test)]
 mod long_packets;
 #[cfg(test)]
 mod packets;
+#[cfg(test)]
+mod refused_packets;

@@ -1,3 +1,4 @@
+use crate::equal::equal;
 use crate::packets::{
     Outcome, PACKET, bytes_of, facts, fault_of_streams, is_written, main_thread, read_one,
 };
@@ -34,12 +35,12 @@ fn a_frame_of_a_long_stream_is_written_byte_for_byte(rt: HostRuntime) -> Outcome
 #[test]
 fn a_packet_of_a_long_stream_is_read_and_written_back(rt: HostRuntime) -> Outcome {
     let mut frame = read_one(rt.alloc(), &LONG_PACKET)?;
-    assert_eq!(rt; facts(&frame), (0, (100, 300), (35, 1), Some(51)));
+    equal(&rt, facts(&frame), (0, (100, 300), (35, 1), Some(51)));
     is_written(&rt, rt.alloc(), &frame, &LONG_PACKET)?;
     let unpacked = frame.unpacked()?;
     let (_, info) = unpacked.thread_streams.first_key_value().ok_or("a stream")?;
-    assert_eq!(rt; (info.stream.form(), info.depth), (Form::Long, 1));
-    assert_eq!(rt; info.stream.bytes(), &PACKET[29..64]);
+    equal(&rt, (info.stream.form(), info.depth), (Form::Long, 1));
+    equal(&rt, info.stream.bytes(), &PACKET[29..64]);
     Ok(())
 }
 
@@ -51,15 +52,17 @@ fn fault_with_form(alloc: Global, form: u8) -> std::result::Result<Option<FileEr
 
 #[test]
 fn forms_are_looked_at_when_a_frame_is_unpacked(rt: HostRuntime) -> Outcome {
-    assert_eq!(rt; fault_with_form(rt.alloc(), 1)?, None);
+    equal(&rt, fault_with_form(rt.alloc(), 1)?, None);
     // (no stream is long)
-    assert_eq!(rt;
+    equal(
+        &rt,
         fault_with_form(rt.alloc(), 0)?,
-        Some(FileError::BadStreams)
+        Some(FileError::BadStreams),
     );
-    assert_eq!(rt;
+    equal(
+        &rt,
         fault_with_form(rt.alloc(), 2)?,
-        Some(FileError::BadStreams)
+        Some(FileError::BadStreams),
     );
     Ok(())
 }
@@ -68,6 +71,10 @@ fn forms_are_looked_at_when_a_frame_is_unpacked(rt: HostRuntime) -> Outcome {
 fn short_streams_behind_the_long_letters_are_refused(rt: HostRuntime) -> Outcome {
     let bytes = bytes_of(rt.alloc(), &[b"PFDL", &PACKET[4..]])?;
     let mut frame = read_one(rt.alloc(), bytes.as_slice())?;
-    assert_eq!(rt; fault_of_streams(&mut frame), Some(FileError::BadStreams));
+    equal(
+        &rt,
+        fault_of_streams(&mut frame),
+        Some(FileError::BadStreams),
+    );
     Ok(())
 }

@@ -1,3 +1,4 @@
+use crate::equal::equal;
 use puffin_data::FileError;
 use puffin_data::data::{Counted, ScopeId, Stream, StreamInfo};
 use puffin_frames::frame_data::{FrameData, UnpackedFrameData};
@@ -47,27 +48,15 @@ pub(crate) fn bytes_of(alloc: Global, pieces: &[&[u8]]) -> std::result::Result<V
 }
 
 /// Reads a frame.
-fn read(alloc: Global, bytes: &[u8]) -> std::result::Result<Option<FrameData>, FileError> {
+pub(crate) fn read(
+    alloc: Global,
+    bytes: &[u8],
+) -> std::result::Result<Option<FrameData>, FileError> {
     FrameData::read_next(alloc, &mut Counted::new(bytes))
 }
 
 pub(crate) fn read_one(alloc: Global, bytes: &[u8]) -> std::result::Result<FrameData, Fail> {
     Ok(read(alloc, bytes)?.ok_or("a frame")?)
-}
-
-/// Bytes that are read as the end.
-fn is_end(alloc: Global, bytes: &[u8]) -> bool {
-    matches!(read(alloc, bytes), Ok(None))
-}
-
-/// Why bytes aren't read.
-fn refusal(alloc: Global, bytes: &[u8]) -> Option<FileError> {
-    read(alloc, bytes).err()
-}
-
-/// Why pieces, one after the other, aren't read.
-fn refusal_of(alloc: Global, pieces: &[&[u8]]) -> std::result::Result<Option<FileError>, Fail> {
-    Ok(refusal(alloc, &bytes_of(alloc, pieces)?))
 }
 
 /// What is written of a frame.
@@ -88,7 +77,7 @@ pub(crate) fn is_written(
     frame: &FrameData,
     expected: &[u8],
 ) -> Outcome {
-    assert_eq!(rt; written(alloc, frame, None)?.as_slice(), expected);
+    equal(rt, written(alloc, frame, None)?.as_slice(), expected);
     Ok(())
 }
 
@@ -196,22 +185,23 @@ fn a_frame_is_written_byte_for_byte(rt: HostRuntime) -> Outcome {
 #[test]
 fn a_packet_is_read(rt: HostRuntime) -> Outcome {
     let frame = read_one(rt.alloc(), &PACKET)?;
-    assert_eq!(rt; facts(&frame), (0, (100, 300), (35, 1), Some(50)));
-    assert_eq!(rt; frame.duration_ns(), 200);
-    assert_eq!(rt; (frame.scope_delta.len(), frame.full_delta), (0, false));
-    assert_eq!(rt; held(&frame), (true, false));
+    equal(&rt, facts(&frame), (0, (100, 300), (35, 1), Some(50)));
+    equal(&rt, frame.duration_ns(), 200);
+    equal(&rt, (frame.scope_delta.len(), frame.full_delta), (0, false));
+    equal(&rt, held(&frame), (true, false));
     Ok(())
 }
 
 /// The first stream is that of [`PACKET`].
 fn is_stream_of_packet(rt: &impl Abort, frame: &UnpackedFrameData) -> Outcome {
     let (thread, info) = frame.thread_streams.first_key_value().ok_or("a stream")?;
-    assert_eq!(rt;
+    equal(
+        rt,
         (thread.name.as_str(), thread.start_time_ns),
-        ("main", Some(100))
+        ("main", Some(100)),
     );
-    assert_eq!(rt; info.stream.bytes(), &PACKET[29..64]);
-    assert_eq!(rt; info.depth, 1);
+    equal(rt, info.stream.bytes(), &PACKET[29..64]);
+    equal(rt, info.depth, 1);
     Ok(())
 }
 
@@ -225,9 +215,9 @@ fn streams_of_a_packet_that_is_read(rt: HostRuntime) -> Outcome {
 #[test]
 fn packets_of_the_rust_crate_are_read_and_written_back(rt: HostRuntime) -> Outcome {
     let mut first = read_one(rt.alloc(), &RUST_PACKETS)?;
-    assert_eq!(rt; facts(&first), (0, (374487, 375371), (31, 1), Some(54)));
-    assert_eq!(rt; only_details(&first)?, ("f20", 1239));
-    assert_eq!(rt; count_streams(&mut first)?, 1);
+    equal(&rt, facts(&first), (0, (374487, 375371), (31, 1), Some(54)));
+    equal(&rt, only_details(&first)?, ("f20", 1239));
+    equal(&rt, count_streams(&mut first)?, 1);
     is_written(&rt, rt.alloc(), &first, &RUST_PACKETS[..108])
 }
 
@@ -235,12 +225,13 @@ fn packets_of_the_rust_crate_are_read_and_written_back(rt: HostRuntime) -> Outco
 fn the_second_packet_of_the_rust_crate(rt: HostRuntime) -> Outcome {
     let packet = &RUST_PACKETS[108..];
     let mut second = read_one(rt.alloc(), packet)?;
-    assert_eq!(rt;
+    equal(
+        &rt,
         facts(&second),
-        (1, (378236, 70000000000), (97, 3), Some(146))
+        (1, (378236, 70000000000), (97, 3), Some(146)),
     );
-    assert_eq!(rt; only_details(&second)?, ("f20", 4293799418));
-    assert_eq!(rt; count_streams(&mut second)?, 2);
+    equal(&rt, only_details(&second)?, ("f20", 4293799418));
+    equal(&rt, count_streams(&mut second)?, 2);
     is_written(&rt, rt.alloc(), &second, packet)
 }
 
@@ -248,7 +239,11 @@ fn the_second_packet_of_the_rust_crate(rt: HostRuntime) -> Outcome {
 fn the_third_form_has_no_details(rt: HostRuntime) -> Outcome {
     let bytes = bytes_of(rt.alloc(), &[b"PFD3", &PACKET[4..70]])?;
     let frame = read_one(rt.alloc(), &bytes)?;
-    assert_eq!(rt; (frame.has_packed(), frame.scope_delta.len()), (true, 0));
+    equal(
+        &rt,
+        (frame.has_packed(), frame.scope_delta.len()),
+        (true, 0),
+    );
     is_written(&rt, rt.alloc(), &frame, &PACKET)
 }
 
@@ -256,9 +251,10 @@ fn the_third_form_has_no_details(rt: HostRuntime) -> Outcome {
 fn the_second_form_is_kept_compressed(rt: HostRuntime) -> Outcome {
     let bytes = bytes_of(rt.alloc(), &[b"PFD2", &PACKET[4..19], &PACKET[20..70]])?;
     let mut frame = read_one(rt.alloc(), &bytes)?;
-    assert_eq!(rt;
+    equal(
+        &rt,
         fault_of_streams(&mut frame),
-        Some(FileError::Compressed(2))
+        Some(FileError::Compressed(2)),
     );
     assert!(rt; !frame.has_unpacked());
     let expected = bytes_of(rt.alloc(), &[&PACKET[..19], &[2], &PACKET[20..]])?;
@@ -266,53 +262,18 @@ fn the_second_form_is_kept_compressed(rt: HostRuntime) -> Outcome {
 }
 
 /// The packet's frame in the first form, with what stands after its streams.
-fn first_form(alloc: Global, end: &[u8]) -> std::result::Result<Vec<u8>, Fail> {
+pub(crate) fn first_form(alloc: Global, end: &[u8]) -> std::result::Result<Vec<u8>, Fail> {
     bytes_of(alloc, &[&[57, 0, 0, 0, 0], &PACKET[20..70], end])
 }
 
 #[test]
 fn the_first_form_is_held_unpacked(rt: HostRuntime) -> Outcome {
     let bytes = first_form(rt.alloc(), &[0xc8, 0xfb, 0x58, 0x02, 0x23, 0x01])?;
-    assert_eq!(rt; bytes.len(), 61);
+    equal(&rt, bytes.len(), 61);
     let frame = read_one(rt.alloc(), &bytes)?;
     drop(bytes);
-    assert_eq!(rt; held(&frame), (false, true));
+    equal(&rt, held(&frame), (false, true));
     is_written(&rt, rt.alloc(), &frame, &PACKET)
-}
-
-#[test]
-fn the_first_form_with_a_reversed_range(rt: HostRuntime) -> Outcome {
-    let reversed = first_form(rt.alloc(), &[0xfb, 0x58, 0x02, 0xc8, 0x23, 0x01])?;
-    assert_eq!(rt; refusal(rt.alloc(), &reversed), Some(FileError::BadRange));
-    Ok(())
-}
-
-#[test]
-fn the_first_form_with_bytes_left_over(rt: HostRuntime) -> Outcome {
-    let end = [0xc8, 0xfb, 0x58, 0x02, 0x23, 0x01, 0];
-    let pieces: [&[u8]; 3] = [&[58, 0, 0, 0, 0], &PACKET[20..70], &end];
-    assert_eq!(rt;
-        refusal_of(rt.alloc(), &pieces)?,
-        Some(FileError::BadStreams)
-    );
-    Ok(())
-}
-
-/// Why the packet with another number of streams isn't unpacked.
-fn fault_with_count(alloc: Global, count: u8) -> std::result::Result<Option<FileError>, Fail> {
-    let bytes = bytes_of(alloc, &[&PACKET[..20], &[count], &PACKET[21..]])?;
-    Ok(fault_of_streams(&mut read_one(alloc, &bytes)?))
-}
-
-#[test]
-fn streams_are_tested_when_unpacked(rt: HostRuntime) -> Outcome {
-    for count in [2, 0] {
-        assert_eq!(rt;
-            fault_with_count(rt.alloc(), count)?,
-            Some(FileError::BadStreams)
-        );
-    }
-    Ok(())
 }
 
 #[test]
@@ -321,21 +282,11 @@ fn details_without_an_id(rt: HostRuntime) -> Outcome {
         rt.alloc(),
         &[&PACKET[..70], &[6, 0, 0, 0, 1, 0, 0, 0, 0, 0]],
     )?;
-    assert_eq!(rt; bytes.len(), 80);
+    equal(&rt, bytes.len(), 80);
     let frame = read_one(rt.alloc(), &bytes)?;
     let ids = frame.scope_delta.first().map(|details| details.scope_id());
-    assert_eq!(rt; ids, Some(None));
+    equal(&rt, ids, Some(None));
     is_written(&rt, rt.alloc(), &frame, &bytes)
-}
-
-#[test]
-fn details_with_the_id_0_are_refused(rt: HostRuntime) -> Outcome {
-    let zero = [7, 0, 0, 0, 1, 1, 0, 0, 0, 0, 0];
-    assert_eq!(rt;
-        refusal_of(rt.alloc(), &[&PACKET[..70], &zero])?,
-        Some(FileError::BadScopes)
-    );
-    Ok(())
 }
 
 /// The frame of [`PACKET`], packed.
@@ -347,24 +298,25 @@ fn packed_frame(alloc: Global) -> std::result::Result<FrameData, Fail> {
 
 #[test]
 fn sizes_of_a_frame_before_and_after_packing(rt: HostRuntime) -> Outcome {
-    assert_eq!(rt; sizes(&frame(rt.alloc())?), (None, Some(35), 35));
-    assert_eq!(rt; sizes(&packed_frame(rt.alloc())?), (Some(50), None, 50));
+    equal(&rt, sizes(&frame(rt.alloc())?), (None, Some(35), 35));
+    equal(&rt, sizes(&packed_frame(rt.alloc())?), (Some(50), None, 50));
     Ok(())
 }
 
 #[test]
 fn sizes_of_a_frame_that_is_held_both_ways(rt: HostRuntime) -> Outcome {
     let mut frame = packed_frame(rt.alloc())?;
-    assert_eq!(rt; count_streams(&mut frame)?, 1);
+    equal(&rt, count_streams(&mut frame)?, 1);
     let info = frame.packing_info();
-    assert_eq!(rt;
+    equal(
+        &rt,
         (info.packed_size, info.unpacked_size),
-        (Some(50), Some(35))
+        (Some(50), Some(35)),
     );
-    assert_eq!(rt; frame.bytes_of_ram_used(), 85);
+    equal(&rt, frame.bytes_of_ram_used(), 85);
     frame.pack()?;
-    assert_eq!(rt; held(&frame), (true, false));
-    assert_eq!(rt; frame.bytes_of_ram_used(), 50);
+    equal(&rt, held(&frame), (true, false));
+    equal(&rt, frame.bytes_of_ram_used(), 50);
     Ok(())
 }
 
@@ -378,8 +330,8 @@ fn a_list_of_one_detail(rt: HostRuntime) -> Outcome {
     frame.scope_delta.push(details(rt.alloc(), 1, "my-scope")?)?;
     is_written(&rt, rt.alloc(), &frame, &expected)?;
     let read_back = read_one(rt.alloc(), &expected)?;
-    assert_eq!(rt; only_name(&read_back)?, "my-scope");
-    assert_eq!(rt; only_details(&read_back)?, ("a", 7));
+    equal(&rt, only_name(&read_back)?, "my-scope");
+    equal(&rt, only_details(&read_back)?, ("a", 7));
     Ok(())
 }
 
@@ -394,51 +346,10 @@ fn details_of_a_collection_are_written(rt: HostRuntime) -> Outcome {
     let [first, second] = read_back.scope_delta.as_slice() else {
         return Err("details of two scopes".into());
     };
-    assert_eq!(rt; (first.name().as_str(), second.name().as_str()), ("y", "x"));
-    Ok(())
-}
-
-#[test]
-fn ends_and_other_forms(rt: HostRuntime) {
-    let no_bytes: &[u8] = &[];
-    assert!(rt; is_end(rt.alloc(), no_bytes));
-    assert!(rt; is_end(rt.alloc(), b"PFD"));
-    assert!(rt; is_end(rt.alloc(), &[0, 0, 0, 0, 9]));
-    assert_eq!(rt; refusal(rt.alloc(), b"PFD0"), Some(FileError::Legacy));
-    assert_eq!(rt; refusal(rt.alloc(), b"PFD1"), Some(FileError::Legacy));
-    assert_eq!(rt; refusal(rt.alloc(), b"PFD5"), Some(FileError::Newer));
-}
-
-#[test]
-fn each_beginning_of_a_packet_is_cut_short(rt: HostRuntime) {
-    for end in 4..75 {
-        let front = PACKET.get(..end).map(|front| refusal(rt.alloc(), front));
-        assert_eq!(rt; front, Some(Some(FileError::Truncated)));
-    }
-}
-
-#[test]
-fn faults_of_the_meta_part(rt: HostRuntime) -> Outcome {
-    // Bytes left over; a longer spelling; a reversed range.
-    let longer = refusal_of(rt.alloc(), &[b"PFD4", &[8, 0, 0, 0], &PACKET[8..15], &[0]])?;
-    assert_eq!(rt; longer, Some(FileError::BadMeta));
-    let spelled = refusal_of(
-        rt.alloc(),
-        &[b"PFD4", &[9, 0, 0, 0, 0xfb, 0, 0], &PACKET[9..15]],
-    )?;
-    assert_eq!(rt; spelled, Some(FileError::BadMeta));
-    let reversed = [7, 0, 0, 0, 0, 0xfb, 0x58, 0x02, 0xc8, 0x23, 1];
-    let reversed = refusal_of(rt.alloc(), &[b"PFD4", &reversed])?;
-    assert_eq!(rt; reversed, Some(FileError::BadRange));
-    Ok(())
-}
-
-#[test]
-fn a_length_that_lies_and_an_unknown_kind(rt: HostRuntime) -> Outcome {
-    let lies = [0xff, 0xff, 0xff, 0xff];
-    let lies = refusal_of(rt.alloc(), &[b"PFD4", &lies, &PACKET[8..15]])?;
-    assert_eq!(rt; lies, Some(FileError::Truncated));
-    let unknown = refusal_of(rt.alloc(), &[&PACKET[..19], &[3]])?;
-    assert_eq!(rt; unknown, Some(FileError::UnknownKind(3)));
+    equal(
+        &rt,
+        (first.name().as_str(), second.name().as_str()),
+        ("y", "x"),
+    );
     Ok(())
 }

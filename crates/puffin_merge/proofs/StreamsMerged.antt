@@ -19,7 +19,7 @@ use Rattle.puffin_data.specs.Honesty.{Recorded, record_of}
 use Rattle.puffin_data.specs.Walk.Visitor.{TakesAll, StopsEarly}
 use Rattle.puffin_threads.specs.declared.thread_profiler.thread_info.ThreadInfo.{ThreadInfo}
 use Rattle.puffin_frames.specs.declared.frame_data.unpacked.UnpackedFrameData.{UnpackedFrameData}
-use Rattle.puffin_threads.specs.Thread.Info.{info_of, info_cmp, thread_cmp, keyed}
+use Rattle.puffin_threads.specs.Thread.Info.{info_of, info_cmp, thread_cmp, info_entries}
 use Rattle.puffin_frames.specs.Frame.Contents.{records, without_sharing}
 use Rattle.puffin_merge.specs.declared.merge.table.Table.{Table}
 use Rattle.puffin_merge.specs.declared.merge.stream.Merging.{Merging}
@@ -40,14 +40,14 @@ at_test : (b : Bool) (x : Shared) (f : Option Recorded) (l : Option Shared) → 
 at_test true x f l e = refl
 at_test false x f l e = e
 
-find_is : (info : ThreadInfo) (entries : List (ThreadInfo × Shared)) → find info_cmp (info_of info) (keyed (records (without_sharing entries))) ≡ option_map held (lookup (is_at (thread_cmp info)) entries)
+find_is : (info : ThreadInfo) (entries : List (ThreadInfo × Shared)) → find info_cmp (info_of info) (info_entries (records (without_sharing entries))) ≡ option_map held (lookup (is_at (thread_cmp info)) entries)
 find_is info [] = refl
 find_is info (e ∷ entries) = at_test (is_at (thread_cmp info) e.0) e.1 _ (lookup (is_at (thread_cmp info)) entries) (find_is info entries)
 
 stream_is : IsTotalOrder info_cmp → (info : ThreadInfo) (frame : UnpackedFrameData) (r : Option Shared) → r ≡ lookup (is_at (thread_cmp info)) frame.thread_streams.entries
     → (frame_bytes (info_of info) frame).stream ≡ option_map stream_held r
 stream_is total info frame r e =
-    ap (option_map stream_in) (tree.get-from_entries total (keyed (records (without_sharing frame.thread_streams.entries))) (info_of info) ∙ find_is info frame.thread_streams.entries ∙ ap (option_map held) (sym e)) ∙ twice r
+    ap (option_map stream_in) (tree.get-from_entries total (info_entries (records (without_sharing frame.thread_streams.entries))) (info_of info) ∙ find_is info frame.thread_streams.entries ∙ ap (option_map held) (sym e)) ∙ twice r
   where
     twice : (r : Option Shared) → option_map stream_in (option_map held r) ≡ option_map stream_held r
     twice None = refl

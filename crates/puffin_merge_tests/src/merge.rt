@@ -1,3 +1,4 @@
+use crate::equal::equal;
 use puffin::data::{Counted, ScopeId, Stream, StreamInfo};
 use puffin::frame_data::UnpackedFrameData;
 use puffin::merge::{MergeScope, merge_scopes_counted, merge_scopes_for_thread};
@@ -125,7 +126,8 @@ fn scopes_within_scopes(rt: HostRuntime) -> Outcome {
     }
     let frames = one_frame(alloc, stream)?;
     let merged = merged(alloc, &frames)?;
-    assert_eq!(rt;
+    equal(
+        &rt,
         all_numbers(alloc, merged.as_slice())?.as_slice(),
         &[
             (1, 100, 200, 200, 100, 2),
@@ -133,7 +135,7 @@ fn scopes_within_scopes(rt: HostRuntime) -> Outcome {
             (3, 200, 400, 400, 200, 2),
             (4, 600, 400, 400, 200, 2),
             (5, 0, 200, 200, 100, 2),
-        ][..]
+        ][..],
     );
     Ok(())
 }
@@ -156,11 +158,27 @@ fn frames_in_any_order(rt: HostRuntime) -> Outcome {
     let second = (1100, 1300);
     let third = (2100, 2110);
     let first_ahead = Some((1, 100, 410, 136, 200, 3));
-    assert_eq!(rt; merge_of_three(alloc, [first, second, third])?, first_ahead);
-    assert_eq!(rt; merge_of_three(alloc, [first, third, second])?, first_ahead);
+    equal(
+        &rt,
+        merge_of_three(alloc, [first, second, third])?,
+        first_ahead,
+    );
+    equal(
+        &rt,
+        merge_of_three(alloc, [first, third, second])?,
+        first_ahead,
+    );
     let third_ahead = Some((1, 2100, 410, 136, 200, 3));
-    assert_eq!(rt; merge_of_three(alloc, [third, first, second])?, third_ahead);
-    assert_eq!(rt; merge_of_three(alloc, [third, second, first])?, third_ahead);
+    equal(
+        &rt,
+        merge_of_three(alloc, [third, first, second])?,
+        third_ahead,
+    );
+    equal(
+        &rt,
+        merge_of_three(alloc, [third, second, first])?,
+        third_ahead,
+    );
     Ok(())
 }
 
@@ -173,9 +191,10 @@ fn a_child_that_starts_before_its_parent(rt: HostRuntime) -> Outcome {
     end(&mut stream, parent, 200)?;
     let frames = one_frame(alloc, stream)?;
     let merged = merged(alloc, &frames)?;
-    assert_eq!(rt;
+    equal(
+        &rt,
         all_numbers(alloc, merged.as_slice())?.as_slice(),
-        &[(1, 100, 100, 100, 100, 1), (2, 0, 55, 55, 55, 1)][..]
+        &[(1, 100, 100, 100, 100, 1), (2, 0, 55, 55, 55, 1)][..],
     );
     Ok(())
 }
@@ -187,9 +206,10 @@ fn a_scope_of_one_of_two_frames(rt: HostRuntime) -> Outcome {
     frames.push(one_scope(alloc, 1, 10, 15)?)?;
     frames.push(one_scope(alloc, 2, 100, 101)?)?;
     let merged = merged(alloc, &frames)?;
-    assert_eq!(rt;
+    equal(
+        &rt,
         all_numbers(alloc, merged.as_slice())?.as_slice(),
-        &[(1, 10, 5, 2, 5, 1), (2, 12, 1, 0, 1, 1)][..]
+        &[(1, 10, 5, 2, 5, 1), (2, 12, 1, 0, 1, 1)][..],
     );
     Ok(())
 }
@@ -207,9 +227,10 @@ fn a_frame_without_the_thread_counts(rt: HostRuntime) -> Outcome {
     leaf(&mut stream, 1, 100, 101)?;
     frames.push(frame_of(alloc, other, stream)?)?;
     let merged = merged(alloc, &frames)?;
-    assert_eq!(rt;
+    equal(
+        &rt,
         all_numbers(alloc, merged.as_slice())?.as_slice(),
-        &[(1, 10, 5, 2, 5, 1)][..]
+        &[(1, 10, 5, 2, 5, 1)][..],
     );
     Ok(())
 }
@@ -218,7 +239,7 @@ fn a_frame_without_the_thread_counts(rt: HostRuntime) -> Outcome {
 fn no_frames_and_no_stream(rt: HostRuntime) -> Outcome {
     let alloc = rt.alloc();
     let none = Vec::new(alloc);
-    assert_eq!(rt; merged(alloc, &none)?.len(), 0);
+    equal(&rt, merged(alloc, &none)?.len(), 0);
     let mut frames = Vec::new(alloc);
     frames.push(one_scope(alloc, 1, 10, 15)?)?;
     let other = ThreadInfo {
@@ -227,11 +248,12 @@ fn no_frames_and_no_stream(rt: HostRuntime) -> Outcome {
     };
     let collection = ScopeCollection::new(alloc);
     let mut tries = 7;
-    assert_eq!(rt;
+    equal(
+        &rt,
         merge_scopes_counted(alloc, &collection, frames.as_slice(), &other, &mut tries)?.len(),
-        0
+        0,
     );
-    assert_eq!(rt; tries, 0);
+    equal(&rt, tries, 0);
     Ok(())
 }
 
@@ -245,10 +267,12 @@ fn texts_and_ids_tell_siblings_apart(rt: HostRuntime) -> Outcome {
     }
     let frames = one_frame(alloc, stream)?;
     let merged = merged(alloc, &frames)?;
-    assert_eq!(rt; merged.len(), 2);
-    assert_eq!(rt; merged[0].text.as_str(), "a");
-    assert_eq!(rt; merged[1].text.as_str(), "b");
-    assert_eq!(rt; numbers(&merged[1]), (1, 4, 2, 2, 1, 2));
+    let [first, second] = merged.as_slice() else {
+        return Err(Fail::new("two scopes"));
+    };
+    equal(&rt, first.text.as_str(), "a");
+    equal(&rt, second.text.as_str(), "b");
+    equal(&rt, numbers(second), (1, 4, 2, 2, 1, 2));
     Ok(())
 }
 
@@ -271,8 +295,8 @@ fn tries_are_counted(rt: HostRuntime) -> Outcome {
         &thread(alloc)?,
         &mut tries,
     )?;
-    assert_eq!(rt; merged.len(), 1);
-    assert_eq!(rt; tries, 3);
+    equal(&rt, merged.len(), 1);
+    equal(&rt, tries, 3);
     Ok(())
 }
 
@@ -286,11 +310,11 @@ fn copies(rt: HostRuntime) -> Outcome {
     let frames = one_frame(alloc, stream)?;
     for scope in merged(alloc, &frames)? {
         let copy = scope.clone()?;
-        assert_eq!(rt; copy, scope);
+        equal(&rt, &copy, &scope);
         let owned = scope.into_owned(alloc)?;
-        assert_eq!(rt; owned.text.as_str(), "outer");
-        assert_eq!(rt; numbers(&owned), numbers(&copy));
-        assert_eq!(rt; owned.children.len(), 1);
+        equal(&rt, owned.text.as_str(), "outer");
+        equal(&rt, numbers(&owned), numbers(&copy));
+        equal(&rt, owned.children.len(), 1);
     }
     Ok(())
 }
@@ -341,7 +365,8 @@ fn a_file_of_the_rust_crate(rt: HostRuntime) -> Outcome {
     let frames = frames_of_file(alloc).ok().ok_or("no fault")?;
     let collection = ScopeCollection::new(alloc);
     let merged = merge_scopes_for_thread(alloc, &collection, frames.as_slice(), &info)?;
-    assert_eq!(rt;
+    equal(
+        &rt,
         all_numbers(alloc, merged.as_slice())?.as_slice(),
         &[
             (1, 100, 240, 80, 100, 3),
@@ -349,13 +374,15 @@ fn a_file_of_the_rust_crate(rt: HostRuntime) -> Outcome {
             (2, 23, 41, 13, 21, 2),
             (4, 5, 5, 1, 5, 1),
             (3, 180, 81, 27, 41, 3),
-        ][..]
+        ][..],
     );
     let Some(top) = merged.first() else {
         return Err(Fail::new("no scope"));
     };
-    assert_eq!(rt; top.children.len(), 2);
-    assert_eq!(rt; top.children[0].text.as_str(), "a");
-    assert_eq!(rt; top.children[1].text.as_str(), "b");
+    let [first, second] = top.children.as_slice() else {
+        return Err(Fail::new("two children"));
+    };
+    equal(&rt, first.text.as_str(), "a");
+    equal(&rt, second.text.as_str(), "b");
     Ok(())
 }

@@ -1,3 +1,4 @@
+use crate::equal::equal;
 use crate::merge::{
     Frames, Outcome, begin, end, frame, leaf, merged, one_frame, one_scope, thread,
 };
@@ -45,10 +46,18 @@ fn tries_of_refused_merges(rt: HostRuntime) -> Outcome {
     }
     frames.push(frame(alloc, stream)?)?;
     frames.push(one_scope(alloc, 1, 0, 10)?)?;
-    assert_eq!(rt; refused_after(alloc, &frames)?, (Some(Error::TooLarge), 5));
+    equal(
+        &rt,
+        refused_after(alloc, &frames)?,
+        (Some(Error::TooLarge), 5),
+    );
     // The scope at depth 1,025 is the last that is read.
     let deep = one_frame(alloc, nested(alloc, 2000)?)?;
-    assert_eq!(rt; refused_after(alloc, &deep)?, (Some(Error::TooDeep), 1025));
+    equal(
+        &rt,
+        refused_after(alloc, &deep)?,
+        (Some(Error::TooDeep), 1025),
+    );
     Ok(())
 }
 
@@ -58,11 +67,15 @@ fn an_end_that_does_not_fit(rt: HostRuntime) -> Outcome {
     let mut stream = Stream::new(alloc);
     leaf(&mut stream, 1, 0, i64::MAX)?;
     let frames = one_frame(alloc, stream.clone()?)?;
-    assert_eq!(rt; merged(alloc, &frames)?.len(), 1);
+    equal(&rt, merged(alloc, &frames)?.len(), 1);
     // The second starts at the greatest time, where the first ends, and would end after it. Both are read before.
     leaf(&mut stream, 2, 0, 1)?;
     let frames = one_frame(alloc, stream)?;
-    assert_eq!(rt; refused_after(alloc, &frames)?, (Some(Error::TooLarge), 2));
+    equal(
+        &rt,
+        refused_after(alloc, &frames)?,
+        (Some(Error::TooLarge), 2),
+    );
     Ok(())
 }
 
@@ -83,7 +96,7 @@ fn nested(alloc: Global, height: usize) -> Result<Stream> {
 fn heights(rt: HostRuntime) -> Outcome {
     let alloc = rt.alloc();
     let fit = one_frame(alloc, nested(alloc, 1024)?)?;
-    assert_eq!(rt; merged(alloc, &fit)?.len(), 1);
+    equal(&rt, merged(alloc, &fit)?.len(), 1);
     for height in [1025, 100_000] {
         let too_deep = one_frame(alloc, nested(alloc, height)?)?;
         assert!(rt; matches!(merged(alloc, &too_deep), Err(Error::TooDeep)));

@@ -1,5 +1,6 @@
 ghost use Rattle.std.specs.Prelude.{◌≡◌, ◌+◌, ◌-◌, ◌^◌, ◌<◌, if◌then◌else◌};
 
+use crate::equal::equal;
 use puffin_data::data::{Counted, Drain, Source};
 use puffin_data::{Error, FileError};
 use puffin_replay::replay::*;
@@ -137,17 +138,17 @@ fn a_stream_is_counted_into_two_lines(rt: HostRuntime) {
         ),
     ] {
         let (answer, written) = counted(&rt, bytes);
-        assert_eq!(rt; answer, Ok(None));
-        assert_eq!(rt; written.as_slice(), lines.as_bytes());
+        equal(&rt, answer, Ok(None));
+        equal(&rt, written.as_slice(), lines.as_bytes());
     }
 }
 
 #[test]
 fn a_range_that_is_too_long_is_told_behind_the_lines(rt: HostRuntime) {
     let (answer, written) = counted(&rt, TOO_LONG);
-    assert_eq!(rt; answer, Ok(Some(Error::RangeTooLong)));
+    equal(&rt, answer, Ok(Some(Error::RangeTooLong)));
     let lines = b"scopes 2 depth 1 range -9223372036854775808 0\nframe none RangeTooLong\n";
-    assert_eq!(rt; written.as_slice(), lines.as_slice());
+    equal(&rt, written.as_slice(), lines.as_slice());
 }
 
 #[test]
@@ -160,8 +161,8 @@ fn a_refused_stream_writes_nothing(rt: HostRuntime) -> Result<(), Fail> {
         (left_over.as_slice(), Error::InvalidStream),
     ] {
         let (answer, written) = counted(&rt, bytes);
-        assert_eq!(rt; answer, Ok(Some(cause)));
-        assert_eq!(rt; written.len(), 0);
+        equal(&rt, answer, Ok(Some(cause)));
+        equal(&rt, written.len(), 0);
     }
     Ok(())
 }
@@ -174,8 +175,8 @@ fn std_readers_and_writers_are_counted(rt: HostRuntime) -> Result<(), Fail> {
         &mut Counted::new(ONE),
         &mut Counted::new(&mut written),
     );
-    assert_eq!(rt; answer, Ok(None));
-    assert_eq!(rt; written.as_slice(), ONE_LINES);
+    equal(&rt, answer, Ok(None));
+    equal(&rt, written.as_slice(), ONE_LINES);
     Ok(())
 }
 
@@ -186,12 +187,12 @@ fn each_read_fails_in_turn(rt: HostRuntime) {
         let mut source = device(&rt, ONE, 10, call);
         let mut drain = device(&rt, b"", 100, NEVER);
         let answer = count_stream(rt.alloc(), &mut source, &mut drain);
-        assert_eq!(rt; answer, Err(FileError::Io), "at {call}");
-        assert_eq!(rt; source.faults, 1);
-        assert_eq!(rt; drain.written.len(), 0);
+        equal(&rt, (call, answer), (call, Err(FileError::Io)));
+        equal(&rt, source.faults, 1);
+        equal(&rt, drain.written.len(), 0);
     }
     let (answer, _) = counted(&rt, ONE);
-    assert_eq!(rt; answer, Ok(None));
+    equal(&rt, answer, Ok(None));
 }
 
 #[test]
@@ -201,11 +202,11 @@ fn each_write_fails_in_turn(rt: HostRuntime) {
         let mut source = device(&rt, ONE, 100, NEVER);
         let mut drain = device(&rt, b"", 10, call);
         let answer = count_stream(rt.alloc(), &mut source, &mut drain);
-        assert_eq!(rt; answer, Err(FileError::Io), "at {call}");
-        assert_eq!(rt; drain.faults, 1);
+        equal(&rt, (call, answer), (call, Err(FileError::Io)));
+        equal(&rt, drain.faults, 1);
         let written = (call * 10) as usize;
-        assert_eq!(rt; written < ONE_LINES.len(), true);
-        assert_eq!(rt; drain.written.as_slice(), &ONE_LINES[..written]);
+        equal(&rt, written < ONE_LINES.len(), true);
+        equal(&rt, drain.written.as_slice(), &ONE_LINES[..written]);
     }
 }
 
@@ -213,8 +214,8 @@ fn each_write_fails_in_turn(rt: HostRuntime) {
 fn a_writer_that_takes_nothing_has_failed(rt: HostRuntime) {
     let mut drain = device(&rt, b"", 0, NEVER);
     let answer = count_stream(rt.alloc(), &mut device(&rt, ONE, 100, NEVER), &mut drain);
-    assert_eq!(rt; answer, Err(FileError::Io));
-    assert_eq!(rt; drain.faults, 0);
+    equal(&rt, answer, Err(FileError::Io));
+    equal(&rt, drain.faults, 0);
 }
 
 /// What the program's words ask for.
@@ -287,9 +288,9 @@ fn each_fault_is_told_with_its_status(rt: HostRuntime) {
         ),
     ] {
         let mut drain = device(&rt, b"", 7, NEVER);
-        assert_eq!(rt; finish(fault, &mut drain), status);
-        assert_eq!(rt; drain.written.as_slice(), line.as_bytes());
+        equal(&rt, finish(fault, &mut drain), status);
+        equal(&rt, drain.written.as_slice(), line.as_bytes());
         // a writer that fails doesn't change the status
-        assert_eq!(rt; finish(fault, &mut device(&rt, b"", 7, 0)), status);
+        equal(&rt, finish(fault, &mut device(&rt, b"", 7, 0)), status);
     }
 }

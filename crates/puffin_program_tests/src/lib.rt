@@ -6,6 +6,8 @@ mod commands;
 #[cfg(test)]
 mod count;
 #[cfg(test)]
+mod equal;
+#[cfg(test)]
 mod record;
 #[cfg(test)]
 mod report;

@@ -1,5 +1,6 @@
 use crate::commands::{Outcome, begin, end};
 use crate::count::{NEVER, device};
+use crate::equal::equal;
 use puffin::profile_view::FrameView;
 use puffin_data::FileError;
 use puffin_data::data::Stream;
@@ -55,7 +56,7 @@ fn writes(rt: &HostRuntime, script: &Script, file: &[u8], text: &[u8]) -> bool {
 fn a_script_makes_a_file_and_lines(rt: HostRuntime) -> Outcome<()> {
     let script = script(&rt, "main", one_frame(&rt)?)?;
     let line = b"frame 0 threads 1 scopes 1 bytes 35 duration 200\n";
-    assert_eq!(rt; ONE_FRAME.len(), 79);
+    equal(&rt, ONE_FRAME.len(), 79);
     assert!(rt; writes(&rt, &script, ONE_FRAME, line));
     Ok(())
 }
@@ -109,12 +110,12 @@ fn recorded(rt: &HostRuntime, view: &mut FrameView) -> Outcome<Vec<u8>> {
 fn a_view_takes_what_is_recorded(rt: HostRuntime) -> Outcome<()> {
     let mut view = FrameView::new(rt.alloc());
     let first = recorded(&rt, &mut view)?;
-    assert_eq!(rt; first.as_slice(), ONE_FRAME);
-    assert_eq!(rt; view.stats().frames(), 1);
+    equal(&rt, first.as_slice(), ONE_FRAME);
+    equal(&rt, view.stats().frames(), 1);
     // The frames of another session begin with the index 0 again.
     let second = recorded(&rt, &mut view)?;
-    assert_eq!(rt; second.as_slice(), ONE_FRAME);
-    assert_eq!(rt; view.stats().frames(), 1);
+    equal(&rt, second.as_slice(), ONE_FRAME);
+    equal(&rt, view.stats().frames(), 1);
     Ok(())
 }
 
@@ -134,7 +135,7 @@ fn an_empty_recording_has_no_frame(rt: HostRuntime) -> Outcome<()> {
     };
     assert!(rt; matches!(replies.get(0), Some(Reply::Frame(emitted)) if emitted.frame.is_none()));
     assert!(rt; view.is_empty());
-    assert_eq!(rt; drain.written.as_slice(), b"PUF0".as_slice());
+    equal(&rt, drain.written.as_slice(), b"PUF0".as_slice());
     Ok(())
 }
 
@@ -148,10 +149,10 @@ fn a_file_that_is_not_written_whole_is_told(rt: HostRuntime) -> Outcome<()> {
         let answer = run_script(rt.alloc(), &script, &mut out, &mut lines);
         whole = answer == Ok(());
         if !whole {
-            assert_eq!(rt; answer, Err(FileError::Io));
+            equal(&rt, answer, Err(FileError::Io));
             assert!(rt; lines.written.is_empty());
         }
-        assert_eq!(rt; out.written.as_slice() == ONE_FRAME, whole);
+        equal(&rt, out.written.as_slice() == ONE_FRAME, whole);
         assert!(rt; ONE_FRAME.starts_with(out.written.as_slice()));
     }
     assert!(rt; whole);
@@ -164,8 +165,8 @@ fn lines_that_are_not_written_are_told(rt: HostRuntime) -> Outcome<()> {
     let mut out = device(&rt, b"", 1000, NEVER);
     let mut lines = device(&rt, b"", 5, 1);
     let answer = run_script(rt.alloc(), &script, &mut out, &mut lines);
-    assert_eq!(rt; answer, Err(FileError::Io));
-    assert_eq!(rt; out.written.as_slice(), ONE_FRAME);
-    assert_eq!(rt; lines.written.as_slice(), b"frame".as_slice());
+    equal(&rt, answer, Err(FileError::Io));
+    equal(&rt, out.written.as_slice(), ONE_FRAME);
+    equal(&rt, lines.written.as_slice(), b"frame".as_slice());
     Ok(())
 }

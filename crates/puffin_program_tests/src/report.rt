@@ -1,5 +1,6 @@
 use crate::commands::Outcome;
 use crate::count::{NEVER, device, task_of};
+use crate::equal::equal;
 use puffin_data::data::Counted;
 use puffin_data::{Error, FileError, NanoSecond};
 use puffin_frames::thread_profiler::ThreadInfo;
@@ -70,7 +71,7 @@ fn a_long_thread_s_frame_is_printed_as_a_short_one_s(rt: HostRuntime) -> Outcome
     let mut script = Vec::from_slice(rt.alloc(), b"long main\n")?;
     script.extend_from_slice(ONE)?;
     let (file, lines) = made(&rt, script.as_slice())?;
-    assert_eq!(rt; file.len(), 80);
+    equal(&rt, file.len(), 80);
     assert!(rt; file.as_slice().starts_with(b"PUF0PFDL"));
     assert!(rt;
         lines.as_slice() == b"frame 0 threads 1 scopes 1 bytes 35 duration 200\n".as_slice()
@@ -82,9 +83,10 @@ fn a_long_thread_s_frame_is_printed_as_a_short_one_s(rt: HostRuntime) -> Outcome
 #[test]
 fn scopes_in_a_scope_stand_below_it_two_blanks_deeper(rt: HostRuntime) -> Outcome<()> {
     let (_, lines) = made(&rt, TWO)?;
-    assert_eq!(rt;
+    equal(
+        &rt,
         lines.as_slice(),
-        b"frame 0 threads 1 scopes 2 bytes 63 duration 300\n".as_slice()
+        b"frame 0 threads 1 scopes 2 bytes 63 duration 300\n".as_slice(),
     );
     let report =
         b"frames 1\n#1 pieces 1 total 300 per_frame 300 max 300 start 100\n  #2 (x) pieces 1 total 100 per_frame 100 max 100 start 100\n";
@@ -116,7 +118,7 @@ fn another_thread_has_no_scopes(rt: HostRuntime) -> Outcome<()> {
     for (start, name) in [(None, "main"), (Some(101), "main"), (Some(100), "mai")] {
         let (answer, written) = reported(&rt, file.as_slice(), &thread(&rt, start, name)?);
         assert!(rt; answer == Ok(()));
-        assert_eq!(rt; written.as_slice(), b"frames 1\n".as_slice());
+        equal(&rt, written.as_slice(), b"frames 1\n".as_slice());
     }
     Ok(())
 }
@@ -156,7 +158,7 @@ fn a_report_that_is_not_written_whole_is_told(rt: HostRuntime) -> Outcome<()> {
         if !whole {
             assert!(rt; answer == Err(FileError::Io));
         }
-        assert_eq!(rt; drain.written.as_slice() == ONE_LINES, whole);
+        equal(&rt, drain.written.as_slice() == ONE_LINES, whole);
         assert!(rt; ONE_LINES.starts_with(drain.written.as_slice()));
     }
     assert!(rt; whole);

@@ -1,4 +1,5 @@
 use crate::count::{NEVER, device};
+use crate::equal::equal;
 use puffin_data::FileError;
 use puffin_data::data::{Counted, Form, Source};
 use puffin_replay::replay::{Command, Script, ToolFault, read_script, run_script};
@@ -88,7 +89,7 @@ fn each_form_of_line_is_a_command(rt: HostRuntime) {
         panic!(rt; "the script is refused");
     };
     let commands = script.commands.as_slice();
-    assert_eq!(rt; commands.len(), 9);
+    equal(&rt, commands.len(), 9);
     assert!(rt; is_begin(commands.get(0), 0, 100, 1, ""));
     assert!(rt; is_begin(commands.get(1), 0, 200, 4294967295, "a  text "));
     assert!(rt; is_begin(commands.get(2), 0, i64::MAX, 7, ""));
@@ -105,11 +106,12 @@ fn each_form_of_line_is_a_command(rt: HostRuntime) {
     assert!(rt; is_user(commands.get(6), "u"));
     assert!(rt; matches!(commands.get(7), Some(Command::Snapshot)));
     assert!(rt; matches!(commands.get(8), Some(Command::NewFrame)));
-    assert_eq!(rt;
+    equal(
+        &rt,
         script.lines.as_slice(),
-        [1, 4, 5, 6, 7, 8, 9, 10, 11].as_slice()
+        [1, 4, 5, 6, 7, 8, 9, 10, 11].as_slice(),
     );
-    assert_eq!(rt; script.names.len(), 2);
+    equal(&rt, script.names.len(), 2);
     assert!(rt; script.names.first().map(|name| name.as_str() == "main") == Some(true));
     assert!(rt; script.names.last().map(|name| name.as_str() == "other") == Some(true));
 }
@@ -125,7 +127,7 @@ fn threads_are_numbered_as_they_appear(rt: HostRuntime) {
         assert!(rt; is_end(commands.get(place), number, if place < 3 { 1 } else { 2 }));
     }
     assert!(rt; is_register(commands.get(5), 3, None, ("f", "g", 1)));
-    assert_eq!(rt; script.names.len(), 4);
+    equal(&rt, script.names.len(), 4);
 }
 
 #[test]
@@ -169,7 +171,7 @@ fn other_lines_are_refused(rt: HostRuntime) {
         " ",
         " # no note",
     ] {
-        assert_eq!(rt; fault(&rt, line.as_bytes()), Some(ToolFault::Line(1)));
+        equal(&rt, fault(&rt, line.as_bytes()), Some(ToolFault::Line(1)));
     }
 }
 
@@ -188,20 +190,22 @@ fn a_long_line_is_the_first_that_names_its_thread(rt: HostRuntime) {
 
 #[test]
 fn all_lines_are_counted(rt: HostRuntime) {
-    assert_eq!(rt;
+    equal(
+        &rt,
         fault(&rt, b"#\n\nbegin main 5 0\n"),
-        Some(ToolFault::Line(3))
+        Some(ToolFault::Line(3)),
     );
-    assert_eq!(rt;
+    equal(
+        &rt,
         fault(&rt, b"frame\n\n# two\nframe\nframe \nframe  "),
-        Some(ToolFault::Line(5))
+        Some(ToolFault::Line(5)),
     );
 }
 
 #[test]
 fn a_line_that_is_no_text_is_refused(rt: HostRuntime) {
-    assert_eq!(rt; fault(&rt, b"frame\n#\xff\n"), Some(ToolFault::Line(2)));
-    assert_eq!(rt; fault(&rt, b"user \xc3\n"), Some(ToolFault::Line(1)));
+    equal(&rt, fault(&rt, b"frame\n#\xff\n"), Some(ToolFault::Line(2)));
+    equal(&rt, fault(&rt, b"user \xc3\n"), Some(ToolFault::Line(1)));
 }
 
 #[test]
@@ -210,9 +214,9 @@ fn a_script_may_be_empty(rt: HostRuntime) {
         let Ok(script) = script(&rt, bytes) else {
             panic!(rt; "the script is refused");
         };
-        assert_eq!(rt; script.commands.len(), 0);
-        assert_eq!(rt; script.lines.len(), 0);
-        assert_eq!(rt; script.names.len(), 0);
+        equal(&rt, script.commands.len(), 0);
+        equal(&rt, script.lines.len(), 0);
+        equal(&rt, script.names.len(), 0);
     }
 }
 
@@ -239,7 +243,7 @@ impl Source for Broken {
 fn a_reader_that_fails_is_told(rt: HostRuntime) {
     let mut broken = Broken { faults: 0 };
     let answer = read_script(rt.alloc(), &mut broken).err();
-    assert_eq!(rt; answer, Some(ToolFault::File(FileError::Io)));
+    equal(&rt, answer, Some(ToolFault::File(FileError::Io)));
 }
 
 /// The lines that a script's run prints.
@@ -260,14 +264,18 @@ fn an_emitted_frame_is_told_in_a_line(rt: HostRuntime) -> Outcome<()> {
     let text = "begin main 100 1\nbegin main 200 2 x\nend main 300\nend main 400\nframe\n";
     let lines = printed(&rt, text.as_bytes())?;
     let line = b"frame 0 threads 1 scopes 2 bytes 63 duration 300\n";
-    assert_eq!(rt; lines.as_slice(), line.as_slice());
+    equal(&rt, lines.as_slice(), line.as_slice());
     Ok(())
 }
 
 #[test]
 fn a_refused_command_is_told_with_its_line(rt: HostRuntime) -> Outcome<()> {
     let lines = printed(&rt, b"end main 300")?;
-    assert_eq!(rt; lines.as_slice(), b"refused 1 MismatchedEnd\n".as_slice());
+    equal(
+        &rt,
+        lines.as_slice(),
+        b"refused 1 MismatchedEnd\n".as_slice(),
+    );
     Ok(())
 }
 
@@ -282,6 +290,6 @@ const TWO_THREADS_LINES: &str =
 #[test]
 fn a_whole_script_is_told(rt: HostRuntime) -> Outcome<()> {
     let lines = printed(&rt, TWO_THREADS.as_bytes())?;
-    assert_eq!(rt; lines.as_slice(), TWO_THREADS_LINES.as_bytes());
+    equal(&rt, lines.as_slice(), TWO_THREADS_LINES.as_bytes());
     Ok(())
 }

@@ -1,4 +1,5 @@
 use crate::commands::Outcome;
+use crate::equal::equal;
 use puffin_data::data::Counted;
 use puffin_data::{Error, FileError, NanoSecond};
 use puffin_frames::thread_profiler::ThreadInfo;
@@ -30,17 +31,17 @@ fn a_thread_s_scopes_are_merged(rt: HostRuntime) -> Outcome<()> {
     let Ok(summary) = summed(&rt, &FILE, Some(100))? else {
         return Err(Fail::new("no summary"));
     };
-    assert_eq!(rt; summary.frames, 1);
+    equal(&rt, summary.frames, 1);
     assert!(rt; summary.scopes.scopes_by_id().is_empty());
-    assert_eq!(rt; summary.merged.len(), 1);
+    equal(&rt, summary.merged.len(), 1);
     for scope in &summary.merged {
-        assert_eq!(rt; scope.id.get(), 1);
-        assert_eq!(rt; scope.text.as_str(), "data");
-        assert_eq!(rt; scope.relative_start_ns, 100);
-        assert_eq!(rt; scope.total_duration_ns, 200);
-        assert_eq!(rt; scope.duration_per_frame_ns, 200);
-        assert_eq!(rt; scope.max_duration_ns, 200);
-        assert_eq!(rt; scope.num_pieces, 1);
+        equal(&rt, scope.id.get(), 1);
+        equal(&rt, scope.text.as_str(), "data");
+        equal(&rt, scope.relative_start_ns, 100);
+        equal(&rt, scope.total_duration_ns, 200);
+        equal(&rt, scope.duration_per_frame_ns, 200);
+        equal(&rt, scope.max_duration_ns, 200);
+        equal(&rt, scope.num_pieces, 1);
         assert!(rt; scope.children.is_empty());
     }
     Ok(())
@@ -51,7 +52,7 @@ fn another_thread_has_no_scopes(rt: HostRuntime) -> Outcome<()> {
     let Ok(summary) = summed(&rt, &FILE, None)? else {
         return Err(Fail::new("no summary"));
     };
-    assert_eq!(rt; summary.frames, 1);
+    equal(&rt, summary.frames, 1);
     assert!(rt; summary.merged.is_empty());
     Ok(())
 }

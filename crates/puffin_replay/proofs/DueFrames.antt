@@ -26,7 +26,7 @@ use Rattle.puffin_session.specs.Session.Actions.{action_of, actions_of}
 use Rattle.puffin_session.specs.Session.Replies.{MayReply, SpellsFrame, TellsScopes}
 use Rattle.puffin_session.specs.Session.Runs.{EachReply}
 use Rattle.puffin_replay.specs.Program.Recording.{frame_in, emitted_by, frames_emitted}
-use Rattle.puffin_replay.specs.Promise.{is_emitted, before_frames, SaysDue, emitted}
+use Rattle.puffin_replay.specs.Promise.{is_emitted, before_frames, SaysDue, frames_said}
 use Rattle.puffin_replay.specs.inner.InMemory.{UnpacksAgain, FrameHas}
 
 pairs-append : {A B : Type 0} (R : A → B → Type 0) (these bs : List A) (xs ys : List B) → AllZip R these xs → AllZip R bs ys → AllZip R (these ++ bs) (xs ++ ys)
@@ -63,7 +63,7 @@ module _ (o : Opening) (P : FrameData → Type 0) (R : List Action → Said → 
   reply_said done Snapshot _ learnt p may = tt
 
   all_so : (done : List Action) (cs : List Command) (rs : List Reply) (ls : List (List Details)) → length rs ≡ length cs → length ls ≡ length cs → AllByRecursion (FrameHas P) rs → EachReply o done cs rs ls
-      → AllZip R (before_frames done (actions_of cs rs ls)) (emitted rs)
+      → AllZip R (before_frames done (actions_of cs rs ls)) (frames_said rs)
   all_so done [] [] ls p q each may = tt
   all_so done [] (r ∷ rs) ls p q each may = absurd (omega arith)
   all_so done (c ∷ cs) [] ls p q each may = absurd (omega arith)
@@ -72,7 +72,7 @@ module _ (o : Opening) (P : FrameData → Type 0) (R : List Action → Said → 
       let a = action_of c r l in
       let later = all_so (done ++ (a ∷ [])) cs rs ls (omega arith) (omega arith) each.1 may.1 in
       subst (AllZip R (before_frames done (a ∷ actions_of cs rs ls))) (sym (map-append contents_of (emitted_by r) (frames_emitted rs)))
-      (pairs-append R (if is_emitted a then done ∷ [] else []) (before_frames (done ++ (a ∷ [])) (actions_of cs rs ls)) (map contents_of (emitted_by r)) (emitted rs) (reply_said done c r l each.0 may.0) later)
+      (pairs-append R (if is_emitted a then done ∷ [] else []) (before_frames (done ++ (a ∷ [])) (actions_of cs rs ls)) (map contents_of (emitted_by r)) (frames_said rs) (reply_said done c r l each.0 may.0) later)
 
 module _ (o : Opening) where
   -- ---- what each frame says
@@ -87,7 +87,7 @@ module _ (o : Opening) where
   }
 
   pub all_said : (cs : List Command) (rs : List Reply) (ls : List (List Details)) → length rs ≡ length cs → length ls ≡ length cs → AllByRecursion (FrameHas UnpacksAgain) rs → EachReply o [] cs rs ls
-      → AllZip (SaysDue o) (before_frames [] (actions_of cs rs ls)) (emitted rs)
+      → AllZip (SaysDue o) (before_frames [] (actions_of cs rs ls)) (frames_said rs)
   all_said = all_so o UnpacksAgain (SaysDue o) says_due []
 
   -- ---- their indices
@@ -133,6 +133,6 @@ module _ (o : Opening) where
   all_have [] = tt
   all_have (r ∷ rs) = (reply_has r, all_have rs)
 
-  pub emitted_rise : (cs : List Command) (rs : List Reply) (ls : List (List Details)) → length rs ≡ length cs → length ls ≡ length cs → EachReply o [] cs rs ls → is_rising (emitted rs) ≡ true
+  pub emitted_rise : (cs : List Command) (rs : List Reply) (ls : List (List Details)) → length rs ≡ length cs → length ls ≡ length cs → EachReply o [] cs rs ls → is_rising (frames_said rs) ≡ true
   emitted_rise cs rs ls p q may =
-      frames_rise [] (actions_of cs rs ls) (emitted rs) (all_so o (λ _. Unit {0}) HasIndex (λ done f _ spells tells. ap (λ (m : FrameMeta). m.frame_index) spells.meta) [] cs rs ls p q (all_have rs) may)
+      frames_rise [] (actions_of cs rs ls) (frames_said rs) (all_so o (λ _. Unit {0}) HasIndex (λ done f _ spells tells. ap (λ (m : FrameMeta). m.frame_index) spells.meta) [] cs rs ls p q (all_have rs) may)

@@ -11,9 +11,9 @@ use Rattle.std.proofs.lemmas.List.{map-append}
 use Rattle.puffin_frames.specs.Packet.Stored.{Said}
 use Rattle.puffin_view.specs.View.Ranking.{place_first, in_order, last_of, last_in, has}
 use Rattle.puffin_view.specs.View.ViewedFrames.{Frame, contents_of, index_of, frame_index, is_slower, slowest, rising_end, is_rising, rises_above, frames_by_index}
-use Rattle.puffin_view.specs.View.{View, Took, emptied, with_packed, with_newest_packed, is_past, after_taking, after_all}
+use Rattle.puffin_view.specs.View.{View, Took, without_frames, with_packed, with_newest_packed, is_past, after_taking, after_all}
 use Rattle.puffin_view.specs.View.File.{contents_in}
-use Rattle.puffin_replay.specs.Promise.{kept}
+use Rattle.puffin_replay.specs.Promise.{kept_frames}
 
 -- ---- tests
 
@@ -258,7 +258,7 @@ chosen_frames cs fs rising all = sym (said_values es) ∙ (ap (map (λ (e : ℕ 
 
 -- ---- a view that took frames
 
-pub taken_kept : (v : View) (cs : List Said) → is_rising cs ≡ true → Took cs v → contents_in v ≡ kept v.max_recent v.max_slow cs
+pub taken_kept : (v : View) (cs : List Said) → is_rising cs ≡ true → Took cs v → contents_in v ≡ kept_frames v.max_recent v.max_slow cs
 taken_kept v cs rising took =
     let all = all_taken cs rising in
     let recent : map contents_of v.recent ≡ last_of v.max_recent cs = took.holds.recent ∙ ap (last_of v.max_recent) all in
@@ -280,7 +280,7 @@ newest_limits : (o : Option Frame) (v : View) → SameLimits v (option_map_or (�
 newest_limits (Some f) v = record { recent = refl; slow = refl }
 newest_limits None v = record { recent = refl; slow = refl }
 
-ready_limits : (past packs : Bool) (v : View) → SameLimits v (cond past (emptied v) (cond packs (with_newest_packed v) v))
+ready_limits : (past packs : Bool) (v : View) → SameLimits v (cond past (without_frames v) (cond packs (with_newest_packed v) v))
 ready_limits true packs v = record { recent = refl; slow = refl }
 ready_limits false true v = newest_limits (last_in v.recent) v
 ready_limits false false v = record { recent = refl; slow = refl }

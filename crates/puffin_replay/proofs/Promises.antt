@@ -22,7 +22,7 @@ use Rattle.puffin_session.specs.declared.command.Reply.{Reply}
 use Rattle.puffin_session.specs.Session.{SessionState, new_session, opening_of}
 use Rattle.puffin_session.specs.Session.Runs.{AreReplies}
 use Rattle.puffin_replay.specs.Program.Recording.{frames_emitted, Takes, TookAlso, IsWriteFault, IsBroken}
-use Rattle.puffin_replay.specs.Promise.{emitted, kept, KeepsPromise, MayBeTooLong}
+use Rattle.puffin_replay.specs.Promise.{frames_said, kept_frames, KeepsPromise, MayBeTooLong}
 use Rattle.puffin_replay.specs.inner.InMemory.{UnpacksAgain, FrameHas, IsFileOf, HasJust}
 use Rattle.puffin_replay.proofs.DueFrames.{all_said, emitted_rise}
 use Rattle.puffin_replay.proofs.KeptFrames.{rising-filter, all_taken, taken_kept, same_limits}
@@ -95,20 +95,20 @@ read_outside fault_again v bytes new e of short fails =
 -- ---- the promise
 
 module _ (names : List (List ℕ × Form)) (commands : List Command) (replies : List Reply) (run : (end : SessionState) × AreReplies names commands replies end) where
-  rising : is_rising (emitted replies) ≡ true
+  rising : is_rising (frames_said replies) ≡ true
   rising = emitted_rise (opening_of (new_session names)) commands replies run.1.learnt run.1.num_replies run.1.num_learnt run.1.replies_stand
 
   -- the view that took the frames of the run
-  module _ (max_recent max_slow : ℕ) (old new : View) (recent : old.max_recent ≡ max_recent) (slow : old.max_slow ≡ max_slow) (taken : new ≡ after_all old (frames_emitted replies)) (took : Took (emitted replies) new) where
-    view_kept : contents_in new ≡ kept max_recent max_slow (emitted replies)
+  module _ (max_recent max_slow : ℕ) (old new : View) (recent : old.max_recent ≡ max_recent) (slow : old.max_slow ≡ max_slow) (taken : new ≡ after_all old (frames_emitted replies)) (took : Took (frames_said replies) new) where
+    view_kept : contents_in new ≡ kept_frames max_recent max_slow (frames_said replies)
     view_kept =
         let same = same_limits old (frames_emitted replies) in
         let most : new.max_recent ≡ max_recent = ap (λ (v : View). v.max_recent) taken ∙ same.0 ∙ recent in
         let slowest : new.max_slow ≡ max_slow = ap (λ (v : View). v.max_slow) taken ∙ same.1 ∙ slow in
-        taken_kept new (emitted replies) rising took ∙ ap (λ (n : ℕ). kept n new.max_slow (emitted replies)) most ∙ ap (λ (k : ℕ). kept max_recent k (emitted replies)) slowest
+        taken_kept new (frames_said replies) rising took ∙ ap (λ (n : ℕ). kept_frames n new.max_slow (frames_said replies)) most ∙ ap (λ (k : ℕ). kept_frames max_recent k (frames_said replies)) slowest
 
     pub view_rises : is_rising (contents_in new) ≡ true
-    view_rises = ap is_rising view_kept ∙ rising-filter _ (emitted replies) rising
+    view_rises = ap is_rising view_kept ∙ rising-filter _ (frames_said replies) rising
 
     pub promised : (read : View) → All (FrameHas UnpacksAgain) replies → HasJust (contents_in new) read → KeepsPromise names commands max_recent max_slow replies read
     promised read unpacked has = record {

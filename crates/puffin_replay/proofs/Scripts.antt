@@ -16,7 +16,7 @@ use Rattle.std.proofs.lemmas.Bool.{false_from_ne_true}
 use Rattle.std.proofs.lemmas.Bool.Decides.{nat_tests}
 use Rattle.puffin_replay.specs.Script.Statements.{Meaning, line_meaning, words_in}
 use Rattle.puffin_replay.specs.inner.ScriptReading.{meaning_of}
-use Rattle.puffin_replay.specs.Script.{is_line_feed, lines_in, is_skipped, known, told_by, onto, is_late, statements_from, with_name, with_if_named, with_thread_of, with_form, with_form_of, thread_named_by, threads_after, forms_after, is_command, commands_in, command_said, with_forms}
+use Rattle.puffin_replay.specs.Script.{is_line_feed, lines_in, is_skipped, meaning_or_number, told_by, onto, is_late, statements_from, with_name, with_if_named, with_thread_of, with_form, with_form_of, thread_named_by, threads_after, forms_after, is_command, commands_in, command_said, with_forms}
 use Rattle.std.proofs.lemmas.List.Folds.{list_any-append}
 use Rattle.std.proofs.lemmas.Slice.Eq.{bytes_eq-Decides}
 use Rattle.std.specs.Str.{bytes_eq}
@@ -59,7 +59,7 @@ told_skipped number line text skipped =
     let yes = is_utf8-from_IsUtf8 line text in
     rw (yes, sym skipped) refl
 
-pub told_known : (number : ℕ) (line : List ℕ) (what : Option Meaning) → IsUtf8 line → false ≡ is_skipped line → what ≡ line_meaning (words_in line) → told_by number line ≡ known number what
+pub told_known : (number : ℕ) (line : List ℕ) (what : Option Meaning) → IsUtf8 line → false ≡ is_skipped line → what ≡ line_meaning (words_in line) → told_by number line ≡ meaning_or_number number what
 unfolding told_by
 told_known number line what text kept meaning_of =
     let yes = is_utf8-from_IsUtf8 line text in

@@ -9,7 +9,7 @@ use Rattle.std.proofs.lemmas.Str.Parse.{parse_signed_minus, parse_signed_plain}
 use Rattle.std.proofs.lemmas.Bool.Decides.{nat_tests}
 use Rattle.puffin_threads.specs.Thread.Info.{Info}
 use Rattle.puffin_replay.specs.Script.Statements.{number_of, moment_in}
-use Rattle.puffin_replay.specs.Program.Arguments.{signed_moment_in, is_colon, start_in, thread_in}
+use Rattle.puffin_replay.specs.Program.Arguments.{signed_moment_in, is_colon, start_in, thread_of_word}
 use Rattle.puffin_replay.proofs.Statements.{own, number_given, number_refused}
 
 -- ---- signed numbers
@@ -56,5 +56,5 @@ abbrev named : List ℕ → Option ℤ → Info
 named name start = record { start = start; name = name }
 
 -- a word without a colon names no thread
-pub no_thread : (word : List ℕ) → position_or_len is_colon word ≡ length word → None ≡ thread_in word
+pub no_thread : (word : List ℕ) → position_or_len is_colon word ≡ length word → None ≡ thread_of_word word
 no_thread word h = ap (λ (t : Bool). if t then option_map (named (after_first is_colon word)) (start_in (before_first is_colon word)) else None) (sym (no_colon word h))

@@ -45,12 +45,12 @@ pub record SaysDue (o : Opening) (done : List Action) (frame : Said) : Type 0 wh
       ≡ delta_of (known_after o done) (due_details o done) (is_wanted o done)
 
 -- what the emitted frames say, in order
-abbrev pub emitted : List Reply → List Said
-emitted replies = map contents_of (frames_emitted replies)
+abbrev pub frames_said : List Reply → List Said
+frames_said replies = map contents_of (frames_emitted replies)
 
 -- the last n of frames whose indices rise, and the k slowest of them: each once, in their order
-abbrev pub kept : ℕ → ℕ → List Said → List Said
-kept n k cs =
+abbrev pub kept_frames : ℕ → ℕ → List Said → List Said
+kept_frames n k cs =
     filter (λ c. has (frame_index c) (map frame_index (last_of n cs ++ slowest k cs))) cs
 
 -- ---- the promise
@@ -62,12 +62,12 @@ pub record KeepsPromise (threads : List (List ℕ × Form)) (commands : List Com
   pub run : AreReplies threads commands replies end
   -- each action that emitted a frame has its own frame, in order, and that says what was due
   pub due : AllZip (SaysDue (opening_of (new_session threads)))
-      (before_frames [] (actions_of commands replies run.learnt)) (emitted replies)
-  pub rising : is_rising (emitted replies) ≡ true
+      (before_frames [] (actions_of commands replies run.learnt)) (frames_said replies)
+  pub rising : is_rising (frames_said replies) ≡ true
   -- what is read are the last and the slowest of these frames, and nothing else
-  pub recent : map contents_of read.recent ≡ kept max_recent max_slow (emitted replies)
+  pub recent : map contents_of read.recent ≡ kept_frames max_recent max_slow (frames_said replies)
   pub slow : map contents_of read.slow
-      ≡ slowest read.max_slow (kept max_recent max_slow (emitted replies))
+      ≡ slowest read.max_slow (kept_frames max_recent max_slow (frames_said replies))
 
 -- The commands may get replies whose frames, as far as they are kept, have a part that is too long to be written.
 abbrev pub MayBeTooLong : List (List ℕ × Form) → List Command → ℕ → ℕ → Type 0
@@ -75,4 +75,4 @@ MayBeTooLong threads commands max_recent max_slow =
     (replies : List Reply)
     × (end : SessionState)
     × AreReplies threads commands replies end
-    × Any HasLongPart (kept max_recent max_slow (emitted replies))
+    × Any HasLongPart (kept_frames max_recent max_slow (frames_said replies))

@@ -27,13 +27,13 @@ abbrev pub is_skipped : List ℕ → Bool
 is_skipped [] = true
 is_skipped (byte ∷ bytes) = byte == 35
 
-abbrev pub known : ℕ → Option Meaning → Result (Option Meaning) ℕ
-known number None = Err number
-known number (Some s) = Ok (Some s)
+abbrev pub meaning_or_number : ℕ → Option Meaning → Result (Option Meaning) ℕ
+meaning_or_number number None = Err number
+meaning_or_number number (Some s) = Ok (Some s)
 
 -- what a line with this number says, unless it is skipped; or the number, where it isn't text or says nothing that is known
 unfoldable pub told_by : ℕ → List ℕ → Result (Option Meaning) ℕ
-told_by number line = if is_utf8 line then (if is_skipped line then Ok None else known number (line_meaning (words_in line))) else Err number
+told_by number line = if is_utf8 line then (if is_skipped line then Ok None else meaning_or_number number (line_meaning (words_in line))) else Err number
 
 -- ---- threads
 

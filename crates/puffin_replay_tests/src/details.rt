@@ -1,3 +1,4 @@
+use crate::equal::equal;
 use crate::session::{Outcome, begin, end, is_no_frame, session};
 use puffin_data::Error;
 use puffin_data::data::ScopeId;
@@ -74,10 +75,22 @@ fn a_name_keeps_its_id(rt: HostRuntime) -> Outcome<()> {
     let Some(Reply::RegisteredUser(ids)) = replies.get(0) else {
         return Err(Fail::new("not registered"));
     };
-    assert_eq!(rt; ids.len(), 3);
-    assert_eq!(rt; ids.get(0).copied().map_or(0, |id: ScopeId| id.get()), 1);
-    assert_eq!(rt; ids.get(1).copied().map_or(0, |id: ScopeId| id.get()), 1);
-    assert_eq!(rt; ids.get(2).copied().map_or(0, |id: ScopeId| id.get()), 2);
+    equal(&rt, ids.len(), 3);
+    equal(
+        &rt,
+        ids.get(0).copied().map_or(0, |id: ScopeId| id.get()),
+        1,
+    );
+    equal(
+        &rt,
+        ids.get(1).copied().map_or(0, |id: ScopeId| id.get()),
+        1,
+    );
+    equal(
+        &rt,
+        ids.get(2).copied().map_or(0, |id: ScopeId| id.get()),
+        2,
+    );
     Ok(())
 }
 
@@ -91,7 +104,7 @@ fn a_function_comes_with_the_first_frame_after_its_report(rt: HostRuntime) -> Ou
         end(0, 200),
         Command::NewFrame,
     ])?;
-    assert_eq!(rt; replies.len(), 5);
+    equal(&rt, replies.len(), 5);
     assert!(rt; is_registered(replies.get(0), 1));
     assert!(rt; is_no_frame(replies.get(1)));
     assert!(rt; tells_of(replies.get(4), (1, 31), &["f"], false));
@@ -117,7 +130,7 @@ fn a_snapshot_tells_of_what_was_known_before(rt: HostRuntime) -> Outcome<()> {
         end(0, 600),
         Command::NewFrame,
     ])?;
-    assert_eq!(rt; replies.len(), 13);
+    equal(&rt, replies.len(), 13);
     assert!(rt; matches!(replies.get(4), Some(Reply::Snapshot)));
     assert!(rt; tells_of(replies.get(5), (1, 31), &["f"], true));
     assert!(rt; tells_of(replies.get(9), (1, 31), &["f"], true));
@@ -142,7 +155,7 @@ fn a_scope_in_a_function_twice(rt: HostRuntime) -> Outcome<()> {
         end(0, 800),
         Command::NewFrame,
     ])?;
-    assert_eq!(rt; replies.len(), 12);
+    equal(&rt, replies.len(), 12);
     assert!(rt; is_registered(replies.get(1), 2));
     assert!(rt; tells_of(replies.get(6), (2, 62), &["f", "part"], false));
     assert!(rt; tells_of(replies.get(11), (2, 62), &[], false));
@@ -158,7 +171,7 @@ fn a_thread_that_is_not_there_registers_nothing(rt: HostRuntime) -> Outcome<()> 
         end(0, 200),
         Command::NewFrame,
     ])?;
-    assert_eq!(rt; replies.len(), 4);
+    equal(&rt, replies.len(), 4);
     assert!(rt; matches!(replies.get(0), Some(Reply::Refused(Error::NoThread))));
     assert!(rt; tells_of(replies.get(3), (1, 31), &[], false));
     Ok(())

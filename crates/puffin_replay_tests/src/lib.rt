@@ -4,6 +4,8 @@
 #[cfg(test)]
 mod details;
 #[cfg(test)]
+mod equal;
+#[cfg(test)]
 mod recording;
 #[cfg(test)]
 mod session;

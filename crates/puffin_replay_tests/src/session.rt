@@ -1,3 +1,4 @@
+use crate::equal::equal;
 use puffin_data::data::{Form, ScopeId, Stream};
 use puffin_data::{Error, NanoSecond};
 use puffin_frames::thread_profiler::{Closed, ThreadInfo};
@@ -91,7 +92,7 @@ fn a_scope_comes_with_the_frame_after_its_end(rt: HostRuntime) -> Outcome<()> {
         end(0, 300),
         Command::NewFrame,
     ])?;
-    assert_eq!(rt; replies.len(), 6);
+    equal(&rt, replies.len(), 6);
     assert!(rt; matches!(replies.get(0), Some(Reply::Began(14))));
     assert!(rt; matches!(replies.get(1), Some(Reply::Began(15))));
     assert!(rt; matches!(replies.get(2), Some(Reply::Ended(Closed::Reported))));
@@ -147,7 +148,7 @@ fn what_was_kept_back_comes_with_the_next_report(rt: HostRuntime) -> Outcome<()>
         end(0, 400),
         Command::NewFrame,
     ])?;
-    assert_eq!(rt; replies.len(), 7);
+    equal(&rt, replies.len(), 7);
     assert!(rt; matches!(replies.get(0), Some(Reply::Reported)));
     assert!(rt;
         matches!(
@@ -174,7 +175,7 @@ fn a_frame_without_scopes_has_a_number(rt: HostRuntime) -> Outcome<()> {
         end(0, 5),
         Command::NewFrame,
     ])?;
-    assert_eq!(rt; replies.len(), 4);
+    equal(&rt, replies.len(), 4);
     assert!(rt; is_no_frame(replies.get(0)));
     assert!(rt; is_frame(replies.get(3), 1, Some(5), "a", 31, (5, 5)));
     Ok(())
@@ -196,7 +197,7 @@ fn an_outer_scope_is_not_ended(rt: HostRuntime) -> Outcome<()> {
         end(0, 5),
         end(0, 6),
     ])?;
-    assert_eq!(rt; replies.len(), 6);
+    equal(&rt, replies.len(), 6);
     assert!(rt; matches!(replies.get(2), Some(Reply::Refused(Error::MismatchedEnd))));
     assert!(rt; matches!(replies.get(3), Some(Reply::Ended(Closed::Inner))));
     assert!(rt; matches!(replies.get(4), Some(Reply::Ended(Closed::Reported))));
@@ -214,7 +215,7 @@ fn refused_commands_change_nothing(rt: HostRuntime) -> Outcome<()> {
         end(0, 3),
         Command::NewFrame,
     ])?;
-    assert_eq!(rt; replies.len(), 5);
+    equal(&rt, replies.len(), 5);
     assert!(rt; matches!(replies.get(0), Some(Reply::Refused(Error::NoThread))));
     assert!(rt; matches!(replies.get(1), Some(Reply::Refused(Error::NoThread))));
     assert!(rt; matches!(replies.get(2), Some(Reply::Refused(Error::PrematureEnd))));
@@ -227,10 +228,10 @@ fn refused_commands_change_nothing(rt: HostRuntime) -> Outcome<()> {
 fn a_clock_that_falls_stands_still(rt: HostRuntime) -> Outcome<()> {
     let mut session = session(&rt, &["a"])?;
     let first = session.run(&[begin(&rt, 0, -7, 1, "")?, begin(&rt, 0, 50, 2, "")?])?;
-    assert_eq!(rt; first.len(), 2);
+    equal(&rt, first.len(), 2);
     // The session goes on where it stood.
     let replies = session.run(&[end(0, 20), end(0, 30), Command::NewFrame])?;
-    assert_eq!(rt; replies.len(), 3);
+    equal(&rt, replies.len(), 3);
     assert!(rt; is_frame(replies.get(2), 0, Some(0), "a", 62, (0, 50)));
     Ok(())
 }
@@ -241,6 +242,16 @@ fn two_forms(rt: &HostRuntime) -> Outcome<Session> {
     threads.push((String::from_str(rt.alloc(), "t")?, Form::Short))?;
     threads.push((String::from_str(rt.alloc(), "t")?, Form::Long))?;
     Ok(Session::with_forms(rt.alloc(), threads)?)
+}
+
+/// The form of a frame's first stream.
+fn form_in(reply: Option<&Reply>) -> Option<Form> {
+    let Some(Reply::Frame(emitted)) = reply else {
+        return None;
+    };
+    let unpacked = emitted.frame.as_ref()?.as_unpacked()?;
+    let (_, info) = unpacked.thread_streams.iter().next()?;
+    Some(info.stream.form())
 }
 
 #[test]
@@ -265,5 +276,7 @@ fn unlike_forms_under_one_info_come_in_frames_of_their_own(rt: HostRuntime) -> O
     assert!(rt; is_frame(replies.get(4), 0, Some(100), "t", 31, (100, 200)));
     assert!(rt; matches!(replies.get(6), Some(Reply::Ended(Closed::Reported))));
     assert!(rt; is_frame(replies.get(7), 1, Some(100), "t", 62, (100, 400)));
+    equal(&rt, form_in(replies.get(4)), Some(Form::Short));
+    equal(&rt, form_in(replies.get(7)), Some(Form::Long));
     Ok(())
 }

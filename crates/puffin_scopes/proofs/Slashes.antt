@@ -6,31 +6,31 @@ use Rattle.std.proofs.lemmas.Grind.{common_steps}
 use Rattle.std.specs.Str.{NoCharPasses}
 use Rattle.std.specs.Str.Pattern.{FindsChar, HasCharAt}
 use Rattle.std.specs.Str.Replace.{ReplacesMatches}
-use Rattle.puffin_scopes.specs.Names.Files.{slashed}
+use Rattle.puffin_scopes.specs.Names.Files.{with_slashes}
 
 -- without a backslash nothing changes
-same : (s : List ℕ) → ((i : ℕ) → i < length s → get_or s i 0 ≢ 92) → slashed s ≡ s
+same : (s : List ℕ) → ((i : ℕ) → i < length s → get_or s i 0 ≢ 92) → with_slashes s ≡ s
 same [] h = refl
 same (b ∷ s) h =
     let first : b ≢ 92 = h 0 (omega arith) in
-    let rest : slashed s ≡ s = same s (λ i l. h (suc i) (omega arith)) in
+    let rest : with_slashes s ≡ s = same s (λ i l. h (suc i) (omega arith)) in
     grind (arith, common_steps, rest)
 
-clear : (s : List ℕ) → NoCharPasses (λ d. d == 92) s → slashed s ≡ s
+clear : (s : List ℕ) → NoCharPasses (λ d. d == 92) s → with_slashes s ≡ s
 clear s h = same s (λ i l. NoCharPasses-char 92 s i h (lit< tt) l)
 
-one_step : (s out rest : List ℕ) (a b : ℕ) → NoCharPasses (λ d. d == 92) (take a s) → HasCharAt 92 s a b → rest ≡ slashed (drop b s) → out ≡ take a s ++ (47 ∷ rest) → out ≡ slashed s
+one_step : (s out rest : List ℕ) (a b : ℕ) → NoCharPasses (λ d. d == 92) (take a s) → HasCharAt 92 s a b → rest ≡ with_slashes (drop b s) → out ≡ take a s ++ (47 ∷ rest) → out ≡ with_slashes s
 one_step s out rest a b front at e o =
     let cut : drop a s ≡ 92 ∷ drop b s = drop_at_char 92 s a b at (lit< tt) in
-    let whole : slashed s ≡ slashed (take a s) ++ slashed (drop a s) = ap slashed (sym (take-append-drop a s)) ∙ map-append _ (take a s) (drop a s) in
-    let tail : slashed (drop a s) ≡ 47 ∷ slashed (drop b s) = ap slashed cut in
+    let whole : with_slashes s ≡ with_slashes (take a s) ++ with_slashes (drop a s) = ap with_slashes (sym (take-append-drop a s)) ∙ map-append _ (take a s) (drop a s) in
+    let tail : with_slashes (drop a s) ≡ 47 ∷ with_slashes (drop b s) = ap with_slashes cut in
     o ∙ sym (whole ∙ rw (clear (take a s) front, tail, e) refl)
 
 -- a match isn't empty
 longer : (s : List ℕ) (a b : ℕ) → HasCharAt 92 s a b → a ≡ b → ⊥
 longer s a b at e = let ends = at.ends in omega arith
 
-pub slashed_by_replace : (n : ℕ) (c : ℕ) (s out : List ℕ) → c ≡ 92 → ReplacesMatches FindsChar (λ a b. b ≡ a) (47 ∷ []) n c s out → out ≡ slashed s
+pub slashed_by_replace : (n : ℕ) (c : ℕ) (s out : List ℕ) → c ≡ 92 → ReplacesMatches FindsChar (λ a b. b ≡ a) (47 ∷ []) n c s out → out ≡ with_slashes s
 slashed_by_replace zero c s out e h =
     let none : NoCharPasses (λ d. d == 92) s = subst (λ (k : ℕ). FindsChar k s None) e h.0 in
     h.1 ∙ sym (clear s none)

@@ -51,7 +51,7 @@ impl<'p, C: NsSource> ProfilerScope<'p, C> {
     ghost use Rattle.std.specs.Borrow.{sem, RestsIfErr};
     ghost use Rattle.puffin_data.specs.declared.error.Error.{Error};
     ghost use Rattle.puffin_threads.specs.contracts.thread_profiler.profiler.ThreadProfiler.{the_row as profiler_row};
-    ghost use Rattle.puffin_scopes.specs.Guards.Guard.{profiler_of, lender_of, offset_of, refusal_of};
+    ghost use Rattle.puffin_scopes.specs.Guards.Guard.{profiler_of, lender_of, offset_of, guard_refusal};
     ghost use Rattle.puffin_scopes.specs.Guards.Beginning.{IsOn, IsOff};
     ghost use Rattle.puffin_scopes.specs.Guards.Ending.{Ends};
 
@@ -129,7 +129,7 @@ impl<'p, C: NsSource> ProfilerScope<'p, C> {
 
     /// Why it has no scope, where one was refused.
     pub fn refusal(&self) -> Option<Error>
-        ensures { result ≡ refusal_of self.now }
+        ensures { result ≡ guard_refusal self.now }
     {
         match self.standing {
             Standing::Refused(e) => Some(e),

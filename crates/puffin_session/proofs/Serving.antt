@@ -45,7 +45,7 @@ use Rattle.puffin_session.specs.Session.Notes.{notes_at, due_notes_at, details_l
 use Rattle.puffin_session.specs.Session.{SessionState, word_in, thread_after, word_of_thread, begun_place, SpellsWord, TellsAfter}
 use Rattle.puffin_session.specs.Session.Actions.{action_of, details_given, user_details}
 use Rattle.puffin_session.specs.Session.Replies.{MayReply, TellsScopes, ending_info, ending_word}
-use Rattle.puffin_session.specs.inner.Serving.{clock_time, session_thread, session_with_thread, session_with_collected, Ends, SumsTo, Continued, ContinuesBy, Continues}
+use Rattle.puffin_session.specs.inner.Serving.{clock_time, session_thread, session_with_thread, session_with_collected, EndsInnermost, SumsTo, Continued, ContinuesBy, Continues}
 use Rattle.puffin_session.proofs.Histories.{due-same, due-more, due-anew}
 use Rattle.puffin_session.proofs.SessionCollects.{SpellsFrame-taken, NoneDue-untaken}
 use Rattle.puffin_session.proofs.Laws.{events_in-spelling}
@@ -195,7 +195,7 @@ module _ (now : SessionState) (t : ℕ) (at : ℤ) (there : t < length now.threa
         (within, refl, (sym word ∙ last, IsRefusal-from o done now (ending_info o done t) r (ending_word o done t at) before.stands before.sums here (session_thread now t).details e ids (subst (λ (v : Thread). IsReportRefusal now.collected (info_of_thread v) (session_thread now t).details r e) th refusal))),
       )
 
-  pub Continues-ended : (thread : Thread) (collected : Collected) (closed : Closed) → AllHaveIds (session_thread now t).details → Ends (session_thread now t) thread (clock_time at) now.collected collected closed
+  pub Continues-ended : (thread : Thread) (collected : Collected) (closed : Closed) → AllHaveIds (session_thread now t).details → EndsInnermost (session_thread now t) thread (clock_time at) now.collected collected closed
       → Continues now (session_with_thread now t thread collected) (End t at 0) (reply.Ended closed)
   Continues-ended thread collected Inner ids ends = ([], ended_inner (session_with_thread now t thread collected) ends.0 (ap (set now.threads t) ends.1) ends.2)
   Continues-ended thread collected Reported ids ends =

@@ -21,14 +21,14 @@ use Rattle.puffin_threads.specs.declared.thread_profiler.reporter.Closed.TheVari
 use Rattle.puffin_collector.specs.Profiler.State.{Collected, AcceptsReport, RefusesReport, after_wanting, IsReportRefusal}
 use Rattle.puffin_collector.specs.Profiler.Collecting.{Collects, KeepsPending}
 use Rattle.puffin_session.specs.Session.{SessionState}
-use Rattle.puffin_session.specs.inner.Serving.{clock_time, session_thread, session_with_thread, session_with_collected, Ends}
+use Rattle.puffin_session.specs.inner.Serving.{clock_time, session_thread, session_with_thread, session_with_collected, EndsInnermost}
 
 abbrev session : List Thread → Collected → SessionState
 session threads collected = record { threads = threads; collected = collected }
 
 -- what a profiler's end gives, where its clock was set to the command's time
 pub Ends-from : (old there new : Thread) (at clock t : ℤ) (before after : Collected) (closed : Closed) → there ≡ old → clock ≡ at → t ≡ int_max (pos 0) clock → Closes AcceptsReport RefusesReport there new t before after closed
-    → Ends old new (clock_time at) before after closed
+    → EndsInnermost old new (clock_time at) before after closed
 Ends-from old there new at clock t before after closed same set answered closes =
     subst (λ (th : Thread). Closes AcceptsReport RefusesReport th new (clock_time at) before after closed) same
     (subst (λ (x : ℤ). Closes AcceptsReport RefusesReport there new x before after closed) (answered ∙ ap (int_max (pos 0)) set) closes)
@@ -69,19 +69,19 @@ same_default (x ∷ xs) (suc t) d e lt = same_default xs t d e (omega arith)
 
 -- what ending a scope of one thread gives for its session
 pub Ends-there : (now : SessionState) (threads : List Thread) (collected after : Collected) (t : ℕ) (thread new : Thread) (at : ℤ) (back : ℕ) (result : Result Closed Error) → session threads collected ≡ now → t < length threads → thread ≡ get_or threads t thread
-    → OnOk result (back ≡ 0) → IfOk result (λ closed. Ends thread new at collected after closed)
-    → IfOk result (λ closed. (t < length now.threads) × (back ≡ 0) × (session (set threads t new) after ≡ session_with_thread now t (get_or (set threads t new) t nobody) after) × Ends (session_thread now t) (get_or (set threads t new) t nobody) at now.collected after closed)
+    → OnOk result (back ≡ 0) → IfOk result (λ closed. EndsInnermost thread new at collected after closed)
+    → IfOk result (λ closed. (t < length now.threads) × (back ≡ 0) × (session (set threads t new) after ≡ session_with_thread now t (get_or (set threads t new) t nobody) after) × EndsInnermost (session_thread now t) (get_or (set threads t new) t nobody) at now.collected after closed)
 Ends-there now threads collected after t thread new at back (Err e) same lt read innermost ends = tt
 Ends-there now threads collected after t thread new at back (Ok closed) same lt read innermost ends =
     let there : get_or (set threads t new) t nobody ≡ new = get_or-set_same threads t new nobody lt in
     let was : thread ≡ get_or threads t nobody = read ∙ same_default threads t thread nobody lt in
     subst
-    (λ (s : SessionState). (t < length s.threads) × (back ≡ 0) × (session (set threads t new) after ≡ session_with_thread s t (get_or (set threads t new) t nobody) after) × Ends (session_thread s t) (get_or (set threads t new) t nobody) at s.collected after closed)
+    (λ (s : SessionState). (t < length s.threads) × (back ≡ 0) × (session (set threads t new) after ≡ session_with_thread s t (get_or (set threads t new) t nobody) after) × EndsInnermost (session_thread s t) (get_or (set threads t new) t nobody) at s.collected after closed)
     same (
       lt,
       innermost,
       ap (λ (th : Thread). session (set threads t th) after) (sym there),
-      subst (λ (th : Thread). Ends (get_or threads t nobody) th at collected after closed) (sym there) (subst (λ (th : Thread). Ends th new at collected after closed) was ends),
+      subst (λ (th : Thread). EndsInnermost (get_or threads t nobody) th at collected after closed) (sym there) (subst (λ (th : Thread). EndsInnermost th new at collected after closed) was ends),
     )
 
 -- what an accepted report of a user's scopes gives, and a refused one

@@ -33,8 +33,8 @@ pub record SessionState : Type 0 where
   pub collected : Collected
 
 -- a thread of this name whose texts have this form, before its first scope
-abbrev pub named : List ℕ × Form → Thread
-named thread = record {
+abbrev pub new_thread : List ℕ × Form → Thread
+new_thread thread = record {
   name = thread.0;
   form = thread.1;
   first_start = None;
@@ -56,7 +56,7 @@ nothing_collected = record {
 
 -- with these threads, before any command
 abbrev pub new_session : List (List ℕ × Form) → SessionState
-new_session threads = record { threads = map named threads; collected = nothing_collected }
+new_session threads = record { threads = map new_thread threads; collected = nothing_collected }
 
 -- the word that bytes spell in a form
 abbrev pub word_in : Form → List ℕ → Word

@@ -4,9 +4,9 @@ ghost use Rattle.puffin_data.specs.Text.{cut_text};
 ghost use Rattle.puffin_data.specs.Forest.Words.{open_after};
 ghost use Rattle.puffin_threads.specs.Details.{AllHaveIds};
 ghost use Rattle.puffin_threads.specs.Thread.Calls.{after_begin, after_registering};
-ghost use Rattle.puffin_session.specs.Session.{named, begun_place};
+ghost use Rattle.puffin_session.specs.Session.{new_thread, begun_place};
 ghost use Rattle.puffin_session.specs.Session.Actions.{details_given};
-ghost use Rattle.puffin_session.specs.inner.Serving.{clock_time, Ends};
+ghost use Rattle.puffin_session.specs.inner.Serving.{clock_time, EndsInnermost};
 
 use puffin_collector::Collector;
 use puffin_data::data::{Form, ScopeId};
@@ -42,7 +42,7 @@ impl Model for Profiled {
 impl Profiled {
     /// A thread whose texts have this form, before its first scope.
     pub(crate) fn new(alloc: Global, name: String, form: Form) -> Profiled
-        ensures { result ≡ named (string_bytes name, form) }
+        ensures { result ≡ new_thread (string_bytes name, form) }
     {
         Profiled {
             profiler: ThreadProfiler::with_form(alloc, name, ScriptClock::new(0), form),
@@ -108,7 +108,7 @@ impl Profiled {
         ensures ids { AllHaveIds self.old.details }
         ensures back { OnOk result (back ≡ 0) }
         ensures ok { IfOk result (λ closed.
-            Ends self.old self.new (clock_time at) collector.old collector.new closed) }
+            EndsInnermost self.old self.new (clock_time at) collector.old collector.new closed) }
         ensures err { OnErr result ((self.new ≡ self.old) × (collector.new ≡ collector.old)) }
         ensures cause { IfErr result (λ e.
             (e ≡ Error.MismatchedEnd) × ((0 < back) ⊎ (open_after 0 self.old.word ≡ 0))) }

@@ -15,7 +15,7 @@ ghost use Rattle.puffin_collector.specs.Profiler.Registering.{Adds, AddsSome};
 ghost use Rattle.puffin_session.specs.Session.{new_session, nothing_collected, begun_place};
 ghost use Rattle.puffin_session.specs.Session.Runs.{Records, HasIds};
 ghost use Rattle.puffin_session.specs.Session.Actions.{details_given, user_details};
-ghost use Rattle.puffin_session.specs.inner.Serving.{clock_time, session_thread, session_with_thread, session_with_collected, Ends, Continues};
+ghost use Rattle.puffin_session.specs.inner.Serving.{clock_time, session_thread, session_with_thread, session_with_collected, EndsInnermost, Continues};
 
 use crate::command::{Command, Reply};
 use crate::profiled::Profiled;
@@ -193,7 +193,7 @@ impl Session {
             × (back ≡ 0)
             × (self.new ≡ session_with_thread self.old thread (session_thread self.new thread)
             self.new.collected)
-            × Ends (session_thread self.old thread) (session_thread self.new thread)
+            × EndsInnermost (session_thread self.old thread) (session_thread self.new thread)
             (clock_time at) self.old.collected self.new.collected closed) }
         ensures err { OnErr result (self.new ≡ self.old) }
         ensures cause { IfErr result (λ e.

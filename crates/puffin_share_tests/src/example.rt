@@ -1,7 +1,8 @@
-//! Two threads share one profiler: README shows this.
+//! Two threads share one profiler, in a short program.
 
 ghost use Rattle.std.specs.Prelude.{◌≡◌};
 
+use crate::equal::equal;
 use puffin::data::ScopeId;
 use puffin::global_profiler::{GlobalProfiler, Settled, Share, SharedProfiler, SharedReporter};
 use puffin::thread_profiler::{ScriptClock, ThreadProfiler};
@@ -75,7 +76,7 @@ fn loaded<
         handed: 1,
         pending: 0,
     };
-    assert_eq!(rt; settled, all);
+    equal(&rt, settled, all);
     Ok(())
 }
 

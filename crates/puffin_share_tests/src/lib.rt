@@ -2,7 +2,11 @@
 #![tactic(auto)]
 
 #[cfg(test)]
+mod equal;
+#[cfg(test)]
 mod example;
+#[cfg(test)]
+mod long_texts;
 #[cfg(test)]
 mod many_workers;
 #[cfg(test)]

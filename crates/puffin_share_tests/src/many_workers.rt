@@ -2,6 +2,7 @@
 
 ghost use Rattle.std.specs.Prelude.{◌≡◌};
 
+use crate::equal::equal;
 use crate::shared_profiler::{Frames, in_order, taken};
 use puffin::data::{ScopeId, StreamInfoRef};
 use puffin::global_profiler::{GlobalProfiler, Settled, Share, SharedProfiler, SharedReporter};
@@ -173,14 +174,15 @@ fn nine_shares<
     let mut frames = Vec::new(alloc);
     let mut shares = worked(rt, alloc, &profiler, shares, &mut own, &mut frames)?;
     for name in NAMES {
-        assert_eq!(rt; in_order(alloc, &frames, name)?, Some(SCOPES));
+        equal(&rt, in_order(alloc, &frames, name)?, Some(SCOPES));
     }
     shares.push(own)?;
     for share in &mut shares {
         let totals = profiler.totals(&rt, share);
-        assert_eq!(rt;
+        equal(
+            &rt,
             (totals.reported, totals.pending, totals.emitted),
-            (4000, 0, 4000)
+            (4000, 0, 4000),
         );
     }
     let Ok(settled) = profiler.settle(&rt, shares) else {
@@ -191,7 +193,7 @@ fn nine_shares<
         handed: 4000,
         pending: 0,
     };
-    assert_eq!(rt; settled, all);
+    equal(&rt, settled, all);
     Ok(())
 }
 

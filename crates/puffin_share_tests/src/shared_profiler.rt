@@ -1,5 +1,6 @@
 ghost use Rattle.std.specs.Prelude.{◌≡◌};
 
+use crate::equal::equal;
 use puffin::data::{Reader, Scope, ScopeId};
 use puffin::frame_data::FrameData;
 use puffin::global_profiler::{
@@ -158,10 +159,10 @@ fn four_workers<
     let Err(shares) = one_too_few else {
         return Err(Fail::new("four shares are all"));
     };
-    assert_eq!(rt; shares.len(), 4);
+    equal(&rt, shares.len(), 4);
     taken(&rt, &profiler, &mut own, 1, &mut frames)?;
     for name in NAMES {
-        assert_eq!(rt; in_order(alloc, &frames, name)?, Some(SCOPES));
+        equal(&rt, in_order(alloc, &frames, name)?, Some(SCOPES));
     }
     let mut shares = shares;
     shares.push(own)?;
@@ -173,8 +174,8 @@ fn four_workers<
         handed: scopes_in(&frames),
         pending: 0,
     };
-    assert_eq!(rt; settled, all);
-    assert_eq!(rt; settled.handed, 4000);
+    equal(&rt, settled, all);
+    equal(&rt, settled.handed, 4000);
     Ok(())
 }
 
@@ -210,7 +211,7 @@ fn attached<
     let details = [ScopeDetails::from_scope_name(CowStr::Borrowed("u"))];
     let scope_ids = profiler.register_user_scopes(&rt, &ids, &details)?;
     let id = *scope_ids.first().ok_or("an id")?;
-    assert_eq!(rt; id.get(), 1);
+    equal(&rt, id.get(), 1);
     let view = GlobalFrameView::attach(alloc, &rt, &profiler)?;
     let mut thread = ThreadProfiler::new(
         alloc,
@@ -219,23 +220,29 @@ fn attached<
     );
     let mut reporter = SharedReporter::new(rt, profiler.clone()?, share);
     let scope = thread.begin_scope(id, "")?;
-    assert_eq!(rt; reporter.end_scope(&mut thread, scope)?, Closed::Reported);
+    equal(
+        &rt,
+        reporter.end_scope(&mut thread, scope)?,
+        Closed::Reported,
+    );
     share = reporter.into_share();
     let emitted = profiler.new_frame(&rt, &mut share)?;
-    assert_eq!(rt; emitted.refused, 0);
+    equal(&rt, emitted.refused, 0);
     let frame = emitted.frame.ok_or("a frame")?;
-    assert_eq!(rt; frame.frame_index(), 0);
+    equal(&rt, frame.frame_index(), 0);
     assert!(rt; frame.full_delta);
-    assert_eq!(rt; frame.scope_delta.len(), 2);
+    equal(&rt, frame.scope_delta.len(), 2);
     for details in &frame.scope_delta {
-        assert_eq!(rt;
+        equal(
+            &rt,
             (details.name().as_str(), details.scope_id()),
-            ("u", Some(id))
+            ("u", Some(id)),
         );
     }
-    assert_eq!(rt;
+    equal(
+        &rt,
         view.lock(&rt).scope_collection().fetch_by_name("u"),
-        Some(&id)
+        Some(&id),
     );
     assert!(rt; view.lock(&rt).latest_frame().is_some());
     assert!(rt; view.detach(&rt, &profiler));

@@ -2,6 +2,7 @@
 
 ghost use Rattle.std.specs.Prelude.{◌≡◌};
 
+use crate::equal::equal;
 use puffin::Result;
 use puffin::data::{Counted, Reader, ScopeId, Stream, StreamInfo};
 use puffin::frame_data::FrameData;
@@ -82,7 +83,7 @@ fn a_frame_and_its_copies_are_written(rt: HostRuntime) -> Outcome {
         let told = written(alloc, copy, Some(&scopes))?;
         let mut source = Counted::new(told.as_slice());
         let read = FrameData::read_next(alloc, &mut source)?.ok_or("a frame")?;
-        assert_eq!(rt; read.scope_delta.len(), 2);
+        equal(&rt, read.scope_delta.len(), 2);
     }
     Ok(())
 }
@@ -114,7 +115,7 @@ fn added<L: Ledger, M: Ledger, R: Wait + Abort>(
     else {
         return Err(Fail::new("no memory"));
     };
-    assert_eq!(rt; profiler.clone()?.add_frame(rt, frame)?, 0);
+    equal(rt, profiler.clone()?.add_frame(rt, frame)?, 0);
     Ok(())
 }
 
@@ -123,7 +124,7 @@ fn a_frame_is_refused_by_no_sink(rt: HostRuntime) -> Outcome {
     let alloc = rt.alloc();
     let frame = Arc::new(alloc, frame(alloc)?)?;
     let mut profiler = GlobalProfiler::new(alloc);
-    assert_eq!(rt; profiler.add_frame(&rt, Arc::try_clone(&frame)?)?, 0);
+    equal(&rt, profiler.add_frame(&rt, Arc::try_clone(&frame)?)?, 0);
     added::<Brand, Brand, HostRuntime>(&rt, alloc, frame, Blank::new(1), Blank::new(1))
 }
 
@@ -131,14 +132,15 @@ fn a_frame_is_refused_by_no_sink(rt: HostRuntime) -> Outcome {
 fn copies_of_threads_details_and_streams(rt: HostRuntime) -> Outcome {
     let alloc = rt.alloc();
     let info = thread(alloc)?;
-    assert_eq!(rt; info.clone()?, info);
+    equal(&rt, info.clone()?, info);
     let details = ScopeDetails::from_scope_name(CowStr::Borrowed("a")).with_line_nr(7);
-    assert_eq!(rt; details.clone()?, details);
+    equal(&rt, details.clone()?, details);
     let parsed = StreamInfo::parse(alloc, stream(alloc)?.clone()?)?.clone()?;
-    assert_eq!(rt; parsed.stream.bytes(), &PACKET[29..64]);
-    assert_eq!(rt;
+    equal(&rt, parsed.stream.bytes(), &PACKET[29..64]);
+    equal(
+        &rt,
         Reader::count_scope_and_depth(alloc, &parsed.stream)?,
-        (1, 1)
+        (1, 1),
     );
     Ok(())
 }
@@ -147,15 +149,19 @@ fn copies_of_threads_details_and_streams(rt: HostRuntime) -> Outcome {
 fn copies_of_collections_and_views(rt: HostRuntime) -> Outcome {
     let alloc = rt.alloc();
     let scopes = collection(alloc)?.clone()?;
-    assert_eq!(rt; scopes.scopes_by_id().len(), 2);
+    equal(&rt, scopes.scopes_by_id().len(), 2);
     for (name, number) in [("a", 2), ("b", 1)] {
-        assert_eq!(rt; scopes.fetch_by_name(name), ScopeId::new(number).as_ref());
+        equal(
+            &rt,
+            scopes.fetch_by_name(name),
+            ScopeId::new(number).as_ref(),
+        );
     }
     let mut view = FrameView::new(alloc);
     view.add_frame(Arc::new(alloc, frame(alloc)?)?)?;
     let copy = view.clone()?;
     let latest = copy.latest_frame().ok_or("a frame")?;
     assert!(rt; written(alloc, latest, None)?.as_slice() == PACKET.as_slice());
-    assert_eq!(rt; copy.stats().frames(), 1);
+    equal(&rt, copy.stats().frames(), 1);
     Ok(())
 }

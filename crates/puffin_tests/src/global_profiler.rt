@@ -2,6 +2,7 @@ ghost use Rattle.std.specs.Prelude.{IfOk};
 ghost use Rattle.puffin_data.specs.Forest.{Forest};
 ghost use Rattle.puffin_data.specs.Honesty.{IsHonest, IsHonestRef};
 
+use crate::equal::equal;
 use puffin::data::{ScopeId, Stream, StreamInfo, StreamInfoRef};
 use puffin::frame_data::FrameData;
 use puffin::global_profiler::{Collector, GlobalProfiler, Totals};
@@ -102,14 +103,14 @@ fn reports_of_two_threads(rt: HostRuntime) -> Outcome {
     report(&rt, &mut profiler, "b", 2, (50, 60))?;
     report(&rt, &mut profiler, "a", 3, (200, 260))?;
     let frame = emitted(&rt, &mut profiler)?;
-    assert_eq!(rt; frame.frame_index(), 0);
-    assert_eq!(rt; frame.range_ns(), (50, 260));
-    assert_eq!(rt; frame.duration_ns(), 210);
-    assert_eq!(rt; frame.meta().num_bytes, 93);
-    assert_eq!(rt; frame.meta().num_scopes, 3);
-    assert_eq!(rt; held(&rt, &frame, "a")?, Some((62, 2)));
-    assert_eq!(rt; held(&rt, &frame, "b")?, Some((31, 1)));
-    assert_eq!(rt; held(&rt, &frame, "c")?, None);
+    equal(&rt, frame.frame_index(), 0);
+    equal(&rt, frame.range_ns(), (50, 260));
+    equal(&rt, frame.duration_ns(), 210);
+    equal(&rt, frame.meta().num_bytes, 93);
+    equal(&rt, frame.meta().num_scopes, 3);
+    equal(&rt, held(&rt, &frame, "a")?, Some((62, 2)));
+    equal(&rt, held(&rt, &frame, "b")?, Some((31, 1)));
+    equal(&rt, held(&rt, &frame, "c")?, None);
     assert!(rt; frame.scope_delta.is_empty());
     assert!(rt; !frame.full_delta);
     Ok(())
@@ -120,14 +121,14 @@ fn a_range_that_is_too_long(rt: HostRuntime) -> Outcome {
     let mut profiler = GlobalProfiler::new(rt.alloc());
     report_user(&rt, &mut profiler, "u", (NanoSecond::MIN, NanoSecond::MIN))?;
     let refused = report_user(&rt, &mut profiler, "u", (0, 0));
-    assert_eq!(rt; refused.err(), Some(Error::RangeTooLong));
+    equal(&rt, refused.err(), Some(Error::RangeTooLong));
     let other = report(&rt, &mut profiler, "v", 1, (0, 0));
-    assert_eq!(rt; other.err(), Some(Error::RangeTooLong));
+    equal(&rt, other.err(), Some(Error::RangeTooLong));
     let frame = emitted(&rt, &mut profiler)?;
-    assert_eq!(rt; frame.range_ns(), (NanoSecond::MIN, NanoSecond::MIN));
-    assert_eq!(rt; frame.duration_ns(), 0);
-    assert_eq!(rt; held(&rt, &frame, "u")?, Some((31, 1)));
-    assert_eq!(rt; held(&rt, &frame, "v")?, None);
+    equal(&rt, frame.range_ns(), (NanoSecond::MIN, NanoSecond::MIN));
+    equal(&rt, frame.duration_ns(), 0);
+    equal(&rt, held(&rt, &frame, "u")?, Some((31, 1)));
+    equal(&rt, held(&rt, &frame, "v")?, None);
     // What is emitted is in no range any more.
     report_user(&rt, &mut profiler, "u", (0, 0))?;
     Ok(())
@@ -142,10 +143,10 @@ fn without_scopes_the_index_alone_rises(rt: HostRuntime) -> Outcome {
     assert!(rt; profiler.collect_frame()?.is_none());
     report(&rt, &mut profiler, "b", 1, (5, 7))?;
     let frame = emitted(&rt, &mut profiler)?;
-    assert_eq!(rt; frame.frame_index(), 2);
+    equal(&rt, frame.frame_index(), 2);
     // The thread without scopes was kept until there was a frame.
-    assert_eq!(rt; held(&rt, &frame, "a")?, Some((0, 0)));
-    assert_eq!(rt; held(&rt, &frame, "b")?, Some((31, 1)));
+    equal(&rt, held(&rt, &frame, "a")?, Some((0, 0)));
+    equal(&rt, held(&rt, &frame, "b")?, Some((31, 1)));
     assert!(rt; profiler.new_frame(&rt)?.frame.is_none());
     Ok(())
 }
@@ -162,7 +163,7 @@ fn totals_of_reports_and_frames(rt: HostRuntime) -> Outcome {
         pending: 1,
         emitted: 2,
     };
-    assert_eq!(rt; profiler.totals(), totals);
+    equal(&rt, profiler.totals(), totals);
     Ok(())
 }
 
@@ -173,14 +174,15 @@ fn a_collector_at_the_last_index(rt: HostRuntime) -> Outcome {
     let Some(frame) = collector.collect_frame()? else {
         return Err(Fail::new("no frame"));
     };
-    assert_eq!(rt; frame.frame_index(), u64::MAX - 1);
+    equal(&rt, frame.frame_index(), u64::MAX - 1);
     let last = scope(&rt, 1, 8, 9)?;
     collector.report_user_scopes(thread(&rt, "a")?, &borrowed(&last))?;
-    assert_eq!(rt;
+    equal(
+        &rt,
         collector.collect_frame().err(),
-        Some(Error::IndexExhausted)
+        Some(Error::IndexExhausted),
     );
-    assert_eq!(rt; collector.totals().pending, 1);
+    equal(&rt, collector.totals().pending, 1);
     Ok(())
 }
 
@@ -191,14 +193,15 @@ fn a_profiler_at_the_last_index(rt: HostRuntime) -> Outcome {
     let Some(frame) = profiler.new_frame(&rt)?.frame else {
         return Err(Fail::new("no frame"));
     };
-    assert_eq!(rt; frame.frame_index(), u64::MAX - 1);
+    equal(&rt, frame.frame_index(), u64::MAX - 1);
     report(&rt, &mut profiler, "a", 1, (8, 9))?;
     let refused = profiler.new_frame(&rt).err();
-    assert_eq!(rt; refused, Some(Error::IndexExhausted));
+    equal(&rt, refused, Some(Error::IndexExhausted));
     let totals = profiler.totals();
-    assert_eq!(rt;
+    equal(
+        &rt,
         (totals.reported, totals.pending, totals.emitted),
-        (2, 1, 1)
+        (2, 1, 1),
     );
     Ok(())
 }
@@ -226,25 +229,25 @@ fn one_refused_allocation(rt: HostRuntime) -> Outcome {
     }
     let mut emitted = profiler.new_frame(&rt);
     if emitted.is_err() {
-        assert_eq!(rt; profiler.totals().pending, 6);
+        equal(&rt, profiler.totals().pending, 6);
         report_again(&rt, &mut profiler, "c", 1)?;
         emitted = profiler.new_frame(&rt);
     }
     let Some(frame) = emitted?.frame else {
         return Err(Fail::new("no frame"));
     };
-    assert_eq!(rt; frame.frame_index(), 0);
+    equal(&rt, frame.frame_index(), 0);
     let Some(unpacked) = frame.as_unpacked() else {
         return Err(Fail::new("packed"));
     };
     for (thread, info) in &unpacked.thread_streams {
         if thread.name.as_str() == "c" {
-            assert_eq!(rt; info.stream.len(), 31);
+            equal(&rt, info.stream.len(), 31);
         } else {
-            assert_eq!(rt; (info.stream.len(), info.num_scopes), (93, 3));
+            equal(&rt, (info.stream.len(), info.num_scopes), (93, 3));
         }
     }
-    assert_eq!(rt; profiler.totals().pending, 0);
+    equal(&rt, profiler.totals().pending, 0);
     Ok(())
 }
 
@@ -276,10 +279,10 @@ fn details_without_an_id_are_refused(rt: HostRuntime) -> Outcome {
         &[named("y").with_scope_id(id(2)?), named("x")],
         &borrowed(&info),
     );
-    assert_eq!(rt; refused.err(), Some(Error::MissingId));
-    assert_eq!(rt; profiler.totals(), before);
+    equal(&rt, refused.err(), Some(Error::MissingId));
+    equal(&rt, profiler.totals(), before);
     let frame = emitted(&rt, &mut profiler)?;
-    assert_eq!(rt; held(&rt, &frame, "a")?, Some((31, 1)));
+    equal(&rt, held(&rt, &frame, "a")?, Some((31, 1)));
     assert!(rt; frame.scope_delta.is_empty());
     Ok(())
 }
@@ -289,11 +292,11 @@ fn details_wait_for_the_next_frame(rt: HostRuntime) -> Outcome {
     let mut profiler = GlobalProfiler::new(rt.alloc());
     let ids = ScopeIds::new();
     let drawn = profiler.register_user_scopes(&ids, &[named("u")])?;
-    assert_eq!(rt; drawn.as_slice(), [id(1)?].as_slice());
+    equal(&rt, drawn.as_slice(), [id(1)?].as_slice());
     assert!(rt; profiler.new_frame(&rt)?.frame.is_none());
     report(&rt, &mut profiler, "a", 1, (100, 200))?;
     let frame = emitted(&rt, &mut profiler)?;
-    assert_eq!(rt; frame.frame_index(), 1);
+    equal(&rt, frame.frame_index(), 1);
     assert!(rt; tells_of(&frame, &[(1, "u")]));
     assert!(rt; !frame.full_delta);
     report(&rt, &mut profiler, "a", 1, (200, 300))?;
@@ -335,11 +338,12 @@ fn the_first_scopes_are_registered_where_ids_run_out(rt: HostRuntime) -> Outcome
     let mut profiler = GlobalProfiler::new(rt.alloc());
     let ids = ScopeIds::starting_at(4_294_967_294);
     let refused = profiler.register_user_scopes(&ids, &[named("a"), named("b"), named("c")]);
-    assert_eq!(rt; refused.err(), Some(Error::IdsExhausted));
+    equal(&rt, refused.err(), Some(Error::IdsExhausted));
     let known = profiler.register_user_scopes(&ids, &[named("a"), named("b")])?;
-    assert_eq!(rt;
+    equal(
+        &rt,
         known.as_slice(),
-        [id(4_294_967_294)?, id(4_294_967_295)?].as_slice()
+        [id(4_294_967_294)?, id(4_294_967_295)?].as_slice(),
     );
     Ok(())
 }

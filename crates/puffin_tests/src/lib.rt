@@ -4,6 +4,8 @@
 #[cfg(test)]
 mod copies;
 #[cfg(test)]
+mod equal;
+#[cfg(test)]
 mod global_profiler;
 #[cfg(test)]
 mod sinks;

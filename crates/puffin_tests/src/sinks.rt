@@ -2,6 +2,7 @@ ghost use Rattle.std.specs.Prelude.{IfOk};
 ghost use Rattle.puffin_data.specs.Forest.{Forest};
 ghost use Rattle.puffin_data.specs.Honesty.{IsHonest};
 
+use crate::equal::equal;
 use puffin::data::{Stream, StreamInfo};
 use puffin::frame_data::{FrameData, FrameIndex};
 use puffin::global_profiler::{FrameSink, FrameSinkId, GlobalProfiler, Sink, Totals};
@@ -98,12 +99,12 @@ fn numbers_of_sinks(rt: HostRuntime) -> Outcome {
     let mut profiler = GlobalProfiler::new(rt.alloc());
     for number in 1..4u64 {
         let id = added(&mut profiler, sink_named!(rt, &handed, number, false))?;
-        assert_eq!(rt; id, FrameSinkId(number));
+        equal(&rt, id, FrameSinkId(number));
     }
     assert!(rt; profiler.remove_sink(FrameSinkId(2)).is_some());
     assert!(rt; profiler.remove_sink(FrameSinkId(2)).is_none());
     let id = added(&mut profiler, sink_named!(rt, &handed, 4, false))?;
-    assert_eq!(rt; id, FrameSinkId(4));
+    equal(&rt, id, FrameSinkId(4));
     Ok(())
 }
 
@@ -123,16 +124,17 @@ fn a_sink_that_refuses_is_counted_and_the_next_is_called(rt: HostRuntime) -> Out
     report(&rt, &mut profiler)?;
     let emitted = profiler.new_frame(&rt)?;
     assert!(rt; emitted.frame.is_some());
-    assert_eq!(rt; emitted.refused, 1);
-    assert_eq!(rt;
+    equal(&rt, emitted.refused, 1);
+    equal(
+        &rt,
         notes(&rt, &handed)?.as_slice(),
-        [(1, 0), (3, 0)].as_slice()
+        [(1, 0), (3, 0)].as_slice(),
     );
     // Without a frame no sink is called.
     let emitted = profiler.new_frame(&rt)?;
     assert!(rt; emitted.frame.is_none());
-    assert_eq!(rt; emitted.refused, 0);
-    assert_eq!(rt; notes(&rt, &handed)?.len(), 2);
+    equal(&rt, emitted.refused, 0);
+    equal(&rt, notes(&rt, &handed)?.len(), 2);
     Ok(())
 }
 
@@ -153,17 +155,18 @@ fn a_frame_that_is_added_is_handed_on_and_not_counted(rt: HostRuntime) -> Outcom
     let _first = added(&mut profiler, sink_named!(rt, &handed, 1, false))?;
     let _second = added(&mut profiler, sink_named!(rt, &handed, 2, true))?;
     let frame = frame_at(&rt, 7)?;
-    assert_eq!(rt; profiler.add_frame(&rt, frame)?, 1);
-    assert_eq!(rt;
+    equal(&rt, profiler.add_frame(&rt, frame)?, 1);
+    equal(
+        &rt,
         notes(&rt, &handed)?.as_slice(),
-        [(1, 7), (2, 7)].as_slice()
+        [(1, 7), (2, 7)].as_slice(),
     );
     let none = Totals {
         reported: 0,
         pending: 0,
         emitted: 0,
     };
-    assert_eq!(rt; profiler.totals(), none);
+    equal(&rt, profiler.totals(), none);
     Ok(())
 }
 
@@ -174,9 +177,9 @@ fn a_view_is_a_sink(rt: HostRuntime) -> Outcome {
     let id = added(&mut profiler, Sink::View(Arc::try_clone(&view)?))?;
     for _ in 0..2 {
         report(&rt, &mut profiler)?;
-        assert_eq!(rt; profiler.new_frame(&rt)?.refused, 0);
+        equal(&rt, profiler.new_frame(&rt)?.refused, 0);
     }
-    assert_eq!(rt; profiler.add_frame(&rt, frame_at(&rt, 9)?)?, 0);
+    equal(&rt, profiler.add_frame(&rt, frame_at(&rt, 9)?)?, 0);
     assert!(rt; profiler.remove_sink(id).is_some());
     report(&rt, &mut profiler)?;
     assert!(rt; profiler.new_frame(&rt)?.frame.is_some());
@@ -184,7 +187,7 @@ fn a_view_is_a_sink(rt: HostRuntime) -> Outcome {
     for frame in view.lock(&rt).recent_frames() {
         indices.push(frame.frame_index())?;
     }
-    assert_eq!(rt; indices.as_slice(), [0, 1, 9].as_slice());
+    equal(&rt, indices.as_slice(), [0, 1, 9].as_slice());
     Ok(())
 }
 
@@ -200,7 +203,7 @@ fn a_frame_with_details_without_an_id_is_refused(rt: HostRuntime) -> Outcome {
     let _none = streams.insert(thread(&rt)?, scope(&rt)?)?;
     let frame = FrameData::new(rt.alloc(), 3, streams, delta, false)?;
     let refused = profiler.add_frame(&rt, Arc::new(rt.alloc(), frame)?);
-    assert_eq!(rt; refused.err(), Some(Error::MissingId));
+    equal(&rt, refused.err(), Some(Error::MissingId));
     assert!(rt; notes(&rt, &handed)?.is_empty());
     Ok(())
 }

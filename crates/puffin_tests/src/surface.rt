@@ -1,3 +1,4 @@
+use crate::equal::equal;
 use puffin::wire::{Cursor, put_u64};
 use puffin::{FrameIndex, data, frame_data};
 use std::process::Abort;
@@ -8,10 +9,10 @@ fn what_the_crates_below_hold_stands_here_again(rt: HostRuntime) -> Result<(), F
     let index: FrameIndex = 300;
     let mut bytes = Vec::new(rt.alloc());
     put_u64(&mut bytes, index)?;
-    assert_eq!(rt; bytes.as_slice(), b"\xfb\x2c\x01".as_slice());
+    equal(&rt, bytes.as_slice(), b"\xfb\x2c\x01".as_slice());
     let mut cursor = Cursor::new(&bytes);
     let same: Option<frame_data::FrameIndex> = cursor.u64();
-    assert_eq!(rt; same, Some(index));
+    equal(&rt, same, Some(index));
     assert!(rt; data::Stream::new(rt.alloc()).is_empty());
     Ok(())
 }

@@ -2,6 +2,12 @@
 #![tactic(auto)]
 
 #[cfg(test)]
+mod clock;
+#[cfg(test)]
+mod equal;
+#[cfg(test)]
+mod registrations;
+#[cfg(test)]
 mod scope_details;
 #[cfg(test)]
 mod thread_profiler;

@@ -1,3 +1,4 @@
+use crate::equal::equal;
 use puffin_data::data::ScopeId;
 use puffin_data::{Error, Result};
 use puffin_threads::scope_details::{ScopeCollection, ScopeDetails, ScopeIds, ScopeType};
@@ -30,8 +31,8 @@ fn function(line_nr: u32) -> ScopeDetails {
 
 #[test]
 fn a_file_and_its_line(rt: HostRuntime) -> Outcome {
-    assert_eq!(rt; function(7).location(rt.alloc())?.as_str(), "b.rs:7");
-    assert_eq!(rt; function(0).location(rt.alloc())?.as_str(), "b.rs");
+    equal(&rt, function(7).location(rt.alloc())?.as_str(), "b.rs:7");
+    equal(&rt, function(0).location(rt.alloc())?.as_str(), "b.rs");
     Ok(())
 }
 
@@ -46,27 +47,28 @@ fn facts<'d>(details: &'d ScopeDetails) -> (ScopeType, &'d str, Option<ScopeId>)
 
 #[test]
 fn kinds_of_scopes(rt: HostRuntime) {
-    assert_eq!(rt; ScopeType::Function.type_str(), "function scope");
-    assert_eq!(rt; ScopeType::Named.type_str(), "named");
+    equal(&rt, ScopeType::Function.type_str(), "function scope");
+    equal(&rt, ScopeType::Named.type_str(), "named");
     assert!(rt; ScopeType::Function < ScopeType::Named);
 }
 
 #[test]
 fn a_function_and_a_scope_in_it(rt: HostRuntime) -> Outcome {
     let whole = function(7);
-    assert_eq!(rt; facts(&whole), (ScopeType::Function, "f", None));
+    equal(&rt, facts(&whole), (ScopeType::Function, "f", None));
     let name = String::from_str(rt.alloc(), "part")?;
     let part = ScopeDetails::from_scope_name(CowStr::Owned(name))
         .with_function_name(CowStr::Borrowed("f"))
         .with_scope_id(id(3)?);
-    assert_eq!(rt; facts(&part), (ScopeType::Named, "part", Some(id(3)?)));
-    assert_eq!(rt;
+    equal(&rt, facts(&part), (ScopeType::Named, "part", Some(id(3)?)));
+    equal(
+        &rt,
         (
             part.function_name.as_str(),
             part.file_path.as_str(),
-            part.line_nr
+            part.line_nr,
         ),
-        ("f", "", 0)
+        ("f", "", 0),
     );
     Ok(())
 }
@@ -93,9 +95,10 @@ fn is_inserted(
     expected: &str,
 ) -> Outcome {
     let kept = scopes.insert(named(alloc, scope.0, scope.1)?)?;
-    assert_eq!(rt;
+    equal(
+        rt,
         (kept.name().as_str(), kept.scope_id()),
-        (expected, ScopeId::new(scope.0))
+        (expected, ScopeId::new(scope.0)),
     );
     Ok(())
 }
@@ -119,18 +122,18 @@ fn sizes(scopes: &ScopeCollection) -> (usize, usize) {
 #[test]
 fn first_by_id_and_last_by_name(rt: HostRuntime) -> Outcome {
     let mut scopes = ScopeCollection::new(rt.alloc());
-    assert_eq!(rt; name_of(&scopes, 1), None);
+    equal(&rt, name_of(&scopes, 1), None);
     is_inserted(&rt, &mut scopes, rt.alloc(), (1, "a"), "a")?;
     is_inserted(&rt, &mut scopes, rt.alloc(), (1, "b"), "a")?;
     is_inserted(&rt, &mut scopes, rt.alloc(), (2, "a"), "a")?;
-    assert_eq!(rt; name_of(&scopes, 1), Some("a"));
+    equal(&rt, name_of(&scopes, 1), Some("a"));
     let numbers = (
         number_of(&scopes, "a"),
         number_of(&scopes, "b"),
         number_of(&scopes, "c"),
     );
-    assert_eq!(rt; numbers, (Some(2), Some(1), None));
-    assert_eq!(rt; sizes(&scopes), (2, 2));
+    equal(&rt, numbers, (Some(2), Some(1), None));
+    equal(&rt, sizes(&scopes), (2, 2));
     Ok(())
 }
 
@@ -138,8 +141,8 @@ fn first_by_id_and_last_by_name(rt: HostRuntime) -> Outcome {
 fn details_without_an_id_are_refused(rt: HostRuntime) -> Outcome {
     let mut scopes = ScopeCollection::new(rt.alloc());
     let details = Arc::new(rt.alloc(), function(7))?;
-    assert_eq!(rt; scopes.insert(details).err(), Some(Error::MissingId));
-    assert_eq!(rt; sizes(&scopes), (0, 0));
+    equal(&rt, scopes.insert(details).err(), Some(Error::MissingId));
+    equal(&rt, sizes(&scopes), (0, 0));
     Ok(())
 }
 
@@ -151,15 +154,20 @@ fn details_are_inserted_in_order(rt: HostRuntime) -> Outcome {
         details.push(named(rt.alloc(), number, name)?)?;
     }
     scopes.insert_all(&details)?;
-    assert_eq!(rt;
+    equal(
+        &rt,
         (name_of(&scopes, 1), number_of(&scopes, "a")),
-        (Some("a"), Some(2))
+        (Some("a"), Some(2)),
     );
-    assert_eq!(rt; sizes(&scopes), (2, 2));
+    equal(&rt, sizes(&scopes), (2, 2));
     details.push(named(rt.alloc(), 3, "c")?)?;
     details.push(Arc::new(rt.alloc(), function(7))?)?;
-    assert_eq!(rt; scopes.insert_all(&details).err(), Some(Error::MissingId));
-    assert_eq!(rt; sizes(&scopes), (2, 2));
+    equal(
+        &rt,
+        scopes.insert_all(&details).err(),
+        Some(Error::MissingId),
+    );
+    equal(&rt, sizes(&scopes), (2, 2));
     Ok(())
 }
 
@@ -169,10 +177,11 @@ fn a_copy_of_a_collection(rt: HostRuntime) -> Outcome {
     is_inserted(&rt, &mut scopes, rt.alloc(), (1, "a"), "a")?;
     let copy = scopes.clone()?;
     is_inserted(&rt, &mut scopes, rt.alloc(), (2, "a"), "a")?;
-    assert_eq!(rt; sizes(&copy).0, 1);
-    assert_eq!(rt;
+    equal(&rt, sizes(&copy).0, 1);
+    equal(
+        &rt,
         (number_of(&copy, "a"), number_of(&scopes, "a")),
-        (Some(1), Some(2))
+        (Some(1), Some(2)),
     );
     Ok(())
 }
@@ -198,11 +207,11 @@ fn inserts_again(
     let before = sizes(scopes);
     let mut kept = number_kept(scopes, alloc, number, name);
     if kept.is_err() {
-        assert_eq!(rt; kept, Err(Error::Memory));
-        assert_eq!(rt; sizes(scopes), before);
+        equal(rt, kept, Err(Error::Memory));
+        equal(rt, sizes(scopes), before);
         kept = number_kept(scopes, alloc, number, name);
     }
-    assert_eq!(rt; kept, Ok(ScopeId::new(number)));
+    equal(rt, kept, Ok(ScopeId::new(number)));
 }
 
 /// One allocation may fail: then the call says so, nothing is changed, and the same call succeeds.
@@ -212,31 +221,31 @@ fn want_of_memory_changes_no_collection(rt: HostRuntime) {
     for (number, name) in [(1, "a"), (2, "b"), (1, "c")] {
         inserts_again(&rt, &mut scopes, rt.alloc(), number, name);
     }
-    assert_eq!(rt; sizes(&scopes), (2, 3));
+    equal(&rt, sizes(&scopes), (2, 3));
 }
 
 #[test]
 fn ids_rise_from_1(rt: HostRuntime) -> Outcome {
     let ids = ScopeIds::new();
-    assert_eq!(rt; (ids.draw()?.get(), ids.draw()?.get()), (1, 2));
-    assert_eq!(rt; ScopeIds::default().draw()?.get(), 1);
+    equal(&rt, (ids.draw()?.get(), ids.draw()?.get()), (1, 2));
+    equal(&rt, ScopeIds::default().draw()?.get(), 1);
     Ok(())
 }
 
 #[test]
 fn the_last_id(rt: HostRuntime) -> Outcome {
     let ids = ScopeIds::starting_at(4294967295);
-    assert_eq!(rt; ids.draw()?.get(), 4294967295);
-    assert_eq!(rt; ids.draw().err(), Some(Error::IdsExhausted));
-    assert_eq!(rt; ids.draw().err(), Some(Error::IdsExhausted));
+    equal(&rt, ids.draw()?.get(), 4294967295);
+    equal(&rt, ids.draw().err(), Some(Error::IdsExhausted));
+    equal(&rt, ids.draw().err(), Some(Error::IdsExhausted));
     Ok(())
 }
 
 #[test]
 fn the_number_0_is_no_id(rt: HostRuntime) -> Outcome {
     let ids = ScopeIds::starting_at(0);
-    assert_eq!(rt; ids.draw().err(), Some(Error::IdsExhausted));
-    assert_eq!(rt; ids.draw()?.get(), 1);
+    equal(&rt, ids.draw().err(), Some(Error::IdsExhausted));
+    equal(&rt, ids.draw()?.get(), 1);
     Ok(())
 }
 
@@ -264,11 +273,12 @@ fn two_threads_draw_different_ids(rt: HostRuntime) -> Outcome {
         || sum_of_rising(&ids, 1000),
         || sum_of_rising(&ids, 1000),
     );
-    assert_eq!(rt;
+    equal(
+        &rt,
         mine.zip(theirs)
             .map(|(mine, theirs)| mine.checked_add(theirs)),
-        Some(Some(2_001_000))
+        Some(Some(2_001_000)),
     );
-    assert_eq!(rt; ids.draw()?.get(), 2001);
+    equal(&rt, ids.draw()?.get(), 2001);
     Ok(())
 }

@@ -1,26 +1,22 @@
+use crate::equal::equal;
 use puffin_data::data::{Reader, ScopeId, Stream, StreamInfo, StreamInfoRef};
 use puffin_data::{Error, NanoSecond, Result};
-use puffin_threads::scope_details::{ScopeDetails, ScopeIds};
+use puffin_threads::scope_details::ScopeDetails;
 use puffin_threads::thread_profiler::{
     Closed, NsSource, Reporter, ScriptClock, SystemClock, ThreadInfo, ThreadProfiler,
 };
 use std::alloc::Global;
-use std::borrow::CowStr;
-use std::cell::Cell;
-use std::io;
 use std::process::Abort;
-use std::rt::Clock;
 use std::test::Fail;
-use std::time::Duration;
 
-type Outcome = std::result::Result<(), Fail>;
+pub(crate) type Outcome = std::result::Result<(), Fail>;
 
 /// Refuses so many reports, and keeps those after them.
 #[derive(Drop)]
-struct Recorder {
-    alloc: Global,
+pub(crate) struct Recorder {
+    pub(crate) alloc: Global,
     refusals: usize,
-    details: Vec<ScopeDetails>,
+    pub(crate) details: Vec<ScopeDetails>,
     reports: Vec<(ThreadInfo, StreamInfo)>,
 }
 
@@ -81,14 +77,14 @@ fn main_thread(alloc: Global, at: NanoSecond) -> Result<ThreadProfiler<ScriptClo
 
 /// A thread's profiler, and the recorder that it reports to.
 #[derive(Drop)]
-struct Rig {
-    thread: ThreadProfiler<ScriptClock>,
-    recorder: Recorder,
+pub(crate) struct Rig {
+    pub(crate) thread: ThreadProfiler<ScriptClock>,
+    pub(crate) recorder: Recorder,
 }
 
 impl Rig {
     /// The thread `main` at a time, and a recorder that refuses so many reports.
-    fn new(alloc: Global, at: NanoSecond, refusals: usize) -> Result<Rig> {
+    pub(crate) fn new(alloc: Global, at: NanoSecond, refusals: usize) -> Result<Rig> {
         Ok(Rig {
             thread: main_thread(alloc, at)?,
             recorder: Recorder::new(alloc, refusals),
@@ -121,27 +117,27 @@ impl Rig {
     }
 
     /// A scope begins, and its offset is as expected.
-    fn begins(&mut self, rt: &impl Abort, scope: (u32, &str), expected: usize) {
-        assert_eq!(rt;
-            self.begin(scope.0, scope.1),
-            Ok(expected),
-            "offset {expected}"
+    pub(crate) fn begins(&mut self, rt: &impl Abort, scope: (u32, &str), expected: usize) {
+        equal(
+            rt,
+            (expected, self.begin(scope.0, scope.1)),
+            (expected, Ok(expected)),
         );
     }
 
     /// What ending a scope returns is as expected.
-    fn ends(&mut self, rt: &impl Abort, offset: usize, expected: Result<Closed>) {
-        assert_eq!(rt; self.end(offset), expected, "offset {offset}");
+    pub(crate) fn ends(&mut self, rt: &impl Abort, offset: usize, expected: Result<Closed>) {
+        equal(rt, (offset, self.end(offset)), (offset, expected));
     }
 
     /// What reporting closed scopes returns is as expected.
-    fn reports(&mut self, rt: &impl Abort, expected: Result<bool>) {
-        assert_eq!(rt; self.report_closed(), expected);
+    pub(crate) fn reports(&mut self, rt: &impl Abort, expected: Result<bool>) {
+        equal(rt, self.report_closed(), expected);
     }
 
     /// So many scopes are open, and the recorder has so many reports and details.
-    fn has(&self, rt: &impl Abort, expected: (usize, usize, usize)) {
-        assert_eq!(rt; self.counts(), expected);
+    pub(crate) fn has(&self, rt: &impl Abort, expected: (usize, usize, usize)) {
+        equal(rt, self.counts(), expected);
     }
 
     /// The bytes of a report.
@@ -161,8 +157,8 @@ fn counts(info: &StreamInfo) -> Counts {
 /// A walk over an info's bytes counts what the info says, and that is expected.
 fn is_honest(rt: &impl Abort, alloc: Global, info: &StreamInfo, expected: Counts) -> Outcome {
     let walked = StreamInfo::parse(alloc, info.stream.clone()?)?;
-    assert_eq!(rt; counts(&walked), counts(info));
-    assert_eq!(rt; counts(info), expected);
+    equal(rt, counts(&walked), counts(info));
+    equal(rt, counts(info), expected);
     Ok(())
 }
 
@@ -175,9 +171,10 @@ fn is_report(
     expected: Counts,
 ) -> Outcome {
     let (info, times) = recorder.at(place)?;
-    assert_eq!(rt;
+    equal(
+        rt,
         (info.name.as_str(), info.start_time_ns),
-        ("main", Some(start))
+        ("main", Some(start)),
     );
     is_honest(rt, recorder.alloc, times, expected)
 }
@@ -204,9 +201,10 @@ fn one_scope_is_reported(rt: HostRuntime) -> Outcome {
     rig.set(300);
     rig.ends(&rt, 18, Ok(Closed::Reported));
     rig.has(&rt, (0, 1, 0));
-    assert_eq!(rt;
+    equal(
+        &rt,
         rig.bytes(0)?,
-        b"(\x01\0\0\0\x64\0\0\0\0\0\0\0\x04data\0\0\0\0\0\0\0\0)\x2c\x01\0\0\0\0\0\0".as_slice()
+        b"(\x01\0\0\0\x64\0\0\0\0\0\0\0\x04data\0\0\0\0\0\0\0\0)\x2c\x01\0\0\0\0\0\0".as_slice(),
     );
     is_report(&rt, &rig.recorder, 0, 100, (1, 1, (100, 300)))
 }
@@ -217,9 +215,10 @@ fn a_falling_clock_stands_still(rt: HostRuntime) -> Outcome {
     rig.begins(&rt, (1, ""), 14);
     rig.set(50);
     rig.ends(&rt, 14, Ok(Closed::Reported));
-    assert_eq!(rt;
+    equal(
+        &rt,
         top_scopes(&rig.recorder, 0)?.as_slice(),
-        [(1, 0, 100)].as_slice()
+        [(1, 0, 100)].as_slice(),
     );
     is_report(&rt, &rig.recorder, 0, 100, (1, 1, (100, 100)))
 }
@@ -236,7 +235,7 @@ fn a_clock_that_falls_twice_stands_still_twice(rt: HostRuntime) -> Outcome {
     rig.ends(&rt, 14, Ok(Closed::Reported));
     let bytes = rig.bytes(0)?;
     for (place, time) in [(5, 100), (27, 100), (45, 200), (54, 200)] {
-        assert_eq!(rt; bytes.get(place).copied(), Some(time));
+        equal(&rt, bytes.get(place).copied(), Some(time));
     }
     is_report(&rt, &rig.recorder, 0, 100, (2, 2, (100, 200)))
 }
@@ -254,7 +253,7 @@ fn an_outer_scope_is_not_ended_first(rt: HostRuntime) -> Outcome {
     rig.has(&rt, (1, 0, 0));
     rig.ends(&rt, 14, Ok(Closed::Reported));
     rig.ends(&rt, 14, Err(Error::MismatchedEnd));
-    assert_eq!(rt; rig.bytes(0)?.len(), 62);
+    equal(&rt, rig.bytes(0)?.len(), 62);
     is_report(&rt, &rig.recorder, 0, 100, (2, 2, (100, 100)))
 }
 
@@ -276,10 +275,11 @@ fn kept_and_reported(rt: &impl Abort, alloc: Global) -> std::result::Result<Rig,
 fn a_refused_report_waits_for_the_next(rt: HostRuntime) -> Outcome {
     let rig = kept_and_reported(&rt, rt.alloc())?;
     rig.has(&rt, (0, 1, 0));
-    assert_eq!(rt; rig.bytes(0)?.len(), 62);
-    assert_eq!(rt;
+    equal(&rt, rig.bytes(0)?.len(), 62);
+    equal(
+        &rt,
         top_scopes(&rig.recorder, 0)?.as_slice(),
-        [(1, 100, 200), (2, 100, 400)].as_slice()
+        [(1, 100, 200), (2, 100, 400)].as_slice(),
     );
     is_report(&rt, &rig.recorder, 0, 100, (2, 1, (100, 400)))
 }
@@ -306,7 +306,7 @@ fn closed_scopes_are_reported_on_demand(rt: HostRuntime) -> Outcome {
     rig.reports(&rt, Ok(true));
     rig.reports(&rt, Ok(false));
     rig.has(&rt, (0, 1, 0));
-    assert_eq!(rt; rig.bytes(0)?.len(), 31);
+    equal(&rt, rig.bytes(0)?.len(), 31);
     is_report(&rt, &rig.recorder, 0, 100, (1, 1, (100, 100)))
 }
 
@@ -325,32 +325,32 @@ fn a_long_text_is_cut(rt: HostRuntime) -> Outcome {
     let mut rig = Rig::new(rt.alloc(), 0, 0)?;
     rig.begins(&rt, (1, &long_text(rt.alloc())?), 140);
     rig.ends(&rt, 140, Ok(Closed::Reported));
-    assert_eq!(rt; rig.bytes(0)?.len(), 157);
+    equal(&rt, rig.bytes(0)?.len(), 157);
     Ok(())
 }
 
 /// Begins a scope, whose offset is expected. A refusal says `Memory`, changes nothing, and doesn't come again.
 fn begins_again(rt: &impl Abort, rig: &mut Rig, depth: usize, expected: usize) {
-    assert_eq!(rt; rig.counts(), (depth, 0, 0));
+    equal(rt, rig.counts(), (depth, 0, 0));
     let mut offset = rig.begin(1, "");
     if offset.is_err() {
-        assert_eq!(rt; offset, Err(Error::Memory));
-        assert_eq!(rt; rig.counts(), (depth, 0, 0));
+        equal(rt, offset, Err(Error::Memory));
+        equal(rt, rig.counts(), (depth, 0, 0));
         offset = rig.begin(1, "");
     }
-    assert_eq!(rt; offset, Ok(expected));
+    equal(rt, offset, Ok(expected));
 }
 
 /// Reports what is closed. A refusal says `Memory`, changes nothing, and doesn't come again.
 fn reports_again(rt: &impl Abort, rig: &mut Rig) {
     let mut reported = rig.report_closed();
     if reported.is_err() {
-        assert_eq!(rt; reported, Err(Error::Memory));
-        assert_eq!(rt; rig.counts(), (0, 0, 0));
+        equal(rt, reported, Err(Error::Memory));
+        equal(rt, rig.counts(), (0, 0, 0));
         reported = rig.report_closed();
     }
-    assert_eq!(rt; reported, Ok(true));
-    assert_eq!(rt; rig.counts(), (0, 1, 0));
+    equal(rt, reported, Ok(true));
+    equal(rt, rig.counts(), (0, 1, 0));
 }
 
 /// One allocation may fail: then the call says so, nothing is changed, and the same call succeeds.
@@ -368,148 +368,7 @@ fn want_of_memory_is_told(rt: HostRuntime) {
     rig.ends(&rt, 14, Ok(Closed::Kept(Error::TooLarge)));
     // The name is copied here, and the recorder copies the bytes.
     reports_again(&rt, &mut rig);
-    assert_eq!(rt; rig.bytes(0).map(|bytes| bytes.len()), Ok(93));
-}
-
-/// Registers the function `f` at line 7 of `b.rs`, and its part `part` at line 9.
-fn register_two(
-    thread: &mut ThreadProfiler<ScriptClock>,
-    ids: &ScopeIds,
-) -> Result<(ScopeId, ScopeId)> {
-    let text = CowStr::Borrowed("f");
-    let file = CowStr::Borrowed("b.rs");
-    let function = thread.register_function_scope(ids, text.clone()?, file.clone()?, 7)?;
-    let part = thread.register_named_scope(ids, CowStr::Borrowed("part"), text, file, 9)?;
-    Ok((function, part))
-}
-
-/// Registered details have this id, and this name, function and place.
-fn is_registered(
-    rt: &impl Abort,
-    recorder: &Recorder,
-    place: usize,
-    number: u32,
-    texts: (&str, &str, &str),
-) -> Outcome {
-    let details = recorder.details.get(place).ok_or("details")?;
-    assert_eq!(rt; details.scope_id(), ScopeId::new(number));
-    assert_eq!(rt; details.name().as_str(), texts.0);
-    assert_eq!(rt; details.function_name.as_str(), texts.1);
-    assert_eq!(rt; details.location(recorder.alloc)?.as_str(), texts.2);
-    Ok(())
-}
-
-#[test]
-fn details_come_with_the_next_accepted_report(rt: HostRuntime) -> Outcome {
-    let mut rig = Rig::new(rt.alloc(), 100, 1)?;
-    let (function, part) = register_two(&mut rig.thread, &ScopeIds::starting_at(5))?;
-    assert_eq!(rt; (function.get(), part.get()), (5, 6));
-    rig.begins(&rt, (5, ""), 14);
-    rig.ends(&rt, 14, Ok(Closed::Kept(Error::TooLarge)));
-    rig.has(&rt, (0, 0, 0));
-    rig.reports(&rt, Ok(true));
-    rig.has(&rt, (0, 1, 2));
-    is_registered(&rt, &rig.recorder, 0, 5, ("f", "f", "b.rs:7"))?;
-    is_registered(&rt, &rig.recorder, 1, 6, ("part", "f", "b.rs:9"))?;
-    // They were handed over, and don't come again.
-    rig.begins(&rt, (5, ""), 14);
-    rig.ends(&rt, 14, Ok(Closed::Reported));
-    rig.has(&rt, (0, 2, 2));
-    Ok(())
-}
-
-/// Why two registrations with an exhausted counter are refused.
-fn refused_registrations(
-    thread: &mut ThreadProfiler<ScriptClock>,
-) -> std::result::Result<(Option<Error>, Option<Error>), Fail> {
-    let ids = ScopeIds::starting_at(4294967296);
-    let text = CowStr::Borrowed("f");
-    let function = thread.register_function_scope(&ids, text.clone()?, text.clone()?, 0);
-    let part = thread.register_named_scope(&ids, text.clone()?, text.clone()?, text, 0);
-    Ok((function.err(), part.err()))
-}
-
-#[test]
-fn nothing_is_registered_without_an_id(rt: HostRuntime) -> Outcome {
-    let mut rig = Rig::new(rt.alloc(), 100, 0)?;
-    assert_eq!(rt;
-        refused_registrations(&mut rig.thread)?,
-        (Some(Error::IdsExhausted), Some(Error::IdsExhausted))
-    );
-    rig.begins(&rt, (1, ""), 14);
-    rig.ends(&rt, 14, Ok(Closed::Reported));
-    rig.has(&rt, (0, 1, 0));
-    Ok(())
-}
-
-/// A clock whose two readings are set, and may be errors.
-#[derive(Drop)]
-struct Fake {
-    monotonic: Cell<Option<u64>>,
-    since_1970: std::result::Result<Duration, io::ErrorKind>,
-}
-
-impl Clock for Fake {
-    fn monotonic(&self) -> io::Result<Duration> {
-        match self.monotonic.get() {
-            Some(nanos) => Ok(Duration::from_nanos(nanos)),
-            None => Err(io::Error::from(io::ErrorKind::Unsupported)),
-        }
-    }
-
-    fn since_1970(&self) -> io::Result<Duration> {
-        match self.since_1970 {
-            Ok(time) => Ok(time),
-            Err(kind) => Err(io::Error::from(kind)),
-        }
-    }
-}
-
-fn clock_reading(
-    since_1970: std::result::Result<Duration, io::ErrorKind>,
-    monotonic: Option<u64>,
-) -> Fake {
-    Fake {
-        monotonic: Cell::new(monotonic),
-        since_1970,
-    }
-}
-
-/// The first time that a system's clock tells. `None` where there is no clock.
-fn first_time(
-    since_1970: std::result::Result<Duration, io::ErrorKind>,
-    monotonic: Option<u64>,
-) -> Option<NanoSecond> {
-    let runtime = clock_reading(since_1970, monotonic);
-    Some(SystemClock::new(&runtime).ok()?.now_ns())
-}
-
-#[test]
-fn the_system_clock_counts_from_its_start(rt: HostRuntime) -> Outcome {
-    let runtime = clock_reading(Ok(Duration::from_nanos(1000)), Some(7));
-    let mut clock = SystemClock::new(&runtime)?;
-    assert_eq!(rt; clock.now_ns(), 1000);
-    for (monotonic, expected) in [
-        (Some(27), 1020),
-        (None, 1020),
-        (Some(u64::MAX), NanoSecond::MAX),
-    ] {
-        runtime.monotonic.set(monotonic);
-        assert_eq!(rt; clock.now_ns(), expected);
-    }
-    Ok(())
-}
-
-#[test]
-fn a_clock_before_1970_and_one_that_is_not_read(rt: HostRuntime) {
-    assert_eq!(rt;
-        first_time(Err(io::ErrorKind::InvalidData), Some(7)),
-        Some(0)
-    );
-    let far = Duration::from_secs(u64::MAX);
-    assert_eq!(rt; first_time(Ok(far), Some(7)), Some(NanoSecond::MAX));
-    assert_eq!(rt; first_time(Err(io::ErrorKind::Unsupported), Some(7)), None);
-    assert_eq!(rt; first_time(Ok(Duration::from_nanos(1000)), None), None);
+    equal(&rt, rig.bytes(0).map(|bytes| bytes.len()), Ok(93));
 }
 
 #[test]
@@ -519,19 +378,12 @@ fn scopes_are_timed_by_the_system(rt: HostRuntime) -> Outcome {
     let mut thread = ThreadProfiler::new(rt.alloc(), name, clock);
     let mut recorder = Recorder::new(rt.alloc(), 0);
     let offset = thread.begin_scope(id(1)?, "timed")?;
-    assert_eq!(rt;
+    equal(
+        &rt,
         thread.end_scope(offset, &mut recorder),
-        Ok(Closed::Reported)
+        Ok(Closed::Reported),
     );
     let (start, stop) = recorder.at(0)?.1.range_ns;
     assert!(rt; start > 0);
     is_report(&rt, &recorder, 0, start, (1, 1, (start, stop)))
-}
-
-#[test]
-fn a_script_clock_is_never_below_0(rt: HostRuntime) {
-    let mut clock = ScriptClock::new(-5);
-    assert_eq!(rt; clock.now_ns(), 0);
-    clock.set(7);
-    assert_eq!(rt; clock.now_ns(), 7);
 }

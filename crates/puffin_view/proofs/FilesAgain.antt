@@ -18,7 +18,7 @@ use Rattle.puffin_frames.specs.Packet.Grammar.{IsPacked}
 use Rattle.puffin_view.specs.declared.profile_view.frame_view.FrameView.{FrameView}
 use Rattle.puffin_view.specs.View.Ranking.{last_of, last_in}
 use Rattle.puffin_view.specs.View.ViewedFrames.{Frame, contents_of, index_of, rising_end, is_rising, rises_above, frames_by_index}
-use Rattle.puffin_view.specs.View.{View, emptied, with_packed, with_newest_packed, is_past, after_taking, after_all}
+use Rattle.puffin_view.specs.View.{View, without_frames, with_packed, with_newest_packed, is_past, after_taking, after_all}
 use Rattle.puffin_view.specs.View.Known.{view_of, lacks_ids}
 use Rattle.puffin_view.specs.View.File.{file_of, contents_in, frame_stored, file_at, read_view, FramesReading, TookFrames, TookFault, FailsToRead, ReadsView, IsViewOf}
 use Rattle.puffin_view.proofs.Chronology.{AreKeyed, keyed}
@@ -131,7 +131,7 @@ packed_keeps : (o : Option Frame) (v : View) → (option_map_or (λ f. with_pack
 packed_keeps (Some f) v = refl
 packed_keeps None v = refl
 
-ready_keeps : (past packs : Bool) (v : View) → (cond past (emptied v) (cond packs (with_newest_packed v) v)).max_recent ≡ v.max_recent
+ready_keeps : (past packs : Bool) (v : View) → (cond past (without_frames v) (cond packs (with_newest_packed v) v)).max_recent ≡ v.max_recent
 ready_keeps true packs v = refl
 ready_keeps false true v = packed_keeps (last_in v.recent) v
 ready_keeps false false v = refl

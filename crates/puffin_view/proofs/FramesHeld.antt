@@ -12,7 +12,7 @@ use Rattle.std.specs.FinMap.Entries.{by_order, below_all, is_sorted, same_entrie
 use Rattle.puffin_frames.specs.Packet.Stored.{Said, packed}
 use Rattle.puffin_view.specs.View.Ranking.{last_of, last_in, has}
 use Rattle.puffin_view.specs.View.ViewedFrames.{Frame, contents_of, index_of, frame_index, packed_under, rising_end, is_rising, rises_above, frames_by_index, chronological}
-use Rattle.puffin_view.specs.View.{View, emptied, with_packed, with_newest_packed, is_past, enters, joined_by, after_taking, after_all, Took}
+use Rattle.puffin_view.specs.View.{View, without_frames, with_packed, with_newest_packed, is_past, enters, joined_by, after_taking, after_all, Took}
 use Rattle.puffin_view.specs.View.File.{contents_held, contents_in, frame_stored, read_view}
 use Rattle.puffin_view.specs.inner.Store.{has_index}
 use Rattle.puffin_view.proofs.Keeping.{all_map, all_choice, all_drop, all_more, all_packed, index_packed_at}
@@ -32,7 +32,7 @@ module _ (P : Frame → Type 0) (keeps : (i : ℕ) (f : Frame) → P f → P (pa
   newest_held None v h = h
   newest_held (Some f) v h = record { recent = all_packed P P (index_of f) (keeps (index_of f)) v.recent h.recent; slow = all_packed P P (index_of f) (keeps (index_of f)) v.slow h.slow }
 
-  ready_held : (past packs : Bool) (v : View) → AllHeld P v → AllHeld P (cond past (emptied v) (cond packs (with_newest_packed v) v))
+  ready_held : (past packs : Bool) (v : View) → AllHeld P v → AllHeld P (cond past (without_frames v) (cond packs (with_newest_packed v) v))
   ready_held true packs v h = record { recent = tt; slow = tt }
   ready_held false true v h = newest_held (last_in v.recent) v h
   ready_held false false v h = h

@@ -10,7 +10,8 @@ use Rattle.puffin_view.specs.declared.profile_view.slow_rank.SlowRank.{SlowRank}
 use Rattle.puffin_view.specs.View.Ranking.{place, last_of, last_in, rank_index}
 use Rattle.puffin_view.specs.View.ViewedFrames.{Frame, index_of, is_slower_frame, packed_alone, packed_under}
 use Rattle.puffin_view.specs.inner.Held.{HeldFrames}
-use Rattle.puffin_view.specs.inner.Ranks.{rank_of, rank_cmp, is_before, rank_enters, ranks_after, ranks_gone, AreRanked, LetsGo}
+use Rattle.puffin_view.specs.inner.Ranks.{is_before, rank_enters, ranks_after, ranks_gone, AreRanked, LetsGo}
+use Rattle.puffin_view.specs.View.FrameRanks.{rank_of, rank_cmp}
 use Rattle.puffin_view.specs.View.{View, is_past, joined_by, slow_after, with_packed, with_newest_packed}
 use Rattle.puffin_view.specs.inner.Store.{frames_under, AreHeld, AreStored}
 use Rattle.puffin_view.proofs.Orders.{map-take, map-drop, map-length}

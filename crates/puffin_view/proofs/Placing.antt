@@ -11,7 +11,8 @@ use Rattle.std.specs.Cmp.{IsTotalOrder, nat_cmp_total, int_cmp_total, on_total, 
 use Rattle.std.proofs.lemmas.Map.Keys.{Less-from_sorted}
 use Rattle.puffin_view.specs.declared.profile_view.slow_rank.SlowRank.{SlowRank}
 use Rattle.puffin_view.specs.View.Ranking.{place, last_in}
-use Rattle.puffin_view.specs.inner.Ranks.{rank_cmp, is_before, rank_enters}
+use Rattle.puffin_view.specs.inner.Ranks.{is_before, rank_enters}
+use Rattle.puffin_view.specs.View.FrameRanks.{rank_cmp}
 
 pub rank_cmp_total : IsTotalOrder rank_cmp
 rank_cmp_total = then_total (on_total (λ (r : SlowRank). r.duration_ns.0) (back_total int_cmp_total)) (on_total (λ (r : SlowRank). r.frame_index) nat_cmp_total)

@@ -15,7 +15,8 @@ use Rattle.std.proofs.lemmas.Map.Keys.{Less-from_sorted}
 use Rattle.puffin_view.specs.declared.profile_view.slow_rank.SlowRank.{SlowRank}
 use Rattle.puffin_view.specs.View.ViewedFrames.{Frame, index_of, duration_of}
 use Rattle.puffin_view.specs.inner.Held.{HeldFrames}
-use Rattle.puffin_view.specs.inner.Ranks.{rank_of, rank_cmp, AreRanked, LetsGo}
+use Rattle.puffin_view.specs.inner.Ranks.{AreRanked, LetsGo}
+use Rattle.puffin_view.specs.View.FrameRanks.{rank_of, rank_cmp}
 use Rattle.puffin_view.specs.View.Ranking.{rank_index, has}
 use Rattle.puffin_view.specs.inner.Kept.{AreRising}
 use Rattle.puffin_view.specs.inner.Store.{AreHeld, AreStored}

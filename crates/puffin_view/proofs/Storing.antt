@@ -14,7 +14,8 @@ use Rattle.puffin_view.specs.declared.profile_view.slow_rank.SlowRank.{SlowRank}
 use Rattle.puffin_view.specs.View.Ranking.{place, last_from, last_in, rank_index, has}
 use Rattle.puffin_view.specs.View.ViewedFrames.{Frame, index_of, duration_of, is_slower_frame, packed_alone, packed_under, frames_by_index}
 use Rattle.puffin_view.specs.inner.Held.{HeldFrames}
-use Rattle.puffin_view.specs.inner.Ranks.{rank_of, rank_cmp, is_before, rank_enters, LetsGo}
+use Rattle.puffin_view.specs.inner.Ranks.{is_before, rank_enters, LetsGo}
+use Rattle.puffin_view.specs.View.FrameRanks.{rank_of, rank_cmp}
 use Rattle.puffin_view.specs.inner.Kept.{AreRising, HaveOwnIndices}
 use Rattle.puffin_view.specs.View.{View, IsUpTo, enters_among}
 use Rattle.puffin_view.specs.inner.Store.{frames_under, AreHeld, has_index, AreStored}

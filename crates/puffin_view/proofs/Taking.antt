@@ -7,7 +7,7 @@ use Rattle.std.proofs.Math.Seq.{drop-nil}
 use Rattle.puffin_view.specs.View.Ranking.{place, last_of, last_from, last_in}
 use Rattle.puffin_frames.specs.Packet.Stored.{Said}
 use Rattle.puffin_view.specs.View.ViewedFrames.{Frame, frame_index, contents_of, index_of, duration_of, is_slower, is_slower_frame, slowest, packed_under, packed_alone, rising_end, rises_above}
-use Rattle.puffin_view.specs.View.{View, emptied, with_packed, with_newest_packed, is_past, enters, joined_by, after_taking, after_all, Holds, IsUpTo, IsSteady, Took}
+use Rattle.puffin_view.specs.View.{View, without_frames, with_packed, with_newest_packed, is_past, enters, joined_by, after_taking, after_all, Holds, IsUpTo, IsSteady, Took}
 use Rattle.puffin_view.proofs.Rankings.{last_of-more, first_in_order-more, first_in_order-same}
 use Rattle.puffin_view.proofs.Orders.{slower_order, later_behind, map-place, map-take, map-drop, map-more, map-length, map-last_from, packed_at_says}
 
@@ -69,7 +69,7 @@ Holds-choice : (v : View) (cs ds : List Said) (b : Bool) → Holds cs ds v → H
 Holds-choice v cs ds true h = Holds-newest_at v cs ds (last_in v.recent) h
 Holds-choice v cs ds false h = h
 
-pub Holds-emptied : (v : View) → Holds [] [] (emptied v)
+pub Holds-emptied : (v : View) → Holds [] [] (without_frames v)
 Holds-emptied v = record { recent = sym (drop-nil (0 - v.max_recent)); slow = sym (take_nil v.max_slow) } where
   take_nil : (n : ℕ) → take n (let none : List Said = [] in none) ≡ []
   take_nil zero = refl
@@ -100,7 +100,7 @@ all_choice P v true h = all_newest_at P v (last_in v.recent) h
 all_choice P v false h = h
 
 more_at : (v : View) (f : Frame) (cs ds : List Said) (b : Bool) → b ≡ false → is_past v (index_of f) ≡ false → IsSteady v → Holds cs ds v
-    → Holds (cs ++ contents_of f ∷ []) (ds ++ contents_of f ∷ []) (joined_by (cond b (emptied v) (cond v.packs (with_newest_packed v) v)) f)
+    → Holds (cs ++ contents_of f ∷ []) (ds ++ contents_of f ∷ []) (joined_by (cond b (without_frames v) (cond v.packs (with_newest_packed v) v)) f)
 more_at v f cs ds true e p steady h = cc
 more_at v f cs ds false e p steady h =
     Holds-joined (cond v.packs (with_newest_packed v) v) f cs ds (Holds-choice v cs ds v.packs h)
@@ -110,8 +110,8 @@ more_at v f cs ds false e p steady h =
 pub Holds-more : (v : View) (f : Frame) (cs ds : List Said) → IsSteady v → is_past v (index_of f) ≡ false → Holds cs ds v → Holds (cs ++ contents_of f ∷ []) (ds ++ contents_of f ∷ []) (after_taking v f)
 Holds-more v f cs ds steady p h = more_at v f cs ds (is_past v (index_of f)) p p steady h
 
-anew_at : (v : View) (f : Frame) (b : Bool) → b ≡ true → Holds (contents_of f ∷ []) (contents_of f ∷ []) (joined_by (cond b (emptied v) (cond v.packs (with_newest_packed v) v)) f)
-anew_at v f true e = Holds-joined (emptied v) f [] [] (Holds-emptied v) tt
+anew_at : (v : View) (f : Frame) (b : Bool) → b ≡ true → Holds (contents_of f ∷ []) (contents_of f ∷ []) (joined_by (cond b (without_frames v) (cond v.packs (with_newest_packed v) v)) f)
+anew_at v f true e = Holds-joined (without_frames v) f [] [] (Holds-emptied v) tt
 anew_at v f false e = cc
 
 -- where it isn't, both lists begin with the frame
@@ -141,8 +141,8 @@ steady_slow v f false h = weaker v.slow h where
   weaker [] h = tt
   weaker (g ∷ fs) h = let k = h.0 in (omega arith, weaker fs h.1)
 
-steady_at : (v : View) (f : Frame) (b : Bool) → is_past v (index_of f) ≡ b → IsSteady v → IsSteady (joined_by (cond b (emptied v) (cond v.packs (with_newest_packed v) v)) f)
-steady_at v f true p h = steady_slow (emptied v) f (enters (emptied v) f) tt
+steady_at : (v : View) (f : Frame) (b : Bool) → is_past v (index_of f) ≡ b → IsSteady v → IsSteady (joined_by (cond b (without_frames v) (cond v.packs (with_newest_packed v) v)) f)
+steady_at v f true p h = steady_slow (without_frames v) f (enters (without_frames v) f) tt
 steady_at v f false p h = let w : View = cond v.packs (with_newest_packed v) v in steady_slow w f (enters w f) (all_choice (λ i. i < index_of f) v v.packs (steady_before v.last (index_of f) v.slow p h))
 
 pub IsSteady-taking : (v : View) (f : Frame) → IsSteady v → IsSteady (after_taking v f)

@@ -2,6 +2,7 @@
 pub mod Ranking
 pub mod ViewedFrames
 pub mod FrameOf
+pub mod FrameRanks
 pub mod Known
 pub mod File
 pub mod Selection
@@ -63,8 +64,8 @@ IsSteady v = AllByRecursion (λ f. IsUpTo v.last (index_of f)) v.slow
 -- ---- the same step by step: what each call makes of a view
 
 -- the view as if it hadn't taken a frame
-abbrev pub emptied : View → View
-emptied v = record {
+abbrev pub without_frames : View → View
+without_frames v = record {
   recent = [];
   slow = [];
   last = None;
@@ -95,7 +96,7 @@ is_past v i = option_map_or (λ last. nat_le i last) v.last false
 -- what a view is before it takes a frame of an index: empty where that index isn't above the last taken, else with the
 -- newest frame packed where packing is on
 abbrev pub ready_for : View → ℕ → View
-ready_for v i = cond (is_past v i) (emptied v) (cond v.packs (with_newest_packed v) v)
+ready_for v i = cond (is_past v i) (without_frames v) (cond v.packs (with_newest_packed v) v)
 
 -- whether a frame comes among the k slowest: where there is room, or where it is longer than the last of them
 abbrev pub enters_among : ℕ → List Frame → Frame → Bool

@@ -1,5 +1,6 @@
 ghost use Rattle.std.specs.Prelude.{◌≡◌};
 
+use crate::equal::equal;
 use puffin_data::data::{Counted, Drain, Source};
 use std::io;
 use std::io::{Read, Write};
@@ -64,18 +65,18 @@ fn write_twice<D: Drain>(drain: &mut D, buf: &[u8]) -> (Option<usize>, Option<us
 fn failures_are_counted(rt: HostRuntime) -> std::result::Result<(), Fail> {
     let mut buf = [0; 4];
     let mut memory = Counted::new(b"abcdef".as_slice());
-    assert_eq!(rt; read_twice(&mut memory, &mut buf), (Some(4), Some(2)));
-    assert_eq!(rt; buf, *b"efcd");
-    assert_eq!(rt; memory.faults(), 0);
+    equal(&rt, read_twice(&mut memory, &mut buf), (Some(4), Some(2)));
+    equal(&rt, buf, *b"efcd");
+    equal(&rt, memory.faults(), 0);
     let mut source = Counted::new(Flaky { fails: false });
-    assert_eq!(rt; read_twice(&mut source, &mut buf), (Some(1), None));
-    assert_eq!(rt; buf, *b"\x07fcd");
-    assert_eq!(rt; Source::faults(&source), 1);
+    equal(&rt, read_twice(&mut source, &mut buf), (Some(1), None));
+    equal(&rt, buf, *b"\x07fcd");
+    equal(&rt, Source::faults(&source), 1);
     let mut written = Counted::new(Vec::with_capacity(rt.alloc(), 4)?);
-    assert_eq!(rt; write_twice(&mut written, b"ab"), (Some(2), Some(2)));
-    assert_eq!(rt; written.faults(), 0);
+    equal(&rt, write_twice(&mut written, b"ab"), (Some(2), Some(2)));
+    equal(&rt, written.faults(), 0);
     let mut drain = Counted::new(Flaky { fails: false });
-    assert_eq!(rt; write_twice(&mut drain, b"ab"), (Some(1), None));
-    assert_eq!(rt; Drain::faults(&drain), 1);
+    equal(&rt, write_twice(&mut drain, b"ab"), (Some(1), None));
+    equal(&rt, Drain::faults(&drain), 1);
     Ok(())
 }

@@ -4,6 +4,8 @@
 #[cfg(test)]
 mod device;
 #[cfg(test)]
+mod equal;
+#[cfg(test)]
 mod parts;
 #[cfg(test)]
 mod wire;

@@ -1,6 +1,7 @@
 ghost use Rattle.std.specs.Prelude.{◌≡◌};
 ghost use Rattle.puffin_data.specs.Device.Counting.{failed_calls};
 
+use crate::equal::equal;
 use puffin_data::FileError;
 use puffin_data::data::{
     Counted, Source, read_byte, read_counted_part, read_length, read_part, read_up_to,
@@ -46,28 +47,30 @@ fn source_of(end: u8, fails: bool) -> Counted<Trickle>
 #[test]
 fn a_part_comes_in_small_reads(rt: HostRuntime) -> Result<(), Fail> {
     let mut source = source_of(12, false);
-    assert_eq!(rt; read_byte(&mut source)?, 0);
-    assert_eq!(rt; read_length(&mut source)?, 0x04030201);
+    equal(&rt, read_byte(&mut source)?, 0);
+    equal(&rt, read_length(&mut source)?, 0x04030201);
     let part = read_part(rt.alloc(), &mut source, 5)?;
-    assert_eq!(rt; part.as_slice(), b"\x05\x06\x07\x08\x09".as_slice());
+    equal(&rt, part.as_slice(), b"\x05\x06\x07\x08\x09".as_slice());
     let mut piece = [9; 4];
-    assert_eq!(rt; read_up_to(&mut source, &mut piece)?, 2);
-    assert_eq!(rt; piece, [10, 11, 9, 9]);
-    assert_eq!(rt; Source::faults(&source), 0);
+    equal(&rt, read_up_to(&mut source, &mut piece)?, 2);
+    equal(&rt, piece, [10, 11, 9, 9]);
+    equal(&rt, Source::faults(&source), 0);
     Ok(())
 }
 
 #[test]
 fn a_part_that_ends_too_early(rt: HostRuntime) -> Result<(), Fail> {
     let mut source = source_of(5, false);
-    assert_eq!(rt;
+    equal(
+        &rt,
         read_part(rt.alloc(), &mut source, 6).err(),
-        Some(FileError::Truncated)
+        Some(FileError::Truncated),
     );
-    assert_eq!(rt; read_byte(&mut source), Err(FileError::Truncated));
-    assert_eq!(rt;
+    equal(&rt, read_byte(&mut source), Err(FileError::Truncated));
+    equal(
+        &rt,
         read_length(&mut source_of(3, false)),
-        Err(FileError::Truncated)
+        Err(FileError::Truncated),
     );
     Ok(())
 }
@@ -75,13 +78,14 @@ fn a_part_that_ends_too_early(rt: HostRuntime) -> Result<(), Fail> {
 #[test]
 fn a_failure_is_told_and_counted(rt: HostRuntime) -> Result<(), Fail> {
     let mut source = source_of(5, true);
-    assert_eq!(rt;
+    equal(
+        &rt,
         read_part(rt.alloc(), &mut source, 6).err(),
-        Some(FileError::Io)
+        Some(FileError::Io),
     );
-    assert_eq!(rt; Source::faults(&source), 1);
-    assert_eq!(rt; read_up_to(&mut source, &mut [0]), Err(FileError::Io));
-    assert_eq!(rt; Source::faults(&source), 2);
+    equal(&rt, Source::faults(&source), 1);
+    equal(&rt, read_up_to(&mut source, &mut [0]), Err(FileError::Io));
+    equal(&rt, Source::faults(&source), 2);
     Ok(())
 }
 
@@ -89,11 +93,11 @@ fn a_failure_is_told_and_counted(rt: HostRuntime) -> Result<(), Fail> {
 fn a_counted_part(rt: HostRuntime) -> Result<(), Fail> {
     let mut source = Counted::new(b"\x04\0\0\0data\0\0\0\0\xff\xff\xff\xffa".as_slice());
     let part = read_counted_part(rt.alloc(), &mut source)?;
-    assert_eq!(rt; part.as_slice(), b"data".as_slice());
+    equal(&rt, part.as_slice(), b"data".as_slice());
     let empty = read_counted_part(rt.alloc(), &mut source)?;
     assert!(rt; empty.is_empty());
     let lies = read_counted_part(rt.alloc(), &mut source);
-    assert_eq!(rt; lies.err(), Some(FileError::Truncated));
+    equal(&rt, lies.err(), Some(FileError::Truncated));
     Ok(())
 }
 
@@ -104,8 +108,8 @@ fn a_part_of_more_than_a_piece(rt: HostRuntime) -> Result<(), Fail> {
     bytes.push(8)?;
     let mut source = Counted::new(bytes.as_slice());
     let part = read_part(rt.alloc(), &mut source, 65540)?;
-    assert_eq!(rt; part.len(), 65540);
+    equal(&rt, part.len(), 65540);
     assert!(rt; part.iter().all(|byte| *byte == 7));
-    assert_eq!(rt; read_byte(&mut source)?, 8);
+    equal(&rt, read_byte(&mut source)?, 8);
     Ok(())
 }

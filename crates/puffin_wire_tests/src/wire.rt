@@ -1,3 +1,4 @@
+use crate::equal::equal;
 use puffin_data::wire::{Cursor, put_bytes, put_i64, put_text, put_u8, put_u32, put_u64};
 use std::alloc::Global;
 use std::process::Abort;
@@ -35,10 +36,10 @@ fn numbers_are_written_in_their_shortest_spelling(rt: HostRuntime) -> Result<(),
     for (n, bytes) in NUMBERS {
         let mut out = Vec::new(rt.alloc());
         put_u64(&mut out, n)?;
-        assert_eq!(rt; out.as_slice(), bytes, "{n}");
+        equal(&rt, (n, out.as_slice()), (n, bytes));
         let mut cursor = Cursor::new(bytes);
-        assert_eq!(rt; cursor.u64(), Some(n), "{n}");
-        assert_eq!(rt; cursor.rest(), 0);
+        equal(&rt, (n, cursor.u64()), (n, Some(n)));
+        equal(&rt, cursor.rest(), 0);
     }
     Ok(())
 }
@@ -51,13 +52,13 @@ fn numbers_of_32_bits(rt: HostRuntime) -> Result<(), Fail> {
             Ok(word) => {
                 let mut out = Vec::new(rt.alloc());
                 put_u32(&mut out, word)?;
-                assert_eq!(rt; out.as_slice(), bytes, "{n}");
-                assert_eq!(rt; cursor.u32(), Some(word), "{n}");
-                assert_eq!(rt; cursor.rest(), 0);
+                equal(&rt, (n, out.as_slice()), (n, bytes));
+                equal(&rt, (n, cursor.u32()), (n, Some(word)));
+                equal(&rt, cursor.rest(), 0);
             }
             Err(_) => {
-                assert_eq!(rt; cursor.u32(), None, "{n}");
-                assert_eq!(rt; cursor.rest(), 9);
+                equal(&rt, (n, cursor.u32()), (n, None));
+                equal(&rt, cursor.rest(), 9);
             }
         }
     }
@@ -69,10 +70,10 @@ fn signed_numbers(rt: HostRuntime) -> Result<(), Fail> {
     for (z, bytes) in SIGNED {
         let mut out = Vec::new(rt.alloc());
         put_i64(&mut out, z)?;
-        assert_eq!(rt; out.as_slice(), bytes, "{z}");
+        equal(&rt, (z, out.as_slice()), (z, bytes));
         let mut cursor = Cursor::new(bytes);
-        assert_eq!(rt; cursor.i64(), Some(z), "{z}");
-        assert_eq!(rt; cursor.rest(), 0);
+        equal(&rt, (z, cursor.i64()), (z, Some(z)));
+        equal(&rt, cursor.rest(), 0);
     }
     Ok(())
 }
@@ -91,12 +92,12 @@ fn other_spellings_of_a_number_are_refused(rt: HostRuntime) -> Result<(), Fail> 
     ];
     for bytes in refused {
         let mut cursor = Cursor::new(bytes);
-        assert_eq!(rt; cursor.u64(), None);
-        assert_eq!(rt; cursor.u32(), None);
-        assert_eq!(rt; cursor.i64(), None);
+        equal(&rt, cursor.u64(), None);
+        equal(&rt, cursor.u32(), None);
+        equal(&rt, cursor.i64(), None);
         assert!(rt; cursor.bytes().is_none());
         assert!(rt; cursor.text().is_none());
-        assert_eq!(rt; cursor.rest(), bytes.len());
+        equal(&rt, cursor.rest(), bytes.len());
     }
     Ok(())
 }
@@ -118,40 +119,40 @@ fn details(alloc: Global) -> puffin_data::Result<Vec<u8>> {
 #[test]
 fn the_kinds_one_behind_the_other(rt: HostRuntime) -> Result<(), Fail> {
     let out = details(rt.alloc())?;
-    assert_eq!(rt; out.as_slice(), DETAILS);
+    equal(&rt, out.as_slice(), DETAILS);
     let mut cursor = Cursor::new(DETAILS);
-    assert_eq!(rt; cursor.rest(), 21);
-    assert_eq!(rt; cursor.u64(), Some(1));
-    assert_eq!(rt; cursor.flag(), Some(true));
-    assert_eq!(rt; cursor.u32(), Some(1));
-    assert_eq!(rt; cursor.u8(), Some(1));
-    assert_eq!(rt; cursor.text(), Some("my-scope"));
-    assert_eq!(rt; cursor.bytes(), Some(b"a".as_slice()));
-    assert_eq!(rt; cursor.text(), Some("b.rs"));
-    assert_eq!(rt; cursor.rest(), 1);
-    assert_eq!(rt; cursor.u64(), Some(7));
-    assert_eq!(rt; cursor.u8(), None);
-    assert_eq!(rt; cursor.flag(), None);
+    equal(&rt, cursor.rest(), 21);
+    equal(&rt, cursor.u64(), Some(1));
+    equal(&rt, cursor.flag(), Some(true));
+    equal(&rt, cursor.u32(), Some(1));
+    equal(&rt, cursor.u8(), Some(1));
+    equal(&rt, cursor.text(), Some("my-scope"));
+    equal(&rt, cursor.bytes(), Some(b"a".as_slice()));
+    equal(&rt, cursor.text(), Some("b.rs"));
+    equal(&rt, cursor.rest(), 1);
+    equal(&rt, cursor.u64(), Some(7));
+    equal(&rt, cursor.u8(), None);
+    equal(&rt, cursor.flag(), None);
     Ok(())
 }
 
 #[test]
 fn flags_are_0_and_1(rt: HostRuntime) -> Result<(), Fail> {
     let mut cursor = Cursor::new(b"\x00\x02");
-    assert_eq!(rt; cursor.flag(), Some(false));
-    assert_eq!(rt; cursor.flag(), None);
-    assert_eq!(rt; cursor.rest(), 1);
+    equal(&rt, cursor.flag(), Some(false));
+    equal(&rt, cursor.flag(), None);
+    equal(&rt, cursor.rest(), 1);
     Ok(())
 }
 
 #[test]
 fn bytes_that_are_not_utf8_are_no_text(rt: HostRuntime) -> Result<(), Fail> {
     let mut cursor = Cursor::new(b"\x02a\xff\x03\xe2\x80\xa6\x04abc");
-    assert_eq!(rt; cursor.text(), None);
-    assert_eq!(rt; cursor.rest(), 11);
-    assert_eq!(rt; cursor.bytes(), Some(b"a\xff".as_slice()));
-    assert_eq!(rt; cursor.text(), Some("…"));
+    equal(&rt, cursor.text(), None);
+    equal(&rt, cursor.rest(), 11);
+    equal(&rt, cursor.bytes(), Some(b"a\xff".as_slice()));
+    equal(&rt, cursor.text(), Some("…"));
     assert!(rt; cursor.bytes().is_none());
-    assert_eq!(rt; cursor.rest(), 4);
+    equal(&rt, cursor.rest(), 4);
     Ok(())
 }

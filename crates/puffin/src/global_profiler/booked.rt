@@ -273,6 +273,7 @@ impl<L: Ledger, M: Ledger> Booked<L, M> {
             × (share.old.handed ≤ result.emitted) }
         ensures same { (self.new.profiler ≡ self.old.profiler) × (share.new ≡ share.old) }
     {
+        // For the proof alone: no share has more than its book.
         self.reported.audit(&mut share.reported);
         self.handed.audit(&mut share.handed);
         self.profiler.totals()
@@ -312,6 +313,7 @@ impl<L: Ledger, M: Ledger> Booked<L, M> {
             all_reported.merge(reported);
             all_handed.merge(handed);
         }
+        // For the proof alone: all shares together have what their books have.
         self.reported.audit(&mut all_reported);
         self.handed.audit(&mut all_handed);
         let totals = self.profiler.totals();

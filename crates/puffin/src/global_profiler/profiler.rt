@@ -11,7 +11,7 @@ ghost use Rattle.puffin_frames.specs.Frame.Sums.{total_scopes};
 ghost use Rattle.puffin_collector.specs.Profiler.State.{AcceptsReport, RefusesReport, after_learning, after_wanting};
 ghost use Rattle.puffin_collector.specs.Profiler.Registering.{Adds, AddsSome};
 ghost use Rattle.puffin_collector.specs.Profiler.Collecting.{Collects, TellsIds, KeepsPending, KnowsSome};
-ghost use Rattle.puffin.specs.Profiler.{collected_of, sinks_of, next_sink_of, IsFresh};
+ghost use Rattle.puffin.specs.Profiler.{collected_of, sinks_of, next_sink_of, IsNewProfiler};
 ghost use Rattle.puffin.specs.Sinks.{PutsIn, TakesOut, HasNone};
 ghost use Rattle.puffin.specs.Sinks.Handing.{HandsOn, HandsOnAny};
 
@@ -36,14 +36,14 @@ pub struct GlobalProfiler {
 impl GlobalProfiler {
     /// With nothing reported, and no sinks. The first frame has the index 0.
     pub fn new(alloc: Global) -> GlobalProfiler
-        ensures { IsFresh 0 result }
+        ensures { IsNewProfiler 0 result }
     {
         GlobalProfiler::with_frame_index(alloc, 0)
     }
 
     /// The same with this index for the first frame. The last frame that there can be has the index `2^64 - 2`.
     pub fn with_frame_index(alloc: Global, frame_index: FrameIndex) -> GlobalProfiler
-        ensures { IsFresh frame_index result }
+        ensures { IsNewProfiler frame_index result }
     {
         GlobalProfiler::with_sinks(alloc, frame_index, Vec::new(alloc))
     }
@@ -56,7 +56,7 @@ impl GlobalProfiler {
         no_sinks: Vec<Entry>,
     ) -> GlobalProfiler
         requires { no_sinks.items ≡ [] }
-        ensures { IsFresh frame_index result }
+        ensures { IsNewProfiler frame_index result }
     {
         GlobalProfiler {
             collector: Collector::new(alloc, frame_index),

@@ -15,9 +15,9 @@ pub struct Share<L: Ledger, M: Ledger> {
 
 impl<L: Ledger, M: Ledger> Model for Share<L, M> {
     ghost use Rattle.std.specs.Prelude.{◌≡◌};
-    ghost use Rattle.puffin.specs.Shares.{Counts};
+    ghost use Rattle.puffin.specs.Shares.{ShareCounts};
 
-    ghost Value = { Counts };
+    ghost Value = { ShareCounts };
 
     ghost view = { λ s. record { reported = s.reported.amount; handed = s.handed.amount } };
 

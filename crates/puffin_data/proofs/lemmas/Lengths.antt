@@ -52,6 +52,14 @@ unfolding length_layout
 layout_size Short n = record { least = omega arith; most = omega arith }
 layout_size Long n = groups_size n (ltb n 128)
 
+-- up to 127 one byte in both forms
+pub one_group : (form : Form) (n : ℕ) → n ≤ 127 → length_layout form n ≡ n ∷ []
+unfolding length_layout
+one_group Short n small = refl
+one_group Long n small =
+    let test : ltb n 128 ≡ true = grind arith in
+    rw test refl
+
 -- how much room a text takes with its length, at least
 pub room_least : (form : Form) (text : List ℕ) → 1 + length text ≤ text_room form text
 room_least form text = omega (arith, (layout_size form (length text)).least)
@@ -111,9 +119,9 @@ one_byte b n used rest fits e =
       size = sym one;
     }
 
-one_group : (b n used : ℕ) (rest : List ℕ) → ltb b 128 ≡ true → ◌≡◌ {A = Length} (Ok (b, 1)) (Ok (n, used)) → IsLength Long (b ∷ rest) n used
+one_group_read : (b n used : ℕ) (rest : List ℕ) → ltb b 128 ≡ true → ◌≡◌ {A = Length} (Ok (b, 1)) (Ok (n, used)) → IsLength Long (b ∷ rest) n used
 unfolding length_layout
-one_group b n used rest lt e =
+one_group_read b n used rest lt e =
     let number = same_number b n 1 used e in
     let one = same_used b n 1 used e in
     let small : ltb n 128 ≡ true = ap (λ (k : ℕ). ltb k 128) (sym number) ∙ lt in
@@ -147,7 +155,7 @@ after_first b n used [] fits two e = absurd (err_is_not PrematureEnd n used e)
 after_first b n used (c ∷ rest) fits two e = second_read b c n used rest (eqb c 0) (leb 128 c) refl refl (fits 0) two e
 
 first_read : (b n used : ℕ) (rest : List ℕ) (one : Bool) → ltb b 128 ≡ one → IsBytes (b ∷ rest) → cond one (Ok (b, 1)) (with_second_group (b - 128) rest) ≡ Ok (n, used) → IsLength Long (b ∷ rest) n used
-first_read b n used rest true lt fits e = one_group b n used rest lt e
+first_read b n used rest true lt fits e = one_group_read b n used rest lt e
 first_read b n used rest false lt fits e = after_first b n used rest fits lt e
 
 pub length_read : (form : Form) (bytes : List ℕ) (n used : ℕ) → IsBytes bytes → length_at form bytes ≡ Ok (n, used) → IsLength form bytes n used

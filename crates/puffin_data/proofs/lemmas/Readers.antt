@@ -5,7 +5,7 @@ use Rattle.std.proofs.lemmas.Bool.{eqb-true}
 use Rattle.std.proofs.lemmas.List.{get_or-append_right, append-nil, nil_from_length}
 use Rattle.std.proofs.lemmas.Option.{same_Some, some_pair_parts, cond_some}
 use Rattle.puffin_data.specs.Value.Layout.{IsBytes, number, optional, pair, items, IsLong, IfAny, AreItems, NoneBeginsAnother, ReadsLayouts}
-use Rattle.puffin_data.specs.Value.Decoding.{◌>>=◌, checked, seen_as, optional_at, pair_at, times_at, whole}
+use Rattle.puffin_data.specs.Value.Decoding.{◌>>=◌, with_test, seen_as, optional_at, pair_at, times_at, whole}
 use Rattle.puffin_data.specs.Value.Outcomes.{Reads, ReadsWithRest, Gives, GivesWithRest}
 
 pub IsBytes-rest : (b : ℕ) (bytes : List ℕ) → IsBytes (b ∷ bytes) → IsBytes bytes
@@ -89,7 +89,7 @@ form_reader {A = A} {B = B} fits layout read to from back forth p = record {
 
 -- those values of which a test holds
 pub checked_reader : {A : Type 0} (fits : A → Type 0) (layout : A → List ℕ) (read : List ℕ → Option (A × List ℕ)) (test : A → Bool)
-    → IsReader fits layout read → IsReader (λ (a : A). fits a × (test a ≡ true)) layout (checked test read)
+    → IsReader fits layout read → IsReader (λ (a : A). fits a × (test a ≡ true)) layout (with_test test read)
 checked_reader {A = A} fits layout read test p = record {
   again = λ a rest fa. rw (p.again a rest fa.0, fa.1) refl;
   taken = λ bytes a rest is e.

@@ -10,9 +10,9 @@ abbrev pub ◌>>=◌ : {A B : Type 0} → Option A → (A → Option B) → Opti
 None >>= f = None
 
 -- what a reading gives where a test of its value holds
-abbrev pub checked : {A : Type 0} → (A → Bool) → (List ℕ → Option (A × List ℕ)) → List ℕ →
+abbrev pub with_test : {A : Type 0} → (A → Bool) → (List ℕ → Option (A × List ℕ)) → List ℕ →
     Option (A × List ℕ)
-checked test read bytes = do
+with_test test read bytes = do
   a ← read bytes
   if test a.0 then Some a else None
 
@@ -47,7 +47,7 @@ number_at [] = None
 number_at (b ∷ rest) = number_after b rest
 
 abbrev pub word_at : List ℕ → Option (ℕ × List ℕ)
-word_at = checked (λ n. nat_lt n (2 ^ 32)) number_at
+word_at = with_test (λ n. nat_lt n (2 ^ 32)) number_at
 
 abbrev pub unzigzag : ℕ → ℤ
 unzigzag n = if n % 2 == 0 then pos (n / 2) else negsuc (n / 2)
@@ -70,7 +70,7 @@ bytes_at bytes = do
   split_after n.0 n.1
 
 abbrev pub text_at : List ℕ → Option (List ℕ × List ℕ)
-text_at = checked is_utf8 bytes_at
+text_at = with_test is_utf8 bytes_at
 
 abbrev pub optional_after : {A : Type 0} → (List ℕ → Option (A × List ℕ)) → Bool → List ℕ →
     Option (Option A × List ℕ)

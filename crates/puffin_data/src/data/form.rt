@@ -8,6 +8,9 @@ ghost use Rattle.puffin_data.specs.Forest.Spelling.{head_size};
 use crate::data::scope::{BEGIN_LIMIT, FRONT_SIZE, WORD_SIZE};
 use crate::error::{Error, Result};
 
+/// The greatest length that is written in one byte in both forms.
+pub(crate) const ONE_GROUP: usize = 127;
+
 /// How the length of a scope's text is written: in one byte, or in one or two groups of 7 bits.
 #[derive(Clone, Copy, Debug, PartialEq, Eq)]
 pub enum Form {
@@ -35,6 +38,10 @@ impl Form {
         ensures most { head_size self (cut_text self text.now) ≤ result }
         ensures small { result < 2 ^ 15 }
     {
+        // A text that both forms write in one way takes no look at the form.
+        if text.len() <= ONE_GROUP {
+            return BEGIN_LIMIT;
+        }
         match self {
             Form::Short => BEGIN_LIMIT,
             Form::Long => FRONT_SIZE + 2 + text.len().min(16383) + WORD_SIZE,

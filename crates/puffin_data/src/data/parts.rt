@@ -3,7 +3,7 @@
 ghost use Rattle.std.specs.Prelude.{◌≡◌, ◌-◌, ◌+◌, ◌^◌, ◌<◌, ◌≤◌, ◌++◌, ◌⊎◌, ℕ, List, IfOk, IfErr, OnOk, length, take, drop};
 ghost use Rattle.std.specs.Io.KnownBytes.{Consumes, IsAtEnd};
 ghost use Rattle.puffin_data.specs.Device.{FromDevice, TookUpTo, IsFilled, IsOutside, failures_after};
-ghost use Rattle.puffin_data.specs.Part.{part_of, first_at, length_at, counted_part_at};
+ghost use Rattle.puffin_data.specs.Part.{part_of, first_at, part_length_at, counted_part_at};
 
 use crate::data::device::Source;
 use crate::data::transfer::PIECE_SIZE;
@@ -83,7 +83,7 @@ pub fn read_byte<S: Source>(source: &mut S) -> Result<u8, FileError>
 pub fn read_length<S: Source>(source: &mut S) -> Result<usize, FileError>
     requires { S.failures source.old < 2 ^ 64 - 1 }
     ensures part { FromDevice (λ n. n) (S.remaining source.old) (S.remaining source.new) result
-        length_at }
+        part_length_at }
     ensures bound { IfOk result (λ n. n < 2 ^ 32) }
     ensures causes { IfErr result (λ e. (e ≡ FileError.Io) ⊎ (e ≡ FileError.Truncated)) }
     ensures failures { S.failures source.new ≡ failures_after (S.failures source.old) result }

@@ -7,7 +7,7 @@ ghost use Rattle.puffin_data.specs.Forest.Spelling.{Spells};
 ghost use Rattle.puffin_data.specs.Honesty.{Counts};
 ghost use Rattle.puffin_data.specs.Walk.{IsFault, Refuses};
 ghost use Rattle.puffin_data.specs.Text.{text_in};
-ghost use Rattle.puffin_data.specs.inner.Sightings.{found_of};
+ghost use Rattle.puffin_data.specs.Walk.Sightings.{found_of};
 ghost use Rattle.puffin_data.specs.Reader.{Place, read_scope, scope_read};
 ghost use Rattle.puffin_data.specs.Reader.ReadScopes.{scope_seen, scope_answer, IsNextRead, ReadsScopes, ReadsFault};
 
@@ -170,7 +170,11 @@ impl<'s> Reader<'s> {
         ensures tries { IfOk result (λ w. tries.new ≡ w.num_scopes) }
         ensures few { tries.new ≤ length stream.now.bytes / 31 + 1 }
     {
-        walk_forest(alloc, stream.form(), stream.bytes(), tries)
+        // A count of its own stays in a register while the walk goes.
+        let mut tried = 0;
+        let walk = walk_forest(alloc, stream.form(), stream.bytes(), &mut tried);
+        *tries = tried;
+        walk
     }
 
     /// The number of scopes and the height of a stream, which has to be a forest of scopes. Refused as [`Reader::walk`].

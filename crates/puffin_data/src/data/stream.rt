@@ -6,7 +6,7 @@ ghost use Rattle.puffin_data.specs.Forest.Open.{ended_bytes};
 ghost use Rattle.puffin_data.specs.Text.{cut_text};
 ghost use Rattle.puffin_data.specs.Text.Lengths.{text_limit, length_layout, second_byte};
 
-use crate::data::form::{Form, groups};
+use crate::data::form::{Form, ONE_GROUP, groups};
 use crate::data::scope::{END_SIZE, FRONT_SIZE, SCOPE_END, WORD_SIZE};
 use crate::data::scope_id::ScopeId;
 use crate::error::{Error, NanoSecond, Result};
@@ -426,41 +426,41 @@ impl Stream {
         ensures room { self.old.room
             ≤ self.new.room + head_size self.old.form (cut_text self.old.form text.now) }
     {
-        match self.form {
-            Form::Short => self.begin_in(Form::Short, now_ns, id, text),
-            Form::Long => self.begin_in(Form::Long, now_ns, id, text),
+        // Up to here a text is written in one way in both forms.
+        if text.len() <= ONE_GROUP {
+            return self.begin_with(now_ns, id, text, text.len() as u8, None);
         }
+        let stored = cut(self.form, text);
+        let (group, second) = groups(self.form, stored.len());
+        self.begin_with(now_ns, id, stored, group, second)
     }
 
-    /// The same in a form that its caller has looked up: so what is done in one form asks no more of it.
+    /// The same of a text that is stored whole, and whose length is written in these groups.
     #[inline(always)]
-    fn begin_in<F: FnMut() -> NanoSecond>(
+    fn begin_with<F: FnMut() -> NanoSecond>(
         &mut self,
-        form: Form,
         now_ns: &mut F,
         id: ScopeId,
         text: &str,
+        group: u8,
+        second: Option<u8>,
     ) -> Result<(usize, NanoSecond)>
         requires callable { F.IsAlwaysCallable now_ns.old }
-        requires form { form ≡ self.old.form }
+        requires short { length text.now ≤ text_limit self.old.form }
+        requires layout { length_layout self.old.form (length text.now)
+            ≡ group ∷ second_byte second }
         ensures begun { IfOk result (λ at.
             self.new.bytes
-            ≡ self.old.bytes
-            ++ begin_bytes self.old.form id at.1 (cut_text self.old.form text.now)
-            (2 ^ 64 - 1)) }
+            ≡ self.old.bytes ++ begin_bytes self.old.form id at.1 text.now (2 ^ 64 - 1)) }
         ensures offset { IfOk result (λ at. at.0 + 8 ≡ length self.new.bytes) }
         ensures clock { IfOk result (λ at. F.step now_ns.old at.1 now_ns.new) }
         ensures err { OnErr result (self.new.bytes ≡ self.old.bytes) }
         ensures form { self.new.form ≡ self.old.form }
         ensures unasked { OnErr result (now_ns.new ≡ now_ns.old) }
         ensures memory { IfErr result (λ e. e ≡ Error.Memory) }
-        ensures succeeds { head_size self.old.form (cut_text self.old.form text.now)
-            ≤ self.old.room → IsOk result }
-        ensures room { self.old.room
-            ≤ self.new.room + head_size self.old.form (cut_text self.old.form text.now) }
+        ensures succeeds { head_size self.old.form text.now ≤ self.old.room → IsOk result }
+        ensures room { self.old.room ≤ self.new.room + head_size self.old.form text.now }
     {
-        let text = cut(form, text);
-        let (group, second) = groups(form, text.len());
         self.reserve(FRONT_SIZE + 1 + usize::from(second.is_some()) + text.len() + WORD_SIZE)?;
         let start = now_ns();
         self.put_front(&front(id.get(), start, group));

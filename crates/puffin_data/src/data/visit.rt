@@ -2,7 +2,7 @@
 
 ghost use Rattle.std.specs.Prelude.{◌≡◌, ℕ, ◌+◌, ◌*◌, ◌≤◌, List, [], ◌∷◌, ◌++◌, length, IfOk, IfErr, ◌⊎◌};
 ghost use Rattle.puffin_data.specs.Forest.{Span, IsSpan};
-ghost use Rattle.puffin_data.specs.inner.Sightings.{found_of};
+ghost use Rattle.puffin_data.specs.Walk.Sightings.{found_of};
 ghost use Rattle.puffin_data.specs.Walk.Sights.{Nested};
 ghost use Rattle.puffin_data.specs.Walk.Visitor.{TakesAll, StopsEarly};
 ghost use Rattle.puffin_data.specs.Walk.Going.{Entering, Refusing};

@@ -12,7 +12,7 @@ use Rattle.std.proofs.lemmas.Map.Made.{keys_of-map_values}
 use Rattle.puffin_data.specs.Honesty.{record_of}
 use Rattle.puffin_data.specs.declared.data.info.StreamInfo.{StreamInfo}
 use Rattle.puffin_frames.specs.Frame.Contents.{records, streams_of}
-use Rattle.puffin_threads.specs.Thread.Info.{info_cmp, info_of, thread_cmp, keyed, by_info}
+use Rattle.puffin_threads.specs.Thread.Info.{info_cmp, info_of, thread_cmp, info_entries, by_info}
 use Rattle.puffin_threads.proofs.lemmas.Infos.{info_cmp_total, info_cmp-one}
 use Rattle.puffin_threads.proofs.lemmas.EntriesSeen.{insert-seen, entries-seen}
 
@@ -22,15 +22,15 @@ module _ {X : Type 0} where
   by_info-insert es k v = insert-seen info_of (λ x. x) info_cmp info_cmp_total info_cmp-one es k v
 
   -- what is in order stays so
-  pub entries-by_info : (es : List (ThreadInfo × X)) → IsStrictlySortedBy thread_cmp (keys_of es) → entries (by_info es) ≡ keyed es
+  pub entries-by_info : (es : List (ThreadInfo × X)) → IsStrictlySortedBy thread_cmp (keys_of es) → entries (by_info es) ≡ info_entries es
   entries-by_info es sorted = entries-seen info_of (λ x. x) info_cmp info_cmp_total es sorted
 
-  values-keyed : (es : List (ThreadInfo × X)) → map (λ e. e.1) (keyed es) ≡ values_of es
-  values-keyed [] = refl
-  values-keyed (e ∷ es) = ap (λ xs. e.1 ∷ xs) (values-keyed es)
+  values-info_entries : (es : List (ThreadInfo × X)) → map (λ e. e.1) (info_entries es) ≡ values_of es
+  values-info_entries [] = refl
+  values-info_entries (e ∷ es) = ap (λ xs. e.1 ∷ xs) (values-info_entries es)
 
   pub values-by_info : (es : List (ThreadInfo × X)) → IsStrictlySortedBy thread_cmp (keys_of es) → values (by_info es) ≡ values_of es
-  values-by_info es sorted = ap (map (λ e. e.1)) (entries-by_info es sorted) ∙ values-keyed es
+  values-by_info es sorted = ap (map (λ e. e.1)) (entries-by_info es sorted) ∙ values-info_entries es
 
 -- what is recorded, in place of the streams themselves
 sorted-records : (es : List (ThreadInfo × StreamInfo)) → IsStrictlySortedBy thread_cmp (keys_of es) → IsStrictlySortedBy thread_cmp (keys_of (records es))
@@ -52,7 +52,7 @@ module _ {X Y : Type 0} (g : X → Y) where
   read-insert [] k v = refl
   read-insert (e ∷ es) k v = read_at_order (thread_cmp k e.0) k v e es (read-insert es k v)
 
-pub entries-streams_of : (es : List (ThreadInfo × StreamInfo)) → IsStrictlySortedBy thread_cmp (keys_of es) → entries (streams_of es) ≡ keyed (records es)
+pub entries-streams_of : (es : List (ThreadInfo × StreamInfo)) → IsStrictlySortedBy thread_cmp (keys_of es) → entries (streams_of es) ≡ info_entries (records es)
 entries-streams_of es sorted = entries-by_info (records es) (sorted-records es sorted)
 
 pub values-streams_of : (es : List (ThreadInfo × StreamInfo)) → IsStrictlySortedBy thread_cmp (keys_of es) → values (streams_of es) ≡ map record_of (values_of es)

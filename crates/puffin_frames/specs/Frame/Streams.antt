@@ -13,7 +13,7 @@ use Rattle.puffin_data.specs.Forest.{Forest}
 use Rattle.puffin_data.specs.declared.data.info.StreamInfo.{StreamInfo}
 use Rattle.puffin_threads.specs.declared.thread_profiler.thread_info.ThreadInfo.{ThreadInfo}
 use Rattle.puffin_frames.specs.declared.frame_data.unpacked.UnpackedFrameData.{UnpackedFrameData}
-use Rattle.puffin_threads.specs.Thread.Info.{Info, info_cmp, info_code, by_info, keyed}
+use Rattle.puffin_threads.specs.Thread.Info.{Info, info_cmp, info_code, by_info, info_entries}
 
 -- what threads recorded, by their infos
 abbrev pub Streams : Type 0
@@ -59,7 +59,7 @@ shared_streams entries = streams_of (without_sharing entries)
 
 -- the same as the list of their pairs, in the order of the map's entries
 abbrev pub pairs_of : {A : Type 0} → List (ThreadInfo × Arc StreamInfo A) → List (Info × Recorded)
-pairs_of entries = keyed (records (without_sharing entries))
+pairs_of entries = info_entries (records (without_sharing entries))
 
 -- what is recorded where there is no scope
 abbrev pub no_scopes : Recorded

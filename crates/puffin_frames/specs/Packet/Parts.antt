@@ -4,7 +4,7 @@ use Rattle.puffin_data.specs.declared.file_error.FileError.{FileError}
 use Rattle.puffin_data.specs.declared.file_error.FileError.TheVariants as file
 use Rattle.puffin_data.specs.Range.{is_range_at}
 use Rattle.puffin_data.specs.Value.Decoding.{whole}
-use Rattle.puffin_data.specs.Part.{◌>>=◌, part_of, first_at, length_at, counted_part_at}
+use Rattle.puffin_data.specs.Part.{◌>>=◌, part_of, first_at, part_length_at, counted_part_at}
 use Rattle.puffin_frames.specs.declared.frame_data.meta.FrameMeta.{FrameMeta}
 use Rattle.puffin_threads.specs.Details.{Details}
 use Rattle.puffin_frames.specs.Packet.Letters.{digit_2, has_details}
@@ -51,7 +51,7 @@ details_part_at letter bytes =
 -- the kind and the bytes of the streams: their length stands first, and doesn't count the kind
 abbrev pub streams_part_at : ℕ → List ℕ → Result ((ℕ × List ℕ) × List ℕ) FileError
 streams_part_at letter bytes = do
-  n ← length_at bytes
+  n ← part_length_at bytes
   kind ← kind_at letter n.1
   streams ← part_of n.0 kind.1
   Ok ((kind.0, streams.0), streams.1)

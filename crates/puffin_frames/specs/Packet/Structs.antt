@@ -7,7 +7,7 @@ use Rattle.puffin_data.specs.declared.data.form.Form.TheVariants.{Short, Long}
 use Rattle.puffin_data.specs.Text.Flags.{is_long, form_of_flag}
 use Rattle.puffin_data.specs.Honesty.{Recorded}
 use Rattle.puffin_data.specs.Value.Layout.{number, signed, optional, flag, block, pair, items, IsWord, IsLong, IsSigned, IsBlock, IsText, IfAny, AreItems}
-use Rattle.puffin_data.specs.Value.Decoding.{◌>>=◌, checked, seen_as, number_at, word_at, signed_at, flag_at, bytes_at, text_at, optional_at, pair_at, items_at}
+use Rattle.puffin_data.specs.Value.Decoding.{◌>>=◌, with_test, seen_as, number_at, word_at, signed_at, flag_at, bytes_at, text_at, optional_at, pair_at, items_at}
 use Rattle.puffin_frames.specs.declared.frame_data.meta.FrameMeta.{FrameMeta}
 use Rattle.puffin_threads.specs.Thread.Info.{Info, info_cmp}
 use Rattle.puffin_threads.specs.Details.{Details}
@@ -130,7 +130,7 @@ rising read = do
   if is_sorted info_cmp es.0 then Some es else None
 
 unfoldable pub streams_at : Form → List ℕ → Option (List (Info × Recorded) × List ℕ)
-streams_at packed = checked (are_ordered packed) (items_at (stream_at packed))
+streams_at packed = with_test (are_ordered packed) (items_at (stream_at packed))
 
 -- ---- scope details
 
@@ -138,7 +138,7 @@ abbrev pub IsId : ℕ → Type 0
 IsId n = IsWord n × (nat_lt 0 n ≡ true)
 
 abbrev pub id_at : List ℕ → Option (ℕ × List ℕ)
-id_at = checked (λ n. nat_lt 0 n) word_at
+id_at = with_test (λ n. nat_lt 0 n) word_at
 
 abbrev pub detail_layout : Details → List ℕ
 detail_layout d =

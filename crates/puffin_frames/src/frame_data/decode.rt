@@ -12,7 +12,7 @@ ghost use Rattle.puffin_threads.specs.Thread.Info.{Info, info_of, info_cmp};
 ghost use Rattle.puffin_threads.specs.Details.{details_of, shared_details};
 ghost use Rattle.puffin_frames.specs.Frame.Contents.{pairs_of};
 ghost use Rattle.puffin_frames.specs.Packet.Structs.{meta_at, info_at, form_in_at, recorded_at, stream_at, rising, streams_at, id_at, detail_at, details_at, legacy_at, Legacy};
-ghost use Rattle.puffin_frames.specs.inner.Tries.{TriesToGive, Tries};
+ghost use Rattle.puffin_frames.specs.Packet.Tries.{TriesToGive, Tries};
 
 use crate::frame_data::encode::packed_form;
 use crate::frame_data::meta::FrameMeta;

@@ -7,7 +7,7 @@ ghost use Rattle.puffin_frames.specs.Frame.Contents.{streams_of, all_recorded, c
 ghost use Rattle.std.specs.Arc.{arc_value};
 ghost use Rattle.puffin_data.specs.declared.file_error.FileError.{FileError};
 ghost use Rattle.puffin_frames.specs.Frame.Holding.{as_packed, as_unpacked, unpacked_from, HoldsStreams};
-ghost use Rattle.puffin_frames.specs.inner.Tries.{DecidedInMemory};
+ghost use Rattle.puffin_frames.specs.Packet.Tries.{DecidedInMemory};
 ghost use Rattle.puffin_threads.specs.Details.{shared_details};
 
 use crate::frame_data::held::Held;

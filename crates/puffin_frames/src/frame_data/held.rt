@@ -72,7 +72,7 @@ impl PackedStreams {
     ghost use Rattle.puffin_data.specs.declared.error.Error.{Error};
     ghost use Rattle.puffin_frames.specs.Frame.Streams.{shared_streams};
     ghost use Rattle.puffin_frames.specs.Frame.Contents.{packed_as};
-    ghost use Rattle.puffin_frames.specs.inner.Tries.{DecidedInMemory};
+    ghost use Rattle.puffin_frames.specs.Packet.Tries.{DecidedInMemory};
 
     /// Streams as they are packed. Takes no memory.
     pub(crate) fn new(form: Form, kind: u8, bytes: Vec<u8>) -> PackedStreams
@@ -127,7 +127,7 @@ impl PackedFrame {
     ghost use Rattle.puffin_frames.specs.Frame.Holding.{plainly_packed, unpacking};
     ghost use Rattle.puffin_data.specs.declared.error.Error.{Error};
     ghost use Rattle.puffin_frames.specs.Frame.Contents.{packed_as};
-    ghost use Rattle.puffin_frames.specs.inner.Tries.{DecidedInMemory};
+    ghost use Rattle.puffin_frames.specs.Packet.Tries.{DecidedInMemory};
 
     /// Nothing. Takes no memory.
     fn nothing(alloc: Global) -> PackedFrame {
@@ -191,7 +191,7 @@ impl Held {
     ghost use Rattle.puffin_data.specs.declared.error.Error.{Error};
     ghost use Rattle.puffin_data.specs.declared.file_error.FileError.{FileError};
     ghost use Rattle.puffin_frames.specs.Frame.Contents.{packed_as, held_as, held_meta};
-    ghost use Rattle.puffin_frames.specs.inner.Tries.{DecidedInMemory};
+    ghost use Rattle.puffin_frames.specs.Packet.Tries.{DecidedInMemory};
 
     /// Nothing, packed. Takes no memory.
     pub(crate) fn nothing(alloc: Global) -> Held {

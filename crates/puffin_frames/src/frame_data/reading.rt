@@ -8,7 +8,7 @@ ghost use Rattle.puffin_data.specs.Value.Decoding.{whole};
 ghost use Rattle.puffin_frames.specs.Packet.Structs.{details_at};
 ghost use Rattle.puffin_threads.specs.Details.{shared_details};
 ghost use Rattle.puffin_frames.specs.Frame.Contents.{holding_of, frame_says};
-ghost use Rattle.puffin_frames.specs.inner.Tries.{Decided, DecidedInMemory};
+ghost use Rattle.puffin_frames.specs.Packet.Tries.{Decided, DecidedInMemory};
 ghost use Rattle.puffin_frames.specs.inner.Age.{IsAgeOf};
 ghost use Rattle.puffin_frames.specs.Packet.Letters.{form_behind, has_details, is_packet};
 ghost use Rattle.puffin_frames.specs.Packet.Parts.{meta_from, meta_part_at, kind_from, kind_at, details_from, details_part_at, streams_part_at, legacy_from, legacy_part_at};

@@ -1,4 +1,4 @@
--- Which refusal merging answers.
+-- Which refusal merging returns.
 use Rattle.std.specs.Prelude.{◌≡◌, ℕ, ◌+◌, ◌^◌, ◌<◌, ◌≤◌, ◌⊎◌, ℤ, ◌-ℤ◌, ◌+ℤ◌, FitsSigned, List, [], ◌∷◌, ◌++◌, length, take, slice_index, ◌==◌, if◌then◌else◌}
 use Rattle.std.specs.Int.{w64}
 use Rattle.puffin_data.specs.declared.data.form.Form.{Form}

@@ -25,36 +25,36 @@ abbrev pub is_colon : ℕ → Bool
 is_colon byte = byte == 58
 
 -- `START:NAME`, where the name is all that stands behind the first colon
-abbrev pub thread_in : List ℕ → Option Info
-thread_in word =
+abbrev pub thread_of_word : List ℕ → Option Info
+thread_of_word word =
     if list_any is_colon word then option_map (λ start. record { start = start; name = after_first is_colon word }) (start_in (before_first is_colon word)) else None
 
 -- ---- what is asked for
 
 -- a count, a replay of the script at a path into the file at another, or a report of the file at a path for a thread
-pub data Asked : Type 0 where
-  count : Asked
-  replay : List ℕ → List ℕ → Asked
-  report : List ℕ → Info → Asked
+pub data Request : Type 0 where
+  count : Request
+  replay : List ℕ → List ℕ → Request
+  report : List ℕ → Info → Request
 
-abbrev pub report_by : List ℕ → List ℕ → Option Asked
-report_by file thread = option_map (report file) (thread_in thread)
+abbrev pub report_by : List ℕ → List ℕ → Option Request
+report_by file thread = option_map (report file) (thread_of_word thread)
 
-abbrev pub asked_by : List (List ℕ) → Option Asked
-asked_by (word ∷ []) = if bytes_eq word (codes "count") then Some count else None
-asked_by (word ∷ (first ∷ (second ∷ []))) =
+abbrev pub request_in : List (List ℕ) → Option Request
+request_in (word ∷ []) = if bytes_eq word (codes "count") then Some count else None
+request_in (word ∷ (first ∷ (second ∷ []))) =
     if bytes_eq word (codes "replay") then Some (replay first second) else
     if bytes_eq word (codes "report") then report_by first second else None
-asked_by _ = None
+request_in _ = None
 
 -- the same of a task
-abbrev pub asked : Task → Asked
-asked task.Count = count
-asked (task.Replay script out) = replay (string_bytes script) (string_bytes out)
-asked (task.Report file thread) = report (string_bytes file) (info_of thread)
+abbrev pub request_of : Task → Request
+request_of task.Count = count
+request_of (task.Replay script out) = replay (string_bytes script) (string_bytes out)
+request_of (task.Report file thread) = report (string_bytes file) (info_of thread)
 
 -- what is asked for has paths
-abbrev pub HasPaths : Option Asked → Type 0
+abbrev pub HasPaths : Option Request → Type 0
 HasPaths None = ⊥
 HasPaths (Some count) = ⊥
 HasPaths (Some (replay script out)) = Unit {0}

@@ -15,12 +15,13 @@ use Rattle.puffin_view.specs.View.ViewedFrames.{Frame, contents_of, index_of}
 use Rattle.puffin_view.specs.View.FrameOf.{shared_frame, details_of_frame}
 use Rattle.puffin_view.specs.View.{View, Took, after_all, KeepsFrames}
 use Rattle.puffin_view.specs.View.Known.{view_of, collection_of}
-use Rattle.puffin_view.specs.View.File.{file_of, contents_in}
+use Rattle.puffin_view.specs.View.File.{file_of, contents_held, contents_in}
 use Rattle.puffin_session.specs.declared.command.Command.{Command}
 use Rattle.puffin_session.specs.declared.command.Reply.{Reply}
 use Rattle.puffin_session.specs.declared.command.Reply.TheVariants as reply
 use Rattle.puffin_session.specs.Session.{SessionState}
 use Rattle.puffin_session.specs.Session.Runs.{Records}
+use Rattle.puffin_report.specs.Summary.{NoneLacksIds}
 
 -- ---- the frames of a run
 
@@ -59,6 +60,13 @@ pub record TakesSome (frames : List Frame) (old new : FrameView) : Type 0 where
 abbrev pub TookAlso : List Frame → View → View → Type 0
 TookAlso frames old new =
     (cs : List Said) → Took cs old → Took (cs ++ map contents_of frames) new
+
+-- where all details that a view held had ids, so have those that it holds, and those that its file lists
+abbrev pub HoldsIds : View → View → Type 0
+HoldsIds old new = NoneLacksIds (contents_held old) → NoneLacksIds (contents_held new)
+
+abbrev pub ListsIds : View → View → Type 0
+ListsIds old new = NoneLacksIds (contents_held old) → NoneLacksIds (contents_in new)
 
 -- ---- recording
 

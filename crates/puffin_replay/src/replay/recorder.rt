@@ -6,18 +6,15 @@ ghost use Rattle.std.specs.String.{string_bytes};
 ghost use Rattle.std.specs.Io.KnownBytes.{Appends};
 ghost use Rattle.puffin_data.specs.declared.data.form.Form.TheVariants.{Short};
 ghost use Rattle.puffin_data.specs.Device.{TookNothing};
-ghost use Rattle.puffin_frames.specs.Packet.Stored.{Said};
 ghost use Rattle.puffin_frames.specs.Packet.Grammar.{IsPacked};
 ghost use Rattle.puffin_frames.specs.Packet.Writing.{HasLongPart};
-ghost use Rattle.puffin_view.specs.View.ViewedFrames.{contents_of};
 ghost use Rattle.puffin_view.specs.View.{Took};
 ghost use Rattle.puffin_view.specs.View.Known.{view_of};
-ghost use Rattle.puffin_view.specs.View.File.{contents_held, contents_in};
+ghost use Rattle.puffin_view.specs.View.File.{contents_in};
 ghost use Rattle.puffin_session.specs.Session.{SessionState, new_session};
 ghost use Rattle.puffin_session.specs.Session.Runs.{Records, AreReplies, HasIds};
 ghost use Rattle.puffin_replay.specs.Script.{threads_said};
-ghost use Rattle.puffin_replay.specs.Program.Recording.{frame_in, emitted_by, frames_emitted, file_of_view, Takes, TakesSome, IsBroken};
-ghost use Rattle.puffin_report.specs.Summary.{NoneLacksIds};
+ghost use Rattle.puffin_replay.specs.Program.Recording.{frame_in, emitted_by, frames_emitted, file_of_view, Takes, TakesSome, TookAlso, HoldsIds, ListsIds, IsBroken};
 ghost use Rattle.puffin_replay.specs.Program.ScriptRun.{loose_view, IsReplayed, IsUnfinished};
 
 use crate::replay::reply_line::reply_lines;
@@ -46,8 +43,7 @@ fn add_frames(view: &mut FrameView, replies: &[Reply]) -> Answer<()>
     requires { All HasIds replies.now }
     ensures ok { OnOk result (Takes (frames_emitted replies.now) view.old view.new) }
     ensures took { OnOk result (
-        (cs : List Said) → Took cs (view_of view.old) →
-        Took (cs ++ map contents_of (frames_emitted replies.now)) (view_of view.new)) }
+        TookAlso (frames_emitted replies.now) (view_of view.old) (view_of view.new)) }
     ensures refusal { IfErr result (λ e.
         (e ≡ Error.Memory) × TakesSome (frames_emitted replies.now) view.old view.new) }
 {
@@ -75,17 +71,12 @@ pub fn record_session<D: Drain>(
         Records session.old session.new commands.now replies.items) }
     ensures view { IfOk result (λ replies. Takes (frames_emitted replies.items) view.old view.new) }
     ensures took { IfOk result (λ replies.
-        (cs : List Said) → Took cs (view_of view.old) →
-        Took (cs ++ map contents_of (frames_emitted replies.items)) (view_of view.new)) }
+        TookAlso (frames_emitted replies.items) (view_of view.old) (view_of view.new)) }
     ensures written { OnOk result (
         Appends (D.contents drain.old) (D.contents drain.new) (file_of_view view.new)) }
     ensures packed { OnOk result (AllByRecursion IsPacked (contents_in (view_of view.new))) }
-    ensures held_ids { OnOk result (
-        NoneLacksIds (contents_held (view_of view.old)) →
-        NoneLacksIds (contents_held (view_of view.new))) }
-    ensures ids { OnOk result (
-        NoneLacksIds (contents_held (view_of view.old)) →
-        NoneLacksIds (contents_in (view_of view.new))) }
+    ensures held_ids { OnOk result (HoldsIds (view_of view.old) (view_of view.new)) }
+    ensures ids { OnOk result (ListsIds (view_of view.old) (view_of view.new)) }
     ensures failures { OnOk result (D.failures drain.new ≡ D.failures drain.old) }
 
     ensures broken { IfErr result (λ e.
@@ -130,18 +121,13 @@ pub fn record<D: Drain>(
         replies.items end) }
     ensures view { IfOk result (λ replies. Takes (frames_emitted replies.items) view.old view.new) }
     ensures took { IfOk result (λ replies.
-        (cs : List Said) → Took cs (view_of view.old) →
-        Took (cs ++ map contents_of (frames_emitted replies.items)) (view_of view.new)) }
+        TookAlso (frames_emitted replies.items) (view_of view.old) (view_of view.new)) }
     ensures written { OnOk result (
         Appends (D.contents drain.old) (D.contents drain.new) (file_of_view view.new)) }
     // What is written is read again: it has packets, and, where the view's frames had ids in all details, so has it.
     ensures packed { OnOk result (AllByRecursion IsPacked (contents_in (view_of view.new))) }
-    ensures held_ids { OnOk result (
-        NoneLacksIds (contents_held (view_of view.old)) →
-        NoneLacksIds (contents_held (view_of view.new))) }
-    ensures ids { OnOk result (
-        NoneLacksIds (contents_held (view_of view.old)) →
-        NoneLacksIds (contents_in (view_of view.new))) }
+    ensures held_ids { OnOk result (HoldsIds (view_of view.old) (view_of view.new)) }
+    ensures ids { OnOk result (ListsIds (view_of view.old) (view_of view.new)) }
     ensures failures { OnOk result (D.failures drain.new ≡ D.failures drain.old) }
 
     ensures broken { IfErr result (λ e.

@@ -1,6 +1,6 @@
 ghost use Rattle.std.specs.Prelude.{◌≡◌, option_map, map, IfOk, IfErr};
 ghost use Rattle.std.specs.String.{string_bytes};
-ghost use Rattle.puffin_replay.specs.Program.Arguments.{signed_moment_in, start_in, thread_in, report_by, asked, asked_by, HasPaths};
+ghost use Rattle.puffin_replay.specs.Program.Arguments.{signed_moment_in, start_in, thread_of_word, report_by, request_of, request_in, HasPaths};
 
 use puffin_data::{Error, NanoSecond, Result};
 use puffin_frames::thread_profiler::ThreadInfo;
@@ -39,7 +39,7 @@ fn start(word: &str) -> Option<Option<NanoSecond>>
 /// The start and the name in a word `START:NAME`, or `None` for another word.
 fn thread_of(word: &str) -> Option<(Option<NanoSecond>, &str)>
     ensures { option_map (λ t. record { start = t.0; name = t.1.now }) result
-        ≡ thread_in word.now }
+        ≡ thread_of_word word.now }
 {
     let (before, name) = word.split_once(':')?;
     Some((start(before)?, name))
@@ -48,7 +48,7 @@ fn thread_of(word: &str) -> Option<(Option<NanoSecond>, &str)>
 /// The report of a file for the thread that a word says, or `None` for another word.
 fn report_of(file: &String, word: &str) -> Result<Option<Task>>
     ensures task { IfOk result (λ task.
-        option_map asked task ≡ report_by (string_bytes file.now) word.now) }
+        option_map request_of task ≡ report_by (string_bytes file.now) word.now) }
     ensures memory { IfErr result (λ e.
         (e ≡ Error.Memory) × HasPaths (report_by (string_bytes file.now) word.now)) }
 {
@@ -66,9 +66,9 @@ fn report_of(file: &String, word: &str) -> Result<Option<Task>>
 /// The task that the program's words ask for, or `None` for other words. Refused only with `Memory`, where it holds paths.
 pub fn read_words(words: &[String]) -> Result<Option<Task>>
     ensures task { IfOk result (λ task.
-        option_map asked task ≡ asked_by (map string_bytes words.now)) }
+        option_map request_of task ≡ request_in (map string_bytes words.now)) }
     ensures memory { IfErr result (λ e.
-        (e ≡ Error.Memory) × HasPaths (asked_by (map string_bytes words.now))) }
+        (e ≡ Error.Memory) × HasPaths (request_in (map string_bytes words.now))) }
 {
     match words {
         [word] if word.as_str() == "count" => Ok(Some(Task::Count)),

@@ -8,7 +8,7 @@ use Rattle.puffin_threads.specs.declared.thread_profiler.profiler.ThreadProfiler
 use Rattle.puffin_threads.specs.Thread.ThreadProfiler.{thread_of, clock_of}
 use Rattle.puffin_threads.specs.Thread.Calls.{Thread, after_begin}
 use Rattle.puffin_scopes.specs.declared.profiler_scope.ProfilerScope.{ProfilerScope}
-use Rattle.puffin_scopes.specs.Guards.Guard.{profiler_of, offset_of, refusal_of}
+use Rattle.puffin_scopes.specs.Guards.Guard.{profiler_of, offset_of, guard_refusal}
 
 -- where the size of a scope with this text stands, begun now
 abbrev pub begun_offset : Thread → List ℕ → ℕ
@@ -23,11 +23,11 @@ pub record IsOn {C : Type 0} (answers : C → ℤ → C → Type 0) (old : Threa
   pub never_negative : pos 0 ≤ℤ at
   pub begun : thread_of (profiler_of scope) ≡ after_begin (thread_of old) id (cut_text (thread_of old).form text) at
   pub offset : offset_of scope ≡ Some (begun_offset (thread_of old) text)
-  pub refusal : refusal_of scope ≡ None
+  pub refusal : guard_refusal scope ≡ None
 
 -- the profiler is as before, and the guard has no scope, for this reason
 pub record IsOff {C : Type 0} (old : ThreadProfiler C) (refusal : Option Error)
     (scope : ProfilerScope C) : Type 0 where
   pub unchanged : profiler_of scope ≡ old
   pub offset : offset_of scope ≡ None
-  pub why : refusal_of scope ≡ refusal
+  pub why : guard_refusal scope ≡ refusal

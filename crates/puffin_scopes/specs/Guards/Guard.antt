@@ -30,5 +30,5 @@ abbrev pub offset_of : {C : Type 0} → ProfilerScope C → Option ℕ
 offset_of scope = offset_in scope.standing
 
 -- why it has no scope
-abbrev pub refusal_of : {C : Type 0} → ProfilerScope C → Option Error
-refusal_of scope = refusal_in scope.standing
+abbrev pub guard_refusal : {C : Type 0} → ProfilerScope C → Option Error
+guard_refusal scope = refusal_in scope.standing

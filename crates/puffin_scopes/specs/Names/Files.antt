@@ -5,8 +5,8 @@ use Rattle.std.specs.Option.{option_map, option_or}
 use Rattle.std.specs.Str.{bytes_eq}
 
 -- a slash for each backslash
-abbrev pub slashed : List ℕ → List ℕ
-slashed path = map (λ b. if b == 92 then 47 else b) path
+abbrev pub with_slashes : List ℕ → List ℕ
+with_slashes path = map (λ b. if b == 92 then 47 else b) path
 
 -- `…`
 abbrev pub ellipsis : List ℕ
@@ -48,4 +48,4 @@ kept_parts parts = if nat_lt 2 (length parts) then kept_by parts (last_src parts
 
 -- The parts between slashes that are kept, with slashes between them again.
 abbrev pub short_file : List ℕ → List ℕ
-short_file path = join_with_byte 47 (kept_parts (slice_split (λ b. b == 47) (slashed path)))
+short_file path = join_with_byte 47 (kept_parts (slice_split (λ b. b == 47) (with_slashes path)))

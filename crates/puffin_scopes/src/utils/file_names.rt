@@ -3,7 +3,7 @@
 ghost use Rattle.std.specs.Prelude.{◌≡◌, ◌<◌, ◌==◌, map, length, IfSome, IfOk, IfErr, string_bytes};
 ghost use Rattle.std.specs.List.{slice_split, join_with_byte};
 ghost use Rattle.puffin_data.specs.declared.error.Error.{Error};
-ghost use Rattle.puffin_scopes.specs.Names.Files.{slashed, short_file, kept_parts, last_src};
+ghost use Rattle.puffin_scopes.specs.Names.Files.{with_slashes, short_file, kept_parts, last_src};
 
 use puffin_data::{Error, Result};
 use std::alloc::Global;

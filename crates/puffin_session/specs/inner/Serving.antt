@@ -39,8 +39,8 @@ abbrev pub session_with_collected : SessionState → Collected → SessionState
 session_with_collected s collected = record { threads = s.threads; collected = collected }
 
 -- The innermost scope of a thread was ended. Where it was the last, the report of the whole word was accepted, or it was refused and left what is collected.
-abbrev pub Ends : Thread → Thread → ℤ → Collected → Collected → Closed → Type 0
-Ends old new at before after closed =
+abbrev pub EndsInnermost : Thread → Thread → ℤ → Collected → Collected → Closed → Type 0
+EndsInnermost old new at before after closed =
     Closes AcceptsReport RefusesReport old new at before after closed
 
 -- ---- what a run keeps

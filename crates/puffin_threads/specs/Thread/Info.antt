@@ -33,8 +33,8 @@ info_code =
     (λ i. (i.start, i.name)) (λ p. record { start = p.0; name = p.1 }) (λ _. refl)
 
 -- the entries of a map of threads, by the threads' infos
-abbrev pub keyed : {X : Type 0} → List (ThreadInfo × X) → List (Info × X)
-keyed entries = map (λ e. (info_of e.0, e.1)) entries
+abbrev pub info_entries : {X : Type 0} → List (ThreadInfo × X) → List (Info × X)
+info_entries entries = map (λ e. (info_of e.0, e.1)) entries
 
 abbrev pub by_info : {X : Type 0} → List (ThreadInfo × X) → FinMap info_cmp X
-by_info entries = from_entries (keyed entries)
+by_info entries = from_entries (info_entries entries)

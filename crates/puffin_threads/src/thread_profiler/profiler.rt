@@ -97,7 +97,7 @@ impl<C: NsSource> ThreadProfiler<C> {
     }
 
     /// Begins a scope and returns its offset, which [`ThreadProfiler::end_scope`] takes. Of the text its longest beginning
-    /// is kept that has at most 127 bytes and ends where a character ends.
+    /// is kept that has no more bytes than the form writes (127 or 16,383) and ends where a character ends.
     ///
     /// Refused only with `Memory`: the memory for the scope's end and for its report is taken here too. A refused call
     /// doesn't read the clock, and changes nothing.

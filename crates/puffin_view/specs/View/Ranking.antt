@@ -42,10 +42,6 @@ abbrev pub last_in : {F : Type 0} → List F → Option F
 last_in [] = None
 last_in (x ∷ xs) = Some (last_from x xs)
 
--- all but the last
-abbrev pub without_last : {F : Type 0} → List F → List F
-without_last xs = take (length xs - 1) xs
-
 -- whether an index is in a list
 abbrev pub has : ℕ → List ℕ → Bool
 has q is = list_any (nat_eq q) is

@@ -3,6 +3,7 @@ use Rattle.std.specs.Prelude.{ℕ, ℤ, suc, Bool, List, [], ◌∷◌, ◌≡�
 use Rattle.std.specs.List.Sorted.{IsSortedBy}
 use Rattle.std.specs.declared.cmp.Ordering.{Ordering}
 use Rattle.std.specs.Ordering.{nat_cmp, int_cmp, is_lt, ordering_then, on, then_cmp}
+use Rattle.puffin_view.specs.declared.profile_view.select.OldPlace.{OldPlace}
 use Rattle.puffin_view.specs.View.ViewedFrames.{Frame, index_of, duration_of}
 
 -- a frame's duration, its index and its place in a list
@@ -34,6 +35,10 @@ older_cmp =
 
 abbrev pub older_rank : Rank → Rank → Bool
 older_rank a b = is_lt (older_cmp a b)
+
+-- the places of the code, as ranks
+abbrev pub old_place : OldPlace → Rank
+old_place r = record { duration = r.duration_ns; index = r.frame_index; place = r.place }
 
 -- out is the first max of frames by falling duration, then rising index, then place, given by rising index, then place
 pub record IsSelection (max : ℕ) (frames out : List Frame) : Type 0 where

@@ -1,22 +1,13 @@
--- Where a frame stands among the slowest, and lists of where frames stand.
+-- Lists of where frames stand among the slowest.
 use Rattle.std.specs.Prelude.{ℕ, Bool, cond, nat_lt, ◌||◌, List, [], take, drop, length, Some, None, ◌≡◌, false}
 use Rattle.std.specs.List.{AllByRecursion}
 use Rattle.std.specs.Option.{option_map, option_map_or}
-use Rattle.std.specs.declared.cmp.Ordering.{Ordering}
-use Rattle.std.specs.Ordering.{nat_cmp, int_cmp, ordering_then, is_lt}
+use Rattle.std.specs.Ordering.{is_lt}
 use Rattle.std.specs.FinMap as map
 use Rattle.puffin_view.specs.declared.profile_view.slow_rank.SlowRank.{SlowRank}
 use Rattle.puffin_view.specs.View.Ranking.{place, last_in, rank_index, has}
-use Rattle.puffin_view.specs.View.ViewedFrames.{Frame, index_of, duration_of}
+use Rattle.puffin_view.specs.View.FrameRanks.{rank_of, rank_cmp}
 use Rattle.puffin_view.specs.inner.Held.{HeldFrames}
-
-abbrev pub rank_of : Frame → SlowRank
-rank_of f = record { duration_ns = record { 0 = duration_of f }; frame_index = index_of f }
-
--- by falling duration, then rising index
-abbrev pub rank_cmp : SlowRank → SlowRank → Ordering
-rank_cmp a b =
-    ordering_then (int_cmp b.duration_ns.0 a.duration_ns.0) (nat_cmp a.frame_index b.frame_index)
 
 abbrev pub is_before : SlowRank → SlowRank → Bool
 is_before a b = is_lt (rank_cmp a b)

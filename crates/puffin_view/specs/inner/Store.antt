@@ -6,7 +6,7 @@ use Rattle.std.specs.FinMap as map
 use Rattle.puffin_view.specs.declared.profile_view.slow_rank.SlowRank.{SlowRank}
 use Rattle.puffin_view.specs.View.ViewedFrames.{Frame, index_of}
 use Rattle.puffin_view.specs.inner.Held.{HeldFrames}
-use Rattle.puffin_view.specs.inner.Ranks.{rank_of, rank_cmp}
+use Rattle.puffin_view.specs.View.FrameRanks.{rank_of, rank_cmp}
 use Rattle.puffin_view.specs.View.Ranking.{rank_index}
 use Rattle.puffin_view.specs.inner.Kept.{AreViewLists}
 

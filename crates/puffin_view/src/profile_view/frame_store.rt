@@ -8,10 +8,11 @@ ghost use Rattle.std.specs.List.Sorted.{IsStrictlySortedBy};
 ghost use Rattle.puffin_data.specs.declared.error.Error.{Error};
 ghost use Rattle.puffin_view.specs.View.FrameOf.{shared_frame};
 ghost use Rattle.puffin_view.specs.View.Ranking.{last_of, last_in, rank_index};
-ghost use Rattle.puffin_view.specs.inner.Ranks.{rank_cmp, ranks_after, ranks_gone, AreRanked, LetsGo};
+ghost use Rattle.puffin_view.specs.inner.Ranks.{ranks_after, ranks_gone, AreRanked, LetsGo};
+ghost use Rattle.puffin_view.specs.View.FrameRanks.{rank_cmp};
 ghost use Rattle.puffin_view.specs.View.ViewedFrames.{index_of, chronological};
 ghost use Rattle.puffin_view.specs.View.Listings.{recent_left, all_left, slowest_left};
-ghost use Rattle.puffin_view.specs.View.{empty_view, emptied, with_newest_packed, is_past, joined_by, after_taking, KeepsFrames, all_uniq, IsSteady};
+ghost use Rattle.puffin_view.specs.View.{empty_view, without_frames, with_newest_packed, is_past, joined_by, after_taking, KeepsFrames, all_uniq, IsSteady};
 ghost use Rattle.puffin_view.specs.View.Stats.{stats_of};
 
 use crate::profile_view::held_frames::HeldFrames;
@@ -192,7 +193,7 @@ impl FrameStore {
 
     /// The same settings, with no frames.
     fn emptied(&self) -> FrameStore
-        ensures { result ≡ emptied self.now }
+        ensures { result ≡ without_frames self.now }
     {
         let alloc = *self.recent.allocator();
         FrameStore {

@@ -10,10 +10,10 @@ ghost use Rattle.puffin_frames.specs.Packet.Stored.{Said, Stored, packed};
 ghost use Rattle.puffin_view.specs.declared.profile_view.slow_rank.SlowRank.{SlowRank};
 ghost use Rattle.puffin_view.specs.View.Ranking.{AreFirst};
 ghost use Rattle.puffin_view.specs.View.ViewedFrames.{Frame, contents_of, duration, frame_index, by_duration, is_slower, slowest};
-ghost use Rattle.puffin_view.specs.inner.Ranks.{rank_of, rank_cmp};
+ghost use Rattle.puffin_view.specs.View.FrameRanks.{rank_of, rank_cmp};
 ghost use Rattle.puffin_view.specs.declared.profile_view.select.OldPlace.{OldPlace};
 ghost use Rattle.puffin_view.specs.View.Selection.{Rank, older_cmp};
-ghost use Rattle.puffin_view.specs.inner.Selections.{old_place};
+ghost use Rattle.puffin_view.specs.View.Selection.{old_place};
 ghost use Rattle.puffin_data.specs.declared.error.Error.{Error};
 ghost use Rattle.puffin_data.specs.declared.file_error.FileError.{FileError};
 ghost use Rattle.puffin_data.specs.Device.{IsOutside};
@@ -93,6 +93,7 @@ pub fn written_files_are_read()
     ensures one_list { (cs ds : List Said) → AllByRecursion IsPacked cs →
         AllByRecursion IsPacked ds → file_of cs ≡ file_of ds → cs ≡ ds }
 {
+    // For the proof alone: a law of packets.
     written_is_read();
 }
 
@@ -116,5 +117,6 @@ pub fn what_was_written_is_read()
         contents_in (after_all read_view (map frame_stored (map packed (contents_in v))))
         ≡ contents_in v }
 {
+    // For the proof alone: a law of packets.
     written_is_read();
 }

@@ -3,7 +3,8 @@ ghost use Rattle.std.specs.Option.{option_to_list};
 ghost use Rattle.puffin_data.specs.declared.error.Error.{Error};
 ghost use Rattle.puffin_view.specs.View.FrameOf.{frame_of, frames_of};
 ghost use Rattle.puffin_view.specs.View.Selection.{rank_at, ranks_from, IsSelection};
-ghost use Rattle.puffin_view.specs.inner.Selections.{slow_place, old_place};
+ghost use Rattle.puffin_view.specs.inner.Selections.{slow_place};
+ghost use Rattle.puffin_view.specs.View.Selection.{old_place};
 
 use itertools::Itertools;
 use puffin_data::{NanoSecond, Result};

@@ -4,7 +4,8 @@ ghost use Rattle.std.specs.Ordering.{is_eq};
 ghost use Rattle.std.specs.List.Sorted.{IsStrictlySortedBy};
 ghost use Rattle.puffin_view.specs.View.FrameOf.{frame_of};
 ghost use Rattle.puffin_view.specs.View.Ranking.{place};
-ghost use Rattle.puffin_view.specs.inner.Ranks.{rank_of, rank_cmp, is_before, rank_enters};
+ghost use Rattle.puffin_view.specs.inner.Ranks.{is_before, rank_enters};
+ghost use Rattle.puffin_view.specs.View.FrameRanks.{rank_of, rank_cmp};
 
 use puffin_data::NanoSecond;
 use puffin_frames::frame_data::{FrameData, FrameIndex};

@@ -5,7 +5,7 @@ use Rattle.std.proofs.lemmas.Result.{err_from_is_err_and}
 use Rattle.puffin_data.specs.declared.data.visit.Region.{Region}
 use Rattle.puffin_data.specs.Forest.{Span}
 use Rattle.puffin_data.specs.Walk.{region, tries_in}
-use Rattle.puffin_data.specs.inner.Sightings.{found_of}
+use Rattle.puffin_data.specs.Walk.Sightings.{found_of}
 use Rattle.puffin_data.specs.Walk.Visitor.{StopsAtFault, StopsAtRefusal}
 use Rattle.puffin_data.specs.Walk.Going.{VisitorLaws}
 use Rattle.puffin_data.proofs.lemmas.Numbers.{IsBytes, IsBytes-drop, IsBytes-take}

@@ -1,7 +1,7 @@
 use Rattle.std.proofs.Common.{ℕ, List, Result, Ok}
 use Rattle.std.proofs.lemmas.Result.{err_from_is_err_and}
 use Rattle.puffin_data.specs.declared.file_error.FileError.{FileError}
-use Rattle.puffin_data.specs.Part.{◌>>=◌, part_of, length_at}
+use Rattle.puffin_data.specs.Part.{◌>>=◌, part_of, part_length_at}
 use Rattle.puffin_frames.specs.Packet.Parts.{kind_at}
 use Rattle.puffin_data.proofs.lemmas.Devices.{fails_on, gives_on, stops, given}
 use Rattle.puffin_frames.proofs.frame_data.reading.read_streams_part.Goals as goal
@@ -20,7 +20,7 @@ returns-in_err-kind-clause-part g c =
     let e = c.in_err-kind.field-0.0 in
     let letter = c.args.letter in
     let n = c.in_ok-len.len in
-    rw (p.1, p.2) (fails_on e n _ _ _ length_at (after_length letter) c.in_ok-len.ensures.part
+    rw (p.1, p.2) (fails_on e n _ _ _ part_length_at (after_length letter) c.in_ok-len.ensures.part
     (stops e _ _ (kind_at letter) (after_kind n) c.in_err-kind.ensures.part))
 
 pub returns-in_err-streams-clause-part : goal.returns-in_err-streams-clause-part
@@ -31,7 +31,7 @@ returns-in_err-streams-clause-part g c =
     let letter = c.args.letter in
     let n = c.in_ok-len.len in
     let k = c.in_ok-kind.kind in
-    rw (p.1, p.2) (fails_on e n _ _ _ length_at (after_length letter) c.in_ok-len.ensures.part
+    rw (p.1, p.2) (fails_on e n _ _ _ part_length_at (after_length letter) c.in_ok-len.ensures.part
     (fails_on e k _ _ _ (kind_at letter) (after_kind n) c.in_ok-kind.ensures.part
     (stops e _ _ (part_of n) (λ s bytes. Ok ((k, s), bytes)) c.in_err-streams.ensures.part)))
 
@@ -43,7 +43,7 @@ returns-clause-part g c =
     let k = c.in_ok-kind.kind in
     let s = c.in_ok-streams.streams.items in
     let out : (ℕ × List ℕ) = (k, s) in
-    gives_on n out _ _ _ length_at (after_length letter) c.in_ok-len.ensures.part
+    gives_on n out _ _ _ part_length_at (after_length letter) c.in_ok-len.ensures.part
     (gives_on k out _ _ _ (kind_at letter) (after_kind n) c.in_ok-kind.ensures.part
     (gives_on s out _ _ _ (part_of n) (λ t bytes. Ok ((k, t), bytes)) c.in_ok-streams.ensures.part
     (given out _)))

@@ -4,7 +4,7 @@ use Rattle.std.proofs.lemmas.Int.{to_z-of_z}
 use Rattle.puffin_data.specs.Text.{cut_text}
 use Rattle.puffin_threads.specs.Thread.Calls.{after_begin}
 use Rattle.puffin_session.specs.declared.command.Command.TheVariants.{End}
-use Rattle.puffin_session.specs.inner.Serving.{clock_time, session_thread, session_with_thread, Ends}
+use Rattle.puffin_session.specs.inner.Serving.{clock_time, session_thread, session_with_thread, EndsInnermost}
 use Rattle.puffin_session.proofs.Serving.{Continues-began, Continues-ended, Continues-handed, Continues-taken, Continues-registered, Continues-not_registered, Continues-added, Continues-not_added, Continues-wanted, Continues-not_begun, Continues-not_ended, Continues-not_reported, Continues-not_framed, same}
 use Rattle.puffin_session.specs.Session.{begun_place}
 use Rattle.puffin_session.specs.Session.Actions.{user_details}
@@ -35,7 +35,7 @@ returns-in-Ok-end-clause-continues c =
     let now = c.args.self.now in
     let t = c.in-End.thread in
     let at = to_z-of_z w64 c.in-End.at (search rules) in
-    let ends = subst (λ (x : ℤ). Ends (session_thread now t) (session_thread c.end.new.self t) (clock_time x) now.collected c.end.new.self.collected c.in-Ok-end.closed) at it.3 in
+    let ends = subst (λ (x : ℤ). EndsInnermost (session_thread now t) (session_thread c.end.new.self t) (clock_time x) now.collected c.end.new.self.collected c.in-Ok-end.closed) at it.3 in
     same now c.end.new.self _ _ _ _ (c.in-End.is ∙ ap (End t c.in-End.at) it.1) it.2 (Continues-ended now t c.in-End.at it.0 (session_thread c.end.new.self t) c.end.new.self.collected c.in-Ok-end.closed c.in-Ok-end.ensures.ids ends)
 
 pub returns-in-Err-end-clause-continues : goal.returns-in-Err-end-clause-continues

@@ -1,6 +1,6 @@
 use Rattle.std.proofs.Common.{◌≡◌, ◌++◌, map, drop, filter_map, slice_get}
 use Rattle.puffin_view.specs.View.FrameOf.{frames_of}
-use Rattle.puffin_view.specs.inner.Selections.{old_place}
+use Rattle.puffin_view.specs.View.Selection.{old_place}
 use Rattle.puffin_view.proofs.profile_view.select.frames_at.Given as goal
 
 abbrev pub invariant-loop-k : goal.invariant-loop-k

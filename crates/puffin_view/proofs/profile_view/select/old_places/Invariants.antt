@@ -1,5 +1,6 @@
 use Rattle.std.proofs.Common.{◌≡◌, ◌++◌, map, drop}
-use Rattle.puffin_view.specs.inner.Selections.{slow_place, old_place}
+use Rattle.puffin_view.specs.inner.Selections.{slow_place}
+use Rattle.puffin_view.specs.View.Selection.{old_place}
 use Rattle.puffin_view.proofs.profile_view.select.old_places.Given as goal
 
 abbrev pub invariant-loop-k : goal.invariant-loop-k

@@ -10,7 +10,8 @@ use Rattle.std.proofs.lemmas.Iterator.Adapters.{YieldsList-from_vec}
 use Rattle.std.proofs.lemmas.List.Sorted.{IsPermutation-map}
 use Rattle.itertools.proofs.SortedLemmas.{IsPermutation-sorted}
 use Rattle.puffin_view.specs.View.Selection.{Rank, slower_rank, older_rank}
-use Rattle.puffin_view.specs.inner.Selections.{slow_place, old_place}
+use Rattle.puffin_view.specs.inner.Selections.{slow_place}
+use Rattle.puffin_view.specs.View.Selection.{old_place}
 use Rattle.puffin_view.proofs.Orders.{map-take}
 use Rattle.puffin_view.proofs.Selecting.{map_sorted}
 use Rattle.puffin_view.proofs.profile_view.select.select_slowest.Goals as goal

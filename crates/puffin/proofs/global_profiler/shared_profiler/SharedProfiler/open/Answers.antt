@@ -1,14 +1,14 @@
 use Rattle.std.proofs.Common.{◌≡◌, [], ◌∷◌, sym, subst, rules}
 use Rattle.std.specs.Prelude.{All}
 use Rattle.std.proofs.lemmas.List.Elements.{All-append, All-cons, All-nil}
-use Rattle.puffin.specs.Shares.{Counts, no_counts}
+use Rattle.puffin.specs.Shares.{ShareCounts, no_counts}
 use Rattle.puffin.proofs.global_profiler.shared_profiler.SharedProfiler.open.Goals as goal
 
 pub loop-i-preserved : goal.loop-i-preserved
 loop-i-preserved g c =
     let known = c.loop-i.invariant in
-    let P : Counts → Type 0 = λ share. share ≡ no_counts in
-    let share : Counts = record { reported = c.split_off.result.amount; handed = c.split_off-in-loop-i.result.amount } in
+    let P : ShareCounts → Type 0 = λ share. share ≡ no_counts in
+    let share : ShareCounts = record { reported = c.split_off.result.amount; handed = c.split_off-in-loop-i.result.amount } in
     let one : share ≡ no_counts = λ j. record { reported = c.split_off.ensures.amount j; handed = c.split_off-in-loop-i.ensures.amount j } in
     record {
       reported_parts = search rules;

@@ -2,7 +2,8 @@ use Rattle.std.proofs.Common.{◌≡◌, refl, sym, ap, ◌∙◌, ◌++◌, ◌
 use Rattle.puffin_view.specs.View.{View, joined_by, is_past}
 use Rattle.puffin_view.specs.View.ViewedFrames.{Frame, index_of}
 use Rattle.puffin_view.specs.View.FrameOf.{frame_of, shared_frame}
-use Rattle.puffin_view.specs.inner.Ranks.{rank_of, ranks_after, ranks_gone}
+use Rattle.puffin_view.specs.inner.Ranks.{ranks_after, ranks_gone}
+use Rattle.puffin_view.specs.View.FrameRanks.{rank_of}
 use Rattle.puffin_view.specs.View.Ranking.{rank_index}
 use Rattle.puffin_view.specs.inner.Store.{AreStored, frames_under}
 use Rattle.puffin_view.proofs.JoiningPending.{stored_joined, pushed_rising, entered_in_order, entered_ranked, lets_as}

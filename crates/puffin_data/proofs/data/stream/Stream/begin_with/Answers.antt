@@ -1,0 +1,19 @@
+-- The pieces of a scope's beginning, put one after another.
+use Rattle.std.proofs.Common.{◌∙◌, ap, List, ℕ, ℤ, ◌++◌, ◌∷◌, [], take, to_z, of_z, w64}
+use Rattle.byteorder.specs.Endian.{little_bytes}
+use Rattle.puffin_data.specs.Text.Lengths.{second_byte}
+use Rattle.puffin_data.specs.Forest.Spelling.{time_bytes}
+use Rattle.puffin_data.proofs.Written.{begun}
+use Rattle.puffin_data.proofs.data.stream.Stream.begin_with.Goals as goal
+
+pub returns-clause-begun : goal.returns-clause-begun
+returns-clause-begun g c =
+    let old = c.args.self.now.bytes in
+    let form = c.args.self.now.form in
+    let text = c.args.text.now in
+    let start : ℤ = to_z w64 (of_z w64 c.now_ns-start.result) in
+    let group = c.args.group in
+    let second = c.args.second in
+    let front = c.front.ensures ∙ ap (λ (n : ℕ). 40 ∷ (little_bytes 4 n ++ (time_bytes start ++ (group ∷ [])))) c.get.ensures.number in
+    let stored = c.put_text.ensures.bytes ∙ ap (λ (x : List ℕ). c.put_second.new.self.bytes ++ x) c.as_bytes.ensures.value in
+    begun form old c.reserve.new.self.bytes c.put_front.new.self.bytes c.put_second.new.self.bytes c.put_text.new.self.bytes c.put.new.self.bytes (take 14 c.front.result) (second_byte second) text c.size_word.result c.args.id 18446744073709551615 group start c.in_ok-reserve.ensures.bytes c.put_front.ensures.bytes c.put_second.ensures.bytes stored c.put.ensures.bytes front c.requires.layout c.size_word.ensures

@@ -1,0 +1,113 @@
+//! A thread with long texts behind the lock: what is handed out has its form, and its texts whole.
+
+ghost use Rattle.std.specs.Prelude.{◌≡◌, IfOk};
+ghost use Rattle.puffin_data.specs.Forest.{Forest};
+ghost use Rattle.puffin_data.specs.Honesty.{IsHonest};
+
+use crate::equal::equal;
+use puffin::data::{Form, Reader, Scope, ScopeId, Stream, StreamInfo};
+use puffin::frame_data::FrameData;
+use puffin::global_profiler::{GlobalProfiler, SharedProfiler, SharedReporter};
+use puffin::thread_profiler::{Closed, ScriptClock, ThreadInfo, ThreadProfiler};
+use std::alloc::Global;
+use std::marker::Brand;
+use std::process::Abort;
+use std::sync::Wait;
+use std::sync::ledger::{Blank, Ledger};
+use std::test::Fail;
+
+type Outcome = std::result::Result<(), Fail>;
+
+/// A text of 128 bytes, one more than the short form keeps.
+const TEXT: &str = "0123456789abcdef0123456789abcdef0123456789abcdef0123456789abcdef\
+    0123456789abcdef0123456789abcdef0123456789abcdef0123456789abcdef";
+
+/// One scope of the caller's own, in a stream of long texts.
+fn own_scope(alloc: Global, id: ScopeId) -> puffin::Result<StreamInfo>
+    ensures { IfOk result (λ info. (f : Forest) × IsHonest info f) }
+{
+    let mut stream = Stream::with_form(alloc, Form::Long);
+    let (scope, _) = stream.begin_scope(|| 100, id, "own")?;
+    stream.end_scope(scope, 250)?;
+    StreamInfo::parse(alloc, stream)
+}
+
+/// Whether scopes have just these texts, in their order.
+fn have_texts(scopes: &[Scope<'_>], texts: &[&str]) -> bool {
+    let mut rest = texts.iter();
+    for scope in scopes {
+        if rest.next() != Some(&scope.rec.text) {
+            return false;
+        }
+    }
+    rest.next().is_none()
+}
+
+/// Whether a frame has under a name a stream of long texts, whose top scopes have just these.
+fn has_long(alloc: Global, frame: &FrameData, name: &str, texts: &[&str]) -> puffin::Result<bool> {
+    let Some(unpacked) = frame.as_unpacked() else {
+        return Ok(false);
+    };
+    for (thread, info) in &unpacked.thread_streams {
+        if thread.name.as_str() == name {
+            let scopes = Reader::from_start(&info.stream).read_top_scopes(alloc)?;
+            return Ok(info.stream.form() == Form::Long && have_texts(&scopes, texts));
+        }
+    }
+    Ok(false)
+}
+
+/// A thread's two scopes, one with a text that both forms write in one way, and a scope of the caller's own.
+fn reported<L: Ledger, M: Ledger, R: Wait + Abort + Copy + Drop>(
+    rt: R,
+    alloc: Global,
+    reported: Blank,
+    handed: Blank,
+) -> Outcome
+    requires reported { (reported.name ≡ L.name)
+        × (reported.parts ≡ L.parts)
+        × (reported.parts ≡ 1) }
+    requires handed { (handed.name ≡ M.name) × (handed.parts ≡ M.parts) × (handed.parts ≡ 1) }
+{
+    let opened = SharedProfiler::<L, M>::open(
+        alloc,
+        GlobalProfiler::new(alloc),
+        1,
+        reported,
+        handed,
+    );
+    let Ok((profiler, shares)) = opened else {
+        return Err(Fail::new("no memory"));
+    };
+    let mut shares = shares;
+    let share = shares.pop().ok_or("a share")?;
+    let id = ScopeId::new(1).ok_or("an id")?;
+    let name = String::from_str(alloc, "main")?;
+    let mut thread = ThreadProfiler::with_form(alloc, name, ScriptClock::new(5), Form::Long);
+    let mut reporter = SharedReporter::new(rt, profiler.clone()?, share);
+    for text in ["load", TEXT] {
+        let scope = thread.begin_scope(id, text)?;
+        equal(
+            &rt,
+            reporter.end_scope(&mut thread, scope)?,
+            Closed::Reported,
+        );
+    }
+    let mut share = reporter.into_share();
+    let own = own_scope(alloc, id)?;
+    let user = ThreadInfo {
+        start_time_ns: None,
+        name: String::from_str(alloc, "user")?,
+    };
+    profiler.report_user_scopes(&rt, &mut share, user, &own.as_stream_into_ref())?;
+    let frame = profiler.new_frame(&rt, &mut share)?.frame.ok_or("a frame")?;
+    equal(&rt, frame.meta().num_scopes, 3);
+    assert!(rt; has_long(alloc, &frame, "main", &["load", TEXT])?);
+    assert!(rt; has_long(alloc, &frame, "user", &["own"])?);
+    Ok(())
+}
+
+#[test]
+fn long_texts_are_handed_out_whole(rt: HostRuntime) -> Outcome {
+    reported::<Brand, Brand, HostRuntime>(rt, rt.alloc(), Blank::new(1), Blank::new(1))
+}

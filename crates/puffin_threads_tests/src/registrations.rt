@@ -1,0 +1,81 @@
+use crate::equal::equal;
+use crate::thread_profiler::{Outcome, Recorder, Rig};
+use puffin_data::data::ScopeId;
+use puffin_data::{Error, Result};
+use puffin_threads::scope_details::ScopeIds;
+use puffin_threads::thread_profiler::{Closed, ScriptClock, ThreadProfiler};
+use std::borrow::CowStr;
+use std::process::Abort;
+use std::test::Fail;
+
+/// Registers the function `f` at line 7 of `b.rs`, and its part `part` at line 9.
+fn register_two(
+    thread: &mut ThreadProfiler<ScriptClock>,
+    ids: &ScopeIds,
+) -> Result<(ScopeId, ScopeId)> {
+    let text = CowStr::Borrowed("f");
+    let file = CowStr::Borrowed("b.rs");
+    let function = thread.register_function_scope(ids, text.clone()?, file.clone()?, 7)?;
+    let part = thread.register_named_scope(ids, CowStr::Borrowed("part"), text, file, 9)?;
+    Ok((function, part))
+}
+
+/// Registered details have this id, and this name, function and place.
+fn is_registered(
+    rt: &impl Abort,
+    recorder: &Recorder,
+    place: usize,
+    number: u32,
+    texts: (&str, &str, &str),
+) -> Outcome {
+    let details = recorder.details.get(place).ok_or("details")?;
+    equal(rt, details.scope_id(), ScopeId::new(number));
+    equal(rt, details.name().as_str(), texts.0);
+    equal(rt, details.function_name.as_str(), texts.1);
+    equal(rt, details.location(recorder.alloc)?.as_str(), texts.2);
+    Ok(())
+}
+
+#[test]
+fn details_come_with_the_next_accepted_report(rt: HostRuntime) -> Outcome {
+    let mut rig = Rig::new(rt.alloc(), 100, 1)?;
+    let (function, part) = register_two(&mut rig.thread, &ScopeIds::starting_at(5))?;
+    equal(&rt, (function.get(), part.get()), (5, 6));
+    rig.begins(&rt, (5, ""), 14);
+    rig.ends(&rt, 14, Ok(Closed::Kept(Error::TooLarge)));
+    rig.has(&rt, (0, 0, 0));
+    rig.reports(&rt, Ok(true));
+    rig.has(&rt, (0, 1, 2));
+    is_registered(&rt, &rig.recorder, 0, 5, ("f", "f", "b.rs:7"))?;
+    is_registered(&rt, &rig.recorder, 1, 6, ("part", "f", "b.rs:9"))?;
+    // They were handed over, and don't come again.
+    rig.begins(&rt, (5, ""), 14);
+    rig.ends(&rt, 14, Ok(Closed::Reported));
+    rig.has(&rt, (0, 2, 2));
+    Ok(())
+}
+
+/// Why two registrations with an exhausted counter are refused.
+fn refused_registrations(
+    thread: &mut ThreadProfiler<ScriptClock>,
+) -> std::result::Result<(Option<Error>, Option<Error>), Fail> {
+    let ids = ScopeIds::starting_at(4294967296);
+    let text = CowStr::Borrowed("f");
+    let function = thread.register_function_scope(&ids, text.clone()?, text.clone()?, 0);
+    let part = thread.register_named_scope(&ids, text.clone()?, text.clone()?, text, 0);
+    Ok((function.err(), part.err()))
+}
+
+#[test]
+fn nothing_is_registered_without_an_id(rt: HostRuntime) -> Outcome {
+    let mut rig = Rig::new(rt.alloc(), 100, 0)?;
+    equal(
+        &rt,
+        refused_registrations(&mut rig.thread)?,
+        (Some(Error::IdsExhausted), Some(Error::IdsExhausted)),
+    );
+    rig.begins(&rt, (1, ""), 14);
+    rig.ends(&rt, 14, Ok(Closed::Reported));
+    rig.has(&rt, (0, 1, 0));
+    Ok(())
+}
