@@ -4,8 +4,6 @@
 #[cfg(test)]
 mod callers;
 #[cfg(test)]
-mod equal;
-#[cfg(test)]
 mod example;
 #[cfg(test)]
 mod guards;

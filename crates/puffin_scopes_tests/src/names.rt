@@ -1,4 +1,3 @@
-use crate::equal::equal;
 use crate::program::Outcome;
 use puffin::utils::{clean_function_name, short_file_name, shorten_rust_function_name};
 
@@ -22,7 +21,7 @@ fn names_of_functions_that_ask_for_their_name(rt: HostRuntime) -> Outcome {
     ];
     for (name, expected) in rows {
         let short = clean_function_name(rt.alloc(), name)?;
-        equal(&rt, short.as_str(), expected);
+        assert_eq!(rt; short.as_str(), expected);
     }
     Ok(())
 }
@@ -38,7 +37,7 @@ fn names_of_functions(rt: HostRuntime) -> Outcome {
     ];
     for (name, expected) in rows {
         let short = shorten_rust_function_name(rt.alloc(), name)?;
-        equal(&rt, short.as_str(), expected);
+        assert_eq!(rt; short.as_str(), expected);
     }
     Ok(())
 }
@@ -73,7 +72,7 @@ fn names_of_files(rt: HostRuntime) -> Outcome {
     ];
     for (path, expected) in rows {
         let short = short_file_name(rt.alloc(), path)?;
-        equal(&rt, short.as_str(), expected);
+        assert_eq!(rt; short.as_str(), expected);
     }
     Ok(())
 }
