@@ -4,6 +4,7 @@ ghost use Rattle.std.specs.Prelude.{◌≡◌, Ok, None, IsTrue, IfOk, IfSome};
 ghost use Rattle.puffin_threads.specs.Thread.ThreadProfiler.{thread_of};
 ghost use Rattle.puffin_scopes_tests.specs.Callers.{IsOneScope, IsEndedScope};
 
+use crate::equal::equal;
 use crate::program::{Outcome, id, main_thread};
 use puffin::data::ScopeId;
 use puffin::global_profiler::GlobalProfiler;
@@ -59,12 +60,12 @@ fn scopes_of_proved_callers(rt: HostRuntime) -> Outcome {
     let mut profiler = GlobalProfiler::new(rt.alloc());
     let mut thread = main_thread(rt.alloc())?;
     assert!(rt; one_scope(&mut thread, id(1)?));
-    assert_eq!(rt; thread.report_closed(&mut profiler), Ok(true));
+    equal(&rt, thread.report_closed(&mut profiler), Ok(true));
     refused_scope(&mut thread, Error::IdsExhausted);
-    assert_eq!(rt; no_scope(&mut thread, &mut profiler), Ok(None));
-    assert_eq!(rt; thread.report_closed(&mut profiler), Ok(false));
+    equal(&rt, no_scope(&mut thread, &mut profiler), Ok(None));
+    equal(&rt, thread.report_closed(&mut profiler), Ok(false));
     let ended = ended_scope(&mut thread, id(2)?, &mut profiler);
-    assert_eq!(rt; ended, Ok(Some(Closed::Reported)));
-    assert_eq!(rt; profiler.totals().pending, 2);
+    equal(&rt, ended, Ok(Some(Closed::Reported)));
+    equal(&rt, profiler.totals().pending, 2);
     Ok(())
 }

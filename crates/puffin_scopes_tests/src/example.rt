@@ -1,5 +1,6 @@
 //! A program's own functions with scopes, in a short program.
 
+use crate::equal::equal;
 use crate::program::{Outcome, counts, main_thread, next_frame};
 use puffin::global_profiler::GlobalProfiler;
 use puffin::scope_details::ScopeIds;
@@ -54,14 +55,14 @@ fn a_function_and_a_scope_in_it(rt: HostRuntime) -> Outcome {
     let mut profiler = GlobalProfiler::new(rt.alloc());
     let mut thread = main_thread(rt.alloc())?;
     let scopes = Scopes::new();
-    assert_eq!(rt; load(&mut thread, &scopes, "of three words"), 3);
-    assert_eq!(rt; thread.report_closed(&mut profiler), Ok(false));
+    equal(&rt, load(&mut thread, &scopes, "of three words"), 3);
+    equal(&rt, thread.report_closed(&mut profiler), Ok(false));
     scopes.switch.set_scopes_on(true);
     for expected in [(2, 62, 2), (2, 62, 0)] {
-        assert_eq!(rt; load(&mut thread, &scopes, "of three words"), 3);
-        assert_eq!(rt; thread.report_closed(&mut profiler), Ok(true));
+        equal(&rt, load(&mut thread, &scopes, "of three words"), 3);
+        equal(&rt, thread.report_closed(&mut profiler), Ok(true));
         let frame = next_frame(&mut profiler)?;
-        assert_eq!(rt; counts(&frame), expected);
+        equal(&rt, counts(&frame), expected);
     }
     Ok(())
 }

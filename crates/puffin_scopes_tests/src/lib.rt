@@ -4,6 +4,8 @@
 #[cfg(test)]
 mod callers;
 #[cfg(test)]
+mod equal;
+#[cfg(test)]
 mod example;
 #[cfg(test)]
 mod guards;

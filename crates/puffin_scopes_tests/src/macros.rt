@@ -1,3 +1,4 @@
+use crate::equal::equal;
 use crate::program::{Outcome, Scopes, counted, counts, main_thread, next_frame};
 use puffin::global_profiler::GlobalProfiler;
 use puffin::scope_details::ScopeIds;
@@ -29,9 +30,9 @@ fn a_condition_is_evaluated_while_the_switch_is_on(rt: HostRuntime) -> Outcome {
             "f",
             "part"
         );
-        assert_eq!(rt; guard.offset().is_some(), on);
-        assert_eq!(rt; guard.end(&mut profiler)?.is_some(), on);
-        assert_eq!(rt; asked.get(), times);
+        equal(&rt, guard.offset().is_some(), on);
+        equal(&rt, guard.end(&mut profiler)?.is_some(), on);
+        equal(&rt, asked.get(), times);
         profile_function_if!(
             whole,
             counted(&asked),
@@ -41,10 +42,10 @@ fn a_condition_is_evaluated_while_the_switch_is_on(rt: HostRuntime) -> Outcome {
             scopes.there,
             "f"
         );
-        assert_eq!(rt; whole.end(&mut profiler)?.is_some(), on);
-        assert_eq!(rt; asked.get(), times * 2);
+        equal(&rt, whole.end(&mut profiler)?.is_some(), on);
+        equal(&rt, asked.get(), times * 2);
     }
-    assert_eq!(rt; profiler.totals().pending, 2);
+    equal(&rt, profiler.totals().pending, 2);
     Ok(())
 }
 
@@ -63,9 +64,9 @@ fn a_condition_that_fails_leaves_the_guard_off(rt: HostRuntime) -> Outcome {
         "f",
         "text"
     );
-    assert_eq!(rt; whole.offset(), None);
-    assert_eq!(rt; whole.refusal(), None);
-    assert_eq!(rt; scopes.ids.draw()?.get(), 1);
+    equal(&rt, whole.offset(), None);
+    equal(&rt, whole.refusal(), None);
+    equal(&rt, scopes.ids.draw()?.get(), 1);
     Ok(())
 }
 
@@ -123,10 +124,10 @@ fn scopes_as_expressions(rt: HostRuntime) -> Outcome {
     for (deep, expected) in [(true, (3, 101, 2)), (false, (2, 66, 0))] {
         let name = String::from_str(rt.alloc(), "inner")?;
         let depth = nested(&mut thread, &scopes, name, deep);
-        assert_eq!(rt; depth, 1 + usize::from(deep));
-        assert_eq!(rt; thread.report_closed(&mut profiler), Ok(true));
+        equal(&rt, depth, 1 + usize::from(deep));
+        equal(&rt, thread.report_closed(&mut profiler), Ok(true));
         let frame = next_frame(&mut profiler)?;
-        assert_eq!(rt; counts(&frame), expected);
+        equal(&rt, counts(&frame), expected);
     }
     Ok(())
 }
@@ -139,9 +140,9 @@ fn a_refusal_is_told(rt: HostRuntime) -> Outcome {
     let none = ScopeIds::starting_at(4_294_967_296);
     let thread = &mut main;
     profile_function!(guard, thread, scopes.switch, &none, scopes.here, "f");
-    assert_eq!(rt; guard.refusal(), Some(Error::IdsExhausted));
-    assert_eq!(rt; guard.offset(), None);
-    assert_eq!(rt; guard.end(&mut profiler), Ok(None));
+    equal(&rt, guard.refusal(), Some(Error::IdsExhausted));
+    equal(&rt, guard.offset(), None);
+    equal(&rt, guard.end(&mut profiler), Ok(None));
     Ok(())
 }
 
@@ -172,10 +173,10 @@ fn names_of_the_caller_s_own_are_not_taken(rt: HostRuntime) -> Outcome {
             "part",
             id
         );
-        assert_eq!(rt; guard.end(&mut global), Ok(Some(Closed::Inner)));
+        equal(&rt, guard.end(&mut global), Ok(Some(Closed::Inner)));
     }
-    assert_eq!(rt; guard.end(&mut global), Ok(Some(Closed::Reported)));
+    equal(&rt, guard.end(&mut global), Ok(Some(Closed::Reported)));
     let frame = next_frame(&mut global)?;
-    assert_eq!(rt; counts(&frame), (2, 70, 2));
+    equal(&rt, counts(&frame), (2, 70, 2));
     Ok(())
 }

@@ -1,3 +1,4 @@
+use crate::equal::equal;
 use crate::program::Outcome;
 use puffin::utils::{clean_function_name, short_file_name, shorten_rust_function_name};
 
@@ -21,7 +22,7 @@ fn names_of_functions_that_ask_for_their_name(rt: HostRuntime) -> Outcome {
     ];
     for (name, expected) in rows {
         let short = clean_function_name(rt.alloc(), name)?;
-        assert_eq!(rt; short.as_str(), expected);
+        equal(&rt, short.as_str(), expected);
     }
     Ok(())
 }
@@ -37,7 +38,7 @@ fn names_of_functions(rt: HostRuntime) -> Outcome {
     ];
     for (name, expected) in rows {
         let short = shorten_rust_function_name(rt.alloc(), name)?;
-        assert_eq!(rt; short.as_str(), expected);
+        equal(&rt, short.as_str(), expected);
     }
     Ok(())
 }
@@ -72,7 +73,7 @@ fn names_of_files(rt: HostRuntime) -> Outcome {
     ];
     for (path, expected) in rows {
         let short = short_file_name(rt.alloc(), path)?;
-        assert_eq!(rt; short.as_str(), expected);
+        equal(&rt, short.as_str(), expected);
     }
     Ok(())
 }

@@ -1,3 +1,4 @@
+use crate::equal::equal;
 use crate::program::{Outcome, counts, main_thread, next_frame};
 use puffin::data::ScopeId;
 use puffin::frame_data::FrameData;
@@ -36,13 +37,14 @@ fn a_place_is_registered_once(rt: HostRuntime) -> Outcome {
     let site = Site::new("crates/shop/src/basket/add.rs", 7);
     let first = site.function_id(&mut thread, &ids, "shop::basket::add::f")?;
     let again = site.function_id(&mut thread, &ids, "shop::basket::add::f")?;
-    assert_eq!(rt; (first.get(), again.get()), (1, 1));
-    assert_eq!(rt; ids.draw()?.get(), 2);
+    equal(&rt, (first.get(), again.get()), (1, 1));
+    equal(&rt, ids.draw()?.get(), 2);
     let guard = ProfilerScope::new(&mut thread, first, "")?;
     let _closed = guard.end(&mut profiler)?;
     let frame = next_frame(&mut profiler)?;
-    assert_eq!(rt; counts(&frame), (1, 31, 1));
+    equal(&rt, counts(&frame), (1, 31, 1));
     let expected = ("basket::add", "basket::add", "shop/…/add.rs", 7);
+    // (no call takes these texts by value)
     assert_eq!(rt; only_place(&frame), Some((expected, Some(first))));
     Ok(())
 }
@@ -56,11 +58,16 @@ fn a_scope_with_a_name(rt: HostRuntime) -> Outcome {
     let sum = CowStr::Borrowed("sum");
     let first = site.named_id(&mut thread, &ids, "add", sum)?;
     let other = CowStr::Borrowed("unread");
-    assert_eq!(rt; site.named_id(&mut thread, &ids, "add", other), Ok(first));
+    equal(
+        &rt,
+        site.named_id(&mut thread, &ids, "add", other),
+        Ok(first),
+    );
     let guard = ProfilerScope::new(&mut thread, first, "")?;
     let _closed = guard.end(&mut profiler)?;
     let frame = next_frame(&mut profiler)?;
     let expected = ("sum", "add", "src/add.rs", 9);
+    // (no call takes these texts by value)
     assert_eq!(rt; only_place(&frame), Some((expected, Some(first))));
     Ok(())
 }
@@ -81,9 +88,9 @@ fn a_refused_place_is_fresh_still(rt: HostRuntime) -> Outcome {
     let site = Site::new("a.rs", 1);
     let none = ScopeIds::starting_at(4_294_967_296);
     let refused = site.function_id(&mut thread, &none, "f");
-    assert_eq!(rt; refused.err(), Some(Error::IdsExhausted));
+    equal(&rt, refused.err(), Some(Error::IdsExhausted));
     let ids = ScopeIds::starting_at(5);
-    assert_eq!(rt; site.function_id(&mut thread, &ids, "f")?.get(), 5);
+    equal(&rt, site.function_id(&mut thread, &ids, "f")?.get(), 5);
     Ok(())
 }
 
@@ -112,7 +119,7 @@ fn two_threads_at_a_fresh_place_use_one_id(rt: HostRuntime) -> std::result::Resu
             || id_at_once(&rt, alloc, &all, &site, &ids),
             || id_at_once(&rt, alloc, &all, &site, &ids),
         );
-        assert_eq!(rt; one?, other?);
+        equal(&rt, one?, other?);
     }
     Ok(())
 }
