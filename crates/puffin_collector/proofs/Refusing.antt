@@ -1,5 +1,5 @@
 -- The first cause of a refusal, and what an accepted report leaves.
-use Rattle.std.proofs.Common.{◌≡◌, ℕ, ◌+◌, ◌++◌, ◌^◌, ◌≤◌, ◌↔◌, ◌⊎◌, inl, inr, List, Result, Err, refl, sym, ap, subst, arith}
+use Rattle.std.proofs.Common.{◌≡◌, ℕ, ◌+◌, ◌++◌, ◌^◌, ◌≤◌, ◌↔◌, ◌⊎◌, inl, inr, List, Result, Err, sym, ap, subst, arith}
 use Rattle.std.specs.FinMap as map
 use Rattle.puffin_data.specs.declared.error.Error.{Error}
 use Rattle.puffin_data.specs.declared.error.Error.TheVariants.{UnlikeForms, TooLarge, Memory}

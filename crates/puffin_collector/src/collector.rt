@@ -1,15 +1,15 @@
-ghost use Rattle.std.specs.Prelude.{◌≡◌, ◌+◌, ◌-◌, ◌^◌, ◌<◌, ◌⊎◌, ◌↔◌, [], ◌∷◌, None, Some, true, false, OnOk, OnErr, IfOk, IfErr};
+ghost use Rattle.std.specs.Prelude.{◌≡◌, List, ◌+◌, ◌-◌, ◌^◌, ◌<◌, ◌⊎◌, ◌↔◌, [], ◌∷◌, None, Some, true, false, OnOk, OnErr, IfOk, IfErr};
 ghost use Rattle.std.specs.Bool.{MatchBool};
 ghost use Rattle.std.specs.List.{list_any};
 ghost use Rattle.std.specs.FinMap as map;
 ghost use Rattle.puffin_data.specs.Forest.{Forest};
 ghost use Rattle.puffin_data.specs.Honesty.{IsHonestRef, record_of_ref};
 ghost use Rattle.puffin_threads.specs.Thread.Info.{info_of};
-ghost use Rattle.puffin_threads.specs.Details.{details_of, details_seen, shared_details, lacks_id, with_id, AllHaveIds};
+ghost use Rattle.puffin_threads.specs.Details.{Details, details_of, details_seen, shared_details, lacks_id, with_id, AllHaveIds};
 ghost use Rattle.puffin_threads.specs.Details.Collection.{no_details};
 ghost use Rattle.puffin_frames.specs.Frame.Contents.{AreHonest};
 ghost use Rattle.puffin_frames.specs.Frame.Sums.{total_scopes, IsOrdered, DurationFits};
-ghost use Rattle.puffin_collector.specs.Profiler.State.{AcceptsReport, RefusesReport, after_adding, after_learning, after_wanting, PendingFits, range_with, IsTooLong, IsFirstCause, IsSumRefusal};
+ghost use Rattle.puffin_collector.specs.Profiler.State.{IsReportRefusal, AcceptsReport, RefusesReport, after_adding, after_learning, after_wanting, PendingFits, range_with, IsTooLong, IsFirstCause, IsSumRefusal};
 ghost use Rattle.puffin_collector.specs.Profiler.Registering.{known_id, Adds, AddsSome};
 ghost use Rattle.puffin_collector.specs.Profiler.Collecting.{Collects, TellsIds, KeepsPending, AddsUp, KnowsSome};
 
@@ -118,33 +118,39 @@ impl Collector {
             RefusesReport self.old (info_of info) (details_seen details.now)
             (record_of_ref times.now) e self.new) }
     {
-        // Laws that the proof of the invariant stands on.
-        laws::joined_ranges();
-        laws::reported_streams();
-        laws::honest_streams();
+        if details.is_empty() {
+            return self.report_user_scopes(info, times);
+        }
         if !all_have_ids(details) {
             return Err(Error::MissingId);
         }
-        let (meta, reported) = match self.sums_with(times) {
-            Ok(sums) => sums,
-            Err(cause) => return Err(self.first_cause(&info, times, cause)),
-        };
         let mut fresh = match copies(self.alloc, details) {
             Ok(fresh) => fresh,
-            Err(cause) => return Err(self.first_cause(&info, times, cause)),
+            Err(_) => return Err(self.cause_without_memory(&info, times)),
         };
-        match self.new_details.reserve(fresh.len()) {
-            Ok(()) => {}
-            Err(_) => return Err(self.first_cause(&info, times, Error::Memory)),
-        }
-        report_to(self.alloc, &mut self.pending, info, times)?;
+        let known = self.new_details.len();
         match self.new_details.append(&mut fresh) {
             Ok(()) => {}
-            Err(_) => unreachable!(),
+            Err(_) => return Err(self.cause_without_memory(&info, times)),
         }
-        self.meta = meta;
-        self.reported = reported;
-        Ok(())
+        match self.report_user_scopes(info, times) {
+            Ok(()) => Ok(()),
+            Err(cause) => {
+                self.new_details.truncate(known);
+                Err(cause)
+            }
+        }
+    }
+
+    /// Why a report is refused for which there is no memory: the first cause that applies.
+    fn cause_without_memory(&self, info: &ThreadInfo, times: &StreamInfoRef) -> Error
+        ensures { (ds : List Details) → AllHaveIds ds →
+            IsReportRefusal self.now (info_of info.now) ds (record_of_ref times.now) result }
+    {
+        match self.sums_with(times) {
+            Ok(_) => self.first_cause(info, times, Error::Memory),
+            Err(cause) => self.first_cause(info, times, cause),
+        }
     }
 
     /// Why a report is refused that one cause refuses already: that cause, unless unlike forms stand before it.
@@ -183,7 +189,8 @@ impl Collector {
         Ok((meta, reported))
     }
 
-    /// Appends scopes of the caller's own, as [`Collector::report`] does, refused as it is.
+    /// Appends scopes of the caller's own, as [`Collector::report`] does, refused as it is. A report without details is this
+    /// call.
     pub fn report_user_scopes(&mut self, info: ThreadInfo, times: &StreamInfoRef) -> Result<()>
         requires { (f : Forest) × IsHonestRef times.now f }
         ensures ok { OnOk result (
@@ -191,7 +198,18 @@ impl Collector {
         ensures err { IfErr result (λ e.
             RefusesReport self.old (info_of info) [] (record_of_ref times.now) e self.new) }
     {
-        self.report(info, &[], times)
+        // Laws that the proof of the invariant stands on.
+        laws::joined_ranges();
+        laws::reported_streams();
+        laws::honest_streams();
+        let (meta, reported) = match self.sums_with(times) {
+            Ok(sums) => sums,
+            Err(cause) => return Err(self.first_cause(&info, times, cause)),
+        };
+        report_to(self.alloc, &mut self.pending, info, times)?;
+        self.meta = meta;
+        self.reported = reported;
+        Ok(())
     }
 
     /// Registers scopes of the caller's own by their names, and returns an id for each. A name that is known gives its id;

@@ -120,14 +120,27 @@ impl<L: Ledger, M: Ledger> SharedProfiler<L, M> {
     ///
     /// A thread looks at the lock a few times, after longer and longer pauses, before it sleeps: most calls hold it for less
     /// time than it takes to wake a thread.
+    #[inline]
     pub fn lock(&self, rt: &impl Wait) -> MutexGuard<'_, Booked<L, M>>
         requires { Unit {0} }
     {
+        match self.booked.try_lock() {
+            Some(guard) => guard,
+            None => self.lock_later(rt),
+        }
+    }
+
+    /// Looks again whether the lock is free, and at last sleeps until it is.
+    #[cold]
+    #[inline(never)]
+    fn lock_later(&self, rt: &impl Wait) -> MutexGuard<'_, Booked<L, M>>
+        requires { Unit {0} }
+    {
         for look in 0..LOOKS {
+            pause(look);
             if let Some(guard) = self.booked.try_lock() {
                 return guard;
             }
-            pause(look);
         }
         self.booked.lock(rt)
     }
