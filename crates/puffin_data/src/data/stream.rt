@@ -282,8 +282,7 @@ impl Stream {
     }
 
     /// Appends bytes for which there is no room, and makes none behind them.
-    #[cold]
-    #[inline(never)]
+    #[inline]
     fn lengthen(&mut self, bytes: &[u8]) -> Result<()>
         requires { self.old.room < length bytes.now }
         ensures ok { OnOk result (self.new.bytes ≡ self.old.bytes ++ bytes.now) }
