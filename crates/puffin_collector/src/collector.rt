@@ -104,6 +104,7 @@ impl Collector {
     /// `UnlikeForms` where what is pending under the info and these scopes have bytes in unlike forms; `TooLarge` where
     /// the bytes or the scopes that are pending, or the scopes ever reported, wouldn't fit 64 bits; `RangeTooLong` where
     /// the joined range of all that is pending wouldn't be reversed and its duration wouldn't fit `i64`; `Memory`.
+    #[inline]
     pub fn report(
         &mut self,
         info: ThreadInfo,
@@ -119,8 +120,29 @@ impl Collector {
             (record_of_ref times.now) e self.new) }
     {
         if details.is_empty() {
-            return self.report_user_scopes(info, times);
+            self.report_user_scopes(info, times)
+        } else {
+            self.report_with_details(info, details, times)
         }
+    }
+
+    /// A report that has details, as few have.
+    #[cold]
+    #[inline(never)]
+    fn report_with_details(
+        &mut self,
+        info: ThreadInfo,
+        details: &[ScopeDetails],
+        times: &StreamInfoRef,
+    ) -> Result<()>
+        requires { (f : Forest) × IsHonestRef times.now f }
+        ensures ok { OnOk result (
+            AcceptsReport self.old (info_of info) (details_seen details.now)
+            (record_of_ref times.now) self.new) }
+        ensures err { IfErr result (λ e.
+            RefusesReport self.old (info_of info) (details_seen details.now)
+            (record_of_ref times.now) e self.new) }
+    {
         if !all_have_ids(details) {
             return Err(Error::MissingId);
         }

@@ -1,4 +1,4 @@
-//! Merging, tested over the public calls of `puffin` alone.
+//! Merging, tested over the public calls of `puffin_merge`, and of views, whose frames it merges.
 #![tactic(auto)]
 
 #[cfg(test)]

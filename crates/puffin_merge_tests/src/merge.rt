@@ -1,11 +1,11 @@
 use crate::equal::equal;
-use puffin::data::{Counted, ScopeId, Stream, StreamInfo};
-use puffin::frame_data::UnpackedFrameData;
-use puffin::merge::{MergeScope, merge_scopes_counted, merge_scopes_for_thread};
-use puffin::profile_view::FrameView;
-use puffin::scope_details::ScopeCollection;
-use puffin::thread_profiler::ThreadInfo;
-use puffin::{Error, FileError, NanoSecond, Result};
+use puffin_data::data::{Counted, ScopeId, Stream, StreamInfo};
+use puffin_data::{Error, FileError, NanoSecond, Result};
+use puffin_frames::frame_data::UnpackedFrameData;
+use puffin_frames::scope_details::ScopeCollection;
+use puffin_frames::thread_profiler::ThreadInfo;
+use puffin_merge::merge::{MergeScope, merge_scopes_counted, merge_scopes_for_thread};
+use puffin_view::profile_view::FrameView;
 use std::alloc::Global;
 use std::collections::BTreeMap;
 use std::sync::Arc;

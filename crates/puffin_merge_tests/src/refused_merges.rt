@@ -2,10 +2,10 @@ use crate::equal::equal;
 use crate::merge::{
     Frames, Outcome, begin, end, frame, leaf, merged, one_frame, one_scope, thread,
 };
-use puffin::data::Stream;
-use puffin::merge::merge_scopes_counted;
-use puffin::scope_details::ScopeCollection;
-use puffin::{Error, Result};
+use puffin_data::data::Stream;
+use puffin_data::{Error, Result};
+use puffin_frames::scope_details::ScopeCollection;
+use puffin_merge::merge::merge_scopes_counted;
 use std::alloc::Global;
 
 #[test]

@@ -1,11 +1,11 @@
 use crate::commands::{Outcome, begin, end};
 use crate::count::{NEVER, device};
 use crate::equal::equal;
-use puffin::profile_view::FrameView;
 use puffin_data::FileError;
 use puffin_data::data::Stream;
 use puffin_frames::thread_profiler::ThreadInfo;
 use puffin_replay::replay::{Command, Reply, Script, record, run_script};
+use puffin_view::profile_view::FrameView;
 use std::test::Fail;
 
 /// The file of one frame: the thread `main`, which started at 100, with the scope `data` from 100 to 300.

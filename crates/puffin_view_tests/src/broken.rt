@@ -2,9 +2,9 @@
 
 use crate::devices::{Full, Tired};
 use crate::files::{FILE, Outcome, are_recent, has_fault, is_written, view};
-use puffin::FileError;
-use puffin::data::{Counted, Drain, Source};
-use puffin::profile_view::FrameView;
+use puffin_data::FileError;
+use puffin_data::data::{Counted, Drain, Source};
+use puffin_view::profile_view::FrameView;
 use std::io::ErrorKind;
 use std::test::Fail;
 

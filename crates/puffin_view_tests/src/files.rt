@@ -1,7 +1,7 @@
-use puffin::data::Counted;
-use puffin::frame_data::FrameIndex;
-use puffin::profile_view::FrameView;
-use puffin::{Error, FileError};
+use puffin_data::data::Counted;
+use puffin_data::{Error, FileError};
+use puffin_frames::frame_data::FrameIndex;
+use puffin_view::profile_view::FrameView;
 use std::test::Fail;
 
 pub(crate) type Outcome = std::result::Result<(), Fail>;

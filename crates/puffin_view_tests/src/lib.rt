@@ -1,4 +1,4 @@
-//! Views and their files, tested over the public calls of `puffin` alone.
+//! Views and their files, tested over the public calls of `puffin_view` and the crates below it.
 #![tactic(auto)]
 
 #[cfg(test)]

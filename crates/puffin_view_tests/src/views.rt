@@ -1,9 +1,9 @@
-use puffin::data::{ScopeId, Stream, StreamInfo};
-use puffin::frame_data::{FrameData, FrameIndex};
-use puffin::profile_view::{FrameStats, FrameView, select_slowest};
-use puffin::scope_details::ScopeDetails;
-use puffin::thread_profiler::ThreadInfo;
-use puffin::{Error, NanoSecond, Result};
+use puffin_data::data::{ScopeId, Stream, StreamInfo};
+use puffin_data::{Error, NanoSecond, Result};
+use puffin_frames::frame_data::{FrameData, FrameIndex};
+use puffin_frames::scope_details::ScopeDetails;
+use puffin_frames::thread_profiler::ThreadInfo;
+use puffin_view::profile_view::{FrameStats, FrameView, select_slowest};
 use std::borrow::CowStr;
 use std::collections::BTreeMap;
 use std::sync::Arc;

@@ -88,6 +88,7 @@ impl<L: Ledger, M: Ledger> Booked<L, M> {
     }
 
     /// [`GlobalProfiler::report`]. Where it is accepted, the share counts the scopes.
+    #[inline(always)]
     pub fn report(
         &mut self,
         share: &mut Share<L, M>,

@@ -66,6 +66,7 @@ impl GlobalProfiler {
 
     /// Appends a thread's scopes to those that are pending, and details to the new ones, by one call of
     /// [`Collector::report`], refused as that is.
+    #[inline(always)]
     pub fn report(
         &mut self,
         info: ThreadInfo,

@@ -146,6 +146,7 @@ impl<L: Ledger, M: Ledger> SharedProfiler<L, M> {
     }
 
     /// [`Booked::report`] under the lock.
+    #[inline(always)]
     pub fn report(
         &self,
         rt: &impl Wait,

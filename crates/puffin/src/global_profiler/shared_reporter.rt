@@ -115,6 +115,7 @@ impl<L: Ledger, M: Ledger, R: Wait> Reporter for SharedReporter<L, M, R> {
 
     ghost refuses = { λ old i ds r e new. (new.share ≡ old.share) × IsReportCause ds e };
 
+    #[inline]
     fn report(
         &mut self,
         info: ThreadInfo,

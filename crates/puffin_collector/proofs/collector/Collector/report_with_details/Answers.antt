@@ -9,7 +9,7 @@ use Rattle.puffin_threads.specs.Details.{Details, details_of, details_seen, shar
 use Rattle.puffin_collector.specs.Profiler.State.{Collected, PendingFits, range_with, IsTooLong, IsUnlike, IsReportRefusal, after_report}
 use Rattle.puffin_collector.proofs.Knowing.{all_ids, not_all_ids, ids_after}
 use Rattle.puffin_collector.proofs.Appending.{fits_before, refused_before, accepted_before, seen_before}
-use Rattle.puffin_collector.proofs.collector.Collector.report.Goals as goal
+use Rattle.puffin_collector.proofs.collector.Collector.report_with_details.Goals as goal
 
 pub returns-then-not-all_have_ids-clause-err : goal.returns-then-not-all_have_ids-clause-err
 returns-then-not-all_have_ids-clause-err c =
