@@ -1,13 +1,13 @@
 -- The form of the packets that store some streams.
-use Rattle.std.proofs.Common.{◌≡◌, ◌⊎◌, Bool, true, false, ◌&&◌, ◌||◌, List, [], ◌∷◌, refl, sym, ap, ◌∙◌}
-use Rattle.std.specs.List.{AllByRecursion, list_any}
+use Rattle.std.proofs.Common.{◌≡◌, Bool, true, false, ◌||◌, List, [], ◌∷◌, refl, sym, ap, ◌∙◌}
+use Rattle.std.specs.List.{AllByRecursion}
 use Rattle.std.specs.FinMap.{is_sorted}
 use Rattle.puffin_data.specs.declared.data.form.Form.{Form}
 use Rattle.puffin_data.specs.declared.data.form.Form.TheVariants.{Short, Long}
 use Rattle.puffin_data.specs.Text.Flags.{is_long, form_of_flag}
 use Rattle.puffin_data.specs.Honesty.{Recorded}
 use Rattle.puffin_threads.specs.Thread.Info.{Info, info_cmp}
-use Rattle.puffin_frames.specs.Packet.Structs.{IsInfo, IsFormIn, AreCounts, IsRecorded, some_long, form_of_all, are_ordered, AreStreams}
+use Rattle.puffin_frames.specs.Packet.Structs.{IsInfo, AreCounts, IsRecorded, some_long, form_of_all, are_ordered, AreStreams}
 use Rattle.puffin_frames.proofs.Listed.{and-first, and-second, and-both}
 
 -- streams in order are sorted, in each form

@@ -1,5 +1,5 @@
 -- Appending what is reported to the streams of a map.
-use Rattle.std.proofs.Common.{◌≡◌, length, List, [], ◌∷◌, Bool, true, false, cond, None, Some, Result, Ok, Err, IsErrAnd, ℕ, ◌+◌, ◌^◌, ◌≤◌, ◌↔◌, ◌≢◌, refl, sym, ap, subst, ◌∙◌, arith}
+use Rattle.std.proofs.Common.{◌≡◌, length, List, [], ◌∷◌, Bool, true, false, cond, None, Some, Result, Ok, Err, IsErrAnd, ◌+◌, ◌^◌, ◌<◌, ◌≤◌, ◌↔◌, ◌≢◌, refl, sym, ap, subst, ◌∙◌, arith}
 use Rattle.std.specs.declared.cmp.Ordering.{Ordering}
 use Rattle.std.specs.declared.cmp.Ordering.TheVariants.{Less, Equal, Greater}
 use Rattle.std.specs.Ordering.{is_eq, match_ordering}
@@ -101,12 +101,12 @@ module _ {A : Type 0} where
   refused_over es k old w fs h same =
       written es k old w fs h ∙ ap (insert (shared_streams es) (info_of k)) same ∙ insert-same (shared_streams es) (info_of k) (record_of (arc_value old)) (there es k old w fs h)
 
-  pub reported_first : (es : List (ThreadInfo × Arc StreamInfo A)) (k : ThreadInfo) (arc : Arc StreamInfo A) (fs : List (ThreadInfo × Arc StreamInfo A)) (fresh : StreamInfo) (r : Recorded) → lookup (is_at (thread_cmp k)) es ≡ None → fs ≡ insert_entry thread_cmp es k arc → fresh.stream.form ≡ Short → IsHonest fresh empty → record_of (arc_value arc) ≡ joined_record (record_of fresh) r
+  pub reported_first : (es : List (ThreadInfo × Arc StreamInfo A)) (k : ThreadInfo) (arc : Arc StreamInfo A) (fs : List (ThreadInfo × Arc StreamInfo A)) (r : Recorded) → lookup (is_at (thread_cmp k)) es ≡ None → fs ≡ insert_entry thread_cmp es k arc → record_of (arc_value arc) ≡ joined_record no_scopes r
       → shared_streams fs ≡ reported_to (shared_streams es) (info_of k) r
-  reported_first es k arc fs fresh r none after form honest more =
+  reported_first es k arc fs r none after more =
       let absent = get-shared es k ∙ ap (λ o. option_map record_of (option_map arc_value o)) none in
       ap shared_streams after ∙ shared-insert es k arc
-      ∙ ap (insert (shared_streams es) (info_of k)) (more ∙ ap (λ n. joined_record n r) (recorded-none fresh form honest) ∙ ap (λ o. joined_record (unwrap_or o no_scopes) r) (sym absent))
+      ∙ ap (insert (shared_streams es) (info_of k)) (more ∙ ap (λ o. joined_record (unwrap_or o no_scopes) r) (sym absent))
 
 -- ---- when a report is refused
 
@@ -120,10 +120,6 @@ pub none_unlike : (u t : Recorded) → u ≡ no_scopes → AreUnlike u t → ⊥
 none_unlike u t none apart = let bytes = ap (λ (r : Recorded). length r.bytes) none in omega (arith, bytes, apart.0)
 
 module _ {A : Type 0} where
-  pub same_cause : (r : Result A Error) (cause : Error) → IsErrAnd r (λ e. e ≡ cause) → r ≡ Err cause
-  same_cause (Ok x) cause is = absurd is
-  same_cause (Err e) cause is = ap Err is
-
   pub refused_as : (r answer : Result A Error) (u v t : Recorded) → r ≡ answer → u ≡ v → IsRefusedBy answer u t → IsRefusedBy r v t
   refused_as r answer u v t is same h =
       subst (λ (w : Recorded). IsRefusedBy r w t) same (subst (λ (s : Result A Error). IsRefusedBy s u t) (sym is) h)
@@ -137,13 +133,10 @@ module _ {A : Type 0} where
   not_too_large (Err e) is same = cc
 
   -- a report under a thread that had none, which is refused for another cause or accepted
-  pub not_refused : {B : Type 0} (r : Result A Error) (x : B) (u v t : Recorded) → r ≢ Err UnlikeForms → r ≢ Err TooLarge → u ≡ v → u ≡ no_scopes → IsRefusedBy {A = B} (Ok x) u t → IsRefusedBy r v t
-  not_refused {B = B} r x u v t unlike large same none h =
-      let fits : ¬ (2 ^ 64 ≤ u.num_scopes + t.num_scopes) = fits_so x u t none h in
-      subst (λ (w : Recorded). IsRefusedBy r w t) same (record {
+  pub not_refused : (r : Result A Error) (u t : Recorded) → r ≢ Err UnlikeForms → r ≢ Err TooLarge → u ≡ no_scopes → t.num_scopes < 2 ^ 64 → IsRefusedBy r u t
+  not_refused r u t unlike large none fits =
+      let zero = ap (λ (n : Recorded). n.num_scopes) none in
+      record {
         unlike = (λ is. absurd (unlike is), λ apart. absurd (none_unlike u t none apart));
-        too_large = (λ is. absurd (large is), λ over. absurd (fits over.1));
-      })
-    where
-      fits_so : {B : Type 0} (x : B) (u t : Recorded) → u ≡ no_scopes → IsRefusedBy {A = B} (Ok x) u t → ¬ (2 ^ 64 ≤ u.num_scopes + t.num_scopes)
-      fits_so x u t none h over = let refused = h.too_large.1 (none_unlike u t none, over) in absurd cc
+        too_large = (λ is. absurd (large is), λ over. absurd (omega (arith, zero, fits, over.1)));
+      }

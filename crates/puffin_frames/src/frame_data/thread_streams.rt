@@ -1,10 +1,10 @@
-ghost use Rattle.std.specs.Prelude.{◌≡◌, ◌⊎◌, ◌↔◌, ◌+◌, ◌^◌, ◌≤◌, true, IfOk, IfErr, OnOk, OnErr};
+ghost use Rattle.std.specs.Prelude.{◌≡◌, ◌⊎◌, ◌↔◌, ◌+◌, ◌^◌, ◌<◌, ◌≤◌, true, IfOk, IfErr, OnOk, OnErr};
 ghost use Rattle.std.specs.Arc.{arc_value};
 ghost use Rattle.puffin_data.specs.Forest.{empty};
 ghost use Rattle.puffin_data.specs.Honesty.{IsHonest, record_of, record_of_ref, joined_record, AreUnlike};
 ghost use Rattle.puffin_data.specs.declared.data.form.Form.{Form};
 ghost use Rattle.puffin_data.specs.declared.error.Error.{Error};
-ghost use Rattle.puffin_frames.specs.Frame.Contents.{without_sharing, shared_streams, stream_under, reported_to, pairs_of};
+ghost use Rattle.puffin_frames.specs.Frame.Contents.{without_sharing, shared_streams, stream_under, no_scopes, reported_to, pairs_of};
 ghost use Rattle.puffin_threads.specs.Thread.Info.{info_of};
 
 use puffin_data::data::{StreamInfo, StreamInfoRef};
@@ -68,16 +68,34 @@ fn extend_shared(alloc: Global, shared: &mut Arc<StreamInfo>, times: &StreamInfo
     if let Some(alone) = Arc::get_mut(shared) {
         return alone.extend(times);
     }
-    if shared.is_unlike(times) {
+    *shared = extended(alloc, shared, times)?;
+    Ok(())
+}
+
+/// A copy of an info with another's scopes behind its own. Refused as [`StreamInfo::extend`] is.
+#[cold]
+#[inline(never)]
+fn extended(alloc: Global, info: &StreamInfo, times: &StreamInfoRef) -> Result<Arc<StreamInfo>>
+    ensures ok { IfOk result (λ copy.
+        record_of (arc_value copy)
+        ≡ joined_record (record_of info.now) (record_of_ref times.now)) }
+    ensures unlike { (result ≡ Err Error.UnlikeForms)
+        ↔ AreUnlike (record_of info.now) (record_of_ref times.now) }
+    ensures too_large { (result ≡ Err Error.TooLarge)
+        ↔ ((¬ AreUnlike (record_of info.now) (record_of_ref times.now))
+        × (2 ^ 64 ≤ info.now.num_scopes + times.now.num_scopes)) }
+    ensures cause { IfErr result (λ e.
+        (e ≡ Error.UnlikeForms) ⊎ (e ≡ Error.TooLarge) ⊎ (e ≡ Error.Memory)) }
+{
+    if info.is_unlike(times) {
         return Err(Error::UnlikeForms);
     }
-    if shared.num_scopes.checked_add(times.num_scopes).is_none() {
+    if info.num_scopes.checked_add(times.num_scopes).is_none() {
         return Err(Error::TooLarge);
     }
-    let mut copy = StreamInfo::clone(shared)?;
+    let mut copy = info.clone()?;
     copy.extend(times)?;
-    *shared = Arc::new(alloc, copy)?;
-    Ok(())
+    Ok(Arc::new(alloc, copy)?)
 }
 
 /// Whether an info's scopes and those that a map has under their thread have bytes in unlike forms. Takes no memory.
@@ -103,6 +121,26 @@ fn fresh_info(alloc: Global, bytes: usize) -> StreamInfo
         let _reserved = fresh.stream.reserve(FIRST_ROOM);
     }
     fresh
+}
+
+/// A law for a proof: a number fits its type.
+fn fits(number: usize)
+    ensures { number < 2 ^ 64 }
+{}
+
+/// A thread's first scopes, which are refused only with `Memory`.
+#[cold]
+#[inline(never)]
+fn first_info(alloc: Global, times: &StreamInfoRef) -> Result<Arc<StreamInfo>>
+    ensures ok { IfOk result (λ info.
+        record_of (arc_value info) ≡ joined_record no_scopes (record_of_ref times.now)) }
+    ensures err { IfErr result (λ e. e ≡ Error.Memory) }
+    ensures fits { times.now.num_scopes < 2 ^ 64 }
+{
+    fits(times.num_scopes);
+    let mut fresh = fresh_info(alloc, times.stream.len());
+    fresh.extend(times)?;
+    Ok(Arc::new(alloc, fresh)?)
 }
 
 /// Appends an info's scopes to those that a map has under their thread.
@@ -136,8 +174,7 @@ pub fn report_to(
     if let Some(shared) = streams.get_mut(&info) {
         return extend_shared(alloc, shared, times);
     }
-    let mut fresh = fresh_info(alloc, times.stream.len());
-    fresh.extend(times)?;
-    let _before = streams.insert(info, Arc::new(alloc, fresh)?)?;
+    let first = first_info(alloc, times)?;
+    let _before = streams.insert(info, first)?;
     Ok(())
 }

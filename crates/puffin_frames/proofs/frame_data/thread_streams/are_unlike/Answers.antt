@@ -1,5 +1,5 @@
 -- What is under the thread is what the map has there, or nothing.
-use Rattle.std.proofs.Common.{◌≡◌, ◌↔◌, Bool, true, sym, ap, ◌∙◌, subst}
+use Rattle.std.proofs.Common.{◌≡◌, ◌↔◌, true, sym, ap, ◌∙◌, subst}
 use Rattle.puffin_data.specs.Honesty.{Recorded, AreUnlike, record_of, record_of_ref}
 use Rattle.puffin_frames.proofs.Reports.{under_there, none_under, none_unlike}
 use Rattle.puffin_frames.proofs.frame_data.thread_streams.are_unlike.Goals as goal

@@ -1,14 +1,14 @@
 -- What is reported comes after what is there, and a refusal leaves what was recorded.
-use Rattle.std.proofs.Common.{◌≡◌, ℕ, ◌+◌, ◌^◌, ◌≤◌, ◌↔◌, ◌≢◌, Ok, Err, refl, ap, ◌∙◌, sym, subst}
+use Rattle.std.proofs.Common.{◌≡◌, ◌≢◌, Ok, Err, IsErrAnd, refl, ap, ◌∙◌, sym, subst}
 use Rattle.std.specs.Option.{option_copied_mut}
 use Rattle.std.specs.BTreeMap.{insert_entry}
 use Rattle.puffin_threads.specs.Thread.Info.{thread_cmp}
 use Rattle.std.proofs.lemmas.Result.{on_ok_weaker, on_err_weaker}
-use Rattle.puffin_data.specs.Honesty.{Recorded, record_of, record_of_ref}
+use Rattle.puffin_data.specs.Honesty.{record_of_ref}
 use Rattle.puffin_data.specs.declared.error.Error.{Error}
 use Rattle.puffin_data.specs.declared.error.Error.TheVariants.{UnlikeForms, TooLarge}
-use Rattle.puffin_frames.proofs.Reports.{WritesAt, IsRefusedBy, reported_over, refused_over, reported_first, recorded-none, under_there, none_under, same_cause, not_unlike, not_too_large, refused_as, not_refused}
-use Rattle.puffin_frames.specs.Frame.Contents.{shared_streams, stream_under, no_scopes}
+use Rattle.puffin_frames.proofs.Reports.{WritesAt, IsRefusedBy, reported_over, refused_over, reported_first, under_there, none_under, not_unlike, not_too_large, refused_as, not_refused}
+use Rattle.puffin_frames.specs.Frame.Contents.{shared_streams, stream_under}
 use Rattle.puffin_threads.specs.Thread.Info.{info_of}
 use Rattle.puffin_frames.proofs.frame_data.thread_streams.report_to.Goals as goal
 
@@ -37,11 +37,8 @@ returns-in-Some-clause-err c =
 
 pub returns-clause-ok : goal.returns-clause-ok
 returns-clause-ok c =
-    let none = sym c.get_mut.ensures.value ∙ ap option_copied_mut c.in_default.is in
-    let more = ap record_of (c.in_ok-new.ensures.ok) ∙ c.in_ok-extend.ensures.ok in
-    let after = c.in_ok-_before.ensures.entries ∙ ap (λ m. insert_entry thread_cmp m.entries c.args.info c.in_ok-new.field-0) c.get_mut.follows.holds-at-none in
-    reported_first c.args.streams.now.entries c.args.info c.in_ok-new.field-0 c.insert.new.self.entries c.fresh_info-fresh.result (record_of_ref c.args.times.now)
-    none after c.fresh_info-fresh.ensures.form c.fresh_info-fresh.ensures.honest more
+    let after = c.in_ok-_before.ensures.entries ∙ ap (λ m. insert_entry thread_cmp m.entries c.args.info c.in_ok-first.first) c.get_mut.follows.holds-at-none in
+    reported_first c.args.streams.now.entries c.args.info c.in_ok-first.first c.insert.new.self.entries (record_of_ref c.args.times.now) (sym c.get_mut.ensures.value ∙ ap option_copied_mut c.in_default.is) after c.in_ok-first.ensures.ok
 
 there : (c : goal.After-drop-info) → IsRefusedBy c.extend_shared.result (stream_under (shared_streams c.args.streams.now.entries) (info_of c.args.info)) (record_of_ref c.args.times.now)
 there c =
@@ -54,50 +51,34 @@ returns-in-Some-clause-unlike c = (there c).unlike
 pub returns-in-Some-clause-too_large : goal.returns-in-Some-clause-too_large
 returns-in-Some-clause-too_large c = (there c).too_large
 
-pub returns-in_err-extend-clause-unlike : goal.returns-in_err-extend-clause-unlike
-returns-in_err-extend-clause-unlike c =
+pub returns-in_err-first-clause-unlike : goal.returns-in_err-first-clause-unlike
+returns-in_err-first-clause-unlike c =
+    let memory = subst (λ (m : Error). IsErrAnd c.from_residual.result (λ e. e ≡ m)) c.in_err-first.ensures.err c.from_residual.ensures.1 in
     let none = none_under c.args.streams.now.entries c.args.info (sym c.get_mut.ensures.value ∙ ap option_copied_mut c.in_default.is) in
-    let fresh : record_of c.fresh_info-fresh.result ≡ no_scopes = recorded-none c.fresh_info-fresh.result c.fresh_info-fresh.ensures.form c.fresh_info-fresh.ensures.honest in
-    (refused_as c.from_residual.result _ (record_of c.fresh_info-fresh.result) _ (record_of_ref c.args.times.now) (same_cause c.from_residual.result c.in_err-extend.field-0.0 c.from_residual.ensures.1) (fresh ∙ sym none) (record { unlike = c.in_err-extend.ensures.unlike; too_large = c.in_err-extend.ensures.too_large })).unlike
+    (not_refused c.from_residual.result _ (record_of_ref c.args.times.now) (not_unlike c.from_residual.result memory) (not_too_large c.from_residual.result memory) none c.in_err-first.ensures.fits).unlike
 
-pub returns-in_err-new-clause-unlike : goal.returns-in_err-new-clause-unlike
-returns-in_err-new-clause-unlike c =
+pub returns-in_err-first-clause-too_large : goal.returns-in_err-first-clause-too_large
+returns-in_err-first-clause-too_large c =
+    let memory = subst (λ (m : Error). IsErrAnd c.from_residual.result (λ e. e ≡ m)) c.in_err-first.ensures.err c.from_residual.ensures.1 in
     let none = none_under c.args.streams.now.entries c.args.info (sym c.get_mut.ensures.value ∙ ap option_copied_mut c.in_default.is) in
-    let fresh : record_of c.fresh_info-fresh.result ≡ no_scopes = recorded-none c.fresh_info-fresh.result c.fresh_info-fresh.ensures.form c.fresh_info-fresh.ensures.honest in
-    (not_refused c.from_residual-in_err-new.result _ (record_of c.fresh_info-fresh.result) _ (record_of_ref c.args.times.now) (not_unlike c.from_residual-in_err-new.result c.from_residual-in_err-new.ensures.1) (not_too_large c.from_residual-in_err-new.result c.from_residual-in_err-new.ensures.1) (fresh ∙ sym none) fresh (record { unlike = c.in_ok-extend.ensures.unlike; too_large = c.in_ok-extend.ensures.too_large })).unlike
+    (not_refused c.from_residual.result _ (record_of_ref c.args.times.now) (not_unlike c.from_residual.result memory) (not_too_large c.from_residual.result memory) none c.in_err-first.ensures.fits).too_large
 
 pub returns-in_err-_before-clause-unlike : goal.returns-in_err-_before-clause-unlike
 returns-in_err-_before-clause-unlike c =
     let none = none_under c.args.streams.now.entries c.args.info (sym c.get_mut.ensures.value ∙ ap option_copied_mut c.in_default.is) in
-    let fresh : record_of c.fresh_info-fresh.result ≡ no_scopes = recorded-none c.fresh_info-fresh.result c.fresh_info-fresh.ensures.form c.fresh_info-fresh.ensures.honest in
-    (not_refused c.from_residual-in_err-_before.result _ (record_of c.fresh_info-fresh.result) _ (record_of_ref c.args.times.now) (not_unlike c.from_residual-in_err-_before.result c.from_residual-in_err-_before.ensures.1) (not_too_large c.from_residual-in_err-_before.result c.from_residual-in_err-_before.ensures.1) (fresh ∙ sym none) fresh (record { unlike = c.in_ok-extend.ensures.unlike; too_large = c.in_ok-extend.ensures.too_large })).unlike
-
-pub returns-clause-unlike : goal.returns-clause-unlike
-returns-clause-unlike c =
-    let none = none_under c.args.streams.now.entries c.args.info (sym c.get_mut.ensures.value ∙ ap option_copied_mut c.in_default.is) in
-    let fresh : record_of c.fresh_info-fresh.result ≡ no_scopes = recorded-none c.fresh_info-fresh.result c.fresh_info-fresh.ensures.form c.fresh_info-fresh.ensures.honest in
-    (not_refused (Ok nothing) _ (record_of c.fresh_info-fresh.result) _ (record_of_ref c.args.times.now) (done_is_no UnlikeForms) (done_is_no TooLarge) (fresh ∙ sym none) fresh (record { unlike = c.in_ok-extend.ensures.unlike; too_large = c.in_ok-extend.ensures.too_large })).unlike
-
-pub returns-in_err-extend-clause-too_large : goal.returns-in_err-extend-clause-too_large
-returns-in_err-extend-clause-too_large c =
-    let none = none_under c.args.streams.now.entries c.args.info (sym c.get_mut.ensures.value ∙ ap option_copied_mut c.in_default.is) in
-    let fresh : record_of c.fresh_info-fresh.result ≡ no_scopes = recorded-none c.fresh_info-fresh.result c.fresh_info-fresh.ensures.form c.fresh_info-fresh.ensures.honest in
-    (refused_as c.from_residual.result _ (record_of c.fresh_info-fresh.result) _ (record_of_ref c.args.times.now) (same_cause c.from_residual.result c.in_err-extend.field-0.0 c.from_residual.ensures.1) (fresh ∙ sym none) (record { unlike = c.in_err-extend.ensures.unlike; too_large = c.in_err-extend.ensures.too_large })).too_large
-
-pub returns-in_err-new-clause-too_large : goal.returns-in_err-new-clause-too_large
-returns-in_err-new-clause-too_large c =
-    let none = none_under c.args.streams.now.entries c.args.info (sym c.get_mut.ensures.value ∙ ap option_copied_mut c.in_default.is) in
-    let fresh : record_of c.fresh_info-fresh.result ≡ no_scopes = recorded-none c.fresh_info-fresh.result c.fresh_info-fresh.ensures.form c.fresh_info-fresh.ensures.honest in
-    (not_refused c.from_residual-in_err-new.result _ (record_of c.fresh_info-fresh.result) _ (record_of_ref c.args.times.now) (not_unlike c.from_residual-in_err-new.result c.from_residual-in_err-new.ensures.1) (not_too_large c.from_residual-in_err-new.result c.from_residual-in_err-new.ensures.1) (fresh ∙ sym none) fresh (record { unlike = c.in_ok-extend.ensures.unlike; too_large = c.in_ok-extend.ensures.too_large })).too_large
+    (not_refused c.from_residual-in_err-_before.result _ (record_of_ref c.args.times.now) (not_unlike c.from_residual-in_err-_before.result c.from_residual-in_err-_before.ensures.1) (not_too_large c.from_residual-in_err-_before.result c.from_residual-in_err-_before.ensures.1) none c.in_ok-first.ensures.fits).unlike
 
 pub returns-in_err-_before-clause-too_large : goal.returns-in_err-_before-clause-too_large
 returns-in_err-_before-clause-too_large c =
     let none = none_under c.args.streams.now.entries c.args.info (sym c.get_mut.ensures.value ∙ ap option_copied_mut c.in_default.is) in
-    let fresh : record_of c.fresh_info-fresh.result ≡ no_scopes = recorded-none c.fresh_info-fresh.result c.fresh_info-fresh.ensures.form c.fresh_info-fresh.ensures.honest in
-    (not_refused c.from_residual-in_err-_before.result _ (record_of c.fresh_info-fresh.result) _ (record_of_ref c.args.times.now) (not_unlike c.from_residual-in_err-_before.result c.from_residual-in_err-_before.ensures.1) (not_too_large c.from_residual-in_err-_before.result c.from_residual-in_err-_before.ensures.1) (fresh ∙ sym none) fresh (record { unlike = c.in_ok-extend.ensures.unlike; too_large = c.in_ok-extend.ensures.too_large })).too_large
+    (not_refused c.from_residual-in_err-_before.result _ (record_of_ref c.args.times.now) (not_unlike c.from_residual-in_err-_before.result c.from_residual-in_err-_before.ensures.1) (not_too_large c.from_residual-in_err-_before.result c.from_residual-in_err-_before.ensures.1) none c.in_ok-first.ensures.fits).too_large
+
+pub returns-clause-unlike : goal.returns-clause-unlike
+returns-clause-unlike c =
+    let none = none_under c.args.streams.now.entries c.args.info (sym c.get_mut.ensures.value ∙ ap option_copied_mut c.in_default.is) in
+    (not_refused (Ok nothing) _ (record_of_ref c.args.times.now) (done_is_no UnlikeForms) (done_is_no TooLarge) none c.in_ok-first.ensures.fits).unlike
 
 pub returns-clause-too_large : goal.returns-clause-too_large
 returns-clause-too_large c =
     let none = none_under c.args.streams.now.entries c.args.info (sym c.get_mut.ensures.value ∙ ap option_copied_mut c.in_default.is) in
-    let fresh : record_of c.fresh_info-fresh.result ≡ no_scopes = recorded-none c.fresh_info-fresh.result c.fresh_info-fresh.ensures.form c.fresh_info-fresh.ensures.honest in
-    (not_refused (Ok nothing) _ (record_of c.fresh_info-fresh.result) _ (record_of_ref c.args.times.now) (done_is_no UnlikeForms) (done_is_no TooLarge) (fresh ∙ sym none) fresh (record { unlike = c.in_ok-extend.ensures.unlike; too_large = c.in_ok-extend.ensures.too_large })).too_large
+    (not_refused (Ok nothing) _ (record_of_ref c.args.times.now) (done_is_no UnlikeForms) (done_is_no TooLarge) none c.in_ok-first.ensures.fits).too_large
