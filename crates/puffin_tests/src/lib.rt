@@ -1,13 +1,9 @@
-//! The profiler and its sinks, tested over the public calls of `puffin` alone.
+//! The profiler, tested over the public calls of `puffin` alone.
 #![tactic(auto)]
 
-#[cfg(test)]
-mod copies;
 #[cfg(test)]
 mod equal;
 #[cfg(test)]
 mod global_profiler;
-#[cfg(test)]
-mod sinks;
 #[cfg(test)]
 mod surface;
