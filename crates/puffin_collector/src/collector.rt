@@ -104,7 +104,7 @@ impl Collector {
     /// `UnlikeForms` where what is pending under the info and these scopes have bytes in unlike forms; `TooLarge` where
     /// the bytes or the scopes that are pending, or the scopes ever reported, wouldn't fit 64 bits; `RangeTooLong` where
     /// the joined range of all that is pending wouldn't be reversed and its duration wouldn't fit `i64`; `Memory`.
-    #[inline]
+    #[inline(always)]
     pub fn report(
         &mut self,
         info: ThreadInfo,
@@ -213,6 +213,7 @@ impl Collector {
 
     /// Appends scopes of the caller's own, as [`Collector::report`] does, refused as it is. A report without details is this
     /// call.
+    #[inline(always)]
     pub fn report_user_scopes(&mut self, info: ThreadInfo, times: &StreamInfoRef) -> Result<()>
         requires { (f : Forest) × IsHonestRef times.now f }
         ensures ok { OnOk result (

@@ -1,5 +1,5 @@
 -- Appending what is reported to the streams of a map.
-use Rattle.std.proofs.Common.{◌≡◌, length, List, [], ◌∷◌, Bool, true, false, cond, None, Some, Result, Ok, Err, IsErrAnd, ◌+◌, ◌^◌, ◌<◌, ◌≤◌, ◌↔◌, ◌≢◌, refl, sym, ap, subst, ◌∙◌, arith}
+use Rattle.std.proofs.Common.{◌≡◌, length, List, [], ◌∷◌, Bool, true, false, cond, None, Some, Result, Ok, Err, IfErr, ◌+◌, ◌^◌, ◌<◌, ◌≤◌, ◌↔◌, ◌≢◌, refl, sym, ap, subst, ◌∙◌, arith}
 use Rattle.std.specs.declared.cmp.Ordering.{Ordering}
 use Rattle.std.specs.declared.cmp.Ordering.TheVariants.{Less, Equal, Greater}
 use Rattle.std.specs.Ordering.{is_eq, match_ordering}
@@ -124,13 +124,13 @@ module _ {A : Type 0} where
   refused_as r answer u v t is same h =
       subst (λ (w : Recorded). IsRefusedBy r w t) same (subst (λ (s : Result A Error). IsRefusedBy s u t) (sym is) h)
 
-  pub not_unlike : (r : Result A Error) → IsErrAnd r (λ e. e ≡ Memory) → r ≢ Err UnlikeForms
-  not_unlike (Ok x) is same = absurd is
-  not_unlike (Err e) is same = cc
+  pub not_unlike : (r : Result A Error) → IfErr r (λ e. e ≡ Memory) → r ≢ Err UnlikeForms
+  not_unlike (Ok x) memory same = absurd cc
+  not_unlike (Err e) memory same = cc
 
-  pub not_too_large : (r : Result A Error) → IsErrAnd r (λ e. e ≡ Memory) → r ≢ Err TooLarge
-  not_too_large (Ok x) is same = absurd is
-  not_too_large (Err e) is same = cc
+  pub not_too_large : (r : Result A Error) → IfErr r (λ e. e ≡ Memory) → r ≢ Err TooLarge
+  not_too_large (Ok x) memory same = absurd cc
+  not_too_large (Err e) memory same = cc
 
   -- a report under a thread that had none, which is refused for another cause or accepted
   pub not_refused : (r : Result A Error) (u t : Recorded) → r ≢ Err UnlikeForms → r ≢ Err TooLarge → u ≡ no_scopes → t.num_scopes < 2 ^ 64 → IsRefusedBy r u t

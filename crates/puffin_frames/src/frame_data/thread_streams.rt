@@ -1,11 +1,12 @@
 ghost use Rattle.std.specs.Prelude.{◌≡◌, ◌⊎◌, ◌↔◌, ◌+◌, ◌^◌, ◌<◌, ◌≤◌, true, IfOk, IfErr, OnOk, OnErr};
 ghost use Rattle.std.specs.Arc.{arc_value};
+ghost use Rattle.std.specs.BTreeMap.{insert_entry};
 ghost use Rattle.puffin_data.specs.Forest.{empty};
 ghost use Rattle.puffin_data.specs.Honesty.{IsHonest, record_of, record_of_ref, joined_record, AreUnlike};
 ghost use Rattle.puffin_data.specs.declared.data.form.Form.{Form};
 ghost use Rattle.puffin_data.specs.declared.error.Error.{Error};
 ghost use Rattle.puffin_frames.specs.Frame.Contents.{without_sharing, shared_streams, stream_under, no_scopes, reported_to, pairs_of};
-ghost use Rattle.puffin_threads.specs.Thread.Info.{info_of};
+ghost use Rattle.puffin_threads.specs.Thread.Info.{info_of, thread_cmp};
 
 use puffin_data::data::{StreamInfo, StreamInfoRef};
 use puffin_data::{Error, Result};
@@ -143,6 +144,19 @@ fn first_info(alloc: Global, times: &StreamInfoRef) -> Result<Arc<StreamInfo>>
     Ok(Arc::new(alloc, fresh)?)
 }
 
+/// Puts a thread's first scopes into a map. Refused only with `Memory`; nothing is changed then.
+#[cold]
+#[inline(never)]
+fn insert_first(streams: &mut ThreadStreams, info: ThreadInfo, first: Arc<StreamInfo>) -> Result<()>
+    ensures ok { OnOk result (
+        streams.new.entries ≡ insert_entry thread_cmp streams.old.entries info first) }
+    ensures err { OnErr result (streams.new.entries ≡ streams.old.entries) }
+    ensures memory { IfErr result (λ e. e ≡ Error.Memory) }
+{
+    let _before = streams.insert(info, first)?;
+    Ok(())
+}
+
 /// Appends an info's scopes to those that a map has under their thread.
 ///
 /// Refused with `UnlikeForms` where those and the info's have bytes in unlike forms, else with `TooLarge` where the
@@ -175,6 +189,5 @@ pub fn report_to(
         return extend_shared(alloc, shared, times);
     }
     let first = first_info(alloc, times)?;
-    let _before = streams.insert(info, first)?;
-    Ok(())
+    insert_first(streams, info, first)
 }

@@ -1,12 +1,12 @@
 -- What is reported comes after what is there, and a refusal leaves what was recorded.
-use Rattle.std.proofs.Common.{◌≡◌, ◌≢◌, Ok, Err, IsErrAnd, refl, ap, ◌∙◌, sym, subst}
+use Rattle.std.proofs.Common.{◌≡◌, Ok, Err, Result, IsErrAnd, IfErr, refl, ap, ◌∙◌, sym, subst}
 use Rattle.std.specs.Option.{option_copied_mut}
 use Rattle.std.specs.BTreeMap.{insert_entry}
 use Rattle.puffin_threads.specs.Thread.Info.{thread_cmp}
 use Rattle.std.proofs.lemmas.Result.{on_ok_weaker, on_err_weaker}
 use Rattle.puffin_data.specs.Honesty.{record_of_ref}
 use Rattle.puffin_data.specs.declared.error.Error.{Error}
-use Rattle.puffin_data.specs.declared.error.Error.TheVariants.{UnlikeForms, TooLarge}
+use Rattle.puffin_data.specs.declared.error.Error.TheVariants.{Memory}
 use Rattle.puffin_frames.proofs.Reports.{WritesAt, IsRefusedBy, reported_over, refused_over, reported_first, under_there, none_under, not_unlike, not_too_large, refused_as, not_refused}
 use Rattle.puffin_frames.specs.Frame.Contents.{shared_streams, stream_under}
 use Rattle.puffin_threads.specs.Thread.Info.{info_of}
@@ -19,11 +19,9 @@ writes c = record {
   after = (c.get_mut.follows.holds c.extend_shared.new.shared).0;
 }
 
-nothing : Unit {0}
-nothing = tt
-
-done_is_no : (e : Error) → Ok nothing ≢ Err e
-done_is_no e same = absurd cc
+when_refused : {A : Type 0} (r : Result A Error) → IsErrAnd r (λ e. e ≡ Memory) → IfErr r (λ e. e ≡ Memory)
+when_refused (Ok x) is = absurd is
+when_refused (Err e) is = is
 
 pub returns-in-Some-clause-ok : goal.returns-in-Some-clause-ok
 returns-in-Some-clause-ok c =
@@ -37,8 +35,10 @@ returns-in-Some-clause-err c =
 
 pub returns-clause-ok : goal.returns-clause-ok
 returns-clause-ok c =
-    let after = c.in_ok-_before.ensures.entries ∙ ap (λ m. insert_entry thread_cmp m.entries c.args.info c.in_ok-first.first) c.get_mut.follows.holds-at-none in
-    reported_first c.args.streams.now.entries c.args.info c.in_ok-first.first c.insert.new.self.entries (record_of_ref c.args.times.now) (sym c.get_mut.ensures.value ∙ ap option_copied_mut c.in_default.is) after c.in_ok-first.ensures.ok
+    let none = sym c.get_mut.ensures.value ∙ ap option_copied_mut c.in_default.is in
+    let same = ap (λ m. insert_entry thread_cmp m.entries c.args.info c.in_ok-first.first) c.get_mut.follows.holds-at-none in
+    on_ok_weaker c.insert_first.result
+    (λ after. reported_first c.args.streams.now.entries c.args.info c.in_ok-first.first c.insert_first.new.streams.entries (record_of_ref c.args.times.now) none (after ∙ same) c.in_ok-first.ensures.ok) c.insert_first.ensures.ok
 
 there : (c : goal.After-drop-info) → IsRefusedBy c.extend_shared.result (stream_under (shared_streams c.args.streams.now.entries) (info_of c.args.info)) (record_of_ref c.args.times.now)
 there c =
@@ -53,32 +53,22 @@ returns-in-Some-clause-too_large c = (there c).too_large
 
 pub returns-in_err-first-clause-unlike : goal.returns-in_err-first-clause-unlike
 returns-in_err-first-clause-unlike c =
-    let memory = subst (λ (m : Error). IsErrAnd c.from_residual.result (λ e. e ≡ m)) c.in_err-first.ensures.err c.from_residual.ensures.1 in
+    let memory = when_refused c.from_residual.result (subst (λ (m : Error). IsErrAnd c.from_residual.result (λ e. e ≡ m)) c.in_err-first.ensures.err c.from_residual.ensures.1) in
     let none = none_under c.args.streams.now.entries c.args.info (sym c.get_mut.ensures.value ∙ ap option_copied_mut c.in_default.is) in
     (not_refused c.from_residual.result _ (record_of_ref c.args.times.now) (not_unlike c.from_residual.result memory) (not_too_large c.from_residual.result memory) none c.in_err-first.ensures.fits).unlike
 
 pub returns-in_err-first-clause-too_large : goal.returns-in_err-first-clause-too_large
 returns-in_err-first-clause-too_large c =
-    let memory = subst (λ (m : Error). IsErrAnd c.from_residual.result (λ e. e ≡ m)) c.in_err-first.ensures.err c.from_residual.ensures.1 in
+    let memory = when_refused c.from_residual.result (subst (λ (m : Error). IsErrAnd c.from_residual.result (λ e. e ≡ m)) c.in_err-first.ensures.err c.from_residual.ensures.1) in
     let none = none_under c.args.streams.now.entries c.args.info (sym c.get_mut.ensures.value ∙ ap option_copied_mut c.in_default.is) in
     (not_refused c.from_residual.result _ (record_of_ref c.args.times.now) (not_unlike c.from_residual.result memory) (not_too_large c.from_residual.result memory) none c.in_err-first.ensures.fits).too_large
-
-pub returns-in_err-_before-clause-unlike : goal.returns-in_err-_before-clause-unlike
-returns-in_err-_before-clause-unlike c =
-    let none = none_under c.args.streams.now.entries c.args.info (sym c.get_mut.ensures.value ∙ ap option_copied_mut c.in_default.is) in
-    (not_refused c.from_residual-in_err-_before.result _ (record_of_ref c.args.times.now) (not_unlike c.from_residual-in_err-_before.result c.from_residual-in_err-_before.ensures.1) (not_too_large c.from_residual-in_err-_before.result c.from_residual-in_err-_before.ensures.1) none c.in_ok-first.ensures.fits).unlike
-
-pub returns-in_err-_before-clause-too_large : goal.returns-in_err-_before-clause-too_large
-returns-in_err-_before-clause-too_large c =
-    let none = none_under c.args.streams.now.entries c.args.info (sym c.get_mut.ensures.value ∙ ap option_copied_mut c.in_default.is) in
-    (not_refused c.from_residual-in_err-_before.result _ (record_of_ref c.args.times.now) (not_unlike c.from_residual-in_err-_before.result c.from_residual-in_err-_before.ensures.1) (not_too_large c.from_residual-in_err-_before.result c.from_residual-in_err-_before.ensures.1) none c.in_ok-first.ensures.fits).too_large
 
 pub returns-clause-unlike : goal.returns-clause-unlike
 returns-clause-unlike c =
     let none = none_under c.args.streams.now.entries c.args.info (sym c.get_mut.ensures.value ∙ ap option_copied_mut c.in_default.is) in
-    (not_refused (Ok nothing) _ (record_of_ref c.args.times.now) (done_is_no UnlikeForms) (done_is_no TooLarge) none c.in_ok-first.ensures.fits).unlike
+    (not_refused c.insert_first.result _ (record_of_ref c.args.times.now) (not_unlike c.insert_first.result c.insert_first.ensures.memory) (not_too_large c.insert_first.result c.insert_first.ensures.memory) none c.in_ok-first.ensures.fits).unlike
 
 pub returns-clause-too_large : goal.returns-clause-too_large
 returns-clause-too_large c =
     let none = none_under c.args.streams.now.entries c.args.info (sym c.get_mut.ensures.value ∙ ap option_copied_mut c.in_default.is) in
-    (not_refused (Ok nothing) _ (record_of_ref c.args.times.now) (done_is_no UnlikeForms) (done_is_no TooLarge) none c.in_ok-first.ensures.fits).too_large
+    (not_refused c.insert_first.result _ (record_of_ref c.args.times.now) (not_unlike c.insert_first.result c.insert_first.ensures.memory) (not_too_large c.insert_first.result c.insert_first.ensures.memory) none c.in_ok-first.ensures.fits).too_large
