@@ -132,6 +132,7 @@ impl StreamInfo {
     /// Refused with `UnlikeForms` where both have bytes and their forms differ, else with `TooLarge` where the number of
     /// scopes wouldn't fit, else with `Memory`; nothing is changed then. Within the stream's room it is never refused with
     /// `Memory`, and takes no more of it than the bytes that are appended.
+    #[inline(always)]
     pub fn extend(&mut self, other: &StreamInfoRef) -> Result<()>
         ensures ok { OnOk result (
             record_of self.new ≡ joined_record (record_of self.old) (record_of_ref other.now)) }

@@ -162,6 +162,7 @@ fn insert_first(streams: &mut ThreadStreams, info: ThreadInfo, first: Arc<Stream
 /// Refused with `UnlikeForms` where those and the info's have bytes in unlike forms, else with `TooLarge` where the
 /// number of scopes under that thread wouldn't fit `usize`, else only with `Memory`; what the map has under each thread
 /// is then as before. Other owners of a stream of the map keep what they had.
+#[inline(always)]
 pub fn report_to(
     alloc: Global,
     streams: &mut ThreadStreams,
