@@ -10,6 +10,8 @@ mod equal;
 #[cfg(test)]
 mod record;
 #[cfg(test)]
+mod recording;
+#[cfg(test)]
 mod report;
 #[cfg(test)]
 mod script;

@@ -6,6 +6,4 @@ mod details;
 #[cfg(test)]
 mod equal;
 #[cfg(test)]
-mod recording;
-#[cfg(test)]
 mod session;

@@ -1,4 +1,4 @@
-use crate::session::{Outcome, begin, end};
+use crate::commands::{Outcome, begin, end};
 use puffin_data::NanoSecond;
 use puffin_data::data::Form;
 use puffin_frames::frame_data::FrameData;
@@ -12,8 +12,8 @@ const LONGEST: &[u8] = b"(\x01\0\0\0\x64\0\0\0\0\0\0\0\0\0\0\0\0\0\0\0\0)\x2c\x0
 fn three_frames(rt: &HostRuntime) -> Outcome<Vec<Command>> {
     let mut commands = Vec::new(rt.alloc());
     for (start, stop) in [(100, 300), (400, 450), (500, 600)] {
-        commands.push(begin(rt, 0, start, 1, "")?)?;
-        commands.push(end(0, stop))?;
+        commands.push(begin(rt, start, 1, "")?)?;
+        commands.push(end(stop))?;
         commands.push(Command::NewFrame)?;
     }
     Ok(commands)
