@@ -16,9 +16,7 @@ use Rattle.std.proofs.lemmas.Map.Entries.{none_below_head}
 use Rattle.std.proofs.lemmas.Map.Made.{lookup-map_values}
 use Rattle.puffin_data.specs.declared.error.Error.{Error}
 use Rattle.puffin_data.specs.declared.error.Error.TheVariants.{TooLarge, Memory, UnlikeForms}
-use Rattle.puffin_data.specs.declared.data.form.Form.TheVariants.{Short}
-use Rattle.puffin_data.specs.Forest.{empty}
-use Rattle.puffin_data.specs.Honesty.{Recorded, IsHonest, record_of, AreUnlike, joined_record}
+use Rattle.puffin_data.specs.Honesty.{Recorded, record_of, AreUnlike, joined_record}
 use Rattle.puffin_data.specs.declared.data.info.StreamInfo.{StreamInfo}
 use Rattle.puffin_threads.specs.declared.thread_profiler.thread_info.ThreadInfo.{ThreadInfo}
 use Rattle.puffin_threads.specs.Thread.Info.{Info, info_of, info_cmp, thread_cmp, same_info, info_entries, by_info}
@@ -53,15 +51,6 @@ module _ {X : Type 0} where
 
   insert-same : (m : FinMap info_cmp X) (i : Info) (v : X) → get m i ≡ Some v → insert m i v ≡ m
   insert-same m i v found = same_map info_cmp_total info_cmp-one (insert m i v) m (λ q. get-insert info_cmp_total m i v q ∙ at_test m i q v (same_info q i) refl found)
-
-pub recorded-none : (fresh : StreamInfo) → fresh.stream.form ≡ Short → IsHonest fresh empty → record_of fresh ≡ no_scopes
-recorded-none fresh form h = λ i. record {
-  form = form i;
-  bytes = h.stream.whole i;
-  num_scopes = h.counts.num_scopes i;
-  depth = h.counts.depth i;
-  range_ns = (h.counts.least_start i, h.counts.greatest_stop i);
-}
 
 module _ {A : Type 0} where
   get-shared : (es : List (ThreadInfo × Arc StreamInfo A)) (k : ThreadInfo) → get (shared_streams es) (info_of k) ≡ option_map record_of (option_map arc_value (lookup (is_at (thread_cmp k)) es))
