@@ -5,8 +5,8 @@ use Rattle.std.specs.declared.sync.Arc.{Arc}
 use Rattle.puffin_frames.specs.declared.frame_data.frame.FrameData.{FrameData}
 use Rattle.puffin_frames.specs.declared.frame_data.meta.FrameMeta.{FrameMeta}
 use Rattle.puffin_frames.specs.Frame.Contents.{AreHonest}
-use Rattle.puffin_collector.specs.Profiler.State.{Collected}
-use Rattle.puffin_collector.specs.Profiler.Collecting.{Collects}
+use Rattle.puffin_collector.specs.Collector.State.{Collected}
+use Rattle.puffin_collector.specs.Collector.Collecting.{Collects}
 use Rattle.puffin.specs.Shares.{SpellsItsScopes}
 use Rattle.puffin_collector.specs.declared.emitted.Emitted.{Emitted}
 

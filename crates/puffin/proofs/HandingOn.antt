@@ -13,7 +13,7 @@ use Rattle.puffin.specs.declared.global_profiler.sink.Sink.{Sink}
 use Rattle.puffin.specs.declared.global_profiler.sink.Sink.TheVariants.{Boxed}
 use Rattle.puffin.specs.declared.global_profiler.handing.Outcome.TheVariants.{Accepted, Refused}
 use Rattle.puffin.specs.Sinks.Handing.{Answers, HandedTo, Handed, HandsOn, refusal}
-use Rattle.puffin.specs.Sinks.{AreNumbered}
+use Rattle.puffin.specs.inner.Numbers.{AreNumbered}
 use Rattle.std.specs.List.Sorted.{IsStrictlyIncreasing}
 
 module _ {I : Type 0} {F : I → Type 0} (accepts : (b : DynBox I Global F) → F b.vtable → FrameData → Result (Unit {0}) Error → F b.vtable → Type 0) where

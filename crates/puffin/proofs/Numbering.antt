@@ -6,7 +6,8 @@ use Rattle.std.proofs.lemmas.List.{map-append, append_assoc}
 use Rattle.std.proofs.lemmas.Option.{get_or_from_slice_get}
 use Rattle.puffin.specs.declared.global_profiler.sink.Sink.{Sink}
 use Rattle.puffin.specs.declared.global_profiler.sinks.Entry.{Entry}
-use Rattle.puffin.specs.Sinks.{AreNumbered, TakesOut}
+use Rattle.puffin.specs.Sinks.{TakesOut}
+use Rattle.puffin.specs.inner.Numbers.{AreNumbered}
 
 -- each number is above the one before it, the first above this one
 abbrev Rises : ℕ → List ℕ → Type 0

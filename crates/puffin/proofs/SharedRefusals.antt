@@ -6,9 +6,9 @@ use Rattle.puffin_data.specs.declared.error.Error.{Error}
 use Rattle.puffin_data.specs.Honesty.{Recorded}
 use Rattle.puffin_threads.specs.Thread.Info.{Info}
 use Rattle.puffin_threads.specs.Details.{Details, AllHaveIds}
-use Rattle.puffin_collector.specs.Profiler.State.{Collected, AcceptsReport, IsSumRefusal, IsReportRefusal}
-use Rattle.puffin_collector.specs.Profiler.Collecting.{KeepsPending}
-use Rattle.puffin_collector.specs.Profiler.Registering.{AddsSome}
+use Rattle.puffin_collector.specs.Collector.State.{Collected, AcceptsReport, IsSumRefusal, IsReportRefusal}
+use Rattle.puffin_collector.specs.Collector.Collecting.{KeepsPending}
+use Rattle.puffin_collector.specs.Collector.Registering.{AddsSome}
 use Rattle.puffin.specs.SharedCauses.{IsReportCause, IsScopesCause, IsFrameCause, IsAddingCause}
 
 sum_cause : (c : Collected) (r : Recorded) (e : Error) → IsSumRefusal c r e → IsScopesCause e

@@ -2,3 +2,4 @@ pub mod Profiler
 pub mod Sinks
 pub mod Shares
 pub mod SharedCauses
+pub mod inner

@@ -2,7 +2,7 @@
 use Rattle.std.specs.Prelude.{◌≡◌, ℕ, List, [], false}
 use Rattle.std.specs.FinMap as map
 use Rattle.puffin_threads.specs.Details.Collection.{no_details}
-use Rattle.puffin_collector.specs.Profiler.State.{Collected}
+use Rattle.puffin_collector.specs.Collector.State.{Collected}
 use Rattle.puffin.specs.declared.global_profiler.profiler.GlobalProfiler.{GlobalProfiler}
 use Rattle.puffin.specs.declared.global_profiler.sinks.Entry.{Entry}
 

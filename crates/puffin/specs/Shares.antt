@@ -30,7 +30,8 @@ abbrev pub all_handed : List ShareCounts → ℕ
 all_handed shares = sum_by (λ c. c.handed) shares
 
 -- a share counts the scopes of a frame that is handed out to it, if there is one
-abbrev pub CountsFrame : {A : Type 0} → ShareCounts → Option (Arc FrameData A) → ShareCounts → Type 0
+abbrev pub CountsFrame : {A : Type 0} → ShareCounts → Option (Arc FrameData A) → ShareCounts →
+    Type 0
 CountsFrame old None new = new ≡ old
 CountsFrame old (Some frame) new =
     new ≡ with_handed old (frame_meta (arc_value frame)).num_scopes

@@ -1,15 +1,10 @@
 -- The sinks of a profiler: a list by rising number.
 pub mod Handing
-use Rattle.std.specs.Prelude.{◌≡◌, ◌≢◌, ℕ, List, [], ◌∷◌, ◌++◌, map, All}
-use Rattle.std.specs.List.Sorted.{IsStrictlyIncreasing}
+use Rattle.std.specs.Prelude.{◌≡◌, ◌≢◌, ℕ, List, [], ◌∷◌, ◌++◌, All}
 use Rattle.puffin.specs.declared.global_profiler.sink.Sink.{Sink}
 use Rattle.puffin.specs.declared.global_profiler.sinks.Entry.{Entry}
 
 module _ {I : Type 0} {F : I → Type 0} where
-  -- the numbers are above 0, rise strictly, and stay below the next one
-  abbrev pub AreNumbered : List (Entry I F) → ℕ → Type 0
-  AreNumbered sinks next = IsStrictlyIncreasing (0 ∷ map (λ entry. entry.id) sinks ++ next ∷ [])
-
   -- a sink is put behind the others under its number
   abbrev pub PutsIn : ℕ → Sink I F → List (Entry I F) → List (Entry I F) → Type 0
   PutsIn id sink old new = new ≡ old ++ record { id = id; sink = sink } ∷ []

@@ -10,7 +10,7 @@ use Rattle.puffin_data.specs.Honesty.{Recorded}
 use Rattle.puffin_threads.specs.Thread.Info.{Info}
 use Rattle.puffin_threads.specs.declared.scope_details.details.ScopeDetails.{ScopeDetails}
 use Rattle.puffin_threads.specs.Details.{Details, details_of, shared_details, AllHaveIds}
-use Rattle.puffin_collector.specs.Profiler.State.{Collected, PendingFits, IsSumRefusal, IsReportRefusal, after_report}
+use Rattle.puffin_collector.specs.Collector.State.{Collected, PendingFits, IsSumRefusal, IsReportRefusal, after_report}
 
 pub no_ids : AllHaveIds []
 no_ids = All-nil (λ d. IsSome d.id)

@@ -11,7 +11,7 @@ use Rattle.std.proofs.lemmas.List.Elements.{All-cons, All-nil}
 use Rattle.puffin_threads.specs.Details.{Details, AllHaveIds}
 use Rattle.puffin_threads.specs.Details.Collection.{Collection, KeepsOwnIds}
 use Rattle.puffin_frames.proofs.lemmas.Measured.{first, second, less}
-use Rattle.puffin_collector.specs.Profiler.State.{all_details}
+use Rattle.puffin_collector.specs.Collector.State.{all_details}
 
 -- each of these entries is the one that is found under its key
 abbrev pub Owned : List (ℕ × Details) → Type 0

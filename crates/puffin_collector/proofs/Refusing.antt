@@ -8,7 +8,8 @@ use Rattle.puffin_threads.specs.Thread.Info.{Info}
 use Rattle.puffin_threads.specs.Details.{Details, AllHaveIds}
 use Rattle.puffin_frames.specs.Frame.Contents.{Streams, stream_under, reported_to}
 use Rattle.puffin_frames.specs.Frame.Sums.{total_scopes}
-use Rattle.puffin_collector.specs.Profiler.State.{Collected, PendingFits, range_with, IsTooLong, IsUnlike, IsFirstCause, IsSumRefusal, IsReportRefusal, after_report}
+use Rattle.puffin_collector.specs.Collector.State.{Collected, PendingFits, range_with, IsTooLong, IsUnlike, IsSumRefusal, IsReportRefusal, after_report}
+use Rattle.puffin_collector.specs.inner.ReportSums.{IsFirstCause}
 
 abbrev failed : Error → Result (Unit {0}) Error
 failed e = Err e

@@ -9,8 +9,9 @@ use Rattle.puffin_threads.specs.Thread.Info.{Info}
 use Rattle.puffin_frames.specs.Frame.Contents.{Streams, reported_to, AreHonest}
 use Rattle.puffin_frames.specs.Frame.Sums.{total_bytes, total_scopes, joined_start, joined_stop, meta_of, IsOrdered, DurationFits}
 use Rattle.puffin_frames.specs.declared.frame_data.meta.FrameMeta.{FrameMeta}
-use Rattle.puffin_collector.specs.Profiler.State.{Collected, PendingFits, range_with, IsTooLong}
-use Rattle.puffin_collector.specs.Profiler.Collecting.{IsTallied, AddsUp}
+use Rattle.puffin_collector.specs.Collector.State.{Collected, PendingFits, range_with, IsTooLong}
+use Rattle.puffin_collector.specs.Collector.Collecting.{IsTallied}
+use Rattle.puffin_collector.specs.inner.ReportSums.{AddsUp}
 
 -- what a frame of all that is pending would say, and what it says once joined with one info more
 pub record Joins (c : Collected) (meta more : FrameMeta) (r : Recorded) : Type 0 where

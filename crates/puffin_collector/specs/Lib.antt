@@ -1,1 +1,2 @@
-pub mod Profiler
+pub mod Collector
+pub mod inner

@@ -9,9 +9,10 @@ ghost use Rattle.puffin_threads.specs.Details.{Details, details_of, details_seen
 ghost use Rattle.puffin_threads.specs.Details.Collection.{no_details};
 ghost use Rattle.puffin_frames.specs.Frame.Contents.{AreHonest};
 ghost use Rattle.puffin_frames.specs.Frame.Sums.{total_scopes, IsOrdered, DurationFits};
-ghost use Rattle.puffin_collector.specs.Profiler.State.{IsReportRefusal, AcceptsReport, RefusesReport, after_adding, after_learning, after_wanting, PendingFits, range_with, IsTooLong, IsFirstCause, IsSumRefusal};
-ghost use Rattle.puffin_collector.specs.Profiler.Registering.{known_id, Adds, AddsSome};
-ghost use Rattle.puffin_collector.specs.Profiler.Collecting.{Collects, TellsIds, KeepsPending, AddsUp, KnowsSome};
+ghost use Rattle.puffin_collector.specs.Collector.State.{IsReportRefusal, AcceptsReport, RefusesReport, after_adding, after_learning, after_wanting, PendingFits, range_with, IsTooLong, IsSumRefusal};
+ghost use Rattle.puffin_collector.specs.inner.ReportSums.{IsFirstCause, AddsUp};
+ghost use Rattle.puffin_collector.specs.Collector.Registering.{known_id, Adds, AddsSome};
+ghost use Rattle.puffin_collector.specs.Collector.Collecting.{Collects, TellsIds, KeepsPending, KnowsSome};
 
 use crate::delta::{all_have_ids, copies, scope_delta};
 use crate::totals::Totals;
@@ -43,7 +44,7 @@ pub struct Collector {
 }
 
 impl Model for Collector {
-    ghost use Rattle.puffin_collector.specs.Profiler.State.{Collected, collected_code};
+    ghost use Rattle.puffin_collector.specs.Collector.State.{Collected, collected_code};
 
     ghost Value = { Collected };
 
@@ -51,7 +52,7 @@ impl Model for Collector {
 
     ghost use Rattle.puffin_frames.specs.Frame.Contents.{shared_streams};
     ghost use Rattle.puffin_threads.specs.Details.{shared_details, AllHaveIds};
-    ghost use Rattle.puffin_collector.specs.Profiler.Collecting.{IsTallied};
+    ghost use Rattle.puffin_collector.specs.Collector.Collecting.{IsTallied};
 
     ghost view = { λ c.
         record {
@@ -379,7 +380,7 @@ impl Collector {
 
 impl Reporter for Collector {
     ghost use Rattle.std.specs.Prelude.{◌≡◌};
-    ghost use Rattle.puffin_collector.specs.Profiler.State.{AcceptsReport, RefusesReport};
+    ghost use Rattle.puffin_collector.specs.Collector.State.{AcceptsReport, RefusesReport};
 
     ghost accepts = { AcceptsReport };
 

@@ -1,7 +1,7 @@
 ghost use Rattle.std.specs.Prelude.{◌≡◌, ◌++◌, ◌↔◌, OnOk, IfOk, IfErr, All, IsTrue, IsSome};
 ghost use Rattle.puffin_threads.specs.Details.{details_of, details_seen, shared_details, AllHaveIds};
 ghost use Rattle.puffin_threads.specs.Details.Collection.{KeepsOwnIds};
-ghost use Rattle.puffin_collector.specs.Profiler.State.{all_details, delta_of};
+ghost use Rattle.puffin_collector.specs.Collector.State.{all_details, delta_of};
 
 use puffin_data::{Error, Result};
 use puffin_frames::scope_details::{ScopeCollection, ScopeDetails};

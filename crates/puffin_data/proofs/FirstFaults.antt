@@ -10,8 +10,8 @@ use Rattle.puffin_data.specs.declared.data.walk.Walk.{Walk}
 use Rattle.puffin_data.specs.Forest.{Forest, empty, node}
 use Rattle.puffin_data.specs.Forest.Measures.{scope_count}
 use Rattle.puffin_data.specs.Walk.Reading.{Found}
-use Rattle.puffin_data.specs.Walk.{region, IsSoundAt, IsFaultAt, Reaches, here, child, sibling, Sounds, no_more, one_more, tries_in}
-use Rattle.puffin_data.specs.inner.Walking.{with_scope, Stop, WalksTo, stops, stops_within, goes_on}
+use Rattle.puffin_data.specs.Walk.{region, IsSoundAt, IsFaultAt, Reaches, here, child, sibling, Sounds, no_more, one_more}
+use Rattle.puffin_data.specs.inner.Walking.{tries_in, with_scope, Stop, WalksTo, stops, stops_within, goes_on}
 use Rattle.puffin_data.proofs.lemmas.Numbers.{IsBytes}
 use Rattle.puffin_data.proofs.Resuming.{found_places}
 use Rattle.puffin_data.proofs.Regions.{sound_is_no_fault, one_sound, between}

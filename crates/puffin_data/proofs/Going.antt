@@ -1,4 +1,4 @@
--- A walk with a visitor from its place within open scopes on, whose regions it keeps, the innermost first.
+-- How a walk with a visitor goes, scope by scope, and from its place within open scopes on, whose regions it keeps, the innermost first.
 use Rattle.std.proofs.Common.{◌≡◌, ℕ, ◌+◌, ◌*◌, ◌≤◌, List, [], ◌∷◌, ◌++◌, length, reverse, map, sym, ap, subst, ◌∙◌, arith}
 use Rattle.std.proofs.lemmas.List.{reverse-append, map-append, length-map}
 use Rattle.puffin_data.specs.declared.data.form.Form.{Form}
@@ -6,10 +6,41 @@ use Rattle.puffin_data.specs.declared.error.Error.{Error}
 use Rattle.puffin_data.specs.declared.data.visit.Region.{Region}
 use Rattle.puffin_data.specs.Forest.{Span}
 use Rattle.puffin_data.specs.Walk.Reading.{Found}
-use Rattle.puffin_data.specs.Walk.{region, IsSoundAt, IsFaultAt, tries_in}
-use Rattle.puffin_data.specs.Walk.Going.{End, over_all, at_fault, at_refusal, IsEarly, Goes, ends, meets_fault, is_refused, stops_within, goes_on}
+use Rattle.puffin_data.specs.Walk.{region, IsSoundAt, IsFaultAt}
+use Rattle.puffin_data.specs.inner.Walking.{tries_in}
 use Rattle.puffin_data.proofs.Resuming.{IsNested, nested_push, nested_pop, nested_low}
 
+-- How a walk ends: over its whole region, with the visitor's state and the tries; at a fault, with the tries; or at a scope that the visitor refuses, with the tries.
+pub data End (V : Type 0) : Type 0 where
+  over_all : (to : V) → (tries : ℕ) → End V
+  at_fault : (to : V) → (place : ℕ) → (fault : Error) → (tries : ℕ) → End V
+  at_refusal : (place : ℕ) → (cause : Error) → (tries : ℕ) → End V
+
+abbrev pub IsEarly : {V : Type 0} → End V → Type 0
+IsEarly (over_all to tries) = ⊥
+IsEarly (at_fault to place fault tries) = Unit {0}
+IsEarly (at_refusal place cause tries) = Unit {0}
+
+-- From place p, in the region that ends at e, of whose scope w is kept, a walk with a visitor in state v and with n tries so far comes to this end.
+pub data Goes (form : Form) {V W : Type 0} (enters : V → W → Span → W → V → Type 0)
+    (refuses : V → W → Span → Error → Type 0) (bytes : List ℕ) :
+    W → V → ℕ → ℕ → ℕ → End V → Type 0 where
+  ends : {w : W} {v : V} {n p : ℕ} → Goes form enters refuses bytes w v n p p (over_all v n)
+  meets_fault : {w : W} {v : V} {n p e : ℕ} {fault : Error} → IsFaultAt form bytes p e fault →
+      Goes form enters refuses bytes w v n p e (at_fault v p fault (n + tries_in (region bytes p e)))
+  is_refused : {w : W} {v : V} {n p e : ℕ} {cause : Error} {s : Found} → IsSoundAt form bytes p e s →
+      refuses v w s.span cause → Goes form enters refuses bytes w v n p e (at_refusal p cause (n + 1))
+  stops_within : {w x : W} {v u : V} {n p e : ℕ} {s : Found} {out : End V} → IsSoundAt form bytes p e s →
+      enters v w s.span x u → IsEarly out →
+      Goes form enters refuses bytes x u (n + 1) (p + s.child_begin) (p + s.child_end) out →
+      Goes form enters refuses bytes w v n p e out
+  goes_on : {w x : W} {v u t : V} {n m p e : ℕ} {s : Found} {out : End V} → IsSoundAt form bytes p e s →
+      enters v w s.span x u →
+      Goes form enters refuses bytes x u (n + 1) (p + s.child_begin) (p + s.child_end) (over_all t m) →
+      Goes form enters refuses bytes w t m (p + s.next_sibling) e out →
+      Goes form enters refuses bytes w v n p e out
+
+-- the same from a place within open scopes on
 pub data Resumes (form : Form) {V W : Type 0} (enters : V → W → Span → W → V → Type 0) (refuses : V → W → Span → Error → Type 0) (bytes : List ℕ) : List (Region W) → W → V → ℕ → ℕ → ℕ → End V → Type 0 where
   outermost : {w : W} {v : V} {n p e : ℕ} {out : End V} → Goes form enters refuses bytes w v n p e out → Resumes form enters refuses bytes [] w v n p e out
   leaves : {o : Region W} {outers : List (Region W)} {w : W} {v t : V} {n m p e : ℕ} {out : End V} → Goes form enters refuses bytes w v n p e (over_all t m) → Resumes form enters refuses bytes outers o.within t m (e + 9) o.end out → Resumes form enters refuses bytes (o ∷ outers) w v n p e out

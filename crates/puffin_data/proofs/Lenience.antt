@@ -10,7 +10,8 @@ use Rattle.puffin_data.specs.Text.{text_in}
 use Rattle.puffin_data.specs.Walk.Reading.{Found, reading, found_in}
 use Rattle.puffin_data.specs.Walk.{region, IsSoundAt}
 use Rattle.puffin_data.specs.declared.data.scope.Sighting.{Sighting}
-use Rattle.puffin_data.specs.Walk.Sightings.{found_of, reading_of}
+use Rattle.puffin_data.specs.Walk.Sightings.{found_of}
+use Rattle.puffin_data.specs.inner.Walking.{reading_of}
 use Rattle.puffin_data.specs.Reader.{ReadScope, read_scope, read_from, scope_read}
 use Rattle.puffin_data.proofs.Found.{passes}
 use Rattle.puffin_data.proofs.Regions.{empty_region, nothing_is_no_fault}

@@ -11,10 +11,10 @@ use Rattle.puffin_data.specs.declared.error.Error.TheVariants.{Memory}
 use Rattle.puffin_data.specs.declared.data.walk.Walk.{Walk}
 use Rattle.puffin_data.specs.Forest.{Forest, empty, node, IsForest}
 use Rattle.puffin_data.specs.Forest.Measures.{scope_count, least_start, greatest_stop}
-use Rattle.puffin_data.specs.Walk.{region, IsFaultAt, Refuses, tries_in}
+use Rattle.puffin_data.specs.Walk.{region, IsFaultAt, Refuses}
+use Rattle.puffin_data.specs.inner.Walking.{tries_in, no_scope_counted, Walked, Stopped}
 use Rattle.puffin_data.specs.Forest.Spelling.{Spells}
 use Rattle.puffin_data.specs.Honesty.{Counts}
-use Rattle.puffin_data.specs.inner.Walking.{no_scope_counted, Walked, Stopped}
 use Rattle.puffin_data.proofs.lemmas.Numbers.{IsBytes}
 use Rattle.puffin_data.proofs.Regions.{whole_region, empty_region, nothing_is_no_fault, between}
 use Rattle.puffin_data.proofs.Completes.{completed, tallied, tallies}

@@ -6,8 +6,8 @@ use Rattle.puffin_data.proofs.Found.{Places, places}
 use Rattle.puffin_data.specs.declared.error.Error.{Error}
 use Rattle.puffin_data.specs.declared.data.walk.Walk.{Walk}
 use Rattle.puffin_data.specs.Walk.Reading.{Found}
-use Rattle.puffin_data.specs.Walk.{IsSoundAt, IsFaultAt, tries_in, region}
-use Rattle.puffin_data.specs.inner.Walking.{no_scope_counted, Stopped, Stop, WalksTo, ends, stops, stops_within, goes_on, with_scope}
+use Rattle.puffin_data.specs.Walk.{IsSoundAt, IsFaultAt, region}
+use Rattle.puffin_data.specs.inner.Walking.{tries_in, no_scope_counted, Stopped, Stop, WalksTo, ends, stops, stops_within, goes_on, with_scope}
 
 pub data Resumes (form : Form) (bytes : List ℕ) : List ℕ → Walk → ℕ → ℕ → Result Walk Stop → Type 0 where
   outermost : {w : Walk} {p e : ℕ} {out : Result Walk Stop} → WalksTo form bytes 0 w p e out → Resumes form bytes [] w p e out

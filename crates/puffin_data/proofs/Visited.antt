@@ -6,10 +6,10 @@ use Rattle.puffin_data.specs.declared.error.Error.{Error}
 use Rattle.puffin_data.specs.Forest.{Span, Forest, empty, node, IsForest}
 use Rattle.puffin_data.specs.Forest.Spelling.{spelling}
 use Rattle.puffin_data.specs.Walk.Reading.{Found}
-use Rattle.puffin_data.specs.Walk.{region, IsFaultAt, Reaches, here, child, sibling, tries_in}
+use Rattle.puffin_data.specs.Walk.{region, IsFaultAt, Reaches, here, child, sibling}
+use Rattle.puffin_data.specs.inner.Walking.{tries_in}
 use Rattle.puffin_data.specs.Walk.Sights.{Nested, nested_in, Sight, Sees, no_sight, one_sight, scopes_of, before}
-use Rattle.puffin_data.specs.Walk.Visitor.{TakesAll, StopsAtFault, StopsAtRefusal}
-use Rattle.puffin_data.specs.Walk.Going.{over_all, at_fault, at_refusal, Entering, Refusing, Goes, ends, meets_fault, is_refused, stops_within, goes_on, VisitorLaws}
+use Rattle.puffin_data.specs.Walk.Visitor.{Entering, Refusing, TakesAll, StopsAtFault, StopsAtRefusal}
 use Rattle.puffin_data.proofs.lemmas.Numbers.{IsBytes, IsBytes-drop, IsBytes-take}
 use Rattle.puffin_data.proofs.Spelled.{spelt}
 use Rattle.puffin_data.proofs.Resuming.{found_places}
@@ -18,6 +18,15 @@ use Rattle.puffin_data.proofs.Completes.{nothing_reached, after_sound, joined}
 use Rattle.puffin_data.proofs.FirstFaults.{by_parts}
 use Rattle.puffin_data.proofs.SightsSeen.{sights_in, before-first, all_before, none_before}
 use Rattle.puffin_data.proofs.RangesTold.{fault_inside}
+use Rattle.puffin_data.proofs.Going.{over_all, at_fault, at_refusal, Goes, ends, meets_fault, is_refused, stops_within, goes_on}
+
+-- laws of what a visitor takes, and of what it keeps of open scopes
+pub record VisitorLaws {V W : Type 0} (takes : V → List Nested → V → Type 0)
+    (stands_for : V → W → List Span → Type 0) : Type 0 where
+  pub none : (v : V) → takes v [] v
+  pub more : (u v w : V) (xs ys : List Nested) → takes u xs v → takes v ys w → takes u (xs ++ ys) w
+  pub still : (u v : V) (xs : List Nested) (w : W) (around : List Span) → takes u xs v →
+      stands_for u w around → stands_for v w around
 
 abbrev sight_at : ℕ → List Span → Found → Sight
 sight_at p around s = record { place = p; scope = record { around = around; span = s.span } }

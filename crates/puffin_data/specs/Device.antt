@@ -1,6 +1,6 @@
 -- What a call that reads or writes a device promises of it.
 pub mod Counting
-use Rattle.std.specs.Prelude.{◌≡◌, ℕ, ◌+◌, ◌<◌, ◌≤◌, Bool, true, false, List, ◌++◌, length, take, drop, Option, Result, Ok, Err, if◌then◌else◌, ◌⊎◌}
+use Rattle.std.specs.Prelude.{◌≡◌, ℕ, ◌+◌, ◌<◌, ◌≤◌, Bool, true, false, List, ◌++◌, length, Option, Result, Ok, Err, if◌then◌else◌, ◌⊎◌}
 use Rattle.std.specs.Io.KnownBytes.{Appends, Consumes, IsAtEnd}
 use Rattle.puffin_data.specs.Value.Layout.{IsBytes}
 use Rattle.puffin_data.specs.declared.file_error.FileError.{FileError}
@@ -36,15 +36,6 @@ pub record TookUpTo (old new : Option (List ℕ)) (n : ℕ) (taken : List ℕ) :
   pub bytes : IsBytes taken
   pub most : length taken ≤ n
   pub fewer : length taken < n → IsAtEnd new
-
--- A buffer was filled from a place on up to an end, before it is full only at the end of the device.
-pub record IsFilled (old new : Option (List ℕ)) (before after : List ℕ) (at end : ℕ) : Type 0 where
-  pub size : length after ≡ length before
-  pub front : take at after ≡ take at before
-  pub grows : at ≤ end
-  pub within : end ≤ length after
-  pub consumed : Consumes old new (drop at (take end after))
-  pub ends : end < length after → IsAtEnd new
 
 -- A call that read a device failed, as the reading does of the bytes that it took, unless device or memory failed.
 abbrev pub FailsAt : {A : Type 0} → FileError → Option (List ℕ) → Option (List ℕ) →

@@ -12,7 +12,8 @@ abbrev pub ◌>>=◌ : {A B : Type 0} → Result A FileError → (A → Result B
 
 -- so many bytes
 abbrev pub part_of : ℕ → List ℕ → Result (List ℕ × List ℕ) FileError
-part_of n bytes = if nat_lt (length bytes) n then Err file.Truncated else Ok (take n bytes, drop n bytes)
+part_of n bytes =
+    if nat_lt (length bytes) n then Err file.Truncated else Ok (take n bytes, drop n bytes)
 
 -- one byte
 abbrev pub first_at : List ℕ → Result (ℕ × List ℕ) FileError

@@ -57,12 +57,14 @@ abbrev pub next_read : Place → Option (Result ReadScope Error) × ℕ
 next_read from = next_after from (scope_read from.form from.bytes from.at (length from.bytes))
 
 -- All that a reader gives from place p on: the sound scopes one after the other, and behind them the fault where there is one.
-pub data ReaderGives (form : Form) (bytes : List ℕ) : ℕ → List (Result ReadScope Error) → Type 0 where
+pub data ReaderGives (form : Form) (bytes : List ℕ) :
+    ℕ → List (Result ReadScope Error) → Type 0 where
   ends : {p : ℕ} → scope_read form bytes p (length bytes) ≡ Ok None → ReaderGives form bytes p []
   stops : {p : ℕ} {fault : Error} → scope_read form bytes p (length bytes) ≡ Err fault →
       ReaderGives form bytes p (Err fault ∷ [])
   goes_on : {p : ℕ} {s : ReadScope} {later : List (Result ReadScope Error)} →
-      scope_read form bytes p (length bytes) ≡ Ok (Some s) → ReaderGives form bytes s.next_sibling later →
+      scope_read form bytes p (length bytes) ≡ Ok (Some s) →
+      ReaderGives form bytes s.next_sibling later →
       ReaderGives form bytes p (Ok s ∷ later)
 
 -- the top scopes of a forest whose spelling begins at place p
@@ -77,4 +79,6 @@ top_scopes form p (node s children others) =
       child_begin = p + head_size form s.text;
       child_end = p + (head_size form s.text + length (spelling form children));
       next_sibling = p + (head_size form s.text + length (spelling form children) + end_size);
-    } ∷ top_scopes form (p + (head_size form s.text + length (spelling form children) + end_size)) others
+    }
+    ∷ top_scopes form (p + (head_size form s.text + length (spelling form children) + end_size))
+    others

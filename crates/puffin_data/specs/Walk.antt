@@ -3,7 +3,6 @@ pub mod Reading
 pub mod Sightings
 pub mod Sights
 pub mod Visitor
-pub mod Going
 use Rattle.std.specs.Prelude.{◌≡◌, ℕ, ◌+◌, ◌-◌, ◌≤◌, List, [], ◌∷◌, ◌++◌, length, take, drop, slice_index, nat_lt, ◌==◌, if◌then◌else◌, Some, Ok}
 use Rattle.std.specs.List.{count_by}
 use Rattle.puffin_data.specs.declared.data.form.Form.{Form}
@@ -14,10 +13,6 @@ use Rattle.puffin_data.specs.Walk.Reading.{Found, reading, IsFaultIn}
 -- the bytes from place p to place e
 abbrev pub region : List ℕ → ℕ → ℕ → List ℕ
 region bytes p e = take (e - p) (drop p bytes)
-
--- one more try where a scope begins at the front of a region
-abbrev pub tries_in : List ℕ → ℕ
-tries_in part = if slice_index part 0 == begin_mark then 1 else 0
 
 -- a sound scope stands at p, in the region that ends at e
 abbrev pub IsSoundAt : (form : Form) → List ℕ → ℕ → ℕ → Found → Type 0
@@ -59,4 +54,6 @@ pub record Refuses (form : Form) (bytes : List ℕ) (fault : Error) (tries : ℕ
   pub first : IsFirstFault form bytes place fault
   pub sounds : List ℕ
   pub are_sounds : Sounds form bytes 0 (length bytes) sounds
-  pub number : tries ≡ count_by (λ q. nat_lt q place) sounds + (if slice_index bytes place == begin_mark then 1 else 0)
+  pub number : tries
+      ≡ count_by (λ q. nat_lt q place) sounds
+      + (if slice_index bytes place == begin_mark then 1 else 0)

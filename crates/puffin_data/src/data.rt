@@ -9,6 +9,7 @@ mod reader;
 mod record;
 mod scope;
 mod scope_id;
+mod spelling;
 mod stream;
 mod transfer;
 mod visit;

@@ -48,7 +48,7 @@ pub enum Error {
     TooDeep,
     /// A command's thread isn't in the session.
     NoThread,
-    /// A growth, or a copy of an `Arc`, was refused.
+    /// An allocation, or a copy of an `Arc`, was refused.
     Memory,
     /// Scopes with texts of one form were to be joined to scopes with texts of the other.
     UnlikeForms,

@@ -36,7 +36,7 @@ pub enum FileError {
     PartTooLong,
     /// A call was refused with this cause, which is never `Memory`.
     Refused(Error),
-    /// A growth, or a copy of an `Arc`, was refused.
+    /// An allocation, or a copy of an `Arc`, was refused.
     Memory,
 }
 

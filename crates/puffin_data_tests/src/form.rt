@@ -68,38 +68,39 @@ fn a_long_text_is_whole_or_cut_at_16383(rt: HostRuntime) -> std::result::Result<
     Ok(())
 }
 
-#[test]
-fn only_the_shortest_length_is_read(rt: HostRuntime) -> std::result::Result<(), Fail> {
-    let (_, stream) = lettered(rt.alloc(), Form::Long, 127, 'a')?;
-    for (second, whole, cut) in [
-        (0, Err(Error::InvalidStream), Error::InvalidStream),
-        (0x80, Err(Error::InvalidStream), Error::InvalidStream),
-        (1, Ok(1), Error::PrematureEnd),
-    ] {
-        let mut bytes = Vec::from_slice(rt.alloc(), stream.bytes())?;
-        if let Some(byte) = bytes.get_mut(14) {
-            *byte = second;
-        }
-        equal(&rt, walked(rt.alloc(), bytes.as_slice()), whole);
-        // The length is read before the text and the size.
-        bytes.truncate(15);
-        equal(&rt, walked(rt.alloc(), bytes.as_slice()), Err(cut));
-    }
-    let mut bytes = Vec::from_slice(rt.alloc(), stream.bytes())?;
-    for (place, byte) in [(13, 0xff), (14, 0x80)] {
+/// What a walk over so many of a stream's bytes comes to, where a text's length is written in these two groups.
+fn walked_with(alloc: Global, stream: &Stream, groups: (u8, u8), size: usize) -> Result<usize> {
+    let mut bytes = Vec::from_slice(alloc, stream.bytes())?;
+    for (place, byte) in [(13, groups.0), (14, groups.1)] {
         if let Some(at) = bytes.get_mut(place) {
             *at = byte;
         }
     }
-    equal(
-        &rt,
-        walked(rt.alloc(), bytes.as_slice()),
-        Err(Error::InvalidStream),
-    );
-    let cut = stream.bytes().get(..142).unwrap_or(&[]);
-    equal(&rt, walked(rt.alloc(), cut), Err(Error::PrematureEnd));
-    let cut = stream.bytes().get(..14).unwrap_or(&[]);
-    equal(&rt, walked(rt.alloc(), cut), Err(Error::PrematureEnd));
+    bytes.truncate(size);
+    walked(alloc, bytes.as_slice())
+}
+
+#[test]
+fn only_the_shortest_length_is_read(rt: HostRuntime) -> std::result::Result<(), Fail> {
+    let (_, stream) = lettered(rt.alloc(), Form::Long, 127, 'a')?;
+    for (groups, size, expected) in [
+        ((0x80, 0), 160, Err(Error::InvalidStream)),
+        ((0x80, 0x80), 160, Err(Error::InvalidStream)),
+        ((0xff, 0x80), 160, Err(Error::InvalidStream)),
+        ((0x80, 1), 160, Ok(1)),
+        // The length is read before the text and the size.
+        ((0x80, 0), 15, Err(Error::InvalidStream)),
+        ((0x80, 0x80), 15, Err(Error::InvalidStream)),
+        ((0x80, 1), 15, Err(Error::PrematureEnd)),
+        ((0x80, 1), 14, Err(Error::PrematureEnd)),
+        ((0x80, 1), 142, Err(Error::PrematureEnd)),
+    ] {
+        equal(
+            &rt,
+            walked_with(rt.alloc(), &stream, groups, size),
+            expected,
+        );
+    }
     Ok(())
 }
 

@@ -18,7 +18,8 @@ use Rattle.std.proofs.lemmas.Map.Keys.{sorted_head, sorted_tail}
 use Rattle.puffin_data.specs.Honesty.{Recorded, record_of}
 use Rattle.puffin_data.specs.declared.data.info.StreamInfo.{StreamInfo}
 use Rattle.puffin_threads.specs.declared.thread_profiler.thread_info.ThreadInfo.{ThreadInfo}
-use Rattle.puffin_frames.specs.Frame.Contents.{pairs_of, shared_streams}
+use Rattle.puffin_frames.specs.Frame.Contents.{shared_streams}
+use Rattle.puffin_frames.specs.inner.Pairs.{pairs_of}
 use Rattle.puffin_threads.specs.Thread.Info.{Info, info_cmp, info_of, thread_cmp}
 use Rattle.puffin_threads.proofs.lemmas.Infos.{info_cmp_total, thread_cmp_total}
 

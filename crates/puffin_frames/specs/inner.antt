@@ -1,2 +1,4 @@
 -- What contracts of private functions and proofs alone cite.
 pub mod Age
+pub mod Stopping
+pub mod Pairs

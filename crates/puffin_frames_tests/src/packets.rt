@@ -320,36 +320,57 @@ fn sizes_of_a_frame_that_is_held_both_ways(rt: HostRuntime) -> Outcome {
     Ok(())
 }
 
+/// The frame of [`PACKET`], with one scope's details.
+fn frame_with_details(alloc: Global) -> std::result::Result<FrameData, Fail> {
+    let mut frame = frame(alloc)?;
+    frame.scope_delta.push(details(alloc, 1, "my-scope")?)?;
+    Ok(frame)
+}
+
+/// A frame tells of just these details.
+fn tells_of_one(rt: &impl Abort, frame: &FrameData) -> Outcome {
+    equal(rt, only_name(frame)?, "my-scope");
+    equal(rt, only_details(frame)?, ("a", 7));
+    Ok(())
+}
+
 #[test]
 fn a_list_of_one_detail(rt: HostRuntime) -> Outcome {
     let list = [
         1, 1, 1, 1, 8, 109, 121, 45, 115, 99, 111, 112, 101, 1, 97, 4, 98, 46, 114, 115, 7,
     ];
-    let expected = bytes_of(rt.alloc(), &[&PACKET[..70], &[21, 0, 0, 0], &list])?;
-    let mut frame = frame(rt.alloc())?;
-    frame.scope_delta.push(details(rt.alloc(), 1, "my-scope")?)?;
-    is_written(&rt, rt.alloc(), &frame, &expected)?;
-    let read_back = read_one(rt.alloc(), &expected)?;
-    equal(&rt, only_name(&read_back)?, "my-scope");
-    equal(&rt, only_details(&read_back)?, ("a", 7));
-    Ok(())
+    let packet = bytes_of(rt.alloc(), &[&PACKET[..70], &[21, 0, 0, 0], &list])?;
+    is_written(&rt, rt.alloc(), &frame_with_details(rt.alloc())?, &packet)?;
+    tells_of_one(&rt, &read_one(rt.alloc(), &packet)?)
+}
+
+/// Two scopes' details.
+fn two_scopes(alloc: Global) -> std::result::Result<ScopeCollection, Fail> {
+    let mut scopes = ScopeCollection::new(alloc);
+    for (id, name) in [(300, "x"), (2, "y")] {
+        let _ = scopes.insert(details(alloc, id, name)?)?;
+    }
+    Ok(scopes)
+}
+
+/// The packet of a frame, with a collection's details.
+fn packet_with(alloc: Global, scopes: &ScopeCollection) -> std::result::Result<Vec<u8>, Fail> {
+    written(alloc, &frame(alloc)?, Some(scopes))
+}
+
+/// The names of a frame's two details.
+fn two_names<'f>(frame: &'f FrameData) -> std::result::Result<(&'f str, &'f str), Fail> {
+    match frame.scope_delta.as_slice() {
+        [first, second] => Ok((first.name().as_str(), second.name().as_str())),
+        _ => Err("details of two scopes".into()),
+    }
 }
 
 #[test]
 fn details_of_a_collection_are_written(rt: HostRuntime) -> Outcome {
     // A collection's details stand in place of the frame's, by rising id.
-    let mut scopes = ScopeCollection::new(rt.alloc());
-    let _ = scopes.insert(details(rt.alloc(), 300, "x")?)?;
-    let _ = scopes.insert(details(rt.alloc(), 2, "y")?)?;
-    let bytes = written(rt.alloc(), &frame(rt.alloc())?, Some(&scopes))?;
-    let read_back = read_one(rt.alloc(), &bytes)?;
-    let [first, second] = read_back.scope_delta.as_slice() else {
-        return Err("details of two scopes".into());
-    };
-    equal(
-        &rt,
-        (first.name().as_str(), second.name().as_str()),
-        ("y", "x"),
-    );
+    let packet = packet_with(rt.alloc(), &two_scopes(rt.alloc())?)?;
+    let read_back = read_one(rt.alloc(), &packet)?;
+    equal(&rt, two_names(&read_back)?, ("y", "x"));
     Ok(())
 }

@@ -9,7 +9,7 @@ use Rattle.puffin_merge.specs.Merge.Pieces.{Merged, merged_at}
 use Rattle.puffin_merge.specs.Merge.Starts.{Sibling, IsLeastFeasible}
 use Rattle.puffin_merge.specs.Merge.Tree.{Node, merged, row}
 use Rattle.puffin_merge.specs.Merge.{below, TellsOf, sibling_cmp, IsRising, sibling_of, IsRow, AreBelow, IsMerge}
-use Rattle.puffin_merge.specs.inner.Assembled.{Entry, node_of, children_of, forest_below, Each, Some_of, StandsBefore, InOrder, IsEntry, IsTable}
+use Rattle.puffin_merge.proofs.Assembled.{Entry, node_of, children_of, forest_below, Each, Some_of, StandsBefore, InOrder, IsEntry, IsTable}
 use Rattle.puffin_merge.proofs.Starting.{earliest-is_least}
 
 -- ---- lists

@@ -19,9 +19,9 @@ use Rattle.puffin_merge.specs.Merge.Tree.{MergedForest, no_node, merged}
 use Rattle.puffin_merge.specs.Merge.Tree as forests
 use Rattle.puffin_merge.specs.Merge.Refusals.{EndsFit}
 use Rattle.puffin_merge.specs.Merge.Scopes.{scope_then, children_in, forest_in}
-use Rattle.puffin_merge.specs.inner.Assembled.{Entry, node_of, forest_below}
+use Rattle.puffin_merge.proofs.Assembled.{Entry, node_of, forest_below, entry_of, entries_from}
 use Rattle.puffin_merge.specs.inner.Tables.{IsTableOf}
-use Rattle.puffin_merge.specs.inner.Places.{EachOf, AreApart, EndFits, ArePlacesOf, above_all, drawn_after, drawn_from, drawn_node, entry_of, entries_from}
+use Rattle.puffin_merge.specs.inner.Places.{EachOf, AreApart, EndFits, ArePlacesOf, above_all, drawn_after, drawn_from, drawn_node}
 use Rattle.puffin_merge.specs.Merge.{IsMerge}
 use Rattle.puffin_merge.proofs.PlaceEntries.{forest_merged}
 use Rattle.puffin_merge.proofs.Finding.{same_at}

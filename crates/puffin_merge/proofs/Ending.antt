@@ -11,9 +11,9 @@ use Rattle.puffin_merge.specs.declared.merge.tree.Drawn.{Drawn}
 use Rattle.puffin_merge.specs.Merge.Occurrences.{Occurrence}
 use Rattle.puffin_merge.specs.Merge.Tree.{MergedForest, merged}
 use Rattle.puffin_merge.specs.Merge.Refusals.{EndsFit}
-use Rattle.puffin_merge.specs.inner.Assembled.{node_of, forest_below}
+use Rattle.puffin_merge.proofs.Assembled.{node_of, forest_below, entry_of, entries_from}
 use Rattle.puffin_merge.specs.inner.Tables.{IsTableOf}
-use Rattle.puffin_merge.specs.inner.Places.{IsPlaceOf, SomeOf, EachOf, EndFits, ArePlacesOf, above_all, drawn_after, drawn_from, entry_of, entries_from}
+use Rattle.puffin_merge.specs.inner.Places.{IsPlaceOf, SomeOf, EachOf, EndFits, ArePlacesOf, above_all, drawn_after, drawn_from}
 use Rattle.puffin_merge.specs.Merge.{IsMerge}
 use Rattle.puffin_merge.proofs.PlaceEntries.{InRow, in_row, each_at_least, forest_merged}
 

@@ -7,7 +7,7 @@ use Rattle.std.proofs.lemmas.List.{map-append, length_push, length-map}
 use Rattle.puffin_data.specs.declared.error.Error.{Error}
 use Rattle.puffin_data.specs.declared.error.Error.TheVariants.{Memory, TooLarge}
 use Rattle.puffin_data.specs.Forest.{Span}
-use Rattle.puffin_data.specs.Walk.Going.{Entering, Refusing}
+use Rattle.puffin_data.specs.Walk.Visitor.{Entering, Refusing}
 use Rattle.puffin_merge.specs.declared.merge.table.Table.{Table}
 use Rattle.puffin_merge.specs.declared.merge.table.Key.{Key}
 use Rattle.puffin_merge.specs.declared.merge.table.NodeNumber.{NodeNumber}

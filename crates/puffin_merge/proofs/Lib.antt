@@ -3,6 +3,7 @@ mod Reordering
 mod AnyOrder
 mod FramesReordered
 mod Growing
+mod Assembled
 mod Assembling
 mod Examples
 mod Paths

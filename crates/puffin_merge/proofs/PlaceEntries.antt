@@ -19,9 +19,9 @@ use Rattle.puffin_merge.specs.Merge.Occurrences.{Label, Path, Occurrence}
 use Rattle.puffin_merge.specs.Merge.Pieces.{Merged, merged_at}
 use Rattle.puffin_merge.specs.Merge.Starts.{Sibling, earliest_starts, earliest_start, end_from}
 use Rattle.puffin_merge.specs.Merge.{below, sibling_of, IsMerge}
-use Rattle.puffin_merge.specs.inner.Assembled.{Entry, children_of, forest_below, Each, Some_of, StandsBefore, InOrder, IsEntry}
+use Rattle.puffin_merge.proofs.Assembled.{Entry, children_of, forest_below, Each, Some_of, StandsBefore, InOrder, IsEntry, entry_of, entries_from}
 use Rattle.puffin_merge.specs.inner.Tables.{label_in, merged_in, path_at, IsTableOf}
-use Rattle.puffin_merge.specs.inner.Places.{IsPlaceOf, SomeOf, EachOf, AreApart, place_cmp, ArePlacesOf, above_all, drawn_after, entry_of, entries_from}
+use Rattle.puffin_merge.specs.inner.Places.{IsPlaceOf, SomeOf, EachOf, AreApart, place_cmp, ArePlacesOf, above_all, drawn_after}
 use Rattle.std.proofs.lemmas.Cmp.{tied_itself}
 use Rattle.puffin_merge.proofs.Assembling.{table-merged}
 use Rattle.puffin_merge.proofs.Paths.{ties, top_path}

@@ -42,7 +42,8 @@ sibling_of m frames = record { own_start = m.own_start; duration = m.total / fra
 
 -- The merged scopes directly below a path: each tells of its occurrences, each label that occurs there is among them, they
 -- stand in order (so each once), and start at the least feasible times.
-pub record IsRow (all : List Occurrence) (frames : ℕ) (path : Path) (nodes : List Node) : Type 0 where
+pub record IsRow (all : List Occurrence) (frames : ℕ) (path : Path) (nodes : List Node) :
+    Type 0 where
   pub tell : All (λ n. TellsOf (merged_at all (below path n.label)) frames n) nodes
   pub whole : All (λ o. (l : Label) → o.path ≡ below path l → Contains (map (λ n. n.label) nodes) l)
       all

@@ -2,5 +2,4 @@
 pub mod Tables
 pub mod Merging
 pub mod Places
-pub mod Assembled
 pub mod Origins

@@ -24,10 +24,10 @@ pub use scope::MergeScope;
 use std::alloc::Global;
 use std::sync::Arc;
 
-/// Merges the scopes under an info in all frames, by their paths of ids and texts. Of no frames there are none.
+/// Merges the scopes under an info in all frames, by their paths of ids and texts. No frames give none.
 ///
-/// A top scope's start is counted from its frame's range, as if that started where the first frame's does; a scope in
-/// another from that one's start. Siblings stand by the least start of their pieces, then by id, then by the bytes of their
+/// A top scope's start counts from its frame's range, moved to the first frame's start; a nested scope's from its
+/// parent's start. Siblings stand by the least start of their pieces, then by id, then by the bytes of their
 /// texts. Each starts as early as it can: not before that start, not before 0, and not before the one before it has ended.
 ///
 /// Refused with the first of these, in the order of frames and of the scopes in their streams: a fault of a stream

@@ -8,7 +8,7 @@ use Rattle.puffin_frames.specs.Packet.Writing.{HasLongPart}
 use Rattle.puffin_frames.specs.Frame.Sums.{meta_of}
 use Rattle.puffin_frames.specs.Frame.Streams.{Streams}
 use Rattle.puffin_frames.specs.Frame.Holding.{streams_in}
-use Rattle.puffin_collector.specs.Profiler.State.{delta_of}
+use Rattle.puffin_collector.specs.Collector.State.{delta_of}
 use Rattle.puffin_view.specs.View.{View}
 use Rattle.puffin_view.specs.View.Ranking.{last_of, has}
 use Rattle.puffin_view.specs.View.ViewedFrames.{contents_of, frame_index, slowest, is_rising}
@@ -38,7 +38,8 @@ before_frames done (a ∷ later) =
 -- What a frame says that was emitted after these actions. It has a stream under just those starts and names of threads under which scopes were reported since the frame before, and each spells these scopes and no others, in order, with their true count, depth and range. Its meta is that of all of them, with the next index, and it tells of the scope details that were due.
 pub record SaysDue (o : Opening) (done : List Action) (frame : Said) : Type 0 where
   pub streams : Streams
-  pub unpacked : streams_in (record { form = frame.form; kind = frame.kind; bytes = frame.streams }) ≡ Some streams
+  pub unpacked : streams_in (
+      record { form = frame.form; kind = frame.kind; bytes = frame.streams }) ≡ Some streams
   pub spelled : SpellsDue streams (due o done)
   pub meta : frame.meta ≡ meta_of (index_after o done) (values streams)
   pub details : frame.details
@@ -56,7 +57,8 @@ kept_frames n k cs =
 -- ---- the promise
 
 -- Of commands that a new session of threads with these names and forms ran, of their replies, and of the view that was read of the file that a view with these limits wrote.
-pub record KeepsPromise (threads : List (List ℕ × Form)) (commands : List Command) (max_recent max_slow : ℕ) (replies : List Reply) (read : View) : Type 0 where
+pub record KeepsPromise (threads : List (List ℕ × Form)) (commands : List Command)
+    (max_recent max_slow : ℕ) (replies : List Reply) (read : View) : Type 0 where
   -- each command got a reply that it may get after those before it, be it a refusal
   pub end : SessionState
   pub run : AreReplies threads commands replies end

@@ -33,7 +33,12 @@ meaning_or_number number (Some s) = Ok (Some s)
 
 -- what a line with this number says, unless it is skipped; or the number, where it isn't text or says nothing that is known
 unfoldable pub told_by : ℕ → List ℕ → Result (Option Meaning) ℕ
-told_by number line = if is_utf8 line then (if is_skipped line then Ok None else meaning_or_number number (line_meaning (words_in line))) else Err number
+told_by number line =
+    if is_utf8 line
+    then (
+    if is_skipped line then Ok None
+    else meaning_or_number number (line_meaning (words_in line)))
+    else Err number
 
 -- ---- threads
 
@@ -120,7 +125,8 @@ user_said _ = None
 abbrev pub command_said : List (List ℕ) → Command → Option Meaning
 command_said names (command.Begin thread at id text) =
     option_map (λ t. begins t at id (string_bytes text)) (slice_get names thread)
-command_said names (command.End thread at back) = if back == 0 then option_map (λ t. ends t at) (slice_get names thread) else None
+command_said names (command.End thread at back) =
+    if back == 0 then option_map (λ t. ends t at) (slice_get names thread) else None
 command_said names (command.Register thread name function file line) =
     option_map
     (λ t.

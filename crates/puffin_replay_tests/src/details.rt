@@ -1,41 +1,11 @@
 use crate::equal::equal;
-use crate::session::{Outcome, begin, end, is_no_frame, session};
+use crate::session::is_no_frame;
+use crate::steps::Step::{Begin, End, NewFrame, Register, RegisterUser, Snapshot};
+use crate::steps::{Outcome, replies};
 use puffin_data::Error;
 use puffin_data::data::ScopeId;
-use puffin_replay::replay::{Command, Reply};
+use puffin_replay::replay::Reply;
 use std::test::Fail;
-
-fn text(rt: &HostRuntime, text: &str) -> Outcome<String> {
-    Ok(String::from_str(rt.alloc(), text)?)
-}
-
-/// Registers a function, or a scope in it.
-fn register(
-    rt: &HostRuntime,
-    thread: usize,
-    name: Option<&str>,
-    function: &str,
-) -> Outcome<Command> {
-    let name = match name {
-        Some(name) => Some(text(rt, name)?),
-        None => None,
-    };
-    Ok(Command::Register {
-        thread,
-        name,
-        function: text(rt, function)?,
-        file: text(rt, "b.rs")?,
-        line: 7,
-    })
-}
-
-fn register_user(rt: &HostRuntime, names: &[&str]) -> Outcome<Command> {
-    let mut owned = Vec::new(rt.alloc());
-    for name in names {
-        owned.push(text(rt, name)?)?;
-    }
-    Ok(Command::RegisterUser { names: owned })
-}
 
 fn is_registered(reply: Option<&Reply>, number: u32) -> bool {
     match reply {
@@ -70,8 +40,7 @@ fn tells_of(
 
 #[test]
 fn a_name_keeps_its_id(rt: HostRuntime) -> Outcome<()> {
-    let mut session = session(&rt, &["a"])?;
-    let replies = session.run(&[register_user(&rt, &["u", "u", "v"])?])?;
+    let replies = replies(rt.alloc(), &["a"], &[RegisterUser(&["u", "u", "v"])])?;
     let Some(Reply::RegisteredUser(ids)) = replies.get(0) else {
         return Err(Fail::new("not registered"));
     };
@@ -96,14 +65,17 @@ fn a_name_keeps_its_id(rt: HostRuntime) -> Outcome<()> {
 
 #[test]
 fn a_function_comes_with_the_first_frame_after_its_report(rt: HostRuntime) -> Outcome<()> {
-    let mut session = session(&rt, &["a"])?;
-    let replies = session.run(&[
-        register(&rt, 0, None, "f")?,
-        Command::NewFrame,
-        begin(&rt, 0, 100, 1, "")?,
-        end(0, 200),
-        Command::NewFrame,
-    ])?;
+    let replies = replies(
+        rt.alloc(),
+        &["a"],
+        &[
+            Register(0, None, "f"),
+            NewFrame,
+            Begin(0, 100, 1, ""),
+            End(0, 200),
+            NewFrame,
+        ],
+    )?;
     equal(&rt, replies.len(), 5);
     assert!(rt; is_registered(replies.get(0), 1));
     assert!(rt; is_no_frame(replies.get(1)));
@@ -113,23 +85,26 @@ fn a_function_comes_with_the_first_frame_after_its_report(rt: HostRuntime) -> Ou
 
 #[test]
 fn a_snapshot_tells_of_what_was_known_before(rt: HostRuntime) -> Outcome<()> {
-    let mut session = session(&rt, &["a"])?;
-    let replies = session.run(&[
-        register(&rt, 0, None, "f")?,
-        Command::NewFrame,
-        begin(&rt, 0, 100, 1, "")?,
-        end(0, 200),
-        Command::Snapshot,
-        Command::NewFrame,
-        // It is wanted once.
-        Command::Snapshot,
-        begin(&rt, 0, 300, 1, "")?,
-        end(0, 400),
-        Command::NewFrame,
-        begin(&rt, 0, 500, 1, "")?,
-        end(0, 600),
-        Command::NewFrame,
-    ])?;
+    let replies = replies(
+        rt.alloc(),
+        &["a"],
+        &[
+            Register(0, None, "f"),
+            NewFrame,
+            Begin(0, 100, 1, ""),
+            End(0, 200),
+            Snapshot,
+            NewFrame,
+            // It is wanted once.
+            Snapshot,
+            Begin(0, 300, 1, ""),
+            End(0, 400),
+            NewFrame,
+            Begin(0, 500, 1, ""),
+            End(0, 600),
+            NewFrame,
+        ],
+    )?;
     equal(&rt, replies.len(), 13);
     assert!(rt; matches!(replies.get(4), Some(Reply::Snapshot)));
     assert!(rt; tells_of(replies.get(5), (1, 31), &["f"], true));
@@ -140,21 +115,24 @@ fn a_snapshot_tells_of_what_was_known_before(rt: HostRuntime) -> Outcome<()> {
 
 #[test]
 fn a_scope_in_a_function_twice(rt: HostRuntime) -> Outcome<()> {
-    let mut session = session(&rt, &["a"])?;
-    let replies = session.run(&[
-        register(&rt, 0, None, "f")?,
-        register(&rt, 0, Some("part"), "f")?,
-        begin(&rt, 0, 100, 1, "")?,
-        begin(&rt, 0, 200, 2, "")?,
-        end(0, 300),
-        end(0, 400),
-        Command::NewFrame,
-        begin(&rt, 0, 500, 1, "")?,
-        begin(&rt, 0, 600, 2, "")?,
-        end(0, 700),
-        end(0, 800),
-        Command::NewFrame,
-    ])?;
+    let replies = replies(
+        rt.alloc(),
+        &["a"],
+        &[
+            Register(0, None, "f"),
+            Register(0, Some("part"), "f"),
+            Begin(0, 100, 1, ""),
+            Begin(0, 200, 2, ""),
+            End(0, 300),
+            End(0, 400),
+            NewFrame,
+            Begin(0, 500, 1, ""),
+            Begin(0, 600, 2, ""),
+            End(0, 700),
+            End(0, 800),
+            NewFrame,
+        ],
+    )?;
     equal(&rt, replies.len(), 12);
     assert!(rt; is_registered(replies.get(1), 2));
     assert!(rt; tells_of(replies.get(6), (2, 62), &["f", "part"], false));
@@ -164,13 +142,16 @@ fn a_scope_in_a_function_twice(rt: HostRuntime) -> Outcome<()> {
 
 #[test]
 fn a_thread_that_is_not_there_registers_nothing(rt: HostRuntime) -> Outcome<()> {
-    let mut session = session(&rt, &["a"])?;
-    let replies = session.run(&[
-        register(&rt, 1, None, "f")?,
-        begin(&rt, 0, 100, 1, "")?,
-        end(0, 200),
-        Command::NewFrame,
-    ])?;
+    let replies = replies(
+        rt.alloc(),
+        &["a"],
+        &[
+            Register(1, None, "f"),
+            Begin(0, 100, 1, ""),
+            End(0, 200),
+            NewFrame,
+        ],
+    )?;
     equal(&rt, replies.len(), 4);
     assert!(rt; matches!(replies.get(0), Some(Reply::Refused(Error::NoThread))));
     assert!(rt; tells_of(replies.get(3), (1, 31), &[], false));

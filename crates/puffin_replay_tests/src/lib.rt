@@ -7,3 +7,5 @@ mod details;
 mod equal;
 #[cfg(test)]
 mod session;
+#[cfg(test)]
+mod steps;

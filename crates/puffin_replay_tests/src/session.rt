@@ -1,45 +1,10 @@
 use crate::equal::equal;
-use puffin_data::data::{Form, ScopeId, Stream};
+use crate::steps::Step::{Begin, End, EndOuter, NewFrame, Report};
+use crate::steps::{Outcome, replies, replies_in_two_forms, replies_of, session};
+use puffin_data::data::Form;
 use puffin_data::{Error, NanoSecond};
-use puffin_frames::thread_profiler::{Closed, ThreadInfo};
-use puffin_replay::replay::{Command, Reply, Session};
-use std::test::Fail;
-
-pub(crate) type Outcome<T> = Result<T, Fail>;
-
-pub(crate) fn session(rt: &HostRuntime, names: &[&str]) -> Outcome<Session> {
-    let mut owned = Vec::new(rt.alloc());
-    for name in names {
-        owned.push(String::from_str(rt.alloc(), name)?)?;
-    }
-    Ok(Session::new(rt.alloc(), owned)?)
-}
-
-pub(crate) fn begin(
-    rt: &HostRuntime,
-    thread: usize,
-    at: NanoSecond,
-    id: u32,
-    text: &str,
-) -> Outcome<Command> {
-    let Some(id) = ScopeId::new(id) else {
-        return Err(Fail::new("an id of 0"));
-    };
-    Ok(Command::Begin {
-        thread,
-        at,
-        id,
-        text: String::from_str(rt.alloc(), text)?,
-    })
-}
-
-pub(crate) fn end(thread: usize, at: NanoSecond) -> Command {
-    Command::End {
-        thread,
-        at,
-        back: 0,
-    }
-}
+use puffin_frames::thread_profiler::Closed;
+use puffin_replay::replay::Reply;
 
 /// Whether a reply is the frame with this number, whose only stream has this key, so many bytes and this range.
 fn is_frame(
@@ -83,15 +48,18 @@ pub(crate) fn is_no_frame(reply: Option<&Reply>) -> bool {
 
 #[test]
 fn a_scope_comes_with_the_frame_after_its_end(rt: HostRuntime) -> Outcome<()> {
-    let mut session = session(&rt, &["a", "b"])?;
-    let replies = session.run(&[
-        begin(&rt, 0, 100, 1, "")?,
-        begin(&rt, 1, 150, 2, "x")?,
-        end(1, 250),
-        Command::NewFrame,
-        end(0, 300),
-        Command::NewFrame,
-    ])?;
+    let replies = replies(
+        rt.alloc(),
+        &["a", "b"],
+        &[
+            Begin(0, 100, 1, ""),
+            Begin(1, 150, 2, "x"),
+            End(1, 250),
+            NewFrame,
+            End(0, 300),
+            NewFrame,
+        ],
+    )?;
     equal(&rt, replies.len(), 6);
     assert!(rt; matches!(replies.get(0), Some(Reply::Began(14))));
     assert!(rt; matches!(replies.get(1), Some(Reply::Began(15))));
@@ -108,16 +76,6 @@ const EARLIEST: &[u8] = b"(\x01\0\0\0\0\0\0\0\0\0\0\x80\0\0\0\0\0\0\0\0\0)\0\0\0
 /// A scope with the id 1 from 100 to 200, and one with the id 2 from 300 to 400.
 const BOTH: &[u8] =
     b"(\x01\0\0\0\x64\0\0\0\0\0\0\0\0\0\0\0\0\0\0\0\0)\xc8\0\0\0\0\0\0\0(\x02\0\0\0,\x01\0\0\0\0\0\0\0\0\0\0\0\0\0\0\0)\x90\x01\0\0\0\0\0\0";
-
-fn report(rt: &HostRuntime, name: &str, bytes: &[u8]) -> Outcome<Command> {
-    Ok(Command::ReportUser {
-        info: ThreadInfo {
-            start_time_ns: None,
-            name: String::from_str(rt.alloc(), name)?,
-        },
-        stream: Stream::from(Vec::from_slice(rt.alloc(), bytes)?),
-    })
-}
 
 /// Whether the only stream of a frame has these bytes.
 fn holds(reply: Option<&Reply>, bytes: &[u8]) -> bool {
@@ -138,16 +96,19 @@ fn holds(reply: Option<&Reply>, bytes: &[u8]) -> bool {
 
 #[test]
 fn what_was_kept_back_comes_with_the_next_report(rt: HostRuntime) -> Outcome<()> {
-    let mut session = session(&rt, &["a"])?;
-    let replies = session.run(&[
-        report(&rt, "u", EARLIEST)?,
-        begin(&rt, 0, 100, 1, "")?,
-        end(0, 200),
-        Command::NewFrame,
-        begin(&rt, 0, 300, 2, "")?,
-        end(0, 400),
-        Command::NewFrame,
-    ])?;
+    let replies = replies(
+        rt.alloc(),
+        &["a"],
+        &[
+            Report("u", EARLIEST),
+            Begin(0, 100, 1, ""),
+            End(0, 200),
+            NewFrame,
+            Begin(0, 300, 2, ""),
+            End(0, 400),
+            NewFrame,
+        ],
+    )?;
     equal(&rt, replies.len(), 7);
     assert!(rt; matches!(replies.get(0), Some(Reply::Reported)));
     assert!(rt;
@@ -168,13 +129,11 @@ fn what_was_kept_back_comes_with_the_next_report(rt: HostRuntime) -> Outcome<()>
 
 #[test]
 fn a_frame_without_scopes_has_a_number(rt: HostRuntime) -> Outcome<()> {
-    let mut session = session(&rt, &["a"])?;
-    let replies = session.run(&[
-        Command::NewFrame,
-        begin(&rt, 0, 5, 1, "")?,
-        end(0, 5),
-        Command::NewFrame,
-    ])?;
+    let replies = replies(
+        rt.alloc(),
+        &["a"],
+        &[NewFrame, Begin(0, 5, 1, ""), End(0, 5), NewFrame],
+    )?;
     equal(&rt, replies.len(), 4);
     assert!(rt; is_no_frame(replies.get(0)));
     assert!(rt; is_frame(replies.get(3), 1, Some(5), "a", 31, (5, 5)));
@@ -183,20 +142,19 @@ fn a_frame_without_scopes_has_a_number(rt: HostRuntime) -> Outcome<()> {
 
 #[test]
 fn an_outer_scope_is_not_ended(rt: HostRuntime) -> Outcome<()> {
-    let mut session = session(&rt, &["a"])?;
-    let replies = session.run(&[
-        begin(&rt, 0, 1, 1, "")?,
-        begin(&rt, 0, 2, 2, "")?,
-        Command::End {
-            thread: 0,
-            at: 3,
-            back: 1,
-        },
-        // Both are open still.
-        end(0, 4),
-        end(0, 5),
-        end(0, 6),
-    ])?;
+    let replies = replies(
+        rt.alloc(),
+        &["a"],
+        &[
+            Begin(0, 1, 1, ""),
+            Begin(0, 2, 2, ""),
+            EndOuter(0, 3),
+            // Both are open still.
+            End(0, 4),
+            End(0, 5),
+            End(0, 6),
+        ],
+    )?;
     equal(&rt, replies.len(), 6);
     assert!(rt; matches!(replies.get(2), Some(Reply::Refused(Error::MismatchedEnd))));
     assert!(rt; matches!(replies.get(3), Some(Reply::Ended(Closed::Inner))));
@@ -207,14 +165,17 @@ fn an_outer_scope_is_not_ended(rt: HostRuntime) -> Outcome<()> {
 
 #[test]
 fn refused_commands_change_nothing(rt: HostRuntime) -> Outcome<()> {
-    let mut session = session(&rt, &["a"])?;
-    let replies = session.run(&[
-        begin(&rt, 1, 1, 1, "")?,
-        end(1, 2),
-        report(&rt, "u", b"(")?,
-        end(0, 3),
-        Command::NewFrame,
-    ])?;
+    let replies = replies(
+        rt.alloc(),
+        &["a"],
+        &[
+            Begin(1, 1, 1, ""),
+            End(1, 2),
+            Report("u", b"("),
+            End(0, 3),
+            NewFrame,
+        ],
+    )?;
     equal(&rt, replies.len(), 5);
     assert!(rt; matches!(replies.get(0), Some(Reply::Refused(Error::NoThread))));
     assert!(rt; matches!(replies.get(1), Some(Reply::Refused(Error::NoThread))));
@@ -226,22 +187,19 @@ fn refused_commands_change_nothing(rt: HostRuntime) -> Outcome<()> {
 
 #[test]
 fn a_clock_that_falls_stands_still(rt: HostRuntime) -> Outcome<()> {
-    let mut session = session(&rt, &["a"])?;
-    let first = session.run(&[begin(&rt, 0, -7, 1, "")?, begin(&rt, 0, 50, 2, "")?])?;
+    let alloc = rt.alloc();
+    let mut session = session(alloc, &["a"])?;
+    let first = replies_of(
+        alloc,
+        &mut session,
+        &[Begin(0, -7, 1, ""), Begin(0, 50, 2, "")],
+    )?;
     equal(&rt, first.len(), 2);
     // The session goes on where it stood.
-    let replies = session.run(&[end(0, 20), end(0, 30), Command::NewFrame])?;
+    let replies = replies_of(alloc, &mut session, &[End(0, 20), End(0, 30), NewFrame])?;
     equal(&rt, replies.len(), 3);
     assert!(rt; is_frame(replies.get(2), 0, Some(0), "a", 62, (0, 50)));
     Ok(())
-}
-
-/// A session of two threads named `t`, the first of which is short and the second long.
-fn two_forms(rt: &HostRuntime) -> Outcome<Session> {
-    let mut threads = Vec::new(rt.alloc());
-    threads.push((String::from_str(rt.alloc(), "t")?, Form::Short))?;
-    threads.push((String::from_str(rt.alloc(), "t")?, Form::Long))?;
-    Ok(Session::with_forms(rt.alloc(), threads)?)
 }
 
 /// The form of a frame's first stream.
@@ -256,16 +214,19 @@ fn form_in(reply: Option<&Reply>) -> Option<Form> {
 
 #[test]
 fn unlike_forms_under_one_info_come_in_frames_of_their_own(rt: HostRuntime) -> Outcome<()> {
-    let replies = two_forms(&rt)?.run(&[
-        begin(&rt, 0, 100, 1, "")?,
-        end(0, 200),
-        begin(&rt, 1, 100, 1, "")?,
-        end(1, 200),
-        Command::NewFrame,
-        begin(&rt, 1, 300, 1, "")?,
-        end(1, 400),
-        Command::NewFrame,
-    ])?;
+    let replies = replies_in_two_forms(
+        rt.alloc(),
+        &[
+            Begin(0, 100, 1, ""),
+            End(0, 200),
+            Begin(1, 100, 1, ""),
+            End(1, 200),
+            NewFrame,
+            Begin(1, 300, 1, ""),
+            End(1, 400),
+            NewFrame,
+        ],
+    )?;
     assert!(rt; matches!(replies.get(1), Some(Reply::Ended(Closed::Reported))));
     assert!(rt;
         matches!(

@@ -56,7 +56,9 @@ meta_of_forest form f = record {
 abbrev pub frame_of_forest : Form → Forest → Result FrameMeta Error
 frame_of_forest form empty = Err Empty
 frame_of_forest form (node s children others) =
-    let f = node s children others in if int_lt (greatest_stop f -ℤ least_start f) (pos (2 ^ 63)) then Ok (meta_of_forest form f) else Err RangeTooLong
+    let f = node s children others in
+    if int_lt (greatest_stop f -ℤ least_start f) (pos (2 ^ 63)) then Ok (meta_of_forest form f)
+    else Err RangeTooLong
 
 abbrev pub outcome_line : Result FrameMeta Error → List ℕ
 outcome_line (Ok meta) = meta_line meta

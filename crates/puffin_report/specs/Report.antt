@@ -12,7 +12,8 @@ use Rattle.puffin_report.specs.Summary.{IsSummary, FailsToSumUp}
 use Rattle.puffin_report.specs.ReportLines.{report_lines}
 
 -- A reader went from unread to left, and a writer from before to after: the file that was read has this summary under an info.
-pub record HasSummary (info : Info) (unread left : Option (List ℕ)) (summary : Summary) : Type 0 where
+pub record HasSummary (info : Info) (unread left : Option (List ℕ)) (summary : Summary) :
+    Type 0 where
   pub stored : List Stored
   pub took : TookFrames file_at unread left stored
   pub sums : IsSummary info stored summary
@@ -21,10 +22,15 @@ module _ (info : Info) (unread left before after : Option (List ℕ)) where
   -- the lines of the file's summary were written
   abbrev pub IsReported : Type 0
   IsReported =
-      (summary : Summary) × HasSummary info unread left summary × Appends before after (report_lines summary)
+      (summary : Summary)
+      × HasSummary info unread left summary
+      × Appends before after (report_lines summary)
 
   -- the file isn't summed up, or there was no memory, and nothing is written; or the writer failed, and a beginning of the lines is
   abbrev pub IsUnreported : FileError → Type 0
   IsUnreported fault =
       (FailsToSumUp info unread left fault × Appends before after [])
-      ⊎ ((fault ≡ Io) × (summary : Summary) × HasSummary info unread left summary × WritesBeginning before after (report_lines summary))
+      ⊎ ((fault ≡ Io)
+      × (summary : Summary)
+      × HasSummary info unread left summary
+      × WritesBeginning before after (report_lines summary))

@@ -55,7 +55,8 @@ abbrev pub contents_read : List Stored → List Said
 contents_read stored = contents_in (after_all read_view (map frame_stored stored))
 
 -- the number of frames, their merge under an info, and these details, in order
-pub record SumsUp (info : Info) (cs : List Said) (told : List Details) (summary : Summary) : Type 0 where
+pub record SumsUp (info : Info) (cs : List Said) (told : List Details) (summary : Summary) :
+    Type 0 where
   pub frames : summary.frames ≡ length cs
   pub streams : List FrameBytes
   pub unpacked : all_bytes_in info cs ≡ Ok streams
@@ -79,7 +80,12 @@ NoneLacksIds cs = list_any lacks_ids cs ≡ false
 abbrev pub IsHindered : Info → List Said → FileError → Type 0
 IsHindered info cs fault =
     (all_bytes_in info cs ≡ Err fault)
-    ⊎ ((streams : List FrameBytes) × (cause : Error) × (all_bytes_in info cs ≡ Ok streams) × (fault ≡ Refused cause) × (cause ≡ Memory → ⊥) × IsMergeRefusal streams cause)
+    ⊎ ((streams : List FrameBytes)
+    × (cause : Error)
+    × (all_bytes_in info cs ≡ Ok streams)
+    × (fault ≡ Refused cause)
+    × (cause ≡ Memory → ⊥)
+    × IsMergeRefusal streams cause)
 
 -- A call read a device and summed nothing up: the device or memory failed, or the bytes that were taken have this fault, or they are frames that have it.
 abbrev pub FailsToSumUp : Info → Option (List ℕ) → Option (List ℕ) → FileError → Type 0

@@ -121,7 +121,7 @@ fn frame_line(alloc: Global, info: StreamInfo) -> Result<(String, Option<Error>)
 /// Returns `None` where the lines are written, or the cause that refuses the frame where it isn't `Empty`. Where the
 /// bytes are refused, returns their fault and writes nothing. Fails with `Memory`, where nothing is written, or with
 /// `Io` where the reader or the writer failed: in the second case a beginning of the lines may be written. The lines are
-/// made whole before any of them is written. The reader's place is open after a failure.
+/// made whole before any of them is written. How far it read before a failure is unspecified.
 pub fn count_stream<S: Source, D: Drain>(
     alloc: Global,
     source: &mut S,

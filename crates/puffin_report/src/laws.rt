@@ -21,8 +21,8 @@ use puffin_merge::merge::laws::one_outcome;
 use puffin_view::profile_view::laws::what_was_written_is_read;
 
 /// What is summed up of a reader that has the file of a view, and nothing after it: the frames that were written and no
-/// others, and the details that they tell. Reader and memory aside, and where these have ids, only a frame that isn't
-/// unpacked hinders it, or their merge.
+/// others, and the details that they tell. Reader and memory aside, if these have ids, only a frame that isn't unpacked
+/// or the merge stops it.
 pub fn what_was_recorded_is_summed_up()
     ensures summary { (info : Info) (v : View) (new : Option (List ℕ)) (stored : List Stored)
         (summary : Summary) →

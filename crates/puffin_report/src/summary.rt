@@ -110,8 +110,8 @@ fn merged_in(
 /// Reads a file of frames into a view, unpacks the frames that it keeps, and merges the scopes of a thread over them.
 ///
 /// Fails with the first that applies: as [`FrameView::read`]; with `Compressed` or `BadStreams` of the first frame, by
-/// rising index, that isn't unpacked; with `Refused` of what refuses the merge; and anywhere with `Memory`. The reader's
-/// place is then open.
+/// rising index, that isn't unpacked; with `Refused` of what refuses the merge; and anywhere with `Memory`. How far it
+/// read is then unspecified.
 pub fn summarize<S: Source>(
     alloc: Global,
     source: &mut S,

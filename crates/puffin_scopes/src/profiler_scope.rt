@@ -109,8 +109,8 @@ impl<'p, C: NsSource> ProfilerScope<'p, C> {
         ProfilerScope { profiler, standing }
     }
 
-    /// The thread's profiler, for scopes within this one. What is done with it can end this guard's scope: the guard then
-    /// has none to end.
+    /// The thread's profiler, for scopes within this one. Using it may end this guard's scope; the guard then ends
+    /// nothing.
     pub fn profiler(&mut self) -> &mut ThreadProfiler<C>
         ensures { result.now ≡ profiler_of self.old }
     {

@@ -58,8 +58,8 @@ impl Site {
     }
 
     /// The id of the place as that of a function. At the first use an id is drawn, and the function is registered with the
-    /// thread, the names of the function and of the file shortened. Where another thread was first after all, the id is
-    /// that thread's, and what was registered here stays so, unused.
+    /// thread, the names of the function and of the file shortened. If another thread came first, its id is
+    /// returned, and what was registered here stays, unused.
     ///
     /// Refused with `IdsExhausted` or `Memory`: nothing is registered then, though an id may be used up.
     #[inline]

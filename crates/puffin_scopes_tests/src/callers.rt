@@ -57,15 +57,23 @@ fn no_scope<C: NsSource, R: Reporter>(
 
 #[test]
 fn scopes_of_proved_callers(rt: HostRuntime) -> Outcome {
+    let (first, second) = (id(1)?, id(2)?);
     let mut profiler = GlobalProfiler::new(rt.alloc());
     let mut thread = main_thread(rt.alloc())?;
-    assert!(rt; one_scope(&mut thread, id(1)?));
+    assert!(rt; one_scope(&mut thread, first));
     equal(&rt, thread.report_closed(&mut profiler), Ok(true));
+    let ended = ended_scope(&mut thread, second, &mut profiler);
+    equal(&rt, ended, Ok(Some(Closed::Reported)));
+    equal(&rt, profiler.totals().pending, 2);
+    Ok(())
+}
+
+#[test]
+fn no_scopes_of_proved_callers(rt: HostRuntime) -> Outcome {
+    let mut profiler = GlobalProfiler::new(rt.alloc());
+    let mut thread = main_thread(rt.alloc())?;
     refused_scope(&mut thread, Error::IdsExhausted);
     equal(&rt, no_scope(&mut thread, &mut profiler), Ok(None));
     equal(&rt, thread.report_closed(&mut profiler), Ok(false));
-    let ended = ended_scope(&mut thread, id(2)?, &mut profiler);
-    equal(&rt, ended, Ok(Some(Closed::Reported)));
-    equal(&rt, profiler.totals().pending, 2);
     Ok(())
 }

@@ -4,8 +4,9 @@ use crate::equal::equal;
 use crate::program::{Outcome, counts, main_thread, next_frame};
 use puffin::global_profiler::GlobalProfiler;
 use puffin::scope_details::ScopeIds;
-use puffin::thread_profiler::{NsSource, ThreadProfiler};
-use puffin::{Site, Switch, profile_function, profile_scope};
+use puffin::thread_profiler::{NsSource, ScriptClock, ThreadProfiler};
+use puffin::{Result, Site, Switch, profile_function, profile_scope};
+use std::process::Abort;
 
 /// What the threads of the program share.
 #[derive(Drop)]
@@ -50,19 +51,41 @@ fn load<C: NsSource>(thread: &mut ThreadProfiler<C>, scopes: &Scopes, file: &str
     file.split(' ').count()
 }
 
+/// Loads a file. Whether there was something to report.
+fn reports(
+    rt: &impl Abort,
+    thread: &mut ThreadProfiler<ScriptClock>,
+    scopes: &Scopes,
+    profiler: &mut GlobalProfiler,
+) -> Result<bool> {
+    equal(rt, load(thread, scopes, "of three words"), 3);
+    thread.report_closed(profiler)
+}
+
+/// A frame has both scopes, and tells of so many.
+fn has_both(rt: &impl Abort, profiler: &mut GlobalProfiler, told: usize) -> Outcome {
+    equal(rt, counts(&*next_frame(profiler)?), (2, 62, told));
+    Ok(())
+}
+
 #[test]
 fn a_function_and_a_scope_in_it(rt: HostRuntime) -> Outcome {
     let mut profiler = GlobalProfiler::new(rt.alloc());
     let mut thread = main_thread(rt.alloc())?;
     let scopes = Scopes::new();
-    equal(&rt, load(&mut thread, &scopes, "of three words"), 3);
-    equal(&rt, thread.report_closed(&mut profiler), Ok(false));
+    equal(
+        &rt,
+        reports(&rt, &mut thread, &scopes, &mut profiler),
+        Ok(false),
+    );
     scopes.switch.set_scopes_on(true);
-    for expected in [(2, 62, 2), (2, 62, 0)] {
-        equal(&rt, load(&mut thread, &scopes, "of three words"), 3);
-        equal(&rt, thread.report_closed(&mut profiler), Ok(true));
-        let frame = next_frame(&mut profiler)?;
-        equal(&rt, counts(&frame), expected);
+    for told in [2, 0] {
+        equal(
+            &rt,
+            reports(&rt, &mut thread, &scopes, &mut profiler),
+            Ok(true),
+        );
+        has_both(&rt, &mut profiler, told)?;
     }
     Ok(())
 }

@@ -1,139 +1,161 @@
 use crate::equal::equal;
 use crate::program::{Outcome, counts, id, main_thread, next_frame};
 use puffin::global_profiler::GlobalProfiler;
-use puffin::thread_profiler::Closed;
+use puffin::thread_profiler::{Closed, ScriptClock, ThreadProfiler};
 use puffin::{Error, ProfilerScope};
 use std::process::Abort;
 
+type Thread = ThreadProfiler<ScriptClock>;
+
+/// A scope whose guard is dropped.
+fn dropped(rt: &impl Abort, thread: &mut Thread, profiler: &mut GlobalProfiler) -> Outcome {
+    {
+        let guard = ProfilerScope::new(thread, id(1)?, "")?;
+        equal(rt, guard.offset(), Some(14));
+        equal(rt, guard.refusal(), None);
+    }
+    equal(rt, thread.depth(), 0);
+    equal(rt, profiler.totals().reported, 0);
+    equal(rt, thread.report_closed(profiler), Ok(true));
+    equal(rt, thread.report_closed(profiler), Ok(false));
+    let frame = next_frame(profiler)?;
+    equal(rt, counts(&frame), (1, 31, 0));
+    Ok(())
+}
+
 #[test]
 fn the_scope_of_a_dropped_guard_waits(rt: HostRuntime) -> Outcome {
-    let mut profiler = GlobalProfiler::new(rt.alloc());
     let mut thread = main_thread(rt.alloc())?;
-    {
-        let guard = ProfilerScope::new(&mut thread, id(1)?, "")?;
-        equal(&rt, guard.offset(), Some(14));
-        equal(&rt, guard.refusal(), None);
-    }
-    equal(&rt, thread.depth(), 0);
-    equal(&rt, profiler.totals().reported, 0);
-    equal(&rt, thread.report_closed(&mut profiler), Ok(true));
-    equal(&rt, thread.report_closed(&mut profiler), Ok(false));
-    let frame = next_frame(&mut profiler)?;
-    equal(&rt, counts(&frame), (1, 31, 0));
+    dropped(&rt, &mut thread, &mut GlobalProfiler::new(rt.alloc()))
+}
+
+/// A scope whose guard is ended.
+fn ended(rt: &impl Abort, thread: &mut Thread, profiler: &mut GlobalProfiler) -> Outcome {
+    let guard = ProfilerScope::open(thread, id(1), "text");
+    equal(rt, guard.end(profiler), Ok(Some(Closed::Reported)));
+    equal(rt, thread.report_closed(profiler), Ok(false));
+    equal(rt, profiler.totals().pending, 1);
     Ok(())
 }
 
 #[test]
 fn an_ended_guard_reports(rt: HostRuntime) -> Outcome {
-    let mut profiler = GlobalProfiler::new(rt.alloc());
     let mut thread = main_thread(rt.alloc())?;
-    let guard = ProfilerScope::open(&mut thread, id(1), "text");
-    equal(&rt, guard.end(&mut profiler), Ok(Some(Closed::Reported)));
-    equal(&rt, thread.report_closed(&mut profiler), Ok(false));
-    equal(&rt, profiler.totals().pending, 1);
+    ended(&rt, &mut thread, &mut GlobalProfiler::new(rt.alloc()))
+}
+
+/// A guard is dropped while a scope in it is open.
+fn outer_dropped(rt: &impl Abort, thread: &mut Thread, profiler: &mut GlobalProfiler) -> Outcome {
+    {
+        let mut guard = ProfilerScope::new(thread, id(1)?, "")?;
+        equal(rt, guard.profiler().begin_scope(id(2)?, ""), Ok(36));
+    }
+    equal(rt, thread.depth(), 2);
+    equal(rt, thread.report_closed(profiler), Err(Error::ScopesOpen));
     Ok(())
 }
 
 #[test]
 fn an_outer_guard_leaves_an_open_scope(rt: HostRuntime) -> Outcome {
-    let mut profiler = GlobalProfiler::new(rt.alloc());
     let mut thread = main_thread(rt.alloc())?;
-    {
-        let mut guard = ProfilerScope::new(&mut thread, id(1)?, "")?;
-        equal(&rt, guard.profiler().begin_scope(id(2)?, ""), Ok(36));
-    }
-    equal(&rt, thread.depth(), 2);
-    equal(
-        &rt,
-        thread.report_closed(&mut profiler),
-        Err(Error::ScopesOpen),
-    );
+    outer_dropped(&rt, &mut thread, &mut GlobalProfiler::new(rt.alloc()))
+}
+
+/// A guard is ended while a scope in it is open.
+fn outer_ended(rt: &impl Abort, thread: &mut Thread, profiler: &mut GlobalProfiler) -> Outcome {
+    let mut guard = ProfilerScope::new(thread, id(1)?, "")?;
+    let inner = guard.profiler().begin_scope(id(2)?, "")?;
+    equal(rt, guard.end(profiler), Err(Error::MismatchedEnd));
+    equal(rt, thread.depth(), 2);
+    equal(rt, thread.end_scope(inner, profiler), Ok(Closed::Inner));
+    equal(rt, thread.end_scope(14, profiler), Ok(Closed::Reported));
     Ok(())
 }
 
 #[test]
 fn an_outer_guard_can_t_be_ended_first(rt: HostRuntime) -> Outcome {
-    let mut profiler = GlobalProfiler::new(rt.alloc());
     let mut thread = main_thread(rt.alloc())?;
-    let mut guard = ProfilerScope::new(&mut thread, id(1)?, "")?;
-    let inner = guard.profiler().begin_scope(id(2)?, "")?;
-    equal(&rt, guard.end(&mut profiler), Err(Error::MismatchedEnd));
-    equal(&rt, thread.depth(), 2);
-    equal(
-        &rt,
-        thread.end_scope(inner, &mut profiler),
-        Ok(Closed::Inner),
-    );
-    equal(
-        &rt,
-        thread.end_scope(14, &mut profiler),
-        Ok(Closed::Reported),
-    );
+    outer_ended(&rt, &mut thread, &mut GlobalProfiler::new(rt.alloc()))
+}
+
+/// A guard's scope is ended by hand.
+fn ended_within(rt: &impl Abort, thread: &mut Thread, profiler: &mut GlobalProfiler) -> Outcome {
+    {
+        let mut outer = ProfilerScope::new(thread, id(1)?, "")?;
+        let mut guard = ProfilerScope::new(outer.profiler(), id(2)?, "")?;
+        equal(
+            rt,
+            guard.profiler().end_scope(36, profiler),
+            Ok(Closed::Inner),
+        );
+        equal(rt, guard.end(profiler), Err(Error::MismatchedEnd));
+        equal(rt, outer.profiler().depth(), 1);
+    }
+    equal(rt, thread.depth(), 0);
     Ok(())
 }
 
 #[test]
 fn a_guard_whose_scope_was_ended_within_ends_nothing(rt: HostRuntime) -> Outcome {
-    let mut profiler = GlobalProfiler::new(rt.alloc());
     let mut thread = main_thread(rt.alloc())?;
-    {
-        let mut outer = ProfilerScope::new(&mut thread, id(1)?, "")?;
-        let mut guard = ProfilerScope::new(outer.profiler(), id(2)?, "")?;
-        equal(
-            &rt,
-            guard.profiler().end_scope(36, &mut profiler),
-            Ok(Closed::Inner),
-        );
-        equal(&rt, guard.end(&mut profiler), Err(Error::MismatchedEnd));
-        equal(&rt, outer.profiler().depth(), 1);
+    ended_within(&rt, &mut thread, &mut GlobalProfiler::new(rt.alloc()))
+}
+
+/// Scopes three deep.
+fn nested(rt: &impl Abort, thread: &mut Thread, profiler: &mut GlobalProfiler) -> Outcome {
+    let mut outer = ProfilerScope::open(thread, id(1), "");
+    for offset in [36, 67] {
+        let mut middle = ProfilerScope::open(outer.profiler(), id(2), "");
+        equal(rt, middle.offset(), Some(offset));
+        equal(rt, middle.profiler().depth(), 2);
+        if offset == 67 {
+            let inner = ProfilerScope::open(middle.profiler(), id(3), "");
+            equal(rt, inner.end(profiler), Ok(Some(Closed::Inner)));
+            equal(rt, middle.profiler().depth(), 2);
+        }
     }
-    equal(&rt, thread.depth(), 0);
+    equal(rt, outer.profiler().depth(), 1);
+    equal(rt, outer.end(profiler), Ok(Some(Closed::Reported)));
+    let frame = next_frame(profiler)?;
+    equal(rt, counts(&frame), (4, 124, 0));
     Ok(())
 }
 
 #[test]
 fn guards_within_guards(rt: HostRuntime) -> Outcome {
-    let mut profiler = GlobalProfiler::new(rt.alloc());
     let mut thread = main_thread(rt.alloc())?;
-    let mut outer = ProfilerScope::open(&mut thread, id(1), "");
-    for offset in [36, 67] {
-        let mut middle = ProfilerScope::open(outer.profiler(), id(2), "");
-        equal(&rt, middle.offset(), Some(offset));
-        equal(&rt, middle.profiler().depth(), 2);
-        if offset == 67 {
-            let inner = ProfilerScope::open(middle.profiler(), id(3), "");
-            equal(&rt, inner.end(&mut profiler), Ok(Some(Closed::Inner)));
-            equal(&rt, middle.profiler().depth(), 2);
-        }
-    }
-    equal(&rt, outer.profiler().depth(), 1);
-    equal(&rt, outer.end(&mut profiler), Ok(Some(Closed::Reported)));
-    let frame = next_frame(&mut profiler)?;
-    equal(&rt, counts(&frame), (4, 124, 0));
+    nested(&rt, &mut thread, &mut GlobalProfiler::new(rt.alloc()))
+}
+
+/// A guard that is off.
+fn off(rt: &impl Abort, thread: &mut Thread, profiler: &mut GlobalProfiler) -> Outcome {
+    let mut guard = ProfilerScope::off(thread);
+    equal(rt, guard.offset(), None);
+    equal(rt, guard.refusal(), None);
+    equal(rt, guard.profiler().depth(), 0);
+    equal(rt, guard.end(profiler), Ok(None));
+    equal(rt, thread.report_closed(profiler), Ok(false));
     Ok(())
 }
 
 #[test]
 fn a_guard_that_is_off_begins_and_ends_nothing(rt: HostRuntime) -> Outcome {
-    let mut profiler = GlobalProfiler::new(rt.alloc());
     let mut thread = main_thread(rt.alloc())?;
-    let mut guard = ProfilerScope::off(&mut thread);
-    equal(&rt, guard.offset(), None);
-    equal(&rt, guard.refusal(), None);
-    equal(&rt, guard.profiler().depth(), 0);
-    equal(&rt, guard.end(&mut profiler), Ok(None));
-    equal(&rt, thread.report_closed(&mut profiler), Ok(false));
+    off(&rt, &mut thread, &mut GlobalProfiler::new(rt.alloc()))
+}
+
+/// A guard whose id was refused.
+fn refused(rt: &impl Abort, thread: &mut Thread, profiler: &mut GlobalProfiler) -> Outcome {
+    let guard = ProfilerScope::open(thread, Err(Error::IdsExhausted), "");
+    equal(rt, guard.offset(), None);
+    equal(rt, guard.refusal(), Some(Error::IdsExhausted));
+    equal(rt, guard.end(profiler), Ok(None));
+    equal(rt, thread.depth(), 0);
     Ok(())
 }
 
 #[test]
 fn a_refused_id_is_kept(rt: HostRuntime) -> Outcome {
-    let mut profiler = GlobalProfiler::new(rt.alloc());
     let mut thread = main_thread(rt.alloc())?;
-    let guard = ProfilerScope::open(&mut thread, Err(Error::IdsExhausted), "");
-    equal(&rt, guard.offset(), None);
-    equal(&rt, guard.refusal(), Some(Error::IdsExhausted));
-    equal(&rt, guard.end(&mut profiler), Ok(None));
-    equal(&rt, thread.depth(), 0);
-    Ok(())
+    refused(&rt, &mut thread, &mut GlobalProfiler::new(rt.alloc()))
 }

@@ -2,58 +2,68 @@ use crate::equal::equal;
 use crate::program::{Outcome, Scopes, counted, counts, main_thread, next_frame};
 use puffin::global_profiler::GlobalProfiler;
 use puffin::scope_details::ScopeIds;
-use puffin::thread_profiler::{Closed, NsSource, ThreadProfiler};
+use puffin::thread_profiler::{Closed, NsSource, ScriptClock, ThreadProfiler};
 use puffin::{
-    Error, profile_function, profile_function_if, profile_scope, profile_scope_custom,
+    Error, Result, profile_function, profile_function_if, profile_scope, profile_scope_custom,
     profile_scope_custom_if, profile_scope_if,
 };
 use std::borrow::CowStr;
 use std::cell::Cell;
 use std::process::Abort;
+use std::test::Fail;
+
+type Thread = ThreadProfiler<ScriptClock>;
+
+/// Two places under a condition, with the switch on or off. How often the condition was evaluated.
+fn evaluated(
+    rt: &impl Abort,
+    thread: &mut Thread,
+    scopes: &Scopes,
+    profiler: &mut GlobalProfiler,
+    on: bool,
+) -> Result<u32> {
+    let (ids, asked) = (&scopes.ids, Cell::new(0));
+    scopes.switch.set_scopes_on(on);
+    profile_scope_if!(
+        guard,
+        counted(&asked),
+        thread,
+        scopes.switch,
+        ids,
+        scopes.here,
+        "f",
+        "part"
+    );
+    equal(rt, guard.offset().is_some(), on);
+    equal(rt, guard.end(profiler)?.is_some(), on);
+    profile_function_if!(
+        whole,
+        counted(&asked),
+        thread,
+        scopes.switch,
+        ids,
+        scopes.there,
+        "f"
+    );
+    equal(rt, whole.end(profiler)?.is_some(), on);
+    Ok(asked.get())
+}
 
 #[test]
 fn a_condition_is_evaluated_while_the_switch_is_on(rt: HostRuntime) -> Outcome {
+    let mut thread = main_thread(rt.alloc())?;
     let mut profiler = GlobalProfiler::new(rt.alloc());
-    let mut main = main_thread(rt.alloc())?;
     let scopes = Scopes::on();
-    let (thread, ids, asked) = (&mut main, &scopes.ids, Cell::new(0));
-    for on in [false, true] {
-        scopes.switch.set_scopes_on(on);
-        let times = u32::from(on);
-        profile_scope_if!(
-            guard,
-            counted(&asked),
-            thread,
-            scopes.switch,
-            ids,
-            scopes.here,
-            "f",
-            "part"
-        );
-        equal(&rt, guard.offset().is_some(), on);
-        equal(&rt, guard.end(&mut profiler)?.is_some(), on);
-        equal(&rt, asked.get(), times);
-        profile_function_if!(
-            whole,
-            counted(&asked),
-            thread,
-            scopes.switch,
-            ids,
-            scopes.there,
-            "f"
-        );
-        equal(&rt, whole.end(&mut profiler)?.is_some(), on);
-        equal(&rt, asked.get(), times * 2);
+    for (on, times) in [(false, 0), (true, 2)] {
+        let asked = evaluated(&rt, &mut thread, &scopes, &mut profiler, on);
+        equal(&rt, asked, Ok(times));
     }
     equal(&rt, profiler.totals().pending, 2);
     Ok(())
 }
 
-#[test]
-fn a_condition_that_fails_leaves_the_guard_off(rt: HostRuntime) -> Outcome {
-    let mut main = main_thread(rt.alloc())?;
-    let scopes = Scopes::on();
-    let thread = &mut main;
+/// A function's scope under a condition that fails.
+fn failed(rt: &impl Abort, thread: &mut Thread, scopes: &Scopes) -> Outcome {
     profile_function_if!(
         whole,
         false,
@@ -64,10 +74,15 @@ fn a_condition_that_fails_leaves_the_guard_off(rt: HostRuntime) -> Outcome {
         "f",
         "text"
     );
-    equal(&rt, whole.offset(), None);
-    equal(&rt, whole.refusal(), None);
-    equal(&rt, scopes.ids.draw()?.get(), 1);
+    equal(rt, whole.offset(), None);
+    equal(rt, whole.refusal(), None);
+    equal(rt, scopes.ids.draw()?.get(), 1);
     Ok(())
+}
+
+#[test]
+fn a_condition_that_fails_leaves_the_guard_off(rt: HostRuntime) -> Outcome {
+    failed(&rt, &mut main_thread(rt.alloc())?, &Scopes::on())
 }
 
 #[test]
@@ -116,42 +131,67 @@ fn nested<C: NsSource>(
     depth + last.profiler().depth()
 }
 
+/// The nest in a frame of its own, which has so many scopes and bytes and tells of so many.
+fn nest_in_frame(
+    rt: &impl Abort,
+    thread: &mut Thread,
+    scopes: &Scopes,
+    profiler: &mut GlobalProfiler,
+    name: String,
+    deep: bool,
+) -> std::result::Result<(usize, usize, usize), Fail> {
+    equal(
+        rt,
+        nested(thread, scopes, name, deep),
+        1 + usize::from(deep),
+    );
+    equal(rt, thread.report_closed(profiler), Ok(true));
+    Ok(counts(&*next_frame(profiler)?))
+}
+
 #[test]
 fn scopes_as_expressions(rt: HostRuntime) -> Outcome {
-    let mut profiler = GlobalProfiler::new(rt.alloc());
     let mut thread = main_thread(rt.alloc())?;
+    let mut profiler = GlobalProfiler::new(rt.alloc());
     let scopes = Scopes::on();
     for (deep, expected) in [(true, (3, 101, 2)), (false, (2, 66, 0))] {
         let name = String::from_str(rt.alloc(), "inner")?;
-        let depth = nested(&mut thread, &scopes, name, deep);
-        equal(&rt, depth, 1 + usize::from(deep));
-        equal(&rt, thread.report_closed(&mut profiler), Ok(true));
-        let frame = next_frame(&mut profiler)?;
-        equal(&rt, counts(&frame), expected);
+        let counts = nest_in_frame(&rt, &mut thread, &scopes, &mut profiler, name, deep)?;
+        equal(&rt, counts, expected);
     }
+    Ok(())
+}
+
+/// A function's scope whose place has no id.
+fn refused(
+    rt: &impl Abort,
+    thread: &mut Thread,
+    scopes: &Scopes,
+    profiler: &mut GlobalProfiler,
+) -> Outcome {
+    let none = ScopeIds::starting_at(4_294_967_296);
+    profile_function!(guard, thread, scopes.switch, &none, scopes.here, "f");
+    equal(rt, guard.refusal(), Some(Error::IdsExhausted));
+    equal(rt, guard.offset(), None);
+    equal(rt, guard.end(profiler), Ok(None));
     Ok(())
 }
 
 #[test]
 fn a_refusal_is_told(rt: HostRuntime) -> Outcome {
+    let mut thread = main_thread(rt.alloc())?;
     let mut profiler = GlobalProfiler::new(rt.alloc());
-    let mut main = main_thread(rt.alloc())?;
-    let scopes = Scopes::on();
-    let none = ScopeIds::starting_at(4_294_967_296);
-    let thread = &mut main;
-    profile_function!(guard, thread, scopes.switch, &none, scopes.here, "f");
-    equal(&rt, guard.refusal(), Some(Error::IdsExhausted));
-    equal(&rt, guard.offset(), None);
-    equal(&rt, guard.end(&mut profiler), Ok(None));
-    Ok(())
+    refused(&rt, &mut thread, &Scopes::on(), &mut profiler)
 }
 
-#[test]
-fn names_of_the_caller_s_own_are_not_taken(rt: HostRuntime) -> Outcome {
-    let mut global = GlobalProfiler::new(rt.alloc());
-    let mut main = main_thread(rt.alloc())?;
-    let scopes = Scopes::on();
-    let (thread, profiler, id) = (&mut main, "text", "more");
+/// A function's scope and one in it, beside names of the caller's own that the macros use within.
+fn beside_names(
+    rt: &impl Abort,
+    thread: &mut Thread,
+    scopes: &Scopes,
+    global: &mut GlobalProfiler,
+) {
+    let (profiler, id) = ("text", "more");
     profile_function!(
         guard,
         thread,
@@ -173,10 +213,16 @@ fn names_of_the_caller_s_own_are_not_taken(rt: HostRuntime) -> Outcome {
             "part",
             id
         );
-        equal(&rt, guard.end(&mut global), Ok(Some(Closed::Inner)));
+        equal(rt, guard.end(global), Ok(Some(Closed::Inner)));
     }
-    equal(&rt, guard.end(&mut global), Ok(Some(Closed::Reported)));
-    let frame = next_frame(&mut global)?;
-    equal(&rt, counts(&frame), (2, 70, 2));
+    equal(rt, guard.end(global), Ok(Some(Closed::Reported)));
+}
+
+#[test]
+fn names_of_the_caller_s_own_are_not_taken(rt: HostRuntime) -> Outcome {
+    let mut thread = main_thread(rt.alloc())?;
+    let mut global = GlobalProfiler::new(rt.alloc());
+    beside_names(&rt, &mut thread, &Scopes::on(), &mut global);
+    equal(&rt, counts(&*next_frame(&mut global)?), (2, 70, 2));
     Ok(())
 }

@@ -4,11 +4,12 @@ use puffin::data::ScopeId;
 use puffin::frame_data::FrameData;
 use puffin::global_profiler::GlobalProfiler;
 use puffin::scope_details::ScopeIds;
+use puffin::thread_profiler::{ScriptClock, ThreadProfiler};
 use puffin::{Error, ProfilerScope, Result, Site};
 use std::alloc::Global;
 use std::borrow::CowStr;
 use std::process::Abort;
-use std::sync::{Barrier, Wait};
+use std::sync::{Arc, Barrier, Wait};
 use std::test::Fail;
 use std::thread;
 
@@ -29,19 +30,37 @@ fn only_place<'f>(frame: &'f FrameData) -> Option<(Place<'f>, Option<ScopeId>)> 
     Some((place, details.scope_id()))
 }
 
+/// The frame of one scope with this id.
+fn frame_of(
+    thread: &mut ThreadProfiler<ScriptClock>,
+    profiler: &mut GlobalProfiler,
+    id: ScopeId,
+) -> std::result::Result<Arc<FrameData>, Fail> {
+    let _closed = ProfilerScope::new(thread, id, "")?.end(profiler)?;
+    next_frame(profiler)
+}
+
+/// Both calls for a place return the first id.
+fn registered_once(
+    rt: &impl Abort,
+    thread: &mut ThreadProfiler<ScriptClock>,
+    site: &Site,
+) -> std::result::Result<ScopeId, Fail> {
+    let ids = ScopeIds::new();
+    let first = site.function_id(thread, &ids, "shop::basket::add::f")?;
+    let again = site.function_id(thread, &ids, "shop::basket::add::f")?;
+    equal(rt, (first.get(), again.get()), (1, 1));
+    equal(rt, ids.draw()?.get(), 2);
+    Ok(first)
+}
+
 #[test]
 fn a_place_is_registered_once(rt: HostRuntime) -> Outcome {
     let mut profiler = GlobalProfiler::new(rt.alloc());
     let mut thread = main_thread(rt.alloc())?;
-    let ids = ScopeIds::new();
     let site = Site::new("crates/shop/src/basket/add.rs", 7);
-    let first = site.function_id(&mut thread, &ids, "shop::basket::add::f")?;
-    let again = site.function_id(&mut thread, &ids, "shop::basket::add::f")?;
-    equal(&rt, (first.get(), again.get()), (1, 1));
-    equal(&rt, ids.draw()?.get(), 2);
-    let guard = ProfilerScope::new(&mut thread, first, "")?;
-    let _closed = guard.end(&mut profiler)?;
-    let frame = next_frame(&mut profiler)?;
+    let first = registered_once(&rt, &mut thread, &site)?;
+    let frame = frame_of(&mut thread, &mut profiler, first)?;
     equal(&rt, counts(&frame), (1, 31, 1));
     let expected = ("basket::add", "basket::add", "shop/…/add.rs", 7);
     // (no call takes these texts by value)
@@ -49,23 +68,25 @@ fn a_place_is_registered_once(rt: HostRuntime) -> Outcome {
     Ok(())
 }
 
+/// Both calls for a place return the first id, as its name isn't read again.
+fn named_once(
+    rt: &impl Abort,
+    thread: &mut ThreadProfiler<ScriptClock>,
+    site: &Site,
+) -> std::result::Result<ScopeId, Fail> {
+    let ids = ScopeIds::new();
+    let first = site.named_id(thread, &ids, "add", CowStr::Borrowed("sum"))?;
+    let other = CowStr::Borrowed("unread");
+    equal(rt, site.named_id(thread, &ids, "add", other), Ok(first));
+    Ok(first)
+}
+
 #[test]
 fn a_scope_with_a_name(rt: HostRuntime) -> Outcome {
     let mut profiler = GlobalProfiler::new(rt.alloc());
     let mut thread = main_thread(rt.alloc())?;
-    let ids = ScopeIds::new();
-    let site = Site::new("src/add.rs", 9);
-    let sum = CowStr::Borrowed("sum");
-    let first = site.named_id(&mut thread, &ids, "add", sum)?;
-    let other = CowStr::Borrowed("unread");
-    equal(
-        &rt,
-        site.named_id(&mut thread, &ids, "add", other),
-        Ok(first),
-    );
-    let guard = ProfilerScope::new(&mut thread, first, "")?;
-    let _closed = guard.end(&mut profiler)?;
-    let frame = next_frame(&mut profiler)?;
+    let first = named_once(&rt, &mut thread, &Site::new("src/add.rs", 9))?;
+    let frame = frame_of(&mut thread, &mut profiler, first)?;
     let expected = ("sum", "add", "src/add.rs", 9);
     // (no call takes these texts by value)
     assert_eq!(rt; only_place(&frame), Some((expected, Some(first))));

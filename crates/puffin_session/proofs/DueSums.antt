@@ -23,7 +23,7 @@ use Rattle.puffin_threads.specs.Thread.Info.{Info, info_cmp, same_info}
 use Rattle.puffin_threads.specs.Details.{Details, AllHaveIds}
 use Rattle.puffin_frames.specs.Frame.Contents.{Streams, AreHonest, reported_to}
 use Rattle.puffin_frames.specs.Frame.Sums.{total_bytes, total_scopes, joined_start, joined_stop}
-use Rattle.puffin_collector.specs.Profiler.State.{PendingFits, range_with, IsTooLong, IsUnlike, IsReportRefusal}
+use Rattle.puffin_collector.specs.Collector.State.{PendingFits, range_with, IsTooLong, IsUnlike, IsReportRefusal}
 use Rattle.puffin_session.specs.Session.History.{Word, Opening, Action}
 use Rattle.puffin_session.specs.Session.Deliveries.{Delivery, under}
 use Rattle.puffin_session.specs.Session.Due.{due, total_under, IsUnlikeDue, events_of, bytes_delivered, scopes_delivered}

@@ -29,9 +29,9 @@ use Rattle.puffin_frames.specs.declared.frame_data.frame.FrameData.{FrameData}
 use Rattle.puffin_threads.specs.declared.thread_profiler.thread_info.ThreadInfo.{ThreadInfo}
 use Rattle.puffin_threads.specs.declared.thread_profiler.reporter.Closed.{Closed}
 use Rattle.puffin_threads.specs.declared.thread_profiler.reporter.Closed.TheVariants.{Inner, Reported, Kept}
-use Rattle.puffin_collector.specs.Profiler.State.{Collected, AcceptsReport, after_frame, after_no_frame, after_adding, after_learning, after_wanting, reported_to, IsUnlike, IsReportRefusal, delta_of}
-use Rattle.puffin_collector.specs.Profiler.Registering.{Registers, RegistersSome, Adds, AddsSome}
-use Rattle.puffin_collector.specs.Profiler.Collecting.{Collects, HoldsAll, KeepsPending}
+use Rattle.puffin_collector.specs.Collector.State.{Collected, AcceptsReport, after_frame, after_no_frame, after_adding, after_learning, after_wanting, reported_to, IsUnlike, IsReportRefusal, delta_of}
+use Rattle.puffin_collector.specs.Collector.Registering.{Registers, RegistersSome, Adds, AddsSome}
+use Rattle.puffin_collector.specs.Collector.Collecting.{Collects, HoldsAll, KeepsPending}
 use Rattle.puffin_threads.specs.Thread.Closing.{IsReportOf}
 use Rattle.puffin_session.specs.declared.command.Command.{Command}
 use Rattle.puffin_session.specs.declared.command.Command.TheVariants.{Begin, End, Register, RegisterUser, ReportUser, Snapshot, NewFrame}

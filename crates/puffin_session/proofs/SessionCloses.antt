@@ -18,8 +18,8 @@ use Rattle.puffin_threads.specs.Thread.Closing.{Closes}
 use Rattle.puffin_frames.specs.declared.frame_data.frame.FrameData.{FrameData}
 use Rattle.puffin_threads.specs.declared.thread_profiler.reporter.Closed.{Closed}
 use Rattle.puffin_threads.specs.declared.thread_profiler.reporter.Closed.TheVariants.{Inner, Reported, Kept}
-use Rattle.puffin_collector.specs.Profiler.State.{Collected, AcceptsReport, RefusesReport, after_wanting, IsReportRefusal}
-use Rattle.puffin_collector.specs.Profiler.Collecting.{Collects, KeepsPending}
+use Rattle.puffin_collector.specs.Collector.State.{Collected, AcceptsReport, RefusesReport, after_wanting, IsReportRefusal}
+use Rattle.puffin_collector.specs.Collector.Collecting.{Collects, KeepsPending}
 use Rattle.puffin_session.specs.Session.{SessionState}
 use Rattle.puffin_session.specs.inner.Serving.{clock_time, session_thread, session_with_thread, session_with_collected, EndsInnermost}
 

@@ -9,11 +9,10 @@ use Rattle.puffin_data.specs.Honesty.{Recorded, IsHonestRecord, AreUnlike, joine
 use Rattle.puffin_data.specs.Forest.Tour.{Event, tour}
 use Rattle.puffin_data.specs.Forest.Words.{num_begun}
 use Rattle.puffin_threads.specs.Thread.Info.{Info, info_cmp, same_info}
-use Rattle.puffin_frames.specs.Frame.Contents.{Streams, stream_under}
+use Rattle.puffin_frames.specs.Frame.Contents.{Streams, stream_under, holding_of, frame_meta}
 use Rattle.puffin_frames.specs.Frame.Sums.{meta_of, total_scopes}
-use Rattle.puffin_frames.specs.Frame.Contents.{holding_of, frame_meta}
 use Rattle.puffin_frames.specs.declared.frame_data.frame.FrameData.{FrameData}
-use Rattle.puffin_collector.specs.Profiler.State.{no_scopes, reported_to}
+use Rattle.puffin_collector.specs.Collector.State.{no_scopes, reported_to}
 use Rattle.puffin_session.specs.Session.History.{Word}
 use Rattle.puffin_session.specs.Session.Deliveries.{Delivery, under}
 use Rattle.puffin_session.specs.Session.Due.{no_word, joined_word, total_under, NoneDue}

@@ -13,7 +13,7 @@ use Rattle.puffin_data.specs.Forest.Words.{num_begun}
 use Rattle.puffin_threads.specs.Thread.Info.{Info}
 use Rattle.puffin_threads.specs.Thread.Calls.{Thread, after_begin, after_end, after_handing, after_registering, info_of_thread}
 use Rattle.puffin_threads.specs.Details.{Details}
-use Rattle.puffin_collector.specs.Profiler.State.{reported_to}
+use Rattle.puffin_collector.specs.Collector.State.{reported_to}
 use Rattle.puffin_frames.specs.Frame.Contents.{stream_under}
 use Rattle.puffin_session.specs.Session.History.{Word, Opening, Mark, begun, ended, Call, Action, calls, hands, frames, registers, nobody, thread_at, call_of}
 use Rattle.puffin_session.specs.Session.Deliveries.{under, unreported, word_with, info_under, deliveries_at, deliveries_after}

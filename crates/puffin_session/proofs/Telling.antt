@@ -4,7 +4,7 @@ use Rattle.std.specs.List.{flat_map}
 use Rattle.std.proofs.lemmas.List.Concat.{flat_map-append}
 use Rattle.puffin_threads.specs.Details.{Details}
 use Rattle.puffin_threads.specs.Details.Collection.{Collection, with_details, with_all_details}
-use Rattle.puffin_collector.specs.Profiler.State.{Collected}
+use Rattle.puffin_collector.specs.Collector.State.{Collected}
 use Rattle.puffin_session.specs.Session.History.{Opening, Action, thread_at, since_last}
 use Rattle.puffin_session.specs.Session.Notes.{Note, noted, sent, is_sent, details_in, details_waiting, notes_at, details_registered, due_notes_at, due_notes_after, due_details, details_learnt_at, details_learnt_after, known_after, wanted_at}
 use Rattle.puffin_session.specs.Session.{TellsAfter}

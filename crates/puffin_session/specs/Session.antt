@@ -20,7 +20,7 @@ use Rattle.puffin_threads.specs.Thread.Info.{Info}
 use Rattle.puffin_threads.specs.Thread.Calls.{Thread}
 use Rattle.puffin_frames.specs.Frame.Contents.{Streams}
 use Rattle.puffin_threads.specs.Details.Collection.{no_details}
-use Rattle.puffin_collector.specs.Profiler.State.{Collected}
+use Rattle.puffin_collector.specs.Collector.State.{Collected}
 use Rattle.puffin_threads.specs.Thread.Events.{events_in}
 use Rattle.puffin_session.specs.Session.History.{Word, Opening, Action, nobody, thread_at, latest_of}
 use Rattle.puffin_session.specs.Session.Deliveries.{Delivery, unreported, first_start_of}

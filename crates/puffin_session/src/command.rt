@@ -3,7 +3,7 @@ use puffin_data::data::{ScopeId, Stream};
 use puffin_data::{Error, NanoSecond};
 use puffin_frames::thread_profiler::{Closed, ThreadInfo};
 
-/// What a session is told to do. A time below 0 counts as 0, and one that falls behind its thread's as that.
+/// What a session is told to do. Times below 0 count as 0, and those below the thread's last one as that one.
 #[derive(Drop)]
 pub enum Command {
     /// Begin a scope.

@@ -7,7 +7,7 @@ ghost use Rattle.puffin_data.specs.Honesty.{IsHonest};
 use crate::equal::equal;
 use puffin::data::{Form, Reader, Scope, ScopeId, Stream, StreamInfo};
 use puffin::frame_data::FrameData;
-use puffin::global_profiler::{GlobalProfiler, SharedProfiler, SharedReporter};
+use puffin::global_profiler::{GlobalProfiler, Share, SharedProfiler, SharedReporter};
 use puffin::thread_profiler::{Closed, ScriptClock, ThreadInfo, ThreadProfiler};
 use std::alloc::Global;
 use std::marker::Brand;
@@ -57,7 +57,50 @@ fn has_long(alloc: Global, frame: &FrameData, name: &str, texts: &[&str]) -> puf
     Ok(false)
 }
 
-/// A thread's two scopes, one with a text that both forms write in one way, and a scope of the caller's own.
+/// A thread's two scopes, one with a text that both forms write in one way. Gives the share back.
+fn main_scopes<L: Ledger, M: Ledger, R: Wait + Abort + Copy + Drop>(
+    rt: R,
+    alloc: Global,
+    profiler: SharedProfiler<L, M>,
+    share: Share<L, M>,
+) -> std::result::Result<Share<L, M>, Fail> {
+    let id = ScopeId::new(1).ok_or("an id")?;
+    let name = String::from_str(alloc, "main")?;
+    let mut thread = ThreadProfiler::with_form(alloc, name, ScriptClock::new(5), Form::Long);
+    let mut reporter = SharedReporter::new(rt, profiler, share);
+    for text in ["load", TEXT] {
+        let scope = thread.begin_scope(id, text)?;
+        let closed = reporter.end_scope(&mut thread, scope)?;
+        equal(&rt, closed, Closed::Reported);
+    }
+    Ok(reporter.into_share())
+}
+
+/// Reports a scope of the caller's own.
+fn user_scope<L: Ledger, M: Ledger, R: Wait>(
+    rt: &R,
+    alloc: Global,
+    profiler: &SharedProfiler<L, M>,
+    share: &mut Share<L, M>,
+) -> Outcome {
+    let own = own_scope(alloc, ScopeId::new(1).ok_or("an id")?)?;
+    let user = ThreadInfo {
+        start_time_ns: None,
+        name: String::from_str(alloc, "user")?,
+    };
+    profiler.report_user_scopes(rt, share, user, &own.as_stream_into_ref())?;
+    Ok(())
+}
+
+/// A frame of these three scopes.
+fn handed_out<R: Abort>(rt: &R, alloc: Global, frame: &FrameData) -> Outcome {
+    equal(rt, frame.meta().num_scopes, 3);
+    assert!(rt; has_long(alloc, frame, "main", &["load", TEXT])?);
+    assert!(rt; has_long(alloc, frame, "user", &["own"])?);
+    Ok(())
+}
+
+/// A thread's two scopes and one of the caller's own.
 fn reported<L: Ledger, M: Ledger, R: Wait + Abort + Copy + Drop>(
     rt: R,
     alloc: Global,
@@ -69,42 +112,17 @@ fn reported<L: Ledger, M: Ledger, R: Wait + Abort + Copy + Drop>(
         × (reported.parts ≡ 1) }
     requires handed { (handed.name ≡ M.name) × (handed.parts ≡ M.parts) × (handed.parts ≡ 1) }
 {
-    let opened = SharedProfiler::<L, M>::open(
-        alloc,
-        GlobalProfiler::new(alloc),
-        1,
-        reported,
-        handed,
-    );
+    let none = GlobalProfiler::new(alloc);
+    let opened = SharedProfiler::<L, M>::open(alloc, none, 1, reported, handed);
     let Ok((profiler, shares)) = opened else {
         return Err(Fail::new("no memory"));
     };
     let mut shares = shares;
     let share = shares.pop().ok_or("a share")?;
-    let id = ScopeId::new(1).ok_or("an id")?;
-    let name = String::from_str(alloc, "main")?;
-    let mut thread = ThreadProfiler::with_form(alloc, name, ScriptClock::new(5), Form::Long);
-    let mut reporter = SharedReporter::new(rt, profiler.clone()?, share);
-    for text in ["load", TEXT] {
-        let scope = thread.begin_scope(id, text)?;
-        equal(
-            &rt,
-            reporter.end_scope(&mut thread, scope)?,
-            Closed::Reported,
-        );
-    }
-    let mut share = reporter.into_share();
-    let own = own_scope(alloc, id)?;
-    let user = ThreadInfo {
-        start_time_ns: None,
-        name: String::from_str(alloc, "user")?,
-    };
-    profiler.report_user_scopes(&rt, &mut share, user, &own.as_stream_into_ref())?;
+    let mut share = main_scopes(rt, alloc, profiler.clone()?, share)?;
+    user_scope(&rt, alloc, &profiler, &mut share)?;
     let frame = profiler.new_frame(&rt, &mut share)?.frame.ok_or("a frame")?;
-    equal(&rt, frame.meta().num_scopes, 3);
-    assert!(rt; has_long(alloc, &frame, "main", &["load", TEXT])?);
-    assert!(rt; has_long(alloc, &frame, "user", &["own"])?);
-    Ok(())
+    handed_out(&rt, alloc, &frame)
 }
 
 #[test]

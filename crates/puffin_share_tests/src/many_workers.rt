@@ -3,9 +3,9 @@
 ghost use Rattle.std.specs.Prelude.{◌≡◌};
 
 use crate::equal::equal;
-use crate::shared_profiler::{Frames, in_order, taken};
+use crate::shared_profiler::{Frames, are_all, are_in_order, taken};
 use puffin::data::{ScopeId, StreamInfoRef};
-use puffin::global_profiler::{GlobalProfiler, Settled, Share, SharedProfiler, SharedReporter};
+use puffin::global_profiler::{GlobalProfiler, Share, SharedProfiler, SharedReporter};
 use puffin::scope_details::ScopeDetails;
 use puffin::thread_profiler::{
     AnyThread, Closed, Reporter, ScriptClock, ThreadInfo, ThreadProfiler,
@@ -79,8 +79,42 @@ fn reported_all<T: AnyThread, L: Ledger, M: Ledger, R: Wait>(
     false
 }
 
-/// Closes scopes with rising ids, one after the other, and gives the share back. `None` where another one than each third
-/// report is refused.
+/// Begins and ends a scope, each third of which is kept, as its report is refused. `None` where it is otherwise.
+fn scope<L: Ledger, M: Ledger, R: Wait>(
+    wary: &mut Wary<L, M, R>,
+    thread: &mut ThreadProfiler<ScriptClock>,
+    number: u32,
+    name: &str,
+) -> Option<()> {
+    let scope = thread.begin_scope(ScopeId::new(number)?, name).ok()?;
+    let expected = if number % 3 == 0 {
+        Closed::Kept(Error::InvalidStream)
+    } else {
+        Closed::Reported
+    };
+    if ended(thread, scope, wary).ok()? != expected {
+        return None;
+    }
+    Some(())
+}
+
+/// Closes scopes with rising ids, one after the other, and reports what waits at the end. `None` where another one than each
+/// third report is refused.
+fn closed<L: Ledger, M: Ledger, R: Wait>(
+    wary: &mut Wary<L, M, R>,
+    thread: &mut ThreadProfiler<ScriptClock>,
+    name: &str,
+) -> Option<()> {
+    for number in 1..SCOPES + 1 {
+        scope(wary, thread, number, name)?;
+    }
+    if !reported_all(thread, wary) {
+        return None;
+    }
+    Some(())
+}
+
+/// Closes scopes on a thread with the worker's name, and gives the share back.
 fn work<L: Ledger, M: Ledger, R: Wait + Drop>(
     rt: R,
     alloc: Global,
@@ -89,26 +123,13 @@ fn work<L: Ledger, M: Ledger, R: Wait + Drop>(
     worker: usize,
 ) -> Option<Share<L, M>> {
     let name = *NAMES.get(worker)?;
+    let owned = String::from_str(alloc, name).ok()?;
+    let mut thread = ThreadProfiler::new(alloc, owned, ScriptClock::new(5));
     let mut wary = Wary {
         calls: 0,
         reporter: SharedReporter::new(rt, profiler, share),
     };
-    let owned = String::from_str(alloc, name).ok()?;
-    let mut thread = ThreadProfiler::new(alloc, owned, ScriptClock::new(5));
-    for number in 1..SCOPES + 1 {
-        let scope = thread.begin_scope(ScopeId::new(number)?, name).ok()?;
-        let expected = if number % 3 == 0 {
-            Closed::Kept(Error::InvalidStream)
-        } else {
-            Closed::Reported
-        };
-        if ended(&mut thread, scope, &mut wary).ok()? != expected {
-            return None;
-        }
-    }
-    if !reported_all(&mut thread, &mut wary) {
-        return None;
-    }
+    closed(&mut wary, &mut thread, name)?;
     Some(wary.reporter.into_share())
 }
 
@@ -153,6 +174,22 @@ fn worked<
     Ok(back)
 }
 
+/// Each share sees all that was reported and handed out.
+fn see_all<L: Ledger, M: Ledger, R: Wait + Abort>(
+    rt: &R,
+    profiler: &SharedProfiler<L, M>,
+    shares: &mut [Share<L, M>],
+) {
+    for share in shares {
+        let totals = profiler.totals(rt, share);
+        equal(
+            rt,
+            (totals.reported, totals.pending, totals.emitted),
+            (4000, 0, 4000),
+        );
+    }
+}
+
 /// The scopes of eight workers are all handed out, each once.
 fn nine_shares<
     L: Ledger + Send + Sync + 'static,
@@ -173,28 +210,10 @@ fn nine_shares<
     let mut own = shares.pop().ok_or("the taker's share")?;
     let mut frames = Vec::new(alloc);
     let mut shares = worked(rt, alloc, &profiler, shares, &mut own, &mut frames)?;
-    for name in NAMES {
-        equal(&rt, in_order(alloc, &frames, name)?, Some(SCOPES));
-    }
+    are_in_order(&rt, alloc, &frames, &NAMES, SCOPES)?;
     shares.push(own)?;
-    for share in &mut shares {
-        let totals = profiler.totals(&rt, share);
-        equal(
-            &rt,
-            (totals.reported, totals.pending, totals.emitted),
-            (4000, 0, 4000),
-        );
-    }
-    let Ok(settled) = profiler.settle(&rt, shares) else {
-        return Err(Fail::new("nine shares aren't all"));
-    };
-    let all = Settled {
-        reported: 4000,
-        handed: 4000,
-        pending: 0,
-    };
-    equal(&rt, settled, all);
-    Ok(())
+    see_all(&rt, &profiler, &mut shares);
+    are_all(&rt, &profiler, shares, 4000)
 }
 
 #[test]

@@ -73,19 +73,37 @@ fn written(
     Ok(bytes)
 }
 
+/// How many scopes a packet tells of.
+fn scopes_told(alloc: Global, packet: &[u8]) -> std::result::Result<usize, Fail> {
+    let read = FrameData::read_next(alloc, &mut Counted::new(packet))?.ok_or("a frame")?;
+    Ok(read.scope_delta.len())
+}
+
+/// A frame is written as the packet; with a collection, its packet tells of two scopes.
+fn is_written<R: Abort>(
+    rt: &R,
+    alloc: Global,
+    frame: &FrameData,
+    scopes: &ScopeCollection,
+) -> Outcome {
+    equal(
+        rt,
+        written(alloc, frame, None)?.as_slice(),
+        PACKET.as_slice(),
+    );
+    let told = written(alloc, frame, Some(scopes))?;
+    equal(rt, scopes_told(alloc, &told)?, 2);
+    Ok(())
+}
+
 #[test]
 fn a_frame_and_its_copies_are_written(rt: HostRuntime) -> Outcome {
     let alloc = rt.alloc();
     let frame = frame(alloc)?;
     let scopes = collection(alloc)?;
-    for copy in [&frame, &frame.clone()?, &frame.packed_copy()?] {
-        assert!(rt; written(alloc, copy, None)?.as_slice() == PACKET.as_slice());
-        let told = written(alloc, copy, Some(&scopes))?;
-        let mut source = Counted::new(told.as_slice());
-        let read = FrameData::read_next(alloc, &mut source)?.ok_or("a frame")?;
-        equal(&rt, read.scope_delta.len(), 2);
-    }
-    Ok(())
+    is_written(&rt, alloc, &frame, &scopes)?;
+    is_written(&rt, alloc, &frame.clone()?, &scopes)?;
+    is_written(&rt, alloc, &frame.packed_copy()?, &scopes)
 }
 
 #[test]
@@ -145,10 +163,16 @@ fn copies_of_threads_details_and_streams(rt: HostRuntime) -> Outcome {
     Ok(())
 }
 
+/// A view of one frame.
+fn viewed(alloc: Global) -> std::result::Result<FrameView, Fail> {
+    let mut view = FrameView::new(alloc);
+    view.add_frame(Arc::new(alloc, frame(alloc)?)?)?;
+    Ok(view)
+}
+
 #[test]
-fn copies_of_collections_and_views(rt: HostRuntime) -> Outcome {
-    let alloc = rt.alloc();
-    let scopes = collection(alloc)?.clone()?;
+fn copies_of_collections(rt: HostRuntime) -> Outcome {
+    let scopes = collection(rt.alloc())?.clone()?;
     equal(&rt, scopes.scopes_by_id().len(), 2);
     for (name, number) in [("a", 2), ("b", 1)] {
         equal(
@@ -157,11 +181,19 @@ fn copies_of_collections_and_views(rt: HostRuntime) -> Outcome {
             ScopeId::new(number).as_ref(),
         );
     }
-    let mut view = FrameView::new(alloc);
-    view.add_frame(Arc::new(alloc, frame(alloc)?)?)?;
-    let copy = view.clone()?;
+    Ok(())
+}
+
+#[test]
+fn copies_of_views(rt: HostRuntime) -> Outcome {
+    let alloc = rt.alloc();
+    let copy = viewed(alloc)?.clone()?;
     let latest = copy.latest_frame().ok_or("a frame")?;
-    assert!(rt; written(alloc, latest, None)?.as_slice() == PACKET.as_slice());
+    equal(
+        &rt,
+        written(alloc, latest, None)?.as_slice(),
+        PACKET.as_slice(),
+    );
     equal(&rt, copy.stats().frames(), 1);
     Ok(())
 }

@@ -12,6 +12,7 @@ use puffin::thread_profiler::ThreadInfo;
 use puffin::{Error, Result};
 use std::borrow::CowStr;
 use std::collections::BTreeMap;
+use std::process::Abort;
 use std::sync::{Arc, Mutex, Wait};
 use std::test::Fail;
 
@@ -59,7 +60,7 @@ macro_rules! sink_named {
     }};
 }
 
-fn nothing_handed(rt: &HostRuntime) -> std::result::Result<Handed, Fail> {
+fn nothing_handed(rt: &impl AllocGlobal) -> std::result::Result<Handed, Fail> {
     Ok(Arc::new(rt.alloc(), Mutex::new(Vec::new(rt.alloc())))?)
 }
 
@@ -72,7 +73,7 @@ fn added(profiler: &mut GlobalProfiler, sink: Sink) -> std::result::Result<Frame
 }
 
 /// One scope of a nanosecond, without a text.
-fn scope(rt: &HostRuntime) -> Result<StreamInfo>
+fn scope(rt: &impl AllocGlobal) -> Result<StreamInfo>
     ensures { IfOk result (λ info. (f : Forest) × IsHonest info f) }
 {
     let mut bytes = Vec::from_slice(rt.alloc(), b"(\x01\0\0\0\x64\0\0\0\0\0\0\0\0")?;
@@ -80,7 +81,7 @@ fn scope(rt: &HostRuntime) -> Result<StreamInfo>
     StreamInfo::parse(rt.alloc(), Stream::from(bytes))
 }
 
-fn thread(rt: &HostRuntime) -> Result<ThreadInfo> {
+fn thread(rt: &impl AllocGlobal) -> Result<ThreadInfo> {
     Ok(ThreadInfo {
         start_time_ns: None,
         name: String::from_str(rt.alloc(), "a")?,
@@ -88,7 +89,7 @@ fn thread(rt: &HostRuntime) -> Result<ThreadInfo> {
 }
 
 /// Reports one scope.
-fn report(rt: &HostRuntime, profiler: &mut GlobalProfiler) -> Result<()> {
+fn report(rt: &impl AllocGlobal, profiler: &mut GlobalProfiler) -> Result<()> {
     let info = scope(rt)?;
     profiler.report(thread(rt)?, &[], &info.as_stream_into_ref())
 }
@@ -113,6 +114,37 @@ fn notes<R: Wait>(rt: &R, handed: &Handed) -> std::result::Result<Vec<(u64, Fram
     Ok(handed.lock(rt).clone()?)
 }
 
+/// A frame is refused by the first sink, and the third is called.
+fn one_refuses<R: AllocGlobal + Wait + Abort>(
+    rt: &R,
+    profiler: &mut GlobalProfiler,
+    handed: &Handed,
+) -> Outcome {
+    report(rt, profiler)?;
+    let emitted = profiler.new_frame(rt)?;
+    assert!(rt; emitted.frame.is_some());
+    equal(rt, emitted.refused, 1);
+    equal(
+        rt,
+        notes(rt, handed)?.as_slice(),
+        [(1, 0), (3, 0)].as_slice(),
+    );
+    Ok(())
+}
+
+/// Without a frame no sink is called.
+fn none_is_called<R: Wait + Abort>(
+    rt: &R,
+    profiler: &mut GlobalProfiler,
+    handed: &Handed,
+) -> Outcome {
+    let emitted = profiler.new_frame(rt)?;
+    assert!(rt; emitted.frame.is_none());
+    equal(rt, emitted.refused, 0);
+    equal(rt, notes(rt, handed)?.len(), 2);
+    Ok(())
+}
+
 #[test]
 fn a_sink_that_refuses_is_counted_and_the_next_is_called(rt: HostRuntime) -> Outcome {
     let handed = nothing_handed(&rt)?;
@@ -121,31 +153,39 @@ fn a_sink_that_refuses_is_counted_and_the_next_is_called(rt: HostRuntime) -> Out
         let _id = added(&mut profiler, sink_named!(rt, &handed, number, number == 1))?;
     }
     assert!(rt; profiler.remove_sink(FrameSinkId(2)).is_some());
-    report(&rt, &mut profiler)?;
-    let emitted = profiler.new_frame(&rt)?;
-    assert!(rt; emitted.frame.is_some());
-    equal(&rt, emitted.refused, 1);
-    equal(
-        &rt,
-        notes(&rt, &handed)?.as_slice(),
-        [(1, 0), (3, 0)].as_slice(),
-    );
-    // Without a frame no sink is called.
-    let emitted = profiler.new_frame(&rt)?;
-    assert!(rt; emitted.frame.is_none());
-    equal(&rt, emitted.refused, 0);
-    equal(&rt, notes(&rt, &handed)?.len(), 2);
-    Ok(())
+    one_refuses(&rt, &mut profiler, &handed)?;
+    none_is_called(&rt, &mut profiler, &handed)
 }
 
 /// A frame of one scope with this index.
 fn frame_at(
-    rt: &HostRuntime,
+    rt: &impl AllocGlobal,
     frame_index: FrameIndex,
 ) -> std::result::Result<Arc<FrameData>, Fail> {
     let mut other = GlobalProfiler::with_frame_index(rt.alloc(), frame_index);
     report(rt, &mut other)?;
     Ok(other.collect_frame()?.ok_or("no frame")?)
+}
+
+/// Frame 7 is added: the second of two sinks refuses it, and no total counts it.
+fn is_handed_on<R: AllocGlobal + Wait + Abort>(
+    rt: &R,
+    profiler: &mut GlobalProfiler,
+    handed: &Handed,
+) -> Outcome {
+    equal(rt, profiler.add_frame(rt, frame_at(rt, 7)?)?, 1);
+    equal(
+        rt,
+        notes(rt, handed)?.as_slice(),
+        [(1, 7), (2, 7)].as_slice(),
+    );
+    let none = Totals {
+        reported: 0,
+        pending: 0,
+        emitted: 0,
+    };
+    equal(rt, profiler.totals(), none);
+    Ok(())
 }
 
 #[test]
@@ -154,20 +194,28 @@ fn a_frame_that_is_added_is_handed_on_and_not_counted(rt: HostRuntime) -> Outcom
     let mut profiler = GlobalProfiler::new(rt.alloc());
     let _first = added(&mut profiler, sink_named!(rt, &handed, 1, false))?;
     let _second = added(&mut profiler, sink_named!(rt, &handed, 2, true))?;
-    let frame = frame_at(&rt, 7)?;
-    equal(&rt, profiler.add_frame(&rt, frame)?, 1);
-    equal(
-        &rt,
-        notes(&rt, &handed)?.as_slice(),
-        [(1, 7), (2, 7)].as_slice(),
-    );
-    let none = Totals {
-        reported: 0,
-        pending: 0,
-        emitted: 0,
-    };
-    equal(&rt, profiler.totals(), none);
+    is_handed_on(&rt, &mut profiler, &handed)
+}
+
+/// Takes a frame of one scope, which no sink refuses.
+fn taken<R: AllocGlobal + Wait + Abort>(rt: &R, profiler: &mut GlobalProfiler) -> Outcome {
+    report(rt, profiler)?;
+    let emitted = profiler.new_frame(rt)?;
+    assert!(rt; emitted.frame.is_some());
+    equal(rt, emitted.refused, 0);
     Ok(())
+}
+
+/// The indices of a view's recent frames.
+fn recent<R: AllocGlobal + Wait>(
+    rt: &R,
+    view: &Mutex<FrameView>,
+) -> std::result::Result<Vec<FrameIndex>, Fail> {
+    let mut indices = Vec::new(rt.alloc());
+    for frame in view.lock(rt).recent_frames() {
+        indices.push(frame.frame_index())?;
+    }
+    Ok(indices)
 }
 
 #[test]
@@ -175,20 +223,24 @@ fn a_view_is_a_sink(rt: HostRuntime) -> Outcome {
     let view = Arc::new(rt.alloc(), Mutex::new(FrameView::new(rt.alloc())))?;
     let mut profiler = GlobalProfiler::new(rt.alloc());
     let id = added(&mut profiler, Sink::View(Arc::try_clone(&view)?))?;
-    for _ in 0..2 {
-        report(&rt, &mut profiler)?;
-        equal(&rt, profiler.new_frame(&rt)?.refused, 0);
-    }
+    taken(&rt, &mut profiler)?;
+    taken(&rt, &mut profiler)?;
     equal(&rt, profiler.add_frame(&rt, frame_at(&rt, 9)?)?, 0);
     assert!(rt; profiler.remove_sink(id).is_some());
-    report(&rt, &mut profiler)?;
-    assert!(rt; profiler.new_frame(&rt)?.frame.is_some());
-    let mut indices = Vec::new(rt.alloc());
-    for frame in view.lock(&rt).recent_frames() {
-        indices.push(frame.frame_index())?;
-    }
-    equal(&rt, indices.as_slice(), [0, 1, 9].as_slice());
+    taken(&rt, &mut profiler)?;
+    equal(&rt, recent(&rt, &view)?.as_slice(), [0, 1, 9].as_slice());
     Ok(())
+}
+
+/// A frame that tells of a scope without an id.
+fn nameless(rt: &impl AllocGlobal) -> std::result::Result<Arc<FrameData>, Fail> {
+    let details = ScopeDetails::from_scope_name(CowStr::Borrowed("no id"));
+    let mut delta = Vec::new(rt.alloc());
+    delta.push(Arc::new(rt.alloc(), details)?)?;
+    let mut streams = BTreeMap::new(rt.alloc());
+    let _none = streams.insert(thread(rt)?, scope(rt)?)?;
+    let frame = FrameData::new(rt.alloc(), 3, streams, delta, false)?;
+    Ok(Arc::new(rt.alloc(), frame)?)
 }
 
 #[test]
@@ -196,14 +248,8 @@ fn a_frame_with_details_without_an_id_is_refused(rt: HostRuntime) -> Outcome {
     let handed = nothing_handed(&rt)?;
     let mut profiler = GlobalProfiler::new(rt.alloc());
     let _id = added(&mut profiler, sink_named!(rt, &handed, 1, false))?;
-    let nameless = ScopeDetails::from_scope_name(CowStr::Borrowed("no id"));
-    let mut delta = Vec::new(rt.alloc());
-    delta.push(Arc::new(rt.alloc(), nameless)?)?;
-    let mut streams = BTreeMap::new(rt.alloc());
-    let _none = streams.insert(thread(&rt)?, scope(&rt)?)?;
-    let frame = FrameData::new(rt.alloc(), 3, streams, delta, false)?;
-    let refused = profiler.add_frame(&rt, Arc::new(rt.alloc(), frame)?);
-    equal(&rt, refused.err(), Some(Error::MissingId));
+    let refused = profiler.add_frame(&rt, nameless(&rt)?).err();
+    equal(&rt, refused, Some(Error::MissingId));
     assert!(rt; notes(&rt, &handed)?.is_empty());
     Ok(())
 }

@@ -2,6 +2,8 @@
 #![tactic(auto)]
 
 #[cfg(test)]
+mod details;
+#[cfg(test)]
 mod equal;
 #[cfg(test)]
 mod global_profiler;

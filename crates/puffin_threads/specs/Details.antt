@@ -26,9 +26,16 @@ pub record Details : Type 0 where
 abbrev pub details_code : Coded Details
 details_code =
     code_by (Option ℕ × (Option (List ℕ) × (List ℕ × (List ℕ × ℕ))))
-    (coded× (coded_option coded_ℕ) (coded× (coded_option (coded_list coded_ℕ)) (coded× (coded_list coded_ℕ) (coded× (coded_list coded_ℕ) coded_ℕ))))
+    (coded× (coded_option coded_ℕ) (coded× (coded_option (coded_list coded_ℕ)) (
+    coded× (coded_list coded_ℕ) (coded× (coded_list coded_ℕ) coded_ℕ))))
     (λ d. (d.id, (d.scope_name, (d.function_name, (d.file_path, d.line_nr)))))
-    (λ p. record { id = p.0; scope_name = p.1.0; function_name = p.1.1.0; file_path = p.1.1.1.0; line_nr = p.1.1.1.1 })
+    (λ p. record {
+      id = p.0;
+      scope_name = p.1.0;
+      function_name = p.1.1.0;
+      file_path = p.1.1.1.0;
+      line_nr = p.1.1.1.1;
+    })
     (λ _. refl)
 
 abbrev pub details_of : ScopeDetails → Details

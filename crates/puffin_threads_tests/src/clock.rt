@@ -1,5 +1,5 @@
 use crate::equal::equal;
-use crate::thread_profiler::Outcome;
+use crate::rig::Outcome;
 use puffin_data::NanoSecond;
 use puffin_threads::thread_profiler::{NsSource, ScriptClock, SystemClock};
 use std::cell::Cell;

@@ -8,6 +8,8 @@ mod equal;
 #[cfg(test)]
 mod registrations;
 #[cfg(test)]
+mod rig;
+#[cfg(test)]
 mod scope_details;
 #[cfg(test)]
 mod thread_profiler;

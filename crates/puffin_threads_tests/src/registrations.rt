@@ -1,5 +1,5 @@
 use crate::equal::equal;
-use crate::thread_profiler::{Outcome, Recorder, Rig};
+use crate::rig::{Outcome, Recorder, Rig};
 use puffin_data::data::ScopeId;
 use puffin_data::{Error, Result};
 use puffin_threads::scope_details::ScopeIds;
@@ -36,23 +36,33 @@ fn is_registered(
     Ok(())
 }
 
+/// Two details are registered, and kept back with a refused report.
+fn are_kept(rt: &impl Abort, rig: &mut Rig) -> Outcome {
+    let (function, part) = register_two(&mut rig.thread, &ScopeIds::starting_at(5))?;
+    equal(rt, (function.get(), part.get()), (5, 6));
+    rig.begins(rt, (5, ""), 14);
+    rig.ends(rt, 14, Ok(Closed::Kept(Error::TooLarge)));
+    rig.has(rt, (0, 0, 0));
+    Ok(())
+}
+
+/// They are handed over with the next report, and don't come again.
+fn come_once(rt: &impl Abort, rig: &mut Rig) -> Outcome {
+    rig.reports(rt, Ok(true));
+    rig.has(rt, (0, 1, 2));
+    is_registered(rt, &rig.recorder, 0, 5, ("f", "f", "b.rs:7"))?;
+    is_registered(rt, &rig.recorder, 1, 6, ("part", "f", "b.rs:9"))?;
+    rig.begins(rt, (5, ""), 14);
+    rig.ends(rt, 14, Ok(Closed::Reported));
+    rig.has(rt, (0, 2, 2));
+    Ok(())
+}
+
 #[test]
 fn details_come_with_the_next_accepted_report(rt: HostRuntime) -> Outcome {
     let mut rig = Rig::new(rt.alloc(), 100, 1)?;
-    let (function, part) = register_two(&mut rig.thread, &ScopeIds::starting_at(5))?;
-    equal(&rt, (function.get(), part.get()), (5, 6));
-    rig.begins(&rt, (5, ""), 14);
-    rig.ends(&rt, 14, Ok(Closed::Kept(Error::TooLarge)));
-    rig.has(&rt, (0, 0, 0));
-    rig.reports(&rt, Ok(true));
-    rig.has(&rt, (0, 1, 2));
-    is_registered(&rt, &rig.recorder, 0, 5, ("f", "f", "b.rs:7"))?;
-    is_registered(&rt, &rig.recorder, 1, 6, ("part", "f", "b.rs:9"))?;
-    // They were handed over, and don't come again.
-    rig.begins(&rt, (5, ""), 14);
-    rig.ends(&rt, 14, Ok(Closed::Reported));
-    rig.has(&rt, (0, 2, 2));
-    Ok(())
+    are_kept(&rt, &mut rig)?;
+    come_once(&rt, &mut rig)
 }
 
 /// Why two registrations with an exhausted counter are refused.

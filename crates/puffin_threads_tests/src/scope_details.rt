@@ -73,16 +73,26 @@ fn a_function_and_a_scope_in_it(rt: HostRuntime) -> Outcome {
     Ok(())
 }
 
+/// Whether details without an id stand before those with these ids, and before those with a name.
+fn are_in_order(first: ScopeId, second: ScopeId) -> bool {
+    let without = function(7);
+    let with = function(7).with_scope_id(first);
+    let next = function(0).with_scope_id(second);
+    let name = ScopeDetails::from_scope_name(CowStr::Borrowed("a"));
+    without < with && with < next && without < name && function(0) < without && with != without
+}
+
+/// Whether details are those of their copy.
+fn is_its_copy(details: &ScopeDetails) -> Result<bool> {
+    Ok(*details == details.clone()?)
+}
+
 #[test]
 fn details_in_order(rt: HostRuntime) -> Outcome {
-    let without = function(7);
-    let with = function(7).with_scope_id(id(1)?);
-    let next = function(0).with_scope_id(id(2)?);
-    let name = ScopeDetails::from_scope_name(CowStr::Borrowed("a"));
-    assert!(rt; without < with && with < next);
-    assert!(rt; without < name && function(0) < without);
-    assert!(rt; without == without.clone()?);
-    assert!(rt; with == with.clone()? && with != without);
+    let (first, second) = (id(1)?, id(2)?);
+    assert!(rt; are_in_order(first, second));
+    assert!(rt; is_its_copy(&function(7))?);
+    assert!(rt; is_its_copy(&function(7).with_scope_id(first))?);
     Ok(())
 }
 
@@ -123,16 +133,13 @@ fn sizes(scopes: &ScopeCollection) -> (usize, usize) {
 fn first_by_id_and_last_by_name(rt: HostRuntime) -> Outcome {
     let mut scopes = ScopeCollection::new(rt.alloc());
     equal(&rt, name_of(&scopes, 1), None);
-    is_inserted(&rt, &mut scopes, rt.alloc(), (1, "a"), "a")?;
-    is_inserted(&rt, &mut scopes, rt.alloc(), (1, "b"), "a")?;
-    is_inserted(&rt, &mut scopes, rt.alloc(), (2, "a"), "a")?;
+    for scope in [(1, "a"), (1, "b"), (2, "a")] {
+        is_inserted(&rt, &mut scopes, rt.alloc(), scope, "a")?;
+    }
     equal(&rt, name_of(&scopes, 1), Some("a"));
-    let numbers = (
-        number_of(&scopes, "a"),
-        number_of(&scopes, "b"),
-        number_of(&scopes, "c"),
-    );
-    equal(&rt, numbers, (Some(2), Some(1), None));
+    for (name, number) in [("a", Some(2)), ("b", Some(1)), ("c", None)] {
+        equal(&rt, number_of(&scopes, name), number);
+    }
     equal(&rt, sizes(&scopes), (2, 2));
     Ok(())
 }
@@ -146,13 +153,22 @@ fn details_without_an_id_are_refused(rt: HostRuntime) -> Outcome {
     Ok(())
 }
 
+/// Named scopes with these numbers.
+fn all_named(
+    alloc: Global,
+    scopes: &[(u32, &'static str)],
+) -> std::result::Result<Vec<Arc<ScopeDetails>>, Fail> {
+    let mut details = Vec::new(alloc);
+    for (number, name) in scopes {
+        details.push(named(alloc, *number, *name)?)?;
+    }
+    Ok(details)
+}
+
 #[test]
 fn details_are_inserted_in_order(rt: HostRuntime) -> Outcome {
+    let details = all_named(rt.alloc(), &[(1, "a"), (1, "b"), (2, "a")])?;
     let mut scopes = ScopeCollection::new(rt.alloc());
-    let mut details = Vec::new(rt.alloc());
-    for (number, name) in [(1, "a"), (1, "b"), (2, "a")] {
-        details.push(named(rt.alloc(), number, name)?)?;
-    }
     scopes.insert_all(&details)?;
     equal(
         &rt,
@@ -160,14 +176,21 @@ fn details_are_inserted_in_order(rt: HostRuntime) -> Outcome {
         (Some("a"), Some(2)),
     );
     equal(&rt, sizes(&scopes), (2, 2));
-    details.push(named(rt.alloc(), 3, "c")?)?;
+    Ok(())
+}
+
+#[test]
+fn of_details_without_an_id_none_are_inserted(rt: HostRuntime) -> Outcome {
+    let mut details = all_named(rt.alloc(), &[(3, "c")])?;
     details.push(Arc::new(rt.alloc(), function(7))?)?;
+    let mut scopes = ScopeCollection::new(rt.alloc());
+    is_inserted(&rt, &mut scopes, rt.alloc(), (1, "a"), "a")?;
     equal(
         &rt,
         scopes.insert_all(&details).err(),
         Some(Error::MissingId),
     );
-    equal(&rt, sizes(&scopes), (2, 2));
+    equal(&rt, sizes(&scopes), (1, 1));
     Ok(())
 }
 

@@ -1,150 +1,11 @@
 use crate::equal::equal;
-use puffin_data::data::{Reader, ScopeId, Stream, StreamInfo, StreamInfoRef};
+use crate::rig::{Outcome, Recorder, Rig, id};
+use puffin_data::data::{Reader, StreamInfo};
 use puffin_data::{Error, NanoSecond, Result};
-use puffin_threads::scope_details::ScopeDetails;
-use puffin_threads::thread_profiler::{
-    Closed, NsSource, Reporter, ScriptClock, SystemClock, ThreadInfo, ThreadProfiler,
-};
+use puffin_threads::thread_profiler::{Closed, NsSource, SystemClock, ThreadProfiler};
 use std::alloc::Global;
 use std::process::Abort;
 use std::test::Fail;
-
-pub(crate) type Outcome = std::result::Result<(), Fail>;
-
-/// Refuses so many reports, and keeps those after them.
-#[derive(Drop)]
-pub(crate) struct Recorder {
-    pub(crate) alloc: Global,
-    refusals: usize,
-    pub(crate) details: Vec<ScopeDetails>,
-    reports: Vec<(ThreadInfo, StreamInfo)>,
-}
-
-impl Recorder {
-    fn new(alloc: Global, refusals: usize) -> Recorder {
-        Recorder {
-            alloc,
-            refusals,
-            details: Vec::new(alloc),
-            reports: Vec::new(alloc),
-        }
-    }
-
-    fn at(&self, place: usize) -> Result<&(ThreadInfo, StreamInfo)> {
-        self.reports.get(place).ok_or(Error::Empty)
-    }
-}
-
-impl Reporter for Recorder {
-    ghost use Rattle.std.specs.Prelude.{⊤};
-
-    ghost accepts = { λ _ _ _ _ _. ⊤ };
-
-    ghost refuses = { λ _ _ _ _ _ _. ⊤ };
-
-    fn report(
-        &mut self,
-        info: ThreadInfo,
-        details: &[ScopeDetails],
-        times: &StreamInfoRef,
-    ) -> Result<()> {
-        if self.refusals > 0 {
-            self.refusals -= 1;
-            return Err(Error::TooLarge);
-        }
-        let kept = StreamInfo {
-            stream: Stream::from(Vec::from_slice(self.alloc, times.stream)?),
-            num_scopes: times.num_scopes,
-            depth: times.depth,
-            range_ns: times.range_ns,
-        };
-        for registered in details {
-            self.details.push(registered.clone()?)?;
-        }
-        self.reports.push((info, kept))?;
-        Ok(())
-    }
-}
-
-fn id(number: u32) -> Result<ScopeId> {
-    ScopeId::new(number).ok_or(Error::MissingId)
-}
-
-fn main_thread(alloc: Global, at: NanoSecond) -> Result<ThreadProfiler<ScriptClock>> {
-    let name = String::from_str(alloc, "main")?;
-    Ok(ThreadProfiler::new(alloc, name, ScriptClock::new(at)))
-}
-
-/// A thread's profiler, and the recorder that it reports to.
-#[derive(Drop)]
-pub(crate) struct Rig {
-    pub(crate) thread: ThreadProfiler<ScriptClock>,
-    pub(crate) recorder: Recorder,
-}
-
-impl Rig {
-    /// The thread `main` at a time, and a recorder that refuses so many reports.
-    pub(crate) fn new(alloc: Global, at: NanoSecond, refusals: usize) -> Result<Rig> {
-        Ok(Rig {
-            thread: main_thread(alloc, at)?,
-            recorder: Recorder::new(alloc, refusals),
-        })
-    }
-
-    fn begin(&mut self, number: u32, text: &str) -> Result<usize> {
-        self.thread.begin_scope(id(number)?, text)
-    }
-
-    fn end(&mut self, offset: usize) -> Result<Closed> {
-        self.thread.end_scope(offset, &mut self.recorder)
-    }
-
-    fn report_closed(&mut self) -> Result<bool> {
-        self.thread.report_closed(&mut self.recorder)
-    }
-
-    fn set(&mut self, at: NanoSecond) {
-        self.thread.clock().set(at);
-    }
-
-    /// How many scopes are open, and how many reports and details the recorder has.
-    fn counts(&self) -> (usize, usize, usize) {
-        (
-            self.thread.depth(),
-            self.recorder.reports.len(),
-            self.recorder.details.len(),
-        )
-    }
-
-    /// A scope begins, and its offset is as expected.
-    pub(crate) fn begins(&mut self, rt: &impl Abort, scope: (u32, &str), expected: usize) {
-        equal(
-            rt,
-            (expected, self.begin(scope.0, scope.1)),
-            (expected, Ok(expected)),
-        );
-    }
-
-    /// What ending a scope returns is as expected.
-    pub(crate) fn ends(&mut self, rt: &impl Abort, offset: usize, expected: Result<Closed>) {
-        equal(rt, (offset, self.end(offset)), (offset, expected));
-    }
-
-    /// What reporting closed scopes returns is as expected.
-    pub(crate) fn reports(&mut self, rt: &impl Abort, expected: Result<bool>) {
-        equal(rt, self.report_closed(), expected);
-    }
-
-    /// So many scopes are open, and the recorder has so many reports and details.
-    pub(crate) fn has(&self, rt: &impl Abort, expected: (usize, usize, usize)) {
-        equal(rt, self.counts(), expected);
-    }
-
-    /// The bytes of a report.
-    fn bytes(&self, place: usize) -> Result<&[u8]> {
-        Ok(self.recorder.at(place)?.1.stream.bytes())
-    }
-}
 
 /// How many scopes, how deep, and their range.
 type Counts = (usize, usize, (NanoSecond, NanoSecond));
@@ -192,15 +53,20 @@ fn top_scopes(
     Ok(scopes)
 }
 
+/// A scope with the id 1 from 100 to 300.
+fn one_scope(rt: &impl Abort, rig: &mut Rig) {
+    rig.has(rt, (0, 0, 0));
+    rig.begins(rt, (1, "data"), 18);
+    rig.has(rt, (1, 0, 0));
+    rig.set(300);
+    rig.ends(rt, 18, Ok(Closed::Reported));
+    rig.has(rt, (0, 1, 0));
+}
+
 #[test]
 fn one_scope_is_reported(rt: HostRuntime) -> Outcome {
     let mut rig = Rig::new(rt.alloc(), 100, 0)?;
-    rig.has(&rt, (0, 0, 0));
-    rig.begins(&rt, (1, "data"), 18);
-    rig.has(&rt, (1, 0, 0));
-    rig.set(300);
-    rig.ends(&rt, 18, Ok(Closed::Reported));
-    rig.has(&rt, (0, 1, 0));
+    one_scope(&rt, &mut rig);
     equal(
         &rt,
         rig.bytes(0)?,
@@ -240,19 +106,24 @@ fn a_clock_that_falls_twice_stands_still_twice(rt: HostRuntime) -> Outcome {
     is_report(&rt, &rig.recorder, 0, 100, (2, 2, (100, 200)))
 }
 
+/// A scope in another, which can't be ended before it, nor twice.
+fn two_scopes(rt: &impl Abort, rig: &mut Rig) {
+    rig.begins(rt, (1, ""), 14);
+    rig.begins(rt, (2, ""), 36);
+    for wrong in [14, 15] {
+        rig.ends(rt, wrong, Err(Error::MismatchedEnd));
+    }
+    rig.has(rt, (2, 0, 0));
+    rig.ends(rt, 36, Ok(Closed::Inner));
+    rig.has(rt, (1, 0, 0));
+    rig.ends(rt, 14, Ok(Closed::Reported));
+    rig.ends(rt, 14, Err(Error::MismatchedEnd));
+}
+
 #[test]
 fn an_outer_scope_is_not_ended_first(rt: HostRuntime) -> Outcome {
     let mut rig = Rig::new(rt.alloc(), 100, 0)?;
-    rig.begins(&rt, (1, ""), 14);
-    rig.begins(&rt, (2, ""), 36);
-    for wrong in [14, 15] {
-        rig.ends(&rt, wrong, Err(Error::MismatchedEnd));
-    }
-    rig.has(&rt, (2, 0, 0));
-    rig.ends(&rt, 36, Ok(Closed::Inner));
-    rig.has(&rt, (1, 0, 0));
-    rig.ends(&rt, 14, Ok(Closed::Reported));
-    rig.ends(&rt, 14, Err(Error::MismatchedEnd));
+    two_scopes(&rt, &mut rig);
     equal(&rt, rig.bytes(0)?.len(), 62);
     is_report(&rt, &rig.recorder, 0, 100, (2, 2, (100, 100)))
 }
@@ -320,13 +191,19 @@ fn long_text(alloc: Global) -> std::result::Result<String, Fail> {
     Ok(text)
 }
 
+/// Of a scope with this text so many bytes are reported.
+fn reports_bytes(rt: &impl Abort, rig: &mut Rig, text: &str, offset: usize) -> Outcome {
+    rig.begins(rt, (1, text), offset);
+    rig.ends(rt, offset, Ok(Closed::Reported));
+    equal(rt, rig.bytes(0)?.len(), offset + 17);
+    Ok(())
+}
+
 #[test]
 fn a_long_text_is_cut(rt: HostRuntime) -> Outcome {
+    let text = long_text(rt.alloc())?;
     let mut rig = Rig::new(rt.alloc(), 0, 0)?;
-    rig.begins(&rt, (1, &long_text(rt.alloc())?), 140);
-    rig.ends(&rt, 140, Ok(Closed::Reported));
-    equal(&rt, rig.bytes(0)?.len(), 157);
-    Ok(())
+    reports_bytes(&rt, &mut rig, &text, 140)
 }
 
 /// Begins a scope, whose offset is expected. A refusal says `Memory`, changes nothing, and doesn't come again.
@@ -371,19 +248,24 @@ fn want_of_memory_is_told(rt: HostRuntime) {
     equal(&rt, rig.bytes(0).map(|bytes| bytes.len()), Ok(93));
 }
 
+/// One scope of a thread, and its range.
+fn timed<C: NsSource>(
+    rt: &impl Abort,
+    thread: &mut ThreadProfiler<C>,
+    recorder: &mut Recorder,
+) -> Result<(NanoSecond, NanoSecond)> {
+    let offset = thread.begin_scope(id(1)?, "timed")?;
+    equal(rt, thread.end_scope(offset, recorder), Ok(Closed::Reported));
+    Ok(recorder.at(0)?.1.range_ns)
+}
+
 #[test]
 fn scopes_are_timed_by_the_system(rt: HostRuntime) -> Outcome {
-    let name = String::from_str(rt.alloc(), "main")?;
     let clock = SystemClock::new(&rt)?;
-    let mut thread = ThreadProfiler::new(rt.alloc(), name, clock);
+    let name = String::from_str(rt.alloc(), "main")?;
     let mut recorder = Recorder::new(rt.alloc(), 0);
-    let offset = thread.begin_scope(id(1)?, "timed")?;
-    equal(
-        &rt,
-        thread.end_scope(offset, &mut recorder),
-        Ok(Closed::Reported),
-    );
-    let (start, stop) = recorder.at(0)?.1.range_ns;
+    let mut thread = ThreadProfiler::new(rt.alloc(), name, clock);
+    let (start, stop) = timed(&rt, &mut thread, &mut recorder)?;
     assert!(rt; start > 0);
     is_report(&rt, &recorder, 0, start, (1, 1, (start, stop)))
 }

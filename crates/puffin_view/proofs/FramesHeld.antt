@@ -12,9 +12,10 @@ use Rattle.std.specs.FinMap.Entries.{by_order, below_all, is_sorted, same_entrie
 use Rattle.puffin_frames.specs.Packet.Stored.{Said, packed}
 use Rattle.puffin_view.specs.View.Ranking.{last_of, last_in, has}
 use Rattle.puffin_view.specs.View.ViewedFrames.{Frame, contents_of, index_of, frame_index, packed_under, rising_end, is_rising, rises_above, frames_by_index, chronological}
-use Rattle.puffin_view.specs.View.{View, without_frames, with_packed, with_newest_packed, is_past, enters, joined_by, after_taking, after_all, Took}
+use Rattle.puffin_view.specs.View.{View, without_frames, with_packed, with_newest_packed, is_past, joined_by, after_taking, after_all, Took}
 use Rattle.puffin_view.specs.View.File.{contents_held, contents_in, frame_stored, read_view}
 use Rattle.puffin_view.specs.inner.Store.{has_index}
+use Rattle.puffin_view.proofs.Taking.{enters}
 use Rattle.puffin_view.proofs.Keeping.{all_map, all_choice, all_drop, all_more, all_packed, index_packed_at}
 use Rattle.puffin_view.proofs.Storing.{all_first, all_rest, has_all, has-index_of, is_at}
 use Rattle.puffin_view.proofs.FileFrames.{took_all}

@@ -6,8 +6,7 @@ use Rattle.std.specs.Prelude.{nat_eq, ◌≢◌}
 use Rattle.std.specs.List.{AllByRecursion}
 use Rattle.puffin_view.specs.View.Ranking.{place, last_from}
 use Rattle.puffin_view.specs.View.ViewedFrames.{Frame, index_of, is_slower_frame, packed_under, packed_alone}
-use Rattle.puffin_view.specs.View.{IsUpTo}
-use Rattle.puffin_view.specs.inner.Kept.{AreRising, HaveOwnIndices, AreViewLists}
+use Rattle.puffin_view.specs.inner.Kept.{IsUpTo, AreRising, HaveOwnIndices, AreViewLists}
 
 -- of lists
 pub all_map : (P Q : Frame → Type 0) → ((f : Frame) → P f → Q f) → (fs : List Frame) → AllByRecursion P fs → AllByRecursion Q fs

@@ -16,8 +16,8 @@ use Rattle.puffin_view.specs.View.ViewedFrames.{Frame, index_of, duration_of, is
 use Rattle.puffin_view.specs.inner.Held.{HeldFrames}
 use Rattle.puffin_view.specs.inner.Ranks.{is_before, rank_enters, LetsGo}
 use Rattle.puffin_view.specs.View.FrameRanks.{rank_of, rank_cmp}
-use Rattle.puffin_view.specs.inner.Kept.{AreRising, HaveOwnIndices}
-use Rattle.puffin_view.specs.View.{View, IsUpTo, enters_among}
+use Rattle.puffin_view.specs.inner.Kept.{AreRising, HaveOwnIndices, IsUpTo}
+use Rattle.puffin_view.specs.View.{View, enters_among}
 use Rattle.puffin_view.specs.inner.Store.{frames_under, AreHeld, has_index, AreStored}
 use Rattle.puffin_view.proofs.Keeping.{IsKept-packed}
 use Rattle.puffin_view.proofs.Placing.{rank_cmp_total}

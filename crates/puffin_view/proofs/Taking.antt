@@ -7,9 +7,14 @@ use Rattle.std.proofs.Math.Seq.{drop-nil}
 use Rattle.puffin_view.specs.View.Ranking.{place, last_of, last_from, last_in}
 use Rattle.puffin_frames.specs.Packet.Stored.{Said}
 use Rattle.puffin_view.specs.View.ViewedFrames.{Frame, frame_index, contents_of, index_of, duration_of, is_slower, is_slower_frame, slowest, packed_under, packed_alone, rising_end, rises_above}
-use Rattle.puffin_view.specs.View.{View, without_frames, with_packed, with_newest_packed, is_past, enters, joined_by, after_taking, after_all, Holds, IsUpTo, IsSteady, Took}
+use Rattle.puffin_view.specs.View.{View, without_frames, with_packed, with_newest_packed, is_past, enters_among, joined_by, after_taking, after_all, Holds, Took}
+use Rattle.puffin_view.specs.inner.Kept.{IsUpTo, IsSteady}
 use Rattle.puffin_view.proofs.Rankings.{last_of-more, first_in_order-more, first_in_order-same}
 use Rattle.puffin_view.proofs.Orders.{slower_order, later_behind, map-place, map-take, map-drop, map-more, map-length, map-last_from, packed_at_says}
+
+-- whether a frame comes among the slowest of a view
+abbrev pub enters : View → Frame → Bool
+enters v f = enters_among v.max_slow v.slow f
 
 map-last_of : (n : ℕ) (fs : List Frame) → map contents_of (last_of n fs) ≡ last_of n (map contents_of fs)
 map-last_of n fs = map-drop contents_of (length fs - n) fs ∙ ap (λ l. drop (l - n) (map contents_of fs)) (sym (map-length contents_of fs))

@@ -8,9 +8,8 @@ pub mod File
 pub mod Selection
 pub mod Stats
 pub mod Listings
-use Rattle.std.specs.Prelude.{ℕ, ◌≤◌, Bool, true, false, cond, List, [], ◌∷◌, ◌++◌, Option, Some, None, nat_lt, nat_le, int_lt, ◌||◌, ◌≡◌, ◌⊎◌, map, length, take}
+use Rattle.std.specs.Prelude.{ℕ, Bool, true, false, cond, List, [], ◌∷◌, ◌++◌, Option, Some, None, nat_lt, nat_le, int_lt, ◌||◌, ◌≡◌, ◌⊎◌, map, length, take}
 use Rattle.std.specs.Option.{option_map_or, option_map}
-use Rattle.std.specs.List.{AllByRecursion}
 use Rattle.puffin_view.specs.View.Ranking.{place, last_of, last_in}
 use Rattle.puffin_frames.specs.Packet.Stored.{Said}
 use Rattle.puffin_view.specs.View.ViewedFrames.{Frame, is_slower_frame, slowest, contents_of, frame_index, index_of, duration_of, packed_under, rising_end, chronological}
@@ -51,15 +50,6 @@ pub record Took (cs : List Said) (v : View) : Type 0 where
 -- all frames of the view, each once, by rising index
 abbrev pub all_uniq : View → List Frame
 all_uniq v = chronological (v.recent ++ v.slow)
-
--- an index is among those up to the last one taken
-abbrev pub IsUpTo : Option ℕ → ℕ → Type 0
-IsUpTo None i = ⊥
-IsUpTo (Some last) i = i ≤ last
-
--- each slow frame was taken no later than the last
-abbrev pub IsSteady : View → Type 0
-IsSteady v = AllByRecursion (λ f. IsUpTo v.last (index_of f)) v.slow
 
 -- ---- the same step by step: what each call makes of a view
 
@@ -107,9 +97,6 @@ enters_among k slow f =
 -- the k slowest after one more: where it comes among them, they are cut after it is put in its place
 abbrev pub slow_after : ℕ → List Frame → Frame → List Frame
 slow_after k slow f = cond (enters_among k slow f) (take k (place is_slower_frame f slow)) slow
-
-abbrev pub enters : View → Frame → Bool
-enters v f = enters_among v.max_slow v.slow f
 
 -- the view with a frame after all others
 abbrev pub joined_by : View → Frame → View

@@ -5,3 +5,4 @@ pub mod Ranks
 pub mod Store
 pub mod Kept
 pub mod Selections
+pub mod FrameCounts

@@ -47,6 +47,14 @@ pub(crate) fn written(rt: &HostRuntime, view: &FrameView) -> std::result::Result
     Ok(bytes)
 }
 
+/// Adds the recent frames of another view.
+fn add_all(view: &mut FrameView, other: &FrameView) -> Outcome {
+    for frame in other.recent_frames() {
+        view.add_frame(frame.clone()?)?;
+    }
+    Ok(())
+}
+
 /// A view with these limits, of the frames of a file.
 fn limited(
     rt: &HostRuntime,
@@ -54,12 +62,11 @@ fn limited(
     max_recent: usize,
     max_slow: usize,
 ) -> std::result::Result<FrameView, Fail> {
+    let whole = view(rt, bytes)?;
     let mut limited = FrameView::new(rt.alloc());
     limited.set_max_recent(max_recent);
     limited.set_max_slow(max_slow);
-    for frame in view(rt, bytes)?.recent_frames() {
-        limited.add_frame(frame.clone()?)?;
-    }
+    add_all(&mut limited, &whole)?;
     Ok(limited)
 }
 
@@ -115,15 +122,23 @@ fn files_of_the_rust_crate_are_read_and_written_back(rt: HostRuntime) -> Outcome
     Ok(())
 }
 
+/// Whether a view holds two packed frames, and knows no scope.
+fn has_two_packed(view: &FrameView) -> bool {
+    let stats = view.stats();
+    (stats.frames(), stats.unpacked_frames()) == (2, 0)
+        && view.scope_collection().scopes_by_id().is_empty()
+}
+
+/// Whether a view has the limits of one that was read, and packs frames.
+fn is_as_read(view: &FrameView) -> bool {
+    (view.max_recent(), view.max_slow()) == (usize::MAX, 256) && view.pack_frames()
+}
+
 #[test]
 fn a_view_of_a_file_has_its_frames_packed(rt: HostRuntime) -> Outcome {
     let view = view(&rt, &FILE)?;
     are_recent(&rt, &view, &[0, 1])?;
-    let stats = view.stats();
-    assert!(rt; (stats.frames(), stats.unpacked_frames()) == (2, 0));
-    assert!(rt; (view.max_recent(), view.max_slow()) == (usize::MAX, 256));
-    assert!(rt; view.pack_frames());
-    assert!(rt; view.scope_collection().scopes_by_id().is_empty());
+    assert!(rt; has_two_packed(&view) && is_as_read(&view));
     Ok(())
 }
 

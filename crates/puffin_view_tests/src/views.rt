@@ -4,12 +4,40 @@ use puffin_frames::frame_data::{FrameData, FrameIndex};
 use puffin_frames::scope_details::ScopeDetails;
 use puffin_frames::thread_profiler::ThreadInfo;
 use puffin_view::profile_view::{FrameStats, FrameView, select_slowest};
+use std::alloc::Global;
 use std::borrow::CowStr;
 use std::collections::BTreeMap;
 use std::sync::Arc;
 use std::test::Fail;
 
 type Outcome = std::result::Result<(), Fail>;
+
+/// What is said of the stream that has these bytes.
+fn info(alloc: Global, bytes: &[&[u8]]) -> Result<StreamInfo> {
+    let mut all = Vec::new(alloc);
+    for piece in bytes {
+        all.extend_from_slice(piece)?;
+    }
+    StreamInfo::parse(alloc, Stream::from(all))
+}
+
+/// The frame with this index of one stream of the thread `main`, whose first scope started then.
+fn frame_of(
+    alloc: Global,
+    index: FrameIndex,
+    start_time_ns: Option<NanoSecond>,
+    info: StreamInfo,
+    details: Vec<Arc<ScopeDetails>>,
+) -> Result<Arc<FrameData>> {
+    let thread = ThreadInfo {
+        start_time_ns,
+        name: String::from_str(alloc, "main")?,
+    };
+    let mut streams = BTreeMap::new(alloc);
+    let _none = streams.insert(thread, info)?;
+    let frame = FrameData::new(alloc, index, streams, details, false)?;
+    Ok(Arc::new(alloc, frame)?)
+}
 
 /// One scope without a text, as long as is asked, in the stream of a thread.
 fn frame(rt: &HostRuntime, index: FrameIndex, duration: NanoSecond) -> Result<Arc<FrameData>> {
@@ -23,32 +51,27 @@ fn telling_frame(
     duration: NanoSecond,
     details: Vec<Arc<ScopeDetails>>,
 ) -> Result<Arc<FrameData>> {
-    let alloc = rt.alloc();
-    let mut bytes = Vec::from_slice(alloc, b"(\x01\0\0\0\0\0\0\0\0\0\0\0\0\0\0\0\0\0\0\0\0)")?;
-    bytes.extend_from_slice(&duration.to_le_bytes())?;
-    let mut streams = BTreeMap::new(alloc);
-    let thread = ThreadInfo {
-        start_time_ns: None,
-        name: String::from_str(alloc, "main")?,
-    };
-    let _none = streams.insert(thread, StreamInfo::parse(alloc, Stream::from(bytes))?)?;
-    let frame = FrameData::new(alloc, index, streams, details, false)?;
-    Ok(Arc::new(alloc, frame)?)
+    let front = b"(\x01\0\0\0\0\0\0\0\0\0\0\0\0\0\0\0\0\0\0\0\0)";
+    let info = info(rt.alloc(), &[front, &duration.to_le_bytes()])?;
+    frame_of(rt.alloc(), index, None, info, details)
+}
+
+/// Adds a frame of one scope without a text to a view.
+fn add(
+    rt: &HostRuntime,
+    view: &mut FrameView,
+    index: FrameIndex,
+    duration: NanoSecond,
+) -> Result<()> {
+    view.add_frame(frame(rt, index, duration)?)
 }
 
 /// One scope of 35 bytes with a text, of a thread whose start is known. Packed, its stream has 50 bytes.
 fn known_frame(rt: &HostRuntime, index: FrameIndex) -> Result<Arc<FrameData>> {
-    let alloc = rt.alloc();
-    let mut bytes = Vec::from_slice(alloc, b"(\x01\0\0\0d\0\0\0\0\0\0\0\x04data")?;
-    bytes.extend_from_slice(b"\0\0\0\0\0\0\0\0)\x2c\x01\0\0\0\0\0\0")?;
-    let mut streams = BTreeMap::new(alloc);
-    let thread = ThreadInfo {
-        start_time_ns: Some(100),
-        name: String::from_str(alloc, "main")?,
-    };
-    let _none = streams.insert(thread, StreamInfo::parse(alloc, Stream::from(bytes))?)?;
-    let frame = FrameData::new(alloc, index, streams, Vec::new(alloc), false)?;
-    Ok(Arc::new(alloc, frame)?)
+    let front = b"(\x01\0\0\0d\0\0\0\0\0\0\0\x04data";
+    let back = b"\0\0\0\0\0\0\0\0)\x2c\x01\0\0\0\0\0\0";
+    let info = info(rt.alloc(), &[front, back])?;
+    frame_of(rt.alloc(), index, Some(100), info, Vec::new(rt.alloc()))
 }
 
 /// The indices of the recent frames.
@@ -119,7 +142,7 @@ fn view(
     view.set_max_recent(max_recent);
     view.set_max_slow(max_slow);
     for index in 0..durations.len() {
-        view.add_frame(frame(rt, index as u64, durations[index])?)?;
+        add(rt, &mut view, index as u64, durations[index])?;
     }
     Ok(view)
 }
@@ -154,12 +177,12 @@ fn ties_stay_with_the_earlier(rt: HostRuntime) -> Outcome {
 fn an_index_that_does_not_rise_empties_the_view(rt: HostRuntime) -> Outcome {
     let mut frames = FrameView::new(rt.alloc());
     for index in [5, 6, 6] {
-        frames.add_frame(frame(&rt, index, 1)?)?;
+        add(&rt, &mut frames, index, 1)?;
     }
     are_all(&rt, &frames, &[6])?;
     // The index of a frame that emptied the view is the last one taken.
     for index in [3, 2] {
-        frames.add_frame(frame(&rt, index, 1)?)?;
+        add(&rt, &mut frames, index, 1)?;
         are_all(&rt, &frames, &[index])?;
     }
     Ok(())
@@ -169,8 +192,8 @@ fn an_index_that_does_not_rise_empties_the_view(rt: HostRuntime) -> Outcome {
 fn a_view_of_slow_frames_alone_is_emptied_too(rt: HostRuntime) -> Outcome {
     let mut frames = FrameView::new(rt.alloc());
     frames.set_max_recent(0);
-    frames.add_frame(frame(&rt, 3, 1)?)?;
-    frames.add_frame(frame(&rt, 0, 1)?)?;
+    add(&rt, &mut frames, 3, 1)?;
+    add(&rt, &mut frames, 0, 1)?;
     are_slowest(&rt, &frames, &[0])?;
     are_recent(&rt, &frames, &[])?;
     assert!(rt; frames.latest_frame().is_none());
@@ -194,7 +217,7 @@ fn a_limit_of_recent_frames_holds_from_the_next_on(rt: HostRuntime) -> Outcome {
     frames.set_max_recent(1);
     assert!(rt; frames.max_recent() == 1);
     are_recent(&rt, &frames, &[0, 1, 2])?;
-    frames.add_frame(frame(&rt, 3, 1)?)?;
+    add(&rt, &mut frames, 3, 1)?;
     are_recent(&rt, &frames, &[3])
 }
 
@@ -210,18 +233,22 @@ fn a_limit_of_slow_frames_holds_from_the_next_slow_one_on(rt: HostRuntime) -> Ou
     let mut slow = with_fewer_slow(&rt)?;
     assert!(rt; slow.max_slow() == 1);
     are_slowest(&rt, &slow, &[0, 1])?;
-    let mut other = slow.clone()?;
-    slow.add_frame(frame(&rt, 2, 8)?)?;
-    are_slowest(&rt, &slow, &[0])?;
-    other.add_frame(frame(&rt, 2, 5)?)?;
-    are_slowest(&rt, &other, &[0, 1])
+    add(&rt, &mut slow, 2, 8)?;
+    are_slowest(&rt, &slow, &[0])
+}
+
+#[test]
+fn a_limit_of_slow_frames_waits_for_a_slow_one(rt: HostRuntime) -> Outcome {
+    let mut slow = with_fewer_slow(&rt)?.clone()?;
+    add(&rt, &mut slow, 2, 5)?;
+    are_slowest(&rt, &slow, &[0, 1])
 }
 
 #[test]
 fn with_the_limit_0_no_frame_is_slow(rt: HostRuntime) -> Outcome {
     let mut none = view(&rt, 1000, 1, &[9])?;
     none.set_max_slow(0);
-    none.add_frame(frame(&rt, 1, 10)?)?;
+    add(&rt, &mut none, 1, 10)?;
     are_slowest(&rt, &none, &[])
 }
 
@@ -229,9 +256,9 @@ fn with_the_limit_0_no_frame_is_slow(rt: HostRuntime) -> Outcome {
 fn packed_late(rt: &HostRuntime) -> Result<FrameView> {
     let mut frames = view(rt, 1000, 256, &[1])?;
     frames.set_pack_frames(false);
-    frames.add_frame(frame(rt, 1, 1)?)?;
+    add(rt, &mut frames, 1, 1)?;
     frames.set_pack_frames(true);
-    frames.add_frame(frame(rt, 2, 1)?)?;
+    add(rt, &mut frames, 2, 1)?;
     Ok(frames)
 }
 
@@ -240,7 +267,7 @@ fn one_frame_is_not_packed(rt: HostRuntime) -> Outcome {
     let mut frames = view(&rt, 1000, 256, &[1])?;
     assert!(rt; frames.pack_frames() && numbers(frames.stats()) == (1, 1, 31));
     frames.set_pack_frames(false);
-    frames.add_frame(frame(&rt, 1, 1)?)?;
+    add(&rt, &mut frames, 1, 1)?;
     assert!(rt; frames.stats().unpacked_frames() == 2);
     Ok(())
 }

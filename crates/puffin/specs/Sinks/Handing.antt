@@ -20,9 +20,12 @@ refusal Refused = 1
 refusal NoCopy = 1
 
 -- (what a sink's own `accept` relates, of any box)
-module _ {I : Type 0} {F : I → Type 0} (accepts : (b : DynBox I Global F) → F b.vtable → FrameData → Result (Unit {0}) Error → F b.vtable → Type 0) where
+module _ {I : Type 0} {F : I → Type 0}
+    (accepts : (b : DynBox I Global F) → F b.vtable → FrameData → Result (Unit {0}) Error →
+    F b.vtable → Type 0) where
   -- the box after its sink returned a result
-  abbrev pub Answers : DynBox I Global F → FrameData → Result (Unit {0}) Error → DynBox I Global F → Type 0
+  abbrev pub Answers : DynBox I Global F → FrameData → Result (Unit {0}) Error →
+      DynBox I Global F → Type 0
   Answers b frame r c =
       (x : F b.vtable) × accepts b b.value frame r x × (c ≡ dyn_box_with b b.vtable x)
 
@@ -45,9 +48,12 @@ module _ {I : Type 0} {F : I → Type 0} (accepts : (b : DynBox I Global F) → 
   -- a frame is handed to all sinks, and so many didn't take it
   abbrev pub HandsOn : FrameData → List (Entry I F) → ℕ → List (Entry I F) → Type 0
   HandsOn frame old refused new =
-      (outcomes : List Outcome) × Handed frame old outcomes new × (refused ≡ sum_by refusal outcomes)
+      (outcomes : List Outcome)
+      × Handed frame old outcomes new
+      × (refused ≡ sum_by refusal outcomes)
 
   -- the same of a frame, if there is one; without a frame sinks stay, and none refuses
-  abbrev pub HandsOnAny : {A : Type 0} → Option (Arc FrameData A) → List (Entry I F) → ℕ → List (Entry I F) → Type 0
+  abbrev pub HandsOnAny : {A : Type 0} → Option (Arc FrameData A) → List (Entry I F) → ℕ →
+      List (Entry I F) → Type 0
   HandsOnAny None old refused new = (new ≡ old) × (refused ≡ 0)
   HandsOnAny (Some frame) old refused new = HandsOn (arc_value frame) old refused new

@@ -8,9 +8,9 @@ ghost use Rattle.puffin_threads.specs.Thread.Info.{info_of};
 ghost use Rattle.puffin_threads.specs.Details.{details_seen, lacks_id};
 ghost use Rattle.puffin_frames.specs.Frame.Contents.{AreHonest, frame_details};
 ghost use Rattle.puffin_frames.specs.Frame.Sums.{total_scopes};
-ghost use Rattle.puffin_collector.specs.Profiler.State.{AcceptsReport, RefusesReport, after_learning, after_wanting};
-ghost use Rattle.puffin_collector.specs.Profiler.Registering.{Adds, AddsSome};
-ghost use Rattle.puffin_collector.specs.Profiler.Collecting.{Collects, TellsIds, KeepsPending, KnowsSome};
+ghost use Rattle.puffin_collector.specs.Collector.State.{AcceptsReport, RefusesReport, after_learning, after_wanting};
+ghost use Rattle.puffin_collector.specs.Collector.Registering.{Adds, AddsSome};
+ghost use Rattle.puffin_collector.specs.Collector.Collecting.{Collects, TellsIds, KeepsPending, KnowsSome};
 ghost use Rattle.puffin.specs.Profiler.{collected_of, sinks_of, next_sink_of, IsNewProfiler};
 ghost use Rattle.puffin.specs.Sinks.{PutsIn, TakesOut, HasNone};
 ghost use Rattle.puffin.specs.Sinks.Handing.{HandsOn, HandsOnAny};
@@ -269,7 +269,7 @@ impl GlobalProfiler {
 
 impl Reporter for GlobalProfiler {
     ghost use Rattle.std.specs.Prelude.{◌≡◌};
-    ghost use Rattle.puffin_collector.specs.Profiler.State.{AcceptsReport, RefusesReport};
+    ghost use Rattle.puffin_collector.specs.Collector.State.{AcceptsReport, RefusesReport};
     ghost use Rattle.puffin.specs.Profiler.{collected_of, sinks_of};
 
     ghost accepts = { λ old i ds r new.

@@ -1,7 +1,8 @@
 ghost use Rattle.std.specs.Prelude.{◌≡◌, ◌+◌, ◌-◌, ◌<◌, ◌⊎◌, ◌∷◌, [], ◌++◌, ◌^◌, length, slice_get, Some, IfOk, IfErr, IfSome, IfNone};
 ghost use Rattle.std.specs.Arc.{arc_value};
 ghost use Rattle.puffin.specs.Sinks.Handing.{HandsOn};
-ghost use Rattle.puffin.specs.Sinks.{AreNumbered, PutsIn, TakesOut, HasNone};
+ghost use Rattle.puffin.specs.Sinks.{PutsIn, TakesOut, HasNone};
+ghost use Rattle.puffin.specs.inner.Numbers.{AreNumbered};
 
 use crate::global_profiler::handing::hand_all;
 use crate::global_profiler::sink::{FrameSink, FrameSinkId, Sink};

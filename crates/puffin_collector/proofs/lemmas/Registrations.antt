@@ -6,8 +6,8 @@ use Rattle.puffin_data.specs.declared.error.Error.TheVariants.{IdsExhausted, Mem
 use Rattle.puffin_threads.specs.declared.scope_details.details.ScopeDetails.{ScopeDetails}
 use Rattle.puffin_threads.specs.Details.{Details, details_of, details_seen, with_id}
 use Rattle.puffin_threads.specs.Details.Collection.{Collection, with_details, with_all_details}
-use Rattle.puffin_collector.specs.Profiler.State.{Collected, after_adding}
-use Rattle.puffin_collector.specs.Profiler.Registering.{known_id, none_asked, known_name, new_name, Adds, AddsSome}
+use Rattle.puffin_collector.specs.Collector.State.{Collected, after_adding}
+use Rattle.puffin_collector.specs.Collector.Registering.{known_id, none_asked, known_name, new_name, Adds, AddsSome}
 
 inserted_all-append : (c : Collection) (xs ys : List Details) → with_all_details c (xs ++ ys) ≡ with_all_details (with_all_details c xs) ys
 inserted_all-append c [] ys = refl

@@ -6,7 +6,8 @@ use Rattle.std.proofs.lemmas.List.{get_or-append_right, append-nil, nil_from_len
 use Rattle.std.proofs.lemmas.Option.{same_Some, some_pair_parts, cond_some}
 use Rattle.puffin_data.specs.Value.Layout.{IsBytes, number, optional, pair, items, IsLong, IfAny, AreItems, NoneBeginsAnother, ReadsLayouts}
 use Rattle.puffin_data.specs.Value.Decoding.{◌>>=◌, with_test, seen_as, optional_at, pair_at, times_at, whole}
-use Rattle.puffin_data.specs.Value.Outcomes.{Reads, ReadsWithRest, Gives, GivesWithRest}
+use Rattle.puffin_data.specs.Value.Outcomes.{Reads, Gives}
+use Rattle.puffin_data.specs.inner.Fronts.{ReadsWithRest, GivesWithRest}
 
 pub IsBytes-rest : (b : ℕ) (bytes : List ℕ) → IsBytes (b ∷ bytes) → IsBytes bytes
 IsBytes-rest b bytes h i = h (suc i)

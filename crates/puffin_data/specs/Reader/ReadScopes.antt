@@ -36,14 +36,16 @@ item_seen (Some (Ok s)) = Some (Ok (scope_seen s))
 item_seen (Some (Err fault)) = Some (Err fault)
 
 -- one step of a reader, from a place to a place
-pub record IsNextRead (from : Place) (item : Option (Result Scope Error)) (to : Place) : Type 0 where
+pub record IsNextRead (from : Place) (item : Option (Result Scope Error)) (to : Place) :
+    Type 0 where
   pub same_form : to.form ≡ from.form
   pub same_bytes : to.bytes ≡ from.bytes
   pub next : (item_seen item, to.at) ≡ next_read from
 
 -- these scopes, and nothing else, are read from a place on
 abbrev pub ReadsScopes : Place → List Scope → Type 0
-ReadsScopes from scopes = ReaderGives from.form from.bytes from.at (map (λ s. Ok s) (map scope_seen scopes))
+ReadsScopes from scopes =
+    ReaderGives from.form from.bytes from.at (map (λ s. Ok s) (map scope_seen scopes))
 
 -- some scopes are read from a place on, and then this fault
 abbrev pub ReadsFault : Place → Error → Type 0

@@ -1,5 +1,5 @@
 -- The length of a text, by form: its bytes, its limits, and what stands at the front of a region.
-use Rattle.std.specs.Prelude.{ℕ, ◌+◌, ◌-◌, ◌*◌, ◌/◌, ◌%◌, List, [], ◌∷◌, ◌++◌, length, nat_lt, nat_le, ◌==◌, ◌||◌, if◌then◌else◌, Option, Some, None, Result, Ok, Err}
+use Rattle.std.specs.Prelude.{ℕ, ◌+◌, ◌-◌, ◌*◌, ◌/◌, ◌%◌, List, [], ◌∷◌, ◌++◌, length, nat_lt, nat_le, ◌==◌, ◌||◌, if◌then◌else◌, Result, Ok, Err}
 use Rattle.puffin_data.specs.declared.error.Error.{Error}
 use Rattle.puffin_data.specs.declared.error.Error.TheVariants.{PrematureEnd, InvalidStream}
 use Rattle.puffin_data.specs.declared.data.form.Form.{Form}
@@ -43,8 +43,3 @@ length_or_none (Err fault) = (0, 1)
 -- how many bytes a text takes with its length
 abbrev pub text_room : Form → List ℕ → ℕ
 text_room form text = length (length_layout form (length text)) + length text
-
--- the second byte of a length, where there is one
-abbrev pub second_byte : Option ℕ → List ℕ
-second_byte None = []
-second_byte (Some b) = b ∷ []

@@ -1,6 +1,4 @@
 -- What the code's reading of a scope shows: the same without where the text lies in memory.
-use Rattle.std.specs.Prelude.{Option, Some, None, Result, Ok, Err}
-use Rattle.puffin_data.specs.declared.error.Error.{Error}
 use Rattle.puffin_data.specs.declared.data.scope.Sighting.{Sighting}
 use Rattle.puffin_data.specs.Walk.Reading.{Found}
 
@@ -11,8 +9,3 @@ found_of s = record {
   child_end = s.child_end;
   next_sibling = s.next_sibling;
 }
-
-abbrev pub reading_of : Result (Option Sighting) Error → Result (Option Found) Error
-reading_of (Ok None) = Ok None
-reading_of (Ok (Some s)) = Ok (Some (found_of s))
-reading_of (Err e) = Err e

@@ -2,29 +2,52 @@
 use Rattle.std.specs.Prelude.{◌≡◌, ℕ, ◌+◌, ◌≤◌, ◌==◌, if◌then◌else◌, ◌⊎◌, List, [], ◌∷◌, ◌++◌, length, slice_index}
 use Rattle.puffin_data.specs.declared.data.form.Form.{Form}
 use Rattle.puffin_data.specs.declared.error.Error.{Error}
-use Rattle.puffin_data.specs.Forest.{Forest}
+use Rattle.puffin_data.specs.Forest.{Span, Forest}
 use Rattle.puffin_data.specs.Forest.Spelling.{begin_mark, Spells}
 use Rattle.puffin_data.specs.Walk.{Reaches, IsFaultAt, IsFirstFault}
 use Rattle.puffin_data.specs.Walk.Sights.{Nested, nested_in, Sight, Sees, scopes_of, before}
 
+-- ---- one scope
+
+-- A visitor that keeps w of the scope around one takes it, and keeps x of it.
+abbrev pub Entering : {V W : Type 0} → (V → List Nested → V → Type 0) →
+    (V → W → List Span → Type 0) → V → W → Span → W → V → Type 0
+Entering takes stands_for v w span x u =
+    (around : List Span) → stands_for v w around →
+    takes v (record { around = around; span = span } ∷ []) u
+    × stands_for u x (around ++ (span ∷ []))
+
+abbrev pub Refusing : {V W : Type 0} → (V → Nested → Error → Type 0) →
+    (V → W → List Span → Type 0) → V → W → Span → Error → Type 0
+Refusing refuses stands_for v w span cause =
+    (around : List Span) → stands_for v w around →
+    refuses v (record { around = around; span = span }) cause
+
+-- ---- all of the bytes
+
 -- the bytes spell a forest, and the visitor has taken all its scopes, each of them one try
-pub record TakesAll (form : Form) {V : Type 0} (takes : V → List Nested → V → Type 0) (from to : V) (bytes : List ℕ) (tried : ℕ) : Type 0 where
+pub record TakesAll (form : Form) {V : Type 0} (takes : V → List Nested → V → Type 0)
+    (from to : V) (bytes : List ℕ) (tried : ℕ) : Type 0 where
   pub forest : Forest
   pub spells : Spells form bytes forest
   pub taken : takes from (nested_in [] forest) to
   pub tries : tried ≡ length (nested_in [] forest)
 
 -- The first fault of the bytes is met, and the visitor has taken the sound scopes before it. These are the tries, and one more where a scope begins at the fault.
-pub record StopsAtFault (form : Form) {V : Type 0} (takes : V → List Nested → V → Type 0) (from to : V) (bytes : List ℕ) (tried : ℕ) (fault : Error) : Type 0 where
+pub record StopsAtFault (form : Form) {V : Type 0} (takes : V → List Nested → V → Type 0)
+    (from to : V) (bytes : List ℕ) (tried : ℕ) (fault : Error) : Type 0 where
   pub place : ℕ
   pub first : IsFirstFault form bytes place fault
   pub sights : List Sight
   pub sees : Sees form bytes [] 0 (length bytes) sights
   pub taken : takes from (scopes_of (before place sights)) to
-  pub tries : tried ≡ length (before place sights) + (if slice_index bytes place == begin_mark then 1 else 0)
+  pub tries : tried
+      ≡ length (before place sights) + (if slice_index bytes place == begin_mark then 1 else 0)
 
 -- The visitor has taken the sound scopes before one that it refuses, and no fault stands before that. These are the tries, and the one that is refused.
-pub record StopsAtRefusal (form : Form) {V : Type 0} (takes : V → List Nested → V → Type 0) (refuses : V → Nested → Error → Type 0) (from : V) (bytes : List ℕ) (tried : ℕ) (cause : Error) : Type 0 where
+pub record StopsAtRefusal (form : Form) {V : Type 0} (takes : V → List Nested → V → Type 0)
+    (refuses : V → Nested → Error → Type 0) (from : V) (bytes : List ℕ) (tried : ℕ)
+    (cause : Error) : Type 0 where
   pub earlier : List Sight
   pub sight : Sight
   pub later : List Sight

@@ -1,13 +1,26 @@
 -- How a walk goes, scope by scope: what the proof of its loop stands on.
-use Rattle.std.specs.Prelude.{◌≡◌, ℕ, suc, ◌+◌, ◌-◌, ◌^◌, max, List, length, pos, negsuc, Result, Ok, Err, ◌⊎◌}
+use Rattle.std.specs.Prelude.{◌≡◌, ℕ, suc, ◌+◌, ◌-◌, ◌^◌, ◌==◌, if◌then◌else◌, max, List, length, slice_index, pos, negsuc, Option, Some, None, Result, Ok, Err, ◌⊎◌}
 use Rattle.std.specs.Int.{int_min, int_max}
 use Rattle.puffin_data.specs.declared.data.form.Form.{Form}
 use Rattle.puffin_data.specs.declared.error.Error.{Error}
 use Rattle.puffin_data.specs.declared.error.Error.TheVariants.{Memory}
 use Rattle.puffin_data.specs.declared.data.walk.Walk.{Walk}
+use Rattle.puffin_data.specs.declared.data.scope.Sighting.{Sighting}
 use Rattle.puffin_data.specs.Forest.{Span}
+use Rattle.puffin_data.specs.Forest.Spelling.{begin_mark}
+use Rattle.puffin_data.specs.Walk.Sightings.{found_of}
 use Rattle.puffin_data.specs.Walk.Reading.{Found}
-use Rattle.puffin_data.specs.Walk.{region, IsSoundAt, IsFaultAt, tries_in}
+use Rattle.puffin_data.specs.Walk.{region, IsSoundAt, IsFaultAt}
+
+-- one more try where a scope begins at the front of a region
+abbrev pub tries_in : List ℕ → ℕ
+tries_in part = if slice_index part 0 == begin_mark then 1 else 0
+
+-- what the code's reading of a scope shows
+abbrev pub reading_of : Result (Option Sighting) Error → Result (Option Found) Error
+reading_of (Ok None) = Ok None
+reading_of (Ok (Some s)) = Ok (Some (found_of s))
+reading_of (Err e) = Err e
 
 -- the numbers of a walk over no scope
 abbrev pub no_scope_counted : Walk

@@ -1,8 +1,9 @@
 //! How the length of a scope's text is written.
 
-ghost use Rattle.std.specs.Prelude.{◌≡◌, ◌≤◌, ◌<◌, ◌^◌, ◌∷◌, IfOk};
+ghost use Rattle.std.specs.Prelude.{◌≡◌, ◌≤◌, ◌<◌, ◌^◌, ◌∷◌, length, IfOk};
 ghost use Rattle.puffin_data.specs.Text.{cut_text};
-ghost use Rattle.puffin_data.specs.Text.Lengths.{length_at, length_layout, text_limit, second_byte};
+ghost use Rattle.puffin_data.specs.Text.Lengths.{length_at, length_layout, text_limit};
+ghost use Rattle.puffin_data.specs.inner.Groups.{second_byte};
 ghost use Rattle.puffin_data.specs.Forest.Spelling.{head_size};
 
 use crate::data::scope::{BEGIN_LIMIT, FRONT_SIZE, WORD_SIZE};
@@ -30,6 +31,29 @@ impl Form {
             Form::Short => 127,
             Form::Long => 16383,
         }
+    }
+
+    /// The beginning of a text that is stored.
+    #[inline]
+    pub(crate) fn cut(self, text: &str) -> &str
+        ensures cut { result.now ≡ cut_text self text.now }
+        ensures short { length result.now ≤ text_limit self }
+    {
+        if text.len() <= self.text_limit() {
+            return text;
+        }
+        self.cut_off(text)
+    }
+
+    /// The beginning of a text that has more bytes than are stored.
+    #[cold]
+    #[inline(never)]
+    fn cut_off(self, text: &str) -> &str
+        ensures cut { result.now ≡ cut_text self text.now }
+        ensures short { length result.now ≤ text_limit self }
+    {
+        let size = text.floor_char_boundary(self.text_limit());
+        &text[..size]
     }
 
     /// The most bytes that the beginning of a scope with this text takes: of a short one always the same number.

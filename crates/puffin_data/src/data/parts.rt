@@ -2,7 +2,8 @@
 
 ghost use Rattle.std.specs.Prelude.{◌≡◌, ◌-◌, ◌+◌, ◌^◌, ◌<◌, ◌≤◌, ◌++◌, ◌⊎◌, ℕ, List, IfOk, IfErr, OnOk, length, take, drop};
 ghost use Rattle.std.specs.Io.KnownBytes.{Consumes, IsAtEnd};
-ghost use Rattle.puffin_data.specs.Device.{FromDevice, TookUpTo, IsFilled, IsOutside, failures_after};
+ghost use Rattle.puffin_data.specs.Device.{FromDevice, TookUpTo, IsOutside, failures_after};
+ghost use Rattle.puffin_data.specs.inner.Filling.{IsFilled};
 ghost use Rattle.puffin_data.specs.Part.{part_of, first_at, part_length_at, counted_part_at};
 
 use crate::data::device::Source;
@@ -50,7 +51,7 @@ fn fill_behind<S: Source>(source: &mut S, buf: &mut [u8], at: usize) -> Result<u
 }
 
 /// Reads until a buffer is full or the reader at its end, and returns how many bytes came. Refused with `Io`, where a
-/// read failed; the reader's place is then open.
+/// read failed; how far it read is then unspecified.
 pub fn read_up_to<S: Source>(source: &mut S, buf: &mut [u8]) -> Result<usize, FileError>
     requires { S.failures source.old < 2 ^ 64 - 1 }
     ensures size { length buf.new ≡ length buf.old }

@@ -3,7 +3,7 @@
 ghost use Rattle.std.specs.Prelude.{◌≡◌, ◌+◌, ◌≤◌, ◌<◌, ◌^◌, length, drop};
 ghost use Rattle.byteorder.specs.Endian.{little_number};
 ghost use Rattle.puffin_data.specs.Walk.Reading.{reading, sized_reading, unless_fault, text_length_in, id_in, time_in, text_begin_in, text_size_in};
-ghost use Rattle.puffin_data.specs.Walk.Sightings.{reading_of};
+ghost use Rattle.puffin_data.specs.inner.Walking.{reading_of};
 
 use crate::data::form::{Form, length_in};
 use crate::data::range::is_range;

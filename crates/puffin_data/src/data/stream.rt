@@ -4,13 +4,14 @@ ghost use Rattle.byteorder.specs.Endian.{little_bytes};
 ghost use Rattle.puffin_data.specs.Forest.Spelling.{begin_mark, end_mark, begin_bytes, time_bytes, head_size};
 ghost use Rattle.puffin_data.specs.Forest.Open.{ended_bytes};
 ghost use Rattle.puffin_data.specs.Text.{cut_text};
-ghost use Rattle.puffin_data.specs.Text.Lengths.{text_limit, length_layout, second_byte};
+ghost use Rattle.puffin_data.specs.Text.Lengths.{text_limit, length_layout};
+ghost use Rattle.puffin_data.specs.inner.Groups.{second_byte};
 
 use crate::data::form::{Form, ONE_GROUP, groups};
-use crate::data::scope::{END_SIZE, FRONT_SIZE, SCOPE_END, WORD_SIZE};
+use crate::data::scope::{END_SIZE, FRONT_SIZE, WORD_SIZE};
 use crate::data::scope_id::ScopeId;
+use crate::data::spelling::{back, copy_text, front, size_word};
 use crate::error::{Error, NanoSecond, Result};
-use byteorder::{ByteOrder, LittleEndian};
 use std::alloc::Global;
 use std::marker::Model;
 
@@ -36,94 +37,6 @@ impl Model for Stream {
         } };
 
     ghost invariant = { λ s. s.len ≤ length s.block.items };
-}
-
-/// Copies eight bytes.
-#[inline(always)]
-fn copy_eight(to: &mut [u8], from: &[u8])
-    requires to { 8 ≤ length to.old }
-    requires from { 8 ≤ length from.now }
-    ensures { to.new ≡ take 8 from.now ++ drop 8 to.old }
-{
-    let word = [
-        from[0], from[1], from[2], from[3], from[4], from[5], from[6], from[7],
-    ];
-    to[..8].copy_from_slice(&word);
-}
-
-/// Copies as many bytes as there are. From 8 to 16 bytes it takes two pieces of eight, which may overlap: that needs no
-/// call.
-#[inline(always)]
-fn copy_text(to: &mut [u8], from: &[u8])
-    requires { length to.old ≡ length from.now }
-    ensures { to.new ≡ from.now }
-{
-    let size = from.len();
-    if size < 8 || size > 16 {
-        return to.copy_from_slice(from);
-    }
-    copy_eight(to, from);
-    copy_eight(&mut to[size - 8..], &from[size - 8..]);
-}
-
-/// The beginning of a text that is stored.
-#[inline]
-fn cut(form: Form, text: &str) -> &str
-    ensures cut { result.now ≡ cut_text form text.now }
-    ensures short { length result.now ≤ text_limit form }
-{
-    if text.len() <= form.text_limit() {
-        return text;
-    }
-    cut_off(form, text)
-}
-
-/// The beginning of a text that has more bytes than are stored.
-#[cold]
-#[inline(never)]
-fn cut_off(form: Form, text: &str) -> &str
-    ensures cut { result.now ≡ cut_text form text.now }
-    ensures short { length result.now ≤ text_limit form }
-{
-    let size = text.floor_char_boundary(form.text_limit());
-    &text[..size]
-}
-
-/// What stands before a scope's text up to the first byte of its length, and two bytes more. Two words are quicker to write
-/// than four numbers.
-#[inline]
-fn front(id: u32, start: NanoSecond, group: u8) -> [u8; 16]
-    ensures { take (FRONT_SIZE + 1) result
-        ≡ begin_mark ∷ (little_bytes 4 id ++ (time_bytes start ++ (group ∷ []))) }
-{
-    let time = start.cast_unsigned();
-    // The lowest byte, 40, is `SCOPE_BEGIN`.
-    let low = 40 + u64::from(id) * 0x100 + time % 0x100_0000 * 0x100_0000_0000;
-    let high = time / 0x100_0000 + u64::from(group) * 0x100_0000_0000;
-    let mut front = [0; 16];
-    LittleEndian::write_u64(&mut front[8..], high);
-    LittleEndian::write_u64(&mut front[..8], low);
-    front
-}
-
-/// What stands behind a scope's children.
-#[inline]
-fn back(stop: NanoSecond) -> [u8; END_SIZE]
-    ensures { result ≡ end_mark ∷ time_bytes stop }
-{
-    let mut back = [SCOPE_END; END_SIZE];
-    LittleEndian::write_i64(&mut back[1..], stop);
-    back
-}
-
-/// The number of bytes of a scope's children.
-#[inline]
-fn size_word(size: u64) -> [u8; 8]
-    ensures { result ≡ little_bytes 8 size }
-{
-    let mut word = [0; 8];
-    LittleEndian::write_u64(&mut word, size);
-    word
 }
 
 impl Stream {
@@ -429,7 +342,7 @@ impl Stream {
         if text.len() <= ONE_GROUP {
             return self.begin_with(now_ns, id, text, text.len() as u8, None);
         }
-        let stored = cut(self.form, text);
+        let stored = self.form.cut(text);
         let (group, second) = groups(self.form, stored.len());
         self.begin_with(now_ns, id, stored, group, second)
     }

@@ -12,7 +12,7 @@ use std::alloc::Global;
 /// How many bytes are read at once. A length that lies asks for no more memory than that before bytes come.
 pub(super) const PIECE_SIZE: usize = 65536;
 
-/// Reads to the end. Refused with `Io` where a read failed, else with `Memory`; the reader's place is then open.
+/// Reads to the end. Refused with `Io` where a read failed, else with `Memory`; how far it read is then unspecified.
 pub fn read_to_end<S: Source>(alloc: Global, source: &mut S) -> Result<Vec<u8>, FileError>
     requires { S.failures source.old < 2 ^ 64 - 1 }
     ensures all { IfOk result (λ bytes.

@@ -4,8 +4,7 @@ ghost use Rattle.std.specs.Prelude.{◌≡◌, ℕ, ◌+◌, ◌*◌, ◌≤◌,
 ghost use Rattle.puffin_data.specs.Forest.{Span, IsSpan};
 ghost use Rattle.puffin_data.specs.Walk.Sightings.{found_of};
 ghost use Rattle.puffin_data.specs.Walk.Sights.{Nested};
-ghost use Rattle.puffin_data.specs.Walk.Visitor.{TakesAll, StopsEarly};
-ghost use Rattle.puffin_data.specs.Walk.Going.{Entering, Refusing};
+ghost use Rattle.puffin_data.specs.Walk.Visitor.{Entering, Refusing, TakesAll, StopsEarly};
 
 use crate::data::form::Form;
 use crate::data::scope::{END_SIZE, Sighting};
@@ -30,7 +29,7 @@ pub trait Visitor<'s> {
     /// In this state, what is kept stands for these scopes, the outermost first.
     ghost stands_for: { Self → Self.Within → List Span → Type 0 };
 
-    /// Takes a scope that stands directly within the one of which this is kept, and returns what is to be kept of it.
+    /// Takes a scope directly within the one that `within` stands for, and returns what to keep of it.
     fn enter(&mut self, within: Self::Within, scope: &Sighting<'s>) -> Result<Self::Within>
         requires stands { (around : List Span) × stands_for self.old within around }
         requires span { (form : Form) × IsSpan form (found_of scope.now).span }

@@ -4,7 +4,7 @@ ghost use Rattle.std.specs.Prelude.{◌≡◌, ◌^◌, true, false, MatchOption
 ghost use Rattle.std.specs.Str.{is_utf8};
 ghost use Rattle.puffin_data.specs.Value.Layout.{two_bytes_mark, number, signed, byte, block, flag, IsAny, IsByte, IsWord, IsLong, IsSigned, IsBlock, IsText};
 ghost use Rattle.puffin_data.specs.Value.Decoding.{byte_at, wide_at, number_at, word_at, signed_at, unzigzag, flag_at, bytes_at, text_at};
-ghost use Rattle.puffin_data.specs.Value.Outcomes.{ReadsWithRest, GivesWithRest};
+ghost use Rattle.puffin_data.specs.inner.Fronts.{ReadsWithRest, GivesWithRest};
 
 use crate::wire::{EIGHT_BYTES_MARK, FOUR_BYTES_MARK, TWO_BYTES_MARK};
 use byteorder::{ByteOrder, LittleEndian};

@@ -29,7 +29,8 @@ HoldsStreams p streams =
 
 -- the streams whose layout packed bytes are; bytes of another kind hold none here
 abbrev pub streams_in : Packing → Option Streams
-streams_in p = if p.kind == 0 then option_map from_sorted (whole (streams_at p.form) p.bytes) else None
+streams_in p =
+    if p.kind == 0 then option_map from_sorted (whole (streams_at p.form) p.bytes) else None
 
 abbrev pub if_packed : Option Packing → Option Streams
 if_packed None = None
@@ -84,7 +85,9 @@ or_bad None = Err file.BadStreams
 or_bad (Some streams) = Ok streams
 
 abbrev pub unpacking : Packing → Result Streams FileError
-unpacking p = if p.kind == 0 then or_bad (option_map from_sorted (whole (streams_at p.form) p.bytes)) else Err (file.Compressed p.kind)
+unpacking p =
+    if p.kind == 0 then or_bad (option_map from_sorted (whole (streams_at p.form) p.bytes))
+    else Err (file.Compressed p.kind)
 
 abbrev pub unpacked_of : Option Packing → Option Streams → Result Streams FileError
 unpacked_of p (Some streams) = Ok streams

@@ -13,7 +13,7 @@ use Rattle.puffin_data.specs.Forest.{Forest}
 use Rattle.puffin_data.specs.declared.data.info.StreamInfo.{StreamInfo}
 use Rattle.puffin_threads.specs.declared.thread_profiler.thread_info.ThreadInfo.{ThreadInfo}
 use Rattle.puffin_frames.specs.declared.frame_data.unpacked.UnpackedFrameData.{UnpackedFrameData}
-use Rattle.puffin_threads.specs.Thread.Info.{Info, info_cmp, info_code, by_info, info_entries}
+use Rattle.puffin_threads.specs.Thread.Info.{Info, info_cmp, info_code, by_info}
 
 -- what threads recorded, by their infos
 abbrev pub Streams : Type 0
@@ -56,10 +56,6 @@ without_sharing entries = map (λ e. (e.0, arc_value e.1)) entries
 
 abbrev pub shared_streams : {A : Type 0} → List (ThreadInfo × Arc StreamInfo A) → Streams
 shared_streams entries = streams_of (without_sharing entries)
-
--- the same as the list of their pairs, in the order of the map's entries
-abbrev pub pairs_of : {A : Type 0} → List (ThreadInfo × Arc StreamInfo A) → List (Info × Recorded)
-pairs_of entries = info_entries (records (without_sharing entries))
 
 -- what is recorded where there is no scope
 abbrev pub no_scopes : Recorded

@@ -14,13 +14,25 @@ packet_at letter bytes = do
   meta ← meta_part_at bytes
   streams ← streams_part_at letter meta.1
   details ← details_part_at letter streams.1
-  Ok (record { meta = meta.0; form = form_behind letter; kind = streams.0.0; streams = streams.0.1; details = details.0 }, details.1)
+  Ok (
+    record {
+      meta = meta.0;
+      form = form_behind letter;
+      kind = streams.0.0;
+      streams = streams.0.1;
+      details = details.0;
+    },
+    details.1,
+  )
 
 -- what follows the four letters, the last of which is letter
 abbrev pub form_at : ℕ → List ℕ → Result (Said × List ℕ) FileError
 form_at letter bytes =
     if (letter == digit_0) || (letter == digit_1) then Err file.Legacy
-    else if (letter == digit_2) || (letter == digit_3) || (letter == digit_4) || (letter == letter_l)
+    else if (letter == digit_2)
+    || (letter == digit_3)
+    || (letter == digit_4)
+    || (letter == letter_l)
     then packet_at letter bytes
     else Err file.Newer
 

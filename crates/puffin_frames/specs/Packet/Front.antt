@@ -12,7 +12,9 @@ is_end bytes = nat_lt (length bytes) 4 || (little_number 4 bytes == 0)
 
 -- The next frame and the bytes after it, none at the end, or the first fault.
 unfoldable pub next_at : List ℕ → Result (Option Stored × List ℕ) FileError
-next_at bytes = if is_end bytes then Ok (None, drop 4 bytes) else stored_after (take 4 bytes) (drop 4 bytes)
+next_at bytes =
+    if is_end bytes then Ok (None, drop 4 bytes)
+    else stored_after (take 4 bytes) (drop 4 bytes)
 
 -- The reader is at its end: at most four bytes were taken, and these are read as the end, whatever follows, or fewer, after which none follow.
 pub record AtEnd (old new : Option (List ℕ)) : Type 0 where

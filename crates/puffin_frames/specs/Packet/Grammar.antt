@@ -16,7 +16,8 @@ counted_part part = little_bytes 4 (length part) ++ part
 -- the letters and the meta, and of the streams their length and their kind
 unfoldable pub packet_head : Form → FrameMeta → ℕ → ℕ → List ℕ
 packet_head form meta kind len =
-    letters_of (letter_for form) ++ (counted_part (meta_layout meta) ++ (little_bytes 4 len ++ (kind ∷ [])))
+    letters_of (letter_for form)
+    ++ (counted_part (meta_layout meta) ++ (little_bytes 4 len ++ (kind ∷ [])))
 
 -- a packet of these streams and this part of details
 abbrev pub packet_with : Form → FrameMeta → ℕ → List ℕ → List ℕ → List ℕ
@@ -40,7 +41,8 @@ pub record IsPacked (p : Said) : Type 0 where
 abbrev pub packet_without_details : Said → List ℕ
 packet_without_details p =
     letters_of digit_3
-    ++ (counted_part (meta_layout p.meta) ++ (little_bytes 4 (length p.streams) ++ (p.kind ∷ p.streams)))
+    ++ (counted_part (meta_layout p.meta)
+    ++ (little_bytes 4 (length p.streams) ++ (p.kind ∷ p.streams)))
 
 -- the second form: `PFD2`, and neither details nor a kind, as its streams are all of kind 2
 abbrev pub packet_without_kind : Said → List ℕ

@@ -1,9 +1,7 @@
 -- What reading the next frame promises.
-use Rattle.std.specs.Prelude.{◌≡◌, ℕ, false, not, List, [], length, is_some, Option, Some, None, Result, Ok, Err}
+use Rattle.std.specs.Prelude.{◌≡◌, ℕ, false, not, List, [], is_some, Option, Some, None, Result, Ok, Err}
 use Rattle.std.specs.FinMap.{entries}
-use Rattle.std.specs.Io.KnownBytes.{Consumes}
 use Rattle.puffin_data.specs.Honesty.{Recorded}
-use Rattle.puffin_data.specs.Value.Layout.{IsBytes}
 use Rattle.puffin_data.specs.Device.{FromDevice, FailsAt}
 use Rattle.puffin_data.specs.declared.file_error.FileError.{FileError}
 use Rattle.puffin_frames.specs.declared.frame_data.frame.FrameData.{FrameData}
@@ -12,7 +10,7 @@ use Rattle.puffin_frames.specs.Packet.Structs.{Legacy}
 use Rattle.puffin_frames.specs.Frame.Holding.{Packing}
 use Rattle.puffin_frames.specs.Packet.Stored.{Stored, packed, legacy}
 use Rattle.puffin_frames.specs.Frame.Contents.{Streams, holding_of, frame_meta, frame_details, frame_says}
-use Rattle.puffin_frames.specs.Packet.Front.{is_end, next_at, AtEnd}
+use Rattle.puffin_frames.specs.Packet.Front.{next_at, AtEnd}
 
 abbrev pub entries_if_any : Option Streams → List (Info × Recorded)
 entries_if_any None = []
@@ -36,12 +34,6 @@ pub record IsFresh (frame : FrameData) : Type 0 where
   pub one_way : is_some (holding_of frame).packed ≡ not (is_some (holding_of frame).unpacked)
   pub full_delta : frame.full_delta ≡ false
   pub no_details : (holding_of frame).packed ≡ None → frame_details frame ≡ []
-
--- four bytes that aren't four zeros, or the end
-abbrev pub HeaderFrom : Option (List ℕ) → Option (List ℕ) → Option (List ℕ) → Type 0
-HeaderFrom old new (Some header) =
-    (length header ≡ 4) × Consumes old new header × (is_end header ≡ false) × IsBytes header
-HeaderFrom old new None = AtEnd old new
 
 -- A call took bytes from a device: those of the frame that it returned, whatever follows; or the device is at its end; or the bytes that were taken have this fault.
 abbrev pub ReadsNext : Option (List ℕ) → Option (List ℕ) → Result (Option FrameData) FileError →

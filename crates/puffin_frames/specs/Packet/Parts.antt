@@ -58,7 +58,8 @@ streams_part_at letter bytes = do
 
 abbrev pub legacy_with_range : Option Legacy → Result Legacy FileError
 legacy_with_range None = Err file.BadStreams
-legacy_with_range (Some l) = if is_range_at l.meta.range_ns.0 l.meta.range_ns.1 then Ok l else Err file.BadRange
+legacy_with_range (Some l) =
+    if is_range_at l.meta.range_ns.0 l.meta.range_ns.1 then Ok l else Err file.BadRange
 
 abbrev pub legacy_from : List ℕ → Result Legacy FileError
 legacy_from part = legacy_with_range (whole legacy_at part)

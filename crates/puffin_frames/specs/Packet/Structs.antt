@@ -1,5 +1,5 @@
 -- What packets hold: the values, their bytes, and how they are read. Fields stand in the order of their bytes.
-use Rattle.std.specs.Prelude.{◌≡◌, ℕ, ℤ, Bool, true, ◌&&◌, List, [], ◌++◌, Option, Some, None, nat_lt, if◌then◌else◌}
+use Rattle.std.specs.Prelude.{◌≡◌, ℕ, ℤ, Bool, true, ◌&&◌, List, [], ◌++◌, Option, Some, nat_lt}
 use Rattle.std.specs.List.{list_any}
 use Rattle.std.specs.FinMap.{is_sorted}
 use Rattle.puffin_data.specs.declared.data.form.Form.{Form}
@@ -7,7 +7,7 @@ use Rattle.puffin_data.specs.declared.data.form.Form.TheVariants.{Short, Long}
 use Rattle.puffin_data.specs.Text.Flags.{is_long, form_of_flag}
 use Rattle.puffin_data.specs.Honesty.{Recorded}
 use Rattle.puffin_data.specs.Value.Layout.{number, signed, optional, flag, block, pair, items, IsWord, IsLong, IsSigned, IsBlock, IsText, IfAny, AreItems}
-use Rattle.puffin_data.specs.Value.Decoding.{◌>>=◌, with_test, seen_as, number_at, word_at, signed_at, flag_at, bytes_at, text_at, optional_at, pair_at, items_at}
+use Rattle.puffin_data.specs.Value.Decoding.{with_test, seen_as, number_at, word_at, signed_at, flag_at, bytes_at, text_at, optional_at, pair_at, items_at}
 use Rattle.puffin_frames.specs.declared.frame_data.meta.FrameMeta.{FrameMeta}
 use Rattle.puffin_threads.specs.Thread.Info.{Info, info_cmp}
 use Rattle.puffin_threads.specs.Details.{Details}
@@ -122,13 +122,6 @@ AreStreams packed es =
 abbrev pub stream_at : Form → List ℕ → Option ((Info × Recorded) × List ℕ)
 stream_at packed = pair_at info_at (recorded_at packed)
 
--- what was read, where the keys rise
-abbrev pub rising : Option (List (Info × Recorded) × List ℕ) →
-    Option (List (Info × Recorded) × List ℕ)
-rising read = do
-  es ← read
-  if is_sorted info_cmp es.0 then Some es else None
-
 unfoldable pub streams_at : Form → List ℕ → Option (List (Info × Recorded) × List ℕ)
 streams_at packed = with_test (are_ordered packed) (items_at (stream_at packed))
 
@@ -196,8 +189,12 @@ IsLegacy l =
 
 abbrev pub made_legacy : ℕ × (List (Info × Recorded) × (ℤ × (ℤ × (ℕ × ℕ)))) → Legacy
 made_legacy p = record {
-  meta = record
-      { frame_index = p.0; range_ns = (p.1.1.0, p.1.1.1.0); num_bytes = p.1.1.1.1.0; num_scopes = p.1.1.1.1.1 };
+  meta = record {
+    frame_index = p.0;
+    range_ns = (p.1.1.0, p.1.1.1.0);
+    num_bytes = p.1.1.1.1.0;
+    num_scopes = p.1.1.1.1.1;
+  };
   streams = p.1.0;
 }
 

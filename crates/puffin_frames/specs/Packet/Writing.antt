@@ -27,7 +27,8 @@ abbrev pub HasLongPart : Said → Type 0
 HasLongPart p = (2 ^ 32 ≤ length p.streams) ⊎ (2 ^ 32 ≤ length (details_layout p.details))
 
 -- What a call promises that is to write these bytes to a device. It wrote them all; or the device failed, and a beginning of them is written; or a part is too long or there was no memory, and nothing is written.
-pub record WritesPacket {D : Type 0} (contents : D → Option (List ℕ)) (failures : D → ℕ) (takes : D → List ℕ → ℕ → D → Type 0) (old new : D)
+pub record WritesPacket {D : Type 0} (contents : D → Option (List ℕ)) (failures : D → ℕ)
+    (takes : D → List ℕ → ℕ → D → Type 0) (old new : D)
     (bytes : List ℕ) (IsLong : Type 0) (result : Result (Unit {0}) FileError) : Type 0 where
   pub ok : OnOk result (Appends (contents old) (contents new) bytes)
   pub begun : IfErr result (λ e. e ≡ Io → WritesBeginning (contents old) (contents new) bytes)

@@ -6,13 +6,12 @@ ghost use Rattle.std.specs.Cow.{cow_str_bytes};
 ghost use Rattle.std.specs.FinMap.{is_sorted};
 ghost use Rattle.puffin_data.specs.Honesty.{Recorded, record_of};
 ghost use Rattle.puffin_data.specs.Value.Decoding.{whole, optional_at, signed_at, text_at, times_at};
-ghost use Rattle.puffin_data.specs.Value.Outcomes.{IfSomeGives, SeenAs};
+ghost use Rattle.puffin_frames.specs.inner.Stopping.{IfSomeGives, SeenAs, TriesToGive, Tries};
 ghost use Rattle.puffin_frames.specs.declared.frame_data.decode.Stop.TheVariants.{Memory};
 ghost use Rattle.puffin_threads.specs.Thread.Info.{Info, info_of, info_cmp};
 ghost use Rattle.puffin_threads.specs.Details.{details_of, shared_details};
-ghost use Rattle.puffin_frames.specs.Frame.Contents.{pairs_of};
-ghost use Rattle.puffin_frames.specs.Packet.Structs.{meta_at, info_at, form_in_at, recorded_at, stream_at, rising, streams_at, id_at, detail_at, details_at, legacy_at, Legacy};
-ghost use Rattle.puffin_frames.specs.Packet.Tries.{TriesToGive, Tries};
+ghost use Rattle.puffin_frames.specs.inner.Pairs.{pairs_of, rising};
+ghost use Rattle.puffin_frames.specs.Packet.Structs.{meta_at, info_at, form_in_at, recorded_at, stream_at, streams_at, id_at, detail_at, details_at, legacy_at, Legacy};
 
 use crate::frame_data::encode::packed_form;
 use crate::frame_data::meta::FrameMeta;

@@ -12,7 +12,7 @@ ghost use Rattle.puffin_data.specs.Honesty.{record_of};
 ghost use Rattle.puffin_data.specs.Value.Layout.{optional, number, block, signed, IsBlock, IsText, IfAny};
 ghost use Rattle.puffin_threads.specs.Thread.Info.{info_of, thread_cmp};
 ghost use Rattle.puffin_threads.specs.Details.{details_of, shared_details};
-ghost use Rattle.puffin_frames.specs.Frame.Contents.{pairs_of};
+ghost use Rattle.puffin_frames.specs.inner.Pairs.{pairs_of};
 ghost use Rattle.puffin_frames.specs.Packet.Structs.{meta_layout, IsMeta, info_layout, IsInfo, form_layout, form_of_all, recorded_layout, AreCounts, streams_layout, AreStreams, detail_layout, IsDetail, details_layout, AreDetails, IsId};
 
 use crate::frame_data::meta::FrameMeta;

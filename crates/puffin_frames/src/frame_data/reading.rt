@@ -8,13 +8,14 @@ ghost use Rattle.puffin_data.specs.Value.Decoding.{whole};
 ghost use Rattle.puffin_frames.specs.Packet.Structs.{details_at};
 ghost use Rattle.puffin_threads.specs.Details.{shared_details};
 ghost use Rattle.puffin_frames.specs.Frame.Contents.{holding_of, frame_says};
-ghost use Rattle.puffin_frames.specs.Packet.Tries.{Decided, DecidedInMemory};
+ghost use Rattle.puffin_frames.specs.Packet.Tries.{DecidedInMemory};
+ghost use Rattle.puffin_frames.specs.inner.Stopping.{Decided, HeaderFrom};
 ghost use Rattle.puffin_frames.specs.inner.Age.{IsAgeOf};
 ghost use Rattle.puffin_frames.specs.Packet.Letters.{form_behind, has_details, is_packet};
 ghost use Rattle.puffin_frames.specs.Packet.Parts.{meta_from, meta_part_at, kind_from, kind_at, details_from, details_part_at, streams_part_at, legacy_from, legacy_part_at};
 ghost use Rattle.puffin_frames.specs.Packet.Forms.{packet_at, form_at, stored_after};
 ghost use Rattle.puffin_frames.specs.Packet.Grammar.{TookStored};
-ghost use Rattle.puffin_frames.specs.Packet.Next.{HeaderFrom, legacy_of, stored_of, IsFresh, ReadsNext};
+ghost use Rattle.puffin_frames.specs.Packet.Next.{legacy_of, stored_of, IsFresh, ReadsNext};
 
 use crate::frame_data::decode::{Stop, details_in, legacy_in, meta_in};
 use crate::frame_data::frame::FrameData;
@@ -300,7 +301,7 @@ impl FrameData {
     ///
     /// Refused with the first that applies: `Io` where a read failed; `Legacy` and `Newer` where the packet's form isn't
     /// read; `Truncated` where the bytes end within it; `BadMeta`, `BadRange`, `UnknownKind`, `BadScopes`, and `BadStreams`
-    /// of a frame of the first form, where a part isn't what it has to be; and `Memory`. The reader's place is then open.
+    /// of a frame of the first form, where a part isn't what it has to be; and `Memory`. How far it read is then unspecified.
     pub fn read_next<S: Source>(
         alloc: Global,
         source: &mut S,

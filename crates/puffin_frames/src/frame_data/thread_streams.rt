@@ -5,7 +5,8 @@ ghost use Rattle.puffin_data.specs.Forest.{empty};
 ghost use Rattle.puffin_data.specs.Honesty.{IsHonest, record_of, record_of_ref, joined_record, AreUnlike};
 ghost use Rattle.puffin_data.specs.declared.data.form.Form.{Form};
 ghost use Rattle.puffin_data.specs.declared.error.Error.{Error};
-ghost use Rattle.puffin_frames.specs.Frame.Contents.{without_sharing, shared_streams, stream_under, no_scopes, reported_to, pairs_of};
+ghost use Rattle.puffin_frames.specs.Frame.Contents.{without_sharing, shared_streams, stream_under, no_scopes, reported_to};
+ghost use Rattle.puffin_frames.specs.inner.Pairs.{pairs_of};
 ghost use Rattle.puffin_threads.specs.Thread.Info.{info_of, thread_cmp};
 
 use puffin_data::data::{StreamInfo, StreamInfoRef};

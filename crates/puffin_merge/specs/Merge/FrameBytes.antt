@@ -47,7 +47,10 @@ HaveScopes (frame ∷ frames) (scopes ∷ more) = HasScopes frame scopes × Have
 
 -- how often a scope is tried to be read in a stream at most
 abbrev pub most_tries_of : FrameBytes → ℕ
-most_tries_of frame = elim (frame.stream) as (λ _. ℕ) [ None ↦ 0 | Some stream ↦ length stream.bytes / 31 + 1 ]
+most_tries_of frame = elim (frame.stream) as (λ _. ℕ) [
+  | None ↦ 0
+  | Some stream ↦ length stream.bytes / 31 + 1
+]
 
 abbrev pub most_tries : List FrameBytes → ℕ
 most_tries frames = sum_by most_tries_of frames

@@ -37,16 +37,23 @@ AreAccepted done [] = Unit {0}
 AreAccepted done (o ∷ more) = IsShallow o × Fits done o × AreAccepted (done ++ (o ∷ [])) more
 
 -- What a frame whose stream is of a form is refused with after so many tries to read a scope of it, behind the occurrences of the frames before. Its top scopes' starts are counted from `origin`.
-pub data IsFrameRefusal (done : List Occurrence) (origin : ℤ) (form : Form) (bytes : List ℕ) : ℕ → Error → Type 0 where
+pub data IsFrameRefusal (done : List Occurrence) (origin : ℤ) (form : Form) (bytes : List ℕ) :
+    ℕ → Error → Type 0 where
   -- the first fault of the bytes, where all sound scopes before it are accepted: one try for each of these, and one more where a scope begins at the fault
-  faulty : {place : ℕ} {fault : Error} {sights : List Sight} → IsFirstFault form bytes place fault → Sees form bytes [] 0 (length bytes) sights → AreAccepted done (occurrences_in origin (scopes_of (before place sights))) → IsFrameRefusal done origin form bytes (length (before place sights) + (if slice_index bytes place == 40 then 1 else 0)) fault
+  faulty : {place : ℕ} {fault : Error} {sights : List Sight} →
+      IsFirstFault form bytes place fault →
+      Sees form bytes [] 0 (length bytes) sights →
+      AreAccepted done (occurrences_in origin (scopes_of (before place sights))) →
+      IsFrameRefusal done origin form bytes
+      (length (before place sights) + (if slice_index bytes place == 40 then 1 else 0)) fault
   -- a sound scope before any fault, the first that isn't accepted: one try for each before it, and one for it
   refused : (earlier later : List Sight) (s : Sight) {refusal : Error} →
       Sees form bytes [] 0 (length bytes) (earlier ++ (s ∷ later)) →
       AreAccepted done (occurrences_in origin (scopes_of earlier)) →
       IsRefusedFor (done ++ occurrences_in origin (scopes_of earlier))
       (occurrence_of origin s.scope) refusal →
-      ((p e : ℕ) (fault : Error) → Reaches form bytes 0 (length bytes) p e → IsFaultAt form bytes p e fault →
+      ((p e : ℕ) (fault : Error) → Reaches form bytes 0 (length bytes) p e →
+      IsFaultAt form bytes p e fault →
       s.place ≤ p) →
       IsFrameRefusal done origin form bytes (length earlier + 1) refusal
 

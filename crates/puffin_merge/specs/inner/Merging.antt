@@ -75,9 +75,17 @@ takes_more u v w xs ys a b =
     let high = second.longer in
     record {
       origin = b.origin ∙ a.origin;
-      extends = record { longer = omega (arith, low, high); kept = λ k h. second.kept k (omega (arith, h, low)) ∙ first.kept k h };
-      accepted = λ all t. subst (λ (zs : List Occurrence). AreAccepted all zs) (sym split) (accepted-append all (occurrences_in u.origin xs) (occurrences_in v.origin ys) (a.accepted all t) (b.accepted (all ++ occurrences_in u.origin xs) (a.table all t)));
-      table = λ all t. subst (λ (zs : List Occurrence). IsTableOf zs w.table) (append_assoc all (occurrences_in u.origin xs) (occurrences_in v.origin ys) ∙ ap (λ (zs : List Occurrence). all ++ zs) (sym split)) (b.table (all ++ occurrences_in u.origin xs) (a.table all t));
+      extends = record {
+        longer = omega (arith, low, high);
+        kept = λ k h. second.kept k (omega (arith, h, low)) ∙ first.kept k h;
+      };
+      accepted = λ all t. subst (λ (zs : List Occurrence). AreAccepted all zs) (sym split) (
+          accepted-append all (occurrences_in u.origin xs) (occurrences_in v.origin ys)
+          (a.accepted all t) (b.accepted (all ++ occurrences_in u.origin xs) (a.table all t)));
+      table = λ all t. subst (λ (zs : List Occurrence). IsTableOf zs w.table) (
+          append_assoc all (occurrences_in u.origin xs) (occurrences_in v.origin ys)
+          ∙ ap (λ (zs : List Occurrence). all ++ zs) (sym split)) (
+          b.table (all ++ occurrences_in u.origin xs) (a.table all t));
     }
 
 pub still_stands : (u v : Merging) (xs : List Nested) (w : Open) (around : List Span) →

@@ -10,9 +10,7 @@ use Rattle.puffin_merge.specs.declared.merge.tree.Place.{Place}
 use Rattle.puffin_merge.specs.declared.merge.tree.Drawn.{Drawn}
 use Rattle.puffin_merge.specs.declared.merge.table.Sums.{Sums}
 use Rattle.puffin_merge.specs.Merge.Starts.{earliest_start}
-use Rattle.puffin_merge.specs.inner.Tables.{merged_in}
 use Rattle.puffin_merge.specs.Merge.Tree as forests
-use Rattle.puffin_merge.specs.inner.Assembled.{Entry}
 
 -- a place is that of the node at k
 pub record IsPlaceAt (nodes : List Node) (k : ℕ) (p : Place) : Type 0 where
@@ -62,7 +60,9 @@ above_all = record { parent = 0; start = pos 0; end = pos 0 }
 -- the next node, as early as it can be: after its sibling's end, and from 0 where the one before is no sibling
 abbrev pub drawn_after : ℕ → Sums → Place → Drawn → Drawn
 drawn_after frames sums place before =
-    let start = earliest_start (if place.parent.number == before.parent then before.end else pos 0) (record { own_start = place.own_start; duration = sums.total / frames }) in
+    let start = earliest_start
+    (if place.parent.number == before.parent then before.end else pos 0)
+    (record { own_start = place.own_start; duration = sums.total / frames }) in
     record { parent = place.parent.number; start = start; end = start +ℤ pos (sums.total / frames) }
 
 abbrev pub drawn_from : List Node → ℕ → Drawn → List Place → Node → List Drawn
@@ -75,25 +75,6 @@ drawn_from nodes frames before (p ∷ places) d =
 
 abbrev pub EndFits : Drawn → Type 0
 EndFits drawn = FitsSigned w64 drawn.end
-
--- what the forest is made of: the places, with their nodes' sums and where they are drawn
-abbrev pub entry_of : List Node → Place → Drawn → Node → Entry
-entry_of nodes p drawn d = record {
-  parent = p.parent.number;
-  number = p.number.number;
-  label = record { id = p.id; text = p.text.now };
-  merged = merged_in (slice_index_or nodes (p.number.number - 1) d).sums;
-  start = drawn.start;
-}
-
-abbrev pub entries_from : List Node → ℕ → Drawn → List Place → Node → List Entry
-entries_from nodes frames before [] d = []
-entries_from nodes frames before (p ∷ places) d =
-    entry_of nodes p
-    (drawn_after frames (slice_index_or nodes (p.number.number - 1) d).sums p before) d
-    ∷ entries_from nodes frames
-    (drawn_after frames (slice_index_or nodes (p.number.number - 1) d).sums p before) places
-    d
 
 -- a place's node as it is drawn
 abbrev pub drawn_node : ℕ → Sums → Place → Drawn → forests.Node

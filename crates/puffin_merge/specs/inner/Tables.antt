@@ -71,7 +71,12 @@ made_node key own_start duration = record {
 abbrev pub grown_node : Node → ℤ → ℕ → Node
 grown_node n own_start duration = record {
   key = n.key;
-  sums = record { number = n.sums.number + 1; total = n.sums.total + duration; greatest = max n.sums.greatest duration; own_start = int_min n.sums.own_start own_start };
+  sums = record {
+    number = n.sums.number + 1;
+    total = n.sums.total + duration;
+    greatest = max n.sums.greatest duration;
+    own_start = int_min n.sums.own_start own_start;
+  };
 }
 
 -- the sums of the node at k fit with one piece more
@@ -85,7 +90,9 @@ FitsOneMore nodes k duration =
 abbrev pub GrowsAt : Table → ℕ → ℤ → ℕ → Table → Type 0
 GrowsAt t k own_start duration u =
     (u.numbers ≡ t.numbers)
-    × ((d : Node) → u.nodes.items ≡ slice_set t.nodes.items k (grown_node (slice_index_or t.nodes.items k d) own_start duration))
+    × ((d : Node) → u.nodes.items
+    ≡ slice_set t.nodes.items k (
+    grown_node (slice_index_or t.nodes.items k d) own_start duration))
     × FitsOneMore t.nodes.items k duration
 
 -- a node has what is merged at its path
@@ -122,7 +129,8 @@ pub record Extends (t u : Table) : Type 0 where
   pub kept : (k : ℕ) → k ≤ vec_len t.nodes → path_at u.nodes.items k ≡ path_at t.nodes.items k
 
 -- one piece under a key was taken in, at the node with this number
-pub record AddsAt (t : Table) (key : Key) (own_start : ℤ) (duration at : ℕ) (u : Table) : Type 0 where
+pub record AddsAt (t : Table) (key : Key) (own_start : ℤ) (duration at : ℕ) (u : Table) :
+    Type 0 where
   pub number : at ≤ vec_len u.nodes
   pub path : path_at u.nodes.items at
       ≡ below (path_at t.nodes.items key.parent.number) (label_in key)

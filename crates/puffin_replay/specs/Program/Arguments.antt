@@ -14,12 +14,14 @@ use Rattle.puffin_replay.specs.Script.Statements.{number_of, moment_in}
 abbrev pub signed_moment_in : List ℕ → Option ℤ
 signed_moment_in [] = None
 signed_moment_in (byte ∷ bytes) =
-    if byte == 45 then option_map (λ n. neg_ℤ (pos n)) (number_of (2 ^ 63 + 1) bytes) else moment_in (byte ∷ bytes)
+    if byte == 45 then option_map (λ n. neg_ℤ (pos n)) (number_of (2 ^ 63 + 1) bytes)
+    else moment_in (byte ∷ bytes)
 
 -- when a thread's first scope started: `-` where none did
 abbrev pub start_in : List ℕ → Option (Option ℤ)
 start_in word =
-    if bytes_eq word (codes "-") then Some None else option_map (λ t. Some t) (signed_moment_in word)
+    if bytes_eq word (codes "-") then Some None
+    else option_map (λ t. Some t) (signed_moment_in word)
 
 abbrev pub is_colon : ℕ → Bool
 is_colon byte = byte == 58
@@ -27,7 +29,10 @@ is_colon byte = byte == 58
 -- `START:NAME`, where the name is all that stands behind the first colon
 abbrev pub thread_of_word : List ℕ → Option Info
 thread_of_word word =
-    if list_any is_colon word then option_map (λ start. record { start = start; name = after_first is_colon word }) (start_in (before_first is_colon word)) else None
+    if list_any is_colon word
+    then option_map (λ start. record { start = start; name = after_first is_colon word }) (
+    start_in (before_first is_colon word))
+    else None
 
 -- ---- what is asked for
 

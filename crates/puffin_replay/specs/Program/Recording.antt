@@ -79,7 +79,8 @@ abbrev pub IsWriteFault : FileError → Type 0
 IsWriteFault fault = (fault ≡ file.PartTooLong) ⊎ (fault ≡ file.Memory) ⊎ (fault ≡ file.Io)
 
 -- What a recording that failed has left: its session went from start to end, its view from old to new, and what is written from before to after.
-module _ (start end : SessionState) (commands : List Command) (old new : FrameView) (before after : Option (List ℕ)) where
+module _ (start end : SessionState) (commands : List Command) (old new : FrameView)
+    (before after : Option (List ℕ)) where
   -- there was no memory to run the commands, and nothing is changed or written
   abbrev pub HasNotRun : FileError → Type 0
   HasNotRun fault =

@@ -32,7 +32,8 @@ abbrev pub view_after : List Reply → View
 view_after replies = after_all loose_view (frames_emitted replies)
 
 -- One writer got the file of a view that took the frames of a run of the script, and the other the lines of the run's replies.
-pub record IsReplayed (script : Script) (file_before file_after lines_before lines_after : Option (List ℕ)) : Type 0 where
+pub record IsReplayed (script : Script)
+    (file_before file_after lines_before lines_after : Option (List ℕ)) : Type 0 where
   pub replies : List Reply
   pub end : SessionState
   pub run : AreAnswers script replies end
@@ -46,9 +47,20 @@ pub record IsReplayed (script : Script) (file_before file_after lines_before lin
 abbrev pub IsUnfinished : Script → FileError → Option (List ℕ) → Option (List ℕ) → Option (List ℕ) →
     Option (List ℕ) → Type 0
 IsUnfinished script fault file_before file_after lines_before lines_after =
-    ((fault ≡ file.Memory) × Appends file_before file_after [] × Appends lines_before lines_after [])
-    ⊎ ((replies : List Reply) × (end : SessionState) × AreAnswers script replies end × WritesBeginning file_before file_after (file_of (contents_in (view_after replies))) × Appends lines_before lines_after []
-    × IsWriteFault fault × (fault ≡ file.PartTooLong → Any HasLongPart (contents_in (view_after replies))))
-    ⊎ ((replies : List Reply) × (end : SessionState) × AreAnswers script replies end × Appends file_before file_after (file_of (contents_in (view_after replies))) × NoneLacksIds (contents_in (view_after replies))
+    ((fault ≡ file.Memory)
+    × Appends file_before file_after []
+    × Appends lines_before lines_after [])
+    ⊎ ((replies : List Reply)
+    × (end : SessionState)
+    × AreAnswers script replies end
+    × WritesBeginning file_before file_after (file_of (contents_in (view_after replies)))
+    × Appends lines_before lines_after []
+    × IsWriteFault fault
+    × (fault ≡ file.PartTooLong → Any HasLongPart (contents_in (view_after replies))))
+    ⊎ ((replies : List Reply)
+    × (end : SessionState)
+    × AreAnswers script replies end
+    × Appends file_before file_after (file_of (contents_in (view_after replies)))
+    × NoneLacksIds (contents_in (view_after replies))
     × WritesBeginning lines_before lines_after (reply_lines script.lines.items replies)
     × IsOutside fault)

@@ -42,7 +42,8 @@ name_in (byte ∷ bytes) = Some (byte ∷ bytes)
 -- a decimal number without a sign
 abbrev pub number_in : List ℕ → Option ℕ
 number_in [] = None
-number_in (byte ∷ bytes) = if all_ascii_digits (byte ∷ bytes) then Some (digits_value 10 (byte ∷ bytes)) else None
+number_in (byte ∷ bytes) =
+    if all_ascii_digits (byte ∷ bytes) then Some (digits_value 10 (byte ∷ bytes)) else None
 
 abbrev pub if_below : ℕ → ℕ → Option ℕ
 if_below limit n = if nat_lt n limit then Some n else None

@@ -282,8 +282,8 @@ fn script_of(alloc: Global, bytes: &[u8]) -> Result<Script, ToolFault>
 
 /// Reads a script to its end: a command in each line, but for those that are empty or begin with `#`, and for `long T`,
 /// which makes the texts of thread `T` long and has to be the first line that names it. Refused with the number of the first
-/// line that isn't UTF-8 or says nothing that is known there; else with `Io` where the reader failed, or with `Memory`,
-/// and the reader's place is then open.
+/// line that isn't UTF-8 or says nothing that is known there; else with `Io` where the reader failed, or with `Memory`;
+/// how far it read is then unspecified.
 pub fn read_script<S: Source>(alloc: Global, source: &mut S) -> Result<Script, ToolFault>
     requires { S.failures source.old < 2 ^ 64 - 1 }
     ensures script { IfOk result (λ script.

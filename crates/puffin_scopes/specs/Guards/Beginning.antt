@@ -21,7 +21,8 @@ pub record IsOn {C : Type 0} (answers : C → ℤ → C → Type 0) (old : Threa
   pub at : ℤ
   pub answered : answers (clock_of old) at (clock_of (profiler_of scope))
   pub never_negative : pos 0 ≤ℤ at
-  pub begun : thread_of (profiler_of scope) ≡ after_begin (thread_of old) id (cut_text (thread_of old).form text) at
+  pub begun : thread_of (profiler_of scope)
+      ≡ after_begin (thread_of old) id (cut_text (thread_of old).form text) at
   pub offset : offset_of scope ≡ Some (begun_offset (thread_of old) text)
   pub refusal : guard_refusal scope ≡ None
 

@@ -7,8 +7,8 @@ ghost use Rattle.puffin_scopes.specs.Names.Functions.{clean, shorten, last_segme
 use puffin_data::{Error, Result};
 use std::alloc::Global;
 
-/// Of a name that ends in `::f`, which is that of a function put into another to ask for its name, the other's name:
-/// without the closures that it stands in, and shortened. Any other name stays.
+/// For a name ending in `::f` (a function nested in another to ask for its name): the outer name, shortened, without
+/// closures. Any other name stays.
 ///
 /// Refused only with `Memory`.
 pub fn clean_function_name(alloc: Global, name: &str) -> Result<String>

@@ -65,7 +65,11 @@ module _ (o : Opening) where
   abbrev pub deliveries_at : List Action → Action → List Delivery
   deliveries_at done (calls t c) = elim c.mark [
     | begun id text ↦ []
-    | ended reported ↦ if reported then under (info_under o t done) (word_with o t done (Close (latest_of o t (done ++ (calls t c ∷ []))) ∷ [])) ∷ [] else []
+    | ended reported ↦
+        if reported
+        then under (info_under o t done) (
+        word_with o t done (Close (latest_of o t (done ++ (calls t c ∷ []))) ∷ [])) ∷ []
+        else []
   ]
   deliveries_at done (hands i word) = under i word ∷ []
   deliveries_at done (frames emitted) = if emitted then all_taken ∷ [] else []

@@ -54,14 +54,22 @@ pub data Action : Type 0 where
 -- ---- the calls of one thread
 
 abbrev pub nobody : Thread
-nobody = record { name = []; form = Short; first_start = None; latest = pos 0; word = []; details = [] }
+nobody = record {
+  name = [];
+  form = Short;
+  first_start = None;
+  latest = pos 0;
+  word = [];
+  details = [];
+}
 
 abbrev pub thread_at : Opening → ℕ → Thread
 thread_at o t = slice_index_or o.threads t nobody
 
 -- an action as a call of a thread, if it is one; a time below 0 counts as 0
 abbrev pub call_of : ℕ → Action → Option Call
-call_of t (calls u c) = if t == u then Some (record { at = int_max (pos 0) c.at; mark = c.mark }) else None
+call_of t (calls u c) =
+    if t == u then Some (record { at = int_max (pos 0) c.at; mark = c.mark }) else None
 call_of t _ = None
 
 abbrev pub calls_of : ℕ → List Action → List Call

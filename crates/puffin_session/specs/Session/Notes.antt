@@ -24,7 +24,13 @@ details_waiting notes = flat_map details_in (since_last is_sent notes)
 
 -- what an action notes of a thread: details that it registered, which go on with its next accepted report
 abbrev pub notes_at : ℕ → Action → List Note
-notes_at t (calls u c) = if t == u then elim c.mark [ begun id text ↦ [] | ended reported ↦ if reported then sent ∷ [] else [] ] else []
+notes_at t (calls u c) =
+    if t == u
+    then elim c.mark [
+      | begun id text ↦ []
+      | ended reported ↦ if reported then sent ∷ [] else []
+    ]
+    else []
 notes_at t (registers u d) = if t == u then noted d ∷ [] else []
 notes_at t _ = []
 
@@ -36,7 +42,10 @@ module _ (o : Opening) where
 
   -- What an action, after those before it, notes for the next frame: a thread's registered details where its report is accepted, and those of the user's new scopes. An emitted frame takes all.
   abbrev pub due_notes_at : List Action → Action → List Note
-  due_notes_at done (calls t c) = elim c.mark [ begun id text ↦ [] | ended reported ↦ if reported then map noted (details_registered t done) else [] ]
+  due_notes_at done (calls t c) = elim c.mark [
+    | begun id text ↦ []
+    | ended reported ↦ if reported then map noted (details_registered t done) else []
+  ]
   due_notes_at done (frames emitted) = if emitted then sent ∷ [] else []
   due_notes_at done (adds new) = map noted new
   due_notes_at done _ = []

@@ -21,8 +21,8 @@ use Rattle.puffin_threads.specs.declared.thread_profiler.reporter.Closed.{Closed
 use Rattle.puffin_threads.specs.declared.thread_profiler.reporter.Closed.TheVariants as closed
 use Rattle.puffin_threads.specs.Details.{Details, shared_details}
 use Rattle.puffin_threads.specs.Details.Collection.{Collection, Begins}
-use Rattle.puffin_collector.specs.Profiler.State.{IsTooLong, delta_of}
-use Rattle.puffin_collector.specs.Profiler.Registering.{Registers, RegistersSome}
+use Rattle.puffin_collector.specs.Collector.State.{IsTooLong, delta_of}
+use Rattle.puffin_collector.specs.Collector.Registering.{Registers, RegistersSome}
 use Rattle.puffin_collector.specs.declared.emitted.Emitted.{Emitted}
 use Rattle.puffin_session.specs.declared.command.Command.{Command}
 use Rattle.puffin_session.specs.declared.command.Command.TheVariants.{Begin, End, Register, RegisterUser, ReportUser, Snapshot, NewFrame}
@@ -45,7 +45,8 @@ pub record SpellsFrame (frame : FrameData) (index : ℕ) (ds : List Delivery) : 
   pub some : 0 < (frame_meta frame).num_scopes
 
 -- The frame tells of just these new details, in order, and then, where that is wanted, of all that were known; and it says whether it was wanted.
-pub record TellsScopes (frame : FrameData) (known : Collection) (new : List Details) (wanted : Bool) : Type 0 where
+pub record TellsScopes (frame : FrameData) (known : Collection) (new : List Details)
+    (wanted : Bool) : Type 0 where
   pub delta : shared_details frame.scope_delta.items ≡ delta_of known new wanted
   pub full : frame.full_delta ≡ wanted
 
@@ -89,7 +90,10 @@ module _ (o : Opening) (done : List Action) where
   IsDueRefusal i word e =
       ((e ≡ UnlikeForms) × IsUnlikeDue (due o done) i word)
       ⊎ ((e ≡ TooLarge) × (¬ IsUnlikeDue (due o done) i word) × ¬ DueFits word)
-      ⊎ ((e ≡ RangeTooLong) × (¬ IsUnlikeDue (due o done) i word) × DueFits word × DueIsTooLong word)
+      ⊎ ((e ≡ RangeTooLong)
+      × (¬ IsUnlikeDue (due o done) i word)
+      × DueFits word
+      × DueIsTooLong word)
       ⊎ ((e ≡ Memory) × MayReport i word)
 
   -- what ending the innermost scope leads to, where so many are open, with the report that it may make

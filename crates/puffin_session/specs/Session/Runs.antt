@@ -23,7 +23,8 @@ EachReply o done (c ∷ cs) (r ∷ rs) (l ∷ ls) =
 EachReply o done _ _ _ = Unit {0}
 
 -- These commands with these replies lead from old to new.
-pub record Records (old new : SessionState) (commands : List Command) (replies : List Reply) : Type 0 where
+pub record Records (old new : SessionState) (commands : List Command) (replies : List Reply) :
+    Type 0 where
   pub num_replies : length replies ≡ length commands
   -- what was learnt by each command
   pub learnt : List (List Details)

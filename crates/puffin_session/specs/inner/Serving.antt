@@ -10,7 +10,7 @@ use Rattle.puffin_threads.specs.Thread.Closing.{Closes}
 use Rattle.puffin_frames.specs.Frame.Contents.{Streams}
 use Rattle.puffin_frames.specs.Frame.Sums.{total_bytes, total_scopes, joined_start, joined_stop}
 use Rattle.puffin_threads.specs.declared.thread_profiler.reporter.Closed.{Closed}
-use Rattle.puffin_collector.specs.Profiler.State.{Collected, AcceptsReport, RefusesReport}
+use Rattle.puffin_collector.specs.Collector.State.{Collected, AcceptsReport, RefusesReport}
 use Rattle.puffin_session.specs.declared.command.Command.{Command}
 use Rattle.puffin_session.specs.declared.command.Reply.{Reply}
 use Rattle.puffin_session.specs.Session.History.{Opening, Action, nobody}
@@ -65,9 +65,3 @@ ContinuesBy old new c r learnt =
 
 abbrev pub Continues : SessionState → SessionState → Command → Reply → Type 0
 Continues old new c r = (learnt : List Details) × ContinuesBy old new c r learnt
-
--- a run so far, and the sums over what is collected
-pub record RunsTo (old now : SessionState) (commands : List Command) (replies : List Reply) : Type 0 where
-  pub recorded : Records old now commands replies
-  pub sums : SumsTo now.collected.streams (
-      due (opening_of old) (actions_of commands replies recorded.learnt))

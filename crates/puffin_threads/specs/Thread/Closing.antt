@@ -57,4 +57,6 @@ Reports accepts refuses old new before after (Ok true) =
     Waits old × (new ≡ after_handing old) × GoesTo accepts old before after
 Reports accepts refuses old new before after (Err e) = (new ≡ old)
     × (((0 < open_after 0 old.word) × (e ≡ ScopesOpen) × (after ≡ before))
-    ⊎ (Waits old × (((e ≡ Memory) × (after ≡ before)) ⊎ GoesTo (λ b i d r a. refuses b i d r e a) old before after)))
+    ⊎ (Waits old
+    × (((e ≡ Memory) × (after ≡ before))
+    ⊎ GoesTo (λ b i d r a. refuses b i d r e a) old before after)))

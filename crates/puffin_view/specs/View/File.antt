@@ -89,7 +89,8 @@ begins_file bytes =
 
 -- the frames of a file, and the bytes after it
 abbrev pub file_at : List ℕ → Result (List Stored × List ℕ) FileError
-file_at bytes = if begins_file bytes then frames_at most_packets (drop 4 bytes) else Err file.NoMagic
+file_at bytes =
+    if begins_file bytes then frames_at most_packets (drop 4 bytes) else Err file.NoMagic
 
 -- ---- devices
 
@@ -98,14 +99,16 @@ abbrev pub FramesReading : Type 0
 FramesReading = List ℕ → Result (List Stored × List ℕ) FileError
 
 -- The bytes that were taken from a device are read as these frames: whatever follows, or else the device is at its end.
-pub record TookFrames (read : FramesReading) (old new : Option (List ℕ)) (frames : List Stored) : Type 0 where
+pub record TookFrames (read : FramesReading) (old new : Option (List ℕ)) (frames : List Stored) :
+    Type 0 where
   pub taken : List ℕ
   pub consumed : Consumes old new taken
   pub given : read taken ≡ Ok (frames, [])
   pub last : ((rest : List ℕ) → read (taken ++ rest) ≡ Ok (frames, rest)) ⊎ IsAtEnd new
 
 -- The bytes that were taken from a device have this fault: whatever follows, or else the device is at its end.
-pub record TookFault (read : FramesReading) (old new : Option (List ℕ)) (fault : FileError) : Type 0 where
+pub record TookFault (read : FramesReading) (old new : Option (List ℕ)) (fault : FileError) :
+    Type 0 where
   pub taken : List ℕ
   pub consumed : Consumes old new taken
   pub fails : read taken ≡ Err fault

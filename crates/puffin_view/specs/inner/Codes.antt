@@ -45,5 +45,12 @@ view_code =
     coded× (coded_list frame_code) (
     coded× (coded_option coded_ℕ) (coded× coded_ℕ (coded× coded_ℕ coded_bool)))))
     (λ v. (v.recent, (v.slow, (v.last, (v.max_recent, (v.max_slow, v.packs))))))
-    (λ p. record { recent = p.0; slow = p.1.0; last = p.1.1.0; max_recent = p.1.1.1.0; max_slow = p.1.1.1.1.0; packs = p.1.1.1.1.1 })
+    (λ p. record {
+      recent = p.0;
+      slow = p.1.0;
+      last = p.1.1.0;
+      max_recent = p.1.1.1.0;
+      max_slow = p.1.1.1.1.0;
+      packs = p.1.1.1.1.1;
+    })
     (λ _. refl)

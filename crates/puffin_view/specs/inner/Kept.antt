@@ -1,8 +1,17 @@
 -- What is true of the lists of every view.
-use Rattle.std.specs.Prelude.{ℕ, ◌<◌, List, [], ◌∷◌, Option, ◌≢◌}
+use Rattle.std.specs.Prelude.{ℕ, ◌<◌, ◌≤◌, List, [], ◌∷◌, Option, Some, None, ◌≢◌}
 use Rattle.std.specs.List.{AllByRecursion}
+use Rattle.puffin_view.specs.View.{View}
 use Rattle.puffin_view.specs.View.ViewedFrames.{Frame, index_of}
-use Rattle.puffin_view.specs.View.{IsUpTo}
+
+-- an index is among those up to the last one taken
+abbrev pub IsUpTo : Option ℕ → ℕ → Type 0
+IsUpTo None i = ⊥
+IsUpTo (Some last) i = i ≤ last
+
+-- each slow frame was taken no later than the last
+abbrev pub IsSteady : View → Type 0
+IsSteady v = AllByRecursion (λ f. IsUpTo v.last (index_of f)) v.slow
 
 -- indices rise strictly
 abbrev pub AreRising : List Frame → Type 0

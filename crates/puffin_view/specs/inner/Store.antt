@@ -23,7 +23,8 @@ abbrev pub has_index : ℕ → List Frame → Bool
 has_index q fs = list_any (λ f. nat_eq q (index_of f)) fs
 
 -- what is kept agrees with the frames that it stands for
-pub record AreStored (held : HeldFrames) (recent : List ℕ) (slow : List SlowRank) (last : Option ℕ) (recent_frames slow_frames : List Frame) : Type 0 where
+pub record AreStored (held : HeldFrames) (recent : List ℕ) (slow : List SlowRank)
+    (last : Option ℕ) (recent_frames slow_frames : List Frame) : Type 0 where
   pub recent_at : recent ≡ map index_of recent_frames
   pub slow_at : slow ≡ map rank_of slow_frames
   pub recent_held : AreHeld (map.get held) recent_frames

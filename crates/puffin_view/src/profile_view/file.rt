@@ -128,7 +128,7 @@ impl FrameView {
     ///
     /// Refused with the first that applies: `NoMagic` where there are fewer than four bytes, or others than `PUF0`; as
     /// [`FrameData::read_next`] at each frame; `Refused(MissingId)` where some of a frame's details have no id; and
-    /// `Truncated` where `2^64 - 1` frames stand before the end. The reader's place is then open.
+    /// `Truncated` where `2^64 - 1` frames stand before the end. How far it read is then unspecified.
     ///
     /// ```
     /// let view = FrameView::read(alloc, &mut Counted::new(File::open(&rt, "frames.puffin")?))?;

@@ -12,7 +12,8 @@ ghost use Rattle.puffin_view.specs.inner.Ranks.{ranks_after, ranks_gone, AreRank
 ghost use Rattle.puffin_view.specs.View.FrameRanks.{rank_cmp};
 ghost use Rattle.puffin_view.specs.View.ViewedFrames.{index_of, chronological};
 ghost use Rattle.puffin_view.specs.View.Listings.{recent_left, all_left, slowest_left};
-ghost use Rattle.puffin_view.specs.View.{empty_view, without_frames, with_newest_packed, is_past, joined_by, after_taking, KeepsFrames, all_uniq, IsSteady};
+ghost use Rattle.puffin_view.specs.View.{empty_view, without_frames, with_newest_packed, is_past, joined_by, after_taking, KeepsFrames, all_uniq};
+ghost use Rattle.puffin_view.specs.inner.Kept.{IsSteady};
 ghost use Rattle.puffin_view.specs.View.Stats.{stats_of};
 
 use crate::profile_view::held_frames::HeldFrames;

@@ -59,8 +59,8 @@ impl FrameView {
     /// others are dropped. Where frames are packed, the newest one until now is packed first.
     ///
     /// Refused with `MissingId` just where some of the frame's details have no id, and nothing is changed then. Else refused
-    /// only with `Memory`: a beginning of the details may be known then, and where frames are packed and none would have been
-    /// dropped, the newest may be packed.
+    /// only with `Memory`: some of the first details may then be known, and if frames are packed and none had to go, the
+    /// newest may be packed.
     pub fn add_frame(&mut self, frame: Arc<FrameData>) -> Result<()>
         // A view with the last and the slowest of the frames that it took has those of them and this one.
         ensures took { OnOk result (

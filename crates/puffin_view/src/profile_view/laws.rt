@@ -12,8 +12,7 @@ ghost use Rattle.puffin_view.specs.View.Ranking.{AreFirst};
 ghost use Rattle.puffin_view.specs.View.ViewedFrames.{Frame, contents_of, duration, frame_index, by_duration, is_slower, slowest};
 ghost use Rattle.puffin_view.specs.View.FrameRanks.{rank_of, rank_cmp};
 ghost use Rattle.puffin_view.specs.declared.profile_view.select.OldPlace.{OldPlace};
-ghost use Rattle.puffin_view.specs.View.Selection.{Rank, older_cmp};
-ghost use Rattle.puffin_view.specs.View.Selection.{old_place};
+ghost use Rattle.puffin_view.specs.View.Selection.{Rank, older_cmp, old_place};
 ghost use Rattle.puffin_data.specs.declared.error.Error.{Error};
 ghost use Rattle.puffin_data.specs.declared.file_error.FileError.{FileError};
 ghost use Rattle.puffin_data.specs.Device.{IsOutside};
@@ -71,8 +70,8 @@ pub fn ranks_by_duration()
     ensures one { (r s : SlowRank) → rank_cmp r s ≡ Equal → r ≡ s }
 {}
 
-/// A view holds no frame but those that it held before and those that it took: what no test finds among these it doesn't
-/// find in the view after, nor in what is written of it.
+/// A view holds no frame but those that it held before and those that it took: a test that none of these passes is passed
+/// by none in the view after, or in its file.
 pub fn views_hold_what_they_took()
     ensures held { (p : Said → Bool) (v : View) (fs : List Frame) →
         list_any p (contents_held v) ≡ false → list_any p (map contents_of fs) ≡ false →

@@ -3,7 +3,7 @@ use Rattle.std.proofs.Common.{◌≡◌, sym, ap, ◌∙◌, subst, arith, take_
 use Rattle.std.specs.Prelude.{IsSome}
 use Rattle.std.proofs.lemmas.List.Elements.{All-append}
 use Rattle.puffin_threads.specs.Details.{Details, shared_details, AllHaveIds}
-use Rattle.puffin_collector.specs.Profiler.State.{all_details}
+use Rattle.puffin_collector.specs.Collector.State.{all_details}
 use Rattle.puffin_collector.proofs.Owning.{all_have_ids}
 use Rattle.puffin_collector.proofs.delta.scope_delta.Goals.{then-wants_all+in_ok-tell_of_all, else-wants_all}
 use Rattle.puffin_collector.proofs.delta.scope_delta.Goals as goal

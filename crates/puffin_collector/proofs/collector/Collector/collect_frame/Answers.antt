@@ -7,8 +7,8 @@ use Rattle.puffin_frames.specs.Frame.Contents.{Streams, frame_contents, shared_s
 use Rattle.puffin_threads.specs.Details.{shared_details, AllHaveIds}
 use Rattle.puffin_threads.specs.Details.Collection.{with_all_details, Begins}
 use Rattle.puffin_frames.specs.Frame.Holding.{held_contents}
-use Rattle.puffin_collector.specs.Profiler.State.{Collected}
-use Rattle.puffin_collector.specs.Profiler.Collecting.{KeepsPending}
+use Rattle.puffin_collector.specs.Collector.State.{Collected}
+use Rattle.puffin_collector.specs.Collector.Collecting.{KeepsPending}
 use Rattle.puffin_collector.proofs.Knowing.{memory_alone}
 use Rattle.puffin_collector.proofs.collector.Collector.collect_frame.Goals as goal
 

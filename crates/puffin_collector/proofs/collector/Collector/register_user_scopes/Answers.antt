@@ -4,7 +4,7 @@ use Rattle.std.proofs.lemmas.Result.{err_from_is_err_and}
 use Rattle.std.proofs.lemmas.List.{take_more, map-append}
 use Rattle.puffin_threads.specs.declared.scope_details.details.ScopeDetails.{ScopeDetails}
 use Rattle.puffin_threads.specs.Details.{Details, details_of, details_seen}
-use Rattle.puffin_collector.specs.Profiler.Registering.{Adds}
+use Rattle.puffin_collector.specs.Collector.Registering.{Adds}
 use Rattle.puffin_collector.proofs.lemmas.Registrations.{Adds-none, Adds-more, AddsSome-none, AddsSome-at}
 use Rattle.puffin_collector.proofs.collector.Collector.register_user_scopes.Goals as goal
 

@@ -1,7 +1,7 @@
 -- The scopes so far are registered, and there is room for the other ids.
 use Rattle.std.proofs.Common.{◌≡◌, ◌≤◌, length, take, vec_len, vec_capacity}
 use Rattle.puffin_threads.specs.Details.{details_seen}
-use Rattle.puffin_collector.specs.Profiler.Registering.{Adds}
+use Rattle.puffin_collector.specs.Collector.Registering.{Adds}
 use Rattle.puffin_collector.proofs.collector.Collector.register_user_scopes.Given as goal
 
 abbrev pub invariant-loop-details : goal.invariant-loop-details

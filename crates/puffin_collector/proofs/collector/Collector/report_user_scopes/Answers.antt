@@ -9,8 +9,9 @@ use Rattle.puffin_data.specs.Honesty.{AreUnlike, record_of_ref}
 use Rattle.puffin_threads.specs.Thread.Info.{info_of}
 use Rattle.puffin_frames.specs.Frame.Contents.{Streams, shared_streams, stream_under}
 use Rattle.puffin_threads.specs.Details.{shared_details, AllHaveIds}
-use Rattle.puffin_collector.specs.Profiler.State.{Collected, PendingFits, range_with, IsTooLong, IsUnlike, IsReportRefusal, after_report}
-use Rattle.puffin_collector.specs.Profiler.Collecting.{IsTallied, AddsUp}
+use Rattle.puffin_collector.specs.Collector.State.{Collected, PendingFits, range_with, IsTooLong, IsUnlike, IsReportRefusal, after_report}
+use Rattle.puffin_collector.specs.Collector.Collecting.{IsTallied}
+use Rattle.puffin_collector.specs.inner.ReportSums.{AddsUp}
 use Rattle.puffin_collector.proofs.Reporting.{Laws, kept_after}
 use Rattle.puffin_collector.proofs.Refusing.{first_of_sums, late_refusal, reported_as}
 use Rattle.puffin_collector.proofs.collector.Collector.report_user_scopes.Goals as goal

@@ -6,7 +6,7 @@ use Rattle.puffin_data.specs.Honesty.{record_of_ref}
 use Rattle.puffin_threads.specs.Thread.Info.{info_of}
 use Rattle.puffin_frames.specs.Frame.Contents.{shared_streams}
 use Rattle.puffin_threads.specs.Details.{Details, details_of, details_seen, shared_details, AllHaveIds}
-use Rattle.puffin_collector.specs.Profiler.State.{Collected, PendingFits, range_with, IsTooLong, IsUnlike, IsReportRefusal, after_report}
+use Rattle.puffin_collector.specs.Collector.State.{Collected, PendingFits, range_with, IsTooLong, IsUnlike, IsReportRefusal, after_report}
 use Rattle.puffin_collector.proofs.Knowing.{all_ids, not_all_ids, ids_after}
 use Rattle.puffin_collector.proofs.Appending.{fits_before, refused_before, accepted_before, seen_before}
 use Rattle.puffin_collector.proofs.collector.Collector.report_with_details.Goals as goal

@@ -3,7 +3,7 @@ use Rattle.std.proofs.Common.{◌≡◌, ◌+◌, ◌^◌, ◌<◌, arith, refl,
 use Rattle.std.specs.FinMap as map
 use Rattle.puffin_data.specs.Honesty.{record_of_ref}
 use Rattle.puffin_frames.specs.Frame.Sums.{meta_of}
-use Rattle.puffin_collector.specs.Profiler.State.{Collected, PendingFits}
+use Rattle.puffin_collector.specs.Collector.State.{Collected, PendingFits}
 use Rattle.puffin_collector.proofs.Reporting.{Joins, sums_fit, range_is, adds_up, too_large, too_long, not_too_long, duration_fits}
 use Rattle.puffin_collector.proofs.collector.Collector.sums_with.Goals as goal
 

@@ -4,16 +4,16 @@ use Rattle.std.proofs.lemmas.List.Elements.{All-push, All-pop}
 use Rattle.std.proofs.lemmas.Result.{err_from_is_err_and}
 use Rattle.puffin_data.specs.declared.data.visit.Region.{Region}
 use Rattle.puffin_data.specs.Forest.{Span}
-use Rattle.puffin_data.specs.Walk.{region, tries_in}
+use Rattle.puffin_data.specs.Walk.{region}
+use Rattle.puffin_data.specs.inner.Walking.{tries_in}
 use Rattle.puffin_data.specs.Walk.Sightings.{found_of}
 use Rattle.puffin_data.specs.Walk.Visitor.{StopsAtFault, StopsAtRefusal}
-use Rattle.puffin_data.specs.Walk.Going.{VisitorLaws}
 use Rattle.puffin_data.proofs.lemmas.Numbers.{IsBytes, IsBytes-drop, IsBytes-take}
 use Rattle.puffin_data.proofs.Found.{passes}
 use Rattle.puffin_data.proofs.Resuming.{found_places, IsNested}
 use Rattle.puffin_data.proofs.Spelled.{spelt}
 use Rattle.puffin_data.proofs.Going.{nested_low_regions, regions_push, regions_pop, ends_of, enters_region, leaves_region, ended, fails, refusing, all_of_it}
-use Rattle.puffin_data.proofs.Visited.{all_taken, stops_at_fault, stops_at_refusal}
+use Rattle.puffin_data.proofs.Visited.{VisitorLaws, all_taken, stops_at_fault, stops_at_refusal}
 use Rattle.puffin_data.proofs.data.visit.walk_with.Goals as goal
 
 pub returns-in_err-scope-clause-err : goal.returns-in_err-scope-clause-err

@@ -1,7 +1,7 @@
 use Rattle.std.proofs.Common.{◌-◌, ◌+◌, ◌*◌, ◌≤◌, List, [], length, reverse, All}
 use Rattle.puffin_data.specs.Forest.{Span}
-use Rattle.puffin_data.specs.Walk.Going.{End, Entering, Refusing}
-use Rattle.puffin_data.proofs.Going.{Resumes, ends_of}
+use Rattle.puffin_data.specs.Walk.Visitor.{Entering, Refusing}
+use Rattle.puffin_data.proofs.Going.{End, Resumes, ends_of}
 use Rattle.puffin_data.proofs.Resuming.{IsNested}
 use Rattle.puffin_data.proofs.data.visit.walk_with.Given as goal
 

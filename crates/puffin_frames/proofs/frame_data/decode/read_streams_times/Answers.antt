@@ -6,7 +6,7 @@ use Rattle.puffin_data.specs.Value.Decoding.{times_at}
 use Rattle.puffin_data.proofs.lemmas.Loops.{one_more}
 use Rattle.puffin_threads.specs.Thread.Info.{info_of, info_cmp}
 use Rattle.puffin_frames.specs.Packet.Structs.{stream_at}
-use Rattle.puffin_frames.specs.Frame.Contents.{pairs_of}
+use Rattle.puffin_frames.specs.inner.Pairs.{pairs_of}
 use Rattle.puffin_frames.proofs.Listed.{insert-last, listed-push}
 use Rattle.puffin_frames.proofs.frame_data.decode.read_streams_times.Goals as goal
 

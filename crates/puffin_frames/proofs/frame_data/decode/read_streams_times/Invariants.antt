@@ -4,7 +4,7 @@ use Rattle.puffin_data.specs.Value.Decoding.{times_at}
 use Rattle.puffin_data.proofs.lemmas.Loops.{with_front}
 use Rattle.puffin_frames.specs.Packet.Structs.{stream_at}
 use Rattle.puffin_threads.specs.Thread.Info.{info_cmp}
-use Rattle.puffin_frames.specs.Frame.Contents.{pairs_of}
+use Rattle.puffin_frames.specs.inner.Pairs.{pairs_of}
 use Rattle.puffin_frames.proofs.frame_data.decode.read_streams_times.Given as goal
 
 abbrev pub invariant-streams : goal.invariant-streams

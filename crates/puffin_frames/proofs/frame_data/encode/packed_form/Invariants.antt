@@ -1,5 +1,5 @@
 use Rattle.std.proofs.Common.{◌≡◌}
-use Rattle.puffin_frames.specs.Frame.Contents.{pairs_of}
+use Rattle.puffin_frames.specs.inner.Pairs.{pairs_of}
 use Rattle.puffin_frames.specs.Packet.Structs.{form_of_all}
 use Rattle.puffin_frames.proofs.frame_data.encode.packed_form.Given as goal
 

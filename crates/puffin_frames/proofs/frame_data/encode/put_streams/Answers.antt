@@ -7,7 +7,7 @@ use Rattle.std.specs.List.Sorted.{IsStrictlySortedBy}
 use Rattle.puffin_data.specs.Value.Layout.{pair}
 use Rattle.puffin_data.specs.Honesty.{Recorded}
 use Rattle.puffin_threads.specs.Thread.Info.{Info, thread_cmp}
-use Rattle.puffin_frames.specs.Frame.Contents.{pairs_of}
+use Rattle.puffin_frames.specs.inner.Pairs.{pairs_of}
 use Rattle.puffin_frames.specs.Packet.Structs.{info_layout, recorded_layout, IsInfo, AreCounts}
 use Rattle.puffin_frames.proofs.Appending.{one_more, next_of, two, all_written}
 use Rattle.puffin_frames.proofs.Listed.{listed-sorted}

@@ -2,7 +2,7 @@ use Rattle.puffin_data.specs.Value.Layout.{pair}
 use Rattle.puffin_data.specs.Honesty.{Recorded}
 use Rattle.puffin_threads.specs.Thread.Info.{Info}
 use Rattle.puffin_frames.specs.Packet.Structs.{info_layout, recorded_layout, IsInfo, AreCounts}
-use Rattle.puffin_frames.specs.Frame.Contents.{pairs_of}
+use Rattle.puffin_frames.specs.inner.Pairs.{pairs_of}
 use Rattle.puffin_frames.proofs.Appending.{Writes}
 use Rattle.puffin_frames.proofs.frame_data.encode.put_streams.Given as goal
 

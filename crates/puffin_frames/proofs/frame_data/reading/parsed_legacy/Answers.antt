@@ -4,7 +4,8 @@ use Rattle.puffin_data.specs.declared.file_error.FileError.TheVariants as file
 use Rattle.puffin_frames.specs.declared.frame_data.meta.FrameMeta.{FrameMeta}
 use Rattle.puffin_threads.specs.Thread.Info.{Info}
 use Rattle.puffin_frames.specs.Frame.Holding.{Holding}
-use Rattle.puffin_frames.specs.Frame.Contents.{pairs_of, holding_of}
+use Rattle.puffin_frames.specs.Frame.Contents.{holding_of}
+use Rattle.puffin_frames.specs.inner.Pairs.{pairs_of}
 use Rattle.puffin_frames.specs.Packet.Structs.{Legacy}
 use Rattle.puffin_frames.specs.Packet.Next.{entries_if_any, legacy_of}
 use Rattle.puffin_frames.specs.Packet.Parts.{legacy_from, legacy_with_range}

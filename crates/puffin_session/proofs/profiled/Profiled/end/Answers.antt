@@ -4,7 +4,7 @@ use Rattle.std.proofs.lemmas.Result.{err_from_is_err_and}
 use Rattle.puffin_threads.specs.Thread.Calls.{Thread, offsets_of}
 use Rattle.std.proofs.lemmas.Int.{to_z-of_z}
 use Rattle.puffin_session.proofs.Offsets.{innermost_last, outer_or_none, past_all, closed_places}
-use Rattle.puffin_collector.specs.Profiler.State.{AcceptsReport, RefusesReport}
+use Rattle.puffin_collector.specs.Collector.State.{AcceptsReport, RefusesReport}
 use Rattle.puffin_session.proofs.SessionCloses.{Ends-from, kept_ids}
 use Rattle.puffin_session.proofs.profiled.Profiled.end.Goals as goal
 

@@ -1,7 +1,7 @@
 -- The replies so far belong to the commands so far, and there is room for the others.
 use Rattle.std.proofs.Common.{◌≡◌, ◌≤◌, length, take, All, vec_len, vec_capacity}
 use Rattle.puffin_session.specs.Session.Runs.{HasIds}
-use Rattle.puffin_session.specs.inner.Serving.{RunsTo}
+use Rattle.puffin_session.proofs.Running.{RunsTo}
 use Rattle.puffin_session.proofs.session.Session.run.Given as goal
 
 abbrev pub invariant-loop-command : goal.invariant-loop-command

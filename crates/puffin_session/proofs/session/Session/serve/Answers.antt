@@ -8,7 +8,7 @@ use Rattle.puffin_session.specs.inner.Serving.{clock_time, session_thread, sessi
 use Rattle.puffin_session.proofs.Serving.{Continues-began, Continues-ended, Continues-handed, Continues-taken, Continues-registered, Continues-not_registered, Continues-added, Continues-not_added, Continues-wanted, Continues-not_begun, Continues-not_ended, Continues-not_reported, Continues-not_framed, same}
 use Rattle.puffin_session.specs.Session.{begun_place}
 use Rattle.puffin_session.specs.Session.Actions.{user_details}
-use Rattle.puffin_collector.specs.Profiler.Registering.{Adds, AddsSome}
+use Rattle.puffin_collector.specs.Collector.Registering.{Adds, AddsSome}
 use Rattle.puffin_session.proofs.SessionCloses.{wanted-from}
 use Rattle.puffin_session.proofs.session.Session.serve.Goals as goal
 

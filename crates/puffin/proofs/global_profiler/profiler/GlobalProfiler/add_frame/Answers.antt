@@ -4,7 +4,7 @@ use Rattle.std.specs.Arc.{arc_value}
 use Rattle.puffin_threads.specs.Details.{shared_details}
 use Rattle.puffin_frames.specs.Frame.Contents.{frame_details}
 use Rattle.puffin.specs.Profiler.{collected_of}
-use Rattle.puffin_collector.specs.Profiler.Collecting.{KnowsSome}
+use Rattle.puffin_collector.specs.Collector.Collecting.{KnowsSome}
 use Rattle.puffin.proofs.global_profiler.profiler.GlobalProfiler.add_frame.Goals as goal
 
 -- what holds at any result holds at a refusal

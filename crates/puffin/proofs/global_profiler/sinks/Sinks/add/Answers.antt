@@ -1,5 +1,5 @@
 use Rattle.std.proofs.Common.{◌≡◌, ◌+◌, sym, subst, rules}
-use Rattle.puffin.specs.Sinks.{AreNumbered}
+use Rattle.puffin.specs.inner.Numbers.{AreNumbered}
 use Rattle.puffin.proofs.Numbering.{numbered-more}
 use Rattle.puffin.proofs.global_profiler.sinks.Sinks.add.Goals as goal
 

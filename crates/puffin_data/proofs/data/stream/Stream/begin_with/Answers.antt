@@ -1,7 +1,7 @@
 -- The pieces of a scope's beginning, put one after another.
 use Rattle.std.proofs.Common.{◌∙◌, ap, List, ℕ, ℤ, ◌++◌, ◌∷◌, [], take, to_z, of_z, w64}
 use Rattle.byteorder.specs.Endian.{little_bytes}
-use Rattle.puffin_data.specs.Text.Lengths.{second_byte}
+use Rattle.puffin_data.specs.inner.Groups.{second_byte}
 use Rattle.puffin_data.specs.Forest.Spelling.{time_bytes}
 use Rattle.puffin_data.proofs.Written.{begun}
 use Rattle.puffin_data.proofs.data.stream.Stream.begin_with.Goals as goal

@@ -7,7 +7,7 @@ use Rattle.std.specs.Option.{option_map}
 use Rattle.std.specs.FinMap.{from_sorted}
 use Rattle.puffin_data.specs.Value.Decoding.{whole}
 use Rattle.puffin_data.proofs.lemmas.Readers.{whole_again}
-use Rattle.puffin_frames.specs.Frame.Contents.{pairs_of}
+use Rattle.puffin_frames.specs.inner.Pairs.{pairs_of}
 use Rattle.puffin_frames.specs.Frame.Holding.{streams_in}
 use Rattle.puffin_frames.specs.Packet.Structs.{form_of_all, AreStreams, streams_layout, streams_at}
 use Rattle.puffin_frames.proofs.Structs.{streams_reader}

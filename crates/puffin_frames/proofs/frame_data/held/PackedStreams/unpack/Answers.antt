@@ -2,7 +2,7 @@ use Rattle.std.proofs.Common.{◌≡◌, Some, Ok, ap, ◌∙◌}
 use Rattle.std.specs.Option.{option_map}
 use Rattle.std.specs.FinMap.{from_sorted}
 use Rattle.puffin_data.specs.Value.Decoding.{whole}
-use Rattle.puffin_frames.specs.Frame.Contents.{pairs_of}
+use Rattle.puffin_frames.specs.inner.Pairs.{pairs_of}
 use Rattle.puffin_frames.specs.Frame.Holding.{or_bad}
 use Rattle.puffin_frames.specs.Packet.Structs.{streams_at}
 use Rattle.puffin_frames.proofs.Listed.{streams-listed}

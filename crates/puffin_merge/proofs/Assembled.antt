@@ -1,11 +1,16 @@
--- A flat table of nodes, and the forest that it makes. Steps of the proof, and no part of what is promised.
-use Rattle.std.specs.Prelude.{◌≡◌, ℕ, ◌/◌, ◌<◌, ◌≤◌, ◌==◌, ℤ, pos, cond, List, [], ◌∷◌, filter, map, All, ◌⊎◌}
+-- A flat table of nodes, and the forest that it makes.
+use Rattle.std.specs.Prelude.{◌≡◌, ℕ, ◌-◌, ◌/◌, ◌<◌, ◌≤◌, ◌==◌, ℤ, pos, cond, List, [], ◌∷◌, filter, map, slice_index_or, All, ◌⊎◌}
 use Rattle.std.specs.declared.cmp.Ordering.TheVariants.{Less}
+use Rattle.puffin_merge.specs.declared.merge.table.Node as table
+use Rattle.puffin_merge.specs.declared.merge.tree.Place.{Place}
+use Rattle.puffin_merge.specs.declared.merge.tree.Drawn.{Drawn}
 use Rattle.puffin_merge.specs.Merge.Occurrences.{Label, Path, Occurrence}
 use Rattle.puffin_merge.specs.Merge.Pieces.{Merged, merged_at}
 use Rattle.puffin_merge.specs.Merge.Starts.{earliest_starts}
 use Rattle.puffin_merge.specs.Merge.Tree.{Node, MergedForest, no_node, merged}
 use Rattle.puffin_merge.specs.Merge.{below, sibling_cmp, sibling_of}
+use Rattle.puffin_merge.specs.inner.Tables.{merged_in}
+use Rattle.puffin_merge.specs.inner.Places.{drawn_after}
 
 -- a node of the table, named by its number; its parent's number is 0 at the top
 pub record Entry : Type 0 where
@@ -57,7 +62,8 @@ InOrder at path_of (e ∷ entries) =
     Each (StandsBefore at path_of e) entries × InOrder at path_of entries
 
 -- what one entry tells
-pub record IsEntry (at : Path → Merged) (path_of : ℕ → Path) (highest : ℕ) (e : Entry) : Type 0 where
+pub record IsEntry (at : Path → Merged) (path_of : ℕ → Path) (highest : ℕ) (e : Entry) :
+    Type 0 where
   pub after_parent : e.parent < e.number
   pub number : e.number ≤ highest
   pub path : path_of e.number ≡ below (path_of e.parent) e.label
@@ -65,11 +71,35 @@ pub record IsEntry (at : Path → Merged) (path_of : ℕ → Path) (highest : �
   pub any : 0 < (at (path_of e.number)).number
 
 -- A table of all occurrences, in the order in which its forest is made.
-pub record IsTable (all : List Occurrence) (frames : ℕ) (path_of : ℕ → Path) (highest : ℕ) (entries : List Entry) : Type 0 where
+pub record IsTable (all : List Occurrence) (frames : ℕ) (path_of : ℕ → Path) (highest : ℕ)
+    (entries : List Entry) : Type 0 where
   pub top : path_of 0 ≡ []
   pub apart : (p q : ℕ) → p ≤ highest → q ≤ highest → path_of p ≡ path_of q → p ≡ q
   pub each : Each (IsEntry (merged_at all) path_of highest) entries
   pub whole : All (λ o. Some_of (λ e. path_of e.number ≡ o.path) entries) all
   pub order : InOrder (merged_at all) path_of entries
   pub starts : (p : ℕ) → p ≤ highest →
-      map (λ e. e.start) (children_of p entries) ≡ earliest_starts (pos 0) (map (λ e. sibling_of e.merged frames) (children_of p entries))
+      map (λ e. e.start) (children_of p entries)
+      ≡ earliest_starts (pos 0) (
+      map (λ e. sibling_of e.merged frames) (children_of p entries))
+
+-- ---- the entries of places
+
+-- what the forest is made of: the places, with their nodes' sums and where they are drawn
+abbrev pub entry_of : List table.Node → Place → Drawn → table.Node → Entry
+entry_of nodes p drawn d = record {
+  parent = p.parent.number;
+  number = p.number.number;
+  label = record { id = p.id; text = p.text.now };
+  merged = merged_in (slice_index_or nodes (p.number.number - 1) d).sums;
+  start = drawn.start;
+}
+
+abbrev pub entries_from : List table.Node → ℕ → Drawn → List Place → table.Node → List Entry
+entries_from nodes frames before [] d = []
+entries_from nodes frames before (p ∷ places) d =
+    entry_of nodes p
+    (drawn_after frames (slice_index_or nodes (p.number.number - 1) d).sums p before) d
+    ∷ entries_from nodes frames
+    (drawn_after frames (slice_index_or nodes (p.number.number - 1) d).sums p before) places
+    d

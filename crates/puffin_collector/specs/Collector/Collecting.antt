@@ -1,5 +1,5 @@
 -- What a call that collects a frame hands out.
-use Rattle.std.specs.Prelude.{◌≡◌, ℕ, ◌+◌, ◌<◌, List, length, Option, Some, None, ◌⊎◌}
+use Rattle.std.specs.Prelude.{◌≡◌, ℕ, ◌+◌, ◌<◌, List, Option, Some, None, ◌⊎◌}
 use Rattle.std.specs.FinMap as map
 use Rattle.std.specs.Arc.{arc_value}
 use Rattle.std.specs.declared.sync.Arc.{Arc}
@@ -12,8 +12,8 @@ use Rattle.puffin_threads.specs.Details.Collection.{Begins}
 use Rattle.puffin_frames.specs.declared.frame_data.frame.FrameData.{FrameData}
 use Rattle.puffin_frames.specs.declared.frame_data.meta.FrameMeta.{FrameMeta}
 use Rattle.puffin_frames.specs.Frame.Contents.{Streams, AreHonest, holding_of, frame_meta, frame_details}
-use Rattle.puffin_frames.specs.Frame.Sums.{total_bytes, total_scopes, meta_of, IsOrdered, DurationFits}
-use Rattle.puffin_collector.specs.Profiler.State.{Collected, range_with, delta_of, after_frame, after_no_frame, after_learning}
+use Rattle.puffin_frames.specs.Frame.Sums.{total_scopes, meta_of, IsOrdered, DurationFits}
+use Rattle.puffin_collector.specs.Collector.State.{Collected, delta_of, after_frame, after_no_frame, after_learning}
 
 -- The frame holds all that is pending, as it is and not packed, under the next index. It tells of the new details, and of all that were known where that was wanted.
 pub record HoldsAll (c : Collected) (frame : FrameData) : Type 0 where
@@ -50,14 +50,6 @@ abbrev pub KeepsPending : Collected → Error → Collected → Type 0
 KeepsPending old e new =
     ((e ≡ IndexExhausted) × (new ≡ old))
     ⊎ ((e ≡ Memory) × KnowsSome old old.new_details new)
-
--- what a frame of all that is pending, with one info more, would say
-pub record AddsUp (c : Collected) (more : FrameMeta) (r : Recorded) : Type 0 where
-  pub frame_index : more.frame_index ≡ c.index
-  pub num_bytes : more.num_bytes ≡ total_bytes (map.values c.streams) + length r.bytes
-  pub num_scopes : more.num_scopes ≡ total_scopes (map.values c.streams) + r.num_scopes
-  pub range : more.range_ns ≡ range_with c r
-  pub duration : IsOrdered more.range_ns → DurationFits more.range_ns
 
 -- what is kept beside the pending streams: what a frame of all of them would say, and the totals
 pub record IsTallied (streams : Streams) (meta : FrameMeta) (reported emitted : ℕ) : Type 0 where

@@ -3,7 +3,7 @@ use Rattle.std.proofs.Common.{rules, ◌≡◌, ℕ, ◌+◌, ◌*◌, ◌/◌, 
 use Rattle.std.proofs.lemmas.Int.{to_z-of_z}
 use Rattle.byteorder.specs.Endian.{little_bytes}
 use Rattle.puffin_data.proofs.Fronts.{front_words}
-use Rattle.puffin_data.proofs.data.stream.front.Goals as goal
+use Rattle.puffin_data.proofs.data.spelling.front.Goals as goal
 
 -- written into an array of zeros, one behind the other
 pub returns : goal.returns

@@ -26,9 +26,19 @@ pub record Collected : Type 0 where
 abbrev pub collected_code : Coded Collected
 collected_code =
     code_by (ℕ × (ℕ × (ℕ × (Streams × (Collection × (List Details × Bool))))))
-    (coded× coded_ℕ (coded× coded_ℕ (coded× coded_ℕ (coded× streams_code (coded× collection_code (coded× (coded_list details_code) coded_bool))))))
-    (λ c. (c.index, (c.reported, (c.emitted, (c.streams, (c.collection, (c.new_details, c.wants_all)))))))
-    (λ p. record { index = p.0; reported = p.1.0; emitted = p.1.1.0; streams = p.1.1.1.0; collection = p.1.1.1.1.0; new_details = p.1.1.1.1.1.0; wants_all = p.1.1.1.1.1.1 })
+    (coded× coded_ℕ (coded× coded_ℕ (coded× coded_ℕ (coded× streams_code (
+    coded× collection_code (coded× (coded_list details_code) coded_bool))))))
+    (λ c.
+    (c.index, (c.reported, (c.emitted, (c.streams, (c.collection, (c.new_details, c.wants_all)))))))
+    (λ p. record {
+      index = p.0;
+      reported = p.1.0;
+      emitted = p.1.1.0;
+      streams = p.1.1.1.0;
+      collection = p.1.1.1.1.0;
+      new_details = p.1.1.1.1.1.0;
+      wants_all = p.1.1.1.1.1.1;
+    })
     (λ _. refl)
 
 -- ---- reports
@@ -57,11 +67,6 @@ IsTooLong range = IsOrdered range × ¬ DurationFits range
 -- what is pending under an info and one more under it have bytes in unlike forms
 abbrev pub IsUnlike : Collected → Info → Recorded → Type 0
 IsUnlike c i r = AreUnlike (stream_under c.streams i) r
-
--- unlike forms, or else this cause
-abbrev pub IsFirstCause : Collected → Info → Recorded → Error → Error → Type 0
-IsFirstCause c i r cause e =
-    ((e ≡ UnlikeForms) × IsUnlike c i r) ⊎ ((e ≡ cause) × ¬ IsUnlike c i r)
 
 -- why a report is refused whose details have ids and whose form is that of what is pending: the first that applies
 abbrev pub IsSumRefusal : Collected → Recorded → Error → Type 0

@@ -1,4 +1,4 @@
--- What a profiler collects, whatever else it has.
+-- What a collector holds.
 pub mod State
 pub mod Collecting
 pub mod Registering

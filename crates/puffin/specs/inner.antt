@@ -1,0 +1,2 @@
+-- What private types and functions alone cite.
+pub mod Numbers

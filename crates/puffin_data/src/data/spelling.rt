@@ -1,0 +1,74 @@
+//! How a scope's beginning and end are spelled, and how a text is copied.
+
+ghost use Rattle.std.specs.Prelude.{◌≡◌, ◌+◌, ◌≤◌, [], ◌++◌, length, take, drop, ◌∷◌};
+ghost use Rattle.byteorder.specs.Endian.{little_bytes};
+ghost use Rattle.puffin_data.specs.Forest.Spelling.{begin_mark, end_mark, time_bytes};
+
+use crate::data::scope::{END_SIZE, FRONT_SIZE, SCOPE_END};
+use crate::error::NanoSecond;
+use byteorder::{ByteOrder, LittleEndian};
+
+/// What stands before a scope's text up to the first byte of its length, and two bytes more. Two words are quicker to write
+/// than four numbers.
+#[inline]
+pub(crate) fn front(id: u32, start: NanoSecond, group: u8) -> [u8; 16]
+    ensures { take (FRONT_SIZE + 1) result
+        ≡ begin_mark ∷ (little_bytes 4 id ++ (time_bytes start ++ (group ∷ []))) }
+{
+    let time = start.cast_unsigned();
+    // The lowest byte, 40, is `SCOPE_BEGIN`.
+    let low = 40 + u64::from(id) * 0x100 + time % 0x100_0000 * 0x100_0000_0000;
+    let high = time / 0x100_0000 + u64::from(group) * 0x100_0000_0000;
+    let mut front = [0; 16];
+    LittleEndian::write_u64(&mut front[8..], high);
+    LittleEndian::write_u64(&mut front[..8], low);
+    front
+}
+
+/// What stands behind a scope's children.
+#[inline]
+pub(crate) fn back(stop: NanoSecond) -> [u8; END_SIZE]
+    ensures { result ≡ end_mark ∷ time_bytes stop }
+{
+    let mut back = [SCOPE_END; END_SIZE];
+    LittleEndian::write_i64(&mut back[1..], stop);
+    back
+}
+
+/// The number of bytes of a scope's children.
+#[inline]
+pub(crate) fn size_word(size: u64) -> [u8; 8]
+    ensures { result ≡ little_bytes 8 size }
+{
+    let mut word = [0; 8];
+    LittleEndian::write_u64(&mut word, size);
+    word
+}
+
+/// Copies eight bytes.
+#[inline(always)]
+fn copy_eight(to: &mut [u8], from: &[u8])
+    requires to { 8 ≤ length to.old }
+    requires from { 8 ≤ length from.now }
+    ensures { to.new ≡ take 8 from.now ++ drop 8 to.old }
+{
+    let word = [
+        from[0], from[1], from[2], from[3], from[4], from[5], from[6], from[7],
+    ];
+    to[..8].copy_from_slice(&word);
+}
+
+/// Copies as many bytes as there are. From 8 to 16 bytes it takes two pieces of eight, which may overlap: that needs no
+/// call.
+#[inline(always)]
+pub(crate) fn copy_text(to: &mut [u8], from: &[u8])
+    requires { length to.old ≡ length from.now }
+    ensures { to.new ≡ from.now }
+{
+    let size = from.len();
+    if size < 8 || size > 16 {
+        return to.copy_from_slice(from);
+    }
+    copy_eight(to, from);
+    copy_eight(&mut to[size - 8..], &from[size - 8..]);
+}

@@ -1,0 +1,135 @@
+//! What is done with a session, as plain values: tests list it, and compare the replies.
+
+use puffin_data::NanoSecond;
+use puffin_data::data::{Form, ScopeId, Stream};
+use puffin_frames::thread_profiler::ThreadInfo;
+use puffin_replay::replay::{Command, Reply, Session};
+use std::alloc::Global;
+use std::test::Fail;
+
+pub(crate) type Outcome<T> = Result<T, Fail>;
+
+/// A command.
+#[derive(Clone, Copy)]
+pub(crate) enum Step {
+    /// A thread begins a scope, at a time, with an id and a text.
+    Begin(usize, NanoSecond, u32, &'static str),
+    /// A thread ends its innermost scope, at a time.
+    End(usize, NanoSecond),
+    /// A thread ends the scope around its innermost one, at a time.
+    EndOuter(usize, NanoSecond),
+    /// A thread registers a function, or a scope in it.
+    Register(usize, Option<&'static str>, &'static str),
+    /// Scopes of the user's own are registered by their names.
+    RegisterUser(&'static [&'static str]),
+    /// These bytes are reported under a name.
+    Report(&'static str, &'static [u8]),
+    Snapshot,
+    NewFrame,
+}
+
+fn text(alloc: Global, text: &str) -> Outcome<String> {
+    Ok(String::from_str(alloc, text)?)
+}
+
+fn texts(alloc: Global, texts: &[&str]) -> Outcome<Vec<String>> {
+    let mut owned = Vec::new(alloc);
+    for one in texts {
+        owned.push(text(alloc, one)?)?;
+    }
+    Ok(owned)
+}
+
+fn begin(alloc: Global, thread: usize, at: NanoSecond, id: u32, name: &str) -> Outcome<Command> {
+    let id = ScopeId::new(id).ok_or("an id of 0")?;
+    let text = text(alloc, name)?;
+    Ok(Command::Begin {
+        thread,
+        at,
+        id,
+        text,
+    })
+}
+
+fn register(alloc: Global, thread: usize, name: Option<&str>, function: &str) -> Outcome<Command> {
+    let name = match name {
+        Some(name) => Some(text(alloc, name)?),
+        None => None,
+    };
+    Ok(Command::Register {
+        thread,
+        name,
+        function: text(alloc, function)?,
+        file: text(alloc, "b.rs")?,
+        line: 7,
+    })
+}
+
+fn report(alloc: Global, name: &str, bytes: &[u8]) -> Outcome<Command> {
+    let info = ThreadInfo {
+        start_time_ns: None,
+        name: text(alloc, name)?,
+    };
+    let stream = Stream::from(Vec::from_slice(alloc, bytes)?);
+    Ok(Command::ReportUser { info, stream })
+}
+
+fn end(thread: usize, at: NanoSecond, back: usize) -> Command {
+    Command::End { thread, at, back }
+}
+
+fn command(alloc: Global, step: Step) -> Outcome<Command> {
+    match step {
+        Step::Begin(thread, at, id, name) => begin(alloc, thread, at, id, name),
+        Step::End(thread, at) => Ok(end(thread, at, 0)),
+        Step::EndOuter(thread, at) => Ok(end(thread, at, 1)),
+        Step::Register(thread, name, function) => register(alloc, thread, name, function),
+        Step::RegisterUser(names) => Ok(Command::RegisterUser {
+            names: texts(alloc, names)?,
+        }),
+        Step::Report(name, bytes) => report(alloc, name, bytes),
+        Step::Snapshot => Ok(Command::Snapshot),
+        Step::NewFrame => Ok(Command::NewFrame),
+    }
+}
+
+fn commands(alloc: Global, steps: &[Step]) -> Outcome<Vec<Command>> {
+    let mut commands = Vec::new(alloc);
+    for step in steps {
+        commands.push(command(alloc, *step)?)?;
+    }
+    Ok(commands)
+}
+
+/// A session of short threads with these names.
+pub(crate) fn session(alloc: Global, names: &[&str]) -> Outcome<Session> {
+    Ok(Session::new(alloc, texts(alloc, names)?)?)
+}
+
+/// A session of two threads named `t`, the first of which is short and the second long.
+fn two_forms(alloc: Global) -> Outcome<Session> {
+    let mut threads = Vec::new(alloc);
+    threads.push((text(alloc, "t")?, Form::Short))?;
+    threads.push((text(alloc, "t")?, Form::Long))?;
+    Ok(Session::with_forms(alloc, threads)?)
+}
+
+/// What a session replies to these commands.
+pub(crate) fn replies_of(
+    alloc: Global,
+    session: &mut Session,
+    steps: &[Step],
+) -> Outcome<Vec<Reply>> {
+    let commands = commands(alloc, steps)?;
+    Ok(session.run(&commands)?)
+}
+
+/// What a new session of short threads with these names replies.
+pub(crate) fn replies(alloc: Global, names: &[&str], steps: &[Step]) -> Outcome<Vec<Reply>> {
+    replies_of(alloc, &mut session(alloc, names)?, steps)
+}
+
+/// What a new session of two threads named `t` replies, the first of which is short and the second long.
+pub(crate) fn replies_in_two_forms(alloc: Global, steps: &[Step]) -> Outcome<Vec<Reply>> {
+    replies_of(alloc, &mut two_forms(alloc)?, steps)
+}

@@ -1,0 +1,124 @@
+//! What frames tell of scopes: new details, and all that are known.
+
+use crate::equal::equal;
+use crate::global_profiler::{borrowed, emitted, holds, report, scope, thread};
+use puffin::data::ScopeId;
+use puffin::frame_data::FrameData;
+use puffin::global_profiler::GlobalProfiler;
+use puffin::scope_details::{ScopeDetails, ScopeIds};
+use puffin::{Error, NanoSecond, Result};
+use std::borrow::CowStr;
+use std::process::Abort;
+use std::sync::Wait;
+use std::test::Fail;
+
+type Outcome = std::result::Result<(), Fail>;
+
+fn named(name: &'static str) -> ScopeDetails {
+    ScopeDetails::from_scope_name(CowStr::Borrowed(name))
+}
+
+fn id(number: u32) -> Result<ScopeId> {
+    ScopeId::new(number).ok_or(Error::MissingId)
+}
+
+/// Whether a frame tells of scopes with these ids and names, in this order.
+fn tells_of(frame: &FrameData, scopes: &[(u32, &str)]) -> bool {
+    frame.scope_delta.len() == scopes.len()
+        && frame.scope_delta.iter().zip(scopes).all(|(details, (number, name))| {
+            details.name().as_str() == *name
+                && details.scope_id().is_some_and(|id| id.get() == *number)
+        })
+}
+
+/// Reports one scope under a thread, with details.
+fn report_with(
+    rt: &impl AllocGlobal,
+    profiler: &mut GlobalProfiler,
+    details: &[ScopeDetails],
+    range_ns: (NanoSecond, NanoSecond),
+) -> Result<()> {
+    let info = scope(rt, 7, range_ns.0, range_ns.1)?;
+    profiler.report(thread(rt, "a")?, details, &borrowed(&info))
+}
+
+/// The only frame that is emitted now tells of these scopes, and of all that are known, where that is said.
+fn tells<R: Wait + Abort>(
+    rt: &R,
+    profiler: &mut GlobalProfiler,
+    scopes: &[(u32, &str)],
+    full_delta: bool,
+) -> Outcome {
+    let frame = emitted(rt, profiler)?;
+    assert!(rt; tells_of(&frame, scopes));
+    equal(rt, frame.full_delta, full_delta);
+    Ok(())
+}
+
+#[test]
+fn details_without_an_id_are_refused(rt: HostRuntime) -> Outcome {
+    let mut profiler = GlobalProfiler::new(rt.alloc());
+    report(&rt, &mut profiler, "a", 1, (100, 200))?;
+    let before = profiler.totals();
+    let details = [named("y").with_scope_id(id(2)?), named("x")];
+    let refused = report_with(&rt, &mut profiler, &details, (300, 400)).err();
+    equal(&rt, refused, Some(Error::MissingId));
+    equal(&rt, profiler.totals(), before);
+    let frame = emitted(&rt, &mut profiler)?;
+    holds(&rt, &frame, "a", Some((31, 1)))?;
+    assert!(rt; frame.scope_delta.is_empty());
+    Ok(())
+}
+
+/// Registers the first scope of the caller's own, `u`, and takes no frame, as no scope was reported.
+fn register_first<R: Wait + Abort>(rt: &R, profiler: &mut GlobalProfiler) -> Outcome {
+    let drawn = profiler.register_user_scopes(&ScopeIds::new(), &[named("u")])?;
+    equal(rt, drawn.as_slice(), [id(1)?].as_slice());
+    assert!(rt; profiler.new_frame(rt)?.frame.is_none());
+    Ok(())
+}
+
+#[test]
+fn details_wait_for_the_next_frame(rt: HostRuntime) -> Outcome {
+    let mut profiler = GlobalProfiler::new(rt.alloc());
+    register_first(&rt, &mut profiler)?;
+    report(&rt, &mut profiler, "a", 1, (100, 200))?;
+    tells(&rt, &mut profiler, &[(1, "u")], false)?;
+    report(&rt, &mut profiler, "a", 1, (200, 300))?;
+    let frame = emitted(&rt, &mut profiler)?;
+    equal(&rt, frame.frame_index(), 2);
+    assert!(rt; frame.scope_delta.is_empty());
+    Ok(())
+}
+
+#[test]
+fn a_snapshot_comes_after_the_new_details(rt: HostRuntime) -> Outcome {
+    let mut profiler = GlobalProfiler::new(rt.alloc());
+    profiler.emit_scope_snapshot();
+    register_first(&rt, &mut profiler)?;
+    report(&rt, &mut profiler, "a", 1, (100, 200))?;
+    tells(&rt, &mut profiler, &[(1, "u"), (1, "u")], true)?;
+    // Details of a report are known after its frame.
+    profiler.emit_scope_snapshot();
+    let details = [named("t").with_scope_id(id(7)?)];
+    report_with(&rt, &mut profiler, &details, (300, 400))?;
+    tells(&rt, &mut profiler, &[(7, "t"), (1, "u")], true)?;
+    profiler.emit_scope_snapshot();
+    report(&rt, &mut profiler, "a", 1, (400, 500))?;
+    tells(&rt, &mut profiler, &[(1, "u"), (7, "t")], true)
+}
+
+#[test]
+fn the_first_scopes_are_registered_where_ids_run_out(rt: HostRuntime) -> Outcome {
+    let mut profiler = GlobalProfiler::new(rt.alloc());
+    let ids = ScopeIds::starting_at(4_294_967_294);
+    let refused = profiler.register_user_scopes(&ids, &[named("a"), named("b"), named("c")]);
+    equal(&rt, refused.err(), Some(Error::IdsExhausted));
+    let known = profiler.register_user_scopes(&ids, &[named("a"), named("b")])?;
+    equal(
+        &rt,
+        known.as_slice(),
+        [id(4_294_967_294)?, id(4_294_967_295)?].as_slice(),
+    );
+    Ok(())
+}

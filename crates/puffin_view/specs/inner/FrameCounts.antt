@@ -1,0 +1,13 @@
+-- Statistics with one frame more.
+use Rattle.std.specs.Prelude.{◌+◌, cond}
+use Rattle.puffin_view.specs.declared.profile_view.stats.FrameStats.{FrameStats}
+use Rattle.puffin_view.specs.View.ViewedFrames.{Frame, ram_of}
+use Rattle.puffin_view.specs.View.Stats.{cut}
+
+-- statistics of a view's frames, and of one more
+abbrev pub with_frame : FrameStats → Frame → FrameStats
+with_frame s f = record {
+  frames = cut (s.frames + 1);
+  unpacked_frames = cut (s.unpacked_frames + cond f.is_unpacked 1 0);
+  bytes_of_ram_used = cut (s.bytes_of_ram_used + ram_of f);
+}
