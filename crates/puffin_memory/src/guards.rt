@@ -79,6 +79,19 @@ fn thread(alloc: Global) -> Option<Thread> {
 }
 
 /// Runs a function twice, and takes a frame.
+fn steps<R: Print + Wait>(
+    rt: &R,
+    scopes: &Scopes,
+    profiler: &mut GlobalProfiler,
+    thread: &mut Thread,
+) -> Option<()> {
+    reported(thread, scopes, profiler)?;
+    reported(thread, scopes, profiler)?;
+    let frame = again!(profiler.new_frame(rt))?.frame?;
+    print_frame(rt, &frame)
+}
+
+/// Two places that are switched on, in a thread that reports to a profiler.
 pub fn run<R: Print + AllocGlobal + Wait>(rt: &R) -> Option<()> {
     let alloc = rt.alloc();
     let scopes = Scopes {
@@ -88,10 +101,7 @@ pub fn run<R: Print + AllocGlobal + Wait>(rt: &R) -> Option<()> {
         part: Site::new("crates/reader/src/load.rs", 32),
     };
     scopes.switch.set_scopes_on(true);
-    let mut thread = thread(alloc)?;
     let mut profiler = GlobalProfiler::new(alloc);
-    reported(&mut thread, &scopes, &mut profiler)?;
-    reported(&mut thread, &scopes, &mut profiler)?;
-    let frame = again!(profiler.new_frame(rt))?.frame?;
-    print_frame(rt, &frame)
+    let mut thread = thread(alloc)?;
+    steps(rt, &scopes, &mut profiler, &mut thread)
 }

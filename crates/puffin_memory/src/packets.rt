@@ -86,6 +86,26 @@ fn write(rt: &HostRuntime, held: &str, frame: &FrameData) -> Option<Vec<u8>> {
     Some(bytes)
 }
 
+/// Writes a frame that is held unpacked, and copies of it.
+fn copies(rt: &HostRuntime, made: &FrameData) -> Option<()> {
+    let _bytes = write(rt, "unpacked", made)?;
+    let copy = again!(made.clone())?;
+    let _bytes = write(rt, "copy", &copy)?;
+    let copy = again!(made.packed_copy())?;
+    let _bytes = write(rt, "packed copy", &copy)?;
+    Some(())
+}
+
+/// Reads a frame, and writes it packed and held both ways.
+fn both_ways(rt: &HostRuntime, bytes: &[u8]) -> Option<()> {
+    let mut made = again!(read(rt.alloc(), bytes))??;
+    let _bytes = write(rt, "read", &made)?;
+    let unpacked = again!(made.unpacked())?;
+    let threads = unpacked.thread_streams.len();
+    let _bytes = write(rt, "both ways", &made)?;
+    println!(rt; "threads {threads}").ok()
+}
+
 /// Writes a frame in each state that it may be held in.
 pub fn run(rt: &HostRuntime) -> Option<()> {
     let alloc = rt.alloc();
@@ -93,17 +113,8 @@ pub fn run(rt: &HostRuntime) -> Option<()> {
         Some(made) => made,
         None => frame(alloc, 4, 0)?,
     };
-    let _bytes = write(rt, "unpacked", &made)?;
-    let copy = again!(made.clone())?;
-    let _bytes = write(rt, "copy", &copy)?;
-    let copy = again!(made.packed_copy())?;
-    let _bytes = write(rt, "packed copy", &copy)?;
+    copies(rt, &made)?;
     again!(made.pack())?;
     let bytes = write(rt, "packed", &made)?;
-    let mut again = again!(read(alloc, &bytes))??;
-    let _bytes = write(rt, "read", &again)?;
-    let unpacked = again!(again.unpacked())?;
-    let threads = unpacked.thread_streams.len();
-    let _bytes = write(rt, "both ways", &again)?;
-    println!(rt; "threads {threads}").ok()
+    both_ways(rt, &bytes)
 }

@@ -9,7 +9,6 @@ use puffin_frames::scope_details::{ScopeDetails, ScopeIds};
 use puffin_frames::thread_profiler::{Closed, ScriptClock, ThreadProfiler};
 use std::alloc::Global;
 use std::borrow::CowStr;
-use std::rt::Runtime;
 use std::sync::Wait;
 
 type Thread = ThreadProfiler<ScriptClock>;
@@ -24,18 +23,34 @@ fn thread(alloc: Global, name: &str) -> Option<Thread> {
     Some(ThreadProfiler::new(alloc, name, ScriptClock::new(0)))
 }
 
-fn function(alloc: Global, thread: &mut Thread, ids: &ScopeIds) -> Option<ScopeId> {
-    again!(thread.register_function_scope(ids, owned(alloc, "load")?, owned(alloc, "a.rs")?, 7))
+fn function_once(
+    alloc: Global,
+    thread: &mut Thread,
+    ids: &ScopeIds,
+) -> Option<puffin_data::Result<ScopeId>> {
+    Some(thread.register_function_scope(ids, owned(alloc, "load")?, owned(alloc, "a.rs")?, 7))
 }
 
-fn named(alloc: Global, thread: &mut Thread, ids: &ScopeIds) -> Option<ScopeId> {
-    again!(thread.register_named_scope(
+fn function(alloc: Global, thread: &mut Thread, ids: &ScopeIds) -> Option<ScopeId> {
+    again!(function_once(alloc, thread, ids)?)
+}
+
+fn named_once(
+    alloc: Global,
+    thread: &mut Thread,
+    ids: &ScopeIds,
+) -> Option<puffin_data::Result<ScopeId>> {
+    Some(thread.register_named_scope(
         ids,
         owned(alloc, "inner")?,
         owned(alloc, "load")?,
         owned(alloc, "a.rs")?,
-        9
+        9,
     ))
+}
+
+fn named(alloc: Global, thread: &mut Thread, ids: &ScopeIds) -> Option<ScopeId> {
+    again!(named_once(alloc, thread, ids)?)
 }
 
 /// Reports one scope in another.
@@ -60,13 +75,17 @@ fn report(
     }
 }
 
+/// The details of a scope that stands in a file.
+fn in_file(alloc: Global, name: &str) -> Option<ScopeDetails> {
+    let details = ScopeDetails::from_scope_name(owned(alloc, name)?);
+    Some(details.with_file(owned(alloc, "b.rs")?).with_line_nr(3))
+}
+
 /// Registers two scopes of the caller's own, one of them twice.
 fn users(alloc: Global, profiler: &mut GlobalProfiler, ids: &ScopeIds) -> Option<()> {
     let details = [
         ScopeDetails::from_scope_name(owned(alloc, "first of the user's")?),
-        ScopeDetails::from_scope_name(owned(alloc, "second")?)
-            .with_file(owned(alloc, "b.rs")?)
-            .with_line_nr(3),
+        in_file(alloc, "second")?,
         ScopeDetails::from_scope_name(CowStr::Borrowed("second")),
     ];
     let _ids = again!(profiler.register_user_scopes(ids, &details))?;
@@ -94,31 +113,41 @@ fn frame<R: Print + Wait>(rt: &R, profiler: &mut GlobalProfiler) -> Option<()> {
     }
 }
 
-/// Two threads register scopes and report them, over four frames; the last one tells of all that is known.
-pub fn run<R: Runtime + AllocGlobal + Wait>(rt: &R) -> Option<()> {
+/// Registers two scopes of a thread.
+fn scopes(alloc: Global, thread: &mut Thread, ids: &ScopeIds) -> Option<(ScopeId, ScopeId)> {
+    Some((function(alloc, thread, ids)?, named(alloc, thread, ids)?))
+}
+
+/// What is done with a profiler and two threads, over four frames; the last one tells of all that is known.
+fn steps<R: Print + AllocGlobal + Wait>(
+    rt: &R,
+    ids: &ScopeIds,
+    profiler: &mut GlobalProfiler,
+    main: &mut Thread,
+    other: &mut Thread,
+) -> Option<()> {
     let alloc = rt.alloc();
-    let ids = ScopeIds::new();
+    users(alloc, profiler, ids)?;
+    frame(rt, profiler)?;
+    let mains = scopes(alloc, main, ids)?;
+    report(profiler, main, mains, 100)?;
+    let others = scopes(alloc, other, ids)?;
+    report(profiler, other, others, 150)?;
+    report(profiler, main, mains, 300)?;
+    frame(rt, profiler)?;
+    report(profiler, other, others, 500)?;
+    frame(rt, profiler)?;
+    users(alloc, profiler, ids)?;
+    profiler.emit_scope_snapshot();
+    report(profiler, main, mains, 700)?;
+    frame(rt, profiler)
+}
+
+/// Two threads register scopes and report them.
+pub fn run<R: Print + AllocGlobal + Wait>(rt: &R) -> Option<()> {
+    let alloc = rt.alloc();
     let mut profiler = GlobalProfiler::new(alloc);
     let mut main = thread(alloc, "main")?;
     let mut other = thread(alloc, "other")?;
-    users(alloc, &mut profiler, &ids)?;
-    frame(rt, &mut profiler)?;
-    let scopes = (
-        function(alloc, &mut main, &ids)?,
-        named(alloc, &mut main, &ids)?,
-    );
-    report(&mut profiler, &mut main, scopes, 100)?;
-    let others = (
-        function(alloc, &mut other, &ids)?,
-        named(alloc, &mut other, &ids)?,
-    );
-    report(&mut profiler, &mut other, others, 150)?;
-    report(&mut profiler, &mut main, scopes, 300)?;
-    frame(rt, &mut profiler)?;
-    report(&mut profiler, &mut other, others, 500)?;
-    frame(rt, &mut profiler)?;
-    users(alloc, &mut profiler, &ids)?;
-    profiler.emit_scope_snapshot();
-    report(&mut profiler, &mut main, scopes, 700)?;
-    frame(rt, &mut profiler)
+    steps(rt, &ScopeIds::new(), &mut profiler, &mut main, &mut other)
 }

@@ -6,6 +6,7 @@ ghost use Rattle.puffin.specs.Profiler.{collected_of};
 
 use crate::again;
 use crate::registrations::{owned, print_frame};
+use puffin::frame_data::FrameData;
 use puffin::global_profiler::{
     FrameSinkId, GlobalFrameView, GlobalProfiler, Settled, Share, SharedProfiler, Sink,
 };
@@ -88,6 +89,15 @@ fn report<L: Ledger, M: Ledger>(
     profiler.report_user_scopes(rt, share, user, &scope.as_stream_into_ref())
 }
 
+/// Hands a frame to the sinks once more.
+fn handed<L: Ledger, M: Ledger>(
+    rt: &impl Wait,
+    profiler: &SharedProfiler<L, M>,
+    frame: &Arc<FrameData>,
+) -> Option<Result<usize>> {
+    Some(profiler.add_frame(rt, again!(Arc::try_clone(frame))?))
+}
+
 /// Takes a frame, and prints it. Where a sink had no memory for it, it is added to the sinks once more.
 fn frame<L: Ledger, M: Ledger, R: Print + Wait>(
     rt: &R,
@@ -97,7 +107,7 @@ fn frame<L: Ledger, M: Ledger, R: Print + Wait>(
     let emitted = again!(profiler.new_frame(rt, share))?;
     let frame = emitted.frame?;
     if emitted.refused > 0 {
-        let _refused = again!(profiler.add_frame(rt, again!(Arc::try_clone(&frame))?))?;
+        let _refused = again!(handed(rt, profiler, &frame)?)?;
     }
     print_frame(rt, &frame)
 }
@@ -212,37 +222,51 @@ fn once<R: Print + AllocGlobal + Wait>(
     opened::<Brand, Brand, R>(rt, profiler, ids, rt.alloc(), Blank::new(1), Blank::new(1))
 }
 
-/// Whether a profiler knows one scope, and has taken no frame: it tells of it in frame 0.
-fn is_as_prepared<R: AllocGlobal + Wait>(rt: &R, profiler: &mut GlobalProfiler) -> Option<bool> {
-    let scope = own_scope(rt.alloc(), ScopeId::new(1)?).ok()?;
+/// Reports one scope of the caller's own.
+fn report_to(alloc: Global, profiler: &mut GlobalProfiler) -> Option<()> {
+    let scope = own_scope(alloc, ScopeId::new(1)?).ok()?;
     let user = ThreadInfo {
         start_time_ns: None,
-        name: String::from_str(rt.alloc(), "user").ok()?,
+        name: String::from_str(alloc, "user").ok()?,
     };
     profiler
         .report_user_scopes(user, &scope.as_stream_into_ref())
-        .ok()?;
-    let frame = profiler.new_frame(rt).ok()?.frame?;
+        .ok()
+}
+
+/// Whether a frame has the number 0 and one scope, and tells of one.
+fn is_first(frame: &FrameData) -> bool {
     let (index, scopes) = (frame.meta().frame_index, frame.meta().num_scopes);
-    let told = frame.scope_delta.first()?.name().as_str() == "early";
-    Some((index, scopes, frame.scope_delta.len()) == (0, 1, 1) && told)
+    let told = match frame.scope_delta.first() {
+        Some(details) => details.name().as_str() == "early",
+        None => false,
+    };
+    (index, scopes, frame.scope_delta.len()) == (0, 1, 1) && told
+}
+
+/// Whether a profiler knows one scope, and has taken no frame: it tells of it in frame 0.
+fn is_as_prepared<R: AllocGlobal + Wait>(rt: &R, profiler: &mut GlobalProfiler) -> Option<bool> {
+    report_to(rt.alloc(), profiler)?;
+    Some(is_first(&*profiler.new_frame(rt).ok()?.frame?))
+}
+
+/// Prepares a profiler, and does with it what is done; where it isn't opened, it comes back.
+fn prepared<R: Print + AllocGlobal + Wait>(rt: &R) -> Option<Option<GlobalProfiler>> {
+    let ids = ScopeIds::new();
+    let mut profiler = GlobalProfiler::new(rt.alloc());
+    prepare(rt.alloc(), &ids, &mut profiler)?;
+    once(rt, &ids, profiler)
 }
 
 /// Shares a profiler. Where it isn't opened for want of memory, it comes back as it was, and another one is shared.
 pub fn run<R: Print + AllocGlobal + Wait>(rt: &R) -> Option<()> {
-    let ids = ScopeIds::new();
-    let mut profiler = GlobalProfiler::new(rt.alloc());
-    prepare(rt.alloc(), &ids, &mut profiler)?;
-    let Some(mut profiler) = once(rt, &ids, profiler)? else {
+    let Some(mut profiler) = prepared(rt)? else {
         return Some(());
     };
     if !is_as_prepared(rt, &mut profiler)? {
         return None;
     }
-    let ids = ScopeIds::new();
-    let mut profiler = GlobalProfiler::new(rt.alloc());
-    prepare(rt.alloc(), &ids, &mut profiler)?;
-    match once(rt, &ids, profiler)? {
+    match prepared(rt)? {
         None => Some(()),
         Some(_) => None,
     }

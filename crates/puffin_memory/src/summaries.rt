@@ -6,10 +6,27 @@ use puffin::merge::MergeScope;
 use puffin::profile_view::FrameView;
 use puffin_data::FileError;
 use puffin_data::data::Counted;
+use puffin_frames::frame_data::FrameData;
 use puffin_frames::thread_profiler::ThreadInfo;
 use puffin_replay::replay::{Summary, summarize};
 use std::alloc::Global;
 use std::sync::Arc;
+
+/// A frame of this index and length, in shared memory.
+fn shared(alloc: Global, index: u64, length: u32) -> Option<Arc<FrameData>> {
+    let made = match frame(alloc, index, length) {
+        Some(made) => made,
+        None => frame(alloc, index, length)?,
+    };
+    match Arc::new(alloc, made) {
+        Ok(shared) => Some(shared),
+        Err(refused) => Arc::new(alloc, refused.value).ok(),
+    }
+}
+
+fn added(view: &mut FrameView, frame: &Arc<FrameData>) -> Option<puffin_data::Result<()>> {
+    Some(view.add_frame(again!(frame.clone())?))
+}
 
 /// A view of three frames, of which two are recent and one is slow.
 fn view(alloc: Global) -> Option<FrameView> {
@@ -17,15 +34,8 @@ fn view(alloc: Global) -> Option<FrameView> {
     view.set_max_recent(2);
     view.set_max_slow(1);
     for (index, length) in [(0, 300), (1, 100), (2, 200)] {
-        let made = match frame(alloc, index, length) {
-            Some(made) => made,
-            None => frame(alloc, index, length)?,
-        };
-        let shared = match Arc::new(alloc, made) {
-            Ok(shared) => shared,
-            Err(refused) => Arc::new(alloc, refused.value).ok()?,
-        };
-        again!(view.add_frame(again!(shared.clone())?))?;
+        let frame = shared(alloc, index, length)?;
+        again!(added(&mut view, &frame)?)?;
     }
     Some(view)
 }
@@ -52,20 +62,28 @@ fn print(rt: &HostRuntime, scope: &MergeScope) -> Option<()> {
     println!(rt; "    start {start} longest {longest} within {within}").ok()
 }
 
-/// Writes the file of a view, and sums it up for one of its threads.
-pub fn run(rt: &HostRuntime) -> Option<()> {
-    let alloc = rt.alloc();
-    let view = view(alloc)?;
+/// The file of a view, of which a copy is written.
+fn copied(rt: &HostRuntime, view: &FrameView) -> Option<Vec<u8>> {
     let copy = again!(view.clone())?;
-    let bytes = again!(file(alloc, &copy))?;
+    let bytes = again!(file(rt.alloc(), &copy))?;
     let len = bytes.len();
     println!(rt; "file bytes {len}").ok()?;
-    let thread = thread(alloc, 100, "main")?;
-    let summary = again!(summary(alloc, &bytes, &thread))?;
+    Some(bytes)
+}
+
+/// Sums a file up for a thread.
+fn summed_up(rt: &HostRuntime, file: &[u8], thread: &ThreadInfo) -> Option<()> {
+    let summary = again!(summary(rt.alloc(), file, thread))?;
     let (frames, merged) = (summary.frames, summary.merged.len());
     println!(rt; "summary frames {frames} scopes {merged}").ok()?;
     for scope in &summary.merged {
         print(rt, scope)?;
     }
     Some(())
+}
+
+/// Writes the file of a view, and sums it up for one of its threads.
+pub fn run(rt: &HostRuntime) -> Option<()> {
+    let file = copied(rt, &view(rt.alloc())?)?;
+    summed_up(rt, &file, &thread(rt.alloc(), 100, "main")?)
 }
