@@ -1,4 +1,4 @@
-//! Guards, sites, the switch, the macros and short names, tested over the public items of `puffin` alone.
+//! Guards, sites and short names, tested over the public items of `puffin` alone.
 #![tactic(auto)]
 
 #[cfg(test)]
@@ -6,11 +6,7 @@ mod callers;
 #[cfg(test)]
 mod equal;
 #[cfg(test)]
-mod example;
-#[cfg(test)]
 mod guards;
-#[cfg(test)]
-mod macros;
 #[cfg(test)]
 mod names;
 #[cfg(test)]

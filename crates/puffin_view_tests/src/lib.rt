@@ -1,11 +1,5 @@
-//! Views and their files, tested over the public calls of `puffin_view` and the crates below it.
+//! Views, tested over the public calls of `puffin_view` alone.
 #![tactic(auto)]
 
-#[cfg(test)]
-mod broken;
-#[cfg(test)]
-mod devices;
-#[cfg(test)]
-mod files;
 #[cfg(test)]
 mod views;
