@@ -191,11 +191,16 @@ fn long_text(alloc: Global) -> std::result::Result<String, Fail> {
     Ok(text)
 }
 
-/// Of a scope with this text so many bytes are reported.
-fn reports_bytes(rt: &impl Abort, rig: &mut Rig, text: &str, offset: usize) -> Outcome {
+/// A scope with this text has this offset, and so many bytes are reported of it.
+fn reports_bytes(
+    rt: &impl Abort,
+    rig: &mut Rig,
+    text: &str,
+    (offset, bytes): (usize, usize),
+) -> Outcome {
     rig.begins(rt, (1, text), offset);
     rig.ends(rt, offset, Ok(Closed::Reported));
-    equal(rt, rig.bytes(0)?.len(), offset + 17);
+    equal(rt, rig.bytes(0)?.len(), bytes);
     Ok(())
 }
 
@@ -203,7 +208,7 @@ fn reports_bytes(rt: &impl Abort, rig: &mut Rig, text: &str, offset: usize) -> O
 fn a_long_text_is_cut(rt: HostRuntime) -> Outcome {
     let text = long_text(rt.alloc())?;
     let mut rig = Rig::new(rt.alloc(), 0, 0)?;
-    reports_bytes(&rt, &mut rig, &text, 140)
+    reports_bytes(&rt, &mut rig, &text, (140, 157))
 }
 
 /// Begins a scope, whose offset is expected. A refusal says `Memory`, changes nothing, and doesn't come again.
