@@ -113,11 +113,6 @@ fn frame<R: Print + Wait>(rt: &R, profiler: &mut GlobalProfiler) -> Option<()> {
     }
 }
 
-/// Registers two scopes of a thread.
-fn scopes(alloc: Global, thread: &mut Thread, ids: &ScopeIds) -> Option<(ScopeId, ScopeId)> {
-    Some((function(alloc, thread, ids)?, named(alloc, thread, ids)?))
-}
-
 /// What is done with a profiler and two threads, over four frames; the last one tells of all that is known.
 fn steps<R: Print + AllocGlobal + Wait>(
     rt: &R,
@@ -129,9 +124,9 @@ fn steps<R: Print + AllocGlobal + Wait>(
     let alloc = rt.alloc();
     users(alloc, profiler, ids)?;
     frame(rt, profiler)?;
-    let mains = scopes(alloc, main, ids)?;
+    let mains = (function(alloc, main, ids)?, named(alloc, main, ids)?);
     report(profiler, main, mains, 100)?;
-    let others = scopes(alloc, other, ids)?;
+    let others = (function(alloc, other, ids)?, named(alloc, other, ids)?);
     report(profiler, other, others, 150)?;
     report(profiler, main, mains, 300)?;
     frame(rt, profiler)?;

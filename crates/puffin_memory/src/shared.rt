@@ -250,23 +250,21 @@ fn is_as_prepared<R: AllocGlobal + Wait>(rt: &R, profiler: &mut GlobalProfiler) 
     Some(is_first(&*profiler.new_frame(rt).ok()?.frame?))
 }
 
-/// Prepares a profiler, and does with it what is done; where it isn't opened, it comes back.
-fn prepared<R: Print + AllocGlobal + Wait>(rt: &R) -> Option<Option<GlobalProfiler>> {
+/// Shares a profiler. Where it isn't opened for want of memory, it comes back as it was, and another one is shared.
+pub fn run<R: Print + AllocGlobal + Wait>(rt: &R) -> Option<()> {
     let ids = ScopeIds::new();
     let mut profiler = GlobalProfiler::new(rt.alloc());
     prepare(rt.alloc(), &ids, &mut profiler)?;
-    once(rt, &ids, profiler)
-}
-
-/// Shares a profiler. Where it isn't opened for want of memory, it comes back as it was, and another one is shared.
-pub fn run<R: Print + AllocGlobal + Wait>(rt: &R) -> Option<()> {
-    let Some(mut profiler) = prepared(rt)? else {
+    let Some(mut profiler) = once(rt, &ids, profiler)? else {
         return Some(());
     };
     if !is_as_prepared(rt, &mut profiler)? {
         return None;
     }
-    match prepared(rt)? {
+    let ids = ScopeIds::new();
+    let mut profiler = GlobalProfiler::new(rt.alloc());
+    prepare(rt.alloc(), &ids, &mut profiler)?;
+    match once(rt, &ids, profiler)? {
         None => Some(()),
         Some(_) => None,
     }

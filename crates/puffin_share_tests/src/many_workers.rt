@@ -174,22 +174,6 @@ fn worked<
     Ok(back)
 }
 
-/// Each share sees all that was reported and handed out.
-fn see_all<L: Ledger, M: Ledger, R: Wait + Abort>(
-    rt: &R,
-    profiler: &SharedProfiler<L, M>,
-    shares: &mut [Share<L, M>],
-) {
-    for share in shares {
-        let totals = profiler.totals(rt, share);
-        equal(
-            rt,
-            (totals.reported, totals.pending, totals.emitted),
-            (4000, 0, 4000),
-        );
-    }
-}
-
 /// The scopes of eight workers are all handed out, each once.
 fn nine_shares<
     L: Ledger + Send + Sync + 'static,
@@ -212,7 +196,14 @@ fn nine_shares<
     let mut shares = worked(rt, alloc, &profiler, shares, &mut own, &mut frames)?;
     are_in_order(&rt, alloc, &frames, &NAMES, SCOPES)?;
     shares.push(own)?;
-    see_all(&rt, &profiler, &mut shares);
+    for share in &mut shares {
+        let totals = profiler.totals(&rt, share);
+        equal(
+            &rt,
+            (totals.reported, totals.pending, totals.emitted),
+            (4000, 0, 4000),
+        );
+    }
     are_all(&rt, &profiler, shares, 4000)
 }
 
