@@ -1,7 +1,6 @@
 ghost use Rattle.std.specs.Prelude.{◌≡◌, ◌==◌, ◌+◌, ◌-◌, ◌<◌, ◌≤◌, [], ◌++◌, length, take, drop, IfOk, OnOk, OnErr, IfErr, IsOk, ◌^◌, ◌∷◌};
 ghost use Rattle.puffin_data.specs.Stream.{StreamState};
-ghost use Rattle.byteorder.specs.Endian.{little_bytes};
-ghost use Rattle.puffin_data.specs.Forest.Spelling.{begin_mark, end_mark, begin_bytes, time_bytes, head_size};
+ghost use Rattle.puffin_data.specs.Forest.Spelling.{begin_bytes, head_size};
 ghost use Rattle.puffin_data.specs.Forest.Open.{ended_bytes};
 ghost use Rattle.puffin_data.specs.Text.{cut_text};
 ghost use Rattle.puffin_data.specs.Text.Lengths.{text_limit, length_layout};
