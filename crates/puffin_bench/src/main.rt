@@ -58,7 +58,8 @@ fn count(rt: &HostRuntime) -> Result<()> {
     count_packets(rt)?;
     count_merges(rt)?;
     count_views(rt)?;
-    count_guards(rt)
+    count_guards(rt)?;
+    count_names(rt)
 }
 
 /// Merges a few frames, and prints how many scopes they have and how many top scopes come of it.
@@ -79,14 +80,20 @@ fn count_merges(rt: &HostRuntime) -> Result<()> {
     Ok(())
 }
 
-/// Makes scopes by guards, and prints how many nests were reported; shortens names, and prints how many bytes they have.
+/// Makes scopes by guards, and prints how many nests were reported.
 fn count_guards(rt: &HostRuntime) -> Result<()> {
+    let mut thread = thread(rt)?;
     for work in GuardWork::ALL {
         let scopes = Scopes::new(work.is_on());
-        let reports = work.run(&mut thread(rt)?, &scopes)?;
+        let reports = work.run(&mut thread, &scopes)?;
         let name = work.name();
         println!(rt; "{name} reports {reports}")?;
     }
+    Ok(())
+}
+
+/// Shortens names, and prints how many bytes they have.
+fn count_names(rt: &HostRuntime) -> Result<()> {
     for work in NameWork::ALL {
         let bytes = work.run(rt.alloc())?;
         let (name, units) = (work.name(), work.units());
@@ -111,23 +118,19 @@ fn count_views(rt: &HostRuntime) -> Result<()> {
     Ok(())
 }
 
+/// With how many frames a work is done.
+fn worked(rt: &HostRuntime, files: &mut Files, work: FileWork) -> Result<usize> {
+    files.work(rt.alloc(), work).ok().context("a file")
+}
+
 /// Writes and reads a small file, and prints how many frames and bytes it has.
 fn count_packets(rt: &HostRuntime) -> Result<()> {
     let mut files = Files::new(rt.alloc(), 10).ok().context("a file")?;
-    let frames = files
-        .work(rt.alloc(), FileWork::ReadUnpacked)
-        .ok()
-        .context("a file")?;
+    let frames = worked(rt, &mut files, FileWork::ReadUnpacked)?;
     let bytes = files.file.len();
     println!(rt; "packets frames {frames} bytes {bytes}")?;
-    let _written = files
-        .work(rt.alloc(), FileWork::ViewWrite)
-        .ok()
-        .context("a view")?;
-    let frames = files
-        .work(rt.alloc(), FileWork::ViewRead)
-        .ok()
-        .context("a view")?;
+    let _written = worked(rt, &mut files, FileWork::ViewWrite)?;
+    let frames = worked(rt, &mut files, FileWork::ViewRead)?;
     println!(rt; "view_file frames {frames}")?;
     Ok(())
 }
@@ -186,16 +189,26 @@ fn time_thread(rt: &HostRuntime, name: &str, text: &str) -> Result<()> {
     print(rt, name, best, scopes)
 }
 
-/// Times scopes by guards and by macros, eight deep, with a report for each nest.
-fn time_guards(rt: &HostRuntime, work: GuardWork) -> Result<()> {
-    let scopes = Scopes::new(work.is_on());
-    let mut thread = thread(rt)?;
+/// The nanoseconds of the fastest run of scopes by guards and by macros.
+fn fastest_guards(
+    rt: &HostRuntime,
+    work: GuardWork,
+    thread: &mut ThreadProfiler<ScriptClock>,
+    scopes: &Scopes,
+) -> Result<u128> {
     let mut best = u128::MAX;
     for _ in 0..ROUNDS {
         let begun = Instant::now(rt)?;
-        let _reports = work.run(&mut thread, &scopes)?;
+        let _reports = work.run(thread, scopes)?;
         best = best.min(begun.elapsed(rt)?.as_nanos());
     }
+    Ok(best)
+}
+
+/// Times scopes by guards and by macros, eight deep, with a report for each nest.
+fn time_guards(rt: &HostRuntime, work: GuardWork) -> Result<()> {
+    let scopes = Scopes::new(work.is_on());
+    let best = fastest_guards(rt, work, &mut thread(rt)?, &scopes)?;
     print(rt, work.name(), best, guards::SCOPES)
 }
 
@@ -216,7 +229,7 @@ fn time_file(rt: &HostRuntime, files: &mut Files, work: FileWork) -> Result<()> 
     let mut frames = 0;
     for _ in 0..FILE_ROUNDS {
         let begun = Instant::now(rt)?;
-        frames = files.work(rt.alloc(), work).ok().context("a file")?;
+        frames = worked(rt, files, work)?;
         best = best.min(begun.elapsed(rt)?.as_nanos());
     }
     print(rt, work.name(), best, frames)

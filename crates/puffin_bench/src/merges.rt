@@ -76,18 +76,20 @@ impl MergeWork {
         Ok(stream)
     }
 
+    /// The frame of an index.
+    fn frame(&self, alloc: Global, index: u32) -> Result<Arc<UnpackedFrameData>> {
+        let stream = self.stream(alloc, 10_000_000 * i64::from(index))?;
+        let mut streams = BTreeMap::new(alloc);
+        let _before = streams.insert(main_thread(alloc)?, StreamInfo::parse(alloc, stream)?)?;
+        let frame = UnpackedFrameData::new(alloc, u64::from(index), streams)?;
+        Ok(Arc::new(alloc, frame)?)
+    }
+
     /// The frames.
     pub fn frames(&self, alloc: Global) -> Result<Vec<Arc<UnpackedFrameData>>> {
         let mut frames = Vec::new(alloc);
         for index in 0..self.frames {
-            let info = StreamInfo::parse(
-                alloc,
-                self.stream(alloc, 10_000_000 * i64::from(index))?,
-            )?;
-            let mut streams = BTreeMap::new(alloc);
-            let _before = streams.insert(main_thread(alloc)?, info)?;
-            let frame = UnpackedFrameData::new(alloc, u64::from(index), streams)?;
-            frames.push(Arc::new(alloc, frame)?)?;
+            frames.push(self.frame(alloc, index)?)?;
         }
         Ok(frames)
     }
@@ -100,7 +102,7 @@ impl MergeWork {
     }
 }
 
-/// The thread of each frame.
+/// The thread of each frame that is made here.
 pub fn main_thread(alloc: Global) -> Result<ThreadInfo> {
     Ok(ThreadInfo {
         start_time_ns: Some(0),

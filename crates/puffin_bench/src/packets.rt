@@ -1,9 +1,9 @@
 //! Frames that are written as packets, and read again.
 
+use crate::merges::main_thread;
 use crate::scopes::nest;
 use puffin::frame_data::FrameData;
 use puffin::profile_view::FrameView;
-use puffin::thread_profiler::ThreadInfo;
 use puffin_data::data::{Counted, Drain, ScopeId, Source, Stream, StreamInfo};
 use puffin_data::{FileError, Result};
 use std::alloc::Global;
@@ -32,12 +32,8 @@ fn stream(alloc: Global, start: i64) -> Result<Stream> {
 /// A frame of one thread.
 fn frame(alloc: Global, index: u32) -> Result<FrameData> {
     let info = StreamInfo::parse(alloc, stream(alloc, 10_000 * i64::from(index))?)?;
-    let thread = ThreadInfo {
-        start_time_ns: Some(0),
-        name: String::from_str(alloc, "main")?,
-    };
     let mut streams = BTreeMap::new(alloc);
-    let _before = streams.insert(thread, info)?;
+    let _before = streams.insert(main_thread(alloc)?, info)?;
     FrameData::new(alloc, u64::from(index), streams, Vec::new(alloc), false)
 }
 

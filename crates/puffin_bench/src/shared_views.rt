@@ -53,6 +53,27 @@ fn taken<L: Ledger, M: Ledger, R: Wait>(
     Ok(())
 }
 
+/// Fills the view that is attached, and takes frames in so many runs more. Returns the nanoseconds of the fastest.
+fn fastest<L: Ledger, M: Ledger, R: Wait + Clock>(
+    rt: &R,
+    alloc: Global,
+    runs: u32,
+    profiler: &SharedProfiler<L, M>,
+    share: &mut Share<L, M>,
+) -> Result<u128> {
+    let info = StreamInfo::parse(alloc, two_scopes(alloc)?)?;
+    for _ in 0..FILLING {
+        taken(rt, alloc, profiler, share, &info)?;
+    }
+    let mut best = u128::MAX;
+    for _ in 0..runs {
+        let begun = Instant::now(rt)?;
+        taken(rt, alloc, profiler, share, &info)?;
+        best = best.min(begun.elapsed(rt)?.as_nanos());
+    }
+    Ok(best)
+}
+
 /// Attaches a view, fills it, and takes frames in so many runs more.
 fn viewed<L: Ledger, M: Ledger, R: Wait + Clock>(
     rt: &R,
@@ -72,17 +93,9 @@ fn viewed<L: Ledger, M: Ledger, R: Wait + Clock>(
         return Err(AllocError.into());
     };
     let view = GlobalFrameView::attach(alloc, rt, &profiler)?;
-    let info = StreamInfo::parse(alloc, two_scopes(alloc)?)?;
     let mut best = u128::MAX;
     for mut share in shares {
-        for _ in 0..FILLING {
-            taken(rt, alloc, &profiler, &mut share, &info)?;
-        }
-        for _ in 0..runs {
-            let begun = Instant::now(rt)?;
-            taken(rt, alloc, &profiler, &mut share, &info)?;
-            best = best.min(begun.elapsed(rt)?.as_nanos());
-        }
+        best = fastest(rt, alloc, runs, &profiler, &mut share)?;
     }
     let held = view.lock(rt).stats().frames();
     let _was_attached = view.detach(rt, &profiler);

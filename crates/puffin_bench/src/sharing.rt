@@ -1,10 +1,14 @@
 //! Reports and frames of profilers, which wait for locks: counted and timed.
 
+ghost use Rattle.puffin_data.specs.Forest.{Forest};
+ghost use Rattle.puffin_data.specs.Honesty.{IsHonest};
+
 use crate::reports::{reported, two_scopes};
 use crate::{print, shared_views, threads};
 use anyhow::Result;
-use puffin::global_profiler::GlobalProfiler;
+use puffin::global_profiler::{GlobalProfiler, Totals};
 use puffin_data::data::StreamInfo;
+use std::alloc::Global;
 use std::rt::{Clock, Runtime};
 use std::sync::Wait;
 use std::thread::Threads;
@@ -17,13 +21,18 @@ const VIEW_ROUNDS: u32 = 40;
 /// The same of threads that report to one profiler.
 const THREAD_ROUNDS: u32 = 20;
 
+/// Reports to a profiler. Returns how many reports there were, and the profiler's totals.
+fn totals_reported<R: Wait>(rt: &R, alloc: Global) -> Result<(usize, Totals)> {
+    let info = StreamInfo::parse(alloc, two_scopes(alloc)?)?;
+    let mut profiler = GlobalProfiler::new(alloc);
+    let reports = reported(rt, alloc, &mut profiler, &info)?;
+    Ok((reports, profiler.totals()))
+}
+
 /// Reports to a profiler, and attaches a view to a shared one; prints what was reported and handed out, and how many frames
 /// the view holds.
 pub fn count_sharing<R: Runtime + AllocGlobal + Wait>(rt: &R) -> Result<()> {
-    let info = StreamInfo::parse(rt.alloc(), two_scopes(rt.alloc())?)?;
-    let mut profiler = GlobalProfiler::new(rt.alloc());
-    let reports = reported(rt, rt.alloc(), &mut profiler, &info)?;
-    let totals = profiler.totals();
+    let (reports, totals) = totals_reported(rt, rt.alloc())?;
     let (scopes, emitted) = (totals.reported, totals.emitted);
     println!(rt; "report reports {reports} scopes {scopes} emitted {emitted}")?;
     let held = shared_views::run(rt, rt.alloc(), 1)?.held;
@@ -31,17 +40,29 @@ pub fn count_sharing<R: Runtime + AllocGlobal + Wait>(rt: &R) -> Result<()> {
     Ok(())
 }
 
-/// Times reports of two scopes, with a frame after every eight.
-pub fn time_reports<R: Runtime + AllocGlobal + Wait>(rt: &R) -> Result<()> {
-    let info = StreamInfo::parse(rt.alloc(), two_scopes(rt.alloc())?)?;
-    let mut profiler = GlobalProfiler::new(rt.alloc());
+/// The nanoseconds of the fastest run of reports, and how many there are in one.
+fn fastest_reports<R: Runtime + AllocGlobal + Wait>(
+    rt: &R,
+    profiler: &mut GlobalProfiler,
+    info: &StreamInfo,
+) -> Result<(u128, usize)>
+    requires { (f : Forest) × IsHonest info.now f }
+{
     let mut best = u128::MAX;
     let mut reports = 0;
     for _ in 0..REPORT_ROUNDS {
         let begun = Instant::now(rt)?;
-        reports = reported(rt, rt.alloc(), &mut profiler, &info)?;
+        reports = reported(rt, rt.alloc(), profiler, info)?;
         best = best.min(begun.elapsed(rt)?.as_nanos());
     }
+    Ok((best, reports))
+}
+
+/// Times reports of two scopes, with a frame after every eight.
+pub fn time_reports<R: Runtime + AllocGlobal + Wait>(rt: &R) -> Result<()> {
+    let info = StreamInfo::parse(rt.alloc(), two_scopes(rt.alloc())?)?;
+    let mut profiler = GlobalProfiler::new(rt.alloc());
+    let (best, reports) = fastest_reports(rt, &mut profiler, &info)?;
     print(rt, "report", best, reports)
 }
 

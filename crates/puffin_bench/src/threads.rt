@@ -64,6 +64,23 @@ fn reported<L: Ledger, M: Ledger, R: Wait>(
 }
 
 /// Waits until the profiler is free, and reports.
+fn report_all<L: Ledger, M: Ledger, R: Wait + Clock>(
+    rt: &R,
+    alloc: Global,
+    profiler: &SharedProfiler<L, M>,
+    share: &mut Share<L, M>,
+    worker: usize,
+) -> Option<Lap> {
+    let name = *NAMES.get(worker)?;
+    let info = StreamInfo::parse(alloc, two_scopes(alloc).ok()?).ok()?;
+    let _totals = profiler.totals(rt, share);
+    let begun = rt.monotonic().ok()?;
+    reported(rt, alloc, profiler, share, name, &info).ok()?;
+    let ended = rt.monotonic().ok()?;
+    Some(Lap { begun, ended })
+}
+
+/// What a thread of its own does.
 fn work<L: Ledger, M: Ledger, R: Wait + Clock>(
     rt: &R,
     alloc: Global,
@@ -71,14 +88,8 @@ fn work<L: Ledger, M: Ledger, R: Wait + Clock>(
     share: Share<L, M>,
     worker: usize,
 ) -> Option<Lap> {
-    let name = *NAMES.get(worker)?;
-    let info = StreamInfo::parse(alloc, two_scopes(alloc).ok()?).ok()?;
     let mut share = share;
-    let _totals = profiler.totals(rt, &mut share);
-    let begun = rt.monotonic().ok()?;
-    reported(rt, alloc, &profiler, &mut share, name, &info).ok()?;
-    let ended = rt.monotonic().ok()?;
-    Some(Lap { begun, ended })
+    report_all(rt, alloc, &profiler, &mut share, worker)
 }
 
 /// Starts a worker on a thread of its own.
@@ -127,7 +138,40 @@ fn whole(laps: &[Lap]) -> u128 {
     ended.saturating_sub(begun).as_nanos()
 }
 
-/// Starts a thread for each share but one, which takes frames; all begin when the lock is free.
+/// Starts a thread for each share; all begin when the lock is free.
+fn start_all<
+    L: Ledger + Send + Sync + 'static,
+    M: Ledger + Send + Sync + 'static,
+    R: Threads + Wait + Clock + Copy + Send + Sync + 'static,
+>(
+    rt: R,
+    alloc: Global,
+    profiler: &SharedProfiler<L, M>,
+    shares: Vec<Share<L, M>>,
+) -> Result<Vec<JoinHandle<Option<Lap>>>> {
+    let mut workers = Vec::new(alloc);
+    let _gate = profiler.lock(&rt);
+    for (worker, share) in shares.into_iter().enumerate() {
+        workers.push(start(rt, alloc, profiler.clone()?, share, worker)?)?;
+    }
+    thread::sleep(&rt, Duration::from_micros(GATHERING));
+    Ok(workers)
+}
+
+/// Waits for the workers' ends, and returns the time from the first begin to the last end.
+fn joined<R: Threads + Wait>(
+    rt: &R,
+    alloc: Global,
+    workers: Vec<JoinHandle<Option<Lap>>>,
+) -> Result<u128> {
+    let mut laps = Vec::new(alloc);
+    for worker in workers {
+        laps.push(worker.join(rt).context("a thread")?)?;
+    }
+    Ok(whole(laps.as_slice()))
+}
+
+/// Starts a thread for each share but one, which takes frames.
 fn round<
     L: Ledger + Send + Sync + 'static,
     M: Ledger + Send + Sync + 'static,
@@ -149,21 +193,10 @@ fn round<
     };
     let mut shares = shares;
     let mut own = shares.pop().context("a share")?;
-    let mut workers = Vec::new(alloc);
-    {
-        let _gate = profiler.lock(&rt);
-        for (worker, share) in shares.into_iter().enumerate() {
-            workers.push(start(rt, alloc, profiler.clone()?, share, worker)?)?;
-        }
-        thread::sleep(&rt, Duration::from_micros(GATHERING));
-    }
+    let workers = start_all(rt, alloc, &profiler, shares)?;
     let scopes = workers.len().saturating_mul(REPORTS).saturating_mul(SCOPES);
     take_frames(&rt, &profiler, &mut own, scopes)?;
-    let mut laps = Vec::new(alloc);
-    for worker in workers {
-        laps.push(worker.join(&rt).context("a thread")?)?;
-    }
-    Ok(whole(laps.as_slice()))
+    joined(&rt, alloc, workers)
 }
 
 /// So many threads report and one more takes frames: the nanoseconds from the first begin to the last end.

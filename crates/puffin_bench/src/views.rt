@@ -1,9 +1,9 @@
 //! Views that take frames.
 
+use crate::merges::main_thread;
 use crate::scopes::{end, nest};
 use puffin::frame_data::FrameData;
 use puffin::profile_view::FrameView;
-use puffin::thread_profiler::ThreadInfo;
 use puffin_data::Result;
 use puffin_data::data::{ScopeId, Stream, StreamInfo};
 use std::alloc::Global;
@@ -72,8 +72,8 @@ impl ViewWork {
         if self.rises { index } else { u32::MAX - index }
     }
 
-    /// The frame of an index, of nine scopes.
-    fn frame(&self, alloc: Global, index: u32) -> Result<Arc<FrameData>> {
+    /// The scopes of the frame of an index: eight in one.
+    fn info(&self, alloc: Global, index: u32) -> Result<StreamInfo> {
         let start = 1_000_000 * i64::from(index);
         let mut stream = Stream::new(alloc);
         if let Some(id) = ScopeId::new(1) {
@@ -82,12 +82,13 @@ impl ViewWork {
             let stop = start + 1_000 + i64::from(self.extra_ns(index));
             end(&mut stream, offset, stop)?;
         }
-        let thread = ThreadInfo {
-            start_time_ns: Some(0),
-            name: String::from_str(alloc, "main")?,
-        };
+        StreamInfo::parse(alloc, stream)
+    }
+
+    /// The frame of an index, of nine scopes.
+    fn frame(&self, alloc: Global, index: u32) -> Result<Arc<FrameData>> {
         let mut streams = BTreeMap::new(alloc);
-        let _before = streams.insert(thread, StreamInfo::parse(alloc, stream)?)?;
+        let _before = streams.insert(main_thread(alloc)?, self.info(alloc, index)?)?;
         let frame = FrameData::new(alloc, u64::from(index), streams, Vec::new(alloc), false)?;
         Ok(Arc::new(alloc, frame)?)
     }
