@@ -40,6 +40,21 @@ fn frame_of(
     next_frame(profiler)
 }
 
+/// The frame of one scope with this id tells of this place alone.
+fn is_of_place(
+    rt: &impl Abort,
+    thread: &mut ThreadProfiler<ScriptClock>,
+    profiler: &mut GlobalProfiler,
+    id: ScopeId,
+    place: Place<'_>,
+) -> std::result::Result<(), Fail> {
+    let frame = frame_of(thread, profiler, id)?;
+    equal(rt, counts(&frame), (1, 31, 1));
+    // (no call takes these texts by value)
+    assert_eq!(rt; only_place(&frame), Some((place, Some(id))));
+    Ok(())
+}
+
 /// Both calls for a place return the first id.
 fn registered_once(
     rt: &impl Abort,
@@ -60,12 +75,8 @@ fn a_place_is_registered_once(rt: HostRuntime) -> Outcome {
     let mut thread = main_thread(rt.alloc())?;
     let site = Site::new("crates/shop/src/basket/add.rs", 7);
     let first = registered_once(&rt, &mut thread, &site)?;
-    let frame = frame_of(&mut thread, &mut profiler, first)?;
-    equal(&rt, counts(&frame), (1, 31, 1));
-    let expected = ("basket::add", "basket::add", "shop/…/add.rs", 7);
-    // (no call takes these texts by value)
-    assert_eq!(rt; only_place(&frame), Some((expected, Some(first))));
-    Ok(())
+    let place = ("basket::add", "basket::add", "shop/…/add.rs", 7);
+    is_of_place(&rt, &mut thread, &mut profiler, first, place)
 }
 
 /// Both calls for a place return the first id, as its name isn't read again.
@@ -86,11 +97,8 @@ fn a_scope_with_a_name(rt: HostRuntime) -> Outcome {
     let mut profiler = GlobalProfiler::new(rt.alloc());
     let mut thread = main_thread(rt.alloc())?;
     let first = named_once(&rt, &mut thread, &Site::new("src/add.rs", 9))?;
-    let frame = frame_of(&mut thread, &mut profiler, first)?;
-    let expected = ("sum", "add", "src/add.rs", 9);
-    // (no call takes these texts by value)
-    assert_eq!(rt; only_place(&frame), Some((expected, Some(first))));
-    Ok(())
+    let place = ("sum", "add", "src/add.rs", 9);
+    is_of_place(&rt, &mut thread, &mut profiler, first, place)
 }
 
 #[test]

@@ -96,14 +96,24 @@ fn is_written<R: Abort>(
     Ok(())
 }
 
+/// So are its copies.
+fn copies_are_written<R: Abort>(
+    rt: &R,
+    alloc: Global,
+    frame: &FrameData,
+    scopes: &ScopeCollection,
+) -> Outcome {
+    is_written(rt, alloc, &frame.clone()?, scopes)?;
+    is_written(rt, alloc, &frame.packed_copy()?, scopes)
+}
+
 #[test]
 fn a_frame_and_its_copies_are_written(rt: HostRuntime) -> Outcome {
     let alloc = rt.alloc();
     let frame = frame(alloc)?;
     let scopes = collection(alloc)?;
     is_written(&rt, alloc, &frame, &scopes)?;
-    is_written(&rt, alloc, &frame.clone()?, &scopes)?;
-    is_written(&rt, alloc, &frame.packed_copy()?, &scopes)
+    copies_are_written(&rt, alloc, &frame, &scopes)
 }
 
 #[test]
@@ -115,8 +125,18 @@ fn an_empty_stream_gets_room(rt: HostRuntime) -> Outcome {
     Ok(())
 }
 
-/// A frame is added to a shared profiler without sinks.
+/// A frame is added to a copy of a shared profiler without sinks.
 fn added<L: Ledger, M: Ledger, R: Wait + Abort>(
+    rt: &R,
+    profiler: &SharedProfiler<L, M>,
+    frame: Arc<FrameData>,
+) -> Outcome {
+    equal(rt, profiler.clone()?.add_frame(rt, frame)?, 0);
+    Ok(())
+}
+
+/// A profiler is shared, and the frame added to it.
+fn added_where_shared<L: Ledger, M: Ledger, R: Wait + Abort>(
     rt: &R,
     alloc: Global,
     frame: Arc<FrameData>,
@@ -133,8 +153,7 @@ fn added<L: Ledger, M: Ledger, R: Wait + Abort>(
     else {
         return Err(Fail::new("no memory"));
     };
-    equal(rt, profiler.clone()?.add_frame(rt, frame)?, 0);
-    Ok(())
+    added(rt, &profiler, frame)
 }
 
 #[test]
@@ -143,21 +162,35 @@ fn a_frame_is_refused_by_no_sink(rt: HostRuntime) -> Outcome {
     let frame = Arc::new(alloc, frame(alloc)?)?;
     let mut profiler = GlobalProfiler::new(alloc);
     equal(&rt, profiler.add_frame(&rt, Arc::try_clone(&frame)?)?, 0);
-    added::<Brand, Brand, HostRuntime>(&rt, alloc, frame, Blank::new(1), Blank::new(1))
+    added_where_shared::<Brand, Brand, HostRuntime>(&rt, alloc, frame, Blank::new(1), Blank::new(1))
 }
 
 #[test]
-fn copies_of_threads_details_and_streams(rt: HostRuntime) -> Outcome {
-    let alloc = rt.alloc();
-    let info = thread(alloc)?;
+fn copies_of_threads(rt: HostRuntime) -> Outcome {
+    let info = thread(rt.alloc())?;
     equal(&rt, info.clone()?, info);
+    Ok(())
+}
+
+#[test]
+fn copies_of_details(rt: HostRuntime) -> Outcome {
     let details = ScopeDetails::from_scope_name(CowStr::Borrowed("a")).with_line_nr(7);
     equal(&rt, details.clone()?, details);
-    let parsed = StreamInfo::parse(alloc, stream(alloc)?.clone()?)?.clone()?;
-    equal(&rt, parsed.stream.bytes(), &PACKET[29..64]);
+    Ok(())
+}
+
+/// The info of a copy of the packet's scope, copied in turn.
+fn copied_info(alloc: Global) -> Result<StreamInfo> {
+    StreamInfo::parse(alloc, stream(alloc)?.clone()?)?.clone()
+}
+
+#[test]
+fn copies_of_streams(rt: HostRuntime) -> Outcome {
+    let copy = copied_info(rt.alloc())?.stream;
+    equal(&rt, copy.bytes(), &PACKET[29..64]);
     equal(
         &rt,
-        Reader::count_scope_and_depth(alloc, &parsed.stream)?,
+        Reader::count_scope_and_depth(rt.alloc(), &copy)?,
         (1, 1),
     );
     Ok(())
@@ -184,14 +217,18 @@ fn copies_of_collections(rt: HostRuntime) -> Outcome {
     Ok(())
 }
 
+/// A view of one frame, copied.
+fn copied_view(alloc: Global) -> std::result::Result<FrameView, Fail> {
+    Ok(viewed(alloc)?.clone()?)
+}
+
 #[test]
 fn copies_of_views(rt: HostRuntime) -> Outcome {
-    let alloc = rt.alloc();
-    let copy = viewed(alloc)?.clone()?;
+    let copy = copied_view(rt.alloc())?;
     let latest = copy.latest_frame().ok_or("a frame")?;
     equal(
         &rt,
-        written(alloc, latest, None)?.as_slice(),
+        written(rt.alloc(), latest, None)?.as_slice(),
         PACKET.as_slice(),
     );
     equal(&rt, copy.stats().frames(), 1);

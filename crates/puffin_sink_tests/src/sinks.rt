@@ -10,11 +10,13 @@ use puffin::profile_view::FrameView;
 use puffin::scope_details::ScopeDetails;
 use puffin::thread_profiler::ThreadInfo;
 use puffin::{Error, Result};
+use std::alloc::Global;
 use std::borrow::CowStr;
 use std::collections::BTreeMap;
 use std::process::Abort;
 use std::sync::{Arc, Mutex, Wait};
 use std::test::Fail;
+use std::vec::IntoIter;
 
 type Outcome = std::result::Result<(), Fail>;
 
@@ -44,19 +46,24 @@ impl<R: Wait + Drop> FrameSink for Noting<R> {
     }
 }
 
-/// A sink with a name. (A box of what waits can only be made where the runtime is at hand.)
-macro_rules! sink_named {
-    ($rt:expr, $handed:expr, $name:expr, $refuses:expr) => {{
-        let noting: Box<dyn FrameSink + Send> = Box::new(
-            $rt.alloc(),
-            Noting {
-                name: $name,
-                refuses: $refuses,
-                handed: Arc::try_clone($handed)?,
-                rt: $rt,
-            },
-        )?;
-        Sink::Boxed(noting)
+/// The sinks with the names from 1 to a number, of which the one with a certain name refuses each frame. (A box of what waits
+/// can only be made where the runtime is at hand.)
+macro_rules! sinks_named {
+    ($rt:expr, $handed:expr, $count:expr, $refusing:expr) => {{
+        let mut sinks = Vec::new($rt.alloc());
+        for name in 1..$count + 1 {
+            let noting: Box<dyn FrameSink + Send> = Box::new(
+                $rt.alloc(),
+                Noting {
+                    name,
+                    refuses: name == $refusing,
+                    handed: Arc::try_clone($handed)?,
+                    rt: $rt,
+                },
+            )?;
+            sinks.push(Sink::Boxed(noting))?;
+        }
+        sinks
     }};
 }
 
@@ -70,6 +77,15 @@ fn added(profiler: &mut GlobalProfiler, sink: Sink) -> std::result::Result<Frame
         Ok(id) => Ok(id),
         Err((_error, _sink)) => Err(Fail::new("a sink is refused")),
     }
+}
+
+/// A profiler with sinks, added in their order.
+fn profiler_with(alloc: Global, sinks: Vec<Sink>) -> std::result::Result<GlobalProfiler, Fail> {
+    let mut profiler = GlobalProfiler::new(alloc);
+    for sink in sinks {
+        let _id = added(&mut profiler, sink)?;
+    }
+    Ok(profiler)
 }
 
 /// One scope of a nanosecond, without a text.
@@ -94,19 +110,36 @@ fn report(rt: &impl AllocGlobal, profiler: &mut GlobalProfiler) -> Result<()> {
     profiler.report(thread(rt)?, &[], &info.as_stream_into_ref())
 }
 
-#[test]
-fn numbers_of_sinks(rt: HostRuntime) -> Outcome {
-    let handed = nothing_handed(&rt)?;
+/// Adds the next of some sinks, and returns its number.
+fn next_added(
+    profiler: &mut GlobalProfiler,
+    sinks: &mut IntoIter<Sink>,
+) -> std::result::Result<FrameSinkId, Fail> {
+    added(profiler, sinks.next().ok_or("a sink")?)
+}
+
+/// Four sinks are numbered from 1 on, and the number of one that was taken out isn't given again.
+fn are_numbered<R: AllocGlobal + Abort>(rt: &R, sinks: Vec<Sink>) -> Outcome {
     let mut profiler = GlobalProfiler::new(rt.alloc());
+    let mut sinks = sinks.into_iter();
     for number in 1..4u64 {
-        let id = added(&mut profiler, sink_named!(rt, &handed, number, false))?;
-        equal(&rt, id, FrameSinkId(number));
+        equal(
+            rt,
+            next_added(&mut profiler, &mut sinks)?,
+            FrameSinkId(number),
+        );
     }
     assert!(rt; profiler.remove_sink(FrameSinkId(2)).is_some());
     assert!(rt; profiler.remove_sink(FrameSinkId(2)).is_none());
-    let id = added(&mut profiler, sink_named!(rt, &handed, 4, false))?;
-    equal(&rt, id, FrameSinkId(4));
+    equal(rt, next_added(&mut profiler, &mut sinks)?, FrameSinkId(4));
     Ok(())
+}
+
+#[test]
+fn numbers_of_sinks(rt: HostRuntime) -> Outcome {
+    let handed = nothing_handed(&rt)?;
+    let sinks = sinks_named!(rt, &handed, 4u64, 0u64);
+    are_numbered(&rt, sinks)
 }
 
 /// What the sinks were handed.
@@ -148,10 +181,8 @@ fn none_is_called<R: Wait + Abort>(
 #[test]
 fn a_sink_that_refuses_is_counted_and_the_next_is_called(rt: HostRuntime) -> Outcome {
     let handed = nothing_handed(&rt)?;
-    let mut profiler = GlobalProfiler::new(rt.alloc());
-    for number in 1..4u64 {
-        let _id = added(&mut profiler, sink_named!(rt, &handed, number, number == 1))?;
-    }
+    let sinks = sinks_named!(rt, &handed, 3u64, 1u64);
+    let mut profiler = profiler_with(rt.alloc(), sinks)?;
     assert!(rt; profiler.remove_sink(FrameSinkId(2)).is_some());
     one_refuses(&rt, &mut profiler, &handed)?;
     none_is_called(&rt, &mut profiler, &handed)
@@ -191,9 +222,8 @@ fn is_handed_on<R: AllocGlobal + Wait + Abort>(
 #[test]
 fn a_frame_that_is_added_is_handed_on_and_not_counted(rt: HostRuntime) -> Outcome {
     let handed = nothing_handed(&rt)?;
-    let mut profiler = GlobalProfiler::new(rt.alloc());
-    let _first = added(&mut profiler, sink_named!(rt, &handed, 1, false))?;
-    let _second = added(&mut profiler, sink_named!(rt, &handed, 2, true))?;
+    let sinks = sinks_named!(rt, &handed, 2u64, 2u64);
+    let mut profiler = profiler_with(rt.alloc(), sinks)?;
     is_handed_on(&rt, &mut profiler, &handed)
 }
 
@@ -218,38 +248,61 @@ fn recent<R: AllocGlobal + Wait>(
     Ok(indices)
 }
 
+/// Two frames are taken, one is added, and one more is taken when this sink is no longer there.
+fn three_are_handed_on<R: AllocGlobal + Wait + Abort>(
+    rt: &R,
+    profiler: &mut GlobalProfiler,
+    id: FrameSinkId,
+) -> Outcome {
+    taken(rt, profiler)?;
+    taken(rt, profiler)?;
+    equal(rt, profiler.add_frame(rt, frame_at(rt, 9)?)?, 0);
+    assert!(rt; profiler.remove_sink(id).is_some());
+    taken(rt, profiler)
+}
+
 #[test]
 fn a_view_is_a_sink(rt: HostRuntime) -> Outcome {
     let view = Arc::new(rt.alloc(), Mutex::new(FrameView::new(rt.alloc())))?;
     let mut profiler = GlobalProfiler::new(rt.alloc());
     let id = added(&mut profiler, Sink::View(Arc::try_clone(&view)?))?;
-    taken(&rt, &mut profiler)?;
-    taken(&rt, &mut profiler)?;
-    equal(&rt, profiler.add_frame(&rt, frame_at(&rt, 9)?)?, 0);
-    assert!(rt; profiler.remove_sink(id).is_some());
-    taken(&rt, &mut profiler)?;
+    three_are_handed_on(&rt, &mut profiler, id)?;
     equal(&rt, recent(&rt, &view)?.as_slice(), [0, 1, 9].as_slice());
     Ok(())
 }
 
-/// A frame that tells of a scope without an id.
-fn nameless(rt: &impl AllocGlobal) -> std::result::Result<Arc<FrameData>, Fail> {
+/// Details without an id.
+fn nameless_details(rt: &impl AllocGlobal) -> Result<Vec<Arc<ScopeDetails>>> {
     let details = ScopeDetails::from_scope_name(CowStr::Borrowed("no id"));
     let mut delta = Vec::new(rt.alloc());
     delta.push(Arc::new(rt.alloc(), details)?)?;
+    Ok(delta)
+}
+
+/// A frame that tells of a scope without an id.
+fn nameless(rt: &impl AllocGlobal) -> std::result::Result<Arc<FrameData>, Fail> {
     let mut streams = BTreeMap::new(rt.alloc());
     let _none = streams.insert(thread(rt)?, scope(rt)?)?;
-    let frame = FrameData::new(rt.alloc(), 3, streams, delta, false)?;
+    let frame = FrameData::new(rt.alloc(), 3, streams, nameless_details(rt)?, false)?;
     Ok(Arc::new(rt.alloc(), frame)?)
+}
+
+/// A frame that tells of a scope without an id is handed to no sink.
+fn is_handed_to_none<R: AllocGlobal + Wait + Abort>(
+    rt: &R,
+    profiler: &mut GlobalProfiler,
+    handed: &Handed,
+) -> Outcome {
+    let refused = profiler.add_frame(rt, nameless(rt)?).err();
+    equal(rt, refused, Some(Error::MissingId));
+    assert!(rt; notes(rt, handed)?.is_empty());
+    Ok(())
 }
 
 #[test]
 fn a_frame_with_details_without_an_id_is_refused(rt: HostRuntime) -> Outcome {
     let handed = nothing_handed(&rt)?;
-    let mut profiler = GlobalProfiler::new(rt.alloc());
-    let _id = added(&mut profiler, sink_named!(rt, &handed, 1, false))?;
-    let refused = profiler.add_frame(&rt, nameless(&rt)?).err();
-    equal(&rt, refused, Some(Error::MissingId));
-    assert!(rt; notes(&rt, &handed)?.is_empty());
-    Ok(())
+    let sinks = sinks_named!(rt, &handed, 1u64, 0u64);
+    let mut profiler = profiler_with(rt.alloc(), sinks)?;
+    is_handed_to_none(&rt, &mut profiler, &handed)
 }

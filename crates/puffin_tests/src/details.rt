@@ -55,19 +55,23 @@ fn tells<R: Wait + Abort>(
     Ok(())
 }
 
-#[test]
-fn details_without_an_id_are_refused(rt: HostRuntime) -> Outcome {
-    let mut profiler = GlobalProfiler::new(rt.alloc());
-    report(&rt, &mut profiler, "a", 1, (100, 200))?;
+/// A report whose second details have no id is refused, and leaves the first report and the totals as they were.
+fn without_an_id<R: AllocGlobal + Wait + Abort>(rt: &R, profiler: &mut GlobalProfiler) -> Outcome {
+    report(rt, profiler, "a", 1, (100, 200))?;
     let before = profiler.totals();
     let details = [named("y").with_scope_id(id(2)?), named("x")];
-    let refused = report_with(&rt, &mut profiler, &details, (300, 400)).err();
-    equal(&rt, refused, Some(Error::MissingId));
-    equal(&rt, profiler.totals(), before);
-    let frame = emitted(&rt, &mut profiler)?;
-    holds(&rt, &frame, "a", Some((31, 1)))?;
+    let refused = report_with(rt, profiler, &details, (300, 400)).err();
+    equal(rt, refused, Some(Error::MissingId));
+    equal(rt, profiler.totals(), before);
+    let frame = emitted(rt, profiler)?;
+    holds(rt, &frame, "a", Some((31, 1)))?;
     assert!(rt; frame.scope_delta.is_empty());
     Ok(())
+}
+
+#[test]
+fn details_without_an_id_are_refused(rt: HostRuntime) -> Outcome {
+    without_an_id(&rt, &mut GlobalProfiler::new(rt.alloc()))
 }
 
 /// Registers the first scope of the caller's own, `u`, and takes no frame, as no scope was reported.
@@ -78,34 +82,58 @@ fn register_first<R: Wait + Abort>(rt: &R, profiler: &mut GlobalProfiler) -> Out
     Ok(())
 }
 
-#[test]
-fn details_wait_for_the_next_frame(rt: HostRuntime) -> Outcome {
-    let mut profiler = GlobalProfiler::new(rt.alloc());
-    register_first(&rt, &mut profiler)?;
-    report(&rt, &mut profiler, "a", 1, (100, 200))?;
-    tells(&rt, &mut profiler, &[(1, "u")], false)?;
-    report(&rt, &mut profiler, "a", 1, (200, 300))?;
-    let frame = emitted(&rt, &mut profiler)?;
-    equal(&rt, frame.frame_index(), 2);
+/// Reports one scope without details, and takes the frame, which tells of these.
+fn reported_and_told<R: AllocGlobal + Wait + Abort>(
+    rt: &R,
+    profiler: &mut GlobalProfiler,
+    start: NanoSecond,
+    scopes: &[(u32, &str)],
+    full_delta: bool,
+) -> Outcome {
+    report(rt, profiler, "a", 1, (start, start.saturating_add(100)))?;
+    tells(rt, profiler, scopes, full_delta)
+}
+
+/// Details of a scope that was registered stand in the next frame, and in none after it.
+fn told_once<R: AllocGlobal + Wait + Abort>(rt: &R, profiler: &mut GlobalProfiler) -> Outcome {
+    register_first(rt, profiler)?;
+    reported_and_told(rt, profiler, 100, &[(1, "u")], false)?;
+    report(rt, profiler, "a", 1, (200, 300))?;
+    let frame = emitted(rt, profiler)?;
+    equal(rt, frame.frame_index(), 2);
     assert!(rt; frame.scope_delta.is_empty());
     Ok(())
 }
 
 #[test]
-fn a_snapshot_comes_after_the_new_details(rt: HostRuntime) -> Outcome {
-    let mut profiler = GlobalProfiler::new(rt.alloc());
-    profiler.emit_scope_snapshot();
-    register_first(&rt, &mut profiler)?;
-    report(&rt, &mut profiler, "a", 1, (100, 200))?;
-    tells(&rt, &mut profiler, &[(1, "u"), (1, "u")], true)?;
-    // Details of a report are known after its frame.
-    profiler.emit_scope_snapshot();
+fn details_wait_for_the_next_frame(rt: HostRuntime) -> Outcome {
+    told_once(&rt, &mut GlobalProfiler::new(rt.alloc()))
+}
+
+/// Reports one scope with details, which are known after the report's frame, and takes that frame.
+fn learnt_and_told<R: AllocGlobal + Wait + Abort>(
+    rt: &R,
+    profiler: &mut GlobalProfiler,
+) -> Outcome {
     let details = [named("t").with_scope_id(id(7)?)];
-    report_with(&rt, &mut profiler, &details, (300, 400))?;
-    tells(&rt, &mut profiler, &[(7, "t"), (1, "u")], true)?;
+    report_with(rt, profiler, &details, (300, 400))?;
+    tells(rt, profiler, &[(7, "t"), (1, "u")], true)
+}
+
+/// Three snapshots: of a scope that was registered, of this and a new one, and of both.
+fn snapshots<R: AllocGlobal + Wait + Abort>(rt: &R, profiler: &mut GlobalProfiler) -> Outcome {
     profiler.emit_scope_snapshot();
-    report(&rt, &mut profiler, "a", 1, (400, 500))?;
-    tells(&rt, &mut profiler, &[(1, "u"), (7, "t")], true)
+    register_first(rt, profiler)?;
+    reported_and_told(rt, profiler, 100, &[(1, "u"), (1, "u")], true)?;
+    profiler.emit_scope_snapshot();
+    learnt_and_told(rt, profiler)?;
+    profiler.emit_scope_snapshot();
+    reported_and_told(rt, profiler, 400, &[(1, "u"), (7, "t")], true)
+}
+
+#[test]
+fn a_snapshot_comes_after_the_new_details(rt: HostRuntime) -> Outcome {
+    snapshots(&rt, &mut GlobalProfiler::new(rt.alloc()))
 }
 
 #[test]

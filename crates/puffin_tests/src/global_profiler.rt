@@ -143,21 +143,34 @@ fn refusal_at_0(rt: &impl AllocGlobal, profiler: &mut GlobalProfiler, name: &str
     report_user(rt, profiler, name, (0, 0)).err()
 }
 
+/// Beside a scope at the earliest time there can be none at 0, under whichever name.
+fn is_too_long<R: AllocGlobal + Wait + Abort>(rt: &R, profiler: &mut GlobalProfiler) -> Outcome {
+    report_user(rt, profiler, "u", (NanoSecond::MIN, NanoSecond::MIN))?;
+    for name in ["u", "v"] {
+        equal(
+            rt,
+            refusal_at_0(rt, profiler, name),
+            Some(Error::RangeTooLong),
+        );
+    }
+    let other = report(rt, profiler, "v", 1, (0, 0)).err();
+    equal(rt, other, Some(Error::RangeTooLong));
+    Ok(())
+}
+
+/// The frame of the scope at the earliest time alone.
+fn is_earliest<R: AllocGlobal + Abort>(rt: &R, frame: &FrameData) -> Outcome {
+    equal(rt, frame.range_ns(), (NanoSecond::MIN, NanoSecond::MIN));
+    equal(rt, frame.duration_ns(), 0);
+    holds(rt, frame, "u", Some((31, 1)))?;
+    holds(rt, frame, "v", None)
+}
+
 #[test]
 fn a_range_that_is_too_long(rt: HostRuntime) -> Outcome {
     let mut profiler = GlobalProfiler::new(rt.alloc());
-    report_user(&rt, &mut profiler, "u", (NanoSecond::MIN, NanoSecond::MIN))?;
-    for name in ["u", "v"] {
-        let refused = refusal_at_0(&rt, &mut profiler, name);
-        equal(&rt, refused, Some(Error::RangeTooLong));
-    }
-    let other = report(&rt, &mut profiler, "v", 1, (0, 0)).err();
-    equal(&rt, other, Some(Error::RangeTooLong));
-    let frame = emitted(&rt, &mut profiler)?;
-    equal(&rt, frame.range_ns(), (NanoSecond::MIN, NanoSecond::MIN));
-    equal(&rt, frame.duration_ns(), 0);
-    holds(&rt, &frame, "u", Some((31, 1)))?;
-    holds(&rt, &frame, "v", None)?;
+    is_too_long(&rt, &mut profiler)?;
+    is_earliest(&rt, &*emitted(&rt, &mut profiler)?)?;
     // What is emitted is in no range any more.
     equal(&rt, refusal_at_0(&rt, &mut profiler, "u"), None);
     Ok(())
@@ -182,15 +195,19 @@ fn is_third<R: AllocGlobal + Abort>(rt: &R, frame: &FrameData) -> Outcome {
     holds(rt, frame, "b", Some((31, 1)))
 }
 
+/// Frames are taken before, with and after the only scope.
+fn rises<R: AllocGlobal + Wait + Abort>(rt: &R, profiler: &mut GlobalProfiler) -> Outcome {
+    emits_none(rt, profiler)?;
+    report_none(rt, profiler, "a")?;
+    assert!(rt; profiler.collect_frame()?.is_none());
+    report(rt, profiler, "b", 1, (5, 7))?;
+    is_third(rt, &*emitted(rt, profiler)?)?;
+    emits_none(rt, profiler)
+}
+
 #[test]
 fn without_scopes_the_index_alone_rises(rt: HostRuntime) -> Outcome {
-    let mut profiler = GlobalProfiler::new(rt.alloc());
-    emits_none(&rt, &mut profiler)?;
-    report_none(&rt, &mut profiler, "a")?;
-    assert!(rt; profiler.collect_frame()?.is_none());
-    report(&rt, &mut profiler, "b", 1, (5, 7))?;
-    is_third(&rt, &*emitted(&rt, &mut profiler)?)?;
-    emits_none(&rt, &mut profiler)
+    rises(&rt, &mut GlobalProfiler::new(rt.alloc()))
 }
 
 #[test]
@@ -295,6 +312,18 @@ fn has_all<R: Abort>(rt: &R, frame: &FrameData) -> Outcome {
     Ok(())
 }
 
+/// Takes a frame, and once more where memory is refused, behind another report.
+fn emitted_at_last<R: AllocGlobal + Wait + Abort>(
+    rt: &R,
+    profiler: &mut GlobalProfiler,
+) -> std::result::Result<Arc<FrameData>, Fail> {
+    let mut emitted = profiler.new_frame(rt);
+    if emitted.is_err() {
+        emitted = emitted_again(rt, profiler)?;
+    }
+    Ok(emitted?.frame.ok_or("no frame")?)
+}
+
 /// Run with each allocation failing in turn: nothing is lost or doubled.
 #[test]
 fn one_refused_allocation(rt: HostRuntime) -> Outcome {
@@ -303,14 +332,7 @@ fn one_refused_allocation(rt: HostRuntime) -> Outcome {
         report_again(&rt, &mut profiler, "a", id)?;
         report_again(&rt, &mut profiler, "b", id)?;
     }
-    let mut emitted = profiler.new_frame(&rt);
-    if emitted.is_err() {
-        emitted = emitted_again(&rt, &mut profiler)?;
-    }
-    let Some(frame) = emitted?.frame else {
-        return Err(Fail::new("no frame"));
-    };
-    has_all(&rt, &frame)?;
+    has_all(&rt, &*emitted_at_last(&rt, &mut profiler)?)?;
     equal(&rt, profiler.totals().pending, 0);
     Ok(())
 }
