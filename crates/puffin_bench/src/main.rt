@@ -44,17 +44,35 @@ fn thread(rt: &HostRuntime) -> Result<ThreadProfiler<ScriptClock>> {
     Ok(ThreadProfiler::new(rt.alloc(), name, ScriptClock::new(1)))
 }
 
-/// Runs each work once, and prints what it counted.
-fn count(rt: &HostRuntime) -> Result<()> {
+/// Prints a line: a name, and behind it what was counted, each number behind its word.
+fn print_counts(rt: &impl Print, name: &str, counts: &[(&str, usize)]) -> Result<()> {
+    print!(rt; "{name}")?;
+    for (word, number) in counts {
+        print!(rt; " {word} {number}")?;
+    }
+    println!(rt)?;
+    Ok(())
+}
+
+/// Writes and counts the scopes of each work, and prints how many there are and in how many bytes.
+fn count_streams(rt: &HostRuntime) -> Result<()> {
     for work in Work::ALL {
         let stream = stream_of(rt.alloc(), &work)?;
         let scopes = counted(rt.alloc(), &stream)?;
-        let bytes = stream.len();
-        let name = work.name;
-        println!(rt; "{name} scopes {scopes} bytes {bytes}")?;
+        print_counts(
+            rt,
+            work.name,
+            &[("scopes", scopes), ("bytes", stream.len())],
+        )?;
     }
+    Ok(())
+}
+
+/// Runs each work once, and prints what it counted.
+fn count(rt: &HostRuntime) -> Result<()> {
+    count_streams(rt)?;
     let scopes = profiled(&mut thread(rt)?, TEXT)?;
-    println!(rt; "profiled_text12 scopes {scopes}")?;
+    print_counts(rt, "profiled_text12", &[("scopes", scopes)])?;
     count_packets(rt)?;
     count_merges(rt)?;
     count_views(rt)?;
@@ -75,9 +93,7 @@ fn count_merges(rt: &HostRuntime) -> Result<()> {
     let collection = ScopeCollection::new(rt.alloc());
     let thread = main_thread(rt.alloc())?;
     let tops = merged(rt.alloc(), &collection, &frames, &thread)?;
-    let scopes = work.scopes();
-    println!(rt; "merge scopes {scopes} tops {tops}")?;
-    Ok(())
+    print_counts(rt, "merge", &[("scopes", work.scopes()), ("tops", tops)])
 }
 
 /// Makes scopes by guards, and prints how many nests were reported.
@@ -86,8 +102,7 @@ fn count_guards(rt: &HostRuntime) -> Result<()> {
     for work in GuardWork::ALL {
         let scopes = Scopes::new(work.is_on());
         let reports = work.run(&mut thread, &scopes)?;
-        let name = work.name();
-        println!(rt; "{name} reports {reports}")?;
+        print_counts(rt, work.name(), &[("reports", reports)])?;
     }
     Ok(())
 }
@@ -96,8 +111,11 @@ fn count_guards(rt: &HostRuntime) -> Result<()> {
 fn count_names(rt: &HostRuntime) -> Result<()> {
     for work in NameWork::ALL {
         let bytes = work.run(rt.alloc())?;
-        let (name, units) = (work.name(), work.units());
-        println!(rt; "{name} names {units} bytes {bytes}")?;
+        print_counts(
+            rt,
+            work.name(),
+            &[("names", work.units()), ("bytes", bytes)],
+        )?;
     }
     Ok(())
 }
@@ -114,8 +132,7 @@ fn count_views(rt: &HostRuntime) -> Result<()> {
     let mut view = work.full(rt.alloc())?;
     let frames = added(&mut view, work.frames(rt.alloc())?)?;
     let held = view.stats().frames();
-    println!(rt; "view frames {frames} held {held}")?;
-    Ok(())
+    print_counts(rt, "view", &[("frames", frames), ("held", held)])
 }
 
 /// With how many frames a work is done.
@@ -123,16 +140,20 @@ fn worked(rt: &HostRuntime, files: &mut Files, work: FileWork) -> Result<usize> 
     files.work(rt.alloc(), work).ok().context("a file")
 }
 
+/// Reads a file, and writes and reads that of a view; prints how many frames they have.
+fn count_files(rt: &HostRuntime, files: &mut Files) -> Result<()> {
+    let frames = worked(rt, files, FileWork::ReadUnpacked)?;
+    let bytes = files.file.len();
+    print_counts(rt, "packets", &[("frames", frames), ("bytes", bytes)])?;
+    let _written = worked(rt, files, FileWork::ViewWrite)?;
+    let frames = worked(rt, files, FileWork::ViewRead)?;
+    print_counts(rt, "view_file", &[("frames", frames)])
+}
+
 /// Writes and reads a small file, and prints how many frames and bytes it has.
 fn count_packets(rt: &HostRuntime) -> Result<()> {
     let mut files = Files::new(rt.alloc(), 10).ok().context("a file")?;
-    let frames = worked(rt, &mut files, FileWork::ReadUnpacked)?;
-    let bytes = files.file.len();
-    println!(rt; "packets frames {frames} bytes {bytes}")?;
-    let _written = worked(rt, &mut files, FileWork::ViewWrite)?;
-    let frames = worked(rt, &mut files, FileWork::ViewRead)?;
-    println!(rt; "view_file frames {frames}")?;
-    Ok(())
+    count_files(rt, &mut files)
 }
 
 /// Prints the nanoseconds that one unit takes, in hundredths, and how many units were timed.

@@ -4,7 +4,7 @@ ghost use Rattle.puffin_data.specs.Forest.{Forest};
 ghost use Rattle.puffin_data.specs.Honesty.{IsHonest};
 
 use crate::reports::{reported, two_scopes};
-use crate::{print, shared_views, threads};
+use crate::{print, print_counts, shared_views, threads};
 use anyhow::Result;
 use puffin::global_profiler::{GlobalProfiler, Totals};
 use puffin_data::data::StreamInfo;
@@ -33,11 +33,15 @@ fn totals_reported<R: Wait>(rt: &R, alloc: Global) -> Result<(usize, Totals)> {
 /// the view holds.
 pub fn count_sharing<R: Runtime + AllocGlobal + Wait>(rt: &R) -> Result<()> {
     let (reports, totals) = totals_reported(rt, rt.alloc())?;
-    let (scopes, emitted) = (totals.reported, totals.emitted);
-    println!(rt; "report reports {reports} scopes {scopes} emitted {emitted}")?;
+    let (scopes, emitted) = (totals.reported as usize, totals.emitted as usize);
+    let counts = [
+        ("reports", reports),
+        ("scopes", scopes),
+        ("emitted", emitted),
+    ];
+    print_counts(rt, "report", &counts)?;
     let held = shared_views::run(rt, rt.alloc(), 1)?.held;
-    println!(rt; "new_frame_view held {held}")?;
-    Ok(())
+    print_counts(rt, "new_frame_view", &[("held", held)])
 }
 
 /// The nanoseconds of the fastest run of reports, and how many there are in one.

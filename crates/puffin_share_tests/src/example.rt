@@ -15,7 +15,17 @@ use std::test::Fail;
 use std::thread;
 use std::thread::{JoinHandle, Threads};
 
-/// Loads a file in a scope of its own, which is reported by a share. Gives the share back.
+/// Loads an image in a scope of its own, which is reported at its end.
+fn load_image<L: Ledger, M: Ledger, R: Wait>(
+    reporter: &mut SharedReporter<L, M, R>,
+    thread: &mut ThreadProfiler<ScriptClock>,
+) -> Option<()> {
+    let scope = thread.begin_scope(ScopeId::new(7)?, "image-12.png").ok()?;
+    let _closed = reporter.end_scope(thread, scope).ok()?;
+    Some(())
+}
+
+/// What a loader does, whose scopes are reported by a share. Gives the share back.
 fn load<L: Ledger, M: Ledger, R: Wait + Drop>(
     rt: R,
     alloc: Global,
@@ -25,8 +35,7 @@ fn load<L: Ledger, M: Ledger, R: Wait + Drop>(
     let mut reporter = SharedReporter::new(rt, profiler, share);
     let name = String::from_str(alloc, "loader").ok()?;
     let mut thread = ThreadProfiler::new(alloc, name, ScriptClock::new(5));
-    let scope = thread.begin_scope(ScopeId::new(7)?, "image-12.png").ok()?;
-    let _closed = reporter.end_scope(&mut thread, scope).ok()?;
+    load_image(&mut reporter, &mut thread)?;
     Some(reporter.into_share())
 }
 
@@ -44,7 +53,28 @@ fn start<
     Ok(thread::spawn(&rt, move || { load(rt, alloc, profiler, share) })?)
 }
 
-/// A loader's thread and one that takes the frame.
+/// A loader's thread, and one that takes the frame when the loader is done. Gives the shares back.
+fn framed<
+    L: Ledger + Send + Sync + 'static,
+    M: Ledger + Send + Sync + 'static,
+    R: Threads + Wait + Abort + Copy + Send + Sync + 'static,
+>(
+    rt: R,
+    alloc: Global,
+    profiler: &SharedProfiler<L, M>,
+    shares: Vec<Share<L, M>>,
+) -> std::result::Result<Vec<Share<L, M>>, Fail> {
+    let mut shares = shares;
+    let mut own = shares.pop().ok_or("a share")?;
+    let theirs = shares.pop().ok_or("another")?;
+    let loader = start(rt, alloc, profiler.clone()?, theirs)?;
+    shares.push(loader.join(&rt).ok_or("the loader's share")?)?;
+    assert!(rt; profiler.new_frame(&rt, &mut own)?.frame.is_some());
+    shares.push(own)?;
+    Ok(shares)
+}
+
+/// Two threads share a profiler, and give their shares back at the end.
 fn loaded<
     L: Ledger + Send + Sync + 'static,
     M: Ledger + Send + Sync + 'static,
@@ -60,14 +90,7 @@ fn loaded<
     else {
         return Err(Fail::new("no memory"));
     };
-    let mut shares = shares;
-    let mut own = shares.pop().ok_or("a share")?;
-    let theirs = shares.pop().ok_or("another")?;
-    let loader = start(rt, alloc, profiler.clone()?, theirs)?;
-    shares.push(loader.join(&rt).ok_or("the loader's share")?)?;
-    let emitted = profiler.new_frame(&rt, &mut own)?;
-    assert!(rt; emitted.frame.is_some());
-    shares.push(own)?;
+    let shares = framed(rt, alloc, &profiler, shares)?;
     let Ok(settled) = profiler.settle(&rt, shares) else {
         return Err(Fail::new("two shares are all"));
     };

@@ -11,3 +11,5 @@ mod long_texts;
 mod many_workers;
 #[cfg(test)]
 mod shared_profiler;
+#[cfg(test)]
+mod shares;

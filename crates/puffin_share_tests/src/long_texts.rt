@@ -5,9 +5,10 @@ ghost use Rattle.puffin_data.specs.Forest.{Forest};
 ghost use Rattle.puffin_data.specs.Honesty.{IsHonest};
 
 use crate::equal::equal;
+use crate::shares::opened;
 use puffin::data::{Form, Reader, Scope, ScopeId, Stream, StreamInfo};
 use puffin::frame_data::FrameData;
-use puffin::global_profiler::{GlobalProfiler, Share, SharedProfiler, SharedReporter};
+use puffin::global_profiler::{Share, SharedProfiler, SharedReporter};
 use puffin::thread_profiler::{Closed, ScriptClock, ThreadInfo, ThreadProfiler};
 use std::alloc::Global;
 use std::marker::Brand;
@@ -57,6 +58,19 @@ fn has_long(alloc: Global, frame: &FrameData, name: &str, texts: &[&str]) -> puf
     Ok(false)
 }
 
+/// A scope of a thread, which is reported at its end.
+fn scope<L: Ledger, M: Ledger, R: Wait + Abort>(
+    rt: &R,
+    reporter: &mut SharedReporter<L, M, R>,
+    thread: &mut ThreadProfiler<ScriptClock>,
+    text: &str,
+) -> Outcome {
+    let scope = thread.begin_scope(ScopeId::new(1).ok_or("an id")?, text)?;
+    let closed = reporter.end_scope(thread, scope)?;
+    equal(rt, closed, Closed::Reported);
+    Ok(())
+}
+
 /// A thread's two scopes, one with a text that both forms write in one way. Gives the share back.
 fn main_scopes<L: Ledger, M: Ledger, R: Wait + Abort + Copy + Drop>(
     rt: R,
@@ -64,14 +78,11 @@ fn main_scopes<L: Ledger, M: Ledger, R: Wait + Abort + Copy + Drop>(
     profiler: SharedProfiler<L, M>,
     share: Share<L, M>,
 ) -> std::result::Result<Share<L, M>, Fail> {
-    let id = ScopeId::new(1).ok_or("an id")?;
     let name = String::from_str(alloc, "main")?;
     let mut thread = ThreadProfiler::with_form(alloc, name, ScriptClock::new(5), Form::Long);
     let mut reporter = SharedReporter::new(rt, profiler, share);
     for text in ["load", TEXT] {
-        let scope = thread.begin_scope(id, text)?;
-        let closed = reporter.end_scope(&mut thread, scope)?;
-        equal(&rt, closed, Closed::Reported);
+        scope(&rt, &mut reporter, &mut thread, text)?;
     }
     Ok(reporter.into_share())
 }
@@ -100,7 +111,20 @@ fn handed_out<R: Abort>(rt: &R, alloc: Global, frame: &FrameData) -> Outcome {
     Ok(())
 }
 
-/// A thread's two scopes and one of the caller's own.
+/// A thread's two scopes and one of the caller's own, in one frame.
+fn in_one_frame<L: Ledger, M: Ledger, R: Wait + Abort + Copy + Drop>(
+    rt: R,
+    alloc: Global,
+    profiler: &SharedProfiler<L, M>,
+    share: Share<L, M>,
+) -> Outcome {
+    let mut share = main_scopes(rt, alloc, profiler.clone()?, share)?;
+    user_scope(&rt, alloc, profiler, &mut share)?;
+    let frame = profiler.new_frame(&rt, &mut share)?.frame.ok_or("a frame")?;
+    handed_out(&rt, alloc, &frame)
+}
+
+/// The same of a new profiler.
 fn reported<L: Ledger, M: Ledger, R: Wait + Abort + Copy + Drop>(
     rt: R,
     alloc: Global,
@@ -112,17 +136,9 @@ fn reported<L: Ledger, M: Ledger, R: Wait + Abort + Copy + Drop>(
         × (reported.parts ≡ 1) }
     requires handed { (handed.name ≡ M.name) × (handed.parts ≡ M.parts) × (handed.parts ≡ 1) }
 {
-    let none = GlobalProfiler::new(alloc);
-    let opened = SharedProfiler::<L, M>::open(alloc, none, 1, reported, handed);
-    let Ok((profiler, shares)) = opened else {
-        return Err(Fail::new("no memory"));
-    };
-    let mut shares = shares;
+    let (profiler, mut shares) = opened::<L, M>(alloc, 1, reported, handed)?;
     let share = shares.pop().ok_or("a share")?;
-    let mut share = main_scopes(rt, alloc, profiler.clone()?, share)?;
-    user_scope(&rt, alloc, &profiler, &mut share)?;
-    let frame = profiler.new_frame(&rt, &mut share)?.frame.ok_or("a frame")?;
-    handed_out(&rt, alloc, &frame)
+    in_one_frame(rt, alloc, &profiler, share)
 }
 
 #[test]

@@ -3,9 +3,10 @@
 ghost use Rattle.std.specs.Prelude.{◌≡◌};
 
 use crate::equal::equal;
-use crate::shared_profiler::{Frames, are_all, are_in_order, taken};
+use crate::shared_profiler::{Frames, are_all, are_in_order, joined, taken};
+use crate::shares::opened;
 use puffin::data::{ScopeId, StreamInfoRef};
-use puffin::global_profiler::{GlobalProfiler, Share, SharedProfiler, SharedReporter};
+use puffin::global_profiler::{Share, SharedProfiler, SharedReporter};
 use puffin::scope_details::ScopeDetails;
 use puffin::thread_profiler::{
     AnyThread, Closed, Reporter, ScriptClock, ThreadInfo, ThreadProfiler,
@@ -166,34 +167,26 @@ fn worked<
         workers.push(start(rt, alloc, profiler.clone()?, share, worker)?)?;
     }
     taken(&rt, profiler, own, 200, frames)?;
-    let mut back = Vec::new(alloc);
-    for worker in workers {
-        back.push(worker.join(&rt).ok_or("a worker")?)?;
-    }
+    let back = joined(&rt, alloc, workers)?;
     taken(&rt, profiler, own, 1, frames)?;
     Ok(back)
 }
 
 /// The scopes of eight workers are all handed out, each once.
-fn nine_shares<
+fn are_all_handed_out<
     L: Ledger + Send + Sync + 'static,
     M: Ledger + Send + Sync + 'static,
     R: Threads + Wait + Abort + Copy + Send + Sync + 'static,
->(rt: R, alloc: Global, reported: Blank, handed: Blank) -> Outcome
-    requires reported { (reported.name ≡ L.name)
-        × (reported.parts ≡ L.parts)
-        × (reported.parts ≡ 9) }
-    requires handed { (handed.name ≡ M.name) × (handed.parts ≡ M.parts) × (handed.parts ≡ 9) }
-{
-    let none = GlobalProfiler::new(alloc);
-    let opened = SharedProfiler::<L, M>::open(alloc, none, SHARES, reported, handed);
-    let Ok((profiler, shares)) = opened else {
-        return Err(Fail::new("no memory"));
-    };
-    let mut shares = shares;
-    let mut own = shares.pop().ok_or("the taker's share")?;
+>(
+    rt: R,
+    alloc: Global,
+    profiler: &SharedProfiler<L, M>,
+    shares: Vec<Share<L, M>>,
+    own: Share<L, M>,
+) -> Outcome {
+    let mut own = own;
     let mut frames = Vec::new(alloc);
-    let mut shares = worked(rt, alloc, &profiler, shares, &mut own, &mut frames)?;
+    let mut shares = worked(rt, alloc, profiler, shares, &mut own, &mut frames)?;
     are_in_order(&rt, alloc, &frames, &NAMES, SCOPES)?;
     shares.push(own)?;
     for share in &mut shares {
@@ -204,7 +197,23 @@ fn nine_shares<
             (4000, 0, 4000),
         );
     }
-    are_all(&rt, &profiler, shares, 4000)
+    are_all(&rt, profiler, shares, 4000)
+}
+
+/// The same of a new profiler.
+fn nine_shares<
+    L: Ledger + Send + Sync + 'static,
+    M: Ledger + Send + Sync + 'static,
+    R: Threads + Wait + Abort + Copy + Send + Sync + 'static,
+>(rt: R, alloc: Global, reported: Blank, handed: Blank) -> Outcome
+    requires reported { (reported.name ≡ L.name)
+        × (reported.parts ≡ L.parts)
+        × (reported.parts ≡ 9) }
+    requires handed { (handed.name ≡ M.name) × (handed.parts ≡ M.parts) × (handed.parts ≡ 9) }
+{
+    let (profiler, mut shares) = opened::<L, M>(alloc, SHARES, reported, handed)?;
+    let own = shares.pop().ok_or("the taker's share")?;
+    are_all_handed_out(rt, alloc, &profiler, shares, own)
 }
 
 #[test]

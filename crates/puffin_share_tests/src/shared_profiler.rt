@@ -1,11 +1,10 @@
 ghost use Rattle.std.specs.Prelude.{◌≡◌};
 
 use crate::equal::equal;
+use crate::shares::opened;
 use puffin::data::{Reader, Scope, ScopeId};
 use puffin::frame_data::FrameData;
-use puffin::global_profiler::{
-    GlobalFrameView, GlobalProfiler, Settled, Share, SharedProfiler, SharedReporter,
-};
+use puffin::global_profiler::{GlobalFrameView, Settled, Share, SharedProfiler, SharedReporter};
 use puffin::scope_details::{ScopeDetails, ScopeIds};
 use puffin::thread_profiler::{Closed, ScriptClock, ThreadProfiler};
 use std::alloc::{AllocError, Global};
@@ -133,6 +132,19 @@ fn start<
     Ok(thread::spawn(&rt, move || { work(rt, alloc, profiler, share, worker) })?)
 }
 
+/// Waits for the workers' ends, and gives their shares back.
+pub(crate) fn joined<L: Ledger, M: Ledger, R: Threads + Wait>(
+    rt: &R,
+    alloc: Global,
+    workers: Vec<JoinHandle<Option<Share<L, M>>>>,
+) -> std::result::Result<Vec<Share<L, M>>, Fail> {
+    let mut back = Vec::new(alloc);
+    for worker in workers {
+        back.push(worker.join(rt).ok_or("a worker")?)?;
+    }
+    Ok(back)
+}
+
 /// Starts a worker with each share, takes frames meanwhile, and gives the shares back.
 fn worked<
     L: Ledger + Send + Sync + 'static,
@@ -151,11 +163,7 @@ fn worked<
         workers.push(start(rt, alloc, profiler.clone()?, share, worker)?)?;
     }
     taken(&rt, profiler, own, 200, frames)?;
-    let mut back = Vec::new(alloc);
-    for worker in workers {
-        back.push(worker.join(&rt).ok_or("a worker")?)?;
-    }
-    Ok(back)
+    joined(&rt, alloc, workers)
 }
 
 /// The four shares of the workers aren't all, and come back.
@@ -204,7 +212,30 @@ pub(crate) fn are_all<L: Ledger, M: Ledger, R: Wait + Abort>(
     Ok(())
 }
 
-/// Four workers on threads of their own and one taker of frames share a profiler.
+/// Four workers on threads of their own report, and one more takes frames: all scopes are handed out, each once.
+fn are_handed_out<
+    L: Ledger + Send + Sync + 'static,
+    M: Ledger + Send + Sync + 'static,
+    R: Threads + Wait + Abort + Copy + Send + Sync + 'static,
+>(
+    rt: R,
+    alloc: Global,
+    profiler: &SharedProfiler<L, M>,
+    shares: Vec<Share<L, M>>,
+    own: Share<L, M>,
+) -> Outcome {
+    let mut own = own;
+    let mut frames = Vec::new(alloc);
+    let shares = worked(rt, alloc, profiler, shares, &mut own, &mut frames)?;
+    let mut shares = one_too_few(&rt, profiler, shares)?;
+    taken(&rt, profiler, &mut own, 1, &mut frames)?;
+    are_in_order(&rt, alloc, &frames, &NAMES, SCOPES)?;
+    equal(&rt, scopes_in(&frames), 4000);
+    shares.push(own)?;
+    are_all(&rt, profiler, shares, 4000)
+}
+
+/// The same of a new profiler.
 fn four_workers<
     L: Ledger + Send + Sync + 'static,
     M: Ledger + Send + Sync + 'static,
@@ -215,21 +246,9 @@ fn four_workers<
         × (reported.parts ≡ 5) }
     requires handed { (handed.name ≡ M.name) × (handed.parts ≡ M.parts) × (handed.parts ≡ 5) }
 {
-    let none = GlobalProfiler::new(alloc);
-    let opened = SharedProfiler::<L, M>::open(alloc, none, 5, reported, handed);
-    let Ok((profiler, shares)) = opened else {
-        return Err(Fail::new("no memory"));
-    };
-    let mut shares = shares;
-    let mut own = shares.pop().ok_or("the taker's share")?;
-    let mut frames = Vec::new(alloc);
-    let shares = worked(rt, alloc, &profiler, shares, &mut own, &mut frames)?;
-    let mut shares = one_too_few(&rt, &profiler, shares)?;
-    taken(&rt, &profiler, &mut own, 1, &mut frames)?;
-    are_in_order(&rt, alloc, &frames, &NAMES, SCOPES)?;
-    equal(&rt, scopes_in(&frames), 4000);
-    shares.push(own)?;
-    are_all(&rt, &profiler, shares, 4000)
+    let (profiler, mut shares) = opened::<L, M>(alloc, 5, reported, handed)?;
+    let own = shares.pop().ok_or("the taker's share")?;
+    are_handed_out(rt, alloc, &profiler, shares, own)
 }
 
 #[test]
@@ -292,6 +311,20 @@ fn found<R: Wait + Abort>(rt: &R, view: &GlobalFrameView, id: ScopeId) {
     assert!(rt; view.lock(rt).latest_frame().is_some());
 }
 
+/// A scope with this id is reported, and its frame handed on.
+fn handed_on<L: Ledger, M: Ledger, R: Wait + Abort + Copy + Drop>(
+    rt: R,
+    alloc: Global,
+    profiler: &SharedProfiler<L, M>,
+    share: Share<L, M>,
+    id: ScopeId,
+) -> Outcome {
+    let mut share = reported(rt, alloc, profiler.clone()?, share, id)?;
+    let emitted = profiler.new_frame(&rt, &mut share)?;
+    equal(&rt, emitted.refused, 0);
+    told(&rt, &*emitted.frame.ok_or("a frame")?, id)
+}
+
 /// A scope of the caller's own, in a view that was attached before it was reported.
 fn attached<
     L: Ledger + Send + Sync + 'static,
@@ -303,19 +336,11 @@ fn attached<
         × (reported.parts ≡ 1) }
     requires handed { (handed.name ≡ M.name) × (handed.parts ≡ M.parts) × (handed.parts ≡ 1) }
 {
-    let none = GlobalProfiler::new(alloc);
-    let opened = SharedProfiler::<L, M>::open(alloc, none, 1, reported, handed);
-    let Ok((profiler, shares)) = opened else {
-        return Err(Fail::new("no memory"));
-    };
-    let mut shares = shares;
+    let (profiler, mut shares) = opened::<L, M>(alloc, 1, reported, handed)?;
     let share = shares.pop().ok_or("a share")?;
     let id = registered(&rt, &profiler)?;
     let view = GlobalFrameView::attach(alloc, &rt, &profiler)?;
-    let mut share = self::reported(rt, alloc, profiler.clone()?, share, id)?;
-    let emitted = profiler.new_frame(&rt, &mut share)?;
-    equal(&rt, emitted.refused, 0);
-    told(&rt, &*emitted.frame.ok_or("a frame")?, id)?;
+    handed_on(rt, alloc, &profiler, share, id)?;
     found(&rt, &view, id);
     assert!(rt; view.detach(&rt, &profiler));
     Ok(())
