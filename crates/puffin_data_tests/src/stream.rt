@@ -138,23 +138,25 @@ fn a_refusal_leaves_stream_and_clock(rt: HostRuntime) -> std::result::Result<(),
     Ok(())
 }
 
-/// What the Rust crate writes at the same calls.
-#[test]
-fn the_bytes_of_the_rust_crate(rt: HostRuntime) -> std::result::Result<(), Fail> {
-    let mut stream = Stream::new(rt.alloc());
+/// What the Rust crate writes of three scopes, one within the other.
+const NESTED: &[u8] =
+    b"(\x09\0\0\0\x44\x04\0\0\0\0\0\0\0\x46\0\0\0\0\0\0\0(\x08\0\0\0\x80\x04\0\0\0\0\0\0\x04mesh\x23\0\0\0\0\0\0\0(\x12\0\0\0\x91\x04\0\0\0\0\0\0\x04mesh\0\0\0\0\0\0\0\0)\x9b\x04\0\0\0\0\0\0)\xc2\x04\0\0\0\0\0\0)\xc2\x04\0\0\0\0\0\0";
+
+/// Writes the same scopes.
+fn write_nested(stream: &mut Stream) -> std::result::Result<(), Fail> {
     let (outer, _) = stream.begin_scope(|| 1092, id(9)?, "")?;
     let (middle, _) = stream.begin_scope(|| 1152, id(8)?, "mesh")?;
     let (inner, _) = stream.begin_scope(|| 1169, id(18)?, "mesh")?;
-    end(&mut stream, inner, 1179)?;
-    end(&mut stream, middle, 1218)?;
-    end(&mut stream, outer, 1218)?;
-    let mut want: Vec<u8> = Vec::new(rt.alloc());
-    want.extend_from_slice(b"(\x09\0\0\0\x44\x04\0\0\0\0\0\0\0\x46\0\0\0\0\0\0\0")?;
-    want.extend_from_slice(b"(\x08\0\0\0\x80\x04\0\0\0\0\0\0\x04mesh\x23\0\0\0\0\0\0\0")?;
-    want.extend_from_slice(
-        b"(\x12\0\0\0\x91\x04\0\0\0\0\0\0\x04mesh\0\0\0\0\0\0\0\0)\x9b\x04\0\0\0\0\0\0",
-    )?;
-    want.extend_from_slice(b")\xc2\x04\0\0\0\0\0\0)\xc2\x04\0\0\0\0\0\0")?;
-    equal(&rt, stream.bytes(), want.as_slice());
+    for (offset, stop) in [(inner, 1179), (middle, 1218), (outer, 1218)] {
+        end(stream, offset, stop)?;
+    }
+    Ok(())
+}
+
+#[test]
+fn the_bytes_of_the_rust_crate(rt: HostRuntime) -> std::result::Result<(), Fail> {
+    let mut stream = Stream::new(rt.alloc());
+    write_nested(&mut stream)?;
+    equal(&rt, stream.bytes(), NESTED);
     Ok(())
 }

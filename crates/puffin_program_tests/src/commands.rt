@@ -1,28 +1,68 @@
 use puffin_data::NanoSecond;
-use puffin_data::data::ScopeId;
+use puffin_data::data::{ScopeId, Stream};
+use puffin_frames::thread_profiler::ThreadInfo;
 use puffin_replay::replay::Command;
+use std::alloc::AllocGlobal;
 use std::test::Fail;
 
 pub(crate) type Outcome<T> = Result<T, Fail>;
 
-/// The command that begins a scope of the first thread.
-pub(crate) fn begin(rt: &HostRuntime, at: NanoSecond, id: u32, text: &str) -> Outcome<Command> {
-    let Some(id) = ScopeId::new(id) else {
-        return Err(Fail::new("an id of 0"));
-    };
-    Ok(Command::Begin {
-        thread: 0,
-        at,
-        id,
-        text: String::from_str(rt.alloc(), text)?,
-    })
+/// A command to the first thread or to the session, in plain values.
+#[derive(Clone, Copy)]
+pub(crate) enum Step<'a> {
+    /// Begins a scope of the thread, at this time, with this id and text.
+    Begin(NanoSecond, u32, &'a str),
+    /// Ends its innermost scope, at this time.
+    End(NanoSecond),
+    /// Reports these scopes of a thread with this name, whose start isn't known.
+    Report(&'a str, &'a [u8]),
+    /// Takes a frame.
+    Frame,
 }
 
-/// The command that ends its innermost scope.
-pub(crate) fn end(at: NanoSecond) -> Command {
-    Command::End {
-        thread: 0,
-        at,
-        back: 0,
+/// The command that a step stands for.
+fn command(rt: &impl AllocGlobal, step: &Step<'_>) -> Outcome<Command> {
+    match step {
+        Step::Begin(at, id, text) => Ok(Command::Begin {
+            thread: 0,
+            at: *at,
+            id: ScopeId::new(*id).ok_or("an id of 0")?,
+            text: String::from_str(rt.alloc(), text)?,
+        }),
+        Step::End(at) => Ok(Command::End {
+            thread: 0,
+            at: *at,
+            back: 0,
+        }),
+        Step::Report(name, bytes) => report(rt, name, bytes),
+        Step::Frame => Ok(Command::NewFrame),
     }
+}
+
+/// The command that reports these scopes of a thread with this name.
+fn report(rt: &impl AllocGlobal, name: &str, bytes: &[u8]) -> Outcome<Command> {
+    let info = ThreadInfo {
+        start_time_ns: None,
+        name: String::from_str(rt.alloc(), name)?,
+    };
+    let stream = Stream::from(Vec::from_slice(rt.alloc(), bytes)?);
+    Ok(Command::ReportUser { info, stream })
+}
+
+/// The commands that these steps stand for.
+pub(crate) fn commands(rt: &impl AllocGlobal, steps: &[Step<'_>]) -> Outcome<Vec<Command>> {
+    let mut commands = Vec::new(rt.alloc());
+    for step in steps {
+        commands.push(command(rt, step)?)?;
+    }
+    Ok(commands)
+}
+
+/// These texts, each in memory of its own.
+pub(crate) fn texts(rt: &impl AllocGlobal, texts: &[&str]) -> Outcome<Vec<String>> {
+    let mut owned = Vec::new(rt.alloc());
+    for text in texts {
+        owned.push(String::from_str(rt.alloc(), text)?)?;
+    }
+    Ok(owned)
 }

@@ -1,11 +1,13 @@
 ghost use Rattle.std.specs.Prelude.{◌≡◌, ◌+◌, ◌-◌, ◌^◌, ◌<◌, if◌then◌else◌};
 
+use crate::commands::{Outcome, texts};
 use crate::equal::equal;
 use puffin_data::data::{Counted, Drain, Source};
 use puffin_data::{Error, FileError};
 use puffin_replay::replay::*;
+use std::alloc::AllocGlobal;
 use std::io;
-use std::test::Fail;
+use std::process::Abort;
 
 /// One scope, `data` from 100 to 300.
 const ONE: &[u8] = b"(\x01\0\0\0\x64\0\0\0\0\0\0\0\x04data\0\0\0\0\0\0\0\0)\x2c\x01\0\0\0\0\0\0";
@@ -92,7 +94,7 @@ impl Drain for Failing<'_> {
 pub(crate) const NEVER: u64 = u64::MAX;
 
 pub(crate) fn device<'a>(
-    rt: &HostRuntime,
+    rt: &impl AllocGlobal,
     bytes: &'a [u8],
     piece: usize,
     fails_at: u64,
@@ -110,11 +112,23 @@ pub(crate) fn device<'a>(
 }
 
 /// What counting some bytes returns, and what it writes.
-fn counted(rt: &HostRuntime, bytes: &[u8]) -> (Result<Option<Error>, FileError>, Vec<u8>) {
+fn counted(rt: &impl AllocGlobal, bytes: &[u8]) -> (Result<Option<Error>, FileError>, Vec<u8>) {
     let mut source = device(rt, bytes, 3, NEVER);
     let mut drain = device(rt, b"", 1, NEVER);
     let answer = count_stream(rt.alloc(), &mut source, &mut drain);
     (answer, drain.written)
+}
+
+/// Counting some bytes returns this and writes these lines.
+fn counts(
+    rt: &(impl AllocGlobal + Abort),
+    bytes: &[u8],
+    returned: Result<Option<Error>, FileError>,
+    lines: &[u8],
+) {
+    let (answer, written) = counted(rt, bytes);
+    equal(rt, answer, returned);
+    equal(rt, written.as_slice(), lines);
 }
 
 /// Two scopes without text, from `i64::MIN` to `i64::MIN` and from 0 to 0.
@@ -123,52 +137,32 @@ const TOO_LONG: &[u8] =
 
 #[test]
 fn a_stream_is_counted_into_two_lines(rt: HostRuntime) {
-    for (bytes, lines) in [
-        (
-            ONE,
-            "scopes 1 depth 1 range 100 300\nframe 0 bytes 35 scopes 1 range 100 300 duration 200\n",
-        ),
-        (
-            THREE,
-            "scopes 3 depth 2 range 100 400\nframe 0 bytes 127 scopes 3 range 100 400 duration 300\n",
-        ),
-        (
-            b"".as_slice(),
-            "scopes 0 depth 0 range empty\nframe none Empty\n",
-        ),
-    ] {
-        let (answer, written) = counted(&rt, bytes);
-        equal(&rt, answer, Ok(None));
-        equal(&rt, written.as_slice(), lines.as_bytes());
-    }
+    counts(&rt, ONE, Ok(None), ONE_LINES);
+    let lines =
+        b"scopes 3 depth 2 range 100 400\nframe 0 bytes 127 scopes 3 range 100 400 duration 300\n";
+    counts(&rt, THREE, Ok(None), lines);
+    let lines = b"scopes 0 depth 0 range empty\nframe none Empty\n";
+    counts(&rt, b"", Ok(None), lines);
 }
 
 #[test]
 fn a_range_that_is_too_long_is_told_behind_the_lines(rt: HostRuntime) {
-    let (answer, written) = counted(&rt, TOO_LONG);
-    equal(&rt, answer, Ok(Some(Error::RangeTooLong)));
     let lines = b"scopes 2 depth 1 range -9223372036854775808 0\nframe none RangeTooLong\n";
-    equal(&rt, written.as_slice(), lines.as_slice());
+    counts(&rt, TOO_LONG, Ok(Some(Error::RangeTooLong)), lines);
 }
 
 #[test]
-fn a_refused_stream_writes_nothing(rt: HostRuntime) -> Result<(), Fail> {
+fn a_refused_stream_writes_nothing(rt: HostRuntime) -> Outcome<()> {
+    counts(&rt, CRAFTED, Ok(Some(Error::PrematureEnd)), b"");
+    counts(&rt, UNFINISHED, Ok(Some(Error::ScopeNeverEnded)), b"");
     let mut left_over = Vec::from_slice(rt.alloc(), ONE)?;
     left_over.push(0)?;
-    for (bytes, cause) in [
-        (CRAFTED, Error::PrematureEnd),
-        (UNFINISHED, Error::ScopeNeverEnded),
-        (left_over.as_slice(), Error::InvalidStream),
-    ] {
-        let (answer, written) = counted(&rt, bytes);
-        equal(&rt, answer, Ok(Some(cause)));
-        equal(&rt, written.len(), 0);
-    }
+    counts(&rt, &left_over, Ok(Some(Error::InvalidStream)), b"");
     Ok(())
 }
 
 #[test]
-fn std_readers_and_writers_are_counted(rt: HostRuntime) -> Result<(), Fail> {
+fn std_readers_and_writers_are_counted(rt: HostRuntime) -> Outcome<()> {
     let mut written = Vec::new(rt.alloc());
     let answer = count_stream(
         rt.alloc(),
@@ -191,8 +185,7 @@ fn each_read_fails_in_turn(rt: HostRuntime) {
         equal(&rt, source.faults, 1);
         equal(&rt, drain.written.len(), 0);
     }
-    let (answer, _) = counted(&rt, ONE);
-    equal(&rt, answer, Ok(None));
+    counts(&rt, ONE, Ok(None), ONE_LINES);
 }
 
 #[test]
@@ -219,78 +212,97 @@ fn a_writer_that_takes_nothing_has_failed(rt: HostRuntime) {
 }
 
 /// What the program's words ask for.
-pub(crate) fn task_of(rt: &HostRuntime, words: &[&str]) -> Result<Option<Task>, Fail> {
-    let mut owned = Vec::new(rt.alloc());
-    for word in words {
-        owned.push(String::from_str(rt.alloc(), word)?)?;
-    }
+pub(crate) fn task_of(rt: &impl AllocGlobal, words: &[&str]) -> Outcome<Option<Task>> {
+    let owned = texts(rt, words)?;
     Ok(read_words(&owned)?)
 }
 
 #[test]
-fn count_is_a_task(rt: HostRuntime) -> Result<(), Fail> {
+fn count_is_a_task(rt: HostRuntime) -> Outcome<()> {
     let task = task_of(&rt, &["count"])?;
-    assert!(rt; task == Some(Task::Count));
+    assert!(rt; matches!(task, Some(Task::Count)));
+    Ok(())
+}
+
+/// Whether this is the task to replay a script into a file.
+fn is_replay(task: &Option<Task>, asked: &str, file: &str) -> bool {
+    match task {
+        Some(Task::Replay(script, out)) => script.as_str() == asked && out.as_str() == file,
+        _ => false,
+    }
+}
+
+#[test]
+fn replay_with_two_files_is_a_task(rt: HostRuntime) -> Outcome<()> {
+    let task = task_of(&rt, &["replay", "a script", "b"])?;
+    assert!(rt; is_replay(&task, "a script", "b"));
+    Ok(())
+}
+
+/// Words that name no task.
+const NO_TASKS: [&[&str]; 4] = [&["replay", "a script"], &["Count"], &["count", "x"], &[]];
+
+/// These words ask for nothing.
+pub(crate) fn name_no_task(rt: &(impl AllocGlobal + Abort), words: &[&str]) -> Outcome<()> {
+    assert!(rt; task_of(rt, words)?.is_none());
     Ok(())
 }
 
 #[test]
-fn replay_with_two_files_is_a_task(rt: HostRuntime) -> Result<(), Fail> {
-    let Some(Task::Replay(script, out)) = task_of(&rt, &["replay", "a script", "b"])? else {
-        return Err(Fail::new("another task"));
-    };
-    assert!(rt; script.as_str() == "a script" && out.as_str() == "b");
-    Ok(())
-}
-
-#[test]
-fn other_words_name_no_task(rt: HostRuntime) -> Result<(), Fail> {
-    let cases: [&[&str]; 4] = [&["replay", "a script"], &["Count"], &["count", "x"], &[]];
-    for words in cases {
-        let task = task_of(&rt, words)?;
-        assert!(rt; task.is_none());
+fn other_words_name_no_task(rt: HostRuntime) -> Outcome<()> {
+    for words in &NO_TASKS {
+        name_no_task(&rt, words)?;
     }
     Ok(())
 }
 
+const USAGE: &str = "usage: puffin-tool count | replay SCRIPT OUT | report FILE THREAD\n";
+
+/// What is written of each fault, and the status that it ends with.
+const TOLD: [(Option<ToolFault>, &str, u8); 9] = [
+    (None, "", 0),
+    (Some(ToolFault::Words), USAGE, 2),
+    (Some(ToolFault::Line(3)), "puffin-tool: script line 3\n", 1),
+    (
+        Some(ToolFault::Line(u64::MAX)),
+        "puffin-tool: script line 18446744073709551615\n",
+        1,
+    ),
+    (
+        Some(ToolFault::Cause(Error::PrematureEnd)),
+        "puffin-tool: PrematureEnd\n",
+        1,
+    ),
+    (Some(ToolFault::File(FileError::Io)), "puffin-tool: Io\n", 1),
+    (
+        Some(ToolFault::File(FileError::UnknownKind(3))),
+        "puffin-tool: UnknownKind 3\n",
+        1,
+    ),
+    (
+        Some(ToolFault::File(FileError::Compressed(2))),
+        "puffin-tool: Compressed 2\n",
+        1,
+    ),
+    (
+        Some(ToolFault::File(FileError::Refused(Error::MissingId))),
+        "puffin-tool: Refused MissingId\n",
+        1,
+    ),
+];
+
+/// A fault is told in this line, with this status.
+fn is_told(rt: &(impl AllocGlobal + Abort), fault: Option<ToolFault>, line: &str, status: u8) {
+    let mut drain = device(rt, b"", 7, NEVER);
+    equal(rt, finish(fault, &mut drain), status);
+    equal(rt, drain.written.as_slice(), line.as_bytes());
+    // a writer that fails doesn't change the status
+    equal(rt, finish(fault, &mut device(rt, b"", 7, 0)), status);
+}
+
 #[test]
 fn each_fault_is_told_with_its_status(rt: HostRuntime) {
-    let usage = "usage: puffin-tool count | replay SCRIPT OUT | report FILE THREAD\n";
-    for (fault, line, status) in [
-        (None, "", 0u8),
-        (Some(ToolFault::Words), usage, 2),
-        (Some(ToolFault::Line(3)), "puffin-tool: script line 3\n", 1),
-        (
-            Some(ToolFault::Line(u64::MAX)),
-            "puffin-tool: script line 18446744073709551615\n",
-            1,
-        ),
-        (
-            Some(ToolFault::Cause(Error::PrematureEnd)),
-            "puffin-tool: PrematureEnd\n",
-            1,
-        ),
-        (Some(ToolFault::File(FileError::Io)), "puffin-tool: Io\n", 1),
-        (
-            Some(ToolFault::File(FileError::UnknownKind(3))),
-            "puffin-tool: UnknownKind 3\n",
-            1,
-        ),
-        (
-            Some(ToolFault::File(FileError::Compressed(2))),
-            "puffin-tool: Compressed 2\n",
-            1,
-        ),
-        (
-            Some(ToolFault::File(FileError::Refused(Error::MissingId))),
-            "puffin-tool: Refused MissingId\n",
-            1,
-        ),
-    ] {
-        let mut drain = device(&rt, b"", 7, NEVER);
-        equal(&rt, finish(fault, &mut drain), status);
-        equal(&rt, drain.written.as_slice(), line.as_bytes());
-        // a writer that fails doesn't change the status
-        equal(&rt, finish(fault, &mut device(&rt, b"", 7, 0)), status);
+    for (fault, line, status) in &TOLD {
+        is_told(&rt, *fault, line, *status);
     }
 }

@@ -14,6 +14,8 @@ mod recording;
 #[cfg(test)]
 mod report;
 #[cfg(test)]
+mod run;
+#[cfg(test)]
 mod script;
 #[cfg(test)]
 mod summary;

@@ -1,12 +1,15 @@
-use crate::commands::{Outcome, begin, end};
+use crate::commands::{Outcome, Step, commands, texts};
 use crate::count::{NEVER, device};
 use crate::equal::equal;
+use crate::run::run;
 use puffin_data::FileError;
-use puffin_data::data::Stream;
-use puffin_frames::thread_profiler::ThreadInfo;
-use puffin_replay::replay::{Command, Reply, Script, record, run_script};
+use puffin_replay::replay::{Reply, Script, record};
 use puffin_view::profile_view::FrameView;
-use std::test::Fail;
+use std::alloc::AllocGlobal;
+use std::process::Abort;
+
+/// A scope of the thread and a frame of it.
+const ONE: &[Step<'static>] = &[Step::Begin(100, 1, "data"), Step::End(300), Step::Frame];
 
 /// The file of one frame: the thread `main`, which started at 100, with the scope `data` from 100 to 300.
 const ONE_FRAME: &[u8] =
@@ -15,145 +18,144 @@ const ONE_FRAME: &[u8] =
 /// One scope with the id 1 and no text, from the least time to the least time.
 const EARLIEST: &[u8] = b"(\x01\0\0\0\0\0\0\0\0\0\0\x80\0\0\0\0\0\0\0\0\0)\0\0\0\0\0\0\0\x80";
 
-fn names(rt: &HostRuntime, name: &str) -> Outcome<Vec<String>> {
-    let mut names = Vec::new(rt.alloc());
-    names.push(String::from_str(rt.alloc(), name)?)?;
-    Ok(names)
-}
-
-/// A script of one thread, with a command in each line.
-fn script(rt: &HostRuntime, name: &str, commands: Vec<Command>) -> Outcome<Script> {
+/// A script of one thread, with a step in each line.
+fn script(rt: &impl AllocGlobal, name: &str, steps: &[Step<'_>]) -> Outcome<Script> {
     let mut lines = Vec::new(rt.alloc());
-    for number in 0..commands.len() {
+    for number in 0..steps.len() {
         lines.push(number as u64 + 1)?;
     }
     Ok(Script {
-        names: names(rt, name)?,
+        names: texts(rt, &[name])?,
         forms: Vec::new(rt.alloc()),
-        commands,
+        commands: commands(rt, steps)?,
         lines,
     })
 }
 
-/// A scope of the thread and a frame of it.
-fn one_frame(rt: &HostRuntime) -> Outcome<Vec<Command>> {
-    let mut commands = Vec::new(rt.alloc());
-    commands.push(begin(rt, 100, 1, "data")?)?;
-    commands.push(end(300))?;
-    commands.push(Command::NewFrame)?;
-    Ok(commands)
-}
-
-/// Whether a script's run writes this file and these lines.
-fn writes(rt: &HostRuntime, script: &Script, file: &[u8], text: &[u8]) -> bool {
-    let mut out = device(rt, b"", 7, NEVER);
-    let mut lines = device(rt, b"", 1, NEVER);
-    let answer = run_script(rt.alloc(), script, &mut out, &mut lines);
-    answer == Ok(()) && out.written.as_slice() == file && lines.written.as_slice() == text
+/// The script of these steps of a thread with this name writes this file and these lines.
+fn writes(
+    rt: &(impl AllocGlobal + Abort),
+    name: &str,
+    steps: &[Step<'_>],
+    file: &[u8],
+    lines: &[u8],
+) -> Outcome<()> {
+    let script = script(rt, name, steps)?;
+    let run = run(rt, &script, (7, NEVER), (1, NEVER));
+    equal(rt, run.answer, Ok(()));
+    equal(
+        rt,
+        (run.file.as_slice(), run.lines.as_slice()),
+        (file, lines),
+    );
+    Ok(())
 }
 
 #[test]
 fn a_script_makes_a_file_and_lines(rt: HostRuntime) -> Outcome<()> {
-    let script = script(&rt, "main", one_frame(&rt)?)?;
     let line = b"frame 0 threads 1 scopes 1 bytes 35 duration 200\n";
     equal(&rt, ONE_FRAME.len(), 79);
-    assert!(rt; writes(&rt, &script, ONE_FRAME, line));
-    Ok(())
+    writes(&rt, "main", ONE, ONE_FRAME, line)
 }
 
 #[test]
 fn a_refused_command_leaves_a_file_without_frames(rt: HostRuntime) -> Outcome<()> {
-    let mut commands = Vec::new(rt.alloc());
-    commands.push(end(300))?;
-    let script = script(&rt, "main", commands)?;
-    assert!(rt; writes(&rt, &script, b"PUF0", b"refused 1 MismatchedEnd\n"));
-    Ok(())
+    let steps = [Step::End(300)];
+    writes(&rt, "main", &steps, b"PUF0", b"refused 1 MismatchedEnd\n")
 }
 
 #[test]
 fn a_frame_of_nothing_is_told(rt: HostRuntime) -> Outcome<()> {
-    let mut commands = Vec::new(rt.alloc());
-    commands.push(Command::NewFrame)?;
-    let script = script(&rt, "main", commands)?;
-    assert!(rt; writes(&rt, &script, b"PUF0", b"frame none\n"));
-    Ok(())
+    writes(&rt, "main", &[Step::Frame], b"PUF0", b"frame none\n")
 }
 
 #[test]
 fn a_kept_report_is_told_with_its_line(rt: HostRuntime) -> Outcome<()> {
-    let mut commands = Vec::new(rt.alloc());
-    commands.push(Command::ReportUser {
-        info: ThreadInfo {
-            start_time_ns: None,
-            name: String::from_str(rt.alloc(), "u")?,
-        },
-        stream: Stream::from(Vec::from_slice(rt.alloc(), EARLIEST)?),
-    })?;
-    commands.push(begin(&rt, 100, 1, "")?)?;
-    commands.push(end(200))?;
-    let script = script(&rt, "a", commands)?;
-    assert!(rt; writes(&rt, &script, b"PUF0", b"kept 3 RangeTooLong\n"));
-    Ok(())
+    let steps = [
+        Step::Report("u", EARLIEST),
+        Step::Begin(100, 1, ""),
+        Step::End(200),
+    ];
+    writes(&rt, "a", &steps, b"PUF0", b"kept 3 RangeTooLong\n")
 }
 
-/// Records one frame into a view, and returns the file.
-fn recorded(rt: &HostRuntime, view: &mut FrameView) -> Outcome<Vec<u8>> {
-    let mut drain = device(rt, b"", 1000, NEVER);
-    let commands = one_frame(rt)?;
-    match record(rt.alloc(), names(rt, "main")?, &commands, view, &mut drain) {
-        Ok(replies) if replies.len() == 3 => Ok(drain.written),
-        _ => Err(Fail::new("the recording fails")),
-    }
+/// Records the steps of a thread with this name into a view, which writes this file, in pieces
+/// of this length. Returns the replies.
+fn recorded(
+    rt: &(impl AllocGlobal + Abort),
+    view: &mut FrameView,
+    name: &str,
+    steps: &[Step<'_>],
+    file: &[u8],
+    piece: usize,
+) -> Outcome<Vec<Reply>> {
+    let commands = commands(rt, steps)?;
+    let mut drain = device(rt, b"", piece, NEVER);
+    let names = texts(rt, &[name])?;
+    let replies = record(rt.alloc(), names, &commands, view, &mut drain)?;
+    equal(rt, drain.written.as_slice(), file);
+    Ok(replies)
+}
+
+/// Records one frame into a view, which has no other frame then.
+fn takes_one_frame(rt: &(impl AllocGlobal + Abort), view: &mut FrameView) -> Outcome<()> {
+    let replies = recorded(rt, view, "main", ONE, ONE_FRAME, 1000)?;
+    equal(rt, replies.len(), 3);
+    equal(rt, view.stats().frames(), 1);
+    Ok(())
 }
 
 #[test]
 fn a_view_takes_what_is_recorded(rt: HostRuntime) -> Outcome<()> {
     let mut view = FrameView::new(rt.alloc());
-    let first = recorded(&rt, &mut view)?;
-    equal(&rt, first.as_slice(), ONE_FRAME);
-    equal(&rt, view.stats().frames(), 1);
+    takes_one_frame(&rt, &mut view)?;
     // The frames of another session begin with the index 0 again.
-    let second = recorded(&rt, &mut view)?;
-    equal(&rt, second.as_slice(), ONE_FRAME);
-    equal(&rt, view.stats().frames(), 1);
+    takes_one_frame(&rt, &mut view)
+}
+
+/// Whether a reply tells of a frame of nothing.
+fn is_no_frame(reply: Option<&Reply>) -> bool {
+    match reply {
+        Some(Reply::Frame(emitted)) => emitted.frame.is_none(),
+        _ => false,
+    }
+}
+
+/// Records a frame of nothing into a view.
+fn takes_no_frame(rt: &(impl AllocGlobal + Abort), view: &mut FrameView) -> Outcome<()> {
+    let replies = recorded(rt, view, "a", &[Step::Frame], b"PUF0", 4)?;
+    assert!(rt; is_no_frame(replies.get(0)));
     Ok(())
 }
 
 #[test]
 fn an_empty_recording_has_no_frame(rt: HostRuntime) -> Outcome<()> {
     let mut view = FrameView::new(rt.alloc());
-    let mut drain = device(&rt, b"", 4, NEVER);
-    let commands = [Command::NewFrame];
-    let Ok(replies) = record(
-        rt.alloc(),
-        names(&rt, "a")?,
-        &commands,
-        &mut view,
-        &mut drain,
-    ) else {
-        return Err(Fail::new("the recording fails"));
-    };
-    assert!(rt; matches!(replies.get(0), Some(Reply::Frame(emitted)) if emitted.frame.is_none()));
+    takes_no_frame(&rt, &mut view)?;
     assert!(rt; view.is_empty());
-    equal(&rt, drain.written.as_slice(), b"PUF0".as_slice());
     Ok(())
+}
+
+/// Whether the whole file is written where this call of its writer fails. If not, its beginning
+/// is, and no line.
+fn is_whole(rt: &(impl AllocGlobal + Abort), script: &Script, call: u64) -> bool {
+    let run = run(rt, script, (2, call), (1000, NEVER));
+    let whole = run.answer == Ok(());
+    if !whole {
+        equal(rt, run.answer, Err(FileError::Io));
+        assert!(rt; run.lines.is_empty());
+    }
+    equal(rt, run.file.as_slice() == ONE_FRAME, whole);
+    assert!(rt; ONE_FRAME.starts_with(run.file.as_slice()));
+    whole
 }
 
 #[test]
 fn a_file_that_is_not_written_whole_is_told(rt: HostRuntime) -> Outcome<()> {
-    let script = script(&rt, "main", one_frame(&rt)?)?;
+    let script = script(&rt, "main", ONE)?;
     let mut whole = false;
     for call in 0..60u64 {
-        let mut out = device(&rt, b"", 2, call);
-        let mut lines = device(&rt, b"", 1000, NEVER);
-        let answer = run_script(rt.alloc(), &script, &mut out, &mut lines);
-        whole = answer == Ok(());
-        if !whole {
-            equal(&rt, answer, Err(FileError::Io));
-            assert!(rt; lines.written.is_empty());
-        }
-        equal(&rt, out.written.as_slice() == ONE_FRAME, whole);
-        assert!(rt; ONE_FRAME.starts_with(out.written.as_slice()));
+        whole = is_whole(&rt, &script, call);
     }
     assert!(rt; whole);
     Ok(())
@@ -161,12 +163,10 @@ fn a_file_that_is_not_written_whole_is_told(rt: HostRuntime) -> Outcome<()> {
 
 #[test]
 fn lines_that_are_not_written_are_told(rt: HostRuntime) -> Outcome<()> {
-    let script = script(&rt, "main", one_frame(&rt)?)?;
-    let mut out = device(&rt, b"", 1000, NEVER);
-    let mut lines = device(&rt, b"", 5, 1);
-    let answer = run_script(rt.alloc(), &script, &mut out, &mut lines);
-    equal(&rt, answer, Err(FileError::Io));
-    equal(&rt, out.written.as_slice(), ONE_FRAME);
-    equal(&rt, lines.written.as_slice(), b"frame".as_slice());
+    let script = script(&rt, "main", ONE)?;
+    let run = run(&rt, &script, (1000, NEVER), (5, 1));
+    equal(&rt, run.answer, Err(FileError::Io));
+    equal(&rt, run.file.as_slice(), ONE_FRAME);
+    equal(&rt, run.lines.as_slice(), b"frame".as_slice());
     Ok(())
 }

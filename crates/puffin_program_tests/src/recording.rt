@@ -1,114 +1,134 @@
-use crate::commands::{Outcome, begin, end};
+use crate::commands::{Outcome, Step, commands};
+use crate::equal::equal;
 use puffin_data::NanoSecond;
 use puffin_data::data::Form;
-use puffin_frames::frame_data::FrameData;
-use puffin_replay::replay::{Command, Limits, Recording, record_and_read};
-use std::test::Fail;
+use puffin_frames::frame_data::{FrameData, UnpackedFrameData};
+use puffin_replay::replay::{Limits, Recording, record_and_read};
+use std::alloc::AllocGlobal;
+use std::process::Abort;
+use std::sync::Arc;
 
 /// A scope with the id 1 and no text, from 100 to 300.
 const LONGEST: &[u8] = b"(\x01\0\0\0\x64\0\0\0\0\0\0\0\0\0\0\0\0\0\0\0\0)\x2c\x01\0\0\0\0\0\0";
 
 /// Three scopes of a thread, of 200, 50 and 100 ns, each in a frame of its own.
-fn three_frames(rt: &HostRuntime) -> Outcome<Vec<Command>> {
-    let mut commands = Vec::new(rt.alloc());
-    for (start, stop) in [(100, 300), (400, 450), (500, 600)] {
-        commands.push(begin(rt, start, 1, "")?)?;
-        commands.push(end(stop))?;
-        commands.push(Command::NewFrame)?;
-    }
-    Ok(commands)
+const THREE_FRAMES: &[Step<'static>] = &[
+    Step::Begin(100, 1, ""),
+    Step::End(300),
+    Step::Frame,
+    Step::Begin(400, 1, ""),
+    Step::End(450),
+    Step::Frame,
+    Step::Begin(500, 1, ""),
+    Step::End(600),
+    Step::Frame,
+];
+
+/// The name of the thread, whose texts are short.
+fn main_thread(rt: &impl AllocGlobal) -> Outcome<Vec<(String, Form)>> {
+    let mut threads = Vec::new(rt.alloc());
+    threads.push((String::from_str(rt.alloc(), "main")?, Form::Short))?;
+    Ok(threads)
 }
 
 /// What is recorded of these and read again, of the last and the slowest so many frames.
 fn recorded(
-    rt: &HostRuntime,
+    rt: &(impl AllocGlobal + Abort),
     max_recent: usize,
     max_slow: usize,
     packs: bool,
 ) -> Outcome<Recording> {
-    let mut names = Vec::new(rt.alloc());
-    names.push((String::from_str(rt.alloc(), "main")?, Form::Short))?;
     let limits = Limits {
         max_recent,
         max_slow,
         packs,
     };
-    match record_and_read(rt.alloc(), names, &three_frames(rt)?, limits) {
-        Ok(recording) if recording.replies.len() == 9 => Ok(recording),
-        _ => Err(Fail::new("the recording fails")),
-    }
+    let commands = commands(rt, THREE_FRAMES)?;
+    let recording = record_and_read(rt.alloc(), main_thread(rt)?, &commands, limits)?;
+    equal(rt, recording.replies.len(), 9);
+    Ok(recording)
 }
 
-/// Whether just these frames are read, in this order: their numbers, and the ranges of their one scope.
-fn reads(recording: &Recording, frames: &[(u64, NanoSecond, NanoSecond)]) -> bool {
-    let mut read = recording.view.recent_frames();
-    for (number, start, stop) in frames {
-        let Some(frame) = read.next() else {
-            return false;
-        };
-        if frame.frame_index() != *number
-            || frame.range_ns() != (*start, *stop)
-            || frame.meta().num_scopes != 1
-        {
-            return false;
-        }
-    }
-    read.next().is_none()
-}
-
-/// Whether a frame has one stream alone, of the thread `main` that started at 100, with these bytes.
-fn holds(frame: &FrameData, bytes: &[u8]) -> Outcome<bool> {
-    let mut copy = frame.packed_copy()?;
-    let Ok(unpacked) = copy.unpacked() else {
-        return Ok(false);
-    };
-    let mut streams = unpacked.thread_streams.iter();
-    let Some((thread, info)) = streams.next() else {
-        return Ok(false);
-    };
-    Ok(
-        streams.next().is_none()
-            && thread.start_time_ns == Some(100)
-            && thread.name.as_str() == "main"
-            && info.stream.bytes() == bytes,
+/// The number of a frame, the range of its scopes, and how many they are.
+fn told(frame: &FrameData) -> (u64, (NanoSecond, NanoSecond), usize) {
+    (
+        frame.frame_index(),
+        frame.range_ns(),
+        frame.meta().num_scopes,
     )
+}
+
+/// Just these frames are read, in this order: their numbers, and the ranges of their one scope.
+fn reads(rt: &impl Abort, recording: &Recording, frames: &[(u64, (NanoSecond, NanoSecond))]) {
+    let mut read = recording.view.recent_frames();
+    for (number, range) in frames {
+        let frame = read.next().map(|frame| told(frame));
+        equal(rt, frame, Some((*number, *range, 1)));
+    }
+    assert!(rt; read.next().is_none());
+}
+
+/// A frame has one stream alone, of the thread `main` that started at 100, with these bytes.
+fn holds(rt: &impl Abort, frame: &UnpackedFrameData, bytes: &[u8]) {
+    equal(rt, frame.thread_streams.len(), 1);
+    for (thread, info) in &frame.thread_streams {
+        equal(rt, thread.start_time_ns, Some(100));
+        equal(rt, thread.name.as_str(), "main");
+        equal(rt, info.stream.bytes(), bytes);
+    }
+}
+
+/// The first frame that is read.
+fn first_read(recording: &Recording) -> Outcome<&Arc<FrameData>> {
+    Ok(recording.view.recent_frames().next().ok_or("no frame")?)
+}
+
+/// A copy of a frame, unpacked.
+fn unpacked_copy(frame: &FrameData) -> Outcome<Arc<UnpackedFrameData>> {
+    let mut copy = frame.packed_copy()?;
+    Ok(copy.unpacked()?)
+}
+
+/// The first frame that is read holds the longest scope.
+fn holds_longest(rt: &impl Abort, recording: &Recording) -> Outcome<()> {
+    let unpacked = unpacked_copy(first_read(recording)?)?;
+    holds(rt, &unpacked, LONGEST);
+    Ok(())
 }
 
 #[test]
 fn the_last_and_the_slowest_frames_are_read_again(rt: HostRuntime) -> Outcome<()> {
     for packs in [true, false] {
         let recording = recorded(&rt, 1, 1, packs)?;
-        assert!(rt; reads(&recording, &[(0, 100, 300), (2, 500, 600)]));
-        let Some(first) = recording.view.recent_frames().next() else {
-            return Err(Fail::new("no frame"));
-        };
-        assert!(rt; holds(first, LONGEST)?);
+        reads(&rt, &recording, &[(0, (100, 300)), (2, (500, 600))]);
+        holds_longest(&rt, &recording)?;
+    }
+    Ok(())
+}
+
+/// Where the last and the slowest so many frames are kept, just these are read, also where frames
+/// are packed.
+fn keeps(
+    rt: &(impl AllocGlobal + Abort),
+    max_recent: usize,
+    max_slow: usize,
+    frames: &[(u64, (NanoSecond, NanoSecond))],
+) -> Outcome<()> {
+    for packs in [true, false] {
+        reads(rt, &recorded(rt, max_recent, max_slow, packs)?, frames);
     }
     Ok(())
 }
 
 #[test]
 fn as_many_frames_are_read_again_as_are_kept(rt: HostRuntime) -> Outcome<()> {
-    for packs in [true, false] {
-        assert!(rt;
-            reads(
-                &recorded(&rt, 2, 0, packs)?,
-                &[(1, 400, 450), (2, 500, 600)]
-            )
-        );
-        assert!(rt;
-            reads(
-                &recorded(&rt, 0, 2, packs)?,
-                &[(0, 100, 300), (2, 500, 600)]
-            )
-        );
-        assert!(rt; reads(&recorded(&rt, 0, 0, packs)?, &[]));
-        assert!(rt;
-            reads(
-                &recorded(&rt, 2, 1, packs)?,
-                &[(0, 100, 300), (1, 400, 450), (2, 500, 600)]
-            )
-        );
-    }
-    Ok(())
+    keeps(&rt, 2, 0, &[(1, (400, 450)), (2, (500, 600))])?;
+    keeps(&rt, 0, 2, &[(0, (100, 300)), (2, (500, 600))])?;
+    keeps(&rt, 0, 0, &[])?;
+    keeps(
+        &rt,
+        2,
+        1,
+        &[(0, (100, 300)), (1, (400, 450)), (2, (500, 600))],
+    )
 }

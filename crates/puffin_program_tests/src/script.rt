@@ -1,21 +1,21 @@
-use crate::count::{NEVER, device};
+use crate::commands::Outcome;
 use crate::equal::equal;
+use crate::run::run_of_text;
 use puffin_data::FileError;
 use puffin_data::data::{Counted, Form, Source};
-use puffin_replay::replay::{Command, Script, ToolFault, read_script, run_script};
+use puffin_replay::replay::{Command, Script, ToolFault, read_script};
+use std::alloc::AllocGlobal;
 use std::io;
-use std::test::Fail;
+use std::process::Abort;
 
-type Outcome<T> = Result<T, Fail>;
-
-fn script(rt: &HostRuntime, bytes: &[u8]) -> Result<Script, ToolFault> {
+fn script(rt: &impl AllocGlobal, bytes: &[u8]) -> Result<Script, ToolFault> {
     let mut source = Counted::new(bytes);
     read_script(rt.alloc(), &mut source)
 }
 
-/// The fault of a script, if any.
-fn fault(rt: &HostRuntime, bytes: &[u8]) -> Option<ToolFault> {
-    script(rt, bytes).err()
+/// This line of a script is refused.
+fn refuses(rt: &(impl AllocGlobal + Abort), bytes: &[u8], line: u64) {
+    equal(rt, script(rt, bytes).err(), Some(ToolFault::Line(line)));
 }
 
 /// Whether a command begins such a scope.
@@ -81,143 +81,160 @@ fn is_user(command: Option<&Command>, scope: &str) -> bool {
     }
 }
 
-#[test]
-fn each_form_of_line_is_a_command(rt: HostRuntime) {
-    let text =
-        "begin main 100 1\n# a note\n\nbegin main 0200 4294967295 a  text \nbegin main 9223372036854775807 007 \nend other 300\nfunction main load a.rs 0\nscope other part load a.rs 4294967295\nuser u\nsnapshot\nframe";
-    let Ok(script) = script(&rt, text.as_bytes()) else {
-        panic!(rt; "the script is refused");
-    };
-    let commands = script.commands.as_slice();
-    equal(&rt, commands.len(), 9);
+/// A line of each form, blank lines and a note.
+const FORMS: &str =
+    "begin main 100 1\n# a note\n\nbegin main 0200 4294967295 a  text \nbegin main 9223372036854775807 007 \nend other 300\nfunction main load a.rs 0\nscope other part load a.rs 4294967295\nuser u\nsnapshot\nframe";
+
+/// The first commands of that script begin and end scopes.
+fn has_scopes(rt: &impl Abort, commands: &[Command]) {
     assert!(rt; is_begin(commands.get(0), 0, 100, 1, ""));
     assert!(rt; is_begin(commands.get(1), 0, 200, 4294967295, "a  text "));
     assert!(rt; is_begin(commands.get(2), 0, i64::MAX, 7, ""));
     assert!(rt; is_end(commands.get(3), 1, 300));
+}
+
+/// The next ones register details.
+fn has_details(rt: &impl Abort, commands: &[Command]) {
     assert!(rt; is_register(commands.get(4), 0, None, ("load", "a.rs", 0)));
-    assert!(rt;
-        is_register(
-            commands.get(5),
-            1,
-            Some("part"),
-            ("load", "a.rs", 4294967295)
-        )
-    );
+    let code = ("load", "a.rs", 4294967295);
+    assert!(rt; is_register(commands.get(5), 1, Some("part"), code));
     assert!(rt; is_user(commands.get(6), "u"));
+}
+
+/// The last ones are a snapshot and a frame.
+fn has_frames(rt: &impl Abort, commands: &[Command]) {
+    equal(rt, commands.len(), 9);
     assert!(rt; matches!(commands.get(7), Some(Command::Snapshot)));
     assert!(rt; matches!(commands.get(8), Some(Command::NewFrame)));
-    equal(
-        &rt,
-        script.lines.as_slice(),
-        [1, 4, 5, 6, 7, 8, 9, 10, 11].as_slice(),
-    );
-    equal(&rt, script.names.len(), 2);
-    assert!(rt; script.names.first().map(|name| name.as_str() == "main") == Some(true));
-    assert!(rt; script.names.last().map(|name| name.as_str() == "other") == Some(true));
+}
+
+/// These are two texts.
+fn are_two(texts: &[String], one: &str, other: &str) -> bool {
+    match texts {
+        [first, second] => first.as_str() == one && second.as_str() == other,
+        _ => false,
+    }
 }
 
 #[test]
-fn threads_are_numbered_as_they_appear(rt: HostRuntime) {
-    let text = "end c 1\nend a 1\nend b 1\nend a 2\nend c 2\nfunction d f g 1\n";
-    let Ok(script) = script(&rt, text.as_bytes()) else {
-        panic!(rt; "the script is refused");
-    };
-    let commands = script.commands.as_slice();
-    for (place, number) in [0usize, 1, 2, 1, 0].into_iter().enumerate() {
-        assert!(rt; is_end(commands.get(place), number, if place < 3 { 1 } else { 2 }));
-    }
-    assert!(rt; is_register(commands.get(5), 3, None, ("f", "g", 1)));
-    equal(&rt, script.names.len(), 4);
+fn each_form_of_line_is_a_command(rt: HostRuntime) -> Outcome<()> {
+    let script = script(&rt, FORMS.as_bytes())?;
+    has_scopes(&rt, &script.commands);
+    has_details(&rt, &script.commands);
+    has_frames(&rt, &script.commands);
+    let lines = [1, 4, 5, 6, 7, 8, 9, 10, 11];
+    equal(&rt, script.lines.as_slice(), lines.as_slice());
+    assert!(rt; are_two(&script.names, "main", "other"));
+    Ok(())
 }
+
+/// The first of the commands end scopes of these threads at these times.
+fn are_ends(rt: &impl Abort, commands: &[Command], ends: &[(usize, i64)]) {
+    for (place, (number, time)) in ends.iter().enumerate() {
+        assert!(rt; is_end(commands.get(place), *number, *time));
+    }
+}
+
+#[test]
+fn threads_are_numbered_as_they_appear(rt: HostRuntime) -> Outcome<()> {
+    let text = "end c 1\nend a 1\nend b 1\nend a 2\nend c 2\nfunction d f g 1\n";
+    let script = script(&rt, text.as_bytes())?;
+    let ends = [(0, 1), (1, 1), (2, 1), (1, 2), (0, 2)];
+    are_ends(&rt, &script.commands, &ends);
+    assert!(rt; is_register(script.commands.get(5), 3, None, ("f", "g", 1)));
+    equal(&rt, script.names.len(), 4);
+    Ok(())
+}
+
+/// Lines that are no commands.
+const NO_COMMANDS: [&str; 37] = [
+    "begin main 5 0",
+    "begin main 5 4294967296",
+    "begin main 9223372036854775808 1",
+    "begin main 18446744073709551616 1",
+    "begin main -1 1",
+    "begin main +1 1",
+    "begin main 1 +1",
+    "begin main 1x 1",
+    "begin main 1",
+    "begin main",
+    "begin",
+    "begin  main 1 1",
+    "begin main  1 1",
+    "begin main 1  1",
+    " end main 1",
+    "end main 1 ",
+    "end main 1 2",
+    "end main",
+    "end main 1\r",
+    "end  1",
+    "End main 1",
+    "function main f a.rs 4294967296",
+    "function main f a.rs -1",
+    "function main f a.rs",
+    "function main f  7",
+    "function main f a.rs 7 8",
+    "scope main part f a.rs",
+    "scope main  f a.rs 7",
+    "user",
+    "user ",
+    "user a b",
+    "snapshot ",
+    "frame 1",
+    "frame\r",
+    "frames",
+    " ",
+    " # no note",
+];
 
 #[test]
 fn other_lines_are_refused(rt: HostRuntime) {
-    for line in [
-        "begin main 5 0",
-        "begin main 5 4294967296",
-        "begin main 9223372036854775808 1",
-        "begin main 18446744073709551616 1",
-        "begin main -1 1",
-        "begin main +1 1",
-        "begin main 1 +1",
-        "begin main 1x 1",
-        "begin main 1",
-        "begin main",
-        "begin",
-        "begin  main 1 1",
-        "begin main  1 1",
-        "begin main 1  1",
-        " end main 1",
-        "end main 1 ",
-        "end main 1 2",
-        "end main",
-        "end main 1\r",
-        "end  1",
-        "End main 1",
-        "function main f a.rs 4294967296",
-        "function main f a.rs -1",
-        "function main f a.rs",
-        "function main f  7",
-        "function main f a.rs 7 8",
-        "scope main part f a.rs",
-        "scope main  f a.rs 7",
-        "user",
-        "user ",
-        "user a b",
-        "snapshot ",
-        "frame 1",
-        "frame\r",
-        "frames",
-        " ",
-        " # no note",
-    ] {
-        equal(&rt, fault(&rt, line.as_bytes()), Some(ToolFault::Line(1)));
+    for line in &NO_COMMANDS {
+        refuses(&rt, line.as_bytes(), 1);
     }
 }
 
 #[test]
-fn a_long_line_is_the_first_that_names_its_thread(rt: HostRuntime) {
-    let Ok(long) = script(&rt, b"long b\nbegin a 1 1\nbegin b 2 1\nlong c") else {
-        panic!(rt; "the script is refused");
-    };
-    assert!(rt; long.forms.as_slice() == [Form::Long, Form::Short, Form::Long].as_slice());
-    assert!(rt; long.lines.as_slice() == [2, 3].as_slice());
-    assert!(rt; fault(&rt, b"begin b 2 1\nlong b") == Some(ToolFault::Line(2)));
-    assert!(rt; fault(&rt, b"long b\nlong b") == Some(ToolFault::Line(2)));
-    assert!(rt; fault(&rt, b"long") == Some(ToolFault::Line(1)));
-    assert!(rt; fault(&rt, b"long b c") == Some(ToolFault::Line(1)));
+fn a_long_line_is_the_first_that_names_its_thread(rt: HostRuntime) -> Outcome<()> {
+    refuses(&rt, b"begin b 2 1\nlong b", 2);
+    refuses(&rt, b"long b\nlong b", 2);
+    refuses(&rt, b"long", 1);
+    refuses(&rt, b"long b c", 1);
+    let long = script(&rt, b"long b\nbegin a 1 1\nbegin b 2 1\nlong c")?;
+    let forms = [Form::Long, Form::Short, Form::Long];
+    equal(&rt, long.forms.as_slice(), forms.as_slice());
+    equal(&rt, long.lines.as_slice(), [2, 3].as_slice());
+    Ok(())
 }
 
 #[test]
 fn all_lines_are_counted(rt: HostRuntime) {
-    equal(
-        &rt,
-        fault(&rt, b"#\n\nbegin main 5 0\n"),
-        Some(ToolFault::Line(3)),
-    );
-    equal(
-        &rt,
-        fault(&rt, b"frame\n\n# two\nframe\nframe \nframe  "),
-        Some(ToolFault::Line(5)),
-    );
+    refuses(&rt, b"#\n\nbegin main 5 0\n", 3);
+    refuses(&rt, b"frame\n\n# two\nframe\nframe \nframe  ", 5);
 }
 
 #[test]
 fn a_line_that_is_no_text_is_refused(rt: HostRuntime) {
-    equal(&rt, fault(&rt, b"frame\n#\xff\n"), Some(ToolFault::Line(2)));
-    equal(&rt, fault(&rt, b"user \xc3\n"), Some(ToolFault::Line(1)));
+    refuses(&rt, b"frame\n#\xff\n", 2);
+    refuses(&rt, b"user \xc3\n", 1);
+}
+
+/// A script is read that has nothing.
+fn is_empty(rt: &(impl AllocGlobal + Abort), bytes: &[u8]) -> Outcome<()> {
+    let script = script(rt, bytes)?;
+    equal(rt, script.commands.len(), 0);
+    equal(rt, script.lines.len(), 0);
+    equal(rt, script.names.len(), 0);
+    Ok(())
 }
 
 #[test]
-fn a_script_may_be_empty(rt: HostRuntime) {
-    for bytes in [b"".as_slice(), b"\n", b"\n\n", b"#", b"# only\n"] {
-        let Ok(script) = script(&rt, bytes) else {
-            panic!(rt; "the script is refused");
-        };
-        equal(&rt, script.commands.len(), 0);
-        equal(&rt, script.lines.len(), 0);
-        equal(&rt, script.names.len(), 0);
-    }
+fn a_script_may_be_empty(rt: HostRuntime) -> Outcome<()> {
+    is_empty(&rt, b"")?;
+    is_empty(&rt, b"\n")?;
+    is_empty(&rt, b"\n\n")?;
+    is_empty(&rt, b"#")?;
+    is_empty(&rt, b"# only\n")
 }
 
 /// A reader that fails at once.
@@ -246,37 +263,23 @@ fn a_reader_that_fails_is_told(rt: HostRuntime) {
     equal(&rt, answer, Some(ToolFault::File(FileError::Io)));
 }
 
-/// The lines that a script's run prints.
-fn printed(rt: &HostRuntime, bytes: &[u8]) -> Outcome<Vec<u8>> {
-    let Ok(script) = script(rt, bytes) else {
-        return Err(Fail::new("the script is refused"));
-    };
-    let mut out = device(rt, b"", 1000, NEVER);
-    let mut lines = device(rt, b"", 1, NEVER);
-    match run_script(rt.alloc(), &script, &mut out, &mut lines) {
-        Ok(()) => Ok(lines.written),
-        Err(_) => Err(Fail::new("the run fails")),
-    }
+/// These lines are printed by a script's run.
+fn prints(rt: &(impl AllocGlobal + Abort), text: &[u8], lines: &[u8]) -> Outcome<()> {
+    let run = run_of_text(rt, text, 1)?;
+    equal(rt, run.lines.as_slice(), lines);
+    Ok(())
 }
 
 #[test]
 fn an_emitted_frame_is_told_in_a_line(rt: HostRuntime) -> Outcome<()> {
-    let text = "begin main 100 1\nbegin main 200 2 x\nend main 300\nend main 400\nframe\n";
-    let lines = printed(&rt, text.as_bytes())?;
+    let text = b"begin main 100 1\nbegin main 200 2 x\nend main 300\nend main 400\nframe\n";
     let line = b"frame 0 threads 1 scopes 2 bytes 63 duration 300\n";
-    equal(&rt, lines.as_slice(), line.as_slice());
-    Ok(())
+    prints(&rt, text, line)
 }
 
 #[test]
 fn a_refused_command_is_told_with_its_line(rt: HostRuntime) -> Outcome<()> {
-    let lines = printed(&rt, b"end main 300")?;
-    equal(
-        &rt,
-        lines.as_slice(),
-        b"refused 1 MismatchedEnd\n".as_slice(),
-    );
-    Ok(())
+    prints(&rt, b"end main 300", b"refused 1 MismatchedEnd\n")
 }
 
 /// Two threads, with frames between their scopes.
@@ -289,7 +292,5 @@ const TWO_THREADS_LINES: &str =
 
 #[test]
 fn a_whole_script_is_told(rt: HostRuntime) -> Outcome<()> {
-    let lines = printed(&rt, TWO_THREADS.as_bytes())?;
-    equal(&rt, lines.as_slice(), TWO_THREADS_LINES.as_bytes());
-    Ok(())
+    prints(&rt, TWO_THREADS.as_bytes(), TWO_THREADS_LINES.as_bytes())
 }

@@ -25,6 +25,16 @@ fn load_image<L: Ledger, M: Ledger, R: Wait>(
     Some(())
 }
 
+/// Loads on a thread with the name "loader".
+fn load_all<L: Ledger, M: Ledger, R: Wait>(
+    alloc: Global,
+    reporter: &mut SharedReporter<L, M, R>,
+) -> Option<()> {
+    let name = String::from_str(alloc, "loader").ok()?;
+    let mut thread = ThreadProfiler::new(alloc, name, ScriptClock::new(5));
+    load_image(reporter, &mut thread)
+}
+
 /// What a loader does, whose scopes are reported by a share. Gives the share back.
 fn load<L: Ledger, M: Ledger, R: Wait + Drop>(
     rt: R,
@@ -33,9 +43,7 @@ fn load<L: Ledger, M: Ledger, R: Wait + Drop>(
     share: Share<L, M>,
 ) -> Option<Share<L, M>> {
     let mut reporter = SharedReporter::new(rt, profiler, share);
-    let name = String::from_str(alloc, "loader").ok()?;
-    let mut thread = ThreadProfiler::new(alloc, name, ScriptClock::new(5));
-    load_image(&mut reporter, &mut thread)?;
+    load_all(alloc, &mut reporter)?;
     Some(reporter.into_share())
 }
 
@@ -53,7 +61,22 @@ fn start<
     Ok(thread::spawn(&rt, move || { load(rt, alloc, profiler, share) })?)
 }
 
-/// A loader's thread, and one that takes the frame when the loader is done. Gives the shares back.
+/// Has a loader work on its thread, and waits for its end. Gives the loader's share back.
+fn load_elsewhere<
+    L: Ledger + Send + Sync + 'static,
+    M: Ledger + Send + Sync + 'static,
+    R: Threads + Wait + Copy + Send + Sync + 'static,
+>(
+    rt: R,
+    alloc: Global,
+    profiler: &SharedProfiler<L, M>,
+    share: Share<L, M>,
+) -> std::result::Result<Share<L, M>, Fail> {
+    let loader = start(rt, alloc, profiler.clone()?, share)?;
+    Ok(loader.join(&rt).ok_or("the loader's share")?)
+}
+
+/// A loader's thread, and one that takes the frame when the loader is done.
 fn framed<
     L: Ledger + Send + Sync + 'static,
     M: Ledger + Send + Sync + 'static,
@@ -62,16 +85,14 @@ fn framed<
     rt: R,
     alloc: Global,
     profiler: &SharedProfiler<L, M>,
-    shares: Vec<Share<L, M>>,
-) -> std::result::Result<Vec<Share<L, M>>, Fail> {
-    let mut shares = shares;
-    let mut own = shares.pop().ok_or("a share")?;
-    let theirs = shares.pop().ok_or("another")?;
-    let loader = start(rt, alloc, profiler.clone()?, theirs)?;
-    shares.push(loader.join(&rt).ok_or("the loader's share")?)?;
-    assert!(rt; profiler.new_frame(&rt, &mut own)?.frame.is_some());
-    shares.push(own)?;
-    Ok(shares)
+    shares: &mut Vec<Share<L, M>>,
+) -> std::result::Result<(), Fail> {
+    let theirs = shares.pop().ok_or("a share")?;
+    let theirs = load_elsewhere(rt, alloc, profiler, theirs)?;
+    let own = shares.last_mut().ok_or("another")?;
+    assert!(rt; profiler.new_frame(&rt, own)?.frame.is_some());
+    shares.push(theirs)?;
+    Ok(())
 }
 
 /// Two threads share a profiler, and give their shares back at the end.
@@ -90,7 +111,8 @@ fn loaded<
     else {
         return Err(Fail::new("no memory"));
     };
-    let shares = framed(rt, alloc, &profiler, shares)?;
+    let mut shares = shares;
+    framed(rt, alloc, &profiler, &mut shares)?;
     let Ok(settled) = profiler.settle(&rt, shares) else {
         return Err(Fail::new("two shares are all"));
     };

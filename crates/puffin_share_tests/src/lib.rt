@@ -13,3 +13,5 @@ mod many_workers;
 mod shared_profiler;
 #[cfg(test)]
 mod shares;
+#[cfg(test)]
+mod workers;

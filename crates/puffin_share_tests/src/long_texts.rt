@@ -5,11 +5,12 @@ ghost use Rattle.puffin_data.specs.Forest.{Forest};
 ghost use Rattle.puffin_data.specs.Honesty.{IsHonest};
 
 use crate::equal::equal;
-use crate::shares::opened;
+use crate::shares;
+use crate::shares::{next_frame, opened};
 use puffin::data::{Form, Reader, Scope, ScopeId, Stream, StreamInfo};
 use puffin::frame_data::FrameData;
-use puffin::global_profiler::{Share, SharedProfiler, SharedReporter};
-use puffin::thread_profiler::{Closed, ScriptClock, ThreadInfo, ThreadProfiler};
+use puffin::global_profiler::{Share, SharedProfiler};
+use puffin::thread_profiler::ThreadInfo;
 use std::alloc::Global;
 use std::marker::Brand;
 use std::process::Abort;
@@ -58,35 +59,6 @@ fn has_long(alloc: Global, frame: &FrameData, name: &str, texts: &[&str]) -> puf
     Ok(false)
 }
 
-/// A scope of a thread, which is reported at its end.
-fn scope<L: Ledger, M: Ledger, R: Wait + Abort>(
-    rt: &R,
-    reporter: &mut SharedReporter<L, M, R>,
-    thread: &mut ThreadProfiler<ScriptClock>,
-    text: &str,
-) -> Outcome {
-    let scope = thread.begin_scope(ScopeId::new(1).ok_or("an id")?, text)?;
-    let closed = reporter.end_scope(thread, scope)?;
-    equal(rt, closed, Closed::Reported);
-    Ok(())
-}
-
-/// A thread's two scopes, one with a text that both forms write in one way. Gives the share back.
-fn main_scopes<L: Ledger, M: Ledger, R: Wait + Abort + Copy + Drop>(
-    rt: R,
-    alloc: Global,
-    profiler: SharedProfiler<L, M>,
-    share: Share<L, M>,
-) -> std::result::Result<Share<L, M>, Fail> {
-    let name = String::from_str(alloc, "main")?;
-    let mut thread = ThreadProfiler::with_form(alloc, name, ScriptClock::new(5), Form::Long);
-    let mut reporter = SharedReporter::new(rt, profiler, share);
-    for text in ["load", TEXT] {
-        scope(&rt, &mut reporter, &mut thread, text)?;
-    }
-    Ok(reporter.into_share())
-}
-
 /// Reports a scope of the caller's own.
 fn user_scope<L: Ledger, M: Ledger, R: Wait>(
     rt: &R,
@@ -111,16 +83,18 @@ fn handed_out<R: Abort>(rt: &R, alloc: Global, frame: &FrameData) -> Outcome {
     Ok(())
 }
 
-/// A thread's two scopes and one of the caller's own, in one frame.
+/// A thread's two scopes, one with a text that both forms write in one way, and one of the caller's own, in one frame.
 fn in_one_frame<L: Ledger, M: Ledger, R: Wait + Abort + Copy + Drop>(
     rt: R,
     alloc: Global,
     profiler: &SharedProfiler<L, M>,
     share: Share<L, M>,
 ) -> Outcome {
-    let mut share = main_scopes(rt, alloc, profiler.clone()?, share)?;
+    let id = ScopeId::new(1).ok_or("an id")?;
+    let texts = ["load", TEXT];
+    let mut share = shares::reported(rt, alloc, profiler, share, Form::Long, id, &texts)?;
     user_scope(&rt, alloc, profiler, &mut share)?;
-    let frame = profiler.new_frame(&rt, &mut share)?.frame.ok_or("a frame")?;
+    let frame = next_frame(&rt, profiler, &mut share)?;
     handed_out(&rt, alloc, &frame)
 }
 
@@ -136,8 +110,7 @@ fn reported<L: Ledger, M: Ledger, R: Wait + Abort + Copy + Drop>(
         × (reported.parts ≡ 1) }
     requires handed { (handed.name ≡ M.name) × (handed.parts ≡ M.parts) × (handed.parts ≡ 1) }
 {
-    let (profiler, mut shares) = opened::<L, M>(alloc, 1, reported, handed)?;
-    let share = shares.pop().ok_or("a share")?;
+    let (profiler, share, _) = opened::<L, M>(alloc, 1, reported, handed)?;
     in_one_frame(rt, alloc, &profiler, share)
 }
 

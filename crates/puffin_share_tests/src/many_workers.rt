@@ -1,10 +1,7 @@
 //! Eight workers whose reporter refuses each third report, and one that takes frames.
 
-ghost use Rattle.std.specs.Prelude.{◌≡◌};
-
-use crate::equal::equal;
-use crate::shared_profiler::{Frames, are_all, are_in_order, joined, taken};
-use crate::shares::opened;
+use crate::workers;
+use crate::workers::{Kind, NAMES};
 use puffin::data::{ScopeId, StreamInfoRef};
 use puffin::global_profiler::{Share, SharedProfiler, SharedReporter};
 use puffin::scope_details::ScopeDetails;
@@ -12,23 +9,16 @@ use puffin::thread_profiler::{
     AnyThread, Closed, Reporter, ScriptClock, ThreadInfo, ThreadProfiler,
 };
 use puffin::{Error, Result};
-use std::alloc::{AllocError, Global};
+use std::alloc::Global;
 use std::marker::Brand;
-use std::process::Abort;
 use std::sync::Wait;
 use std::sync::ledger::{Blank, Ledger};
 use std::test::Fail;
-use std::thread;
-use std::thread::{JoinHandle, Threads};
 
 type Outcome = std::result::Result<(), Fail>;
 
 /// How many scopes a worker closes.
-const SCOPES: u32 = 500;
-/// The names of the workers, which are the texts of their scopes too.
-const NAMES: [&str; 8] = ["w0", "w1", "w2", "w3", "w4", "w5", "w6", "w7"];
-/// How many shares there are: one for each worker, and one for whoever takes frames.
-const SHARES: usize = 9;
+pub(crate) const SCOPES: u32 = 500;
 
 /// Refuses each third report, and hands on the others.
 #[derive(Drop)]
@@ -67,17 +57,17 @@ fn ended<T: AnyThread, L: Ledger, M: Ledger, R: Wait>(
     thread.end_innermost(scope, wary)
 }
 
-/// Reports what waits until nothing does, in three calls at most.
+/// Reports what waits until nothing does, in three calls at most. `None` where something waits still.
 fn reported_all<T: AnyThread, L: Ledger, M: Ledger, R: Wait>(
     thread: &mut T,
     wary: &mut Wary<L, M, R>,
-) -> bool {
+) -> Option<()> {
     for _ in 0..3 {
         if thread.report_waiting(wary) == Ok(false) {
-            return true;
+            return Some(());
         }
     }
-    false
+    None
 }
 
 /// Begins and ends a scope, each third of which is kept, as its report is refused. `None` where it is otherwise.
@@ -99,124 +89,40 @@ fn scope<L: Ledger, M: Ledger, R: Wait>(
     Some(())
 }
 
-/// Closes scopes with rising ids, one after the other, and reports what waits at the end. `None` where another one than each
-/// third report is refused.
+/// Closes scopes with rising ids, one after the other, and reports what waits at the end. `None` where another
+/// one than each third report is refused.
 fn closed<L: Ledger, M: Ledger, R: Wait>(
+    alloc: Global,
     wary: &mut Wary<L, M, R>,
-    thread: &mut ThreadProfiler<ScriptClock>,
     name: &str,
 ) -> Option<()> {
+    let owned = String::from_str(alloc, name).ok()?;
+    let mut thread = ThreadProfiler::new(alloc, owned, ScriptClock::new(5));
     for number in 1..SCOPES + 1 {
-        scope(wary, thread, number, name)?;
+        scope(wary, &mut thread, number, name)?;
     }
-    if !reported_all(thread, wary) {
-        return None;
-    }
-    Some(())
+    reported_all(&mut thread, wary)
 }
 
-/// Closes scopes on a thread with the worker's name, and gives the share back.
-fn work<L: Ledger, M: Ledger, R: Wait + Drop>(
+/// What a worker does whose reporter refuses each third report. Gives the share back.
+pub(crate) fn work<L: Ledger, M: Ledger, R: Wait + Drop>(
     rt: R,
     alloc: Global,
     profiler: SharedProfiler<L, M>,
     share: Share<L, M>,
-    worker: usize,
+    name: &str,
 ) -> Option<Share<L, M>> {
-    let name = *NAMES.get(worker)?;
-    let owned = String::from_str(alloc, name).ok()?;
-    let mut thread = ThreadProfiler::new(alloc, owned, ScriptClock::new(5));
     let mut wary = Wary {
         calls: 0,
         reporter: SharedReporter::new(rt, profiler, share),
     };
-    closed(&mut wary, &mut thread, name)?;
+    closed(alloc, &mut wary, name)?;
     Some(wary.reporter.into_share())
-}
-
-/// Starts a worker on a thread of its own.
-fn start<
-    L: Ledger + Send + 'static,
-    M: Ledger + Send + 'static,
-    R: Threads + Wait + Copy + Send + 'static,
->(
-    rt: R,
-    alloc: Global,
-    profiler: SharedProfiler<L, M>,
-    share: Share<L, M>,
-    worker: usize,
-) -> std::result::Result<JoinHandle<Option<Share<L, M>>>, AllocError> {
-    Ok(thread::spawn(&rt, move || { work(rt, alloc, profiler, share, worker) })?)
-}
-
-/// Starts all workers, takes frames meanwhile, and one more when they have ended. Gives their shares back.
-fn worked<
-    L: Ledger + Send + Sync + 'static,
-    M: Ledger + Send + Sync + 'static,
-    R: Threads + Wait + Copy + Send + Sync + 'static,
->(
-    rt: R,
-    alloc: Global,
-    profiler: &SharedProfiler<L, M>,
-    shares: Vec<Share<L, M>>,
-    own: &mut Share<L, M>,
-    frames: &mut Frames,
-) -> std::result::Result<Vec<Share<L, M>>, Fail> {
-    let mut workers = Vec::new(alloc);
-    for (worker, share) in shares.into_iter().enumerate() {
-        workers.push(start(rt, alloc, profiler.clone()?, share, worker)?)?;
-    }
-    taken(&rt, profiler, own, 200, frames)?;
-    let back = joined(&rt, alloc, workers)?;
-    taken(&rt, profiler, own, 1, frames)?;
-    Ok(back)
-}
-
-/// The scopes of eight workers are all handed out, each once.
-fn are_all_handed_out<
-    L: Ledger + Send + Sync + 'static,
-    M: Ledger + Send + Sync + 'static,
-    R: Threads + Wait + Abort + Copy + Send + Sync + 'static,
->(
-    rt: R,
-    alloc: Global,
-    profiler: &SharedProfiler<L, M>,
-    shares: Vec<Share<L, M>>,
-    own: Share<L, M>,
-) -> Outcome {
-    let mut own = own;
-    let mut frames = Vec::new(alloc);
-    let mut shares = worked(rt, alloc, profiler, shares, &mut own, &mut frames)?;
-    are_in_order(&rt, alloc, &frames, &NAMES, SCOPES)?;
-    shares.push(own)?;
-    for share in &mut shares {
-        let totals = profiler.totals(&rt, share);
-        equal(
-            &rt,
-            (totals.reported, totals.pending, totals.emitted),
-            (4000, 0, 4000),
-        );
-    }
-    are_all(&rt, profiler, shares, 4000)
-}
-
-/// The same of a new profiler.
-fn nine_shares<
-    L: Ledger + Send + Sync + 'static,
-    M: Ledger + Send + Sync + 'static,
-    R: Threads + Wait + Abort + Copy + Send + Sync + 'static,
->(rt: R, alloc: Global, reported: Blank, handed: Blank) -> Outcome
-    requires reported { (reported.name ≡ L.name)
-        × (reported.parts ≡ L.parts)
-        × (reported.parts ≡ 9) }
-    requires handed { (handed.name ≡ M.name) × (handed.parts ≡ M.parts) × (handed.parts ≡ 9) }
-{
-    let (profiler, mut shares) = opened::<L, M>(alloc, SHARES, reported, handed)?;
-    let own = shares.pop().ok_or("the taker's share")?;
-    are_all_handed_out(rt, alloc, &profiler, shares, own)
 }
 
 #[test]
 fn nine_shares_of_eight_workers_and_a_taker_of_frames(rt: HostRuntime) -> Outcome {
-    nine_shares::<Brand, Brand, HostRuntime>(rt, rt.alloc(), Blank::new(9), Blank::new(9))
+    let alloc = rt.alloc();
+    let (reported, handed) = (Blank::new(9), Blank::new(9));
+    workers::run::<Brand, Brand, HostRuntime>(rt, alloc, Kind::Wary, &NAMES, 9, reported, handed)
 }

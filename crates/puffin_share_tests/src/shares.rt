@@ -2,13 +2,19 @@
 
 ghost use Rattle.std.specs.Prelude.{◌≡◌, ◌<◌};
 
-use puffin::global_profiler::{GlobalProfiler, Share, SharedProfiler};
+use crate::equal::equal;
+use puffin::data::{Form, ScopeId};
+use puffin::frame_data::FrameData;
+use puffin::global_profiler::{GlobalProfiler, Share, SharedProfiler, SharedReporter};
+use puffin::thread_profiler::{Closed, ScriptClock, ThreadProfiler};
 use std::alloc::Global;
+use std::process::Abort;
 use std::sync::ledger::{Blank, Ledger};
+use std::sync::{Arc, Wait};
 use std::test::Fail;
 
-/// A profiler, and its shares.
-pub(crate) type Opened<L, M> = (SharedProfiler<L, M>, Vec<Share<L, M>>);
+/// A profiler, the share of whoever takes frames, and those of all others.
+pub(crate) type Opened<L, M> = (SharedProfiler<L, M>, Share<L, M>, Vec<Share<L, M>>);
 
 /// A new profiler that is shared by so many.
 pub(crate) fn opened<L: Ledger, M: Ledger>(
@@ -26,8 +32,56 @@ pub(crate) fn opened<L: Ledger, M: Ledger>(
         × (handed.parts ≡ parts) }
 {
     let profiler = GlobalProfiler::new(alloc);
-    match SharedProfiler::<L, M>::open(alloc, profiler, parts, reported, handed) {
-        Ok(opened) => Ok(opened),
-        Err(_) => Err(Fail::new("no memory")),
+    let opened = SharedProfiler::<L, M>::open(alloc, profiler, parts, reported, handed);
+    let Ok((profiler, shares)) = opened else {
+        return Err(Fail::new("no memory"));
+    };
+    let mut shares = shares;
+    let own = shares.pop().ok_or("a share")?;
+    Ok((profiler, own, shares))
+}
+
+/// Closes a scope for each text on a thread with the name "main", and each is reported at its end.
+fn closed<L: Ledger, M: Ledger, R: Wait + Abort>(
+    rt: &R,
+    alloc: Global,
+    reporter: &mut SharedReporter<L, M, R>,
+    form: Form,
+    id: ScopeId,
+    texts: &[&str],
+) -> Result<(), Fail> {
+    let name = String::from_str(alloc, "main")?;
+    let mut thread = ThreadProfiler::with_form(alloc, name, ScriptClock::new(5), form);
+    for text in texts {
+        let scope = thread.begin_scope(id, text)?;
+        let closed = reporter.end_scope(&mut thread, scope)?;
+        equal(rt, closed, Closed::Reported);
     }
+    Ok(())
+}
+
+/// Reports by this share a scope for each text, and gives the share back.
+pub(crate) fn reported<L: Ledger, M: Ledger, R: Wait + Abort + Copy + Drop>(
+    rt: R,
+    alloc: Global,
+    profiler: &SharedProfiler<L, M>,
+    share: Share<L, M>,
+    form: Form,
+    id: ScopeId,
+    texts: &[&str],
+) -> Result<Share<L, M>, Fail> {
+    let mut reporter = SharedReporter::new(rt, profiler.clone()?, share);
+    closed(&rt, alloc, &mut reporter, form, id, texts)?;
+    Ok(reporter.into_share())
+}
+
+/// The next frame, which no sink refuses.
+pub(crate) fn next_frame<L: Ledger, M: Ledger, R: Wait + Abort>(
+    rt: &R,
+    profiler: &SharedProfiler<L, M>,
+    share: &mut Share<L, M>,
+) -> Result<Arc<FrameData>, Fail> {
+    let emitted = profiler.new_frame(rt, share)?;
+    equal(rt, emitted.refused, 0);
+    Ok(emitted.frame.ok_or("a frame")?)
 }

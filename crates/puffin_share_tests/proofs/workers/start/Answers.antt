@@ -10,8 +10,9 @@ use Rattle.std.proofs.Crossing.{send as global_send}
 use Rattle.puffin.specs.contracts.global_profiler.shared_profiler.SharedProfiler as Shared
 use Rattle.puffin.specs.contracts.global_profiler.share.Share as Share
 use Rattle.puffin.proofs.lemmas.Sending.{shared_row_send, share_send, captures_send}
-use Rattle.puffin_share_tests.specs.contracts.many_workers.start.dyn-1 as dyn
-use Rattle.puffin_share_tests.proofs.many_workers.start.Goals as goal
+use Rattle.puffin_share_tests.specs.contracts.workers.start.dyn-1 as dyn
+use Rattle.puffin_share_tests.specs.contracts.workers.Kind as Kind
+use Rattle.puffin_share_tests.proofs.workers.start.Goals as goal
 
 pub spawn-requires-send-F : goal.spawn-requires-send-F
 spawn-requires-send-F g c κs within =
@@ -20,6 +21,7 @@ spawn-requires-send-F g c κs within =
     let sd : IsSend D = search sendable depth 20 in
     let shared : IsSend (Shared.the_row (param 0 g.row.L) (param 1 g.row.M) D g.L.Ledger g.M.Ledger gh) = shared_row_send D gh g.dyn-1.2 sd (param 0 g.row.L) (param 1 g.row.M) g.L.Ledger g.M.Ledger in
     let share : IsSend (Share.the_row (param 0 g.row.L) (param 1 g.row.M) g.L.Ledger g.M.Ledger) = share_send (param 0 g.row.L) (param 1 g.row.M) g.L.Ledger g.M.Ledger in
+    let kind : IsSend Kind.the_row = search sendable depth 5 in
     let number : IsSend (UInt w64) = search sendable depth 5 in
-    let captured = copied 2 g.row.R ∷ Heap.the_row ∷ Shared.the_row (param 0 g.row.L) (param 1 g.row.M) D g.L.Ledger g.M.Ledger gh ∷ Share.the_row (param 0 g.row.L) (param 1 g.row.M) g.L.Ledger g.M.Ledger ∷ UInt w64 ∷ [] in
-    param_send 1 _ (arg_send _ no _ (captures_send _ captured (c.type_bounds.send-R, (global_send, (shared, (share, (number, tt)))))))
+    let captured = copied 2 g.row.R ∷ Heap.the_row ∷ Shared.the_row (param 0 g.row.L) (param 1 g.row.M) D g.L.Ledger g.M.Ledger gh ∷ Share.the_row (param 0 g.row.L) (param 1 g.row.M) g.L.Ledger g.M.Ledger ∷ Kind.the_row ∷ UInt w64 ∷ [] in
+    param_send 1 _ (arg_send _ no _ (captures_send _ captured (c.type_bounds.send-R, (global_send, (shared, (share, (kind, (number, tt))))))))
