@@ -1,11 +1,11 @@
 //! Scopes by macros.
 
 use crate::again;
-use crate::registrations::print_frame;
+use crate::registrations::{closed, frame};
 use puffin::global_profiler::GlobalProfiler;
 use puffin::scope_details::ScopeIds;
 use puffin::thread_profiler::{Closed, ScriptClock, ThreadProfiler};
-use puffin::{Error, Result, Site, Switch, profile_function, profile_scope};
+use puffin::{Result, Site, Switch, profile_function, profile_scope};
 use std::alloc::Global;
 use std::sync::Wait;
 
@@ -61,16 +61,10 @@ fn load(
     guard.end(profiler)
 }
 
-/// Runs a function whose scopes are reported; a report that was kept for want of memory is made again.
+/// Runs a function whose scopes are reported.
 fn reported(thread: &mut Thread, scopes: &Scopes, profiler: &mut GlobalProfiler) -> Option<()> {
-    match again!(load(thread, scopes, profiler))? {
-        Some(Closed::Reported) => Some(()),
-        Some(Closed::Kept(Error::Memory)) => {
-            let _was_kept = again!(thread.report_closed(profiler))?;
-            Some(())
-        }
-        _ => None,
-    }
+    let outcome = again!(load(thread, scopes, profiler))??;
+    closed(outcome, thread, profiler)
 }
 
 fn thread(alloc: Global) -> Option<Thread> {
@@ -78,7 +72,19 @@ fn thread(alloc: Global) -> Option<Thread> {
     Some(ThreadProfiler::new(alloc, name, ScriptClock::new(100)))
 }
 
-/// Runs a function twice, and takes a frame.
+/// Two places, with the scopes on.
+fn places() -> Scopes {
+    let scopes = Scopes {
+        switch: Switch::new(),
+        ids: ScopeIds::new(),
+        load: Site::new("crates/reader/src/load.rs", 30),
+        part: Site::new("crates/reader/src/load.rs", 32),
+    };
+    scopes.switch.set_scopes_on(true);
+    scopes
+}
+
+/// A thread runs a function twice, for one frame.
 fn steps<R: Print + Wait>(
     rt: &R,
     scopes: &Scopes,
@@ -87,21 +93,12 @@ fn steps<R: Print + Wait>(
 ) -> Option<()> {
     reported(thread, scopes, profiler)?;
     reported(thread, scopes, profiler)?;
-    let frame = again!(profiler.new_frame(rt))?.frame?;
-    print_frame(rt, &frame)
+    frame(rt, profiler)
 }
 
 /// Two places that are switched on, in a thread that reports to a profiler.
 pub fn run<R: Print + AllocGlobal + Wait>(rt: &R) -> Option<()> {
-    let alloc = rt.alloc();
-    let scopes = Scopes {
-        switch: Switch::new(),
-        ids: ScopeIds::new(),
-        load: Site::new("crates/reader/src/load.rs", 30),
-        part: Site::new("crates/reader/src/load.rs", 32),
-    };
-    scopes.switch.set_scopes_on(true);
-    let mut profiler = GlobalProfiler::new(alloc);
-    let mut thread = thread(alloc)?;
-    steps(rt, &scopes, &mut profiler, &mut thread)
+    let mut thread = thread(rt.alloc())?;
+    let mut profiler = GlobalProfiler::new(rt.alloc());
+    steps(rt, &places(), &mut profiler, &mut thread)
 }

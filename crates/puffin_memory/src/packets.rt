@@ -1,6 +1,7 @@
 //! Frames that are packed, written, read and unpacked.
 
 use crate::again;
+use crate::refusal::only;
 use puffin_data::FileError;
 use puffin_data::data::{Counted, ScopeId, Stream, StreamInfo};
 use puffin_frames::frame_data::FrameData;
@@ -46,20 +47,30 @@ fn details(alloc: Global) -> Option<Vec<Arc<ScopeDetails>>> {
     let details = ScopeDetails::from_scope_name(CowStr::Owned(name))
         .with_line_nr(7)
         .with_scope_id(ScopeId::new(3)?);
-    let mut all = Vec::new(alloc);
-    again!(all.reserve(1))?;
-    all.push(Arc::new(alloc, details).ok()?).ok()?;
-    Some(all)
+    only(alloc, Arc::new(alloc, details).ok()?)
 }
 
-/// A frame of two threads, of this index and length, which tells of one scope.
-pub fn frame(alloc: Global, index: u64, length: u32) -> Option<FrameData> {
+/// The streams of two threads, of this length.
+fn streams(alloc: Global, length: u32) -> Option<BTreeMap<ThreadInfo, StreamInfo>> {
     let mut streams = BTreeMap::new(alloc);
     for (name, start) in [("main", 100), ("other", 150)] {
         let info = StreamInfo::parse(alloc, stream(alloc, start, length)?).ok()?;
         streams.insert(thread(alloc, start, name)?, info).ok()?;
     }
+    Some(streams)
+}
+
+fn frame_once(alloc: Global, index: u64, length: u32) -> Option<FrameData> {
+    let streams = streams(alloc, length)?;
     FrameData::new(alloc, index, streams, details(alloc)?, false).ok()
+}
+
+/// A frame of two threads, of this index and length, which tells of one scope.
+pub fn frame(alloc: Global, index: u64, length: u32) -> Option<FrameData> {
+    match frame_once(alloc, index, length) {
+        Some(made) => Some(made),
+        None => frame_once(alloc, index, length),
+    }
 }
 
 fn packet(alloc: Global, frame: &FrameData) -> Result<Vec<u8>, FileError> {
@@ -86,35 +97,48 @@ fn write(rt: &HostRuntime, held: &str, frame: &FrameData) -> Option<Vec<u8>> {
     Some(bytes)
 }
 
-/// Writes a frame that is held unpacked, and copies of it.
-fn copies(rt: &HostRuntime, made: &FrameData) -> Option<()> {
-    let _bytes = write(rt, "unpacked", made)?;
-    let copy = again!(made.clone())?;
-    let _bytes = write(rt, "copy", &copy)?;
-    let copy = again!(made.packed_copy())?;
-    let _bytes = write(rt, "packed copy", &copy)?;
+/// Writes a frame, whose bytes aren't kept.
+fn show(rt: &HostRuntime, held: &str, frame: &FrameData) -> Option<()> {
+    let _bytes = write(rt, held, frame)?;
     Some(())
 }
 
-/// Reads a frame, and writes it packed and held both ways.
-fn both_ways(rt: &HostRuntime, bytes: &[u8]) -> Option<()> {
-    let mut made = again!(read(rt.alloc(), bytes))??;
-    let _bytes = write(rt, "read", &made)?;
-    let unpacked = again!(made.unpacked())?;
-    let threads = unpacked.thread_streams.len();
-    let _bytes = write(rt, "both ways", &made)?;
+fn copy(rt: &HostRuntime, made: &FrameData) -> Option<()> {
+    let copy = again!(made.clone())?;
+    show(rt, "copy", &copy)
+}
+
+fn packed_copy(rt: &HostRuntime, made: &FrameData) -> Option<()> {
+    let copy = again!(made.packed_copy())?;
+    show(rt, "packed copy", &copy)
+}
+
+/// Writes a frame that is held unpacked, and copies of it; and packs it then.
+fn packed(rt: &HostRuntime, made: &mut FrameData) -> Option<Vec<u8>> {
+    show(rt, "unpacked", made)?;
+    copy(rt, made)?;
+    packed_copy(rt, made)?;
+    again!(made.pack())?;
+    write(rt, "packed", made)
+}
+
+/// Writes a frame that was read, packed and held both ways.
+fn both_ways(rt: &HostRuntime, made: &mut FrameData) -> Option<()> {
+    show(rt, "read", made)?;
+    let threads = again!(made.unpacked())?.thread_streams.len();
+    show(rt, "both ways", made)?;
     println!(rt; "threads {threads}").ok()
+}
+
+/// Writes a frame that is held unpacked and then packed. Returns what was written last.
+fn written(rt: &HostRuntime) -> Option<Vec<u8>> {
+    let mut made = frame(rt.alloc(), 4, 0)?;
+    packed(rt, &mut made)
 }
 
 /// Writes a frame in each state that it may be held in.
 pub fn run(rt: &HostRuntime) -> Option<()> {
-    let alloc = rt.alloc();
-    let mut made = match frame(alloc, 4, 0) {
-        Some(made) => made,
-        None => frame(alloc, 4, 0)?,
-    };
-    copies(rt, &made)?;
-    again!(made.pack())?;
-    let bytes = write(rt, "packed", &made)?;
-    both_ways(rt, &bytes)
+    let bytes = written(rt)?;
+    let mut made = again!(read(rt.alloc(), &bytes))??;
+    both_ways(rt, &mut made)
 }

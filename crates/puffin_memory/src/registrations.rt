@@ -1,4 +1,6 @@
 //! Scopes that are registered, reported and told of in frames.
+ghost use Rattle.std.specs.Prelude.{◌≡◌};
+ghost use Rattle.puffin.specs.Profiler.{collected_of};
 
 use crate::again;
 use puffin::frame_data::FrameData;
@@ -53,6 +55,18 @@ fn named(alloc: Global, thread: &mut Thread, ids: &ScopeIds) -> Option<ScopeId> 
     again!(named_once(alloc, thread, ids)?)
 }
 
+/// The last scope ended with this outcome; a report kept for want of memory is made again.
+pub fn closed(outcome: Closed, thread: &mut Thread, profiler: &mut GlobalProfiler) -> Option<()> {
+    match outcome {
+        Closed::Reported => Some(()),
+        Closed::Kept(Error::Memory) => {
+            let _was_kept = again!(thread.report_closed(profiler))?;
+            Some(())
+        }
+        _ => None,
+    }
+}
+
 /// Reports one scope in another.
 fn report(
     profiler: &mut GlobalProfiler,
@@ -65,20 +79,29 @@ fn report(
     let inner = again!(thread.begin_scope(scopes.1, ""))?;
     thread.clock().set(start.saturating_add(100));
     let _inner = thread.end_scope(inner, profiler).ok()?;
-    match thread.end_scope(outer, profiler) {
-        Ok(Closed::Reported) => Some(()),
-        Ok(Closed::Kept(Error::Memory)) => {
-            let _was_kept = again!(thread.report_closed(profiler))?;
-            Some(())
-        }
-        _ => None,
-    }
+    let outcome = thread.end_scope(outer, profiler).ok()?;
+    closed(outcome, thread, profiler)
 }
 
 /// The details of a scope that stands in a file.
 fn in_file(alloc: Global, name: &str) -> Option<ScopeDetails> {
     let details = ScopeDetails::from_scope_name(owned(alloc, name)?);
     Some(details.with_file(owned(alloc, "b.rs")?).with_line_nr(3))
+}
+
+/// Registers scopes of the caller's own.
+pub fn register(
+    profiler: &mut GlobalProfiler,
+    ids: &ScopeIds,
+    details: &[ScopeDetails],
+) -> puffin_data::Result<()>
+    ensures reported { (collected_of profiler.new).reported
+        ≡ (collected_of profiler.old).reported }
+    ensures emitted { (collected_of profiler.new).emitted
+        ≡ (collected_of profiler.old).emitted }
+{
+    let _ids = profiler.register_user_scopes(ids, details)?;
+    Ok(())
 }
 
 /// Registers two scopes of the caller's own, one of them twice.
@@ -88,8 +111,7 @@ fn users(alloc: Global, profiler: &mut GlobalProfiler, ids: &ScopeIds) -> Option
         in_file(alloc, "second")?,
         ScopeDetails::from_scope_name(CowStr::Borrowed("second")),
     ];
-    let _ids = again!(profiler.register_user_scopes(ids, &details))?;
-    Some(())
+    again!(register(profiler, ids, &details))
 }
 
 /// Prints what a frame has, and the scopes that it tells of.
@@ -105,7 +127,8 @@ pub fn print_frame<R: Print>(rt: &R, frame: &FrameData) -> Option<()> {
     Some(())
 }
 
-fn frame<R: Print + Wait>(rt: &R, profiler: &mut GlobalProfiler) -> Option<()> {
+/// Takes a frame, and prints it.
+pub fn frame<R: Print + Wait>(rt: &R, profiler: &mut GlobalProfiler) -> Option<()> {
     let emitted = again!(profiler.new_frame(rt))?;
     match &emitted.frame {
         Some(frame) => print_frame(rt, frame),
@@ -113,36 +136,61 @@ fn frame<R: Print + Wait>(rt: &R, profiler: &mut GlobalProfiler) -> Option<()> {
     }
 }
 
-/// What is done with a profiler and two threads, over four frames; the last one tells of all that is known.
-fn steps<R: Print + AllocGlobal + Wait>(
+/// Reports one scope in another, and takes a frame.
+fn report_frame<R: Print + Wait>(
+    rt: &R,
+    profiler: &mut GlobalProfiler,
+    thread: &mut Thread,
+    scopes: (ScopeId, ScopeId),
+    start: i64,
+) -> Option<()> {
+    report(profiler, thread, scopes, start)?;
+    frame(rt, profiler)
+}
+
+/// Two threads register scopes and report them in two frames. Returns those of the main thread.
+fn registered<R: Print + AllocGlobal + Wait>(
     rt: &R,
     ids: &ScopeIds,
     profiler: &mut GlobalProfiler,
     main: &mut Thread,
     other: &mut Thread,
-) -> Option<()> {
+) -> Option<(ScopeId, ScopeId)> {
     let alloc = rt.alloc();
-    users(alloc, profiler, ids)?;
-    frame(rt, profiler)?;
     let mains = (function(alloc, main, ids)?, named(alloc, main, ids)?);
     report(profiler, main, mains, 100)?;
     let others = (function(alloc, other, ids)?, named(alloc, other, ids)?);
     report(profiler, other, others, 150)?;
-    report(profiler, main, mains, 300)?;
+    report_frame(rt, profiler, main, mains, 300)?;
+    report_frame(rt, profiler, other, others, 500)?;
+    Some(mains)
+}
+
+/// What is done with a profiler and two threads, over four frames; the last one tells of all that is known.
+fn steps<R: Print + AllocGlobal + Wait>(
+    rt: &R,
+    profiler: &mut GlobalProfiler,
+    main: &mut Thread,
+    other: &mut Thread,
+) -> Option<()> {
+    let ids = ScopeIds::new();
+    users(rt.alloc(), profiler, &ids)?;
     frame(rt, profiler)?;
-    report(profiler, other, others, 500)?;
-    frame(rt, profiler)?;
-    users(alloc, profiler, ids)?;
+    let mains = registered(rt, &ids, profiler, main, other)?;
+    users(rt.alloc(), profiler, &ids)?;
     profiler.emit_scope_snapshot();
-    report(profiler, main, mains, 700)?;
-    frame(rt, profiler)
+    report_frame(rt, profiler, main, mains, 700)
+}
+
+/// Two threads that report to a profiler.
+fn threads<R: Print + AllocGlobal + Wait>(rt: &R, profiler: &mut GlobalProfiler) -> Option<()> {
+    let mut main = thread(rt.alloc(), "main")?;
+    let mut other = thread(rt.alloc(), "other")?;
+    steps(rt, profiler, &mut main, &mut other)
 }
 
 /// Two threads register scopes and report them.
 pub fn run<R: Print + AllocGlobal + Wait>(rt: &R) -> Option<()> {
-    let alloc = rt.alloc();
-    let mut profiler = GlobalProfiler::new(alloc);
-    let mut main = thread(alloc, "main")?;
-    let mut other = thread(alloc, "other")?;
-    steps(rt, &ScopeIds::new(), &mut profiler, &mut main, &mut other)
+    let mut profiler = GlobalProfiler::new(rt.alloc());
+    threads(rt, &mut profiler)
 }

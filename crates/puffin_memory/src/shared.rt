@@ -5,10 +5,11 @@ ghost use Rattle.puffin_data.specs.Honesty.{IsHonest};
 ghost use Rattle.puffin.specs.Profiler.{collected_of};
 
 use crate::again;
-use crate::registrations::{owned, print_frame};
+use crate::refusal::only;
+use crate::registrations::{owned, print_frame, register as register_early};
 use puffin::frame_data::FrameData;
 use puffin::global_profiler::{
-    FrameSinkId, GlobalFrameView, GlobalProfiler, Settled, Share, SharedProfiler, Sink,
+    Emitted, FrameSinkId, GlobalFrameView, GlobalProfiler, Settled, Share, SharedProfiler, Sink,
 };
 use puffin::profile_view::FrameView;
 use puffin::scope_details::{ScopeDetails, ScopeIds};
@@ -98,18 +99,27 @@ fn handed<L: Ledger, M: Ledger>(
     Some(profiler.add_frame(rt, again!(Arc::try_clone(frame))?))
 }
 
-/// Takes a frame, and prints it. Where a sink had no memory for it, it is added to the sinks once more.
+/// Prints a frame. Where a sink had no memory for it, it is added to the sinks once more.
+fn print_emitted<L: Ledger, M: Ledger, R: Print + Wait>(
+    rt: &R,
+    profiler: &SharedProfiler<L, M>,
+    emitted: &Emitted,
+) -> Option<()> {
+    let frame = emitted.frame.as_ref()?;
+    if emitted.refused > 0 {
+        let _refused = again!(handed(rt, profiler, frame)?)?;
+    }
+    print_frame(rt, frame)
+}
+
+/// Takes a frame, and prints it.
 fn frame<L: Ledger, M: Ledger, R: Print + Wait>(
     rt: &R,
     profiler: &SharedProfiler<L, M>,
     share: &mut Share<L, M>,
 ) -> Option<()> {
     let emitted = again!(profiler.new_frame(rt, share))?;
-    let frame = emitted.frame?;
-    if emitted.refused > 0 {
-        let _refused = again!(handed(rt, profiler, &frame)?)?;
-    }
-    print_frame(rt, &frame)
+    print_emitted(rt, profiler, &emitted)
 }
 
 /// Prints which sinks there are and what the view holds, and takes the view out.
@@ -131,15 +141,40 @@ fn settle<L: Ledger, M: Ledger, R: Print + Wait>(
     profiler: &SharedProfiler<L, M>,
     share: Share<L, M>,
 ) -> Option<()> {
-    let mut shares = Vec::new(alloc);
-    again!(shares.reserve(1))?;
-    shares.push(share).ok()?;
     let Settled {
         reported,
         handed,
         pending,
-    } = profiler.settle(rt, shares).ok()?;
+    } = profiler.settle(rt, only(alloc, share)?).ok()?;
     println!(rt; "reported {reported} handed {handed} pending {pending}").ok()
+}
+
+/// Adds a second sink, reports a scope and takes a frame. The number of the sink.
+fn reported<L: Ledger, M: Ledger, R: Print + Wait>(
+    rt: &R,
+    alloc: Global,
+    profiler: &SharedProfiler<L, M>,
+    share: &mut Share<L, M>,
+    ids: &ScopeIds,
+) -> Option<FrameSinkId> {
+    let other = add(rt, profiler, view(alloc)?)?;
+    let id = register(rt, alloc, profiler, ids)?;
+    again!(report(rt, alloc, profiler, share, id))?;
+    frame(rt, profiler, share)?;
+    Some(other)
+}
+
+/// What is done while a view is attached.
+fn viewed<L: Ledger, M: Ledger, R: Print + Wait>(
+    rt: &R,
+    alloc: Global,
+    profiler: &SharedProfiler<L, M>,
+    share: &mut Share<L, M>,
+    ids: &ScopeIds,
+) -> Option<()> {
+    let view = attach(rt, alloc, profiler)?;
+    let other = reported(rt, alloc, profiler, share, ids)?;
+    close(rt, profiler, view, other)
 }
 
 /// What is done with a shared profiler.
@@ -151,12 +186,7 @@ fn shared<L: Ledger, M: Ledger, R: Print + Wait>(
     ids: &ScopeIds,
 ) -> Option<()> {
     let mut share = share;
-    let view = attach(rt, alloc, profiler)?;
-    let other = add(rt, profiler, self::view(alloc)?)?;
-    let id = register(rt, alloc, profiler, ids)?;
-    again!(report(rt, alloc, profiler, &mut share, id))?;
-    frame(rt, profiler, &mut share)?;
-    close(rt, profiler, view, other)?;
+    viewed(rt, alloc, profiler, &mut share, ids)?;
     settle(rt, alloc, profiler, share)
 }
 
@@ -206,20 +236,20 @@ fn prepare(alloc: Global, ids: &ScopeIds, profiler: &mut GlobalProfiler) -> Opti
         ≡ (collected_of profiler.old).emitted }
 {
     let details = [ScopeDetails::from_scope_name(owned(alloc, "early")?)];
-    let _ids = again!(profiler.register_user_scopes(ids, &details))?;
-    Some(())
+    again!(register_early(profiler, ids, &details))
 }
 
-/// What is done with a profiler; where it isn't opened, it comes back.
+/// What is done with a profiler, which knows one scope then; where it isn't opened, it comes back.
 fn once<R: Print + AllocGlobal + Wait>(
     rt: &R,
-    ids: &ScopeIds,
     profiler: GlobalProfiler,
 ) -> Option<Option<GlobalProfiler>>
     requires fresh { ((collected_of profiler).reported ≡ 0)
         × ((collected_of profiler).emitted ≡ 0) }
 {
-    opened::<Brand, Brand, R>(rt, profiler, ids, rt.alloc(), Blank::new(1), Blank::new(1))
+    let (ids, mut profiler) = (ScopeIds::new(), profiler);
+    prepare(rt.alloc(), &ids, &mut profiler)?;
+    opened::<Brand, Brand, R>(rt, profiler, &ids, rt.alloc(), Blank::new(1), Blank::new(1))
 }
 
 /// Reports one scope of the caller's own.
@@ -250,22 +280,21 @@ fn is_as_prepared<R: AllocGlobal + Wait>(rt: &R, profiler: &mut GlobalProfiler) 
     Some(is_first(&*profiler.new_frame(rt).ok()?.frame?))
 }
 
-/// Shares a profiler. Where it isn't opened for want of memory, it comes back as it was, and another one is shared.
-pub fn run<R: Print + AllocGlobal + Wait>(rt: &R) -> Option<()> {
-    let ids = ScopeIds::new();
-    let mut profiler = GlobalProfiler::new(rt.alloc());
-    prepare(rt.alloc(), &ids, &mut profiler)?;
-    let Some(mut profiler) = once(rt, &ids, profiler)? else {
-        return Some(());
-    };
-    if !is_as_prepared(rt, &mut profiler)? {
-        return None;
-    }
-    let ids = ScopeIds::new();
-    let mut profiler = GlobalProfiler::new(rt.alloc());
-    prepare(rt.alloc(), &ids, &mut profiler)?;
-    match once(rt, &ids, profiler)? {
+/// Shares another profiler, which is opened.
+fn another<R: Print + AllocGlobal + Wait>(rt: &R) -> Option<()> {
+    match once(rt, GlobalProfiler::new(rt.alloc()))? {
         None => Some(()),
         Some(_) => None,
     }
+}
+
+/// Shares a profiler. Where it isn't opened for want of memory, it comes back as it was, and another one is shared.
+pub fn run<R: Print + AllocGlobal + Wait>(rt: &R) -> Option<()> {
+    let Some(mut refused) = once(rt, GlobalProfiler::new(rt.alloc()))? else {
+        return Some(());
+    };
+    if !is_as_prepared(rt, &mut refused)? {
+        return None;
+    }
+    another(rt)
 }

@@ -14,11 +14,7 @@ use std::sync::Arc;
 
 /// A frame of this index and length, in shared memory.
 fn shared(alloc: Global, index: u64, length: u32) -> Option<Arc<FrameData>> {
-    let made = match frame(alloc, index, length) {
-        Some(made) => made,
-        None => frame(alloc, index, length)?,
-    };
-    match Arc::new(alloc, made) {
+    match Arc::new(alloc, frame(alloc, index, length)?) {
         Ok(shared) => Some(shared),
         Err(refused) => Arc::new(alloc, refused.value).ok(),
     }
@@ -28,15 +24,25 @@ fn added(view: &mut FrameView, frame: &Arc<FrameData>) -> Option<puffin_data::Re
     Some(view.add_frame(again!(frame.clone())?))
 }
 
+/// Adds a frame of this index and length.
+fn add(alloc: Global, view: &mut FrameView, index: u64, length: u32) -> Option<()> {
+    let frame = shared(alloc, index, length)?;
+    again!(added(view, &frame)?)
+}
+
+fn add_all(alloc: Global, view: &mut FrameView) -> Option<()> {
+    for (index, length) in [(0, 300), (1, 100), (2, 200)] {
+        add(alloc, view, index, length)?;
+    }
+    Some(())
+}
+
 /// A view of three frames, of which two are recent and one is slow.
 fn view(alloc: Global) -> Option<FrameView> {
     let mut view = FrameView::new(alloc);
     view.set_max_recent(2);
     view.set_max_slow(1);
-    for (index, length) in [(0, 300), (1, 100), (2, 200)] {
-        let frame = shared(alloc, index, length)?;
-        again!(added(&mut view, &frame)?)?;
-    }
+    add_all(alloc, &mut view)?;
     Some(view)
 }
 
@@ -63,17 +69,18 @@ fn print(rt: &HostRuntime, scope: &MergeScope) -> Option<()> {
 }
 
 /// The file of a view, of which a copy is written.
-fn copied(rt: &HostRuntime, view: &FrameView) -> Option<Vec<u8>> {
+fn copied(alloc: Global, view: &FrameView) -> Option<Vec<u8>> {
     let copy = again!(view.clone())?;
-    let bytes = again!(file(rt.alloc(), &copy))?;
-    let len = bytes.len();
-    println!(rt; "file bytes {len}").ok()?;
-    Some(bytes)
+    again!(file(alloc, &copy))
 }
 
-/// Sums a file up for a thread.
-fn summed_up(rt: &HostRuntime, file: &[u8], thread: &ThreadInfo) -> Option<()> {
-    let summary = again!(summary(rt.alloc(), file, thread))?;
+fn viewed(alloc: Global) -> Option<Vec<u8>> {
+    let view = view(alloc)?;
+    copied(alloc, &view)
+}
+
+/// Prints what a file sums up to.
+fn print_summary(rt: &HostRuntime, summary: &Summary) -> Option<()> {
     let (frames, merged) = (summary.frames, summary.merged.len());
     println!(rt; "summary frames {frames} scopes {merged}").ok()?;
     for scope in &summary.merged {
@@ -82,8 +89,17 @@ fn summed_up(rt: &HostRuntime, file: &[u8], thread: &ThreadInfo) -> Option<()> {
     Some(())
 }
 
+/// Sums a file up for one of its threads.
+fn summed_up(rt: &HostRuntime, file: &[u8]) -> Option<()> {
+    let len = file.len();
+    println!(rt; "file bytes {len}").ok()?;
+    let thread = thread(rt.alloc(), 100, "main")?;
+    let summary = again!(summary(rt.alloc(), file, &thread))?;
+    print_summary(rt, &summary)
+}
+
 /// Writes the file of a view, and sums it up for one of its threads.
 pub fn run(rt: &HostRuntime) -> Option<()> {
-    let file = copied(rt, &view(rt.alloc())?)?;
-    summed_up(rt, &file, &thread(rt.alloc(), 100, "main")?)
+    let file = viewed(rt.alloc())?;
+    summed_up(rt, &file)
 }

@@ -9,7 +9,7 @@ use crate::shares;
 use crate::shares::{next_frame, opened};
 use puffin::data::{Form, Reader, Scope, ScopeId, Stream, StreamInfo};
 use puffin::frame_data::FrameData;
-use puffin::global_profiler::{Share, SharedProfiler};
+use puffin::global_profiler::{GlobalProfiler, Share, SharedProfiler};
 use puffin::thread_profiler::ThreadInfo;
 use std::alloc::Global;
 use std::marker::Brand;
@@ -110,7 +110,8 @@ fn reported<L: Ledger, M: Ledger, R: Wait + Abort + Copy + Drop>(
         × (reported.parts ≡ 1) }
     requires handed { (handed.name ≡ M.name) × (handed.parts ≡ M.parts) × (handed.parts ≡ 1) }
 {
-    let (profiler, share, _) = opened::<L, M>(alloc, 1, reported, handed)?;
+    let none = GlobalProfiler::new(alloc);
+    let (profiler, share, _) = opened::<L, M>(alloc, none, 1, reported, handed)?;
     in_one_frame(rt, alloc, &profiler, share)
 }
 

@@ -6,7 +6,9 @@ use crate::workers::Kind;
 use crate::{shares, workers};
 use puffin::data::{Form, ScopeId};
 use puffin::frame_data::FrameData;
-use puffin::global_profiler::{GlobalFrameView, Share, SharedProfiler, SharedReporter};
+use puffin::global_profiler::{
+    GlobalFrameView, GlobalProfiler, Share, SharedProfiler, SharedReporter,
+};
 use puffin::scope_details::{ScopeDetails, ScopeIds};
 use puffin::thread_profiler::{Closed, ScriptClock, ThreadProfiler};
 use std::alloc::Global;
@@ -152,7 +154,8 @@ fn attached<
         × (reported.parts ≡ 1) }
     requires handed { (handed.name ≡ M.name) × (handed.parts ≡ M.parts) × (handed.parts ≡ 1) }
 {
-    let (profiler, share, _) = opened::<L, M>(alloc, 1, reported, handed)?;
+    let none = GlobalProfiler::new(alloc);
+    let (profiler, share, _) = opened::<L, M>(alloc, none, 1, reported, handed)?;
     is_viewed(rt, alloc, &profiler, share)
 }
 

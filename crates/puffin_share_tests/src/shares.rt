@@ -1,6 +1,7 @@
 //! A profiler that is shared, as most tests here begin with.
 
 ghost use Rattle.std.specs.Prelude.{◌≡◌, ◌<◌};
+ghost use Rattle.puffin.specs.Profiler.{collected_of};
 
 use crate::equal::equal;
 use puffin::data::{Form, ScopeId};
@@ -16,13 +17,16 @@ use std::test::Fail;
 /// A profiler, the share of whoever takes frames, and those of all others.
 pub(crate) type Opened<L, M> = (SharedProfiler<L, M>, Share<L, M>, Vec<Share<L, M>>);
 
-/// A new profiler that is shared by so many.
+/// A profiler that nothing was reported to, shared by so many.
 pub(crate) fn opened<L: Ledger, M: Ledger>(
     alloc: Global,
+    profiler: GlobalProfiler,
     parts: usize,
     reported: Blank,
     handed: Blank,
 ) -> Result<Opened<L, M>, Fail>
+    requires fresh { ((collected_of profiler).reported ≡ 0)
+        × ((collected_of profiler).emitted ≡ 0) }
     requires some { 0 < parts }
     requires reported { (reported.name ≡ L.name)
         × (reported.parts ≡ L.parts)
@@ -31,7 +35,6 @@ pub(crate) fn opened<L: Ledger, M: Ledger>(
         × (handed.parts ≡ M.parts)
         × (handed.parts ≡ parts) }
 {
-    let profiler = GlobalProfiler::new(alloc);
     let opened = SharedProfiler::<L, M>::open(alloc, profiler, parts, reported, handed);
     let Ok((profiler, shares)) = opened else {
         return Err(Fail::new("no memory"));

@@ -7,7 +7,7 @@ use crate::shares::opened;
 use crate::{many_workers, shared_profiler};
 use puffin::data::{Reader, Scope};
 use puffin::frame_data::FrameData;
-use puffin::global_profiler::{Settled, Share, SharedProfiler};
+use puffin::global_profiler::{GlobalProfiler, Settled, Share, SharedProfiler};
 use std::alloc::{AllocError, Global};
 use std::process::Abort;
 use std::sync::ledger::{Blank, Ledger};
@@ -289,7 +289,8 @@ pub(crate) fn run<
         × (handed.parts ≡ M.parts)
         × (handed.parts ≡ parts) }
 {
-    let (profiler, mut own, shares) = opened::<L, M>(alloc, parts, reported, handed)?;
+    let none = GlobalProfiler::new(alloc);
+    let (profiler, mut own, shares) = opened::<L, M>(alloc, none, parts, reported, handed)?;
     let shares = are_handed_out(rt, alloc, kind, names, &profiler, shares, &mut own)?;
     are_all(&rt, &profiler, shares, own, 4000)
 }

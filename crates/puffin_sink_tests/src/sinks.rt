@@ -10,7 +10,6 @@ use puffin::profile_view::FrameView;
 use puffin::scope_details::ScopeDetails;
 use puffin::thread_profiler::ThreadInfo;
 use puffin::{Error, Result};
-use std::alloc::Global;
 use std::borrow::CowStr;
 use std::collections::BTreeMap;
 use std::process::Abort;
@@ -79,13 +78,12 @@ fn added(profiler: &mut GlobalProfiler, sink: Sink) -> std::result::Result<Frame
     }
 }
 
-/// A profiler with sinks, added in their order.
-fn profiler_with(alloc: Global, sinks: Vec<Sink>) -> std::result::Result<GlobalProfiler, Fail> {
-    let mut profiler = GlobalProfiler::new(alloc);
+/// Adds sinks in their order.
+fn all_added(profiler: &mut GlobalProfiler, sinks: Vec<Sink>) -> Outcome {
     for sink in sinks {
-        let _id = added(&mut profiler, sink)?;
+        let _id = added(profiler, sink)?;
     }
-    Ok(profiler)
+    Ok(())
 }
 
 /// One scope of a nanosecond, without a text.
@@ -182,7 +180,8 @@ fn none_is_called<R: Wait + Abort>(
 fn a_sink_that_refuses_is_counted_and_the_next_is_called(rt: HostRuntime) -> Outcome {
     let handed = nothing_handed(&rt)?;
     let sinks = sinks_named!(rt, &handed, 3u64, 1u64);
-    let mut profiler = profiler_with(rt.alloc(), sinks)?;
+    let mut profiler = GlobalProfiler::new(rt.alloc());
+    all_added(&mut profiler, sinks)?;
     assert!(rt; profiler.remove_sink(FrameSinkId(2)).is_some());
     one_refuses(&rt, &mut profiler, &handed)?;
     none_is_called(&rt, &mut profiler, &handed)
@@ -223,7 +222,8 @@ fn is_handed_on<R: AllocGlobal + Wait + Abort>(
 fn a_frame_that_is_added_is_handed_on_and_not_counted(rt: HostRuntime) -> Outcome {
     let handed = nothing_handed(&rt)?;
     let sinks = sinks_named!(rt, &handed, 2u64, 2u64);
-    let mut profiler = profiler_with(rt.alloc(), sinks)?;
+    let mut profiler = GlobalProfiler::new(rt.alloc());
+    all_added(&mut profiler, sinks)?;
     is_handed_on(&rt, &mut profiler, &handed)
 }
 
@@ -303,6 +303,7 @@ fn is_handed_to_none<R: AllocGlobal + Wait + Abort>(
 fn a_frame_with_details_without_an_id_is_refused(rt: HostRuntime) -> Outcome {
     let handed = nothing_handed(&rt)?;
     let sinks = sinks_named!(rt, &handed, 1u64, 0u64);
-    let mut profiler = profiler_with(rt.alloc(), sinks)?;
+    let mut profiler = GlobalProfiler::new(rt.alloc());
+    all_added(&mut profiler, sinks)?;
     is_handed_to_none(&rt, &mut profiler, &handed)
 }
