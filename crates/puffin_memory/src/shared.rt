@@ -4,9 +4,9 @@ ghost use Rattle.puffin_data.specs.Forest.{Forest};
 ghost use Rattle.puffin_data.specs.Honesty.{IsHonest};
 ghost use Rattle.puffin.specs.Profiler.{collected_of};
 
-use crate::again;
 use crate::refusal::only;
-use crate::registrations::{owned, print_frame, register as register_early};
+use crate::registrations::{owned, print_frame};
+use crate::{again, registrations};
 use puffin::frame_data::FrameData;
 use puffin::global_profiler::{
     Emitted, FrameSinkId, GlobalFrameView, GlobalProfiler, Settled, Share, SharedProfiler, Sink,
@@ -236,7 +236,7 @@ fn prepare(alloc: Global, ids: &ScopeIds, profiler: &mut GlobalProfiler) -> Opti
         ≡ (collected_of profiler.old).emitted }
 {
     let details = [ScopeDetails::from_scope_name(owned(alloc, "early")?)];
-    again!(register_early(profiler, ids, &details))
+    again!(registrations::register(profiler, ids, &details))
 }
 
 /// What is done with a profiler, which knows one scope then; where it isn't opened, it comes back.
