@@ -3,8 +3,8 @@
     python3 run.py
 
 Clauses have at most 100 columns; crates cite of those below them no proofs but `lemmas`; each wrong body can be applied
-and stands in docs/PROOFS.md, whose rows name clauses that are there; links in the documents lead somewhere. The last
-line is 'N passed, M failed'.
+and stands in docs/PROOFS.md, in italics where it is one of the long run, and the gate tries at most twelve of a crate; the
+rows there name clauses that are there; links in the documents lead somewhere. The last line is 'N passed, M failed'.
 """
 
 import pathlib
@@ -13,6 +13,7 @@ import subprocess
 import sys
 
 TOP = pathlib.Path(__file__).resolve().parents[2]
+MOST_IN_THE_GATE = 12
 CLAUSE = re.compile(r"^\s*(?:requires|ensures)\*?(?: \w+)? \{|^\s*ghost \w+(?: =|:) \{", re.M)
 
 
@@ -53,7 +54,7 @@ def proofs_cited_from_above():
 
 
 def edits():
-    return [path for path in files(".edit") if path.parent.name == "must-fail"]
+    return [path for path in files(".edit") if path.parent.name in ("must-fail", "wrong")]
 
 
 def edits_that_do_not_apply():
@@ -74,10 +75,21 @@ def edits_that_do_not_apply():
 
 
 def edits_without_a_promise():
-    told = set(re.findall(r"`([a-z0-9_]+)`", (TOP / "docs/PROOFS.md").read_text()))
+    """Names in italics are of the long run."""
+    text = (TOP / "docs/PROOFS.md").read_text()
+    of_long_run = set(re.findall(r"\*`([a-z0-9_]+)`\*", text))
+    of_gate = set(re.findall(r"(?<!\*)`([a-z0-9_]+)`(?!\*)", text))
     for path in edits():
-        if path.stem not in told:
-            yield f"{short(path)}: docs/PROOFS.md doesn't name it"
+        here, there = (of_long_run, of_gate) if path.parent.name == "wrong" else (of_gate, of_long_run)
+        if path.stem not in here or path.stem in there:
+            yield f"{short(path)}: docs/PROOFS.md doesn't name it, or not as one of its tier"
+
+
+def crates_with_too_many_edits():
+    for folder in sorted(TOP.glob("crates/*/must-fail")):
+        number = len(list(folder.glob("*.edit")))
+        if number > MOST_IN_THE_GATE:
+            yield f"{short(folder)}: {number} wrong bodies; the gate tries at most {MOST_IN_THE_GATE} of a crate"
 
 
 def clauses_that_are_not_there():
@@ -123,6 +135,7 @@ def main():
         proofs_cited_from_above,
         edits_that_do_not_apply,
         edits_without_a_promise,
+        crates_with_too_many_edits,
         clauses_that_are_not_there,
         broken_links,
     )
