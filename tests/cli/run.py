@@ -92,16 +92,15 @@ def run(program, words, case, place, unusual):
 
 
 def differences(case, got):
-    """What a case's run did otherwise than it should: what it wrote to each stream, its status, and the file or None."""
+    """What a run did otherwise than it should: what it wrote to each stream, its status, and the file or None."""
     wanted = {
         "standard output": read(case / "stdout"),
         "standard error": read(case / "stderr"),
         "the status": int(read(case / "status", b"0")),
         "the file": digits(case / "out.hex") if (case / "out.hex").exists() else None,
     }
-    return [
-        f"{what} is {found!r:.200} and not {want!r:.200}" for (what, want), found in zip(wanted.items(), got) if found != want
-    ]
+    pairs = zip(wanted.items(), got)
+    return [f"{what} is {found!r:.200} and not {want!r:.200}" for (what, want), found in pairs if found != want]
 
 
 def faults(program, case):

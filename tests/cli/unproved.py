@@ -1,11 +1,11 @@
-"""Runs the cases of this folder over a program that nobody proved, which `rt try` builds once, and compares what it writes.
+"""Runs the cases of this folder over a program that isn't proved, and compares what it writes.
 
     python3 unproved.py
 
-`rt try` gives the program files for its standard streams and a folder of its own, so words that name files are made
-absolute. Left out are cases whose standard output is a full device or a closed pipe, and, of root, those with a file that
-may not be opened. The script puffin-tool is run once more, where nothing is built. The last line is 'N passed, M failed,
-K left out'.
+`rt try` builds the program once. It gives the program files for its standard streams and a folder of its own, so words
+that name files are made absolute. Left out are cases whose standard output is a full device or a closed pipe and, for
+root, those with a file that may not be opened. One more case runs the script puffin-tool where nothing is built. The
+last line is 'N passed, M failed, K left out'.
 """
 
 import concurrent.futures
@@ -22,8 +22,11 @@ import run
 ROOT = run.HERE.parent.parent
 # the words that name files, by the first word
 FILES = {"replay": (1, 2), "report": (1,)}
-# what the script says besides
-SAYS = "puffin-tool: its sources aren't built, so it answers unproved, in about a minute; to prove and build them: {} --build\n"
+# the line that the script adds to standard error
+SAYS = (
+    "puffin-tool: its sources aren't built, so it answers unproved, in about a minute; "
+    "to prove and build them: {} --build\n"
+)
 
 
 def unusual(case):
@@ -49,16 +52,18 @@ def lay(case, place, inputs):
 
 
 def tried(cases, folder):
-    """What the program wrote and its status, or the line that says why there is none, by the names of the cases."""
+    """What the program wrote, and its status, by the names of the cases that ended; and the end of what rt said."""
     inputs = folder / "inputs"
     inputs.mkdir()
     for case in cases:
         lay(case, folder / case.name, inputs)
     words = ["rt", "try", "--seconds", "300", "--cases", str(inputs)]
-    ran = subprocess.run(words, cwd=ROOT / "crates/puffin_tool", stdin=subprocess.DEVNULL, capture_output=True, timeout=1200)
+    how = {"stdin": subprocess.DEVNULL, "capture_output": True, "timeout": 1200}
+    ran = subprocess.run(words, cwd=ROOT / "crates/puffin_tool", **how)
     outputs = dict(re.findall(rb"^== (\w+)\n((?:(?!== ).*\n)*)", ran.stdout, re.M))
     errors = re.findall(rb"((?:(?!case=).*\n)*)case=(\w+) (run=\w+)(?: status=(\d+))?.*\n", ran.stderr)
-    found = {name.decode(): (outputs.get(name), error, int(status)) for error, name, how, status in errors if how == b"run=ended"}
+    ended = [it for it in errors if it[2] == b"run=ended"]
+    found = {name.decode(): (outputs.get(name), error, int(status)) for error, name, _, status in ended}
     return found, ran.stderr[-600:].decode(errors="replace")
 
 
@@ -69,7 +74,7 @@ def faults_unproved(case, found, place):
 
 
 def faults_of_script(folder):
-    """What the script does otherwise than the program, besides its one line, where nothing is built and it is called by a link."""
+    """What the script, called by a link where nothing is built, does otherwise than the program, but for its line."""
     copy = folder / "copy"
     shutil.copytree(ROOT / "crates", copy / "crates", ignore=shutil.ignore_patterns("out", "must-fail"))
     for name in ("crates.txt", "HANDLES", "puffin-tool"):

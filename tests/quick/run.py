@@ -1,9 +1,9 @@
-"""A quick look at work in hand, which proves nothing: the tests, the command line's cases and the house rules.
+"""Runs the tests, the cases of the command line and the house rules over code that isn't proved.
 
     python3 run.py
 
-The tests of each crate and the program of tests/cli/unproved.py are built without any proof (`rt try`), as many side by
-side as there are processors, up to four. The last line says what passed and failed, and that nothing was proved.
+`rt try` builds each crate of tests, and tests/cli/unproved.py the program; as many go side by side as there are
+processors, up to four. The last line says how many passed and failed, and that nothing was proved.
 """
 
 import concurrent.futures
