@@ -91,8 +91,20 @@ def run(program, words, case, place, unusual):
             os.close(held)
 
 
+def differences(case, got):
+    """What a run did otherwise than it should: what it wrote to each stream, its status, and the file or None."""
+    wanted = {
+        "standard output": read(case / "stdout"),
+        "standard error": read(case / "stderr"),
+        "the status": int(read(case / "status", b"0")),
+        "the file": digits(case / "out.hex") if (case / "out.hex").exists() else None,
+    }
+    pairs = zip(wanted.items(), got)
+    return [f"{what} is {found!r:.200} and not {want!r:.200}" for (what, want), found in pairs if found != want]
+
+
 def faults(program, case):
-    """What a case's run did otherwise than it should."""
+    """The same of a case that the program is run on."""
     words = read(case / "args").decode().splitlines()
     unusual = read(case / "places").decode().split()
     with tempfile.TemporaryDirectory() as folder:
@@ -100,13 +112,7 @@ def faults(program, case):
         furnish(place, case, unusual)
         ran = run(program, words, case, place, unusual)
         out = read(place / "out", None)
-    wanted = {
-        "standard output": (ran.stdout or b"", read(case / "stdout")),
-        "standard error": (ran.stderr, read(case / "stderr")),
-        "the status": (ran.returncode, int(read(case / "status", b"0"))),
-        "the file": (out, digits(case / "out.hex") if (case / "out.hex").exists() else None),
-    }
-    return [f"{what} is {got!r:.200} and not {want!r:.200}" for what, (got, want) in wanted.items() if got != want]
+    return differences(case, (ran.stdout or b"", ran.stderr, ran.returncode, out))
 
 
 def faults_through_a_link(script, case):
@@ -117,9 +123,13 @@ def faults_through_a_link(script, case):
         return faults(str(link), case)
 
 
+def all_cases():
+    return sorted(it for it in (HERE / "cases").iterdir() if it.is_dir())
+
+
 def main():
     program, *script = (str(pathlib.Path(word).resolve()) for word in sys.argv[1:])
-    cases = sorted(it for it in (HERE / "cases").iterdir() if it.is_dir())
+    cases = all_cases()
     runs = [(case.name, faults, program, case) for case in cases]
     runs += [("through_a_link", faults_through_a_link, it, HERE / "cases" / "replay_one_frame") for it in script]
     failed = 0

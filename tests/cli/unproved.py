@@ -1,0 +1,123 @@
+"""Runs the cases of this folder over a program that isn't proved, and compares what it writes.
+
+    python3 unproved.py
+
+`rt try` builds the program once. It gives the program files for its standard streams and a folder of its own, so words
+that name files are made absolute. Left out are cases whose standard output is a full device or a closed pipe and, for
+root, those with a file that may not be opened. One more case runs the script puffin-tool where nothing is built. The
+last line is 'N passed, M failed, K left out'.
+"""
+
+import concurrent.futures
+import os
+import pathlib
+import re
+import shutil
+import subprocess
+import sys
+import tempfile
+
+import run
+
+ROOT = run.HERE.parent.parent
+# the words that name files, by the first word
+FILES = {"replay": (1, 2), "report": (1,)}
+# the line that the script adds to standard error
+SAYS = (
+    "puffin-tool: its sources aren't built, so it answers unproved, in about a minute; "
+    "to prove and build them: {} --build\n"
+)
+
+
+def unusual(case):
+    return run.read(case / "places").decode().split()
+
+
+def is_taken(case):
+    """Whether `rt try` can run a case."""
+    refused = {"full", "closed"} | ({"locked"} if os.geteuid() == 0 else set())
+    return not refused & set(unusual(case))
+
+
+def lay(case, place, inputs):
+    """Puts a case's files into its place, and among the inputs its standard input and its words."""
+    place.mkdir()
+    run.furnish(place, case, unusual(case))
+    words = run.read(case / "args").decode().splitlines()
+    for at in FILES.get(words[0], ()) if words else ():
+        if at < len(words):
+            words[at] = str(place / words[at])
+    (inputs / case.name).write_bytes(run.given(case))
+    (inputs / f"{case.name}.args").write_text("".join(f"{it}\n" for it in words))
+
+
+def tried(cases, folder):
+    """What the program wrote, and its status, by the names of the cases that ended; and the end of what rt said."""
+    inputs = folder / "inputs"
+    inputs.mkdir()
+    for case in cases:
+        lay(case, folder / case.name, inputs)
+    words = ["rt", "try", "--seconds", "300", "--cases", str(inputs)]
+    how = {"stdin": subprocess.DEVNULL, "capture_output": True, "timeout": 1200}
+    ran = subprocess.run(words, cwd=ROOT / "crates/puffin_tool", **how)
+    outputs = dict(re.findall(rb"^== (\w+)\n((?:(?!== ).*\n)*)", ran.stdout, re.M))
+    errors = re.findall(rb"((?:(?!case=).*\n)*)case=(\w+) (run=\w+)(?: status=(\d+))?.*\n", ran.stderr)
+    ended = [it for it in errors if it[2] == b"run=ended"]
+    found = {name.decode(): (outputs.get(name), error, int(status)) for error, name, _, status in ended}
+    return found, ran.stderr[-600:].decode(errors="replace")
+
+
+def faults_unproved(case, found, place):
+    if found is None:
+        return ["it did not end"]
+    return run.differences(case, (*found, run.read(place / "out", None)))
+
+
+def faults_of_script(folder):
+    """What the script, called by a link where nothing is built, does otherwise than the program, but for its line."""
+    copy = folder / "copy"
+    shutil.copytree(ROOT / "crates", copy / "crates", ignore=shutil.ignore_patterns("out", "must-fail"))
+    for name in ("crates.txt", "HANDLES", "puffin-tool"):
+        shutil.copy(ROOT / name, copy)
+    link = folder / "linked"
+    link.symlink_to(copy / "puffin-tool")
+    case, place = run.HERE / "cases" / "range_too_long", folder / "of_script"
+    place.mkdir()
+    ran = subprocess.run([str(link), "count"], input=run.given(case), capture_output=True, cwd=place, timeout=600)
+    said = SAYS.format(link).encode()
+    error = ran.stderr.removeprefix(said) if ran.stderr.startswith(said) else b"without its line: " + ran.stderr
+    return run.differences(case, (ran.stdout, error, ran.returncode, None))
+
+
+def ends_of_cases(cases, folder):
+    """What each case did otherwise, by its name."""
+    found, said = tried(cases, folder)
+    if not found:
+        print(said)
+    return [(it.name, faults_unproved(it, found.get(it.name), folder / it.name)) for it in cases]
+
+
+def end_of_script(folder):
+    try:
+        faults = faults_of_script(folder)
+    except (OSError, subprocess.SubprocessError) as error:
+        faults = [str(error)]
+    return "script_where_nothing_is_built", faults
+
+
+def main():
+    cases = run.all_cases()
+    taken = [it for it in cases if is_taken(it)]
+    with tempfile.TemporaryDirectory() as name, concurrent.futures.ThreadPoolExecutor(1) as beside:
+        folder = pathlib.Path(name)
+        script = beside.submit(end_of_script, folder)
+        ended = [*ends_of_cases(taken, folder), script.result()]
+    failed = sum(bool(faults) for _, faults in ended)
+    for name, faults in ended:
+        print(f"case {name} ... {'; '.join(faults) if faults else 'ok'}")
+    print(f"{len(ended) - failed} passed, {failed} failed, {len(cases) - len(taken)} left out")
+    return 1 if failed or not taken else 0
+
+
+if __name__ == "__main__":
+    sys.exit(main())
