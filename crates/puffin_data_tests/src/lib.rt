@@ -1,6 +1,8 @@
-//! Streams and their walks, tested over the public calls of `puffin_data` alone.
+//! Numbers, texts, devices, streams and their walks, tested over the public calls of `puffin_data` alone.
 #![tactic(auto)]
 
+#[cfg(test)]
+mod device;
 #[cfg(test)]
 mod equal;
 #[cfg(test)]
@@ -14,6 +16,8 @@ mod info;
 #[cfg(test)]
 mod laws;
 #[cfg(test)]
+mod parts;
+#[cfg(test)]
 mod range;
 #[cfg(test)]
 mod reader;
@@ -25,3 +29,5 @@ mod scope_id;
 mod stream;
 #[cfg(test)]
 mod walk;
+#[cfg(test)]
+mod wire;

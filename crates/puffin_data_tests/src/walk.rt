@@ -1,48 +1,43 @@
 use crate::equal::equal;
-use crate::samples::{NONE, ONE, THREE, leaf, nest, stream_of};
+use crate::samples::{NONE, leaf, nest, stream_of};
 use puffin_data::data::{Reader, Stream, StreamInfo};
 use puffin_data::{Error, NanoSecond, Result};
 use std::alloc::Global;
 use std::process::Abort;
 use std::test::Fail;
 
-/// A scope that holds another, which claims to end past it.
-const PAST: &[u8; 62] = b"(\x01\0\0\0\0\0\0\0\0\0\0\0\0\x1f\0\0\0\0\0\0\0\
-(\x02\0\0\0\0\0\0\0\0\0\0\0\0\x1f\0\0\0\0\0\0\0)\0\0\0\0\0\0\0\0)\0\0\0\0\0\0\0\0";
+type Outcome = std::result::Result<(), Fail>;
 
-/// A scope that was begun at 100 and not ended.
-const OPEN: &[u8; 22] = b"(\x01\0\0\0\x64\0\0\0\0\0\0\0\0\xff\xff\xff\xff\xff\xff\xff\xff";
+/// How many scopes, how deep, and their range.
+type Counts = (usize, usize, (NanoSecond, NanoSecond));
+
+/// What a walk counts of a stream, or its fault, and how many tries it makes.
+fn walked(alloc: Global, stream: &Stream) -> (Result<Counts>, u64) {
+    let mut tries = 99;
+    let counts = match Reader::walk(alloc, stream, &mut tries) {
+        Ok(walk) => Ok((walk.num_scopes, walk.depth, walk.range_ns)),
+        Err(fault) => Err(fault),
+    };
+    (counts, tries)
+}
+
+/// What a parse of a stream with these bytes counts, and whether it keeps them, or its fault.
+fn parsed(alloc: Global, stream: Stream, bytes: &[u8]) -> Result<(Counts, bool)> {
+    let info = StreamInfo::parse(alloc, stream)?;
+    let counts = (info.num_scopes, info.depth, info.range_ns);
+    Ok((counts, info.stream.bytes() == bytes))
+}
 
 /// A walk, a count and a parse of these bytes find so many scopes, so deep, in this range.
-fn finds(
-    rt: &impl Abort,
-    alloc: Global,
-    what: &str,
-    bytes: &[u8],
-    scopes: usize,
-    depth: usize,
-    range_ns: (NanoSecond, NanoSecond),
-) -> Result<()> {
+fn finds(rt: &impl Abort, alloc: Global, what: &str, bytes: &[u8], counts: Counts) -> Result<()> {
     let stream = stream_of(alloc, bytes)?;
-    let mut tries = 99;
-    let walk = Reader::walk(alloc, &stream, &mut tries)?;
-    equal(
-        rt,
-        (what, (walk.num_scopes, walk.depth, walk.range_ns, tries)),
-        (what, (scopes, depth, range_ns, scopes as u64)),
-    );
-    equal(
-        rt,
-        (what, Reader::count_scope_and_depth(alloc, &stream)?),
-        (what, (scopes, depth)),
-    );
-    let info = StreamInfo::parse(alloc, stream)?;
-    equal(
-        rt,
-        (what, (info.num_scopes, info.depth, info.range_ns)),
-        (what, (scopes, depth, range_ns)),
-    );
-    equal(rt, (what, info.stream.bytes()), (what, bytes));
+    let (scopes, depth, _) = counts;
+    let walk = (Ok(counts), scopes as u64);
+    equal(rt, (what, walked(alloc, &stream)), (what, walk));
+    let counted = Reader::count_scope_and_depth(alloc, &stream);
+    equal(rt, (what, counted), (what, Ok((scopes, depth))));
+    let parse = parsed(alloc, stream, bytes);
+    equal(rt, (what, parse), (what, Ok((counts, true))));
     Ok(())
 }
 
@@ -52,159 +47,202 @@ fn refuses(
     alloc: Global,
     what: &str,
     bytes: &[u8],
-    fault: Error,
-    made: u64,
+    (fault, made): (Error, u64),
 ) -> Result<()> {
     let stream = stream_of(alloc, bytes)?;
-    let mut tries = 99;
-    equal(
-        rt,
-        (what, Reader::walk(alloc, &stream, &mut tries).err()),
-        (what, Some(fault)),
-    );
-    equal(rt, (what, tries), (what, made));
-    equal(
-        rt,
-        (what, Reader::count_scope_and_depth(alloc, &stream).err()),
-        (what, Some(fault)),
-    );
+    let walk = (Err(fault), made);
+    equal(rt, (what, walked(alloc, &stream)), (what, walk));
+    let counted = Reader::count_scope_and_depth(alloc, &stream);
+    equal(rt, (what, counted), (what, Err(fault)));
     equal(rt, (what, stream.bytes()), (what, bytes));
-    equal(
-        rt,
-        (what, StreamInfo::parse(alloc, stream).err()),
-        (what, Some(fault)),
-    );
+    let parse = parsed(alloc, stream, bytes);
+    equal(rt, (what, parse), (what, Err(fault)));
     Ok(())
 }
 
+/// Forests, and what is found of each.
+const FORESTS: [(&str, &[u8], Counts); 7] = [
+    ("no scope", b"", (0, 0, NONE)),
+    (
+        "one scope",
+        b"(\x01\0\0\0\x64\0\0\0\0\0\0\0\x04data\0\0\0\0\0\0\0\0)\x2c\x01\0\0\0\0\0\0",
+        (1, 1, (100, 300)),
+    ),
+    (
+        "three scopes",
+        b"(\x01\0\0\0\x64\0\0\0\0\0\0\0\x08data_top\x58\0\0\0\0\0\0\0\
+(\x02\0\0\0\xc8\0\0\0\0\0\0\0\x0ddata_middle_0\0\0\0\0\0\0\0\0)\x2c\x01\0\0\0\0\0\0\
+(\x03\0\0\0\x2c\x01\0\0\0\0\0\0\x0ddata_middle_1\0\0\0\0\0\0\0\0)\x90\x01\0\0\0\0\0\0\
+)\x90\x01\0\0\0\0\0\0",
+        (3, 2, (100, 400)),
+    ),
+    (
+        "the least time",
+        b"(\x01\0\0\0\0\0\0\0\0\0\0\x80\0\0\0\0\0\0\0\0\0)\0\0\0\0\0\0\0\x80",
+        (1, 1, (i64::MIN, i64::MIN)),
+    ),
+    (
+        "the greatest time",
+        b"(\x01\0\0\0\xff\xff\xff\xff\xff\xff\xff\x7f\0\0\0\0\0\0\0\0\0)\xff\xff\xff\xff\xff\xff\xff\x7f",
+        (1, 1, (i64::MAX, i64::MAX)),
+    ),
+    (
+        "the longest time",
+        b"(\x01\0\0\0\0\0\0\0\0\0\0\x80\0\0\0\0\0\0\0\0\0)\xff\xff\xff\xff\xff\xff\xff\xff",
+        (1, 1, (i64::MIN, -1)),
+    ),
+    (
+        "text that isn't UTF-8",
+        b"(\x01\0\0\0\x64\0\0\0\0\0\0\0\x03a\xffb\0\0\0\0\0\0\0\0)\x2c\x01\0\0\0\0\0\0",
+        (1, 1, (100, 300)),
+    ),
+];
+
 #[test]
-fn forests_are_counted(rt: HostRuntime) -> std::result::Result<(), Fail> {
-    let alloc = rt.alloc();
-    finds(&rt, alloc, "no scope", &[], 0, 0, NONE)?;
-    finds(&rt, alloc, "one scope", &ONE, 1, 1, (100, 300))?;
-    finds(&rt, alloc, "three scopes", THREE, 3, 2, (100, 400))?;
-    for (what, start, stop) in [
-        ("the least time", i64::MIN, i64::MIN),
-        ("the greatest time", i64::MAX, i64::MAX),
-        ("the longest time", i64::MIN, -1),
-    ] {
-        let bytes = leaf(alloc, start, stop, b"")?;
-        finds(&rt, alloc, what, bytes.as_slice(), 1, 1, (start, stop))?;
+fn forests_are_counted(rt: HostRuntime) -> Outcome {
+    for (what, bytes, counts) in &FORESTS {
+        finds(&rt, rt.alloc(), what, bytes, *counts)?;
     }
-    for (what, text) in [
-        ("127 bytes of text", [b'a'; 127].as_slice()),
-        ("255 bytes of text", [b'a'; 255].as_slice()),
-        ("text that isn't UTF-8", b"a\xffb".as_slice()),
-    ] {
-        let bytes = leaf(alloc, 100, 300, text)?;
-        finds(&rt, alloc, what, bytes.as_slice(), 1, 1, (100, 300))?;
+    Ok(())
+}
+
+/// A long text.
+const TEXT: [u8; 255] = [b'a'; 255];
+
+#[test]
+fn long_texts_and_deep_scopes_are_counted(rt: HostRuntime) -> Outcome {
+    for size in [127, 255] {
+        let bytes = leaf(rt.alloc(), 100, 300, &TEXT[..size])?;
+        finds(&rt, rt.alloc(), "long", &bytes, (1, 1, (100, 300)))?;
     }
     for depth in [1_000, 100_000] {
-        let deep = nest(alloc, depth)?;
-        let levels = deep.len() / 31;
-        finds(&rt, alloc, "deep", deep.as_slice(), levels, levels, (5, 7))?;
+        let levels = depth as usize;
+        let bytes = nest(rt.alloc(), depth)?;
+        finds(&rt, rt.alloc(), "deep", &bytes, (levels, levels, (5, 7)))?;
     }
     Ok(())
 }
 
+/// Bytes that are no forest, with the fault of each and how many tries a walk over them makes.
+const FAULTY: [(&str, &[u8], (Error, u64)); 12] = [
+    (
+        "not ended",
+        b"(\x01\0\0\0\x64\0\0\0\0\0\0\0\0\xff\xff\xff\xff\xff\xff\xff\xff",
+        (Error::ScopeNeverEnded, 1),
+    ),
+    (
+        "cut",
+        b"(\x01\0\0\0\x64\0\0\0\0\0\0\0\x04data\0\0\0\0\0\0\0\0)\x2c\x01\0\0\0\0\0",
+        (Error::PrematureEnd, 1),
+    ),
+    (
+        "id 0",
+        b"(\0\0\0\0\x64\0\0\0\0\0\0\0\x04data\0\0\0\0\0\0\0\0)\x2c\x01\0\0\0\0\0\0",
+        (Error::PrematureEnd, 1),
+    ),
+    (
+        "no end",
+        b"(\x01\0\0\0\x64\0\0\0\0\0\0\0\x04data\0\0\0\0\0\0\0\0(\x2c\x01\0\0\0\0\0\0",
+        (Error::InvalidStream, 1),
+    ),
+    (
+        "stop below start",
+        b"(\x01\0\0\0\x64\0\0\0\0\0\0\0\x04data\0\0\0\0\0\0\0\0)\x63\0\0\0\0\0\0\0",
+        (Error::InvalidStream, 1),
+    ),
+    (
+        "a byte left over",
+        b"(\x01\0\0\0\x64\0\0\0\0\0\0\0\x04data\0\0\0\0\0\0\0\0)\x2c\x01\0\0\0\0\0\0\0",
+        (Error::InvalidStream, 1),
+    ),
+    (
+        "too long",
+        b"(\x01\0\0\0\0\0\0\0\0\0\0\x80\0\0\0\0\0\0\0\0\0)\0\0\0\0\0\0\0\0",
+        (Error::InvalidStream, 1),
+    ),
+    (
+        "past its parent",
+        b"(\x01\0\0\0\0\0\0\0\0\0\0\0\0\x1f\0\0\0\0\0\0\0\
+(\x02\0\0\0\0\0\0\0\0\0\0\0\0\x1f\0\0\0\0\0\0\0)\0\0\0\0\0\0\0\0)\0\0\0\0\0\0\0\0",
+        (Error::PrematureEnd, 2),
+    ),
+    ("no scope", b"\0", (Error::InvalidStream, 0)),
+    ("only a beginning", b"(", (Error::PrematureEnd, 1)),
+    (
+        "a scope and a beginning",
+        b"(\x01\0\0\0\x05\0\0\0\0\0\0\0\0\0\0\0\0\0\0\0\0)\x07\0\0\0\0\0\0\0(",
+        (Error::PrematureEnd, 2),
+    ),
+    (
+        "a parent that stops below its start",
+        b"(\x01\0\0\0\x01\0\0\0\0\0\0\0\0\x1f\0\0\0\0\0\0\0\
+(\x02\0\0\0\0\0\0\0\0\0\0\0\0\x1f\0\0\0\0\0\0\0)\0\0\0\0\0\0\0\0)\0\0\0\0\0\0\0\0",
+        (Error::InvalidStream, 1),
+    ),
+];
+
 #[test]
-fn other_bytes_are_refused(rt: HostRuntime) -> std::result::Result<(), Fail> {
-    let alloc = rt.alloc();
-    let (mut no_id, mut no_end, mut reversed) = (ONE, ONE, ONE);
-    no_id[1] = 0;
-    no_end[26] = 0x28;
-    reversed[27] = 99;
-    reversed[28] = 0;
-    let mut left_over = Vec::from_slice(alloc, &ONE)?;
-    left_over.push(0)?;
-    let too_long = leaf(alloc, i64::MIN, 0, b"")?;
-    let mut then_a_beginning = leaf(alloc, 5, 7, b"")?;
-    then_a_beginning.push(b'(')?;
-    let mut parent_starts_late = *PAST;
-    parent_starts_late[5] = 1;
-    for (what, bytes, fault, made) in [
-        ("not ended", OPEN.as_slice(), Error::ScopeNeverEnded, 1),
-        ("cut", &ONE[..34], Error::PrematureEnd, 1),
-        ("id 0", &no_id, Error::PrematureEnd, 1),
-        ("no end", &no_end, Error::InvalidStream, 1),
-        ("stop below start", &reversed, Error::InvalidStream, 1),
-        (
-            "a byte left over",
-            left_over.as_slice(),
-            Error::InvalidStream,
-            1,
-        ),
-        ("too long", too_long.as_slice(), Error::InvalidStream, 1),
-        ("past its parent", PAST, Error::PrematureEnd, 2),
-        ("no scope", b"\0", Error::InvalidStream, 0),
-        ("only a beginning", b"(", Error::PrematureEnd, 1),
-        (
-            "a scope and a beginning",
-            then_a_beginning.as_slice(),
-            Error::PrematureEnd,
-            2,
-        ),
-        (
-            "a parent that stops below its start",
-            &parent_starts_late,
-            Error::InvalidStream,
-            1,
-        ),
-    ] {
-        refuses(&rt, alloc, what, bytes, fault, made)?;
+fn other_bytes_are_refused(rt: HostRuntime) -> Outcome {
+    for (what, bytes, fault) in &FAULTY {
+        refuses(&rt, rt.alloc(), what, bytes, *fault)?;
     }
     Ok(())
+}
+
+/// A walk and a count of 40 scopes one in the other find them, or say that there is no memory.
+fn counts_or_tells(rt: &impl Abort, alloc: Global, stream: &Stream) {
+    let (walk, tries) = walked(alloc, stream);
+    match walk {
+        Ok(counts) => equal(rt, (counts, tries), ((40, 40, (5, 7)), 40)),
+        Err(e) => {
+            equal(rt, e, Error::Memory);
+            assert!(rt; tries <= 41);
+        }
+    }
+    match Reader::count_scope_and_depth(alloc, stream) {
+        Ok(counted) => equal(rt, counted, (40, 40)),
+        Err(e) => equal(rt, e, Error::Memory),
+    }
+}
+
+/// An info of 40 scopes is extended by its copy, or stays as it was where there is no memory.
+fn extends_or_tells(rt: &impl Abort, info: &mut StreamInfo, copy: &StreamInfo) {
+    equal(rt, copy.stream.bytes(), info.stream.bytes());
+    match info.extend(&copy.as_stream_into_ref()) {
+        Ok(()) => {
+            equal(rt, (info.num_scopes, info.depth), (80, 40));
+            equal(rt, info.stream.len(), 2480);
+        }
+        Err(e) => {
+            equal(rt, e, Error::Memory);
+            equal(rt, (info.num_scopes, info.depth), (40, 40));
+            equal(rt, info.stream.bytes(), copy.stream.bytes());
+        }
+    }
+}
+
+/// The same with a copy that is made here, and cleared in the end.
+fn copies_or_tells(rt: &impl Abort, info: &mut StreamInfo) {
+    match info.clone() {
+        Ok(mut copy) => {
+            extends_or_tells(rt, info, &copy);
+            copy.clear();
+            assert!(rt; copy.stream.is_empty());
+        }
+        Err(e) => equal(rt, e, Error::Memory),
+    }
 }
 
 /// Each of its allocations may fail: then the call says so, and the rest is as it was.
 #[test]
 fn want_of_memory_is_told(rt: HostRuntime) {
-    let alloc = rt.alloc();
-    let Ok(bytes) = nest(alloc, 40) else {
+    let Ok(bytes) = nest(rt.alloc(), 40) else {
         return;
     };
     let stream = Stream::from(bytes);
-    let mut tries = 99;
-    match Reader::walk(alloc, &stream, &mut tries) {
-        Ok(walk) => {
-            let read = (walk.num_scopes, walk.depth, walk.range_ns, tries);
-            equal(&rt, read, (40, 40, (5, 7), 40));
-        }
-        Err(e) => {
-            equal(&rt, e, Error::Memory);
-            assert!(rt; tries <= 41);
-        }
-    }
-    match Reader::count_scope_and_depth(alloc, &stream) {
-        Ok(counted) => equal(&rt, counted, (40, 40)),
+    counts_or_tells(&rt, rt.alloc(), &stream);
+    match StreamInfo::parse(rt.alloc(), stream) {
+        Ok(mut info) => copies_or_tells(&rt, &mut info),
         Err(e) => equal(&rt, e, Error::Memory),
     }
-    let mut info = match StreamInfo::parse(alloc, stream) {
-        Ok(info) => info,
-        Err(e) => {
-            equal(&rt, e, Error::Memory);
-            return;
-        }
-    };
-    let mut copy = match info.clone() {
-        Ok(copy) => copy,
-        Err(e) => {
-            equal(&rt, e, Error::Memory);
-            return;
-        }
-    };
-    equal(&rt, copy.stream.bytes(), info.stream.bytes());
-    match info.extend(&copy.as_stream_into_ref()) {
-        Ok(()) => {
-            equal(&rt, (info.num_scopes, info.depth), (80, 40));
-            equal(&rt, info.stream.len(), 2480);
-        }
-        Err(e) => {
-            equal(&rt, e, Error::Memory);
-            equal(&rt, (info.num_scopes, info.depth), (40, 40));
-            equal(&rt, info.stream.bytes(), copy.stream.bytes());
-        }
-    }
-    copy.clear();
-    assert!(rt; copy.stream.is_empty());
 }

@@ -1,0 +1,138 @@
+use crate::commands::{Outcome, Step, commands, texts};
+use crate::count::{NEVER, device};
+use crate::equal::equal;
+use crate::run::run;
+use puffin_data::FileError;
+use puffin_replay::replay::{Reply, Script, record};
+use puffin_view::profile_view::FrameView;
+use std::alloc::AllocGlobal;
+use std::process::Abort;
+
+/// A scope of the thread and a frame of it.
+const ONE: &[Step<'static>] = &[Step::Begin(100, 1, "data"), Step::End(300), Step::Frame];
+
+/// The file of one frame: the thread `main`, which started at 100, with the scope `data` from 100 to 300.
+const ONE_FRAME: &[u8] =
+    b"PUF0PFD4\x07\0\0\0\0\xc8\xfb\x58\x02\x23\x01\x32\0\0\0\0\x01\x01\xc8\x04main\x23(\x01\0\0\0\x64\0\0\0\0\0\0\0\x04data\0\0\0\0\0\0\0\0)\x2c\x01\0\0\0\0\0\0\x01\x01\xc8\xfb\x58\x02\x01\0\0\0\0";
+
+/// One scope with the id 1 and no text, from the least time to the least time.
+const EARLIEST: &[u8] = b"(\x01\0\0\0\0\0\0\0\0\0\0\x80\0\0\0\0\0\0\0\0\0)\0\0\0\0\0\0\0\x80";
+
+/// A script of one thread, with a step in each line.
+fn script(rt: &impl AllocGlobal, name: &str, steps: &[Step<'_>]) -> Outcome<Script> {
+    let mut lines = Vec::new(rt.alloc());
+    for number in 0..steps.len() {
+        lines.push(number as u64 + 1)?;
+    }
+    Ok(Script {
+        names: texts(rt, &[name])?,
+        forms: Vec::new(rt.alloc()),
+        commands: commands(rt, steps)?,
+        lines,
+    })
+}
+
+/// The script of these steps of a thread with this name writes this file and these lines.
+fn writes(
+    rt: &(impl AllocGlobal + Abort),
+    name: &str,
+    steps: &[Step<'_>],
+    file: &[u8],
+    lines: &[u8],
+) -> Outcome<()> {
+    let script = script(rt, name, steps)?;
+    let run = run(rt, &script, (7, NEVER), (1, NEVER));
+    equal(rt, run.answer, Ok(()));
+    equal(
+        rt,
+        (run.file.as_slice(), run.lines.as_slice()),
+        (file, lines),
+    );
+    Ok(())
+}
+
+#[test]
+fn a_script_makes_a_file_and_lines(rt: HostRuntime) -> Outcome<()> {
+    let line = b"frame 0 threads 1 scopes 1 bytes 35 duration 200\n";
+    equal(&rt, ONE_FRAME.len(), 79);
+    writes(&rt, "main", ONE, ONE_FRAME, line)
+}
+
+#[test]
+fn a_kept_report_is_told_with_its_line(rt: HostRuntime) -> Outcome<()> {
+    let steps = [
+        Step::Report("u", EARLIEST),
+        Step::Begin(100, 1, ""),
+        Step::End(200),
+    ];
+    writes(&rt, "a", &steps, b"PUF0", b"kept 3 RangeTooLong\n")
+}
+
+/// Records the steps of a thread with this name into a view, which writes this file, in pieces
+/// of this length. Returns the replies.
+fn recorded(
+    rt: &(impl AllocGlobal + Abort),
+    view: &mut FrameView,
+    name: &str,
+    steps: &[Step<'_>],
+    file: &[u8],
+    piece: usize,
+) -> Outcome<Vec<Reply>> {
+    let commands = commands(rt, steps)?;
+    let mut drain = device(rt, b"", piece, NEVER);
+    let names = texts(rt, &[name])?;
+    let replies = record(rt.alloc(), names, &commands, view, &mut drain)?;
+    equal(rt, drain.written.as_slice(), file);
+    Ok(replies)
+}
+
+/// Records one frame into a view, which has no other frame then.
+fn takes_one_frame(rt: &(impl AllocGlobal + Abort), view: &mut FrameView) -> Outcome<()> {
+    let replies = recorded(rt, view, "main", ONE, ONE_FRAME, 1000)?;
+    equal(rt, replies.len(), 3);
+    equal(rt, view.stats().frames(), 1);
+    Ok(())
+}
+
+#[test]
+fn a_view_takes_what_is_recorded(rt: HostRuntime) -> Outcome<()> {
+    let mut view = FrameView::new(rt.alloc());
+    takes_one_frame(&rt, &mut view)?;
+    // The frames of another session begin with the index 0 again.
+    takes_one_frame(&rt, &mut view)
+}
+
+/// Whether the whole file is written where this call of its writer fails. If not, its beginning
+/// is, and no line.
+fn is_whole(rt: &(impl AllocGlobal + Abort), script: &Script, call: u64) -> bool {
+    let run = run(rt, script, (2, call), (1000, NEVER));
+    let whole = run.answer == Ok(());
+    if !whole {
+        equal(rt, run.answer, Err(FileError::Io));
+        assert!(rt; run.lines.is_empty());
+    }
+    equal(rt, run.file.as_slice() == ONE_FRAME, whole);
+    assert!(rt; ONE_FRAME.starts_with(run.file.as_slice()));
+    whole
+}
+
+#[test]
+fn a_file_that_is_not_written_whole_is_told(rt: HostRuntime) -> Outcome<()> {
+    let script = script(&rt, "main", ONE)?;
+    let mut whole = false;
+    for call in 0..60u64 {
+        whole = is_whole(&rt, &script, call);
+    }
+    assert!(rt; whole);
+    Ok(())
+}
+
+#[test]
+fn lines_that_are_not_written_are_told(rt: HostRuntime) -> Outcome<()> {
+    let script = script(&rt, "main", ONE)?;
+    let run = run(&rt, &script, (1000, NEVER), (5, 1));
+    equal(&rt, run.answer, Err(FileError::Io));
+    equal(&rt, run.file.as_slice(), ONE_FRAME);
+    equal(&rt, run.lines.as_slice(), b"frame".as_slice());
+    Ok(())
+}
