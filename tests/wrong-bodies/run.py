@@ -1,7 +1,9 @@
 """Tries the wrong bodies of crates/*/wrong: of each, the prover must refuse the function that it changes.
 
-    python3 run.py [CRATE..]
+    python3 run.py [CRATE[/WORD]..]
     python3 run.py --shown
+
+With a word it tries those of the crate whose names have it.
 
 README.md says what a wrong body looks like, how several are tried at once, and what --shown tries. The last line is
 'N passed, M failed'.
@@ -47,6 +49,9 @@ class WrongBody:
     functions: tuple
     changes: tuple
     ends: str
+
+    def is_of_definitions(self):
+        return any(file.startswith("specs/") for file, _, _ in self.changes)
 
 
 def parsed(path):
@@ -126,8 +131,10 @@ def is_judged(said):
 
 def errors_of(function, said):
     """What is wrong in the proof of a function, without what only cites a name that is gone."""
-    place = function.replace("::", "/")
-    found = re.findall(rf"^(?:\./)?proofs/{re.escape(place)}/\w+\.antt:\d+:\d+: error: (.*)$", said, re.M)
+    folder, _, name = function.replace("::", "/").rpartition("/")
+    # (of a function that calls itself the proof stands in a folder with a plus)
+    place = rf"{re.escape(folder)}/\+?{re.escape(name)}" if folder else rf"\+?{re.escape(name)}"
+    found = re.findall(rf"^(?:\./)?proofs/{place}/\w+\.antt:\d+:\d+: error: (.*)$", said, re.M)
     return [it for it in found if not OF_A_NAME.search(it)]
 
 
@@ -145,12 +152,18 @@ def judged(body, crate, said):
     """What a check says of a wrong body: the clearest verdict on one of its functions."""
     if not body.functions:
         return verdict_on_all(said)
+    if body.is_of_definitions() and not is_proved(body, crate, said):
+        return verdict_on_all(said)
     found = {verdict_on(it, crate, said) for it in body.functions}
     return next(it for it in (REFUSED, NOT_LOOKED_AT, UNSURE, NOT_REFUSED) if it in found)
 
 
+def is_proved(body, crate, said):
+    return all(verdicts(crate, said).get(it, "proved") == "proved" for it in body.functions)
+
+
 def verdict_on_all(said):
-    """What a check of the whole crate comes to."""
+    """What a check comes to as a whole, whichever proof or lemma is refused."""
     if re.search(r"^logic=proved", said, re.M):
         return NOT_REFUSED
     errors = re.findall(r"^(?:\./)?\S+:\d+:\d+: error: (.*)$", said, re.M)
@@ -170,6 +183,11 @@ def wrong_below(body, bodies, crate, said):
     return [it for it in bodies if it is not body and seen & set(it.functions)]
 
 
+def is_alone(body):
+    """Whether a body is tried alone: what it changes may be cited by the proofs of the others."""
+    return not body.functions or body.is_of_definitions()
+
+
 class Tries:
     """The tries of one crate's wrong bodies."""
 
@@ -182,9 +200,9 @@ class Tries:
     def group(self):
         """The next bodies to try together: no two of one function, and none that a check couldn't tell apart."""
         first, chosen = self.waiting[0], []
-        for body in self.waiting if first.functions else [first]:
+        for body in self.waiting:
             taken = {it for other in chosen for it in other.functions}
-            is_free = body.functions and not taken & set(body.functions)
+            is_free = not taken & set(body.functions) and not is_alone(body) and not is_alone(first)
             if is_free and not any({body, it} in self.apart for it in chosen) or not chosen:
                 chosen.append(body)
             if len(chosen) == TOGETHER:
@@ -261,8 +279,11 @@ def wrong_bodies(words):
     shown = [("puffin_data", [parsed(it) for it in sorted(HERE.glob("shown/*.edit"))])]
     if words == ["--shown"]:
         return shown
-    crates = words or sorted(it.parent.name for it in ROOT.glob("crates/*/wrong"))
-    found = [(it, [parsed(path) for path in sorted(ROOT.glob(f"crates/{it}/wrong/*.edit"))]) for it in crates]
+    found = []
+    for word in words or sorted(it.parent.name for it in ROOT.glob("crates/*/wrong")):
+        crate, _, part = word.partition("/")
+        paths = sorted(ROOT.glob(f"crates/{crate}/wrong/*.edit"))
+        found.append((crate, [parsed(it) for it in paths if part in it.name]))
     return sorted(found, key=lambda it: -len(it[1])) + ([] if words else shown)
 
 
