@@ -1,8 +1,5 @@
 use crate::equal::equal;
-use crate::packets::{
-    Outcome, PACKET, bytes_of, facts, fault_of_streams, is_written, main_thread, read_one,
-};
-use puffin_data::FileError;
+use crate::packets::{Outcome, PACKET, bytes_of, facts, is_written, main_thread, read_one};
 use puffin_data::data::{Form, Stream, StreamInfo};
 use puffin_frames::frame_data::FrameData;
 use puffin_frames::thread_profiler::ThreadInfo;
@@ -96,40 +93,5 @@ fn each_stream_of_a_packet_has_its_own_form(rt: HostRuntime) -> Outcome {
     equal(&rt, first.stream.form(), Form::Short);
     let (_, last) = unpacked.thread_streams.last_key_value().ok_or("two")?;
     equal(&rt, last.stream.form(), Form::Long);
-    Ok(())
-}
-
-/// A frame is read of [`LONG_PACKET`] with another form of its stream, and why it isn't unpacked.
-fn fault_with_form(alloc: Global, form: u8) -> std::result::Result<Option<FileError>, Fail> {
-    let bytes = bytes_of(alloc, &[&LONG_PACKET[..28], &[form], &LONG_PACKET[29..]])?;
-    Ok(fault_of_streams(&mut read_one(alloc, bytes.as_slice())?))
-}
-
-#[test]
-fn forms_are_looked_at_when_a_frame_is_unpacked(rt: HostRuntime) -> Outcome {
-    equal(&rt, fault_with_form(rt.alloc(), 1)?, None);
-    // (no stream is long)
-    equal(
-        &rt,
-        fault_with_form(rt.alloc(), 0)?,
-        Some(FileError::BadStreams),
-    );
-    equal(
-        &rt,
-        fault_with_form(rt.alloc(), 2)?,
-        Some(FileError::BadStreams),
-    );
-    Ok(())
-}
-
-#[test]
-fn short_streams_behind_the_long_letters_are_refused(rt: HostRuntime) -> Outcome {
-    let bytes = bytes_of(rt.alloc(), &[b"PFDL", &PACKET[4..]])?;
-    let mut frame = read_one(rt.alloc(), bytes.as_slice())?;
-    equal(
-        &rt,
-        fault_of_streams(&mut frame),
-        Some(FileError::BadStreams),
-    );
     Ok(())
 }

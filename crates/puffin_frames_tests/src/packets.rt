@@ -151,7 +151,7 @@ fn count_streams(frame: &mut FrameData) -> std::result::Result<usize, Fail> {
 }
 
 /// Why a frame isn't unpacked.
-pub(crate) fn fault_of_streams(frame: &mut FrameData) -> Option<FileError> {
+fn fault_of_streams(frame: &mut FrameData) -> Option<FileError> {
     frame.unpacked().err()
 }
 
@@ -262,7 +262,7 @@ fn the_second_form_is_kept_compressed(rt: HostRuntime) -> Outcome {
 }
 
 /// The packet's frame in the first form, with what stands after its streams.
-pub(crate) fn first_form(alloc: Global, end: &[u8]) -> std::result::Result<Vec<u8>, Fail> {
+fn first_form(alloc: Global, end: &[u8]) -> std::result::Result<Vec<u8>, Fail> {
     bytes_of(alloc, &[&[57, 0, 0, 0, 0], &PACKET[20..70], end])
 }
 
