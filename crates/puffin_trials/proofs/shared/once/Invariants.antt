@@ -1,5 +1,5 @@
 -- The two ledgers of the run, told apart by the blanks.
-use Rattle.puffin_memory.proofs.shared.once.Given as goal
+use Rattle.puffin_trials.proofs.shared.once.Given as goal
 
 abbrev pub ghosts-opened-L-Ledger : goal.ghosts-opened-L-Ledger
 ghosts-opened-L-Ledger g a = record { name = a.reported.name; parts = a.reported.parts }

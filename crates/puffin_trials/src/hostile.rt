@@ -1,25 +1,15 @@
-//! Counts, reads, reports and writes bytes that nobody wrote: streams and files at random, with up to three faults, crafted
-//! and deep. Ends with status 1 at the first that isn't treated as it should be. With a word, the number of streams and of
-//! files, it prints how many were taken and how many refused, and looks at how the time of a walk grows with the length.
-#![tactic(auto)]
+//! Bytes that nobody wrote, counted, read, reported and written: streams and files at random, with up to three faults,
+//! crafted and deep.
 
-mod checks;
-mod damage;
-mod devices;
-mod files;
-mod random;
-mod streams;
-
-use anyhow::{Context, Result, anyhow};
-use checks::{Broken, check_file, check_stream};
-use damage::damage;
-use files::{file, thread};
+use crate::checks::{Broken, check_file, check_stream};
+use crate::damage::damage;
+use crate::files::{file, thread};
+use crate::random::Random;
+use crate::streams::{crafted, forest, nested};
+use anyhow::{Result, anyhow};
 use puffin_data::data::{Reader, Stream};
-use random::Random;
 use std::alloc::Global;
-use std::env;
 use std::time::Instant;
-use streams::{crafted, forest, nested};
 
 /// How many streams and files there are where no word says it.
 const CASES: u64 = 1_000;
@@ -156,16 +146,15 @@ fn levels(rt: &impl Print, alloc: Global) -> Result<()> {
     Ok(())
 }
 
-fn main(rt: HostRuntime) -> Result<()> {
-    match env::args(&rt)?.nth(1) {
-        Some(word) => {
-            let cases = word.as_str().parse().ok().context("how many cases")?;
-            large(&rt, rt.alloc(), cases)?;
-            growth(&rt)
-        }
-        None => {
-            small(&rt, rt.alloc())?;
-            levels(&rt, rt.alloc())
-        }
-    }
+/// Streams and files at random, and with fewer levels the deep and the crafted ones.
+pub fn run_some(rt: &HostRuntime) -> Result<()> {
+    small(rt, rt.alloc())?;
+    levels(rt, rt.alloc())
+}
+
+/// So many of them: prints how many were taken and how many refused, and looks at how the time of a walk grows with the
+/// length.
+pub fn run_many(rt: &HostRuntime, cases: u64) -> Result<()> {
+    large(rt, rt.alloc(), cases)?;
+    growth(rt)
 }
