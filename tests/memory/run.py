@@ -1,10 +1,10 @@
 """Runs programs once for each of their allocations, which is refused, and looks at how they end.
 
-    python3 run.py PUFFIN_MEMORY PUFFIN_TOOL
+    python3 run.py PUFFIN_TRIALS PUFFIN_TOOL
 
-The first program makes each call again that was refused for memory: it has to end with status 0 and to print the same
-whichever allocation it was. The second must do what it does otherwise; or end with status 1 and say that there was no
-memory, and nothing but a beginning of its output is written then; or, where it replays a script, tell in one line that
+The first program, asked for `memory`, makes each call again that was refused for memory: it has to end with status 0 and to
+print the same whichever allocation it was. The second must do what it does otherwise; or end with status 1 and say that there
+was no memory, and nothing but a beginning of its output is written then; or, where it replays a script, tell in one line that
 one command was refused or one report kept for memory, and go on: of a script of one scope each such end is known, with the
 file of the frames that its lines tell of. A C compiler is needed: `cc`, or what CC names.
 """
@@ -101,8 +101,8 @@ def faults(refusing, words, given, ends):
 
 
 def main():
-    memory, tool = (str(pathlib.Path(it).resolve()) for it in sys.argv[1:])
-    missing = [it for it in (memory, tool) if not os.path.exists(it)]
+    trials, tool = (str(pathlib.Path(it).resolve()) for it in sys.argv[1:])
+    missing = [it for it in (trials, tool) if not os.path.exists(it)]
     if missing:
         print(f"memory ... there is no program {', '.join(missing)}: it was not proved, or not built")
         print(f"0 passed, {len(missing)} failed")
@@ -116,7 +116,7 @@ def main():
         for script, frames in (("script", "frames"), ("long_scope", "long_frames")):
             subprocess.run([tool, "replay", script, frames], capture_output=True, cwd=folder, check=True)
         cases = {
-            "each call twice": ([memory], b"", [is_alike]),
+            "each call twice": ([trials, "memory"], b"", [is_alike]),
             "count": ([tool, "count"], STREAM, [is_alike, is_told]),
             "replay": ([tool, "replay", "script", "out"], b"", [is_alike, is_told, is_replied]),
             "replay of one scope": ([tool, "replay", "one_scope", "out"], b"", [is_alike, is_told, is_one_scope_replied(1)]),

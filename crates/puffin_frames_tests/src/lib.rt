@@ -1,7 +1,13 @@
-//! Frames, tested over the public calls of `puffin_frames` alone.
+//! Frames and packets, tested over the public calls of `puffin_frames` alone.
 #![tactic(auto)]
 
 #[cfg(test)]
 mod equal;
 #[cfg(test)]
 mod frames;
+#[cfg(test)]
+mod long_packets;
+#[cfg(test)]
+mod packets;
+#[cfg(test)]
+mod refused_packets;

@@ -1,4 +1,4 @@
-//! Guards, sites and short names, tested over the public items of `puffin` alone.
+//! Guards, sites, short names and macros, tested over the public items of `puffin` alone.
 #![tactic(auto)]
 
 #[cfg(test)]
@@ -6,7 +6,11 @@ mod callers;
 #[cfg(test)]
 mod equal;
 #[cfg(test)]
+mod example;
+#[cfg(test)]
 mod guards;
+#[cfg(test)]
+mod macros;
 #[cfg(test)]
 mod names;
 #[cfg(test)]

@@ -3,9 +3,11 @@
 use puffin::data::ScopeId;
 use puffin::frame_data::FrameData;
 use puffin::global_profiler::GlobalProfiler;
+use puffin::scope_details::ScopeIds;
 use puffin::thread_profiler::{ScriptClock, ThreadProfiler};
-use puffin::{Error, Result};
+use puffin::{Error, Result, Site, Switch};
 use std::alloc::Global;
+use std::cell::Cell;
 use std::sync::Arc;
 use std::test::Fail;
 
@@ -33,4 +35,33 @@ pub fn next_frame(profiler: &mut GlobalProfiler) -> std::result::Result<Arc<Fram
 pub fn counts(frame: &FrameData) -> (usize, usize, usize) {
     let meta = frame.meta();
     (meta.num_scopes, meta.num_bytes, frame.scope_delta.len())
+}
+
+/// What the threads of a program share: the switch, the ids, and a site for each place.
+#[derive(Drop)]
+pub struct Scopes {
+    pub switch: Switch,
+    pub ids: ScopeIds,
+    pub here: Site,
+    pub there: Site,
+}
+
+impl Scopes {
+    /// The switch is on.
+    pub fn on() -> Scopes {
+        let scopes = Scopes {
+            switch: Switch::default(),
+            ids: ScopeIds::new(),
+            here: Site::new(module_path!(), 7),
+            there: Site::new(module_path!(), 8),
+        };
+        scopes.switch.set_scopes_on(true);
+        scopes
+    }
+}
+
+/// Counts how often it is asked, and agrees.
+pub fn counted(asked: &Cell<u32>) -> bool {
+    asked.set(asked.get().saturating_add(1));
+    true
 }

@@ -1,11 +1,15 @@
-//! The profiler, tested over the public calls of `puffin` alone.
+//! The profiler, its sinks, and calls that take memory, tested over the public calls of `puffin` alone.
 #![tactic(auto)]
 
+#[cfg(test)]
+mod copies;
 #[cfg(test)]
 mod details;
 #[cfg(test)]
 mod equal;
 #[cfg(test)]
 mod global_profiler;
+#[cfg(test)]
+mod sinks;
 #[cfg(test)]
 mod surface;

@@ -1,5 +1,11 @@
-//! Views, tested over the public calls of `puffin_view` alone.
+//! Views and files of frames, tested over the public calls of `puffin_view` alone.
 #![tactic(auto)]
 
+#[cfg(test)]
+mod broken;
+#[cfg(test)]
+mod devices;
+#[cfg(test)]
+mod files;
 #[cfg(test)]
 mod views;

@@ -1,0 +1,97 @@
+use crate::equal::equal;
+use crate::packets::{Outcome, PACKET, bytes_of, facts, is_written, main_thread, read_one};
+use puffin_data::data::{Form, Stream, StreamInfo};
+use puffin_frames::frame_data::FrameData;
+use puffin_frames::thread_profiler::ThreadInfo;
+use std::alloc::Global;
+use std::collections::BTreeMap;
+use std::test::Fail;
+
+/// The frame of [`PACKET`], whose stream is of the long form.
+static LONG_PACKET: [u8; 76] = [
+    80, 70, 68, 76, 7, 0, 0, 0, 0, 200, 251, 88, 2, 35, 1, 51, 0, 0, 0, 0, 1, 1, 200, 4, 109, 97,
+    105, 110, 1, 35, 40, 1, 0, 0, 0, 100, 0, 0, 0, 0, 0, 0, 0, 4, 100, 97, 116, 97, 0, 0, 0, 0, 0,
+    0, 0, 0, 41, 44, 1, 0, 0, 0, 0, 0, 0, 1, 1, 200, 251, 88, 2, 1, 0, 0, 0, 0,
+];
+
+/// The frame of [`LONG_PACKET`].
+fn long_frame(alloc: Global) -> std::result::Result<FrameData, Fail> {
+    let bytes = Vec::from_slice(alloc, &PACKET[29..64])?;
+    let info = StreamInfo::parse(alloc, Stream::from_bytes(bytes, Form::Long))?;
+    let mut streams = BTreeMap::new(alloc);
+    let _ = streams.insert(main_thread(alloc)?, info)?;
+    Ok(FrameData::new(alloc, 0, streams, Vec::new(alloc), false)?)
+}
+
+#[test]
+fn a_frame_of_a_long_stream_is_written_byte_for_byte(rt: HostRuntime) -> Outcome {
+    let frame = long_frame(rt.alloc())?;
+    is_written(&rt, rt.alloc(), &frame, &LONG_PACKET)?;
+    is_written(&rt, rt.alloc(), &frame.packed_copy()?, &LONG_PACKET)
+}
+
+#[test]
+fn a_packet_of_a_long_stream_is_read_and_written_back(rt: HostRuntime) -> Outcome {
+    let mut frame = read_one(rt.alloc(), &LONG_PACKET)?;
+    equal(&rt, facts(&frame), (0, (100, 300), (35, 1), Some(51)));
+    is_written(&rt, rt.alloc(), &frame, &LONG_PACKET)?;
+    let unpacked = frame.unpacked()?;
+    let (_, info) = unpacked.thread_streams.first_key_value().ok_or("a stream")?;
+    equal(&rt, (info.stream.form(), info.depth), (Form::Long, 1));
+    equal(&rt, info.stream.bytes(), &PACKET[29..64]);
+    Ok(())
+}
+
+/// The packet of a frame with the stream of [`PACKET`] under two names, in the short form and in the long one.
+fn mixed_packet(alloc: Global) -> std::result::Result<Vec<u8>, Fail> {
+    let stream = &PACKET[29..64];
+    let measures: &[u8] = &[1, 1, 200, 251, 88, 2];
+    let pieces: [&[u8]; 9] = [
+        b"PFDL\x07\0\0\0",
+        &[0, 200, 251, 88, 2, 70, 2, 101, 0, 0, 0, 0, 2],
+        b"\x01\xc8\x04main\x00\x23",
+        stream,
+        measures,
+        b"\x01\xc8\x04next\x01\x23",
+        stream,
+        measures,
+        &[1, 0, 0, 0, 0],
+    ];
+    bytes_of(alloc, &pieces)
+}
+
+/// The frame of [`mixed_packet`].
+fn mixed_frame(alloc: Global) -> std::result::Result<FrameData, Fail> {
+    let mut streams = BTreeMap::new(alloc);
+    for (name, form) in [("main", Form::Short), ("next", Form::Long)] {
+        let bytes = Vec::from_slice(alloc, &PACKET[29..64])?;
+        let info = StreamInfo::parse(alloc, Stream::from_bytes(bytes, form))?;
+        let thread = ThreadInfo {
+            start_time_ns: Some(100),
+            name: String::from_str(alloc, name)?,
+        };
+        let _ = streams.insert(thread, info)?;
+    }
+    Ok(FrameData::new(alloc, 0, streams, Vec::new(alloc), false)?)
+}
+
+#[test]
+fn a_frame_of_both_forms_is_written_byte_for_byte(rt: HostRuntime) -> Outcome {
+    let packet = mixed_packet(rt.alloc())?;
+    let frame = mixed_frame(rt.alloc())?;
+    is_written(&rt, rt.alloc(), &frame, packet.as_slice())?;
+    is_written(&rt, rt.alloc(), &frame.packed_copy()?, packet.as_slice())
+}
+
+#[test]
+fn each_stream_of_a_packet_has_its_own_form(rt: HostRuntime) -> Outcome {
+    let packet = mixed_packet(rt.alloc())?;
+    let mut frame = read_one(rt.alloc(), packet.as_slice())?;
+    equal(&rt, facts(&frame), (0, (100, 300), (70, 2), Some(101)));
+    let unpacked = frame.unpacked()?;
+    let (_, first) = unpacked.thread_streams.first_key_value().ok_or("one")?;
+    equal(&rt, first.stream.form(), Form::Short);
+    let (_, last) = unpacked.thread_streams.last_key_value().ok_or("two")?;
+    equal(&rt, last.stream.form(), Form::Long);
+    Ok(())
+}

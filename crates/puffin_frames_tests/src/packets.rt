@@ -1,0 +1,376 @@
+use crate::equal::equal;
+use puffin_data::FileError;
+use puffin_data::data::{Counted, ScopeId, Stream, StreamInfo};
+use puffin_frames::frame_data::{FrameData, UnpackedFrameData};
+use puffin_frames::scope_details::{ScopeCollection, ScopeDetails};
+use puffin_frames::thread_profiler::ThreadInfo;
+use std::alloc::Global;
+use std::borrow::CowStr;
+use std::collections::BTreeMap;
+use std::process::Abort;
+use std::sync::Arc;
+use std::test::Fail;
+
+pub(crate) type Outcome = std::result::Result<(), Fail>;
+
+/// Frame 0 with one scope `data` of id 1 on the thread `main`, from 100 to 300.
+pub(crate) static PACKET: [u8; 75] = [
+    80, 70, 68, 52, 7, 0, 0, 0, 0, 200, 251, 88, 2, 35, 1, 50, 0, 0, 0, 0, 1, 1, 200, 4, 109, 97,
+    105, 110, 35, 40, 1, 0, 0, 0, 100, 0, 0, 0, 0, 0, 0, 0, 4, 100, 97, 116, 97, 0, 0, 0, 0, 0, 0,
+    0, 0, 41, 44, 1, 0, 0, 0, 0, 0, 0, 1, 1, 200, 251, 88, 2, 1, 0, 0, 0, 0,
+];
+
+/// The two packets that the Rust crate writes, at kind 0, of these scopes: `t1` from 374487 to 375371, and then `t0` with one
+/// scope in another from 378236 to 378240 and `t1` from 378300 to 70000000000; each frame with the details of one new scope.
+static RUST_PACKETS: [u8; 314] = [
+    80, 70, 68, 52, 13, 0, 0, 0, 0, 252, 174, 109, 11, 0, 252, 150, 116, 11, 0, 31, 1, 54, 0, 0, 0,
+    0, 1, 1, 252, 174, 109, 11, 0, 2, 116, 49, 31, 40, 3, 0, 0, 0, 215, 182, 5, 0, 0, 0, 0, 0, 0,
+    0, 0, 0, 0, 0, 0, 0, 0, 41, 75, 186, 5, 0, 0, 0, 0, 0, 1, 1, 252, 174, 109, 11, 0, 252, 150,
+    116, 11, 0, 24, 0, 0, 0, 1, 1, 1, 0, 3, 102, 50, 48, 12, 109, 47, 115, 114, 99, 47, 195, 188,
+    48, 46, 114, 115, 251, 215, 4, 80, 70, 68, 52, 17, 0, 0, 0, 1, 252, 248, 138, 11, 0, 253, 0,
+    120, 166, 152, 32, 0, 0, 0, 97, 3, 146, 0, 0, 0, 0, 2, 1, 252, 174, 109, 11, 0, 2, 116, 49, 31,
+    40, 1, 0, 0, 0, 188, 197, 5, 0, 0, 0, 0, 0, 0, 0, 0, 0, 0, 0, 0, 0, 0, 41, 0, 60, 83, 76, 16,
+    0, 0, 0, 1, 1, 252, 120, 139, 11, 0, 253, 0, 120, 166, 152, 32, 0, 0, 0, 1, 252, 248, 138, 11,
+    0, 2, 116, 48, 66, 40, 5, 0, 0, 0, 124, 197, 5, 0, 0, 0, 0, 0, 4, 109, 101, 115, 104, 31, 0, 0,
+    0, 0, 0, 0, 0, 40, 44, 1, 0, 0, 125, 197, 5, 0, 0, 0, 0, 0, 0, 0, 0, 0, 0, 0, 0, 0, 0, 41, 127,
+    197, 5, 0, 0, 0, 0, 0, 41, 128, 197, 5, 0, 0, 0, 0, 0, 2, 2, 252, 248, 138, 11, 0, 252, 0, 139,
+    11, 0, 26, 0, 0, 0, 1, 1, 2, 1, 6, 112, 97, 114, 116, 45, 55, 3, 102, 50, 48, 5, 109, 51, 46,
+    114, 115, 252, 250, 45, 238, 255,
+];
+
+/// Pieces, one after the other.
+pub(crate) fn bytes_of(alloc: Global, pieces: &[&[u8]]) -> std::result::Result<Vec<u8>, Fail> {
+    let mut bytes = Vec::new(alloc);
+    for piece in pieces {
+        bytes.extend_from_slice(piece)?;
+    }
+    Ok(bytes)
+}
+
+/// Reads a frame.
+pub(crate) fn read(
+    alloc: Global,
+    bytes: &[u8],
+) -> std::result::Result<Option<FrameData>, FileError> {
+    FrameData::read_next(alloc, &mut Counted::new(bytes))
+}
+
+pub(crate) fn read_one(alloc: Global, bytes: &[u8]) -> std::result::Result<FrameData, Fail> {
+    Ok(read(alloc, bytes)?.ok_or("a frame")?)
+}
+
+/// What is written of a frame.
+fn written(
+    alloc: Global,
+    frame: &FrameData,
+    scopes: Option<&ScopeCollection>,
+) -> std::result::Result<Vec<u8>, Fail> {
+    let mut bytes = Vec::new(alloc);
+    frame.write_into(scopes, &mut Counted::new(&mut bytes))?;
+    Ok(bytes)
+}
+
+/// Just these bytes are written of a frame.
+pub(crate) fn is_written(
+    rt: &impl Abort,
+    alloc: Global,
+    frame: &FrameData,
+    expected: &[u8],
+) -> Outcome {
+    equal(rt, written(alloc, frame, None)?.as_slice(), expected);
+    Ok(())
+}
+
+/// The stream of [`PACKET`].
+fn info(alloc: Global) -> std::result::Result<StreamInfo, Fail> {
+    let stream = Stream::from(Vec::from_slice(alloc, &PACKET[29..64])?);
+    Ok(StreamInfo::parse(alloc, stream)?)
+}
+
+pub(crate) fn main_thread(alloc: Global) -> std::result::Result<ThreadInfo, Fail> {
+    Ok(ThreadInfo {
+        start_time_ns: Some(100),
+        name: String::from_str(alloc, "main")?,
+    })
+}
+
+/// The frame of [`PACKET`].
+fn frame(alloc: Global) -> std::result::Result<FrameData, Fail> {
+    let mut streams = BTreeMap::new(alloc);
+    let _ = streams.insert(main_thread(alloc)?, info(alloc)?)?;
+    Ok(FrameData::new(alloc, 0, streams, Vec::new(alloc), false)?)
+}
+
+/// Details with an id, of a part of the function `a`.
+fn details(
+    alloc: Global,
+    id: u32,
+    name: &'static str,
+) -> std::result::Result<Arc<ScopeDetails>, Fail> {
+    let id = ScopeId::new(id).ok_or("not 0")?;
+    let function = ScopeDetails::from_scope_name(CowStr::Borrowed(name))
+        .with_function_name(CowStr::Borrowed("a"))
+        .with_scope_id(id);
+    Ok(Arc::new(alloc, in_file(function))?)
+}
+
+/// The same details, at line 7 of `b.rs`.
+fn in_file(details: ScopeDetails) -> ScopeDetails {
+    details.with_file(CowStr::Borrowed("b.rs")).with_line_nr(7)
+}
+
+/// What a frame says: its index, its range, its bytes and scopes, and the size of its packed streams.
+pub(crate) fn facts(frame: &FrameData) -> (u64, (i64, i64), (usize, usize), Option<usize>) {
+    let meta = frame.meta();
+    let counts = (meta.num_bytes, meta.num_scopes);
+    (
+        frame.frame_index(),
+        frame.range_ns(),
+        counts,
+        frame.packed_size(),
+    )
+}
+
+/// Whether a frame's streams are packed, and whether they are there as they are.
+fn held(frame: &FrameData) -> (bool, bool) {
+    (frame.has_packed(), frame.has_unpacked())
+}
+
+/// The sizes of a frame: packed, unpacked, and in memory.
+fn sizes(frame: &FrameData) -> (Option<usize>, Option<usize>, usize) {
+    (
+        frame.packed_size(),
+        frame.unpacked_size(),
+        frame.bytes_of_ram_used(),
+    )
+}
+
+/// How many streams a frame has.
+fn count_streams(frame: &mut FrameData) -> std::result::Result<usize, Fail> {
+    Ok(frame.unpacked()?.thread_streams.len())
+}
+
+/// Why a frame isn't unpacked.
+fn fault_of_streams(frame: &mut FrameData) -> Option<FileError> {
+    frame.unpacked().err()
+}
+
+/// The function and the line of a frame's only details.
+fn only_details<'f>(frame: &'f FrameData) -> std::result::Result<(&'f str, u32), Fail> {
+    match frame.scope_delta.as_slice() {
+        [details] => Ok((details.function_name.as_str(), details.line_nr)),
+        _ => Err("one scope's details".into()),
+    }
+}
+
+/// The name of a frame's only details.
+fn only_name<'f>(frame: &'f FrameData) -> std::result::Result<&'f str, Fail> {
+    match frame.scope_delta.as_slice() {
+        [details] => Ok(details.name().as_str()),
+        _ => Err("one scope's details".into()),
+    }
+}
+
+#[test]
+fn a_frame_is_written_byte_for_byte(rt: HostRuntime) -> Outcome {
+    let frame = frame(rt.alloc())?;
+    is_written(&rt, rt.alloc(), &frame, &PACKET)?;
+    let packed = frame.packed_copy()?;
+    is_written(&rt, rt.alloc(), &packed, &PACKET)?;
+    let copy = frame.clone()?;
+    assert!(rt; copy.has_unpacked());
+    is_written(&rt, rt.alloc(), &copy, &PACKET)
+}
+
+#[test]
+fn a_packet_is_read(rt: HostRuntime) -> Outcome {
+    let frame = read_one(rt.alloc(), &PACKET)?;
+    equal(&rt, facts(&frame), (0, (100, 300), (35, 1), Some(50)));
+    equal(&rt, frame.duration_ns(), 200);
+    equal(&rt, (frame.scope_delta.len(), frame.full_delta), (0, false));
+    equal(&rt, held(&frame), (true, false));
+    Ok(())
+}
+
+/// The first stream is that of [`PACKET`].
+fn is_stream_of_packet(rt: &impl Abort, frame: &UnpackedFrameData) -> Outcome {
+    let (thread, info) = frame.thread_streams.first_key_value().ok_or("a stream")?;
+    equal(
+        rt,
+        (thread.name.as_str(), thread.start_time_ns),
+        ("main", Some(100)),
+    );
+    equal(rt, info.stream.bytes(), &PACKET[29..64]);
+    equal(rt, info.depth, 1);
+    Ok(())
+}
+
+#[test]
+fn streams_of_a_packet_that_is_read(rt: HostRuntime) -> Outcome {
+    let mut frame = read_one(rt.alloc(), &PACKET)?;
+    let unpacked = frame.unpacked()?;
+    is_stream_of_packet(&rt, &unpacked)
+}
+
+#[test]
+fn packets_of_the_rust_crate_are_read_and_written_back(rt: HostRuntime) -> Outcome {
+    let mut first = read_one(rt.alloc(), &RUST_PACKETS)?;
+    equal(&rt, facts(&first), (0, (374487, 375371), (31, 1), Some(54)));
+    equal(&rt, only_details(&first)?, ("f20", 1239));
+    equal(&rt, count_streams(&mut first)?, 1);
+    is_written(&rt, rt.alloc(), &first, &RUST_PACKETS[..108])
+}
+
+#[test]
+fn the_second_packet_of_the_rust_crate(rt: HostRuntime) -> Outcome {
+    let packet = &RUST_PACKETS[108..];
+    let mut second = read_one(rt.alloc(), packet)?;
+    equal(
+        &rt,
+        facts(&second),
+        (1, (378236, 70000000000), (97, 3), Some(146)),
+    );
+    equal(&rt, only_details(&second)?, ("f20", 4293799418));
+    equal(&rt, count_streams(&mut second)?, 2);
+    is_written(&rt, rt.alloc(), &second, packet)
+}
+
+#[test]
+fn the_third_form_has_no_details(rt: HostRuntime) -> Outcome {
+    let bytes = bytes_of(rt.alloc(), &[b"PFD3", &PACKET[4..70]])?;
+    let frame = read_one(rt.alloc(), &bytes)?;
+    equal(
+        &rt,
+        (frame.has_packed(), frame.scope_delta.len()),
+        (true, 0),
+    );
+    is_written(&rt, rt.alloc(), &frame, &PACKET)
+}
+
+#[test]
+fn the_second_form_is_kept_compressed(rt: HostRuntime) -> Outcome {
+    let bytes = bytes_of(rt.alloc(), &[b"PFD2", &PACKET[4..19], &PACKET[20..70]])?;
+    let mut frame = read_one(rt.alloc(), &bytes)?;
+    equal(
+        &rt,
+        fault_of_streams(&mut frame),
+        Some(FileError::Compressed(2)),
+    );
+    assert!(rt; !frame.has_unpacked());
+    let expected = bytes_of(rt.alloc(), &[&PACKET[..19], &[2], &PACKET[20..]])?;
+    is_written(&rt, rt.alloc(), &frame, &expected)
+}
+
+/// The packet's frame in the first form, with what stands after its streams.
+fn first_form(alloc: Global, end: &[u8]) -> std::result::Result<Vec<u8>, Fail> {
+    bytes_of(alloc, &[&[57, 0, 0, 0, 0], &PACKET[20..70], end])
+}
+
+#[test]
+fn the_first_form_is_held_unpacked(rt: HostRuntime) -> Outcome {
+    let bytes = first_form(rt.alloc(), &[0xc8, 0xfb, 0x58, 0x02, 0x23, 0x01])?;
+    equal(&rt, bytes.len(), 61);
+    let frame = read_one(rt.alloc(), &bytes)?;
+    drop(bytes);
+    equal(&rt, held(&frame), (false, true));
+    is_written(&rt, rt.alloc(), &frame, &PACKET)
+}
+
+#[test]
+fn details_without_an_id(rt: HostRuntime) -> Outcome {
+    let bytes = bytes_of(
+        rt.alloc(),
+        &[&PACKET[..70], &[6, 0, 0, 0, 1, 0, 0, 0, 0, 0]],
+    )?;
+    equal(&rt, bytes.len(), 80);
+    let frame = read_one(rt.alloc(), &bytes)?;
+    let ids = frame.scope_delta.first().map(|details| details.scope_id());
+    equal(&rt, ids, Some(None));
+    is_written(&rt, rt.alloc(), &frame, &bytes)
+}
+
+/// The frame of [`PACKET`], packed.
+fn packed_frame(alloc: Global) -> std::result::Result<FrameData, Fail> {
+    let mut frame = frame(alloc)?;
+    frame.pack()?;
+    Ok(frame)
+}
+
+#[test]
+fn sizes_of_a_frame_before_and_after_packing(rt: HostRuntime) -> Outcome {
+    equal(&rt, sizes(&frame(rt.alloc())?), (None, Some(35), 35));
+    equal(&rt, sizes(&packed_frame(rt.alloc())?), (Some(50), None, 50));
+    Ok(())
+}
+
+#[test]
+fn sizes_of_a_frame_that_is_held_both_ways(rt: HostRuntime) -> Outcome {
+    let mut frame = packed_frame(rt.alloc())?;
+    equal(&rt, count_streams(&mut frame)?, 1);
+    let info = frame.packing_info();
+    equal(
+        &rt,
+        (info.packed_size, info.unpacked_size),
+        (Some(50), Some(35)),
+    );
+    equal(&rt, frame.bytes_of_ram_used(), 85);
+    frame.pack()?;
+    equal(&rt, held(&frame), (true, false));
+    equal(&rt, frame.bytes_of_ram_used(), 50);
+    Ok(())
+}
+
+/// The frame of [`PACKET`], with one scope's details.
+fn frame_with_details(alloc: Global) -> std::result::Result<FrameData, Fail> {
+    let mut frame = frame(alloc)?;
+    frame.scope_delta.push(details(alloc, 1, "my-scope")?)?;
+    Ok(frame)
+}
+
+/// A frame tells of just these details.
+fn tells_of_one(rt: &impl Abort, frame: &FrameData) -> Outcome {
+    equal(rt, only_name(frame)?, "my-scope");
+    equal(rt, only_details(frame)?, ("a", 7));
+    Ok(())
+}
+
+#[test]
+fn a_list_of_one_detail(rt: HostRuntime) -> Outcome {
+    let list = [
+        1, 1, 1, 1, 8, 109, 121, 45, 115, 99, 111, 112, 101, 1, 97, 4, 98, 46, 114, 115, 7,
+    ];
+    let packet = bytes_of(rt.alloc(), &[&PACKET[..70], &[21, 0, 0, 0], &list])?;
+    is_written(&rt, rt.alloc(), &frame_with_details(rt.alloc())?, &packet)?;
+    tells_of_one(&rt, &read_one(rt.alloc(), &packet)?)
+}
+
+/// Two scopes' details.
+fn two_scopes(alloc: Global) -> std::result::Result<ScopeCollection, Fail> {
+    let mut scopes = ScopeCollection::new(alloc);
+    for (id, name) in [(300, "x"), (2, "y")] {
+        let _ = scopes.insert(details(alloc, id, name)?)?;
+    }
+    Ok(scopes)
+}
+
+/// The packet of a frame, with a collection's details.
+fn packet_with(alloc: Global, scopes: &ScopeCollection) -> std::result::Result<Vec<u8>, Fail> {
+    written(alloc, &frame(alloc)?, Some(scopes))
+}
+
+/// The names of a frame's two details.
+fn two_names<'f>(frame: &'f FrameData) -> std::result::Result<(&'f str, &'f str), Fail> {
+    match frame.scope_delta.as_slice() {
+        [first, second] => Ok((first.name().as_str(), second.name().as_str())),
+        _ => Err("details of two scopes".into()),
+    }
+}
+
+#[test]
+fn details_of_a_collection_are_written(rt: HostRuntime) -> Outcome {
+    // A collection's details stand in place of the frame's, by rising id.
+    let packet = packet_with(rt.alloc(), &two_scopes(rt.alloc())?)?;
+    let read_back = read_one(rt.alloc(), &packet)?;
+    equal(&rt, two_names(&read_back)?, ("y", "x"));
+    Ok(())
+}
