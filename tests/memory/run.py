@@ -113,7 +113,7 @@ def main():
         pathlib.Path(f"{folder}/script").write_bytes(SCRIPT)
         pathlib.Path(f"{folder}/one_scope").write_bytes(ONE_SCOPE)
         pathlib.Path(f"{folder}/long_scope").write_bytes(LONG_SCOPE)
-        for script, frames in (("script", "frames"), ("long_scope", "long_frames")):
+        for script, frames in (("script", "frames"), ("one_scope", "one_frame"), ("long_scope", "long_frames")):
             subprocess.run([tool, "replay", script, frames], capture_output=True, cwd=folder, check=True)
         cases = {
             "each call twice": ([trials, "memory"], b"", [is_alike]),
@@ -122,6 +122,7 @@ def main():
             "replay of one scope": ([tool, "replay", "one_scope", "out"], b"", [is_alike, is_told, is_one_scope_replied(1)]),
             "replay of one long scope": ([tool, "replay", "long_scope", "out"], b"", [is_alike, is_told, is_one_scope_replied(2)]),
             "report": ([tool, "report", "frames", "100:main"], b"", [is_alike, is_told]),
+            "report of one scope": ([tool, "report", "one_frame", "100:main"], b"", [is_alike, is_told]),
             "report of long texts": ([tool, "report", "long_frames", "100:main"], b"", [is_alike, is_told]),
         }
         for name, (words, given, ends) in cases.items():

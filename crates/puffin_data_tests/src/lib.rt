@@ -2,6 +2,8 @@
 #![tactic(auto)]
 
 #[cfg(test)]
+mod calls;
+#[cfg(test)]
 mod device;
 #[cfg(test)]
 mod equal;
@@ -13,8 +15,6 @@ mod file_error;
 mod form;
 #[cfg(test)]
 mod info;
-#[cfg(test)]
-mod laws;
 #[cfg(test)]
 mod parts;
 #[cfg(test)]

@@ -10,6 +10,8 @@ mod long_texts;
 #[cfg(test)]
 mod many_workers;
 #[cfg(test)]
+mod shared_calls;
+#[cfg(test)]
 mod shared_profiler;
 #[cfg(test)]
 mod shares;

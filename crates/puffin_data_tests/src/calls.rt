@@ -1,0 +1,99 @@
+//! Calls that the crates above make, each by itself.
+
+use crate::equal::equal;
+use crate::samples::{NONE, ONE, THREE, stream_of};
+use puffin_data::data::{Counted, Form, Stream, StreamInfo, read_to_end, text_of, write_all};
+use puffin_data::{Error, FileError};
+use std::alloc::Global;
+use std::process::Abort;
+use std::test::Fail;
+
+type Outcome = std::result::Result<(), Fail>;
+
+#[test]
+fn a_text_ends_before_bytes_that_are_no_utf_8(rt: HostRuntime) {
+    for (stored, text) in [(b"data".as_slice(), "data"), (b"a\xffb", "a"), (b"", "")] {
+        equal(&rt, text_of(stored), text);
+    }
+}
+
+#[test]
+fn each_file_error_has_a_name(rt: HostRuntime) {
+    for (error, name) in [
+        (FileError::Io, "Io"),
+        (FileError::UnknownKind(3), "UnknownKind"),
+        (FileError::Compressed(2), "Compressed"),
+        (FileError::Refused(Error::MissingId), "Refused"),
+    ] {
+        equal(&rt, error.name(), name);
+    }
+}
+
+/// A text of so many letters.
+fn letters(alloc: Global, count: usize) -> std::result::Result<String, Fail> {
+    let mut text = String::new(alloc);
+    for _ in 0..count {
+        text.push('a')?;
+    }
+    Ok(text)
+}
+
+#[test]
+fn the_beginning_of_a_scope_fits_its_limit(rt: HostRuntime) -> Outcome {
+    // 22 bytes stand around a text of the short form, and the length of one from 128 bytes on takes another.
+    for (form, count, size) in [
+        (Form::Short, 4, 26),
+        (Form::Short, 128, 149),
+        (Form::Long, 4, 26),
+        (Form::Long, 128, 151),
+        (Form::Long, 16_384, 16_406),
+    ] {
+        let text = letters(rt.alloc(), count)?;
+        let limit = form.begin_limit(text.as_str());
+        assert!(rt; size <= limit && limit < 32_768);
+    }
+    Ok(())
+}
+
+#[test]
+fn an_info_of_no_scope_has_its_form(rt: HostRuntime) {
+    for form in [Form::Short, Form::Long] {
+        let info = StreamInfo::with_form(rt.alloc(), form);
+        equal(&rt, (info.stream.form(), info.stream.len()), (form, 0));
+        equal(&rt, (info.num_scopes, info.depth), (0, 0));
+        equal(&rt, info.range_ns, NONE);
+    }
+}
+
+/// Whether two infos are unlike, asked of either.
+fn unlike(rt: &impl Abort, first: &StreamInfo, second: &StreamInfo, expected: bool) {
+    equal(rt, first.is_unlike(&second.as_stream_into_ref()), expected);
+    equal(rt, second.is_unlike(&first.as_stream_into_ref()), expected);
+}
+
+#[test]
+fn only_infos_with_bytes_are_unlike(rt: HostRuntime) -> Outcome {
+    let alloc = rt.alloc();
+    let short = StreamInfo::parse(alloc, stream_of(alloc, &ONE)?)?;
+    let bytes = Vec::from_slice(alloc, THREE)?;
+    let long = StreamInfo::parse(alloc, Stream::from_bytes(bytes, Form::Long))?;
+    unlike(&rt, &short, &long, true);
+    unlike(&rt, &long, &long, false);
+    unlike(
+        &rt,
+        &short,
+        &StreamInfo::with_form(alloc, Form::Long),
+        false,
+    );
+    Ok(())
+}
+
+#[test]
+fn all_bytes_are_written_and_read(rt: HostRuntime) -> Outcome {
+    let mut bytes = Vec::new(rt.alloc());
+    equal(&rt, write_all(&mut Counted::new(&mut bytes), THREE), Ok(()));
+    equal(&rt, bytes.as_slice(), THREE.as_slice());
+    let read = read_to_end(rt.alloc(), &mut Counted::new(bytes.as_slice())).ok();
+    equal(&rt, read.ok_or("no fault")?.as_slice(), THREE.as_slice());
+    Ok(())
+}

@@ -1,0 +1,205 @@
+//! Calls through the lock, each with what comes out of the next frame: details that a thread or an added frame tells of,
+//! a snapshot, and scopes that wait.
+
+ghost use Rattle.std.specs.Prelude.{◌≡◌};
+
+use crate::equal::equal;
+use crate::shares;
+use crate::shares::{next_frame, opened};
+use puffin::data::{Counted, Form, ScopeId};
+use puffin::frame_data::FrameData;
+use puffin::global_profiler::{
+    GlobalFrameView, GlobalProfiler, Share, SharedProfiler, SharedReporter,
+};
+use puffin::scope_details::{ScopeDetails, ScopeIds};
+use puffin::thread_profiler::{ScriptClock, ThreadProfiler};
+use puffin::{Error, ProfilerScope, Result};
+use std::alloc::Global;
+use std::borrow::CowStr;
+use std::marker::Brand;
+use std::process::Abort;
+use std::sync::ledger::{Blank, Ledger};
+use std::sync::{Arc, Wait};
+use std::test::Fail;
+
+type Outcome = std::result::Result<(), Fail>;
+
+type Thread = ThreadProfiler<ScriptClock>;
+
+/// What is called, and then looked for in the frames that follow.
+#[derive(Clone, Copy)]
+enum Call {
+    /// A scope whose guard is gone waits, and is reported with its details.
+    ReportClosed,
+    /// All scopes that are known are wanted.
+    Snapshot,
+    /// A frame is added for a view.
+    AddFrame,
+}
+
+fn id(number: u32) -> Result<ScopeId> {
+    ScopeId::new(number).ok_or(Error::MissingId)
+}
+
+/// A frame tells of scopes with these ids and names, in this order.
+fn tells_of(rt: &impl Abort, frame: &FrameData, scopes: &[(u32, &str)]) {
+    equal(rt, frame.scope_delta.len(), scopes.len());
+    for (details, (number, name)) in frame.scope_delta.iter().zip(scopes) {
+        let told = details.scope_id().map(|id| id.get());
+        equal(rt, (told, details.name().as_str()), (Some(*number), *name));
+    }
+}
+
+/// Registers a function, whose scope closes as its guard goes.
+fn function_waits(thread: &mut Thread) -> Result<()> {
+    let (draw, file) = (CowStr::Borrowed("draw"), CowStr::Borrowed("a.rs"));
+    let id = thread.register_function_scope(&ScopeIds::new(), draw, file, 7)?;
+    let _guard = ProfilerScope::new(thread, id, "")?;
+    Ok(())
+}
+
+/// The scope is reported, once.
+fn is_reported_once<L: Ledger, M: Ledger, R: Wait + Abort>(
+    rt: &R,
+    alloc: Global,
+    reporter: &mut SharedReporter<L, M, R>,
+) -> Outcome {
+    let name = String::from_str(alloc, "main")?;
+    let mut thread = ThreadProfiler::new(alloc, name, ScriptClock::new(5));
+    function_waits(&mut thread)?;
+    for waits in [true, false] {
+        equal(rt, reporter.report_closed(&mut thread), Ok(waits));
+    }
+    Ok(())
+}
+
+/// The frame that follows has the scope, and tells of it.
+fn closed_is_reported<L: Ledger, M: Ledger, R: Wait + Abort + Copy + Drop>(
+    rt: R,
+    alloc: Global,
+    profiler: &SharedProfiler<L, M>,
+    share: Share<L, M>,
+) -> Outcome {
+    let mut reporter = SharedReporter::new(rt, profiler.clone()?, share);
+    is_reported_once(&rt, alloc, &mut reporter)?;
+    let frame = next_frame(&rt, profiler, &mut reporter.into_share())?;
+    equal(&rt, (frame.meta().num_scopes, frame.full_delta), (1, false));
+    tells_of(&rt, &frame, &[(1, "draw")]);
+    Ok(())
+}
+
+/// Frames of a scope each: the first tells of the one that was registered, the second of nothing, and the third, for a
+/// snapshot, of it again.
+fn snapshot_tells_all<L: Ledger, M: Ledger, R: Wait + Abort + Copy + Drop>(
+    rt: R,
+    alloc: Global,
+    profiler: &SharedProfiler<L, M>,
+    share: Share<L, M>,
+) -> Outcome {
+    let details = [ScopeDetails::from_scope_name(CowStr::Borrowed("u"))];
+    let _ids = profiler.register_user_scopes(&rt, &ScopeIds::new(), &details)?;
+    let mut share = share;
+    for (wanted, scopes) in [(false, &[(1, "u")][..]), (false, &[]), (true, &[(1, "u")])] {
+        if wanted {
+            profiler.emit_scope_snapshot(&rt);
+        }
+        share = shares::reported(rt, alloc, profiler, share, Form::Short, id(1)?, &[""])?;
+        let frame = next_frame(&rt, profiler, &mut share)?;
+        equal(&rt, frame.full_delta, wanted);
+        tells_of(&rt, &frame, scopes);
+    }
+    Ok(())
+}
+
+/// A packet of frame 0: the thread `main` with one scope `data` of id 1, from 100 to 300, and the details of this id.
+const PACKET: &[u8] =
+    b"PFD4\x07\0\0\0\0\xc8\xfb\x58\x02\x23\x01\x32\0\0\0\0\x01\x01\xc8\x04main\x23\
+    (\x01\0\0\0\x64\0\0\0\0\0\0\0\x04data\0\0\0\0\0\0\0\0)\x2c\x01\0\0\0\0\0\0\x01\x01\xc8\xfb\x58\x02\
+    \x15\0\0\0\x01\x01\x01\x01\x08my-scope\x01\x61\x04b.rs\x07";
+
+/// The packet's frame.
+fn packed(alloc: Global) -> std::result::Result<FrameData, Fail> {
+    let read = FrameData::read_next(alloc, &mut Counted::new(PACKET)).ok();
+    Ok(read.ok_or("no fault")?.ok_or("a frame")?)
+}
+
+/// The packet's frame is added, and no sink refuses it.
+fn is_added<L: Ledger, M: Ledger, R: Wait + Abort>(
+    rt: &R,
+    alloc: Global,
+    profiler: &SharedProfiler<L, M>,
+) -> Outcome {
+    let frame = Arc::new(alloc, packed(alloc)?)?;
+    equal(rt, profiler.add_frame(rt, frame)?, 0);
+    Ok(())
+}
+
+/// A view has a frame and knows the packet's scope by its name.
+fn is_viewed<R: Wait + Abort>(rt: &R, view: &GlobalFrameView) -> Outcome {
+    let id = id(1)?;
+    let lent = view.lock(rt);
+    assert!(rt; lent.latest_frame().is_some());
+    equal(
+        rt,
+        lent.scope_collection().fetch_by_name("my-scope"),
+        Some(&id),
+    );
+    Ok(())
+}
+
+/// An added frame is handed to a view, and the profiler's next frame, for a snapshot, tells of its scope.
+fn added_is_handed_on<
+    L: Ledger + Send + Sync + 'static,
+    M: Ledger + Send + Sync + 'static,
+    R: Wait + Abort + Copy + Drop,
+>(rt: R, alloc: Global, profiler: &SharedProfiler<L, M>, share: Share<L, M>) -> Outcome {
+    let view = GlobalFrameView::attach(alloc, &rt, profiler)?;
+    is_added(&rt, alloc, profiler)?;
+    is_viewed(&rt, &view)?;
+    profiler.emit_scope_snapshot(&rt);
+    let mut share = shares::reported(rt, alloc, profiler, share, Form::Short, id(1)?, &[""])?;
+    tells_of(
+        &rt,
+        &*next_frame(&rt, profiler, &mut share)?,
+        &[(1, "my-scope")],
+    );
+    Ok(())
+}
+
+/// A new profiler is called so.
+fn called<
+    L: Ledger + Send + Sync + 'static,
+    M: Ledger + Send + Sync + 'static,
+    R: Wait + Abort + Copy + Drop,
+>(rt: R, alloc: Global, call: Call, reported: Blank, handed: Blank) -> Outcome
+    requires reported { (reported.name ≡ L.name)
+        × (reported.parts ≡ L.parts)
+        × (reported.parts ≡ 1) }
+    requires handed { (handed.name ≡ M.name) × (handed.parts ≡ M.parts) × (handed.parts ≡ 1) }
+{
+    let none = GlobalProfiler::new(alloc);
+    let (profiler, share, _) = opened::<L, M>(alloc, none, 1, reported, handed)?;
+    match call {
+        Call::ReportClosed => closed_is_reported(rt, alloc, &profiler, share),
+        Call::Snapshot => snapshot_tells_all(rt, alloc, &profiler, share),
+        Call::AddFrame => added_is_handed_on(rt, alloc, &profiler, share),
+    }
+}
+
+#[test]
+fn scopes_that_wait_are_reported_with_details(rt: HostRuntime) -> Outcome {
+    let (reported, handed) = (Blank::new(1), Blank::new(1));
+    called::<Brand, Brand, HostRuntime>(rt, rt.alloc(), Call::ReportClosed, reported, handed)
+}
+
+#[test]
+fn a_snapshot_tells_of_all_scopes(rt: HostRuntime) -> Outcome {
+    let (reported, handed) = (Blank::new(1), Blank::new(1));
+    called::<Brand, Brand, HostRuntime>(rt, rt.alloc(), Call::Snapshot, reported, handed)
+}
+
+#[test]
+fn an_added_frame_is_handed_on(rt: HostRuntime) -> Outcome {
+    let (reported, handed) = (Blank::new(1), Blank::new(1));
+    called::<Brand, Brand, HostRuntime>(rt, rt.alloc(), Call::AddFrame, reported, handed)
+}
