@@ -6,6 +6,8 @@ mod equal;
 #[cfg(test)]
 mod example;
 #[cfg(test)]
+mod few_workers;
+#[cfg(test)]
 mod long_texts;
 #[cfg(test)]
 mod many_workers;

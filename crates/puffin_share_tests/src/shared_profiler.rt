@@ -44,30 +44,32 @@ fn scope<L: Ledger, M: Ledger, R: Wait>(
     Some(())
 }
 
-/// Reports scopes with rising ids, one after the other.
+/// Reports so many scopes with rising ids, one after the other.
 fn closed<L: Ledger, M: Ledger, R: Wait>(
     alloc: Global,
     reporter: &mut SharedReporter<L, M, R>,
     name: &str,
+    scopes: u32,
 ) -> Option<()> {
     let owned = String::from_str(alloc, name).ok()?;
     let mut thread = ThreadProfiler::new(alloc, owned, ScriptClock::new(5));
-    for number in 1..SCOPES + 1 {
-        scope(reporter, &mut thread, number, name)?;
+    for number in 0..scopes {
+        scope(reporter, &mut thread, number.wrapping_add(1), name)?;
     }
     Some(())
 }
 
-/// What a worker does who reports each scope at its end. Gives the share back.
+/// What a worker does who reports each of so many scopes at its end. Gives the share back.
 pub(crate) fn work<L: Ledger, M: Ledger, R: Wait + Drop>(
     rt: R,
     alloc: Global,
     profiler: SharedProfiler<L, M>,
     share: Share<L, M>,
     name: &str,
+    scopes: u32,
 ) -> Option<Share<L, M>> {
     let mut reporter = SharedReporter::new(rt, profiler, share);
-    closed(alloc, &mut reporter, name)?;
+    closed(alloc, &mut reporter, name, scopes)?;
     Some(reporter.into_share())
 }
 

@@ -4,7 +4,7 @@ ghost use Rattle.std.specs.Prelude.{◌≡◌, ◌<◌};
 
 use crate::equal::equal;
 use crate::shares::opened;
-use crate::{many_workers, shared_profiler};
+use crate::{few_workers, many_workers, shared_profiler};
 use puffin::data::{Reader, Scope};
 use puffin::frame_data::FrameData;
 use puffin::global_profiler::{GlobalProfiler, Settled, Share, SharedProfiler};
@@ -26,6 +26,8 @@ pub(crate) const NAMES: [&str; 8] = ["w0", "w1", "w2", "w3", "w4", "w5", "w6", "
 pub(crate) enum Kind {
     /// Each scope at its end.
     Steady,
+    /// So too, but few scopes.
+    Few,
     /// By a reporter that refuses each third report.
     Wary,
 }
@@ -35,6 +37,7 @@ impl Kind {
     fn scopes(self) -> u32 {
         match self {
             Kind::Steady => shared_profiler::SCOPES,
+            Kind::Few => few_workers::SCOPES,
             Kind::Wary => many_workers::SCOPES,
         }
     }
@@ -70,7 +73,9 @@ fn work<L: Ledger, M: Ledger, R: Wait + Drop>(
 ) -> Option<Share<L, M>> {
     let name = *NAMES.get(worker)?;
     match kind {
-        Kind::Steady => shared_profiler::work(rt, alloc, profiler, share, name),
+        Kind::Steady | Kind::Few => {
+            shared_profiler::work(rt, alloc, profiler, share, name, kind.scopes())
+        }
         Kind::Wary => many_workers::work(rt, alloc, profiler, share, name),
     }
 }
@@ -145,6 +150,11 @@ fn worked<
     let workers = started(rt, alloc, kind, profiler, shares)?;
     taken(&rt, profiler, own, 200, frames)?;
     joined(&rt, alloc, workers)
+}
+
+/// How many scopes workers with these names report together.
+fn all_scopes(kind: Kind, names: &[&str]) -> u64 {
+    u64::from(kind.scopes()).wrapping_mul(names.len() as u64)
 }
 
 /// How many scopes the frames say that they have.
@@ -263,7 +273,7 @@ fn are_handed_out<
     let shares = one_too_few(&rt, profiler, shares, names.len())?;
     taken(&rt, profiler, own, 1, &mut frames)?;
     are_in_order(&rt, alloc, &frames, names, kind.scopes())?;
-    equal(&rt, scopes_in(&frames), 4000);
+    equal(&rt, scopes_in(&frames), all_scopes(kind, names));
     Ok(shares)
 }
 
@@ -292,5 +302,5 @@ pub(crate) fn run<
     let none = GlobalProfiler::new(alloc);
     let (profiler, mut own, shares) = opened::<L, M>(alloc, none, parts, reported, handed)?;
     let shares = are_handed_out(rt, alloc, kind, names, &profiler, shares, &mut own)?;
-    are_all(&rt, &profiler, shares, own, 4000)
+    are_all(&rt, &profiler, shares, own, all_scopes(kind, names))
 }
