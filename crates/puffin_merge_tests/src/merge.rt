@@ -308,7 +308,9 @@ fn copies(rt: HostRuntime) -> Outcome {
     leaf(&mut stream, 2, 120, 150)?;
     end(&mut stream, parent, 200)?;
     let frames = one_frame(alloc, stream)?;
-    for scope in merged(alloc, &frames)? {
+    let merged = merged(alloc, &frames)?;
+    equal(&rt, merged.len(), 1);
+    for scope in merged {
         let copy = scope.clone()?;
         equal(&rt, &copy, &scope);
         let owned = scope.into_owned(alloc)?;

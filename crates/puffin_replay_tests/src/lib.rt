@@ -10,6 +10,8 @@ mod details;
 #[cfg(test)]
 mod equal;
 #[cfg(test)]
+mod one_session;
+#[cfg(test)]
 mod record;
 #[cfg(test)]
 mod recording;

@@ -62,9 +62,11 @@ fn reports(
     thread.report_closed(profiler)
 }
 
-/// A frame has both scopes, and tells of so many.
-fn has_both(rt: &impl Abort, profiler: &mut GlobalProfiler, told: usize) -> Outcome {
-    equal(rt, counts(&*next_frame(profiler)?), (2, 62, told));
+/// The frame with this index has both scopes, and tells of so many.
+fn has_both(rt: &impl Abort, profiler: &mut GlobalProfiler, index: u64, told: usize) -> Outcome {
+    let frame = next_frame(profiler)?;
+    equal(rt, frame.frame_index(), index);
+    equal(rt, counts(&frame), (2, 62, told));
     Ok(())
 }
 
@@ -79,13 +81,13 @@ fn a_function_and_a_scope_in_it(rt: HostRuntime) -> Outcome {
         Ok(false),
     );
     scopes.switch.set_scopes_on(true);
-    for told in [2, 0] {
+    for (index, told) in [(0, 2), (1, 0)] {
         equal(
             &rt,
             reports(&rt, &mut thread, &scopes, &mut profiler),
             Ok(true),
         );
-        has_both(&rt, &mut profiler, told)?;
+        has_both(&rt, &mut profiler, index, told)?;
     }
     Ok(())
 }

@@ -302,13 +302,16 @@ fn has_all<R: Abort>(rt: &R, frame: &FrameData) -> Outcome {
     let Some(unpacked) = frame.as_unpacked() else {
         return Err(Fail::new("packed"));
     };
+    let mut threads: usize = 0;
     for (thread, info) in &unpacked.thread_streams {
         if thread.name.as_str() == "c" {
             equal(rt, info.stream.len(), 31);
         } else {
+            threads = threads.wrapping_add(1);
             equal(rt, (info.stream.len(), info.num_scopes), (93, 3));
         }
     }
+    equal(rt, threads, 2);
     Ok(())
 }
 

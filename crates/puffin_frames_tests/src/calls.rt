@@ -1,0 +1,89 @@
+//! Calls that the crates above make, each by itself.
+
+use crate::equal::equal;
+use crate::packets::{Outcome, PACKET, main_thread};
+use puffin_data::data::{Form, Stream, StreamInfo};
+use puffin_data::{NanoSecond, Result};
+use puffin_frames::frame_data::{FrameMeta, ThreadStreams, UnpackedFrameData, are_unlike};
+use std::alloc::Global;
+use std::collections::BTreeMap;
+use std::process::Abort;
+use std::sync::Arc;
+use std::test::Fail;
+
+/// The packet's stream: one scope of 35 bytes from 100 to 300, told to be of this form.
+fn info(alloc: Global, form: Form) -> Result<StreamInfo> {
+    let bytes = Vec::from_slice(alloc, &PACKET[29..64])?;
+    StreamInfo::parse(alloc, Stream::from_bytes(bytes, form))
+}
+
+/// What is said of a frame: its index, its range, and its bytes and scopes.
+fn facts(meta: FrameMeta) -> (u64, (NanoSecond, NanoSecond), (usize, usize)) {
+    let counts = (meta.num_bytes, meta.num_scopes);
+    (meta.frame_index, meta.range_ns, counts)
+}
+
+#[test]
+fn a_stream_is_joined_to_none(rt: HostRuntime) -> Outcome {
+    let none = FrameMeta::of_none(7);
+    let empty = (NanoSecond::MAX, NanoSecond::MIN);
+    equal(&rt, facts(none), (7, empty, (0, 0)));
+    let info = info(rt.alloc(), Form::Short)?;
+    let one = none.joined(&info.as_stream_into_ref()).ok_or("it fits")?;
+    equal(&rt, facts(one), (7, (100, 300), (35, 1)));
+    let two = one.joined(&info.as_stream_into_ref()).map(facts);
+    equal(&rt, two, Some((7, (100, 300), (70, 2))));
+    Ok(())
+}
+
+/// The packet's streams.
+fn streams(alloc: Global) -> std::result::Result<ThreadStreams, Fail> {
+    let mut streams = BTreeMap::new(alloc);
+    let info = Arc::new(alloc, info(alloc, Form::Short)?)?;
+    let _none = streams.insert(main_thread(alloc)?, info)?;
+    Ok(streams)
+}
+
+/// Streams are unlike a long one under the packet's thread, and under no other.
+fn is_unlike_long(rt: &impl Abort, alloc: Global, streams: &ThreadStreams) -> Outcome {
+    let mut thread = main_thread(alloc)?;
+    for (form, expected) in [(Form::Short, false), (Form::Long, true)] {
+        let info = info(alloc, form)?;
+        let times = info.as_stream_into_ref();
+        equal(rt, are_unlike(streams, &thread, &times), expected);
+    }
+    thread.start_time_ns = None;
+    let long = info(alloc, Form::Long)?;
+    equal(
+        rt,
+        are_unlike(streams, &thread, &long.as_stream_into_ref()),
+        false,
+    );
+    Ok(())
+}
+
+#[test]
+fn forms_are_compared_under_a_thread(rt: HostRuntime) -> Outcome {
+    is_unlike_long(&rt, rt.alloc(), &streams(rt.alloc())?)
+}
+
+/// What a frame of the packet's stream says, and the bytes of its streams.
+fn said(frame: &UnpackedFrameData) -> (u64, usize, Option<&[u8]>) {
+    let first = frame.thread_streams.values().next();
+    let bytes = first.map(|info| info.stream.bytes());
+    (frame.frame_index(), frame.meta.num_scopes, bytes)
+}
+
+/// A frame of the packet's stream.
+fn frame(alloc: Global) -> std::result::Result<UnpackedFrameData, Fail> {
+    let mut streams = BTreeMap::new(alloc);
+    let _none = streams.insert(main_thread(alloc)?, info(alloc, Form::Short)?)?;
+    Ok(UnpackedFrameData::new(alloc, 7, streams)?)
+}
+
+#[test]
+fn a_copy_of_an_unpacked_frame(rt: HostRuntime) -> Outcome {
+    let copy = frame(rt.alloc())?.clone(rt.alloc())?;
+    equal(&rt, said(&copy), (7, 1, Some(&PACKET[29..64])));
+    Ok(())
+}
