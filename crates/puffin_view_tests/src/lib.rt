@@ -4,8 +4,6 @@
 #[cfg(test)]
 mod broken;
 #[cfg(test)]
-mod calls;
-#[cfg(test)]
 mod devices;
 #[cfg(test)]
 mod files;
