@@ -1,30 +1,8 @@
 //! Guards of scopes.
 
-use puffin_data::data::{ScopeId, StreamInfoRef};
+use puffin_data::data::ScopeId;
 use puffin_data::{Error, Result};
-use puffin_frames::scope_details::ScopeDetails;
-use puffin_frames::thread_profiler::{Closed, NsSource, Reporter, ThreadInfo, ThreadProfiler};
-
-/// Refuses every report.
-#[derive(Drop)]
-struct Nobody;
-
-impl Reporter for Nobody {
-    ghost use Rattle.std.specs.Prelude.{⊤};
-
-    ghost accepts = { λ _ _ _ _ _. ⊥ };
-
-    ghost refuses = { λ _ _ _ _ _ _. ⊤ };
-
-    fn report(
-        &mut self,
-        _info: ThreadInfo,
-        _details: &[ScopeDetails],
-        _times: &StreamInfoRef,
-    ) -> Result<()> {
-        Err(Error::Empty)
-    }
-}
+use puffin_frames::thread_profiler::{Closed, NsSource, Reporter, ThreadProfiler};
 
 /// What a guard stands for.
 #[derive(Clone, Copy, Debug, PartialEq, Eq)]
@@ -166,7 +144,7 @@ impl<C: NsSource> Drop for ProfilerScope<'_, C> {
     {
         let ProfilerScope { profiler, standing } = self;
         if let Standing::On(offset) = standing {
-            let _ = profiler.end_scope(offset, &mut Nobody);
+            let _ = profiler.close_scope(offset);
         }
     }
 }

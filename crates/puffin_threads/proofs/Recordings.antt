@@ -13,7 +13,7 @@ use Rattle.puffin_data.specs.Honesty.{IsHonest, record_of}
 use Rattle.puffin_data.specs.Forest.Open.{ended_bytes}
 use Rattle.puffin_data.specs.Text.Lengths.{text_room}
 use Rattle.puffin_data.proofs.lemmas.Lengths.{room_least}
-use Rattle.puffin_data.specs.Forest.Spelling.{begin_bytes, size_offset, head_size}
+use Rattle.puffin_data.specs.Forest.Spelling.{begin_bytes, size_offset}
 use Rattle.puffin_data.specs.Forest.Tour.{Event, Open, Close}
 use Rattle.puffin_data.specs.Forest.Words.{word_size, num_begun, open_after, most_open, least_open, greatest_close}
 use Rattle.puffin_data.proofs.lemmas.WordMeasures.{num_begun-append, most_open-opened, most_open-closed, least_open-opened, least_open-kept, greatest_close-closed, greatest_close-kept, length-begin, num_begun-tour, most_open-tour, least_open-tour, greatest_close-tour}

@@ -1,8 +1,10 @@
-//! A call that the crates above make.
+//! Calls that the crates above make.
 
 use crate::equal::equal;
-use crate::rig::Outcome;
+use crate::rig::{Outcome, Rig};
+use puffin_data::{Error, NanoSecond, Result};
 use puffin_threads::thread_profiler::{ScriptClock, ThreadProfiler};
+use std::process::Abort;
 
 #[test]
 fn a_thread_says_what_it_takes_memory_from(rt: HostRuntime) -> Outcome {
@@ -10,5 +12,30 @@ fn a_thread_says_what_it_takes_memory_from(rt: HostRuntime) -> Outcome {
     let thread = ThreadProfiler::new(rt.alloc(), name, ScriptClock::new(0));
     let text = String::from_str(thread.allocator(), "text")?;
     equal(&rt, text.as_str(), "text");
+    Ok(())
+}
+
+/// What ending a scope without a report returns is as expected.
+fn closes(rt: &impl Abort, rig: &mut Rig, at: NanoSecond, offset: usize, expected: Result<()>) {
+    rig.set(at);
+    equal(
+        rt,
+        (offset, rig.thread.close_scope(offset)),
+        (offset, expected),
+    );
+}
+
+#[test]
+fn closed_scopes_wait_for_a_report(rt: HostRuntime) -> Outcome {
+    let mut rig = Rig::new(rt.alloc(), 100, 0)?;
+    rig.begins(&rt, (1, ""), 14);
+    rig.begins(&rt, (2, ""), 36);
+    closes(&rt, &mut rig, 200, 14, Err(Error::MismatchedEnd));
+    closes(&rt, &mut rig, 200, 36, Ok(()));
+    closes(&rt, &mut rig, 300, 14, Ok(()));
+    rig.has(&rt, (0, 0, 0));
+    rig.reports(&rt, Ok(true));
+    rig.has(&rt, (0, 1, 0));
+    equal(&rt, rig.bytes(0)?.len(), 62);
     Ok(())
 }

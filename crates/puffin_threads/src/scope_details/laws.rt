@@ -52,10 +52,14 @@ pub fn order_of_details()
 /// they are compared.
 pub fn types_and_ids()
     ensures types { (a b : ScopeType) → ⟦<ScopeType as Ord>⟧.cmp a b ≡ type_cmp a b }
+    ensures partial_types { (a b : ScopeType) →
+        ⟦<ScopeType as PartialOrd>⟧.partial_cmp a b ≡ Some (type_cmp a b) }
     ensures same_types { (a b : ScopeType) →
         ⟦<ScopeType as PartialEq>⟧.eq a b ≡ eq_by_cmp type_cmp a b }
     ensures one_type { (a b : ScopeType) → type_cmp a b ≡ Equal → a ≡ b }
     ensures ids { (a b : ScopeId) → ⟦<ScopeId as Ord>⟧.cmp a b ≡ nat_cmp a b }
+    ensures partial_ids { (a b : ScopeId) →
+        ⟦<ScopeId as PartialOrd>⟧.partial_cmp a b ≡ Some (nat_cmp a b) }
     ensures same_ids { (a b : ScopeId) → ⟦<ScopeId as PartialEq>⟧.eq a b ≡ eq_by_cmp nat_cmp a b }
     // A type is hashed as its place, and an id as its number.
     ensures type_hashes { (a : ScopeType) →

@@ -7,7 +7,7 @@ use puffin_data::NanoSecond;
 use std::io;
 use std::marker::Model;
 use std::rt::Clock;
-use std::time::{Duration, Instant};
+use std::time::Duration;
 
 /// A clock that counts nanoseconds. It may fall, but it is never below 0.
 pub trait NsSource {
@@ -21,19 +21,63 @@ pub trait NsSource {
 }
 
 /// A length of time in nanoseconds, at most the greatest that fits.
+#[cold]
+#[inline(never)]
 fn nanoseconds(time: Duration) -> NanoSecond
     ensures { result ≡ pos (min (as_nanos time) (2 ^ 63 - 1)) }
 {
     NanoSecond::try_from(time.as_nanos()).unwrap_or(NanoSecond::MAX)
 }
 
+/// Seconds below this fit in nanoseconds.
+const QUICK_SECONDS: u64 = 1 << 33;
+
+/// A length of time in nanoseconds. Some 272 years take one product of 64 bits.
+#[inline(always)]
+fn quick_nanoseconds(time: Duration) -> NanoSecond
+    ensures { pos 0 ≤ℤ result }
+{
+    let seconds = time.as_secs();
+    if seconds < QUICK_SECONDS {
+        return seconds as NanoSecond * 1_000_000_000 + NanoSecond::from(time.subsec_nanos());
+    }
+    nanoseconds(time)
+}
+
+/// The time from one moment to another, 0 where that is earlier.
+#[inline(always)]
+fn gone_by(begun: NanoSecond, now: NanoSecond) -> NanoSecond
+    requires begun { pos 0 ≤ℤ begun }
+    requires now { pos 0 ≤ℤ now }
+    ensures { pos 0 ≤ℤ result }
+{
+    if now < begun {
+        return 0;
+    }
+    now - begun
+}
+
+/// A moment so much later, at most the greatest that fits.
+#[inline(always)]
+fn later(start: NanoSecond, gone: NanoSecond) -> NanoSecond
+    requires start { pos 0 ≤ℤ start }
+    requires gone { pos 0 ≤ℤ gone }
+    ensures { start ≤ℤ result }
+{
+    if gone > NanoSecond::MAX - start {
+        return NanoSecond::MAX;
+    }
+    start + gone
+}
+
 /// The system's clock: the moment when it was made, in nanoseconds since 1970, and the time that has gone by since.
 #[derive(Drop)]
 pub struct SystemClock<R> {
     rt: R,
-    begun: Instant,
+    begun_ns: NanoSecond,
     start_ns: NanoSecond,
     last_ns: NanoSecond,
+    ghost since_boot: { pos 0 ≤ℤ begun_ns },
     ghost since_1970: { pos 0 ≤ℤ start_ns },
     ghost since_start: { start_ns ≤ℤ last_ns },
 }
@@ -48,7 +92,7 @@ impl<R: Clock + Drop> SystemClock<R> {
         ensures start { IfOk result (λ clock. pos 0 ≤ℤ clock_start clock) }
         ensures last { IfOk result (λ clock. last_answer clock ≡ clock_start clock) }
     {
-        let begun = Instant::now(&rt)?;
+        let begun_ns = nanoseconds(rt.monotonic()?);
         let start_ns = match rt.since_1970() {
             Ok(time) => nanoseconds(time),
             // The wall clock stands before 1970.
@@ -57,7 +101,7 @@ impl<R: Clock + Drop> SystemClock<R> {
         };
         Ok(SystemClock {
             rt,
-            begun,
+            begun_ns,
             start_ns,
             last_ns: start_ns,
         })
@@ -74,8 +118,9 @@ impl<R: Clock> NsSource for SystemClock<R> {
 
     /// The start and the time gone by since, at most the greatest that fits. Where the clock can't be read, the last time returned.
     fn now_ns(&mut self) -> NanoSecond {
-        if let Ok(elapsed) = self.begun.elapsed(&self.rt) {
-            self.last_ns = self.start_ns.saturating_add(nanoseconds(elapsed));
+        if let Ok(time) = self.rt.monotonic() {
+            let gone = gone_by(self.begun_ns, quick_nanoseconds(time));
+            self.last_ns = later(self.start_ns, gone);
         }
         self.last_ns
     }

@@ -3,7 +3,7 @@ use crate::thread_profiler::clock::NsSource;
 use crate::thread_profiler::recording::Recording;
 use crate::thread_profiler::reporter::{Closed, Reporter};
 use puffin_data::data::{Form, ScopeId};
-use puffin_data::{Error, Result};
+use puffin_data::{Error, NanoSecond, Result};
 use std::alloc::Global;
 use std::borrow::CowStr;
 
@@ -25,7 +25,7 @@ impl<C: NsSource> ThreadProfiler<C> {
     ghost use Rattle.puffin_data.specs.Forest.Spelling.{size_offset};
     ghost use Rattle.puffin_data.specs.Text.{cut_text};
     ghost use Rattle.puffin_data.specs.Forest.Words.{word_size, open_after};
-    ghost use Rattle.puffin_threads.specs.Thread.Calls.{after_begin, RegistersScope, offsets_of};
+    ghost use Rattle.puffin_threads.specs.Thread.Calls.{after_begin, after_end, RegistersScope, offsets_of};
     ghost use Rattle.puffin_threads.specs.Details.{default_details};
     ghost use Rattle.puffin_threads.specs.Thread.Closing.{Closes, Reports};
     ghost use Rattle.puffin_threads.specs.Thread.ThreadProfiler.{thread_of, clock_of, allocator_of, with_clock};
@@ -101,6 +101,7 @@ impl<C: NsSource> ThreadProfiler<C> {
     ///
     /// Refused only with `Memory`: the memory for the scope's end and for its report is taken here too. A refused call
     /// doesn't read the clock, and changes nothing.
+    #[inline(always)]
     pub fn begin_scope(&mut self, id: ScopeId, text: &str) -> Result<usize>
         ensures begun { OnOk result (
             (at : ℤ)
@@ -144,10 +145,7 @@ impl<C: NsSource> ThreadProfiler<C> {
             × Closes R.accepts R.refuses (thread_of self.old) (thread_of self.new) at
             reporter.old reporter.new closed) }
     {
-        if self.recording.innermost() != Some(offset) {
-            return Err(Error::MismatchedEnd);
-        }
-        let now_ns = self.clock.now_ns();
+        let now_ns = self.time_of_end(offset)?;
         let Some(name) = self.recording.close(now_ns) else {
             return Ok(Closed::Inner);
         };
@@ -155,6 +153,49 @@ impl<C: NsSource> ThreadProfiler<C> {
             Ok(()) => Ok(Closed::Reported),
             Err(e) => Ok(Closed::Kept(e)),
         }
+    }
+
+    /// Ends the innermost open scope, whose offset this has to be, and reports nothing: all closed scopes wait for the
+    /// thread's next report, by [`ThreadProfiler::end_scope`] or [`ThreadProfiler::report_closed`].
+    ///
+    /// Refused with `MismatchedEnd` alone, where the offset isn't the innermost open scope's: the clock isn't read then, and
+    /// nothing changes. No memory is taken.
+    #[inline]
+    pub fn close_scope(&mut self, offset: usize) -> Result<()>
+        ensures innermost { OnOk result (
+            slice_get (offsets_of (thread_of self.old)) 0 ≡ Some offset) }
+        ensures mismatched { IfErr result (λ e.
+            (e ≡ Error.MismatchedEnd)
+            × (slice_get (offsets_of (thread_of self.old)) 0 ≢ Some offset)) }
+        ensures unchanged { OnErr result (self.new ≡ self.old) }
+        ensures closed { OnOk result (
+            (at : ℤ)
+            × C.answers (clock_of self.old) at (clock_of self.new)
+            × (pos 0 ≤ℤ at)
+            × (thread_of self.new ≡ after_end (thread_of self.old) at)) }
+    {
+        let now_ns = self.time_of_end(offset)?;
+        self.recording.finish(now_ns);
+        Ok(())
+    }
+
+    /// What the clock returns for the end of the innermost open scope, whose offset this has to be.
+    #[inline(always)]
+    fn time_of_end(&mut self, offset: usize) -> Result<NanoSecond>
+        ensures innermost { OnOk result (
+            slice_get (offsets_of (thread_of self.old)) 0 ≡ Some offset) }
+        ensures mismatched { IfErr result (λ e.
+            (e ≡ Error.MismatchedEnd)
+            × (slice_get (offsets_of (thread_of self.old)) 0 ≢ Some offset)) }
+        ensures unchanged { OnErr result (self.new ≡ self.old) }
+        ensures answered { IfOk result (λ now_ns.
+            C.answers (clock_of self.old) now_ns (clock_of self.new) × (pos 0 ≤ℤ now_ns)) }
+        ensures thread { thread_of self.new ≡ thread_of self.old }
+    {
+        if self.recording.innermost() != Some(offset) {
+            return Err(Error::MismatchedEnd);
+        }
+        Ok(self.clock.now_ns())
     }
 
     /// Registers a whole function as a scope, under a newly drawn id, which is returned. Its details go to the reporter with

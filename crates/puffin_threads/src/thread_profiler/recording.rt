@@ -56,6 +56,20 @@ fn copy_of(name: &String) -> Result<String>
     Ok(name.clone()?)
 }
 
+/// Makes a copy of a name where there is none. Refused only with `Memory`.
+#[cold]
+#[inline(never)]
+fn fill(spare: &mut Option<String>, name: &String) -> Result<()>
+    requires { spare.old ≡ None }
+    ensures ok { OnOk result (
+        option_map (λ s. string_bytes s) spare.new ≡ Some (string_bytes name.now)) }
+    ensures err { OnErr result (spare.new ≡ spare.old) }
+    ensures memory { IfErr result (λ e. e ≡ Error.Memory) }
+{
+    *spare = Some(copy_of(name)?);
+    Ok(())
+}
+
 /// Makes the copy of a name where there is none yet. Refused only with `Memory`.
 #[inline(always)]
 fn keep_copy(spare: &mut Option<String>, name: &String) -> Result<()>
@@ -67,7 +81,7 @@ fn keep_copy(spare: &mut Option<String>, name: &String) -> Result<()>
     ensures memory { IfErr result (λ e. e ≡ Error.Memory) }
 {
     if spare.is_none() {
-        *spare = Some(copy_of(name)?);
+        return fill(spare, name);
     }
     Ok(())
 }
@@ -175,6 +189,7 @@ impl Recording {
 
     /// Begins a scope, and returns where its size stands. The memory for its end and for its report is taken first, and
     /// then the clock is read.
+    #[inline(always)]
     pub(crate) fn begin_scope<C: NsSource>(
         &mut self,
         clock: &mut C,
@@ -227,6 +242,18 @@ impl Recording {
         } else {
             None
         }
+    }
+
+    /// Ends the innermost scope, without memory. The copy of the name stays.
+    pub(crate) fn finish(&mut self, now_ns: NanoSecond)
+        requires { 0 < open_after 0 self.old.word }
+        ensures { self.new ≡ after_end self.old now_ns }
+    {
+        let offset = self.offsets.pop().unwrap();
+        let stop = self.latest.max(now_ns);
+        self.info.stream.end_scope(offset, stop).unwrap();
+        self.latest = stop;
+        self.info.range_ns.1 = self.info.range_ns.1.max(stop);
     }
 
     /// A copy of the name for a report. Refused only with `Memory`.
