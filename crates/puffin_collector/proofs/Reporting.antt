@@ -7,6 +7,7 @@ use Rattle.puffin_data.specs.Forest.{Forest}
 use Rattle.puffin_data.specs.Honesty.{Recorded, IsHonestRecord}
 use Rattle.puffin_threads.specs.Thread.Info.{Info}
 use Rattle.puffin_frames.specs.Frame.Contents.{Streams, reported_to, AreHonest}
+use Rattle.puffin_frames.specs.Frame.Holding.{HaveLayout}
 use Rattle.puffin_frames.specs.Frame.Sums.{total_bytes, total_scopes, joined_start, joined_stop, meta_of, IsOrdered, DurationFits}
 use Rattle.puffin_frames.specs.declared.frame_data.meta.FrameMeta.{FrameMeta}
 use Rattle.puffin_collector.specs.Collector.State.{Collected, PendingFits, range_with, IsTooLong}
@@ -69,9 +70,9 @@ pub record Laws (streams : Streams) (i : Info) (r : Recorded) (f : Forest) : Typ
   pub honest : AreHonest streams → IsHonestRecord r f → AreHonest (reported_to streams i r)
 
 pub kept_after : (c : Collected) (meta more : FrameMeta) (i : Info) (r : Recorded) (f : Forest) (reported : ℕ) → Laws c.streams i r f → AddsUp c more r → joined_start (r ∷ map.values c.streams) ≡ int_min r.range_ns.0 (joined_start (map.values c.streams))
-    → joined_stop (r ∷ map.values c.streams) ≡ int_max r.range_ns.1 (joined_stop (map.values c.streams)) → IsTallied c.streams meta c.reported c.emitted → IsHonestRecord r f → reported ≡ c.reported + r.num_scopes
+    → joined_stop (r ∷ map.values c.streams) ≡ int_max r.range_ns.1 (joined_stop (map.values c.streams)) → IsTallied c.streams meta c.reported c.emitted → HaveLayout (reported_to c.streams i r) → IsHonestRecord r f → reported ≡ c.reported + r.num_scopes
     → IsTallied (reported_to c.streams i r) more reported c.emitted
-kept_after c meta more i r f reported laws h one_start one_stop kept honest sum = record {
+kept_after c meta more i r f reported laws h one_start one_stop kept layout honest sum = record {
   sums = λ j. record {
     frame_index = more.frame_index;
     range_ns = (first j, last j);
@@ -80,6 +81,7 @@ kept_after c meta more i r f reported laws h one_start one_stop kept honest sum 
   };
   counted = omega (arith, kept.counted, ap (λ (m : FrameMeta). m.num_scopes) kept.sums, h.num_scopes, sum);
   honest = laws.honest kept.honest honest;
+  layout = layout;
   duration = h.duration;
 }
   where

@@ -18,6 +18,7 @@ use crate::delta::{all_have_ids, copies, scope_delta};
 use crate::totals::Totals;
 use puffin_data::data::{ScopeId, StreamInfoRef, is_range};
 use puffin_data::{Error, NanoSecond, Result};
+use puffin_frames::frame_data::laws::streams_with_a_layout;
 use puffin_frames::frame_data::{
     FrameData, FrameIndex, FrameMeta, ThreadStreams, UnpackedFrameData, are_unlike, report_to,
 };
@@ -86,6 +87,7 @@ impl Collector {
         // Laws that the proof of the invariant stands on.
         laws::reported_streams();
         laws::honest_streams();
+        streams_with_a_layout();
         Collector {
             alloc,
             pending: BTreeMap::new(alloc),
@@ -323,9 +325,10 @@ impl Collector {
         ensures exhausted { (result ≡ Err Error.IndexExhausted) ↔ (self.old.index ≡ 2 ^ 64 - 1) }
         ensures err { IfErr result (λ e. KeepsPending self.old e self.new) }
     {
-        // Laws for the proof: what there is of no stream, and of honest ones.
+        // Laws for the proof: what there is of no stream, of honest ones, and of those that have a layout.
         laws::reported_streams();
         laws::honest_streams();
+        streams_with_a_layout();
         let Some(next) = self.meta.frame_index.checked_add(1) else {
             return Err(Error::IndexExhausted);
         };

@@ -22,7 +22,7 @@ pub record Writes {A : Type 0} (layout : A → List ℕ) (fits : A → Type 0) (
   pub written : now ≡ before ++ flat_map layout done
   pub fit : AllByRecursion fits done
 
-all_one : {A : Type 0} (fits : A → Type 0) (xs : List A) (x : A) → AllByRecursion fits xs → fits x → AllByRecursion fits (xs ++ x ∷ [])
+pub all_one : {A : Type 0} (fits : A → Type 0) (xs : List A) (x : A) → AllByRecursion fits xs → fits x → AllByRecursion fits (xs ++ x ∷ [])
 all_one fits [] x h f = (f, tt)
 all_one fits (y ∷ xs) x h f = (h.0, all_one fits xs x h.1 f)
 

@@ -15,3 +15,5 @@ mod Sharing
 mod Reports
 mod Honest
 mod PackedAgain
+mod Layouts
+mod LayoutsKept

@@ -80,7 +80,7 @@ module _ {A : Type 0} where
 
 -- ---- maps from lists in order
 
-no_length : {A : Type 0} (es : List A) → length es ≡ 0 → es ≡ []
+pub no_length : {A : Type 0} (es : List A) → length es ≡ 0 → es ≡ []
 no_length [] e = refl
 no_length (x ∷ es) e = absurd (omega arith)
 

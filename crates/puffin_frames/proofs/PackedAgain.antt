@@ -1,13 +1,15 @@
 -- What is packed is unpacked again.
-use Rattle.std.proofs.Common.{◌≡◌, Some, ap, ◌∙◌}
+use Rattle.std.proofs.Common.{◌≡◌, Some, refl, ap, ◌∙◌}
 use Rattle.std.specs.Option.{option_map}
 use Rattle.std.specs.FinMap.{entries, entries_sorted, from_sorted, entries-from_sorted, same_entries_map}
 use Rattle.puffin_data.proofs.lemmas.Readers.{whole_again}
 use Rattle.puffin_threads.specs.Thread.Info.{info_cmp}
 use Rattle.puffin_frames.specs.Frame.Streams.{Streams}
 use Rattle.puffin_frames.specs.Packet.Structs.{form_of_all, AreStreams, streams_layout, streams_at}
-use Rattle.puffin_frames.specs.Frame.Holding.{streams_in, plainly_packed}
+use Rattle.puffin_frames.specs.Frame.Holding.{HaveLayout, AreReadAgain, streams_in, plainly_packed}
 use Rattle.puffin_frames.proofs.Structs.{streams_reader}
+use Rattle.puffin_frames.proofs.Listed.{is_so}
+use Rattle.puffin_frames.proofs.FormsOfAll.{ordered_in, stored_in}
 
 from_entries_back : (m : Streams) → from_sorted {R = info_cmp} (entries m) ≡ m
 from_entries_back m = same_entries_map (from_sorted (entries m)) m (entries-from_sorted info_cmp (entries m) (entries_sorted m))
@@ -16,3 +18,9 @@ pub packed_again : (m : Streams) → AreStreams (form_of_all (entries m)) (entri
 packed_again m h =
     let packed = form_of_all (entries m) in
     ap (option_map from_sorted) (whole_again (AreStreams packed) (streams_layout packed) (streams_at packed) (streams_reader packed) (entries m) h) ∙ ap Some (from_entries_back m)
+
+-- streams that have a layout are stored by it
+pub read_again : (m : Streams) → HaveLayout m → AreReadAgain m
+read_again m h =
+    let packed = form_of_all (entries m) in
+    packed_again m ((h.0, stored_in packed (entries m) refl h.1), ordered_in packed (entries m) refl (is_so _ (entries_sorted m)))

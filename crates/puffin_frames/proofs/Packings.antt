@@ -21,7 +21,7 @@ use Rattle.puffin_frames.specs.Packet.Tries.{DecidedInMemory}
 use Rattle.puffin_threads.specs.Thread.Info.{Info, info_cmp}
 use Rattle.puffin_frames.specs.Frame.Streams.{Streams}
 use Rattle.puffin_frames.specs.Packet.Structs.{form_of_all, AreStreams, streams_layout, streams_at}
-use Rattle.puffin_frames.specs.Frame.Holding.{Packing, HoldsStreams, or_bad, unpacked_from, Holding, streams_in, if_packed, either_content, held_contents, Agree, IsHolding, packing, plainly_packed, as_packed, as_unpacked}
+use Rattle.puffin_frames.specs.Frame.Holding.{Packing, HoldsStreams, AreReadAgain, or_bad, unpacking, unpacked_from, Holding, streams_in, if_packed, either_content, held_contents, Agree, IsHolding, packing, plainly_packed, as_packed, as_unpacked}
 use Rattle.puffin_frames.proofs.Structs.{streams_reader}
 use Rattle.puffin_frames.proofs.Listed.{holds}
 use Rattle.puffin_frames.proofs.PackedAgain.{packed_again}
@@ -35,7 +35,7 @@ said_same m n p q ds metas packings = ap (λ x. said_of x p ds) metas ∙ ap (λ
 packing-keeps : (p : Option Packing) (u : Option Streams) → Agree p u → streams_in (packing p u) ≡ either_content p u
 packing-keeps None None h = absurd h
 packing-keeps (Some p) None h = refl
-packing-keeps None (Some m) h = packed_again m h
+packing-keeps None (Some m) h = h
 packing-keeps (Some p) (Some m) h = h
 
 pub pack-keeps : (h : Holding) → IsHolding h → held_contents (as_packed h) ≡ held_contents h
@@ -71,15 +71,17 @@ streams_taken p streams is e =
     cond_option true o streams e = (refl, e)
     cond_option false o streams e = absurd cc
 
-streams_given : (p : Packing) (streams : Streams) → HoldsStreams p streams → streams_in p ≡ Some streams
-streams_given p streams h =
+same_packing : (p : Packing) (streams : Streams) → HoldsStreams p streams → p ≡ plainly_packed streams
+same_packing p streams h =
     let form : p.form ≡ form_of_all (entries streams) = form_stored p.form (entries streams) h.1 in
-    let fit = subst (λ (f : Form). AreStreams f (entries streams)) form h.1 in
-    let same : p ≡ plainly_packed streams =
     ap (λ (k : ℕ). record p { kind = k }) h.0
     ∙ ap (λ (bytes : List ℕ). record { form = p.form; kind = 0; bytes = bytes }) h.2
-    ∙ ap (λ (f : Form). record { form = f; kind = 0; bytes = streams_layout f (entries streams) }) form in
-    ap streams_in same ∙ packed_again streams fit
+    ∙ ap (λ (f : Form). record { form = f; kind = 0; bytes = streams_layout f (entries streams) }) form
+
+streams_given : (p : Packing) (streams : Streams) → HoldsStreams p streams → streams_in p ≡ Some streams
+streams_given p streams h =
+    let fit = subst (λ (f : Form). AreStreams f (entries streams)) (form_stored p.form (entries streams) h.1) h.1 in
+    ap streams_in (same_packing p streams h) ∙ packed_again streams fit
 
 pub holds_streams : (p : Packing) (streams : Streams) → IsBytes p.bytes → (streams_in p ≡ Some streams) ↔ HoldsStreams p streams
 holds_streams p streams is = (streams_taken p streams is, streams_given p streams)
@@ -90,6 +92,12 @@ unpacked_so : (b : Bool) (kind : ℕ) (o : Option Streams) (streams : Streams) �
 unpacked_so true kind None streams e = absurd cc
 unpacked_so true kind (Some x) streams e = ap Some (same_ok x streams e)
 unpacked_so false kind o streams e = absurd cc
+
+-- what was unpacked is read again, packed as it is
+pub unpacked-again : (p : Packing) (streams : Streams) → IsBytes p.bytes → unpacking p ≡ Ok streams → AreReadAgain streams
+unpacked-again p streams is e =
+    let taken = unpacked_so (eqb p.kind 0) p.kind (option_map from_sorted (whole (streams_at p.form) p.bytes)) streams e in
+    ap streams_in (sym (same_packing p streams (streams_taken p streams is taken))) ∙ taken
 
 bad_so : (b : Bool) (kind : ℕ) (o : Option Streams) (streams : Streams) → cond b (or_bad o) (Err (file.Compressed kind)) ≡ Err file.BadStreams → cond b o None ≡ Some streams → ⊥
 bad_so true kind None streams e some = absurd cc

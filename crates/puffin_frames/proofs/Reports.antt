@@ -53,14 +53,14 @@ module _ {X : Type 0} where
   insert-same m i v found = same_map info_cmp_total info_cmp-one (insert m i v) m (λ q. get-insert info_cmp_total m i v q ∙ at_test m i q v (same_info q i) refl found)
 
 module _ {A : Type 0} where
-  get-shared : (es : List (ThreadInfo × Arc StreamInfo A)) (k : ThreadInfo) → get (shared_streams es) (info_of k) ≡ option_map record_of (option_map arc_value (lookup (is_at (thread_cmp k)) es))
+  pub get-shared : (es : List (ThreadInfo × Arc StreamInfo A)) (k : ThreadInfo) → get (shared_streams es) (info_of k) ≡ option_map record_of (option_map arc_value (lookup (is_at (thread_cmp k)) es))
   get-shared es k =
       get-from_entries info_cmp_total (info_entries (records (without_sharing es))) (info_of k)
       ∙ find-info_entries (records (without_sharing es)) k
       ∙ lookup-map_values record_of (is_at (thread_cmp k)) (without_sharing es)
       ∙ ap (option_map record_of) (lookup-map_values arc_value (is_at (thread_cmp k)) es)
 
-  shared-insert : (es : List (ThreadInfo × Arc StreamInfo A)) (k : ThreadInfo) (arc : Arc StreamInfo A) → shared_streams (insert_entry thread_cmp es k arc) ≡ insert (shared_streams es) (info_of k) (record_of (arc_value arc))
+  pub shared-insert : (es : List (ThreadInfo × Arc StreamInfo A)) (k : ThreadInfo) (arc : Arc StreamInfo A) → shared_streams (insert_entry thread_cmp es k arc) ≡ insert (shared_streams es) (info_of k) (record_of (arc_value arc))
   shared-insert es k arc = ap (λ fs. by_info (records fs)) (read-insert arc_value es k arc) ∙ streams_of-insert (without_sharing es) k (arc_value arc)
 
   -- what is under a key that is there, and under one that isn't
@@ -76,10 +76,10 @@ module _ {A : Type 0} where
     pub found : lookup (is_at (thread_cmp k)) es ≡ Some old
     pub after : fs ≡ set_value (is_at (thread_cmp k)) es w
 
-  written : (es : List (ThreadInfo × Arc StreamInfo A)) (k : ThreadInfo) (old w : Arc StreamInfo A) (fs : List (ThreadInfo × Arc StreamInfo A)) → WritesAt es k old w fs → shared_streams fs ≡ insert (shared_streams es) (info_of k) (record_of (arc_value w))
+  pub written : (es : List (ThreadInfo × Arc StreamInfo A)) (k : ThreadInfo) (old w : Arc StreamInfo A) (fs : List (ThreadInfo × Arc StreamInfo A)) → WritesAt es k old w fs → shared_streams fs ≡ insert (shared_streams es) (info_of k) (record_of (arc_value w))
   written es k old w fs h = ap shared_streams (h.after ∙ set_is_insert es k old w h.sorted h.found) ∙ shared-insert es k w
 
-  there : (es : List (ThreadInfo × Arc StreamInfo A)) (k : ThreadInfo) (old w : Arc StreamInfo A) (fs : List (ThreadInfo × Arc StreamInfo A)) → WritesAt es k old w fs → get (shared_streams es) (info_of k) ≡ Some (record_of (arc_value old))
+  pub there : (es : List (ThreadInfo × Arc StreamInfo A)) (k : ThreadInfo) (old w : Arc StreamInfo A) (fs : List (ThreadInfo × Arc StreamInfo A)) → WritesAt es k old w fs → get (shared_streams es) (info_of k) ≡ Some (record_of (arc_value old))
   there es k old w fs h = get-shared es k ∙ ap (λ o. option_map record_of (option_map arc_value o)) h.found
 
   pub reported_over : (es : List (ThreadInfo × Arc StreamInfo A)) (k : ThreadInfo) (old w : Arc StreamInfo A) (fs : List (ThreadInfo × Arc StreamInfo A)) (r : Recorded) → WritesAt es k old w fs → record_of (arc_value w) ≡ joined_record (record_of (arc_value old)) r → shared_streams fs ≡ reported_to (shared_streams es) (info_of k) r

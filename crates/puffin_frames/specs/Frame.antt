@@ -2,4 +2,5 @@
 pub mod Streams
 pub mod Sums
 pub mod Holding
+pub mod Unpacked
 pub mod Contents

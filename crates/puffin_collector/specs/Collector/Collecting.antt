@@ -12,6 +12,7 @@ use Rattle.puffin_threads.specs.Details.Collection.{Begins}
 use Rattle.puffin_frames.specs.declared.frame_data.frame.FrameData.{FrameData}
 use Rattle.puffin_frames.specs.declared.frame_data.meta.FrameMeta.{FrameMeta}
 use Rattle.puffin_frames.specs.Frame.Contents.{Streams, AreHonest, holding_of, frame_meta, frame_details}
+use Rattle.puffin_frames.specs.Frame.Holding.{HaveLayout}
 use Rattle.puffin_frames.specs.Frame.Sums.{total_scopes, meta_of, IsOrdered, DurationFits}
 use Rattle.puffin_collector.specs.Collector.State.{Collected, delta_of, after_frame, after_no_frame, after_learning}
 
@@ -51,9 +52,10 @@ KeepsPending old e new =
     ((e ≡ IndexExhausted) × (new ≡ old))
     ⊎ ((e ≡ Memory) × KnowsSome old old.new_details new)
 
--- what is kept beside the pending streams: what a frame of all of them would say, and the totals
+-- what is kept beside the pending streams, which are honest and have a layout: what a frame of all of them would say, and the totals
 pub record IsTallied (streams : Streams) (meta : FrameMeta) (reported emitted : ℕ) : Type 0 where
   pub sums : meta ≡ meta_of meta.frame_index (map.values streams)
   pub counted : reported ≡ emitted + meta.num_scopes
   pub honest : AreHonest streams
+  pub layout : HaveLayout streams
   pub duration : IsOrdered meta.range_ns → DurationFits meta.range_ns

@@ -9,7 +9,8 @@ use Rattle.puffin_frames.specs.declared.frame_data.meta.FrameMeta.{FrameMeta}
 use Rattle.puffin_threads.specs.Details.{Details, shared_details}
 use Rattle.puffin_frames.specs.Frame.Holding.{Packing, Holding, packing_of, held_contents}
 use Rattle.puffin_frames.specs.Packet.Stored.{Said}
-pub use Rattle.puffin_frames.specs.Frame.Streams.{Streams, recorded_code, streams_code, records, all_recorded, streams_of, without_sharing, shared_streams, no_scopes, stream_under, reported_to, AreHonest, contents}
+pub use Rattle.puffin_frames.specs.Frame.Streams.{Streams, recorded_code, streams_code, records, all_recorded, streams_of, without_sharing, shared_streams, no_scopes, stream_under, reported_to, AreHonest}
+pub use Rattle.puffin_frames.specs.Frame.Unpacked.{contents}
 
 abbrev pub packed_as : PackedStreams → Packing
 packed_as p = record { form = p.form; kind = p.kind; bytes = p.bytes.items }

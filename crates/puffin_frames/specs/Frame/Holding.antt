@@ -6,9 +6,12 @@ use Rattle.puffin_data.specs.declared.data.form.Form.{Form}
 use Rattle.puffin_data.specs.declared.data.form.Form.TheVariants.{Short}
 use Rattle.puffin_data.specs.declared.file_error.FileError.{FileError}
 use Rattle.puffin_data.specs.declared.file_error.FileError.TheVariants as file
+use Rattle.puffin_data.specs.Honesty.{Recorded}
+use Rattle.puffin_data.specs.Value.Layout.{AreItems}
 use Rattle.puffin_data.specs.Value.Decoding.{whole}
+use Rattle.puffin_threads.specs.Thread.Info.{Info}
 use Rattle.puffin_frames.specs.Frame.Streams.{Streams}
-use Rattle.puffin_frames.specs.Packet.Structs.{form_of_all, streams_layout, streams_at, AreStreams}
+use Rattle.puffin_frames.specs.Packet.Structs.{IsInfo, AreCounts, form_of_all, streams_layout, streams_at, AreStreams}
 
 -- streams as they are packed: the form of their packet, the kind, and the bytes
 pub record Packing : Type 0 where
@@ -32,6 +35,22 @@ abbrev pub streams_in : Packing → Option Streams
 streams_in p =
     if p.kind == 0 then option_map from_sorted (whole (streams_at p.form) p.bytes) else None
 
+-- streams packed as they are
+abbrev pub plainly_packed : Streams → Packing
+plainly_packed streams = record {
+  form = form_of_all (entries streams);
+  kind = 0;
+  bytes = streams_layout (form_of_all (entries streams)) (entries streams);
+}
+
+-- they have a layout: their number fits 64 bits, as do the numbers of each, and names are UTF-8 and streams bytes
+abbrev pub HaveLayout : Streams → Type 0
+HaveLayout streams = AreItems (λ (e : Info × Recorded). IsInfo e.0 × AreCounts e.1) (entries streams)
+
+-- packed as they are, they are read as just these streams
+abbrev pub AreReadAgain : Streams → Type 0
+AreReadAgain streams = streams_in (plainly_packed streams) ≡ Some streams
+
 abbrev pub if_packed : Option Packing → Option Streams
 if_packed None = None
 if_packed (Some p) = streams_in p
@@ -48,19 +67,11 @@ held_contents h = either_content h.packed h.unpacked
 abbrev pub Agree : Option Packing → Option Streams → Type 0
 Agree None None = ⊥
 Agree (Some p) None = Unit {0}
-Agree None (Some streams) = AreStreams (form_of_all (entries streams)) (entries streams)
+Agree None (Some streams) = AreReadAgain streams
 Agree (Some p) (Some streams) = streams_in p ≡ Some streams
 
 abbrev pub IsHolding : Holding → Type 0
 IsHolding h = Agree h.packed h.unpacked
-
--- streams packed as they are
-abbrev pub plainly_packed : Streams → Packing
-plainly_packed streams = record {
-  form = form_of_all (entries streams);
-  kind = 0;
-  bytes = streams_layout (form_of_all (entries streams)) (entries streams);
-}
 
 -- the streams as a packet has them: what is packed stays as it is
 abbrev pub packing : Option Packing → Option Streams → Packing

@@ -12,7 +12,6 @@ use Rattle.puffin_data.specs.Honesty.{Recorded, record_of, joined_record, IsHone
 use Rattle.puffin_data.specs.Forest.{Forest}
 use Rattle.puffin_data.specs.declared.data.info.StreamInfo.{StreamInfo}
 use Rattle.puffin_threads.specs.declared.thread_profiler.thread_info.ThreadInfo.{ThreadInfo}
-use Rattle.puffin_frames.specs.declared.frame_data.unpacked.UnpackedFrameData.{UnpackedFrameData}
 use Rattle.puffin_threads.specs.Thread.Info.{Info, info_cmp, info_code, by_info}
 
 -- what threads recorded, by their infos
@@ -80,7 +79,3 @@ abbrev pub AreHonest : Streams → Type 0
 AreHonest streams =
     (i : Info) (r : Recorded) → map.get streams i ≡ Some r →
     ∥ ((f : Forest) × IsHonestRecord r f) ∥₁
-
--- the streams of a frame as it is
-abbrev pub contents : UnpackedFrameData → Streams
-contents frame = shared_streams frame.thread_streams.entries

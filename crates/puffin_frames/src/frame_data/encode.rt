@@ -156,6 +156,29 @@ pub(crate) fn put_streams(out: &mut Vec<u8>, packed: Form, streams: &ThreadStrea
     Ok(())
 }
 
+/// A thread's info as it is, whose start fits: it stands for the proof alone.
+pub(crate) fn thread_fits(thread: &ThreadInfo)
+    ensures { IsInfo (info_of thread.now) }
+{
+    let _name = text_of(&thread.name);
+    match thread.start_time_ns {
+        None => {}
+        Some(start) => {
+            let _start = start;
+        }
+    }
+}
+
+/// What is recorded of a thread, whose numbers fit: it stands for the proof alone.
+pub(crate) fn counts_fit(info: &StreamInfo)
+    ensures { AreCounts (record_of info.now) }
+{
+    let _stream = block_of(info.stream.bytes());
+    let _num_scopes = info.num_scopes;
+    let _depth = info.depth;
+    let (_start, _stop) = info.range_ns;
+}
+
 /// Appends a text that may be missing.
 fn put_name(out: &mut Vec<u8>, name: &Option<CowStr<'static>>) -> Result<()>
     ensures ok { OnOk result (

@@ -5,7 +5,8 @@ ghost use Rattle.std.specs.Int.{w64};
 ghost use Rattle.std.specs.Arc.{arc_value};
 ghost use Rattle.std.specs.Coded.{Coded-set, coded_option};
 ghost use Rattle.puffin_data.specs.Value.Layout.{IsBytes};
-ghost use Rattle.puffin_frames.specs.Frame.Streams.{contents, streams_code};
+ghost use Rattle.puffin_frames.specs.Frame.Streams.{streams_code};
+ghost use Rattle.puffin_frames.specs.Frame.Unpacked.{contents};
 ghost use Rattle.puffin_frames.specs.Frame.Holding.{streams_in};
 
 use crate::frame_data::decode::{self, Stop};

@@ -2,11 +2,14 @@
 //! the function.
 
 ghost use Rattle.std.specs.Prelude.{List, ℕ, ◌≡◌, ◌↔◌, ◌++◌, Some, Ok};
+ghost use Rattle.std.specs.FinMap as map;
 ghost use Rattle.puffin_data.specs.declared.data.form.Form.{Form};
 ghost use Rattle.puffin_data.specs.Value.Layout.{IsBytes, NoneBeginsAnother, ReadsLayouts};
 ghost use Rattle.puffin_frames.specs.Packet.Structs.{meta_layout, IsMeta, meta_at, info_layout, IsInfo, info_at, recorded_layout, IsRecorded, recorded_at, streams_layout, AreStreams, streams_at, details_layout, AreDetails, details_at, legacy_layout, IsLegacy, legacy_at};
 ghost use Rattle.puffin_frames.specs.Frame.Streams.{Streams};
-ghost use Rattle.puffin_frames.specs.Frame.Holding.{Packing, HoldsStreams, streams_in, Holding, IsHolding, held_contents, as_packed, as_unpacked};
+ghost use Rattle.puffin_frames.specs.declared.frame_data.frame.FrameData.{FrameData};
+ghost use Rattle.puffin_frames.specs.Frame.Contents.{holding_of, frame_contents};
+ghost use Rattle.puffin_frames.specs.Frame.Holding.{HaveLayout, AreReadAgain, Packing, HoldsStreams, streams_in, Holding, IsHolding, held_contents, packing_of, as_packed, as_unpacked};
 ghost use Rattle.puffin_frames.specs.Packet.Stored.{Said, Stored, packed};
 ghost use Rattle.puffin_frames.specs.Packet.Front.{next_at};
 ghost use Rattle.puffin_frames.specs.Packet.Grammar.{packet, IsPacked, Stores};
@@ -55,6 +58,20 @@ pub fn written_is_read()
     ensures again { (p : Said) (rest : List ℕ) → IsPacked p →
         next_at (packet p ++ rest) ≡ Ok (Some (packed p), rest) }
     ensures alone { NoneBeginsAnother IsPacked packet }
+{}
+
+/// Streams that have a layout are read again as just them, and those of no thread have one.
+pub fn streams_with_a_layout()
+    ensures again { (streams : Streams) → HaveLayout streams → AreReadAgain streams }
+    ensures none { HaveLayout map.empty }
+{}
+
+/// Each frame's streams are read again as just what it holds, however it holds them: they have a layout, or are packed
+/// already.
+pub fn each_frame_is_read_again()
+    ensures holds { (frame : FrameData) → IsHolding (holding_of frame) }
+    ensures again { (frame : FrameData) →
+        streams_in (packing_of (holding_of frame)) ≡ frame_contents frame }
 {}
 
 /// Packing and unpacking keep what a frame holds, and packing twice is packing once.

@@ -1,14 +1,19 @@
-ghost use Rattle.std.specs.Prelude.{◌≡◌, ◌⊎◌, ◌↔◌, ◌+◌, ◌^◌, ◌<◌, ◌≤◌, true, IfOk, IfErr, OnOk, OnErr};
+ghost use Rattle.std.specs.Prelude.{◌≡◌, ◌⊎◌, ◌↔◌, ◌+◌, ◌^◌, ◌<◌, ◌≤◌, true, IfOk, IfErr, OnOk, OnErr, length};
 ghost use Rattle.std.specs.Arc.{arc_value};
 ghost use Rattle.std.specs.BTreeMap.{insert_entry};
+ghost use Rattle.std.specs.Map.{keys_of};
+ghost use Rattle.std.specs.List.Sorted.{IsStrictlySortedBy};
 ghost use Rattle.puffin_data.specs.Forest.{empty};
 ghost use Rattle.puffin_data.specs.Honesty.{IsHonest, record_of, record_of_ref, joined_record, AreUnlike};
 ghost use Rattle.puffin_data.specs.declared.data.form.Form.{Form};
 ghost use Rattle.puffin_data.specs.declared.error.Error.{Error};
 ghost use Rattle.puffin_frames.specs.Frame.Contents.{without_sharing, shared_streams, stream_under, no_scopes, reported_to};
+ghost use Rattle.puffin_frames.specs.Frame.Holding.{HaveLayout, AreReadAgain};
+ghost use Rattle.puffin_frames.specs.Packet.Structs.{IsInfo, AreCounts};
 ghost use Rattle.puffin_frames.specs.inner.Pairs.{pairs_of};
 ghost use Rattle.puffin_threads.specs.Thread.Info.{info_of, thread_cmp};
 
+use crate::frame_data::encode::{counts_fit, thread_fits};
 use puffin_data::data::{StreamInfo, StreamInfoRef};
 use puffin_data::{Error, Result};
 use puffin_threads::thread_profiler::ThreadInfo;
@@ -28,12 +33,17 @@ pub(crate) fn shared(
     streams: BTreeMap<ThreadInfo, StreamInfo>,
 ) -> Result<ThreadStreams>
     ensures ok { IfOk result (λ shared. without_sharing shared.entries ≡ streams.entries) }
+    ensures read_again { IfOk result (λ shared. AreReadAgain (shared_streams shared.entries)) }
     ensures err { IfErr result (λ e. e ≡ Error.Memory) }
 {
     let mut shared = BTreeMap::new(alloc);
     for (thread, info) in streams {
+        // Read as they are, for the proof: so the ranges of their numbers are known.
+        thread_fits(&thread);
+        counts_fit(&info);
         let _before = shared.insert(thread, Arc::new(alloc, info)?)?;
     }
+    let _count = shared.len();
     Ok(shared)
 }
 
@@ -57,6 +67,7 @@ fn extend_shared(alloc: Global, shared: &mut Arc<StreamInfo>, times: &StreamInfo
     ensures ok { OnOk result (
         record_of (arc_value shared.new)
         ≡ joined_record (record_of (arc_value shared.old)) (record_of_ref times.now)) }
+    ensures counts { OnOk result (AreCounts (record_of (arc_value shared.new))) }
     ensures unlike { (result ≡ Err Error.UnlikeForms)
         ↔ AreUnlike (record_of (arc_value shared.old)) (record_of_ref times.now) }
     ensures too_large { (result ≡ Err Error.TooLarge)
@@ -68,7 +79,9 @@ fn extend_shared(alloc: Global, shared: &mut Arc<StreamInfo>, times: &StreamInfo
         (e ≡ Error.UnlikeForms) ⊎ (e ≡ Error.TooLarge) ⊎ (e ≡ Error.Memory)) }
 {
     if let Some(alone) = Arc::get_mut(shared) {
-        return alone.extend(times);
+        alone.extend(times)?;
+        counts_fit(alone);
+        return Ok(());
     }
     *shared = extended(alloc, shared, times)?;
     Ok(())
@@ -81,6 +94,7 @@ fn extended(alloc: Global, info: &StreamInfo, times: &StreamInfoRef) -> Result<A
     ensures ok { IfOk result (λ copy.
         record_of (arc_value copy)
         ≡ joined_record (record_of info.now) (record_of_ref times.now)) }
+    ensures counts { IfOk result (λ copy. AreCounts (record_of (arc_value copy))) }
     ensures unlike { (result ≡ Err Error.UnlikeForms)
         ↔ AreUnlike (record_of info.now) (record_of_ref times.now) }
     ensures too_large { (result ≡ Err Error.TooLarge)
@@ -97,6 +111,7 @@ fn extended(alloc: Global, info: &StreamInfo, times: &StreamInfoRef) -> Result<A
     }
     let mut copy = info.clone()?;
     copy.extend(times)?;
+    counts_fit(&copy);
     Ok(Arc::new(alloc, copy)?)
 }
 
@@ -136,12 +151,14 @@ fn fits(number: usize)
 fn first_info(alloc: Global, times: &StreamInfoRef) -> Result<Arc<StreamInfo>>
     ensures ok { IfOk result (λ info.
         record_of (arc_value info) ≡ joined_record no_scopes (record_of_ref times.now)) }
+    ensures counts { IfOk result (λ info. AreCounts (record_of (arc_value info))) }
     ensures err { IfErr result (λ e. e ≡ Error.Memory) }
     ensures fits { times.now.num_scopes < 2 ^ 64 }
 {
     fits(times.num_scopes);
     let mut fresh = fresh_info(alloc, times.stream.len());
     fresh.extend(times)?;
+    counts_fit(&fresh);
     Ok(Arc::new(alloc, fresh)?)
 }
 
@@ -151,10 +168,15 @@ fn first_info(alloc: Global, times: &StreamInfoRef) -> Result<Arc<StreamInfo>>
 fn insert_first(streams: &mut ThreadStreams, info: ThreadInfo, first: Arc<StreamInfo>) -> Result<()>
     ensures ok { OnOk result (
         streams.new.entries ≡ insert_entry thread_cmp streams.old.entries info first) }
+    ensures thread { IsInfo (info_of info) }
+    ensures count { OnOk result (length streams.new.entries < 2 ^ 64) }
+    ensures sorted { IsStrictlySortedBy thread_cmp (keys_of streams.new.entries) }
     ensures err { OnErr result (streams.new.entries ≡ streams.old.entries) }
     ensures memory { IfErr result (λ e. e ≡ Error.Memory) }
 {
+    thread_fits(&info);
     let _before = streams.insert(info, first)?;
+    let _count = streams.len();
     Ok(())
 }
 
@@ -174,6 +196,9 @@ pub fn report_to(
         shared_streams streams.new.entries
         ≡ reported_to (shared_streams streams.old.entries) (info_of info) (
         record_of_ref times.now)) }
+    ensures layout { OnOk result (
+        HaveLayout (shared_streams streams.old.entries) →
+        HaveLayout (shared_streams streams.new.entries)) }
     ensures unlike { (result ≡ Err Error.UnlikeForms)
         ↔ AreUnlike (stream_under (shared_streams streams.old.entries) (info_of info))
         (record_of_ref times.now) }

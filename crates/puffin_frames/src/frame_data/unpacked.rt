@@ -1,5 +1,8 @@
 ghost use Rattle.std.specs.Prelude.{◌≡◌, ◌^◌, ◌<◌, ◌-ℤ◌, ◌≤ℤ◌, FitsSigned};
 ghost use Rattle.std.specs.Int.{w64};
+ghost use Rattle.std.specs.Coded.{Coded-set, coded_option};
+ghost use Rattle.puffin_frames.specs.Frame.Streams.{shared_streams, streams_code};
+ghost use Rattle.puffin_frames.specs.Frame.Holding.{AreReadAgain};
 
 use crate::frame_data::meta::FrameMeta;
 use crate::frame_data::thread_streams::{ThreadStreams, shared, streams_copy};
@@ -21,6 +24,7 @@ pub struct UnpackedFrameData {
     pub thread_streams: ThreadStreams,
     pub ghost ordered: { meta.range_ns.0 ≤ℤ meta.range_ns.1 },
     pub ghost duration_fits: { FitsSigned w64 (meta.range_ns.1 -ℤ meta.range_ns.0) },
+    pub ghost read_again: { AreReadAgain (shared_streams thread_streams.entries) } by { Coded-set (coded_option streams_code) _ _ },
 }
 
 impl UnpackedFrameData {
@@ -61,10 +65,9 @@ impl UnpackedFrameData {
         if !is_range(meta.range_ns) {
             return Err(Error::RangeTooLong);
         }
-        let thread_streams = shared(alloc, thread_streams)?;
         Ok(UnpackedFrameData {
             meta,
-            thread_streams,
+            thread_streams: shared(alloc, thread_streams)?,
         })
     }
 

@@ -7,7 +7,8 @@ use Rattle.std.specs.Prelude.{IsSome}
 use Rattle.std.specs.FinMap as map
 use Rattle.puffin_data.specs.Honesty.{AreUnlike, record_of_ref}
 use Rattle.puffin_threads.specs.Thread.Info.{info_of}
-use Rattle.puffin_frames.specs.Frame.Contents.{Streams, shared_streams, stream_under}
+use Rattle.puffin_frames.specs.Frame.Contents.{Streams, shared_streams, stream_under, reported_to}
+use Rattle.puffin_frames.specs.Frame.Holding.{HaveLayout}
 use Rattle.puffin_threads.specs.Details.{shared_details, AllHaveIds}
 use Rattle.puffin_collector.specs.Collector.State.{Collected, PendingFits, range_with, IsTooLong, IsUnlike, IsReportRefusal, after_report}
 use Rattle.puffin_collector.specs.Collector.Collecting.{IsTallied}
@@ -43,9 +44,10 @@ invariant_of-self-2 c =
     } in
     let adds : AddsUp seen c.in-Ok.sums.0 r = subst (λ (v : Collected). AddsUp v c.in-Ok.sums.0 r) (sym c.self.view_is) c.in-Ok.ensures.sums.0 in
     let reported : c.in-Ok.sums.1 ≡ seen.reported + r.num_scopes = subst (λ (v : Collected). c.in-Ok.sums.1 ≡ v.reported + r.num_scopes) (sym c.self.view_is) c.in-Ok.ensures.sums.1 in
-    let put = c.in_ok-report_to.ensures.ok in (
+    let put = c.in_ok-report_to.ensures.ok in
+    let layout : HaveLayout (reported_to seen.streams i r) = subst HaveLayout put (c.in_ok-report_to.ensures.layout c.self.invariant.0.layout) in (
       subst (λ (s : Streams). IsTallied s c.in-Ok.sums.0 c.in-Ok.sums.1 inside.emitted) (sym put)
-          (kept_after seen _ _ i r c.requires.0 _ laws adds (c.joined_ranges.ensures.start_of_one_more r (map.values seen.streams)) (c.joined_ranges.ensures.stop_of_one_more r (map.values seen.streams)) c.self.invariant.0 c.requires.1 reported),
+          (kept_after seen _ _ i r c.requires.0 _ laws adds (c.joined_ranges.ensures.start_of_one_more r (map.values seen.streams)) (c.joined_ranges.ensures.stop_of_one_more r (map.values seen.streams)) c.self.invariant.0 layout c.requires.1 reported),
       c.self.invariant.1,
     )
 

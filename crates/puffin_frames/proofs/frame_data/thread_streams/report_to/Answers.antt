@@ -1,5 +1,5 @@
 -- What is reported comes after what is there, and a refusal leaves what was recorded.
-use Rattle.std.proofs.Common.{◌≡◌, Ok, Err, Result, IsErrAnd, IfErr, refl, ap, ◌∙◌, sym, subst}
+use Rattle.std.proofs.Common.{◌≡◌, Ok, Err, Result, IsErrAnd, IfErr, OnOk, refl, ap, ◌∙◌, sym, subst}
 use Rattle.std.specs.Option.{option_copied_mut}
 use Rattle.std.specs.BTreeMap.{insert_entry}
 use Rattle.puffin_threads.specs.Thread.Info.{thread_cmp}
@@ -10,6 +10,7 @@ use Rattle.puffin_data.specs.declared.error.Error.TheVariants.{Memory}
 use Rattle.puffin_frames.proofs.Reports.{WritesAt, IsRefusedBy, reported_over, refused_over, reported_first, under_there, none_under, not_unlike, not_too_large, refused_as, not_refused}
 use Rattle.puffin_frames.specs.Frame.Contents.{shared_streams, stream_under}
 use Rattle.puffin_threads.specs.Thread.Info.{info_of}
+use Rattle.puffin_frames.proofs.LayoutsKept.{layout_over, layout_first}
 use Rattle.puffin_frames.proofs.frame_data.thread_streams.report_to.Goals as goal
 
 writes : (c : goal.After-drop-info) → WritesAt c.args.streams.now.entries c.args.info c.in-Some.shared.now c.extend_shared.new.shared (c.get_mut.follows.lender c.extend_shared.new.shared).entries
@@ -18,6 +19,10 @@ writes c = record {
   found = sym c.get_mut.ensures.value ∙ ap option_copied_mut c.in-Some.is;
   after = (c.get_mut.follows.holds c.extend_shared.new.shared).0;
 }
+
+on_ok_both : {A P Q R : Type 0} (r : Result A Error) → (P → Q → R) → OnOk r P → OnOk r Q → OnOk r R
+on_ok_both (Ok x) f p q = f p q
+on_ok_both (Err e) f p q = tt
 
 when_refused : {A : Type 0} (r : Result A Error) → IsErrAnd r (λ e. e ≡ Memory) → IfErr r (λ e. e ≡ Memory)
 when_refused (Ok x) is = absurd is
@@ -72,3 +77,14 @@ pub returns-clause-too_large : goal.returns-clause-too_large
 returns-clause-too_large c =
     let none = none_under c.args.streams.now.entries c.args.info (sym c.get_mut.ensures.value ∙ ap option_copied_mut c.in_default.is) in
     (not_refused c.insert_first.result _ (record_of_ref c.args.times.now) (not_unlike c.insert_first.result c.insert_first.ensures.memory) (not_too_large c.insert_first.result c.insert_first.ensures.memory) none c.in_ok-first.ensures.fits).too_large
+
+pub returns-in-Some-clause-layout : goal.returns-in-Some-clause-layout
+returns-in-Some-clause-layout c =
+    on_ok_weaker c.extend_shared.result
+    (layout_over c.args.streams.now.entries c.args.info c.in-Some.shared.now c.extend_shared.new.shared (c.get_mut.follows.lender c.extend_shared.new.shared).entries (writes c)) c.extend_shared.ensures.counts
+
+pub returns-clause-layout : goal.returns-clause-layout
+returns-clause-layout c =
+    let same = ap (λ m. insert_entry thread_cmp m.entries c.args.info c.in_ok-first.first) c.get_mut.follows.holds-at-none in
+    on_ok_both c.insert_first.result
+    (λ after few. layout_first c.args.streams.now.entries c.args.info c.in_ok-first.first c.insert_first.new.streams.entries (after ∙ same) c.insert_first.ensures.sorted few c.insert_first.ensures.thread c.in_ok-first.ensures.counts) c.insert_first.ensures.ok c.insert_first.ensures.count

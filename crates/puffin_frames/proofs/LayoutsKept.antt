@@ -1,0 +1,84 @@
+-- A report keeps the layout of streams.
+use Rattle.std.proofs.Common.{◌≡◌, ◌^◌, ◌<◌, List, [], ◌∷◌, length, Some, cond, refl, sym, ap, subst, ◌∙◌, arith}
+use Rattle.std.specs.declared.cmp.Ordering.{Ordering}
+use Rattle.std.specs.declared.cmp.Ordering.TheVariants.{Less, Equal, Greater}
+use Rattle.std.specs.Ordering.{is_eq}
+use Rattle.std.specs.Map.{keys_of}
+use Rattle.std.specs.List.{AllByRecursion}
+use Rattle.std.specs.List.Sorted.{IsStrictlySortedBy}
+use Rattle.std.specs.BTreeMap.{insert_entry, is_at}
+use Rattle.std.specs.FinMap.{entries, insert, find, put, empty, len-empty, len-entries, entries-insert, get-entries}
+use Rattle.std.specs.FinMap.Entries.{by_order}
+use Rattle.std.specs.Arc.{arc_value}
+use Rattle.std.specs.declared.sync.Arc.{Arc}
+use Rattle.std.proofs.lemmas.List.{length-map}
+use Rattle.std.proofs.lemmas.Map.{length-set_value, keys-set_value}
+use Rattle.puffin_data.specs.Honesty.{Recorded, record_of}
+use Rattle.puffin_data.specs.Value.Layout.{AreItems}
+use Rattle.puffin_data.specs.declared.data.info.StreamInfo.{StreamInfo}
+use Rattle.puffin_threads.specs.declared.thread_profiler.thread_info.ThreadInfo.{ThreadInfo}
+use Rattle.puffin_threads.specs.Thread.Info.{Info, info_of, info_cmp, thread_cmp}
+use Rattle.puffin_threads.proofs.lemmas.Infos.{info_cmp_total, info_cmp-one}
+use Rattle.puffin_frames.specs.Packet.Structs.{IsInfo, AreCounts}
+use Rattle.puffin_frames.specs.Frame.Streams.{Streams, shared_streams}
+use Rattle.puffin_frames.specs.Frame.Holding.{HaveLayout}
+use Rattle.puffin_frames.proofs.Listed.{listed-sorted, entries-listed, no_length}
+use Rattle.puffin_frames.proofs.Reports.{WritesAt, written, there, shared-insert}
+
+-- a thread and what is recorded of it fit
+abbrev pub Fits : Info × Recorded → Type 0
+Fits e = IsInfo e.0 × AreCounts e.1
+
+-- the streams of no thread
+pub none_laid_out : HaveLayout (empty {X = Recorded} {R = info_cmp})
+none_laid_out =
+    let none : entries (empty {X = Recorded} {R = info_cmp}) ≡ [] = no_length _ (sym (len-entries (empty {X = Recorded} {R = info_cmp})) ∙ len-empty info_cmp Recorded) in
+    subst (λ (es : List (Info × Recorded)). AreItems Fits es) (sym none) (omega arith, tt)
+
+-- an entry in its place among others
+by_place : (o : Ordering) (i : Info) (r : Recorded) (e : Info × Recorded) (es later : List (Info × Recorded)) → IsInfo i → AreCounts r → Fits e → AllByRecursion Fits es → AllByRecursion Fits later → AllByRecursion Fits (by_order o ((i, r) ∷ e ∷ es) ((e.0, r) ∷ es) (e ∷ later))
+by_place Less i r e es later thread counts one rest all = ((thread, counts), (one, rest))
+by_place Equal i r e es later thread counts one rest all = ((one.0, counts), rest)
+by_place Greater i r e es later thread counts one rest all = (one, all)
+
+all_put : (i : Info) (r : Recorded) (es : List (Info × Recorded)) → IsInfo i → AreCounts r → AllByRecursion Fits es → AllByRecursion Fits (put info_cmp i r es)
+all_put i r [] thread counts all = ((thread, counts), tt)
+all_put i r (e ∷ es) thread counts all = by_place (info_cmp i e.0) i r e es (put info_cmp i r es) thread counts all.0 all.1 (all_put i r es thread counts all.1)
+
+-- a thread that is there
+by_test : (o : Ordering) (i : Info) (x : Recorded) (e : Info × Recorded) (es : List (Info × Recorded)) → info_cmp i e.0 ≡ o → Fits e → (find info_cmp i es ≡ Some x → IsInfo i) → cond (is_eq o) (Some e.1) (find info_cmp i es) ≡ Some x → IsInfo i
+by_test Less i x e es is one later found = later found
+by_test Equal i x e es is one later found = subst IsInfo (sym (info_cmp-one i e.0 is)) one.0
+by_test Greater i x e es is one later found = later found
+
+thread_there : (i : Info) (x : Recorded) (es : List (Info × Recorded)) → find info_cmp i es ≡ Some x → AllByRecursion Fits es → IsInfo i
+thread_there i x [] found all = absurd cc
+thread_there i x (e ∷ es) found all = by_test (info_cmp i e.0) i x e es refl all.0 (λ later. thread_there i x es later all.1) found
+
+inserted : (m : Streams) (i : Info) (r : Recorded) → length (entries (insert m i r)) < 2 ^ 64 → IsInfo i → AreCounts r → HaveLayout m → HaveLayout (insert m i r)
+inserted m i r short thread counts h =
+    (short, subst (λ (es : List (Info × Recorded)). AllByRecursion Fits es) (sym (entries-insert info_cmp_total m i r)) (all_put i r (entries m) thread counts h.1))
+
+module _ {A : Type 0} where
+  short_as : (fs : List (ThreadInfo × Arc StreamInfo A)) → IsStrictlySortedBy thread_cmp (keys_of fs) → length fs < 2 ^ 64 → length (entries (shared_streams fs)) < 2 ^ 64
+  short_as fs sorted short = rw (entries-listed fs (listed-sorted fs sorted)) (simp length-map short)
+
+  length_seen : (es : List (ThreadInfo × Arc StreamInfo A)) → IsStrictlySortedBy thread_cmp (keys_of es) → length (entries (shared_streams es)) ≡ length es
+  length_seen es sorted = ap length (entries-listed es (listed-sorted es sorted)) ∙ simp length-map
+
+  -- a stream that grows under a thread that is there
+  pub layout_over : (es : List (ThreadInfo × Arc StreamInfo A)) (k : ThreadInfo) (old w : Arc StreamInfo A) (fs : List (ThreadInfo × Arc StreamInfo A)) → WritesAt es k old w fs → AreCounts (record_of (arc_value w)) → HaveLayout (shared_streams es) → HaveLayout (shared_streams fs)
+  layout_over es k old w fs h counts before =
+      let put = written es k old w fs h in
+      let thread = thread_there (info_of k) (record_of (arc_value old)) (entries (shared_streams es)) (sym (get-entries (shared_streams es) (info_of k)) ∙ there es k old w fs h) before.1 in
+      let sorted : IsStrictlySortedBy thread_cmp (keys_of fs) = subst (λ (ks : List ThreadInfo). IsStrictlySortedBy thread_cmp ks) (sym (ap keys_of h.after ∙ keys-set_value (is_at (thread_cmp k)) es w)) h.sorted in
+      let same = ap length h.after ∙ length-set_value (is_at (thread_cmp k)) es w in
+      let short : length (entries (insert (shared_streams es) (info_of k) (record_of (arc_value w)))) < 2 ^ 64 = subst (λ (m : Streams). length (entries m) < 2 ^ 64) put (omega (arith, length_seen es h.sorted, length_seen fs sorted, same, before.0)) in
+      subst HaveLayout (sym put) (inserted (shared_streams es) (info_of k) (record_of (arc_value w)) short thread counts before)
+
+  -- the first stream of a thread
+  pub layout_first : (es : List (ThreadInfo × Arc StreamInfo A)) (k : ThreadInfo) (arc : Arc StreamInfo A) (fs : List (ThreadInfo × Arc StreamInfo A)) → fs ≡ insert_entry thread_cmp es k arc → IsStrictlySortedBy thread_cmp (keys_of fs) → length fs < 2 ^ 64 → IsInfo (info_of k) → AreCounts (record_of (arc_value arc)) → HaveLayout (shared_streams es) → HaveLayout (shared_streams fs)
+  layout_first es k arc fs after sorted short thread counts before =
+      let put : shared_streams fs ≡ insert (shared_streams es) (info_of k) (record_of (arc_value arc)) = ap shared_streams after ∙ shared-insert es k arc in
+      let few : length (entries (insert (shared_streams es) (info_of k) (record_of (arc_value arc)))) < 2 ^ 64 = subst (λ (m : Streams). length (entries m) < 2 ^ 64) put (omega (arith, length_seen fs sorted, short)) in
+      subst HaveLayout (sym put) (inserted (shared_streams es) (info_of k) (record_of (arc_value arc)) few thread counts before)

@@ -1,0 +1,7 @@
+-- What a frame as it is holds.
+use Rattle.puffin_frames.specs.declared.frame_data.unpacked.UnpackedFrameData.{UnpackedFrameData}
+use Rattle.puffin_frames.specs.Frame.Streams.{Streams, shared_streams}
+
+-- its streams
+abbrev pub contents : UnpackedFrameData → Streams
+contents frame = shared_streams frame.thread_streams.entries
