@@ -102,7 +102,7 @@ at_end_by : (b : Bool) (bytes after : List ℕ) → cond b (Ok (None, drop 4 byt
 at_end_by true bytes after e = refl
 at_end_by false bytes after e = absurd (frame_after (take 4 bytes) (drop 4 bytes) after e)
 
-is_at_end : (bytes after : List ℕ) → next_at bytes ≡ Ok (None, after) → is_end bytes ≡ true
+pub is_at_end : (bytes after : List ℕ) → next_at bytes ≡ Ok (None, after) → is_end bytes ≡ true
 unfolding next_at
 is_at_end bytes after e = at_end_by (is_end bytes) bytes after e
 

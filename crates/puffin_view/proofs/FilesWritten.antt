@@ -92,7 +92,7 @@ Answer = Result (List Stored × List ℕ) FileError
 abbrev pub unless_missing : Bool → List Stored → List ℕ → Answer
 unless_missing b frames rest = cond b (Err (file.Refused MissingId)) (Ok (frames, rest))
 
-one_before : (b d : Bool) (s : Stored) (frames : List Stored) (rest : List ℕ)
+pub one_before : (b d : Bool) (s : Stored) (frames : List Stored) (rest : List ℕ)
     → (cond b (Err (file.Refused MissingId)) (Ok s) >>= λ first. unless_missing d frames rest >>= λ o. Ok (first ∷ o.0, o.1)) ≡ unless_missing (b || d) (s ∷ frames) rest
 one_before true d s frames rest = refl
 one_before false true s frames rest = refl
@@ -117,7 +117,7 @@ packets_again k (c ∷ cs) end again all stops =
     ∙ (ap (λ (r : Answer). with_ids (packed c) >>= λ first. r >>= λ o. Ok (first ∷ o.0, o.1)) (packets_again k cs end again all.1 stops)
     ∙ one_before (lacks_ids c) (list_any lacks_ids cs) (packed c) (map packed cs) (drop 4 end))))
 
-room : (n : ℕ) → n < 2 ^ 64 - 1 → suc (most_packets - suc n) + n ≡ most_packets
+pub room : (n : ℕ) → n < 2 ^ 64 - 1 → suc (most_packets - suc n) + n ≡ most_packets
 unfolding most_packets
 room n lt = omega arith
 

@@ -16,4 +16,5 @@ mod FileFrames
 mod FilesWritten
 mod Searching
 mod FilesAgain
+mod FileGrammar
 mod FramesHeld

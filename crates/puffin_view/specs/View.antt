@@ -5,6 +5,7 @@ pub mod FrameOf
 pub mod FrameRanks
 pub mod Known
 pub mod File
+pub mod Grammar
 pub mod Selection
 pub mod Stats
 pub mod Listings

@@ -4,6 +4,8 @@
 #[cfg(test)]
 mod broken;
 #[cfg(test)]
+mod calls;
+#[cfg(test)]
 mod devices;
 #[cfg(test)]
 mod files;

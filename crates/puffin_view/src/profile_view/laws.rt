@@ -16,16 +16,18 @@ ghost use Rattle.puffin_view.specs.View.Selection.{Rank, older_cmp, old_place};
 ghost use Rattle.puffin_data.specs.declared.error.Error.{Error};
 ghost use Rattle.puffin_data.specs.declared.file_error.FileError.{FileError};
 ghost use Rattle.puffin_data.specs.Device.{IsOutside};
+ghost use Rattle.puffin_data.specs.Value.Layout.{IsBytes};
 ghost use Rattle.puffin_frames.specs.Packet.Front.{is_end};
 ghost use Rattle.puffin_frames.specs.Packet.Grammar.{IsPacked};
 ghost use Rattle.puffin_view.specs.declared.profile_view.frame_view.FrameView.{FrameView};
 ghost use Rattle.puffin_view.specs.View.{View, after_all};
 ghost use Rattle.puffin_view.specs.View.Known.{view_of, lacks_ids};
+ghost use Rattle.puffin_view.specs.View.Grammar.{contents_stored, IsFile};
 ghost use Rattle.puffin_view.specs.View.File.{file_of, contents_held, contents_in, frame_stored, read_view, file_at, TookFrames, FailsToRead, ReadsView};
 
 use crate::profile_view::select::OldPlace;
 use crate::profile_view::slow_rank::SlowRank;
-use puffin_frames::frame_data::laws::written_is_read;
+use puffin_frames::frame_data::laws::{only_packets_are_read, written_is_read};
 
 /// The slowest frames of a list are the first of all of them, once they stand by falling duration, then rising index. So
 /// none of the slowest comes before one in front of it.
@@ -94,6 +96,23 @@ pub fn written_files_are_read()
 {
     // For the proof alone: a law of packets.
     written_is_read();
+}
+
+/// Bytes are read as frames exactly where they are a file of these by its format: the letters, a packet for each of them, in
+/// their order and in any form that is read, and the end. A file whose frames have a detail without an id is refused. Both
+/// hold of fewer than `2^64 - 1` frames, and no more are read.
+pub fn only_files_are_read()
+    ensures read { (bytes : List ℕ) (frames : List Stored) (after : List ℕ) → IsBytes bytes →
+        (file_at bytes ≡ Ok (frames, after))
+        ↔ (IsFile bytes frames after × (length frames < 2 ^ 64 - 1)
+        × (list_any lacks_ids (contents_stored frames) ≡ false)) }
+    ensures missing { (bytes : List ℕ) (frames : List Stored) (after : List ℕ) → IsBytes bytes →
+        IsFile bytes frames after → length frames < 2 ^ 64 - 1 →
+        list_any lacks_ids (contents_stored frames) ≡ true →
+        file_at bytes ≡ Err (FileError.Refused Error.MissingId) }
+{
+    // For the proof alone: a law of packets.
+    only_packets_are_read();
 }
 
 /// What is read of a reader that has a written file, and nothing after it: the frames that were written and no others, which

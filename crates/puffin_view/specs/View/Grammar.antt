@@ -1,0 +1,29 @@
+-- Files of frames, by their format: the letters, packets that store the frames, the end, and what follows it.
+use Rattle.std.specs.Prelude.{◌≡◌, ◌⊎◌, ◌<◌, ℕ, List, [], ◌∷◌, ◌++◌, length, map}
+use Rattle.puffin_frames.specs.Packet.Stored.{Said, Stored}
+use Rattle.puffin_frames.specs.Packet.Grammar.{Stores}
+use Rattle.puffin_view.specs.View.ViewedFrames.{contents_of}
+use Rattle.puffin_view.specs.View.File.{magic, frame_stored}
+
+-- a packet of each frame, in their order and with nothing between, in any form that is read: older and legacy ones too
+abbrev pub ArePackets : List ℕ → List Stored → Type 0
+ArePackets bytes [] = bytes ≡ []
+ArePackets bytes (s ∷ frames) =
+    (packet : List ℕ) × (others : List ℕ) × Stores packet s × ArePackets others frames
+    × (bytes ≡ packet ++ others)
+
+-- the end of a file: four zeros, whatever follows, or fewer than four bytes, which nothing follows
+abbrev pub IsEnd : List ℕ → List ℕ → Type 0
+IsEnd end after = (end ≡ 0 ∷ 0 ∷ 0 ∷ 0 ∷ []) ⊎ ((length end < 4) × (after ≡ []))
+
+-- The bytes are a file of these frames, and after is what follows its end.
+pub record IsFile (bytes : List ℕ) (frames : List Stored) (after : List ℕ) : Type 0 where
+  pub packets : List ℕ
+  pub end : List ℕ
+  pub in_order : bytes ≡ magic ++ (packets ++ (end ++ after))
+  pub stored : ArePackets packets frames
+  pub ends : IsEnd end after
+
+-- what its frames say
+abbrev pub contents_stored : List Stored → List Said
+contents_stored frames = map contents_of (map frame_stored frames)

@@ -1,0 +1,146 @@
+//! Statistics of frames that are packed or not, and writers that take one byte a call.
+
+use crate::devices::Full;
+use crate::files::{FILE, Outcome, has_fault, view};
+use puffin_data::data::{Counted, Stream, StreamInfo};
+use puffin_data::{Error, FileError, Result};
+use puffin_frames::frame_data::{FrameData, FrameIndex};
+use puffin_frames::thread_profiler::ThreadInfo;
+use puffin_view::profile_view::{FrameStats, FrameView};
+use std::alloc::Global;
+use std::collections::BTreeMap;
+use std::sync::Arc;
+
+/// How many bytes a file of one frame takes.
+const ONE_FRAME: usize = 79;
+
+/// A frame with this index of the file's first scope, which has 35 bytes.
+fn frame(alloc: Global, index: FrameIndex) -> Result<Arc<FrameData>> {
+    let stream = Stream::from(Vec::from_slice(alloc, &FILE[33..68])?);
+    let thread = ThreadInfo {
+        start_time_ns: Some(100),
+        name: String::from_str(alloc, "main")?,
+    };
+    let mut streams = BTreeMap::new(alloc);
+    let _none = streams.insert(thread, StreamInfo::parse(alloc, stream)?)?;
+    let frame = FrameData::new(alloc, index, streams, Vec::new(alloc), false)?;
+    Ok(Arc::new(alloc, frame)?)
+}
+
+/// How many frames there are, and how many of them are unpacked.
+fn counts(stats: FrameStats) -> (usize, usize) {
+    (stats.frames(), stats.unpacked_frames())
+}
+
+#[test]
+fn the_newest_frame_is_packed_where_packing_is_on(rt: HostRuntime) -> Outcome {
+    let mut view = FrameView::new(rt.alloc());
+    view.set_pack_frames(false);
+    for (index, expected) in [(0, (1, 1)), (1, (2, 2)), (2, (3, 2))] {
+        if index == 2 {
+            view.set_pack_frames(true);
+        }
+        view.add_frame(frame(rt.alloc(), index)?)?;
+        assert!(rt; counts(view.stats()) == expected);
+        assert!(rt; counts(FrameStats::from_frames(view.all_uniq())) == expected);
+    }
+    Ok(())
+}
+
+#[test]
+fn a_writer_takes_one_byte_a_call(rt: HostRuntime) -> Outcome {
+    let view = view(&rt, &FILE[..ONE_FRAME])?;
+    for room in 0..ONE_FRAME + 1 {
+        let mut full = Full {
+            step: 1,
+            room,
+            failure: None,
+            written: Vec::new(rt.alloc()),
+        };
+        let refused = view.write(&mut Counted::new(&mut full)).err();
+        let expected = if room < ONE_FRAME {
+            Some(FileError::Io)
+        } else {
+            None
+        };
+        assert!(rt; refused == expected);
+        assert!(rt; Some(full.written.as_slice()) == FILE.get(..room));
+    }
+    Ok(())
+}
+
+/// Up to where a packet is kept, what stands there, from where on it is kept again, and its fault.
+type Changed = (usize, &'static [u8], usize, FileError);
+
+/// What may be wrong with a packet. (Places are those of the file.)
+const CHANGED: [Changed; 11] = [
+    (7, b"0", 8, FileError::Legacy),
+    (7, b"1", 8, FileError::Legacy),
+    (7, b"9", 8, FileError::Newer),
+    // A byte is left over behind the range and the counts.
+    (
+        8,
+        b"\x08\0\0\0\0\xc8\xfb\x58\x02\x23\x01\0",
+        19,
+        FileError::BadMeta,
+    ),
+    // A range from 300 to 100, and one from the least time to 0.
+    (12, b"\0\xfb\x58\x02\xc8\x23\x01", 19, FileError::BadRange),
+    (
+        8,
+        b"\x0d\0\0\0\0\xfd\xff\xff\xff\xff\xff\xff\xff\xff\0\x23\x01",
+        19,
+        FileError::BadRange,
+    ),
+    (23, b"\x03", 24, FileError::UnknownKind(3)),
+    // Five details that aren't there, and one with the id 0.
+    (74, b"\x01\0\0\0\x05", 79, FileError::BadScopes),
+    (
+        74,
+        b"\x07\0\0\0\x01\x01\0\0\0\0\0",
+        79,
+        FileError::BadScopes,
+    ),
+    // A detail without an id.
+    (
+        74,
+        b"\x06\0\0\0\x01\0\0\0\0\0",
+        79,
+        FileError::Refused(Error::MissingId),
+    ),
+    (74, b"\x01\0\0\0", 79, FileError::Truncated),
+];
+
+/// The first frame's packet is at fault where it is so changed, alone in a file and behind a good one.
+fn is_at_fault(rt: &HostRuntime, (end, bytes, begin, fault): Changed) -> Outcome {
+    let front = FILE.get(4..end).ok_or("a beginning")?;
+    let back = FILE.get(begin..ONE_FRAME).ok_or("an end")?;
+    has_fault(rt, &[b"PUF0", front, bytes, back], Some(fault))?;
+    has_fault(rt, &[&FILE[..ONE_FRAME], front, bytes, back], Some(fault))
+}
+
+#[test]
+fn each_fault_of_a_packet_is_the_file_s(rt: HostRuntime) -> Outcome {
+    for changed in CHANGED {
+        is_at_fault(&rt, changed)?;
+    }
+    Ok(())
+}
+
+/// A packet of the first form of so many bytes, the first frame's streams with this end, is at fault.
+fn first_form_is_at_fault(rt: &HostRuntime, size: u8, end: &[u8], fault: FileError) -> Outcome {
+    let streams = FILE.get(24..74).ok_or("the streams")?;
+    has_fault(
+        rt,
+        &[b"PUF0", &[size, 0, 0, 0, 0], streams, end],
+        Some(fault),
+    )
+}
+
+#[test]
+fn each_fault_of_the_first_form_is_the_file_s(rt: HostRuntime) -> Outcome {
+    let range = b"\xfb\x58\x02\xc8\x23\x01";
+    first_form_is_at_fault(&rt, 57, range, FileError::BadRange)?;
+    let left_over = b"\xc8\xfb\x58\x02\x23\x01\0";
+    first_form_is_at_fault(&rt, 58, left_over, FileError::BadStreams)
+}
