@@ -1,4 +1,6 @@
 -- Where all ends in the forest of a table's entries fit, those of all its places do.
+use denote.RawPtr.{null_ptr}
+use Rattle.std.proofs.lemmas.Str.{IsUtf8-nil}
 use Rattle.std.proofs.Common.{◌≡◌, ℕ, ◌+◌, ◌-◌, ◌<◌, ◌≤◌, pos, ◌^◌, ◌+ℤ◌, FitsSigned, Bool, true, false, cond, eqb, List, [], ◌∷◌, length, get_or, ◌⊎◌, inl, inr, refl, sym, ap, subst, ◌∙◌, arith, w64, vec_len}
 use Rattle.std.specs.Prelude.{SomeIff, IsSome, Option, Some, None}
 use Rattle.std.specs.List.{AllByRecursion}
@@ -124,7 +126,7 @@ node_for t places are some = first t.nodes.items (omega (arith, are.size)) where
 
 -- some node, whatever it is
 abbrev pub blank : Node
-blank = record { key = record { parent = record { number = 0 }; id = 0; text = record { ref_ptr = (0, 0); now = [] } }; sums = record { number = 0; total = 0; greatest = 0; own_start = pos 0 } }
+blank = record { key = record { parent = record { number = 0 }; id = 0; text = record { bytes = record { ptr = null_ptr; len = 0; cap = 0; alloc = record { memory = record { seal = tt } }; items = []; ok = (refl, omega arith); small = omega arith }; ok = ∣ IsUtf8-nil ∣₁ } }; sums = record { number = 0; total = 0; greatest = 0; own_start = pos 0 } }
 
 -- without places nothing is drawn
 pub drawn_some : (t : Table) (frames : ℕ) (places : List Place) → ArePlacesOf t.nodes.items places → ((d : Node) → EachOf EndFits (drawn_from t.nodes.items frames above_all places d) → ⊥) → (all : List Occurrence) → IsTableOf all t → (f : MergedForest) × IsMerge all frames f × (EndsFit f → ⊥)

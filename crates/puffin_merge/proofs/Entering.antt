@@ -9,7 +9,7 @@ use Rattle.puffin_data.specs.declared.error.Error.TheVariants.{Memory, TooLarge}
 use Rattle.puffin_data.specs.Forest.{Span}
 use Rattle.puffin_data.specs.Walk.Visitor.{Entering, Refusing}
 use Rattle.puffin_merge.specs.declared.merge.table.Table.{Table}
-use Rattle.puffin_merge.specs.declared.merge.table.Key.{Key}
+use Rattle.puffin_merge.specs.declared.merge.table.Asked.{Asked}
 use Rattle.puffin_merge.specs.declared.merge.table.NodeNumber.{NodeNumber}
 use Rattle.puffin_merge.specs.declared.merge.stream.Merging.{Merging}
 use Rattle.puffin_merge.specs.declared.merge.stream.Open.{Open}
@@ -17,7 +17,7 @@ use Rattle.puffin_merge.specs.Merge.Occurrences.{Occurrence, Path, label_of, pat
 use Rattle.puffin_merge.specs.inner.Origins.{IsOrigin, fits_i64}
 use Rattle.puffin_merge.specs.Merge.{below}
 use Rattle.puffin_merge.specs.Merge.Refusals.{SumsFit, Fits}
-use Rattle.puffin_merge.specs.inner.Tables.{label_in, path_at, IsTableOf, occurrence_at, AddsAt}
+use Rattle.puffin_merge.specs.inner.Tables.{asked_for, path_at, IsTableOf, occurrence_at, AddsAt}
 use Rattle.puffin_merge.specs.inner.Merging.{TakesScopes, RefusesScope, StandsFor}
 
 fits_test : (t : ℤ) → FitsSigned w64 t → fits_i64 t ≡ true
@@ -75,16 +75,16 @@ start_refused v w s t fault low is e =
     inr (shallow v w around s low stands, λ fits. no.0 (subst (FitsSigned w64) (sym (is ∙ ap (λ (o : ℤ). s.start -ℤ o) stands.origin)) fits.own_start), no.1)
 
 -- what the table is given is the scope's occurrence
-given : (v : Merging) (w : Open) (around : List Span) (s : Span) (key : Key) (own : ℤ) (duration : ℕ) → StandsFor v w around → key.parent.number ≡ w.node.number → label_in key ≡ label_of s → own ≡ s.start -ℤ w.origin → duration ≡ nat_abs (s.stop -ℤ s.start)
-    → occurrence_at v.table key own duration ≡ occurrence_of v.origin (record { around = around; span = s })
+given : (v : Merging) (w : Open) (around : List Span) (s : Span) (key : Asked) (own : ℤ) (duration : ℕ) → StandsFor v w around → key.parent.number ≡ w.node.number → asked_for key ≡ label_of s → own ≡ s.start -ℤ w.origin → duration ≡ nat_abs (s.stop -ℤ s.start)
+    → occurrence_at v.table key.parent.number (asked_for key) own duration ≡ occurrence_of v.origin (record { around = around; span = s })
 given v w around s key own duration stands parent label start lasts =
-    let path : below (path_at v.table.nodes.items key.parent.number) (label_in key) ≡ path_of around ++ (label_of s ∷ []) =
-    ap (λ (n : ℕ). below (path_at v.table.nodes.items n) (label_in key)) parent ∙ ap (λ (p : Path). below p (label_in key)) stands.path ∙ ap (below (path_of around)) label in
+    let path : below (path_at v.table.nodes.items key.parent.number) (asked_for key) ≡ path_of around ++ (label_of s ∷ []) =
+    ap (λ (n : ℕ). below (path_at v.table.nodes.items n) (asked_for key)) parent ∙ ap (λ (p : Path). below p (asked_for key)) stands.path ∙ ap (below (path_of around)) label in
     let own-is : own ≡ s.start -ℤ origin_in v.origin around = start ∙ ap (λ (o : ℤ). s.start -ℤ o) stands.origin in
     λ i. record { path = path i; own_start = own-is i; duration = lasts i }
 
-pub sums_refused : (v : Merging) (w : Open) (s : Span) (key : Key) (own : ℤ) (duration : ℕ) (fault : Error) → w.depth < 1024 → key.parent.number ≡ w.node.number → label_in key ≡ label_of s → own ≡ s.start -ℤ w.origin → duration ≡ nat_abs (s.stop -ℤ s.start)
-    → (fault ≡ Memory) ⊎ ((fault ≡ TooLarge) × ((all : List Occurrence) → IsTableOf all v.table → SumsFit all (occurrence_at v.table key own duration) → ⊥)) → (fault ≡ Memory) ⊎ Refusing RefusesScope StandsFor v w s fault
+pub sums_refused : (v : Merging) (w : Open) (s : Span) (key : Asked) (own : ℤ) (duration : ℕ) (fault : Error) → w.depth < 1024 → key.parent.number ≡ w.node.number → asked_for key ≡ label_of s → own ≡ s.start -ℤ w.origin → duration ≡ nat_abs (s.stop -ℤ s.start)
+    → (fault ≡ Memory) ⊎ ((fault ≡ TooLarge) × ((all : List Occurrence) → IsTableOf all v.table → SumsFit all (occurrence_at v.table key.parent.number (asked_for key) own duration) → ⊥)) → (fault ≡ Memory) ⊎ Refusing RefusesScope StandsFor v w s fault
 sums_refused v w s key own duration fault low parent label start lasts (inl memory) = inl memory
 sums_refused v w s key own duration fault low parent label start lasts (inr sums) =
     inr (λ around stands. λ all table. inr (
@@ -100,8 +100,8 @@ origin_last origin (x ∷ around) s = origin_last x.start around s
 time_is_origin : (t : ℤ) → FitsSigned w64 t → IsOrigin t
 time_is_origin t h = record { low = omega (arith, ints); high = omega (arith, ints) }
 
-pub scope_taken : (v : Merging) (w : Open) (s : Span) (u : Table) (key : Key) (own : ℤ) (duration : ℕ) (at : NodeNumber) (origin : ℤ) → w.depth < 1024 → key.parent.number ≡ w.node.number → label_in key ≡ label_of s → own ≡ s.start -ℤ w.origin → FitsSigned w64 own
-    → duration ≡ nat_abs (s.stop -ℤ s.start) → origin ≡ s.start → FitsSigned w64 s.start → AddsAt v.table key own duration at.number u
+pub scope_taken : (v : Merging) (w : Open) (s : Span) (u : Table) (key : Asked) (own : ℤ) (duration : ℕ) (at : NodeNumber) (origin : ℤ) → w.depth < 1024 → key.parent.number ≡ w.node.number → asked_for key ≡ label_of s → own ≡ s.start -ℤ w.origin → FitsSigned w64 own
+    → duration ≡ nat_abs (s.stop -ℤ s.start) → origin ≡ s.start → FitsSigned w64 s.start → AddsAt v.table key.parent.number (asked_for key) own duration at.number u
     → Entering TakesScopes StandsFor v w s (record { node = at; depth = w.depth + 1; origin = origin }) (record { table = u; origin = v.origin })
 scope_taken v w s u key own duration at origin low parent label start own_fits lasts origin_is fits adds around stands =
     let o = given v w around s key own duration stands parent label start lasts in
@@ -118,7 +118,7 @@ scope_taken v w s u key own duration at origin low parent label start own_fits l
         table = λ all table. subst (λ (x : Occurrence). IsTableOf (all ++ (x ∷ [])) u) o (adds.table all table);
       },
       record {
-        table = (stands.table.0 ++ (occurrence_at v.table key own duration ∷ []), adds.table stands.table.0 stands.table.1);
+        table = (stands.table.0 ++ (occurrence_at v.table key.parent.number (asked_for key) own duration ∷ []), adds.table stands.table.0 stands.table.1);
         node = adds.number;
         path = path ∙ ap (λ (x : Occurrence). x.path) o ∙ sym (map-append label_of around (s ∷ []));
         depth = ap (λ (n : ℕ). n + 1) depth ∙ sym (length_push around s);

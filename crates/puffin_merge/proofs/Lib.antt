@@ -10,9 +10,11 @@ mod Paths
 mod Finding
 mod Tabling
 mod Entering
+mod EqualScopes
 mod FramesRead
 mod StreamsMerged
-mod CodeFrames
+mod Adding
+mod AllAdded
 mod NodePlaces
 mod Drawing
 mod PlaceEntries

@@ -23,7 +23,7 @@ use Rattle.puffin_threads.specs.Thread.Info.{info_of, info_cmp, thread_cmp, info
 use Rattle.puffin_frames.specs.Frame.Contents.{records, without_sharing}
 use Rattle.puffin_merge.specs.declared.merge.table.Table.{Table}
 use Rattle.puffin_merge.specs.declared.merge.stream.Merging.{Merging}
-use Rattle.puffin_merge.specs.Merge.FrameBytes.{StreamBytes, stream_of, form_of, bytes_of, most_tries_of}
+use Rattle.puffin_merge.specs.Merge.FrameBytes.{StreamBytes, form_of, bytes_of, most_tries_of}
 use Rattle.puffin_merge.specs.Merge.Scopes.{stream_in, frame_bytes}
 use Rattle.puffin_merge.specs.inner.Merging.{TakesScopes, RefusesScope, takes_none}
 

@@ -12,7 +12,7 @@ use Rattle.puffin_merge.specs.Merge.Pieces.{Merged, pieces_at, merged_at}
 use Rattle.puffin_merge.specs.Merge.{below}
 use Rattle.puffin_merge.specs.Merge.Refusals.{SumsFit}
 use Rattle.puffin_merge.proofs.OnePiece.{with_piece, one_piece}
-use Rattle.puffin_merge.specs.inner.Tables.{label_in, merged_in, path_at, IsSameKey, HasKey, IsFound, made_node, grown_node, IsNodeOf, IsTableOf, occurrence_at, FitsOneMore, GrowsAt, AddsAt}
+use Rattle.puffin_merge.specs.inner.Tables.{label_in, merged_in, path_at, IsUnder, IsSameKey, HasKey, HasLabel, IsFound, made_node, grown_node, IsNodeOf, IsTableOf, occurrence_at, FitsOneMore, GrowsAt, AddsAt}
 use Rattle.puffin_merge.proofs.Paths.{same_path, other_path, path_at-kept, path_at-new, path_at-set, top_path}
 use Rattle.puffin_merge.proofs.Finding.{some_of, same_at, key_at-set, found_kept}
 use Rattle.puffin_merge.proofs.Growing.{merged_at-other, merged_at-more, merged_at-first}
@@ -68,9 +68,9 @@ sums_fit all nodes k n o is e fits =
     (subst (λ (m : Merged). m.number < 2 ^ 64) more fits.number, subst (λ (m : Merged). m.total < 2 ^ 63) more fits.total)
 
 -- the path of a node with this key
-pub path_of_key : (all : List Occurrence) (nodes : List Node) (k : ℕ) (n : Node) (key : Key) → IsNodeOf all nodes k n → IsSameKey n.key key → path_at nodes (k + 1) ≡ below (path_at nodes key.parent.number) (label_in key)
-path_of_key all nodes k n key is same =
-    is.path ∙ ap (λ (p : ℕ). below (path_at nodes p) (label_in n.key)) same.parent ∙ ap (λ (l : Label). below (path_at nodes key.parent.number) l) same.label
+pub path_of_key : (all : List Occurrence) (nodes : List Node) (k : ℕ) (n : Node) (parent : ℕ) (label : Label) → IsNodeOf all nodes k n → IsUnder n.key parent label → path_at nodes (k + 1) ≡ below (path_at nodes parent) label
+path_of_key all nodes k n parent label is same =
+    is.path ∙ ap (λ (p : ℕ). below (path_at nodes p) (label_in n.key)) same.parent ∙ ap (λ (l : Label). below (path_at nodes parent) l) same.label
 
 -- ---- one piece more at a node
 
@@ -122,8 +122,8 @@ grown_each all t u i k o d n table h lt path is items fits =
 
 -- the same for the table
 pub grown : (all : List Occurrence) (t u : Table) (i : ℕ) (o : Occurrence) (d n : Node) → IsTableOf all t → i < vec_len t.nodes → o.path ≡ path_at t.nodes.items (i + 1)
-    → n ≡ grown_node (get_or t.nodes.items i d) o.own_start o.duration → u.nodes.items ≡ set t.nodes.items i n → u.numbers ≡ t.numbers → (get_or t.nodes.items i d).sums.total + o.duration < 2 ^ 63 → IsTableOf (all ++ (o ∷ [])) u
-grown all t u i o d n table h path is items numbers fits =
+    → n ≡ grown_node (get_or t.nodes.items i d) o.own_start o.duration → u.nodes.items ≡ set t.nodes.items i n → u.texts ≡ t.texts → u.numbers ≡ t.numbers → (get_or t.nodes.items i d).sums.total + o.duration < 2 ^ 63 → IsTableOf (all ++ (o ∷ [])) u
+grown all t u i o d n table h path is items texts numbers fits =
     let size : vec_len t.nodes ≡ length t.nodes.items = t.nodes.ok.0 in
     let nodes = t.nodes.items in
     let key : n.key ≡ (get_or nodes i d).key = ap (λ (m : Node). m.key) is in
@@ -137,7 +137,7 @@ grown all t u i o d n table h path is items numbers fits =
       whole = All-push (λ (x : Occurrence). (k : ℕ) × (k < vec_len u.nodes) × (path_at u.nodes.items (k + 1) ≡ x.path)) all o
           (λ j e lt. let old = table.whole j e lt in (old.0, subst (λ (m : ℕ). old.0 < m) (sym wide) old.1, paths (old.0 + 1) ∙ old.2))
           (i, omega (arith, h, wide), paths (i + 1) ∙ sym path);
-      found = found_kept t u table.found numbers wide (λ k e. ap (λ (xs : List Node). (get_or xs k e).key) items ∙ key_at-set nodes i n e k (key ∙ ap (λ (m : Node). m.key) (same_at nodes i d e (omega arith))) (omega arith));
+      found = found_kept t u table.found texts numbers wide (λ k e. ap (λ (xs : List Node). (get_or xs k e).key) items ∙ key_at-set nodes i n e k (key ∙ ap (λ (m : Node). m.key) (same_at nodes i d e (omega arith))) (omega arith));
     }
 
 -- ---- a new node
@@ -229,40 +229,40 @@ started all t u key o table id parent small path new_key items found =
 
 -- ---- what adding says
 
-pub adds_grown : (t u : Table) (key : Key) (own_start : ℤ) (duration x : ℕ) → (all : List Occurrence) × IsTableOf all t → 0 < x → x ≤ vec_len t.nodes → HasKey t.nodes.items (x - 1) key
-    → GrowsAt t (x - 1) own_start duration u → AddsAt t key own_start duration x u
-adds_grown t u key own_start duration x some low high has new =
+pub adds_grown : (t u : Table) (parent : ℕ) (label : Label) (own_start : ℤ) (duration x : ℕ) → (all : List Occurrence) × IsTableOf all t → 0 < x → x ≤ vec_len t.nodes → HasLabel t.nodes.items (x - 1) parent label
+    → GrowsAt t (x - 1) own_start duration u → AddsAt t parent label own_start duration x u
+adds_grown t u parent label own_start duration x some low high has new =
     let size : vec_len t.nodes ≡ length t.nodes.items = t.nodes.ok.0 in
     let nodes = t.nodes.items in
     let d = some_of nodes (x - 1) (omega arith) in
-    let wide : vec_len u.nodes ≡ vec_len t.nodes = u.nodes.ok.0 ∙ ap length (new.1 d) ∙ length-set nodes (x - 1) _ ∙ sym size in
+    let wide : vec_len u.nodes ≡ vec_len t.nodes = u.nodes.ok.0 ∙ ap length (new.2 d) ∙ length-set nodes (x - 1) _ ∙ sym size in
     let one : x ≡ (x - 1) + 1 = omega arith in
-    let kept : (p : ℕ) → path_at u.nodes.items p ≡ path_at nodes p = λ p. ap (λ (xs : List Node). path_at xs p) (new.1 d) ∙ path_at-set nodes (x - 1) _ d p refl in
-    let path : (all : List Occurrence) → IsTableOf all t → below (path_at nodes key.parent.number) (label_in key) ≡ path_at nodes ((x - 1) + 1) =
-    λ all table. sym (path_of_key all nodes (x - 1) (get_or nodes (x - 1) d) key (table.each (x - 1) d (omega arith)) (has d)) in
+    let kept : (p : ℕ) → path_at u.nodes.items p ≡ path_at nodes p = λ p. ap (λ (xs : List Node). path_at xs p) (new.2 d) ∙ path_at-set nodes (x - 1) _ d p refl in
+    let path : (all : List Occurrence) → IsTableOf all t → below (path_at nodes parent) label ≡ path_at nodes ((x - 1) + 1) =
+    λ all table. sym (path_of_key all nodes (x - 1) (get_or nodes (x - 1) d) parent label (table.each (x - 1) d (omega arith)) (has d)) in
     record {
       number = omega (arith, high, wide);
       path = kept x ∙ ap (path_at nodes) one ∙ sym (path some.0 some.1);
       extends = record { longer = omega (arith, wide); kept = λ k h. kept k };
-      fits = λ all table. fits_sums all nodes (x - 1) (get_or nodes (x - 1) d) (occurrence_at t key own_start duration) (table.each (x - 1) d (omega arith)) (path all table) (new.2 d);
-      table = λ all table. grown all t u (x - 1) (occurrence_at t key own_start duration) d _ table (omega arith) (path all table) refl (new.1 d) new.0 (new.2 d).1;
+      fits = λ all table. fits_sums all nodes (x - 1) (get_or nodes (x - 1) d) (occurrence_at t parent label own_start duration) (table.each (x - 1) d (omega arith)) (path all table) (new.3 d);
+      table = λ all table. grown all t u (x - 1) (occurrence_at t parent label own_start duration) d _ table (omega arith) (path all table) refl (new.2 d) new.0 new.1 (new.3 d).1;
     }
 
-pub grown_refused : (t : Table) (key : Key) (own_start : ℤ) (duration x : ℕ) → 0 < x → x ≤ vec_len t.nodes → HasKey t.nodes.items (x - 1) key → (FitsOneMore t.nodes.items (x - 1) duration → ⊥)
-    → (all : List Occurrence) → IsTableOf all t → SumsFit all (occurrence_at t key own_start duration) → ⊥
-grown_refused t key own_start duration x low high has no_fit all table fits =
+pub grown_refused : (t : Table) (parent : ℕ) (label : Label) (own_start : ℤ) (duration x : ℕ) → 0 < x → x ≤ vec_len t.nodes → HasLabel t.nodes.items (x - 1) parent label → (FitsOneMore t.nodes.items (x - 1) duration → ⊥)
+    → (all : List Occurrence) → IsTableOf all t → SumsFit all (occurrence_at t parent label own_start duration) → ⊥
+grown_refused t parent label own_start duration x low high has no_fit all table fits =
     let size : vec_len t.nodes ≡ length t.nodes.items = t.nodes.ok.0 in
     let nodes = t.nodes.items in
-    let o = occurrence_at t key own_start duration in
-    no_fit (λ d. sums_fit all nodes (x - 1) (get_or nodes (x - 1) d) o (table.each (x - 1) d (omega arith)) (sym (path_of_key all nodes (x - 1) (get_or nodes (x - 1) d) key (table.each (x - 1) d (omega arith)) (has d))) fits)
+    let o = occurrence_at t parent label own_start duration in
+    no_fit (λ d. sums_fit all nodes (x - 1) (get_or nodes (x - 1) d) o (table.each (x - 1) d (omega arith)) (sym (path_of_key all nodes (x - 1) (get_or nodes (x - 1) d) parent label (table.each (x - 1) d (omega arith)) (has d))) fits)
 
 pub adds_started : (t u : Table) (key : Key) (own_start : ℤ) (duration x : ℕ) → 0 < key.id → key.parent.number ≤ vec_len t.nodes → duration < 2 ^ 63 → x ≡ vec_len t.nodes + 1
-    → ((j : ℕ) → j < vec_len t.nodes → HasKey t.nodes.items j key → ⊥) → u.nodes.items ≡ t.nodes.items ++ (made_node key own_start duration ∷ []) → IsFound u → AddsAt t key own_start duration x u
+    → ((j : ℕ) → j < vec_len t.nodes → HasKey t.nodes.items j key → ⊥) → u.nodes.items ≡ t.nodes.items ++ (made_node key own_start duration ∷ []) → IsFound u → AddsAt t key.parent.number (label_in key) own_start duration x u
 adds_started t u key own_start duration x id parent small is new_key items found =
     let size : vec_len t.nodes ≡ length t.nodes.items = t.nodes.ok.0 in
     let nodes = t.nodes.items in
     let n = made_node key own_start duration in
-    let o = occurrence_at t key own_start duration in
+    let o = occurrence_at t key.parent.number (label_in key) own_start duration in
     let wide : vec_len u.nodes ≡ vec_len t.nodes + 1 = u.nodes.ok.0 ∙ ap length items ∙ length_push nodes n ∙ ap (λ (m : ℕ). m + 1) (sym size) in
     record {
       number = omega (arith, is, wide);

@@ -6,6 +6,7 @@ pub mod Tree
 pub mod FrameBytes
 pub mod Refusals
 pub mod Scopes
+pub mod Merger
 use Rattle.std.specs.Prelude.{◌≡◌, ℕ, pos, ◌/◌, ◌<◌, List, [], ◌∷◌, ◌++◌, map, All, Contains}
 use Rattle.std.specs.declared.cmp.Ordering.{Ordering}
 use Rattle.std.specs.declared.cmp.Ordering.TheVariants.{Less}

@@ -8,14 +8,14 @@ ghost use Rattle.puffin_merge.specs.Merge.Refusals.{IsMergeRefusal, IsRefusalAft
 ghost use Rattle.puffin_merge.specs.Merge.Scopes.{frames_bytes, forest_in};
 
 pub mod laws;
+mod merger;
 mod scope;
 mod starts;
 mod stream;
 mod table;
 mod tree;
 
-use crate::merge::stream::{Merging, read_frame};
-use crate::merge::tree::tree_of;
+pub use merger::Merger;
 use puffin_data::{Error, Result};
 use puffin_frames::frame_data::UnpackedFrameData;
 use puffin_frames::scope_details::ScopeCollection;
@@ -35,7 +35,7 @@ use std::sync::Arc;
 /// as it is counted, the number of its path or its sum doesn't fit. After all of them with `TooLarge` where an end doesn't
 /// fit, and anywhere with `Memory`.
 ///
-/// The collection is not read: a scope's details change neither what is merged nor in which order.
+/// The collection is not read: a scope's details change neither what is merged nor in which order. The scopes own their texts.
 ///
 /// ```
 /// let merged = merge_scopes_for_thread(alloc, view.scope_collection(), &frames, &info)?;
@@ -78,15 +78,12 @@ pub fn merge_scopes_counted<'s>(
     ensures few { tries.new ≤ most_tries (frames_bytes (info_of info.now) frames.now) }
 {
     *tries = 0;
-    let mut merging = Merging::new(alloc);
+    let mut merger = Merger::new(alloc, info);
     for i in 0..frames.len() {
         let mut made = 0;
-        let read = read_frame(alloc, &mut merging, &frames[i], &frames[0], info, &mut made);
+        let added = merger.add_counted(&frames[i], &mut made);
         *tries += made as u128;
-        read?;
+        added?;
     }
-    if frames.is_empty() {
-        return Ok(Vec::new(alloc));
-    }
-    tree_of(alloc, &merging.table, frames.len())
+    merger.finish()
 }

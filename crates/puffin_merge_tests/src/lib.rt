@@ -6,4 +6,6 @@ mod equal;
 #[cfg(test)]
 mod merge;
 #[cfg(test)]
+mod merger;
+#[cfg(test)]
 mod refused_merges;

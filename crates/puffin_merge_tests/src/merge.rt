@@ -16,7 +16,7 @@ pub(crate) type Outcome = std::result::Result<(), Fail>;
 pub(crate) type Frames = Vec<Arc<UnpackedFrameData>>;
 
 /// Id, start, total, per frame, greatest, pieces.
-type Numbers = (u32, NanoSecond, NanoSecond, NanoSecond, NanoSecond, usize);
+pub(crate) type Numbers = (u32, NanoSecond, NanoSecond, NanoSecond, NanoSecond, usize);
 
 /// Begins a scope, and returns where its size stands.
 pub(crate) fn begin(stream: &mut Stream, id: u32, start: NanoSecond, text: &str) -> Result<usize> {
@@ -97,7 +97,7 @@ fn numbers(scope: &MergeScope) -> Numbers {
 }
 
 /// The numbers of three levels, parents before children.
-fn all_numbers(alloc: Global, merged: &[MergeScope]) -> Result<Vec<Numbers>> {
+pub(crate) fn all_numbers(alloc: Global, merged: &[MergeScope]) -> Result<Vec<Numbers>> {
     let mut seen = Vec::new(alloc);
     for top in merged {
         seen.push(numbers(top))?;

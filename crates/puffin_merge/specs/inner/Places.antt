@@ -1,5 +1,5 @@
 -- The nodes of a table in the order in which their forest is made, and their starts. Steps of the proof, and no part of what is promised.
-use Rattle.std.specs.Prelude.{◌≡◌, ℕ, ◌+◌, ◌-◌, ◌/◌, ◌<◌, ◌==◌, pos, ◌+ℤ◌, FitsSigned, List, [], ◌∷◌, length, slice_index_or, All, ◌⊎◌, if◌then◌else◌}
+use Rattle.std.specs.Prelude.{◌≡◌, ℕ, ◌+◌, ◌-◌, ◌/◌, ◌<◌, ◌==◌, pos, ◌+ℤ◌, FitsSigned, List, [], ◌∷◌, length, slice_index_or, string_bytes, All, ◌⊎◌, if◌then◌else◌}
 use Rattle.std.specs.Int.{w64}
 use Rattle.std.specs.declared.cmp.Ordering.{Ordering}
 use Rattle.std.specs.Ordering.{nat_cmp, int_cmp, on, then_cmp}
@@ -18,7 +18,7 @@ pub record IsPlaceAt (nodes : List Node) (k : ℕ) (p : Place) : Type 0 where
   pub parent : (d : Node) → p.parent.number ≡ (slice_index_or nodes k d).key.parent.number
   pub own_start : (d : Node) → p.own_start ≡ (slice_index_or nodes k d).sums.own_start
   pub id : (d : Node) → p.id ≡ (slice_index_or nodes k d).key.id
-  pub text : (d : Node) → p.text.now ≡ (slice_index_or nodes k d).key.text.now
+  pub text : (d : Node) → p.text.now ≡ string_bytes (slice_index_or nodes k d).key.text
 
 abbrev pub IsPlaceOf : List Node → Place → Type 0
 IsPlaceOf nodes p = (k : ℕ) × (k < length nodes) × IsPlaceAt nodes k p

@@ -1,14 +1,18 @@
 -- A table of nodes, each of which is found by its parent's number and its label. Steps of the proof, and no part of what is promised.
-use Rattle.std.specs.Prelude.{◌≡◌, ℕ, ◌+◌, ◌-◌, ◌<◌, ◌≤◌, ◌^◌, ℤ, max, List, [], ◌∷◌, ◌++◌, map, fold, slice_index_or, slice_set, All, vec_len, Some}
+use Rattle.std.specs.Prelude.{◌≡◌, ℕ, ◌+◌, ◌-◌, ◌<◌, ◌≤◌, ◌^◌, ℤ, max, List, [], ◌∷◌, ◌++◌, map, fold, slice_index_or, slice_set, All, vec_len, string_bytes, string_cmp, Option, None, Some}
 use Rattle.std.specs.declared.cmp.Ordering.{Ordering}
+use Rattle.std.specs.declared.string.String.{String}
+use Rattle.std.specs.declared.alloc.Global.{Global}
 use Rattle.std.specs.Ordering.{nat_cmp, on, then_cmp}
-use Rattle.std.specs.Cmp.Lexicographic.{slice_cmp}
 use Rattle.std.specs.Map.{lookup}
-use Rattle.std.specs.BTreeMap.{is_at}
+use Rattle.std.specs.BTreeMap.{is_at, btree_map_len}
 use Rattle.std.specs.Int.{int_min}
 use Rattle.puffin_merge.specs.declared.merge.table.Table.{Table}
 use Rattle.puffin_merge.specs.declared.merge.table.Node.{Node}
 use Rattle.puffin_merge.specs.declared.merge.table.Key.{Key}
+use Rattle.puffin_merge.specs.declared.merge.table.Asked.{Asked}
+use Rattle.puffin_merge.specs.declared.merge.table.Spot.{Spot}
+use Rattle.puffin_merge.specs.declared.merge.table.TextNumber.{TextNumber}
 use Rattle.puffin_merge.specs.declared.merge.table.Sums.{Sums}
 use Rattle.puffin_merge.specs.declared.merge.table.NodeNumber.{NodeNumber}
 use Rattle.puffin_merge.specs.Merge.Occurrences.{Label, Path, Occurrence}
@@ -17,7 +21,10 @@ use Rattle.puffin_merge.specs.Merge.{below}
 use Rattle.puffin_merge.specs.Merge.Refusals.{SumsFit}
 
 abbrev pub label_in : Key → Label
-label_in key = record { id = key.id; text = key.text.now }
+label_in key = record { id = key.id; text = string_bytes key.text }
+
+abbrev pub asked_for : Asked → Label
+asked_for key = record { id = key.id; text = key.text.now }
 
 abbrev pub merged_in : Sums → Merged
 merged_in sums = record {
@@ -41,26 +48,51 @@ keys_in nodes = map (λ n. n.key) nodes
 abbrev pub path_at : List Node → ℕ → Path
 path_at nodes number = slice_index_or (paths_of (keys_in nodes)) number []
 
+-- a key of this label below this parent
+pub record IsUnder (a : Key) (number : ℕ) (text : Label) : Type 0 where
+  pub parent : a.parent.number ≡ number
+  pub label : label_in a ≡ text
+
 -- keys that find the same
-pub record IsSameKey (a b : Key) : Type 0 where
-  pub parent : a.parent.number ≡ b.parent.number
-  pub label : label_in a ≡ label_in b
+abbrev pub IsSameKey : Key → Key → Type 0
+IsSameKey a b = IsUnder a b.parent.number (label_in b)
+
+abbrev pub HasLabel : List Node → ℕ → ℕ → Label → Type 0
+HasLabel nodes k parent label = (d : Node) → IsUnder (slice_index_or nodes k d).key parent label
 
 abbrev pub HasKey : List Node → ℕ → Key → Type 0
 HasKey nodes k key = (d : Node) → IsSameKey (slice_index_or nodes k d).key key
 
-abbrev pub key_cmp : Key → Key → Ordering
-key_cmp =
+abbrev pub spot_cmp : Spot → Spot → Ordering
+spot_cmp =
     then_cmp (on (λ k. k.parent.number) nat_cmp) (
-    then_cmp (on (λ k. k.id) nat_cmp) (on (λ k. k.text.now) (slice_cmp nat_cmp)))
+    then_cmp (on (λ k. k.id) nat_cmp) (on (λ k. k.text.number) nat_cmp))
 
--- each node is found, and nothing else is
+-- a key whose text has this number, if it has one
+abbrev pub spot_of : Key → TextNumber → Spot
+spot_of key text = record { parent = key.parent; id = key.id; text = text }
+
+abbrev pub number_in : Table → Key → Option TextNumber → Option NodeNumber
+number_in t key None = None
+number_in t key (Some text) = lookup (is_at (spot_cmp (spot_of key text))) t.numbers.entries
+
+-- where a key is found: by its text's number
+abbrev pub found_in : Table → Key → Option NodeNumber
+found_in t key = number_in t key (lookup (is_at (string_cmp key.text)) t.texts.entries)
+
+-- each node is found, and nothing else is; each text has a number of its own
 pub record IsFound (t : Table) : Type 0 where
-  pub found : (q : Key) (x : NodeNumber) → lookup (is_at (key_cmp q)) t.numbers.entries ≡ Some x →
+  pub found : (q : Key) (x : NodeNumber) → found_in t q ≡ Some x →
       (0 < x.number) × (x.number ≤ vec_len t.nodes) × HasKey t.nodes.items (x.number - 1) q
   pub all_found : (k : ℕ) (d : Node) → k < vec_len t.nodes →
-      lookup (is_at (key_cmp (slice_index_or t.nodes.items k d).key)) t.numbers.entries
-      ≡ Some (record { number = k + 1 })
+      found_in t (slice_index_or t.nodes.items k d).key ≡ Some (record { number = k + 1 })
+  pub counted : (a : String Global) (x : TextNumber) →
+      lookup (is_at (string_cmp a)) t.texts.entries ≡ Some x → x.number < btree_map_len t.texts
+  pub own : (a b : String Global) (x : TextNumber) →
+      lookup (is_at (string_cmp a)) t.texts.entries ≡ Some x →
+      lookup (is_at (string_cmp b)) t.texts.entries ≡ Some x → string_bytes a ≡ string_bytes b
+  pub used : (q : Spot) (y : NodeNumber) →
+      lookup (is_at (spot_cmp q)) t.numbers.entries ≡ Some y → q.text.number < btree_map_len t.texts
 
 abbrev pub made_node : Key → ℤ → ℕ → Node
 made_node key own_start duration = record {
@@ -89,7 +121,8 @@ FitsOneMore nodes k duration =
 -- the sums of the node at k fit with one piece more, which it takes in, and the others stay
 abbrev pub GrowsAt : Table → ℕ → ℤ → ℕ → Table → Type 0
 GrowsAt t k own_start duration u =
-    (u.numbers ≡ t.numbers)
+    (u.texts ≡ t.texts)
+    × (u.numbers ≡ t.numbers)
     × ((d : Node) → u.nodes.items
     ≡ slice_set t.nodes.items k (
     grown_node (slice_index_or t.nodes.items k d) own_start duration))
@@ -115,10 +148,10 @@ pub record IsTableOf (all : List Occurrence) (t : Table) : Type 0 where
       all
   pub found : IsFound t
 
--- a piece under a key
-abbrev pub occurrence_at : Table → Key → ℤ → ℕ → Occurrence
-occurrence_at t key own_start duration = record {
-  path = below (path_at t.nodes.items key.parent.number) (label_in key);
+-- a piece of a label below a node
+abbrev pub occurrence_at : Table → ℕ → Label → ℤ → ℕ → Occurrence
+occurrence_at t parent label own_start duration = record {
+  path = below (path_at t.nodes.items parent) label;
   own_start = own_start;
   duration = duration;
 }
@@ -128,14 +161,13 @@ pub record Extends (t u : Table) : Type 0 where
   pub longer : vec_len t.nodes ≤ vec_len u.nodes
   pub kept : (k : ℕ) → k ≤ vec_len t.nodes → path_at u.nodes.items k ≡ path_at t.nodes.items k
 
--- one piece under a key was taken in, at the node with this number
-pub record AddsAt (t : Table) (key : Key) (own_start : ℤ) (duration at : ℕ) (u : Table) :
-    Type 0 where
+-- one piece of a label below a node was taken in, at the node with this number
+pub record AddsAt (t : Table) (parent : ℕ) (label : Label) (own_start : ℤ) (duration at : ℕ)
+    (u : Table) : Type 0 where
   pub number : at ≤ vec_len u.nodes
-  pub path : path_at u.nodes.items at
-      ≡ below (path_at t.nodes.items key.parent.number) (label_in key)
+  pub path : path_at u.nodes.items at ≡ below (path_at t.nodes.items parent) label
   pub extends : Extends t u
   pub fits : (all : List Occurrence) → IsTableOf all t →
-      SumsFit all (occurrence_at t key own_start duration)
+      SumsFit all (occurrence_at t parent label own_start duration)
   pub table : (all : List Occurrence) → IsTableOf all t →
-      IsTableOf (all ++ (occurrence_at t key own_start duration ∷ [])) u
+      IsTableOf (all ++ (occurrence_at t parent label own_start duration ∷ [])) u

@@ -1,6 +1,6 @@
 //! Laws of merging, as contracts of functions that do nothing. A proof of another crate cites them by calling the function.
 
-ghost use Rattle.std.specs.Prelude.{◌≡◌, ℕ, pos, List, [], ◌∷◌, ◌++◌, IsPermutation};
+ghost use Rattle.std.specs.Prelude.{◌≡◌, ◌↔◌, true, ℕ, pos, List, [], ◌∷◌, ◌++◌, IsPermutation};
 ghost use Rattle.std.specs.declared.sync.Arc.{Arc};
 ghost use Rattle.std.specs.declared.alloc.Global.{Global};
 ghost use Rattle.puffin_data.specs.declared.error.Error.{Error};
@@ -14,6 +14,8 @@ ghost use Rattle.puffin_merge.specs.Merge.FrameBytes.{FrameBytes};
 ghost use Rattle.puffin_merge.specs.Merge.Refusals.{IsMergeRefusal, AreMerged};
 ghost use Rattle.puffin_merge.specs.Merge.Scopes.{frames_bytes, forest_in};
 ghost use Rattle.puffin_merge.specs.declared.merge.scope.MergeScope.{MergeScope};
+
+use crate::merge::scope::MergeScope;
 
 /// Siblings that each start as early as they can have the least feasible starts.
 pub fn earliest_starts()
@@ -52,4 +54,11 @@ pub fn same_scopes()
     ensures { (before after : List MergeScope) (s t : MergeScope) →
         forest_in (s ∷ []) ≡ forest_in (t ∷ []) →
         forest_in (before ++ (s ∷ after)) ≡ forest_in (before ++ (t ∷ after)) }
+{}
+
+/// Merged scopes are equal where they say the same, down to the innermost, wherever their texts are kept.
+pub fn equal_scopes<'s>()
+    ensures { (s t : MergeScope) →
+        (⟦<MergeScope<'s> as PartialEq>⟧.eq s t ≡ true)
+        ↔ (forest_in (s ∷ []) ≡ forest_in (t ∷ [])) }
 {}

@@ -10,7 +10,7 @@ ghost use Rattle.puffin_merge.specs.inner.Merging.{TakesScopes, RefusesScope};
 ghost use Rattle.puffin_merge.specs.inner.Tables.{IsTableOf};
 ghost use Rattle.puffin_merge.specs.inner.Origins.{IsOrigin, fits_i64};
 
-use crate::merge::table::{Key, NodeNumber, Table};
+use crate::merge::table::{Asked, NodeNumber, Table};
 use puffin_data::data::{Sighting, Visitor, text_of, walk_with};
 use puffin_data::{Error, NanoSecond, Result};
 use puffin_frames::frame_data::UnpackedFrameData;
@@ -46,14 +46,14 @@ impl Open {
 
 /// The table, and what the starts of top scopes are counted from in the stream that is read.
 #[derive(Drop)]
-pub(crate) struct Merging<'s> {
-    pub table: Table<'s>,
+pub(crate) struct Merging {
+    pub table: Table,
     pub origin: i128,
 }
 
-impl<'s> Merging<'s> {
+impl Merging {
     /// Nothing is merged yet.
-    pub(crate) fn new(alloc: Global) -> Merging<'s>
+    pub(crate) fn new(alloc: Global) -> Merging
         ensures { IsTableOf [] result.table }
     {
         Merging {
@@ -75,7 +75,7 @@ fn own_start(start: NanoSecond, origin: i128) -> Result<NanoSecond>
     }
 }
 
-impl<'s> Visitor<'s> for Merging<'s> {
+impl<'s> Visitor<'s> for Merging {
     ghost use Rattle.puffin_merge.specs.inner.Merging.{TakesScopes, RefusesScope, StandsFor};
     ghost use Rattle.puffin_merge.specs.inner.Merging as steps;
 
@@ -97,15 +97,16 @@ impl<'s> Visitor<'s> for Merging<'s> {
         if within.depth >= GREATEST_DEPTH {
             return Err(Error::TooDeep);
         }
+        let alloc = *self.table.nodes.allocator();
         let own_start = own_start(scope.start, within.origin)?;
-        let key = Key {
+        let key = Asked {
             parent: within.node,
             id: scope.id,
             text: text_of(scope.text),
         };
         let node = self
             .table
-            .add(key, own_start, scope.stop.abs_diff(scope.start))?;
+            .add(alloc, key, own_start, scope.stop.abs_diff(scope.start))?;
         Ok(Open {
             node,
             depth: within.depth + 1,
@@ -115,19 +116,19 @@ impl<'s> Visitor<'s> for Merging<'s> {
 }
 
 /// What the starts of a frame's top scopes are counted from, as if its range started where the first frame's does.
-fn origin_of(frame: &UnpackedFrameData, first: &UnpackedFrameData) -> i128
-    ensures origin { result ≡ frame.now.meta.range_ns.0 -ℤ first.now.meta.range_ns.0 }
+fn origin_of(frame: &UnpackedFrameData, first: NanoSecond) -> i128
+    ensures origin { result ≡ frame.now.meta.range_ns.0 -ℤ first }
     ensures is { IsOrigin result }
 {
-    frame.meta.range_ns.0 as i128 - first.meta.range_ns.0 as i128
+    frame.meta.range_ns.0 as i128 - first as i128
 }
 
 /// Takes the scopes of a frame's stream into the table, if it has one under the info.
-pub(crate) fn read_frame<'s>(
+pub(crate) fn read_frame(
     alloc: Global,
-    merging: &mut Merging<'s>,
-    frame: &'s UnpackedFrameData,
-    first: &UnpackedFrameData,
+    merging: &mut Merging,
+    frame: &UnpackedFrameData,
+    first: NanoSecond,
     info: &ThreadInfo,
     tries: &mut u64,
 ) -> Result<()>
@@ -136,7 +137,7 @@ pub(crate) fn read_frame<'s>(
         TakesAll (form_of (frame_bytes (info_of info.now) frame.now)) TakesScopes
         (record {
           table = merging.old.table;
-          origin = frame.now.meta.range_ns.0 -ℤ first.now.meta.range_ns.0;
+          origin = frame.now.meta.range_ns.0 -ℤ first;
         })
         merging.new (bytes_of (frame_bytes (info_of info.now) frame.now)) tries.new) }
     ensures err { IfErr result (λ e.
@@ -145,7 +146,7 @@ pub(crate) fn read_frame<'s>(
         RefusesScope
         (record {
           table = merging.old.table;
-          origin = frame.now.meta.range_ns.0 -ℤ first.now.meta.range_ns.0;
+          origin = frame.now.meta.range_ns.0 -ℤ first;
         })
         merging.new (bytes_of (frame_bytes (info_of info.now) frame.now)) tries.new e) }
     ensures few { tries.new ≤ most_tries_of (frame_bytes (info_of info.now) frame.now) }

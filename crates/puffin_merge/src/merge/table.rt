@@ -1,10 +1,12 @@
 //! The nodes of what is merged, in one list.
 
-ghost use Rattle.std.specs.Prelude.{◌≡◌, ◌<◌, ◌≤◌, ◌+◌, ◌-◌, ◌^◌, ◌⊎◌, ◌++◌, ◌∷◌, [], List, ℕ, vec_len, max, IfOk, IfErr, IfSome, IfNone, OnOk};
+ghost use Rattle.std.specs.Prelude.{◌≡◌, ◌<◌, ◌≤◌, ◌+◌, ◌-◌, ◌^◌, ◌⊎◌, ◌++◌, ◌∷◌, [], List, ℕ, vec_len, max, string_cmp, IfOk, IfErr, IfSome, IfNone, OnOk};
 ghost use Rattle.std.specs.Int.{int_min};
+ghost use Rattle.std.specs.Map.{lookup};
+ghost use Rattle.std.specs.BTreeMap.{is_at};
 ghost use Rattle.puffin_merge.specs.Merge.Occurrences.{Occurrence};
 ghost use Rattle.puffin_merge.specs.Merge.Refusals.{SumsFit};
-ghost use Rattle.puffin_merge.specs.inner.Tables.{IsTableOf, HasKey, IsFound, made_node, occurrence_at, FitsOneMore, GrowsAt, AddsAt};
+ghost use Rattle.puffin_merge.specs.inner.Tables.{IsTableOf, HasKey, HasLabel, IsFound, asked_for, made_node, occurrence_at, FitsOneMore, GrowsAt, AddsAt};
 
 use puffin_data::{Error, NanoSecond, Result};
 use std::alloc::Global;
@@ -16,13 +18,36 @@ pub(crate) struct NodeNumber {
     pub number: usize,
 }
 
-/// What tells a node from others.
-#[derive(Clone, Copy, Debug, PartialEq, Eq, PartialOrd, Ord)]
-pub(crate) struct Key<'s> {
+/// What is asked for: the node of a label below a parent.
+#[derive(Clone, Copy, Debug)]
+pub(crate) struct Asked<'k> {
     pub parent: NodeNumber,
     /// Not 0.
     pub id: u32,
-    pub text: &'s str,
+    pub text: &'k str,
+}
+
+/// What tells a node from others.
+#[derive(Debug, Drop)]
+pub(crate) struct Key {
+    pub parent: NodeNumber,
+    /// Not 0.
+    pub id: u32,
+    pub text: String,
+}
+
+/// A text of the table: texts are counted from 0 on.
+#[derive(Clone, Copy, Debug, PartialEq, Eq, PartialOrd, Ord)]
+pub(crate) struct TextNumber {
+    pub number: usize,
+}
+
+/// A key, its text by its number.
+#[derive(Clone, Copy, Debug, PartialEq, Eq, PartialOrd, Ord)]
+pub(crate) struct Spot {
+    pub parent: NodeNumber,
+    pub id: u32,
+    pub text: TextNumber,
 }
 
 /// What the pieces of a node sum up to.
@@ -77,40 +102,133 @@ impl Sums {
 }
 
 /// A node, and what its pieces sum up to.
-#[derive(Clone, Copy, Debug)]
-pub(crate) struct Node<'s> {
-    pub key: Key<'s>,
+#[derive(Debug, Drop)]
+pub(crate) struct Node {
+    pub key: Key,
     pub sums: Sums,
 }
 
 /// The nodes, and where each is found.
 #[derive(Drop)]
-pub(crate) struct Table<'s> {
-    pub nodes: Vec<Node<'s>>,
-    numbers: BTreeMap<Key<'s>, NodeNumber>,
+pub(crate) struct Table {
+    pub nodes: Vec<Node>,
+    texts: BTreeMap<String, TextNumber>,
+    numbers: BTreeMap<Spot, NodeNumber>,
+    /// Of each node, by its place: the place of the node that was asked for next, when it was asked for the last time.
+    /// Frames are much alike, so that is often asked for next again.
+    guesses: Vec<usize>,
+    /// The place of the node that was asked for last.
+    last: usize,
 }
 
-impl<'s> Table<'s> {
+impl Table {
     /// Of no scope.
-    pub(crate) fn new(alloc: Global) -> Table<'s>
+    pub(crate) fn new(alloc: Global) -> Table
         ensures { IsTableOf [] result }
     {
         Table {
             nodes: Vec::new(alloc),
+            texts: BTreeMap::new(alloc),
             numbers: BTreeMap::new(alloc),
+            guesses: Vec::new(alloc),
+            last: 0,
         }
     }
 
-    fn find(&self, key: &Key<'s>) -> Option<NodeNumber>
+    /// The node that was asked for next the last time, if it is the one that is asked for now.
+    fn guessed(&self, key: &Asked) -> Option<NodeNumber>
+        ensures some { IfSome result (λ x.
+            (0 < x.number)
+            × (x.number ≤ vec_len self.now.nodes)
+            × HasLabel self.now.nodes.items (x.number - 1) key.now.parent.number
+            (asked_for key.now)) }
+    {
+        let place = *self.guesses.get(self.last)?;
+        let node = self.nodes.get(place)?;
+        if node.key.parent.number == key.parent.number
+            && node.key.id == key.id
+            && node.key.text.as_str() == key.text
+        {
+            Some(NodeNumber { number: place + 1 })
+        } else {
+            None
+        }
+    }
+
+    /// Keeps which place was asked for next.
+    fn follow(&mut self, place: usize)
+        ensures nodes { self.new.nodes ≡ self.old.nodes }
+        ensures texts { self.new.texts ≡ self.old.texts }
+        ensures numbers { self.new.numbers ≡ self.old.numbers }
+    {
+        if let Some(guess) = self.guesses.get_mut(self.last) {
+            *guess = place;
+        }
+        self.last = place;
+    }
+
+    /// The node of a label below a parent, by its text's number.
+    fn look_up(&self, key: &Asked) -> Option<NodeNumber>
         requires { IsFound self.now }
         ensures some { IfSome result (λ x.
             (0 < x.number)
             × (x.number ≤ vec_len self.now.nodes)
-            × HasKey self.now.nodes.items (x.number - 1) key.now) }
+            × HasLabel self.now.nodes.items (x.number - 1) key.now.parent.number
+            (asked_for key.now)) }
         ensures none { IfNone result (
-            (k : ℕ) → k < vec_len self.now.nodes → HasKey self.now.nodes.items k key.now → ⊥) }
+            (k : ℕ) → k < vec_len self.now.nodes →
+            HasLabel self.now.nodes.items k key.now.parent.number (asked_for key.now) → ⊥) }
     {
-        self.numbers.get(key).copied()
+        match self.texts.get_key_value(key.text) {
+            None => None,
+            Some((_text, number)) => self
+                .numbers
+                .get(&Spot {
+                    parent: key.parent,
+                    id: key.id,
+                    text: *number,
+                })
+                .copied(),
+        }
+    }
+
+    /// The node of a label below a parent.
+    fn find(&self, key: &Asked) -> Option<NodeNumber>
+        requires { IsFound self.now }
+        ensures some { IfSome result (λ x.
+            (0 < x.number)
+            × (x.number ≤ vec_len self.now.nodes)
+            × HasLabel self.now.nodes.items (x.number - 1) key.now.parent.number
+            (asked_for key.now)) }
+        ensures none { IfNone result (
+            (k : ℕ) → k < vec_len self.now.nodes →
+            HasLabel self.now.nodes.items k key.now.parent.number (asked_for key.now) → ⊥) }
+    {
+        match self.guessed(key) {
+            Some(number) => Some(number),
+            None => self.look_up(key),
+        }
+    }
+
+    /// The number of a text, which is taken in where it isn't there.
+    fn number_of(&mut self, text: &String) -> Result<TextNumber>
+        requires { IsFound self.old }
+        ensures ok { IfOk result (λ x.
+            lookup (is_at (string_cmp text.now)) self.new.texts.entries ≡ Some x) }
+        ensures nodes { OnOk result (self.new.nodes ≡ self.old.nodes) }
+        ensures numbers { OnOk result (self.new.numbers ≡ self.old.numbers) }
+        ensures found { OnOk result (IsFound self.new) }
+        ensures err { IfErr result (λ e. e ≡ Error.Memory) }
+    {
+        if let Some(number) = self.texts.get(text) {
+            return Ok(*number);
+        }
+        let number = TextNumber {
+            number: self.texts.len(),
+        };
+        let own = text.clone()?;
+        let _none = self.texts.insert(own, number)?;
+        Ok(number)
     }
 
     /// Takes one piece more in at a node.
@@ -122,6 +240,7 @@ impl<'s> Table<'s> {
             (e ≡ Error.TooLarge)
             × (FitsOneMore self.old.nodes.items (number.number - 1) duration → ⊥)) }
     {
+        self.follow(number.number - 1);
         let node = &mut self.nodes[number.number - 1];
         match node.sums.more(own_start, duration) {
             None => Err(Error::TooLarge),
@@ -133,32 +252,40 @@ impl<'s> Table<'s> {
     }
 
     /// Makes a node of one piece.
-    fn start(&mut self, key: Key<'s>, own_start: NanoSecond, duration: u64) -> Result<NodeNumber>
+    fn start(&mut self, key: Key, own_start: NanoSecond, duration: u64) -> Result<NodeNumber>
         requires found { IsFound self.old }
         requires new_key { (k : ℕ) → k < vec_len self.old.nodes →
             HasKey self.old.nodes.items k key → ⊥ }
         ensures number { IfOk result (λ x. x.number ≡ vec_len self.old.nodes + 1) }
         ensures nodes { OnOk result (
             self.new.nodes.items
-            ≡ self.old.nodes.items ++ (made_node key.entry own_start duration ∷ [])) }
+            ≡ self.old.nodes.items ++ (made_node key own_start duration ∷ [])) }
         ensures found { OnOk result (IsFound self.new) }
         ensures err { IfErr result (λ e. e ≡ Error.Memory) }
     {
+        self.guesses.push(0)?;
+        let place = self.nodes.len();
+        self.follow(place);
+        let text = self.number_of(&key.text)?;
+        let spot = Spot {
+            parent: key.parent,
+            id: key.id,
+            text,
+        };
         self.nodes.push(Node {
             key,
             sums: Sums::one(own_start, duration),
         })?;
-        let number = NodeNumber {
-            number: self.nodes.len(),
-        };
-        let _none = self.numbers.insert(key, number)?;
+        let number = NodeNumber { number: place + 1 };
+        let _none = self.numbers.insert(spot, number)?;
         Ok(number)
     }
 
-    /// Takes one piece in at its node, which is made where it isn't there.
+    /// Takes one piece in at its node, which is made where it isn't there, with a text of its own.
     pub(crate) fn add(
         &mut self,
-        key: Key<'s>,
+        alloc: Global,
+        key: Asked,
         own_start: NanoSecond,
         duration: u64,
     ) -> Result<NodeNumber>
@@ -167,12 +294,15 @@ impl<'s> Table<'s> {
         requires id { 0 < key.id }
         requires parent { key.parent.number ≤ vec_len self.old.nodes }
         ensures ok { IfOk result (λ x.
-            AddsAt self.old key.entry own_start duration x.number self.new) }
+            AddsAt self.old key.entry.parent.number (asked_for key.entry) own_start duration
+            x.number self.new) }
         ensures err { IfErr result (λ e.
             (e ≡ Error.Memory)
             ⊎ ((e ≡ Error.TooLarge)
             × ((all : List Occurrence) → IsTableOf all self.old →
-            SumsFit all (occurrence_at self.old key.entry own_start duration) → ⊥))) }
+            SumsFit all (
+            occurrence_at self.old key.entry.parent.number (asked_for key.entry) own_start duration)
+            → ⊥))) }
     {
         let found = self.find(&key);
         match found {
@@ -180,7 +310,15 @@ impl<'s> Table<'s> {
                 self.grow(number, own_start, duration)?;
                 Ok(number)
             }
-            None => self.start(key, own_start, duration),
+            None => {
+                let text = key.text.to_string(alloc)?;
+                let own = Key {
+                    parent: key.parent,
+                    id: key.id,
+                    text,
+                };
+                self.start(own, own_start, duration)
+            }
         }
     }
 }

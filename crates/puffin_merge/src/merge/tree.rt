@@ -22,16 +22,16 @@ use std::mem;
 
 /// A node as it stands among all, siblings in order.
 #[derive(Clone, Copy, Debug, PartialEq, Eq, PartialOrd, Ord)]
-struct Place<'s> {
+struct Place<'t> {
     parent: NodeNumber,
     own_start: NanoSecond,
     id: u32,
-    text: &'s str,
+    text: &'t str,
     number: NodeNumber,
 }
 
 /// All nodes, those of one parent together and in order.
-fn places<'s>(alloc: Global, table: &Table<'s>) -> Result<Vec<Place<'s>>>
+fn places(alloc: Global, table: &Table) -> Result<Vec<Place<'_>>>
     ensures places { IfOk result (λ places. ArePlacesOf table.now.nodes.items places.items) }
     ensures err { IfErr result (λ e. e ≡ Error.Memory) }
 {
@@ -42,7 +42,7 @@ fn places<'s>(alloc: Global, table: &Table<'s>) -> Result<Vec<Place<'s>>>
             parent: node.key.parent,
             own_start: node.sums.own_start,
             id: node.key.id,
-            text: node.key.text,
+            text: node.key.text.as_str(),
             number: NodeNumber { number: i + 1 },
         })?;
     }
@@ -121,39 +121,42 @@ fn draw_all(alloc: Global, table: &Table, places: &[Place], frames: usize) -> Re
     Ok(drawn)
 }
 
-/// The merged scope of a place's node, with its children.
+/// The merged scope of a place's node, with its children and a text of its own. Refused only with `Memory`.
 fn scope_at<'s>(
-    place: &Place<'s>,
+    alloc: Global,
+    place: &Place,
     sums: &Sums,
     drawn: &Drawn,
     frames: usize,
     children: Vec<MergeScope<'s>>,
-) -> MergeScope<'s>
+) -> Result<MergeScope<'s>>
     requires frames { 0 < frames }
     requires id { 0 < place.now.id }
     requires small { sums.now.total < 2 ^ 63 }
     requires greatest { sums.now.greatest < 2 ^ 63 }
-    ensures { (others : MergedForest) →
-        scope_then result others
+    ensures ok { IfOk result (λ scope. (others : MergedForest) →
+        scope_then scope others
         ≡ merged (drawn_node frames sums.now place.now drawn.now) (forest_in children.entry.items)
-        others }
+        others) }
+    ensures err { IfErr result (λ e. e ≡ Error.Memory) }
 {
-    MergeScope {
+    let text = place.text.to_string(alloc)?;
+    Ok(MergeScope {
         relative_start_ns: drawn.start,
         total_duration_ns: sums.total as i64,
         duration_per_frame_ns: per_frame(sums, frames),
         max_duration_ns: sums.greatest as i64,
         num_pieces: sums.number,
         id: ScopeId::new(place.id).unwrap(),
-        text: CowStr::Borrowed(place.text),
+        text: CowStr::Owned(text),
         children,
-    }
+    })
 }
 
 /// The merged scopes of a table.
 pub(crate) fn tree_of<'s>(
     alloc: Global,
-    table: &Table<'s>,
+    table: &Table,
     frames: usize,
 ) -> Result<Vec<MergeScope<'s>>>
     requires frames { 0 < frames }
@@ -180,7 +183,7 @@ pub(crate) fn tree_of<'s>(
         let node = &table.nodes[place.number.number - 1];
         let mut children = mem::replace(&mut rows[place.number.number], Vec::new(alloc));
         children.reverse();
-        let scope = scope_at(place, &node.sums, &drawn[i], frames, children);
+        let scope = scope_at(alloc, place, &node.sums, &drawn[i], frames, children)?;
         rows[place.parent.number].push(scope)?;
     }
     let mut top = mem::replace(&mut rows[0], Vec::new(alloc));

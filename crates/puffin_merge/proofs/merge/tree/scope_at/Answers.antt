@@ -6,8 +6,8 @@ use Rattle.puffin_merge.specs.Merge.Scopes.{forest_in}
 use Rattle.puffin_merge.proofs.Attaching.{made_then, held_is}
 use Rattle.puffin_merge.proofs.merge.tree.scope_at.Goals as goal
 
-pub returns : goal.returns
-returns c =
+pub returns-clause-ok : goal.returns-clause-ok
+returns-clause-ok c =
     let fits : FitsSigned w64 c.args.drawn.now.start = omega (arith, ints, c.well_formed) in
     let start = to_z-of_z w64 c.args.drawn.now.start fits in
     let small : FitsSigned w64 c.per_frame.result = omega (arith, ints, c.per_frame.type_inv) in
@@ -16,4 +16,4 @@ returns c =
     let total = to_z_pos w64 c.args.sums.now.total c.requires.small in
     let greatest = to_z_pos w64 c.args.sums.now.greatest c.requires.greatest in
     λ others. made_then _ _ _ _ _ _ _ c.args.children others
-    ∙ (λ i. merged (record { label = record { id = id i; text = c.args.place.now.text.now }; start = start i; total = total i; per_frame = per_frame i; greatest = greatest i; pieces = c.args.sums.now.number }) (forest_in c.args.children.items) others)
+    ∙ (λ i. merged (record { label = record { id = id i; text = c.in_ok-text.ensures.ok i }; start = start i; total = total i; per_frame = per_frame i; greatest = greatest i; pieces = c.args.sums.now.number }) (forest_in c.args.children.items) others)

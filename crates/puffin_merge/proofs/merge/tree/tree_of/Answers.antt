@@ -32,14 +32,14 @@ index_mut-requires c = let u = usable c.args.table.now c.in_ok-places.places.ite
 pub index_mut-requires-in-places : goal.index_mut-requires-in-places
 index_mut-requires-in-places c = let u = usable c.args.table.now c.in_ok-places.places.items (c.places.i - 1) c.index-place.result.now _ c.index-node.result.now _ c.requires.table c.in_ok-places.ensures.places (omega (arith, c.in_ok-places.places.ok.0, c.len-i.ensures)) c.index-place.ensures c.index-node.ensures in let high = u.high in let parent = u.parent in omega (arith, high, parent, c.places.invariant.size, c.in_ok-places.places.ok.0, c.in_ok-places.ensures.places.size, c.args.table.now.nodes.ok.0)
 
-pub scope_at-scope-requires-clause-id : goal.scope_at-scope-requires-clause-id
-scope_at-scope-requires-clause-id c = let u = usable c.args.table.now c.in_ok-places.places.items (c.places.i - 1) c.index-place.result.now _ c.index-node.result.now _ c.requires.table c.in_ok-places.ensures.places (omega (arith, c.in_ok-places.places.ok.0, c.len-i.ensures)) c.index-place.ensures c.index-node.ensures in u.id
+pub scope_at-requires-clause-id : goal.scope_at-requires-clause-id
+scope_at-requires-clause-id c = let u = usable c.args.table.now c.in_ok-places.places.items (c.places.i - 1) c.index-place.result.now _ c.index-node.result.now _ c.requires.table c.in_ok-places.ensures.places (omega (arith, c.in_ok-places.places.ok.0, c.len-i.ensures)) c.index-place.ensures c.index-node.ensures in u.id
 
-pub scope_at-scope-requires-clause-small : goal.scope_at-scope-requires-clause-small
-scope_at-scope-requires-clause-small c = let u = usable c.args.table.now c.in_ok-places.places.items (c.places.i - 1) c.index-place.result.now _ c.index-node.result.now _ c.requires.table c.in_ok-places.ensures.places (omega (arith, c.in_ok-places.places.ok.0, c.len-i.ensures)) c.index-place.ensures c.index-node.ensures in u.small
+pub scope_at-requires-clause-small : goal.scope_at-requires-clause-small
+scope_at-requires-clause-small c = let u = usable c.args.table.now c.in_ok-places.places.items (c.places.i - 1) c.index-place.result.now _ c.index-node.result.now _ c.requires.table c.in_ok-places.ensures.places (omega (arith, c.in_ok-places.places.ok.0, c.len-i.ensures)) c.index-place.ensures c.index-node.ensures in u.small
 
-pub scope_at-scope-requires-clause-greatest : goal.scope_at-scope-requires-clause-greatest
-scope_at-scope-requires-clause-greatest c = let u = usable c.args.table.now c.in_ok-places.places.items (c.places.i - 1) c.index-place.result.now _ c.index-node.result.now _ c.requires.table c.in_ok-places.ensures.places (omega (arith, c.in_ok-places.places.ok.0, c.len-i.ensures)) c.index-place.ensures c.index-node.ensures in u.greatest
+pub scope_at-requires-clause-greatest : goal.scope_at-requires-clause-greatest
+scope_at-requires-clause-greatest c = let u = usable c.args.table.now c.in_ok-places.places.items (c.places.i - 1) c.index-place.result.now _ c.index-node.result.now _ c.requires.table c.in_ok-places.ensures.places (omega (arith, c.in_ok-places.places.ok.0, c.len-i.ensures)) c.index-place.ensures c.index-node.ensures in u.greatest
 
 pub index-requires : goal.index-requires
 index-requires c =
@@ -53,12 +53,12 @@ places-preserved c =
     let high = u.high in
     record {
       size = c.places.invariant.size;
-      forests = hold_next c.args.table.now c.args.frames c.places.rows.items c.in_ok-places.places.items c.in_ok-drawn.drawn.items c.places.i (c.places.i - 1) c.index-place.result.now _ c.index.result.now _ c.index-node.result.now _ c.scope_at-scope.result c.replace-children.new.dest c.push-in-places.new.self c.index_mut-in-places.result.now c.replace-children.result _ _ c.reverse.new.self.items
+      forests = hold_next c.args.table.now c.args.frames c.places.rows.items c.in_ok-places.places.items c.in_ok-drawn.drawn.items c.places.i (c.places.i - 1) c.index-place.result.now _ c.index.result.now _ c.index-node.result.now _ c.in_ok-scope.scope c.replace-children.new.dest c.push-in-places.new.self c.index_mut-in-places.result.now c.replace-children.result _ _ c.reverse.new.self.items
           c.in_ok-places.ensures.places (omega arith) (omega (arith, c.in_ok-places.places.ok.0, c.len-i.ensures))
           (omega (arith, size, drawn_size c.args.table.now.nodes.items c.args.frames c.as_slice.result.now above_all blank, c.as_slice.ensures.len, c.in_ok-drawn.drawn.ok.0, c.len-i.ensures))
           c.index-place.ensures c.index.ensures c.index-node.ensures u c.places.invariant.forests
           (omega (arith, high, c.places.invariant.size, c.places.rows.ok.0, c.in_ok-places.places.ok.0, c.in_ok-places.ensures.places.size, c.args.table.now.nodes.ok.0))
-          c.index_mut-in-places.ensures.value c.in_ok-push-2.ensures.items (c.replace-children.ensures.value ∙ c.index_mut.ensures.value) c.reverse.ensures.items c.scope_at-scope.ensures;
+          c.index_mut-in-places.ensures.value c.in_ok-push-2.ensures.items (c.replace-children.ensures.value ∙ c.index_mut.ensures.value) c.reverse.ensures.items c.in_ok-scope.ensures.ok;
     }
 
 pub returns-clause-ok : goal.returns-clause-ok

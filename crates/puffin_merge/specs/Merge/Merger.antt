@@ -1,0 +1,24 @@
+-- What contracts see of a merger.
+use Rattle.std.specs.Prelude.{◌≡◌, ℕ, ◌-◌, ◌^◌, ◌<◌, List, [], length}
+use Rattle.puffin_merge.specs.declared.merge.merger.Merger.{Merger}
+use Rattle.puffin_merge.specs.Merge.Occurrences.{FrameScopes, occurrences}
+use Rattle.puffin_merge.specs.Merge.FrameBytes.{FrameBytes, HaveScopes, start_of}
+use Rattle.puffin_merge.specs.Merge.Refusals.{AreAccepted}
+use Rattle.puffin_merge.specs.inner.Tables.{IsTableOf}
+
+-- These frames were added, in order, and their scopes are accepted and stand in the table.
+pub record HasAdded (added : List FrameBytes) (m : Merger) : Type 0 where
+  pub scopes : List FrameScopes
+  pub have : HaveScopes added scopes
+  pub accepted : AreAccepted [] (occurrences scopes)
+  pub table : IsTableOf (occurrences scopes) m.merging.table
+  pub number : m.frames ≡ length added
+  pub first : 0 < length added → m.first ≡ start_of added
+
+-- one try for each scope
+abbrev pub tries_for : {added : List FrameBytes} → {m : Merger} → HasAdded added m → ℕ
+tries_for h = length (occurrences h.scopes)
+
+-- some frames were added, and one more can be counted
+abbrev pub CanAdd : Merger → Type 0
+CanAdd m = ((added : List FrameBytes) × HasAdded added m) × (m.frames < 2 ^ 64 - 1)

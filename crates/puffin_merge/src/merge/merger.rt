@@ -1,0 +1,140 @@
+//! Merging one frame at a time.
+
+ghost use Rattle.std.specs.Prelude.{◌≡◌, ℕ, ◌+◌, ◌-◌, ◌^◌, ◌<◌, ◌≤◌, ◌⊎◌, ◌++◌, ◌∷◌, [], List, length, OnOk, IfOk, IfErr};
+ghost use Rattle.puffin_data.specs.declared.error.Error.{Error};
+ghost use Rattle.puffin_threads.specs.Thread.Info.{info_of};
+ghost use Rattle.puffin_merge.specs.Merge.Occurrences.{occurrences};
+ghost use Rattle.puffin_merge.specs.Merge.FrameBytes.{FrameBytes, most_tries_of};
+ghost use Rattle.puffin_merge.specs.Merge.Refusals.{IsMergeRefusal, IsRefusalAfter, AreMerged};
+ghost use Rattle.puffin_merge.specs.Merge.Scopes.{frame_bytes, forest_in};
+ghost use Rattle.puffin_merge.specs.Merge.Merger.{HasAdded, CanAdd, tries_for};
+
+use crate::merge::scope::MergeScope;
+use crate::merge::stream::{Merging, read_frame};
+use crate::merge::tree::tree_of;
+use puffin_data::{NanoSecond, Result};
+use puffin_frames::frame_data::UnpackedFrameData;
+use puffin_frames::thread_profiler::ThreadInfo;
+use std::alloc::Global;
+
+/// Merges one thread's scopes over frames that are added one at a time.
+///
+/// It keeps the table of their paths, with texts of its own, and nothing of a frame once that is added. So frames may be
+/// read, added and dropped one after the other.
+///
+/// ```
+/// let mut merger = Merger::new(alloc, &info);
+/// merger.add(&first)?;
+/// merger.add(&second)?;
+/// let merged = merger.finish()?;
+/// ```
+#[derive(Drop)]
+pub struct Merger<'i> {
+    alloc: Global,
+    info: &'i ThreadInfo,
+    merging: Merging,
+    first: NanoSecond,
+    frames: usize,
+}
+
+impl<'i> Merger<'i> {
+    /// Makes a merger of the scopes under an info, to which no frame was added yet. Takes no memory.
+    pub fn new(alloc: Global, info: &'i ThreadInfo) -> Merger<'i>
+        ensures info { result.info.now ≡ info.now }
+        ensures none { HasAdded [] result }
+    {
+        Merger {
+            alloc,
+            info,
+            merging: Merging::new(alloc),
+            first: 0,
+            frames: 0,
+        }
+    }
+
+    /// How many frames were added.
+    pub fn frames(&self) -> usize
+        ensures { (added : List FrameBytes) → HasAdded added self.now → result ≡ length added }
+    {
+        self.frames
+    }
+
+    /// Merges a frame with those that were added before it. Fewer than `2^64 - 1` may have been.
+    ///
+    /// Refused with what merging these frames is refused with, whatever frames follow, or with `Memory`. After a refusal
+    /// the merger takes no more frames, and can't be finished.
+    pub fn add(&mut self, frame: &UnpackedFrameData) -> Result<()>
+        requires { CanAdd self.old }
+        ensures info { self.new.info ≡ self.old.info }
+        ensures added { OnOk result ((added : List FrameBytes) → HasAdded added self.old →
+            HasAdded (added ++ (frame_bytes (info_of self.old.info.now) frame.now ∷ [])) self.new) }
+        ensures refused { IfErr result (λ e. (added later : List FrameBytes) →
+            HasAdded added self.old → (e ≡ Error.Memory) ⊎ IsMergeRefusal
+            (added ++ (frame_bytes (info_of self.old.info.now) frame.now ∷ later)) e) }
+    {
+        let mut tries = 0;
+        self.add_counted(frame, &mut tries)
+    }
+
+    /// The same. `tries` is set to the number of readings made at a byte `(`.
+    pub(crate) fn add_counted(&mut self, frame: &UnpackedFrameData, tries: &mut u64) -> Result<()>
+        requires { CanAdd self.old }
+        ensures info { self.new.info ≡ self.old.info }
+        ensures added { OnOk result ((added : List FrameBytes) →
+            (before : HasAdded added self.old) →
+            (h : HasAdded (added ++ (frame_bytes (info_of self.old.info.now) frame.now ∷ []))
+            self.new)
+            × (tries_for h ≡ tries_for before + tries.new)) }
+        ensures refused { IfErr result (λ e. (added later : List FrameBytes) →
+            (h : HasAdded added self.old) →
+            (e ≡ Error.Memory) ⊎ IsRefusalAfter
+            (added ++ (frame_bytes (info_of self.old.info.now) frame.now ∷ later))
+            (tries_for h + tries.new) e) }
+        ensures few { tries.new
+            ≤ most_tries_of (frame_bytes (info_of self.old.info.now) frame.now) }
+    {
+        let first = self.first_with(frame);
+        read_frame(
+            self.alloc,
+            &mut self.merging,
+            frame,
+            first,
+            self.info,
+            tries,
+        )?;
+        self.first = first;
+        self.frames += 1;
+        Ok(())
+    }
+
+    /// Where the first frame's range starts, if this one is the next.
+    fn first_with(&self, frame: &UnpackedFrameData) -> NanoSecond
+        ensures none { self.now.frames ≡ 0 → result ≡ frame.now.meta.range_ns.0 }
+        ensures some { 0 < self.now.frames → result ≡ self.now.first }
+    {
+        if self.frames == 0 {
+            frame.meta.range_ns.0
+        } else {
+            self.first
+        }
+    }
+
+    /// Gives the merge of the frames that were added, in their order; no frames give none. The scopes own their texts.
+    ///
+    /// Refused with `TooLarge` where an end doesn't fit, and with `Memory`.
+    pub fn finish<'s>(self) -> Result<Vec<MergeScope<'s>>>
+        requires { (added : List FrameBytes) × HasAdded added self }
+        ensures merged { IfOk result (λ merged. (added : List FrameBytes) →
+            (h : HasAdded added self.entry) →
+            (m : AreMerged added (forest_in merged.items))
+            × (tries_for h ≡ length (occurrences m.scopes))) }
+        ensures refused { IfErr result (λ e. (added : List FrameBytes) →
+            (h : HasAdded added self.entry) →
+            (e ≡ Error.Memory) ⊎ IsRefusalAfter added (tries_for h) e) }
+    {
+        if self.frames == 0 {
+            return Ok(Vec::new(self.alloc));
+        }
+        tree_of(self.alloc, &self.merging.table, self.frames)
+    }
+}
