@@ -1,8 +1,8 @@
 -- The emitted frames of a run, each with what was done before it; their indices rise.
 use Rattle.std.proofs.Common.{◌≡◌, ℕ, ◌+◌, ◌<◌, true, cond, List, [], ◌∷◌, ◌++◌, length, map, Option, None, Some, refl, sym, ap, subst, ◌∙◌, arith}
-use Rattle.std.specs.Prelude.{nat_lt, MatchOption, IfSome, if◌then◌else◌}
+use Rattle.std.specs.Prelude.{nat_lt, MatchOption, if◌then◌else◌}
 use Rattle.std.specs.Option.{is_some}
-use Rattle.std.specs.List.{AllByRecursion, AllZip}
+use Rattle.std.specs.List.{AllZip}
 use Rattle.std.specs.Arc.{arc_value}
 use Rattle.std.specs.declared.sync.Arc.{Arc}
 use Rattle.std.specs.declared.alloc.Global.{Global}
@@ -11,8 +11,8 @@ use Rattle.std.proofs.lemmas.List.Sums.{sum_by-append}
 use Rattle.puffin_frames.specs.declared.frame_data.frame.FrameData.{FrameData}
 use Rattle.puffin_frames.specs.declared.frame_data.meta.FrameMeta.{FrameMeta}
 use Rattle.puffin_frames.specs.Packet.Stored.{Said}
-use Rattle.puffin_frames.specs.Frame.Contents.{frame_says}
-use Rattle.puffin_frames.specs.Frame.Holding.{held_contents}
+use Rattle.puffin_frames.specs.Frame.Contents.{frame_says, holding_of, frame_contents}
+use Rattle.puffin_frames.specs.Frame.Holding.{held_contents, packing_of, streams_in}
 use Rattle.puffin_threads.specs.Details.{Details}
 use Rattle.puffin_view.specs.View.ViewedFrames.{contents_of, frame_index, rises_above, is_rising}
 use Rattle.puffin_session.specs.declared.command.Command.{Command}
@@ -24,10 +24,10 @@ use Rattle.puffin_session.specs.Session.Due.{due, index_after, is_numbered, None
 use Rattle.puffin_session.specs.Session.Notes.{known_after, due_details, is_wanted}
 use Rattle.puffin_session.specs.Session.Actions.{action_of, actions_of}
 use Rattle.puffin_session.specs.Session.Replies.{MayReply, SpellsFrame, TellsScopes}
-use Rattle.puffin_session.specs.Session.Runs.{EachReply}
+use Rattle.puffin_session.specs.Session.{SessionState, opening_of}
+use Rattle.puffin_session.specs.Session.Runs.{Records, EachReply}
 use Rattle.puffin_replay.specs.Program.Recording.{frame_in, emitted_by, frames_emitted}
-use Rattle.puffin_replay.specs.Promise.{is_emitted, before_frames, SaysDue, frames_said}
-use Rattle.puffin_replay.specs.inner.InMemory.{UnpacksAgain, FrameHas}
+use Rattle.puffin_replay.specs.Promise.{is_emitted, before_frames, SaysDue, EmitsDue, frames_said}
 
 pairs-append : {A B : Type 0} (R : A → B → Type 0) (these bs : List A) (xs ys : List B) → AllZip R these xs → AllZip R bs ys → AllZip R (these ++ bs) (xs ++ ys)
 pairs-append R [] bs [] ys h k = k
@@ -37,58 +37,61 @@ pairs-append R (a ∷ these) bs (x ∷ xs) ys h k = (h.0, pairs-append R these b
 
 -- ---- the replies of a run, one after another
 
--- a fact of each emitted frame, and what follows of it, of what it was due and of what was done before it
-module _ (o : Opening) (P : FrameData → Type 0) (R : List Action → Said → Type 0)
-    (says : (done : List Action) (f : FrameData) → P f → SpellsFrame f (index_after o done) (due o done) → TellsScopes f (known_after o done) (due_details o done) (is_wanted o done) → R done (frame_says f)) where
-  frame_said : (done : List Action) (frame : Option (Arc FrameData Global)) → IfSome frame (λ f. P (arc_value f))
-      → MatchOption frame (NoneDue (due o done)) (λ f. SpellsFrame (arc_value f) (index_after o done) (due o done) × TellsScopes (arc_value f) (known_after o done) (due_details o done) (is_wanted o done))
+-- what follows of each emitted frame, of what it was due and of what was done before it
+module _ (o : Opening) (R : List Action → Said → Type 0)
+    (says : (done : List Action) (f : FrameData) → SpellsFrame f (index_after o done) (due o done) → TellsScopes f (known_after o done) (due_details o done) (is_wanted o done) → R done (frame_says f)) where
+  frame_said : (done : List Action) (frame : Option (Arc FrameData Global)) → MatchOption frame (NoneDue (due o done)) (λ f. SpellsFrame (arc_value f) (index_after o done) (due o done) × TellsScopes (arc_value f) (known_after o done) (due_details o done) (is_wanted o done))
       → AllZip R (if is_some frame then done ∷ [] else []) (map contents_of (frame_in frame))
-  frame_said done None p h = tt
-  frame_said done (Some f) p h = (says done (arc_value f) p h.0 h.1, tt)
+  frame_said done None h = tt
+  frame_said done (Some f) h = (says done (arc_value f) h.0 h.1, tt)
 
-  reply_said : (done : List Action) (c : Command) (r : Reply) (learnt : List Details) → FrameHas P r → MayReply o done c r learnt → AllZip R (if is_emitted (action_of c r learnt) then done ∷ [] else []) (map contents_of (emitted_by r))
-  reply_said done NewFrame (reply.Frame emitted) learnt p may = frame_said done emitted.frame p may.2
-  reply_said done NewFrame _ learnt p may = tt
-  reply_said done (Begin t at id text) (reply.Frame emitted) learnt p may = absurd may
-  reply_said done (Begin t at id text) _ learnt p may = tt
-  reply_said done (End t at back) (reply.Frame emitted) learnt p may = absurd may
-  reply_said done (End t at back) _ learnt p may = tt
-  reply_said done (Register t name function file line) (reply.Frame emitted) learnt p may = absurd may
-  reply_said done (Register t name function file line) _ learnt p may = tt
-  reply_said done (RegisterUser names) (reply.Frame emitted) learnt p may = absurd may
-  reply_said done (RegisterUser names) _ learnt p may = tt
-  reply_said done (ReportUser info stream) (reply.Frame emitted) learnt p may = absurd may
-  reply_said done (ReportUser info stream) _ learnt p may = tt
-  reply_said done Snapshot (reply.Frame emitted) learnt p may = absurd may
-  reply_said done Snapshot _ learnt p may = tt
+  reply_said : (done : List Action) (c : Command) (r : Reply) (learnt : List Details) → MayReply o done c r learnt → AllZip R (if is_emitted (action_of c r learnt) then done ∷ [] else []) (map contents_of (emitted_by r))
+  reply_said done NewFrame (reply.Frame emitted) learnt may = frame_said done emitted.frame may.2
+  reply_said done NewFrame _ learnt may = tt
+  reply_said done (Begin t at id text) (reply.Frame emitted) learnt may = absurd may
+  reply_said done (Begin t at id text) _ learnt may = tt
+  reply_said done (End t at back) (reply.Frame emitted) learnt may = absurd may
+  reply_said done (End t at back) _ learnt may = tt
+  reply_said done (Register t name function file line) (reply.Frame emitted) learnt may = absurd may
+  reply_said done (Register t name function file line) _ learnt may = tt
+  reply_said done (RegisterUser names) (reply.Frame emitted) learnt may = absurd may
+  reply_said done (RegisterUser names) _ learnt may = tt
+  reply_said done (ReportUser info stream) (reply.Frame emitted) learnt may = absurd may
+  reply_said done (ReportUser info stream) _ learnt may = tt
+  reply_said done Snapshot (reply.Frame emitted) learnt may = absurd may
+  reply_said done Snapshot _ learnt may = tt
 
-  all_so : (done : List Action) (cs : List Command) (rs : List Reply) (ls : List (List Details)) → length rs ≡ length cs → length ls ≡ length cs → AllByRecursion (FrameHas P) rs → EachReply o done cs rs ls
+  all_so : (done : List Action) (cs : List Command) (rs : List Reply) (ls : List (List Details)) → length rs ≡ length cs → length ls ≡ length cs → EachReply o done cs rs ls
       → AllZip R (before_frames done (actions_of cs rs ls)) (frames_said rs)
-  all_so done [] [] ls p q each may = tt
-  all_so done [] (r ∷ rs) ls p q each may = absurd (omega arith)
-  all_so done (c ∷ cs) [] ls p q each may = absurd (omega arith)
-  all_so done (c ∷ cs) (r ∷ rs) [] p q each may = absurd (omega arith)
-  all_so done (c ∷ cs) (r ∷ rs) (l ∷ ls) p q each may =
+  all_so done [] [] ls p q may = tt
+  all_so done [] (r ∷ rs) ls p q may = absurd (omega arith)
+  all_so done (c ∷ cs) [] ls p q may = absurd (omega arith)
+  all_so done (c ∷ cs) (r ∷ rs) [] p q may = absurd (omega arith)
+  all_so done (c ∷ cs) (r ∷ rs) (l ∷ ls) p q may =
       let a = action_of c r l in
-      let later = all_so (done ++ (a ∷ [])) cs rs ls (omega arith) (omega arith) each.1 may.1 in
+      let later = all_so (done ++ (a ∷ [])) cs rs ls (omega arith) (omega arith) may.1 in
       subst (AllZip R (before_frames done (a ∷ actions_of cs rs ls))) (sym (map-append contents_of (emitted_by r) (frames_emitted rs)))
-      (pairs-append R (if is_emitted a then done ∷ [] else []) (before_frames (done ++ (a ∷ [])) (actions_of cs rs ls)) (map contents_of (emitted_by r)) (frames_said rs) (reply_said done c r l each.0 may.0) later)
+      (pairs-append R (if is_emitted a then done ∷ [] else []) (before_frames (done ++ (a ∷ [])) (actions_of cs rs ls)) (map contents_of (emitted_by r)) (frames_said rs) (reply_said done c r l may.0) later)
+
+-- each frame's packed streams are unpacked as what it holds
+abbrev pub AllUnpackAgain : Type 0
+AllUnpackAgain = (f : FrameData) → streams_in (packing_of (holding_of f)) ≡ frame_contents f
 
 module _ (o : Opening) where
   -- ---- what each frame says
 
-  says_due : (done : List Action) (f : FrameData) → UnpacksAgain f → SpellsFrame f (index_after o done) (due o done) → TellsScopes f (known_after o done) (due_details o done) (is_wanted o done) → SaysDue o done (frame_says f)
-  says_due done f unpacks spells tells = record {
+  says_due : AllUnpackAgain → (done : List Action) (f : FrameData) → SpellsFrame f (index_after o done) (due o done) → TellsScopes f (known_after o done) (due_details o done) (is_wanted o done) → SaysDue o done (frame_says f)
+  says_due again done f spells tells = record {
     streams = spells.streams;
-    unpacked = unpacks ∙ ap held_contents spells.held;
+    unpacked = again f ∙ ap held_contents spells.held;
     spelled = spells.spelled;
     meta = spells.meta;
     details = tells.delta;
   }
 
-  pub all_said : (cs : List Command) (rs : List Reply) (ls : List (List Details)) → length rs ≡ length cs → length ls ≡ length cs → AllByRecursion (FrameHas UnpacksAgain) rs → EachReply o [] cs rs ls
+  all_said : AllUnpackAgain → (cs : List Command) (rs : List Reply) (ls : List (List Details)) → length rs ≡ length cs → length ls ≡ length cs → EachReply o [] cs rs ls
       → AllZip (SaysDue o) (before_frames [] (actions_of cs rs ls)) (frames_said rs)
-  all_said = all_so o UnpacksAgain (SaysDue o) says_due []
+  all_said again = all_so o (SaysDue o) (says_due again) []
 
   -- ---- their indices
 
@@ -121,18 +124,15 @@ module _ (o : Opening) where
       rise (frame_index c) (done ++ (frames true ∷ [])) later cs (omega arith) all.1
   frames_rise done (a ∷ later) cs all = frames_rise (done ++ (a ∷ [])) later cs all
 
-  frame_has : (frame : Option (Arc FrameData Global)) → IfSome frame (λ f. Unit {0})
-  frame_has None = tt
-  frame_has (Some f) = tt
-
-  reply_has : (r : Reply) → FrameHas (λ _. Unit {0}) r
-  reply_has (reply.Frame emitted) = frame_has emitted.frame
-  reply_has _ = tt
-
-  all_have : (rs : List Reply) → AllByRecursion (FrameHas (λ _. Unit {0})) rs
-  all_have [] = tt
-  all_have (r ∷ rs) = (reply_has r, all_have rs)
-
-  pub emitted_rise : (cs : List Command) (rs : List Reply) (ls : List (List Details)) → length rs ≡ length cs → length ls ≡ length cs → EachReply o [] cs rs ls → is_rising (frames_said rs) ≡ true
+  emitted_rise : (cs : List Command) (rs : List Reply) (ls : List (List Details)) → length rs ≡ length cs → length ls ≡ length cs → EachReply o [] cs rs ls → is_rising (frames_said rs) ≡ true
   emitted_rise cs rs ls p q may =
-      frames_rise [] (actions_of cs rs ls) (frames_said rs) (all_so o (λ _. Unit {0}) HasIndex (λ done f _ spells tells. ap (λ (m : FrameMeta). m.frame_index) spells.meta) [] cs rs ls p q (all_have rs) may)
+      frames_rise [] (actions_of cs rs ls) (frames_said rs) (all_so o HasIndex (λ done f spells tells. ap (λ (m : FrameMeta). m.frame_index) spells.meta) [] cs rs ls p q may)
+
+-- ---- a run
+
+pub emits : AllUnpackAgain → (start end : SessionState) (commands : List Command) (replies : List Reply) → Records start end commands replies → EmitsDue start end commands replies
+emits again start end commands replies run = record {
+  run = run;
+  due = all_said (opening_of start) again commands replies run.learnt run.num_replies run.num_learnt run.replies_stand;
+  rising = emitted_rise (opening_of start) commands replies run.learnt run.num_replies run.num_learnt run.replies_stand;
+}

@@ -96,14 +96,14 @@ rises-filter p i (c ∷ cs) h = at (p c) (rises-filter p (frame_index c) cs late
   at true above below = rw lt above
   at false above below = below
 
-pub rising-filter : (p : Said → Bool) (cs : List Said) → is_rising cs ≡ true → is_rising (filter p cs) ≡ true
+rising-filter : (p : Said → Bool) (cs : List Said) → is_rising cs ≡ true → is_rising (filter p cs) ≡ true
 rising-filter p [] h = refl
 rising-filter p (c ∷ cs) h = at (p c) (rises-filter p (frame_index c) cs h) (rising-filter p cs (rising_rest (frame_index c) cs h)) where
   at : (b : Bool) → rises_above (frame_index c) (filter p cs) ≡ true → is_rising (filter p cs) ≡ true → is_rising (cond b (c ∷ filter p cs) (filter p cs)) ≡ true
   at true above later = above
   at false above later = later
 
-pub all_taken : (cs : List Said) → is_rising cs ≡ true → rising_end cs ≡ cs
+all_taken : (cs : List Said) → is_rising cs ≡ true → rising_end cs ≡ cs
 all_taken [] h = refl
 all_taken (c ∷ cs) h = ap (λ (b : Bool). cond b (c ∷ cs) (rising_end cs)) h
 
@@ -258,7 +258,7 @@ chosen_frames cs fs rising all = sym (said_values es) ∙ (ap (map (λ (e : ℕ 
 
 -- ---- a view that took frames
 
-pub taken_kept : (v : View) (cs : List Said) → is_rising cs ≡ true → Took cs v → contents_in v ≡ kept_frames v.max_recent v.max_slow cs
+taken_kept : (v : View) (cs : List Said) → is_rising cs ≡ true → Took cs v → contents_in v ≡ kept_frames v.max_recent v.max_slow cs
 taken_kept v cs rising took =
     let all = all_taken cs rising in
     let recent : map contents_of v.recent ≡ last_of v.max_recent cs = took.holds.recent ∙ ap (last_of v.max_recent) all in
@@ -275,19 +275,28 @@ taken_kept v cs rising took =
 record SameLimits (v w : View) : Type 0 where
   recent : w.max_recent ≡ v.max_recent
   slow : w.max_slow ≡ v.max_slow
+  packs : w.packs ≡ v.packs
 
 newest_limits : (o : Option Frame) (v : View) → SameLimits v (option_map_or (λ f. with_packed (index_of f) v) o v)
-newest_limits (Some f) v = record { recent = refl; slow = refl }
-newest_limits None v = record { recent = refl; slow = refl }
+newest_limits (Some f) v = record { recent = refl; slow = refl; packs = refl }
+newest_limits None v = record { recent = refl; slow = refl; packs = refl }
 
 ready_limits : (past packs : Bool) (v : View) → SameLimits v (cond past (without_frames v) (cond packs (with_newest_packed v) v))
-ready_limits true packs v = record { recent = refl; slow = refl }
+ready_limits true packs v = record { recent = refl; slow = refl; packs = refl }
 ready_limits false true v = newest_limits (last_in v.recent) v
-ready_limits false false v = record { recent = refl; slow = refl }
+ready_limits false false v = record { recent = refl; slow = refl; packs = refl }
 
-pub same_limits : (v : View) (fs : List Frame) → ((after_all v fs).max_recent ≡ v.max_recent) × ((after_all v fs).max_slow ≡ v.max_slow)
-same_limits v [] = (refl, refl)
+pub same_limits : (v : View) (fs : List Frame) → ((after_all v fs).max_recent ≡ v.max_recent) × ((after_all v fs).max_slow ≡ v.max_slow) × ((after_all v fs).packs ≡ v.packs)
+same_limits v [] = (refl, refl, refl)
 same_limits v (f ∷ fs) =
     let later = same_limits (after_taking v f) fs in
     let now = ready_limits (is_past v (index_of f)) v.packs v in
-    (later.0 ∙ now.recent, later.1 ∙ now.slow)
+    (later.0 ∙ now.recent, later.1 ∙ now.slow, later.2 ∙ now.packs)
+
+-- what a view with these limits has that took these frames
+pub kept_by : (old : View) (fs : List Frame) (new : View) (max_recent max_slow : ℕ) (cs : List Said) → old.max_recent ≡ max_recent → old.max_slow ≡ max_slow → new ≡ after_all old fs → is_rising cs ≡ true → Took cs new → contents_in new ≡ kept_frames max_recent max_slow cs
+kept_by old fs new max_recent max_slow cs recent slow taken rising took =
+    let same = same_limits old fs in
+    let most : new.max_recent ≡ max_recent = ap (λ (v : View). v.max_recent) taken ∙ same.0 ∙ recent in
+    let slowest : new.max_slow ≡ max_slow = ap (λ (v : View). v.max_slow) taken ∙ same.1 ∙ slow in
+    taken_kept new cs rising took ∙ ap (λ (n : ℕ). kept_frames n new.max_slow cs) most ∙ ap (λ (k : ℕ). kept_frames max_recent k cs) slowest

@@ -1,8 +1,7 @@
 -- What is read of the file of a view; and the promise, of its parts.
 use Rattle.std.proofs.Common.{◌≡◌, ◌⊎◌, inl, inr, ℕ, zero, suc, ◌-◌, ◌^◌, ◌<◌, ◌≤◌, List, [], ◌∷◌, ◌++◌, length, map, take, drop, Option, None, Some, Ok, true, false, refl, sym, ap, subst, ◌∙◌, arith, length-append}
-use Rattle.std.specs.Prelude.{Bool}
-use Rattle.std.specs.List.{AllByRecursion, All, Any, list_any, flat_map}
-use Rattle.std.proofs.lemmas.List.Elements.{recursion_from_All}
+use Rattle.std.specs.Prelude.{Bool, cond}
+use Rattle.std.specs.List.{AllByRecursion, Any, list_any, flat_map}
 use Rattle.puffin_data.specs.declared.data.form.Form.{Form}
 use Rattle.puffin_data.specs.declared.error.Error.TheVariants.{MissingId}
 use Rattle.puffin_data.specs.declared.file_error.FileError.{FileError}
@@ -11,21 +10,22 @@ use Rattle.puffin_data.specs.Device.{IsOutside}
 use Rattle.puffin_frames.specs.Packet.Stored.{Said, Stored, packed}
 use Rattle.puffin_frames.specs.Packet.Grammar.{IsPacked, packet, packet_head}
 use Rattle.puffin_frames.specs.Packet.Writing.{HasLongPart}
+use Rattle.puffin_threads.specs.Details.{Details}
+use Rattle.puffin_threads.specs.Details.Collection.{no_details, with_all_details}
 use Rattle.puffin_view.specs.declared.profile_view.frame_view.FrameView.{FrameView}
-use Rattle.puffin_view.specs.View.{View, Took, empty_view, after_all}
-use Rattle.puffin_view.specs.View.Known.{view_of, lacks_ids}
+use Rattle.puffin_view.specs.View.{View, Took, empty_view, after_all, last_index}
+use Rattle.puffin_view.specs.View.Known.{view_of, collection_of, lacks_ids}
+use Rattle.puffin_view.specs.View.Ranking.{last_of}
 use Rattle.puffin_view.specs.View.ViewedFrames.{contents_of, slowest, rising_end, is_rising}
-use Rattle.puffin_view.specs.View.File.{magic, file_of, contents_held, contents_in, frame_stored, file_at, TookFrames, FailsToRead, ReadsView}
+use Rattle.puffin_view.specs.View.File.{magic, file_of, contents_held, contents_in, frame_stored, details_stored, read_view, file_at, TookFrames, FailsToRead, ReadsView}
 use Rattle.puffin_report.specs.Summary.{NoneLacksIds}
 use Rattle.puffin_session.specs.declared.command.Command.{Command}
 use Rattle.puffin_session.specs.declared.command.Reply.{Reply}
-use Rattle.puffin_session.specs.Session.{SessionState, new_session, opening_of}
-use Rattle.puffin_session.specs.Session.Runs.{AreReplies}
-use Rattle.puffin_replay.specs.Program.Recording.{frames_emitted, Takes, TookAlso, IsWriteFault, IsBroken}
-use Rattle.puffin_replay.specs.Promise.{frames_said, kept_frames, KeepsPromise, MayBeTooLong}
-use Rattle.puffin_replay.specs.inner.InMemory.{UnpacksAgain, FrameHas, IsFileOf, HasJust}
-use Rattle.puffin_replay.proofs.DueFrames.{all_said, emitted_rise}
-use Rattle.puffin_replay.proofs.KeptFrames.{rising-filter, all_taken, taken_kept, same_limits}
+use Rattle.puffin_session.specs.Session.{SessionState, new_session}
+use Rattle.puffin_replay.specs.Program.Recording.{frames_emitted, Takes, TookAlso, ListsIds}
+use Rattle.puffin_replay.specs.Promise.{EmitsDue, frames_said, kept_frames, IsReadOf, KeepsRun, KeepsPromise, IsFileFault, IsUnread, IsTooLong}
+use Rattle.puffin_replay.specs.inner.InMemory.{IsFileOf, IsReadFault}
+use Rattle.puffin_replay.proofs.KeptFrames.{same_limits, kept_by}
 
 -- ---- how many frames a file has
 
@@ -54,6 +54,29 @@ said_again : (cs : List Said) → map contents_of (map frame_stored (map packed 
 said_again [] = refl
 said_again (c ∷ cs) = ap (λ (ds : List Said). c ∷ ds) (said_again cs)
 
+abbrev own_details : Said → List Details
+own_details c = c.details
+
+told_again : (cs : List Said) → flat_map details_stored (map packed cs) ≡ flat_map own_details cs
+told_again [] = refl
+told_again (c ∷ cs) = ap (λ (ds : List Details). c.details ++ ds) (told_again cs)
+
+-- ---- a view that took frames of which none is missing took them along rising indices
+
+end_fits : (b : Bool) (c : Said) (cs : List Said) → length (rising_end cs) ≤ length cs → length (cond b (c ∷ cs) (rising_end cs)) ≤ length (c ∷ cs)
+end_fits true c cs h = omega arith
+end_fits false c cs h = omega (arith, h)
+
+end_is_shorter : (cs : List Said) → length (rising_end cs) ≤ length cs
+end_is_shorter [] = omega arith
+end_is_shorter (c ∷ cs) = end_fits (is_rising (c ∷ cs)) c cs (end_is_shorter cs)
+
+last_of_all : (n : ℕ) (cs : List Said) → length cs ≤ n → last_of n cs ≡ cs
+last_of_all n cs h = let none : length cs - n ≡ 0 = omega arith in ap (λ (k : ℕ). drop k cs) none
+
+all_rising : (n : ℕ) (cs : List Said) → length cs ≤ n → last_of n (rising_end cs) ≡ cs → rising_end cs ≡ cs
+all_rising n cs few last = let shorter = end_is_shorter cs in sym (last_of_all n (rising_end cs) (omega arith)) ∙ last
+
 -- what the laws say of frames that were read, of the view that took them, and of faults
 abbrev pub FramesAgain : Type 0
 FramesAgain = (cs : List Said) (new : Option (List ℕ)) (frames : List Stored) → AllByRecursion IsPacked cs → length cs < 2 ^ 64 - 1 → TookFrames file_at (Some (file_of cs)) new frames → frames ≡ map packed cs
@@ -66,72 +89,79 @@ abbrev pub FaultAgain : Type 0
 FaultAgain = (cs : List Said) (new : Option (List ℕ)) (e : FileError) → AllByRecursion IsPacked cs → length cs < 2 ^ 64 - 1 → FailsToRead file_at (Some (file_of cs)) new e → ¬ IsOutside e
     → (e ≡ file.Refused MissingId) × (list_any lacks_ids cs ≡ true)
 
-pub read_again : FramesAgain → ViewAgain → (v : View) (bytes : List ℕ) (new : Option (List ℕ)) (view : FrameView) → IsFileOf bytes v → length bytes < 2 ^ 64 → ReadsView file_at (Some bytes) new (Ok view) → HasJust (contents_in v) (view_of view)
+-- a view that took what was read of these frames, and has them all, has just them
+module _ (cs : List Said) (frames : List Stored) (read : FrameView) (few : length cs < 2 ^ 64 - 1) (stored : frames ≡ map packed cs) (recent : map contents_of (view_of read).recent ≡ cs) where
+  said_of : map contents_of (map frame_stored frames) ≡ cs
+  said_of = ap (λ (fs : List Stored). map contents_of (map frame_stored fs)) stored ∙ said_again cs
+
+  taken_of : view_of read ≡ after_all read_view (map frame_stored frames) → view_of read ≡ after_all read_view (map frame_stored (map packed cs))
+  taken_of taken = taken ∙ ap (λ (fs : List Stored). after_all read_view (map frame_stored fs)) stored
+
+  pub is_read_of : Took (map contents_of (map frame_stored frames)) (view_of read) → view_of read ≡ after_all read_view (map frame_stored frames) → collection_of read ≡ with_all_details no_details (flat_map details_stored frames) → IsReadOf cs read
+  is_read_of took taken details =
+      let limits = same_limits read_view (map frame_stored (map packed cs)) in
+      let all = taken_of taken in
+      let most : (view_of read).max_recent ≡ 2 ^ 64 - 1 = ap (λ (v : View). v.max_recent) all ∙ limits.0 in
+      let slowest_most : (view_of read).max_slow ≡ 256 = ap (λ (v : View). v.max_slow) all ∙ limits.1 in
+      let last : last_of (2 ^ 64 - 1) (rising_end cs) ≡ cs =
+      ap (λ (n : ℕ). last_of n (rising_end cs)) (sym most) ∙ ap (λ (ds : List Said). last_of (view_of read).max_recent (rising_end ds)) (sym said_of) ∙ sym took.holds.recent ∙ recent in
+      let rises : rising_end cs ≡ cs = all_rising (2 ^ 64 - 1) cs (omega (arith, few)) last in
+      record {
+        recent = recent;
+        slow = took.holds.slow ∙ ap (λ (ds : List Said). slowest (view_of read).max_slow (rising_end ds)) said_of ∙ ap (slowest (view_of read).max_slow) rises ∙ ap (λ (k : ℕ). slowest k cs) slowest_most;
+        last = took.last ∙ ap last_index said_of;
+        max_recent = most;
+        max_slow = slowest_most;
+        packs = ap (λ (v : View). v.packs) all ∙ limits.2;
+        frames = all;
+        known = details ∙ ap (λ (ds : List Details). with_all_details no_details ds) (ap (flat_map details_stored) stored ∙ told_again cs);
+      }
+
+pub read_again : FramesAgain → ViewAgain → (v : View) (bytes : List ℕ) (new : Option (List ℕ)) (view : FrameView) → IsFileOf bytes v → length bytes < 2 ^ 64 → ReadsView file_at (Some bytes) new (Ok view) → IsReadOf (contents_in v) view
 read_again frames_again view_again v bytes new view of short reads =
     let cs = contents_in v in
     let few = few_frames bytes cs of.file short in
     let read : ReadsView file_at (Some (file_of cs)) new (Ok view) = subst (λ (bs : List ℕ). ReadsView file_at (Some bs) new (Ok view)) of.file reads in
-    let stored : map contents_of (map frame_stored read.0) ≡ cs = ap (λ (fs : List Stored). map contents_of (map frame_stored fs)) (frames_again cs new read.0 of.packed few read.1) ∙ said_again cs in
-    record {
-      recent = view_again v new view of.packed few read;
-      slow = read.2.took.holds.slow ∙ ap (λ (ds : List Said). slowest (view_of view).max_slow (rising_end ds)) stored ∙ ap (slowest (view_of view).max_slow) (all_taken cs of.rising);
-    }
+    is_read_of cs read.0 view few (frames_again cs new read.0 of.packed few read.1) (view_again v new view of.packed few read) read.2.took read.2.frames read.2.details
+
+-- ---- why a file in memory isn't read
 
 -- a fault that isn't outside is refused by the law
-outside : (e : FileError) → (¬ IsOutside e → ⊥) → IsOutside e
-outside file.Io h = inl refl
-outside file.Memory h = inr refl
-outside e h = absurd (h (λ o. elim o [ inl io ↦ cc | inr memory ↦ cc ]))
+inside : (cs : List Said) (e given : FileError) → (e ≡ file.Io → given ≡ file.Memory) → (¬ e ≡ file.Io → given ≡ e) → (¬ IsOutside e → (e ≡ file.Refused MissingId) × (list_any lacks_ids cs ≡ true)) → IsReadFault cs given
+inside cs file.Io given at_io other law = inl (at_io refl)
+inside cs file.Memory given at_io other law = inl (other (λ io. cc))
+inside cs e given at_io other law = let refused = law (λ o. elim o [ inl io ↦ cc | inr memory ↦ cc ]) in inr (other (λ io. cc) ∙ refused.0, refused.1)
 
-pub read_outside : FaultAgain → (v : View) (bytes : List ℕ) (new : Option (List ℕ)) (e : FileError) → IsFileOf bytes v → length bytes < 2 ^ 64 → FailsToRead file_at (Some bytes) new e → IsOutside e
-read_outside fault_again v bytes new e of short fails =
+pub read_fault : FaultAgain → (v : View) (bytes : List ℕ) (new : Option (List ℕ)) (e given : FileError) → (e ≡ file.Io → given ≡ file.Memory) → (¬ e ≡ file.Io → given ≡ e) → IsFileOf bytes v → length bytes < 2 ^ 64 → FailsToRead file_at (Some bytes) new e
+    → IsReadFault (contents_in v) given
+read_fault fault_again v bytes new e given at_io other of short fails =
     let few = few_frames bytes (contents_in v) of.file short in
-    outside e (λ inside.
-    let refused = fault_again (contents_in v) new e of.packed few (subst (λ (bs : List ℕ). FailsToRead file_at (Some bs) new e) of.file fails) inside in
-    let lacks : list_any lacks_ids (contents_in v) ≡ true = refused.1 in
-    let none : list_any lacks_ids (contents_in v) ≡ false = of.ids in
-    cc)
+    inside (contents_in v) e given at_io other (λ outside. fault_again (contents_in v) new e of.packed few (subst (λ (bs : List ℕ). FailsToRead file_at (Some bs) new e) of.file fails) outside)
 
--- ---- the promise
+abbrev MayBeLong : List Said → FileError → Type 0
+MayBeLong cs given = IsReadFault cs given ⊎ ((given ≡ file.PartTooLong) × Any HasLongPart cs)
 
-module _ (names : List (List ℕ × Form)) (commands : List Command) (replies : List Reply) (run : (end : SessionState) × AreReplies names commands replies end) where
-  rising : is_rising (frames_said replies) ≡ true
-  rising = emitted_rise (opening_of (new_session names)) commands replies run.1.learnt run.1.num_replies run.1.num_learnt run.1.replies_stand
+pub write_fault : (cs : List Said) (fault given : FileError) → (fault ≡ file.PartTooLong) ⊎ (fault ≡ file.Memory) ⊎ (fault ≡ file.Io) → (fault ≡ file.PartTooLong → Any HasLongPart cs) → (fault ≡ file.Io → given ≡ file.Memory) → (¬ fault ≡ file.Io → given ≡ fault) → MayBeLong cs given
+write_fault cs fault given (inl part) long at_io other = inr (other (λ io. cc) ∙ part, long part)
+write_fault cs fault given (inr (inl memory)) long at_io other = inl (inl (other (λ io. cc) ∙ memory))
+write_fault cs fault given (inr (inr io)) long at_io other = inl (inl (at_io io))
 
-  -- the view that took the frames of the run
-  module _ (max_recent max_slow : ℕ) (old new : View) (recent : old.max_recent ≡ max_recent) (slow : old.max_slow ≡ max_slow) (taken : new ≡ after_all old (frames_emitted replies)) (took : Took (frames_said replies) new) where
-    view_kept : contents_in new ≡ kept_frames max_recent max_slow (frames_said replies)
-    view_kept =
-        let same = same_limits old (frames_emitted replies) in
-        let most : new.max_recent ≡ max_recent = ap (λ (v : View). v.max_recent) taken ∙ same.0 ∙ recent in
-        let slowest : new.max_slow ≡ max_slow = ap (λ (v : View). v.max_slow) taken ∙ same.1 ∙ slow in
-        taken_kept new (frames_said replies) rising took ∙ ap (λ (n : ℕ). kept_frames n new.max_slow (frames_said replies)) most ∙ ap (λ (k : ℕ). kept_frames max_recent k (frames_said replies)) slowest
+-- where a frame that a view has lacks ids, one that it held before did
+lacked : (p : List Said) (q : List Said) → (NoneLacksIds p → NoneLacksIds q) → list_any lacks_ids q ≡ true → list_any lacks_ids p ≡ true
+lacked p q ids lacks = at (list_any lacks_ids p) refl where
+  at : (b : Bool) → list_any lacks_ids p ≡ b → b ≡ true
+  at true e = refl
+  at false e = let none : list_any lacks_ids q ≡ false = ids e in absurd (cc)
 
-    pub view_rises : is_rising (contents_in new) ≡ true
-    view_rises = ap is_rising view_kept ∙ rising-filter _ (frames_said replies) rising
+pub file_fault : (old new : FrameView) (fault : FileError) → ListsIds (view_of old) (view_of new) → MayBeLong (contents_in (view_of new)) fault → IsFileFault old new fault
+file_fault old new fault ids (inl (inl memory)) = inl memory
+file_fault old new fault ids (inl (inr (missing, lacks))) = inr (inr (missing, lacked (contents_held (view_of old)) (contents_in (view_of new)) ids lacks))
+file_fault old new fault ids (inr long) = inr (inl long)
 
-    pub promised : (read : View) → All (FrameHas UnpacksAgain) replies → HasJust (contents_in new) read → KeepsPromise names commands max_recent max_slow replies read
-    promised read unpacked has = record {
-      end = run.0;
-      run = run.1;
-      due = all_said (opening_of (new_session names)) commands replies run.1.learnt run.1.num_replies run.1.num_learnt (recursion_from_All (FrameHas UnpacksAgain) replies unpacked) run.1.replies_stand;
-      rising = rising;
-      recent = has.recent ∙ view_kept;
-      slow = has.slow ∙ ap (slowest read.max_slow) view_kept;
-    }
-
-    pub too_long : Any HasLongPart (contents_in new) → MayBeTooLong names commands max_recent max_slow
-    too_long long = (replies, run.0, run.1, subst (Any HasLongPart) view_kept long)
-
--- ---- a recording in memory
+-- ---- the promise of a new session and a new view
 
 abbrev no_frames : List Said
 no_frames = []
-
--- a fault of memory alone
-pub memory_alone : (fault given : FileError) → IsOutside fault → (fault ≡ file.Io → given ≡ file.Memory) → (¬ fault ≡ file.Io → given ≡ fault) → given ≡ file.Memory
-memory_alone fault given (inl io) at_io other = at_io io
-memory_alone fault given (inr memory) at_io other = other (λ io. cc) ∙ memory
 
 drop_none : (n : ℕ) → drop n no_frames ≡ []
 drop_none zero = refl
@@ -150,7 +180,7 @@ none_took v recent slow last = record {
   last = last;
 }
 
-module _ (names : List (List ℕ × Form)) (commands : List Command) (max_recent max_slow : ℕ) (packs : Bool) (old new : FrameView) (limited : view_of old ≡ record empty_view { max_recent = max_recent; max_slow = max_slow; packs = packs }) where
+module _ (threads : List (List ℕ × Form)) (commands : List Command) (max_recent max_slow : ℕ) (packs : Bool) (old new : FrameView) (limited : view_of old ≡ record empty_view { max_recent = max_recent; max_slow = max_slow; packs = packs }) where
   recent_limit : (view_of old).max_recent ≡ max_recent
   recent_limit = ap (λ (v : View). v.max_recent) limited
 
@@ -160,30 +190,29 @@ module _ (names : List (List ℕ × Form)) (commands : List Command) (max_recent
   none_before : Took [] (view_of old)
   none_before = none_took (view_of old) (ap (λ (v : View). v.recent) limited) (ap (λ (v : View). v.slow) limited) (ap (λ (v : View). v.last) limited)
 
-  module _ (replies : List Reply) (run : (end : SessionState) × AreReplies names commands replies end) (takes : Takes (frames_emitted replies) old new) (took : TookAlso (frames_emitted replies) (view_of old) (view_of new)) where
-    pub is_file : AllByRecursion IsPacked (contents_in (view_of new)) → (NoneLacksIds (contents_held (view_of old)) → NoneLacksIds (contents_in (view_of new))) → (bytes before after : List ℕ) → before ≡ [] → after ≡ before ++ file_of (contents_in (view_of new)) → bytes ≡ after
-        → IsFileOf bytes (view_of new)
-    is_file all_packed ids bytes before after none appended same = record {
-      file = same ∙ appended ∙ ap (λ (bs : List ℕ). bs ++ file_of (contents_in (view_of new))) none;
-      packed = all_packed;
-      ids = ids (subst (λ (v : View). NoneLacksIds (contents_held v)) (sym limited) refl);
-      rising = view_rises names commands replies run max_recent max_slow (view_of old) (view_of new) recent_limit slow_limit takes.taken (took [] none_before);
+  held_before : NoneLacksIds (contents_held (view_of old))
+  held_before = subst (λ (v : View). NoneLacksIds (contents_held v)) (sym limited) refl
+
+  module _ (end : SessionState) where
+    abbrev Emits : List Reply → Type 0
+    Emits replies = EmitsDue (new_session threads) end commands replies
+
+    view_kept : (replies : List Reply) → Emits replies → Takes (frames_emitted replies) old new → TookAlso (frames_emitted replies) (view_of old) (view_of new) → contents_in (view_of new) ≡ kept_frames max_recent max_slow (frames_said replies)
+    view_kept replies emits takes took = kept_by (view_of old) (frames_emitted replies) (view_of new) max_recent max_slow (frames_said replies) recent_limit slow_limit takes.taken emits.rising (took [] none_before)
+
+    pub promised : (replies : List Reply) (read : FrameView) → KeepsRun (new_session threads) end commands old new replies read → KeepsPromise threads commands max_recent max_slow replies read
+    promised replies read keeps = record {
+      end = end;
+      emits = keeps.emits;
+      again = subst (λ (cs : List Said). IsReadOf cs read) (view_kept replies keeps.emits keeps.taken keeps.took) keeps.again;
     }
 
-    pub is_promised : (read : View) → All (FrameHas UnpacksAgain) replies → HasJust (contents_in (view_of new)) read → KeepsPromise names commands max_recent max_slow replies read
-    is_promised = promised names commands replies run max_recent max_slow (view_of old) (view_of new) recent_limit slow_limit takes.taken (took [] none_before)
-
-    is_too_long : Any HasLongPart (contents_in (view_of new)) → MayBeTooLong names commands max_recent max_slow
-    is_too_long = too_long names commands replies run max_recent max_slow (view_of old) (view_of new) recent_limit slow_limit takes.taken (took [] none_before)
-
-  -- why a recording into memory is refused
-  pub refused : (before after : Option (List ℕ)) (fault given : FileError) → (end : SessionState) × IsBroken (new_session names) end commands old new before after fault → (fault ≡ file.PartTooLong → Any HasLongPart (contents_in (view_of new)))
-      → (fault ≡ file.Io → given ≡ file.Memory) → (¬ fault ≡ file.Io → given ≡ fault) → (given ≡ file.Memory) ⊎ ((given ≡ file.PartTooLong) × MayBeTooLong names commands max_recent max_slow)
-  refused before after fault given (end, inl none) long at_io other = inl (memory_alone fault given (inr none.0) at_io other)
-  refused before after fault given (end, inr (inl some)) long at_io other = inl (memory_alone fault given (inr some.3) at_io other)
-  refused before after fault given (end, inr (inr all)) long at_io other = by_cause all.4
-    where
-      by_cause : IsWriteFault fault → (given ≡ file.Memory) ⊎ ((given ≡ file.PartTooLong) × MayBeTooLong names commands max_recent max_slow)
-      by_cause (inl part) = inr (other (λ io. cc) ∙ part, is_too_long all.0 (end, all.1) all.2 all.5 (long part))
-      by_cause (inr (inl memory)) = inl (memory_alone fault given (inr memory) at_io other)
-      by_cause (inr (inr io)) = inl (memory_alone fault given (inl io) at_io other)
+    pub refused : (fault : FileError) (told : Option (List Reply)) → IsUnread (new_session threads) end commands old new fault told → (fault ≡ file.Memory) ⊎ ((fault ≡ file.PartTooLong) × IsTooLong threads commands max_recent max_slow told)
+    refused fault told (inl none) = inl none.0
+    refused fault told (inr (inl some)) = inl some.4
+    refused fault told (inr (inr all)) = by_cause all.5
+      where
+        by_cause : IsFileFault old new fault → (fault ≡ file.Memory) ⊎ ((fault ≡ file.PartTooLong) × IsTooLong threads commands max_recent max_slow told)
+        by_cause (inl memory) = inl memory
+        by_cause (inr (inl (part, long))) = inr (part, (all.0, all.1, end, all.2, subst (Any HasLongPart) (view_kept all.0 all.2 all.3 all.4) long))
+        by_cause (inr (inr (missing, lacks))) = let none : list_any lacks_ids (contents_held (view_of old)) ≡ false = held_before in absurd (cc)

@@ -1,7 +1,7 @@
 -- What a view makes of the frames of replies, one after another.
-use Rattle.std.proofs.Common.{◌≡◌, ◌⊎◌, inl, inr, ℕ, ◌+◌, ◌<◌, List, [], ◌∷◌, ◌++◌, length, take, drop, get_or, map, refl, sym, ap, ◌∙◌, subst, append_assoc, append-nil, Option, None, Some, Result, Ok, Err, string_bytes, String, All, ◌↔◌, true, false}
-use Rattle.std.specs.Prelude.{Bool, false, is_none, IsSome, OnErr, IfErr}
-use Rattle.std.specs.List.{flat_map, list_any, AllByRecursion, Any, AllZip}
+use Rattle.std.proofs.Common.{◌≡◌, ◌⊎◌, inl, inr, ℕ, ◌+◌, ◌<◌, List, [], ◌∷◌, ◌++◌, length, take, drop, get_or, map, refl, sym, ap, ◌∙◌, subst, append_assoc, append-nil, Option, None, Some, Result, Err, All, ◌↔◌, true, false}
+use Rattle.std.specs.Prelude.{Bool, false, is_none, IsSome}
+use Rattle.std.specs.List.{flat_map, list_any, AllByRecursion, Any}
 use Rattle.std.proofs.lemmas.List.Folds.{list_any-append, list_any_none}
 use Rattle.std.proofs.lemmas.Grind.{flat_map-append}
 use Rattle.std.proofs.lemmas.List.{take_more, drop_more, take-append-drop, map-append}
@@ -36,6 +36,8 @@ use Rattle.puffin_replay.specs.Script.{threads_said}
 use Rattle.puffin_session.specs.Session.Runs.{HasIds, AreReplies, details_told, details_of_reply}
 use Rattle.puffin_report.specs.Summary.{NoneLacksIds}
 use Rattle.puffin_replay.specs.Program.Recording.{frame_in, emitted_by, frames_emitted, Takes, TakesSome, TookAlso, file_of_view, IsBroken}
+use Rattle.puffin_replay.specs.Promise.{EmitsDue, IsNotRun, IsNotTaken, frames_said}
+use Rattle.puffin_replay.proofs.KeptFrames.{kept_by}
 use Rattle.puffin_replay.specs.Program.ScriptRun.{AreAnswers, loose_view, view_after, IsReplayed, IsUnfinished}
 use Rattle.puffin_replay.specs.Program.ReplyLines.{reply_lines}
 use Rattle.puffin_session.specs.Session.{SessionState, new_session}
@@ -185,6 +187,14 @@ module _ (rs : List Reply) (i : ℕ) (r : Reply) (h : i < length rs) (is : r ≡
     pub TakesSome-memory : (old now : FrameView) → Takes (frames_emitted (take i rs)) old now → TakesSome (frames_emitted rs) old now
     TakesSome-memory old now takes = TakesSome-refused old now now takes (inl refl) ([], (details_of_frame f, refl), refl)
 
+-- ---- a recording that fails
+
+-- a run that isn't taken whole leaves a recording that writes nothing
+pub not_written : (start end : SessionState) (commands : List Command) (old new : FrameView) (before : Option (List ℕ)) (fault : FileError) (told : Option (List Reply)) → IsNotRun start end commands old new fault told ⊎ IsNotTaken start end commands old new fault told
+    → IsBroken start end commands old new before before fault
+not_written start end commands old new before fault told (inl none) = inl (none.0, none.2, none.3, nothing_written before)
+not_written start end commands old new before fault told (inr some) = inr (inl (some.0, some.2.run, some.3, some.4, nothing_written before))
+
 -- ---- a script's run
 
 -- the lines weren't written whole
@@ -214,7 +224,7 @@ module _ (script : Script) (names : List (List ℕ × Form)) (commands : List Co
         ))
 
     -- the file was written
-    module _ (replies : List Reply) (run : (end : SessionState) × AreReplies names commands replies end) (takes : Takes (frames_emitted replies) old new) (file_before file_after : Option (List ℕ)) (written : Appends file_before file_after (file_of_view new)) (ids : NoneLacksIds (contents_in (view_of new))) where
+    module _ (replies : List Reply) (run : (end : SessionState) × EmitsDue (new_session names) end commands replies) (takes : Takes (frames_emitted replies) old new) (file_before file_after : Option (List ℕ)) (written : Appends file_before file_after (file_of_view new)) (ids : NoneLacksIds (contents_in (view_of new))) where
       written-after : Appends file_before file_after (file_of (contents_in (view_after replies)))
       written-after = subst (λ (v : View). Appends file_before file_after (file_of (contents_in v))) (view-after replies takes) written
 
@@ -225,7 +235,7 @@ module _ (script : Script) (names : List (List ℕ × Form)) (commands : List Co
       pub cut_lines : (fault : FileError) (bytes : List ℕ) (lines_before lines_after : Option (List ℕ)) → bytes ≡ reply_lines script.lines.items replies → WritesBeginning lines_before lines_after bytes → IsOutside fault
           → IsUnfinished script fault file_before file_after lines_before lines_after
       cut_lines fault bytes lines_before lines_after same part outside =
-          inr (inr (replies, run.0, answers replies run.0 run.1, written-after, ids-after, subst (λ (bs : List ℕ). WritesBeginning lines_before lines_after bs) same part, outside))
+          inr (inr (replies, run.0, answers replies run.0 run.1.run, written-after, ids-after, subst (λ (bs : List ℕ). WritesBeginning lines_before lines_after bs) same part, outside))
 
       -- and no line, for want of memory
       pub no_lines : (fault : FileError) (lines : Option (List ℕ)) → fault ≡ file.Memory → IsUnfinished script fault file_before file_after lines lines
@@ -237,10 +247,14 @@ module _ (script : Script) (names : List (List ℕ × Form)) (commands : List Co
       replayed bytes lines_before lines_after took none same packed printed = record {
         replies = replies;
         end = run.0;
-        run = answers replies run.0 run.1;
-        took = subst (λ (v : View). Took (map contents_of (frames_emitted replies)) v) (view-after replies takes) (took [] none);
+        emits = subst (λ (ns : List (List ℕ × Form)). EmitsDue (new_session ns) run.0 script.commands.items replies) same_names (subst (λ (cs : List Command). EmitsDue (new_session names) run.0 cs replies) same_commands run.1);
+        kept = kept_by loose_view (frames_emitted replies) (view_after replies) 1000 256 (frames_said replies) refl refl refl run.1.rising took-after;
+        took = took-after;
         written = written-after;
         packed = subst (λ (v : View). AllByRecursion IsPacked (contents_in v)) (view-after replies takes) packed;
         ids = ids-after;
         told = subst (λ (bs : List ℕ). Appends lines_before lines_after bs) same printed;
       }
+        where
+          took-after : Took (frames_said replies) (view_after replies)
+          took-after = subst (λ (v : View). Took (frames_said replies) v) (view-after replies takes) (took [] none)

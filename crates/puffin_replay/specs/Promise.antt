@@ -1,15 +1,22 @@
--- The promise in one: what was reported under a thread's start and name is read again, in the frames that a view with these limits keeps, and nothing else is.
-use Rattle.std.specs.Prelude.{◌≡◌, ℕ, Bool, true, false, if◌then◌else◌, List, [], ◌∷◌, ◌++◌, map, Some}
-use Rattle.std.specs.List.{AllZip, Any, filter}
+-- The promise in one: what was reported under a thread's start and name is read again, in the frames that a view keeps, and nothing else is.
+use Rattle.std.specs.Prelude.{◌≡◌, ◌⊎◌, ℕ, ◌^◌, ◌-◌, Bool, true, false, if◌then◌else◌, List, [], ◌∷◌, ◌++◌, map, Option, Some, None}
+use Rattle.std.specs.List.{AllZip, Any, filter, flat_map, list_any}
 use Rattle.std.specs.FinMap.{values}
 use Rattle.puffin_data.specs.declared.data.form.Form.{Form}
-use Rattle.puffin_frames.specs.Packet.Stored.{Said}
+use Rattle.puffin_data.specs.declared.error.Error.TheVariants.{MissingId}
+use Rattle.puffin_data.specs.declared.file_error.FileError.{FileError}
+use Rattle.puffin_data.specs.declared.file_error.FileError.TheVariants as file
+use Rattle.puffin_frames.specs.Packet.Stored.{Said, packed}
 use Rattle.puffin_frames.specs.Packet.Writing.{HasLongPart}
 use Rattle.puffin_frames.specs.Frame.Sums.{meta_of}
 use Rattle.puffin_frames.specs.Frame.Streams.{Streams}
 use Rattle.puffin_frames.specs.Frame.Holding.{streams_in}
 use Rattle.puffin_collector.specs.Collector.State.{delta_of}
-use Rattle.puffin_view.specs.View.{View}
+use Rattle.puffin_threads.specs.Details.Collection.{no_details, with_all_details}
+use Rattle.puffin_view.specs.declared.profile_view.frame_view.FrameView.{FrameView}
+use Rattle.puffin_view.specs.View.{last_index, after_all}
+use Rattle.puffin_view.specs.View.Known.{view_of, collection_of, lacks_ids}
+use Rattle.puffin_view.specs.View.File.{contents_held, contents_in, frame_stored, read_view}
 use Rattle.puffin_view.specs.View.Ranking.{last_of, has}
 use Rattle.puffin_view.specs.View.ViewedFrames.{contents_of, frame_index, slowest, is_rising}
 use Rattle.puffin_session.specs.declared.command.Command.{Command}
@@ -18,9 +25,9 @@ use Rattle.puffin_session.specs.Session.History.{Opening, Action, frames}
 use Rattle.puffin_session.specs.Session.Due.{due, index_after}
 use Rattle.puffin_session.specs.Session.Notes.{known_after, due_details, is_wanted}
 use Rattle.puffin_session.specs.Session.Actions.{actions_of}
-use Rattle.puffin_session.specs.Session.Runs.{AreReplies}
+use Rattle.puffin_session.specs.Session.Runs.{Records}
 use Rattle.puffin_session.specs.Session.{SessionState, new_session, opening_of, SpellsDue}
-use Rattle.puffin_replay.specs.Program.Recording.{frames_emitted}
+use Rattle.puffin_replay.specs.Program.Recording.{frames_emitted, Takes, TakesSome, TookAlso}
 
 -- ---- the frames of a run
 
@@ -54,27 +61,94 @@ abbrev pub kept_frames : ℕ → ℕ → List Said → List Said
 kept_frames n k cs =
     filter (λ c. has (frame_index c) (map frame_index (last_of n cs ++ slowest k cs))) cs
 
--- ---- the promise
+-- ---- a run
 
--- Of commands that a new session of threads with these names and forms ran, of their replies, and of the view that was read of the file that a view with these limits wrote.
-pub record KeepsPromise (threads : List (List ℕ × Form)) (commands : List Command)
-    (max_recent max_slow : ℕ) (replies : List Reply) (read : View) : Type 0 where
+-- A session ran these commands, from start to end, with these replies, and emitted what was due.
+pub record EmitsDue (start end : SessionState) (commands : List Command) (replies : List Reply) :
+    Type 0 where
   -- each command got a reply that it may get after those before it, be it a refusal
-  pub end : SessionState
-  pub run : AreReplies threads commands replies end
-  -- each action that emitted a frame has its own frame, in order, and that says what was due
-  pub due : AllZip (SaysDue (opening_of (new_session threads)))
+  pub run : Records start end commands replies
+  -- each action that emitted a frame has its own frame, in order, and that says what was due by all that the session held before and by what was done since
+  pub due : AllZip (SaysDue (opening_of start))
       (before_frames [] (actions_of commands replies run.learnt)) (frames_said replies)
   pub rising : is_rising (frames_said replies) ≡ true
-  -- what is read are the last and the slowest of these frames, and nothing else
-  pub recent : map contents_of read.recent ≡ kept_frames max_recent max_slow (frames_said replies)
-  pub slow : map contents_of read.slow
-      ≡ slowest read.max_slow (kept_frames max_recent max_slow (frames_said replies))
 
--- The commands may get replies whose frames, as far as they are kept, have a part that is too long to be written.
-abbrev pub MayBeTooLong : List (List ℕ × Form) → List Command → ℕ → ℕ → Type 0
-MayBeTooLong threads commands max_recent max_slow =
+-- ---- what is read
+
+-- A view that was read of the file of these frames has them and no others, with the limits of a view that is read, and knows the details that they tell and nothing else.
+pub record IsReadOf (cs : List Said) (read : FrameView) : Type 0 where
+  pub recent : map contents_of (view_of read).recent ≡ cs
+  pub slow : map contents_of (view_of read).slow ≡ slowest 256 cs
+  pub last : (view_of read).last ≡ last_index cs
+  pub max_recent : (view_of read).max_recent ≡ 2 ^ 64 - 1
+  pub max_slow : (view_of read).max_slow ≡ 256
+  pub packs : (view_of read).packs ≡ true
+  -- all of it at once, and how each frame is held: a view that is read took a packet of each
+  pub frames : view_of read ≡ after_all read_view (map frame_stored (map packed cs))
+  pub known : collection_of read
+      ≡ with_all_details no_details (flat_map (λ (c : Said). c.details) cs)
+
+-- ---- the promise
+
+-- Commands were run in a session, with these replies, a view took the emitted frames after those that it held, and another view was read of its file.
+pub record KeepsRun (start end : SessionState) (commands : List Command) (old new : FrameView)
+    (replies : List Reply) (read : FrameView) : Type 0 where
+  pub emits : EmitsDue start end commands replies
+  pub taken : Takes (frames_emitted replies) old new
+  pub took : TookAlso (frames_emitted replies) (view_of old) (view_of new)
+  -- what is read are the frames of the view, and nothing else
+  pub again : IsReadOf (contents_in (view_of new)) read
+
+-- The same of a new session of threads with these names and forms, and of a new view with these limits: what is read are the last and the slowest of the emitted frames, and nothing else.
+pub record KeepsPromise (threads : List (List ℕ × Form)) (commands : List Command)
+    (max_recent max_slow : ℕ) (replies : List Reply) (read : FrameView) : Type 0 where
+  pub end : SessionState
+  pub emits : EmitsDue (new_session threads) end commands replies
+  pub again : IsReadOf (kept_frames max_recent max_slow (frames_said replies)) read
+
+-- ---- why nothing is read
+
+-- Why the file of a view isn't written into memory or read again: for want of memory; or a part of a frame that the view has is too long; or details of a frame that it held before have no id.
+abbrev pub IsFileFault : FrameView → FrameView → FileError → Type 0
+IsFileFault old new fault =
+    (fault ≡ file.Memory)
+    ⊎ ((fault ≡ file.PartTooLong) × Any HasLongPart (contents_in (view_of new)))
+    ⊎ ((fault ≡ file.Refused MissingId)
+    × (list_any lacks_ids (contents_held (view_of old)) ≡ true))
+
+-- A session went from start to end, and a view from old to new. What is told are the replies of the run that was made.
+module _ (start end : SessionState) (commands : List Command) (old new : FrameView) where
+  -- there was no memory to run the commands, and nothing is changed
+  abbrev pub IsNotRun : FileError → Option (List Reply) → Type 0
+  IsNotRun fault told = (fault ≡ file.Memory) × (told ≡ None) × (end ≡ start) × Takes [] old new
+
+  -- the commands were run, but there was no memory for the view to take all frames of the run
+  abbrev pub IsNotTaken : FileError → Option (List Reply) → Type 0
+  IsNotTaken fault told =
+      (replies : List Reply)
+      × (told ≡ Some replies)
+      × EmitsDue start end commands replies
+      × TakesSome (frames_emitted replies) old new
+      × (fault ≡ file.Memory)
+
+  -- the commands were run and the view took all frames of the run, but its file wasn't read
+  abbrev pub IsNotRead : FileError → Option (List Reply) → Type 0
+  IsNotRead fault told =
+      (replies : List Reply)
+      × (told ≡ Some replies)
+      × EmitsDue start end commands replies
+      × Takes (frames_emitted replies) old new
+      × TookAlso (frames_emitted replies) (view_of old) (view_of new)
+      × IsFileFault old new fault
+
+  abbrev pub IsUnread : FileError → Option (List Reply) → Type 0
+  IsUnread fault told = IsNotRun fault told ⊎ IsNotTaken fault told ⊎ IsNotRead fault told
+
+-- Of the run that was made, whose replies are told: a frame that is kept has a part that is too long to be written.
+abbrev pub IsTooLong : List (List ℕ × Form) → List Command → ℕ → ℕ → Option (List Reply) → Type 0
+IsTooLong threads commands max_recent max_slow told =
     (replies : List Reply)
+    × (told ≡ Some replies)
     × (end : SessionState)
-    × AreReplies threads commands replies end
+    × EmitsDue (new_session threads) end commands replies
     × Any HasLongPart (kept_frames max_recent max_slow (frames_said replies))

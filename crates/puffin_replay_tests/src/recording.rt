@@ -1,9 +1,10 @@
-use crate::commands::{Outcome, Step, commands};
+use crate::commands::{Outcome, Step, commands, texts};
 use crate::equal::equal;
 use puffin_data::NanoSecond;
 use puffin_data::data::Form;
 use puffin_frames::frame_data::{FrameData, UnpackedFrameData};
-use puffin_replay::replay::{Limits, Recording, record_and_read};
+use puffin_replay::replay::{Limits, Recording, Session, record_and_read, record_session_and_read};
+use puffin_view::profile_view::FrameView;
 use std::alloc::AllocGlobal;
 use std::process::Abort;
 use std::sync::Arc;
@@ -44,7 +45,9 @@ fn recorded(
         packs,
     };
     let commands = commands(rt, THREE_FRAMES)?;
-    let recording = record_and_read(rt.alloc(), main_thread(rt)?, &commands, limits)?;
+    let recording = record_and_read(rt.alloc(), main_thread(rt)?, &commands, limits).map_err(
+        |unread| unread.fault,
+    )?;
     equal(rt, recording.replies.len(), 9);
     Ok(recording)
 }
@@ -131,4 +134,54 @@ fn as_many_frames_are_read_again_as_are_kept(rt: HostRuntime) -> Outcome<()> {
         1,
         &[(0, (100, 300)), (1, (400, 450)), (2, (500, 600))],
     )
+}
+
+/// A scope in a frame of its own, and the begin of another one.
+const ONE_AND_A_BEGIN: &[Step<'static>] = &[
+    Step::Begin(100, 1, ""),
+    Step::End(300),
+    Step::Frame,
+    Step::Begin(400, 1, ""),
+];
+
+/// The end of that, and its frame.
+const AN_END: &[Step<'static>] = &[Step::End(450), Step::Frame];
+
+/// After these steps in a session and a view that there are, just these frames are read.
+fn goes_on(
+    rt: &(impl AllocGlobal + Abort),
+    session: &mut Session,
+    view: &mut FrameView,
+    steps: &[Step<'_>],
+    frames: &[(u64, (NanoSecond, NanoSecond))],
+) -> Outcome<()> {
+    let commands = commands(rt, steps)?;
+    let recording = record_session_and_read(rt.alloc(), session, &commands, view).map_err(
+        |unread| unread.fault,
+    )?;
+    equal(rt, recording.replies.len(), steps.len());
+    reads(rt, &recording, frames);
+    Ok(())
+}
+
+/// A scope that was begun in one recording is read again of the next one, behind the frame that the view holds already.
+fn goes_on_twice(
+    rt: &(impl AllocGlobal + Abort),
+    session: &mut Session,
+    view: &mut FrameView,
+) -> Outcome<()> {
+    goes_on(rt, session, view, ONE_AND_A_BEGIN, &[(0, (100, 300))])?;
+    goes_on(
+        rt,
+        session,
+        view,
+        AN_END,
+        &[(0, (100, 300)), (1, (400, 450))],
+    )
+}
+
+#[test]
+fn a_session_and_a_view_go_on(rt: HostRuntime) -> Outcome<()> {
+    let mut session = Session::new(rt.alloc(), texts(&rt, &["main"])?)?;
+    goes_on_twice(&rt, &mut session, &mut FrameView::new(rt.alloc()))
 }

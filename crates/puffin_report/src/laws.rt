@@ -7,7 +7,7 @@ ghost use Rattle.puffin_data.specs.Device.{IsOutside};
 ghost use Rattle.puffin_frames.specs.declared.frame_data.frame.FrameData.{FrameData};
 ghost use Rattle.puffin_threads.specs.Thread.Info.{Info};
 ghost use Rattle.puffin_frames.specs.Frame.Contents.{Streams, holding_of, frame_contents, frame_says};
-ghost use Rattle.puffin_frames.specs.Frame.Holding.{IsHolding, as_packed};
+ghost use Rattle.puffin_frames.specs.Frame.Holding.{as_packed};
 ghost use Rattle.puffin_frames.specs.Packet.Stored.{Stored};
 ghost use Rattle.puffin_frames.specs.Packet.Grammar.{IsPacked};
 ghost use Rattle.puffin_view.specs.View.{View};
@@ -16,7 +16,7 @@ ghost use Rattle.puffin_report.specs.declared.summary.Summary.{Summary};
 ghost use Rattle.puffin_report.specs.Summary.{NoneLacksIds, streams_said, details_said, SumsUp, IsSummary, IsHindered, FailsToSumUp};
 ghost use Rattle.puffin_report.specs.ReportLines.{report_lines};
 
-use puffin_frames::frame_data::laws::packing_keeps;
+use puffin_frames::frame_data::laws::each_frame_is_read_again;
 use puffin_merge::merge::laws::one_outcome;
 use puffin_view::profile_view::laws::what_was_written_is_read;
 
@@ -34,16 +34,16 @@ pub fn what_was_recorded_is_summed_up()
         AllByRecursion IsPacked (contents_in v) → length (contents_in v) < 2 ^ 64 - 1 →
         NoneLacksIds (contents_in v) → FailsToSumUp info (Some (file_of (contents_in v))) new e →
         ¬ IsOutside e → IsHindered info (contents_in v) e }
-    // A packed copy of a frame is unpacked to what it holds, and that is what the frame holds where its streams have a layout.
+    // A packed copy of a frame is unpacked to what it holds, and that is what the frame holds.
     ensures copied { (frame copy : FrameData) (streams : Streams) →
         holding_of copy ≡ as_packed (holding_of frame) → frame_contents copy ≡ Some streams →
         streams_said (frame_says frame) ≡ Ok streams }
-    ensures unpacked { (frame : FrameData) (streams : Streams) → IsHolding (holding_of frame) →
+    ensures unpacked { (frame : FrameData) (streams : Streams) →
         frame_contents frame ≡ Some streams → streams_said (frame_says frame) ≡ Ok streams }
 {
     // For the proof alone, as the whole call: the laws that this one follows from.
     what_was_written_is_read();
-    packing_keeps();
+    each_frame_is_read_again();
 }
 
 /// The frames of a file have one report under an info: whichever summary of them is printed, the lines are the same.

@@ -14,9 +14,10 @@ use Rattle.puffin_session.specs.declared.command.Reply.{Reply}
 use Rattle.puffin_replay.specs.declared.replay.script.Script.{Script}
 use Rattle.puffin_replay.specs.Script.{threads_said}
 use Rattle.puffin_replay.specs.Program.ReplyLines.{reply_lines}
-use Rattle.puffin_session.specs.Session.{SessionState}
+use Rattle.puffin_session.specs.Session.{SessionState, new_session}
 use Rattle.puffin_session.specs.Session.Runs.{AreReplies}
 use Rattle.puffin_replay.specs.Program.Recording.{frames_emitted, IsWriteFault}
+use Rattle.puffin_replay.specs.Promise.{EmitsDue, frames_said, kept_frames}
 use Rattle.puffin_report.specs.Summary.{NoneLacksIds}
 
 abbrev pub AreAnswers : Script → List Reply → SessionState → Type 0
@@ -31,12 +32,13 @@ loose_view = record empty_view { packs = false }
 abbrev pub view_after : List Reply → View
 view_after replies = after_all loose_view (frames_emitted replies)
 
--- One writer got the file of a view that took the frames of a run of the script, and the other the lines of the run's replies.
+-- One writer got the file of a view that took the frames of a run of the script, and the other the lines of the run's replies. Each emitted frame says what was due, and the file has just those that a new view keeps.
 pub record IsReplayed (script : Script)
     (file_before file_after lines_before lines_after : Option (List ℕ)) : Type 0 where
   pub replies : List Reply
   pub end : SessionState
-  pub run : AreAnswers script replies end
+  pub emits : EmitsDue (new_session (threads_said script)) end script.commands.items replies
+  pub kept : contents_in (view_after replies) ≡ kept_frames 1000 256 (frames_said replies)
   pub took : Took (map contents_of (frames_emitted replies)) (view_after replies)
   pub written : Appends file_before file_after (file_of (contents_in (view_after replies)))
   pub packed : AllByRecursion IsPacked (contents_in (view_after replies))

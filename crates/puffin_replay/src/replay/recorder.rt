@@ -12,21 +12,32 @@ ghost use Rattle.puffin_view.specs.View.{Took};
 ghost use Rattle.puffin_view.specs.View.Known.{view_of};
 ghost use Rattle.puffin_view.specs.View.File.{contents_in};
 ghost use Rattle.puffin_session.specs.Session.{SessionState, new_session};
-ghost use Rattle.puffin_session.specs.Session.Runs.{Records, AreReplies, HasIds};
+ghost use Rattle.puffin_session.specs.Session.Runs.{HasIds};
 ghost use Rattle.puffin_replay.specs.Script.{threads_said};
 ghost use Rattle.puffin_replay.specs.Program.Recording.{frame_in, emitted_by, frames_emitted, file_of_view, Takes, TakesSome, TookAlso, HoldsIds, ListsIds, IsBroken};
 ghost use Rattle.puffin_replay.specs.Program.ScriptRun.{loose_view, IsReplayed, IsUnfinished};
+ghost use Rattle.puffin_replay.specs.Promise.{EmitsDue, IsNotRun, IsNotTaken};
 
 use crate::replay::reply_line::reply_lines;
 use crate::replay::script::Script;
 use puffin_data::data::{Drain, Form, write_all};
 use puffin_data::{Error, FileError, Result as Answer};
 use puffin_frames::frame_data::FrameData;
+use puffin_frames::frame_data::laws::each_frame_is_read_again;
 use puffin_session::{Command, Reply, Session};
 use puffin_view::profile_view::FrameView;
 use puffin_view::profile_view::laws::views_hold_what_they_took;
 use std::alloc::{AllocError, Global};
 use std::sync::Arc;
+
+/// Why a recording isn't read again.
+#[derive(Drop)]
+pub struct Unread {
+    /// The cause.
+    pub fault: FileError,
+    /// The reply to each command, in order, where the commands were run.
+    pub replies: Option<Vec<Reply>>,
+}
 
 /// The frame that a reply tells of, if any.
 fn emitted_by(reply: &Reply) -> Option<&Arc<FrameData>>
@@ -55,6 +66,50 @@ fn add_frames(view: &mut FrameView, replies: &[Reply]) -> Answer<()>
     Ok(())
 }
 
+/// Runs commands in a session, and adds each emitted frame to a view, in order. Returns one reply to each command.
+///
+/// Refused only with `Memory`. The session may then have run the commands, or none of them, and the view have taken a
+/// beginning of the frames.
+pub(crate) fn run_into(
+    session: &mut Session,
+    commands: &[Command],
+    view: &mut FrameView,
+) -> Result<Vec<Reply>, Unread>
+    ensures run { IfOk result (λ replies.
+        EmitsDue session.old session.new commands.now replies.items) }
+    ensures view { IfOk result (λ replies. Takes (frames_emitted replies.items) view.old view.new) }
+    ensures took { IfOk result (λ replies.
+        TookAlso (frames_emitted replies.items) (view_of view.old) (view_of view.new)) }
+    ensures held_ids { OnOk result (HoldsIds (view_of view.old) (view_of view.new)) }
+    ensures ids { OnOk result (ListsIds (view_of view.old) (view_of view.new)) }
+    ensures refusal { IfErr result (λ e.
+        IsNotRun session.old session.new commands.now view.old view.new e.fault
+        (option_map (λ rs. rs.items) e.replies)
+        ⊎ IsNotTaken session.old session.new commands.now view.old view.new e.fault
+        (option_map (λ rs. rs.items) e.replies)) }
+    ensures memory { IfErr result (λ e. e.fault ≡ FileError.Memory) }
+{
+    // For the proof alone: laws about frames and views.
+    each_frame_is_read_again();
+    views_hold_what_they_took();
+    let replies = match session.run(commands) {
+        Ok(replies) => replies,
+        Err(_) => {
+            return Err(Unread {
+                fault: FileError::Memory,
+                replies: None,
+            });
+        }
+    };
+    match add_frames(view, &replies) {
+        Ok(()) => Ok(replies),
+        Err(_) => Err(Unread {
+            fault: FileError::Memory,
+            replies: Some(replies),
+        }),
+    }
+}
+
 /// Runs commands in a session, adds each emitted frame to a view, in order, and writes the view's file. Returns one reply to
 /// each command.
 ///
@@ -68,7 +123,7 @@ pub fn record_session<D: Drain>(
 ) -> Result<Vec<Reply>, FileError>
     requires { D.failures drain.old < 2 ^ 64 - 1 }
     ensures run { IfOk result (λ replies.
-        Records session.old session.new commands.now replies.items) }
+        EmitsDue session.old session.new commands.now replies.items) }
     ensures view { IfOk result (λ replies. Takes (frames_emitted replies.items) view.old view.new) }
     ensures took { IfOk result (λ replies.
         TookAlso (frames_emitted replies.items) (view_of view.old) (view_of view.new)) }
@@ -87,16 +142,10 @@ pub fn record_session<D: Drain>(
     ensures too_long { (result ≡ Err FileError.PartTooLong) →
         Any HasLongPart (contents_in (view_of view.new)) }
 {
-    // For the proof alone: a law about views.
-    views_hold_what_they_took();
-    let replies = match session.run(commands) {
+    let replies = match run_into(session, commands, view) {
         Ok(replies) => replies,
-        Err(_) => return Err(FileError::Memory),
+        Err(unread) => return Err(unread.fault),
     };
-    match add_frames(view, &replies) {
-        Ok(()) => {}
-        Err(_) => return Err(FileError::Memory),
-    }
     view.write(drain)?;
     Ok(replies)
 }
@@ -114,11 +163,11 @@ pub fn record<D: Drain>(
     drain: &mut D,
 ) -> Result<Vec<Reply>, FileError>
     requires { D.failures drain.old < 2 ^ 64 - 1 }
-    // The commands were run, and the view took the frames of that run.
+    // The commands were run, each emitted frame says what was due, and the view took the frames of that run.
     ensures run { IfOk result (λ replies.
         (end : SessionState)
-        × AreReplies (map (λ name. (string_bytes name, Short)) names.items) commands.now
-        replies.items end) }
+        × EmitsDue (new_session (map (λ name. (string_bytes name, Short)) names.items)) end
+        commands.now replies.items) }
     ensures view { IfOk result (λ replies. Takes (frames_emitted replies.items) view.old view.new) }
     ensures took { IfOk result (λ replies.
         TookAlso (frames_emitted replies.items) (view_of view.old) (view_of view.new)) }

@@ -1,28 +1,26 @@
 //! Recording into memory, and reading what was recorded: the whole promise in one contract.
 
-ghost use Rattle.std.specs.Prelude.{◌≡◌, ◌⊎◌, map, Some, OnOk, IfOk, IfErr, IfSome};
-ghost use Rattle.std.specs.List.{All};
+ghost use Rattle.std.specs.Prelude.{◌≡◌, ◌⊎◌, true, map, option_map, Some, IfOk, IfErr};
+ghost use Rattle.std.specs.List.{Any, list_any};
 ghost use Rattle.std.specs.String.{string_bytes};
-ghost use Rattle.std.specs.Arc.{arc_value};
 ghost use Rattle.puffin_data.specs.declared.error.Error.{Error};
 ghost use Rattle.puffin_data.specs.declared.file_error.FileError.{FileError};
+ghost use Rattle.puffin_frames.specs.Packet.Writing.{HasLongPart};
 ghost use Rattle.puffin_view.specs.View.{View, empty_view};
-ghost use Rattle.puffin_view.specs.View.Known.{view_of};
+ghost use Rattle.puffin_view.specs.View.Known.{view_of, lacks_ids};
 ghost use Rattle.puffin_view.specs.View.File.{contents_in};
-ghost use Rattle.puffin_replay.specs.Promise.{KeepsPromise, MayBeTooLong};
-ghost use Rattle.puffin_replay.specs.inner.InMemory.{UnpacksAgain, FrameHas, IsFileOf, HasJust};
+ghost use Rattle.puffin_replay.specs.Promise.{IsReadOf, KeepsRun, KeepsPromise, IsUnread, IsTooLong};
+ghost use Rattle.puffin_replay.specs.inner.InMemory.{IsFileOf, IsReadFault};
 
-use crate::replay::recorder::record_session;
+use crate::replay::recorder::{Unread, run_into};
+use puffin_data::FileError;
 use puffin_data::data::{Counted, Drain, Form};
-use puffin_data::{FileError, Result as Answer};
-use puffin_frames::frame_data::FrameData;
 use puffin_session::{Command, Reply, Session};
 use puffin_view::profile_view::FrameView;
 use puffin_view::profile_view::laws::what_was_written_is_read;
 use std::alloc::Global;
 use std::io;
 use std::io::Write;
-use std::sync::Arc;
 
 /// How many frames a view keeps, and how.
 #[derive(Clone, Copy, Debug, PartialEq, Eq)]
@@ -95,45 +93,12 @@ fn limited_view(alloc: Global, limits: Limits) -> FrameView
     view
 }
 
-/// Packs a copy of a frame. It stands for the proof alone: what a frame holds has a layout that is read as just that.
-fn frame_unpacks(frame: &Option<Arc<FrameData>>) -> Answer<()>
-    ensures ok { OnOk result (IfSome frame.now (λ f. UnpacksAgain (arc_value f))) }
-    ensures memory { IfErr result (λ e. e ≡ Error.Memory) }
-{
-    if let Some(frame) = frame {
-        let _copy = frame.packed_copy()?;
-    }
-    Ok(())
-}
-
-/// The same of the frame that a reply tells of, if any.
-fn reply_unpacks(reply: &Reply) -> Answer<()>
-    ensures ok { OnOk result (FrameHas UnpacksAgain reply.now) }
-    ensures memory { IfErr result (λ e. e ≡ Error.Memory) }
-{
-    match reply {
-        Reply::Frame(emitted) => frame_unpacks(&emitted.frame),
-        _ => Ok(()),
-    }
-}
-
-/// The same of all replies.
-fn all_unpack(replies: &[Reply]) -> Answer<()>
-    ensures ok { OnOk result (All (FrameHas UnpacksAgain) replies.now) }
-    ensures memory { IfErr result (λ e. e ≡ Error.Memory) }
-{
-    for reply in replies {
-        reply_unpacks(reply)?;
-    }
-    Ok(())
-}
-
-/// Reads the file of a view. Refused only with `Memory`.
+/// Reads the file of a view. Refused only with `Memory`, or where details have no id.
 fn read_file(alloc: Global, bytes: &[u8]) -> Result<FrameView, FileError>
     ensures ok { IfOk result (λ read.
-        (v : View) → IsFileOf bytes.now v → HasJust (contents_in v) (view_of read)) }
-    ensures memory { IfErr result (λ e.
-        (v : View) → IsFileOf bytes.now v → e ≡ FileError.Memory) }
+        (v : View) → IsFileOf bytes.now v → IsReadOf (contents_in v) read) }
+    ensures fault { IfErr result (λ e.
+        (v : View) → IsFileOf bytes.now v → IsReadFault (contents_in v) e) }
 {
     // For the proof alone: a law about views and their files.
     what_was_written_is_read();
@@ -143,47 +108,84 @@ fn read_file(alloc: Global, bytes: &[u8]) -> Result<FrameView, FileError>
     }
 }
 
-/// Runs commands in a new session of threads with these names, whose texts have the form beside the name, adds each
-/// emitted frame to a new view with these limits, in order, writes the view's file into memory, and reads that into
-/// another view. Returns one reply to each command, and the view that was read.
+/// Writes the file of a view into memory, and reads it into another view.
+fn written_and_read(alloc: Global, view: &FrameView) -> Result<FrameView, FileError>
+    ensures ok { IfOk result (λ read. IsReadOf (contents_in (view_of view.now)) read) }
+    ensures fault { IfErr result (λ e.
+        IsReadFault (contents_in (view_of view.now)) e
+        ⊎ ((e ≡ FileError.PartTooLong) × Any HasLongPart (contents_in (view_of view.now)))) }
+{
+    let mut file = MemoryFile {
+        bytes: Vec::new(alloc),
+        faults: 0,
+    };
+    match view.write(&mut file) {
+        Ok(()) => read_file(alloc, file.bytes.as_slice()),
+        Err(fault) => Err(in_memory(fault)),
+    }
+}
+
+/// Runs commands in a session, adds each emitted frame to a view, in order, writes the view's file into memory, and reads
+/// that into another view. Returns one reply to each command, and the view that was read.
 ///
-/// So the last and the slowest of the emitted frames are read again, and nothing else; and each of them has, under each
-/// thread's start and name, the scopes that were reported there since the frame before it.
+/// The session may have done anything before, and the view have taken any frames. So each emitted frame has, under each
+/// thread's start and name, the scopes that were reported there since the frame before it, be that one of this call or of
+/// an earlier one; and the view that was read has just the frames that the first one has then, and the details that these
+/// tell.
 ///
 /// The view that was read keeps `usize::MAX` recent frames and 256 slow ones, as [`FrameView::read`] says. Fails with
-/// `Memory`, and with `PartTooLong` where a part of a packet has `2^32` bytes or more.
+/// `Memory`, with `PartTooLong` where a part of a packet has `2^32` bytes or more, and with `Refused(MissingId)` where
+/// details of a frame that the view held before have no id. The replies of the run that was made come with the cause.
+pub fn record_session_and_read(
+    alloc: Global,
+    session: &mut Session,
+    commands: &[Command],
+    view: &mut FrameView,
+) -> Result<Recording, Unread>
+    ensures promise { IfOk result (λ recording.
+        KeepsRun session.old session.new commands.now view.old view.new recording.replies.items
+        recording.view) }
+    ensures refusal { IfErr result (λ e.
+        IsUnread session.old session.new commands.now view.old view.new e.fault
+        (option_map (λ rs. rs.items) e.replies)) }
+{
+    let replies = run_into(session, commands, view)?;
+    match written_and_read(alloc, view) {
+        Ok(view) => Ok(Recording { replies, view }),
+        Err(fault) => Err(Unread {
+            fault,
+            replies: Some(replies),
+        }),
+    }
+}
+
+/// Records into memory and reads again, as [`record_session_and_read`], in a new session of threads with these names, whose
+/// texts have the form beside the name, and with a new view with these limits.
+///
+/// So the last and the slowest of the emitted frames are read again, and nothing else; and each of them has, under each
+/// thread's start and name, the scopes that were reported there since the frame before it. Fails with `Memory`, and with
+/// `PartTooLong` where a part of a packet has `2^32` bytes or more.
 pub fn record_and_read(
     alloc: Global,
     threads: Vec<(String, Form)>,
     commands: &[Command],
     limits: Limits,
-) -> Result<Recording, FileError>
+) -> Result<Recording, Unread>
     ensures promise { IfOk result (λ recording.
         KeepsPromise (map (λ t. (string_bytes t.0, t.1)) threads.items) commands.now
-        limits.max_recent limits.max_slow recording.replies.items (view_of recording.view)) }
+        limits.max_recent limits.max_slow recording.replies.items recording.view) }
     ensures refusal { IfErr result (λ e.
-        (e ≡ FileError.Memory)
-        ⊎ ((e ≡ FileError.PartTooLong)
-        × MayBeTooLong (map (λ t. (string_bytes t.0, t.1)) threads.items) commands.now
-        limits.max_recent limits.max_slow)) }
+        (e.fault ≡ FileError.Memory)
+        ⊎ ((e.fault ≡ FileError.PartTooLong)
+        × IsTooLong (map (λ t. (string_bytes t.0, t.1)) threads.items) commands.now
+        limits.max_recent limits.max_slow (option_map (λ rs. rs.items) e.replies))) }
 {
     let mut view = limited_view(alloc, limits);
-    let mut file = MemoryFile {
-        bytes: Vec::new(alloc),
-        faults: 0,
-    };
-    let mut session = match Session::with_forms(alloc, threads) {
-        Ok(session) => session,
-        Err(_) => return Err(FileError::Memory),
-    };
-    let replies = match record_session(&mut session, commands, &mut view, &mut file) {
-        Ok(replies) => replies,
-        Err(fault) => return Err(in_memory(fault)),
-    };
-    match all_unpack(&replies) {
-        Ok(()) => {}
-        Err(_) => return Err(FileError::Memory),
+    match Session::with_forms(alloc, threads) {
+        Ok(mut session) => record_session_and_read(alloc, &mut session, commands, &mut view),
+        Err(_) => Err(Unread {
+            fault: FileError::Memory,
+            replies: None,
+        }),
     }
-    let view = read_file(alloc, file.bytes.as_slice())?;
-    Ok(Recording { replies, view })
 }

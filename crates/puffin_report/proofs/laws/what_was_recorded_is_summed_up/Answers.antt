@@ -19,4 +19,4 @@ pub returns-clause-copied : goal.returns-clause-copied
 returns-clause-copied c frame copy streams packed is = unpacked_again (packing_of (holding_of frame)) streams (ap held_contents (sym packed) ∙ is)
 
 pub returns-clause-unpacked : goal.returns-clause-unpacked
-returns-clause-unpacked c frame streams agree is = unpacked_again (packing_of (holding_of frame)) streams (c.packing_keeps.ensures.packs (holding_of frame) agree ∙ is)
+returns-clause-unpacked c frame streams is = unpacked_again (packing_of (holding_of frame)) streams (c.each_frame_is_read_again.ensures.again frame ∙ is)

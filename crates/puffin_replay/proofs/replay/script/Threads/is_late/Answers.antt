@@ -1,5 +1,5 @@
 -- A thread that has a number is named.
-use Rattle.std.proofs.Common.{◌≡◌, List, ℕ, Option, Some, None, is_some, refl, sym, ap, ◌∙◌}
+use Rattle.std.proofs.Common.{◌≡◌, ℕ, Option, Some, None, is_some, refl, sym, ap, ◌∙◌}
 use Rattle.std.specs.Borrow.{Bor}
 use Rattle.std.specs.Option.{option_copied}
 use Rattle.puffin_replay.specs.declared.replay.statement.Statement.{Statement}
