@@ -3,3 +3,4 @@ mod HandingOn
 mod Numbering
 mod HandedOut
 mod SharedRefusals
+mod CountedShares

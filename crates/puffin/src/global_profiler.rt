@@ -3,6 +3,7 @@
 mod booked;
 mod global_frame_view;
 mod handing;
+pub mod laws;
 mod profiler;
 mod share;
 mod shared_profiler;

@@ -4,6 +4,7 @@
 //!
 //! | to | call |
 //! |---|---|
+//! | profile a program in few lines | [`light`] |
 //! | record one thread's scopes | [`thread_profiler::ThreadProfiler::new`]; `with_form` for texts of up to 16,383 bytes |
 //! | gather what threads report | [`global_profiler::GlobalProfiler::new`]; it is the [`thread_profiler::Reporter`] of each `end_scope` |
 //! | take a frame | [`global_profiler::GlobalProfiler::new_frame`] |
@@ -18,6 +19,7 @@
 //! | write them to a `.puffin` file, and read one | [`profile_view::FrameView::write`], [`profile_view::FrameView::read`] |
 //! | pick the slowest of any frames | [`profile_view::select_slowest`] |
 //! | add up one thread's scopes over frames | [`merge::merge_scopes_for_thread`] |
+//! | the same, one frame at a time | [`merge::Merger`] |
 //! | make a scope of a function, or of a part of it | the macros `profile_function`, `profile_scope` and the four like them; [`ProfilerScope`] by hand |
 //! | turn those scopes on and off | [`Switch::set_scopes_on`] |
 //! | keep the id of a place in the code | [`Site::new`] |
@@ -25,6 +27,7 @@
 #![tactic(auto)]
 
 pub mod global_profiler;
+pub mod light;
 mod macros;
 
 pub use puffin_data::{Error, FileError, FrameIndex, NanoSecond, Result, data, wire};

@@ -90,7 +90,7 @@ fn paint<
     let profiler = GlobalProfiler::new(rt.alloc());
     let opened = SharedProfiler::<L, M>::open(rt.alloc(), profiler, 5, reported, handed);
     let (profiler, mut shares) = opened.ok().context("memory")?;
-    let view = GlobalFrameView::attach(rt.alloc(), &rt, &profiler)?;
+    let view = GlobalFrameView::attach(&rt, rt.alloc(), &profiler)?;
     let mut own = shares.pop().context("a share")?;
     let mut threads = Vec::new(rt.alloc());
     for ((painter, share), first) in painters.into_iter().zip(shares).zip([0, 4, 8, 12]) {

@@ -153,7 +153,7 @@ fn added_is_handed_on<
     M: Ledger + Send + Sync + 'static,
     R: Wait + Abort + Copy + Drop,
 >(rt: R, alloc: Global, profiler: &SharedProfiler<L, M>, share: Share<L, M>) -> Outcome {
-    let view = GlobalFrameView::attach(alloc, &rt, profiler)?;
+    let view = GlobalFrameView::attach(&rt, alloc, profiler)?;
     is_added(&rt, alloc, profiler)?;
     is_viewed(&rt, &view)?;
     profiler.emit_scope_snapshot(&rt);

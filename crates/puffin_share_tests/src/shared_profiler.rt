@@ -138,7 +138,7 @@ fn is_viewed<
     R: Wait + Abort + Copy + Send + Sync + 'static,
 >(rt: R, alloc: Global, profiler: &SharedProfiler<L, M>, share: Share<L, M>) -> Outcome {
     let id = registered(&rt, profiler)?;
-    let view = GlobalFrameView::attach(alloc, &rt, profiler)?;
+    let view = GlobalFrameView::attach(&rt, alloc, profiler)?;
     handed_on(rt, alloc, profiler, share, id)?;
     found(&rt, &view, id);
     assert!(rt; view.detach(&rt, profiler));

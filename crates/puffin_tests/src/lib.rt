@@ -12,6 +12,8 @@ mod equal;
 #[cfg(test)]
 mod global_profiler;
 #[cfg(test)]
+mod light;
+#[cfg(test)]
 mod sinks;
 #[cfg(test)]
 mod surface;

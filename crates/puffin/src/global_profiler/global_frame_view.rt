@@ -23,12 +23,12 @@ impl GlobalFrameView {
     /// Refused with `SinkIdsExhausted` or `Memory`, and nothing is changed then.
     ///
     /// ```
-    /// let view = GlobalFrameView::attach(alloc, &rt, &profiler)?;
+    /// let view = GlobalFrameView::attach(&rt, alloc, &profiler)?;
     /// view.lock(&rt).set_max_recent(200);
     /// ```
     pub fn attach<L: Ledger, M: Ledger>(
-        alloc: Global,
         rt: &impl Wait,
+        alloc: Global,
         profiler: &SharedProfiler<L, M>,
     ) -> Result<GlobalFrameView>
         requires { Unit {0} }

@@ -1,0 +1,14 @@
+-- Shares with the numbers that their threads counted.
+use Rattle.std.proofs.Common.{◌≡◌, ℕ, ◌+◌, ◌<◌, ◌^◌, List, [], ◌∷◌, ◌++◌, sum, ◌∙◌, arith}
+use Rattle.std.proofs.lemmas.List.Sums.{sum_by-append}
+use Rattle.puffin.specs.Shares.{ShareCounts, all_reported}
+
+-- one share more, whose thread counted as much
+pub counted_more : (shares : List ShareCounts) (reported : List ℕ) (s : ShareCounts) (n : ℕ) → (all_reported shares < 2 ^ 64 → sum reported ≡ all_reported shares) → (s.reported < 2 ^ 64 → n ≡ s.reported)
+    → all_reported (shares ++ s ∷ []) < 2 ^ 64 → sum (reported ++ n ∷ []) ≡ all_reported (shares ++ s ∷ [])
+counted_more shares reported s n so_far one below =
+    let whole : all_reported (shares ++ s ∷ []) ≡ all_reported shares + s.reported = sum_by-append (λ (c : ShareCounts). c.reported) shares (s ∷ []) ∙ omega arith in
+    let counts : sum (reported ++ n ∷ []) ≡ sum reported + n = sum_by-append (λ (x : ℕ). x) reported (n ∷ []) ∙ omega arith in
+    let before : all_reported shares < 2 ^ 64 = omega (arith, whole, below) in
+    let last : s.reported < 2 ^ 64 = omega (arith, whole, below) in
+    omega (arith, whole, counts, so_far before, one last)

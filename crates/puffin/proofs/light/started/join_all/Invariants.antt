@@ -1,0 +1,10 @@
+use Rattle.std.specs.Prelude.{◌≡◌, ◌+◌, ◌<◌, ◌^◌, vec_len, length, sum}
+use Rattle.puffin.specs.Shares.{all_reported}
+use Rattle.puffin.proofs.light.started.join_all.Given as goal
+
+abbrev pub invariant-loop-thread : goal.invariant-loop-thread
+invariant-loop-thread g l = record {
+  shares : vec_len l.shares ≡ length l.yielded + 1;
+  reported : vec_len l.reported ≡ length l.yielded;
+  counted : all_reported l.shares.items < 2 ^ 64 → sum l.reported.items ≡ all_reported l.shares.items;
+}

@@ -1,0 +1,17 @@
+//! Laws of a profiler's sinks, as contracts of functions that do nothing. A proof of another crate cites them by calling the
+//! function.
+
+ghost use Rattle.std.specs.Prelude.{◌≡◌, ◌==◌};
+ghost use Rattle.std.specs.Hash as fed;
+ghost use Rattle.puffin.specs.declared.global_profiler.sink.FrameSinkId.{FrameSinkId};
+
+use crate::global_profiler::sink::FrameSinkId;
+use std::hash::Hash;
+
+/// Numbers of sinks are equal where they are the same number, and are hashed as numbers.
+pub fn sink_ids()
+    ensures equality { (a b : FrameSinkId) →
+        ⟦<FrameSinkId as PartialEq>⟧.eq a b ≡ (a.0 == b.0) }
+    ensures hash { (a : FrameSinkId) →
+        ⟦<FrameSinkId as Hash>⟧.hash_input a ≡ fed.u64 a.0 }
+{}

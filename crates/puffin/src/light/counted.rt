@@ -1,0 +1,73 @@
+//! Reporters that count what is accepted.
+ghost use Rattle.std.specs.Prelude.{◌≡◌, ◌<◌, ◌^◌};
+
+use crate::global_profiler::{Share, SharedReporter};
+use crate::scope_details::ScopeDetails;
+use crate::thread_profiler::{Reporter, ThreadInfo};
+use puffin_data::Result;
+use puffin_data::data::StreamInfoRef;
+use std::sync::Wait;
+use std::sync::ledger::Ledger;
+
+/// A share that comes back from its thread, and the number of scopes that it counts as reported.
+#[derive(Drop)]
+pub(crate) struct CountedShare<L: Ledger, M: Ledger> {
+    pub(crate) share: Share<L, M>,
+    pub(crate) reported: u64,
+    ghost counted: { share.reported < 2 ^ 64 → reported ≡ share.reported },
+}
+
+/// A thread's way to a shared profiler, which counts the scopes of accepted reports.
+#[derive(Drop)]
+pub(crate) struct Counting<L: Ledger, M: Ledger, R: Wait> {
+    reporter: SharedReporter<L, M, R>,
+    reported: u64,
+    ghost counted: { reporter.share.reported < 2 ^ 64 → reported ≡ reporter.share.reported },
+}
+
+impl<L: Ledger, M: Ledger, R: Wait> Counting<L, M, R> {
+    /// Counts from 0, by a share that counts nothing yet.
+    pub(crate) fn new(reporter: SharedReporter<L, M, R>) -> Counting<L, M, R>
+        requires { reporter.share.reported ≡ 0 }
+    {
+        Counting {
+            reporter,
+            reported: 0,
+        }
+    }
+}
+
+impl<L: Ledger, M: Ledger, R: Wait + Drop> Counting<L, M, R> {
+    /// Gives the share back, with the number.
+    pub(crate) fn into_share(self) -> CountedShare<L, M> {
+        let Counting { reporter, reported } = self;
+        CountedShare {
+            share: reporter.into_share(),
+            reported,
+        }
+    }
+}
+
+impl<L: Ledger, M: Ledger, R: Wait> Reporter for Counting<L, M, R> {
+    ghost use Rattle.std.specs.Prelude.{◌≡◌};
+    ghost use Rattle.puffin_threads.specs.Details.{AllHaveIds};
+    ghost use Rattle.puffin.specs.Shares.{with_reported};
+    ghost use Rattle.puffin.specs.SharedCauses.{IsReportCause};
+
+    ghost accepts = { λ old i ds r new.
+        (new.reporter.share ≡ with_reported old.reporter.share r.num_scopes) × AllHaveIds ds };
+
+    ghost refuses = { λ old i ds r e new.
+        (new.reporter.share ≡ old.reporter.share) × IsReportCause ds e };
+
+    fn report(
+        &mut self,
+        info: ThreadInfo,
+        details: &[ScopeDetails],
+        times: &StreamInfoRef,
+    ) -> Result<()> {
+        self.reporter.report(info, details, times)?;
+        self.reported = self.reported.saturating_add(times.num_scopes as u64);
+        Ok(())
+    }
+}

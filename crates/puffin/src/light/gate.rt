@@ -1,0 +1,83 @@
+//! Threads that begin together, or not at all.
+
+use crate::light::guard::Records;
+use crate::light::program::{Frames, Program};
+use std::sync::{Condvar, Mutex, Wait};
+
+/// Whether threads may begin.
+#[derive(Clone, Copy, Debug, PartialEq, Eq)]
+enum Signal {
+    /// They wait.
+    Wait,
+    /// They begin.
+    Begin,
+    /// They end without having begun.
+    Leave,
+}
+
+/// A program whose threads begin once all of them were started. Where one can't be started, those that wait end.
+pub(crate) struct Gate<'p, W> {
+    program: &'p W,
+    signal: Mutex<Signal>,
+    changed: Condvar,
+}
+
+impl<'p, W> Gate<'p, W> {
+    /// A program at whose begin all threads wait.
+    pub(crate) fn new(program: &'p W) -> Gate<'p, W> {
+        Gate {
+            program,
+            signal: Mutex::new(Signal::Wait),
+            changed: Condvar::new(),
+        }
+    }
+
+    /// Takes the gate away.
+    pub(crate) fn end(self) {
+        let Gate {
+            program: _,
+            signal: _,
+            changed: _,
+        } = self;
+    }
+
+    /// Waits until the gate is opened. Returns whether the thread may begin.
+    fn may_begin(&self, rt: &impl Wait) -> bool {
+        let mut signal = self.signal.lock(rt);
+        for _ in rt.forever() {
+            match *signal {
+                Signal::Wait => signal = self.changed.wait(rt, signal),
+                Signal::Begin => return true,
+                Signal::Leave => return false,
+            }
+        }
+        unreachable!()
+    }
+}
+
+/// A program with a gate, which whoever starts its threads opens.
+pub(crate) trait Gated: Program {
+    /// Lets all threads begin, or has them leave.
+    fn open(&self, rt: &impl Wait, begins: bool);
+}
+
+impl<W: Program> Gated for Gate<'_, W> {
+    fn open(&self, rt: &impl Wait, begins: bool) {
+        let mut signal = self.signal.lock(rt);
+        *signal = if begins { Signal::Begin } else { Signal::Leave };
+        drop(signal);
+        self.changed.notify_all();
+    }
+}
+
+impl<W: Program> Program for Gate<'_, W> {
+    fn work<R: Wait, T: Records>(&self, rt: &R, number: usize, thread: &mut T) {
+        if self.may_begin(rt) {
+            self.program.work(rt, number, thread);
+        }
+    }
+
+    fn lead<R: Wait, F: Frames>(&self, rt: &R, frames: &mut F) {
+        self.program.lead(rt, frames);
+    }
+}

@@ -1,0 +1,152 @@
+//! Threads with all that their scopes need.
+ghost use Rattle.std.specs.Prelude.{◌≡◌, [], None, pos, IfOk, IfErr};
+ghost use Rattle.puffin_data.specs.declared.data.form.Form.{Form};
+ghost use Rattle.puffin_threads.specs.Thread.Closing.{Reports};
+ghost use Rattle.puffin_threads.specs.Thread.ThreadProfiler.{thread_of, clock_of};
+ghost use Rattle.puffin_collector.specs.Collector.Collecting.{Collects, TellsIds, KeepsPending};
+ghost use Rattle.puffin.specs.Profiler.{collected_of};
+
+use crate::frame_data::FrameData;
+use crate::global_profiler::GlobalProfiler;
+use crate::light::guard::{Records, Standing};
+use crate::light::place::Place;
+use crate::light::scopes::Scopes;
+use crate::thread_profiler::{NsSource, Reporter, SystemClock, ThreadProfiler};
+use puffin_data::Result;
+use std::io;
+use std::rt::Clock;
+use std::sync::{Arc, Wait};
+
+/// A thread that is profiled: whenever its outermost scope ends, all that has closed goes to the reporter. Where a report is
+/// refused, the scopes wait for the next one.
+#[derive(Drop)]
+pub struct Thread<C, P> {
+    profiler: ThreadProfiler<C>,
+    reporter: P,
+    scopes: Arc<Scopes>,
+}
+
+impl<R: Clock + AllocGlobal + Copy, P: Reporter + Drop> Thread<SystemClock<R>, P> {
+    /// A thread of this name on the system's clock, which reports to this reporter. Its scopes are on.
+    ///
+    /// Refused where the clock can't be read, or for want of memory: the reporter is gone then.
+    ///
+    /// ```
+    /// let mut thread = Thread::start(rt, "main", GlobalProfiler::new(rt.alloc()))?;
+    /// ```
+    pub fn start(rt: R, name: &str, reporter: P) -> io::Result<Thread<SystemClock<R>, P>>
+        ensures thread { IfOk result (λ thread.
+            thread_of thread.profiler ≡ record {
+              name = name.now;
+              form = Form.Short;
+              first_start = None;
+              latest = pos 0;
+              word = [];
+              details = [];
+            }) }
+        ensures reporter { IfOk result (λ thread. thread.reporter ≡ reporter) }
+    {
+        let alloc = rt.alloc();
+        let name = String::from_str(alloc, name)?;
+        let profiler = ThreadProfiler::new(alloc, name, SystemClock::new(rt)?);
+        let scopes = Arc::new(alloc, Scopes::new())?;
+        Ok(Thread::new(profiler, reporter, scopes))
+    }
+}
+
+impl<C> Thread<C, GlobalProfiler> {
+    /// Hands out what was reported since the frame before, if anything was, to the caller and to the profiler's sinks.
+    ///
+    /// Refused with `IndexExhausted` or `Memory`: what was reported waits for the next frame.
+    pub fn new_frame(&mut self, rt: &impl Wait) -> Result<Option<Arc<FrameData>>>
+        ensures ok { IfOk result (λ frame.
+            Collects (collected_of self.old.reporter) frame (collected_of self.new.reporter)) }
+        ensures ids { IfOk result (λ frame. TellsIds frame) }
+        ensures err { IfErr result (λ e.
+            KeepsPending (collected_of self.old.reporter) e (collected_of self.new.reporter)) }
+        ensures thread { self.new.profiler ≡ self.old.profiler }
+    {
+        Ok(self.reporter.new_frame(rt)?.frame)
+    }
+}
+
+impl<C: NsSource, P: Reporter> Thread<C, P> {
+    /// A thread that reports to this reporter.
+    pub fn new(profiler: ThreadProfiler<C>, reporter: P, scopes: Arc<Scopes>) -> Thread<C, P>
+        ensures { (result.profiler ≡ profiler) × (result.reporter ≡ reporter) }
+    {
+        Thread {
+            profiler,
+            reporter,
+            scopes,
+        }
+    }
+
+    /// What the scopes are reported to.
+    pub fn reporter(&mut self) -> &mut P
+        ensures { result.now ≡ self.old.reporter }
+    {
+        &mut self.reporter
+    }
+
+    /// Reports closed scopes that wait, since a report of theirs was refused. `Ok(false)` where none waits.
+    ///
+    /// Refused as [`ThreadProfiler::report_closed`] is: nothing changes for the thread.
+    pub fn report_closed(&mut self) -> Result<bool>
+        ensures reports { Reports P.accepts P.refuses (thread_of self.old.profiler)
+            (thread_of self.new.profiler) self.old.reporter self.new.reporter result }
+        ensures clock { clock_of self.new.profiler ≡ clock_of self.old.profiler }
+    {
+        self.profiler.report_closed(&mut self.reporter)
+    }
+}
+
+impl<C: NsSource, P: Reporter> Records for Thread<C, P> {
+    ghost use Rattle.std.specs.Prelude.{◌≡◌};
+    ghost use Rattle.puffin.specs.Guards.{names_of, Begins, EndsAt};
+
+    ghost begins = { λ old place text standing new.
+        Begins C.answers (names_of place) old.profiler text standing new.profiler
+        × (new.reporter ≡ old.reporter) };
+
+    ghost ends = { λ old offset new.
+        EndsAt C.answers P.accepts P.refuses offset old.profiler new.profiler old.reporter
+        new.reporter };
+
+    fn scopes(&self) -> &Scopes {
+        &self.scopes
+    }
+
+    #[inline(always)]
+    fn begin(&mut self, place: &Place, text: &str) -> Standing {
+        if !self.scopes.are_on() {
+            return Standing::Off;
+        }
+        match place.id(&mut self.profiler, self.scopes.ids()) {
+            Ok(id) => match self.profiler.begin_scope(id, text) {
+                Ok(offset) => Standing::On(offset),
+                Err(e) => Standing::Refused(e),
+            },
+            Err(e) => Standing::Refused(e),
+        }
+    }
+
+    #[inline(always)]
+    fn end(&mut self, offset: usize) {
+        let _ = self.profiler.end_scope(offset, &mut self.reporter);
+    }
+}
+
+impl<C: Drop, P> Thread<C, P> {
+    /// Gives the reporter back.
+    pub fn into_reporter(self) -> P
+        ensures { result ≡ self.reporter }
+    {
+        let Thread {
+            profiler: _,
+            reporter,
+            scopes: _,
+        } = self;
+        reporter
+    }
+}

@@ -1,0 +1,29 @@
+//! Four threads work in rounds; a frame is taken after each.
+#![tactic(auto)]
+
+use puffin::light::{Place, Records, Rounds, in_rounds, save};
+use puffin::{place, profile};
+
+#[derive(Drop)]
+struct Game {
+    update: Place,
+    physics: Place,
+}
+
+impl Rounds for Game {
+    fn part<T: Records>(&self, _number: usize, thread: &mut T) {
+        profile!(whole, thread, self.update);
+        profile!(_physics, whole, self.physics, "all bodies");
+    }
+}
+
+fn main(rt: HostRuntime) -> anyhow::Result<()> {
+    let game = Game {
+        update: place!("update"),
+        physics: place!("update", "physics"),
+    };
+    let outcome = in_rounds(rt, &["north", "east", "south", "west"], 10, &game)?;
+    let handed = outcome.settled.handed;
+    println!(rt; "scopes handed out {handed}")?;
+    Ok(save(&rt, "frames.puffin", &outcome.view.lock(&rt))?)
+}

@@ -1,0 +1,23 @@
+//! Profiles one thread for three frames, and writes them to a file.
+#![tactic(auto)]
+
+use puffin::global_profiler::GlobalProfiler;
+use puffin::light::{Records, Thread, save};
+use puffin::profile_view::FrameView;
+use puffin::{place, profile};
+
+fn main(rt: HostRuntime) -> anyhow::Result<()> {
+    let (update, physics) = (place!("update"), place!("update", "physics"));
+    let mut thread = Thread::start(rt, "main", GlobalProfiler::new(rt.alloc()))?;
+    let mut view = FrameView::new(rt.alloc());
+    for _ in 0..3 {
+        {
+            profile!(whole, thread, update);
+            profile!(_physics, whole, physics, "all bodies");
+        }
+        if let Some(frame) = thread.new_frame(&rt)? {
+            view.add_frame(frame)?;
+        }
+    }
+    Ok(save(&rt, "frames.puffin", &view)?)
+}

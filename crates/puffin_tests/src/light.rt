@@ -1,0 +1,162 @@
+//! Scopes of places, of one thread and of several.
+
+use crate::equal::equal;
+use puffin::data::Counted;
+use puffin::global_profiler::{GlobalProfiler, Settled};
+use puffin::light::{
+    Frames, Outcome, Place, Program, Records, Rounds, Standing, Thread, in_rounds, profiled, save,
+};
+use puffin::profile_view::FrameView;
+use puffin::{FileError, place, profile};
+use std::fs;
+use std::fs::File;
+use std::process::Abort;
+use std::sync::Wait;
+use std::test::Fail;
+
+type Tested = std::result::Result<(), Fail>;
+
+/// A function, and a part of it.
+#[derive(Drop)]
+struct Places {
+    whole: Place,
+    part: Place,
+}
+
+impl Places {
+    fn new() -> Places {
+        Places {
+            whole: place!("whole"),
+            part: place!("whole", "part"),
+        }
+    }
+}
+
+/// Two scopes, one within the other.
+fn both<T: Records>(thread: &mut T, places: &Places) {
+    profile!(whole, thread, places.whole);
+    profile!(_part, whole, places.part, "text");
+}
+
+#[test]
+fn an_inner_scope_is_reported_with_the_outermost(rt: HostRuntime) -> Tested {
+    let mut thread = Thread::start(rt, "main", GlobalProfiler::new(rt.alloc()))?;
+    let places = Places::new();
+    {
+        profile!(whole, thread, places.whole, "text");
+        {
+            profile!(_part, whole, places.part);
+        }
+        equal(&rt, whole.thread().reporter().totals().reported, 0);
+    }
+    equal(&rt, thread.reporter().totals().reported, 2);
+    equal(&rt, thread.new_frame(&rt)?.is_some(), true);
+    equal(&rt, thread.new_frame(&rt)?.is_some(), false);
+    equal(&rt, thread.report_closed()?, false);
+    equal(&rt, thread.into_reporter().totals().emitted, 2);
+    Ok(())
+}
+
+#[test]
+fn scopes_that_are_off_are_not_begun(rt: HostRuntime) -> Tested {
+    let mut thread = Thread::start(rt, "main", GlobalProfiler::new(rt.alloc()))?;
+    let places = Places::new();
+    thread.scopes().set_on(false);
+    {
+        let guard = thread.scope(&places.whole);
+        equal(&rt, guard.standing(), Standing::Off);
+    }
+    both(&mut thread, &places);
+    equal(&rt, thread.reporter().totals().reported, 0);
+    thread.scopes().set_on(true);
+    both(&mut thread, &places);
+    equal(&rt, thread.reporter().totals().reported, 2);
+    Ok(())
+}
+
+#[test]
+fn a_view_is_saved_and_replaced(rt: HostRuntime) -> Tested {
+    let name = "light.puffin";
+    save(&rt, name, &FrameView::new(rt.alloc()))?;
+    let outcome = in_rounds(rt, &["a", "b"], 1, &Places::new())?;
+    save(&rt, name, &outcome.view.lock(&rt))?;
+    let view = FrameView::read(rt.alloc(), &mut Counted::new(File::open(&rt, name)?))?;
+    equal(&rt, view.stats().frames(), 1);
+    equal(&rt, fs::exists(&rt, "light.puffin.part")?, false);
+    fs::remove_file(&rt, name)?;
+    Ok(())
+}
+
+#[test]
+fn a_full_device_refuses_a_view(rt: HostRuntime) -> Tested {
+    let outcome = in_rounds(rt, &["a", "b"], 1, &Places::new())?;
+    let refused = save(&rt, "/dev/full", &outcome.view.lock(&rt));
+    equal(&rt, refused, Err(FileError::Io));
+    Ok(())
+}
+
+impl Rounds for Places {
+    /// The first thread begins no scope.
+    fn part<T: Records>(&self, number: usize, thread: &mut T) {
+        if number > 0 {
+            both(thread, self);
+        }
+    }
+}
+
+/// Each thread reported so many scopes, all of which were handed out, in so many frames that the view took.
+fn has<R: Abort + Wait>(rt: &R, outcome: &Outcome, reported: &[u64], sum: u64, frames: usize) {
+    equal(rt, outcome.reported.as_slice() == reported, true);
+    let settled = Settled {
+        reported: sum,
+        handed: sum,
+        pending: 0,
+    };
+    equal(rt, outcome.settled, settled);
+    equal(rt, outcome.missed, 0);
+    equal(rt, outcome.view.lock(rt).stats().frames(), frames);
+}
+
+#[test]
+fn a_frame_is_taken_after_each_round(rt: HostRuntime) -> Tested {
+    let outcome = in_rounds(rt, &["a", "b", "c"], 5, &Places::new())?;
+    has(&rt, &outcome, &[0, 10, 10], 20, 5);
+    let outcome = in_rounds(rt, &["a", "b", "c"], 0, &Places::new())?;
+    has(&rt, &outcome, &[0, 0, 0], 0, 0);
+    Ok(())
+}
+
+/// Each thread begins two scopes as often as its number says; one frame is taken.
+#[derive(Drop)]
+struct Uneven {
+    places: Places,
+}
+
+impl Program for Uneven {
+    fn work<R: Wait, T: Records>(&self, _rt: &R, number: usize, thread: &mut T) {
+        for _ in 0..number {
+            both(thread, &self.places);
+        }
+    }
+
+    fn lead<R: Wait, F: Frames>(&self, _rt: &R, frames: &mut F) {
+        let _emitted = frames.new_frame();
+    }
+}
+
+#[test]
+fn all_that_threads_report_is_handed_out_or_pending(rt: HostRuntime) -> Tested {
+    let uneven = Uneven {
+        places: Places::new(),
+    };
+    let outcome = profiled(rt, &["a", "b", "c"], &uneven)?;
+    equal(
+        &rt,
+        outcome.reported.as_slice() == [0, 2, 4].as_slice(),
+        true,
+    );
+    let settled = outcome.settled;
+    equal(&rt, settled.reported, 6);
+    equal(&rt, settled.handed.checked_add(settled.pending), Some(6));
+    Ok(())
+}
