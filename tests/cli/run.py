@@ -16,7 +16,7 @@ A case is a folder in cases/ with the files
   out.hex what it must write to the file 'out' where it runs (no file: it must not make one)
   places  lines that name what is unusual where it runs: 'folder' for a folder of that name, 'locked' for a file of that
           name that the program may not open, 'full' and 'closed' for a standard output that is a full device or a pipe
-          that nobody reads
+          that nobody reads, 'no-stdin', 'no-stdout' and 'no-stderr' for one that isn't open at all
 """
 
 import os
@@ -29,6 +29,7 @@ import tempfile
 import streams
 
 HERE = pathlib.Path(__file__).resolve().parent
+STANDARD = {"no-stdin": 0, "no-stdout": 1, "no-stderr": 2}
 
 
 def read(path, default=b""):
@@ -81,6 +82,9 @@ def run(program, words, case, place, unusual):
         place.chmod(0o755)
         program = shutil.copy(program, place / "program")
         settings = {"user": 65534, "group": 65534, "extra_groups": []}
+    closed = [STANDARD[it] for it in unusual if it in STANDARD]
+    if closed:
+        settings["preexec_fn"] = lambda: [os.close(it) for it in closed]
     stdout, held = output(unusual)
     try:
         return subprocess.run(

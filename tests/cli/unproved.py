@@ -3,8 +3,8 @@
     python3 unproved.py
 
 `rt try` builds the program once. It gives the program files for its standard streams and a folder of its own, so words
-that name files are made absolute. Left out are cases whose standard output is a full device or a closed pipe and, for
-root, those with a file that may not be opened. One more case runs the script puffin-tool where nothing is built. The
+that name files are made absolute. Left out are cases whose standard output is a full device or a closed pipe, those with
+a standard stream that isn't open and, for root, those with a file that may not be opened. One more case runs the script puffin-tool where nothing is built. The
 last line is 'N passed, M failed, K left out'.
 """
 
@@ -35,7 +35,7 @@ def unusual(case):
 
 def is_taken(case):
     """Whether `rt try` can run a case."""
-    refused = {"full", "closed"} | ({"locked"} if os.geteuid() == 0 else set())
+    refused = {"full", "closed", *run.STANDARD} | ({"locked"} if os.geteuid() == 0 else set())
     return not refused & set(unusual(case))
 
 

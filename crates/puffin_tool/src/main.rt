@@ -9,8 +9,19 @@ use puffin_replay::replay::{
     run_script,
 };
 use std::fs::File;
+use std::io::BufReader;
 use std::process::ExitCode;
 use std::{env, io};
+
+/// How many bytes of a file are read ahead.
+const READ_AHEAD: usize = 65_536;
+
+/// Takes the places of standard input, output and error where they are closed, so that no file that is opened later is
+/// taken for one of them: such an input is at its end, and nothing can be written to such an output. The files are open
+/// until they are dropped.
+fn placeholders(rt: &HostRuntime) -> [io::Result<File>; 3] {
+    [(); 3].map(|_| File::open(rt, "/dev/null"))
+}
 
 /// The program's words, or the fault where they are no text or there is no memory for them.
 fn words(rt: &HostRuntime) -> Result<Vec<String>, ToolFault> {
@@ -70,8 +81,13 @@ fn replay(rt: &HostRuntime, script: &str, out: &str) -> Result<(), ToolFault> {
     }
 }
 
+/// A file that is read ahead, so that small packets take few calls of the system.
+fn read_ahead(rt: &HostRuntime, path: &str) -> io::Result<BufReader<File>> {
+    BufReader::with_capacity(rt.alloc(), READ_AHEAD, File::open(rt, path)?)
+}
+
 fn report(rt: &HostRuntime, path: &str, thread: &ThreadInfo) -> Result<(), ToolFault> {
-    let mut file = match File::open(rt, path) {
+    let mut file = match read_ahead(rt, path) {
         Ok(file) => Counted::new(file),
         Err(error) => return Err(not_opened(&error)),
     };
@@ -94,6 +110,7 @@ fn run(rt: &HostRuntime) -> Result<(), ToolFault> {
 }
 
 fn main(rt: HostRuntime) -> ExitCode {
+    let _placeholders = placeholders(&rt);
     let fault = run(&rt).err();
     ExitCode::from(finish(fault, &mut Counted::new(rt.stderr())))
 }
