@@ -1,9 +1,9 @@
-//! Scopes by guards and by macros, on a thread whose clock stands still and whose reports nobody keeps.
+//! Scopes by guards and by macros, on a thread whose reports nobody keeps. Its clock stands still, but for one line.
 
 use crate::reports::Ignored;
 use puffin::data::ScopeId;
 use puffin::scope_details::ScopeIds;
-use puffin::thread_profiler::{ScriptClock, ThreadProfiler};
+use puffin::thread_profiler::{NsSource, ScriptClock, ThreadProfiler};
 use puffin::{ProfilerScope, Site, Switch, profile_function, profile_scope};
 use puffin_data::Result;
 
@@ -59,7 +59,7 @@ fn off(thread: &mut Thread, scopes: &Scopes) {
 
 /// So many scopes with a name, one within the other.
 #[inline(never)]
-fn named(thread: &mut Thread, scopes: &Scopes, depth: usize) {
+fn named<C: NsSource>(thread: &mut ThreadProfiler<C>, scopes: &Scopes, depth: usize) {
     profile_scope!(
         guard,
         thread,
@@ -115,6 +115,19 @@ fn guards(thread: &mut Thread, id: ScopeId, depth: usize) {
     if depth > 1 {
         guards(guard.profiler(), id, depth - 1);
     }
+}
+
+/// The nests of [`GuardWork::Named`] by any clock, each reported at its end. Returns how many reports there were.
+#[inline(never)]
+pub fn named_nests<C: NsSource>(thread: &mut ThreadProfiler<C>, scopes: &Scopes) -> Result<usize> {
+    let mut reports: usize = 0;
+    for _ in 0..NESTS {
+        named(thread, scopes, DEPTH);
+        if thread.report_closed(&mut Ignored)? {
+            reports = reports.saturating_add(1);
+        }
+    }
+    Ok(reports)
 }
 
 /// A kind of work.

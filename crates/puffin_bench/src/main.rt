@@ -15,12 +15,12 @@ mod threads;
 mod views;
 
 use anyhow::{Context, Result};
-use guards::{GuardWork, Scopes};
+use guards::{GuardWork, Scopes, named_nests};
 use merges::{MergeWork, main_thread, merged};
 use names::NameWork;
 use packets::{FileWork, Files};
 use puffin::scope_details::ScopeCollection;
-use puffin::thread_profiler::{ScriptClock, ThreadProfiler};
+use puffin::thread_profiler::{NsSource, ScriptClock, SystemClock, ThreadProfiler};
 use puffin_data::data::{Form, Stream};
 use reports::profiled;
 use scopes::{TEXT, Work, counted, stream_of, written};
@@ -31,6 +31,8 @@ use views::{ViewWork, added};
 
 /// How often each work is run; the fastest run counts.
 const ROUNDS: u32 = 4_000;
+/// The same by the system's clock.
+const REAL_ROUNDS: u32 = 1_000;
 /// The same of names.
 const NAME_ROUNDS: u32 = 1_000;
 /// The same of files.
@@ -42,6 +44,12 @@ const VIEW_ROUNDS: u32 = 10;
 fn thread(rt: &HostRuntime) -> Result<ThreadProfiler<ScriptClock>> {
     let name = String::from_str(rt.alloc(), "main")?;
     Ok(ThreadProfiler::new(rt.alloc(), name, ScriptClock::new(1)))
+}
+
+/// A thread's profiler by the system's clock.
+fn clocked_thread(rt: HostRuntime) -> Result<ThreadProfiler<SystemClock<HostRuntime>>> {
+    let name = String::from_str(rt.alloc(), "main")?;
+    Ok(ThreadProfiler::new(rt.alloc(), name, SystemClock::new(rt)?))
 }
 
 /// Prints a line: a name, and behind it what was counted, each number behind its word.
@@ -198,13 +206,17 @@ fn time_walk(rt: &HostRuntime, work: &Work) -> Result<()> {
 }
 
 /// Times the scopes of a thread profiler, eight deep, with a report for each nest.
-fn time_thread(rt: &HostRuntime, name: &str, text: &str) -> Result<()> {
-    let mut thread = thread(rt)?;
+fn time_thread<C: NsSource>(
+    rt: &HostRuntime,
+    name: &str,
+    thread: &mut ThreadProfiler<C>,
+    (text, rounds): (&str, u32),
+) -> Result<()> {
     let mut best = u128::MAX;
     let mut scopes = 0;
-    for _ in 0..ROUNDS {
+    for _ in 0..rounds {
         let begun = Instant::now(rt)?;
-        scopes = profiled(&mut thread, text)?;
+        scopes = profiled(thread, text)?;
         best = best.min(begun.elapsed(rt)?.as_nanos());
     }
     print(rt, name, best, scopes)
@@ -231,6 +243,20 @@ fn time_guards(rt: &HostRuntime, work: GuardWork) -> Result<()> {
     let scopes = Scopes::new(work.is_on());
     let best = fastest_guards(rt, work, &mut thread(rt)?, &scopes)?;
     print(rt, work.name(), best, guards::SCOPES)
+}
+
+/// Times scopes by the system's clock: those of a thread profiler, and those by macros.
+fn time_real_scopes(rt: HostRuntime) -> Result<()> {
+    let mut thread = clocked_thread(rt)?;
+    time_thread(&rt, "real_empty", &mut thread, ("", REAL_ROUNDS))?;
+    let scopes = Scopes::new(true);
+    let mut best = u128::MAX;
+    for _ in 0..REAL_ROUNDS {
+        let begun = Instant::now(&rt)?;
+        let _reports = named_nests(&mut thread, &scopes)?;
+        best = best.min(begun.elapsed(&rt)?.as_nanos());
+    }
+    print(&rt, "real_macro", best, guards::SCOPES)
 }
 
 /// Times short names, a name being a unit.
@@ -303,8 +329,8 @@ fn time(rt: &HostRuntime) -> Result<()> {
     for work in Work::ALL {
         time_walk(rt, &work)?;
     }
-    time_thread(rt, "profiled_empty", "")?;
-    time_thread(rt, "profiled_text12", TEXT)?;
+    time_thread(rt, "profiled_empty", &mut thread(rt)?, ("", ROUNDS))?;
+    time_thread(rt, "profiled_text12", &mut thread(rt)?, (TEXT, ROUNDS))?;
     for work in GuardWork::ALL {
         time_guards(rt, work)?;
     }
@@ -334,6 +360,7 @@ fn main(rt: HostRuntime) -> Result<()> {
             if !prefix.is_some_and(|prefix| prefix.as_str().starts_with("threads_")) {
                 time_reports(&rt)?;
                 time(&rt)?;
+                time_real_scopes(rt)?;
                 time_shared_views(&rt)?;
             }
             time_threads(rt)

@@ -5,7 +5,7 @@ ghost use Rattle.puffin_data.specs.Honesty.{IsHonest};
 
 use puffin::global_profiler::GlobalProfiler;
 use puffin::scope_details::ScopeDetails;
-use puffin::thread_profiler::{Reporter, ScriptClock, ThreadInfo, ThreadProfiler};
+use puffin::thread_profiler::{NsSource, Reporter, ThreadInfo, ThreadProfiler};
 use puffin_data::Result;
 use puffin_data::data::{ScopeId, Stream, StreamInfo, StreamInfoRef};
 use std::alloc::Global;
@@ -39,7 +39,7 @@ impl Reporter for Ignored {
 
 /// One nest of scopes of a thread, which is reported at its end.
 #[inline(never)]
-fn nest(thread: &mut ThreadProfiler<ScriptClock>, id: ScopeId, text: &str) -> Result<()> {
+fn nest<C: NsSource>(thread: &mut ThreadProfiler<C>, id: ScopeId, text: &str) -> Result<()> {
     let mut offsets = [0; DEPTH];
     for offset in offsets.iter_mut() {
         *offset = thread.begin_scope(id, text)?;
@@ -52,7 +52,7 @@ fn nest(thread: &mut ThreadProfiler<ScriptClock>, id: ScopeId, text: &str) -> Re
 
 /// Profiles scopes, and returns how many.
 #[inline(never)]
-pub fn profiled(thread: &mut ThreadProfiler<ScriptClock>, text: &str) -> Result<usize> {
+pub fn profiled<C: NsSource>(thread: &mut ThreadProfiler<C>, text: &str) -> Result<usize> {
     if let Some(id) = ScopeId::new(1) {
         for _ in 0..NESTS {
             nest(thread, id, text)?;

@@ -92,7 +92,7 @@ fn viewed<L: Ledger, M: Ledger, R: Wait + Clock>(
     else {
         return Err(AllocError.into());
     };
-    let view = GlobalFrameView::attach(alloc, rt, &profiler)?;
+    let view = GlobalFrameView::attach(rt, alloc, &profiler)?;
     let mut best = u128::MAX;
     for mut share in shares {
         best = fastest(rt, alloc, runs, &profiler, &mut share)?;

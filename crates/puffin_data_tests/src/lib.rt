@@ -28,6 +28,8 @@ mod scope_id;
 #[cfg(test)]
 mod stream;
 #[cfg(test)]
+mod visit;
+#[cfg(test)]
 mod walk;
 #[cfg(test)]
 mod wire;

@@ -189,8 +189,35 @@ fn threads<R: Print + AllocGlobal + Wait>(rt: &R, profiler: &mut GlobalProfiler)
     steps(rt, profiler, &mut main, &mut other)
 }
 
-/// Two threads register scopes and report them.
+/// Why a scope of the caller's own is refused, memory aside. It is registered once more where that was wanting.
+fn refusal(
+    profiler: &mut GlobalProfiler,
+    ids: &ScopeIds,
+    details: &[ScopeDetails],
+) -> Option<Error> {
+    match register(profiler, ids, details) {
+        Err(Error::Memory) => register(profiler, ids, details).err(),
+        settled => settled.err(),
+    }
+}
+
+/// Registers scopes until there is no id left, and prints that the last one was refused for that.
+fn run_out<R: Print + AllocGlobal>(rt: &R, profiler: &mut GlobalProfiler) -> Option<()> {
+    let ids = ScopeIds::starting_at(u64::from(u32::MAX) - 1);
+    let mut last = None;
+    for name in ["last but one", "last", "one too many"] {
+        let details = [ScopeDetails::from_scope_name(owned(rt.alloc(), name)?)];
+        last = refusal(profiler, &ids, &details);
+    }
+    match last {
+        Some(Error::IdsExhausted) => println!(rt; "no id is left").ok(),
+        _ => None,
+    }
+}
+
+/// Two threads register scopes and report them, and another profiler's scopes run out of ids.
 pub fn run<R: Print + AllocGlobal + Wait>(rt: &R) -> Option<()> {
     let mut profiler = GlobalProfiler::new(rt.alloc());
-    threads(rt, &mut profiler)
+    threads(rt, &mut profiler)?;
+    run_out(rt, &mut GlobalProfiler::new(rt.alloc()))
 }

@@ -60,7 +60,7 @@ fn attach<L: Ledger, M: Ledger>(
     alloc: Global,
     profiler: &SharedProfiler<L, M>,
 ) -> Option<GlobalFrameView> {
-    again!(GlobalFrameView::attach(alloc, rt, profiler))
+    again!(GlobalFrameView::attach(rt, alloc, profiler))
 }
 
 fn register<L: Ledger, M: Ledger>(
@@ -122,6 +122,12 @@ fn frame<L: Ledger, M: Ledger, R: Print + Wait>(
     print_emitted(rt, profiler, &emitted)
 }
 
+/// Whether a view knows the scope that the profiler knew before the view was attached.
+fn knows_early(rt: &impl Wait, view: &GlobalFrameView) -> bool {
+    let view = view.lock(rt);
+    view.scope_collection().fetch_by_name("early").is_some()
+}
+
 /// Prints which sinks there are and what the view holds, and takes the view out.
 fn close<L: Ledger, M: Ledger, R: Print + Wait>(
     rt: &R,
@@ -131,8 +137,9 @@ fn close<L: Ledger, M: Ledger, R: Print + Wait>(
 ) -> Option<()> {
     let (first, second) = (view.sink_id().0, other.0);
     let held = view.lock(rt).stats().frames();
+    let knows = knows_early(rt, &view);
     let detached = view.detach(rt, profiler);
-    println!(rt; "sinks {first} {second} held {held} detached {detached}").ok()
+    println!(rt; "sinks {first} {second} held {held} knows {knows} detached {detached}").ok()
 }
 
 fn settle<L: Ledger, M: Ledger, R: Print + Wait>(
