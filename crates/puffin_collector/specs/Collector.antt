@@ -1,4 +1,4 @@
--- What a collector holds.
+-- A profiler without sinks.
 pub mod State
 pub mod Collecting
 pub mod Registering

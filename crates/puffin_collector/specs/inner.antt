@@ -1,2 +1,2 @@
--- What contracts of private functions alone cite.
+-- What only private functions cite.
 pub mod ReportSums

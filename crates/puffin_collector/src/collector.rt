@@ -32,6 +32,12 @@ use std::mem;
 use std::sync::Arc;
 
 /// Collects what threads report, and hands it out in frames. It has no sinks.
+///
+/// ```
+/// let mut collector = Collector::new(alloc, 0);
+/// thread.end_scope(scope, &mut collector)?;
+/// let frame = collector.collect_frame()?;
+/// ```
 #[derive(Drop)]
 pub struct Collector {
     alloc: Global,
@@ -72,7 +78,7 @@ impl Model for Collector {
 }
 
 impl Collector {
-    /// With nothing reported, and this index for the next frame.
+    /// Makes a collector without scopes, whose next frame has this index.
     pub fn new(alloc: Global, frame_index: FrameIndex) -> Collector
         ensures { result ≡ record {
           index = frame_index;
@@ -84,7 +90,7 @@ impl Collector {
           wants_all = false;
         } }
     {
-        // Laws that the proof of the invariant stands on.
+        // Laws for the proof of the invariant.
         laws::reported_streams();
         laws::honest_streams();
         streams_with_a_layout();
@@ -100,13 +106,13 @@ impl Collector {
         }
     }
 
-    /// Appends a thread's scopes to those that are pending under its info, and details to those that are new in the next
-    /// frame. The scopes have to be honest.
+    /// Appends a thread's scopes to those that are pending under its info, and adds the details to the next frame's new ones.
+    /// The scopes have to be honest.
     ///
-    /// Refused with the first that applies, with nothing changed: `MissingId` where some details have no id;
-    /// `UnlikeForms` where what is pending under the info and these scopes have bytes in unlike forms; `TooLarge` where
-    /// the bytes or the scopes that are pending, or the scopes ever reported, wouldn't fit 64 bits; `RangeTooLong` where
-    /// the joined range of all that is pending wouldn't be reversed and its duration wouldn't fit `i64`; `Memory`.
+    /// Fails with the first cause that applies, and then changes nothing: `MissingId` if some details have no id; `UnlikeForms`
+    /// if these scopes and those pending under the info have bytes in unlike forms; `TooLarge` if the pending bytes or scopes,
+    /// or the scopes ever reported, don't fit 64 bits; `RangeTooLong` if the joined range of all pending scopes isn't reversed
+    /// and its duration doesn't fit `i64`; `Memory`.
     #[inline(always)]
     pub fn report(
         &mut self,
@@ -129,7 +135,7 @@ impl Collector {
         }
     }
 
-    /// A report that has details, as few have.
+    /// Handles a report with details, which is rare.
     #[cold]
     #[inline(never)]
     fn report_with_details(
@@ -167,7 +173,7 @@ impl Collector {
         }
     }
 
-    /// Why a report is refused for which there is no memory: the first cause that applies.
+    /// Returns the error of a report for which there is no memory: the first cause that applies.
     fn cause_without_memory(&self, info: &ThreadInfo, times: &StreamInfoRef) -> Error
         ensures { (ds : List Details) → AllHaveIds ds →
             IsReportRefusal self.now (info_of info.now) ds (record_of_ref times.now) result }
@@ -178,7 +184,8 @@ impl Collector {
         }
     }
 
-    /// Why a report is refused that one cause refuses already: that cause, unless unlike forms stand before it.
+    /// Returns the error of a report that already has this cause: `UnlikeForms` if that applies, as it comes first, else this
+    /// cause.
     fn first_cause(&self, info: &ThreadInfo, times: &StreamInfoRef, cause: Error) -> Error
         ensures { IsFirstCause self.now (info_of info.now) (record_of_ref times.now) cause result }
     {
@@ -189,8 +196,8 @@ impl Collector {
         }
     }
 
-    /// What a frame of all that is pending would say with one report more, and how many scopes were ever reported then.
-    /// Refused with the first cause that applies, memory aside.
+    /// Returns the meta of all that is pending and this report, and the number of scopes reported including it. Fails with the
+    /// first cause that applies, memory aside.
     fn sums_with(&self, times: &StreamInfoRef) -> Result<(FrameMeta, u64)>
         ensures sums { IfOk result (λ sums.
             AddsUp self.now sums.0 (record_of_ref times.now)
@@ -200,7 +207,7 @@ impl Collector {
             × ¬ IsTooLong (range_with self.now (record_of_ref times.now))) }
         ensures refusal { IfErr result (IsSumRefusal self.now (record_of_ref times.now)) }
     {
-        // A law for the proof: the joined range with one stream more.
+        // For the proof: the joined range with one stream more.
         laws::joined_ranges();
         let Some(meta) = self.meta.joined(times) else {
             return Err(Error::TooLarge);
@@ -214,8 +221,7 @@ impl Collector {
         Ok((meta, reported))
     }
 
-    /// Appends scopes of the caller's own, as [`Collector::report`] does, refused as it is. A report without details is this
-    /// call.
+    /// Appends scopes of the caller's own, as [`Collector::report`] does without details. Fails in the same cases.
     #[inline(always)]
     pub fn report_user_scopes(&mut self, info: ThreadInfo, times: &StreamInfoRef) -> Result<()>
         requires { (f : Forest) × IsHonestRef times.now f }
@@ -224,7 +230,7 @@ impl Collector {
         ensures err { IfErr result (λ e.
             RefusesReport self.old (info_of info) [] (record_of_ref times.now) e self.new) }
     {
-        // Laws that the proof of the invariant stands on.
+        // Laws for the proof of the invariant.
         laws::joined_ranges();
         laws::reported_streams();
         laws::honest_streams();
@@ -238,10 +244,10 @@ impl Collector {
         Ok(())
     }
 
-    /// Registers scopes of the caller's own by their names, and returns an id for each. A name that is known gives its id;
-    /// other details are known from now on, and new in the next frame, under a newly drawn id in place of the one they had.
+    /// Registers scopes of the caller's own by their names, and returns an id for each. A known name returns its id. Other
+    /// details become known at once and are new in the next frame, under a newly drawn id that replaces theirs.
     ///
-    /// Refused with `IdsExhausted` or `Memory`: a beginning of the list is registered then, and an id may be used up.
+    /// Fails with `IdsExhausted` or `Memory`; a beginning of the list is then registered, and an id may be used up.
     pub fn register_user_scopes(
         &mut self,
         ids: &ScopeIds,
@@ -259,7 +265,7 @@ impl Collector {
         Ok(scope_ids)
     }
 
-    /// One scope. Nothing is changed where it is refused.
+    /// Registers one scope. If it fails, nothing changes, but an id may be used up.
     fn register_user_scope(&mut self, ids: &ScopeIds, details: &ScopeDetails) -> Result<ScopeId>
         ensures ok { IfOk result (λ id.
             ((known_id self.old.collection (details_of details.now) ≡ Some id)
@@ -284,16 +290,16 @@ impl Collector {
         Ok(id)
     }
 
-    /// Lets the next frame tell of all scopes that are known, besides the new ones. Takes no memory.
+    /// Makes the next frame list every known scope, besides the new ones. Allocates nothing.
     pub fn emit_scope_snapshot(&mut self)
         ensures { self.new ≡ after_wanting self.old }
     {
         self.wants_all = true;
     }
 
-    /// Learns details that another told, as a frame that is added by hand tells them.
+    /// Adds details from another source, as a frame that was made elsewhere.
     ///
-    /// Refused with `MissingId` where some of them have no id, and nothing is changed then; else only with `Memory`, after
+    /// Fails with `MissingId` exactly when some of them have no id, and then changes nothing; else only with `Memory`, after
     /// which a beginning of them may be known.
     pub fn learn(&mut self, details: &[Arc<ScopeDetails>]) -> Result<()>
         ensures ok { OnOk result (
@@ -308,24 +314,24 @@ impl Collector {
         self.collection.insert_all(details)
     }
 
-    /// Hands out all that is pending in one frame, where there is a scope in it, and raises the index. The frame tells of the
-    /// new scopes in order, and then, where that was wanted, of all that were known before; from then on the new ones are
-    /// known. Without a frame the new scopes and that wish are kept.
+    /// Hands out all that is pending in one frame, if it has a scope, and raises the index. The frame lists the new scopes in
+    /// order, and then, if a snapshot was requested, all scopes known before. After that the new ones are known. If there is no
+    /// scope, returns `None`, and keeps the new scopes and the request for a snapshot.
     ///
-    /// Refused with `IndexExhausted` where the index is the last one, else only with `Memory`; nothing is changed then, but
-    /// after `Memory` a beginning of the new scopes may be known.
+    /// Fails with `IndexExhausted` if the index is the last one, else only with `Memory`. Nothing changes then, but after
+    /// `Memory` a beginning of the new scopes may be known.
     pub fn collect_frame(&mut self) -> Result<Option<Arc<FrameData>>>
         ensures ok { IfOk result (λ frame. Collects self.old frame self.new) }
-        // What a frame tells of has ids.
+        // All details that a frame lists have ids.
         ensures ids { IfOk result TellsIds }
         ensures honest { AreHonest self.old.streams }
-        // And what was reported is pending or was handed out.
+        // What was reported is pending or was handed out.
         ensures sum { self.old.reported
             ≡ self.old.emitted + total_scopes (map.values self.old.streams) }
         ensures exhausted { (result ≡ Err Error.IndexExhausted) ↔ (self.old.index ≡ 2 ^ 64 - 1) }
         ensures err { IfErr result (λ e. KeepsPending self.old e self.new) }
     {
-        // Laws for the proof: what there is of no stream, of honest ones, and of those that have a layout.
+        // For the proof: laws of no streams, of honest ones, and of those that have a layout.
         laws::reported_streams();
         laws::honest_streams();
         streams_with_a_layout();
@@ -364,13 +370,13 @@ impl Collector {
         }
     }
 
-    /// How many scopes were reported, are pending, and were handed out. Takes no memory.
+    /// Returns how many scopes were reported, are pending, and were handed out. Allocates nothing.
     pub fn totals(&self) -> Totals
         ensures reported { result.reported ≡ self.now.reported }
         ensures pending { result.pending ≡ total_scopes (map.values self.now.streams) }
         ensures emitted { result.emitted ≡ self.now.emitted }
         ensures sum { result.reported ≡ result.pending + result.emitted }
-        // What is pending is honest, at any time.
+        // At any time, what is pending is honest.
         ensures honest { AreHonest self.now.streams }
     {
         Totals {
@@ -399,7 +405,7 @@ impl Reporter for Collector {
     }
 }
 
-/// Whether a range isn't reversed and its duration doesn't fit.
+/// Returns whether a range isn't reversed but its duration doesn't fit `i64`.
 fn is_too_long(range: (NanoSecond, NanoSecond)) -> bool
     ensures { MatchBool result (IsTooLong range) (IsOrdered range → DurationFits range) }
 {

@@ -8,14 +8,14 @@ use puffin_frames::scope_details::{ScopeCollection, ScopeDetails};
 use std::alloc::Global;
 use std::sync::Arc;
 
-/// Whether each of these details has its id.
+/// Returns whether all of these details have ids.
 pub(crate) fn all_have_ids(details: &[ScopeDetails]) -> bool
     ensures { IsTrue result ↔ All (λ d. IsSome (details_of d).id) details.now }
 {
     details.iter().all(|details| details.scope_id().is_some())
 }
 
-/// A copy of each of these details. Refused only with `Memory`.
+/// Copies details. Fails only with `Memory`.
 pub(crate) fn copies(alloc: Global, details: &[ScopeDetails]) -> Result<Vec<Arc<ScopeDetails>>>
     ensures ok { IfOk result (λ copies. shared_details copies.items ≡ details_seen details.now) }
     ensures err { IfErr result (λ e. e ≡ Error.Memory) }
@@ -27,7 +27,7 @@ pub(crate) fn copies(alloc: Global, details: &[ScopeDetails]) -> Result<Vec<Arc<
     Ok(copies)
 }
 
-/// What a frame tells of scopes: the new details, and then all of a collection where that is wanted. Refused only with
+/// Makes a frame's list of details: the new ones, and then, if a snapshot was requested, all of a collection. Fails only with
 /// `Memory`.
 pub(crate) fn scope_delta(
     alloc: Global,
@@ -52,7 +52,7 @@ pub(crate) fn scope_delta(
     Ok(delta)
 }
 
-/// All details of a collection by rising id, after those that are there. Refused only with `Memory`.
+/// Appends all details of a collection, by rising id. Fails only with `Memory`.
 fn tell_of_all(delta: &mut Vec<Arc<ScopeDetails>>, collection: &ScopeCollection) -> Result<()>
     ensures ok { OnOk result (
         shared_details delta.new.items

@@ -1,11 +1,11 @@
 use puffin_frames::frame_data::FrameData;
 use std::sync::Arc;
 
-/// What taking a frame for its receivers did.
+/// The result of handing out a frame.
 #[derive(Drop)]
 pub struct Emitted {
-    /// The frame, where there was a scope to emit.
+    /// The frame, or `None` if no scope was pending.
     pub frame: Option<Arc<FrameData>>,
-    /// How many sinks didn't take the frame.
+    /// How many sinks refused the frame.
     pub refused: usize,
 }

@@ -1,4 +1,4 @@
--- What a call that reads or writes a device promises of it.
+-- What a call on a reader or writer guarantees: the bytes it takes or writes, and when it returns `Io`.
 pub mod Counting
 use Rattle.std.specs.Prelude.{◌≡◌, ℕ, ◌+◌, ◌<◌, ◌≤◌, Bool, true, false, List, ◌++◌, length, Option, Result, Ok, Err, if◌then◌else◌, ◌⊎◌}
 use Rattle.std.specs.Io.KnownBytes.{Appends, Consumes, IsAtEnd}
@@ -6,21 +6,21 @@ use Rattle.puffin_data.specs.Value.Layout.{IsBytes}
 use Rattle.puffin_data.specs.declared.file_error.FileError.{FileError}
 use Rattle.puffin_data.specs.declared.file_error.FileError.TheVariants as file
 
--- whether a call ended with `Io`
+-- whether a call returned `Io`
 abbrev pub is_io : {X : Type 0} → Result X FileError → Bool
 is_io (Ok x) = false
 is_io (Err file.Io) = true
 is_io (Err _) = false
 
--- how many failures a reader counts after a call
+-- a reader's number of failures after a call
 abbrev pub failures_after : {X : Type 0} → ℕ → Result X FileError → ℕ
 failures_after n r = if is_io r then n + 1 else n
 
--- a fault of the device or of memory, and not of what was read
+-- an error of the device or of memory, and not of what was read
 abbrev pub IsOutside : FileError → Type 0
 IsOutside fault = (fault ≡ file.Io) ⊎ (fault ≡ file.Memory)
 
--- the last write took nothing of a piece that wasn't empty
+-- the last write took no byte of a piece that wasn't empty
 abbrev pub TookNothing : {D : Type 0} → (D → List ℕ → ℕ → D → Type 0) → D → Type 0
 TookNothing {D = D} takes now =
     (before : D) × (piece : List ℕ) × (0 < length piece) × takes before piece 0 now
@@ -30,26 +30,26 @@ abbrev pub WritesBeginning : Option (List ℕ) → Option (List ℕ) → List �
 WritesBeginning old new bytes =
     (front rest : List ℕ) × (bytes ≡ front ++ rest) × Appends old new front
 
--- at most so many bytes were taken, fewer only at the end
+-- at most n bytes were taken, and fewer only at the end
 pub record TookUpTo (old new : Option (List ℕ)) (n : ℕ) (taken : List ℕ) : Type 0 where
   pub consumed : Consumes old new taken
   pub bytes : IsBytes taken
   pub most : length taken ≤ n
   pub fewer : length taken < n → IsAtEnd new
 
--- A call that read a device failed, as the reading does of the bytes that it took, unless device or memory failed.
+-- A call that read a device failed as the reading fails on the bytes that it took, unless the device or memory failed.
 abbrev pub FailsAt : {A : Type 0} → FileError → Option (List ℕ) → Option (List ℕ) →
     (List ℕ → Result (A × List ℕ) FileError) → Type 0
 FailsAt file.Io old new read = Unit {0}
 FailsAt file.Memory old new read = Unit {0}
--- the bytes end too early: all that the device had are read so
+-- the bytes end too early: all that the device had are read as this fault
 FailsAt file.Truncated old new read =
     (taken : List ℕ) × Consumes old new taken × IsAtEnd new × (read taken ≡ Err file.Truncated)
--- whatever follows
+-- these bytes have this fault, whatever follows
 FailsAt e old new read =
     (taken : List ℕ) × Consumes old new taken × ((rest : List ℕ) → read (taken ++ rest) ≡ Err e)
 
--- A call took bytes from a device, and what it returned, seen by view, is what the reading gives of them, whatever follows. Of a device whose bytes aren't known, some bytes are those.
+-- A call took bytes from a device and returned, seen by view, what the reading gives on them, whatever follows. If the device's bytes aren't known, that holds of some bytes.
 abbrev pub FromDevice : {X A : Type 0} → (X → A) → Option (List ℕ) → Option (List ℕ) →
     Result X FileError → (List ℕ → Result (A × List ℕ) FileError) → Type 0
 FromDevice view old new (Ok x) read =

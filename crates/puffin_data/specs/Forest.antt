@@ -1,4 +1,4 @@
--- Profiled scopes as a forest, and when it can be written.
+-- Profiled scopes as a forest, and which forests can be written.
 pub mod Measures
 pub mod Spelling
 pub mod Tour
@@ -10,14 +10,14 @@ use Rattle.std.specs.Int.{w64}
 use Rattle.puffin_data.specs.declared.data.form.Form.{Form}
 use Rattle.puffin_data.specs.Text.Lengths.{stored_limit}
 
--- one scope without its children: the text is kept as bytes, as it was stored
+-- one scope without its children; the text is the stored bytes
 pub record Span : Type 0 where
   pub id : ℕ
   pub start : ℤ
   pub stop : ℤ
   pub text : List ℕ
 
--- Scopes one after the other, each with its children: either none, or a first scope, the forest of its children, and the scopes that follow it.
+-- Scopes one after the other, each with its children: no scope, or a first scope, the forest of its children, and the scopes that follow it.
 pub data Forest : Type 0 where
   empty : Forest
   node : (first : Span) → (children : Forest) → (others : Forest) → Forest
@@ -27,7 +27,7 @@ abbrev pub append : Forest → Forest → Forest
 append empty g = g
 append (node s children others) g = node s children (append others g)
 
--- A scope that can be written: the id is a u32 and not 0, the times are i64 and so is the time between them, and the text has no more bytes than its form allows.
+-- A scope that can be written: its id is a u32 other than 0, its times and the time between them are i64, and the text fits its form.
 pub record IsSpan (form : Form) (s : Span) : Type 0 where
   pub id_low : 0 < s.id
   pub id_high : s.id < 2 ^ 32

@@ -1,4 +1,4 @@
--- When what is said of a stream's scopes is true.
+-- Records of a stream's form, bytes and numbers, when they are honest, and how two are joined.
 use Rattle.std.specs.Prelude.{◌≡◌, ◌≢◌, ℕ, ◌+◌, ◌<◌, ◌==◌, if◌then◌else◌, max, ℤ, List, ◌++◌, length}
 use Rattle.std.specs.Int.{int_min, int_max}
 use Rattle.puffin_data.specs.declared.data.walk.Walk.{Walk}
@@ -9,14 +9,14 @@ use Rattle.puffin_data.specs.Forest.{Forest}
 use Rattle.puffin_data.specs.Forest.Measures.{scope_count, height, least_start, greatest_stop}
 use Rattle.puffin_data.specs.Forest.Spelling.{Spells}
 
--- these numbers are the measures of a forest
+-- the counts are the measures of a forest
 pub record Counts (w : Walk) (f : Forest) : Type 0 where
   pub num_scopes : w.num_scopes ≡ scope_count f
   pub depth : w.depth ≡ height f
   pub least_start : w.range_ns.0 ≡ least_start f
   pub greatest_stop : w.range_ns.1 ≡ greatest_stop f
 
--- what an info holds, whatever room its stream has
+-- what an info holds, apart from its stream's room
 pub record Recorded : Type 0 where
   pub form : Form
   pub bytes : List ℕ
@@ -54,15 +54,15 @@ IsHonest info f = IsHonestRecord (record_of info) f
 abbrev pub IsHonestRef : StreamInfoRef → Forest → Type 0
 IsHonestRef info f = IsHonestRecord (record_of_ref info) f
 
--- both have bytes, in unlike forms
+-- both have bytes, and their forms differ
 abbrev pub AreUnlike : Recorded → Recorded → Type 0
 AreUnlike a b = (0 < length a.bytes) × (0 < length b.bytes) × (a.form ≢ b.form)
 
--- the form of both together: of one without bytes, the other's
+-- the form of both, joined: the second's if the first has no bytes, else the first's
 abbrev pub joined_form : Recorded → Recorded → Form
 joined_form a b = if length a.bytes == 0 then b.form else a.form
 
--- one info after another
+-- two infos, joined
 abbrev pub joined_record : Recorded → Recorded → Recorded
 joined_record a b = record {
   form = joined_form a b;

@@ -1,4 +1,4 @@
--- Parts at the front of bytes, which may end too early.
+-- Parts at the front of bytes that may end too early.
 use Rattle.std.specs.Prelude.{ℕ, List, length, take, drop, slice_index, Result, Ok, Err, nat_lt, if◌then◌else◌}
 use Rattle.byteorder.specs.Endian.{little_number}
 use Rattle.puffin_data.specs.declared.file_error.FileError.{FileError}
@@ -10,7 +10,7 @@ abbrev pub ◌>>=◌ : {A B : Type 0} → Result A FileError → (A → Result B
 (Ok x) >>= f = f x
 (Err e) >>= f = Err e
 
--- so many bytes
+-- n bytes
 abbrev pub part_of : ℕ → List ℕ → Result (List ℕ × List ℕ) FileError
 part_of n bytes =
     if nat_lt (length bytes) n then Err file.Truncated else Ok (take n bytes, drop n bytes)

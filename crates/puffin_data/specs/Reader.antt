@@ -1,4 +1,4 @@
--- Reading one scope after another, up to a place where none begins, and without looking at their children.
+-- Reading one scope after another, without their children, up to a place where none begins.
 pub mod ReadScopes
 use Rattle.std.specs.Prelude.{◌≡◌, ℕ, ◌+◌, ℤ, ◌-ℤ◌, List, [], ◌∷◌, length, Option, Some, None, Result, Ok, Err}
 use Rattle.puffin_data.specs.declared.error.Error.{Error}
@@ -9,7 +9,7 @@ use Rattle.puffin_data.specs.Text.{text_in}
 use Rattle.puffin_data.specs.Walk.Reading.{Found, reading}
 use Rattle.puffin_data.specs.Walk.{region}
 
--- a scope as a reader tells it: the text of its stored bytes, and places that count from the stream's first byte
+-- a scope as a reader returns it: with its stored bytes as text, and places counted from the stream's first byte
 pub record ReadScope : Type 0 where
   pub id : ℕ
   pub start : ℤ
@@ -19,7 +19,7 @@ pub record ReadScope : Type 0 where
   pub child_end : ℕ
   pub next_sibling : ℕ
 
--- the sound scope that stands at place p
+-- the sound scope found at place p
 abbrev pub read_scope : ℕ → Found → ReadScope
 read_scope p s = record {
   id = s.span.id;
@@ -36,17 +36,17 @@ read_from p (Ok None) = Ok None
 read_from p (Ok (Some s)) = Ok (Some (read_scope p s))
 read_from p (Err fault) = Err fault
 
--- what stands at place p, in the region that ends at e: no scope, a sound scope or a fault
+-- what is at place p of the region that ends at e: no scope, a sound scope or a fault
 abbrev pub scope_read : Form → List ℕ → ℕ → ℕ → Result (Option ReadScope) Error
 scope_read form bytes p e = read_from p (reading form (region bytes p e))
 
--- where a reader stands in a stream's bytes
+-- a reader's place in a stream's bytes
 pub record Place : Type 0 where
   pub form : Form
   pub bytes : List ℕ
   pub at : ℕ
 
--- what a reader gives next, and where it stands then: after a fault at the end of all bytes
+-- what a reader returns next, and its place then: after a fault, the end of all bytes
 abbrev pub next_after : Place → Result (Option ReadScope) Error →
     Option (Result ReadScope Error) × ℕ
 next_after from (Ok None) = (None, from.at)
@@ -56,7 +56,7 @@ next_after from (Err fault) = (Some (Err fault), length from.bytes)
 abbrev pub next_read : Place → Option (Result ReadScope Error) × ℕ
 next_read from = next_after from (scope_read from.form from.bytes from.at (length from.bytes))
 
--- All that a reader gives from place p on: the sound scopes one after the other, and behind them the fault where there is one.
+-- All that a reader returns from place p on: the sound scopes one after the other, and then the fault, if there is one.
 pub data ReaderGives (form : Form) (bytes : List ℕ) :
     ℕ → List (Result ReadScope Error) → Type 0 where
   ends : {p : ℕ} → scope_read form bytes p (length bytes) ≡ Ok None → ReaderGives form bytes p []
@@ -67,7 +67,7 @@ pub data ReaderGives (form : Form) (bytes : List ℕ) :
       ReaderGives form bytes s.next_sibling later →
       ReaderGives form bytes p (Ok s ∷ later)
 
--- the top scopes of a forest whose spelling begins at place p
+-- the top-level scopes of a forest whose spelling begins at place p
 abbrev pub top_scopes : Form → ℕ → Forest → List ReadScope
 top_scopes form p empty = []
 top_scopes form p (node s children others) =

@@ -1,4 +1,4 @@
--- What of a text is stored, and what of stored bytes is text.
+-- Which part of a text is stored, and which part of stored bytes is text.
 pub mod Lengths
 pub mod Flags
 use Rattle.std.specs.Prelude.{◌≡◌, ℕ, ◌≤◌, List, length, take, nat_le, if◌then◌else◌}
@@ -8,13 +8,13 @@ use Rattle.std.specs.Fmt.Cut.{floor_char_boundary}
 use Rattle.puffin_data.specs.declared.data.form.Form.{Form}
 use Rattle.puffin_data.specs.Text.Lengths.{text_limit}
 
--- what is stored of a text: all of it, or where it has more bytes than its form writes those up to the last end of a character within them
+-- the stored part of a text: all of it if it is within the limit, else up to the last character boundary within the limit
 abbrev pub cut_text : Form → List ℕ → List ℕ
 cut_text form text =
     if nat_le (length text) (text_limit form) then text
     else take (floor_char_boundary text (text_limit form)) text
 
--- the longest beginning of a text that has no more bytes than its form writes and ends where a character ends
+-- the longest beginning of a text that is within the limit and ends at a character boundary
 pub record IsCut (form : Form) (text cut : List ℕ) : Type 0 where
   pub size : ℕ
   pub is : cut ≡ take size text

@@ -1,4 +1,4 @@
--- Values of packets: their bytes, and how they are read.
+-- Values of packets: their layouts, and how they are read.
 pub mod Layout
 pub mod Decoding
 pub mod Outcomes

@@ -1,4 +1,4 @@
--- What a walk over bytes reaches, where its first fault stands, and how many scopes it tries to read.
+-- The places that a walk reaches, the first fault, and the number of scopes that it tries to read.
 pub mod Reading
 pub mod Sightings
 pub mod Sights
@@ -14,11 +14,11 @@ use Rattle.puffin_data.specs.Walk.Reading.{Found, reading, IsFaultIn}
 abbrev pub region : List ℕ → ℕ → ℕ → List ℕ
 region bytes p e = take (e - p) (drop p bytes)
 
--- a sound scope stands at p, in the region that ends at e
+-- a sound scope is at p, in the region that ends at e
 abbrev pub IsSoundAt : (form : Form) → List ℕ → ℕ → ℕ → Found → Type 0
 IsSoundAt form bytes p e s = reading form (region bytes p e) ≡ Ok (Some s)
 
--- The pairs of a place and its region's end that are reached from a pair: itself, and where a sound scope stands there, what is reached from its children and from its next sibling.
+-- The places, each with the end of its region, that are reached from one: itself, and from a sound scope there, those reached from its children and from its next sibling.
 pub data Reaches (form : Form) (bytes : List ℕ) : ℕ → ℕ → ℕ → ℕ → Type 0 where
   here : {p e : ℕ} → Reaches form bytes p e p e
   child : {p e q f : ℕ} {s : Found} → IsSoundAt form bytes p e s →
@@ -26,11 +26,11 @@ pub data Reaches (form : Form) (bytes : List ℕ) : ℕ → ℕ → ℕ → ℕ 
   sibling : {p e q f : ℕ} {s : Found} → IsSoundAt form bytes p e s →
       Reaches form bytes (p + s.next_sibling) e q f → Reaches form bytes p e q f
 
--- a fault stands at p, in the region that ends at e
+-- a fault is at p, in the region that ends at e
 abbrev pub IsFaultAt : (form : Form) → List ℕ → ℕ → ℕ → Error → Type 0
 IsFaultAt form bytes p e fault = IsFaultIn form (region bytes p e) fault
 
--- the fault of the bytes as a whole: of all that are reached, the one at the least place
+-- the fault of all bytes: of those at places that are reached, the one at the least place
 pub record IsFirstFault (form : Form) (bytes : List ℕ) (place : ℕ) (fault : Error) : Type 0 where
   pub end : ℕ
   pub reached : Reaches form bytes 0 (length bytes) place end
@@ -41,14 +41,14 @@ pub record IsFirstFault (form : Form) (bytes : List ℕ) (place : ℕ) (fault : 
 abbrev pub IsFault : (form : Form) → List ℕ → Error → Type 0
 IsFault form bytes fault = (place : ℕ) × IsFirstFault form bytes place fault
 
--- The places of the sound scopes of a region, from p on: where one stands at p, p, then those of its children, then those from its next sibling on.
+-- The places of a region's sound scopes, from p on: if one is at p, then p, those of its children, and those from its next sibling on.
 pub data Sounds (form : Form) (bytes : List ℕ) : ℕ → ℕ → List ℕ → Type 0 where
   no_more : {p e : ℕ} → ((s : Found) → IsSoundAt form bytes p e s → ⊥) → Sounds form bytes p e []
   one_more : {p e : ℕ} {s : Found} {inner later : List ℕ} → IsSoundAt form bytes p e s →
       Sounds form bytes (p + s.child_begin) (p + s.child_end) inner →
       Sounds form bytes (p + s.next_sibling) e later → Sounds form bytes p e (p ∷ (inner ++ later))
 
--- The bytes are refused with their first fault. The tries are the sound scopes before it, and one more where a scope begins at the fault.
+-- The bytes are refused with their first fault. The tries are the sound scopes before it, and one more if a `(` is at the fault.
 pub record Refuses (form : Form) (bytes : List ℕ) (fault : Error) (tries : ℕ) : Type 0 where
   pub place : ℕ
   pub first : IsFirstFault form bytes place fault

@@ -1,4 +1,4 @@
--- What contracts of private functions and proofs alone cite.
+-- What only private functions and proofs cite.
 pub mod Walking
 pub mod Fronts
 pub mod Groups

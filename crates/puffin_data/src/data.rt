@@ -1,4 +1,4 @@
-//! Streams of scopes: their bytes, the strict walk over them, and what is counted of them.
+//! Streams of scopes: their bytes, the strict walk over them, and the counts that it gives.
 
 mod device;
 mod form;
@@ -27,4 +27,4 @@ pub use scope_id::ScopeId;
 pub use stream::Stream;
 pub use transfer::{read_to_end, write_all};
 pub use visit::{Visitor, walk_with};
-pub use walk::Walk;
+pub use walk::{Walk, walk_forest};

@@ -5,64 +5,64 @@ ghost use Rattle.puffin_data.specs.Cause.{error_number, error_name};
 use std::alloc::{AllocError, AllocFailed};
 use std::fmt;
 
-/// A moment, or a length of time, in nanoseconds.
+/// A point in time or a duration, in nanoseconds.
 pub type NanoSecond = i64;
 
 /// The number of a frame, counted from 0.
 pub type FrameIndex = u64;
 
-/// What a call of this crate and of those above it returns.
+/// The result of the calls of this crate and of those above it.
 pub type Result<T> = std::result::Result<T, Error>;
 
-/// Why a call was refused. Its text is its name.
+/// Why a call failed. It displays as its name.
 #[derive(Clone, Copy, Debug, PartialEq, Eq)]
 pub enum Error {
     /// The bytes end within a scope, or a scope's id is 0.
     PrematureEnd,
-    /// Something else stands where a scope or its end has to stand, a scope stops before it starts or lasts longer than fits,
-    /// or a long text's length has a second byte of 0 or one that a third follows.
+    /// Another byte is where a scope or its end has to be, a scope stops before it starts, its duration doesn't fit `i64`, or
+    /// the second byte of a long text's length is 0 or says that a third follows.
     InvalidStream,
     /// A scope was begun and not ended.
     ScopeNeverEnded,
-    /// A reader was to start past the stream's end.
+    /// A reader's offset is greater than the stream's length.
     InvalidOffset,
-    /// A frame's joined range is reversed, as that of no scope is.
+    /// A frame's joined range is reversed, as it is if there are no scopes.
     Empty,
     /// A sum, a count or a merged number doesn't fit its type.
     TooLarge,
-    /// The duration of a joined range that isn't reversed doesn't fit `i64`.
+    /// A joined range isn't reversed, but its duration doesn't fit `i64`.
     RangeTooLong,
     /// The scope to be ended isn't the innermost open one.
     MismatchedEnd,
-    /// Closed scopes were to be reported while a scope is open.
+    /// A report was asked for while a scope is open.
     ScopesOpen,
     /// Scope details have no id.
     MissingId,
-    /// The drawn id is 0, or beyond `u32`.
+    /// The next id is 0 or doesn't fit `u32`.
     IdsExhausted,
-    /// The frame index is the last one.
+    /// The frame index can't rise any further.
     IndexExhausted,
     /// There is no further number for a sink.
     SinkIdsExhausted,
-    /// A merge met a scope within 1,024 others.
+    /// A merge met a scope that is nested in 1,024 others.
     TooDeep,
-    /// A command's thread isn't in the session.
+    /// A command names a thread that the session doesn't have.
     NoThread,
-    /// An allocation, or a copy of an `Arc`, was refused.
+    /// An allocation, or a clone of an `Arc`, failed.
     Memory,
-    /// Scopes with texts of one form were to be joined to scopes with texts of the other.
+    /// Scopes of one form were to be joined to scopes of the other.
     UnlikeForms,
 }
 
 impl Error {
-    /// Its place in the list of causes, counted from 1.
+    /// Returns the error's place in the list of causes, counted from 1.
     pub fn number(self) -> u8
         ensures { result ≡ error_number self }
     {
         self as u8 + 1
     }
 
-    /// Its name, which is its text.
+    /// Returns the error's name.
     pub fn name(self) -> &'static str
         ensures { result.now ≡ error_name self }
     {

@@ -6,42 +6,42 @@ use crate::error::Error;
 use std::alloc::{AllocError, AllocFailed};
 use std::fmt;
 
-/// Why a stream, a packet or a file wasn't read or written. Its text is its name, and behind a blank the number or the
-/// cause that it holds.
+/// Why a stream, a packet or a file couldn't be read or written. It displays as its name, with a space and the number or the
+/// error that it holds.
 #[derive(Clone, Copy, Debug, PartialEq, Eq)]
 pub enum FileError {
-    /// The reader or writer failed, or the writer took nothing.
+    /// The reader or writer failed, or the writer took no byte.
     Io,
-    /// A file begins with other letters.
+    /// The file doesn't begin with `PUF0`.
     NoMagic,
     /// The bytes end within a packet.
     Truncated,
-    /// A packet of a form that is no longer read.
+    /// The packet has a form that is no longer read: `PFD0` or `PFD1`.
     Legacy,
-    /// A packet of a form that isn't known.
+    /// The packet has an unknown form.
     Newer,
-    /// Streams packed in a way that isn't known.
+    /// The streams are packed in an unknown way, with this kind.
     UnknownKind(u8),
-    /// Streams packed in a way that isn't unpacked here.
+    /// The streams are compressed by lz4 (kind 1) or zstd (kind 2), and can't be unpacked here.
     Compressed(u8),
-    /// The meta part isn't meta.
+    /// The meta part isn't the layout of a meta.
     BadMeta,
-    /// The packed streams aren't streams.
+    /// The packed streams aren't a layout of streams.
     BadStreams,
-    /// The scope details aren't scope details.
+    /// The last part isn't a list of scope details, or has an id of 0.
     BadScopes,
-    /// The range in the meta part is reversed or too long.
+    /// The range in the meta part is reversed, or its duration doesn't fit `i64`.
     BadRange,
-    /// A part of a packet is too long for its length to be written.
+    /// A part of a packet has `2^32` bytes or more.
     PartTooLong,
-    /// A call was refused with this cause, which is never `Memory`.
+    /// A call failed with this error, which is never `Memory`.
     Refused(Error),
-    /// An allocation, or a copy of an `Arc`, was refused.
+    /// An allocation, or a clone of an `Arc`, failed.
     Memory,
 }
 
 impl FileError {
-    /// Its place in the list of causes, counted from 1.
+    /// Returns the error's place in the list of causes, counted from 1.
     pub fn number(self) -> u8
         ensures { result ≡ file_error_number self }
     {
@@ -63,7 +63,7 @@ impl FileError {
         }
     }
 
-    /// Its name alone.
+    /// Returns the error's name, without what it holds.
     pub fn name(self) -> &'static str
         ensures { result.now ≡ file_error_name self }
     {

@@ -1,5 +1,5 @@
-//! Laws of forests, their spellings and their walks, and of layouts, as contracts of functions that do nothing. A proof of another crate
-//! cites them by calling the function.
+//! Laws of forests, their spellings and their walks, and of layouts. Each is the contract of a function that does nothing; a
+//! proof of another crate cites it by calling the function.
 
 ghost use Rattle.std.specs.Prelude.{Result, Ok, map, IsTrue, ◌↔◌, List, ℕ, ℤ, ◌≡◌, ◌⊎◌, ◌+◌, ◌-◌, ◌++◌, ◌∷◌, [], ◌<◌, ◌≤◌, ◌^◌, ◌≤ℤ◌, ◌-ℤ◌, pos, negsuc, FitsSigned, length, max};
 ghost use Rattle.std.specs.List.{All};
@@ -28,7 +28,8 @@ ghost use Rattle.puffin_data.specs.Reader.ReadScopes.{record_seen, scope_seen};
 
 use crate::data::{Scope, ScopeRecord};
 
-/// A forest has one spelling, and it is no other forest's. The spellings of two forests one after the other are joined.
+/// A forest has one spelling, which is no other forest's. Two forests, one after the other, are spelled as the first and then
+/// the second.
 pub fn one_forest()
     ensures spelling { (form : Form) (f g : Forest) → IsForest form f → IsForest form g →
         length (spelling form f) < 2 ^ 63 →
@@ -37,7 +38,7 @@ pub fn one_forest()
         spelling form (append f g) ≡ spelling form f ++ spelling form g }
 {}
 
-/// The measures of two forests one after the other. They can be written where both can.
+/// The measures of two forests, one after the other, from those of each. Together they can be written if each of them can.
 pub fn joined_measures()
     ensures scope_count { (f g : Forest) →
         scope_count (append f g) ≡ scope_count f + scope_count g }
@@ -50,8 +51,8 @@ pub fn joined_measures()
         IsForest form (append f g) }
 {}
 
-/// The least start of a forest and its greatest stop are in the range of the numbers that they are counted in. Where
-/// there is a scope, the start isn't above the stop.
+/// A forest's least start is at most `i64::MAX`, and its greatest stop at least `i64::MIN`. If there is a scope, the start
+/// isn't greater than the stop.
 pub fn range_of_a_forest()
     ensures start { (f : Forest) → least_start f ≤ℤ pos (2 ^ 63 - 1) }
     ensures stop { (f : Forest) → negsuc (2 ^ 63 - 1) ≤ℤ greatest_stop f }
@@ -59,13 +60,13 @@ pub fn range_of_a_forest()
         least_start f ≤ℤ greatest_stop f }
 {}
 
-/// Two honest infos, one after the other, are an honest one, unless both have bytes in unlike forms.
+/// Two honest infos, joined, are an honest one, unless both have bytes and their forms differ.
 pub fn joined_infos()
     ensures { (a b : Recorded) (f g : Forest) → ¬ AreUnlike a b → IsHonestRecord a f →
         IsHonestRecord b g → IsHonestRecord (joined_record a b) (append f g) }
 {}
 
-/// Bytes have at most one first fault, at one place.
+/// Bytes have at most one first fault, at one offset.
 pub fn one_fault()
     ensures { (form : Form) (bytes : List ℕ) (p q : ℕ) (a b : Error) → IsFirstFault form bytes p a →
         IsFirstFault form bytes q b → (p ≡ q) × (a ≡ b) }
@@ -77,7 +78,7 @@ pub fn no_fault_in_a_spelling()
         Spells form bytes f → IsFault form bytes fault → ⊥ }
 {}
 
-/// Each stream has one list of the places of its sound scopes, and these places rise strictly.
+/// Each stream has exactly one list of the offsets of its sound scopes. They rise strictly.
 pub fn sounds_rise()
     ensures has { (form : Form) (bytes : List ℕ) →
         (places : List ℕ) × Sounds form bytes 0 (length bytes) places }
@@ -89,7 +90,8 @@ pub fn sounds_rise()
         IsStrictlyIncreasing places }
 {}
 
-/// A walk has one list of the scopes that it meets, and in a forest's spelling these are its scopes.
+/// For any bytes there is exactly one list of the scopes that a walk meets. If the bytes spell a forest, these are the forest's
+/// scopes.
 pub fn sights_of_a_walk()
     ensures has { (form : Form) (bytes : List ℕ) →
         (sights : List Sight) × Sees form bytes [] 0 (length bytes) sights }
@@ -102,7 +104,7 @@ pub fn sights_of_a_walk()
         scopes_of sights ≡ nested_in [] f }
 {}
 
-/// A fault is one of three.
+/// The fault of a walk is `PrematureEnd`, `InvalidStream` or `ScopeNeverEnded`.
 pub fn faults_of_a_walk()
     ensures { (form : Form) (bytes : List ℕ) (fault : Error) → IsFault form bytes fault →
         (fault ≡ Error.PrematureEnd)
@@ -110,14 +112,15 @@ pub fn faults_of_a_walk()
         ⊎ (fault ≡ Error.ScopeNeverEnded) }
 {}
 
-/// A balanced word is the tour of one forest alone. The tours of two forests one after the other are joined.
+/// A balanced word is the tour of exactly one forest. The tour of two forests, one after the other, is the tour of the first
+/// and then that of the second.
 pub fn one_tour()
     ensures tour { (f g : Forest) → tour f ≡ tour g → f ≡ g }
     ensures balanced { (word : List Event) (a b : IsBalanced word) → a.0 ≡ b.0 }
     ensures joined { (f g : Forest) → tour (append f g) ≡ tour f ++ tour g }
 {}
 
-/// The measures of a forest are those of its tour, the bytes of its spelling among them.
+/// The measures of a forest are those of its tour, the size of its spelling included.
 pub fn tour_measures()
     ensures size { (form : Form) (f : Forest) → word_size form (tour f) ≡ length (spelling form f) }
     ensures begun { (f : Forest) → num_begun (tour f) ≡ scope_count f }
@@ -127,7 +130,7 @@ pub fn tour_measures()
     ensures greatest_close { (f : Forest) → greatest_close (tour f) ≡ greatest_stop f }
 {}
 
-/// What a scope that opens does to the measures of a word.
+/// How a word's measures change when a scope opens.
 pub fn opening_measures()
     ensures size { (form : Form) (word : List Event) (id : ℕ) (text : List ℕ) (start : ℤ) →
         word_size form (word ++ (Open id text start ∷ []))
@@ -146,7 +149,7 @@ pub fn opening_measures()
         greatest_close (word ++ (Open id text start ∷ [])) ≡ greatest_close word }
 {}
 
-/// What a scope that closes does to the measures of a word.
+/// How a word's measures change when a scope closes.
 pub fn closing_measures()
     ensures size { (form : Form) (word : List Event) (stop : ℤ) →
         word_size form (word ++ (Close stop ∷ [])) ≡ word_size form word + end_size }
@@ -162,8 +165,8 @@ pub fn closing_measures()
         greatest_close (word ++ (Close stop ∷ [])) ≡ int_max (greatest_close word) stop }
 {}
 
-/// The cut of a text is its longest beginning of no more bytes than its form writes that ends where a character ends,
-/// nothing else is, and it is the text that is read of it. Its bytes are the text's.
+/// The cut of a text is its longest beginning within the form's limit that ends at a character boundary; only that is its cut.
+/// Read as text, the cut is itself. If the text's elements are bytes, so are the cut's.
 pub fn cut_texts()
     ensures is_cut { (form : Form) (text : List ℕ) → IsUtf8 text →
         IsCut form text (cut_text form text) }
@@ -176,8 +179,8 @@ pub fn cut_texts()
         All (λ b. b < 256) (cut_text form text) }
 {}
 
-/// A stream with open scopes, as its bytes and as its word: what a scope that begins makes of it, and the innermost scope's
-/// end; where that scope's size stands; and that without an open scope it spells a forest whose tour is the word.
+/// A stream with open scopes, as bytes and as a word: how both change when a scope begins and when the innermost one ends, and
+/// where the innermost scope's size is. Without an open scope the stream spells a forest whose tour is the word.
 pub fn open_streams()
     ensures begins { (form : Form) (opened : List Opened) (closed : Forest) (id : ℕ) (start : ℤ)
         (text : List ℕ) →
@@ -214,8 +217,8 @@ pub fn open_streams()
         open_after 0 (open_word opened closed) ≡ length opened }
 {}
 
-/// From each place of a stream on a reader gives one list of scopes and faults, and nothing at the stream's end, which is
-/// where it stands after a fault. Of a forest's spelling it gives the top scopes.
+/// From each offset of a stream a reader returns exactly one list of scopes and faults. At the stream's end, where it is after
+/// a fault, it returns nothing. In a forest's spelling it returns the scopes that aren't in another.
 pub fn one_reading()
     ensures read { (form : Form) (bytes : List ℕ) (p : ℕ) → p ≤ length bytes →
         (items : List (Result ReadScope Error)) × ReaderGives form bytes p items }
@@ -228,7 +231,7 @@ pub fn one_reading()
         ReaderGives form bytes 0 (map (λ s. Ok s) (top_scopes form 0 f)) }
 {}
 
-/// Scopes that were read, and their records, are equal just where all their fields are.
+/// Scopes that were read, and their records, are equal exactly when all of their fields are.
 pub fn scopes_by_fields()
     ensures records { (a b : ScopeRecord) →
         IsTrue (⟦<ScopeRecord<'static> as PartialEq>⟧.eq a b) ↔ (record_seen a ≡ record_seen b) }
@@ -236,7 +239,8 @@ pub fn scopes_by_fields()
         IsTrue (⟦<Scope<'static> as PartialEq>⟧.eq a b) ↔ (scope_seen a ≡ scope_seen b) }
 {}
 
-/// No layout of a value begins another of its kind. A number of fewer bits is one of 64, and a text is a block of bytes.
+/// No layout of a value begins another of its kind. Numbers of 32 bits are laid out as those of 64, and texts as blocks of
+/// bytes.
 pub fn no_layout_begins_another()
     ensures bytes { NoneBeginsAnother IsByte byte }
     ensures numbers { NoneBeginsAnother IsLong number }
@@ -245,8 +249,7 @@ pub fn no_layout_begins_another()
     ensures blocks { NoneBeginsAnother IsBlock block }
 {}
 
-/// What is read off the front of bytes is the layout of the value that is given, and each layout
-/// is read.
+/// A value is read from the front of bytes exactly when its layout is there.
 pub fn only_layouts_are_read()
     ensures bytes { ReadsLayouts IsByte byte byte_at }
     ensures numbers { ReadsLayouts IsLong number number_at }

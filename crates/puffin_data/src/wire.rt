@@ -1,11 +1,12 @@
-//! The values that a packet holds, as bytes: written behind one another into a vector, and read from the front of a slice.
-//! A number has one spelling, the shortest, and no layout of a value begins that of another.
+//! Encodes the values of a packet as bytes, and decodes them: values are appended to a vector, and read from the front of a
+//! slice. A number has one layout, the shortest, and no layout of a value begins that of another. `docs/FORMAT.md` lists the
+//! layouts.
 
 mod cursor;
 mod front;
 mod put;
 
-/// The byte before a number of two bytes, and the least number that isn't a byte of its own.
+/// The byte before a number of two bytes. Lesser numbers take one byte, themselves.
 const TWO_BYTES_MARK: u8 = 251;
 /// The byte before a number of four bytes.
 const FOUR_BYTES_MARK: u8 = 252;

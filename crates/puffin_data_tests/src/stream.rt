@@ -2,7 +2,7 @@ use crate::equal::equal;
 use crate::reader::{scope_at, top_scopes};
 use crate::samples::{ONE, end, id, stream_of};
 use puffin_data::Error;
-use puffin_data::data::{Reader, Scope, Stream};
+use puffin_data::data::{END_SIZE, Reader, Scope, Stream};
 use std::test::Fail;
 
 #[test]
@@ -26,6 +26,18 @@ fn one_scope_takes_35_bytes(rt: HostRuntime) -> std::result::Result<(), Fail> {
     end(&mut stream, offset, 300)?;
     equal(&rt, stream.bytes(), ONE.as_slice());
     equal(&rt, stream.len(), 35);
+    Ok(())
+}
+
+#[test]
+fn one_scope_is_written_within_the_room(rt: HostRuntime) -> std::result::Result<(), Fail> {
+    let mut stream = Stream::new(rt.alloc());
+    let begin = stream.form().begin_limit("data");
+    stream.reserve(begin + END_SIZE)?;
+    let offset = stream.begin_within(100, id(1)?, "data");
+    stream.end_within(offset, 300);
+    equal(&rt, offset, 18);
+    equal(&rt, stream.bytes(), ONE.as_slice());
     Ok(())
 }
 

@@ -1,6 +1,6 @@
 use crate::equal::equal;
 use crate::samples::{NONE, leaf, nest, stream_of};
-use puffin_data::data::{Reader, Stream, StreamInfo};
+use puffin_data::data::{Form, Reader, Stream, StreamInfo, walk_forest};
 use puffin_data::{Error, NanoSecond, Result};
 use std::alloc::Global;
 use std::process::Abort;
@@ -21,6 +21,16 @@ fn walked(alloc: Global, stream: &Stream) -> (Result<Counts>, u64) {
     (counts, tries)
 }
 
+/// The same of bytes that are in no stream.
+fn walked_there(alloc: Global, bytes: &[u8]) -> (Result<Counts>, u64) {
+    let mut tries = 99;
+    let counts = match walk_forest(alloc, Form::Short, bytes, &mut tries) {
+        Ok(walk) => Ok((walk.num_scopes, walk.depth, walk.range_ns)),
+        Err(fault) => Err(fault),
+    };
+    (counts, tries)
+}
+
 /// What a parse of a stream with these bytes counts, and whether it keeps them, or its fault.
 fn parsed(alloc: Global, stream: Stream, bytes: &[u8]) -> Result<(Counts, bool)> {
     let info = StreamInfo::parse(alloc, stream)?;
@@ -34,6 +44,7 @@ fn finds(rt: &impl Abort, alloc: Global, what: &str, bytes: &[u8], counts: Count
     let (scopes, depth, _) = counts;
     let walk = (Ok(counts), scopes as u64);
     equal(rt, (what, walked(alloc, &stream)), (what, walk));
+    equal(rt, (what, walked_there(alloc, bytes)), (what, walk));
     let counted = Reader::count_scope_and_depth(alloc, &stream);
     equal(rt, (what, counted), (what, Ok((scopes, depth))));
     let parse = parsed(alloc, stream, bytes);
@@ -52,6 +63,7 @@ fn refuses(
     let stream = stream_of(alloc, bytes)?;
     let walk = (Err(fault), made);
     equal(rt, (what, walked(alloc, &stream)), (what, walk));
+    equal(rt, (what, walked_there(alloc, bytes)), (what, walk));
     let counted = Reader::count_scope_and_depth(alloc, &stream);
     equal(rt, (what, counted), (what, Err(fault)));
     equal(rt, (what, stream.bytes()), (what, bytes));

@@ -1,4 +1,4 @@
--- Frames: the streams that they hold, and in which ways.
+-- Frames: the streams that they hold, and how they hold them.
 pub mod Streams
 pub mod Sums
 pub mod Holding

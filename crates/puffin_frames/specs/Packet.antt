@@ -1,4 +1,4 @@
--- Packets: their bytes, what is read and what is written.
+-- Packets: their bytes, and what is read and written.
 pub mod Structs
 pub mod Stored
 pub mod Letters

@@ -1,4 +1,4 @@
--- What contracts of private functions and proofs alone cite.
+-- What only private functions and proofs cite.
 pub mod Age
 pub mod Stopping
 pub mod Pairs

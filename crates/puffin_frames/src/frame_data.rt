@@ -1,4 +1,4 @@
-//! Frames: what was reported since the frame before.
+//! Frames: what threads reported since the frame before.
 
 mod decode;
 mod encode;

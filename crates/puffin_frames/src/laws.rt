@@ -1,5 +1,5 @@
-//! Laws of infos and of what is said of them together, as contracts of functions that do nothing. A proof of another
-//! crate cites them by calling the function.
+//! Laws of infos and their totals. Each is the contract of a function that does nothing; a proof of another crate cites it by
+//! calling the function.
 
 ghost use Rattle.std.specs.Prelude.{List, ◌≡◌, ◌∷◌, ◌++◌, ◌+◌, [], ◌<◌, ◌≤◌, length};
 ghost use Rattle.std.specs.Map.{keys_of};
@@ -17,7 +17,8 @@ ghost use Rattle.puffin_frames.specs.Frame.Sums.{total_bytes, total_scopes, join
 
 use puffin_threads::thread_profiler::ThreadInfo;
 
-/// Entries in their order are the entries of the map by infos, and an insertion among them is one into that map.
+/// A map from threads to streams, as a sorted list of entries, and the map from infos that contracts see of it have the same
+/// entries and values. Inserting into the list inserts into the map.
 pub fn streams_by_info()
     ensures entries { (entries : List (ThreadInfo × StreamInfo)) →
         IsStrictlySortedBy thread_cmp (keys_of entries) →
@@ -31,7 +32,7 @@ pub fn streams_by_info()
         ≡ map.insert (streams_of entries) (info_of thread) (record_of info) }
 {}
 
-/// The joined range of one info more, and of infos one after the other.
+/// The joined range of infos: how one more info changes it, and how those of two lists are joined.
 pub fn joined_ranges()
     ensures start_of_one_more { (info : Recorded) (infos : List Recorded) →
         joined_start (info ∷ infos) ≡ int_min info.range_ns.0 (joined_start infos) }
@@ -43,7 +44,7 @@ pub fn joined_ranges()
         joined_stop (xs ++ ys) ≡ int_max (joined_stop xs) (joined_stop ys) }
 {}
 
-/// What a report does to what is said of all streams together.
+/// How a report changes the totals of all streams.
 pub fn reported_streams()
     ensures bytes { (streams : Streams) (i : Info) (r : Recorded) →
         total_bytes (map.values (reported_to streams i r))
@@ -58,13 +59,13 @@ pub fn reported_streams()
         joined_stop (map.values (reported_to streams i r))
         ≡ int_max (joined_stop (map.values streams)) r.range_ns.1 }
     ensures none { map.values {X = Recorded} {R = info_cmp} map.empty ≡ [] }
-    // The scopes under one info are among all.
+    // The scopes under one info are part of the total.
     ensures under_one { (streams : Streams) (i : Info) →
         (stream_under streams i).num_scopes ≤ total_scopes (map.values streams) }
 {}
 
-/// What a report does to honest streams, unless its scopes and those under its info have bytes in unlike forms. Where
-/// there is a scope among them, their joined range isn't reversed, and where there is none, no stream has one.
+/// Honest streams stay honest after a report, unless it and the stream under its info both have bytes, in unlike forms. If
+/// honest streams have a scope, their joined range isn't reversed; if their total is 0, no stream has a scope.
 pub fn honest_streams()
     ensures none { AreHonest map.empty }
     ensures report { (streams : Streams) (i : Info) (r : Recorded) (f : Forest) →

@@ -1,10 +1,10 @@
-//! Frames: what the threads recorded between two moments, each thread's scopes under the thread. The modules of the crate
-//! below, [`thread_profiler`] and [`scope_details`], stand here again under their own names.
+//! Frames: what threads recorded between two moments, with each thread's scopes under the thread. The modules
+//! [`thread_profiler`] and [`scope_details`] are those of `puffin_threads`.
 //!
 //! | to | call |
 //! |---|---|
 //! | make a frame by hand | [`frame_data::UnpackedFrameData::new`], [`frame_data::FrameData::new`] |
-//! | hold a frame in fewer pieces of memory, and look into it again | [`frame_data::FrameData::pack`], [`frame_data::FrameData::unpacked`] |
+//! | pack a frame, and unpack it again | [`frame_data::FrameData::pack`], [`frame_data::FrameData::unpacked`] |
 //! | write a frame as a packet, and read the next one | [`frame_data::FrameData::write_into`], [`frame_data::FrameData::read_next`] |
 #![tactic(auto)]
 

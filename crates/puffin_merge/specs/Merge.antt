@@ -1,4 +1,4 @@
--- What merging must give.
+-- The result of merging: a row of nodes below each path.
 pub mod Occurrences
 pub mod Pieces
 pub mod Starts
@@ -20,7 +20,7 @@ use Rattle.puffin_merge.specs.Merge.Tree.{Node, MergedForest, no_node, merged, r
 abbrev pub below : Path → Label → Path
 below path label = path ++ (label ∷ [])
 
--- A node tells what is merged: there are pieces, and the numbers are theirs. The duration for each of so many frames is cut down.
+-- A node has the sums of its pieces, of which there is at least one. The duration per frame is rounded down.
 pub record TellsOf (m : Merged) (frames : ℕ) (n : Node) : Type 0 where
   pub any : 0 < m.number
   pub pieces : n.pieces ≡ m.number
@@ -41,8 +41,7 @@ IsRising cmp (l ∷ m ∷ labels) = (cmp l m ≡ Less) × IsRising cmp (m ∷ la
 abbrev pub sibling_of : Merged → ℕ → Sibling
 sibling_of m frames = record { own_start = m.own_start; duration = m.total / frames }
 
--- The merged scopes directly below a path: each tells of its occurrences, each label that occurs there is among them, they
--- stand in order (so each once), and start at the least feasible times.
+-- The merged scopes directly below a path: each has the sums of its occurrences, each label that occurs there is among them, they are in order (so each is there once), and their starts are the least feasible ones.
 pub record IsRow (all : List Occurrence) (frames : ℕ) (path : Path) (nodes : List Node) :
     Type 0 where
   pub tell : All (λ n. TellsOf (merged_at all (below path n.label)) frames n) nodes
@@ -61,7 +60,7 @@ AreBelow all frames path (merged n children others) =
     × AreBelow all frames (below path n.label) children
     × AreBelow all frames path others
 
--- what the occurrences in so many frames are merged into
+-- what the occurrences in this number of frames are merged into
 pub record IsMerge (all : List Occurrence) (frames : ℕ) (f : MergedForest) : Type 0 where
   pub top : IsRow all frames [] (row f)
   pub deeper : AreBelow all frames [] f

@@ -1,4 +1,4 @@
--- How merging goes: steps of the proof.
+-- How merging works, for its proof.
 pub mod Tables
 pub mod Merging
 pub mod Places

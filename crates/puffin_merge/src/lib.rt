@@ -1,11 +1,11 @@
-//! The totals of one thread's scopes over many frames: scopes of one path of ids and texts are merged into one.
+//! Merges one thread's scopes over many frames: scopes with the same path of ids and texts become one, with their totals.
 //!
 //! | to | call |
 //! |---|---|
-//! | add up one thread's scopes over frames | [`merge::merge_scopes_for_thread`] |
-//! | see too how many scopes were tried | [`merge::merge_scopes_counted`] |
+//! | merge one thread's scopes over frames | [`merge::merge_scopes_for_thread`] |
+//! | see how many scopes the walks tried to read, too | [`merge::merge_scopes_counted`] |
 //! | add frames one at a time | [`merge::Merger`] |
-//! | have scopes that borrow nothing of the frames | [`merge::MergeScope::into_owned`] |
+//! | get scopes that borrow nothing from the frames | [`merge::MergeScope::into_owned`] |
 //! | cite a law about definitions in a proof | [`merge::laws`] |
 #![tactic(auto)]
 

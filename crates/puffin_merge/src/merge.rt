@@ -1,4 +1,4 @@
-//! Scopes of many frames, merged by their paths of ids and texts.
+//! Merging the scopes of many frames by their paths of ids and texts.
 
 ghost use Rattle.std.specs.Prelude.{◌≡◌, ◌≤◌, ◌⊎◌, length, IfOk, IfErr};
 ghost use Rattle.puffin_threads.specs.Thread.Info.{info_of};
@@ -24,18 +24,18 @@ pub use scope::MergeScope;
 use std::alloc::Global;
 use std::sync::Arc;
 
-/// Merges the scopes under an info in all frames, by their paths of ids and texts. No frames give none.
+/// Merges the scopes under an info in all frames, by their paths of ids and texts. Returns no scopes if there are no frames.
 ///
-/// A top scope's start counts from its frame's range, moved to the first frame's start; a nested scope's from its
-/// parent's start. Siblings stand by the least start of their pieces, then by id, then by the bytes of their
-/// texts. Each starts as early as it can: not before that start, not before 0, and not before the one before it has ended.
+/// A nested scope's start is measured from its parent's start, and a top-level scope's as if every frame began when the first
+/// did. Siblings are ordered by the least start of their pieces, then by id, then by the bytes of their texts. Each starts as
+/// early as it can: not before that least start, not before 0, and not before the sibling before it has ended.
 ///
-/// Refused with the first of these, in the order of frames and of the scopes in their streams: a fault of a stream
-/// (`PrematureEnd`, `InvalidStream`, `ScopeNeverEnded`); `TooDeep` at a scope within 1,024 others; `TooLarge` where its start
-/// as it is counted, the number of its path or its sum doesn't fit. After all of them with `TooLarge` where an end doesn't
-/// fit, and anywhere with `Memory`.
+/// Fails with the first of these, in the order of the frames and of the scopes in their streams: a fault of a stream
+/// (`PrematureEnd`, `InvalidStream` or `ScopeNeverEnded`); `TooDeep` at a scope nested in 1,024 others; `TooLarge` if the
+/// measured start, the number of scopes of a path or their total doesn't fit. After all frames it fails with `TooLarge` if an
+/// end doesn't fit, and anywhere with `Memory`.
 ///
-/// The collection is not read: a scope's details change neither what is merged nor in which order. The scopes own their texts.
+/// The collection isn't read: a scope's details change neither the merge nor its order. The merged scopes own their texts.
 ///
 /// ```
 /// let merged = merge_scopes_for_thread(alloc, view.scope_collection(), &frames, &info)?;
@@ -46,10 +46,10 @@ pub fn merge_scopes_for_thread<'s>(
     frames: &'s [Arc<UnpackedFrameData>],
     info: &ThreadInfo,
 ) -> Result<Vec<MergeScope<'s>>>
-    // What it gives is the frames' merge.
+    // What it returns is the frames' merge.
     ensures merged { IfOk result (λ merged.
         AreMerged (frames_bytes (info_of info.now) frames.now) (forest_in merged.items)) }
-    // What it is refused with, if not for want of memory, is the frames' refusal.
+    // Unless memory runs out, its error is the frames' refusal.
     ensures refused { IfErr result (λ e.
         (e ≡ Error.Memory) ⊎ IsMergeRefusal (frames_bytes (info_of info.now) frames.now) e) }
 {
@@ -57,8 +57,8 @@ pub fn merge_scopes_for_thread<'s>(
     merge_scopes_counted(alloc, collection, frames, info, &mut tries)
 }
 
-/// The same. `tries` is set to the number of readings made at a byte `(`, also where merging is refused: those of the frames
-/// that are accepted before, and those up to the refusal in its own.
+/// Merges as [`merge_scopes_for_thread`] does. Sets `tries` to the number of readings made at a byte `(` in all frames. If it
+/// fails, these are the readings up to the refusal.
 pub fn merge_scopes_counted<'s>(
     alloc: Global,
     _collection: &ScopeCollection,
@@ -66,14 +66,14 @@ pub fn merge_scopes_counted<'s>(
     info: &ThreadInfo,
     tries: &mut u128,
 ) -> Result<Vec<MergeScope<'s>>>
-    // What it gives is the frames' merge, with one try for each scope.
+    // What it returns is the frames' merge, with one try for each scope.
     ensures merged { IfOk result (λ merged.
         (m : AreMerged (frames_bytes (info_of info.now) frames.now) (forest_in merged.items))
         × (tries.new ≡ length (occurrences m.scopes))) }
-    // What it is refused with, if not for want of memory, is the frames' refusal after just these tries.
+    // Unless memory runs out, its error is the frames' refusal, after exactly these tries.
     ensures refused { IfErr result (λ e. (e ≡ Error.Memory)
         ⊎ IsRefusalAfter (frames_bytes (info_of info.now) frames.now) tries.new e) }
-    // No frame is read after one that isn't accepted.
+    // No frame is read after one that is refused.
     ensures read { ReadsFew (frames_bytes (info_of info.now) frames.now) tries.new }
     ensures few { tries.new ≤ most_tries (frames_bytes (info_of info.now) frames.now) }
 {

@@ -1,3 +1,3 @@
--- What is kept of the names of functions and files.
+-- Short names of functions and files.
 pub mod Functions
 pub mod Files

@@ -1,13 +1,13 @@
-//! Scopes as a program's own code makes them: guards that end their scope where they go, places in the code that have an
-//! id each, the switch of all scopes, and short names of functions and files. The macros over them are in `puffin`.
+//! Scopes as a program's own code makes them: guards that end their scope when they are dropped, places in the code with an id
+//! each, the switch of all scopes, and short names of functions and files. The macros that use them are in `puffin`.
 //!
 //! | to | call |
 //! |---|---|
 //! | turn all scopes on and off | [`Switch::set_scopes_on`] |
 //! | keep the id of a place in the code | [`Site::new`], kept beside the other places and shared by `&` |
 //! | make a guard by hand | [`ProfilerScope::open`], [`ProfilerScope::new`] |
-//! | reach the thread's profiler within a guard | [`ProfilerScope::profiler`] |
-//! | end a guard's scope and be told of its report | [`ProfilerScope::end`] |
+//! | use the thread's profiler while a guard borrows it | [`ProfilerScope::profiler`] |
+//! | end a guard's scope and see whether it was reported | [`ProfilerScope::end`] |
 //! | shorten a name | [`utils::clean_function_name`], [`utils::short_file_name`] |
 #![tactic(auto)]
 

@@ -7,18 +7,23 @@ use puffin_frames::thread_profiler::{Closed, NsSource, Reporter, ThreadProfiler}
 /// What a guard stands for.
 #[derive(Clone, Copy, Debug, PartialEq, Eq)]
 enum Standing {
-    /// A scope whose size stands at this offset.
+    /// A scope, whose size is at this offset.
     On(usize),
-    /// Nothing.
+    /// No scope.
     Off,
-    /// Nothing, since the scope's id or its beginning was refused.
+    /// No scope, as its id or its beginning was refused with this error.
     Refused(Error),
 }
 
-/// A guard of a scope of a thread: the scope ends with it, at the latest where it is dropped.
+/// A guard of a thread's scope: dropping it ends the scope.
 ///
-/// It borrows the thread's profiler, which is reached by [`ProfilerScope::profiler`] meanwhile. The scope is the one that
-/// is open there at the guard's offset.
+/// It borrows the thread's profiler, which [`ProfilerScope::profiler`] lends meanwhile. Its scope is the one open there at the
+/// guard's offset.
+///
+/// ```
+/// let mut whole = ProfilerScope::new(&mut thread, id, "all bodies")?;
+/// let profiler = whole.profiler();
+/// ```
 pub struct ProfilerScope<'p, C: NsSource> {
     profiler: &'p mut ThreadProfiler<C>,
     standing: Standing,
@@ -33,8 +38,8 @@ impl<'p, C: NsSource> ProfilerScope<'p, C> {
     ghost use Rattle.puffin_scopes.specs.Guards.Beginning.{IsOn, IsOff};
     ghost use Rattle.puffin_scopes.specs.Guards.Ending.{Ends};
 
-    /// Begins a scope, as [`ThreadProfiler::begin_scope`] does. Refused only with `Memory`, and nothing is changed then.
-    #[inline]
+    /// Begins a scope, as [`ThreadProfiler::begin_scope`] does. Fails only with `Memory`; nothing changes then.
+    #[inline(always)]
     pub fn new(
         profiler: &'p mut ThreadProfiler<C>,
         id: ScopeId,
@@ -53,7 +58,7 @@ impl<'p, C: NsSource> ProfilerScope<'p, C> {
         Ok(ProfilerScope { profiler, standing })
     }
 
-    /// A guard without a scope.
+    /// Makes a guard without a scope.
     #[inline]
     pub fn off(profiler: &'p mut ThreadProfiler<C>) -> ProfilerScope<'p, C>
         ensures same_reference { lender_of result ≡ profiler.entry.ghost_name }
@@ -63,9 +68,9 @@ impl<'p, C: NsSource> ProfilerScope<'p, C> {
         ProfilerScope { profiler, standing }
     }
 
-    /// Begins a scope under an id that may have been refused. Where it was, or where beginning is refused with `Memory`,
-    /// the guard has no scope, the profiler is as before, and [`ProfilerScope::refusal`] says why.
-    #[inline]
+    /// Begins a scope under an id that may have been refused. If it was, or if beginning the scope fails with `Memory`, the
+    /// guard has no scope, the profiler is unchanged, and [`ProfilerScope::refusal`] returns the error.
+    #[inline(always)]
     pub fn open(
         profiler: &'p mut ThreadProfiler<C>,
         id: Result<ScopeId>,
@@ -87,7 +92,7 @@ impl<'p, C: NsSource> ProfilerScope<'p, C> {
         ProfilerScope { profiler, standing }
     }
 
-    /// The thread's profiler, for scopes within this one. Using it may end this guard's scope; the guard then ends
+    /// Lends the thread's profiler, for scopes within this one. If this guard's scope is ended through it, the guard ends
     /// nothing.
     pub fn profiler(&mut self) -> &mut ThreadProfiler<C>
         ensures { result.now ≡ profiler_of self.old }
@@ -95,7 +100,7 @@ impl<'p, C: NsSource> ProfilerScope<'p, C> {
         &mut *self.profiler
     }
 
-    /// Where its scope's size stands. `None` of a guard without a scope.
+    /// Returns the scope's offset, or `None` if the guard has no scope.
     pub fn offset(&self) -> Option<usize>
         ensures { result ≡ offset_of self.now }
     {
@@ -105,7 +110,7 @@ impl<'p, C: NsSource> ProfilerScope<'p, C> {
         }
     }
 
-    /// Why it has no scope, where one was refused.
+    /// Returns the error if the scope was refused.
     pub fn refusal(&self) -> Option<Error>
         ensures { result ≡ guard_refusal self.now }
     {
@@ -115,9 +120,9 @@ impl<'p, C: NsSource> ProfilerScope<'p, C> {
         }
     }
 
-    /// Ends its scope, as [`ThreadProfiler::end_scope`] does. `Ok(None)` of a guard without a scope.
+    /// Ends the scope, as [`ThreadProfiler::end_scope`] does. Returns `Ok(None)` if the guard has no scope.
     ///
-    /// Refused with `MismatchedEnd` alone, where its scope isn't the innermost: no scope is ended then, and the guard is
+    /// Fails only with `MismatchedEnd`, if the scope isn't the innermost open one. Then no scope is ended, and the guard is
     /// gone.
     #[inline]
     pub fn end<R: Reporter>(self, reporter: &mut R) -> Result<Option<Closed>>
@@ -136,8 +141,8 @@ impl<C: NsSource> Drop for ProfilerScope<'_, C> {
     ghost use Rattle.puffin_scopes.specs.Guards.Guard.{profiler_of, offset_of};
     ghost use Rattle.puffin_scopes.specs.Guards.Ending.{IsLeft};
 
-    /// Ends its scope where that is the innermost, and hands over nothing: closed scopes wait for the thread's next report.
-    #[inline]
+    /// Ends the scope if it is the innermost open one, and reports nothing: closed scopes wait for the thread's next report.
+    #[inline(always)]
     fn drop(self)
         ensures left { IsLeft C.answers (offset_of self.entry)
             (profiler_of self.entry) self.exit.0.now }

@@ -9,7 +9,7 @@ use std::alloc::Global;
 use std::borrow::CowStr;
 use std::sync::atomic::{AtomicIn, Ordering, Rule};
 
-/// The rule of a word that is 0 or an id.
+/// The invariant of a word that is 0 or an id.
 struct IdOrZero;
 
 impl Rule for IdOrZero {
@@ -18,15 +18,20 @@ impl Rule for IdOrZero {
     ghost invariant = { λ word. word < 2 ^ 32 };
 }
 
-/// A place in the code where a scope is made. It keeps the id that was drawn at its first use, so a scope is registered
-/// once. Any number of threads may share one.
+/// A place in the code that makes a scope. It keeps the id drawn at its first use, so its scope is registered once. Any number
+/// of threads may share it.
 ///
-/// A program keeps its sites in a struct, a line for each, beside its switch and its ids.
+/// A program keeps its sites in a struct, one field for each, beside its switch and its ids.
+///
+/// ```
+/// let site = Site::new("src/draw.rs", 7);
+/// let id = site.function_id(&mut thread, &ids, "draw")?;
+/// ```
 #[derive(Drop)]
 pub struct Site {
     file: &'static str,
     line: u32,
-    // 0 until the first use
+    // 0 until the first use.
     id: AtomicIn<IdOrZero>,
 }
 
@@ -39,7 +44,7 @@ impl Site {
     ghost use Rattle.puffin_scopes.specs.Names.Functions.{clean};
     ghost use Rattle.puffin_scopes.specs.Sites.{IsKnownOrNew, function_details, named_details};
 
-    /// A place in a file, which may be named by its path or its module, that wasn't used yet. A line of 0 is none.
+    /// Makes an unused place in a file, given by its path or its module. Pass 0 if the line is unknown.
     pub fn new(file: &'static str, line: u32) -> Site
         ensures { (result.file.now ≡ file.now) × (result.line ≡ line) }
     {
@@ -50,18 +55,18 @@ impl Site {
         }
     }
 
-    /// The id of the place, once it was used, by one load.
+    /// Returns the id of the place, if it was used, with one load.
     #[inline]
     pub fn id(&self) -> Option<ScopeId> {
         let word = self.id.load(Ordering::SeqCst);
         ScopeId::new(word as u32)
     }
 
-    /// The id of the place as that of a function. At the first use an id is drawn, and the function is registered with the
-    /// thread, the names of the function and of the file shortened. If another thread came first, its id is
-    /// returned, and what was registered here stays, unused.
+    /// Returns the id of the place as that of a function. The first use draws an id and registers the function with the thread,
+    /// under the short names of function and file. If another thread was first, returns its id; what was registered here stays,
+    /// unused.
     ///
-    /// Refused with `IdsExhausted` or `Memory`: nothing is registered then, though an id may be used up.
+    /// Fails with `IdsExhausted` or `Memory`; then nothing is registered, but an id may be used up.
     #[inline]
     pub fn function_id<C: NsSource>(
         &self,
@@ -83,7 +88,7 @@ impl Site {
         Ok(self.keep(id))
     }
 
-    /// The id of the place as that of a scope with a name of its own. Else as [`Site::function_id`].
+    /// Returns the id of the place as that of a scope with a name of its own. Otherwise as [`Site::function_id`].
     #[inline]
     pub fn named_id<C: NsSource>(
         &self,
@@ -107,7 +112,7 @@ impl Site {
         Ok(self.keep(id))
     }
 
-    /// The short names of the function and of the file.
+    /// Returns the short names of the function and of the file. Fails only with `Memory`.
     #[cold]
     fn short_names(
         &self,
@@ -124,7 +129,7 @@ impl Site {
         Ok((CowStr::Owned(function), CowStr::Owned(file)))
     }
 
-    /// Keeps the id, unless another one is kept by now, and returns the one that is kept.
+    /// Keeps the id, unless one is kept already, and returns the one that is kept.
     #[cold]
     fn keep(&self, id: ScopeId) -> ScopeId {
         let word = u64::from(id.get());

@@ -2,26 +2,31 @@
 
 use std::sync::atomic::{AtomicBool, Ordering};
 
-/// Says whether the macros make scopes. Any number of threads may share one.
+/// Decides whether the macros make scopes. Any number of threads may share it.
+///
+/// ```
+/// let switch = Switch::new();
+/// switch.set_scopes_on(true);
+/// ```
 #[derive(Drop)]
 pub struct Switch {
     on: AtomicBool,
 }
 
 impl Switch {
-    /// A switch that is off.
+    /// Makes a switch that is off.
     pub fn new() -> Switch {
         Switch {
             on: AtomicBool::new(false),
         }
     }
 
-    /// Turns scopes on or off, by one store.
+    /// Turns scopes on or off, with one store.
     pub fn set_scopes_on(&self, on: bool) {
         self.on.store(on, Ordering::SeqCst);
     }
 
-    /// Whether scopes are on, by one load.
+    /// Returns whether scopes are on, with one load.
     #[inline]
     pub fn are_scopes_on(&self) -> bool {
         self.on.load(Ordering::SeqCst)

@@ -1,4 +1,4 @@
--- What contracts see of a session, and where a history leaves it.
+-- What contracts see of a session, and the state in which a history leaves it (`StandsAfter`).
 pub mod History
 pub mod Deliveries
 pub mod Due
@@ -32,7 +32,7 @@ pub record SessionState : Type 0 where
   pub threads : List Thread
   pub collected : Collected
 
--- a thread of this name whose texts have this form, before its first scope
+-- a thread with this name and form, before its first scope
 abbrev pub new_thread : List ℕ × Form → Thread
 new_thread thread = record {
   name = thread.0;
@@ -54,7 +54,7 @@ nothing_collected = record {
   wants_all = false;
 }
 
--- with these threads, before any command
+-- a session of these threads, before any command
 abbrev pub new_session : List (List ℕ × Form) → SessionState
 new_session threads = record { threads = map new_thread threads; collected = nothing_collected }
 
@@ -62,7 +62,7 @@ new_session threads = record { threads = map new_thread threads; collected = not
 abbrev pub word_in : Form → List ℕ → Word
 word_in form bytes = record { form = form; events = events_in form bytes }
 
--- what stands before a run
+-- the state before a run
 abbrev pub opening_of : SessionState → Opening
 opening_of s = record {
   threads = s.threads;
@@ -87,7 +87,7 @@ SpellsIfAny (Some r) (Some word) = ∥ SpellsWord r word ∥₁
 SpellsIfAny None (Some word) = ⊥
 SpellsIfAny (Some r) None = ⊥
 
--- there is a stream under each info under which something was handed over and under no other, and it spells just that
+-- there is a stream exactly under each info under which something was handed over, and it spells exactly that
 abbrev pub SpellsDue : Streams → List Delivery → Type 0
 SpellsDue streams ds = (i : Info) → SpellsIfAny (get streams i) (total_under ds i)
 
@@ -106,18 +106,18 @@ thread_after o done t = record {
 abbrev pub word_of_thread : Thread → Word
 word_of_thread thread = record { form = thread.form; events = thread.word }
 
--- where the size of a scope with this text stands, begun now
+-- the offset of the size of a scope with this text that begins now
 abbrev pub begun_place : Thread → List ℕ → ℕ
 begun_place thread text =
     word_size thread.form thread.word + size_offset thread.form (cut_text thread.form text)
 
--- what is known of scopes, what of them is new in the next frame, and whether that is to tell of all
+-- the known details, those new in the next frame, and whether that is to list all
 pub record TellsAfter (o : Opening) (done : List Action) (now : Collected) : Type 0 where
   pub collection : now.collection ≡ known_after o done
   pub new_details : now.new_details ≡ due_details o done
   pub wants_all : now.wants_all ≡ is_wanted o done
 
--- Nothing is lost, doubled or changed: each thread holds its unreported word and details, what is collected spells just what is due, and the new details are just those that are due.
+-- Nothing is lost, doubled or changed: each thread holds its unreported word and details, what is collected spells exactly what is due, and the new details are exactly those that are due.
 pub record StandsAfter (o : Opening) (done : List Action) (now : SessionState) : Type 0 where
   pub num_threads : length now.threads ≡ length o.threads
   pub threads : (t : ℕ) → t < length o.threads →

@@ -1,2 +1,2 @@
--- What contracts of private functions and proofs alone cite.
+-- What only private functions and proofs cite.
 pub mod Serving

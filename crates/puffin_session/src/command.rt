@@ -3,78 +3,78 @@ use puffin_data::data::{ScopeId, Stream};
 use puffin_data::{Error, NanoSecond};
 use puffin_frames::thread_profiler::{Closed, ThreadInfo};
 
-/// What a session is told to do. Times below 0 count as 0, and those below the thread's last one as that one.
+/// A step of a session. A negative time counts as 0, and a time before the thread's last one counts as the last one.
 #[derive(Drop)]
 pub enum Command {
-    /// Begin a scope.
+    /// Begins a scope.
     Begin {
-        /// The thread's number in the session.
+        /// The thread's number in the session, from 0.
         thread: usize,
-        /// When, in nanoseconds.
+        /// The start, in nanoseconds.
         at: NanoSecond,
         /// The scope's id.
         id: ScopeId,
-        /// What is said of this scope.
+        /// The scope's text.
         text: String,
     },
-    /// End an open scope, which has to be the innermost one of its thread.
+    /// Ends an open scope, which has to be the innermost one of its thread.
     End {
-        /// The thread's number in the session.
+        /// The thread's number in the session, from 0.
         thread: usize,
-        /// When, in nanoseconds.
+        /// The stop, in nanoseconds.
         at: NanoSecond,
-        /// How many places out of the innermost one the scope stands.
+        /// How many scopes are open within this one; only 0 is accepted.
         back: usize,
     },
-    /// Register a scope's details with a thread, which hands them on with its next accepted report.
+    /// Registers a scope's details with a thread, which hands them on with its next accepted report.
     Register {
-        /// The thread's number in the session.
+        /// The thread's number in the session, from 0.
         thread: usize,
-        /// The scope's own name, or `None` where it is a whole function.
+        /// The scope's own name, or `None` if it is a whole function.
         name: Option<String>,
-        /// The function that the scope is in.
+        /// The function that contains the scope.
         function: String,
-        /// The file that the scope is in.
+        /// The file that contains the scope.
         file: String,
-        /// The line of the file, or 0 where it isn't known.
+        /// The line in the file, counted from 1, or 0 if it is unknown.
         line: u32,
     },
-    /// Register scopes of another origin.
+    /// Registers scopes of another origin.
     RegisterUser {
-        /// Their names.
+        /// The scopes' names.
         names: Vec<String>,
     },
-    /// Report scopes of another origin.
+    /// Reports scopes of another origin.
     ReportUser {
-        /// Whose scopes they are.
+        /// The thread whose scopes they are.
         info: ThreadInfo,
-        /// The scopes, which are counted first.
+        /// The scopes. The stream is walked first.
         stream: Stream,
     },
-    /// Let the next frame tell of all scopes that are known.
+    /// Makes the next frame list every known scope.
     Snapshot,
-    /// Take a frame.
+    /// Takes a frame.
     NewFrame,
 }
 
-/// What a session replies to a command.
+/// The outcome of a command.
 #[derive(Drop)]
 pub enum Reply {
-    /// The scope is begun. Its size will stand at this place of its thread's stream.
+    /// The scope was begun. Its size is at this offset of its thread's stream.
     Began(usize),
-    /// The scope is ended.
+    /// The scope was ended.
     Ended(Closed),
-    /// The details are registered under this id.
+    /// The details were registered under this id.
     Registered(ScopeId),
     /// The scopes have these ids, one for each name.
     RegisteredUser(Vec<ScopeId>),
-    /// The scopes are reported.
+    /// The scopes were reported.
     Reported,
-    /// The next frame will tell of all.
+    /// The next frame will list every known scope.
     Snapshot,
-    /// What was due is taken as a frame, if there was any scope.
+    /// What was due was taken as a frame, if there was a scope.
     Frame(Emitted),
-    /// Nothing is done; but where user scopes are refused, a beginning of them may be registered, and where a frame is, the
-    /// details of a beginning of its new scopes may be known.
+    /// The command failed and changed nothing, with two exceptions: `RegisterUser` may have registered a beginning of its
+    /// scopes, and `NewFrame` may have made a beginning of the new details known.
     Refused(Error),
 }

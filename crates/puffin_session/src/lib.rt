@@ -1,11 +1,11 @@
-//! Threads that are profiled, all by one profiler, and driven by lists of commands. The contract of [`Session::run`] is
-//! the main promise: nothing is lost, doubled or changed, and each frame spells what was due.
+//! Threads that share one profiler, driven by lists of commands. The contract of [`Session::run`] is the main promise: nothing
+//! is lost, doubled or changed, and each frame spells what was due.
 //!
 //! | to | call |
 //! |---|---|
-//! | drive threads and their profiler by commands | [`Session::new`], or [`Session::with_forms`] where some have long texts; [`Session::run`] |
-//! | say what a thread does | [`Command`] |
-//! | see what became of it | [`Reply`] |
+//! | drive threads and their profiler by commands | [`Session::new`], or [`Session::with_forms`] if some have long texts; [`Session::run`] |
+//! | state what a thread does | [`Command`] |
+//! | see the outcome | [`Reply`] |
 #![tactic(auto)]
 
 mod command;

@@ -17,7 +17,7 @@ use std::alloc::Global;
 use std::borrow::CowStr;
 use std::marker::Model;
 
-/// A thread of a session, with the places that its open scopes are ended by, the innermost last.
+/// A thread of a session, with the offsets that end its open scopes, the innermost last.
 #[derive(Drop)]
 pub(crate) struct Profiled {
     profiler: ThreadProfiler<ScriptClock>,
@@ -40,7 +40,7 @@ impl Model for Profiled {
 }
 
 impl Profiled {
-    /// A thread whose texts have this form, before its first scope.
+    /// Makes a thread without scopes, in this form.
     pub(crate) fn new(alloc: Global, name: String, form: Form) -> Profiled
         ensures { result ≡ new_thread (string_bytes name, form) }
     {
@@ -50,7 +50,7 @@ impl Profiled {
         }
     }
 
-    /// Begins a scope at this time. Refused only with `Memory`; nothing is changed then.
+    /// Begins a scope at this time, and returns the offset of its size. Fails only with `Memory`; nothing changes then.
     pub(crate) fn begin(&mut self, at: NanoSecond, id: ScopeId, text: &str) -> Result<usize>
         ensures ok { OnOk result (
             self.new ≡ after_begin self.old id (cut_text self.old.form text.now) (clock_time at)) }
@@ -65,8 +65,8 @@ impl Profiled {
         Ok(offset)
     }
 
-    /// Registers a scope's details under a newly drawn id, which is returned. Refused only with `IdsExhausted` or `Memory`;
-    /// nothing is changed then.
+    /// Registers a scope's details under a newly drawn id, and returns the id. Fails with `IdsExhausted` or `Memory`; nothing
+    /// changes then.
     pub(crate) fn register(
         &mut self,
         ids: &ScopeIds,
@@ -96,15 +96,15 @@ impl Profiled {
         }
     }
 
-    /// Ends the open scope that is so many places out of the innermost one, at this time. Refused only with
-    /// `MismatchedEnd`, unless it is the innermost one; nothing is changed then.
+    /// Ends the open scope that has `back` open scopes within it, at this time. Fails only with `MismatchedEnd`, unless `back`
+    /// is 0 and a scope is open; nothing changes then.
     pub(crate) fn end(
         &mut self,
         at: NanoSecond,
         back: usize,
         collector: &mut Collector,
     ) -> Result<Closed>
-        // What is registered has ids, at any time.
+        // At any time, all registered details have ids.
         ensures ids { AllHaveIds self.old.details }
         ensures back { OnOk result (back ≡ 0) }
         ensures ok { IfOk result (λ closed.

@@ -30,9 +30,14 @@ use std::borrow::CowStr;
 use std::marker::Model;
 use std::sync::Arc;
 
-/// Threads that are profiled, all by one profiler, and driven by commands.
+/// Threads that share one profiler, driven by commands.
 ///
 /// Contracts see each thread's unreported scopes and details, and what is collected for the next frame.
+///
+/// ```
+/// let mut session = Session::new(alloc, names)?;
+/// let replies = session.run(&commands)?;
+/// ```
 #[derive(Drop)]
 pub struct Session {
     profiled: Vec<Profiled>,
@@ -58,8 +63,8 @@ impl Model for Session {
 }
 
 impl Session {
-    /// One thread a name, before its first scope, whose texts are short. The first id that is drawn is 1. Refused only with
-    /// `Memory`.
+    /// Makes a session with a thread for each name, in the short form and without scopes. The first id drawn is 1. Fails only
+    /// with `Memory`.
     pub fn new(alloc: Global, names: Vec<String>) -> Result<Session>
         ensures new { IfOk result (λ session.
             session ≡ new_session (map (λ name. (string_bytes name, Short)) names.items)) }
@@ -72,7 +77,8 @@ impl Session {
         Ok(Session::of(alloc, profiled))
     }
 
-    /// One thread a name, before its first scope, whose texts have the form beside the name; else as [`Session::new`].
+    /// Makes a session with a thread for each name, in the form beside the name and without scopes. Otherwise as
+    /// [`Session::new`].
     pub fn with_forms(alloc: Global, threads: Vec<(String, Form)>) -> Result<Session>
         ensures new { IfOk result (λ session.
             session ≡ new_session (map (λ t. (string_bytes t.0, t.1)) threads.items)) }
@@ -85,7 +91,7 @@ impl Session {
         Ok(Session::of(alloc, profiled))
     }
 
-    /// Of these threads, with nothing collected.
+    /// Makes a session of these threads, with nothing collected.
     fn of(alloc: Global, profiled: Vec<Profiled>) -> Session
         ensures { result ≡ record { threads = profiled.items; collected = nothing_collected } }
     {
@@ -97,19 +103,20 @@ impl Session {
         }
     }
 
-    /// Runs commands in order, with one reply each. Each accepted scope is then once in an emitted frame, in what is due
-    /// for the next one, or in its thread's unreported scopes, and each frame holds just what was due. So are details, of which
-    /// each frame tells just those that are new, and of all that are known where that was wanted. Refused only with `Memory`,
-    /// before any command has run.
+    /// Runs commands in order, and returns one reply for each. Each accepted scope is then in exactly one place: an emitted
+    /// frame, what is due for the next one, or its thread's unreported scopes. Each frame holds exactly what was due, and lists
+    /// exactly the details that are new in it, and all known ones if a snapshot was requested.
+    ///
+    /// Fails only with `Memory`, before any command has run.
     pub fn run(&mut self, commands: &[Command]) -> Result<Vec<Reply>>
         ensures run { IfOk result (λ replies.
             Records self.old self.new commands.now replies.items) }
-        // What a frame tells of has ids.
+        // All details that a frame lists have ids.
         ensures ids { IfOk result (λ replies. All HasIds replies.items) }
         ensures err { OnErr result (self.new ≡ self.old) }
         ensures memory { IfErr result (λ e. e ≡ Error.Memory) }
     {
-        // For the proof alone: each collector says of itself that what it collects is honest.
+        // For the proof alone: what the collector holds is honest.
         let _ = self.collector.totals();
         let mut replies = Vec::with_capacity(self.alloc, commands.len())?;
         for command in commands {
@@ -119,7 +126,7 @@ impl Session {
         Ok(replies)
     }
 
-    /// One command.
+    /// Runs one command.
     fn serve(&mut self, command: &Command) -> Reply
         ensures continues { Continues self.old self.new command.now result }
         ensures ids { HasIds result }
@@ -288,7 +295,7 @@ impl Session {
     }
 }
 
-/// The details of scopes with these names. Refused only with `Memory`.
+/// Makes the details of scopes with these names. Fails only with `Memory`.
 fn user_scopes(alloc: Global, names: &[String]) -> Result<Vec<ScopeDetails>>
     ensures ok { IfOk result (λ details. details_seen details.items ≡ user_details names.now) }
     ensures err { IfErr result (λ e. e ≡ Error.Memory) }

@@ -22,7 +22,7 @@ pub record Details : Type 0 where
   pub file_path : List ℕ
   pub line_nr : ℕ
 
--- details are stored as the tuple of their fields
+-- the encoding of details for contracts: the tuple of their fields
 abbrev pub details_code : Coded Details
 details_code =
     code_by (Option ℕ × (Option (List ℕ) × (List ℕ × (List ℕ × ℕ))))
@@ -50,23 +50,23 @@ details_of d = record {
 abbrev pub details_seen : List ScopeDetails → List Details
 details_seen ds = map details_of ds
 
--- the same of shared ones
+-- the same for shared details
 abbrev pub shared_details : {A : Type 0} → List (Arc ScopeDetails A) → List Details
 shared_details ds = map (λ d. details_of (arc_value d)) ds
 
--- the scope's name, or else the function's
+-- the scope's name, or the function's if it has none
 abbrev pub name_of : Details → List ℕ
 name_of d = unwrap_or d.scope_name d.function_name
 
--- details with a scope name are a named scope's
+-- details with a scope name are those of a named scope
 abbrev pub type_of : Details → ScopeType
 type_of d = if is_some d.scope_name then Named else Function
 
--- the file, and after a colon the line, where there is one
+-- the file, followed by a colon and the line if that isn't 0
 abbrev pub location_of : Details → List ℕ
 location_of d = if d.line_nr == 0 then d.file_path else d.file_path ++ (58 ∷ decimal d.line_nr)
 
--- no id and no scope name, no text, and line 0
+-- no id, no scope name, empty texts, and line 0
 abbrev pub default_details : Details
 default_details =
     record { id = None; scope_name = None; function_name = []; file_path = []; line_nr = 0 }
@@ -80,14 +80,14 @@ lacks_id d = is_none d.id
 abbrev pub AllHaveIds : List Details → Type 0
 AllHaveIds ds = All (λ d. IsSome d.id) ds
 
--- by the scope's name, none first, then by function, file and line
+-- by scope name, none first, then by function, file and line
 abbrev pub texts_cmp : Details → Details → Ordering
 texts_cmp =
     then_cmp (on (λ d. d.scope_name) (option_cmp (slice_cmp nat_cmp)))
     (then_cmp (on (λ d. d.function_name) (slice_cmp nat_cmp))
     (then_cmp (on (λ d. d.file_path) (slice_cmp nat_cmp)) (on (λ d. d.line_nr) nat_cmp)))
 
--- by the id, none first, and then by the texts and the line
+-- by id, none first, then by texts and line
 abbrev pub details_cmp : Details → Details → Ordering
 details_cmp = then_cmp (on (λ d. d.id) (option_cmp nat_cmp)) texts_cmp
 

@@ -1,4 +1,4 @@
--- One thread: its calls, its clock and what it reports.
+-- One thread: its calls, its clock and its reports.
 pub mod Calls
 pub mod ThreadProfiler
 pub mod Closing

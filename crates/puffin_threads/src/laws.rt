@@ -1,5 +1,5 @@
-//! Laws of the infos of threads, as contracts of functions that do nothing. A proof of another crate cites them by calling
-//! the function.
+//! Laws of the infos of threads. Each is the contract of a function that does nothing; a proof of another crate cites it by
+//! calling the function.
 
 ghost use Rattle.std.specs.Prelude.{ℤ, ◌≡◌, ◌<ℤ◌, IsTrue};
 ghost use Rattle.std.specs.declared.cmp.Ordering.TheVariants.{Less};
@@ -13,7 +13,7 @@ ghost use Rattle.puffin_threads.specs.Thread.Info.{Info, info_of, info_cmp, same
 use crate::thread_profiler::ThreadInfo;
 use std::hash::Hash;
 
-/// How threads are compared: by their infos alone. Equality, order and hash agree.
+/// Threads are compared by their infos alone. Equality, order and hash agree.
 pub fn threads_by_info()
     ensures order { (a b : ThreadInfo) →
         ⟦<ThreadInfo as Ord>⟧.cmp a b ≡ info_cmp (info_of a) (info_of b) }
@@ -25,8 +25,8 @@ pub fn threads_by_info()
         ⟦<ThreadInfo as Hash>⟧.hash_input a ≡ ⟦<ThreadInfo as Hash>⟧.hash_input b }
 {}
 
-/// The order of infos: those without a start first, then by the start, and then by the name's bytes. It is total, and
-/// only equal infos tie.
+/// Infos are ordered by start, those without one first, and then by the bytes of the name. The order is total, and only equal
+/// infos compare as equal.
 pub fn order_of_infos()
     ensures none_first { (a b : Info) → a.start ≡ None → (t : ℤ) → b.start ≡ Some t →
         info_cmp a b ≡ Less }

@@ -1,4 +1,4 @@
-//! What is known of scopes besides their times.
+//! The details of scopes: their ids, names and places in the code.
 
 mod collection;
 mod details;

@@ -1,4 +1,4 @@
-//! Threads that are profiled.
+//! Profilers of single threads, their clocks, and the receivers of what they record.
 
 mod any_thread;
 mod clock;

@@ -1,4 +1,4 @@
--- What a call that collects a frame hands out.
+-- What a call that collects a frame hands out and what it leaves.
 use Rattle.std.specs.Prelude.{◌≡◌, ℕ, ◌+◌, ◌<◌, List, Option, Some, None, ◌⊎◌}
 use Rattle.std.specs.FinMap as map
 use Rattle.std.specs.Arc.{arc_value}
@@ -16,7 +16,7 @@ use Rattle.puffin_frames.specs.Frame.Holding.{HaveLayout}
 use Rattle.puffin_frames.specs.Frame.Sums.{total_scopes, meta_of, IsOrdered, DurationFits}
 use Rattle.puffin_collector.specs.Collector.State.{Collected, delta_of, after_frame, after_no_frame, after_learning}
 
--- The frame holds all that is pending, as it is and not packed, under the next index. It tells of the new details, and of all that were known where that was wanted.
+-- The frame has all that is pending, unpacked, under the next index. It lists the new details, and all known ones if a snapshot was wanted.
 pub record HoldsAll (c : Collected) (frame : FrameData) : Type 0 where
   pub held : holding_of frame ≡ record { packed = None; unpacked = Some c.streams }
   pub meta : frame_meta frame ≡ meta_of c.index (map.values c.streams)
@@ -28,7 +28,7 @@ pub record HoldsAll (c : Collected) (frame : FrameData) : Type 0 where
 abbrev pub HaveNoScopes : Streams → Type 0
 HaveNoScopes streams = (i : Info) (r : Recorded) → map.get streams i ≡ Some r → r.num_scopes ≡ 0
 
--- a frame is handed out exactly where a scope is pending; without one the index alone rises
+-- a frame is handed out exactly when a scope is pending; without one only the index rises
 abbrev pub Collects : {A : Type 0} → Collected → Option (Arc FrameData A) → Collected → Type 0
 Collects old (Some frame) new =
     HoldsAll old (arc_value frame)
@@ -36,23 +36,23 @@ Collects old (Some frame) new =
     × (new ≡ after_frame old)
 Collects old None new = HaveNoScopes old.streams × (new ≡ after_no_frame old)
 
--- the frame, if there is one, tells of details with ids alone
+-- the frame, if there is one, lists only details with ids
 abbrev pub TellsIds : {A : Type 0} → Option (Arc FrameData A) → Type 0
 TellsIds None = Unit {0}
 TellsIds (Some frame) = AllHaveIds (frame_details (arc_value frame))
 
--- a beginning of details is known
+-- a prefix of the details is known
 abbrev pub KnowsSome : Collected → List Details → Collected → Type 0
 KnowsSome old ds new =
     (learnt : List Details) × Begins learnt ds × (new ≡ after_learning old learnt)
 
--- A refused call keeps all that is pending, but a beginning of the new details may be known then.
+-- A refused call keeps all that is pending; a prefix of the new details may be known.
 abbrev pub KeepsPending : Collected → Error → Collected → Type 0
 KeepsPending old e new =
     ((e ≡ IndexExhausted) × (new ≡ old))
     ⊎ ((e ≡ Memory) × KnowsSome old old.new_details new)
 
--- what is kept beside the pending streams, which are honest and have a layout: what a frame of all of them would say, and the totals
+-- what is kept beside the pending streams, which are honest and have a layout: the meta of a frame of all of them, and the totals
 pub record IsTallied (streams : Streams) (meta : FrameMeta) (reported emitted : ℕ) : Type 0 where
   pub sums : meta ≡ meta_of meta.frame_index (map.values streams)
   pub counted : reported ≡ emitted + meta.num_scopes

@@ -1,4 +1,4 @@
--- How scopes of the caller's own are registered: by their names.
+-- How a caller's own scopes are registered by name.
 use Rattle.std.specs.Prelude.{◌≡◌, ℕ, List, [], ◌∷◌, ◌++◌, Option, Some, None, ◌⊎◌}
 use Rattle.std.specs.FinMap as map
 use Rattle.puffin_data.specs.declared.error.Error.{Error}
@@ -7,11 +7,11 @@ use Rattle.puffin_threads.specs.Details.{Details, name_of, with_id}
 use Rattle.puffin_threads.specs.Details.Collection.{Collection, with_all_details}
 use Rattle.puffin_collector.specs.Collector.State.{Collected, after_adding}
 
--- the id that a collection has for the name of these details, if any
+-- the id that a collection has under the name of these details, if any
 abbrev pub known_id : Collection → Details → Option ℕ
 known_id collection d = map.get collection.by_name (name_of d)
 
--- The details that were asked for, one after the other, have these ids, and of them those are new, each under its id: a name that the collection has by then gives its id.
+-- The details that were asked for have these ids, and `new` are those registered, each with its id: a name that is already known has its known id.
 pub data Registers (collection : Collection) : List Details → List ℕ → List Details → Type 0 where
   none_asked : Registers collection [] [] []
   known_name : {asked : List Details} {ids : List ℕ} {new : List Details} (d : Details) (id : ℕ)
@@ -28,7 +28,7 @@ abbrev pub NextIsNew : Collection → List Details → Type 0
 NextIsNew collection [] = ⊥
 NextIsNew collection (d ∷ rest) = known_id collection d ≡ None
 
--- A refused call registered a beginning of what was asked for. Ids are exhausted only where one had to be drawn.
+-- A refused call registered a prefix of what was asked for. Ids are exhausted only if one had to be drawn.
 abbrev pub RegistersSome : Collection → List Details → Error → List Details → Type 0
 RegistersSome collection asked e new =
     (part rest : List Details)
@@ -37,7 +37,7 @@ RegistersSome collection asked e new =
     × Registers collection part ids new
     × ((e ≡ Memory) ⊎ ((e ≡ IdsExhausted) × NextIsNew (with_all_details collection new) rest))
 
--- what a call makes of what is collected, and what one that is refused leaves
+-- the outcome of a call, and of one that is refused
 abbrev pub Adds : Collected → List Details → List ℕ → Collected → Type 0
 Adds old asked ids new =
     (added : List Details)

@@ -1,4 +1,4 @@
--- What a profiler collects for its next frame, and what its calls make of it.
+-- What a profiler collects for its next frame, and how each call changes it.
 pub use Rattle.puffin_frames.specs.Frame.Contents.{no_scopes, reported_to}
 use Rattle.std.specs.Prelude.{◌≡◌, ℕ, ◌+◌, ◌^◌, ◌<◌, ℤ, List, [], ◌∷◌, ◌++◌, Bool, true, false, if◌then◌else◌, length, ◌⊎◌, refl}
 use Rattle.std.specs.FinMap as map
@@ -12,7 +12,7 @@ use Rattle.puffin_threads.specs.Details.Collection.{Collection, collection_code,
 use Rattle.puffin_frames.specs.Frame.Contents.{Streams, streams_code, stream_under}
 use Rattle.puffin_frames.specs.Frame.Sums.{total_bytes, total_scopes, joined_range, IsOrdered, DurationFits}
 
--- The index of the next frame, how many scopes were ever reported, how many of them were handed out in frames, and the streams that the next frame will hold; the details that it knows of scopes, those that are new in the next frame, in order, and whether the next frame is to tell of all.
+-- The index of the next frame, the numbers of scopes ever reported and handed out in frames, and the streams of the next frame; the known details, those new in the next frame, in order, and whether the next frame is to list all.
 pub record Collected : Type 0 where
   pub index : ℕ
   pub reported : ℕ
@@ -22,7 +22,7 @@ pub record Collected : Type 0 where
   pub new_details : List Details
   pub wants_all : Bool
 
--- it is stored as the tuple of its fields
+-- the encoding of this state for contracts: the tuple of its fields
 abbrev pub collected_code : Coded Collected
 collected_code =
     code_by (ℕ × (ℕ × (ℕ × (Streams × (Collection × (List Details × Bool))))))
@@ -50,39 +50,39 @@ after_report c i ds r = record c {
   new_details = c.new_details ++ ds;
 }
 
--- what is pending, with one info more, has sums of 64 bits
+-- with one info more, what is pending has sums that fit 64 bits
 pub record PendingFits (c : Collected) (r : Recorded) : Type 0 where
   pub bytes : total_bytes (map.values c.streams) + length r.bytes < 2 ^ 64
   pub scopes : total_scopes (map.values c.streams) + r.num_scopes < 2 ^ 64
   pub reported : c.reported + r.num_scopes < 2 ^ 64
 
--- the joined range of all that is pending, with one info more
+-- the joined range of all that is pending and one info more
 abbrev pub range_with : Collected → Recorded → ℤ × ℤ
 range_with c r = joined_range (r ∷ map.values c.streams)
 
--- that range is too long: it isn't reversed, and its duration is no i64
+-- the range is too long: it isn't reversed, and its duration doesn't fit i64
 abbrev pub IsTooLong : ℤ × ℤ → Type 0
 IsTooLong range = IsOrdered range × ¬ DurationFits range
 
--- what is pending under an info and one more under it have bytes in unlike forms
+-- what is pending under an info, and one more under it, have bytes in unlike forms
 abbrev pub IsUnlike : Collected → Info → Recorded → Type 0
 IsUnlike c i r = AreUnlike (stream_under c.streams i) r
 
--- why a report is refused whose details have ids and whose form is that of what is pending: the first that applies
+-- why a report is refused whose details have ids and whose form is that of what is pending: the first cause that applies
 abbrev pub IsSumRefusal : Collected → Recorded → Error → Type 0
 IsSumRefusal c r e =
     ((e ≡ TooLarge) × ¬ PendingFits c r)
     ⊎ ((e ≡ RangeTooLong) × PendingFits c r × IsTooLong (range_with c r))
     ⊎ ((e ≡ Memory) × PendingFits c r × ¬ IsTooLong (range_with c r))
 
--- Why a report is refused: the first that applies.
+-- Why a report is refused: the first cause that applies.
 abbrev pub IsReportRefusal : Collected → Info → List Details → Recorded → Error → Type 0
 IsReportRefusal c i ds r e =
     ((e ≡ MissingId) × ¬ AllHaveIds ds)
     ⊎ ((e ≡ UnlikeForms) × AllHaveIds ds × IsUnlike c i r)
     ⊎ (AllHaveIds ds × (¬ IsUnlike c i r) × IsSumRefusal c r e)
 
--- what a call of `report` that isn't refused makes of it, and what one that is refused leaves
+-- the outcome of an accepted report, and of a refused one
 abbrev pub AcceptsReport : Collected → Info → List Details → Recorded → Collected → Type 0
 AcceptsReport old i ds r new =
     (new ≡ after_report old i ds r)
@@ -100,11 +100,11 @@ RefusesReport old i ds r e new = IsReportRefusal old i ds r e × (new ≡ old)
 abbrev pub all_details : Collection → List Details
 all_details collection = map.values collection.by_id
 
--- what a frame tells of scopes: the new details, and then all that were known where that is wanted
+-- the details that a frame lists: the new ones, and then all known ones if a snapshot is wanted
 abbrev pub delta_of : Collection → List Details → Bool → List Details
 delta_of collection new wanted = new ++ (if wanted then all_details collection else [])
 
--- after a frame that held all that was pending, and after a call that found no scope
+-- after a frame with all that was pending, and after a call that found no scope
 abbrev pub after_frame : Collected → Collected
 after_frame c = record c {
   index = c.index + 1;
@@ -118,7 +118,7 @@ after_frame c = record c {
 abbrev pub after_no_frame : Collected → Collected
 after_no_frame c = record c { index = c.index + 1 }
 
--- after a call that learnt of these details and was refused, and after one that wants all details in the next frame
+-- after a prefix of details became known, and after a snapshot was asked for
 abbrev pub after_learning : Collected → List Details → Collected
 after_learning c learnt = record c { collection = with_all_details c.collection learnt }
 
@@ -127,7 +127,7 @@ after_wanting c = record c { wants_all = true }
 
 -- ---- scopes of the caller's own
 
--- after these details were learnt, which are new in the next frame
+-- after these details became known, which are new in the next frame
 abbrev pub after_adding : Collected → List Details → Collected
 after_adding c new =
     record c { collection = with_all_details c.collection new; new_details = c.new_details ++ new }

@@ -1,4 +1,4 @@
--- What is tested of a report before it is taken in.
+-- The tests of a report before it is added.
 use Rattle.std.specs.Prelude.{◌≡◌, ◌+◌, length, ◌⊎◌}
 use Rattle.std.specs.FinMap as map
 use Rattle.puffin_data.specs.declared.error.Error.{Error}
@@ -9,7 +9,7 @@ use Rattle.puffin_frames.specs.declared.frame_data.meta.FrameMeta.{FrameMeta}
 use Rattle.puffin_frames.specs.Frame.Sums.{total_bytes, total_scopes, IsOrdered, DurationFits}
 use Rattle.puffin_collector.specs.Collector.State.{Collected, range_with, IsUnlike}
 
--- what a frame of all that is pending, with one info more, would say
+-- the meta of a frame of all that is pending and one info more
 pub record AddsUp (c : Collected) (more : FrameMeta) (r : Recorded) : Type 0 where
   pub frame_index : more.frame_index ≡ c.index
   pub num_bytes : more.num_bytes ≡ total_bytes (map.values c.streams) + length r.bytes
@@ -17,7 +17,7 @@ pub record AddsUp (c : Collected) (more : FrameMeta) (r : Recorded) : Type 0 whe
   pub range : more.range_ns ≡ range_with c r
   pub duration : IsOrdered more.range_ns → DurationFits more.range_ns
 
--- unlike forms, or else this cause
+-- `UnlikeForms` if the forms differ, else this cause
 abbrev pub IsFirstCause : Collected → Info → Recorded → Error → Error → Type 0
 IsFirstCause c i r cause e =
     ((e ≡ UnlikeForms) × IsUnlike c i r) ⊎ ((e ≡ cause) × ¬ IsUnlike c i r)

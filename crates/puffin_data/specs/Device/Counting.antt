@@ -1,4 +1,4 @@
--- What contracts see of a reader or writer whose failures are counted.
+-- The device and the failure count of a `Counted`.
 use Rattle.std.specs.Prelude.{ℕ}
 use Rattle.puffin_data.specs.declared.data.device.Counted.{Counted}
 
@@ -6,6 +6,6 @@ use Rattle.puffin_data.specs.declared.data.device.Counted.{Counted}
 abbrev pub counted_device : {D : Type 0} → Counted D → D
 counted_device counted = counted.device
 
--- how many of its calls failed
+-- the number of its failed calls
 abbrev pub failed_calls : {D : Type 0} → Counted D → ℕ
 failed_calls counted = counted.faults

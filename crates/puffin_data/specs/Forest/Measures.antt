@@ -1,25 +1,25 @@
--- The measures of a forest.
+-- The measures of a forest: number of scopes, height, least start, greatest stop.
 use Rattle.std.specs.Prelude.{ℕ, ◌+◌, ◌-◌, ◌^◌, max, ℤ, pos, negsuc}
 use Rattle.std.specs.Int.{int_min, int_max}
 use Rattle.puffin_data.specs.Forest.{Forest, empty, node}
 
--- how many scopes there are
+-- the number of scopes
 abbrev pub scope_count : Forest → ℕ
 scope_count empty = 0
 scope_count (node s children others) = 1 + scope_count children + scope_count others
 
--- how many scopes stand one within the other, at most
+-- the greatest nesting depth
 abbrev pub height : Forest → ℕ
 height empty = 0
 height (node s children others) = max (1 + height children) (height others)
 
--- the least start of all scopes, and i64's greatest number where there is none
+-- the least start of all scopes, or i64's greatest number without scopes
 abbrev pub least_start : Forest → ℤ
 least_start empty = pos (2 ^ 63 - 1)
 least_start (node s children others) =
     int_min s.start (int_min (least_start children) (least_start others))
 
--- the greatest stop of all scopes, and i64's least number where there is none
+-- the greatest stop of all scopes, or i64's least number without scopes
 abbrev pub greatest_stop : Forest → ℤ
 greatest_stop empty = negsuc (2 ^ 63 - 1)
 greatest_stop (node s children others) =

@@ -1,4 +1,4 @@
--- Streams with scopes that are begun and not ended.
+-- Streams some of whose scopes are begun and not yet ended.
 use Rattle.std.specs.Prelude.{ℕ, ◌+◌, ◌-◌, ◌^◌, ◌<◌, ◌≤◌, ℤ, FitsSigned, List, [], ◌∷◌, ◌++◌, length, take, drop}
 use Rattle.byteorder.specs.Endian.{little_bytes}
 use Rattle.std.specs.List.{All}
@@ -9,36 +9,36 @@ use Rattle.puffin_data.specs.Forest.{Forest, IsForest, empty, node, append}
 use Rattle.puffin_data.specs.Forest.Spelling.{spelling, begin_bytes, end_bytes, size_offset}
 use Rattle.puffin_data.specs.Forest.Tour.{Event, Open, tour}
 
--- the bytes after the end of a scope whose size stands at this place: the number of bytes after the size is written over it, and the end behind all
+-- the bytes after ending the scope whose size is at this place: the number of bytes after the size overwrites it, and the end comes last
 abbrev pub ended_bytes : (bytes : List ℕ) → (place : ℕ) → (stop : ℤ) → List ℕ
 ended_bytes bytes place stop =
     (take place bytes ++ (little_bytes 8 (length bytes - (place + 8)) ++ drop (place + 8) bytes))
     ++ end_bytes stop
 
--- an open scope, and the closed scopes that stand before it beside it
+-- an open scope, and the closed scopes before it within the same parent
 pub record Opened : Type 0 where
   pub before : Forest
   pub id : ℕ
   pub start : ℤ
   pub text : List ℕ
 
--- The bytes up to the children of the innermost open scope, which stands first in the list. Their sizes are unfinished.
+-- The bytes up to the children of the innermost open scope, which is the first in the list. The sizes are unfinished.
 abbrev pub opening_bytes : Form → List Opened → List ℕ
 opening_bytes form [] = []
 opening_bytes form (o ∷ outer) =
     opening_bytes form outer
     ++ (spelling form o.before ++ begin_bytes form o.id o.start o.text (2 ^ 64 - 1))
 
--- the bytes of a stream with these open scopes, and what is closed in the innermost of them
+-- the bytes of a stream with these open scopes, and with these closed ones within the innermost
 abbrev pub open_spelling : Form → List Opened → Forest → List ℕ
 open_spelling form opened closed = opening_bytes form opened ++ spelling form closed
 
--- where the size of the innermost open scope stands
+-- the offset of the innermost open scope's size
 abbrev pub size_place : Form → Opened → List Opened → ℕ
 size_place form o outer =
     length (opening_bytes form outer ++ spelling form o.before) + size_offset form o.text
 
--- the closed scopes that then stand beside an open scope that ends, itself the last: closed are those within it
+-- the closed scopes beside an open scope once it ends, itself the last; `closed` are those within it
 abbrev pub with_ended : Opened → (closed : Forest) → (stop : ℤ) → Forest
 with_ended o closed stop =
     append o.before (
@@ -49,7 +49,7 @@ abbrev pub opening_word : List Opened → List Event
 opening_word [] = []
 opening_word (o ∷ outer) = opening_word outer ++ (tour o.before ++ (Open o.id o.text o.start ∷ []))
 
--- the events of such a stream
+-- the events of the stream that `open_spelling` gives
 abbrev pub open_word : List Opened → Forest → List Event
 open_word opened closed = opening_word opened ++ tour closed
 

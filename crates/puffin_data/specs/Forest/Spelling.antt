@@ -1,4 +1,4 @@
--- The one spelling of each forest in each form. Numbers have their lowest byte first.
+-- The spelling of a forest: its one list of bytes in each form. Numbers are little-endian.
 use Rattle.std.specs.Prelude.{◌≡◌, ℕ, ◌+◌, ℤ, List, [], ◌∷◌, ◌++◌, length}
 use Rattle.std.specs.Int.{w64, cast_unsigned}
 use Rattle.byteorder.specs.Endian.{little_bytes}
@@ -14,18 +14,18 @@ begin_mark = 40
 abbrev pub end_mark : ℕ
 end_mark = 41
 
--- how many bytes of a scope's beginning stand before its text's length
+-- the number of bytes before a scope's text length
 abbrev pub front_size : ℕ
 front_size = 13
 
--- how many stand before the number of bytes of its children, and how many there are with that number
+-- the number of bytes before the size of a scope's children, and with that size
 abbrev pub size_offset : Form → List ℕ → ℕ
 size_offset form text = front_size + text_room form text
 
 abbrev pub head_size : Form → List ℕ → ℕ
 head_size form text = 8 + size_offset form text
 
--- how many bytes a scope's end has
+-- the number of bytes of a scope's end
 abbrev pub end_size : ℕ
 end_size = 9
 
@@ -33,14 +33,14 @@ end_size = 9
 abbrev pub time_bytes : ℤ → List ℕ
 time_bytes t = little_bytes 8 (cast_unsigned w64 t)
 
--- what stands before a scope's children: `(`, id, start, the text, and the number of bytes of the children
+-- the bytes before a scope's children: `(`, id, start, text, and the size of the children
 unfoldable pub begin_bytes : (form : Form) → (id : ℕ) → (start : ℤ) → (text : List ℕ) → (size : ℕ) →
     List ℕ
 begin_bytes form id start text size =
     begin_mark
     ∷ (little_bytes 4 id ++ (time_bytes start ++ (text_layout form text ++ little_bytes 8 size)))
 
--- what stands after them: `)` and stop
+-- the bytes after them: `)` and the stop
 unfoldable pub end_bytes : (stop : ℤ) → List ℕ
 end_bytes stop = end_mark ∷ time_bytes stop
 

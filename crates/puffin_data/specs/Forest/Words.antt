@@ -5,37 +5,37 @@ use Rattle.puffin_data.specs.declared.data.form.Form.{Form}
 use Rattle.puffin_data.specs.Forest.Spelling.{end_size, head_size}
 use Rattle.puffin_data.specs.Forest.Tour.{Event, Open, Close}
 
--- how many bytes its scopes take
+-- the number of bytes of its scopes
 abbrev pub word_size : Form → List Event → ℕ
 word_size form [] = 0
 word_size form (Open id text start ∷ word) = head_size form text + word_size form word
 word_size form (Close stop ∷ word) = end_size + word_size form word
 
--- how many scopes open
+-- the number of scopes that open
 abbrev pub num_begun : List Event → ℕ
 num_begun [] = 0
 num_begun (Open id text start ∷ word) = 1 + num_begun word
 num_begun (Close stop ∷ word) = num_begun word
 
--- how many scopes are open after the word, where n were open before
+-- the number of open scopes after the word, if n are open before
 abbrev pub open_after : ℕ → List Event → ℕ
 open_after n [] = n
 open_after n (Open id text start ∷ word) = open_after (n + 1) word
 open_after n (Close stop ∷ word) = open_after (n - 1) word
 
--- how many scopes are open at once, at most, where n were open before
+-- the greatest number of scopes open at once, if n are open before
 abbrev pub most_open : ℕ → List Event → ℕ
 most_open n [] = n
 most_open n (Open id text start ∷ word) = max n (most_open (n + 1) word)
 most_open n (Close stop ∷ word) = max n (most_open (n - 1) word)
 
--- the least start of all scopes that open, and i64's greatest number where there is none
+-- the least start of all scopes that open, or i64's greatest number without any
 abbrev pub least_open : List Event → ℤ
 least_open [] = pos (2 ^ 63 - 1)
 least_open (Open id text start ∷ word) = int_min start (least_open word)
 least_open (Close stop ∷ word) = least_open word
 
--- the greatest stop of all scopes that close, and i64's least number where there is none
+-- the greatest stop of all scopes that close, or i64's least number without any
 abbrev pub greatest_close : List Event → ℤ
 greatest_close [] = negsuc (2 ^ 63 - 1)
 greatest_close (Open id text start ∷ word) = greatest_close word

@@ -1,11 +1,11 @@
--- The code's scopes as they were read: the same without where their texts lie in memory.
+-- The scopes that a reader returns, without the addresses of their texts.
 use Rattle.std.specs.Prelude.{◌≡◌, ℕ, ℤ, List, [], ◌∷◌, ◌++◌, map, Option, Some, None, Result, Ok, Err}
 use Rattle.puffin_data.specs.declared.error.Error.{Error}
 use Rattle.puffin_data.specs.declared.data.record.Scope.{Scope}
 use Rattle.puffin_data.specs.declared.data.record.ScopeRecord.{ScopeRecord}
 use Rattle.puffin_data.specs.Reader.{ReadScope, Place, next_read, ReaderGives}
 
--- a record without where its text lies in memory
+-- a record, apart from the place of its text in memory
 pub record SeenRecord : Type 0 where
   pub start : ℤ
   pub duration : ℤ
@@ -35,19 +35,19 @@ item_seen None = None
 item_seen (Some (Ok s)) = Some (Ok (scope_seen s))
 item_seen (Some (Err fault)) = Some (Err fault)
 
--- one step of a reader, from a place to a place
+-- one step of a reader, from one place to the next
 pub record IsNextRead (from : Place) (item : Option (Result Scope Error)) (to : Place) :
     Type 0 where
   pub same_form : to.form ≡ from.form
   pub same_bytes : to.bytes ≡ from.bytes
   pub next : (item_seen item, to.at) ≡ next_read from
 
--- these scopes, and nothing else, are read from a place on
+-- a reader at this place returns exactly these scopes
 abbrev pub ReadsScopes : Place → List Scope → Type 0
 ReadsScopes from scopes =
     ReaderGives from.form from.bytes from.at (map (λ s. Ok s) (map scope_seen scopes))
 
--- some scopes are read from a place on, and then this fault
+-- a reader at this place returns some scopes, and then this fault
 abbrev pub ReadsFault : Place → Error → Type 0
 ReadsFault from fault =
     (scopes : List ReadScope)

@@ -1,4 +1,4 @@
--- A form as a flag, which is how packets store it.
+-- A form as the flag that packets store.
 use Rattle.std.specs.Prelude.{◌≡◌, Bool, true, false, refl}
 use Rattle.std.specs.Coded.{Coded, code_by, coded_bool}
 use Rattle.puffin_data.specs.declared.data.form.Form.{Form}

@@ -1,11 +1,11 @@
--- The length of a text, by form: its bytes, its limits, and what stands at the front of a region.
+-- The length of a text in each form: its layout, its limits, and how it is read.
 use Rattle.std.specs.Prelude.{ℕ, ◌+◌, ◌-◌, ◌*◌, ◌/◌, ◌%◌, List, [], ◌∷◌, ◌++◌, length, nat_lt, nat_le, ◌==◌, ◌||◌, if◌then◌else◌, Result, Ok, Err}
 use Rattle.puffin_data.specs.declared.error.Error.{Error}
 use Rattle.puffin_data.specs.declared.error.Error.TheVariants.{PrematureEnd, InvalidStream}
 use Rattle.puffin_data.specs.declared.data.form.Form.{Form}
 use Rattle.puffin_data.specs.declared.data.form.Form.TheVariants.{Short, Long}
 
--- how many bytes a stored text may have, and how many of a text are written
+-- the most bytes of a stored text that is read, and of a text that is written
 abbrev pub stored_limit : Form → ℕ
 stored_limit Short = 255
 stored_limit Long = 16383
@@ -14,32 +14,32 @@ abbrev pub text_limit : Form → ℕ
 text_limit Short = 127
 text_limit Long = 16383
 
--- One byte; or 7 bits in each byte, the lowest first, and 128 added to a byte that another follows.
+-- One byte; or 7 bits in each byte, the lowest first, with 128 added to a byte that another follows.
 unfoldable pub length_layout : Form → ℕ → List ℕ
 length_layout Short n = n ∷ []
 length_layout Long n = if nat_lt n 128 then n ∷ [] else (128 + n % 128) ∷ (n / 128) ∷ []
 
--- a text behind its length
+-- a text's length, and the text
 abbrev pub text_layout : Form → List ℕ → List ℕ
 text_layout form text = length_layout form (length text) ++ text
 
--- what the second byte of a length makes of the first: neither 0 nor one that another follows
+-- a length with its second byte, which is neither 0 nor one that another follows
 abbrev pub with_second_group : ℕ → List ℕ → Result (ℕ × ℕ) Error
 with_second_group low [] = Err PrematureEnd
 with_second_group low (high ∷ rest) =
     if (high == 0) || nat_le 128 high then Err InvalidStream else Ok (low + 128 * high, 2)
 
--- the length at the front of a region, and how many bytes it takes there; or the fault
+-- the length at the front of a region, with the number of bytes that it takes; or the fault
 unfoldable pub length_at : Form → List ℕ → Result (ℕ × ℕ) Error
 length_at form [] = Err PrematureEnd
 length_at Short (b ∷ rest) = Ok (b, 1)
 length_at Long (b ∷ rest) = if nat_lt b 128 then Ok (b, 1) else with_second_group (b - 128) rest
 
--- the length and how many bytes it takes, where there is one
+-- the length and the number of bytes that it takes, or (0, 1) for a fault
 abbrev pub length_or_none : Result (ℕ × ℕ) Error → ℕ × ℕ
 length_or_none (Ok read) = read
 length_or_none (Err fault) = (0, 1)
 
--- how many bytes a text takes with its length
+-- the number of bytes that a text takes with its length
 abbrev pub text_room : Form → List ℕ → ℕ
 text_room form text = length (length_layout form (length text)) + length text

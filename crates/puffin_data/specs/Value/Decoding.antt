@@ -1,4 +1,4 @@
--- What stands at the front of bytes: a value and the bytes after it, or nothing.
+-- Reading a value at the front of bytes: the value and the bytes after it, or nothing.
 use Rattle.std.specs.Prelude.{ℕ, zero, suc, ◌/◌, ◌%◌, ◌^◌, ℤ, pos, negsuc, Bool, true, false, List, [], ◌∷◌, length, take, drop, Option, Some, None, nat_lt, ◌==◌, if◌then◌else◌}
 use Rattle.std.specs.Str.{is_utf8}
 use Rattle.byteorder.specs.Endian.{little_number}
@@ -9,14 +9,14 @@ abbrev pub ◌>>=◌ : {A B : Type 0} → Option A → (A → Option B) → Opti
 (Some x) >>= f = f x
 None >>= f = None
 
--- what a reading gives where a test of its value holds
+-- what a reading gives if its value passes a test
 abbrev pub with_test : {A : Type 0} → (A → Bool) → (List ℕ → Option (A × List ℕ)) → List ℕ →
     Option (A × List ℕ)
 with_test test read bytes = do
   a ← read bytes
   if test a.0 then Some a else None
 
--- the same value in another form
+-- what a reading gives, with the value converted
 abbrev pub seen_as : {A B : Type 0} → (A → B) → (List ℕ → Option (A × List ℕ)) → List ℕ →
     Option (B × List ℕ)
 seen_as form read bytes = do
@@ -27,7 +27,7 @@ abbrev pub byte_at : List ℕ → Option (ℕ × List ℕ)
 byte_at [] = None
 byte_at (b ∷ rest) = Some (b, rest)
 
--- a number of so many bytes that has no shorter spelling
+-- a number of `width` bytes that has no shorter layout
 unfoldable pub wide_at : ℕ → ℕ → List ℕ → Option (ℕ × List ℕ)
 wide_at width least bytes =
     if nat_lt (length bytes) width then None
@@ -106,7 +106,7 @@ items_at read bytes = do
   n ← number_at bytes
   times_at read n.0 n.1
 
--- the value, where it takes all of the bytes
+-- the value, if it takes all of the bytes
 abbrev pub whole : {A : Type 0} → (List ℕ → Option (A × List ℕ)) → List ℕ → Option A
 whole read bytes = do
   a ← read bytes

@@ -1,11 +1,11 @@
--- The bytes of the values that a packet holds. Numbers have their lowest byte first.
+-- The layouts of values: numbers, flags, options, texts, lists. Numbers are little-endian.
 use Rattle.std.specs.Prelude.{◌≡◌, ℕ, ◌+◌, ◌*◌, ◌<◌, ◌^◌, ◌↔◌, ℤ, pos, negsuc, FitsSigned, Bool, true, List, [], ◌∷◌, ◌++◌, length, get_or, Option, Some, None, nat_lt, if◌then◌else◌}
 use Rattle.std.specs.List.{flat_map, AllByRecursion}
 use Rattle.std.specs.Int.{w64}
 use Rattle.std.specs.Str.{is_utf8}
 use Rattle.byteorder.specs.Endian.{little_bytes}
 
--- each item is a byte
+-- each number of the list is a byte
 abbrev pub IsBytes : List ℕ → Type 0
 IsBytes bytes = (i : ℕ) → get_or bytes i 0 < 256
 
@@ -14,7 +14,7 @@ IsBytes bytes = (i : ℕ) → get_or bytes i 0 < 256
 abbrev pub byte : ℕ → List ℕ
 byte n = n ∷ []
 
--- the bytes before a number of two, four and eight bytes; a number below the first is a byte of its own
+-- the bytes before a number of two, four and eight bytes; a number below the first is itself one byte
 abbrev pub two_bytes_mark : ℕ
 two_bytes_mark = 251
 
@@ -24,7 +24,7 @@ four_bytes_mark = 252
 abbrev pub eight_bytes_mark : ℕ
 eight_bytes_mark = 253
 
--- the shortest spelling
+-- the shortest layout
 unfoldable pub number : ℕ → List ℕ
 number n =
     if nat_lt n two_bytes_mark then n ∷ []
@@ -48,7 +48,7 @@ abbrev pub optional : {A : Type 0} → (A → List ℕ) → Option A → List �
 optional layout None = 0 ∷ []
 optional layout (Some a) = 1 ∷ layout a
 
--- bytes or a text, behind their length
+-- the length of some bytes or of a text, and these
 abbrev pub block : List ℕ → List ℕ
 block bytes = number (length bytes) ++ bytes
 
@@ -56,7 +56,7 @@ block bytes = number (length bytes) ++ bytes
 abbrev pub pair : {A B : Type 0} → (A → List ℕ) → (B → List ℕ) → A × B → List ℕ
 pair first second p = first p.0 ++ second p.1
 
--- A list, or a map as the list of its pairs, behind the number of its items.
+-- The number of a list's items, and the items; a map is the list of its pairs.
 abbrev pub items : {A : Type 0} → (A → List ℕ) → List A → List ℕ
 items layout xs = number (length xs) ++ flat_map layout xs
 
@@ -87,16 +87,16 @@ IfAny fits (Some a) = fits a
 abbrev pub AreItems : {A : Type 0} → (A → Type 0) → List A → Type 0
 AreItems fits xs = (length xs < 2 ^ 64) × AllByRecursion fits xs
 
--- each value of the type
+-- every value of the type
 abbrev pub IsAny : {A : Type 0} → A → Type 0
 IsAny a = Unit {0}
 
--- any two values with a layout have different ones, and neither begins the other
+-- of two different values with a layout, neither layout begins the other
 abbrev pub NoneBeginsAnother : {A : Type 0} → (A → Type 0) → (A → List ℕ) → Type 0
 NoneBeginsAnother {A = A} fits layout =
     (a b : A) (x y : List ℕ) → fits a → fits b → layout a ++ x ≡ layout b ++ y → (a ≡ b) × (x ≡ y)
 
--- A reading reads layouts and nothing else: it gives a value, and the bytes after it, exactly where the value's layout stands before these.
+-- A reading reads exactly the layouts: it gives a value, and the bytes after it, if and only if the value's layout comes before these.
 abbrev pub ReadsLayouts : {A : Type 0} → (A → Type 0) → (A → List ℕ) →
     (List ℕ → Option (A × List ℕ)) → Type 0
 ReadsLayouts {A = A} fits layout read =

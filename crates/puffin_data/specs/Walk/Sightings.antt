@@ -1,4 +1,4 @@
--- What the code's reading of a scope shows: the same without where the text lies in memory.
+-- What a read scope shows, without the address of its text.
 use Rattle.puffin_data.specs.declared.data.scope.Sighting.{Sighting}
 use Rattle.puffin_data.specs.Walk.Reading.{Found}
 

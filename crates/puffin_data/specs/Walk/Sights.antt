@@ -5,24 +5,24 @@ use Rattle.puffin_data.specs.Forest.{Span, Forest, empty, node}
 use Rattle.puffin_data.specs.Walk.Reading.{Found}
 use Rattle.puffin_data.specs.Walk.{IsSoundAt}
 
--- a scope, and the scopes that it stands within, the outermost first
+-- a scope, and the scopes that it is nested in, the outermost first
 pub record Nested : Type 0 where
   pub around : List Span
   pub span : Span
 
--- The scopes of a forest that stands within others, in the order of a walk: each, then its children, then its next sibling.
+-- The scopes of a forest that is nested in others, in the order of a walk: each scope, its children, its next sibling.
 abbrev pub nested_in : List Span → Forest → List Nested
 nested_in around empty = []
 nested_in around (node s children others) =
     record { around = around; span = s }
     ∷ (nested_in (around ++ (s ∷ [])) children ++ nested_in around others)
 
--- a scope, and where it stands
+-- a scope and its place
 pub record Sight : Type 0 where
   pub place : ℕ
   pub scope : Nested
 
--- The sound scopes of a region that stands within others, from p on: where one stands at p, that, then those of its children, then those from its next sibling on.
+-- The sound scopes of a region that is nested in others, from p on: if one is at p, then that one, those of its children, and those from its next sibling on.
 pub data Sees (form : Form) (bytes : List ℕ) : List Span → ℕ → ℕ → List Sight → Type 0 where
   no_sight : {around : List Span} {p e : ℕ} → ((s : Found) → IsSoundAt form bytes p e s → ⊥) →
       Sees form bytes around p e []
@@ -37,6 +37,6 @@ pub data Sees (form : Form) (bytes : List ℕ) : List Span → ℕ → ℕ → L
 abbrev pub scopes_of : List Sight → List Nested
 scopes_of sights = map (λ s. s.scope) sights
 
--- those that stand before a place
+-- those before a place
 abbrev pub before : ℕ → List Sight → List Sight
 before place sights = filter (λ s. nat_lt s.place place) sights

@@ -1,4 +1,4 @@
--- What a walk with a visitor comes to. A visitor in one state takes scopes, in their order, and is in another state then.
+-- A walk with a visitor: which scopes the visitor takes, and where the walk stops.
 use Rattle.std.specs.Prelude.{◌≡◌, ℕ, ◌+◌, ◌≤◌, ◌==◌, if◌then◌else◌, ◌⊎◌, List, [], ◌∷◌, ◌++◌, length, slice_index}
 use Rattle.puffin_data.specs.declared.data.form.Form.{Form}
 use Rattle.puffin_data.specs.declared.error.Error.{Error}
@@ -9,7 +9,7 @@ use Rattle.puffin_data.specs.Walk.Sights.{Nested, nested_in, Sight, Sees, scopes
 
 -- ---- one scope
 
--- A visitor that keeps w of the scope around one takes it, and keeps x of it.
+-- A visitor that keeps w for the parent takes a scope, and keeps x for it.
 abbrev pub Entering : {V W : Type 0} → (V → List Nested → V → Type 0) →
     (V → W → List Span → Type 0) → V → W → Span → W → V → Type 0
 Entering takes stands_for v w span x u =
@@ -25,7 +25,7 @@ Refusing refuses stands_for v w span cause =
 
 -- ---- all of the bytes
 
--- the bytes spell a forest, and the visitor has taken all its scopes, each of them one try
+-- the bytes spell a forest, and the visitor has taken all of its scopes, with one try for each
 pub record TakesAll (form : Form) {V : Type 0} (takes : V → List Nested → V → Type 0)
     (from to : V) (bytes : List ℕ) (tried : ℕ) : Type 0 where
   pub forest : Forest
@@ -33,7 +33,7 @@ pub record TakesAll (form : Form) {V : Type 0} (takes : V → List Nested → V 
   pub taken : takes from (nested_in [] forest) to
   pub tries : tried ≡ length (nested_in [] forest)
 
--- The first fault of the bytes is met, and the visitor has taken the sound scopes before it. These are the tries, and one more where a scope begins at the fault.
+-- The walk met the first fault, and the visitor has taken the sound scopes before it. These are the tries, and one more if a `(` is at the fault.
 pub record StopsAtFault (form : Form) {V : Type 0} (takes : V → List Nested → V → Type 0)
     (from to : V) (bytes : List ℕ) (tried : ℕ) (fault : Error) : Type 0 where
   pub place : ℕ
@@ -44,7 +44,7 @@ pub record StopsAtFault (form : Form) {V : Type 0} (takes : V → List Nested �
   pub tries : tried
       ≡ length (before place sights) + (if slice_index bytes place == begin_mark then 1 else 0)
 
--- The visitor has taken the sound scopes before one that it refuses, and no fault stands before that. These are the tries, and the one that is refused.
+-- The visitor has taken the sound scopes before one that it refuses, and no fault comes before that. The tries are these and the refused one.
 pub record StopsAtRefusal (form : Form) {V : Type 0} (takes : V → List Nested → V → Type 0)
     (refuses : V → Nested → Error → Type 0) (from : V) (bytes : List ℕ) (tried : ℕ)
     (cause : Error) : Type 0 where

@@ -1,8 +1,8 @@
--- What one round of filling a block from a device comes to.
+-- One round of filling a buffer from a device.
 use Rattle.std.specs.Prelude.{◌≡◌, ℕ, ◌<◌, ◌≤◌, List, length, take, drop, Option}
 use Rattle.std.specs.Io.KnownBytes.{Consumes, IsAtEnd}
 
--- A buffer was filled from a place on up to an end, before it is full only at the end of the device.
+-- A buffer was filled from `at` to `end`; if it isn't full, the device is at its end.
 pub record IsFilled (old new : Option (List ℕ)) (before after : List ℕ) (at end : ℕ) : Type 0 where
   pub size : length after ≡ length before
   pub front : take at after ≡ take at before

@@ -1,4 +1,4 @@
--- How a walk goes, scope by scope: what the proof of its loop stands on.
+-- A walk step by step, for the proof of its loop.
 use Rattle.std.specs.Prelude.{◌≡◌, ℕ, suc, ◌+◌, ◌-◌, ◌^◌, ◌==◌, if◌then◌else◌, max, List, length, slice_index, pos, negsuc, Option, Some, None, Result, Ok, Err, ◌⊎◌}
 use Rattle.std.specs.Int.{int_min, int_max}
 use Rattle.puffin_data.specs.declared.data.form.Form.{Form}
@@ -12,7 +12,7 @@ use Rattle.puffin_data.specs.Walk.Sightings.{found_of}
 use Rattle.puffin_data.specs.Walk.Reading.{Found}
 use Rattle.puffin_data.specs.Walk.{region, IsSoundAt, IsFaultAt}
 
--- one more try where a scope begins at the front of a region
+-- one try if a `(` is at the front of a region, else none
 abbrev pub tries_in : List ℕ → ℕ
 tries_in part = if slice_index part 0 == begin_mark then 1 else 0
 
@@ -22,12 +22,12 @@ reading_of (Ok None) = Ok None
 reading_of (Ok (Some s)) = Ok (Some (found_of s))
 reading_of (Err e) = Err e
 
--- the numbers of a walk over no scope
+-- the counts of a walk without scopes
 abbrev pub no_scope_counted : Walk
 no_scope_counted =
     record { num_scopes = 0; depth = 0; range_ns = (pos (2 ^ 63 - 1), negsuc (2 ^ 63 - 1)) }
 
--- a walk's numbers after one more scope, which stands at this depth
+-- the counts of a walk after one more scope, at this depth
 abbrev pub with_scope : Walk → ℕ → Span → Walk
 with_scope w depth s = record {
   num_scopes = w.num_scopes + 1;
@@ -35,13 +35,13 @@ with_scope w depth s = record {
   range_ns = (int_min w.range_ns.0 s.start, int_max w.range_ns.1 s.stop);
 }
 
--- where and why a walk stopped, and how many scopes it tried to read
+-- where and why a walk stopped, and its number of tries
 pub record Stop : Type 0 where
   pub place : ℕ
   pub fault : Error
   pub tries : ℕ
 
--- From place p, in the region that ends at e and stands within `level` open scopes, a walk with the numbers w so far comes to this end.
+-- From place p, in the region that ends at e and is nested in `level` open scopes, a walk with the counts w so far has this result.
 pub data WalksTo (form : Form) (bytes : List ℕ) : ℕ → Walk → ℕ → ℕ → Result Walk Stop → Type 0 where
   ends : {level : ℕ} {w : Walk} {p : ℕ} → WalksTo form bytes level w p p (Ok w)
   stops : {level : ℕ} {w : Walk} {p e : ℕ} {fault : Error} → IsFaultAt form bytes p e fault →
@@ -63,7 +63,7 @@ pub data WalksTo (form : Form) (bytes : List ℕ) : ℕ → Walk → ℕ → ℕ
       (p + s.child_end) (Ok v) →
       WalksTo form bytes level v (p + s.next_sibling) e out → WalksTo form bytes level w p e out
 
--- a walk of all the bytes came to its end, or stopped at a fault or for want of memory
+-- a walk of all bytes ended, or stopped at a fault or because memory ran out
 abbrev pub Walked : (form : Form) → List ℕ → ℕ → Walk → Type 0
 Walked form bytes tries w =
     WalksTo form bytes 0 no_scope_counted 0 (length bytes) (Ok w) × (tries ≡ w.num_scopes)

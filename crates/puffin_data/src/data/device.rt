@@ -7,17 +7,17 @@ ghost use Rattle.std.specs.Io.KnownBytes.{ReadConsumes, WriteAppends};
 use std::io;
 use std::io::{Read, Write};
 
-/// A reader that counts how many of its calls failed, so that a caller can tell a failure of the reader from one of its
-/// own. [`Counted`] makes one of any reader of std.
+/// A reader that counts its failed calls, so that a caller can tell a failure of the reader from one of its own. Wrap any
+/// reader of std in [`Counted`] to get one.
 pub trait Source {
-    /// The bytes that reads will give from here on, where they are known.
+    /// The bytes still to be read, if they are known.
     ghost remaining: { Self → Option (List ℕ) } = { λ _. None };
 
-    /// How many reads have failed.
+    /// The number of failed reads.
     ghost failures: { Self → ℕ };
 
-    /// Reads into the front of `buf`, as std's `Read` does: 0 is the end, where `buf` isn't empty. An error, an
-    /// interruption too, is one failure more.
+    /// Reads some bytes into the front of `buf`, as std's `Read` does, and returns how many. If `buf` isn't empty, 0 means the
+    /// end. Each error adds one to the failures, even an interruption.
     fn read(&mut self, buf: &mut [u8]) -> io::Result<usize>
         requires { failures self.old < 2 ^ 64 - 1 }
         ensures bound { ReadsAtMost result buf.new }
@@ -25,23 +25,24 @@ pub trait Source {
         ensures failed { failures self.new
             ≡ (if is_err result then failures self.old + 1 else failures self.old) };
 
-    /// How many reads have failed.
+    /// Returns the number of failed reads.
     fn faults(&self) -> u64
         ensures { result ≡ failures self.now };
 }
 
-/// A writer that counts how many of its calls failed. [`Counted`] makes one of any writer of std.
+/// A writer that counts its failed calls. Wrap any writer of std in [`Counted`] to get one.
 pub trait Drain {
-    /// The bytes that the writer holds, where they are known.
+    /// The bytes that the writer holds, if they are known.
     ghost contents: { Self → Option (List ℕ) } = { λ _. None };
 
-    /// How many writes have failed.
+    /// The number of failed writes.
     ghost failures: { Self → ℕ };
 
-    /// Writing these bytes in this state may take so many of them and leave that state.
+    /// Whether a write of these bytes, begun in the first state, may take that many of them and end in the second state.
     ghost takes: { Self → List ℕ → ℕ → Self → Type 0 } = { λ _ _ _ _. Unit {0} };
 
-    /// Writes some of the front of `buf`, as std's `Write` does. An error, an interruption too, is one failure more.
+    /// Writes some bytes from the front of `buf`, as std's `Write` does, and returns how many. Each error adds one to the
+    /// failures, even an interruption.
     fn write(&mut self, buf: &[u8]) -> io::Result<usize>
         requires { failures self.old < 2 ^ 64 - 1 }
         ensures bound { WritesAtMost result buf.now }
@@ -50,12 +51,17 @@ pub trait Drain {
         ensures failed { failures self.new
             ≡ (if is_err result then failures self.old + 1 else failures self.old) };
 
-    /// How many writes have failed.
+    /// Returns the number of failed writes.
     fn faults(&self) -> u64
         ensures { result ≡ failures self.now };
 }
 
-/// A reader or writer of std with its failures counted.
+/// A reader or writer of std, with the number of its failures.
+///
+/// ```
+/// let mut source = Counted::new(b"\x04\0\0\0data".as_slice());
+/// let part = read_counted_part(alloc, &mut source)?;
+/// ```
 #[derive(Drop)]
 pub struct Counted<D> {
     device: D,
@@ -65,7 +71,7 @@ pub struct Counted<D> {
 impl<D> Counted<D> {
     ghost use Rattle.puffin_data.specs.Device.Counting.{counted_device, failed_calls};
 
-    /// Counts the failures of a reader or writer from 0.
+    /// Wraps a reader or writer, with no failures so far.
     pub fn new(device: D) -> Counted<D>
         ensures device { counted_device result ≡ device }
         ensures faults { failed_calls result ≡ 0 }

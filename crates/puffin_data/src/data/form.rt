@@ -1,4 +1,4 @@
-//! How the length of a scope's text is written.
+//! How the length of a scope's text is encoded.
 
 ghost use Rattle.std.specs.Prelude.{◌≡◌, ◌≤◌, ◌<◌, ◌^◌, ◌∷◌, length, IfOk};
 ghost use Rattle.puffin_data.specs.Text.{cut_text};
@@ -9,20 +9,21 @@ ghost use Rattle.puffin_data.specs.Forest.Spelling.{head_size};
 use crate::data::scope::{BEGIN_LIMIT, FRONT_SIZE, WORD_SIZE};
 use crate::error::{Error, Result};
 
-/// The greatest length that is written in one byte in both forms.
+/// The greatest length that both forms encode in one byte.
 pub(crate) const ONE_GROUP: usize = 127;
 
-/// How the length of a scope's text is written: in one byte, or in one or two groups of 7 bits.
+/// How a stream encodes the lengths of its texts: in one byte, or in one or two groups of 7 bits.
 #[derive(Clone, Copy, Debug, PartialEq, Eq)]
 pub enum Form {
-    /// One byte. Of a text at most 127 bytes are written, and at most 255 are read.
+    /// One byte. A text is cut to 127 bytes when it is written; lengths of up to 255 are read.
     Short,
-    /// Groups of 7 bits, the lowest first, at most two of them and no more than are needed: at most 16,383 bytes.
+    /// Groups of 7 bits, the lowest first, in the shortest encoding of at most two groups. A text is cut to 16,383 bytes when
+    /// it is written, which is also the greatest length that is read.
     Long,
 }
 
 impl Form {
-    /// The most bytes of a text that are written.
+    /// Returns the greatest number of a text's bytes that are stored.
     #[inline]
     pub(crate) fn text_limit(self) -> usize
         ensures { result ≡ text_limit self }
@@ -33,7 +34,7 @@ impl Form {
         }
     }
 
-    /// The beginning of a text that is stored.
+    /// Returns the part of a text that is stored: its longest beginning within the limit that ends at a character boundary.
     #[inline]
     pub(crate) fn cut(self, text: &str) -> &str
         ensures cut { result.now ≡ cut_text self text.now }
@@ -45,7 +46,7 @@ impl Form {
         self.cut_off(text)
     }
 
-    /// The beginning of a text that has more bytes than are stored.
+    /// Cuts a text that is longer than the limit.
     #[cold]
     #[inline(never)]
     fn cut_off(self, text: &str) -> &str
@@ -56,13 +57,14 @@ impl Form {
         &text[..size]
     }
 
-    /// The most bytes that the beginning of a scope with this text takes: of a short one always the same number.
+    /// Returns an upper bound on the size of a scope's beginning with this text. It is [`BEGIN_LIMIT`] in the short form, and
+    /// in both forms for a text of up to 127 bytes.
     #[inline]
     pub fn begin_limit(self, text: &str) -> usize
         ensures most { head_size self (cut_text self text.now) ≤ result }
         ensures small { result < 2 ^ 15 }
     {
-        // A text that both forms write in one way takes no look at the form.
+        // Both forms encode a text of this length alike.
         if text.len() <= ONE_GROUP {
             return BEGIN_LIMIT;
         }
@@ -73,7 +75,7 @@ impl Form {
     }
 }
 
-/// The first byte of a text's length, and the second where there is one.
+/// Encodes the length of a text: the first byte, and the second if there is one.
 #[inline]
 #[tactic(auto, unfolding(crate::specs::Text::Lengths::length_layout))]
 pub(crate) fn groups(form: Form, text_size: usize) -> (u8, Option<u8>)
@@ -91,7 +93,10 @@ pub(crate) fn groups(form: Form, text_size: usize) -> (u8, Option<u8>)
     }
 }
 
-/// The length of a text at the front of a region, and how many bytes it takes there.
+/// Decodes the text length at the front of a region, and returns it with the number of bytes that it takes.
+///
+/// Fails with `PrematureEnd` if the region ends within it, and with `InvalidStream` if its second group is 0 or says that a
+/// third follows.
 #[inline(always)]
 #[tactic(auto, unfolding(crate::specs::Text::Lengths::length_at))]
 pub(crate) fn length_in(form: Form, region: &[u8]) -> Result<(usize, usize)>

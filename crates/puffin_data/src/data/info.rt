@@ -12,36 +12,41 @@ use crate::data::walk::Walk;
 use crate::error::{Error, NanoSecond, Result};
 use std::alloc::Global;
 
-/// A stream with what a walk over it counts. It is honest for a forest where its bytes spell that forest and its other
-/// fields are the forest's measures, as [`StreamInfo::parse`] gives them; made by hand it may say anything.
+/// A stream with the counts of its scopes. It is honest for a forest if its bytes spell that forest and its other fields are
+/// the forest's measures. [`StreamInfo::parse`] returns honest infos; one made by hand may hold any numbers.
+///
+/// ```
+/// let mut info = StreamInfo::parse(alloc, Stream::from_bytes(bytes, Form::Short))?;
+/// info.extend(&other.as_stream_into_ref())?;
+/// ```
 #[derive(Drop)]
 pub struct StreamInfo {
     /// The scopes as bytes.
     pub stream: Stream,
-    /// How many scopes there are.
+    /// The number of scopes.
     pub num_scopes: usize,
-    /// How many scopes stand one within the other, at most.
+    /// The greatest nesting depth; a scope that isn't in another has depth 1.
     pub depth: usize,
-    /// The least start and the greatest stop of all scopes, or `(i64::MAX, i64::MIN)` where there is none.
+    /// The least start and the greatest stop of all scopes, in nanoseconds, or `(i64::MAX, i64::MIN)` if there are none.
     pub range_ns: (NanoSecond, NanoSecond),
 }
 
-/// A [`StreamInfo`] with its bytes borrowed.
+/// A [`StreamInfo`] that borrows its bytes.
 #[derive(Clone, Copy)]
 pub struct StreamInfoRef<'a> {
-    /// The form of its texts.
+    /// How the lengths of the texts are encoded.
     pub form: Form,
     /// The scopes as bytes.
     pub stream: &'a [u8],
-    /// How many scopes there are.
+    /// The number of scopes.
     pub num_scopes: usize,
-    /// How many scopes stand one within the other, at most.
+    /// The greatest nesting depth; a scope that isn't in another has depth 1.
     pub depth: usize,
-    /// The least start and the greatest stop of all scopes, or `(i64::MAX, i64::MIN)` where there is none.
+    /// The least start and the greatest stop of all scopes, in nanoseconds, or `(i64::MAX, i64::MIN)` if there are none.
     pub range_ns: (NanoSecond, NanoSecond),
 }
 
-/// The least start and the greatest stop of two ranges.
+/// Joins two ranges: returns the lesser start and the greater stop.
 pub fn joined_range(
     a: (NanoSecond, NanoSecond),
     b: (NanoSecond, NanoSecond),
@@ -53,7 +58,7 @@ pub fn joined_range(
 }
 
 impl StreamInfo {
-    /// The info of no scope, for texts of the short form.
+    /// Makes an info without scopes, in the short form.
     pub fn new(alloc: Global) -> StreamInfo
         ensures honest { IsHonest result empty }
         ensures form { result.stream.form ≡ Form.Short }
@@ -61,7 +66,7 @@ impl StreamInfo {
         StreamInfo::with_form(alloc, Form::Short)
     }
 
-    /// The info of no scope, for texts of this form.
+    /// Makes an info without scopes, in this form.
     pub fn with_form(alloc: Global, form: Form) -> StreamInfo
         ensures honest { IsHonest result empty }
         ensures form { result.stream.form ≡ form }
@@ -75,12 +80,12 @@ impl StreamInfo {
         }
     }
 
-    /// Counts a stream, whose bytes have to be a forest of scopes with texts of its form. Refused as
-    /// [`Reader::walk`](crate::data::Reader::walk), and the stream is then dropped.
+    /// Walks a stream and counts its scopes. All of its bytes have to be a forest of scopes in the stream's form. Fails as
+    /// [`Reader::walk`](crate::data::Reader::walk) does, and then drops the stream.
     pub fn parse(alloc: Global, stream: Stream) -> Result<StreamInfo>
         ensures same { IfOk result (λ info. info.stream ≡ stream) }
         ensures honest { IfOk result (λ info. (f : Forest) × IsHonest info f) }
-        // Each forest is counted, unless memory runs out.
+        // Every forest is counted, unless memory runs out.
         ensures only { (f : Forest) → Spells stream.form stream.bytes f →
             MatchResult result (λ info. IsHonest info f) (λ e. e ≡ Error.Memory) }
         ensures fault { IfErr result (λ e.
@@ -96,7 +101,7 @@ impl StreamInfo {
         })
     }
 
-    /// Takes all scopes away. The stream keeps its memory.
+    /// Removes all scopes. The stream keeps its memory and its form.
     pub fn clear(&mut self)
         ensures honest { IsHonest self.new empty }
         ensures form { self.new.stream.form ≡ self.old.stream.form }
@@ -109,14 +114,14 @@ impl StreamInfo {
         self.range_ns = walk.range_ns;
     }
 
-    /// Whether both have bytes, in unlike forms.
+    /// Returns whether both infos have bytes and their forms differ. Such infos can't be joined.
     pub fn is_unlike(&self, other: &StreamInfoRef) -> bool
         ensures { (result ≡ true) ↔ AreUnlike (record_of self.now) (record_of_ref other.now) }
     {
         !self.stream.is_empty() && !other.stream.is_empty() && self.stream.form() != other.form
     }
 
-    /// The form of both together: of an info without bytes, the other's.
+    /// Returns the form that both have when joined: the other's if this info has no bytes, else its own.
     fn form_with(&self, other: &StreamInfoRef) -> Form
         ensures { result ≡ joined_form (record_of self.now) (record_of_ref other.now) }
     {
@@ -127,16 +132,16 @@ impl StreamInfo {
         }
     }
 
-    /// Appends another info's scopes. An info without bytes takes the other's form.
+    /// Appends the scopes of another info. An info without bytes takes the other's form.
     ///
-    /// Refused with `UnlikeForms` where both have bytes and their forms differ, else with `TooLarge` where the number of
-    /// scopes wouldn't fit, else with `Memory`; nothing is changed then. Within the stream's room it is never refused with
-    /// `Memory`, and takes no more of it than the bytes that are appended.
+    /// Fails with `UnlikeForms` if both have bytes and their forms differ, else with `TooLarge` if the number of scopes doesn't
+    /// fit `usize`, else with `Memory`; nothing changes then. Never fails with `Memory` if the other's bytes fit the stream's
+    /// room, and then uses no more room than they take.
     #[inline(always)]
     pub fn extend(&mut self, other: &StreamInfoRef) -> Result<()>
         ensures ok { OnOk result (
             record_of self.new ≡ joined_record (record_of self.old) (record_of_ref other.now)) }
-        // Two honest infos make an honest one.
+        // An honest info extended by an honest info is honest.
         ensures honest { OnOk result (
             (f g : Forest) → IsHonest self.old f → IsHonestRef other.now g →
             IsHonest self.new (append f g)) }
@@ -148,7 +153,7 @@ impl StreamInfo {
         ensures err { OnErr result (record_of self.new ≡ record_of self.old) }
         ensures cause { IfErr result (λ e.
             (e ≡ Error.UnlikeForms) ⊎ (e ≡ Error.TooLarge) ⊎ (e ≡ Error.Memory)) }
-        // What the room takes is appended in it.
+        // Bytes that fit the room are appended without an allocation.
         ensures succeeds { ¬ AreUnlike (record_of self.old) (record_of_ref other.now) →
             self.old.num_scopes + other.now.num_scopes < 2 ^ 64 →
             length other.now.stream.now ≤ self.old.stream.room → IsOk result }
@@ -169,7 +174,7 @@ impl StreamInfo {
         Ok(())
     }
 
-    /// A copy. Refused only with `Memory`.
+    /// Copies the info. Fails only with `Memory`.
     pub fn clone(&self) -> Result<StreamInfo>
         ensures ok { IfOk result (λ info. record_of info ≡ record_of self.now) }
         ensures err { IfErr result (λ e. e ≡ Error.Memory) }
@@ -182,7 +187,7 @@ impl StreamInfo {
         })
     }
 
-    /// The same with the bytes borrowed.
+    /// Borrows the info.
     pub fn as_stream_into_ref(&self) -> StreamInfoRef<'_>
         ensures { record_of_ref result ≡ record_of self.now }
     {

@@ -1,4 +1,4 @@
-//! Parts of so many bytes, from any reader.
+//! Reading parts of a given length from any reader.
 
 ghost use Rattle.std.specs.Prelude.{◌≡◌, ◌-◌, ◌+◌, ◌^◌, ◌<◌, ◌≤◌, ◌++◌, ◌⊎◌, ℕ, List, IfOk, IfErr, OnOk, length, take, drop};
 ghost use Rattle.std.specs.Io.KnownBytes.{Consumes, IsAtEnd};
@@ -12,7 +12,7 @@ use crate::file_error::FileError;
 use byteorder::{ByteOrder, LittleEndian};
 use std::alloc::Global;
 
-/// Reads once, into what stands behind the first `at` bytes.
+/// Reads once into `buf`, behind its first `at` bytes. Fails only with `Io`.
 fn read_behind<S: Source>(source: &mut S, buf: &mut [u8], at: usize) -> Result<usize, FileError>
     requires failures { S.failures source.old < 2 ^ 64 - 1 }
     requires at { at < length buf.old }
@@ -30,7 +30,8 @@ fn read_behind<S: Source>(source: &mut S, buf: &mut [u8], at: usize) -> Result<u
     }
 }
 
-/// Reads until a buffer is full behind its first `at` bytes, or the reader at its end. Returns where the bytes end.
+/// Reads into `buf`, behind its first `at` bytes, until it is full or the reader ends. Returns where the bytes end. Fails only
+/// with `Io`.
 fn fill_behind<S: Source>(source: &mut S, buf: &mut [u8], at: usize) -> Result<usize, FileError>
     requires failures { S.failures source.old < 2 ^ 64 - 1 }
     requires at { at ≤ length buf.old }
@@ -50,8 +51,8 @@ fn fill_behind<S: Source>(source: &mut S, buf: &mut [u8], at: usize) -> Result<u
     Ok(end)
 }
 
-/// Reads until a buffer is full or the reader at its end, and returns how many bytes came. Refused with `Io`, where a
-/// read failed; how far it read is then unspecified.
+/// Reads until `buf` is full or the reader ends, and returns how many bytes came. Fails with `Io` if a read fails; how far it
+/// read is then unspecified.
 pub fn read_up_to<S: Source>(source: &mut S, buf: &mut [u8]) -> Result<usize, FileError>
     requires { S.failures source.old < 2 ^ 64 - 1 }
     ensures size { length buf.new ≡ length buf.old }
@@ -65,7 +66,7 @@ pub fn read_up_to<S: Source>(source: &mut S, buf: &mut [u8]) -> Result<usize, Fi
     fill_behind(source, buf, 0)
 }
 
-/// Reads one byte.
+/// Reads one byte. Fails with `Truncated` at the reader's end, and with `Io` if a read fails.
 pub fn read_byte<S: Source>(source: &mut S) -> Result<u8, FileError>
     requires { S.failures source.old < 2 ^ 64 - 1 }
     ensures part { FromDevice (λ b. b) (S.remaining source.old) (S.remaining source.new) result
@@ -80,7 +81,8 @@ pub fn read_byte<S: Source>(source: &mut S) -> Result<u8, FileError>
     Ok(byte[0])
 }
 
-/// Reads a length: four bytes, the lowest first.
+/// Reads a length: four bytes, the lowest first. Fails with `Truncated` if the reader ends before, and with `Io` if a read
+/// fails.
 pub fn read_length<S: Source>(source: &mut S) -> Result<usize, FileError>
     requires { S.failures source.old < 2 ^ 64 - 1 }
     ensures part { FromDevice (λ n. n) (S.remaining source.old) (S.remaining source.new) result
@@ -96,7 +98,7 @@ pub fn read_length<S: Source>(source: &mut S) -> Result<usize, FileError>
     Ok(LittleEndian::read_u32(&four) as usize)
 }
 
-/// Reads once up to a place behind what a vector holds, and appends what came.
+/// Reads until the vector has `wanted` bytes or the reader ends, and appends what came. Fails with `Memory` or `Io`.
 pub(super) fn append_piece<S: Source>(
     source: &mut S,
     bytes: &mut Vec<u8>,
@@ -121,8 +123,9 @@ pub(super) fn append_piece<S: Source>(
     Ok(())
 }
 
-/// Reads so many bytes. Refused with `Io` where a read failed, with `Memory`, and with `Truncated` where the reader ends
-/// before; memory is asked for as the bytes come.
+/// Reads exactly `len` bytes. Allocates as the bytes come, so a false length takes little memory.
+///
+/// Fails with `Io` if a read fails, with `Truncated` if the reader ends before, and with `Memory`.
 pub fn read_part<S: Source>(alloc: Global, source: &mut S, len: usize) -> Result<Vec<u8>, FileError>
     requires { S.failures source.old < 2 ^ 64 - 1 }
     ensures part { FromDevice (λ v. v.items) (S.remaining source.old) (S.remaining source.new)
@@ -141,7 +144,7 @@ pub fn read_part<S: Source>(alloc: Global, source: &mut S, len: usize) -> Result
     Ok(bytes)
 }
 
-/// Reads a length, and that many bytes. Refused as [`read_part`] is.
+/// Reads a length as [`read_length`] does, and then that many bytes. Fails as [`read_part`] does.
 pub fn read_counted_part<S: Source>(alloc: Global, source: &mut S) -> Result<Vec<u8>, FileError>
     requires { S.failures source.old < 2 ^ 64 - 1 }
     ensures part { FromDevice (λ v. v.items) (S.remaining source.old) (S.remaining source.new)

@@ -4,13 +4,13 @@ ghost use Rattle.puffin_data.specs.Range.{is_range_at};
 
 use crate::error::NanoSecond;
 
-/// Whether a range isn't reversed and its duration fits.
+/// Returns whether a range isn't reversed and its duration fits `i64`.
 #[inline]
 pub fn is_range(range: (NanoSecond, NanoSecond)) -> bool
     ensures test { result ≡ is_range_at range.0 range.1 }
     ensures ordered { result ≡ true → range.0 ≤ℤ range.1 }
     ensures duration_fits { result ≡ true → FitsSigned w64 (range.1 -ℤ range.0) }
-    // Of a range that isn't reversed.
+    // A range that isn't reversed is refused only if it is too long.
     ensures too_long { result ≡ false → range.0 ≤ℤ range.1 → ¬ FitsSigned w64 (range.1 -ℤ range.0) }
 {
     let (start, stop) = range;

@@ -21,7 +21,7 @@ use crate::error::{Error, Result};
 use std::alloc::Global;
 use std::marker::Model;
 
-/// The text of stored bytes: their longest beginning that is UTF-8.
+/// Returns the text in stored bytes: their longest beginning that is UTF-8.
 pub fn text_of(stored: &[u8]) -> &str
     ensures { result.now ≡ text_in stored.now }
 {
@@ -31,7 +31,7 @@ pub fn text_of(stored: &[u8]) -> &str
     }
 }
 
-/// What is said of a scope that stands at a place.
+/// Converts a scope found at offset `at` into a `Scope`, whose positions are offsets into the stream.
 fn told<'s>(at: usize, found: &Sighting<'s>) -> Scope<'s>
     requires id { 0 < found.now.id }
     requires fits { FitsSigned w64 (found.now.stop -ℤ found.now.start) }
@@ -53,7 +53,7 @@ fn told<'s>(at: usize, found: &Sighting<'s>) -> Scope<'s>
     }
 }
 
-/// Reads one scope at a place of a region.
+/// Reads the scope at offset `at` of the region that ends at `end`, as [`Reader::scope_at`] does.
 fn read_at(form: Form, bytes: &[u8], at: usize, end: usize) -> Result<Option<Scope<'_>>>
     requires ordered { at ≤ end }
     requires within { end ≤ length bytes.now }
@@ -65,11 +65,15 @@ fn read_at(form: Form, bytes: &[u8], at: usize, end: usize) -> Result<Option<Sco
     }
 }
 
-/// Reads the scopes of a stream one after the other, with their texts borrowed from it.
+/// Reads the scopes of a stream one after the other. Their texts are borrowed from it.
 ///
-/// As an iterator it gives the scope that stands where the reader stands, and goes on at its next sibling. It ends at the
-/// stream's end, and without an error at a byte that isn't `(`. A fault (`PrematureEnd`, `InvalidStream` or
-/// `ScopeNeverEnded`) is given once, and then it ends. The children of a scope aren't read.
+/// As an iterator it returns the scope at its position and moves to that scope's next sibling, so it skips the children. It
+/// ends at the stream's end, and without an error at a byte that isn't `(`. A fault (`PrematureEnd`, `InvalidStream` or
+/// `ScopeNeverEnded`) is returned once, and ends it.
+///
+/// ```
+/// let scopes = Reader::from_start(&stream).read_top_scopes(alloc)?;
+/// ```
 #[derive(Drop)]
 pub struct Reader<'s> {
     form: Form,
@@ -86,7 +90,7 @@ impl<'s> Model for Reader<'s> {
 }
 
 impl<'s> Reader<'s> {
-    /// Reads from a stream's first byte.
+    /// Makes a reader at a stream's first byte.
     pub fn from_start(stream: &'s Stream) -> Reader<'s>
         ensures { result
             ≡ record { form = stream.now.form; bytes = stream.now.bytes; at = 0 } }
@@ -98,7 +102,7 @@ impl<'s> Reader<'s> {
         }
     }
 
-    /// Reads from an offset on. Refused with `InvalidOffset` where the offset is above the stream's length.
+    /// Makes a reader at an offset. Fails with `InvalidOffset` if the offset is greater than the stream's length.
     pub fn with_offset(stream: &'s Stream, offset: u64) -> Result<Reader<'s>>
         ensures ok { IfOk result (λ r.
             r ≡ record { form = stream.now.form; bytes = stream.now.bytes; at = offset }) }
@@ -115,9 +119,8 @@ impl<'s> Reader<'s> {
         })
     }
 
-    /// Reads one scope at `at` of the region that ends at `end`, which are offsets into the stream in this order. `None`
-    /// where `at` is the end or no byte `(` stands there. Refused with `PrematureEnd`, `InvalidStream` or
-    /// `ScopeNeverEnded` where no sound scope stands there.
+    /// Reads the scope at offset `at` of the region that ends at offset `end`. Returns `None` if `at` is the end or no byte `(`
+    /// is there. Fails with `PrematureEnd`, `InvalidStream` or `ScopeNeverEnded` if no sound scope is there.
     pub fn scope_at(stream: &'s Stream, at: usize, end: usize) -> Result<Option<Scope<'s>>>
         requires ordered { at ≤ end }
         requires within { end ≤ length stream.now.bytes }
@@ -126,7 +129,7 @@ impl<'s> Reader<'s> {
         read_at(stream.form(), stream.bytes(), at, end)
     }
 
-    /// All scopes that the reader gives. Refused with the fault that it gives, or with `Memory` where the vector can't grow.
+    /// Collects all scopes that the reader returns. Fails with the reader's fault, or with `Memory` if the vector can't grow.
     pub fn read_top_scopes(self, alloc: Global) -> Result<Vec<Scope<'s>>>
         ensures ok { IfOk result (λ scopes. ReadsScopes self.entry scopes.items) }
         ensures err { IfErr result (λ e. (e ≡ Error.Memory) ⊎ ReadsFault self.entry e) }
@@ -146,38 +149,40 @@ impl<'s> Reader<'s> {
         Ok(scopes)
     }
 
-    /// Goes over the whole stream, which has to be a forest of scopes, in one pass and without the call stack.
+    /// Walks the whole stream, which has to be a forest of scopes, in one pass and without recursion. The stream doesn't
+    /// change.
     ///
-    /// `tries` is set to the number of readings made at a byte `(`, also where the walk is refused. Refused with the
-    /// fault at the least place that the walk reaches (`PrematureEnd`, `InvalidStream` or `ScopeNeverEnded`), or with
-    /// `Memory` where the vector of the open regions' ends can't grow. The stream stays as it is.
+    /// Sets `tries` to the number of readings made at a byte `(`, even if the walk fails. Fails with the fault at the least
+    /// offset that the walk reaches (`PrematureEnd`, `InvalidStream` or `ScopeNeverEnded`), or with `Memory` if the vector of
+    /// the open regions' ends can't grow.
     ///
     /// ```
     /// let mut tries = 0;
     /// let walk = Reader::walk(alloc, &Stream::from(bytes), &mut tries)?;
     /// ```
     pub fn walk(alloc: Global, stream: &Stream, tries: &mut u64) -> Result<Walk>
-        // What is walked is a forest, and the numbers are the forest's.
+        // Only a forest is accepted, and the counts are its measures.
         ensures forest { IfOk result (λ w.
             (f : Forest) × Spells stream.now.form stream.now.bytes f × Counts w f) }
-        // Each forest is walked, unless memory runs out.
+        // Every forest is accepted, unless memory runs out.
         ensures only { (f : Forest) → Spells stream.now.form stream.now.bytes f →
             MatchResult result (λ w. Counts w f) (λ e. e ≡ Error.Memory) }
 
-        // Any other bytes are refused with their first fault.
+        // All other bytes are refused with their first fault.
         ensures fault { IfErr result (λ e.
             (e ≡ Error.Memory) ⊎ Refuses stream.now.form stream.now.bytes e tries.new) }
         ensures tries { IfOk result (λ w. tries.new ≡ w.num_scopes) }
         ensures few { tries.new ≤ length stream.now.bytes / 31 + 1 }
     {
-        // A count of its own stays in a register while the walk goes.
+        // A local count stays in a register during the walk.
         let mut tried = 0;
         let walk = walk_forest(alloc, stream.form(), stream.bytes(), &mut tried);
         *tries = tried;
         walk
     }
 
-    /// The number of scopes and the height of a stream, which has to be a forest of scopes. Refused as [`Reader::walk`].
+    /// Returns the number of scopes and the greatest nesting depth of a stream, which has to be a forest of scopes. Fails as
+    /// [`Reader::walk`] does.
     pub fn count_scope_and_depth(alloc: Global, stream: &Stream) -> Result<(usize, usize)>
         ensures forest { IfOk result (λ n.
             (f : Forest) × Spells stream.now.form stream.now.bytes f

@@ -1,4 +1,4 @@
-//! Scopes as a reader tells them.
+//! Scopes as a reader returns them.
 
 ghost use Rattle.std.specs.Prelude.{◌≡◌, ◌+ℤ◌, FitsSigned};
 ghost use Rattle.std.specs.Int.{w64};
@@ -6,20 +6,20 @@ ghost use Rattle.std.specs.Int.{w64};
 use crate::data::scope_id::ScopeId;
 use crate::error::NanoSecond;
 
-/// What a scope took, and its text. Start and duration add up within `i64`.
+/// A scope's times and text. The sum of start and duration fits `i64`.
 #[derive(Clone, Copy, Debug, PartialEq, Eq)]
 pub struct ScopeRecord<'s> {
     /// When the scope began, in nanoseconds.
     pub start_ns: NanoSecond,
-    /// How long it took, in nanoseconds.
+    /// How long the scope lasted, in nanoseconds.
     pub duration_ns: NanoSecond,
-    /// The text that was stored with it.
+    /// The text stored with the scope.
     pub text: &'s str,
     ghost fits: { FitsSigned w64 (start_ns +ℤ duration_ns) },
 }
 
 impl ScopeRecord<'_> {
-    /// When the scope ended, in nanoseconds.
+    /// Returns when the scope ended, in nanoseconds.
     pub fn stop_ns(&self) -> NanoSecond
         ensures { result ≡ self.now.start_ns +ℤ self.now.duration_ns }
     {
@@ -27,17 +27,17 @@ impl ScopeRecord<'_> {
     }
 }
 
-/// A scope that was read. Its positions are offsets from the stream's first byte.
+/// A scope that a reader returned. Its positions are offsets from the stream's first byte.
 #[derive(Clone, Copy, Debug, PartialEq, Eq)]
 pub struct Scope<'s> {
-    /// What stands for the scope's details.
+    /// Identifies the scope's details.
     pub id: ScopeId,
-    /// Its times and its text.
+    /// The scope's times and text.
     pub rec: ScopeRecord<'s>,
-    /// Where its first child begins, if there is one.
+    /// Where the children begin.
     pub child_begin_position: u64,
-    /// Where its last child ends.
+    /// Where the children end. If there are none, it is where they begin.
     pub child_end_position: u64,
-    /// Where its next sibling begins, if there is one.
+    /// Where the scope ends, and its next sibling begins if there is one.
     pub next_sibling_position: u64,
 }

@@ -14,35 +14,35 @@ use byteorder::{ByteOrder, LittleEndian};
 pub(crate) const SCOPE_BEGIN: u8 = b'(';
 /// The byte after a scope's children.
 pub(crate) const SCOPE_END: u8 = b')';
-/// The bytes of a scope's beginning that stand before its text's length.
+/// The size of a scope's beginning up to its text's length: the first byte, the id and the start.
 pub(crate) const FRONT_SIZE: usize = 13;
-/// The bytes of the size of a scope's children.
+/// The size of the number that gives the size of a scope's children.
 pub(crate) const WORD_SIZE: usize = 8;
-/// The most bytes of the beginning of a scope that is written in the short form.
+/// The greatest size of a scope's beginning in the short form: all bytes before its children.
 pub const BEGIN_LIMIT: usize = 149;
-/// The bytes of a scope's end.
+/// The size of a scope's end: the byte after its children, and the stop.
 pub const END_SIZE: usize = 9;
 
-/// A sound scope at the front of a region. Positions count from the scope's first byte.
+/// A sound scope at the front of a region. Its positions count from the scope's first byte.
 #[derive(Clone, Copy, Debug)]
 pub struct Sighting<'s> {
-    /// What stands for the scope's details. Not 0.
+    /// Identifies the scope's details. Never 0.
     pub id: u32,
     /// When the scope began, in nanoseconds.
     pub start: NanoSecond,
     /// When the scope ended, in nanoseconds.
     pub stop: NanoSecond,
-    /// The stored bytes of its text.
+    /// The stored bytes of the scope's text.
     pub text: &'s [u8],
-    /// Where its first child begins, if there is one.
+    /// Where the children begin.
     pub child_begin: usize,
-    /// Where its last child ends.
+    /// Where the children end. If there are none, it is where they begin.
     pub child_end: usize,
-    /// Where its next sibling begins, if there is one.
+    /// Where the scope ends, and its next sibling begins if there is one.
     pub next_sibling: usize,
 }
 
-/// The id that stands in a region.
+/// Reads the id of the scope at the front of a region.
 #[tactic(auto, unfolding(crate::specs::Walk::Reading::id_in))]
 fn id_of(region: &[u8]) -> u32
     requires { 5 ≤ length region.now }
@@ -51,7 +51,7 @@ fn id_of(region: &[u8]) -> u32
     LittleEndian::read_u32(&region[1..])
 }
 
-/// The time at a place of a region.
+/// Reads the time at an offset of a region.
 #[tactic(auto, unfolding(crate::specs::Walk::Reading::time_in))]
 fn time_at(region: &[u8], place: usize) -> NanoSecond
     requires { place + 8 ≤ length region.now }
@@ -60,7 +60,7 @@ fn time_at(region: &[u8], place: usize) -> NanoSecond
     LittleEndian::read_i64(&region[place..])
 }
 
-/// The number of bytes of the children, which stands at a place of a region.
+/// Reads the size of the children, which is at an offset of a region.
 fn size_at(region: &[u8], place: usize) -> u64
     requires { place + 8 ≤ length region.now }
     ensures { result ≡ little_number 8 (drop place region.now) }
@@ -68,7 +68,7 @@ fn size_at(region: &[u8], place: usize) -> u64
     LittleEndian::read_u64(&region[place..])
 }
 
-/// What stands at the front of a region whose text begins and ends at these places.
+/// Reads the scope at the front of a region whose text is at these offsets.
 #[inline(always)]
 #[tactic(auto, unfolding(crate::specs::Walk::Reading::sized_reading, crate::specs::Walk::Reading::found_in, crate::specs::Walk::Reading::size_in))]
 fn scope_around(
@@ -118,7 +118,7 @@ fn scope_around(
     }))
 }
 
-/// What stands at the front of a region after id and start.
+/// Reads the scope at the front of a region that has at least its id, its start and the first byte of its text's length.
 #[inline(always)]
 fn scope_after(form: Form, region: &[u8]) -> Result<Option<Sighting<'_>>>
     requires { FRONT_SIZE + 1 ≤ length region.now }
@@ -130,7 +130,7 @@ fn scope_after(form: Form, region: &[u8]) -> Result<Option<Sighting<'_>>>
     scope_around(form, region, text_begin, text_begin + text_size)
 }
 
-/// Reads one scope at the front of a region. `None` where none begins there.
+/// Reads the scope at the front of a region. Returns `None` if the region is empty or begins with another byte than `(`.
 #[inline(always)]
 #[tactic(auto, unfolding(crate::specs::Walk::Reading::reading))]
 pub(crate) fn scope_in(form: Form, region: &[u8]) -> Result<Option<Sighting<'_>>>
@@ -142,7 +142,7 @@ pub(crate) fn scope_in(form: Form, region: &[u8]) -> Result<Option<Sighting<'_>>
     if region.len() <= FRONT_SIZE || id_of(region) == 0 {
         return Err(Error::PrematureEnd);
     }
-    // Each form in a branch of its own, so that the places of the short one are known.
+    // A branch for each form, so that the offsets of the short form are constants.
     match form {
         Form::Short => scope_after(Form::Short, region),
         Form::Long => scope_after(Form::Long, region),

@@ -2,7 +2,7 @@ ghost use Rattle.std.specs.Prelude.{◌≡◌, ℕ, ◌<◌, ◌^◌, SomeIff};
 
 use std::marker::Model;
 
-/// The number that stands for a scope's details: from 1 to `2^32 - 1`.
+/// Identifies a scope's details. Its number is from 1 to `2^32 - 1`.
 #[derive(Clone, Copy, Debug, PartialEq, Eq, PartialOrd, Ord, Hash)]
 pub struct ScopeId {
     number: u32,
@@ -19,7 +19,7 @@ impl Model for ScopeId {
 }
 
 impl ScopeId {
-    /// `None` at 0.
+    /// Makes an id of a number. Returns `None` for 0.
     pub fn new(number: u32) -> Option<ScopeId>
         ensures { SomeIff result (0 < number) number }
     {
@@ -30,7 +30,7 @@ impl ScopeId {
         }
     }
 
-    /// The number itself.
+    /// Returns the number.
     pub fn get(&self) -> u32
         ensures number { result ≡ self.now }
         ensures positive { 0 < result }

@@ -1,4 +1,4 @@
-//! How a scope's beginning and end are spelled, and how a text is copied.
+//! How a scope's beginning and end are encoded, and how a text is copied.
 
 ghost use Rattle.std.specs.Prelude.{◌≡◌, ◌+◌, ◌≤◌, [], ◌++◌, length, take, drop, ◌∷◌};
 ghost use Rattle.byteorder.specs.Endian.{little_bytes};
@@ -8,8 +8,8 @@ use crate::data::scope::{END_SIZE, FRONT_SIZE, SCOPE_END};
 use crate::error::NanoSecond;
 use byteorder::{ByteOrder, LittleEndian};
 
-/// What stands before a scope's text up to the first byte of its length, and two bytes more. Two words are quicker to write
-/// than four numbers.
+/// Encodes a scope's beginning up to the first byte of its text's length: the first 14 of these 16 bytes. Two words are faster
+/// to write than four numbers.
 #[inline]
 pub(crate) fn front(id: u32, start: NanoSecond, group: u8) -> [u8; 16]
     ensures { take (FRONT_SIZE + 1) result
@@ -25,7 +25,7 @@ pub(crate) fn front(id: u32, start: NanoSecond, group: u8) -> [u8; 16]
     front
 }
 
-/// What stands behind a scope's children.
+/// Encodes what follows a scope's children: `)` and the stop.
 #[inline]
 pub(crate) fn back(stop: NanoSecond) -> [u8; END_SIZE]
     ensures { result ≡ end_mark ∷ time_bytes stop }
@@ -35,7 +35,7 @@ pub(crate) fn back(stop: NanoSecond) -> [u8; END_SIZE]
     back
 }
 
-/// The number of bytes of a scope's children.
+/// Encodes the size of a scope's children.
 #[inline]
 pub(crate) fn size_word(size: u64) -> [u8; 8]
     ensures { result ≡ little_bytes 8 size }
@@ -45,7 +45,7 @@ pub(crate) fn size_word(size: u64) -> [u8; 8]
     word
 }
 
-/// Copies eight bytes.
+/// Copies the first eight bytes of `from` to the front of `to`.
 #[inline(always)]
 fn copy_eight(to: &mut [u8], from: &[u8])
     requires to { 8 ≤ length to.old }
@@ -58,8 +58,8 @@ fn copy_eight(to: &mut [u8], from: &[u8])
     to[..8].copy_from_slice(&word);
 }
 
-/// Copies as many bytes as there are. From 8 to 16 bytes it takes two pieces of eight, which may overlap: that needs no
-/// call.
+/// Copies `from` to `to`, which has the same length. From 8 to 16 bytes are copied as two pieces of eight that may overlap,
+/// which needs no call.
 #[inline(always)]
 pub(crate) fn copy_text(to: &mut [u8], from: &[u8])
     requires { length to.old ≡ length from.now }

@@ -14,13 +14,20 @@ use crate::error::{Error, NanoSecond, Result};
 use std::alloc::Global;
 use std::marker::Model;
 
-/// The scopes of one thread as bytes. Any bytes may stand here: only a walk says whether they are scopes.
+/// The scopes of one thread as bytes, in the format that `docs/FORMAT.md` describes. A stream may hold any bytes: only a walk
+/// shows whether they are scopes.
 ///
-/// Contracts see the form of its texts, its bytes, and the room that is reserved behind them.
+/// Contracts see the form of its texts, its bytes, and its room: how many bytes can be appended without an allocation.
+///
+/// ```
+/// let mut stream = Stream::new(alloc);
+/// let (offset, start) = stream.begin_scope(|| 100, id, "data")?;
+/// stream.end_scope(offset, 300)?;
+/// ```
 #[derive(Drop)]
 pub struct Stream {
     form: Form,
-    // The bytes, and behind them the room, which is written too: so bytes are appended by writing over it.
+    // The bytes, followed by the room. The room is initialized, so that bytes are appended by overwriting it.
     block: Vec<u8>,
     len: usize,
 }
@@ -39,7 +46,7 @@ impl Model for Stream {
 }
 
 impl Stream {
-    /// No scope, for texts of the short form.
+    /// Makes an empty stream in the short form.
     pub fn new(alloc: Global) -> Stream
         ensures bytes { result.bytes ≡ [] }
         ensures form { result.form ≡ Form.Short }
@@ -47,7 +54,7 @@ impl Stream {
         Stream::with_form(alloc, Form::Short)
     }
 
-    /// No scope, for texts of this form.
+    /// Makes an empty stream in this form.
     pub fn with_form(alloc: Global, form: Form) -> Stream
         ensures bytes { result.bytes ≡ [] }
         ensures form { result.form ≡ form }
@@ -59,7 +66,7 @@ impl Stream {
         }
     }
 
-    /// These bytes, for texts of this form. The vector is kept as it is.
+    /// Makes a stream of these bytes, in this form. Takes over the vector without copying it, and doesn't check the bytes.
     pub fn from_bytes(bytes: Vec<u8>, form: Form) -> Stream
         ensures bytes { result.bytes ≡ bytes.items }
         ensures form { result.form ≡ form }
@@ -72,7 +79,7 @@ impl Stream {
         }
     }
 
-    /// The form of its texts.
+    /// Returns how the lengths of the texts are encoded.
     #[inline]
     pub fn form(&self) -> Form
         ensures { result ≡ self.now.form }
@@ -80,7 +87,7 @@ impl Stream {
         self.form
     }
 
-    /// Takes its texts for texts of this form.
+    /// Changes the form, and no byte.
     #[inline]
     pub(crate) fn set_form(&mut self, form: Form)
         ensures form { self.new.form ≡ form }
@@ -90,28 +97,28 @@ impl Stream {
         self.form = form;
     }
 
-    /// Whether there is no byte.
+    /// Returns whether there are no bytes.
     pub fn is_empty(&self) -> bool
         ensures { result ≡ (length self.now.bytes == 0) }
     {
         self.len == 0
     }
 
-    /// How many bytes there are.
+    /// Returns the number of bytes.
     pub fn len(&self) -> usize
         ensures { result ≡ length self.now.bytes }
     {
         self.len
     }
 
-    /// The bytes.
+    /// Returns the bytes.
     pub fn bytes(&self) -> &[u8]
         ensures { result.now ≡ self.now.bytes }
     {
         &self.block[..self.len]
     }
 
-    /// Takes the bytes away. Their memory is kept, and so is the form.
+    /// Removes all bytes. Keeps the memory and the form.
     pub fn clear(&mut self)
         ensures bytes { self.new.bytes ≡ [] }
         ensures form { self.new.form ≡ self.old.form }
@@ -120,7 +127,7 @@ impl Stream {
         self.len = 0;
     }
 
-    /// How many bytes can be appended without asking for memory.
+    /// Returns how many bytes can be appended without an allocation.
     #[inline]
     pub fn room(&self) -> usize
         ensures { result ≡ self.now.room }
@@ -128,8 +135,8 @@ impl Stream {
         self.block.len() - self.len
     }
 
-    /// Makes room for so many bytes behind those that there are. Refused only with `Memory`, and never where the room is
-    /// there already; the bytes stay as they are, also where it is refused.
+    /// Makes room for at least so many more bytes. Fails only with `Memory`, and never if the room is there already. The bytes
+    /// don't change, even if it fails.
     #[inline]
     pub fn reserve(&mut self, bytes: usize) -> Result<()>
         ensures ok { OnOk result (bytes ≤ self.new.room) }
@@ -146,7 +153,7 @@ impl Stream {
         self.grow(bytes - room)
     }
 
-    /// Lengthens the block by so many bytes at least. Refused only with `Memory`.
+    /// Makes the room larger by at least so many bytes. Fails only with `Memory`.
     #[cold]
     #[inline(never)]
     fn grow(&mut self, more: usize) -> Result<()>
@@ -162,7 +169,7 @@ impl Stream {
         Ok(())
     }
 
-    /// A copy of the bytes. Refused only with `Memory`.
+    /// Copies the bytes and the form. Fails only with `Memory`.
     pub fn clone(&self) -> Result<Stream>
         ensures ok { IfOk result (λ stream. stream.bytes ≡ self.now.bytes) }
         ensures form { IfOk result (λ stream. stream.form ≡ self.now.form) }
@@ -177,7 +184,7 @@ impl Stream {
         })
     }
 
-    /// Appends bytes. Refused only with `Memory`, and never within the room; nothing is changed then.
+    /// Appends bytes. Fails only with `Memory`, and then appends nothing. Never fails if the bytes fit the room.
     pub(crate) fn append(&mut self, bytes: &[u8]) -> Result<()>
         ensures ok { OnOk result (self.new.bytes ≡ self.old.bytes ++ bytes.now) }
         ensures err { OnErr result (self.new.bytes ≡ self.old.bytes) }
@@ -193,7 +200,7 @@ impl Stream {
         self.lengthen(bytes)
     }
 
-    /// Appends bytes for which there is no room, and makes none behind them.
+    /// Appends bytes that don't fit the room, and leaves no room behind them.
     #[inline]
     fn lengthen(&mut self, bytes: &[u8]) -> Result<()>
         requires { self.old.room < length bytes.now }
@@ -208,7 +215,7 @@ impl Stream {
         Ok(())
     }
 
-    /// Appends bytes within the room.
+    /// Appends bytes that fit the room.
     #[inline]
     pub(crate) fn put(&mut self, bytes: &[u8])
         requires { length bytes.now ≤ self.old.room }
@@ -224,7 +231,7 @@ impl Stream {
         self.len = end;
     }
 
-    /// Appends the first 14 of 16 bytes. All 16 are written, for which there has to be room.
+    /// Appends the first 14 of 16 bytes. Overwrites 16 bytes, which have to fit the room.
     #[inline(always)]
     fn put_front(&mut self, front: &[u8; 16])
         requires { 16 ≤ self.old.room }
@@ -237,7 +244,7 @@ impl Stream {
         self.len = place + (FRONT_SIZE + 1);
     }
 
-    /// Appends a text's bytes within the room, as [`Stream::put`] does.
+    /// Appends a text's bytes, which fit the room.
     #[inline(always)]
     fn put_text(&mut self, text: &[u8])
         requires { length text.now ≤ self.old.room }
@@ -253,7 +260,7 @@ impl Stream {
         self.len = end;
     }
 
-    /// Appends a byte within the room, where there is one.
+    /// Appends a byte, which fits the room, if there is one.
     #[inline]
     fn put_second(&mut self, byte: Option<u8>)
         requires { length (second_byte byte) ≤ self.old.room }
@@ -266,7 +273,7 @@ impl Stream {
         }
     }
 
-    /// Writes eight bytes over those at a place.
+    /// Overwrites the eight bytes at an offset.
     #[inline]
     pub(crate) fn overwrite(&mut self, place: usize, word: &[u8])
         requires inside { place + 8 ≤ length self.old.bytes }
@@ -279,13 +286,13 @@ impl Stream {
         self.block[place..place + 8].copy_from_slice(word);
     }
 
-    /// Writes the beginning of a scope, with an unfinished size, and returns the offset of the eight bytes of that size and
-    /// the start. Of the text the longest beginning is stored that has no more bytes than the form writes (127 or 16,383) and
-    /// ends where a character ends.
+    /// Appends the beginning of a scope, with a placeholder for the size of its children. Returns the offset of that
+    /// placeholder, which [`Stream::end_scope`] takes, and the start. The text is cut to what the form stores (127 or 16,383
+    /// bytes), at a character boundary.
     ///
-    /// The clock is asked once, after there is room. Refused only with `Memory`, and never within the room; then nothing is
-    /// appended and the clock isn't asked.
-    #[inline]
+    /// Reads the clock once, after it has made room. Fails only with `Memory`; then nothing is appended and the clock isn't
+    /// read. Never fails if the beginning fits the room.
+    #[inline(always)]
     pub fn begin_scope<F: Fn() -> NanoSecond + Drop>(
         &mut self,
         now_ns: F,
@@ -312,8 +319,9 @@ impl Stream {
         self.begin_scope_by(&mut now_ns, id, text)
     }
 
-    /// The same with a clock that changes as it is asked: where the beginning is refused it is as it was.
-    #[inline]
+    /// Appends the beginning of a scope as [`Stream::begin_scope`] does, with a clock that may change when it is read. If the
+    /// call fails, the clock doesn't change.
+    #[inline(always)]
     pub fn begin_scope_by<F: FnMut() -> NanoSecond>(
         &mut self,
         now_ns: &mut F,
@@ -337,16 +345,45 @@ impl Stream {
         ensures room { self.old.room
             ≤ self.new.room + head_size self.old.form (cut_text self.old.form text.now) }
     {
-        // Up to here a text is written in one way in both forms.
+        // Both forms encode a text of this length alike.
         if text.len() <= ONE_GROUP {
             return self.begin_with(now_ns, id, text, text.len() as u8, None);
         }
+        self.begin_longer(now_ns, id, text)
+    }
+
+    /// Begins a scope whose text may have to be cut, and whose length may take two bytes. It is out of line, so that a scope
+    /// with a short text needs few registers.
+    #[inline(never)]
+    fn begin_longer<F: FnMut() -> NanoSecond>(
+        &mut self,
+        now_ns: &mut F,
+        id: ScopeId,
+        text: &str,
+    ) -> Result<(usize, NanoSecond)>
+        requires { F.IsAlwaysCallable now_ns.old }
+        ensures begun { IfOk result (λ at.
+            self.new.bytes
+            ≡ self.old.bytes
+            ++ begin_bytes self.old.form id at.1 (cut_text self.old.form text.now)
+            (2 ^ 64 - 1)) }
+        ensures offset { IfOk result (λ at. at.0 + 8 ≡ length self.new.bytes) }
+        ensures clock { IfOk result (λ at. F.step now_ns.old at.1 now_ns.new) }
+        ensures err { OnErr result (self.new.bytes ≡ self.old.bytes) }
+        ensures form { self.new.form ≡ self.old.form }
+        ensures unasked { OnErr result (now_ns.new ≡ now_ns.old) }
+        ensures memory { IfErr result (λ e. e ≡ Error.Memory) }
+        ensures succeeds { head_size self.old.form (cut_text self.old.form text.now)
+            ≤ self.old.room → IsOk result }
+        ensures room { self.old.room
+            ≤ self.new.room + head_size self.old.form (cut_text self.old.form text.now) }
+    {
         let stored = self.form.cut(text);
         let (group, second) = groups(self.form, stored.len());
         self.begin_with(now_ns, id, stored, group, second)
     }
 
-    /// The same of a text that is stored whole, and whose length is written in these groups.
+    /// Appends the beginning of a scope with a text that isn't cut, and whose length has this encoding.
     #[inline(always)]
     fn begin_with<F: FnMut() -> NanoSecond>(
         &mut self,
@@ -374,18 +411,78 @@ impl Stream {
     {
         self.reserve(FRONT_SIZE + 1 + usize::from(second.is_some()) + text.len() + WORD_SIZE)?;
         let start = now_ns();
+        let offset = self.write_begin(start, id, text, group, second);
+        Ok((offset, start))
+    }
+
+    /// Appends the beginning of a scope with this start, as [`Stream::begin_scope`] does, and returns the offset of its size.
+    /// The beginning has to fit the room, so the call neither allocates nor fails.
+    #[inline(always)]
+    pub fn begin_within(&mut self, start: NanoSecond, id: ScopeId, text: &str) -> usize
+        requires { head_size self.old.form (cut_text self.old.form text.now) ≤ self.old.room }
+        ensures begun { self.new.bytes
+            ≡ self.old.bytes
+            ++ begin_bytes self.old.form id start (cut_text self.old.form text.now) (2 ^ 64 - 1) }
+        ensures offset { result + 8 ≡ length self.new.bytes }
+        ensures form { self.new.form ≡ self.old.form }
+        ensures room { self.old.room
+            ≤ self.new.room + head_size self.old.form (cut_text self.old.form text.now) }
+    {
+        if text.len() <= ONE_GROUP {
+            return self.write_begin(start, id, text, text.len() as u8, None);
+        }
+        self.longer_within(start, id, text)
+    }
+
+    /// Does the same with a text that may have to be cut. It is out of line, as [`Stream::begin_longer`] is.
+    #[inline(never)]
+    fn longer_within(&mut self, start: NanoSecond, id: ScopeId, text: &str) -> usize
+        requires { head_size self.old.form (cut_text self.old.form text.now) ≤ self.old.room }
+        ensures begun { self.new.bytes
+            ≡ self.old.bytes
+            ++ begin_bytes self.old.form id start (cut_text self.old.form text.now) (2 ^ 64 - 1) }
+        ensures offset { result + 8 ≡ length self.new.bytes }
+        ensures form { self.new.form ≡ self.old.form }
+        ensures room { self.old.room
+            ≤ self.new.room + head_size self.old.form (cut_text self.old.form text.now) }
+    {
+        let kept = self.form.cut(text);
+        let (group, second) = groups(self.form, kept.len());
+        self.write_begin(start, id, kept, group, second)
+    }
+
+    /// Does the same with a text that isn't cut, and whose length has this encoding.
+    #[inline(always)]
+    fn write_begin(
+        &mut self,
+        start: NanoSecond,
+        id: ScopeId,
+        text: &str,
+        group: u8,
+        second: Option<u8>,
+    ) -> usize
+        requires enough { head_size self.old.form text.now ≤ self.old.room }
+        requires short { length text.now ≤ text_limit self.old.form }
+        requires layout { length_layout self.old.form (length text.now)
+            ≡ group ∷ second_byte second }
+        ensures begun { self.new.bytes
+            ≡ self.old.bytes ++ begin_bytes self.old.form id start text.now (2 ^ 64 - 1) }
+        ensures offset { result + 8 ≡ length self.new.bytes }
+        ensures form { self.new.form ≡ self.old.form }
+        ensures room { self.old.room ≤ self.new.room + head_size self.old.form text.now }
+    {
         self.put_front(&front(id.get(), start, group));
         self.put_second(second);
         self.put_text(text.as_bytes());
         let offset = self.len();
         self.put(&size_word(u64::MAX));
-        Ok((offset, start))
+        offset
     }
 
-    /// Writes the end of the scope whose size stands at `offset`: over that size the number of bytes after it, and behind
-    /// all bytes the end with its stop. Eight bytes have to stand at `offset`.
+    /// Ends the scope whose size is at `offset`: overwrites that size with the number of bytes after it, and appends the end
+    /// with its stop, in nanoseconds. There have to be eight bytes at `offset`.
     ///
-    /// Refused only with `Memory`, and never within a room of 9; nothing is changed then.
+    /// Fails only with `Memory`; nothing changes then. Never fails with a room of at least 9 bytes.
     #[inline]
     pub fn end_scope(&mut self, offset: usize, stop_ns: NanoSecond) -> Result<()>
         requires { offset + 8 ≤ length self.old.bytes }
@@ -397,17 +494,29 @@ impl Stream {
         ensures room { self.old.room ≤ self.new.room + END_SIZE }
     {
         self.reserve(END_SIZE)?;
+        self.end_within(offset, stop_ns);
+        Ok(())
+    }
+
+    /// Ends a scope as [`Stream::end_scope`] does. The end has to fit the room, so the call neither allocates nor fails.
+    #[inline(always)]
+    pub fn end_within(&mut self, offset: usize, stop_ns: NanoSecond)
+        requires inside { offset + 8 ≤ length self.old.bytes }
+        requires room { END_SIZE ≤ self.old.room }
+        ensures ended { self.new.bytes ≡ ended_bytes self.old.bytes offset stop_ns }
+        ensures form { self.new.form ≡ self.old.form }
+        ensures room { self.old.room ≤ self.new.room + END_SIZE }
+    {
         let size = self.len() - (offset + 8);
         self.overwrite(offset, &size_word(size as u64));
         self.put(&back(stop_ns));
-        Ok(())
     }
 }
 
 impl From<Vec<u8>> for Stream {
     ghost use Rattle.puffin_data.specs.declared.data.form.Form.{Form};
 
-    // The vector is kept as it is, and its texts are taken for short ones.
+    // Takes over the vector without copying it, in the short form.
     ghost from_gives = { λ bytes stream.
         (stream.bytes ≡ bytes.items) × (stream.form ≡ Form.Short) };
 

@@ -1,4 +1,4 @@
-//! Whole reads and whole writes over any reader and writer.
+//! Reading to the end and writing all, with any reader and writer.
 
 ghost use Rattle.std.specs.Prelude.{◌≡◌, ◌++◌, ◌+◌, ◌-◌, ◌^◌, ◌<◌, ◌≤◌, List, ℕ, IfOk, IfErr, OnOk, OnErr, length, ◌⊎◌};
 ghost use Rattle.std.specs.Io.KnownBytes.{Consumes, Appends, IsAtEnd};
@@ -9,10 +9,10 @@ use crate::data::parts::append_piece;
 use crate::file_error::FileError;
 use std::alloc::Global;
 
-/// How many bytes are read at once. A length that lies asks for no more memory than that before bytes come.
+/// How many bytes are read at once. A false length takes no more memory than that before bytes come.
 pub(super) const PIECE_SIZE: usize = 65536;
 
-/// Reads to the end. Refused with `Io` where a read failed, else with `Memory`; how far it read is then unspecified.
+/// Reads to the end. Fails with `Io` if a read fails, or with `Memory`; how far it read is then unspecified.
 pub fn read_to_end<S: Source>(alloc: Global, source: &mut S) -> Result<Vec<u8>, FileError>
     requires { S.failures source.old < 2 ^ 64 - 1 }
     ensures all { IfOk result (λ bytes.
@@ -31,8 +31,8 @@ pub fn read_to_end<S: Source>(alloc: Global, source: &mut S) -> Result<Vec<u8>, 
     }
 }
 
-/// Writes all of the bytes, in the pieces that the writer takes. Refused with `Io` alone, where a write failed or took
-/// nothing of a piece that wasn't empty; a beginning of the bytes is then written.
+/// Writes all of the bytes, in as many writes as the writer needs. Fails only with `Io`, if a write fails or takes none of the
+/// bytes that are left; a beginning of the bytes is then written.
 pub fn write_all<D: Drain>(drain: &mut D, bytes: &[u8]) -> Result<(), FileError>
     requires { D.failures drain.old < 2 ^ 64 - 1 }
     ensures ok { OnOk result (Appends (D.contents drain.old) (D.contents drain.new) bytes.now) }

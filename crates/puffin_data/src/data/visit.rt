@@ -1,4 +1,4 @@
-//! The strict walk with a visitor, which takes each scope as it is entered.
+//! The strict walk with a visitor, which is given each scope as the walk enters it.
 
 ghost use Rattle.std.specs.Prelude.{◌≡◌, ℕ, ◌+◌, ◌*◌, ◌≤◌, List, [], ◌∷◌, ◌++◌, length, IfOk, IfErr, ◌⊎◌};
 ghost use Rattle.puffin_data.specs.Forest.{Span, IsSpan};
@@ -12,24 +12,25 @@ use crate::data::walk::next_scope;
 use crate::error::{Error, Result};
 use std::alloc::Global;
 
-/// What takes the scopes of a stream, one after the other.
+/// Receives the scopes of a stream, each before its children and in the order of the stream.
 pub trait Visitor<'s> {
     ghost use Rattle.puffin_data.specs.declared.error.Error.{Error};
     ghost use Rattle.puffin_data.specs.declared.data.form.Form.{Form};
 
-    /// What is kept of an open scope while the scopes in it are taken.
+    /// What the visitor keeps for an open scope while the walk is within it.
     type Within: Copy;
 
-    /// In this state it may take these scopes, in their order, and be in that state then.
+    /// Whether the visitor may take these scopes, in order, from the first state to the second.
     ghost takes: { Self → List Nested → Self → Type 0 };
 
-    /// In this state it may refuse this scope with this error.
+    /// Whether the visitor may refuse this scope with this error in this state.
     ghost refuses: { Self → Nested → Error → Type 0 };
 
-    /// In this state, what is kept stands for these scopes, the outermost first.
+    /// Whether, in this state, a kept value stands for these open scopes, the outermost first.
     ghost stands_for: { Self → Self.Within → List Span → Type 0 };
 
-    /// Takes a scope directly within the one that `within` stands for, and returns what to keep of it.
+    /// Takes a scope whose parent `within` stands for, and returns what to keep for the scope while the walk is within it. An
+    /// error ends the walk.
     fn enter(&mut self, within: Self::Within, scope: &Sighting<'s>) -> Result<Self::Within>
         requires stands { (around : List Span) × stands_for self.old within around }
         requires span { (form : Form) × IsSpan form (found_of scope.now).span }
@@ -40,28 +41,37 @@ pub trait Visitor<'s> {
             (e ≡ Error.Memory)
             ⊎ Refusing refuses stands_for self.old within (found_of scope.now).span e) };
 
+    /// Taking no scope changes nothing.
     ghost takes_none: { (v : Self) → takes v [] v };
 
+    /// Taking one list of scopes and then another is taking both, joined.
     ghost takes_more: { (u v w : Self) (xs ys : List Nested) → takes u xs v → takes v ys w →
         takes u (xs ++ ys) w };
 
+    /// A kept value still stands for the same scopes after more were taken.
     ghost still_stands: { (u v : Self) (xs : List Nested) (w : Self.Within) (around : List Span) →
         takes u xs v → stands_for u w around → stands_for v w around };
 }
 
-/// A region that is read or waits: where it ends, and what the visitor keeps of the scope whose children stand there.
+/// A region that is being read, or that waits while a region within it is read: its end, and what the visitor keeps for the
+/// scope whose children it holds.
 #[derive(Clone, Copy)]
 struct Region<W> {
     end: usize,
     within: W,
 }
 
-/// Goes over all of the bytes, which have to be a forest of scopes with texts of this form, in one pass and without the
-/// call stack, and hands each scope to the visitor.
+/// Walks all of the bytes, which have to be a forest of scopes in this form, in one pass and without recursion, and hands each
+/// scope to the visitor. Scopes that aren't in another are entered with `outside` as `within`.
 ///
-/// `tries` is set to the number of readings made at a byte `(`, also where the walk is refused. Refused with the visitor's
-/// first refusal or the first fault (`PrematureEnd`, `InvalidStream` or `ScopeNeverEnded`), whichever stands first, or with
-/// `Memory` where the vector of the open regions can't grow.
+/// Sets `tries` to the number of readings made at a byte `(`, even if the walk fails. Fails with the visitor's first error or
+/// the first fault (`PrematureEnd`, `InvalidStream` or `ScopeNeverEnded`), whichever comes first, or with `Memory` if the
+/// vector of the open regions can't grow.
+///
+/// ```
+/// let mut tries = 0;
+/// walk_with(alloc, Form::Short, bytes, &mut visitor, 0, &mut tries)?;
+/// ```
 pub fn walk_with<'s, V: Visitor<'s>>(
     alloc: Global,
     form: Form,

@@ -1,4 +1,5 @@
-//! The strict walk: one pass over the bytes of a stream, which have to be a forest of scopes.
+//! The strict walk: one pass over the bytes of a stream, which have to be a forest of scopes. `docs/FORMAT.md` lists its
+//! faults.
 
 ghost use Rattle.std.specs.Prelude.{◌≡◌, ℕ, ◌+◌, ◌*◌, ◌/◌, ◌⊎◌, ◌≤◌, ◌<◌, ◌^◌, ◌==◌, if◌then◌else◌, length, slice_index, IfOk, IfErr, MatchResult};
 ghost use Rattle.puffin_data.specs.Forest.{Forest};
@@ -14,19 +15,19 @@ use crate::data::scope::{END_SIZE, SCOPE_BEGIN, Sighting, scope_in};
 use crate::error::{Error, NanoSecond, Result};
 use std::alloc::Global;
 
-/// What a walk over a stream counts: the measures of the forest that its bytes spell.
+/// The counts of a walk over a stream: the measures of the forest that its bytes spell.
 #[derive(Clone, Copy, Debug, PartialEq, Eq)]
 pub struct Walk {
-    /// How many scopes there are.
+    /// The number of scopes.
     pub num_scopes: usize,
-    /// How many scopes stand one within the other, at most.
+    /// The greatest nesting depth; a scope that isn't in another has depth 1.
     pub depth: usize,
-    /// The least start and the greatest stop of all scopes, or `(i64::MAX, i64::MIN)` where there is none.
+    /// The least start and the greatest stop of all scopes, in nanoseconds, or `(i64::MAX, i64::MIN)` if there are none.
     pub range_ns: (NanoSecond, NanoSecond),
 }
 
 impl Walk {
-    /// What a walk over no scope counts.
+    /// Returns the counts of a stream without scopes.
     pub(crate) fn empty() -> Walk
         ensures { result ≡ no_scope_counted }
     {
@@ -37,7 +38,7 @@ impl Walk {
         }
     }
 
-    /// One more scope, at this depth.
+    /// Counts one more scope, at this depth.
     fn counted(self, depth: usize, scope: &Sighting) -> Walk
         requires { self.num_scopes + 1 < 2 ^ 64 }
         ensures { result ≡ with_scope self depth (found_of scope.now).span }
@@ -51,7 +52,8 @@ impl Walk {
     }
 }
 
-/// The scope that has to stand at the front of a region. A reading at its first byte is a try.
+/// Reads the scope that has to be at the front of a region. If the region begins with `(`, adds one to `tries`. Fails with
+/// `InvalidStream` if it begins with another byte, else with the scope's fault.
 #[inline(always)]
 pub(crate) fn next_scope<'s>(form: Form, region: &'s [u8], tries: &mut u64) -> Result<Sighting<'s>>
     requires not_empty { 0 < length region.now }
@@ -70,8 +72,17 @@ pub(crate) fn next_scope<'s>(form: Form, region: &'s [u8], tries: &mut u64) -> R
     }
 }
 
-/// Goes over all of the bytes, which have to be a forest of scopes with texts of this form.
-pub(crate) fn walk_forest(alloc: Global, form: Form, bytes: &[u8], tries: &mut u64) -> Result<Walk>
+/// Walks all of the bytes, which have to be a forest of scopes in this form, in one pass and without recursion. Reads the bytes
+/// where they are, without a copy into a [`Stream`](crate::data::Stream).
+///
+/// Sets `tries` to the number of readings made at a byte `(`, even if the walk fails. Fails as
+/// [`Reader::walk`](crate::data::Reader::walk) does.
+///
+/// ```
+/// let mut tries = 0;
+/// let walk = walk_forest(alloc, Form::Short, bytes, &mut tries)?;
+/// ```
+pub fn walk_forest(alloc: Global, form: Form, bytes: &[u8], tries: &mut u64) -> Result<Walk>
     ensures forest { IfOk result (λ w. (f : Forest) × Spells form bytes.now f × Counts w f) }
     ensures only { (f : Forest) → Spells form bytes.now f →
         MatchResult result (λ w. Counts w f) (λ e. e ≡ Error.Memory) }
@@ -79,14 +90,14 @@ pub(crate) fn walk_forest(alloc: Global, form: Form, bytes: &[u8], tries: &mut u
     ensures tries { IfOk result (λ w. tries.new ≡ w.num_scopes) }
     ensures few { tries.new ≤ length bytes.now / 31 + 1 }
 {
-    // Each form in a loop of its own: the short one is then as quick as if there were no other.
+    // A loop for each form: the short one is then as fast as if there were no other.
     match form {
         Form::Short => walk_bytes(alloc, Form::Short, bytes, tries),
         Form::Long => walk_bytes(alloc, Form::Long, bytes, tries),
     }
 }
 
-/// Goes over all of the bytes, with the ends of the regions around the place where it is in a vector.
+/// Walks all of the bytes, with the ends of the open regions in a vector.
 #[inline(always)]
 pub(crate) fn walk_bytes(alloc: Global, form: Form, bytes: &[u8], tries: &mut u64) -> Result<Walk>
     ensures walked { MatchResult result (Walked form bytes.now tries.new)

@@ -1,4 +1,4 @@
-//! Values read one after the other.
+//! Reading values one after the other.
 
 ghost use Rattle.std.specs.Prelude.{◌≡◌, List, ℕ, length};
 ghost use Rattle.puffin_data.specs.Value.Layout.{number, signed, byte, block, flag, IsAny, IsByte, IsWord, IsLong, IsSigned, IsBlock, IsText};
@@ -10,8 +10,14 @@ use crate::wire::front::{
 };
 use std::marker::Model;
 
-/// What is left of some bytes that are read from the front. Each call that reads gives `None` exactly where no layout of
-/// its kind begins, and doesn't move then.
+/// Reads values from the front of bytes. Each of its reading calls returns `None` exactly when no layout of its kind is at the
+/// front, and then doesn't move.
+///
+/// ```
+/// let mut cursor = Cursor::new(bytes);
+/// let id = cursor.u32()?;
+/// let name = cursor.text()?;
+/// ```
 #[derive(Drop)]
 pub struct Cursor<'s> {
     bytes: &'s [u8],
@@ -24,21 +30,21 @@ impl<'s> Model for Cursor<'s> {
 }
 
 impl<'s> Cursor<'s> {
-    /// Begins at the first byte.
+    /// Makes a cursor at the first byte.
     pub fn new(bytes: &'s [u8]) -> Cursor<'s>
         ensures { result ≡ bytes.now }
     {
         Cursor { bytes }
     }
 
-    /// How many bytes are left.
+    /// Returns how many bytes are left.
     pub fn rest(&self) -> usize
         ensures { result ≡ length self.now }
     {
         self.bytes.len()
     }
 
-    /// One byte.
+    /// Reads one byte.
     pub fn u8(&mut self) -> Option<u8>
         ensures reads { Reads (λ x. x) IsByte byte self.old result self.new }
         ensures exact { Gives (λ x. x) self.old result self.new (byte_at self.old) }
@@ -48,7 +54,7 @@ impl<'s> Cursor<'s> {
         Some(value)
     }
 
-    /// A number of 64 bits.
+    /// Reads a number of 64 bits.
     pub fn u64(&mut self) -> Option<u64>
         ensures reads { Reads (λ x. x) IsLong number self.old result self.new }
         ensures exact { Gives (λ x. x) self.old result self.new (number_at self.old) }
@@ -58,7 +64,7 @@ impl<'s> Cursor<'s> {
         Some(value)
     }
 
-    /// A number of 32 bits.
+    /// Reads a number of 32 bits.
     pub fn u32(&mut self) -> Option<u32>
         ensures reads { Reads (λ x. x) IsWord number self.old result self.new }
         ensures exact { Gives (λ x. x) self.old result self.new (word_at self.old) }
@@ -68,7 +74,7 @@ impl<'s> Cursor<'s> {
         Some(value)
     }
 
-    /// A signed number of 64 bits.
+    /// Reads a signed number of 64 bits.
     pub fn i64(&mut self) -> Option<i64>
         ensures reads { Reads (λ x. x) IsSigned signed self.old result self.new }
         ensures exact { Gives (λ x. x) self.old result self.new (signed_at self.old) }
@@ -78,7 +84,7 @@ impl<'s> Cursor<'s> {
         Some(value)
     }
 
-    /// Bytes behind their length.
+    /// Reads a length and that many bytes.
     pub fn bytes(&mut self) -> Option<&'s [u8]>
         ensures reads { Reads (λ x. x.now) IsBlock block self.old result self.new }
         ensures exact { Gives (λ x. x.now) self.old result self.new (bytes_at self.old) }
@@ -88,7 +94,7 @@ impl<'s> Cursor<'s> {
         Some(value)
     }
 
-    /// A text behind its length.
+    /// Reads the length of a text in bytes, and then the text, which must be UTF-8.
     pub fn text(&mut self) -> Option<&'s str>
         ensures reads { Reads (λ x. x.now) IsText block self.old result self.new }
         ensures exact { Gives (λ x. x.now) self.old result self.new (text_at self.old) }
@@ -98,7 +104,7 @@ impl<'s> Cursor<'s> {
         Some(value)
     }
 
-    /// Whether a value follows: the first byte of an option, which is 0 or 1.
+    /// Reads a flag, 0 or 1. As the first byte of an option it says whether a value follows.
     pub fn flag(&mut self) -> Option<bool>
         ensures reads { Reads (λ x. x) IsAny flag self.old result self.new }
         ensures exact { Gives (λ x. x) self.old result self.new (flag_at self.old) }

@@ -1,4 +1,5 @@
-//! One value read from the front of bytes, and the bytes after it.
+//! Reads one value from the front of bytes. Each call returns the value and the bytes after it, or `None` if no layout of its
+//! kind is at the front.
 
 ghost use Rattle.std.specs.Prelude.{◌≡◌, ◌^◌, true, false, MatchOption};
 ghost use Rattle.std.specs.Str.{is_utf8};
@@ -9,6 +10,7 @@ ghost use Rattle.puffin_data.specs.inner.Fronts.{ReadsWithRest, GivesWithRest};
 use crate::wire::{EIGHT_BYTES_MARK, FOUR_BYTES_MARK, TWO_BYTES_MARK};
 use byteorder::{ByteOrder, LittleEndian};
 
+/// Reads the two bytes of a number after its mark. Returns `None` if the number has a shorter layout.
 #[tactic(auto, unfolding(crate::specs::Value::Decoding::wide_at))]
 fn two_bytes_in(bytes: &[u8]) -> Option<(u64, &[u8])>
     ensures { GivesWithRest (λ x. (x.0, x.1.now)) result (wide_at 2 two_bytes_mark bytes.now) }
@@ -23,6 +25,7 @@ fn two_bytes_in(bytes: &[u8]) -> Option<(u64, &[u8])>
     Some((n, bytes.split_at(2).1))
 }
 
+/// Reads the four bytes of a number after its mark. Returns `None` if the number has a shorter layout.
 #[tactic(auto, unfolding(crate::specs::Value::Decoding::wide_at))]
 fn four_bytes_in(bytes: &[u8]) -> Option<(u64, &[u8])>
     ensures { GivesWithRest (λ x. (x.0, x.1.now)) result (wide_at 4 (2 ^ 16) bytes.now) }
@@ -37,6 +40,7 @@ fn four_bytes_in(bytes: &[u8]) -> Option<(u64, &[u8])>
     Some((n, bytes.split_at(4).1))
 }
 
+/// Reads the eight bytes of a number after its mark. Returns `None` if the number has a shorter layout.
 #[tactic(auto, unfolding(crate::specs::Value::Decoding::wide_at))]
 fn eight_bytes_in(bytes: &[u8]) -> Option<(u64, &[u8])>
     ensures { GivesWithRest (λ x. (x.0, x.1.now)) result (wide_at 8 (2 ^ 32) bytes.now) }
@@ -51,6 +55,7 @@ fn eight_bytes_in(bytes: &[u8]) -> Option<(u64, &[u8])>
     Some((n, bytes.split_at(8).1))
 }
 
+/// Reads a number: one byte, or a mark and the bytes after it.
 #[tactic(auto, unfolding(crate::specs::Value::Decoding::number_after))]
 fn number_in(bytes: &[u8]) -> Option<(u64, &[u8])>
     ensures { GivesWithRest (λ x. (x.0, x.1.now)) result (number_at bytes.now) }
@@ -74,6 +79,7 @@ fn number_in(bytes: &[u8]) -> Option<(u64, &[u8])>
     }
 }
 
+/// Reads a number that fits 32 bits.
 fn word_in(bytes: &[u8]) -> Option<(u32, &[u8])>
     ensures { GivesWithRest (λ x. (x.0, x.1.now)) result (word_at bytes.now) }
 {
@@ -85,6 +91,7 @@ fn word_in(bytes: &[u8]) -> Option<(u32, &[u8])>
     }
 }
 
+/// Undoes the folding of a signed number: returns `n / 2` if `n` is even, else `-(n / 2) - 1`.
 fn zigzag_back(n: u64) -> i64
     ensures { result ≡ unzigzag n }
 {
@@ -95,6 +102,7 @@ fn zigzag_back(n: u64) -> i64
     }
 }
 
+/// Reads a signed number.
 fn signed_in(bytes: &[u8]) -> Option<(i64, &[u8])>
     ensures { GivesWithRest (λ x. (x.0, x.1.now)) result (signed_at bytes.now) }
 {
@@ -102,6 +110,7 @@ fn signed_in(bytes: &[u8]) -> Option<(i64, &[u8])>
     Some((zigzag_back(n), rest))
 }
 
+/// Reads bytes after their number.
 fn bytes_in(bytes: &[u8]) -> Option<(&[u8], &[u8])>
     ensures { GivesWithRest (λ x. (x.0.now, x.1.now)) result (bytes_at bytes.now) }
 {
@@ -112,6 +121,7 @@ fn bytes_in(bytes: &[u8]) -> Option<(&[u8], &[u8])>
     Some(rest.split_at(n as usize))
 }
 
+/// Returns stored bytes as a text, or `None` if they are not UTF-8.
 #[tactic(auto, using(crate::proofs::lemmas::Texts::utf8_tests))]
 fn text_of(stored: &[u8]) -> Option<&str>
     ensures { MatchOption result (is_utf8 stored.now ≡ false) (λ t.
@@ -123,6 +133,7 @@ fn text_of(stored: &[u8]) -> Option<&str>
     }
 }
 
+/// Reads a text, which is bytes that are UTF-8.
 fn text_in(bytes: &[u8]) -> Option<(&str, &[u8])>
     ensures { GivesWithRest (λ x. (x.0.now, x.1.now)) result (text_at bytes.now) }
 {
@@ -131,6 +142,7 @@ fn text_in(bytes: &[u8]) -> Option<(&str, &[u8])>
     Some((text, rest))
 }
 
+/// Reads a flag, which is one byte, 0 or 1.
 fn flag_in(bytes: &[u8]) -> Option<(bool, &[u8])>
     ensures { GivesWithRest (λ x. (x.0, x.1.now)) result (flag_at bytes.now) }
 {
@@ -141,6 +153,7 @@ fn flag_in(bytes: &[u8]) -> Option<(bool, &[u8])>
     }
 }
 
+/// Reads one byte.
 fn byte_in(bytes: &[u8]) -> Option<(u8, &[u8])>
     ensures { GivesWithRest (λ x. (x.0, x.1.now)) result (byte_at bytes.now) }
 {
@@ -150,6 +163,7 @@ fn byte_in(bytes: &[u8]) -> Option<(u8, &[u8])>
     }
 }
 
+/// Reads one byte.
 pub(super) fn read_byte(bytes: &[u8]) -> Option<(u8, &[u8])>
     ensures reads { ReadsWithRest (λ x. (x.0, x.1.now)) IsByte byte bytes.now result }
     ensures exact { GivesWithRest (λ x. (x.0, x.1.now)) result (byte_at bytes.now) }
@@ -157,6 +171,7 @@ pub(super) fn read_byte(bytes: &[u8]) -> Option<(u8, &[u8])>
     byte_in(bytes)
 }
 
+/// Reads a number in its shortest layout.
 pub(super) fn read_number(bytes: &[u8]) -> Option<(u64, &[u8])>
     ensures reads { ReadsWithRest (λ x. (x.0, x.1.now)) IsLong number bytes.now result }
     ensures exact { GivesWithRest (λ x. (x.0, x.1.now)) result (number_at bytes.now) }
@@ -164,6 +179,7 @@ pub(super) fn read_number(bytes: &[u8]) -> Option<(u64, &[u8])>
     number_in(bytes)
 }
 
+/// Reads a number that fits 32 bits, in its shortest layout.
 pub(super) fn read_word(bytes: &[u8]) -> Option<(u32, &[u8])>
     ensures reads { ReadsWithRest (λ x. (x.0, x.1.now)) IsWord number bytes.now result }
     ensures exact { GivesWithRest (λ x. (x.0, x.1.now)) result (word_at bytes.now) }
@@ -171,6 +187,7 @@ pub(super) fn read_word(bytes: &[u8]) -> Option<(u32, &[u8])>
     word_in(bytes)
 }
 
+/// Reads a signed number, which is folded and then laid out as a number.
 pub(super) fn read_signed(bytes: &[u8]) -> Option<(i64, &[u8])>
     ensures reads { ReadsWithRest (λ x. (x.0, x.1.now)) IsSigned signed bytes.now result }
     ensures exact { GivesWithRest (λ x. (x.0, x.1.now)) result (signed_at bytes.now) }
@@ -178,6 +195,7 @@ pub(super) fn read_signed(bytes: &[u8]) -> Option<(i64, &[u8])>
     signed_in(bytes)
 }
 
+/// Reads a number and as many bytes after it.
 pub(super) fn read_bytes(bytes: &[u8]) -> Option<(&[u8], &[u8])>
     ensures reads { ReadsWithRest (λ x. (x.0.now, x.1.now)) IsBlock block bytes.now result }
     ensures exact { GivesWithRest (λ x. (x.0.now, x.1.now)) result (bytes_at bytes.now) }
@@ -185,6 +203,7 @@ pub(super) fn read_bytes(bytes: &[u8]) -> Option<(&[u8], &[u8])>
     bytes_in(bytes)
 }
 
+/// Reads a text: a number and as many bytes after it, which have to be UTF-8.
 pub(super) fn read_text(bytes: &[u8]) -> Option<(&str, &[u8])>
     ensures reads { ReadsWithRest (λ x. (x.0.now, x.1.now)) IsText block bytes.now result }
     ensures exact { GivesWithRest (λ x. (x.0.now, x.1.now)) result (text_at bytes.now) }
@@ -192,6 +211,7 @@ pub(super) fn read_text(bytes: &[u8]) -> Option<(&str, &[u8])>
     text_in(bytes)
 }
 
+/// Reads a flag: a byte that is 0 or 1.
 pub(super) fn read_flag(bytes: &[u8]) -> Option<(bool, &[u8])>
     ensures reads { ReadsWithRest (λ x. (x.0, x.1.now)) IsAny flag bytes.now result }
     ensures exact { GivesWithRest (λ x. (x.0, x.1.now)) result (flag_at bytes.now) }

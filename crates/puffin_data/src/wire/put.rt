@@ -1,4 +1,4 @@
-//! Values written one after the other. Each call is refused with `Memory` alone, and then appends nothing.
+//! Appending values to a vector. Each call fails only with `Memory`, and then appends nothing.
 
 ghost use Rattle.std.specs.Prelude.{◌≡◌, ◌++◌, OnOk, OnErr, IfErr};
 ghost use Rattle.puffin_data.specs.Value.Layout.{number, signed, byte, block, zigzag};
@@ -6,7 +6,7 @@ ghost use Rattle.puffin_data.specs.Value.Layout.{number, signed, byte, block, zi
 use crate::error::{Error, Result};
 use crate::wire::{EIGHT_BYTES_MARK, FOUR_BYTES_MARK, TWO_BYTES_MARK};
 
-/// Appends a number of 64 bits in its shortest spelling. Refused with `Memory`; nothing is then appended.
+/// Appends a number of 64 bits in its shortest layout. Fails only with `Memory`, and then appends nothing.
 #[tactic(auto, unfolding(crate::specs::Value::Layout::number))]
 pub fn put_u64(out: &mut Vec<u8>, n: u64) -> Result<()>
     ensures ok { OnOk result (out.new.items ≡ out.old.items ++ number n) }
@@ -28,7 +28,7 @@ pub fn put_u64(out: &mut Vec<u8>, n: u64) -> Result<()>
     Ok(())
 }
 
-/// Appends a byte. Refused as [`put_u64`] is.
+/// Appends a byte. Fails as [`put_u64`] does.
 pub fn put_u8(out: &mut Vec<u8>, n: u8) -> Result<()>
     ensures ok { OnOk result (out.new.items ≡ out.old.items ++ byte n) }
     ensures err { OnErr result (out.new.items ≡ out.old.items) }
@@ -38,7 +38,7 @@ pub fn put_u8(out: &mut Vec<u8>, n: u8) -> Result<()>
     Ok(())
 }
 
-/// Appends a number of 32 bits, laid out as one of 64. Refused as [`put_u64`] is.
+/// Appends a number of 32 bits, in the layout of one of 64. Fails as [`put_u64`] does.
 pub fn put_u32(out: &mut Vec<u8>, n: u32) -> Result<()>
     ensures ok { OnOk result (out.new.items ≡ out.old.items ++ number n) }
     ensures err { OnErr result (out.new.items ≡ out.old.items) }
@@ -47,6 +47,7 @@ pub fn put_u32(out: &mut Vec<u8>, n: u32) -> Result<()>
     put_u64(out, n as u64)
 }
 
+/// Folds a signed number: returns `2z` if `z` isn't negative, else `-2z - 1`.
 fn zigzag_of(z: i64) -> u64
     ensures { result ≡ zigzag z }
 {
@@ -57,7 +58,7 @@ fn zigzag_of(z: i64) -> u64
     }
 }
 
-/// Appends a signed number: 0, -1, 1 and -2 are laid out as 0, 1, 2 and 3. Refused as [`put_u64`] is.
+/// Appends a signed number: 0, -1, 1 and -2 are laid out as 0, 1, 2 and 3. Fails as [`put_u64`] does.
 pub fn put_i64(out: &mut Vec<u8>, z: i64) -> Result<()>
     ensures ok { OnOk result (out.new.items ≡ out.old.items ++ signed z) }
     ensures err { OnErr result (out.new.items ≡ out.old.items) }
@@ -66,7 +67,7 @@ pub fn put_i64(out: &mut Vec<u8>, z: i64) -> Result<()>
     put_u64(out, zigzag_of(z))
 }
 
-/// Appends bytes behind their length. Refused as [`put_u64`] is.
+/// Appends the number of bytes, and the bytes. Fails as [`put_u64`] does.
 pub fn put_bytes(out: &mut Vec<u8>, bytes: &[u8]) -> Result<()>
     ensures ok { OnOk result (out.new.items ≡ out.old.items ++ block bytes.now) }
     ensures err { OnErr result (out.new.items ≡ out.old.items) }
@@ -81,7 +82,7 @@ pub fn put_bytes(out: &mut Vec<u8>, bytes: &[u8]) -> Result<()>
     Ok(())
 }
 
-/// Appends a text behind its length in bytes. Refused as [`put_u64`] is.
+/// Appends a text's length in bytes, and the text. Fails as [`put_u64`] does.
 pub fn put_text(out: &mut Vec<u8>, t: &str) -> Result<()>
     ensures ok { OnOk result (out.new.items ≡ out.old.items ++ block t.now) }
     ensures err { OnErr result (out.new.items ≡ out.old.items) }

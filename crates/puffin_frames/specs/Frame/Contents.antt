@@ -1,4 +1,4 @@
--- What a frame holds, and how.
+-- A frame's meta, details, holding and contents, and what it says however it is held.
 use Rattle.std.specs.Prelude.{Bool, true, false, List, Option, Some, None}
 use Rattle.std.specs.Arc.{arc_value}
 use Rattle.puffin_frames.specs.declared.frame_data.frame.FrameData.{FrameData}
@@ -36,12 +36,11 @@ is_own _ = false
 abbrev pub holding_of : FrameData → Holding
 holding_of frame = held_as frame.held
 
--- the streams of a frame, however they are held; none where they are packed in a way that isn't unpacked here, or the
--- packed bytes aren't streams
+-- the streams of a frame, however they are held; none if they are packed with a kind that isn't unpacked here, or the packed bytes aren't streams
 abbrev pub frame_contents : FrameData → Option Streams
 frame_contents frame = held_contents (holding_of frame)
 
--- what is said of all streams together
+-- the index and the totals of a frame
 abbrev pub frame_meta : FrameData → FrameMeta
 frame_meta frame = held_meta frame.held
 
@@ -56,6 +55,6 @@ said_of meta p details =
 abbrev pub frame_says : FrameData → Said
 frame_says frame = said_of (frame_meta frame) (packing_of (holding_of frame)) (frame_details frame)
 
--- whether a frame holds its data as it is, and no other frame does
+-- whether a frame is held unpacked, and shares its data with no other
 abbrev pub is_alone : FrameData → Bool
 is_alone frame = is_own frame.held

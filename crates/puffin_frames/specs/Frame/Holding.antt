@@ -1,4 +1,4 @@
--- How the streams of a frame are held, and its one content.
+-- The two ways of holding a frame's streams, packed and unpacked, and the one content of both.
 use Rattle.std.specs.Prelude.{◌≡◌, ℕ, List, [], Option, Some, None, Result, Ok, Err, ◌==◌, if◌then◌else◌}
 use Rattle.std.specs.FinMap.{entries, from_sorted}
 use Rattle.std.specs.Option.{option_map}
@@ -13,29 +13,29 @@ use Rattle.puffin_threads.specs.Thread.Info.{Info}
 use Rattle.puffin_frames.specs.Frame.Streams.{Streams}
 use Rattle.puffin_frames.specs.Packet.Structs.{IsInfo, AreCounts, form_of_all, streams_layout, streams_at, AreStreams}
 
--- streams as they are packed: the form of their packet, the kind, and the bytes
+-- packed streams: the form of their packet, the kind, and the bytes
 pub record Packing : Type 0 where
   pub form : Form
   pub kind : ℕ
   pub bytes : List ℕ
 
--- packed, or as they are, or both
+-- packed, unpacked, or both
 pub record Holding : Type 0 where
   pub packed : Option Packing
   pub unpacked : Option Streams
 
--- the bytes are the layout of these streams, packed as they are
+-- the bytes are the layout of these streams, with kind 0
 abbrev pub HoldsStreams : Packing → Streams → Type 0
 HoldsStreams p streams =
     (p.kind ≡ 0) × AreStreams p.form (entries streams)
     × (p.bytes ≡ streams_layout p.form (entries streams))
 
--- the streams whose layout packed bytes are; bytes of another kind hold none here
+-- the streams whose layout packed bytes are; none for other kinds than 0
 abbrev pub streams_in : Packing → Option Streams
 streams_in p =
     if p.kind == 0 then option_map from_sorted (whole (streams_at p.form) p.bytes) else None
 
--- streams packed as they are
+-- streams packed with kind 0
 abbrev pub plainly_packed : Streams → Packing
 plainly_packed streams = record {
   form = form_of_all (entries streams);
@@ -43,11 +43,11 @@ plainly_packed streams = record {
   bytes = streams_layout (form_of_all (entries streams)) (entries streams);
 }
 
--- they have a layout: their number fits 64 bits, as do the numbers of each, and names are UTF-8 and streams bytes
+-- they have a layout: their number and the numbers of each fit, names are UTF-8, and streams are bytes
 abbrev pub HaveLayout : Streams → Type 0
 HaveLayout streams = AreItems (λ (e : Info × Recorded). IsInfo e.0 × AreCounts e.1) (entries streams)
 
--- packed as they are, they are read as just these streams
+-- packed with kind 0, they are read as the same streams
 abbrev pub AreReadAgain : Streams → Type 0
 AreReadAgain streams = streams_in (plainly_packed streams) ≡ Some streams
 
@@ -63,7 +63,7 @@ either_content p (Some streams) = Some streams
 abbrev pub held_contents : Holding → Option Streams
 held_contents h = either_content h.packed h.unpacked
 
--- a frame held both ways has one content, and a frame is held in some way
+-- a frame is held in some way, and its unpacked streams, if any, are those that its packing is read as
 abbrev pub Agree : Option Packing → Option Streams → Type 0
 Agree None None = ⊥
 Agree (Some p) None = Unit {0}
@@ -73,7 +73,7 @@ Agree (Some p) (Some streams) = streams_in p ≡ Some streams
 abbrev pub IsHolding : Holding → Type 0
 IsHolding h = Agree h.packed h.unpacked
 
--- the streams as a packet has them: what is packed stays as it is
+-- the streams as a packet has them: packed ones are taken as they are
 abbrev pub packing : Option Packing → Option Streams → Packing
 packing (Some p) u = p
 packing None (Some streams) = plainly_packed streams
@@ -86,11 +86,11 @@ packing_of h = packing h.packed h.unpacked
 abbrev pub as_packed : Holding → Holding
 as_packed h = record { packed = Some (packing_of h); unpacked = None }
 
--- also held as it is, where there are contents
+-- also held unpacked, if there are contents
 abbrev pub as_unpacked : Holding → Holding
 as_unpacked h = record { packed = h.packed; unpacked = held_contents h }
 
--- what unpacking gives: streams, or why there are none
+-- the result of unpacking: the streams, or why there are none
 abbrev pub or_bad : Option Streams → Result Streams FileError
 or_bad None = Err file.BadStreams
 or_bad (Some streams) = Ok streams

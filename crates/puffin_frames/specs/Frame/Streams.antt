@@ -1,4 +1,4 @@
--- What threads recorded, by their infos.
+-- Streams by thread info, and adding a report to them.
 use Rattle.std.specs.Prelude.{◌≡◌, Some, ℕ, ℤ, ◌-◌, ◌^◌, pos, negsuc, List, [], map, unwrap_or, refl}
 use Rattle.std.specs.FinMap as map
 use Rattle.std.specs.Coded.{Coded, code_by, coded×, coded_list, coded_ℕ, coded_ℤ}
@@ -18,7 +18,7 @@ use Rattle.puffin_threads.specs.Thread.Info.{Info, info_cmp, info_code, by_info}
 abbrev pub Streams : Type 0
 Streams = map.FinMap info_cmp Recorded
 
--- what is recorded is stored as the tuple of its fields
+-- the encoding of an info's fields for contracts: their tuple
 abbrev pub recorded_code : Coded Recorded
 recorded_code =
     code_by (Form × (List ℕ × (ℕ × (ℕ × (ℤ × ℤ)))))
@@ -37,7 +37,7 @@ recorded_code =
 abbrev pub streams_code : Coded Streams
 streams_code = map.code info_code recorded_code
 
--- what the streams of a map hold, each under its thread, and without the threads
+-- the infos of a map's entries, each with its thread, and without the threads
 abbrev pub records : List (ThreadInfo × StreamInfo) → List (ThreadInfo × Recorded)
 records entries = map (λ e. (e.0, record_of e.1)) entries
 
@@ -56,7 +56,7 @@ without_sharing entries = map (λ e. (e.0, arc_value e.1)) entries
 abbrev pub shared_streams : {A : Type 0} → List (ThreadInfo × Arc StreamInfo A) → Streams
 shared_streams entries = streams_of (without_sharing entries)
 
--- what is recorded where there is no scope
+-- the info of no scope
 abbrev pub no_scopes : Recorded
 no_scopes = record {
   form = Short;
@@ -66,15 +66,15 @@ no_scopes = record {
   range_ns = (pos (2 ^ 63 - 1), negsuc (2 ^ 63 - 1));
 }
 
--- what is recorded under an info
+-- the info under a thread, or that of no scope
 abbrev pub stream_under : Streams → Info → Recorded
 stream_under streams i = unwrap_or (map.get streams i) no_scopes
 
--- what is reported comes after what is there under its info
+-- appends what is reported to what is under its thread
 abbrev pub reported_to : Streams → Info → Recorded → Streams
 reported_to streams i r = map.insert streams i (joined_record (stream_under streams i) r)
 
--- each stream spells a forest, and its numbers are that forest's measures
+-- each stream spells a forest, and its counts are that forest's measures
 abbrev pub AreHonest : Streams → Type 0
 AreHonest streams =
     (i : Info) (r : Recorded) → map.get streams i ≡ Some r →

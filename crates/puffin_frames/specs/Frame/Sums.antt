@@ -1,4 +1,4 @@
--- What is said of several infos together, and when a frame can be made of them.
+-- The sums and the joined range of several streams, and when a frame can be made of them.
 use Rattle.std.specs.Prelude.{◌≡◌, ◌⊎◌, ℕ, ◌-◌, ◌<◌, ◌^◌, ℤ, pos, negsuc, ◌-ℤ◌, ◌≤ℤ◌, FitsSigned, List, length, fold}
 use Rattle.std.specs.List.{sum_by}
 use Rattle.std.specs.Int.{w64, int_min, int_max}
@@ -7,19 +7,19 @@ use Rattle.puffin_data.specs.declared.error.Error.TheVariants.{TooLarge, Empty, 
 use Rattle.puffin_data.specs.Honesty.{Recorded}
 use Rattle.puffin_frames.specs.declared.frame_data.meta.FrameMeta.{FrameMeta}
 
--- how many bytes all of the streams have
+-- the size of all streams, in bytes
 abbrev pub total_bytes : List Recorded → ℕ
 total_bytes infos = sum_by (λ info. length info.bytes) infos
 
--- how many scopes all of the streams have
+-- the number of scopes of all streams
 abbrev pub total_scopes : List Recorded → ℕ
 total_scopes infos = sum_by (λ info. info.num_scopes) infos
 
--- the least start of all, and i64's greatest number where there is none
+-- the least start of all, or i64's greatest number if there is none
 abbrev pub joined_start : List Recorded → ℤ
 joined_start infos = fold (λ least info. int_min least info.range_ns.0) (pos (2 ^ 63 - 1)) infos
 
--- the greatest stop of all, and i64's least number where there is none
+-- the greatest stop of all, or i64's least number if there is none
 abbrev pub joined_stop : List Recorded → ℤ
 joined_stop infos =
     fold (λ greatest info. int_max greatest info.range_ns.1) (negsuc (2 ^ 63 - 1)) infos
@@ -27,16 +27,16 @@ joined_stop infos =
 abbrev pub joined_range : List Recorded → ℤ × ℤ
 joined_range infos = (joined_start infos, joined_stop infos)
 
--- both totals are usize
+-- both totals fit usize
 pub record TotalsFit (infos : List Recorded) : Type 0 where
   pub bytes : total_bytes infos < 2 ^ 64
   pub scopes : total_scopes infos < 2 ^ 64
 
--- the start isn't above the stop
+-- the start isn't greater than the stop
 abbrev pub IsOrdered : ℤ × ℤ → Type 0
 IsOrdered range = range.0 ≤ℤ range.1
 
--- the time from the start to the stop is an i64
+-- the time from start to stop fits i64
 abbrev pub DurationFits : ℤ × ℤ → Type 0
 DurationFits range = FitsSigned w64 (range.1 -ℤ range.0)
 
@@ -46,7 +46,7 @@ pub record MakeFrame (infos : List Recorded) : Type 0 where
   pub ordered : IsOrdered (joined_range infos)
   pub duration : DurationFits (joined_range infos)
 
--- Why no frame is made of these infos: the first that applies.
+-- Why no frame can be made of these infos: the first cause that applies.
 abbrev pub RefusesFrame : List Recorded → Error → Type 0
 RefusesFrame infos e =
     ((e ≡ TooLarge) × ¬ TotalsFit infos)
@@ -55,7 +55,7 @@ RefusesFrame infos e =
     × ¬ DurationFits (joined_range infos))
     ⊎ ((e ≡ Memory) × MakeFrame infos)
 
--- what a frame with this index says of these infos
+-- the meta of a frame of these infos, with this index
 abbrev pub meta_of : ℕ → List Recorded → FrameMeta
 meta_of index infos = record {
   frame_index = index;

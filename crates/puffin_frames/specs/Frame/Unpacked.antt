@@ -1,4 +1,4 @@
--- What a frame as it is holds.
+-- The streams of an unpacked frame.
 use Rattle.puffin_frames.specs.declared.frame_data.unpacked.UnpackedFrameData.{UnpackedFrameData}
 use Rattle.puffin_frames.specs.Frame.Streams.{Streams, shared_streams}
 

@@ -1,5 +1,4 @@
--- What stands behind a header of four letters or of a length: a packet of a form that is read, or a frame as it was written
--- at first; or a fault, which is the first from the left.
+-- Reading behind a header: a packet, a legacy frame, or the first fault from the left.
 use Rattle.std.specs.Prelude.{ℕ, ◌||◌, List, slice_index, Option, Some, Result, Ok, Err, ◌==◌, if◌then◌else◌}
 use Rattle.byteorder.specs.Endian.{little_number}
 use Rattle.puffin_data.specs.declared.file_error.FileError.{FileError}
@@ -25,7 +24,7 @@ packet_at letter bytes = do
     details.1,
   )
 
--- what follows the four letters, the last of which is letter
+-- the frame that follows the four letters, the last of which is `letter`
 abbrev pub form_at : ℕ → List ℕ → Result (Said × List ℕ) FileError
 form_at letter bytes =
     if (letter == digit_0) || (letter == digit_1) then Err file.Legacy
@@ -41,7 +40,7 @@ abbrev pub as_stored : {A : Type 0} → (A → Stored) → Result (A × List ℕ
 as_stored form (Ok p) = Ok (Some (form p.0), p.1)
 as_stored form (Err e) = Err e
 
--- what stands behind a header of four bytes that isn't four zeros
+-- the frame that follows a header of four bytes other than four zeros
 abbrev pub stored_after : List ℕ → List ℕ → Result (Option Stored × List ℕ) FileError
 stored_after header bytes =
     if is_packet header then as_stored packed (form_at (slice_index header 3) bytes)

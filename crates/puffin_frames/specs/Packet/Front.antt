@@ -1,4 +1,4 @@
--- What stands at the front of a reader's bytes: the next frame, the end, or a fault.
+-- Reading at the front of a reader's bytes: the next frame, the end, or a fault.
 use Rattle.std.specs.Prelude.{◌≡◌, ℕ, Bool, ◌||◌, ◌⊎◌, List, [], length, take, drop, Option, None, Result, Ok, nat_lt, ◌==◌, if◌then◌else◌}
 use Rattle.std.specs.Io.KnownBytes.{Consumes, IsAtEnd}
 use Rattle.byteorder.specs.Endian.{little_number}
@@ -10,13 +10,13 @@ use Rattle.puffin_frames.specs.Packet.Forms.{stored_after}
 abbrev pub is_end : List ℕ → Bool
 is_end bytes = nat_lt (length bytes) 4 || (little_number 4 bytes == 0)
 
--- The next frame and the bytes after it, none at the end, or the first fault.
+-- The next frame and the bytes after it; none at the end; or the first fault.
 unfoldable pub next_at : List ℕ → Result (Option Stored × List ℕ) FileError
 next_at bytes =
     if is_end bytes then Ok (None, drop 4 bytes)
     else stored_after (take 4 bytes) (drop 4 bytes)
 
--- The reader is at its end: at most four bytes were taken, and these are read as the end, whatever follows, or fewer, after which none follow.
+-- The reader is at its end: it took four bytes that are read as the end, whatever follows, or fewer that are the last.
 pub record AtEnd (old new : Option (List ℕ)) : Type 0 where
   pub taken : List ℕ
   pub consumed : Consumes old new taken

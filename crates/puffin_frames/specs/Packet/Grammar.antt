@@ -1,4 +1,4 @@
--- The bytes that store a frame: a packet, of the form that is written or an older one, or a frame as it was written at first.
+-- The bytes that store a frame: the packet that is written, older ones, and legacy frames.
 use Rattle.std.specs.Prelude.{◌≡◌, ◌^◌, ◌<◌, ◌⊎◌, ℕ, true, false, List, [], ◌∷◌, ◌++◌, length, nat_lt, Option}
 use Rattle.std.specs.Io.KnownBytes.{Consumes}
 use Rattle.byteorder.specs.Endian.{little_bytes}
@@ -13,7 +13,7 @@ use Rattle.puffin_frames.specs.Packet.Stored.{Said, Stored, packed, legacy}
 abbrev pub counted_part : List ℕ → List ℕ
 counted_part part = little_bytes 4 (length part) ++ part
 
--- the letters and the meta, and of the streams their length and their kind
+-- the letters, the meta, and the length and the kind of the streams
 unfoldable pub packet_head : Form → FrameMeta → ℕ → ℕ → List ℕ
 packet_head form meta kind len =
     letters_of (letter_for form)
@@ -24,11 +24,11 @@ abbrev pub packet_with : Form → FrameMeta → ℕ → List ℕ → List ℕ �
 packet_with form meta kind streams details =
     (packet_head form meta kind (length streams) ++ streams) ++ counted_part details
 
--- a packet as it is written: `PFD4`, or `PFDL` where a stream is long
+-- a packet as it is written: `PFD4`, or `PFDL` if a stream is long
 abbrev pub packet : Said → List ℕ
 packet p = packet_with p.form p.meta p.kind p.streams (details_layout p.details)
 
--- what has a packet
+-- what a packet can store
 pub record IsPacked (p : Said) : Type 0 where
   pub meta : IsMeta p.meta
   pub range : is_range_at p.meta.range_ns.0 p.meta.range_ns.1 ≡ true
@@ -44,23 +44,23 @@ packet_without_details p =
     ++ (counted_part (meta_layout p.meta)
     ++ (little_bytes 4 (length p.streams) ++ (p.kind ∷ p.streams)))
 
--- the second form: `PFD2`, and neither details nor a kind, as its streams are all of kind 2
+-- the second form: `PFD2`, with neither details nor a kind, as its streams are of kind 2
 abbrev pub packet_without_kind : Said → List ℕ
 packet_without_kind p =
     letters_of digit_2 ++ (counted_part (meta_layout p.meta) ++ counted_part p.streams)
 
--- the first form: meta and streams in one, behind their length
+-- the first form: a length, and meta and streams in one
 abbrev pub legacy_bytes : Legacy → List ℕ
 legacy_bytes l = counted_part (legacy_layout l)
 
--- a packet in one of the three forms that says this, of which the older ones leave out what they can't say
+-- a packet in one of the three forms that stores this; the older ones lack details, and the oldest the kind
 abbrev pub IsPacketFor : Said → List ℕ → Type 0
 IsPacketFor p bytes =
     (bytes ≡ packet p)
     ⊎ ((bytes ≡ packet_without_details p) × (p.form ≡ Short) × (p.details ≡ []))
     ⊎ ((bytes ≡ packet_without_kind p) × (p.form ≡ Short) × (p.kind ≡ 2) × (p.details ≡ []))
 
--- what can be stored in the first form: its length isn't taken for the letters of a packet
+-- what the first form can store: its length isn't mistaken for the letters of a packet
 pub record IsFirstForm (l : Legacy) : Type 0 where
   pub layout : IsLegacy l
   pub range : is_range_at l.meta.range_ns.0 l.meta.range_ns.1 ≡ true

@@ -1,4 +1,4 @@
--- The letters that packets begin with: `PFD`, and a digit or, where a stream is long, an `L`.
+-- The letters that packets begin with: `PFD` and a digit, or `L` where a stream has long texts.
 use Rattle.puffin_data.specs.declared.data.form.Form.{Form}
 use Rattle.puffin_data.specs.declared.data.form.Form.TheVariants.{Short, Long}
 use Rattle.std.specs.Prelude.{ℕ, Bool, ◌&&◌, ◌||◌, List, [], ◌∷◌, slice_index, ◌==◌, if◌then◌else◌}
@@ -30,12 +30,12 @@ digit_4 = 52
 abbrev pub letter_l : ℕ
 letter_l = 76
 
--- the last letter of a packet that is written in a form
+-- the last letter of a packet written in this form
 abbrev pub letter_for : Form → ℕ
 letter_for Short = digit_4
 letter_for Long = letter_l
 
--- whether packets with this last letter have details: those that are written
+-- whether packets with this last letter have details, as those that are written do
 abbrev pub has_details : ℕ → Bool
 has_details letter = (letter == digit_4) || (letter == letter_l)
 

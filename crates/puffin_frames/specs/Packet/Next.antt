@@ -1,4 +1,4 @@
--- What reading the next frame promises.
+-- What reading the next frame returns.
 use Rattle.std.specs.Prelude.{◌≡◌, ℕ, false, not, List, [], is_some, Option, Some, None, Result, Ok, Err}
 use Rattle.std.specs.FinMap.{entries}
 use Rattle.puffin_data.specs.Honesty.{Recorded}
@@ -16,7 +16,7 @@ abbrev pub entries_if_any : Option Streams → List (Info × Recorded)
 entries_if_any None = []
 entries_if_any (Some streams) = entries streams
 
--- a frame that is held unpacked, as it was written at first
+-- an unpacked frame, as the first form stores it
 abbrev pub legacy_of : FrameData → Legacy
 legacy_of frame =
     record { meta = frame_meta frame; streams = entries_if_any (holding_of frame).unpacked }
@@ -29,13 +29,13 @@ stored_as frame None = legacy (legacy_of frame)
 abbrev pub stored_of : FrameData → Stored
 stored_of frame = stored_as frame (holding_of frame).packed
 
--- a frame that was read: it is held in one way, not all of its details are told, and one that was written at first has none
+-- a frame that was read: it is held in one way, `full_delta` is false, and one of the first form has no details
 pub record IsFresh (frame : FrameData) : Type 0 where
   pub one_way : is_some (holding_of frame).packed ≡ not (is_some (holding_of frame).unpacked)
   pub full_delta : frame.full_delta ≡ false
   pub no_details : (holding_of frame).packed ≡ None → frame_details frame ≡ []
 
--- A call took bytes from a device: those of the frame that it returned, whatever follows; or the device is at its end; or the bytes that were taken have this fault.
+-- A call took bytes from a device: those of the frame that it returned, whatever follows; or the device is at its end; or the bytes taken have this fault.
 abbrev pub ReadsNext : Option (List ℕ) → Option (List ℕ) → Result (Option FrameData) FileError →
     Type 0
 ReadsNext old new (Ok (Some frame)) =

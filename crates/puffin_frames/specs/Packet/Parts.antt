@@ -1,4 +1,4 @@
--- The parts of a packet, and of a frame as it was written at first, at the front of bytes.
+-- Reading the parts of a packet or of a legacy frame.
 use Rattle.std.specs.Prelude.{ℕ, List, [], Option, Some, None, Result, Ok, Err, nat_lt, ◌==◌, if◌then◌else◌}
 use Rattle.puffin_data.specs.declared.file_error.FileError.{FileError}
 use Rattle.puffin_data.specs.declared.file_error.FileError.TheVariants as file
@@ -14,7 +14,7 @@ abbrev pub meta_with_range : Option FrameMeta → Result FrameMeta FileError
 meta_with_range None = Err file.BadMeta
 meta_with_range (Some m) = if is_range_at m.range_ns.0 m.range_ns.1 then Ok m else Err file.BadRange
 
--- all of the bytes are a meta, and its range isn't reversed and not too long
+-- all of the bytes are a meta, whose range isn't reversed or too long
 abbrev pub meta_from : List ℕ → Result FrameMeta FileError
 meta_from part = meta_with_range (whole meta_at part)
 
@@ -27,7 +27,7 @@ meta_part_at bytes = do
 abbrev pub kind_from : ℕ → Result ℕ FileError
 kind_from b = if nat_lt 2 b then Err (file.UnknownKind b) else Ok b
 
--- how the streams are packed, behind this letter; the second form has no such byte, and is all of kind 2
+-- the kind of the streams, after this letter; the second form doesn't store it, as its kind is 2
 abbrev pub kind_at : ℕ → List ℕ → Result (ℕ × List ℕ) FileError
 kind_at letter bytes =
     if letter == digit_2 then Ok (2, bytes)
@@ -43,12 +43,12 @@ given_details_at bytes = do
   ds ← details_from (whole details_at part.0)
   Ok (ds, part.1)
 
--- only packets that are written have details
+-- only packets of the form that is written have details
 abbrev pub details_part_at : ℕ → List ℕ → Result (List Details × List ℕ) FileError
 details_part_at letter bytes =
     if has_details letter then given_details_at bytes else Ok ([], bytes)
 
--- the kind and the bytes of the streams: their length stands first, and doesn't count the kind
+-- the kind and the bytes of the streams; the length comes first, and doesn't count the kind
 abbrev pub streams_part_at : ℕ → List ℕ → Result ((ℕ × List ℕ) × List ℕ) FileError
 streams_part_at letter bytes = do
   n ← part_length_at bytes
@@ -64,7 +64,7 @@ legacy_with_range (Some l) =
 abbrev pub legacy_from : List ℕ → Result Legacy FileError
 legacy_from part = legacy_with_range (whole legacy_at part)
 
--- so many bytes, which are a frame as it was written at first
+-- n bytes, which are a frame of the first form
 abbrev pub legacy_part_at : ℕ → List ℕ → Result (Legacy × List ℕ) FileError
 legacy_part_at n bytes = do
   part ← part_of n bytes

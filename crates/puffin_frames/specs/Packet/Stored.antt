@@ -1,11 +1,11 @@
--- Frames as packets store them.
+-- What a packet stores of a frame (`Said`), and legacy frames.
 use Rattle.std.specs.Prelude.{ℕ, List}
 use Rattle.puffin_data.specs.declared.data.form.Form.{Form}
 use Rattle.puffin_frames.specs.declared.frame_data.meta.FrameMeta.{FrameMeta}
 use Rattle.puffin_threads.specs.Details.{Details}
 use Rattle.puffin_frames.specs.Packet.Structs.{Legacy}
 
--- what a frame says, however it is held: its meta, its streams as they are packed, with the form of their packet, and its details
+-- what a frame says, however it is held: its meta, its packed streams with the form of their packet, and its details
 pub record Said : Type 0 where
   pub meta : FrameMeta
   pub form : Form
@@ -13,7 +13,7 @@ pub record Said : Type 0 where
   pub streams : List ℕ
   pub details : List Details
 
--- a frame whose streams are packed, or one as it was written at first
+-- a frame whose streams are packed, or one of the first form
 pub data Stored : Type 0 where
   packed : Said → Stored
   legacy : Legacy → Stored

@@ -1,4 +1,4 @@
--- What packets hold: the values, their bytes, and how they are read. Fields stand in the order of their bytes.
+-- The layouts of the structs in packets, and how they are read. Fields are in the order of their bytes.
 use Rattle.std.specs.Prelude.{◌≡◌, ℕ, ℤ, Bool, true, ◌&&◌, List, [], ◌++◌, Option, Some, nat_lt}
 use Rattle.std.specs.List.{list_any}
 use Rattle.std.specs.FinMap.{is_sorted}
@@ -51,7 +51,7 @@ made_info p = record { start = p.0; name = p.1 }
 unfoldable pub info_at : List ℕ → Option (Info × List ℕ)
 info_at = seen_as made_info (pair_at (optional_at signed_at) text_at)
 
--- ---- the form of a stream's texts: in packets of the long form a byte, in those of the short form nothing, as there all are short
+-- ---- the form of a stream: one byte in packets of the long form, nothing in those of the short form, as all streams are short there
 
 abbrev pub form_layout : Form → Form → List ℕ
 form_layout Short form = []
@@ -65,7 +65,7 @@ abbrev pub form_in_at : Form → List ℕ → Option (Form × List ℕ)
 form_in_at Short bytes = Some (Short, bytes)
 form_in_at Long bytes = seen_as form_of_flag flag_at bytes
 
--- ---- what is recorded of a thread, in packets of a form
+-- ---- the info of a thread's scopes, in packets of a form
 
 abbrev pub recorded_layout : Form → Recorded → List ℕ
 recorded_layout packed r =
@@ -73,7 +73,7 @@ recorded_layout packed r =
     ++ (block r.bytes
     ++ (number r.num_scopes ++ (number r.depth ++ (signed r.range_ns.0 ++ signed r.range_ns.1))))
 
--- its numbers and its bytes
+-- its counts and its bytes
 abbrev pub AreCounts : Recorded → Type 0
 AreCounts r =
     IsBlock r.bytes
@@ -99,14 +99,14 @@ recorded_at packed =
 
 -- ---- the streams of a frame: a map, as the list of its pairs by rising keys
 
--- whether some stream is long, and the form of the packets that store all of them
+-- whether some stream is long, and the form of packets that store all of them
 abbrev pub some_long : List (Info × Recorded) → Bool
 some_long es = list_any (λ (e : Info × Recorded). is_long e.1.form) es
 
 abbrev pub form_of_all : List (Info × Recorded) → Form
 form_of_all es = form_of_flag (some_long es)
 
--- in order, and in packets of the long form some are long
+-- sorted, and in packets of the long form some are long
 abbrev pub are_ordered : Form → List (Info × Recorded) → Bool
 are_ordered Short es = is_sorted info_cmp es
 are_ordered Long es = is_sorted info_cmp es && some_long es
@@ -168,7 +168,7 @@ AreDetails = AreItems IsDetail
 unfoldable pub details_at : List ℕ → Option (List Details × List ℕ)
 details_at = items_at detail_at
 
--- ---- a frame as it was written at first: meta and streams in one, and all streams short
+-- ---- a frame of the first form: meta and streams in one, and all streams short
 
 pub record Legacy : Type 0 where
   pub meta : FrameMeta

@@ -1,4 +1,4 @@
--- What a call promises that reads values and may run out of memory.
+-- What a call that reads values returns where memory may run out.
 use Rattle.std.specs.Prelude.{◌≡◌, Result, Ok, Err}
 use Rattle.puffin_data.specs.declared.file_error.FileError.{FileError}
 use Rattle.puffin_data.specs.declared.file_error.FileError.TheVariants as file

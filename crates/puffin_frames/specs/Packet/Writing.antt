@@ -1,4 +1,4 @@
--- What writing a frame promises.
+-- What writing a frame does.
 use Rattle.std.specs.Prelude.{◌≡◌, ◌≢◌, ◌+◌, ◌^◌, ◌≤◌, ◌⊎◌, ℕ, List, length, Option, Some, None, Result, OnOk, IfErr}
 use Rattle.std.specs.FinMap.{values}
 use Rattle.std.specs.Io.KnownBytes.{Appends}
@@ -12,12 +12,12 @@ use Rattle.puffin_frames.specs.Frame.Contents.{frame_says, frame_details}
 use Rattle.puffin_frames.specs.Packet.Stored.{Said}
 use Rattle.puffin_frames.specs.Packet.Structs.{details_layout}
 
--- the details of a collection, or else those of the frame
+-- the details of a collection, or else the frame's own
 abbrev pub details_or : List Details → Option Collection → List Details
 details_or ds None = ds
 details_or ds (Some collection) = values collection.by_id
 
--- what a frame says, with the details of a collection in place of its own
+-- what a frame says, with the details of a collection in place of its own, if there is one
 abbrev pub says_with : FrameData → Option Collection → Said
 says_with frame collection =
     record (frame_says frame) { details = details_or (frame_details frame) collection }
@@ -26,7 +26,7 @@ says_with frame collection =
 abbrev pub HasLongPart : Said → Type 0
 HasLongPart p = (2 ^ 32 ≤ length p.streams) ⊎ (2 ^ 32 ≤ length (details_layout p.details))
 
--- What a call promises that is to write these bytes to a device. It wrote them all; or the device failed, and a beginning of them is written; or a part is too long or there was no memory, and nothing is written.
+-- The promise of a call that writes these bytes to a device. It wrote them all; or the device failed, and a beginning of them is written; or a part is too long or memory ran out, and nothing is written.
 pub record WritesPacket {D : Type 0} (contents : D → Option (List ℕ)) (failures : D → ℕ)
     (takes : D → List ℕ → ℕ → D → Type 0) (old new : D)
     (bytes : List ℕ) (IsLong : Type 0) (result : Result (Unit {0}) FileError) : Type 0 where

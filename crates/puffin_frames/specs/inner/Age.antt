@@ -1,4 +1,4 @@
--- Whether packets are read, by their fourth letter.
+-- Whether a packet is too old, read, or too new, by its fourth letter.
 use Rattle.std.specs.Prelude.{◌≡◌, ℕ, Bool, ◌||◌, ◌==◌, true, false}
 use Rattle.puffin_frames.specs.Packet.Letters.{digit_0, digit_1, digit_2, digit_3, digit_4, letter_l}
 use Rattle.puffin_frames.specs.declared.frame_data.reading.Age.{Age}

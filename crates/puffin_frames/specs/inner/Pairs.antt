@@ -1,4 +1,4 @@
--- A map of streams as the list of its pairs, and such lists as they are read.
+-- A map of streams as a list of pairs, as it is read.
 use Rattle.std.specs.Prelude.{ℕ, List, Option, Some, None, if◌then◌else◌}
 use Rattle.std.specs.FinMap.{is_sorted}
 use Rattle.std.specs.declared.sync.Arc.{Arc}
@@ -13,7 +13,7 @@ use Rattle.puffin_frames.specs.Frame.Streams.{records, without_sharing}
 abbrev pub pairs_of : {A : Type 0} → List (ThreadInfo × Arc StreamInfo A) → List (Info × Recorded)
 pairs_of entries = info_entries (records (without_sharing entries))
 
--- what was read, where the keys rise
+-- what was read, if the keys rise
 abbrev pub rising : Option (List (Info × Recorded) × List ℕ) →
     Option (List (Info × Recorded) × List ℕ)
 rising read = do

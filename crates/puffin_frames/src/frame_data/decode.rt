@@ -1,12 +1,12 @@
-//! The parts of a packet, read from bytes.
+//! Decoding the parts of a packet.
 
-ghost use Rattle.std.specs.Prelude.{◌≡◌, ◌-◌, ℕ, ◌∷◌, ◌++◌, [], List, Option, string_bytes, true, false, IfOk};
+ghost use Rattle.std.specs.Prelude.{◌≡◌, ◌-◌, ℕ, ◌∷◌, ◌++◌, [], List, Option, Err, is_some, string_bytes, true, false, IfOk};
 ghost use Rattle.std.specs.Option.{option_map};
 ghost use Rattle.std.specs.Cow.{cow_str_bytes};
 ghost use Rattle.std.specs.FinMap.{is_sorted};
 ghost use Rattle.puffin_data.specs.Honesty.{Recorded, record_of};
 ghost use Rattle.puffin_data.specs.Value.Decoding.{whole, optional_at, signed_at, text_at, times_at};
-ghost use Rattle.puffin_frames.specs.inner.Stopping.{IfSomeGives, SeenAs, TriesToGive, Tries};
+ghost use Rattle.puffin_frames.specs.inner.Stopping.{IfSomeGives, Passes, SeenAs, TriesToGive, Tries};
 ghost use Rattle.puffin_frames.specs.declared.frame_data.decode.Stop.TheVariants.{Memory};
 ghost use Rattle.puffin_threads.specs.Thread.Info.{Info, info_of, info_cmp};
 ghost use Rattle.puffin_threads.specs.Details.{details_of, shared_details};
@@ -26,10 +26,10 @@ use std::borrow::CowStr;
 use std::collections::BTreeMap;
 use std::sync::Arc;
 
-/// Why a part isn't read.
+/// Why a part can't be decoded.
 #[derive(Clone, Copy, Debug)]
 pub(crate) enum Stop {
-    /// A growth was refused.
+    /// An allocation failed.
     Memory,
     /// The bytes aren't a layout of the value.
     NoLayout,
@@ -68,7 +68,7 @@ fn read_meta(cursor: &mut Cursor) -> Option<FrameMeta>
     })
 }
 
-/// The meta whose layout the bytes are, all of them.
+/// Decodes a meta. All of the bytes have to be its layout.
 pub(crate) fn meta_in(bytes: &[u8]) -> Option<FrameMeta>
     ensures { SeenAs (λ m. m) result (whole meta_at bytes.now) }
 {
@@ -107,7 +107,7 @@ fn read_thread(alloc: Global, cursor: &mut Cursor) -> Result<ThreadInfo, Stop>
     })
 }
 
-/// The form of a stream, in a packet of this form.
+/// Reads the form of a stream in a packet of form `packed`: a packet of the short form doesn't store it.
 fn read_form(cursor: &mut Cursor, packed: Form) -> Option<Form>
     ensures { IfSomeGives (λ f. f) result cursor.new (form_in_at packed cursor.old) }
 {
@@ -120,7 +120,7 @@ fn read_form(cursor: &mut Cursor, packed: Form) -> Option<Form>
     }
 }
 
-/// What is recorded of a thread, its stream copied as one block.
+/// Reads the info of a thread's scopes. Copies the stream as one block.
 #[tactic(auto, unfolding(crate::specs::Packet::Structs::recorded_at))]
 fn read_recorded(alloc: Global, cursor: &mut Cursor, packed: Form) -> Result<StreamInfo, Stop>
     ensures { TriesToGive record_of result cursor.new (recorded_at packed cursor.old) }
@@ -139,7 +139,7 @@ fn read_recorded(alloc: Global, cursor: &mut Cursor, packed: Form) -> Result<Str
     })
 }
 
-/// Whether a thread comes after all those of a map.
+/// Returns whether a thread is ordered after all those of a map.
 fn comes_last(streams: &ThreadStreams, thread: &ThreadInfo) -> bool
     ensures yes { (r : Recorded) → is_sorted info_cmp (pairs_of streams.now.entries) ≡ true →
         result ≡ true →
@@ -188,7 +188,7 @@ fn read_streams_times(
     Ok(streams)
 }
 
-/// Streams in a packet of this form, of which some are long where it is the long one.
+/// Reads streams in a packet of form `packed`. In a packet of the long form some stream has to be long.
 #[tactic(auto, unfolding(crate::specs::Packet::Structs::streams_at))]
 fn read_streams(alloc: Global, cursor: &mut Cursor, packed: Form) -> Result<ThreadStreams, Stop>
     ensures given { TriesToGive (λ m. pairs_of m.entries) result cursor.new (
@@ -206,7 +206,7 @@ fn read_streams(alloc: Global, cursor: &mut Cursor, packed: Form) -> Result<Thre
     }
 }
 
-/// The streams whose layout in packets of a form the bytes are, all of them.
+/// Decodes streams of a packet of form `packed`. All of the bytes have to be their layout.
 pub(crate) fn streams_in(alloc: Global, packed: Form, bytes: &[u8]) -> Result<ThreadStreams, Stop>
     ensures given { Tries (λ m. pairs_of m.entries) result (whole (streams_at packed) bytes.now) }
     ensures sorted { IfOk result (λ m. is_sorted info_cmp (pairs_of m.entries) ≡ true) }
@@ -220,16 +220,14 @@ pub(crate) fn streams_in(alloc: Global, packed: Form, bytes: &[u8]) -> Result<Th
     }
 }
 
-fn read_id(cursor: &mut Cursor) -> Result<Option<ScopeId>, Stop>
-    ensures { TriesToGive (λ o. o) result cursor.new (optional_at id_at cursor.old) }
+fn read_id(cursor: &mut Cursor) -> Option<Option<ScopeId>>
+    ensures { IfSomeGives (λ o. o) result cursor.new (optional_at id_at cursor.old) }
 {
-    let given = cursor.flag().ok_or(Stop::NoLayout)?;
-    if !given {
-        return Ok(None);
+    if !cursor.flag()? {
+        return Some(None);
     }
-    let number = cursor.u32().ok_or(Stop::NoLayout)?;
-    let id = ScopeId::new(number).ok_or(Stop::NoLayout)?;
-    Ok(Some(id))
+    let id = ScopeId::new(cursor.u32()?)?;
+    Some(Some(id))
 }
 
 fn read_name(alloc: Global, cursor: &mut Cursor) -> Result<Option<CowStr<'static>>, Stop>
@@ -248,7 +246,7 @@ fn read_name(alloc: Global, cursor: &mut Cursor) -> Result<Option<CowStr<'static
 fn read_detail(alloc: Global, cursor: &mut Cursor) -> Result<ScopeDetails, Stop>
     ensures { TriesToGive details_of result cursor.new (detail_at cursor.old) }
 {
-    let scope_id = read_id(cursor)?;
+    let scope_id = read_id(cursor).ok_or(Stop::NoLayout)?;
     let scope_name = read_name(alloc, cursor)?;
     let function_name = read_string(alloc, cursor)?;
     let file_path = read_string(alloc, cursor)?;
@@ -291,17 +289,61 @@ fn read_details(alloc: Global, cursor: &mut Cursor) -> Result<Vec<Arc<ScopeDetai
     read_details_times(alloc, cursor, count)
 }
 
-/// The details whose layout the bytes are, all of them.
-pub(crate) fn details_in(alloc: Global, bytes: &[u8]) -> Result<Vec<Arc<ScopeDetails>>, Stop>
-    ensures { Tries (λ v. shared_details v.items) result (whole details_at bytes.now) }
+/// Skips an optional text. Allocates nothing, as all that skips here.
+fn pass_name(cursor: &mut Cursor) -> Option<()>
+    ensures { Passes result cursor.new (optional_at text_at cursor.old) }
+{
+    if cursor.flag()? {
+        cursor.text()?;
+    }
+    Some(())
+}
+
+/// Skips the details of one scope.
+#[tactic(auto, unfolding(crate::specs::Packet::Structs::detail_at))]
+fn pass_detail(cursor: &mut Cursor) -> Option<()>
+    ensures { Passes result cursor.new (detail_at cursor.old) }
+{
+    read_id(cursor)?;
+    pass_name(cursor)?;
+    cursor.text()?;
+    cursor.text()?;
+    cursor.u32()?;
+    Some(())
+}
+
+/// Skips the details of so many scopes.
+fn pass_details(cursor: &mut Cursor, count: u64) -> Option<()>
+    ensures { Passes result cursor.new (times_at detail_at count cursor.old) }
+{
+    'details: for _ in 0..count {
+        pass_detail(cursor)?;
+    }
+    Some(())
+}
+
+/// Returns whether all of the bytes are the layout of a list of scope details.
+#[tactic(auto, unfolding(crate::specs::Packet::Structs::details_at))]
+fn are_details(bytes: &[u8]) -> bool
+    ensures { result ≡ is_some (whole details_at bytes.now) }
 {
     let mut cursor = Cursor::new(bytes);
-    let all = read_details(alloc, &mut cursor)?;
-    if cursor.rest() == 0 {
-        Ok(all)
-    } else {
-        Err(Stop::NoLayout)
+    let Some(count) = cursor.u64() else {
+        return false;
+    };
+    pass_details(&mut cursor, count).is_some() && cursor.rest() == 0
+}
+
+/// Decodes a list of scope details. All of the bytes have to be its layout; other bytes are refused before any memory is
+/// taken.
+pub(crate) fn details_in(alloc: Global, bytes: &[u8]) -> Result<Vec<Arc<ScopeDetails>>, Stop>
+    ensures given { Tries (λ v. shared_details v.items) result (whole details_at bytes.now) }
+    ensures memory { result ≡ Err Memory → is_some (whole details_at bytes.now) ≡ true }
+{
+    if !are_details(bytes) {
+        return Err(Stop::NoLayout);
     }
+    read_details(alloc, &mut Cursor::new(bytes))
 }
 
 #[tactic(auto, unfolding(crate::specs::Packet::Structs::legacy_at))]
@@ -325,7 +367,7 @@ fn read_legacy(alloc: Global, cursor: &mut Cursor) -> Result<(FrameMeta, ThreadS
     Ok((meta, streams))
 }
 
-/// The meta and the streams of a frame as it was written at first, whose layout the bytes are, all of them.
+/// Decodes the meta and the streams of a legacy frame. All of the bytes have to be their layout.
 pub(crate) fn legacy_in(alloc: Global, bytes: &[u8]) -> Result<(FrameMeta, ThreadStreams), Stop>
     ensures given { Tries (λ p. record { meta = p.0; streams = pairs_of p.1.entries }) result
         (whole legacy_at bytes.now) }

@@ -1,4 +1,4 @@
-//! The parts of a packet, written behind one another.
+//! Encoding the parts of a packet. Each call appends to a vector, and fails only with `Memory`.
 
 ghost use Rattle.std.specs.Prelude.{◌≡◌, ◌++◌, ◌^◌, ◌<◌, List, OnOk, OnErr, IfOk, IfErr, map, length};
 ghost use Rattle.std.specs.Map.{keys_of, values_of};
@@ -29,7 +29,7 @@ use std::sync::Arc;
 /// The most bytes that a number takes.
 const NUMBER_SIZE: usize = 9;
 
-/// The most bytes that a thread and what is recorded of it take beside its name and its stream.
+/// The most bytes that a thread and the info of its scopes take, beside the name and the stream.
 const RECORD_SIZE: usize = 7 * NUMBER_SIZE + 2;
 
 /// Appends a frame's meta.
@@ -48,7 +48,7 @@ pub(crate) fn put_meta(out: &mut Vec<u8>, meta: &FrameMeta) -> Result<()>
     put_u64(out, meta.num_scopes as u64)
 }
 
-/// A text as it is, which is UTF-8 and shorter than `2^64` bytes: it stands for the proof alone.
+/// Returns a text unchanged. For the proof alone: the text is UTF-8 and shorter than `2^64` bytes.
 fn text_of(text: &str) -> &str
     ensures same { result.now ≡ text.now }
     ensures text { IsText text.now }
@@ -56,7 +56,7 @@ fn text_of(text: &str) -> &str
     text
 }
 
-/// Bytes as they are, which are fewer than `2^64`: it stands for the proof alone.
+/// Returns bytes unchanged. For the proof alone: they are fewer than `2^64`.
 fn block_of(bytes: &[u8]) -> &[u8]
     ensures same { result.now ≡ bytes.now }
     ensures block { IsBlock bytes.now }
@@ -81,7 +81,7 @@ fn put_thread(out: &mut Vec<u8>, thread: &ThreadInfo) -> Result<()>
     put_text(out, name)
 }
 
-/// Appends a stream's form, in a packet of the long form; nothing in one of the short form.
+/// Appends a stream's form in a packet of the long form, and nothing in one of the short form.
 fn put_form(out: &mut Vec<u8>, packed: Form, form: Form) -> Result<()>
     ensures ok { OnOk result (out.new.items ≡ out.old.items ++ form_layout packed form) }
     ensures memory { IfErr result (λ e. e ≡ Error.Memory) }
@@ -95,7 +95,7 @@ fn put_form(out: &mut Vec<u8>, packed: Form, form: Form) -> Result<()>
     }
 }
 
-/// Appends what is recorded of a thread, its stream as one block, in a packet of this form.
+/// Appends the info of a thread's scopes in a packet of form `packed`, its stream as one block.
 fn put_recorded(out: &mut Vec<u8>, packed: Form, info: &StreamInfo) -> Result<()>
     ensures ok { OnOk result (
         out.new.items ≡ out.old.items ++ recorded_layout packed (record_of info.now)) }
@@ -115,7 +115,7 @@ fn put_recorded(out: &mut Vec<u8>, packed: Form, info: &StreamInfo) -> Result<()
     put_i64(out, stop)
 }
 
-/// How many bytes streams take, at most; `usize::MAX` where they wouldn't fit in memory.
+/// Returns the most bytes that the layout of streams takes, or `usize::MAX` if that doesn't fit.
 pub(crate) fn streams_size(streams: &ThreadStreams) -> usize {
     let mut size = NUMBER_SIZE;
     'streams: for (thread, info) in streams {
@@ -127,7 +127,7 @@ pub(crate) fn streams_size(streams: &ThreadStreams) -> usize {
     size
 }
 
-/// The form of the packets that store these streams: long where some stream is.
+/// Returns the form of the packets that store these streams: long if some stream is.
 pub(crate) fn packed_form(streams: &ThreadStreams) -> Form
     ensures { result ≡ form_of_all (pairs_of streams.now.entries) }
 {
@@ -139,7 +139,7 @@ pub(crate) fn packed_form(streams: &ThreadStreams) -> Form
     Form::Short
 }
 
-/// Appends streams by their threads, in the form of the packets that store them.
+/// Appends streams by threads in a packet of form `packed`, which is that of [`packed_form`].
 pub(crate) fn put_streams(out: &mut Vec<u8>, packed: Form, streams: &ThreadStreams) -> Result<()>
     requires { packed ≡ form_of_all (pairs_of streams.now.entries) }
     ensures ok { OnOk result (
@@ -156,7 +156,7 @@ pub(crate) fn put_streams(out: &mut Vec<u8>, packed: Form, streams: &ThreadStrea
     Ok(())
 }
 
-/// A thread's info as it is, whose start fits: it stands for the proof alone.
+/// Does nothing. For the proof alone: the numbers of a thread's info are in range.
 pub(crate) fn thread_fits(thread: &ThreadInfo)
     ensures { IsInfo (info_of thread.now) }
 {
@@ -169,7 +169,7 @@ pub(crate) fn thread_fits(thread: &ThreadInfo)
     }
 }
 
-/// What is recorded of a thread, whose numbers fit: it stands for the proof alone.
+/// Does nothing. For the proof alone: the counts of an info are in range.
 pub(crate) fn counts_fit(info: &StreamInfo)
     ensures { AreCounts (record_of info.now) }
 {
@@ -179,7 +179,7 @@ pub(crate) fn counts_fit(info: &StreamInfo)
     let (_start, _stop) = info.range_ns;
 }
 
-/// Appends a text that may be missing.
+/// Appends a name, or that it is missing.
 fn put_name(out: &mut Vec<u8>, name: &Option<CowStr<'static>>) -> Result<()>
     ensures ok { OnOk result (
         out.new.items ≡ out.old.items ++ optional block (option_map cow_str_bytes name.now)) }
@@ -196,7 +196,7 @@ fn put_name(out: &mut Vec<u8>, name: &Option<CowStr<'static>>) -> Result<()>
     }
 }
 
-/// Appends an id that may be missing.
+/// Appends an id, or that it is missing.
 fn put_id(out: &mut Vec<u8>, id: Option<ScopeId>) -> Result<()>
     ensures ok { OnOk result (out.new.items ≡ out.old.items ++ optional number id) }
     ensures fits { IfAny IsId id }
@@ -243,7 +243,7 @@ pub(crate) fn put_details(out: &mut Vec<u8>, details: &[Arc<ScopeDetails>]) -> R
     Ok(())
 }
 
-/// Appends the details of a map, by rising id.
+/// Appends the details of a map as a list, by rising id.
 pub(crate) fn put_details_by_id(
     out: &mut Vec<u8>,
     details: &BTreeMap<ScopeId, Arc<ScopeDetails>>,

@@ -23,17 +23,22 @@ use std::collections::BTreeMap;
 use std::mem;
 use std::sync::Arc;
 
-/// A frame, with what is said of the scopes that are new in it.
+/// A frame, with the details of the scopes that are new in it. It holds its streams unpacked, packed, or both ways.
+///
+/// ```
+/// frame.pack()?;
+/// frame.write_into(None, &mut drain)?;
+/// ```
 #[derive(Drop)]
 pub struct FrameData {
-    /// What is said of the scopes that are new in this frame.
+    /// The details of the scopes registered since the last frame.
     pub scope_delta: Vec<Arc<ScopeDetails>>,
-    /// Whether `scope_delta` also tells of all scopes so far.
+    /// Whether `scope_delta` also has the details of all scopes known before.
     pub full_delta: bool,
     pub(crate) held: Held,
 }
 
-/// The same details once more. Refused only with `Memory`.
+/// Copies a list of details; the copy shares them. Fails only with `Memory`.
 fn shared_copy(details: &Vec<Arc<ScopeDetails>>) -> Result<Vec<Arc<ScopeDetails>>>
     ensures ok { IfOk result (λ copy.
         shared_details copy.items ≡ shared_details details.now.items) }
@@ -47,8 +52,12 @@ fn shared_copy(details: &Vec<Arc<ScopeDetails>>) -> Result<Vec<Arc<ScopeDetails>
 }
 
 impl FrameData {
-    /// The frame with this number of these streams. Refused as [`UnpackedFrameData::new`]; streams and details are then
-    /// dropped.
+    /// Makes frame `frame_index` from these streams. Fails as [`UnpackedFrameData::new`] does, and then drops the streams and
+    /// the details.
+    ///
+    /// ```
+    /// let frame = FrameData::new(alloc, 7, streams, Vec::new(alloc), false)?;
+    /// ```
     pub fn new(
         alloc: Global,
         frame_index: FrameIndex,
@@ -72,7 +81,7 @@ impl FrameData {
         Ok(FrameData::of_unpacked(unpacked, scope_delta, full_delta))
     }
 
-    /// A frame as it is, with these details. Takes no memory.
+    /// Makes a frame of its unpacked data and these details. Allocates nothing.
     pub fn of_unpacked(
         unpacked: UnpackedFrameData,
         scope_delta: Vec<Arc<ScopeDetails>>,
@@ -91,8 +100,8 @@ impl FrameData {
         }
     }
 
-    /// The frame's data, of a frame that holds it as it is and alone, as [`FrameData::of_unpacked`] makes it. Its details are
-    /// dropped. Takes no memory.
+    /// Returns the unpacked data of a frame that holds it alone and unpacked, as [`FrameData::of_unpacked`] makes it. Drops its
+    /// details. Allocates nothing.
     pub fn into_unpacked(self) -> UnpackedFrameData
         requires { is_alone self ≡ true }
         ensures contents { Some (contents result) ≡ frame_contents self }
@@ -105,7 +114,7 @@ impl FrameData {
         }
     }
 
-    /// The frame as it is held unpacked, or `None` where it is held packed only.
+    /// Returns the unpacked data, or `None` if the frame is only held packed.
     pub fn as_unpacked(&self) -> Option<&UnpackedFrameData>
         ensures contents { option_map (λ unpacked. contents unpacked.now) result
             ≡ (holding_of self.now).unpacked }
@@ -119,7 +128,7 @@ impl FrameData {
         }
     }
 
-    /// What is said of the frame's streams together.
+    /// Returns the index and the totals of the frame.
     pub fn meta(&self) -> &FrameMeta
         ensures { result.now ≡ frame_meta self.now }
     {
@@ -131,14 +140,14 @@ impl FrameData {
         }
     }
 
-    /// The frame's number.
+    /// Returns the number of the frame.
     pub fn frame_index(&self) -> FrameIndex
         ensures { result ≡ (frame_meta self.now).frame_index }
     {
         self.meta().frame_index
     }
 
-    /// The least start and the greatest stop of all scopes, in nanoseconds.
+    /// Returns the least start and the greatest stop of all scopes, in nanoseconds.
     pub fn range_ns(&self) -> (NanoSecond, NanoSecond)
         ensures range { result ≡ (frame_meta self.now).range_ns }
         ensures ordered { result.0 ≤ℤ result.1 }
@@ -151,7 +160,7 @@ impl FrameData {
         }
     }
 
-    /// The time from the least start to the greatest stop, in nanoseconds.
+    /// Returns the time from the least start to the greatest stop, in nanoseconds.
     pub fn duration_ns(&self) -> NanoSecond
         ensures { result ≡ (frame_meta self.now).range_ns.1 -ℤ (frame_meta self.now).range_ns.0 }
     {
@@ -163,7 +172,8 @@ impl FrameData {
         }
     }
 
-    /// A copy, held in the same ways, which shares the streams and the details. Refused only with `Memory`.
+    /// Copies the frame, held in the same ways. The copy shares the details and, if they are unpacked, the streams. Fails only
+    /// with `Memory`.
     pub fn clone(&self) -> Result<FrameData>
         ensures held { IfOk result (λ copy. holding_of copy ≡ holding_of self.now) }
         ensures says { IfOk result (λ copy. frame_says copy ≡ frame_says self.now) }
@@ -178,9 +188,9 @@ impl FrameData {
         })
     }
 
-    /// Holds the frame packed only. Streams that are packed already stay as they are.
+    /// Packs the streams and drops the unpacked ones. Streams that are packed already aren't packed again.
     ///
-    /// Refused only with `Memory`; nothing is changed then.
+    /// Fails only with `Memory`; nothing changes then.
     pub fn pack(&mut self) -> Result<()>
         ensures ok { OnOk result (holding_of self.new ≡ as_packed (holding_of self.old)) }
         ensures contents { frame_contents self.new ≡ frame_contents self.old }
@@ -196,7 +206,7 @@ impl FrameData {
         answer
     }
 
-    /// A copy, held packed only. Refused only with `Memory`.
+    /// Copies the frame, held packed only. Fails only with `Memory`.
     pub fn packed_copy(&self) -> Result<FrameData>
         ensures held { IfOk result (λ copy. holding_of copy ≡ as_packed (holding_of self.now)) }
         ensures contents { IfOk result (λ copy. frame_contents copy ≡ frame_contents self.now) }
@@ -212,14 +222,14 @@ impl FrameData {
         })
     }
 
-    /// The unpacked data. A frame that is held packed only is then held both ways.
+    /// Returns the unpacked data. A frame that was held packed only is then held both ways.
     ///
-    /// Refused with `Compressed` where the packed streams are of another kind than 0, with `BadStreams` where their bytes
-    /// aren't a layout of streams, and with `Memory`; the frame is then held as before.
+    /// Fails with `Compressed` if the packed streams are of another kind than 0, with `BadStreams` if their bytes aren't a
+    /// layout of streams, and with `Memory`; the frame is then held as before.
     pub fn unpacked(&mut self) -> std::result::Result<Arc<UnpackedFrameData>, FileError>
         ensures unpacked { DecidedInMemory (λ frame. contents (arc_value frame)) result (
             unpacked_from (holding_of self.old)) }
-        // of packed streams: those whose layout the bytes are
+        // Packed streams give the streams whose layout the bytes are.
         ensures layout { IfOk result (λ frame.
             IfSome (holding_of self.old).packed (λ p.
             HoldsStreams p (contents (arc_value frame)))) }
@@ -240,7 +250,7 @@ impl FrameData {
         answer
     }
 
-    /// How many bytes the packed streams have, or `None` where the frame isn't held packed.
+    /// Returns the size of the packed streams in bytes, or `None` if the frame isn't held packed.
     pub fn packed_size(&self) -> Option<usize>
         ensures { result ≡ option_map (λ p. length p.bytes) (holding_of self.now).packed }
     {
@@ -251,7 +261,7 @@ impl FrameData {
         }
     }
 
-    /// How many bytes the meta says that the streams have, or `None` where the frame isn't held unpacked.
+    /// Returns the size of the streams in bytes, as the meta has it, or `None` if the frame isn't held unpacked.
     pub fn unpacked_size(&self) -> Option<usize>
         ensures { result
             ≡ option_map (λ _. (frame_meta self.now).num_bytes) (holding_of self.now).unpacked }
@@ -259,7 +269,7 @@ impl FrameData {
         Some(self.as_unpacked()?.meta.num_bytes)
     }
 
-    /// Both sizes together, and `usize::MAX` where their sum is greater.
+    /// Returns the sum of both sizes, or `usize::MAX` if the sum is greater.
     pub fn bytes_of_ram_used(&self) -> usize
         ensures { result ≡ min
             (unwrap_or
@@ -273,7 +283,7 @@ impl FrameData {
         unpacked_size.saturating_add(self.packed_size().unwrap_or(0))
     }
 
-    /// Both sizes.
+    /// Returns both sizes.
     pub fn packing_info(&self) -> PackingInfo
         ensures unpacked_size { result.unpacked_size
             ≡ option_map (λ _. (frame_meta self.now).num_bytes) (holding_of self.now).unpacked }
@@ -286,14 +296,14 @@ impl FrameData {
         }
     }
 
-    /// Whether the frame is held packed.
+    /// Returns whether the frame is held packed.
     pub fn has_packed(&self) -> bool
         ensures { result ≡ is_some (holding_of self.now).packed }
     {
         self.packed_size().is_some()
     }
 
-    /// Whether the frame is held unpacked.
+    /// Returns whether the frame is held unpacked.
     pub fn has_unpacked(&self) -> bool
         ensures { result ≡ is_some (holding_of self.now).unpacked }
     {

@@ -1,4 +1,4 @@
-//! How a frame's streams are held, and from one way to another.
+//! The ways to hold a frame's streams, and the changes from one to another.
 
 ghost use Rattle.std.specs.Prelude.{◌≡◌, ◌≤◌, ◌-ℤ◌, ◌≤ℤ◌, Some, FitsSigned};
 ghost use Rattle.std.specs.Int.{w64};
@@ -19,10 +19,10 @@ use puffin_data::{FileError, Result};
 use std::alloc::Global;
 use std::sync::Arc;
 
-/// The streams of a frame as bytes. Kind 0 is their layout as it is, kind 1 was compressed by lz4, and kind 2 by zstd.
+/// The streams of a frame, packed. Kind 0 is their layout itself, kind 1 was compressed by lz4, and kind 2 by zstd.
 ///
-/// The layout is that of packets of a form: of the short one where all streams are short, else of the long one, in which
-/// each has its form before it.
+/// The layout is that of packets of a form: the short one if all streams are short, else the long one, in which each stream's
+/// form comes before it.
 #[derive(Drop)]
 pub(crate) struct PackedStreams {
     pub(crate) form: Form,
@@ -32,7 +32,7 @@ pub(crate) struct PackedStreams {
     ghost are_bytes: { IsBytes bytes.items },
 }
 
-/// A frame whose streams are packed.
+/// A frame that is held packed only.
 #[derive(Drop)]
 pub(crate) struct PackedFrame {
     pub(crate) meta: FrameMeta,
@@ -41,7 +41,7 @@ pub(crate) struct PackedFrame {
     ghost duration_fits: { FitsSigned w64 (meta.range_ns.1 -ℤ meta.range_ns.0) },
 }
 
-/// A frame whose packed streams were unpacked.
+/// A frame that was packed and is held unpacked too.
 #[derive(Drop)]
 pub(crate) struct UnpackedToo {
     pub(crate) unpacked: Arc<UnpackedFrameData>,
@@ -57,9 +57,9 @@ pub(crate) struct UnpackedToo {
 /// The ways to hold a frame.
 #[derive(Drop)]
 pub(crate) enum Held {
-    /// As it is, by this frame alone.
+    /// Unpacked, in this frame alone.
     Own(UnpackedFrameData),
-    /// As it is, and handed out.
+    /// Unpacked, and shared with those who asked for it.
     Shared(Arc<UnpackedFrameData>),
     /// Packed only.
     Packed(PackedFrame),
@@ -75,7 +75,7 @@ impl PackedStreams {
     ghost use Rattle.puffin_frames.specs.Frame.Contents.{packed_as};
     ghost use Rattle.puffin_frames.specs.Packet.Tries.{DecidedInMemory};
 
-    /// Streams as they are packed. Takes no memory.
+    /// Makes packed streams of their bytes. Allocates nothing.
     pub(crate) fn new(form: Form, kind: u8, bytes: Vec<u8>) -> PackedStreams
         requires { kind ≤ 2 }
         ensures { packed_as result ≡ record { form = form; kind = kind; bytes = bytes.items } }
@@ -83,7 +83,7 @@ impl PackedStreams {
         PackedStreams { form, kind, bytes }
     }
 
-    /// Streams as they are, as bytes. Refused only with `Memory`.
+    /// Packs streams, with kind 0. Fails only with `Memory`.
     pub(crate) fn of(alloc: Global, streams: &ThreadStreams) -> Result<PackedStreams>
         ensures ok { IfOk result (λ packed.
             packed_as packed ≡ plainly_packed (shared_streams streams.now.entries)) }
@@ -97,7 +97,7 @@ impl PackedStreams {
         Ok(PackedStreams::new(form, 0, bytes))
     }
 
-    /// A copy. Refused only with `Memory`.
+    /// Copies the packed streams. Fails only with `Memory`.
     fn clone(&self) -> Result<PackedStreams>
         ensures ok { IfOk result (λ copy. packed_as copy ≡ packed_as self.now) }
         ensures memory { IfErr result (λ e. e ≡ Error.Memory) }
@@ -106,7 +106,7 @@ impl PackedStreams {
         Ok(PackedStreams::new(self.form, self.kind, bytes))
     }
 
-    /// The streams. Refused with `Compressed` where the kind isn't 0, with `BadStreams` where the bytes aren't a layout of
+    /// Unpacks the streams. Fails with `Compressed` if the kind isn't 0, with `BadStreams` if the bytes aren't a layout of
     /// streams, and with `Memory`.
     fn unpack(&self, alloc: Global) -> std::result::Result<ThreadStreams, FileError>
         ensures { DecidedInMemory (λ streams. shared_streams streams.entries) result (
@@ -130,7 +130,7 @@ impl PackedFrame {
     ghost use Rattle.puffin_frames.specs.Frame.Contents.{packed_as};
     ghost use Rattle.puffin_frames.specs.Packet.Tries.{DecidedInMemory};
 
-    /// Nothing. Takes no memory.
+    /// Makes a placeholder. Allocates nothing.
     fn nothing(alloc: Global) -> PackedFrame {
         PackedFrame {
             meta: FrameMeta {
@@ -143,7 +143,7 @@ impl PackedFrame {
         }
     }
 
-    /// A frame, packed. Refused only with `Memory`.
+    /// Packs a frame. Fails only with `Memory`.
     fn of(alloc: Global, frame: &UnpackedFrameData) -> Result<PackedFrame>
         ensures ok { IfOk result (λ packed.
             packed_as packed.streams ≡ plainly_packed (contents frame.now)) }
@@ -159,7 +159,7 @@ impl PackedFrame {
         })
     }
 
-    /// The frame, unpacked. Refused as [`PackedStreams::unpack`], and with `Memory`.
+    /// Unpacks the frame. Fails as [`PackedStreams::unpack`] does, and with `Memory`.
     fn unpack(&self, alloc: Global) -> std::result::Result<Arc<UnpackedFrameData>, FileError>
         ensures ok { DecidedInMemory (λ frame. contents (arc_value frame)) result (
             unpacking (packed_as self.now.streams)) }
@@ -173,7 +173,7 @@ impl PackedFrame {
         Ok(Arc::new(alloc, frame)?)
     }
 
-    /// A copy. Refused only with `Memory`.
+    /// Copies the frame. Fails only with `Memory`.
     fn clone(&self) -> Result<PackedFrame>
         ensures ok { IfOk result (λ copy. packed_as copy.streams ≡ packed_as self.now.streams) }
         ensures meta { IfOk result (λ copy. copy.meta ≡ self.now.meta) }
@@ -194,12 +194,12 @@ impl Held {
     ghost use Rattle.puffin_frames.specs.Frame.Contents.{packed_as, held_as, held_meta};
     ghost use Rattle.puffin_frames.specs.Packet.Tries.{DecidedInMemory};
 
-    /// Nothing, packed. Takes no memory.
+    /// Makes a placeholder for `mem::replace`. Allocates nothing.
     pub(crate) fn nothing(alloc: Global) -> Held {
         Held::Packed(PackedFrame::nothing(alloc))
     }
 
-    /// The frame packed only, and as it was where that is refused, which is with `Memory` alone.
+    /// Packs the frame, and drops what is unpacked. Fails only with `Memory`; the frame is then returned as it was.
     pub(crate) fn pack(self, alloc: Global) -> (Held, Result<()>)
         ensures ok { OnOk result.1 (held_as result.0 ≡ as_packed (held_as self)) }
         ensures packing { packing_of (held_as result.0) ≡ packing_of (held_as self) }
@@ -222,7 +222,8 @@ impl Held {
         }
     }
 
-    /// The frame unpacked too, and its unpacked data; as it was where that is refused.
+    /// Unpacks the frame, keeps what is packed, and returns its unpacked data. If it fails, the frame is returned held as it
+    /// was.
     pub(crate) fn unpack(
         self,
         alloc: Global,
@@ -250,7 +251,7 @@ impl Held {
         }
     }
 
-    /// The frame packed, in a copy. Refused only with `Memory`.
+    /// Copies the frame, packed only. Fails only with `Memory`.
     pub(crate) fn packed_copy(&self, alloc: Global) -> Result<Held>
         ensures ok { IfOk result (λ copy. held_as copy ≡ as_packed (held_as self.now)) }
         ensures contents { IfOk result (λ copy.
@@ -267,7 +268,7 @@ impl Held {
         Ok(Held::Packed(packed))
     }
 
-    /// A copy, which shares the streams. Refused only with `Memory`.
+    /// Copies the frame; the copy shares unpacked streams. Fails only with `Memory`.
     pub(crate) fn clone(&self, alloc: Global) -> Result<Held>
         ensures ok { IfOk result (λ copy. held_as copy ≡ held_as self.now) }
         ensures meta { IfOk result (λ copy. held_meta copy ≡ held_meta self.now) }
@@ -281,7 +282,7 @@ impl Held {
         })
     }
 
-    /// The same frame once more. Refused only with `Memory`.
+    /// Clones an `Arc` of unpacked data. Fails only with `Memory`.
     fn lent(
         frame: &Arc<UnpackedFrameData>,
     ) -> std::result::Result<Arc<UnpackedFrameData>, FileError>
@@ -291,7 +292,8 @@ impl Held {
         Ok(Arc::try_clone(frame)?)
     }
 
-    /// A frame that is handed out, and as it was where that is refused, which is with `Memory` alone.
+    /// Moves unpacked data into an `Arc`, and returns a clone of it. Fails only with `Memory`; the frame then holds the same
+    /// data.
     fn share(
         alloc: Global,
         frame: UnpackedFrameData,
@@ -311,7 +313,8 @@ impl Held {
         }
     }
 
-    /// A packed frame that is also held unpacked, and its unpacked data; as it was where that is refused.
+    /// Unpacks a packed frame, keeps what is packed, and returns its unpacked data. If it fails, the frame is returned as it
+    /// was.
     fn unpack_too(
         alloc: Global,
         packed: PackedFrame,
@@ -351,7 +354,7 @@ impl UnpackedToo {
     ghost use Rattle.puffin_data.specs.declared.error.Error.{Error};
     ghost use Rattle.puffin_frames.specs.Frame.Contents.{packed_as};
 
-    /// The frame packed only. Takes no memory.
+    /// Drops the unpacked data. Allocates nothing.
     fn into_packed(self) -> PackedFrame
         ensures streams { packed_as result.streams ≡ packed_as self.packed }
         ensures content { streams_in (packed_as result.streams)
@@ -364,7 +367,7 @@ impl UnpackedToo {
         }
     }
 
-    /// The frame packed only, in a copy. Refused only with `Memory`.
+    /// Copies the packed data. Fails only with `Memory`.
     fn packed_copy(&self) -> Result<PackedFrame>
         ensures ok { IfOk result (λ copy. packed_as copy.streams ≡ packed_as self.now.packed) }
         ensures content { IfOk result (λ copy.
@@ -379,7 +382,7 @@ impl UnpackedToo {
         })
     }
 
-    /// A copy, which shares the unpacked data. Refused only with `Memory`.
+    /// Copies the frame; the copy shares the unpacked data. Fails only with `Memory`.
     fn clone(&self) -> Result<UnpackedToo>
         ensures packed { IfOk result (λ copy. packed_as copy.packed ≡ packed_as self.now.packed) }
         ensures unpacked { IfOk result (λ copy.

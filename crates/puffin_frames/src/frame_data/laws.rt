@@ -1,5 +1,5 @@
-//! Laws of frames and packets, as contracts of functions that do nothing. A proof of another crate cites them by calling
-//! the function.
+//! Laws of frames and packets. Each is the contract of a function that does nothing; a proof of another crate cites it by
+//! calling the function.
 
 ghost use Rattle.std.specs.Prelude.{List, ℕ, ◌≡◌, ◌↔◌, ◌++◌, Some, Ok};
 ghost use Rattle.std.specs.FinMap as map;
@@ -14,7 +14,7 @@ ghost use Rattle.puffin_frames.specs.Packet.Stored.{Said, Stored, packed};
 ghost use Rattle.puffin_frames.specs.Packet.Front.{next_at};
 ghost use Rattle.puffin_frames.specs.Packet.Grammar.{packet, IsPacked, Stores};
 
-/// No layout of a value begins another of its type.
+/// No layout of a value begins that of another of its type.
 pub fn no_layout_begins_another()
     ensures metas { NoneBeginsAnother IsMeta meta_layout }
     ensures threads { NoneBeginsAnother IsInfo info_layout }
@@ -26,8 +26,7 @@ pub fn no_layout_begins_another()
     ensures legacy { NoneBeginsAnother IsLegacy legacy_layout }
 {}
 
-/// What is read off the front of bytes is the layout of the value that is given, and each layout
-/// is read.
+/// A value is read from the front of bytes exactly when its layout is there.
 pub fn only_layouts_are_read()
     ensures metas { ReadsLayouts IsMeta meta_layout meta_at }
     ensures threads { ReadsLayouts IsInfo info_layout info_at }
@@ -39,42 +38,41 @@ pub fn only_layouts_are_read()
     ensures legacy { ReadsLayouts IsLegacy legacy_layout legacy_at }
 {}
 
-/// A frame is read exactly from bytes that store it, whatever follows them: a packet that says it,
-/// as it is written or an older one, or a frame as it was written at first.
+/// A frame is read from the front of bytes exactly when they begin with bytes that store it: a packet of the form that is
+/// written or of an older one, or a legacy frame.
 pub fn only_packets_are_read()
     ensures { (bytes rest : List ℕ) (s : Stored) → IsBytes bytes →
         (next_at bytes ≡ Ok (Some s, rest))
         ↔ ((front : List ℕ) × Stores front s × (bytes ≡ front ++ rest)) }
 {}
 
-/// Packed bytes hold the streams whose layout they are, and no others.
+/// Packed bytes hold exactly the streams whose layout they are.
 pub fn packed_contents()
     ensures { (p : Packing) (streams : Streams) → IsBytes p.bytes →
         (streams_in p ≡ Some streams) ↔ HoldsStreams p streams }
 {}
 
-/// A packet that was written is read again, whatever follows it, and no packet begins another, over both forms.
+/// A packet that was written is read as what it stores, whatever follows it. No packet begins another, in either form.
 pub fn written_is_read()
     ensures again { (p : Said) (rest : List ℕ) → IsPacked p →
         next_at (packet p ++ rest) ≡ Ok (Some (packed p), rest) }
     ensures alone { NoneBeginsAnother IsPacked packet }
 {}
 
-/// Streams that have a layout are read again as just them, and those of no thread have one.
+/// Streams that have a layout are read from it unchanged. The empty map of streams has one.
 pub fn streams_with_a_layout()
     ensures again { (streams : Streams) → HaveLayout streams → AreReadAgain streams }
     ensures none { HaveLayout map.empty }
 {}
 
-/// Each frame's streams are read again as just what it holds, however it holds them: they have a layout, or are packed
-/// already.
+/// Each frame's streams are read again as what the frame holds: they have a layout, or are packed already.
 pub fn each_frame_is_read_again()
     ensures holds { (frame : FrameData) → IsHolding (holding_of frame) }
     ensures again { (frame : FrameData) →
         streams_in (packing_of (holding_of frame)) ≡ frame_contents frame }
 {}
 
-/// Packing and unpacking keep what a frame holds, and packing twice is packing once.
+/// Packing and unpacking don't change what a frame holds. Packing a second time changes nothing.
 pub fn packing_keeps()
     ensures packs { (h : Holding) → IsHolding h → held_contents (as_packed h) ≡ held_contents h }
     ensures unpacks { (h : Holding) → held_contents (as_unpacked h) ≡ held_contents h }

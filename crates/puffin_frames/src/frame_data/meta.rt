@@ -13,21 +13,21 @@ use puffin_data::{Error, FrameIndex, NanoSecond, Result};
 use puffin_threads::thread_profiler::ThreadInfo;
 use std::collections::BTreeMap;
 
-/// What is said of a frame's streams together. A plain record: made by hand it may say anything.
+/// The index and the totals of a frame. One made by hand may hold any numbers.
 #[derive(Clone, Copy, Debug)]
 pub struct FrameMeta {
-    /// The frame's number.
+    /// The number of the frame.
     pub frame_index: FrameIndex,
     /// The least start and the greatest stop of all scopes, in nanoseconds.
     pub range_ns: (NanoSecond, NanoSecond),
-    /// How many bytes the streams have, unpacked.
+    /// The size of the unpacked streams, in bytes.
     pub num_bytes: usize,
-    /// How many scopes the streams have.
+    /// The number of scopes in the streams.
     pub num_scopes: usize,
 }
 
 impl FrameMeta {
-    /// What is said of no stream: nothing is counted, and the range is `(i64::MAX, i64::MIN)`.
+    /// Makes the meta of an empty frame: all counts are 0, and the range is `(i64::MAX, i64::MIN)`.
     pub fn of_none(frame_index: FrameIndex) -> FrameMeta
         ensures { result ≡ meta_of frame_index [] }
     {
@@ -39,7 +39,7 @@ impl FrameMeta {
         }
     }
 
-    /// What is said with one more stream. `None` where a sum doesn't fit `usize`.
+    /// Adds one stream to the totals. Returns `None` if a sum doesn't fit `usize`.
     pub fn joined(self, info: &StreamInfoRef) -> Option<FrameMeta>
         ensures frame_index { IfSome result (λ meta. meta.frame_index ≡ self.frame_index) }
         ensures num_bytes { IfSome result (λ meta.
@@ -67,7 +67,7 @@ impl FrameMeta {
         })
     }
 
-    /// What is said of these streams. Takes no memory. Refused with `TooLarge` where a sum doesn't fit.
+    /// Makes the meta of a frame of these streams. Allocates nothing. Fails with `TooLarge` if a sum doesn't fit `usize`.
     pub(crate) fn of_streams(
         frame_index: FrameIndex,
         streams: &BTreeMap<ThreadInfo, StreamInfo>,

@@ -1,8 +1,8 @@
-/// How many bytes a frame's streams take, in each way that it is held.
+/// The sizes of a frame's streams, in bytes, for each way that the frame is held.
 #[derive(Clone, Copy, Debug)]
 pub struct PackingInfo {
-    /// How many bytes the streams have, where the frame is held unpacked.
+    /// The size of the streams, if the frame is held unpacked.
     pub unpacked_size: Option<usize>,
-    /// How many bytes the packed streams have, where the frame is held packed.
+    /// The size of the packed streams, if the frame is held packed.
     pub packed_size: Option<usize>,
 }

@@ -1,4 +1,4 @@
-//! Frames, read from any reader.
+//! Reading frames from any reader.
 
 ghost use Rattle.std.specs.Prelude.{◌≡◌, ◌-◌, ◌+◌, ◌^◌, ◌<◌, ◌≤◌, ◌-ℤ◌, ◌≤ℤ◌, FitsSigned, Some, None, true, is_some, IfOk, IfErr, IfSome};
 ghost use Rattle.std.specs.Int.{w64};
@@ -73,7 +73,7 @@ fn kind_of(byte: u8) -> Result<u8, FileError>
     }
 }
 
-/// Reads how the streams are packed.
+/// Reads the kind of the packed streams. A packet with the letter `2` doesn't store it: its kind is 2.
 fn read_kind<S: Source>(source: &mut S, letter: u8) -> Result<u8, FileError>
     requires { S.failures source.old < 2 ^ 64 - 1 }
     ensures part { FromDevice (λ k. k) (S.remaining source.old) (S.remaining source.new) result
@@ -88,7 +88,7 @@ fn read_kind<S: Source>(source: &mut S, letter: u8) -> Result<u8, FileError>
     kind_of(byte)
 }
 
-/// Reads the length, the kind and the bytes of the packed streams.
+/// Reads the packed streams: their length, their kind and their bytes.
 fn read_streams_part<S: Source>(
     alloc: Global,
     source: &mut S,
@@ -117,14 +117,14 @@ fn parsed_details(alloc: Global, bytes: &[u8]) -> Result<Vec<Arc<ScopeDetails>>,
     }
 }
 
-/// Whether packets with this last letter have details.
+/// Returns whether packets with this last letter have scope details.
 fn has_details(letter: u8) -> bool
     ensures { result ≡ has_details letter }
 {
     letter == b'4' || letter == b'L'
 }
 
-/// Reads the scope details, which only packets that are written have.
+/// Reads the scope details. Returns none for an older packet, which has no such part.
 fn read_details_part<S: Source>(
     alloc: Global,
     source: &mut S,
@@ -142,7 +142,7 @@ fn read_details_part<S: Source>(
     parsed_details(alloc, &part)
 }
 
-/// The form of the packets with this last letter.
+/// Returns the form of packets with this last letter.
 fn packed_form_of(letter: u8) -> Form
     ensures { result ≡ form_behind letter }
 {
@@ -153,7 +153,7 @@ fn packed_form_of(letter: u8) -> Form
     }
 }
 
-/// Reads what follows the four letters of a packet, of which this is the last.
+/// Reads the parts of a packet whose four letters end with this one.
 fn read_packed<S: Source>(alloc: Global, source: &mut S, letter: u8) -> Result<FrameData, FileError>
     requires { S.failures source.old < 2 ^ 64 - 1 }
     ensures part { FromDevice frame_says (S.remaining source.old) (S.remaining source.new) result
@@ -175,13 +175,13 @@ fn read_packed<S: Source>(alloc: Global, source: &mut S, letter: u8) -> Result<F
     })
 }
 
-/// What a packet's fourth letter says of it.
+/// Whether packets with a certain last letter are read.
 enum Age {
     /// No longer read.
     Old,
     /// Read.
     Read,
-    /// Not known.
+    /// Unknown.
     New,
 }
 
@@ -195,7 +195,8 @@ fn age_of(letter: u8) -> Age
     }
 }
 
-/// Reads what follows `PFD` and this letter.
+/// Reads the rest of a packet, of which `PFD` and this letter were read. Fails with `Legacy` or `Newer` if such packets aren't
+/// read.
 fn read_form<S: Source>(alloc: Global, source: &mut S, letter: u8) -> Result<FrameData, FileError>
     requires { S.failures source.old < 2 ^ 64 - 1 }
     ensures part { FromDevice frame_says (S.remaining source.old) (S.remaining source.new) result
@@ -231,7 +232,7 @@ fn parsed_legacy(alloc: Global, bytes: &[u8]) -> Result<FrameData, FileError>
     Ok(FrameData::of_unpacked(unpacked, Vec::new(alloc), false))
 }
 
-/// Reads a frame as it was written at first, of so many bytes.
+/// Reads a legacy frame of so many bytes.
 fn read_legacy_part<S: Source>(
     alloc: Global,
     source: &mut S,
@@ -248,7 +249,7 @@ fn read_legacy_part<S: Source>(
     parsed_legacy(alloc, &part)
 }
 
-/// Reads the four bytes before a packet, or none at the end.
+/// Reads the four bytes before a frame. Returns `None` at the end.
 fn read_header<S: Source>(source: &mut S) -> Result<Option<[u8; 4]>, FileError>
     requires { S.failures source.old < 2 ^ 64 - 1 }
     ensures header { IfOk result (λ o.
@@ -266,14 +267,14 @@ fn read_header<S: Source>(source: &mut S) -> Result<Option<[u8; 4]>, FileError>
     Ok(Some(header))
 }
 
-/// Whether a header is that of a packet, and not the length of a frame of the first form.
+/// Returns whether a header begins a packet; else it is the length of a legacy frame.
 fn is_packet_header(header: [u8; 4]) -> bool
     ensures { result ≡ is_packet header }
 {
     header[0] == b'P' && header[1] == b'F' && header[2] == b'D'
 }
 
-/// Reads what follows a header.
+/// Reads the frame that follows a header.
 fn read_stored<S: Source>(
     alloc: Global,
     source: &mut S,
@@ -294,21 +295,28 @@ fn read_stored<S: Source>(
 }
 
 impl FrameData {
-    /// Reads the next frame, or `None` at the end: where fewer than four bytes are left, or four zeros stand.
+    /// Reads the next frame, in any form that is still read; `docs/FORMAT.md` lists them. Returns `None` at the end: if fewer
+    /// than four bytes are left, or the next four are zeros.
     ///
-    /// A frame of a packet is held packed only, and one of the first form unpacked only; its range isn't reversed, and its
-    /// duration fits. `full_delta` is false.
+    /// A packet's frame is held packed only. A legacy frame, which comes without letters behind its length, is held unpacked
+    /// only. The frame's range isn't reversed, and its duration fits `i64`; `full_delta` is false.
     ///
-    /// Refused with the first that applies: `Io` where a read failed; `Legacy` and `Newer` where the packet's form isn't
-    /// read; `Truncated` where the bytes end within it; `BadMeta`, `BadRange`, `UnknownKind`, `BadScopes`, and `BadStreams`
-    /// of a frame of the first form, where a part isn't what it has to be; and `Memory`. How far it read is then unspecified.
+    /// Fails with the first cause that applies: `Io` if a read fails; `Legacy` or `Newer` if packets of this form aren't read;
+    /// `Truncated` if the bytes end within the frame; `BadMeta`, `BadRange`, `UnknownKind` or `BadScopes`, or `BadStreams` of a
+    /// legacy frame, if that part isn't valid; and `Memory`. How far it read is then unspecified.
+    /// Scope details are checked before any of them is made, so bytes that aren't details take no memory but their own.
+    ///
+    /// ```
+    /// let mut source = Counted::new(bytes);
+    /// let frame = FrameData::read_next(alloc, &mut source)?;
+    /// ```
     pub fn read_next<S: Source>(
         alloc: Global,
         source: &mut S,
     ) -> Result<Option<FrameData>, FileError>
         requires { S.failures source.old < 2 ^ 64 - 1 }
         ensures next { ReadsNext (S.remaining source.old) (S.remaining source.new) result }
-        // they are its packet, or those of a frame of the first form
+        // What was read is the frame's packet, or its legacy frame.
         ensures took { IfOk result (λ next. IfSome next (λ frame.
             TookStored (S.remaining source.old) (S.remaining source.new) (stored_of frame))) }
         ensures fresh { IfOk result (λ next. IfSome next IsFresh) }

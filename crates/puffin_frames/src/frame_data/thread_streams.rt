@@ -21,13 +21,13 @@ use std::alloc::Global;
 use std::collections::BTreeMap;
 use std::sync::Arc;
 
-/// The room, in bytes, for the first reports of a thread: of a few scopes each, they follow each other closely.
+/// The room, in bytes, that a thread's first report gets if it is small: more small reports usually follow soon.
 const FIRST_ROOM: usize = 256;
 
-/// Streams by the infos of their threads.
+/// Streams with their counts, by thread.
 pub type ThreadStreams = BTreeMap<ThreadInfo, Arc<StreamInfo>>;
 
-/// The same streams, each moved into an `Arc`. Refused only with `Memory`.
+/// Moves each stream into an `Arc`. Fails only with `Memory`.
 pub(crate) fn shared(
     alloc: Global,
     streams: BTreeMap<ThreadInfo, StreamInfo>,
@@ -47,7 +47,7 @@ pub(crate) fn shared(
     Ok(shared)
 }
 
-/// The same streams once more. Refused only with `Memory`.
+/// Copies a map of streams; the copy shares them. Fails only with `Memory`.
 pub(crate) fn streams_copy(alloc: Global, streams: &ThreadStreams) -> Result<ThreadStreams>
     ensures ok { IfOk result (λ copy. pairs_of copy.entries ≡ pairs_of streams.now.entries) }
     ensures memory { IfErr result (λ e. e ≡ Error.Memory) }
@@ -59,10 +59,10 @@ pub(crate) fn streams_copy(alloc: Global, streams: &ThreadStreams) -> Result<Thr
     Ok(copy)
 }
 
-/// Appends an info's scopes to a shared one. Where it has another owner, that one keeps what it had.
+/// Appends an info's scopes to a shared one. Any other owner of that keeps the scopes it had.
 ///
-/// Refused with `UnlikeForms` where both have bytes in unlike forms, else with `TooLarge` where the number of scopes
-/// wouldn't fit `usize`, else only with `Memory`; what is recorded is then as before.
+/// Fails with `UnlikeForms` if both have bytes and their forms differ, else with `TooLarge` if the number of scopes doesn't fit
+/// `usize`, else only with `Memory`; the info is then as before.
 fn extend_shared(alloc: Global, shared: &mut Arc<StreamInfo>, times: &StreamInfoRef) -> Result<()>
     ensures ok { OnOk result (
         record_of (arc_value shared.new)
@@ -87,7 +87,7 @@ fn extend_shared(alloc: Global, shared: &mut Arc<StreamInfo>, times: &StreamInfo
     Ok(())
 }
 
-/// A copy of an info with another's scopes behind its own. Refused as [`StreamInfo::extend`] is.
+/// Copies an info and appends another's scopes to the copy. Fails as [`StreamInfo::extend`] does.
 #[cold]
 #[inline(never)]
 fn extended(alloc: Global, info: &StreamInfo, times: &StreamInfoRef) -> Result<Arc<StreamInfo>>
@@ -115,7 +115,8 @@ fn extended(alloc: Global, info: &StreamInfo, times: &StreamInfoRef) -> Result<A
     Ok(Arc::new(alloc, copy)?)
 }
 
-/// Whether an info's scopes and those that a map has under their thread have bytes in unlike forms. Takes no memory.
+/// Returns whether an info's scopes and those that the map has under their thread have bytes in unlike forms. Allocates
+/// nothing.
 pub fn are_unlike(streams: &ThreadStreams, info: &ThreadInfo, times: &StreamInfoRef) -> bool
     ensures { (result ≡ true)
         ↔ AreUnlike (stream_under (shared_streams streams.now.entries) (info_of info.now))
@@ -127,7 +128,7 @@ pub fn are_unlike(streams: &ThreadStreams, info: &ThreadInfo, times: &StreamInfo
     }
 }
 
-/// The info of no scope, for so many bytes. Where they are few there is room for more, if there is memory.
+/// Makes an empty info that is about to take so many bytes. If they are few, makes room for more, if there is memory.
 fn fresh_info(alloc: Global, bytes: usize) -> StreamInfo
     ensures honest { IsHonest result empty }
     ensures form { result.stream.form ≡ Form.Short }
@@ -140,12 +141,12 @@ fn fresh_info(alloc: Global, bytes: usize) -> StreamInfo
     fresh
 }
 
-/// A law for a proof: a number fits its type.
+/// A law for the proof: a number fits its type.
 fn fits(number: usize)
     ensures { number < 2 ^ 64 }
 {}
 
-/// A thread's first scopes, which are refused only with `Memory`.
+/// Makes the info of a thread's first scopes. Fails only with `Memory`.
 #[cold]
 #[inline(never)]
 fn first_info(alloc: Global, times: &StreamInfoRef) -> Result<Arc<StreamInfo>>
@@ -162,7 +163,7 @@ fn first_info(alloc: Global, times: &StreamInfoRef) -> Result<Arc<StreamInfo>>
     Ok(Arc::new(alloc, fresh)?)
 }
 
-/// Puts a thread's first scopes into a map. Refused only with `Memory`; nothing is changed then.
+/// Inserts a thread's first scopes into the map. Fails only with `Memory`; nothing changes then.
 #[cold]
 #[inline(never)]
 fn insert_first(streams: &mut ThreadStreams, info: ThreadInfo, first: Arc<StreamInfo>) -> Result<()>
@@ -180,11 +181,16 @@ fn insert_first(streams: &mut ThreadStreams, info: ThreadInfo, first: Arc<Stream
     Ok(())
 }
 
-/// Appends an info's scopes to those that a map has under their thread.
+/// Appends an info's scopes to those that the map has under their thread.
 ///
-/// Refused with `UnlikeForms` where those and the info's have bytes in unlike forms, else with `TooLarge` where the
-/// number of scopes under that thread wouldn't fit `usize`, else only with `Memory`; what the map has under each thread
-/// is then as before. Other owners of a stream of the map keep what they had.
+/// Fails with `UnlikeForms` if both have bytes and their forms differ, else with `TooLarge` if the number of scopes under that
+/// thread doesn't fit `usize`, else only with `Memory`; the scopes under each thread are then as before. Other owners of a
+/// stream in the map keep the scopes they had.
+///
+/// ```
+/// let mut streams = BTreeMap::new(alloc);
+/// report_to(alloc, &mut streams, thread, &info.as_stream_into_ref())?;
+/// ```
 #[inline(always)]
 pub fn report_to(
     alloc: Global,

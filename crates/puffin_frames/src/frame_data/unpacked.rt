@@ -12,15 +12,14 @@ use puffin_threads::thread_profiler::ThreadInfo;
 use std::alloc::Global;
 use std::collections::BTreeMap;
 
-/// A frame: the streams that were reported since the frame before, by the infos of their threads, with what is said of
-/// all of them together.
+/// A frame with its streams unpacked: the streams reported since the frame before, by thread, with their totals.
 ///
-/// The range in its meta isn't reversed, and its duration fits [`NanoSecond`], also where a frame is made by hand.
+/// The range in its meta isn't reversed, and its duration fits [`NanoSecond`], even if the frame is made by hand.
 #[derive(Drop)]
 pub struct UnpackedFrameData {
-    /// What is said of the streams together.
+    /// The index and the totals of the frame.
     pub meta: FrameMeta,
-    /// The streams by the infos of their threads.
+    /// The streams, by thread.
     pub thread_streams: ThreadStreams,
     pub ghost ordered: { meta.range_ns.0 ≤ℤ meta.range_ns.1 },
     pub ghost duration_fits: { FitsSigned w64 (meta.range_ns.1 -ℤ meta.range_ns.0) },
@@ -33,11 +32,11 @@ impl UnpackedFrameData {
     ghost use Rattle.puffin_frames.specs.Frame.Sums.{MakeFrame, RefusesFrame, meta_of};
     ghost use Rattle.puffin_frames.specs.Frame.Contents.{without_sharing, streams_of, all_recorded, contents};
 
-    /// The frame with this number of these streams, each of which is moved into an `Arc`.
+    /// Makes frame `frame_index` from these streams. Moves each stream into an `Arc`.
     ///
-    /// Refused with the first that applies: `TooLarge` where the sum of bytes or of scopes doesn't fit `usize`; `Empty`
-    /// where the joined range is reversed, as that of no scope is; `RangeTooLong` where its duration doesn't fit `i64`;
-    /// `Memory`. The streams are then dropped.
+    /// Fails with the first cause that applies: `TooLarge` if the sum of bytes or of scopes doesn't fit `usize`; `Empty` if the
+    /// joined range is reversed, as it is if there are no scopes; `RangeTooLong` if its duration doesn't fit `i64`; `Memory`.
+    /// The streams are then dropped.
     pub fn new(
         alloc: Global,
         frame_index: FrameIndex,
@@ -48,7 +47,7 @@ impl UnpackedFrameData {
         ensures streams { IfOk result (λ frame.
             without_sharing frame.thread_streams.entries ≡ thread_streams.entries) }
 
-        // The same by infos: the frame holds what was given, and what its meta says is said of what it holds.
+        // The same by infos: the frame holds the given streams, and its meta is theirs.
         ensures contents { IfOk result (λ frame.
             contents frame ≡ streams_of thread_streams.entries) }
         ensures own_meta { IfOk result (λ frame.
@@ -71,14 +70,14 @@ impl UnpackedFrameData {
         })
     }
 
-    /// The frame's number.
+    /// Returns the number of the frame.
     pub fn frame_index(&self) -> u64
         ensures { result ≡ self.now.meta.frame_index }
     {
         self.meta.frame_index
     }
 
-    /// The least start and the greatest stop, in nanoseconds.
+    /// Returns the least start and the greatest stop of all scopes, in nanoseconds.
     pub fn range_ns(&self) -> (NanoSecond, NanoSecond)
         ensures range { result ≡ self.now.meta.range_ns }
         ensures ordered { result.0 ≤ℤ result.1 }
@@ -86,7 +85,7 @@ impl UnpackedFrameData {
         self.meta.range_ns
     }
 
-    /// The time from the least start to the greatest stop, in nanoseconds.
+    /// Returns the time from the least start to the greatest stop, in nanoseconds.
     pub fn duration_ns(&self) -> NanoSecond
         ensures { result ≡ self.now.meta.range_ns.1 -ℤ self.now.meta.range_ns.0 }
     {
@@ -94,7 +93,7 @@ impl UnpackedFrameData {
         stop - start
     }
 
-    /// A copy, which shares the streams. Refused only with `Memory`.
+    /// Copies the frame; the copy shares the streams. Fails only with `Memory`.
     pub fn clone(&self, alloc: Global) -> Result<UnpackedFrameData>
         ensures contents { IfOk result (λ copy. contents copy ≡ contents self.now) }
         ensures meta { IfOk result (λ copy. copy.meta ≡ self.now.meta) }

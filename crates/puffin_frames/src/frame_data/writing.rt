@@ -1,4 +1,4 @@
-//! Frames, written to any writer.
+//! Writing frames to any writer.
 
 ghost use Rattle.std.specs.Prelude.{◌≡◌, ◌-◌, ◌+◌, ◌++◌, ◌^◌, ◌<◌, ◌≤◌, ◌⊎◌, Some, None, IfOk, IfErr, OnOk, OnErr, option_map, length};
 ghost use Rattle.std.specs.Io.KnownBytes.{Appends};
@@ -24,9 +24,9 @@ use puffin_threads::scope_details::{ScopeCollection, ScopeDetails};
 use std::alloc::Global;
 use std::sync::Arc;
 
-/// How many bytes a meta has, at most: five numbers of at most 9 bytes.
+/// The most bytes that a meta takes: five numbers of at most 9 bytes.
 const META_SIZE: usize = 45;
-/// How many bytes stand beside the meta before a packet's streams: the letters, two lengths and the kind.
+/// How many bytes a packet has before its streams, beside the meta: the letters, two lengths and the kind.
 const PACKET_HEAD_SIZE: usize = 13;
 
 /// Writes two pieces, one after the other.
@@ -46,7 +46,7 @@ fn write_both<D: Drain>(drain: &mut D, first: &[u8], second: &[u8]) -> Result<()
     write_all(drain, second)
 }
 
-/// A meta part.
+/// Encodes a meta. Fails only with `Memory`.
 fn meta_part(alloc: Global, meta: FrameMeta) -> Result<Vec<u8>, FileError>
     ensures ok { IfOk result (λ bytes. bytes.items ≡ meta_layout meta) }
     ensures short { length (meta_layout meta) < 2 ^ 32 }
@@ -60,7 +60,7 @@ fn meta_part(alloc: Global, meta: FrameMeta) -> Result<Vec<u8>, FileError>
     }
 }
 
-/// The letters of a packet that is written in this form.
+/// Returns the letters of packets of this form.
 fn letters(form: Form) -> &'static [u8]
     ensures { result.now ≡ letters_of (letter_for form) }
 {
@@ -70,7 +70,8 @@ fn letters(form: Form) -> &'static [u8]
     }
 }
 
-/// A packet's letters, its meta part, and the length and the kind of its streams.
+/// Encodes the front of a packet: its letters, its meta part, and the length and the kind of its streams. Fails only with
+/// `Memory`.
 #[tactic(auto, unfolding(crate::specs::Packet::Grammar::packet_head))]
 fn head(
     alloc: Global,
@@ -93,7 +94,7 @@ fn head(
     Ok(bytes)
 }
 
-/// Writes the packet of packed streams.
+/// Writes the packet of a frame whose streams are packed.
 fn write_packed<D: Drain>(
     alloc: Global,
     meta: &FrameMeta,
@@ -119,7 +120,7 @@ fn write_packed<D: Drain>(
     write_both(drain, &(details.len() as u32).to_le_bytes(), details)
 }
 
-/// Writes the packet of a frame that is held as it is.
+/// Writes the packet of a frame that is held unpacked.
 fn write_unpacked<D: Drain>(
     alloc: Global,
     frame: &UnpackedFrameData,
@@ -143,7 +144,7 @@ fn write_unpacked<D: Drain>(
     write_packed(alloc, &frame.meta, &streams, details, drain)
 }
 
-/// A list of details, as bytes. Refused only with `Memory`.
+/// Encodes a list of details. Fails only with `Memory`.
 fn delta_part(alloc: Global, details: &[Arc<ScopeDetails>]) -> Result<Vec<u8>, FileError>
     ensures ok { IfOk result (λ bytes. bytes.items ≡ details_layout (shared_details details.now)) }
     ensures fit { OnOk result (AreDetails (shared_details details.now)) }
@@ -156,7 +157,7 @@ fn delta_part(alloc: Global, details: &[Arc<ScopeDetails>]) -> Result<Vec<u8>, F
     }
 }
 
-/// The details of a collection by rising id, as bytes. Refused only with `Memory`.
+/// Encodes the details of a collection as a list, by rising id. Fails only with `Memory`.
 fn collection_part(alloc: Global, scopes: &ScopeCollection) -> Result<Vec<u8>, FileError>
     ensures ok { IfOk result (λ bytes. bytes.items ≡ details_layout (values scopes.now.by_id)) }
     ensures fit { OnOk result (AreDetails (values scopes.now.by_id)) }
@@ -170,7 +171,7 @@ fn collection_part(alloc: Global, scopes: &ScopeCollection) -> Result<Vec<u8>, F
 }
 
 impl FrameData {
-    /// The details of a collection by rising id, or else the frame's own, as bytes.
+    /// Encodes the details of a collection, if one is given, else the frame's own. Fails only with `Memory`.
     fn details_part(&self, scopes: Option<&ScopeCollection>) -> Result<Vec<u8>, FileError>
         ensures ok { IfOk result (λ bytes.
             bytes.items ≡ details_layout (
@@ -188,11 +189,17 @@ impl FrameData {
         }
     }
 
-    /// Writes the frame as one packet, `PFD4`, or `PFDL` where a stream is long, with the details of a collection by
-    /// rising id, or else with the frame's own. Streams that are packed are written as they are.
+    /// Writes the frame as one packet in the format that `docs/FORMAT.md` describes: `PFD4`, or `PFDL` if a stream is of the
+    /// long form. The packet has the details of `scopes`, by rising id, or without `scopes` the frame's own. Streams that are
+    /// packed are written as they are.
     ///
-    /// Refused with `PartTooLong` where a part has `2^32` bytes or more, with `Memory`, and with `Io` where a write failed or
-    /// took nothing of a piece that wasn't empty. Only after `Io` is anything written: a beginning of the packet.
+    /// Fails with `PartTooLong` if a part has `2^32` bytes or more, with `Memory`, or with `Io` if a write fails or takes none
+    /// of the bytes that are left. Only in case of `Io` is anything written: a beginning of the packet.
+    ///
+    /// ```
+    /// let mut drain = Counted::new(Vec::new(alloc));
+    /// frame.write_into(None, &mut drain)?;
+    /// ```
     pub fn write_into<D: Drain>(
         &self,
         scopes: Option<&ScopeCollection>,
@@ -202,7 +209,7 @@ impl FrameData {
         ensures written { WritesPacket D.contents D.failures D.takes drain.old drain.new
             (packet (says_with self.now (option_map (λ c. c.now) scopes.entry)))
             (HasLongPart (says_with self.now (option_map (λ c. c.now) scopes.entry))) result }
-        // What is written is read again.
+        // A packet that is written is read again.
         ensures packed { OnOk result (
             IsPacked (says_with self.now (option_map (λ c. c.now) scopes.entry))) }
     {

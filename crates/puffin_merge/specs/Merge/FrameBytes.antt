@@ -1,21 +1,21 @@
--- What merging reads of frames.
+-- What merging reads of a frame: one thread's stream, and the start of the frame's range.
 use Rattle.std.specs.Prelude.{◌≡◌, ℕ, ◌+◌, ◌/◌, ◌<◌, ◌^◌, ℤ, pos, List, [], ◌∷◌, length, sum_by, Option, None, Some, unwrap_or}
 use Rattle.puffin_data.specs.declared.data.form.Form.{Form}
 use Rattle.puffin_data.specs.declared.data.form.Form.TheVariants.{Short}
 use Rattle.puffin_data.specs.Forest.Spelling.{Spells}
 use Rattle.puffin_merge.specs.Merge.Occurrences.{FrameScopes}
 
--- a stream: the form of its texts, and its bytes
+-- a stream: its form and its bytes
 pub record StreamBytes : Type 0 where
   pub form : Form
   pub bytes : List ℕ
 
--- where a frame's range starts, and its stream under the info
+-- the start of a frame's range, and its stream under the info
 pub record FrameBytes : Type 0 where
   pub start : ℤ
   pub stream : Option StreamBytes
 
--- no bytes where there is no stream
+-- no bytes, in place of a missing stream
 abbrev pub no_stream : StreamBytes
 no_stream = record { form = Short; bytes = [] }
 
@@ -32,20 +32,20 @@ abbrev pub start_of : List FrameBytes → ℤ
 start_of [] = pos 0
 start_of (frame ∷ frames) = frame.start
 
--- the frame's bytes spell the forest in their form, and are no more than a slice may have
+-- the frame's bytes spell the forest in their form, and fit a slice
 pub record HasScopes (frame : FrameBytes) (scopes : FrameScopes) : Type 0 where
   pub start : scopes.start ≡ frame.start
   pub spells : Spells (form_of frame) (bytes_of frame) scopes.forest
   pub short : length (bytes_of frame) < 2 ^ 63
 
--- each frame's
+-- the same for each frame
 abbrev pub HaveScopes : List FrameBytes → List FrameScopes → Type 0
 HaveScopes [] [] = Unit {0}
 HaveScopes [] (scopes ∷ more) = ⊥
 HaveScopes (frame ∷ frames) [] = ⊥
 HaveScopes (frame ∷ frames) (scopes ∷ more) = HasScopes frame scopes × HaveScopes frames more
 
--- how often a scope is tried to be read in a stream at most
+-- the most tries of a walk over a frame's stream
 abbrev pub most_tries_of : FrameBytes → ℕ
 most_tries_of frame = elim (frame.stream) as (λ _. ℕ) [
   | None ↦ 0

@@ -1,4 +1,4 @@
--- What contracts see of a merger.
+-- What contracts see of a merger: the frames that were added to it.
 use Rattle.std.specs.Prelude.{◌≡◌, ℕ, ◌-◌, ◌^◌, ◌<◌, List, [], length}
 use Rattle.puffin_merge.specs.declared.merge.merger.Merger.{Merger}
 use Rattle.puffin_merge.specs.Merge.Occurrences.{FrameScopes, occurrences}
@@ -6,7 +6,7 @@ use Rattle.puffin_merge.specs.Merge.FrameBytes.{FrameBytes, HaveScopes, start_of
 use Rattle.puffin_merge.specs.Merge.Refusals.{AreAccepted}
 use Rattle.puffin_merge.specs.inner.Tables.{IsTableOf}
 
--- These frames were added, in order, and their scopes are accepted and stand in the table.
+-- These frames were added, in order; their scopes were accepted and are in the table.
 pub record HasAdded (added : List FrameBytes) (m : Merger) : Type 0 where
   pub scopes : List FrameScopes
   pub have : HaveScopes added scopes
@@ -19,6 +19,6 @@ pub record HasAdded (added : List FrameBytes) (m : Merger) : Type 0 where
 abbrev pub tries_for : {added : List FrameBytes} → {m : Merger} → HasAdded added m → ℕ
 tries_for h = length (occurrences h.scopes)
 
--- some frames were added, and one more can be counted
+-- some frames were added, and the count of one more fits
 abbrev pub CanAdd : Merger → Type 0
 CanAdd m = ((added : List FrameBytes) × HasAdded added m) × (m.frames < 2 ^ 64 - 1)

@@ -1,4 +1,4 @@
--- The scopes of frames under one info, each as merging sees it.
+-- The occurrences of scopes under one info, each with its path, start and duration.
 use Rattle.std.specs.Prelude.{ℕ, ℤ, ◌-ℤ◌, nat_abs, pos, Bool, List, [], ◌∷◌, ◌++◌, map, flat_map}
 use Rattle.std.specs.declared.cmp.Ordering.{Ordering}
 use Rattle.std.specs.Ordering.{nat_cmp, on, then_cmp, eq_by_cmp}
@@ -7,16 +7,16 @@ use Rattle.puffin_data.specs.Forest.{Span, Forest}
 use Rattle.puffin_data.specs.Walk.Sights.{Nested, nested_in}
 use Rattle.puffin_data.specs.Text.{text_in}
 
--- what tells a scope from its siblings: its id, and its text's bytes
+-- identifies a scope among its siblings: its id and its text's bytes
 pub record Label : Type 0 where
   pub id : ℕ
   pub text : List ℕ
 
--- by id, and then by the text's bytes
+-- by id, then by the text's bytes
 abbrev pub label_cmp : Label → Label → Ordering
 label_cmp = then_cmp (on (λ l. l.id) nat_cmp) (on (λ l. l.text) (slice_cmp nat_cmp))
 
--- the labels from the top down to a scope, its own the last
+-- the labels from the top level down to a scope, its own last
 abbrev pub Path : Type 0
 Path = List Label
 
@@ -29,18 +29,18 @@ label_of s = record { id = s.id; text = text_in s.text }
 abbrev pub path_of : List Span → Path
 path_of spans = map label_of spans
 
--- One scope in one frame. Its own start is counted from its parent's start, a top scope's from the first frame's range.
+-- One scope in one frame. Its own start is measured from its parent's start, that of a top-level scope as if every frame began when the first did.
 pub record Occurrence : Type 0 where
   pub path : Path
   pub own_start : ℤ
   pub duration : ℕ
 
--- what is counted from within these scopes: the start of the innermost
+-- the start of the innermost of these scopes, or the origin without scopes
 abbrev pub origin_in : ℤ → List Span → ℤ
 origin_in origin [] = origin
 origin_in origin (s ∷ around) = origin_in s.start around
 
--- a scope of a forest whose top scopes' starts are counted from an origin
+-- a scope of a forest whose top-level scopes' starts are measured from an origin
 abbrev pub occurrence_of : ℤ → Nested → Occurrence
 occurrence_of origin scope = record {
   path = path_of scope.around ++ (label_of scope.span ∷ []);
@@ -51,12 +51,12 @@ occurrence_of origin scope = record {
 abbrev pub occurrences_in : ℤ → List Nested → List Occurrence
 occurrences_in origin scopes = map (occurrence_of origin) scopes
 
--- what merging reads of a frame: where its range starts, and the scopes under the info, none where there is no stream
+-- what merging reads of a frame: the start of its range, and the scopes under the info, none without a stream
 pub record FrameScopes : Type 0 where
   pub start : ℤ
   pub forest : Forest
 
--- all scopes of a frame, a top scope's start counted as if the frame's range started where the first frame's does
+-- all scopes of a frame, with starts of top-level scopes measured as if the frame's range began when the first frame's did
 abbrev pub occurrences_of : ℤ → FrameScopes → List Occurrence
 occurrences_of first frame = occurrences_in (frame.start -ℤ first) (nested_in [] frame.forest)
 

@@ -1,4 +1,4 @@
--- What is said of a path: number, sum, greatest and least over its occurrences.
+-- The number, sum, greatest duration and least start of a path's occurrences.
 use Rattle.std.specs.Prelude.{ℕ, ℤ, pos, max, List, [], ◌∷◌, length, filter, fold, sum_by}
 use Rattle.std.specs.Int.{int_min}
 use Rattle.puffin_merge.specs.Merge.Occurrences.{Occurrence, Path, is_path}
@@ -13,12 +13,12 @@ total_of pieces = sum_by (λ o. o.duration) pieces
 abbrev pub greatest_of : List Occurrence → ℕ
 greatest_of pieces = fold (λ d o. max d o.duration) 0 pieces
 
--- of none, 0
+-- 0 without pieces
 abbrev pub least_start_of : List Occurrence → ℤ
 least_start_of [] = pos 0
 least_start_of (o ∷ pieces) = fold (λ t p. int_min t p.own_start) o.own_start pieces
 
--- a merged scope: its pieces' number, sum of durations, greatest duration and least own start
+-- the sums of a path: its pieces' number, total duration, greatest duration and least own start
 pub record Merged : Type 0 where
   pub number : ℕ
   pub total : ℕ
@@ -33,6 +33,6 @@ merged_of pieces = record {
   own_start = least_start_of pieces;
 }
 
--- the merged scope of a path
+-- the sums of a path
 abbrev pub merged_at : List Occurrence → Path → Merged
 merged_at all path = merged_of (pieces_at all path)

@@ -12,11 +12,11 @@ use Rattle.puffin_merge.specs.Merge.Tree.{MergedForest, no_node, merged}
 use Rattle.puffin_merge.specs.Merge.{IsMerge}
 use Rattle.puffin_merge.specs.Merge.FrameBytes.{FrameBytes, form_of, bytes_of, start_of, HaveScopes, most_tries}
 
--- a scope that stands within at most 1,023 others
+-- a scope that is nested in at most 1,023 others
 abbrev pub IsShallow : Occurrence → Type 0
 IsShallow o = length o.path ≤ 1024
 
--- after these occurrences, one more with whose path the number fits a usize and the sum an i64
+-- with one occurrence more, the number of its path fits usize and the total i64
 pub record SumsFit (done : List Occurrence) (o : Occurrence) : Type 0 where
   pub number : (merged_at (done ++ (o ∷ [])) o.path).number < 2 ^ 64
   pub total : (merged_at (done ++ (o ∷ [])) o.path).total < 2 ^ 63
@@ -26,27 +26,27 @@ pub record Fits (done : List Occurrence) (o : Occurrence) : Type 0 where
   pub own_start : FitsSigned w64 o.own_start
   pub sums : SumsFit done o
 
--- one more occurrence that is refused: the first that stands within 1,024 others, or one whose numbers don't fit
+-- one occurrence more is refused: the first that is nested in 1,024 others, or one whose sums don't fit
 abbrev pub IsRefusedFor : List Occurrence → Occurrence → Error → Type 0
 IsRefusedFor done o e =
     ((length o.path ≡ 1025) × (e ≡ TooDeep)) ⊎ (IsShallow o × (Fits done o → ⊥) × (e ≡ TooLarge))
 
--- after some occurrences, each of these in turn is accepted
+-- each of these is accepted in turn, after those that were accepted before
 abbrev pub AreAccepted : List Occurrence → List Occurrence → Type 0
 AreAccepted done [] = Unit {0}
 AreAccepted done (o ∷ more) = IsShallow o × Fits done o × AreAccepted (done ++ (o ∷ [])) more
 
--- What a frame whose stream is of a form is refused with after so many tries to read a scope of it, behind the occurrences of the frames before. Its top scopes' starts are counted from `origin`.
+-- The refusal of a frame whose stream has this form, after so many tries, and after the occurrences of the frames before. Starts of its top-level scopes are measured from `origin`.
 pub data IsFrameRefusal (done : List Occurrence) (origin : ℤ) (form : Form) (bytes : List ℕ) :
     ℕ → Error → Type 0 where
-  -- the first fault of the bytes, where all sound scopes before it are accepted: one try for each of these, and one more where a scope begins at the fault
+  -- the first fault of the bytes, if all sound scopes before it are accepted: one try for each of these, and one more if a `(` is at the fault
   faulty : {place : ℕ} {fault : Error} {sights : List Sight} →
       IsFirstFault form bytes place fault →
       Sees form bytes [] 0 (length bytes) sights →
       AreAccepted done (occurrences_in origin (scopes_of (before place sights))) →
       IsFrameRefusal done origin form bytes
       (length (before place sights) + (if slice_index bytes place == 40 then 1 else 0)) fault
-  -- a sound scope before any fault, the first that isn't accepted: one try for each before it, and one for it
+  -- the first sound scope that isn't accepted, before any fault: one try for each before it, and one for it
   refused : (earlier later : List Sight) (s : Sight) {refusal : Error} →
       Sees form bytes [] 0 (length bytes) (earlier ++ (s ∷ later)) →
       AreAccepted done (occurrences_in origin (scopes_of earlier)) →
@@ -57,13 +57,13 @@ pub data IsFrameRefusal (done : List Occurrence) (origin : ℤ) (form : Form) (b
       s.place ≤ p) →
       IsFrameRefusal done origin form bytes (length earlier + 1) refusal
 
--- each node ends at a time that fits
+-- the end of each node fits
 abbrev pub EndsFit : MergedForest → Type 0
 EndsFit no_node = Unit {0}
 EndsFit (merged n children others) =
     FitsSigned w64 (n.start +ℤ n.per_frame) × EndsFit children × EndsFit others
 
--- What merging is refused with after so many tries: that of the first frame that is refused, after one try for each scope of the frames before it and the frame's own; or, where none is, an end that doesn't fit, after one try for each scope.
+-- The refusal of a merge after so many tries: that of the first refused frame, after one try for each scope of the frames before it and the frame's own; or, if there is none, an end that doesn't fit, after one try for each scope.
 pub data IsRefusalAfter (frames : List FrameBytes) : ℕ → Error → Type 0 where
   in_frame : (earlier later : List FrameBytes) (frame : FrameBytes) (scopes : List FrameScopes)
       {tries : ℕ} {refusal : Error} →
@@ -76,11 +76,11 @@ pub data IsRefusalAfter (frames : List FrameBytes) : ℕ → Error → Type 0 wh
       AreAccepted [] (occurrences scopes) → IsMerge (occurrences scopes) (length frames) f →
       (EndsFit f → ⊥) → IsRefusalAfter frames (length (occurrences scopes)) TooLarge
 
--- what merging is refused with
+-- the refusal of a merge, whatever its tries
 abbrev pub IsMergeRefusal : List FrameBytes → Error → Type 0
 IsMergeRefusal frames refusal = (tries : ℕ) × IsRefusalAfter frames tries refusal
 
--- The frames are merged: each stream is of scopes, and the forest is their merge.
+-- The frames are merged: each stream spells scopes, and the forest is their merge.
 pub record AreMerged (frames : List FrameBytes) (f : MergedForest) : Type 0 where
   pub scopes : List FrameScopes
   pub have : HaveScopes frames scopes
@@ -88,7 +88,7 @@ pub record AreMerged (frames : List FrameBytes) (f : MergedForest) : Type 0 wher
   pub merge : IsMerge (occurrences scopes) (length frames) f
   pub ends : EndsFit f
 
--- Some frames from the first on are accepted, and of the others at most the next was read, with so many tries in all.
+-- Some first frames are accepted, and of the others at most the next was read, with so many tries in all.
 pub record ReadsFew (frames : List FrameBytes) (tries : ℕ) : Type 0 where
   pub accepted : ℕ
   pub scopes : List FrameScopes

@@ -16,7 +16,7 @@ use Rattle.puffin_merge.specs.Merge.Tree.{MergedForest, no_node, merged}
 abbrev pub stream_in : Recorded → StreamBytes
 stream_in r = record { form = r.form; bytes = r.bytes }
 
--- a frame's range start, and its stream under an info
+-- the start of a frame's range, and its stream under an info
 abbrev pub frame_bytes : Info → UnpackedFrameData → FrameBytes
 frame_bytes info frame = record {
   start = frame.meta.range_ns.0;

@@ -16,7 +16,7 @@ pub data MergedForest : Type 0 where
   no_node : MergedForest
   merged : (first : Node) → (children : MergedForest) → (others : MergedForest) → MergedForest
 
--- the nodes at the top
+-- the nodes of the top level
 abbrev pub row : MergedForest → List Node
 row no_node = []
 row (merged n children others) = n ∷ row others

@@ -1,4 +1,4 @@
--- What the table takes from a stream, scope by scope. Steps of the proof, and no part of what is promised.
+-- What the table takes from a stream, scope by scope.
 use Rattle.std.specs.Prelude.{◌≡◌, ◌≤◌, ℤ, List, [], ◌∷◌, ◌++◌, length, vec_len}
 use Rattle.std.proofs.Common.{refl, sym, ap, subst, ◌∙◌, append_assoc, arith}
 use Rattle.std.proofs.lemmas.List.{map-append}
@@ -12,7 +12,7 @@ use Rattle.puffin_merge.specs.inner.Origins.{IsOrigin}
 use Rattle.puffin_merge.specs.Merge.Refusals.{IsRefusedFor, AreAccepted}
 use Rattle.puffin_merge.specs.inner.Tables.{path_at, IsTableOf, Extends}
 
--- the scopes' occurrences are accepted, and the table has them too
+-- the scopes' occurrences are accepted, and were added to the table
 pub record TakesScopes (v : Merging) (scopes : List Nested) (w : Merging) : Type 0 where
   pub origin : w.origin ≡ v.origin
   pub extends : Extends v.table w.table
@@ -26,7 +26,7 @@ RefusesScope v scope e =
     (all : List Occurrence) → IsTableOf all v.table →
     IsRefusedFor all (occurrence_of v.origin scope) e
 
--- what is kept of an open scope is that of the innermost of these
+-- what is kept for an open scope is that of the innermost of these scopes
 pub record StandsFor (v : Merging) (w : Open) (around : List Span) : Type 0 where
   pub table : (all : List Occurrence) × IsTableOf all v.table
   pub node : w.node.number ≤ vec_len v.table.nodes

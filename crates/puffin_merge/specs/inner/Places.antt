@@ -1,4 +1,4 @@
--- The nodes of a table in the order in which their forest is made, and their starts. Steps of the proof, and no part of what is promised.
+-- The nodes of a table in the order in which the result is made of them, with their starts.
 use Rattle.std.specs.Prelude.{◌≡◌, ℕ, ◌+◌, ◌-◌, ◌/◌, ◌<◌, ◌==◌, pos, ◌+ℤ◌, FitsSigned, List, [], ◌∷◌, length, slice_index_or, string_bytes, All, ◌⊎◌, if◌then◌else◌}
 use Rattle.std.specs.Int.{w64}
 use Rattle.std.specs.declared.cmp.Ordering.{Ordering}
@@ -12,7 +12,7 @@ use Rattle.puffin_merge.specs.declared.merge.table.Sums.{Sums}
 use Rattle.puffin_merge.specs.Merge.Starts.{earliest_start}
 use Rattle.puffin_merge.specs.Merge.Tree as forests
 
--- a place is that of the node at k
+-- the place of the node at k
 pub record IsPlaceAt (nodes : List Node) (k : ℕ) (p : Place) : Type 0 where
   pub number : p.number.number ≡ k + 1
   pub parent : (d : Node) → p.parent.number ≡ (slice_index_or nodes k d).key.parent.number
@@ -23,12 +23,12 @@ pub record IsPlaceAt (nodes : List Node) (k : ℕ) (p : Place) : Type 0 where
 abbrev pub IsPlaceOf : List Node → Place → Type 0
 IsPlaceOf nodes p = (k : ℕ) × (k < length nodes) × IsPlaceAt nodes k p
 
--- some element, by recursion
+-- the property holds for some element, by recursion
 abbrev pub SomeOf : {A : Type 0} → (A → Type 0) → List A → Type 0
 SomeOf P [] = ⊥
 SomeOf P (x ∷ xs) = P x ⊎ SomeOf P xs
 
--- each two differ, by recursion
+-- the property holds for each element, by recursion; and no two places have the same number
 abbrev pub EachOf : {A : Type 0} → (A → Type 0) → List A → Type 0
 EachOf P [] = Unit {0}
 EachOf P (x ∷ xs) = P x × EachOf P xs
@@ -53,11 +53,11 @@ pub record ArePlacesOf (nodes : List Node) (places : List Place) : Type 0 where
   pub apart : AreApart places
   pub sorted : IsSorted place_cmp places
 
--- where nodes of no parent are drawn from
+-- the start of the walk over the nodes: no node, and an end of 0
 abbrev pub above_all : Drawn
 above_all = record { parent = 0; start = pos 0; end = pos 0 }
 
--- the next node, as early as it can be: after its sibling's end, and from 0 where the one before is no sibling
+-- the next node, as early as possible: after its sibling's end, or from 0 if the node before is no sibling
 abbrev pub drawn_after : ℕ → Sums → Place → Drawn → Drawn
 drawn_after frames sums place before =
     let start = earliest_start
@@ -76,7 +76,7 @@ drawn_from nodes frames before (p ∷ places) d =
 abbrev pub EndFits : Drawn → Type 0
 EndFits drawn = FitsSigned w64 drawn.end
 
--- a place's node as it is drawn
+-- the merged node of a place
 abbrev pub drawn_node : ℕ → Sums → Place → Drawn → forests.Node
 drawn_node frames sums p drawn = record {
   label = record { id = p.id; text = p.text.now };

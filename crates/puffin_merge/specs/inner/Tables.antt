@@ -1,4 +1,4 @@
--- A table of nodes, each of which is found by its parent's number and its label. Steps of the proof, and no part of what is promised.
+-- The table of nodes, each found by its parent's number and its label.
 use Rattle.std.specs.Prelude.{◌≡◌, ℕ, ◌+◌, ◌-◌, ◌<◌, ◌≤◌, ◌^◌, ℤ, max, List, [], ◌∷◌, ◌++◌, map, fold, slice_index_or, slice_set, All, vec_len, string_bytes, string_cmp, Option, None, Some}
 use Rattle.std.specs.declared.cmp.Ordering.{Ordering}
 use Rattle.std.specs.declared.string.String.{String}
@@ -34,7 +34,7 @@ merged_in sums = record {
   own_start = sums.own_start;
 }
 
--- The paths of the numbers from 0 on: above all nodes is the empty path, and a node's is its label below its parent's.
+-- The paths of the nodes' numbers: 0 has the empty path, and a node's path is its label below its parent's path.
 abbrev pub with_path : List Path → Key → List Path
 with_path paths key =
     paths ++ (below (slice_index_or paths key.parent.number []) (label_in key) ∷ [])
@@ -48,12 +48,12 @@ keys_in nodes = map (λ n. n.key) nodes
 abbrev pub path_at : List Node → ℕ → Path
 path_at nodes number = slice_index_or (paths_of (keys_in nodes)) number []
 
--- a key of this label below this parent
+-- a key with this label below this parent
 pub record IsUnder (a : Key) (number : ℕ) (text : Label) : Type 0 where
   pub parent : a.parent.number ≡ number
   pub label : label_in a ≡ text
 
--- keys that find the same
+-- keys with the same parent and label
 abbrev pub IsSameKey : Key → Key → Type 0
 IsSameKey a b = IsUnder a b.parent.number (label_in b)
 
@@ -76,11 +76,11 @@ abbrev pub number_in : Table → Key → Option TextNumber → Option NodeNumber
 number_in t key None = None
 number_in t key (Some text) = lookup (is_at (spot_cmp (spot_of key text))) t.numbers.entries
 
--- where a key is found: by its text's number
+-- the number under which a key is found, by its text's number
 abbrev pub found_in : Table → Key → Option NodeNumber
 found_in t key = number_in t key (lookup (is_at (string_cmp key.text)) t.texts.entries)
 
--- each node is found, and nothing else is; each text has a number of its own
+-- exactly the nodes are found, and each text has a number of its own
 pub record IsFound (t : Table) : Type 0 where
   pub found : (q : Key) (x : NodeNumber) → found_in t q ≡ Some x →
       (0 < x.number) × (x.number ≤ vec_len t.nodes) × HasKey t.nodes.items (x.number - 1) q
@@ -111,14 +111,14 @@ grown_node n own_start duration = record {
   };
 }
 
--- the sums of the node at k fit with one piece more
+-- the sums of the node at k fit with one more piece
 abbrev pub FitsOneMore : List Node → ℕ → ℕ → Type 0
 FitsOneMore nodes k duration =
     (d : Node) →
     ((slice_index_or nodes k d).sums.number + 1 < 2 ^ 64)
     × ((slice_index_or nodes k d).sums.total + duration < 2 ^ 63)
 
--- the sums of the node at k fit with one piece more, which it takes in, and the others stay
+-- one piece was added to the node at k, whose sums fit, and nothing else changed
 abbrev pub GrowsAt : Table → ℕ → ℤ → ℕ → Table → Type 0
 GrowsAt t k own_start duration u =
     (u.texts ≡ t.texts)
@@ -128,7 +128,7 @@ GrowsAt t k own_start duration u =
     grown_node (slice_index_or t.nodes.items k d) own_start duration))
     × FitsOneMore t.nodes.items k duration
 
--- a node has what is merged at its path
+-- a node has the sums of its path
 pub record IsNodeOf (all : List Occurrence) (nodes : List Node) (k : ℕ) (n : Node) : Type 0 where
   pub id : 0 < n.key.id
   pub earlier : n.key.parent.number ≤ k
@@ -148,7 +148,7 @@ pub record IsTableOf (all : List Occurrence) (t : Table) : Type 0 where
       all
   pub found : IsFound t
 
--- a piece of a label below a node
+-- an occurrence with this label below a node
 abbrev pub occurrence_at : Table → ℕ → Label → ℤ → ℕ → Occurrence
 occurrence_at t parent label own_start duration = record {
   path = below (path_at t.nodes.items parent) label;
@@ -156,12 +156,12 @@ occurrence_at t parent label own_start duration = record {
   duration = duration;
 }
 
--- the numbers of a table keep their paths
+-- the nodes of a table keep their numbers and their paths
 pub record Extends (t u : Table) : Type 0 where
   pub longer : vec_len t.nodes ≤ vec_len u.nodes
   pub kept : (k : ℕ) → k ≤ vec_len t.nodes → path_at u.nodes.items k ≡ path_at t.nodes.items k
 
--- one piece of a label below a node was taken in, at the node with this number
+-- one occurrence with this label below a node was added, to the node with this number
 pub record AddsAt (t : Table) (parent : ℕ) (label : Label) (own_start : ℤ) (duration at : ℕ)
     (u : Table) : Type 0 where
   pub number : at ≤ vec_len u.nodes

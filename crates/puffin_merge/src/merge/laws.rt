@@ -1,4 +1,5 @@
-//! Laws of merging, as contracts of functions that do nothing. A proof of another crate cites them by calling the function.
+//! Laws of merging. Each is the contract of a function that does nothing; a proof of another crate cites it by calling the
+//! function.
 
 ghost use Rattle.std.specs.Prelude.{◌≡◌, ◌↔◌, true, ℕ, pos, List, [], ◌∷◌, ◌++◌, IsPermutation};
 ghost use Rattle.std.specs.declared.sync.Arc.{Arc};
@@ -23,8 +24,8 @@ pub fn earliest_starts()
         IsLeastFeasible siblings (earliest_starts (pos 0) siblings) }
 {}
 
-/// What is merged doesn't depend on the order of the frames after the first. So where some frames have a merge, the same
-/// frames with the first one first have it in any order, and merging these gives it, or is refused for want of memory.
+/// A merge doesn't depend on the order of the frames after the first. So frames that have a merge have it in any order that
+/// keeps the first one first, and merging them in that order gives it, or fails with `Memory`.
 pub fn frames_in_any_order()
     ensures frames { (info : Info) (first : Arc UnpackedFrameData Global)
         (others again : List (Arc UnpackedFrameData Global)) → IsPermutation others again →
@@ -36,7 +37,7 @@ pub fn frames_in_any_order()
         IsMerge (occurrences (first ∷ again)) frames f }
 {}
 
-/// Frames are merged into one forest at most, and then no refusal is theirs.
+/// Frames have at most one merge, and frames that have one have no refusal.
 pub fn one_outcome()
     ensures merged { (frames : List FrameBytes) (f g : MergedForest) → AreMerged frames f →
         AreMerged frames g → f ≡ g }
@@ -49,14 +50,15 @@ pub fn one_outcome()
     puffin_data::laws::sights_of_a_walk();
 }
 
-/// A merged scope among others may stand for one that says the same.
+/// A merged scope among others can be replaced by one that contracts see as the same.
 pub fn same_scopes()
     ensures { (before after : List MergeScope) (s t : MergeScope) →
         forest_in (s ∷ []) ≡ forest_in (t ∷ []) →
         forest_in (before ++ (s ∷ after)) ≡ forest_in (before ++ (t ∷ after)) }
 {}
 
-/// Merged scopes are equal where they say the same, down to the innermost, wherever their texts are kept.
+/// Merged scopes are equal exactly when contracts see them as the same, with all their children, wherever their texts are
+/// stored.
 pub fn equal_scopes<'s>()
     ensures { (s t : MergeScope) →
         (⟦<MergeScope<'s> as PartialEq>⟧.eq s t ≡ true)

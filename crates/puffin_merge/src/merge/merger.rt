@@ -19,8 +19,8 @@ use std::alloc::Global;
 
 /// Merges one thread's scopes over frames that are added one at a time.
 ///
-/// It keeps the table of their paths, with texts of its own, and nothing of a frame once that is added. So frames may be
-/// read, added and dropped one after the other.
+/// It keeps a table of the scopes' paths, with its own copies of their texts, and nothing of the frames. So a frame can be
+/// dropped once it was added.
 ///
 /// ```
 /// let mut merger = Merger::new(alloc, &info);
@@ -38,7 +38,7 @@ pub struct Merger<'i> {
 }
 
 impl<'i> Merger<'i> {
-    /// Makes a merger of the scopes under an info, to which no frame was added yet. Takes no memory.
+    /// Makes a merger of the scopes under an info, without frames. Allocates nothing.
     pub fn new(alloc: Global, info: &'i ThreadInfo) -> Merger<'i>
         ensures info { result.info.now ≡ info.now }
         ensures none { HasAdded [] result }
@@ -52,17 +52,17 @@ impl<'i> Merger<'i> {
         }
     }
 
-    /// How many frames were added.
+    /// Returns how many frames were added.
     pub fn frames(&self) -> usize
         ensures { (added : List FrameBytes) → HasAdded added self.now → result ≡ length added }
     {
         self.frames
     }
 
-    /// Merges a frame with those that were added before it. Fewer than `2^64 - 1` may have been.
+    /// Adds a frame after those added before. These have to be fewer than `2^64 - 1`.
     ///
-    /// Refused with what merging these frames is refused with, whatever frames follow, or with `Memory`. After a refusal
-    /// the merger takes no more frames, and can't be finished.
+    /// Fails with the refusal that merging these frames has, whatever frames follow, or with `Memory`. After that the merger
+    /// takes no more frames and can't be finished.
     pub fn add(&mut self, frame: &UnpackedFrameData) -> Result<()>
         requires { CanAdd self.old }
         ensures info { self.new.info ≡ self.old.info }
@@ -76,7 +76,7 @@ impl<'i> Merger<'i> {
         self.add_counted(frame, &mut tries)
     }
 
-    /// The same. `tries` is set to the number of readings made at a byte `(`.
+    /// Adds a frame as [`Merger::add`] does. Sets `tries` to the number of readings made at a byte `(`.
     pub(crate) fn add_counted(&mut self, frame: &UnpackedFrameData, tries: &mut u64) -> Result<()>
         requires { CanAdd self.old }
         ensures info { self.new.info ≡ self.old.info }
@@ -107,7 +107,7 @@ impl<'i> Merger<'i> {
         Ok(())
     }
 
-    /// Where the first frame's range starts, if this one is the next.
+    /// Returns the start of the first frame's range, if this frame is added next.
     fn first_with(&self, frame: &UnpackedFrameData) -> NanoSecond
         ensures none { self.now.frames ≡ 0 → result ≡ frame.now.meta.range_ns.0 }
         ensures some { 0 < self.now.frames → result ≡ self.now.first }
@@ -119,9 +119,10 @@ impl<'i> Merger<'i> {
         }
     }
 
-    /// Gives the merge of the frames that were added, in their order; no frames give none. The scopes own their texts.
+    /// Returns the merge of the frames that were added, in their order. Returns no scopes if there are no frames. The scopes
+    /// own their texts.
     ///
-    /// Refused with `TooLarge` where an end doesn't fit, and with `Memory`.
+    /// Fails with `TooLarge` if an end doesn't fit, and with `Memory`.
     pub fn finish<'s>(self) -> Result<Vec<MergeScope<'s>>>
         requires { (added : List FrameBytes) × HasAdded added self }
         ensures merged { IfOk result (λ merged. (added : List FrameBytes) →

@@ -6,29 +6,30 @@ use puffin_data::{Error, NanoSecond, Result};
 use std::alloc::Global;
 use std::borrow::CowStr;
 
-/// A scope that was merged from many with the same path of ids and texts.
+/// A scope merged from all those with the same path of ids and texts, its pieces.
 #[derive(Debug, PartialEq, Drop)]
 pub struct MergeScope<'s> {
-    /// When it starts, in nanoseconds, counted from its parent's start.
+    /// The start, in nanoseconds, measured from the parent's start. That of a top-level scope is measured as if every frame
+    /// began when the first did.
     pub relative_start_ns: NanoSecond,
-    /// How long all its pieces took, in nanoseconds.
+    /// The total duration of all pieces, in nanoseconds.
     pub total_duration_ns: NanoSecond,
-    /// The same divided by the number of all frames, cut down.
+    /// The total duration divided by the number of frames, rounded down.
     pub duration_per_frame_ns: NanoSecond,
-    /// How long the longest of its pieces took, in nanoseconds.
+    /// The duration of the longest piece, in nanoseconds.
     pub max_duration_ns: NanoSecond,
-    /// How many scopes were merged.
+    /// The number of pieces.
     pub num_pieces: usize,
-    /// What stands for the scopes' details.
+    /// Identifies the pieces' details.
     pub id: ScopeId,
-    /// The text that was stored with them.
+    /// The pieces' text.
     pub text: CowStr<'s>,
-    /// What was merged from the scopes directly in them.
+    /// The merged scopes directly within the pieces.
     pub children: Vec<MergeScope<'s>>,
 }
 
 impl<'s> MergeScope<'s> {
-    /// The same with texts of its own, down to the innermost. Refused only with `Memory`.
+    /// Copies all borrowed texts, those of the children too. Fails only with `Memory`.
     pub fn into_owned(self, alloc: Global) -> Result<MergeScope<'static>>
         ensures same { IfOk result (λ owned. forest_in (owned ∷ []) ≡ forest_in (self.entry ∷ [])) }
         ensures memory { IfErr result (λ e. e ≡ Error.Memory) }
@@ -60,7 +61,7 @@ impl<'s> MergeScope<'s> {
         })
     }
 
-    /// A copy, with borrowed texts borrowed again, down to the innermost. Refused only with `Memory`.
+    /// Copies the scope and its children; borrowed texts stay borrowed. Fails only with `Memory`.
     pub fn clone(&self) -> Result<MergeScope<'s>>
         ensures same { IfOk result (λ copy. forest_in (copy ∷ []) ≡ forest_in (self.now ∷ [])) }
         ensures memory { IfErr result (λ e. e ≡ Error.Memory) }

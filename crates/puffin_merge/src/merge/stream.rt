@@ -1,4 +1,4 @@
-//! Taking the scopes of a stream into the table.
+//! Adds the scopes of a stream to the table.
 
 ghost use Rattle.std.specs.Prelude.{◌≡◌, ◌<◌, ◌≤◌, ◌^◌, ◌⊎◌, ◌-ℤ◌, List, [], length, if◌then◌else◌, Ok, Err, IfOk, IfErr};
 ghost use Rattle.puffin_data.specs.Walk.Visitor.{TakesAll, StopsEarly};
@@ -17,22 +17,22 @@ use puffin_frames::frame_data::UnpackedFrameData;
 use puffin_frames::thread_profiler::ThreadInfo;
 use std::alloc::Global;
 
-/// How many scopes may stand one within the other.
+/// The greatest nesting depth.
 const GREATEST_DEPTH: usize = 1024;
 
-/// What is kept of an open scope.
+/// What the walk keeps for an open scope.
 #[derive(Clone, Copy, Debug)]
 pub(crate) struct Open {
-    /// Its node.
+    /// The scope's node.
     pub node: NodeNumber,
-    /// How many scopes stand one within the other down to it.
+    /// The scope's nesting depth; 1 for a top-level scope.
     pub depth: usize,
-    /// What the starts of the scopes in it are counted from.
+    /// What the starts of the scopes within it are measured from.
     pub origin: i128,
 }
 
 impl Open {
-    /// Above all scopes.
+    /// Makes the parent of the top-level scopes, which is no scope.
     pub(crate) fn outside(origin: i128) -> Open
         ensures { result ≡ record { node = record { number = 0 }; depth = 0; origin = origin } }
     {
@@ -44,7 +44,7 @@ impl Open {
     }
 }
 
-/// The table, and what the starts of top scopes are counted from in the stream that is read.
+/// The table, and what the starts of top-level scopes are measured from in the current stream.
 #[derive(Drop)]
 pub(crate) struct Merging {
     pub table: Table,
@@ -52,7 +52,7 @@ pub(crate) struct Merging {
 }
 
 impl Merging {
-    /// Nothing is merged yet.
+    /// Makes an empty table.
     pub(crate) fn new(alloc: Global) -> Merging
         ensures { IsTableOf [] result.table }
     {
@@ -63,7 +63,7 @@ impl Merging {
     }
 }
 
-/// A start counted from an origin.
+/// Measures a start from an origin. Fails with `TooLarge` if the result doesn't fit `i64`.
 fn own_start(start: NanoSecond, origin: i128) -> Result<NanoSecond>
     requires { IsOrigin origin }
     ensures { result
@@ -115,7 +115,7 @@ impl<'s> Visitor<'s> for Merging {
     }
 }
 
-/// What the starts of a frame's top scopes are counted from, as if its range started where the first frame's does.
+/// Returns what the starts of a frame's top-level scopes are measured from, as if its range began when the first frame's did.
 fn origin_of(frame: &UnpackedFrameData, first: NanoSecond) -> i128
     ensures origin { result ≡ frame.now.meta.range_ns.0 -ℤ first }
     ensures is { IsOrigin result }
@@ -123,7 +123,7 @@ fn origin_of(frame: &UnpackedFrameData, first: NanoSecond) -> i128
     frame.meta.range_ns.0 as i128 - first as i128
 }
 
-/// Takes the scopes of a frame's stream into the table, if it has one under the info.
+/// Adds the scopes of a frame's stream to the table, if the frame has one under the info.
 pub(crate) fn read_frame(
     alloc: Global,
     merging: &mut Merging,

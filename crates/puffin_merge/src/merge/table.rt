@@ -1,4 +1,4 @@
-//! The nodes of what is merged, in one list.
+//! The nodes of a merge, in one list.
 
 ghost use Rattle.std.specs.Prelude.{◌≡◌, ◌<◌, ◌≤◌, ◌+◌, ◌-◌, ◌^◌, ◌⊎◌, ◌++◌, ◌∷◌, [], List, ℕ, vec_len, max, string_cmp, IfOk, IfErr, IfSome, IfNone, OnOk};
 ghost use Rattle.std.specs.Int.{int_min};
@@ -12,13 +12,13 @@ use puffin_data::{Error, NanoSecond, Result};
 use std::alloc::Global;
 use std::collections::BTreeMap;
 
-/// A node of the table: 0 stands above all nodes, and a node's number is one more than its place.
+/// A node of the table: its place in the list plus 1; 0 is the root above all nodes.
 #[derive(Clone, Copy, Debug, PartialEq, Eq, PartialOrd, Ord)]
 pub(crate) struct NodeNumber {
     pub number: usize,
 }
 
-/// What is asked for: the node of a label below a parent.
+/// A node to look up: by its parent, and its id and text.
 #[derive(Clone, Copy, Debug)]
 pub(crate) struct Asked<'k> {
     pub parent: NodeNumber,
@@ -27,7 +27,7 @@ pub(crate) struct Asked<'k> {
     pub text: &'k str,
 }
 
-/// What tells a node from others.
+/// Identifies a node: its parent, its id and its text.
 #[derive(Debug, Drop)]
 pub(crate) struct Key {
     pub parent: NodeNumber,
@@ -36,13 +36,13 @@ pub(crate) struct Key {
     pub text: String,
 }
 
-/// A text of the table: texts are counted from 0 on.
+/// A text of the table. Texts are numbered from 0.
 #[derive(Clone, Copy, Debug, PartialEq, Eq, PartialOrd, Ord)]
 pub(crate) struct TextNumber {
     pub number: usize,
 }
 
-/// A key, its text by its number.
+/// A key with the number of its text.
 #[derive(Clone, Copy, Debug, PartialEq, Eq, PartialOrd, Ord)]
 pub(crate) struct Spot {
     pub parent: NodeNumber,
@@ -50,7 +50,7 @@ pub(crate) struct Spot {
     pub text: TextNumber,
 }
 
-/// What the pieces of a node sum up to.
+/// The sums of a node's pieces.
 #[derive(Clone, Copy, Debug)]
 pub(crate) struct Sums {
     pub number: usize,
@@ -60,7 +60,7 @@ pub(crate) struct Sums {
 }
 
 impl Sums {
-    /// Of one piece.
+    /// Makes the sums of one piece.
     pub(crate) fn one(own_start: NanoSecond, duration: u64) -> Sums
         ensures { result
             ≡ record { number = 1; total = duration; greatest = duration; own_start = own_start } }
@@ -73,7 +73,7 @@ impl Sums {
         }
     }
 
-    /// With one piece more. `None` where the number or the total doesn't fit.
+    /// Adds one piece. Returns `None` if the number or the total doesn't fit.
     pub(crate) fn more(self, own_start: NanoSecond, duration: u64) -> Option<Sums>
         ensures some { IfSome result (λ sums.
             sums ≡ record {
@@ -101,28 +101,28 @@ impl Sums {
     }
 }
 
-/// A node, and what its pieces sum up to.
+/// A node with the sums of its pieces.
 #[derive(Debug, Drop)]
 pub(crate) struct Node {
     pub key: Key,
     pub sums: Sums,
 }
 
-/// The nodes, and where each is found.
+/// The nodes, and maps that find them.
 #[derive(Drop)]
 pub(crate) struct Table {
     pub nodes: Vec<Node>,
     texts: BTreeMap<String, TextNumber>,
     numbers: BTreeMap<Spot, NodeNumber>,
-    /// Of each node, by its place: the place of the node that was asked for next, when it was asked for the last time.
-    /// Frames are much alike, so that is often asked for next again.
+    /// For each node, by its place, the place of the node that was looked up next when this one was looked up last. As frames
+    /// are much alike, that one often comes next again.
     guesses: Vec<usize>,
-    /// The place of the node that was asked for last.
+    /// The place of the node that was looked up last.
     last: usize,
 }
 
 impl Table {
-    /// Of no scope.
+    /// Makes an empty table.
     pub(crate) fn new(alloc: Global) -> Table
         ensures { IsTableOf [] result }
     {
@@ -135,7 +135,7 @@ impl Table {
         }
     }
 
-    /// The node that was asked for next the last time, if it is the one that is asked for now.
+    /// Returns the node that came next the last time, if it is the one looked up now.
     fn guessed(&self, key: &Asked) -> Option<NodeNumber>
         ensures some { IfSome result (λ x.
             (0 < x.number)
@@ -155,7 +155,7 @@ impl Table {
         }
     }
 
-    /// Keeps which place was asked for next.
+    /// Keeps which node was looked up next.
     fn follow(&mut self, place: usize)
         ensures nodes { self.new.nodes ≡ self.old.nodes }
         ensures texts { self.new.texts ≡ self.old.texts }
@@ -167,7 +167,7 @@ impl Table {
         self.last = place;
     }
 
-    /// The node of a label below a parent, by its text's number.
+    /// Looks a node up by the number of its text.
     fn look_up(&self, key: &Asked) -> Option<NodeNumber>
         requires { IsFound self.now }
         ensures some { IfSome result (λ x.
@@ -192,7 +192,7 @@ impl Table {
         }
     }
 
-    /// The node of a label below a parent.
+    /// Finds a node: the guessed one, or else by its text.
     fn find(&self, key: &Asked) -> Option<NodeNumber>
         requires { IsFound self.now }
         ensures some { IfSome result (λ x.
@@ -210,7 +210,7 @@ impl Table {
         }
     }
 
-    /// The number of a text, which is taken in where it isn't there.
+    /// Returns the number of a text, which is added if it is new.
     fn number_of(&mut self, text: &String) -> Result<TextNumber>
         requires { IsFound self.old }
         ensures ok { IfOk result (λ x.
@@ -231,7 +231,7 @@ impl Table {
         Ok(number)
     }
 
-    /// Takes one piece more in at a node.
+    /// Adds one piece to a node.
     fn grow(&mut self, number: NodeNumber, own_start: NanoSecond, duration: u64) -> Result<()>
         requires { (0 < number.number) × (number.number ≤ vec_len self.old.nodes) }
         ensures ok { OnOk result (
@@ -251,7 +251,7 @@ impl Table {
         }
     }
 
-    /// Makes a node of one piece.
+    /// Adds a node of one piece.
     fn start(&mut self, key: Key, own_start: NanoSecond, duration: u64) -> Result<NodeNumber>
         requires found { IsFound self.old }
         requires new_key { (k : ℕ) → k < vec_len self.old.nodes →
@@ -281,7 +281,7 @@ impl Table {
         Ok(number)
     }
 
-    /// Takes one piece in at its node, which is made where it isn't there, with a text of its own.
+    /// Adds one piece to its node. If there is none, adds the node, with its own copy of the text.
     pub(crate) fn add(
         &mut self,
         alloc: Global,

@@ -1,4 +1,4 @@
-//! The merged scopes of a table.
+//! Makes the merged scopes of a table.
 
 ghost use Rattle.std.specs.Prelude.{◌≡◌, ℕ, ◌<◌, ◌≤◌, ◌^◌, ◌/◌, ◌⊎◌, pos, FitsSigned, List, IfOk, IfErr};
 ghost use Rattle.std.specs.Int.{w64};
@@ -20,7 +20,7 @@ use std::alloc::Global;
 use std::borrow::CowStr;
 use std::mem;
 
-/// A node as it stands among all, siblings in order.
+/// A node, with the fields that order siblings.
 #[derive(Clone, Copy, Debug, PartialEq, Eq, PartialOrd, Ord)]
 struct Place<'t> {
     parent: NodeNumber,
@@ -30,7 +30,7 @@ struct Place<'t> {
     number: NodeNumber,
 }
 
-/// All nodes, those of one parent together and in order.
+/// Returns all nodes, sorted by parent and then in the order of siblings.
 fn places(alloc: Global, table: &Table) -> Result<Vec<Place<'_>>>
     ensures places { IfOk result (λ places. ArePlacesOf table.now.nodes.items places.items) }
     ensures err { IfErr result (λ e. e ≡ Error.Memory) }
@@ -50,7 +50,7 @@ fn places(alloc: Global, table: &Table) -> Result<Vec<Place<'_>>>
     Ok(places)
 }
 
-/// The total divided by the number of frames, cut down.
+/// Returns the total divided by the number of frames, rounded down.
 fn per_frame(sums: &Sums, frames: usize) -> NanoSecond
     requires frames { 0 < frames }
     requires small { sums.now.total < 2 ^ 63 }
@@ -59,7 +59,7 @@ fn per_frame(sums: &Sums, frames: usize) -> NanoSecond
     (sums.total / frames as u64) as i64
 }
 
-/// Where a node is drawn: whose child it is, from when and until when.
+/// The parent, the start and the end of a node.
 #[derive(Clone, Copy, Debug)]
 struct Drawn {
     parent: usize,
@@ -67,7 +67,7 @@ struct Drawn {
     end: NanoSecond,
 }
 
-/// Draws a node as early as it can be, after the one before it.
+/// Starts a node as early as it can, after the one before it. Fails with `TooLarge` if its end doesn't fit.
 fn draw(sums: &Sums, place: &Place, before: &Drawn, frames: usize) -> Result<Drawn>
     requires frames { 0 < frames }
     requires small { sums.now.total < 2 ^ 63 }
@@ -91,7 +91,7 @@ fn draw(sums: &Sums, place: &Place, before: &Drawn, frames: usize) -> Result<Dra
     })
 }
 
-/// Where the node of each place is drawn.
+/// Computes the start and the end of each node.
 fn draw_all(alloc: Global, table: &Table, places: &[Place], frames: usize) -> Result<Vec<Drawn>>
     requires frames { 0 < frames }
     requires table { (all : List Occurrence) × IsTableOf all table.now }
@@ -121,7 +121,7 @@ fn draw_all(alloc: Global, table: &Table, places: &[Place], frames: usize) -> Re
     Ok(drawn)
 }
 
-/// The merged scope of a place's node, with its children and a text of its own. Refused only with `Memory`.
+/// Makes the merged scope of a node with these children, and a text of its own. Fails only with `Memory`.
 fn scope_at<'s>(
     alloc: Global,
     place: &Place,
@@ -153,7 +153,7 @@ fn scope_at<'s>(
     })
 }
 
-/// The merged scopes of a table.
+/// Makes the merged scopes of a table. Fails with `TooLarge` if an end doesn't fit, and with `Memory`.
 pub(crate) fn tree_of<'s>(
     alloc: Global,
     table: &Table,
@@ -172,7 +172,7 @@ pub(crate) fn tree_of<'s>(
 {
     let places = places(alloc, table)?;
     let drawn = draw_all(alloc, table, places.as_slice(), frames)?;
-    // the rows below each node so far, the last sibling first
+    // The merged scopes below each node so far, the last sibling first.
     let mut rows: Vec<Vec<MergeScope<'s>>> = Vec::with_capacity(alloc, places.len() + 1)?;
     let size = places.len() + 1;
     'empty: for _made in 0..size {

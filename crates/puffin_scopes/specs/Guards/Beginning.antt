@@ -10,12 +10,12 @@ use Rattle.puffin_threads.specs.Thread.Calls.{Thread, after_begin}
 use Rattle.puffin_scopes.specs.declared.profiler_scope.ProfilerScope.{ProfilerScope}
 use Rattle.puffin_scopes.specs.Guards.Guard.{profiler_of, offset_of, guard_refusal}
 
--- where the size of a scope with this text stands, begun now
+-- the offset of the size of a scope with this text that begins now
 abbrev pub begun_offset : Thread → List ℕ → ℕ
 begun_offset thread text =
     word_size thread.form thread.word + size_offset thread.form (cut_text thread.form text)
 
--- A scope was begun as the profiler's own call does, and is the guard's. The clock answered by this relation.
+-- The guard has a scope, begun as the profiler's own call does. The clock answered by this relation.
 pub record IsOn {C : Type 0} (answers : C → ℤ → C → Type 0) (old : ThreadProfiler C) (id : ℕ)
     (text : List ℕ) (scope : ProfilerScope C) : Type 0 where
   pub at : ℤ
@@ -26,7 +26,7 @@ pub record IsOn {C : Type 0} (answers : C → ℤ → C → Type 0) (old : Threa
   pub offset : offset_of scope ≡ Some (begun_offset (thread_of old) text)
   pub refusal : guard_refusal scope ≡ None
 
--- the profiler is as before, and the guard has no scope, for this reason
+-- the profiler didn't change, and the guard has no scope, for this reason
 pub record IsOff {C : Type 0} (old : ThreadProfiler C) (refusal : Option Error)
     (scope : ProfilerScope C) : Type 0 where
   pub unchanged : profiler_of scope ≡ old

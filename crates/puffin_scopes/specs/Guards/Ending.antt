@@ -1,4 +1,4 @@
--- What the end of a guard leaves of the profiler that it borrowed.
+-- What the end of a guard does to the profiler that it borrowed.
 use Rattle.std.specs.Prelude.{ℕ, ◌≡◌, ◌≢◌, ℤ, pos, ◌≤ℤ◌, List, Option, Some, None, Result, Ok, Err, slice_get}
 use Rattle.puffin_data.specs.declared.error.Error.{Error}
 use Rattle.puffin_data.specs.declared.error.Error.TheVariants.{MismatchedEnd}
@@ -11,7 +11,7 @@ use Rattle.puffin_threads.specs.Thread.Closing.{Closes}
 use Rattle.puffin_threads.specs.Thread.Info.{Info}
 use Rattle.puffin_threads.specs.Details.{Details}
 
--- where the innermost open scope's size stands
+-- the offset of the innermost open scope's size
 abbrev pub innermost_of : {C : Type 0} → ThreadProfiler C → Option ℕ
 innermost_of profiler = slice_get (offsets_of (thread_of profiler)) 0
 
@@ -26,7 +26,7 @@ pub record IsEnded {C R : Type 0} (answers : C → ℤ → C → Type 0)
   pub never_negative : pos 0 ≤ℤ at
   pub closes : Closes accepts refuses (thread_of old) (thread_of new) at before after closed
 
--- no scope was ended, since the one at this offset isn't the innermost
+-- no scope was ended, as the one at this offset isn't the innermost
 pub record IsMismatched {C R : Type 0} (offset : ℕ) (old new : ThreadProfiler C)
     (before after : R) (e : Error) : Type 0 where
   pub mismatched : e ≡ MismatchedEnd
@@ -34,7 +34,7 @@ pub record IsMismatched {C R : Type 0} (offset : ℕ) (old new : ThreadProfiler 
   pub unchanged : new ≡ old
   pub reporter : after ≡ before
 
--- What `end` leaves, of a guard with a scope at this offset or with none.
+-- What `end` leaves, if the guard has a scope at this offset or none.
 abbrev pub Ends : {C R : Type 0} → (C → ℤ → C → Type 0) →
     (R → Info → List Details → Recorded → R → Type 0) →
     (R → Info → List Details → Recorded → Error → R → Type 0) → Option ℕ → ThreadProfiler C →
@@ -47,7 +47,7 @@ Ends answers accepts refuses (Some offset) old new before after (Ok (Some closed
 Ends answers accepts refuses (Some offset) old new before after (Err e) =
     IsMismatched offset old new before after e
 
--- the innermost scope was ended at a moment, and stays with the thread
+-- the innermost scope was ended, and stays with the thread
 pub record IsClosed {C : Type 0} (answers : C → ℤ → C → Type 0)
     (old new : ThreadProfiler C) : Type 0 where
   pub at : ℤ
@@ -55,13 +55,13 @@ pub record IsClosed {C : Type 0} (answers : C → ℤ → C → Type 0)
   pub never_negative : pos 0 ≤ℤ at
   pub ended : thread_of new ≡ after_end (thread_of old) at
 
--- the scope at this offset was ended where it was the innermost; else nothing has changed
+-- the scope at this offset was ended if it was the innermost; else nothing changed
 pub record IsLeftAt {C : Type 0} (answers : C → ℤ → C → Type 0) (offset : ℕ)
     (old new : ThreadProfiler C) : Type 0 where
   pub innermost : innermost_of old ≡ Some offset → IsClosed answers old new
   pub other : innermost_of old ≢ Some offset → new ≡ old
 
--- What a drop leaves, of a guard with a scope at this offset or with none: nothing is handed over.
+-- What a drop leaves, if the guard has a scope at this offset or none. Nothing is reported.
 abbrev pub IsLeft : {C : Type 0} → (C → ℤ → C → Type 0) → Option ℕ → ThreadProfiler C →
     ThreadProfiler C → Type 0
 IsLeft answers None old new = new ≡ old

@@ -7,11 +7,11 @@ use Rattle.puffin_scopes.specs.declared.profiler_scope.Standing.{Standing}
 use Rattle.puffin_scopes.specs.declared.profiler_scope.Standing.TheVariants.{On, Off, Refused}
 use Rattle.puffin_scopes.specs.declared.profiler_scope.ProfilerScope.{ProfilerScope}
 
--- the profiler as it stands
+-- the borrowed profiler, as it is now
 abbrev pub profiler_of : {C : Type 0} → ProfilerScope C → ThreadProfiler C
 profiler_of scope = scope.profiler.now
 
--- the name of the borrow that reaches it
+-- the name of the borrow
 abbrev pub lender_of : {C : Type 0} → ProfilerScope C → GName
 lender_of scope = scope.profiler.ghost_name
 
@@ -25,7 +25,7 @@ refusal_in (On offset) = None
 refusal_in Off = None
 refusal_in (Refused e) = Some e
 
--- where its scope's size stands
+-- the offset of its scope's size
 abbrev pub offset_of : {C : Type 0} → ProfilerScope C → Option ℕ
 offset_of scope = offset_in scope.standing
 

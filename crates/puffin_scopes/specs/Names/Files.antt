@@ -1,10 +1,10 @@
--- What is kept of a file's path.
+-- The short name of a file's path.
 use Rattle.std.specs.Prelude.{codes, Bool, ℕ, suc, ◌+◌, ◌-◌, ◌==◌, if◌then◌else◌, nat_lt, List, [], ◌∷◌, map, length, Option, Some, None}
 use Rattle.std.specs.List.{slice_split, join_with_byte, slice_index_or}
 use Rattle.std.specs.Option.{option_map, option_or}
 use Rattle.std.specs.Str.{bytes_eq}
 
--- a slash for each backslash
+-- each backslash replaced by a slash
 abbrev pub with_slashes : List ℕ → List ℕ
 with_slashes path = map (λ b. if b == 92 then 47 else b) path
 
@@ -27,7 +27,7 @@ last_src (part ∷ parts) =
 abbrev pub part_at : List (List ℕ) → ℕ → List ℕ
 part_at parts i = slice_index_or parts i []
 
--- The folder that stands for the crate, and the file; between them what stands there, where it is one part. Of a `lib.rs` its folder is kept too.
+-- The crate's folder and the file, and between them the part in the middle if it is the only one, else `…`. A `lib.rs` keeps its folder, too.
 abbrev pub kept_in_crate : List (List ℕ) → ℕ → ℕ → List (List ℕ)
 kept_in_crate parts crate file =
     if crate + 2 == file
@@ -36,16 +36,16 @@ kept_in_crate parts crate file =
     then part_at parts crate ∷ ellipsis ∷ part_at parts (file - 1) ∷ part_at parts file ∷ []
     else part_at parts crate ∷ ellipsis ∷ part_at parts file ∷ []
 
--- The crate's folder stands before the last `src`, or is that where nothing stands before it. Without `src` the last two parts are kept.
+-- The crate's folder is the part before the last `src`, or `src` itself if it is the first part. Without `src` the last two parts are kept.
 abbrev pub kept_by : List (List ℕ) → Option ℕ → List (List ℕ)
 kept_by parts None =
     part_at parts (length parts - 2) ∷ part_at parts (length parts - 1) ∷ []
 kept_by parts (Some src) = kept_in_crate parts (src - 1) (length parts - 1)
 
--- all of at most two
+-- all parts if there are at most two
 abbrev pub kept_parts : List (List ℕ) → List (List ℕ)
 kept_parts parts = if nat_lt 2 (length parts) then kept_by parts (last_src parts) else parts
 
--- The parts between slashes that are kept, with slashes between them again.
+-- The parts that are kept, joined by slashes.
 abbrev pub short_file : List ℕ → List ℕ
 short_file path = join_with_byte 47 (kept_parts (slice_split (λ b. b == 47) (with_slashes path)))

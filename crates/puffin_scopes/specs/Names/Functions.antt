@@ -1,4 +1,4 @@
--- What is kept of a function's name.
+-- The short name of a function.
 use Rattle.std.specs.Prelude.{codes, ℕ, zero, suc, ◌-◌, nat_eq, if◌then◌else◌, List, [], ◌∷◌, ◌++◌, length, take, drop, Option, Some, None}
 use Rattle.std.specs.List.{starts_with, ends_with}
 
@@ -11,17 +11,17 @@ cut_later_or_here word b text (Some cut) = Some (put_before b cut)
 cut_later_or_here word b text None =
     if starts_with nat_eq (b ∷ text) word then Some ([], drop (length word) (b ∷ text)) else None
 
--- what stands before the last place of a word in a text, and what stands after it
+-- what comes before the last occurrence of a word in a text, and what comes after it
 abbrev pub last_cut : List ℕ → List ℕ → Option (List ℕ × List ℕ)
 last_cut word [] = None
 last_cut word (b ∷ text) = cut_later_or_here word b text (last_cut word text)
 
--- what stands after that place, or else this
+-- what comes after that occurrence, or else `other`
 abbrev pub after_cut_or : List ℕ → Option (List ℕ × List ℕ) → List ℕ
 after_cut_or other (Some cut) = cut.1
 after_cut_or other None = other
 
--- what follows the last `::`, or all of a name without
+-- what follows the last `::`, or the whole name without one
 abbrev pub last_segment : List ℕ → List ℕ
 last_segment name = after_cut_or name (last_cut (codes "::") name)
 
@@ -33,11 +33,11 @@ abbrev pub two_segments_by : List ℕ → Option (List ℕ × List ℕ) → List
 two_segments_by name (Some cut) = two_by name cut.1 (last_cut (codes "::") cut.0)
 two_segments_by name None = name
 
--- the last two segments between `::`, or all of a name with fewer than three
+-- the last two segments between `::`, or the whole name if it has fewer than three
 abbrev pub two_segments : List ℕ → List ℕ
 two_segments name = two_segments_by name (last_cut (codes "::") name)
 
--- `<`, the type, ` as `, the trait, `>` and the rest. The type follows the last `<` of what stands before the ` as `, or is the whole name.
+-- `<`, the type, ` as `, the trait, `>` and the rest. The type follows the last `<` before the ` as `; without one the whole name is taken for it.
 abbrev pub short_impl : List ℕ → List ℕ → List ℕ → List ℕ → List ℕ
 short_impl name front trait_name rest =
     codes "<" ++ (last_segment (after_cut_or name (last_cut (codes "<") front)) ++ (
@@ -51,7 +51,7 @@ abbrev pub shorten_by : List ℕ → Option (List ℕ × List ℕ) → List ℕ
 shorten_by name (Some cut) = in_impl name cut.0 (last_cut (codes ">") cut.1)
 shorten_by name None = two_segments name
 
--- A function's name without the path of its type and trait, where the last `>` stands behind the last ` as `; else its last two segments.
+-- If a `>` follows the last ` as `, the name without the paths of its type and its trait; else its last two segments.
 abbrev pub shorten : List ℕ → List ℕ
 shorten name = shorten_by name (last_cut (codes " as ") name)
 
@@ -61,7 +61,7 @@ f_ending = codes "::f"
 abbrev pub closure_ending : List ℕ
 closure_ending = codes "::{{closure}}"
 
--- without the last bytes, so many
+-- without the last n bytes
 abbrev pub without_last : ℕ → List ℕ → List ℕ
 without_last n name = take (length name - n) name
 
@@ -71,11 +71,11 @@ without_closures_by (suc n) name =
     if ends_with nat_eq name closure_ending
     then without_closures_by n (without_last 13 name) else name
 
--- without all of these endings: there are no more of them than bytes
+-- without all of these endings, of which there are at most as many as bytes
 abbrev pub without_closures : List ℕ → List ℕ
 without_closures name = without_closures_by (length name) name
 
--- A name that ends in `::f` stands for what it is in, without closures and shortened. Another stays.
+-- A name that ends in `::f` becomes what precedes that, without closures and shortened. Any other name is kept.
 abbrev pub clean : List ℕ → List ℕ
 clean name =
     if ends_with nat_eq name f_ending

@@ -8,10 +8,8 @@ ghost use Rattle.puffin_scopes.specs.Names.Files.{with_slashes, short_file, kept
 use puffin_data::{Error, Result};
 use std::alloc::Global;
 
-/// A path cut down to the folder that stands for its crate, and the file: `crates/name/src/module/file.rs` becomes
-/// `name/…/file.rs`. A backslash counts as a slash.
-///
-/// Refused only with `Memory`.
+/// Shortens a path to the folder named for its crate, and the file: `crates/name/src/module/file.rs` becomes `name/…/file.rs`.
+/// A backslash counts as a slash. Fails only with `Memory`.
 pub fn short_file_name(alloc: Global, path: &str) -> Result<String>
     ensures ok { IfOk result (λ name. string_bytes name ≡ short_file path.now) }
     ensures err { IfErr result (λ e. e ≡ Error.Memory) }
@@ -20,7 +18,7 @@ pub fn short_file_name(alloc: Global, path: &str) -> Result<String>
     shortened(alloc, &path)
 }
 
-/// The same of a path that has no backslash.
+/// Shortens a path without backslashes.
 fn shortened(alloc: Global, path: &str) -> Result<String>
     ensures ok { IfOk result (λ name. string_bytes name
         ≡ join_with_byte 47 (kept_parts (slice_split (λ b. b == 47) path.now))) }
@@ -33,7 +31,7 @@ fn shortened(alloc: Global, path: &str) -> Result<String>
     kept(alloc, &parts)
 }
 
-/// What stands between the slashes.
+/// Splits a path at its slashes.
 fn parts(alloc: Global, path: &str) -> Result<Vec<&str>>
     ensures ok { IfOk result (λ parts.
         map (λ part. part.now) parts.items ≡ slice_split (λ b. b == 47) path.now) }
@@ -42,7 +40,7 @@ fn parts(alloc: Global, path: &str) -> Result<Vec<&str>>
     Ok(path.split('/').collect(alloc)?)
 }
 
-/// Where the last part stands that is `src`.
+/// Returns the place of the last part that is `src`.
 fn last_src(parts: &[&str]) -> Option<usize>
     ensures place { result ≡ last_src (map (λ part. part.now) parts.now) }
     ensures below { IfSome result (λ place. place < length parts.now) }
@@ -56,7 +54,7 @@ fn last_src(parts: &[&str]) -> Option<usize>
     last
 }
 
-/// The parts that are kept of three or more, with slashes between them.
+/// Joins the parts that are kept, of three or more.
 fn kept(alloc: Global, parts: &[&str]) -> Result<String>
     requires { 2 < length parts.now }
     ensures ok { IfOk result (λ name. string_bytes name

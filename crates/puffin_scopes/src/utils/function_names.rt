@@ -7,10 +7,8 @@ ghost use Rattle.puffin_scopes.specs.Names.Functions.{clean, shorten, last_segme
 use puffin_data::{Error, Result};
 use std::alloc::Global;
 
-/// For a name ending in `::f` (a function nested in another to ask for its name): the outer name, shortened, without
-/// closures. Any other name stays.
-///
-/// Refused only with `Memory`.
+/// Shortens a name that ends in `::f`, as that of a function nested in the one whose name is wanted: returns the outer name,
+/// shortened and without closures. Returns any other name unchanged. Fails only with `Memory`.
 pub fn clean_function_name(alloc: Global, name: &str) -> Result<String>
     ensures ok { IfOk result (λ short. string_bytes short ≡ clean name.now) }
     ensures err { IfErr result (λ e. e ≡ Error.Memory) }
@@ -23,9 +21,7 @@ pub fn clean_function_name(alloc: Global, name: &str) -> Result<String>
     }
 }
 
-/// A function's name without the path of its type, its trait or its module.
-///
-/// Refused only with `Memory`.
+/// Removes the path of the type, the trait or the module from a function's name. Fails only with `Memory`.
 pub fn shorten_rust_function_name(alloc: Global, name: &str) -> Result<String>
     ensures ok { IfOk result (λ short. string_bytes short ≡ shorten name.now) }
     ensures err { IfErr result (λ e. e ≡ Error.Memory) }
@@ -45,7 +41,7 @@ pub fn shorten_rust_function_name(alloc: Global, name: &str) -> Result<String>
     Ok(format!(in alloc; "<{concrete} as {trait_name}>{rest}")?)
 }
 
-/// What follows the last `::`.
+/// Returns what follows the last `::`.
 fn last_segment(text: &str) -> &str
     ensures { result.now ≡ last_segment text.now }
 {
@@ -55,7 +51,7 @@ fn last_segment(text: &str) -> &str
     }
 }
 
-/// The last two segments, or all of it where it has fewer than three.
+/// Returns the last two segments, or the whole name if it has fewer than three.
 fn last_two_segments(alloc: Global, name: &str) -> Result<String>
     ensures ok { IfOk result (λ short. string_bytes short ≡ two_segments name.now) }
     ensures err { IfErr result (λ e. e ≡ Error.Memory) }

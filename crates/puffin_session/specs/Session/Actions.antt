@@ -1,4 +1,4 @@
--- What a command with its reply did, and what a run of them did.
+-- The action of a command with its reply, and those of a run.
 use Rattle.std.specs.Prelude.{ℕ, List, [], ◌∷◌, map, Option, Some, is_some, Bool, true, false}
 use Rattle.std.specs.String.{string_bytes}
 use Rattle.std.specs.Option.{option_map}
@@ -14,12 +14,12 @@ use Rattle.puffin_session.specs.declared.command.Reply.TheVariants as reply
 use Rattle.puffin_session.specs.Session.{word_in}
 use Rattle.puffin_session.specs.Session.History.{begun, ended, Action, calls, hands, frames, registers, adds, learns, wants, nothing}
 
--- the outermost open scope was closed, and its report accepted
+-- the last open scope was closed, and its report accepted
 abbrev pub is_reported : Closed → Bool
 is_reported closed.Reported = true
 is_reported _ = false
 
--- the details that a command registers, under an id that was drawn
+-- the details that a command registers, under the id that was drawn
 abbrev pub details_given : Option (List ℕ) → List ℕ → List ℕ → ℕ → ℕ → Details
 details_given name function file line id = record {
   id = Some id;
@@ -29,12 +29,12 @@ details_given name function file line id = record {
   line_nr = line;
 }
 
--- the details of user scopes, which have a name alone
+-- the details of user scopes, which have only a name
 abbrev pub user_details : {A : Type 0} → List (String A) → List Details
 user_details names =
     map (λ name. record default_details { scope_name = Some (string_bytes name) }) names
 
--- What a command did, by its reply, and by what was learnt of scopes, where these two don't say it: the details of the user scopes that were new, and those that a refused frame's collection has taken in.
+-- What a command did, by its reply and, as these two don't give them, by the details that became known: those of new user scopes, and those that a refused frame had already added.
 abbrev pub action_of : Command → Reply → List Details → Action
 action_of (Begin thread at id text) (reply.Began offset) learnt =
     calls thread (record { at = at; mark = begun id (string_bytes text) })

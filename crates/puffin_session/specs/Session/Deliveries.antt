@@ -7,18 +7,18 @@ use Rattle.puffin_data.specs.Forest.Tour.{Event, Open, Close}
 use Rattle.puffin_threads.specs.Thread.Info.{Info}
 use Rattle.puffin_session.specs.Session.History.{Word, Opening, Mark, begun, ended, Call, Action, calls, hands, frames, thread_at, calls_of, greatest, latest_of, since_last}
 
--- an event, and whether a report was accepted behind it
+-- an event, and whether a report was accepted after it
 pub record Marked : Type 0 where
   pub event : Event
   pub reported : Bool
 
--- of a scope's text a word has what is stored in the thread's form
+-- a word has the part of a scope's text that the thread's form stores
 abbrev pub marked_call : Form → ℤ → Mark → Marked
 marked_call form time (begun id text) =
     record { event = Open id (cut_text form text) time; reported = false }
 marked_call form time (ended reported) = record { event = Close time; reported = reported }
 
--- each call at the greatest time up to it, after the calls of the past
+-- each call at the greatest time so far, after the calls of the past
 abbrev pub marked_calls : Form → ℤ → List Call → List Call → List Marked
 marked_calls form latest past [] = []
 marked_calls form latest past (c ∷ later) =
@@ -31,23 +31,23 @@ first_open [] = None
 first_open (m ∷ ms) = elim m.event [ Open id text start ↦ Some start | Close stop ↦ first_open ms ]
 
 module _ (o : Opening) where
-  -- a thread's word: what was unreported at the opening, and all its calls since
+  -- a thread's word: what was unreported at the opening, and all calls since then
   abbrev pub word_of : ℕ → List Action → List Marked
   word_of t done =
       map (λ e. record { event = e; reported = false }) (thread_at o t).word
       ++ marked_calls (thread_at o t).form (thread_at o t).latest [] (calls_of t done)
 
-  -- its last piece, behind the last accepted report
+  -- the part of the word after the last accepted report
   abbrev pub unreported : ℕ → List Action → List Event
   unreported t done = map (λ m. m.event) (since_last (λ m. m.reported) (word_of t done))
 
-  -- the start of its first scope ever
+  -- the start of the thread's first scope
   abbrev pub first_start_of : ℕ → List Action → Option ℤ
   first_start_of t done =
       option_or (thread_at o t).first_start (
       first_open (marked_calls (thread_at o t).form (thread_at o t).latest [] (calls_of t done)))
 
-  -- its last piece with these events more, in its form
+  -- the unreported events and these, in the thread's form
   abbrev pub word_with : ℕ → List Action → List Event → Word
   word_with t done more =
       record { form = (thread_at o t).form; events = unreported t done ++ more }
@@ -55,13 +55,13 @@ module _ (o : Opening) where
   abbrev pub info_under : ℕ → List Action → Info
   info_under t done = record { start = first_start_of t done; name = (thread_at o t).name }
 
--- words under their infos, one after another, and the frames that took what was handed over before
+-- a word handed over under an info, or a frame that took all words handed over before it
 pub data Delivery : Type 0 where
   under : Info → Word → Delivery
   all_taken : Delivery
 
 module _ (o : Opening) where
-  -- What an action hands over, after those before it: at an accepted report the piece of the thread's word that ends there; at a user's report its word.
+  -- What an action hands over, after those before it: an accepted report, the part of the thread's word that it ends; a user's report, its word.
   abbrev pub deliveries_at : List Action → Action → List Delivery
   deliveries_at done (calls t c) = elim c.mark [
     | begun id text ↦ []
@@ -75,7 +75,7 @@ module _ (o : Opening) where
   deliveries_at done (frames emitted) = if emitted then all_taken ∷ [] else []
   deliveries_at done _ = []
 
-  -- what actions hand over one after another, after those of the past
+  -- what actions hand over, after those of the past
   abbrev pub deliveries_after : List Action → List Action → List Delivery
   deliveries_after past [] = []
   deliveries_after past (a ∷ later) =

@@ -1,4 +1,4 @@
--- What is due for the next frame: all that was handed over since the frame before.
+-- What is due for the next frame: all that was handed over since the last emitted frame.
 use Rattle.std.specs.Prelude.{◌≡◌, ◌≢◌, ℕ, ◌+◌, ◌<◌, ◌==◌, Bool, true, false, if◌then◌else◌, List, [], ◌++◌, length, map, fold, Option, Some, None}
 use Rattle.std.specs.Option.{unwrap_or}
 use Rattle.std.specs.List.{count_by, sum_by}
@@ -13,7 +13,7 @@ abbrev pub is_taken : Delivery → Bool
 is_taken (under i word) = false
 is_taken all_taken = true
 
--- what was handed over since the last emitted frame; where there was none, what was due at the opening and all that was handed over
+-- what was handed over since the last emitted frame; if there was none, what was due at the opening and all that was handed over since then
 abbrev pub due : Opening → List Action → List Delivery
 due o done = since_last is_taken (map (λ d. under d.0 d.1) o.due ++ deliveries o done)
 
@@ -22,14 +22,14 @@ due o done = since_last is_taken (map (λ d. under d.0 d.1) o.due ++ deliveries 
 abbrev pub no_word : Word
 no_word = record { form = Short; events = [] }
 
--- one word after another: of one without events the form is the other's
+-- two words, joined; without events the first takes the second's form
 abbrev pub joined_word : Word → Word → Word
 joined_word a b = record {
   form = if length a.events == 0 then b.form else a.form;
   events = a.events ++ b.events;
 }
 
--- both have events, in unlike forms
+-- both have events, and their forms differ
 abbrev pub AreUnlikeWords : Word → Word → Type 0
 AreUnlikeWords a b = (0 < length a.events) × (0 < length b.events) × (a.form ≢ b.form)
 
@@ -57,7 +57,7 @@ abbrev pub events_of : Delivery → List Event
 events_of (under i word) = word.events
 events_of all_taken = []
 
--- an accepted command for a frame, with a frame or without
+-- a command for a frame was accepted, with a frame or without
 abbrev pub is_numbered : Action → Bool
 is_numbered (frames emitted) = true
 is_numbered _ = false
@@ -75,6 +75,6 @@ abbrev pub scopes_delivered : Delivery → ℕ
 scopes_delivered (under i word) = num_begun word.events
 scopes_delivered all_taken = 0
 
--- how many scopes were ever reported
+-- the number of scopes ever reported
 abbrev pub reported_after : Opening → List Action → ℕ
 reported_after o done = o.reported + sum_by scopes_delivered (deliveries o done)

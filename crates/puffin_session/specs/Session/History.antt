@@ -1,4 +1,4 @@
--- What a session held before its commands, and what its accepted commands did.
+-- What a session held before its commands (`Opening`), and what its accepted commands did (`Action`).
 use Rattle.std.specs.Prelude.{ℕ, ◌==◌, ℤ, pos, Bool, if◌then◌else◌, List, [], ◌∷◌, fold, Option, Some, None}
 use Rattle.std.specs.List.{list_any, filter_map, slice_index_or}
 use Rattle.std.specs.Int.{int_max}
@@ -10,12 +10,12 @@ use Rattle.puffin_threads.specs.Thread.Calls.{Thread}
 use Rattle.puffin_threads.specs.Details.{Details}
 use Rattle.puffin_threads.specs.Details.Collection.{Collection}
 
--- events, and the form that their texts have in bytes
+-- events, and the form of their texts
 pub record Word : Type 0 where
   pub form : Form
   pub events : List Event
 
--- What stood before: the threads; what is due, words under an info in the order in which they were handed over; the next frame's index; how many scopes were ever reported; what is known of scopes, what of them is new in the next frame, in order, and whether the next frame is to tell of all.
+-- The state before: the threads; what is due, words under an info in the order in which they were handed over; the next frame's index; the number of scopes ever reported; the known details, those new in the next frame, in order, and whether the next frame is to list all.
 pub record Opening : Type 0 where
   pub threads : List Thread
   pub due : List (Info × Word)
@@ -25,17 +25,17 @@ pub record Opening : Type 0 where
   pub new_details : List Details
   pub wants_all : Bool
 
--- a scope that was begun, with its whole text, or one that was ended, perhaps with a report that was accepted
+-- a scope was begun, with its whole text, or ended, with an accepted report or without
 pub data Mark : Type 0 where
   begun : (id : ℕ) → (text : List ℕ) → Mark
   ended : (reported : Bool) → Mark
 
--- a mark, and the time that its command gave
+-- a mark, and the time that its command gives
 pub record Call : Type 0 where
   pub at : ℤ
   pub mark : Mark
 
--- What a command with its reply did. A refused one did nothing, but some of what it was to learn may be known.
+-- What a command with its reply did. A refused one did nothing, but some details may have become known.
 pub data Action : Type 0 where
   calls : (thread : ℕ) → Call → Action
   hands : Info → Word → Action
@@ -43,11 +43,11 @@ pub data Action : Type 0 where
   frames : (emitted : Bool) → Action
   -- a thread registered details
   registers : (thread : ℕ) → Details → Action
-  -- details were learnt at once, and are new in the next frame
+  -- details became known, and are new in the next frame
   adds : List Details → Action
-  -- details were learnt for a frame that was refused
+  -- details became known for a frame that was refused
   learns : List Details → Action
-  -- the next frame is to tell of all
+  -- the next frame is to list all
   wants : Action
   nothing : Action
 
@@ -66,7 +66,7 @@ nobody = record {
 abbrev pub thread_at : Opening → ℕ → Thread
 thread_at o t = slice_index_or o.threads t nobody
 
--- an action as a call of a thread, if it is one; a time below 0 counts as 0
+-- an action as a call of this thread, if it is one; a negative time counts as 0
 abbrev pub call_of : ℕ → Action → Option Call
 call_of t (calls u c) =
     if t == u then Some (record { at = int_max (pos 0) c.at; mark = c.mark }) else None
@@ -85,7 +85,7 @@ latest_of o t done = greatest (thread_at o t).latest (calls_of t done)
 
 -- ---- lists
 
--- what stands after the last element that passes a test, or all where none does
+-- what comes after the last element that passes a test, or all if none does
 abbrev pub since_last : {X : Type 0} → (X → Bool) → List X → List X
 since_last p [] = []
 since_last p (x ∷ xs) = if list_any p xs then since_last p xs else if p x then xs else x ∷ xs

@@ -1,11 +1,11 @@
--- What is told of scopes: the details that a thread has registered, those that are new in the next frame, and those that are known.
+-- The details that a thread has registered, those that the next frame lists, and those that are known.
 use Rattle.std.specs.Prelude.{ℕ, ◌==◌, Bool, true, false, if◌then◌else◌, List, [], ◌∷◌, ◌++◌, map, fold}
 use Rattle.std.specs.List.{flat_map}
 use Rattle.puffin_threads.specs.Details.{Details}
 use Rattle.puffin_threads.specs.Details.Collection.{Collection, with_all_details}
 use Rattle.puffin_session.specs.Session.History.{Opening, begun, ended, Action, calls, frames, registers, adds, learns, wants, thread_at, since_last}
 
--- details one after another, and where all before went on
+-- details, or that all details before went on
 pub data Note : Type 0 where
   noted : Details → Note
   sent : Note
@@ -22,7 +22,7 @@ details_in sent = []
 abbrev pub details_waiting : List Note → List Details
 details_waiting notes = flat_map details_in (since_last is_sent notes)
 
--- what an action notes of a thread: details that it registered, which go on with its next accepted report
+-- what an action notes for a thread: details that it registered, which go on with its next accepted report
 abbrev pub notes_at : ℕ → Action → List Note
 notes_at t (calls u c) =
     if t == u
@@ -40,7 +40,7 @@ module _ (o : Opening) where
   details_registered t done =
       details_waiting (map noted (thread_at o t).details ++ flat_map (notes_at t) done)
 
-  -- What an action, after those before it, notes for the next frame: a thread's registered details where its report is accepted, and those of the user's new scopes. An emitted frame takes all.
+  -- What an action, after those before it, notes for the next frame: a thread's registered details if its report is accepted, and those of the user's new scopes. An emitted frame takes all.
   abbrev pub due_notes_at : List Action → Action → List Note
   due_notes_at done (calls t c) = elim c.mark [
     | begun id text ↦ []
@@ -58,7 +58,7 @@ module _ (o : Opening) where
   abbrev pub due_details : List Action → List Details
   due_details done = details_waiting (map noted o.new_details ++ due_notes_after [] done)
 
-  -- What an action, after those before it, lets be known: a frame's new details where it is emitted, and those of the user's new scopes at once.
+  -- The details that an action, after those before it, makes known: a frame's new details if it is emitted, and those of the user's new scopes at once.
   abbrev pub details_learnt_at : List Action → Action → List Details
   details_learnt_at done (frames emitted) = if emitted then due_details done else []
   details_learnt_at done (adds new) = new
@@ -70,11 +70,11 @@ module _ (o : Opening) where
   details_learnt_after past (a ∷ later) =
       details_learnt_at past a ++ details_learnt_after (past ++ (a ∷ [])) later
 
-  -- what is known of scopes
+  -- the known details
   abbrev pub known_after : List Action → Collection
   known_after done = with_all_details o.collection (details_learnt_after [] done)
 
--- whether the next frame is to tell of all that is known: since an action wanted it, until a frame is emitted
+-- whether the next frame is to list all known details: from the action that asks for it until a frame is emitted
 abbrev pub wanted_at : Bool → Action → Bool
 wanted_at wanted (frames emitted) = if emitted then false else wanted
 wanted_at wanted wants = true

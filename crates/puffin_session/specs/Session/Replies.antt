@@ -1,4 +1,4 @@
--- Which reply a command may get after what was done before it.
+-- Which replies a command may get after the actions before it.
 use Rattle.std.specs.Prelude.{◌≡◌, ◌≢◌, ℕ, ℤ, pos, ◌+◌, ◌-◌, ◌^◌, ◌<◌, ◌≤◌, ◌⊎◌, List, [], ◌++◌, length, Some, None, Bool, MatchOption}
 use Rattle.std.specs.String.{string_bytes}
 use Rattle.std.specs.List.{flat_map, sum_by}
@@ -36,7 +36,7 @@ use Rattle.puffin_session.specs.Session.Notes.{due_details, known_after, is_want
 use Rattle.puffin_session.specs.Session.{thread_after, word_of_thread, begun_place, SpellsDue}
 use Rattle.puffin_session.specs.Session.Actions.{user_details}
 
--- The frame with this index spells what was due, and its meta is that of its streams, which have some scope. It holds them as they are, and not packed.
+-- The frame with this index spells what was due, and its meta is that of its streams, which have some scope. It is held unpacked only.
 pub record SpellsFrame (frame : FrameData) (index : ℕ) (ds : List Delivery) : Type 0 where
   pub streams : Streams
   pub held : holding_of frame ≡ record { packed = None; unpacked = Some streams }
@@ -44,7 +44,7 @@ pub record SpellsFrame (frame : FrameData) (index : ℕ) (ds : List Delivery) : 
   pub meta : frame_meta frame ≡ meta_of index (values streams)
   pub some : 0 < (frame_meta frame).num_scopes
 
--- The frame tells of just these new details, in order, and then, where that is wanted, of all that were known; and it says whether it was wanted.
+-- The frame lists exactly these new details, in order, and then, if a snapshot was wanted, all known ones; and it states whether it was wanted.
 pub record TellsScopes (frame : FrameData) (known : Collection) (new : List Details)
     (wanted : Bool) : Type 0 where
   pub delta : shared_details frame.scope_delta.items ≡ delta_of known new wanted
@@ -60,14 +60,14 @@ module _ (o : Opening) (done : List Action) where
   abbrev pub num_open : ℕ → ℕ
   num_open t = open_after 0 (unreported o t done)
 
-  -- the info and the word that a thread's report hands over, where its last open scope ends at this time
+  -- the info and the word of a thread's report, if its last open scope ends at this time
   abbrev pub ending_info : ℕ → Info
   ending_info t = info_of_thread (thread_after o done t)
 
   abbrev pub ending_word : ℕ → ℤ → Word
   ending_word t at = word_of_thread (after_end (thread_after o done t) (int_max (pos 0) at))
 
-  -- with this word more, the sums over all that is due have 64 bits, and so has that over all that was ever reported
+  -- with this word more, the sums over all that is due fit 64 bits, and so does that over all that was ever reported
   pub record DueFits (word : Word) : Type 0 where
     pub bytes : sum_by bytes_delivered (due o done) + word_size word.form word.events < 2 ^ 64
     pub scopes : sum_by scopes_delivered (due o done) + num_begun word.events < 2 ^ 64
@@ -77,7 +77,7 @@ module _ (o : Opening) (done : List Action) where
   abbrev pub due_with : Word → List Event
   due_with word = flat_map events_of (due o done) ++ word.events
 
-  -- with this word more, the range of all that is due isn't reversed, and its duration is no i64
+  -- with this word more, the range of all that is due isn't reversed, and its duration doesn't fit i64
   abbrev pub DueIsTooLong : Word → Type 0
   DueIsTooLong word = IsTooLong (least_open (due_with word), greatest_close (due_with word))
 
@@ -85,7 +85,7 @@ module _ (o : Opening) (done : List Action) where
   abbrev pub MayReport : Info → Word → Type 0
   MayReport i word = (¬ IsUnlikeDue (due o done) i word) × DueFits word × ¬ DueIsTooLong word
 
-  -- why a report of this word under this info is refused: the first that applies
+  -- why a report of this word under this info is refused: the first cause that applies
   abbrev pub IsDueRefusal : Info → Word → Error → Type 0
   IsDueRefusal i word e =
       ((e ≡ UnlikeForms) × IsUnlikeDue (due o done) i word)
@@ -96,20 +96,20 @@ module _ (o : Opening) (done : List Action) where
       × DueIsTooLong word)
       ⊎ ((e ≡ Memory) × MayReport i word)
 
-  -- what ending the innermost scope leads to, where so many are open, with the report that it may make
+  -- what ending the innermost of `depth` open scopes leads to, with the report that it may make
   abbrev pub MayClose : ℕ → Info → Word → Closed → Type 0
   MayClose depth i word closed.Inner = 1 < depth
   MayClose depth i word closed.Reported = (depth ≡ 1) × MayReport i word
   MayClose depth i word (closed.Kept e) = (depth ≡ 1) × IsDueRefusal i word e
 
-  -- an emitted frame spells what was due and tells of the details that were due, and there is none only where no scope was due
+  -- an emitted frame spells what was due and lists the details that were due; without a frame no scope was due
   abbrev pub FrameIsDue : Emitted → Type 0
   FrameIsDue emitted =
       MatchOption emitted.frame (NoneDue (due o done)) (λ f.
       SpellsFrame (arc_value f) (index_after o done) (due o done)
       × TellsScopes (arc_value f) (known_after o done) (due_details o done) (is_wanted o done))
 
-  -- After these actions a command may get this reply, where this was learnt; no other pair comes. `Memory` stands where memory was really refused.
+  -- After these actions a command may get this reply, with these details becoming known; no other pair is possible. `Memory` means that memory was really refused.
   abbrev pub MayReply : Command → Reply → List Details → Type 0
   MayReply (Begin t at id text) (reply.Began offset) learnt =
       HasThread t

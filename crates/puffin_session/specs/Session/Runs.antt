@@ -15,29 +15,29 @@ use Rattle.puffin_session.specs.Session.{SessionState, new_session, opening_of, 
 use Rattle.puffin_session.specs.Session.Actions.{action_of, actions_of}
 use Rattle.puffin_session.specs.Session.Replies.{MayReply}
 
--- each command may get its reply after those before it
+-- each command may get its reply, after those before it
 abbrev pub EachReply : Opening → List Action → List Command → List Reply → List (List Details) →
     Type 0
 EachReply o done (c ∷ cs) (r ∷ rs) (l ∷ ls) =
     MayReply o done c r l × EachReply o (done ++ (action_of c r l ∷ [])) cs rs ls
 EachReply o done _ _ _ = Unit {0}
 
--- These commands with these replies lead from old to new.
+-- These commands, with these replies, lead from `old` to `new`.
 pub record Records (old new : SessionState) (commands : List Command) (replies : List Reply) :
     Type 0 where
   pub num_replies : length replies ≡ length commands
-  -- what was learnt by each command
+  -- the details that became known by each command
   pub learnt : List (List Details)
   pub num_learnt : length learnt ≡ length commands
   pub opened : StandsAfter (opening_of old) [] old
   pub replies_stand : EachReply (opening_of old) [] commands replies learnt
   pub stands : StandsAfter (opening_of old) (actions_of commands replies learnt) new
 
--- These replies are those of a run of the commands from a new session with these threads, which ends in this state.
+-- These are the replies of a run of the commands in a new session of these threads, which ends in this state.
 abbrev pub AreReplies : List (List ℕ × Form) → List Command → List Reply → SessionState → Type 0
 AreReplies threads commands replies end = Records (new_session threads) end commands replies
 
--- the details that a frame tells, if there is one
+-- the details that a frame lists, if there is one
 abbrev pub details_told : Option (Arc FrameData Global) → List Details
 details_told None = []
 details_told (Some frame) = (frame_says (arc_value frame)).details
@@ -46,6 +46,6 @@ abbrev pub details_of_reply : Reply → List Details
 details_of_reply (reply.Frame emitted) = details_told emitted.frame
 details_of_reply _ = []
 
--- what a reply's frame tells of has ids
+-- all details that a reply's frame lists have ids
 abbrev pub HasIds : Reply → Type 0
 HasIds reply = AllHaveIds (details_of_reply reply)

@@ -1,4 +1,4 @@
--- What single commands do to a session: what the proof of a run stands on.
+-- What single commands do to a session, for the proof of a run.
 use Rattle.std.specs.Prelude.{◌≡◌, ℕ, ℤ, pos, List, [], ◌∷◌, ◌++◌, slice_set}
 use Rattle.std.specs.List.{slice_index_or, flat_map, sum_by}
 use Rattle.std.specs.Int.{int_max}
@@ -23,14 +23,14 @@ use Rattle.puffin_session.specs.Session.Runs.{Records}
 
 -- ---- what single calls do
 
--- a time below 0 counts as 0
+-- a negative time counts as 0
 abbrev pub clock_time : ℤ → ℤ
 clock_time at = int_max (pos 0) at
 
 abbrev pub session_thread : SessionState → ℕ → Thread
 session_thread s t = slice_index_or s.threads t nobody
 
--- a session with another thread at this number, and with this collected
+-- a session with this thread at this number, and with this collected
 abbrev pub session_with_thread : SessionState → ℕ → Thread → Collected → SessionState
 session_with_thread s t thread collected =
     record { threads = slice_set s.threads t thread; collected = collected }
@@ -38,26 +38,26 @@ session_with_thread s t thread collected =
 abbrev pub session_with_collected : SessionState → Collected → SessionState
 session_with_collected s collected = record { threads = s.threads; collected = collected }
 
--- The innermost scope of a thread was ended. Where it was the last, the report of the whole word was accepted, or it was refused and left what is collected.
+-- The innermost scope of a thread was ended. If it was the last open one, the report of the whole word was accepted, or it was refused and what is collected didn't change.
 abbrev pub EndsInnermost : Thread → Thread → ℤ → Collected → Collected → Closed → Type 0
 EndsInnermost old new at before after closed =
     Closes AcceptsReport RefusesReport old new at before after closed
 
 -- ---- what a run keeps
 
--- The sums over these streams are those of what was handed over, and their range is that of all its events.
+-- The sums over these streams are those over what was handed over, and their range is that of all its events.
 pub record SumsTo (streams : Streams) (ds : List Delivery) : Type 0 where
   pub bytes : total_bytes (values streams) ≡ sum_by bytes_delivered ds
   pub scopes : total_scopes (values streams) ≡ sum_by scopes_delivered ds
   pub start : joined_start (values streams) ≡ least_open (flat_map events_of ds)
   pub stop : joined_stop (values streams) ≡ greatest_close (flat_map events_of ds)
 
--- a session stands after a history, and the sums over what is collected are those of what is due
+-- the state of a session after a history, with sums over what is collected that are those of what is due
 pub record Continued (o : Opening) (done : List Action) (now : SessionState) : Type 0 where
   pub stands : StandsAfter o done now
   pub sums : SumsTo now.collected.streams (due o done)
 
--- One command and its reply: something was learnt, and whatever history the session stood after, it stands after that history and what the command did.
+-- One command and its reply: some details became known, and after whatever history the session was before, it is now after that history and what the command did.
 abbrev pub ContinuesBy : SessionState → SessionState → Command → Reply → List Details → Type 0
 ContinuesBy old new c r learnt =
     (o : Opening) (done : List Action) → Continued o done old →

@@ -1,4 +1,4 @@
--- What contracts see of a collection of details: the first inserted under each id, and the last id inserted under each name.
+-- What contracts see of a collection: the first details under each id, the last id under each name.
 use Rattle.std.specs.Prelude.{ℕ, List, [], ◌∷◌, ◌++◌, ◌≡◌, Option, Some, None, map, fold, find, if◌then◌else◌, nat_eq, option_and_then, string_bytes, String, refl}
 use Rattle.std.specs.declared.sync.Arc.{Arc}
 use Rattle.std.specs.declared.cmp.Ordering.{Ordering}
@@ -11,7 +11,7 @@ use Rattle.std.specs.FinMap as map
 use Rattle.puffin_threads.specs.declared.scope_details.details.ScopeDetails.{ScopeDetails}
 use Rattle.puffin_threads.specs.Details.{Details, details_code, details_of, name_of}
 
--- names by their bytes
+-- names are ordered by their bytes
 abbrev pub bytes_cmp : List ℕ → List ℕ → Ordering
 bytes_cmp = slice_cmp nat_cmp
 
@@ -19,7 +19,7 @@ pub record Collection : Type 0 where
   pub by_id : map.FinMap nat_cmp Details
   pub by_name : map.FinMap bytes_cmp ℕ
 
--- a collection is stored as the pair of its maps
+-- the encoding of a collection for contracts: the pair of its maps
 abbrev pub collection_code : Coded Collection
 collection_code =
     code_by (map.FinMap nat_cmp Details × map.FinMap bytes_cmp ℕ)
@@ -31,13 +31,13 @@ collection_code =
 abbrev pub no_details : Collection
 no_details = record { by_id = map.empty; by_name = map.empty }
 
--- what is there under an id stays, and else the given ones are put there
+-- keeps what is under an id, or else inserts the given details
 abbrev pub kept_or : Option Details → map.FinMap nat_cmp Details → ℕ → Details →
     map.FinMap nat_cmp Details
 kept_or (Some kept) by_id id d = by_id
 kept_or None by_id id d = map.insert by_id id d
 
--- details are inserted under their id and their name; those without an id change nothing
+-- inserts details under their id and their name; details without an id change nothing
 abbrev pub with_details_under : Collection → Details → Option ℕ → Collection
 with_details_under collection d None = collection
 with_details_under collection d (Some id) = record {
@@ -51,20 +51,20 @@ with_details collection d = with_details_under collection d d.id
 abbrev pub with_all_details : Collection → List Details → Collection
 with_all_details collection ds = fold with_details collection ds
 
--- some of the details are the first of those
+-- `some` is a prefix of `all`
 abbrev pub Begins : List Details → List Details → Type 0
 Begins some all = (rest : List Details) × (all ≡ some ++ rest)
 
--- a beginning of details is learnt
+-- a prefix of the details was inserted
 abbrev pub LearnsSome : Collection → List Details → Collection → Type 0
 LearnsSome old ds new =
     (learnt : List Details) × Begins learnt ds × (new ≡ with_all_details old learnt)
 
--- what a collection keeps under the id of details
+-- what a collection has under the id of these details
 abbrev pub kept_for : Collection → Details → Option Details
 kept_for collection d = option_and_then (λ id. map.get collection.by_id id) d.id
 
--- all details stand under their own ids
+-- all details are under their own ids
 abbrev pub KeepsOwnIds : Collection → Type 0
 KeepsOwnIds collection =
     (id : ℕ) (d : Details) → map.get collection.by_id id ≡ Some d → d.id ≡ Some id
@@ -73,16 +73,16 @@ KeepsOwnIds collection =
 abbrev pub first_with_id : ℕ → List Details → Option Details
 first_with_id id ds = find (λ d. option_eq nat_eq d.id (Some id)) ds
 
--- the id of details, where this is their name
+-- the id of details if this is their name
 abbrev pub id_under : List ℕ → Details → Option ℕ
 id_under name d = if eq_by_cmp bytes_cmp name (name_of d) then d.id else None
 
--- the last id of details with this name
+-- the last id that a list of details has with this name
 abbrev pub last_id_of : List ℕ → List Details → Option ℕ
 last_id_of name [] = None
 last_id_of name (d ∷ ds) = option_or (last_id_of name ds) (id_under name d)
 
--- the entries of the two maps as they are held
+-- the entries of the two maps, as contracts see them
 abbrev pub ids_seen : {A : Type 0} → List (ℕ × Arc ScopeDetails A) → List (ℕ × Details)
 ids_seen entries = map (λ e. (e.0, details_of (arc_value e.1))) entries
 

@@ -1,4 +1,4 @@
--- What the types of scopes are called, their order and their places in it.
+-- The names and the order of the types of scopes.
 use Rattle.std.specs.Prelude.{ℕ, List, codes}
 use Rattle.std.specs.declared.cmp.Ordering.{Ordering}
 use Rattle.std.specs.declared.cmp.Ordering.TheVariants.{Less, Equal, Greater}
@@ -16,7 +16,7 @@ type_cmp Function Named = Less
 type_cmp Named Function = Greater
 type_cmp Named Named = Equal
 
--- the place among the types
+-- the place in the list of types
 abbrev pub type_place : ScopeType → ℕ
 type_place Function = 0
 type_place Named = 1

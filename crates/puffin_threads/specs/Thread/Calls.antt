@@ -1,4 +1,4 @@
--- What one thread has recorded, and what its calls make of it.
+-- What a thread has recorded, and how each call changes it.
 use Rattle.std.specs.Prelude.{◌≡◌, ℕ, ◌+◌, ◌⊎◌, ℤ, List, [], ◌∷◌, ◌++◌, drop, fold, Option, Some, Result, Ok, Err}
 use Rattle.std.specs.Int.{int_max}
 use Rattle.std.specs.Option.{option_or}
@@ -10,7 +10,7 @@ use Rattle.puffin_data.specs.Forest.Tour.{Event, Open, Close}
 use Rattle.puffin_threads.specs.Thread.Info.{Info}
 use Rattle.puffin_threads.specs.Details.{Details, with_id}
 
--- a thread: its name, the form of its texts, the start of its first scope ever, its greatest time, and its events and registered details that no accepted report has handed over
+-- a thread: its name and form, the start of its first scope, its greatest time so far, and its events and registered details that no accepted report has handed over
 pub record Thread : Type 0 where
   pub name : List ℕ
   pub form : Form
@@ -19,11 +19,11 @@ pub record Thread : Type 0 where
   pub word : List Event
   pub details : List Details
 
--- the time of a call where the clock answers `at`: the greatest answer so far
+-- the time of a call if the clock answers `at`: the greatest answer so far
 abbrev pub time_of : Thread → ℤ → ℤ
 time_of thread at = int_max thread.latest at
 
--- after a scope was begun with this id and stored text
+-- after beginning a scope with this id and stored text
 abbrev pub after_begin : Thread → ℕ → List ℕ → ℤ → Thread
 after_begin thread id text at = record {
   name = thread.name;
@@ -34,7 +34,7 @@ after_begin thread id text at = record {
   details = thread.details;
 }
 
--- after the innermost scope was ended
+-- after ending the innermost scope
 abbrev pub after_end : Thread → ℤ → Thread
 after_end thread at = record {
   name = thread.name;
@@ -45,7 +45,7 @@ after_end thread at = record {
   details = thread.details;
 }
 
--- after the details of a scope were registered
+-- after registering details
 abbrev pub after_registering : Thread → Details → Thread
 after_registering thread d = record {
   name = thread.name;
@@ -56,7 +56,7 @@ after_registering thread d = record {
   details = thread.details ++ (d ∷ []);
 }
 
--- Registering a scope with these details, in which its id is drawn: it goes with the next accepted report, or nothing is changed.
+-- Registers a scope with these details and the id drawn for it, for the next accepted report; or nothing changes.
 abbrev pub RegistersScope : Thread → Details → Result ℕ Error → Thread → Type 0
 RegistersScope old d (Ok id) new = new ≡ after_registering old (with_id d id)
 RegistersScope old d (Err e) new = (new ≡ old) × ((e ≡ IdsExhausted) ⊎ (e ≡ Memory))
@@ -72,11 +72,11 @@ after_handing thread = record {
   details = [];
 }
 
--- whose scopes a report hands over
+-- the info under which a report hands scopes over
 abbrev pub info_of_thread : Thread → Info
 info_of_thread thread = record { start = thread.first_start; name = thread.name }
 
--- the bytes so far, and the offsets of the open scopes' sizes, the innermost first
+-- the number of bytes so far, and the offsets of the open scopes' sizes, the innermost first
 abbrev pub opened_after : Form → ℕ × List ℕ → Event → ℕ × List ℕ
 opened_after form sofar (Open id text start) =
     (sofar.0 + head_size form text, (sofar.0 + size_offset form text) ∷ sofar.1)
@@ -85,6 +85,6 @@ opened_after form sofar (Close stop) = (sofar.0 + end_size, drop 1 sofar.1)
 abbrev pub open_offsets : Form → List Event → List ℕ
 open_offsets form word = (fold (opened_after form) (0, []) word).1
 
--- those of a thread's open scopes
+-- the offsets of a thread's open scopes
 abbrev pub offsets_of : Thread → List ℕ
 offsets_of thread = open_offsets thread.form thread.word

@@ -1,4 +1,4 @@
--- What ending a scope does to a thread and its reporter, and what a report asked for does.
+-- What ending a scope, and asking for a report, does to a thread and its reporter.
 use Rattle.std.specs.Prelude.{◌≡◌, ◌≢◌, ◌<◌, ◌⊎◌, ℤ, Bool, true, false, List, [], Result, Ok, Err}
 use Rattle.puffin_data.specs.declared.error.Error.{Error}
 use Rattle.puffin_data.specs.declared.error.Error.TheVariants.{Memory, ScopesOpen}
@@ -19,7 +19,7 @@ pub record IsReportOf (thread : Thread) (r : Recorded) : Type 0 where
   pub word : thread.word ≡ tour forest
   pub honest : IsHonestRecord r forest
 
--- such a record went to the reporter, under the thread's info and with its details, and it was answered so
+-- such a record went to the reporter, under the thread's info and with its details, with this outcome
 abbrev pub GoesTo : {R : Type 0} → (R → Info → List Details → Recorded → R → Type 0) → Thread → R →
     R → Type 0
 GoesTo answered thread before after =
@@ -27,7 +27,7 @@ GoesTo answered thread before after =
     × IsReportOf thread r
     × answered before (info_of_thread thread) thread.details r after
 
--- The innermost scope ends at a moment. An inner scope leaves the reporter as it was. Where it is the last, all events go to the reporter, and stay where it refuses.
+-- Ends the innermost scope at a time. While others are open, the reporter doesn't change. After the last one, all events go to the reporter, and stay with the thread if it refuses them.
 abbrev pub Closes : {R : Type 0} → (R → Info → List Details → Recorded → R → Type 0) →
     (R → Info → List Details → Recorded → Error → R → Type 0) → Thread → Thread → ℤ → R → R →
     Closed → Type 0
@@ -42,12 +42,12 @@ Closes accepts refuses old new at before after (Kept e) =
     × (new ≡ after_end old at)
     × GoesTo (λ b i d r a. refuses b i d r e a) (after_end old at) before after
 
--- closed scopes wait for a report
+-- closed scopes wait for a report, and none is open
 pub record Waits (thread : Thread) : Type 0 where
   pub none_open : open_after 0 thread.word ≡ 0
   pub some : thread.word ≢ []
 
--- A report of what waits is asked for. A refusal leaves the thread as it was: a scope is open, the name couldn't be copied, or the reporter refused.
+-- Reports what waits. A refusal doesn't change the thread: a scope is open, the name couldn't be copied, or the reporter refused.
 abbrev pub Reports : {R : Type 0} → (R → Info → List Details → Recorded → R → Type 0) →
     (R → Info → List Details → Recorded → Error → R → Type 0) → Thread → Thread → R → R →
     Result Bool Error → Type 0

@@ -1,11 +1,11 @@
--- The events that bytes spell in a form, one after another. The sizes of children aren't read, so the scopes that are still open are among them.
+-- The events that bytes spell, read without the sizes of children, so open scopes are among them.
 use Rattle.std.specs.Prelude.{ℕ, zero, suc, ◌==◌, true, false, List, [], ◌∷◌, length, take, drop, slice_index}
 use Rattle.puffin_data.specs.declared.data.form.Form.{Form}
 use Rattle.puffin_data.specs.Forest.Spelling.{begin_mark, end_mark, end_size}
 use Rattle.puffin_data.specs.Walk.Reading.{id_in, time_in, text_size_in, text_begin_in, child_begin_in}
 use Rattle.puffin_data.specs.Forest.Tour.{Event, Open, Close}
 
--- a scope's beginning that stands at the front of a region
+-- the beginning of a scope, at the front of a region
 abbrev pub open_in : Form → List ℕ → Event
 open_in form region =
     Open (id_in region)

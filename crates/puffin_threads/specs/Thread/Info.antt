@@ -1,4 +1,4 @@
--- What contracts see of a thread's info, and the order of infos.
+-- What contracts see of a thread's info (its start and name), and the order of infos.
 use Rattle.std.specs.Prelude.{ℕ, ℤ, Bool, List, Option, map, string_bytes, refl}
 use Rattle.std.specs.declared.cmp.Ordering.{Ordering}
 use Rattle.std.specs.Ordering.{nat_cmp, int_cmp, on, then_cmp, eq_by_cmp}
@@ -16,7 +16,7 @@ pub record Info : Type 0 where
 abbrev pub info_of : ThreadInfo → Info
 info_of thread = record { start = thread.start_time_ns; name = string_bytes thread.name }
 
--- by the start, none first, and then by the name's bytes
+-- by start, none first, then by the name's bytes
 abbrev pub info_cmp : Info → Info → Ordering
 info_cmp = then_cmp (on (λ i. i.start) (option_cmp int_cmp)) (on (λ i. i.name) (slice_cmp nat_cmp))
 
@@ -26,13 +26,13 @@ thread_cmp = on info_of info_cmp
 abbrev pub same_info : Info → Info → Bool
 same_info = eq_by_cmp info_cmp
 
--- an info is stored as the pair of its fields
+-- the encoding of an info for contracts: the pair of its fields
 abbrev pub info_code : Coded Info
 info_code =
     code_by (Option ℤ × List ℕ) (coded× (coded_option coded_ℤ) (coded_list coded_ℕ))
     (λ i. (i.start, i.name)) (λ p. record { start = p.0; name = p.1 }) (λ _. refl)
 
--- the entries of a map of threads, by the threads' infos
+-- the entries of a map of threads, keyed by the threads' infos
 abbrev pub info_entries : {X : Type 0} → List (ThreadInfo × X) → List (Info × X)
 info_entries entries = map (λ e. (info_of e.0, e.1)) entries
 

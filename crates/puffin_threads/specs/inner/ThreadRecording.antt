@@ -1,4 +1,4 @@
--- What a thread keeps of its scopes: the open ones, each in the one that stands after it, and what is closed in the innermost.
+-- How a thread stores its scopes, and the invariant of that.
 use Rattle.std.specs.Prelude.{◌≡◌, ℕ, ◌*◌, ◌≤◌, ℤ, pos, ◌≤ℤ◌, List, [], ◌∷◌, length, reverse, fold, Option, Some, None, string_bytes}
 use Rattle.std.specs.Option.{option_map}
 use Rattle.puffin_data.specs.declared.data.form.Form.{Form}
@@ -26,12 +26,12 @@ scopes_with sofar (Close stop) = scopes_closed sofar.0 sofar.1 stop
 unfoldable pub scopes_in : List Event → List Opened × Forest
 scopes_in word = fold scopes_with ([], empty) word
 
--- where the sizes of open scopes stand
+-- the offsets of the open scopes' sizes
 abbrev pub size_places : Form → List Opened → List ℕ
 size_places form [] = []
 size_places form (o ∷ outer) = size_place form o outer ∷ size_places form outer
 
--- open scopes that can be written, and that started from 0 on and not after this moment
+-- open scopes that can be written, with starts from 0 up to this time
 abbrev pub StartedBy : Form → ℤ → List Opened → Type 0
 StartedBy form latest [] = Unit {0}
 StartedBy form latest (o ∷ outer) =
@@ -46,7 +46,7 @@ pub record HoldsScopes (form : Form) (bytes : List ℕ) (latest : ℤ) : Type 0 
   pub places : open_offsets form (events_in form bytes)
       ≡ size_places form (scopes_in (events_in form bytes)).0
 
--- what is said of a stream's scopes, open ones among them
+-- the counts of a stream's scopes, open ones included
 pub record Counted (info : StreamInfo) (word : List Event) : Type 0 where
   pub num_scopes : info.num_scopes ≡ num_begun word
   pub depth : info.depth ≡ most_open 0 word
@@ -63,17 +63,17 @@ thread_in r = record {
   details = details_seen r.details.items;
 }
 
--- the copy of the name, where there is one
+-- the copy of the name, if there is one
 abbrev pub spare_name : Inside → Option (List ℕ)
 spare_name r = option_map (λ s. string_bytes s) r.spare
 
--- what is true of each recording, whose texts are of this form
+-- the invariant of a recording in this form
 pub record IsRecordingIn (form : Form) (r : Inside) : Type 0 where
   pub latest : pos 0 ≤ℤ r.latest
   pub scopes : ∥ HoldsScopes form r.info.stream.bytes r.latest ∥₁
   pub counted : Counted r.info (events_in form r.info.stream.bytes)
   pub offsets : reverse r.offsets.items ≡ open_offsets form (events_in form r.info.stream.bytes)
-  -- each open scope can end without memory, and a copy of the name waits for the report of the last
+  -- each open scope can end without an allocation, and while one is open a copy of the name is ready for the report
   pub room : end_size * length r.offsets.items ≤ r.info.stream.room
   pub has_spare : spare_name r ≡ None → r.offsets.items ≡ []
   pub spare : (name : List ℕ) → spare_name r ≡ Some name → name ≡ string_bytes r.name

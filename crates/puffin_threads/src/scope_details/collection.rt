@@ -14,7 +14,7 @@ use std::collections::BTreeMap;
 use std::marker::Model;
 use std::sync::Arc;
 
-/// The details of scopes by their ids, and the ids by the scopes' names.
+/// The details of scopes by id, and the ids by name. An id keeps the first details inserted under it, and a name the last id.
 #[derive(Drop)]
 pub struct ScopeCollection {
     by_id: BTreeMap<ScopeId, Arc<ScopeDetails>>,
@@ -36,9 +36,7 @@ impl Model for ScopeCollection {
     ghost invariant = { IsCollection };
 }
 
-/// Puts an id under a name. Only a name that isn't there takes memory.
-///
-/// Refused only with `Memory`, and nothing is changed then.
+/// Sets the id of a name. Allocates only if the name is new. Fails only with `Memory`, and then changes nothing.
 fn put_name(
     alloc: Global,
     by_name: &mut BTreeMap<String, ScopeId>,
@@ -58,7 +56,7 @@ fn put_name(
     Ok(())
 }
 
-/// Whether some of these details have no id.
+/// Returns whether some of these details have no id.
 fn any_lacks_id(details: &[Arc<ScopeDetails>]) -> bool
     ensures { result ≡ list_any (λ d. lacks_id (details_of (arc_value d))) details.now }
 {
@@ -66,7 +64,7 @@ fn any_lacks_id(details: &[Arc<ScopeDetails>]) -> bool
 }
 
 impl ScopeCollection {
-    /// No details.
+    /// Makes an empty collection.
     pub fn new(alloc: Global) -> ScopeCollection
         ensures { result ≡ no_details }
     {
@@ -77,7 +75,7 @@ impl ScopeCollection {
         }
     }
 
-    /// The first details that were inserted under an id.
+    /// Returns the first details that were inserted under an id.
     pub fn fetch_by_id(&self, id: &ScopeId) -> Option<&Arc<ScopeDetails>>
         ensures { option_map (λ d. details_of (arc_value d)) (option_copied result)
             ≡ map.get self.now.by_id id.now }
@@ -85,16 +83,21 @@ impl ScopeCollection {
         self.by_id.get(id)
     }
 
-    /// The last id that was inserted under a name.
+    /// Returns the last id that was inserted under a name.
     pub fn fetch_by_name(&self, name: &str) -> Option<&ScopeId>
         ensures { option_copied result ≡ map.get self.now.by_name name.now }
     {
         self.by_name.get(name)
     }
 
-    /// Inserts details under their id and their name, and returns those kept under the id, which are the first.
+    /// Inserts details under their id and their name. Returns the details kept under the id, which are the first ones inserted.
     ///
-    /// Refused with `MissingId` where they have no id, and else only with `Memory`. Nothing is changed then.
+    /// Fails with `MissingId` if the details have no id, else only with `Memory`. Nothing changes then.
+    ///
+    /// ```
+    /// let details = ScopeDetails::from_scope_name(CowStr::Borrowed("part")).with_scope_id(id);
+    /// let kept = scopes.insert(Arc::new(alloc, details)?)?;
+    /// ```
     pub fn insert(&mut self, details: Arc<ScopeDetails>) -> Result<Arc<ScopeDetails>>
         ensures ok { OnOk result (
             self.new ≡ with_details self.old (details_of (arc_value details))) }
@@ -125,8 +128,8 @@ impl ScopeCollection {
 
     /// Inserts details one after the other, as [`ScopeCollection::insert`] does.
     ///
-    /// Refused with `MissingId` just where some of them have no id, and nothing is changed then; else only with `Memory`,
-    /// after which a beginning of them is inserted.
+    /// Fails with `MissingId` exactly when some of them have no id; nothing changes then. Else fails only with `Memory`; a
+    /// beginning of them is then inserted.
     pub fn insert_all(&mut self, details: &[Arc<ScopeDetails>]) -> Result<()>
         ensures ok { OnOk result (
             self.new ≡ with_all_details self.old (shared_details details.now)) }
@@ -145,14 +148,14 @@ impl ScopeCollection {
         Ok(())
     }
 
-    /// The ids by the scopes' names.
+    /// Returns the ids by name.
     pub fn scopes_by_name(&self) -> &BTreeMap<String, ScopeId>
         ensures { by_names result.now.entries ≡ self.now.by_name }
     {
         &self.by_name
     }
 
-    /// The details by their ids.
+    /// Returns the details by id.
     pub fn scopes_by_id(&self) -> &BTreeMap<ScopeId, Arc<ScopeDetails>>
         ensures details { by_ids result.now.entries ≡ self.now.by_id }
         ensures own { KeepsOwnIds self.now }
@@ -160,7 +163,7 @@ impl ScopeCollection {
         &self.by_id
     }
 
-    /// A copy, which shares the details. Refused only with `Memory`.
+    /// Copies the collection; the copy shares the details. Fails only with `Memory`.
     pub fn clone(&self) -> Result<ScopeCollection>
         ensures ok { IfOk result (λ copy. copy ≡ self.now) }
         ensures err { IfErr result (λ e. e ≡ Error.Memory) }

@@ -9,23 +9,27 @@ use puffin_data::{Error, Result};
 use std::alloc::Global;
 use std::borrow::CowStr;
 
-/// What is known of a scope besides its times. Details are ordered by their id, then by scope name, function, file and
-/// line; a missing id or name comes first.
+/// The details of a scope: its id, its names and its place in the code. Details are ordered by id, then by scope name,
+/// function, file and line; a missing id or name comes first.
 #[derive(Debug, PartialEq, Eq, PartialOrd, Ord, Hash, Drop)]
 pub struct ScopeDetails {
     pub(crate) scope_id: Option<ScopeId>,
-    /// The scope's own name, or `None` where it is a whole function.
+    /// The scope's own name, or `None` if the scope is a whole function.
     pub scope_name: Option<CowStr<'static>>,
-    /// The function that the scope is in.
+    /// The function that contains the scope.
     pub function_name: CowStr<'static>,
-    /// The file that the scope is in.
+    /// The file that contains the scope.
     pub file_path: CowStr<'static>,
-    /// The line of the file, counted from 1, or 0 where it isn't known.
+    /// The line in the file, counted from 1, or 0 if it is unknown.
     pub line_nr: u32,
 }
 
 impl ScopeDetails {
-    /// Of a named scope. The rest is as in the default.
+    /// Makes the details of a named scope. All else is as in the default.
+    ///
+    /// ```
+    /// let details = ScopeDetails::from_scope_name(CowStr::Borrowed("part")).with_line_nr(7);
+    /// ```
     pub fn from_scope_name(scope_name: CowStr<'static>) -> ScopeDetails
         ensures { details_of result
             ≡ record default_details { scope_name = Some (cow_str_bytes scope_name.entry) } }
@@ -36,7 +40,7 @@ impl ScopeDetails {
         }
     }
 
-    /// The same with this function.
+    /// Sets the function.
     pub fn with_function_name(mut self, function_name: CowStr<'static>) -> ScopeDetails
         ensures { details_of result
             ≡ record (details_of self) { function_name = cow_str_bytes function_name.entry } }
@@ -45,7 +49,7 @@ impl ScopeDetails {
         self
     }
 
-    /// The same with this file.
+    /// Sets the file.
     pub fn with_file(mut self, file_path: CowStr<'static>) -> ScopeDetails
         ensures { details_of result
             ≡ record (details_of self) { file_path = cow_str_bytes file_path.entry } }
@@ -54,7 +58,7 @@ impl ScopeDetails {
         self
     }
 
-    /// The same with this line.
+    /// Sets the line.
     pub fn with_line_nr(mut self, line_nr: u32) -> ScopeDetails
         ensures { details_of result ≡ record (details_of self) { line_nr = line_nr } }
     {
@@ -62,7 +66,7 @@ impl ScopeDetails {
         self
     }
 
-    /// The same with this id.
+    /// Sets the id.
     pub fn with_scope_id(mut self, scope_id: ScopeId) -> ScopeDetails
         ensures { details_of result ≡ with_id (details_of self) scope_id }
     {
@@ -70,21 +74,21 @@ impl ScopeDetails {
         self
     }
 
-    /// The id, where there is one.
+    /// Returns the id, if there is one.
     pub fn scope_id(&self) -> Option<ScopeId>
         ensures { result ≡ (details_of self.now).id }
     {
         self.scope_id
     }
 
-    /// The scope's name, or the function's where the scope has none.
+    /// Returns the scope's name, or the function's if the scope has none.
     pub fn name(&self) -> &CowStr<'static>
         ensures { cow_str_bytes result.now ≡ name_of (details_of self.now) }
     {
         self.scope_name.as_ref().unwrap_or(&self.function_name)
     }
 
-    /// Whether the scope is named, or a whole function.
+    /// Returns whether the scope is a whole function or named.
     pub fn scope_type(&self) -> ScopeType
         ensures { result ≡ type_of (details_of self.now) }
     {
@@ -95,7 +99,7 @@ impl ScopeDetails {
         }
     }
 
-    /// `file:line`, or `file` where the line is 0. Refused only with `Memory`.
+    /// Formats the place in the code: `file:line`, or `file` if the line is 0. Fails only with `Memory`.
     pub fn location(&self, alloc: Global) -> Result<String>
         ensures ok { IfOk result (λ text. string_bytes text ≡ location_of (details_of self.now)) }
         ensures err { IfErr result (λ e. e ≡ Error.Memory) }
@@ -109,7 +113,7 @@ impl ScopeDetails {
         }
     }
 
-    /// A copy. Refused only with `Memory`.
+    /// Copies the details. Fails only with `Memory`.
     pub fn clone(&self) -> Result<ScopeDetails>
         ensures ok { IfOk result (λ details. details_of details ≡ details_of self.now) }
         ensures err { IfErr result (λ e. e ≡ Error.Memory) }
@@ -127,7 +131,7 @@ impl ScopeDetails {
 impl Default for ScopeDetails {
     ghost is_default = { λ details. details_of details ≡ default_details };
 
-    /// No id and no names, no file, and line 0.
+    /// Returns details without an id or scope name. Function and file are empty, and the line is 0.
     fn default() -> ScopeDetails {
         ScopeDetails {
             scope_id: None,

@@ -5,30 +5,36 @@ use puffin_data::data::ScopeId;
 use puffin_data::{Error, Result};
 use std::sync::atomic::{AtomicU64, Ordering};
 
-/// Gives out scope ids, one after the other, to any number of threads.
+/// Draws scope ids, one after the other, for any number of threads.
 ///
-/// Its counter has 64 bits: ids are drawn until `2^32 - 1`, and then none until all of the counter's numbers were drawn.
+/// The counter has 64 bits: after the id `2^32 - 1` each draw fails until the counter has wrapped around.
 #[derive(Drop)]
 pub struct ScopeIds {
     next: AtomicU64,
 }
 
 impl ScopeIds {
-    /// The first id is 1.
+    /// Makes a counter whose first id is 1.
     pub fn new() -> ScopeIds {
         ScopeIds::starting_at(1)
     }
 
-    /// The first number is this one.
+    /// Makes a counter whose first number is `first`.
     pub fn starting_at(first: u64) -> ScopeIds {
         ScopeIds {
             next: AtomicU64::new(first),
         }
     }
 
-    /// The next number as an id. Takes no memory. Draws give different ids until the counter has gone round, as tests show.
+    /// Draws the next number as an id. Allocates nothing. Draws give different ids until the counter wraps around, which is
+    /// tested and not proved.
     ///
-    /// Refused only with `IdsExhausted`, where the number is 0 or beyond `u32`. It is used up then, too.
+    /// Fails only with `IdsExhausted`, if the number is 0 or doesn't fit `u32`. The number is used up even then.
+    ///
+    /// ```
+    /// let ids = ScopeIds::new();
+    /// let id = ids.draw()?;
+    /// ```
     pub fn draw(&self) -> Result<ScopeId>
         ensures { IfErr result (λ e. e ≡ Error.IdsExhausted) }
     {

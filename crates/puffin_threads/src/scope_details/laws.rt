@@ -1,5 +1,5 @@
-//! Laws of scope details and their collections, as contracts of functions that do nothing. A proof of another crate cites
-//! them by calling the function.
+//! Laws of scope details and their collections. Each is the contract of a function that does nothing; a proof of another crate
+//! cites it by calling the function.
 
 ghost use Rattle.std.specs.Prelude.{ℕ, List, Some, None, ◌≡◌, [], ◌<◌, IsTrue, String, string_cmp};
 ghost use Rattle.std.specs.declared.cmp.Ordering.TheVariants.{Less, Equal};
@@ -22,7 +22,7 @@ use crate::scope_details::{ScopeDetails, ScopeType};
 use puffin_data::data::ScopeId;
 use std::hash::Hash;
 
-/// How details are compared: by what contracts see of them. Equality, order and hash agree.
+/// Details are compared by what contracts see of them. Equality, order and hash agree.
 pub fn details_by_contents()
     ensures order { (a b : ScopeDetails) →
         ⟦<ScopeDetails as Ord>⟧.cmp a b ≡ details_cmp (details_of a) (details_of b) }
@@ -35,8 +35,8 @@ pub fn details_by_contents()
         ⟦<ScopeDetails as Hash>⟧.hash_input a ≡ ⟦<ScopeDetails as Hash>⟧.hash_input b }
 {}
 
-/// The order of details: by the id, none first, then by the scope's name, none first, then by function, file and line. It
-/// is total, and only equal details tie.
+/// Details are ordered by id, none first, then by scope name, none first, then by function, file and line. The order is total,
+/// and only equal details compare as equal.
 pub fn order_of_details()
     ensures no_id_first { (a b : Details) → a.id ≡ None → (i : ℕ) → b.id ≡ Some i →
         details_cmp a b ≡ Less }
@@ -48,8 +48,7 @@ pub fn order_of_details()
     ensures same { (a b : Details) → IsTrue (same_details a b) → a ≡ b }
 {}
 
-/// How the types of scopes and ids are compared: functions before named scopes, ids by their numbers. They are hashed as
-/// they are compared.
+/// Types of scopes are ordered with functions before named scopes, and ids by number. Their hashes agree with the order.
 pub fn types_and_ids()
     ensures types { (a b : ScopeType) → ⟦<ScopeType as Ord>⟧.cmp a b ≡ type_cmp a b }
     ensures partial_types { (a b : ScopeType) →
@@ -61,14 +60,14 @@ pub fn types_and_ids()
     ensures partial_ids { (a b : ScopeId) →
         ⟦<ScopeId as PartialOrd>⟧.partial_cmp a b ≡ Some (nat_cmp a b) }
     ensures same_ids { (a b : ScopeId) → ⟦<ScopeId as PartialEq>⟧.eq a b ≡ eq_by_cmp nat_cmp a b }
-    // A type is hashed as its place, and an id as its number.
+    // A type is hashed as its place in the order, and an id as its number.
     ensures type_hashes { (a : ScopeType) →
         ⟦<ScopeType as Hash>⟧.hash_input a ≡ fed.usize (type_place a) }
     ensures id_hashes { (a : ScopeId) → ⟦<ScopeId as Hash>⟧.hash_input a ≡ fed.u32 a }
 {}
 
-/// A collection of a list of details has under each id the first details with it, and under each name the last id that was
-/// inserted with it. All details stand under their own ids.
+/// A collection made of a list of details has under each id the first details with it, and under each name the last id inserted
+/// with it. It has all details under their own ids.
 pub fn collected_details()
     ensures first { (ds : List Details) (id : ℕ) →
         map.get (with_all_details no_details ds).by_id id ≡ first_with_id id ds }
@@ -80,7 +79,7 @@ pub fn collected_details()
     ensures none { (map.values no_details.by_id ≡ []) × (map.values no_details.by_name ≡ []) }
 {}
 
-/// The entries of a collection's maps, which are in order, are what contracts see of them.
+/// The entries of a collection's maps, which are sorted, are the entries that contracts see.
 pub fn entries_of_collections()
     ensures ids { (entries : List (ℕ × Arc ScopeDetails Global)) →
         IsStrictlySortedBy nat_cmp (keys_of entries) →

@@ -1,7 +1,7 @@
 ghost use Rattle.std.specs.Prelude.{◌≡◌};
 ghost use Rattle.puffin_threads.specs.Details.Kind.{type_text};
 
-/// Whether a scope is a whole function, or one within it with a name of its own.
+/// Whether a scope is a whole function, or a part of one with a name of its own.
 #[derive(Clone, Copy, Debug, PartialEq, Eq, PartialOrd, Ord, Hash)]
 pub enum ScopeType {
     /// A whole function.
@@ -11,7 +11,7 @@ pub enum ScopeType {
 }
 
 impl ScopeType {
-    /// `function scope`, or `named`.
+    /// Returns `function scope` or `named`.
     pub fn type_str(&self) -> &'static str
         ensures { result.now ≡ type_text self.now }
     {

@@ -1,4 +1,4 @@
-//! Thread profilers, whatever their clock.
+//! Thread profilers with any clock.
 
 ghost use Rattle.std.specs.Prelude.{◌≡◌, ◌≢◌, ℤ, pos, ◌≤ℤ◌, Some, OnOk, OnErr, IfOk, IfErr, slice_get};
 ghost use Rattle.puffin_data.specs.declared.error.Error.{Error};
@@ -10,7 +10,7 @@ use crate::thread_profiler::profiler::ThreadProfiler;
 use crate::thread_profiler::reporter::{Closed, Reporter};
 use puffin_data::{Error, Result};
 
-/// A thread profiler, whatever its clock. Calls that take one over all clocks are generic over this.
+/// A thread profiler with any clock. Calls that take a thread profiler, whatever its clock, are generic over this.
 pub trait AnyThread {
     ghost use Rattle.std.specs.Prelude.{ℤ};
     ghost use Rattle.puffin_threads.specs.Thread.Calls.{Thread};
@@ -18,10 +18,10 @@ pub trait AnyThread {
     /// What the thread has recorded.
     ghost recorded: { Self → Thread };
 
-    /// Its clock, asked in this state, may return this time and leave that state.
+    /// Whether the thread's clock, read in the first state, may return this time and end in the second state.
     ghost answers: { Self → ℤ → Self → Type 0 };
 
-    /// [`ThreadProfiler::end_scope`].
+    /// Ends the innermost open scope, as [`ThreadProfiler::end_scope`] does.
     fn end_innermost<R: Reporter>(&mut self, offset: usize, reporter: &mut R) -> Result<Closed>
         ensures innermost { OnOk result (
             slice_get (offsets_of (recorded self.old)) 0 ≡ Some offset) }
@@ -36,7 +36,7 @@ pub trait AnyThread {
             × Closes R.accepts R.refuses (recorded self.old) (recorded self.new) at reporter.old
             reporter.new closed) };
 
-    /// [`ThreadProfiler::report_closed`].
+    /// Reports the closed scopes that wait, as [`ThreadProfiler::report_closed`] does.
     fn report_waiting<R: Reporter>(&mut self, reporter: &mut R) -> Result<bool>
         ensures reports { Reports R.accepts R.refuses (recorded self.old) (recorded self.new)
             reporter.old reporter.new result };

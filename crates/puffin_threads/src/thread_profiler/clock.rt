@@ -1,4 +1,4 @@
-//! Where the times of scopes come from.
+//! The clocks that scopes are timed by.
 
 ghost use Rattle.std.specs.Prelude.{◌≡◌, ◌-◌, ◌^◌, ℤ, pos, ◌≤ℤ◌, min};
 ghost use Rattle.std.specs.Duration.{as_nanos};
@@ -9,18 +9,18 @@ use std::marker::Model;
 use std::rt::Clock;
 use std::time::Duration;
 
-/// A clock that counts nanoseconds. It may fall, but it is never below 0.
+/// A clock that counts nanoseconds. Its times may go back, but are never negative.
 pub trait NsSource {
-    /// Asked in this state, it may return this time and be left in that state.
+    /// Whether the clock, read in the first state, may return this time and end in the second state.
     ghost answers: { Self → ℤ → Self → Type 0 };
 
-    /// The time now, in nanoseconds.
+    /// Returns the current time, in nanoseconds.
     fn now_ns(&mut self) -> NanoSecond
         ensures answered { answers self.old result self.new }
         ensures never_negative { pos 0 ≤ℤ result };
 }
 
-/// A length of time in nanoseconds, at most the greatest that fits.
+/// Converts a duration to nanoseconds, or to `i64::MAX` if it is longer than that.
 #[cold]
 #[inline(never)]
 fn nanoseconds(time: Duration) -> NanoSecond
@@ -29,10 +29,11 @@ fn nanoseconds(time: Duration) -> NanoSecond
     NanoSecond::try_from(time.as_nanos()).unwrap_or(NanoSecond::MAX)
 }
 
-/// Seconds below this fit in nanoseconds.
+/// Fewer seconds than these fit `i64` as nanoseconds.
 const QUICK_SECONDS: u64 = 1 << 33;
 
-/// A length of time in nanoseconds. Some 272 years take one product of 64 bits.
+/// Converts a duration to nanoseconds, or to `i64::MAX` if it is longer than that. Up to some 272 years take one multiplication
+/// of 64 bits.
 #[inline(always)]
 fn quick_nanoseconds(time: Duration) -> NanoSecond
     ensures { pos 0 ≤ℤ result }
@@ -44,7 +45,7 @@ fn quick_nanoseconds(time: Duration) -> NanoSecond
     nanoseconds(time)
 }
 
-/// The time from one moment to another, 0 where that is earlier.
+/// Returns the time from one moment to another, or 0 if the other is earlier.
 #[inline(always)]
 fn gone_by(begun: NanoSecond, now: NanoSecond) -> NanoSecond
     requires begun { pos 0 ≤ℤ begun }
@@ -57,7 +58,7 @@ fn gone_by(begun: NanoSecond, now: NanoSecond) -> NanoSecond
     now - begun
 }
 
-/// A moment so much later, at most the greatest that fits.
+/// Returns the time so much later, or `i64::MAX` if that is greater.
 #[inline(always)]
 fn later(start: NanoSecond, gone: NanoSecond) -> NanoSecond
     requires start { pos 0 ≤ℤ start }
@@ -70,7 +71,12 @@ fn later(start: NanoSecond, gone: NanoSecond) -> NanoSecond
     start + gone
 }
 
-/// The system's clock: the moment when it was made, in nanoseconds since 1970, and the time that has gone by since.
+/// The system's clock. Its time is that of the wall clock when it was made, in nanoseconds since 1970, plus the monotonic time
+/// since then.
+///
+/// ```
+/// let clock = SystemClock::new(rt)?;
+/// ```
 #[derive(Drop)]
 pub struct SystemClock<R> {
     rt: R,
@@ -86,8 +92,8 @@ impl<R: Clock + Drop> SystemClock<R> {
     ghost use Rattle.std.specs.Prelude.{IfOk};
     ghost use Rattle.puffin_threads.specs.Thread.Clock.{clock_start, last_answer};
 
-    /// Takes the start: nanoseconds since 1970, 0 before, and at most the greatest that fits. Refused with the system's
-    /// error where a clock can't be read.
+    /// Reads the start from the wall clock, in nanoseconds since 1970: 0 if it is before 1970, and at most `i64::MAX`. Fails
+    /// with the system's error if a clock can't be read.
     pub fn new(rt: R) -> io::Result<SystemClock<R>>
         ensures start { IfOk result (λ clock. pos 0 ≤ℤ clock_start clock) }
         ensures last { IfOk result (λ clock. last_answer clock ≡ clock_start clock) }
@@ -95,7 +101,7 @@ impl<R: Clock + Drop> SystemClock<R> {
         let begun_ns = nanoseconds(rt.monotonic()?);
         let start_ns = match rt.since_1970() {
             Ok(time) => nanoseconds(time),
-            // The wall clock stands before 1970.
+            // The wall clock is before 1970.
             Err(e) if e.kind() == io::ErrorKind::InvalidData => 0,
             Err(e) => return Err(e),
         };
@@ -112,11 +118,11 @@ impl<R: Clock> NsSource for SystemClock<R> {
     ghost use Rattle.std.specs.Prelude.{◌≡◌, ◌≤ℤ◌};
     ghost use Rattle.puffin_threads.specs.Thread.Clock.{clock_start, last_answer};
 
-    // The start stays, and no answer is below it.
+    // The start doesn't change, and no time is less than the start.
     ghost answers = { λ old at new.
         (clock_start new ≡ clock_start old) × (last_answer new ≡ at) × (clock_start old ≤ℤ at) };
 
-    /// The start and the time gone by since, at most the greatest that fits. Where the clock can't be read, the last time returned.
+    /// Returns the start plus the time since then, at most `i64::MAX`. If the clock can't be read, returns the last time again.
     fn now_ns(&mut self) -> NanoSecond {
         if let Ok(time) = self.rt.monotonic() {
             let gone = gone_by(self.begun_ns, quick_nanoseconds(time));
@@ -126,7 +132,7 @@ impl<R: Clock> NsSource for SystemClock<R> {
     }
 }
 
-/// A clock that returns what it was set to. A time below 0 counts as 0.
+/// A clock that returns the time that it was set to, or 0 if that is negative.
 ///
 /// Contracts see the time that it was set to.
 #[derive(Drop)]
@@ -143,14 +149,14 @@ impl Model for ScriptClock {
 }
 
 impl ScriptClock {
-    /// Returns this time, in nanoseconds.
+    /// Makes a clock set to this time, in nanoseconds.
     pub fn new(at: NanoSecond) -> ScriptClock
         ensures { result ≡ at }
     {
         ScriptClock { at }
     }
 
-    /// Returns this time from now on, in nanoseconds.
+    /// Sets the clock to this time, in nanoseconds.
     pub fn set(&mut self, at: NanoSecond)
         ensures { self.new ≡ at }
     {

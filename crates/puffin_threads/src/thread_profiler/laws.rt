@@ -1,5 +1,5 @@
-//! Laws of what threads report, as contracts of functions that do nothing. A proof of another crate cites them by calling
-//! the function.
+//! Laws of what threads report. Each is the contract of a function that does nothing; a proof of another crate cites it by
+//! calling the function.
 
 ghost use Rattle.std.specs.Prelude.{ℕ, ℤ, List, ◌≡◌, ◌+◌, ◌<◌, ◌^◌, ◌∷◌, ◌++◌, [], length, drop};
 ghost use Rattle.puffin_data.specs.declared.data.form.Form.{Form};
@@ -10,15 +10,15 @@ ghost use Rattle.puffin_data.specs.Forest.Tour.{Event, Open, Close};
 ghost use Rattle.puffin_data.specs.Forest.Words.{word_size, open_after};
 ghost use Rattle.puffin_threads.specs.Thread.Calls.{open_offsets};
 
-/// All that is honest of the same bytes in one form is the same. So what a thread reports is what a successful
-/// [`puffin_data::data::StreamInfo::parse`] of the bytes gives.
+/// Honest infos of the same bytes in the same form are equal. So what a thread reports is what a successful
+/// [`puffin_data::data::StreamInfo::parse`] of the bytes returns.
 pub fn one_record()
     ensures { (a b : Recorded) (f g : Forest) → IsHonestRecord a f → IsHonestRecord b g →
         length a.bytes < 2 ^ 63 → a.form ≡ b.form → a.bytes ≡ b.bytes → a ≡ b }
 {}
 
-/// The offsets of the open scopes: there are as many as scopes are open, a scope that begins puts its own before the
-/// others, and one that ends takes the first away.
+/// The offsets of the open scopes, the innermost first: there is one for each open scope; a scope that begins adds its own at
+/// the front, and one that ends removes the first.
 pub fn open_scopes()
     ensures count { (form : Form) (word : List Event) →
         length (open_offsets form word) ≡ open_after 0 word }

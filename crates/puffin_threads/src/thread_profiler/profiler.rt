@@ -7,10 +7,10 @@ use puffin_data::{Error, NanoSecond, Result};
 use std::alloc::Global;
 use std::borrow::CowStr;
 
-/// The profiler of one thread: it writes down when the thread's scopes begin and end, by a clock of its own, and reports
-/// them whenever the last open scope has closed.
+/// The profiler of one thread. It records when the thread's scopes begin and end, by its own clock, and reports them when the
+/// last open scope has closed.
 ///
-/// The time of a call is the greatest that the clock has returned so far.
+/// Its times never go back: a call uses the greatest time that the clock has returned so far.
 #[derive(Drop)]
 pub struct ThreadProfiler<C> {
     recording: Recording,
@@ -32,7 +32,7 @@ impl<C: NsSource> ThreadProfiler<C> {
     ghost use Rattle.puffin_threads.specs.contracts.thread_profiler.profiler.ThreadProfiler.{the_row};
     ghost use Rattle.std.specs.Borrow.{Lends, sem};
 
-    /// A thread without scopes, of this name, for texts of the short form.
+    /// Makes a profiler of a thread with this name, without scopes and in the short form.
     ///
     /// ```
     /// let name = String::from_str(alloc, "main")?;
@@ -53,7 +53,7 @@ impl<C: NsSource> ThreadProfiler<C> {
         ThreadProfiler::with_form(alloc, name, clock, Form::Short)
     }
 
-    /// A thread without scopes, of this name, for texts of this form.
+    /// Makes a profiler of a thread with this name, without scopes and in this form.
     pub fn with_form(alloc: Global, name: String, clock: C, form: Form) -> ThreadProfiler<C>
         ensures thread { thread_of result ≡ record {
           name = string_bytes name;
@@ -73,14 +73,14 @@ impl<C: NsSource> ThreadProfiler<C> {
         }
     }
 
-    /// What it takes memory from.
+    /// Returns the allocator.
     pub fn allocator(&self) -> Global
         ensures { result ≡ allocator_of self.now }
     {
         self.alloc
     }
 
-    /// The clock.
+    /// Borrows the clock.
     pub fn clock(&mut self) -> &mut C
         ensures value { result.now ≡ clock_of self.old }
         ensures* writes_back { sem 𝓛 (
@@ -89,18 +89,18 @@ impl<C: NsSource> ThreadProfiler<C> {
         &mut self.clock
     }
 
-    /// How many scopes are open.
+    /// Returns the number of open scopes.
     pub fn depth(&self) -> usize
         ensures { result ≡ open_after 0 (thread_of self.now).word }
     {
         self.recording.depth()
     }
 
-    /// Begins a scope and returns its offset, which [`ThreadProfiler::end_scope`] takes. Of the text its longest beginning
-    /// is kept that has no more bytes than the form writes (127 or 16,383) and ends where a character ends.
+    /// Begins a scope and returns its offset, which [`ThreadProfiler::end_scope`] takes. The text is cut to what the form
+    /// stores (127 or 16,383 bytes), at a character boundary.
     ///
-    /// Refused only with `Memory`: the memory for the scope's end and for its report is taken here too. A refused call
-    /// doesn't read the clock, and changes nothing.
+    /// Also allocates for the scope's end and its report. Fails only with `Memory`; then the clock isn't read and nothing
+    /// changes.
     #[inline(always)]
     pub fn begin_scope(&mut self, id: ScopeId, text: &str) -> Result<usize>
         ensures begun { OnOk result (
@@ -121,11 +121,11 @@ impl<C: NsSource> ThreadProfiler<C> {
         self.recording.begin_scope(&mut self.clock, id, text)
     }
 
-    /// Ends the innermost open scope, whose offset this has to be. Where it was the last, all scopes that have closed since
-    /// the last accepted report go to the reporter, under the thread's name and the start of its first scope ever.
+    /// Ends the innermost open scope, which has to have this offset. If it was the last open one, hands all scopes that have
+    /// closed since the last accepted report to the reporter, under the thread's name and the start of its first scope.
     ///
-    /// Refused with `MismatchedEnd` alone, where the offset isn't the innermost open scope's: the clock isn't read then, and
-    /// nothing changes. No memory is taken.
+    /// Fails only with `MismatchedEnd`, if the offset isn't the innermost open scope's; then the clock isn't read and nothing
+    /// changes. The thread allocates nothing.
     ///
     /// ```
     /// let scope = thread.begin_scope(id, "image-12.png")?;
@@ -155,11 +155,11 @@ impl<C: NsSource> ThreadProfiler<C> {
         }
     }
 
-    /// Ends the innermost open scope, whose offset this has to be, and reports nothing: all closed scopes wait for the
+    /// Ends the innermost open scope, which has to have this offset, and reports nothing. All closed scopes wait for the
     /// thread's next report, by [`ThreadProfiler::end_scope`] or [`ThreadProfiler::report_closed`].
     ///
-    /// Refused with `MismatchedEnd` alone, where the offset isn't the innermost open scope's: the clock isn't read then, and
-    /// nothing changes. No memory is taken.
+    /// Fails only with `MismatchedEnd`, if the offset isn't the innermost open scope's; then the clock isn't read and nothing
+    /// changes. Allocates nothing.
     #[inline]
     pub fn close_scope(&mut self, offset: usize) -> Result<()>
         ensures innermost { OnOk result (
@@ -179,7 +179,8 @@ impl<C: NsSource> ThreadProfiler<C> {
         Ok(())
     }
 
-    /// What the clock returns for the end of the innermost open scope, whose offset this has to be.
+    /// Reads the clock for the end of the innermost open scope, which has to have this offset. Fails with `MismatchedEnd` if it
+    /// has another; then the clock isn't read.
     #[inline(always)]
     fn time_of_end(&mut self, offset: usize) -> Result<NanoSecond>
         ensures innermost { OnOk result (
@@ -198,10 +199,15 @@ impl<C: NsSource> ThreadProfiler<C> {
         Ok(self.clock.now_ns())
     }
 
-    /// Registers a whole function as a scope, under a newly drawn id, which is returned. Its details go to the reporter with
+    /// Registers a whole function as a scope under a newly drawn id, and returns the id. The details go to the reporter with
     /// the thread's next accepted report.
     ///
-    /// Refused with `IdsExhausted` or `Memory`, and nothing is changed then, though an id may be used up.
+    /// Fails with `IdsExhausted` or `Memory`; nothing changes then, but an id may be used up.
+    ///
+    /// ```
+    /// let (function, file) = (CowStr::Borrowed("draw"), CowStr::Borrowed("src/draw.rs"));
+    /// let id = thread.register_function_scope(&ids, function, file, 7)?;
+    /// ```
     pub fn register_function_scope(
         &mut self,
         ids: &ScopeIds,
@@ -225,7 +231,7 @@ impl<C: NsSource> ThreadProfiler<C> {
         self.recording.register(ids, details)
     }
 
-    /// Registers a scope with a name of its own. Else as [`ThreadProfiler::register_function_scope`].
+    /// Registers a scope with a name of its own in a function, as [`ThreadProfiler::register_function_scope`] does.
     pub fn register_named_scope(
         &mut self,
         ids: &ScopeIds,
@@ -251,10 +257,11 @@ impl<C: NsSource> ThreadProfiler<C> {
         self.recording.register(ids, details)
     }
 
-    /// Reports the closed scopes that wait since a report was refused. `Ok(false)` where none waits.
+    /// Reports the closed scopes that wait: those of [`ThreadProfiler::close_scope`] and of refused reports. Returns
+    /// `Ok(false)` if none waits.
     ///
-    /// Refused with `ScopesOpen` while a scope is open; else with the reporter's error, or with `Memory` where the name
-    /// couldn't be copied, and the reporter isn't asked then. Nothing changes for the thread.
+    /// Fails with `ScopesOpen` while a scope is open, with the reporter's error, or with `Memory` if the name can't be copied,
+    /// before it calls the reporter. The thread doesn't change then.
     pub fn report_closed<R: Reporter>(&mut self, reporter: &mut R) -> Result<bool>
         ensures reports { Reports R.accepts R.refuses (thread_of self.old) (thread_of self.new)
             reporter.old reporter.new result }

@@ -1,4 +1,4 @@
-//! What one thread records, apart from its clock.
+//! The records of one thread, apart from its clock.
 
 ghost use Rattle.std.specs.Prelude.{◌≡◌, ◌+◌, ◌-◌, ◌*◌, ◌^◌, ◌<◌, ◌≤◌, ◌++◌, ℤ, pos, ◌≤ℤ◌, [], ◌==◌, length, None, max, OnOk, OnErr, IfOk, IfErr, IfSome, IfNone, string_bytes, slice_get, unwrap_or, option_map};
 ghost use Rattle.std.specs.Int.{int_min};
@@ -24,14 +24,14 @@ use std::marker::Model;
 #[derive(Drop)]
 pub struct Recording {
     name: String,
-    // A copy of the name for the next report. It is there while a scope is open, since closing takes no memory.
+    // A copy of the name for the next report. It is made when a scope begins, so that ending one allocates nothing.
     spare: Option<String>,
     info: StreamInfo,
     first_start: Option<NanoSecond>,
     latest: NanoSecond,
-    // Where the sizes of the open scopes stand, the innermost last.
+    // The offsets of the open scopes' sizes, the innermost last.
     offsets: Vec<usize>,
-    // What was registered since the last accepted report.
+    // The details registered since the last accepted report.
     details: Vec<ScopeDetails>,
 }
 
@@ -47,7 +47,7 @@ impl Model for Recording {
     ghost invariant = { IsRecording };
 }
 
-/// A copy of a name. Refused only with `Memory`.
+/// Copies a name. Fails only with `Memory`.
 #[inline(never)]
 fn copy_of(name: &String) -> Result<String>
     ensures ok { IfOk result (λ s. string_bytes s ≡ string_bytes name.now) }
@@ -56,7 +56,7 @@ fn copy_of(name: &String) -> Result<String>
     Ok(name.clone()?)
 }
 
-/// Makes a copy of a name where there is none. Refused only with `Memory`.
+/// Sets a missing spare to a copy of the name. Fails only with `Memory`.
 #[cold]
 #[inline(never)]
 fn fill(spare: &mut Option<String>, name: &String) -> Result<()>
@@ -70,7 +70,7 @@ fn fill(spare: &mut Option<String>, name: &String) -> Result<()>
     Ok(())
 }
 
-/// Makes the copy of a name where there is none yet. Refused only with `Memory`.
+/// Sets the spare to a copy of the name if it is missing. Fails only with `Memory`.
 #[inline(always)]
 fn keep_copy(spare: &mut Option<String>, name: &String) -> Result<()>
     ensures ok { OnOk result (
@@ -86,7 +86,7 @@ fn keep_copy(spare: &mut Option<String>, name: &String) -> Result<()>
     Ok(())
 }
 
-/// Keeps the first start there is. Only the first is written.
+/// Sets the first start if it is missing. An existing one isn't written.
 #[inline(always)]
 fn keep_first(first: &mut Option<NanoSecond>, at: NanoSecond)
     ensures { first.new ≡ option_or first.old (Some at) }
@@ -96,27 +96,23 @@ fn keep_first(first: &mut Option<NanoSecond>, at: NanoSecond)
     }
 }
 
-/// Raises a number to this one. It is written only where it rises.
+/// Raises a number to this one. Always writes it, so that there is no jump.
 #[inline(always)]
 fn raise(number: &mut usize, to: usize)
     ensures { number.new ≡ max number.old to }
 {
-    if *number < to {
-        *number = to;
-    }
+    *number = (*number).max(to);
 }
 
-/// Lowers a time to this one. It is written only where it falls.
+/// Lowers a time to this one. Always writes it, so that there is no jump.
 #[inline(always)]
 fn lower(time: &mut NanoSecond, to: NanoSecond)
     ensures { time.new ≡ int_min time.old to }
 {
-    if to < *time {
-        *time = to;
-    }
+    *time = (*time).min(to);
 }
 
-/// How many bytes the ends of the open scopes take, whose sizes stand at these offsets, and the end of one more.
+/// Returns how many bytes the ends of the open scopes and of one more take.
 fn size_of_ends(offsets: &[usize]) -> usize
     ensures size { result ≡ END_SIZE * (length offsets.now + 1) }
     ensures small { result + 2 ^ 15 < 2 ^ 64 }
@@ -124,7 +120,8 @@ fn size_of_ends(offsets: &[usize]) -> usize
     END_SIZE * (offsets.len() + 1)
 }
 
-/// Writes a scope's beginning at a time, within the room, and returns where its size stands.
+/// Appends a scope's beginning with this start, which fits the room, and returns the offset of its size.
+#[inline(always)]
 fn write_begin(stream: &mut Stream, at: NanoSecond, id: ScopeId, text: &str) -> usize
     requires { head_size stream.old.form (cut_text stream.old.form text.now) ≤ stream.old.room }
     ensures bytes { stream.new.bytes
@@ -137,14 +134,13 @@ fn write_begin(stream: &mut Stream, at: NanoSecond, id: ScopeId, text: &str) -> 
         ≤ stream.new.room + head_size stream.old.form (cut_text stream.old.form text.now) }
     ensures id { (0 < id) × (id < 2 ^ 32) }
 {
-    // The contract's last clause is what an id's number is.
+    // Shows the contract's last clause: the range of an id's number.
     let _number = id.get();
-    let (offset, _start) = stream.begin_scope(move || at, id, text).unwrap();
-    offset
+    stream.begin_within(at, id, text)
 }
 
 impl Recording {
-    /// A thread without scopes, for texts of this form.
+    /// Makes a recording without scopes, in this form.
     pub(crate) fn new(alloc: Global, name: String, form: Form) -> Recording
         ensures { result ≡ record {
           name = string_bytes name;
@@ -166,29 +162,29 @@ impl Recording {
         }
     }
 
-    /// How many scopes are open.
+    /// Returns the number of open scopes.
     pub(crate) fn depth(&self) -> usize
         ensures { result ≡ open_after 0 self.now.word }
     {
         self.offsets.len()
     }
 
-    /// Whether nothing waits for a report, nor is open.
+    /// Returns whether no scope is open and none waits for a report.
     pub(crate) fn is_empty(&self) -> bool
         ensures { result ≡ (length self.now.word == 0) }
     {
         self.info.stream.is_empty()
     }
 
-    /// Where the size of the innermost open scope stands.
+    /// Returns the offset of the innermost open scope's size.
     pub(crate) fn innermost(&self) -> Option<usize>
         ensures { result ≡ slice_get (offsets_of self.now) 0 }
     {
         self.offsets.last().copied()
     }
 
-    /// Begins a scope, and returns where its size stands. The memory for its end and for its report is taken first, and
-    /// then the clock is read.
+    /// Begins a scope, and returns the offset of its size. First allocates for its end and its report, then reads the clock.
+    /// Fails only with `Memory`; nothing changes then.
     #[inline(always)]
     pub(crate) fn begin_scope<C: NsSource>(
         &mut self,
@@ -224,7 +220,7 @@ impl Recording {
         Ok(offset)
     }
 
-    /// Ends the innermost scope, without memory. Where it was the last, returns a copy of the name for the report.
+    /// Ends the innermost scope, without an allocation. If it was the last open one, returns a copy of the name for the report.
     pub(crate) fn close(&mut self, now_ns: NanoSecond) -> Option<String>
         requires { 0 < open_after 0 self.old.word }
         ensures closed { self.new ≡ after_end self.old now_ns }
@@ -234,7 +230,7 @@ impl Recording {
     {
         let offset = self.offsets.pop().unwrap();
         let at = self.latest.max(now_ns);
-        self.info.stream.end_scope(offset, at).unwrap();
+        self.info.stream.end_within(offset, at);
         self.latest = at;
         self.info.range_ns.1 = self.info.range_ns.1.max(at);
         if self.offsets.is_empty() {
@@ -244,19 +240,19 @@ impl Recording {
         }
     }
 
-    /// Ends the innermost scope, without memory. The copy of the name stays.
+    /// Ends the innermost scope, without an allocation. Keeps the copy of the name.
     pub(crate) fn finish(&mut self, now_ns: NanoSecond)
         requires { 0 < open_after 0 self.old.word }
         ensures { self.new ≡ after_end self.old now_ns }
     {
         let offset = self.offsets.pop().unwrap();
         let stop = self.latest.max(now_ns);
-        self.info.stream.end_scope(offset, stop).unwrap();
+        self.info.stream.end_within(offset, stop);
         self.latest = stop;
         self.info.range_ns.1 = self.info.range_ns.1.max(stop);
     }
 
-    /// A copy of the name for a report. Refused only with `Memory`.
+    /// Returns a copy of the name for a report. Fails only with `Memory`.
     pub(crate) fn name_for_report(&mut self) -> Result<String>
         requires { open_after 0 self.old.word ≡ 0 }
         ensures name { IfOk result (λ name. string_bytes name ≡ self.old.name) }
@@ -269,9 +265,9 @@ impl Recording {
         }
     }
 
-    /// Registers details under a newly drawn id, which is returned, for the next accepted report.
+    /// Registers details under a newly drawn id for the next accepted report, and returns the id.
     ///
-    /// Refused with `IdsExhausted` or `Memory`, and nothing is changed then. The memory is taken before the id is drawn.
+    /// Fails with `IdsExhausted` or `Memory`; nothing changes then. Allocates before it draws the id.
     pub(crate) fn register(&mut self, ids: &ScopeIds, details: ScopeDetails) -> Result<ScopeId>
         ensures { RegistersScope self.old (details_of details) result self.new }
     {
@@ -281,7 +277,7 @@ impl Recording {
         Ok(id)
     }
 
-    /// Hands over all scopes under a name, with the details. Where they are refused, they stay.
+    /// Hands all scopes and details to the reporter, under this name. If the reporter refuses them, they stay.
     pub(crate) fn hand_over<R: Reporter>(&mut self, name: String, reporter: &mut R) -> Result<()>
         requires none_open { open_after 0 self.old.word ≡ 0 }
         requires name { string_bytes name ≡ self.old.name }

@@ -1,4 +1,4 @@
-//! Where closed scopes go.
+//! The receivers of closed scopes.
 
 ghost use Rattle.std.specs.Prelude.{OnOk, IfErr};
 ghost use Rattle.puffin_data.specs.Forest.{Forest};
@@ -11,7 +11,7 @@ use crate::thread_profiler::thread_info::ThreadInfo;
 use puffin_data::data::StreamInfoRef;
 use puffin_data::{Error, Result};
 
-/// What takes the scopes that a thread has closed.
+/// Receives the scopes that threads have closed.
 pub trait Reporter {
     ghost use Rattle.puffin_data.specs.declared.error.Error.{Error};
     ghost use Rattle.puffin_data.specs.Honesty.{Recorded};
@@ -19,13 +19,14 @@ pub trait Reporter {
     ghost use Rattle.puffin_threads.specs.Details.{Details};
     ghost use Rattle.std.specs.Prelude.{List};
 
-    /// Accepting a report, in this state, under this info, of these details and scopes, may leave that state.
+    /// Whether a report under this info, of these details and scopes, may be accepted in the first state and end in the second.
     ghost accepts: { Self → Info → List Details → Recorded → Self → Type 0 };
 
-    /// Refusing it with this error may leave that state.
+    /// Whether such a report may be refused with this error.
     ghost refuses: { Self → Info → List Details → Recorded → Error → Self → Type 0 };
 
-    /// Takes a thread's scopes, and the details that were registered for them. What is said of the scopes has to be honest.
+    /// Receives a thread's closed scopes, and the details that were registered for them. The scopes have to be honest. If it
+    /// returns an error, the thread keeps both for its next report.
     fn report(
         &mut self,
         info: ThreadInfo,
@@ -41,12 +42,12 @@ pub trait Reporter {
             e self.new) };
 }
 
-/// What became of a scope that was ended.
+/// The outcome of ending a scope.
 #[derive(Clone, Copy, Debug, PartialEq, Eq)]
 pub enum Closed {
     /// Other scopes of the thread are still open.
     Inner,
-    /// It was the last open scope, and the report of all that had closed was accepted.
+    /// It was the last open scope, and the report of all closed scopes was accepted.
     Reported,
     /// It was the last open scope, and the report was refused with this error. The scopes wait for the next report.
     Kept(Error),

@@ -4,18 +4,18 @@ ghost use Rattle.puffin_threads.specs.Thread.Info.{info_of};
 
 use puffin_data::{Error, NanoSecond, Result};
 
-/// Whose scopes a stream holds. Infos are ordered by their start, those without one first, and then by the bytes of
-/// their names.
+/// Identifies the thread whose scopes a stream holds. Infos are ordered by start, those without one first, and then by the
+/// bytes of the name.
 #[derive(Debug, PartialEq, Eq, PartialOrd, Ord, Hash, Drop)]
 pub struct ThreadInfo {
-    /// When the thread's first scope began, in nanoseconds, or `None` where that isn't known.
+    /// When the thread's first scope began, in nanoseconds, or `None` if that isn't known.
     pub start_time_ns: Option<NanoSecond>,
     /// The thread's name.
     pub name: String,
 }
 
 impl ThreadInfo {
-    /// A copy. Refused only with `Memory`.
+    /// Copies the info. Fails only with `Memory`.
     pub fn clone(&self) -> Result<ThreadInfo>
         ensures ok { IfOk result (λ info. info_of info ≡ info_of self.now) }
         ensures err { IfErr result (λ e. e ≡ Error.Memory) }
