@@ -63,7 +63,7 @@ ends : (end after : List ℕ) → IsEnd end after → (is_end (end ++ after) ≡
 ends end after (inl zeros) = rw zeros (zeros_end after, refl)
 ends end after (inr short) = rw short.1 (short_ends end short.0, short_dropped end short.0)
 
-end_read : (end after : List ℕ) → IsEnd end after → next_at (end ++ after) ≡ Ok (None, after)
+pub end_read : (end after : List ℕ) → IsEnd end after → next_at (end ++ after) ≡ Ok (None, after)
 unfolding next_at
 end_read end after h = let e = ends end after h in rw e.0 (ap (λ (t : List ℕ). Ok (None, t)) e.1)
 

@@ -1,23 +1,27 @@
 -- Files of frames, written packet after packet, and read again.
 use Rattle.std.proofs.Common.{◌≡◌, ℕ, suc, ◌+◌, ◌-◌, ◌^◌, ◌<◌, Bool, true, false, cond, ◌||◌, List, [], ◌∷◌, ◌++◌, length, drop, map, Option, None, Some, Result, Ok, Err, ◌⊎◌, inl, inr, refl, sym, ap, subst, ◌∙◌, append_assoc, arith}
+use Rattle.std.specs.Prelude.{IfErr, OnOk}
 use Rattle.std.specs.List.{flat_map, AllByRecursion, Any, list_any}
 use Rattle.std.specs.Io.KnownBytes.{Appends}
 use Rattle.std.proofs.KnownBytes.{Appends-trans}
-use Rattle.std.proofs.lemmas.List.{append_cancel_left, flat_map_more}
+use Rattle.std.proofs.lemmas.List.{append-nil, append_cancel_left, flat_map_more}
 use Rattle.std.proofs.lemmas.Grind.{flat_map-append}
 use Rattle.puffin_data.specs.declared.file_error.FileError.{FileError}
 use Rattle.puffin_data.specs.declared.file_error.FileError.TheVariants as file
 use Rattle.puffin_data.specs.Part.{◌>>=◌}
 use Rattle.puffin_data.specs.Value.Layout.{NoneBeginsAnother}
-use Rattle.puffin_data.specs.Device.{WritesBeginning}
+use Rattle.puffin_data.specs.Device.{WritesBeginning, is_io}
 use Rattle.puffin_data.specs.declared.error.Error.TheVariants.{MissingId}
 use Rattle.puffin_frames.specs.Packet.Stored.{Said, Stored, packed}
 use Rattle.puffin_frames.specs.Packet.Front.{next_at, is_end}
 use Rattle.puffin_frames.specs.Packet.Grammar.{packet_head, packet, IsPacked}
 use Rattle.puffin_frames.specs.Packet.Writing.{HasLongPart}
+use Rattle.std.proofs.Props.{props}
+use Rattle.puffin_view.specs.declared.profile_view.frame_file.FrameWriter.{FrameWriter}
 use Rattle.puffin_view.specs.View.ViewedFrames.{Frame, contents_of}
 use Rattle.puffin_view.specs.View.Known.{lacks_ids}
 use Rattle.puffin_view.specs.View.File.{magic, file_of, with_ids, frames_from, frames_at, most_packets, file_at}
+use Rattle.puffin_view.specs.View.FrameFile.{HoldsFile, HoldsBegun, HoldsSoFar, written_after}
 
 -- ---- a file grows
 
@@ -62,6 +66,10 @@ not_io_long e = cc
 not_io_memory : file.Memory ≡ file.Io → ⊥
 not_io_memory e = cc
 
+-- nothing at all, of one more
+nothing_begun : (old mid new : Option (List ℕ)) (cs : List Said) (c : Said) → HoldsFile old mid cs → new ≡ mid → HoldsBegun old new cs c
+nothing_begun old mid new cs c h same = ([], packet c, refl, subst (λ (bytes : List ℕ). Appends old new bytes) (sym (append-nil (file_of cs))) (subst (λ (m : Option (List ℕ)). Appends old m (file_of cs)) (sym same) h))
+
 pub begun : (old mid new : Option (List ℕ)) (done : List Said) (c : Said) (left cs : List Said) (e : FileError) → cs ≡ done ++ c ∷ left → Appends old mid (file_of done)
     → (e ≡ file.Io → WritesBeginning mid new (packet c)) → ((e ≡ file.Io → ⊥) → new ≡ mid) → Cause e → WritesBeginning old new (file_of cs)
 begun old mid new done c left cs e is first io other (inl long) =
@@ -72,6 +80,59 @@ begun old mid new done c left cs e is first io other (inr (inl memory)) =
     (begun_before old new done (c ∷ left) (subst (λ (d : Option (List ℕ)). Appends old d (file_of done)) (sym (other (λ at. not_io_memory (sym memory ∙ at)))) first))
 begun old mid new done c left cs e is first io other (inr (inr at)) =
     subst (λ (ds : List Said). WritesBeginning old new (file_of ds)) (sym is) (begun_in old mid new done c left first (io at))
+
+-- behind a file, a beginning of one more packet
+more_begun : (old mid new : Option (List ℕ)) (cs : List Said) (c : Said) (e : FileError) → HoldsFile old mid cs → (e ≡ file.Io → WritesBeginning mid new (packet c)) → ((e ≡ file.Io → ⊥) → new ≡ mid) → Cause e → HoldsBegun old new cs c
+more_begun old mid new cs c e h io other (inl long) = nothing_begun old mid new cs c h (other (λ at. not_io_long (sym long ∙ at)))
+more_begun old mid new cs c e h io other (inr (inl memory)) = nothing_begun old mid new cs c h (other (λ at. not_io_memory (sym memory ∙ at)))
+more_begun old mid new cs c e h io other (inr (inr at)) = let w = io at in (w.0, w.1, w.2, Appends-trans old mid new (file_of cs) w.0 h w.3)
+
+abbrev failed : FileError → Bool
+failed e = is_io {X = Unit {0}} (Err e)
+
+-- two writers with the same fields
+pub same_writer : {D : Type 0} {d : _} (w v : FrameWriter D d) → w.drain ≡ v.drain → w.is_broken ≡ v.is_broken → w ≡ v
+same_writer {D} {d} w v drain broken =
+    let one : IsProp (w.is_broken ≡ false → d.failures w.drain < 2 ^ 64 - 1) = Prim.hlevel props in
+    subst (λ (y : D). (k : v.is_broken ≡ false → d.failures y < 2 ^ 64 - 1) → ◌≡◌ {A = FrameWriter D d} w record { drain = y; is_broken = v.is_broken; countable = k }) drain
+    (subst (λ (b : Bool). (k : b ≡ false → d.failures w.drain < 2 ^ 64 - 1) → ◌≡◌ {A = FrameWriter D d} w record { drain = w.drain; is_broken = b; countable = k }) broken
+    (λ k. ap (λ (h : w.is_broken ≡ false → d.failures w.drain < 2 ^ 64 - 1). record { drain = w.drain; is_broken = w.is_broken; countable = h }) (one w.countable k)))
+    v.countable
+
+-- a call whose fault isn't `Io` leaves the writer
+pub unchanged_writer : {D : Type 0} {d : _} (w v : FrameWriter D d) (r : Result (Unit {0}) FileError) → w.is_broken ≡ is_io r → v.is_broken ≡ false → IfErr r (λ e. (e ≡ file.Io → ⊥) → w.drain ≡ v.drain) → IfErr r Cause → IfErr r (λ e. (e ≡ file.Io → ⊥) → w ≡ v)
+unchanged_writer w v (Ok x) now sound other cause = tt
+unchanged_writer w v (Err e) now sound other (inl long) = λ no. same_writer w v (other no) (now ∙ (ap failed long ∙ sym sound))
+unchanged_writer w v (Err e) now sound other (inr (inl memory)) = λ no. same_writer w v (other no) (now ∙ (ap failed memory ∙ sym sound))
+unchanged_writer w v (Err e) now sound other (inr (inr at)) = λ no. absurd (no at)
+
+-- a call that didn't touch the device, whose fault isn't `Io`, leaves what it held
+kept : {D : Type 0} (contents : D → Option (List ℕ)) (before after : D) (c : Said) (was is : Bool) (e fault : FileError) → was ≡ false → is ≡ failed e → e ≡ fault → failed fault ≡ false → after ≡ before
+    → (old : Option (List ℕ)) (cs : List Said) → HoldsSoFar was old (contents before) cs → HoldsSoFar is old (contents after) cs
+kept contents before after c was is e fault sound now this not same old cs h =
+    subst (λ (b : Bool). HoldsSoFar b old (contents after) cs) (sym (now ∙ (ap failed this ∙ not)))
+    (subst (λ (m : Option (List ℕ)). HoldsFile old m cs) (sym (ap contents same)) (subst (λ (b : Bool). HoldsSoFar b old (contents before) cs) sound h))
+
+pub packet_begun : {D : Type 0} (contents : D → Option (List ℕ)) (before after : D) (c : Said) (r : Result (Unit {0}) FileError) → IfErr r (λ e. e ≡ file.Io → WritesBeginning (contents before) (contents after) (packet c))
+    → IfErr r (λ e. (e ≡ file.Io → ⊥) → after ≡ before) → IfErr r Cause → IfErr r (λ e. (old : Option (List ℕ)) (cs : List Said) → HoldsFile old (contents before) cs → HoldsBegun old (contents after) cs c)
+packet_begun contents before after c (Ok x) io other cause = tt
+packet_begun contents before after c (Err e) io other cause = λ old cs h. more_begun old (contents before) (contents after) cs c e h io (λ no. ap contents (other no)) cause
+
+-- what the device holds after a call: one frame more, or a beginning of it behind which nothing comes, or what it held
+pub packet_so_far : {D : Type 0} (contents : D → Option (List ℕ)) (before after : D) (c : Said) (was is : Bool) (r : Result (Unit {0}) FileError) → was ≡ false → is ≡ is_io r
+    → OnOk r (Appends (contents before) (contents after) (packet c)) → IfErr r (λ e. e ≡ file.Io → WritesBeginning (contents before) (contents after) (packet c))
+    → IfErr r (λ e. (e ≡ file.Io → ⊥) → after ≡ before) → IfErr r Cause → (old : Option (List ℕ)) (cs : List Said) → HoldsSoFar was old (contents before) cs → HoldsSoFar is old (contents after) (written_after r cs c)
+packet_so_far contents before after c was is (Ok x) sound now ok io other cause old cs h =
+    subst (λ (b : Bool). HoldsSoFar b old (contents after) (cs ++ c ∷ [])) (sym now)
+    (subst (λ (bytes : List ℕ). Appends old (contents after) bytes) (file_more cs c) (Appends-trans old (contents before) (contents after) (file_of cs) (packet c) (subst (λ (b : Bool). HoldsSoFar b old (contents before) cs) sound h) ok))
+packet_so_far contents before after c was is (Err e) sound now ok io other (inl long) old cs h =
+    kept contents before after c was is e file.PartTooLong sound now long refl (other (λ at. not_io_long (sym long ∙ at))) old cs h
+packet_so_far contents before after c was is (Err e) sound now ok io other (inr (inl memory)) old cs h =
+    kept contents before after c was is e file.Memory sound now memory refl (other (λ at. not_io_memory (sym memory ∙ at))) old cs h
+packet_so_far contents before after c was is (Err e) sound now ok io other (inr (inr at)) old cs h =
+    let w = io at in
+    let first = subst (λ (b : Bool). HoldsSoFar b old (contents before) cs) sound h in
+    subst (λ (b : Bool). HoldsSoFar b old (contents after) cs) (sym (now ∙ ap failed at)) (c, (w.0, w.1, w.2, Appends-trans old (contents before) (contents after) (file_of cs) w.0 first w.3))
 
 -- a frame among others
 pub any_of : (done : List Said) (c : Said) (left cs : List Said) → cs ≡ done ++ c ∷ left → HasLongPart c → Any HasLongPart cs

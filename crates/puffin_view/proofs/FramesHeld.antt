@@ -17,6 +17,7 @@ use Rattle.puffin_view.specs.View.File.{contents_held, contents_in, frame_stored
 use Rattle.puffin_view.specs.inner.Store.{has_index}
 use Rattle.puffin_view.proofs.Taking.{enters}
 use Rattle.puffin_view.proofs.Keeping.{all_map, all_choice, all_drop, all_more, all_packed, index_packed_at}
+use Rattle.puffin_view.proofs.Orders.{map-length}
 use Rattle.puffin_view.proofs.Storing.{all_first, all_rest, has_all, has-index_of, is_at}
 use Rattle.puffin_view.proofs.FileFrames.{took_all}
 use Rattle.puffin_view.proofs.FilesAgain.{contents_rise, said_again, all_taken, all_keep, last_of_all}
@@ -202,22 +203,33 @@ indices_said : (fs : List Frame) → map index_of fs ≡ map frame_index (map co
 indices_said [] = refl
 indices_said (f ∷ fs) = ap (λ is. index_of f ∷ is) (indices_said fs)
 
+-- frames whose indices rise are the recent ones of the view that takes them
+pub rising_are_recent : (fs : List Frame) → is_rising (map contents_of fs) ≡ true → length fs < 2 ^ 64 - 1 → map contents_of (after_all read_view fs).recent ≡ map contents_of fs
+rising_are_recent fs rising few =
+    let took : Took (map contents_of fs) (after_all read_view fs) = took_all fs in
+    took.holds.recent ∙ (ap (λ (n : ℕ). last_of n (rising_end (map contents_of fs))) (all_keep read_view fs)
+    ∙ (ap (last_of (2 ^ 64 - 1)) (all_taken (map contents_of fs) rising) ∙ last_of_all (2 ^ 64 - 1) (map contents_of fs) (omega (arith, few, map-length contents_of fs))))
+
+-- and that view has no others
+pub rising_in_place : (fs : List Frame) → is_rising (map contents_of fs) ≡ true → length fs < 2 ^ 64 - 1 → contents_in (after_all read_view fs) ≡ map contents_of (after_all read_view fs).recent
+rising_in_place fs rising few =
+    let v = after_all read_view fs in
+    let recent = rising_are_recent fs rising few in
+    let slow : AllByRecursion (λ g. has_index (index_of g) fs ≡ true) v.slow =
+    (all_held (λ g. has_index (index_of g) fs ≡ true) (λ i f h. ap (λ (k : ℕ). has_index k fs) (index_packed_at i f) ∙ h) read_view fs (has_all (λ g. has_index (index_of g) fs ≡ true) fs (λ g h. h)) (record { recent = tt; slow = tt })).slow in
+    let alike : (q : ℕ) → has_index q fs ≡ has_index q v.recent = λ q.
+    sym (has-index_of q fs) ∙ (ap (has q) (indices_said fs ∙ (ap (map frame_index) (sym recent) ∙ sym (indices_said v.recent))) ∙ has-index_of q v.recent) in
+    let slow_again : AllByRecursion (λ g. has_index (index_of g) v.recent ≡ true) v.slow = all_map (λ g. has_index (index_of g) fs ≡ true) (λ g. has_index (index_of g) v.recent ≡ true) (λ g h. sym (alike (index_of g)) ∙ h) v.slow slow in
+    ap (map contents_of) (in_place v.recent v.slow (ap is_rising recent ∙ rising) slow_again)
+
 -- the frames of a file whose indices rise are just those of the view that reads it
 pub read_in_place : (cs : List Said) → is_rising cs ≡ true → length cs < 2 ^ 64 - 1 → contents_in (after_all read_view (map frame_stored (map packed cs))) ≡ cs
 read_in_place cs rising few =
     let fs = map frame_stored (map packed cs) in
-    let v = after_all read_view fs in
     let said : map contents_of fs ≡ cs = said_again cs in
-    let took : Took (map contents_of fs) v = took_all fs in
-    let recent : map contents_of v.recent ≡ cs =
-    took.holds.recent ∙ (ap (λ (n : ℕ). last_of n (rising_end (map contents_of fs))) (all_keep read_view fs) ∙ (ap (λ (ds : List Said). last_of (2 ^ 64 - 1) (rising_end ds)) said
-    ∙ (ap (last_of (2 ^ 64 - 1)) (all_taken cs rising) ∙ last_of_all (2 ^ 64 - 1) cs (omega (arith, few))))) in
-    let slow : AllByRecursion (λ g. has_index (index_of g) fs ≡ true) v.slow =
-    (all_held (λ g. has_index (index_of g) fs ≡ true) (λ i f h. ap (λ (k : ℕ). has_index k fs) (index_packed_at i f) ∙ h) read_view fs (has_all (λ g. has_index (index_of g) fs ≡ true) fs (λ g h. h)) (record { recent = tt; slow = tt })).slow in
-    let alike : (q : ℕ) → has_index q fs ≡ has_index q v.recent = λ q.
-    sym (has-index_of q fs) ∙ (ap (has q) (indices_said fs ∙ (ap (map frame_index) (said ∙ sym recent) ∙ sym (indices_said v.recent))) ∙ has-index_of q v.recent) in
-    let slow_again : AllByRecursion (λ g. has_index (index_of g) v.recent ≡ true) v.slow = all_map (λ g. has_index (index_of g) fs ≡ true) (λ g. has_index (index_of g) v.recent ≡ true) (λ g h. sym (alike (index_of g)) ∙ h) v.slow slow in
-    ap (map contents_of) (in_place v.recent v.slow (ap is_rising recent ∙ rising) slow_again) ∙ recent
+    let rises : is_rising (map contents_of fs) ≡ true = ap is_rising said ∙ rising in
+    let short : length fs < 2 ^ 64 - 1 = omega (arith, few, map-length contents_of fs, ap length said) in
+    rising_in_place fs rises short ∙ (rising_are_recent fs rises short ∙ said)
 
 pub read_again : (v : View) → length (contents_in v) < 2 ^ 64 - 1 → contents_in (after_all read_view (map frame_stored (map packed (contents_in v)))) ≡ contents_in v
 read_again v few = read_in_place (contents_in v) (contents_rise v) few

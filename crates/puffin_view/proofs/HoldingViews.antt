@@ -1,6 +1,6 @@
 -- A map of frames, seen by their indices, and the sums over it.
 use Rattle.std.proofs.Common.{◌≡◌, min, subst, ℕ, suc, ◌+◌, ◌-◌, ◌*◌, ◌^◌, ◌<◌, ◌≤◌, Bool, true, false, cond, List, [], ◌∷◌, length, map, Option, Some, None, refl, sym, ap, ◌∙◌, arith, suc-mul, Bor}
-use Rattle.std.specs.Prelude.{unwrap_or, is_some}
+use Rattle.std.specs.Prelude.{unwrap_or, is_some, IsSome}
 use Rattle.std.specs.declared.cmp.Ordering.TheVariants.{Less}
 use Rattle.std.specs.declared.sync.Arc.{Arc}
 use Rattle.std.specs.Ordering.{nat_cmp, is_eq, eq_by_cmp}
@@ -36,6 +36,9 @@ no_length : {B : Type 0} (xs : List B) → length xs ≡ 0 → xs ≡ []
 no_length [] e = refl
 no_length (x ∷ xs) e = absurd (omega arith)
 
+pub plus_none : (n : ℕ) → n + 0 ≡ n
+plus_none n = omega arith
+
 module _ {A : Type 0} where
   at_head : (b : Bool) (a : Arc FrameData A) (o : Option (Arc FrameData A)) → cond b (Some (shared_frame a)) (option_map shared_frame o) ≡ option_map shared_frame (cond b (Some a) o)
   at_head true a o = refl
@@ -65,6 +68,25 @@ module _ {A : Type 0} where
 
   pub held_of-removed : (es fs : List (ℕ × Arc FrameData A)) (k : ℕ) → ((q : ℕ) → lookup (is_at (nat_cmp q)) fs ≡ cond (is_at (nat_cmp k) q) None (lookup (is_at (nat_cmp q)) es)) → held_of fs ≡ fin.remove (held_of es) k
   held_of-removed es fs k h = fin.same_map nat_cmp_total fin.nat_cmp-IsAntisymmetric (held_of fs) (fin.remove (held_of es) k) (λ q. updated es fs k None h q ∙ sym (fin.get-remove nat_cmp_total (held_of es) k q))
+
+  unseen : (o : Option (Arc FrameData A)) → option_map shared_frame o ≡ None → o ≡ None
+  unseen None e = refl
+  unseen (Some a) e = cc
+
+  -- what the map doesn't hold isn't among its entries, and what it holds is
+  pub not_seen : (es : List (ℕ × Arc FrameData A)) (q : ℕ) → fin.get (held_of es) q ≡ None → lookup (is_at (nat_cmp q)) es ≡ None
+  not_seen es q e = unseen (lookup (is_at (nat_cmp q)) es) (sym (get-held_of es q) ∙ e)
+
+  pub seen_there : (es : List (ℕ × Arc FrameData A)) (q : ℕ) → IsSome (fin.get (held_of es) q) → IsSome (lookup (is_at (nat_cmp q)) es)
+  seen_there es q some = at (lookup (is_at (nat_cmp q)) es) (subst IsSome (get-held_of es q) some) where
+    at : (o : Option (Arc FrameData A)) → IsSome (option_map shared_frame o) → IsSome o
+    at None h = h
+    at (Some a) h = refl
+
+  pub none_summed : (es : List (ℕ × Arc FrameData A)) (sums : Sums) → es ≡ [] → sums ≡ record { frames = 0; unpacked_frames = 0; bytes_of_ram_used = 0 } → IsSummed es sums
+  unfolding IsStrictlySortedBy
+  none_summed [] sums e s = record { ordered = tt; few = omega arith; frames = ap (λ t. t.frames) s; unpacked_frames = ap (λ t. t.unpacked_frames) s; bytes = ap (λ t. t.bytes_of_ram_used) s }
+  none_summed (x ∷ es) sums e s = cc
 
   -- the frames, in the order of their indices
   put_first : (k : ℕ) (v : Frame) (es : List (ℕ × Arc FrameData A)) → AllByRecursion (λ y. nat_cmp k y ≡ Less) (keys_of es) → fin.put nat_cmp k v (frames_seen es) ≡ (k, v) ∷ frames_seen es
@@ -111,13 +133,13 @@ module _ {A : Type 0} where
   pub ram_small : (a : Arc FrameData A) → ram_taken a ≤ 2 ^ 64 - 1
   ram_small a = omega arith
 
-  pub numbers_below : (es : List (ℕ × Arc FrameData A)) → length es < 2 ^ 63 → sum_by unpacked_number (values_of es) < 2 ^ 63
+  pub numbers_below : (es : List (ℕ × Arc FrameData A)) → length es < 2 ^ 64 → sum_by unpacked_number (values_of es) < 2 ^ 64
   numbers_below es few =
       let n = length-values_of es in
       let s = sum_by-below unpacked_number 1 number_small (values_of es) in
       omega arith
 
-  pub ram_below : (es : List (ℕ × Arc FrameData A)) → length es < 2 ^ 63 → sum_by ram_taken (values_of es) < 2 ^ 127
+  pub ram_below : (es : List (ℕ × Arc FrameData A)) → length es < 2 ^ 64 → sum_by ram_taken (values_of es) < 2 ^ 128 - 2 ^ 64
   ram_below es few =
       let n = length-values_of es in
       let s = sum_by-below ram_taken (2 ^ 64 - 1) ram_small (values_of es) in
@@ -145,9 +167,6 @@ module _ {A : Type 0} where
       let after = sum_by-remove_entry f (is_at (nat_cmp k)) es in
       let old : unwrap_or (option_map f before) 0 ≡ unwrap_or (option_map f (lookup (is_at (nat_cmp k)) es)) 0 = ap (λ o. unwrap_or (option_map f o) 0) found in
       omega arith
-
-  pub few_before : (o : Option (Arc FrameData A)) (es fs : List (ℕ × Arc FrameData A)) → length fs ≡ length es + cond (is_some o) 0 1 → length fs < 2 ^ 63 → length es < 2 ^ 63
-  few_before o es fs e h = omega arith
 
   pub seen_copied : (o : Option (Bor (Arc FrameData A))) (p : Option (Arc FrameData A)) → option_copied o ≡ p → option_map (λ a. shared_frame a.now) o ≡ option_map shared_frame p
   seen_copied o p e = same o ∙ ap (option_map shared_frame) e where
@@ -186,9 +205,16 @@ module _ {A : Type 0} where
   sum_cloned : (w : Frame → ℕ) (es fs : List (ℕ × Arc FrameData A)) → AllZip (λ p q. (q.0 ≡ p.0) × (arc_value q.1 ≡ arc_value p.1)) es fs → sum_by (λ a. w (shared_frame a)) (values_of es) ≡ sum_by (λ a. w (shared_frame a)) (values_of fs)
   sum_cloned w es fs h = sym (sum_by-map shared_frame w (values_of es)) ∙ ap (sum_by w) (sym (frames_cloned es fs h)) ∙ sum_by-map shared_frame w (values_of fs)
 
+  same_length : (es fs : List (ℕ × Arc FrameData A)) → AllZip (λ p q. (q.0 ≡ p.0) × (arc_value q.1 ≡ arc_value p.1)) es fs → length es ≡ length fs
+  same_length [] [] h = refl
+  same_length [] (f ∷ fs) h = absurd h
+  same_length (e ∷ es) [] h = absurd h
+  same_length (e ∷ es) (f ∷ fs) h = ap suc (same_length es fs h.1)
+
   pub summed_cloned : (es fs : List (ℕ × Arc FrameData A)) (sums : Sums) → AllZip (λ p q. (q.0 ≡ p.0) × (arc_value q.1 ≡ arc_value p.1)) es fs → IsSummed es sums → IsSummed fs sums
   summed_cloned es fs sums h s = record {
     ordered = subst (λ ks. IsStrictlySortedBy nat_cmp ks) (sym (keys_cloned es fs h)) s.ordered;
+    few = subst (λ n. n < 2 ^ 64) (same_length es fs h) s.few;
     frames = s.frames ∙ sym (length-values_of es) ∙ sym (length-map shared_frame (values_of es)) ∙ ap length (sym (frames_cloned es fs h)) ∙ length-map shared_frame (values_of fs) ∙ length-values_of fs;
     unpacked_frames = s.unpacked_frames ∙ sum_cloned (λ f. number_if f.is_unpacked) es fs h;
     bytes = s.bytes ∙ sum_cloned ram_of es fs h;

@@ -1,5 +1,6 @@
 -- What the steps of a view's store make of it.
-use Rattle.std.proofs.Common.{◌≡◌, ℕ, zero, suc, ◌-◌, ◌<◌, Bool, true, false, cond, List, [], ◌∷◌, ◌++◌, length, take, drop, map, Option, Some, refl, sym, ap, subst, ◌∙◌}
+use Rattle.std.proofs.Common.{◌≡◌, ℕ, zero, suc, ◌-◌, ◌<◌, ◌≤◌, Bool, true, false, cond, List, [], ◌∷◌, ◌++◌, length, take, drop, map, Option, Some, None, refl, sym, ap, subst, ◌∙◌, arith}
+use Rattle.std.specs.Prelude.{◌≢◌}
 use Rattle.std.specs.List.{AllByRecursion}
 use Rattle.std.specs.List.Sorted.{IsStrictlySortedBy}
 use Rattle.std.specs.Ordering.{nat_cmp}
@@ -17,7 +18,7 @@ use Rattle.puffin_view.specs.inner.Store.{frames_under, AreHeld, AreStored}
 use Rattle.puffin_view.proofs.Orders.{map-take, map-drop, map-length}
 use Rattle.puffin_view.proofs.Taking.{steady_before}
 use Rattle.puffin_view.proofs.Searching.{stored_rising, stored_ranked}
-use Rattle.puffin_view.proofs.Storing.{held_back, stored-cut_slow, stored-cut_recent, stored-added, stored-placed, stored-packed, enters_same, index-rank_of, got_itself}
+use Rattle.puffin_view.proofs.Storing.{held_back, stored-cut_slow, stored-cut_recent, stored-added, stored-placed, stored-packed, enters_same, index-rank_of, got_itself, has_index-append, none_has, first_false}
 
 pub lets_as : (old new : HeldFrames) (a b c d : List ℕ) → a ≡ b → c ≡ d → LetsGo old a c new → LetsGo old b d new
 lets_as old new a b c d e p h =
@@ -76,6 +77,18 @@ module _ (v : View) (f : Frame) (held held1 : HeldFrames) (recent recent1 : List
     (pushed : recent1 ≡ recent ++ index_of f ∷ []) where
   slow_before : AllByRecursion (λ g. index_of g < index_of f) v.slow
   slow_before = steady_before v.last (index_of f) v.slow later h.kept.slow_taken
+
+  -- from its index on nothing is held
+  pub none_past : (q : ℕ) → index_of f ≤ q → fin.get held q ≡ None
+  none_past q low =
+      let before : AllByRecursion (λ g. index_of g < index_of f) v.recent = steady_before v.last (index_of f) v.recent later h.kept.recent_taken in
+      h.only q (has_index-append q v.recent v.slow ∙ first_false (none_has q v.recent (others v.recent before)) (none_has q v.slow (others v.slow slow_before))) where
+        unlike_it : (a b c : ℕ) → a < b → b ≤ c → a ≢ c
+        unlike_it a b c d e t = omega arith
+
+        others : (fs : List Frame) → AllByRecursion (λ g. index_of g < index_of f) fs → AllByRecursion (λ g. index_of g ≢ q) fs
+        others [] b = tt
+        others (g ∷ fs) b = (unlike_it (index_of g) (index_of f) q b.0 low, others fs b.1)
 
   stored_pushed : AreStored held1 recent1 slow (Some (index_of f)) (v.recent ++ f ∷ []) v.slow
   stored_pushed =

@@ -1,4 +1,6 @@
 mod Rankings
+mod Rows
+mod RowPlaces
 mod Orders
 mod Taking
 mod Keeping
@@ -17,4 +19,7 @@ mod FilesWritten
 mod Searching
 mod FilesAgain
 mod FileGrammar
+mod ReadingsCut
+mod FilesCut
 mod FramesHeld
+mod ReadingViews

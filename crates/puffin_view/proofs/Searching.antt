@@ -7,20 +7,21 @@ use Rattle.std.specs.List.{AllByRecursion, list_any}
 use Rattle.std.specs.List.Sorted.{IsStrictlySortedBy, IsBinarySearchResult, IsSearchInRange, IsNonDecreasingBy}
 use Rattle.std.specs.declared.cmp.Ordering.{Ordering}
 use Rattle.std.specs.declared.cmp.Ordering.TheVariants.{Less, Equal, Greater}
-use Rattle.std.specs.Ordering.{is_eq, ordering_index, nat_cmp, int_cmp, ordering_then}
+use Rattle.std.specs.Ordering.{is_eq, is_le, ordering_index, ordering_reverse, nat_cmp, int_cmp, ordering_then}
 use Rattle.std.specs.Cmp.{IsTotalOrder, nat_cmp_total, alike_right, tied_itself}
 use Rattle.std.specs.FinMap as fin
 use Rattle.std.proofs.lemmas.List.Folds.{list_any_at}
-use Rattle.std.proofs.lemmas.Map.Keys.{Less-from_sorted}
+use Rattle.std.proofs.lemmas.Map.Keys.{Less-from_sorted, sorted_head, sorted_tail}
 use Rattle.puffin_view.specs.declared.profile_view.slow_rank.SlowRank.{SlowRank}
 use Rattle.puffin_view.specs.View.ViewedFrames.{Frame, index_of, duration_of}
 use Rattle.puffin_view.specs.inner.Held.{HeldFrames}
 use Rattle.puffin_view.specs.inner.Ranks.{AreRanked, LetsGo}
 use Rattle.puffin_view.specs.View.FrameRanks.{rank_of, rank_cmp}
-use Rattle.puffin_view.specs.View.Ranking.{rank_index, has}
+use Rattle.puffin_view.specs.View.Ranking.{rank_index, has, last_from, last_in}
 use Rattle.puffin_view.specs.inner.Kept.{AreRising}
 use Rattle.puffin_view.specs.inner.Store.{AreHeld, AreStored}
 use Rattle.puffin_view.proofs.Placing.{rank_cmp_total}
+use Rattle.puffin_view.proofs.Storing.{all_last_from}
 
 true≢false : true ≡ false → ⊥
 true≢false e = cc
@@ -83,10 +84,28 @@ searched_index is i n r as_many sorted range found = searched nat_cmp nat_cmp_to
 pub searched_rank : (slow : List SlowRank) (x : SlowRank) (n : ℕ) (r : Result ℕ ℕ) → n ≡ length slow → IsStrictlySortedBy rank_cmp slow → IsSearchInRange r n → IsBinarySearchResult (λ y. rank_cmp y x) slow r → is_ok r ≡ list_any (λ y. is_eq (rank_cmp y x)) slow
 searched_rank slow x n r as_many sorted range found = searched rank_cmp rank_cmp_total slow x r sorted (subst (IsSearchInRange r) as_many range) found
 
--- a rank of the frame that is held under an index
 one_some : {A : Type 0} (a b : A) → Some a ≡ Some b → a ≡ b
 one_some a b e = cc
 
+-- behind the last of a list in order, a rank is none of it
+less_than : (x l : SlowRank) → is_le (rank_cmp x l) ≡ false → rank_cmp l x ≡ Less
+less_than x l p = at (rank_cmp x l) refl where
+  at : (o : Ordering) → rank_cmp x l ≡ o → rank_cmp l x ≡ Less
+  at Less e = absurd (true≢false (sym (ap is_le e) ∙ p))
+  at Equal e = absurd (true≢false (sym (ap is_le e) ∙ p))
+  at Greater e = rank_cmp_total.antisymm l x ∙ ap ordering_reverse e
+
+behind : (slow : List SlowRank) (x l : SlowRank) → IsStrictlySortedBy rank_cmp slow → last_in slow ≡ Some l → rank_cmp l x ≡ Less → list_any (λ y. is_eq (rank_cmp y x)) slow ≡ false
+behind [] x l sorted e p = cc
+behind (a ∷ []) x l sorted e p = rw (ap (λ r. rank_cmp r x) (one_some a l e) ∙ p) refl
+behind (a ∷ (b ∷ rest)) x l sorted e p =
+    let far : rank_cmp a l ≡ Less = subst (λ r. rank_cmp a r ≡ Less) (one_some (last_from b rest) l e) (all_last_from (λ r. rank_cmp a r ≡ Less) b rest (sorted_head rank_cmp a (b ∷ rest) sorted)) in
+    rw (rank_cmp_total.trans a l x far p) (behind (b ∷ rest) x l (sorted_tail rank_cmp a (b ∷ rest) sorted) e p)
+
+pub none_behind : (slow : List SlowRank) (x l : SlowRank) → IsStrictlySortedBy rank_cmp slow → last_in slow ≡ Some l → is_le (rank_cmp x l) ≡ false → list_any (λ y. is_eq (rank_cmp y x)) slow ≡ false
+none_behind slow x l sorted e p = behind slow x l sorted e (less_than x l p)
+
+-- a rank of the frame that is held under an index
 equal_to : (a b : ℕ) → nat_eq a b ≡ true → a ≡ b
 equal_to a b e = grind arith
 

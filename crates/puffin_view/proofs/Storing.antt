@@ -1,6 +1,6 @@
 -- How a view's frames are kept, and what its steps do to that.
 use Rattle.std.proofs.Common.{◌≡◌, ℕ, zero, suc, ◌+◌, ◌<◌, ◌≤◌, Bool, true, false, cond, ◌||◌, List, [], ◌∷◌, ◌++◌, length, take, drop, map, Option, Some, None, get_or, refl, sym, ap, subst, ◌∙◌, arith}
-use Rattle.std.specs.Prelude.{nat_eq, nat_lt, int_lt, ◌≢◌}
+use Rattle.std.specs.Prelude.{nat_eq, nat_lt, int_lt, ◌≢◌, IsSome}
 use Rattle.std.specs.List.{AllByRecursion, filter_map, list_any}
 use Rattle.std.specs.List.Sorted.{IsStrictlySortedBy}
 use Rattle.std.specs.declared.cmp.Ordering.{Ordering}
@@ -114,7 +114,7 @@ sorted_first cmp [] ys h = tt
 sorted_first cmp (x ∷ xs) ys h = (all_first (λ y. cmp x y ≡ Less) xs ys h.0, sorted_first cmp xs ys h.1)
 
 -- none of a list's frames has an index
-none_has : (q : ℕ) (fs : List Frame) → AllByRecursion (λ g. index_of g ≢ q) fs → has_index q fs ≡ false
+pub none_has : (q : ℕ) (fs : List Frame) → AllByRecursion (λ g. index_of g ≢ q) fs → has_index q fs ≡ false
 none_has q [] h = refl
 none_has q (f ∷ fs) h = rw (apart_to q (index_of f) (λ e. h.0 (sym e))) (none_has q fs h.1)
 
@@ -327,7 +327,7 @@ has_index-place q f (g ∷ fs) h = at (is_slower_frame f g) h (has_index-place q
   at true h later = (neither (nat_eq q (index_of f)) (nat_eq q (index_of g) || has_index q fs) h).1
   at false h later = let both = neither (nat_eq q (index_of g)) (has_index q (place is_slower_frame f fs)) h in rw both.0 (later both.1)
 
-first_false : {a b : Bool} → a ≡ false → b ≡ false → (a || b) ≡ false
+pub first_false : {a b : Bool} → a ≡ false → b ≡ false → (a || b) ≡ false
 first_false {a} {b} e p = rw (e, p) refl
 
 -- with the slow ones as they were
@@ -449,7 +449,7 @@ last_map : {A B : Type 0} (g : A → B) (xs : List A) (b : B) → last_in (map g
 last_map g [] b e = cc
 last_map g (x ∷ xs) b e = (last_from x xs, refl, map-last_from g x xs ∙ one_some (last_from (g x) (map g xs)) b e)
 
-all_last_from : {A : Type 0} (P : A → Type 0) (x : A) (xs : List A) → AllByRecursion P (x ∷ xs) → P (last_from x xs)
+pub all_last_from : {A : Type 0} (P : A → Type 0) (x : A) (xs : List A) → AllByRecursion P (x ∷ xs) → P (last_from x xs)
 all_last_from P x [] h = h.0
 all_last_from P x (y ∷ ys) h = all_last_from P y ys h.1
 
@@ -461,6 +461,9 @@ pub newest_held : (held : HeldFrames) (recent : List ℕ) (slow : List SlowRank)
 newest_held held recent slow last R S i h newest =
     let found = last_map index_of R i (ap last_in (sym h.recent_at) ∙ newest) in
     ap (fin.get held) (sym found.2) ∙ all_last (λ f. fin.get held (index_of f) ≡ Some f) R found.0 h.recent_held found.1 ∙ sym found.1
+
+pub newest_there : (held : HeldFrames) (recent : List ℕ) (slow : List SlowRank) (last : Option ℕ) (R S : List Frame) (f : Frame) (i : ℕ) → AreStored held recent slow last R S → last_in R ≡ Some f → i ≡ index_of f → IsSome (fin.get held i)
+newest_there held recent slow last R S f i h newest e = subst IsSome (sym (ap (fin.get held) e ∙ all_last (λ g. fin.get held (index_of g) ≡ Some g) R f h.recent_held newest)) refl
 
 pub none_newest : (recent : List ℕ) (R : List Frame) → recent ≡ map index_of R → length recent ≡ 0 → None ≡ last_in R
 none_newest recent [] e n = refl

@@ -186,7 +186,7 @@ last-more : (x : Said) (xs : List Said) (c : Said) → last_from x (xs ++ c ∷ 
 last-more x [] c = refl
 last-more x (y ∷ ys) c = last-more y ys c
 
-opposite : (i l : ℕ) (b : Bool) → nat_le i l ≡ b → nat_lt l i ≡ (cond b false true)
+pub opposite : (i l : ℕ) (b : Bool) → nat_le i l ≡ b → nat_lt l i ≡ (cond b false true)
 opposite i l true h = grind arith
 opposite i l false h = grind arith
 

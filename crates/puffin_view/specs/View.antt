@@ -1,4 +1,4 @@
--- What contracts see of a view.
+-- What contracts see of a view's frames, and how each call changes them.
 pub mod Ranking
 pub mod ViewedFrames
 pub mod FrameOf
@@ -6,6 +6,8 @@ pub mod FrameRanks
 pub mod Known
 pub mod File
 pub mod Grammar
+pub mod FrameFile
+pub mod FrameDevices
 pub mod Selection
 pub mod Stats
 pub mod Listings
@@ -15,7 +17,7 @@ use Rattle.puffin_view.specs.View.Ranking.{place, last_of, last_in}
 use Rattle.puffin_frames.specs.Packet.Stored.{Said}
 use Rattle.puffin_view.specs.View.ViewedFrames.{Frame, is_slower_frame, slowest, contents_of, frame_index, index_of, duration_of, packed_under, rising_end, chronological}
 
--- ---- what a view holds
+-- ---- the frames that a view holds
 
 pub record View : Type 0 where
   -- the last frames, oldest first
@@ -29,12 +31,12 @@ pub record View : Type 0 where
   -- whether the newest frame is packed before another is taken
   pub packs : Bool
 
--- a view that has taken no frame
+-- a view without frames, with the limits that it begins with
 abbrev pub empty_view : View
 empty_view =
     record { recent = []; slow = []; last = None; max_recent = 1000; max_slow = 256; packs = true }
 
--- the view's frames are, by what they say, the last of cs and the slowest of ds
+-- the contents of the view's frames are the last of cs and the slowest of ds
 pub record Holds (cs ds : List Said) (v : View) : Type 0 where
   pub recent : map contents_of v.recent ≡ last_of v.max_recent cs
   pub slow : map contents_of v.slow ≡ slowest v.max_slow ds
@@ -43,7 +45,11 @@ pub record Holds (cs ds : List Said) (v : View) : Type 0 where
 abbrev pub last_index : List Said → Option ℕ
 last_index cs = option_map frame_index (last_in cs)
 
--- a view that took frames that say cs, and whose limits weren't changed since its first frame
+-- whether a frame's index is above the last one, if there is one
+abbrev pub rises_behind : Option ℕ → Said → Bool
+rises_behind last c = option_map_or (λ i. nat_lt i (frame_index c)) last true
+
+-- the view took frames with the contents cs, and its limits didn't change after the first of them
 pub record Took (cs : List Said) (v : View) : Type 0 where
   pub holds : Holds (rising_end cs) (rising_end cs) v
   pub last : v.last ≡ last_index cs
@@ -52,9 +58,9 @@ pub record Took (cs : List Said) (v : View) : Type 0 where
 abbrev pub all_uniq : View → List Frame
 all_uniq v = chronological (v.recent ++ v.slow)
 
--- ---- the same step by step: what each call makes of a view
+-- ---- how each call changes a view
 
--- the view as if it hadn't taken a frame
+-- the view without its frames, with the same settings
 abbrev pub without_frames : View → View
 without_frames v = record {
   recent = [];
@@ -65,7 +71,7 @@ without_frames v = record {
   packs = v.packs;
 }
 
--- the view with the frame of an index packed, in both lists
+-- the view with the frame that has this index packed, in both lists
 abbrev pub with_packed : ℕ → View → View
 with_packed i v = record {
   recent = map (packed_under i) v.recent;
@@ -80,26 +86,26 @@ with_packed i v = record {
 abbrev pub with_newest_packed : View → View
 with_newest_packed v = option_map_or (λ f. with_packed (index_of f) v) (last_in v.recent) v
 
--- whether an index isn't above the last one taken
+-- whether an index isn't above that of the last frame taken
 abbrev pub is_past : View → ℕ → Bool
 is_past v i = option_map_or (λ last. nat_le i last) v.last false
 
--- what a view is before it takes a frame of an index: empty where that index isn't above the last taken, else with the
--- newest frame packed where packing is on
+-- the view before it takes a frame with this index: empty if the index isn't above that of the last frame taken, else with its
+-- newest frame packed if packing is on
 abbrev pub ready_for : View → ℕ → View
 ready_for v i = cond (is_past v i) (without_frames v) (cond v.packs (with_newest_packed v) v)
 
--- whether a frame comes among the k slowest: where there is room, or where it is longer than the last of them
+-- whether a frame belongs among the k slowest: if there is room, or if it is longer than the last of them
 abbrev pub enters_among : ℕ → List Frame → Frame → Bool
 enters_among k slow f =
     nat_lt (length slow) k || option_map_or (λ g. int_lt (duration_of g) (duration_of f))
     (last_in slow) false
 
--- the k slowest after one more: where it comes among them, they are cut after it is put in its place
+-- the k slowest after one more frame: if it belongs among them, it is put in its place and they are cut
 abbrev pub slow_after : ℕ → List Frame → Frame → List Frame
 slow_after k slow f = cond (enters_among k slow f) (take k (place is_slower_frame f slow)) slow
 
--- the view with a frame after all others
+-- the view with a frame added after all others
 abbrev pub joined_by : View → Frame → View
 joined_by v f = record {
   recent = last_of v.max_recent (v.recent ++ f ∷ []);
@@ -114,13 +120,13 @@ joined_by v f = record {
 abbrev pub after_taking : View → Frame → View
 after_taking v f = joined_by (ready_for v (index_of f)) f
 
--- what a view is that had no memory for a frame of an index: as it was, or with its newest frame packed, where it packs and
--- that index is above the last one taken
+-- the view after it failed to take a frame with this index: as it was, or, if packing is on and the index is above that of the
+-- last frame taken, with its newest frame packed
 abbrev pub KeepsFrames : View → ℕ → View → Type 0
 KeepsFrames old i new =
     (new ≡ old) ⊎ ((is_past old i ≡ false) × (old.packs ≡ true) × (new ≡ with_newest_packed old))
 
--- after frames that it took in order
+-- the view after it took frames in order
 abbrev pub after_all : View → List Frame → View
 after_all v [] = v
 after_all v (f ∷ fs) = after_all (after_taking v f) fs

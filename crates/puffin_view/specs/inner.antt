@@ -1,5 +1,6 @@
--- How a view keeps its frames.
+-- How a view stores its frames.
 pub mod Codes
+pub mod Rows
 pub mod Held
 pub mod Ranks
 pub mod Store

@@ -1,6 +1,8 @@
 //! The last frames and the slowest ones.
 
 mod file;
+mod frame_file;
+mod frame_rows;
 mod frame_store;
 mod frame_view;
 mod held_frames;
@@ -11,6 +13,7 @@ mod slow_rank;
 mod stats;
 mod sums;
 
+pub use frame_file::{FrameReader, FrameWriter, next_frame, read_magic};
 pub use frame_view::FrameView;
 pub use listings::{AllFrames, RecentFrames, SlowestFrames};
 pub use select::select_slowest;

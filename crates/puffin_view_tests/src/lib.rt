@@ -10,4 +10,6 @@ mod devices;
 #[cfg(test)]
 mod files;
 #[cfg(test)]
+mod frame_file;
+#[cfg(test)]
 mod views;

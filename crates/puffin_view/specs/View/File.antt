@@ -1,4 +1,4 @@
--- Files of frames: what they hold, and what a call that reads one promises.
+-- Files of frames: what they hold, and what reading one returns.
 use Rattle.std.specs.Prelude.{◌≡◌, ◌⊎◌, ◌&&◌, ◌==◌, ◌^◌, ◌-◌, ℕ, zero, suc, Bool, true, false, List, [], ◌∷◌, ◌++◌, Option, Some, None, Result, Ok, Err, map, drop, slice_index, if◌then◌else◌}
 use Rattle.std.specs.List.{flat_map}
 use Rattle.std.specs.Io.KnownBytes.{Consumes, IsAtEnd}
@@ -24,21 +24,21 @@ use Rattle.puffin_view.specs.View.Known.{view_of, collection_of, lacks_ids}
 abbrev pub magic : List ℕ
 magic = 80 ∷ 85 ∷ 70 ∷ 48 ∷ []
 
--- the letters, and then a packet of each frame
+-- the letters, and then a packet for each frame
 abbrev pub file_of : List Said → List ℕ
 file_of cs = magic ++ flat_map packet cs
 
--- what the frames of both lists of a view say
+-- the contents of the frames in both lists of a view
 abbrev pub contents_held : View → List Said
 contents_held v = map contents_of (v.recent ++ v.slow)
 
--- what the frames of a view say, each once, by rising index
+-- the contents of a view's frames, each once, by rising index
 abbrev pub contents_in : View → List Said
 contents_in v = map contents_of (all_uniq v)
 
 -- ---- frames that are read
 
--- what a frame says that was written at first: it has no details
+-- the contents of a legacy frame, which has no details
 abbrev pub said_at_first : Legacy → Said
 said_at_first l = record {
   meta = l.meta;
@@ -54,15 +54,15 @@ frame_stored (packed p) = record { contents = p; is_unpacked = false; is_packed 
 frame_stored (legacy l) =
     record { contents = said_at_first l; is_unpacked = true; is_packed = false }
 
--- the details that it tells
+-- the details of a frame that was read
 abbrev pub details_stored : Stored → List Details
 details_stored s = details_of_frame (frame_stored s)
 
--- a frame all of whose details have an id
+-- the frame, or a refusal if some of its details have no id
 abbrev pub with_ids : Stored → Result Stored FileError
 with_ids s = if lacks_ids (contents_of (frame_stored s)) then Err (file.Refused MissingId) else Ok s
 
--- the frames from one on, where there is one
+-- this frame, if there is one, and those that are read after it
 abbrev pub frames_from : (List ℕ → Result (List Stored × List ℕ) FileError) → Option Stored →
     List ℕ → Result (List Stored × List ℕ) FileError
 frames_from read None rest = Ok ([], rest)
@@ -71,14 +71,14 @@ frames_from read (Some s) rest = do
   others ← read rest
   Ok (frame ∷ others.0, others.1)
 
--- all frames up to the end, of which there are fewer than a limit, and the bytes after it; or the first fault
+-- all frames up to the end, if they are fewer than this limit, and the bytes after the end; or the first fault
 abbrev pub frames_at : ℕ → List ℕ → Result (List Stored × List ℕ) FileError
 frames_at zero bytes = Err file.Truncated
 frames_at (suc n) bytes = do
   next ← next_at bytes
   frames_from (frames_at n) next.0 next.1
 
--- after so many packets a file isn't read on
+-- a file with this many packets or more is refused
 unfoldable pub most_packets : ℕ
 most_packets = 2 ^ 64 - 1
 
@@ -87,18 +87,18 @@ begins_file bytes =
     (slice_index bytes 0 == 80) && (slice_index bytes 1 == 85) && (slice_index bytes 2 == 70) &&
     (slice_index bytes 3 == 48)
 
--- the frames of a file, and the bytes after it
+-- the frames of a file and the bytes after it, or the first fault
 abbrev pub file_at : List ℕ → Result (List Stored × List ℕ) FileError
 file_at bytes =
     if begins_file bytes then frames_at most_packets (drop 4 bytes) else Err file.NoMagic
 
 -- ---- devices
 
--- A reading, which gives all frames and what follows them.
+-- A reading of bytes: all frames and the bytes after them, or a fault.
 abbrev pub FramesReading : Type 0
 FramesReading = List ℕ → Result (List Stored × List ℕ) FileError
 
--- The bytes that were taken from a device are read as these frames: whatever follows, or else the device is at its end.
+-- The bytes taken from a device are read as these frames, whatever bytes follow; or else the device is at its end.
 pub record TookFrames (read : FramesReading) (old new : Option (List ℕ)) (frames : List Stored) :
     Type 0 where
   pub taken : List ℕ
@@ -106,7 +106,7 @@ pub record TookFrames (read : FramesReading) (old new : Option (List ℕ)) (fram
   pub given : read taken ≡ Ok (frames, [])
   pub last : ((rest : List ℕ) → read (taken ++ rest) ≡ Ok (frames, rest)) ⊎ IsAtEnd new
 
--- The bytes that were taken from a device have this fault: whatever follows, or else the device is at its end.
+-- The bytes taken from a device have this fault, whatever bytes follow; or else the device is at its end.
 pub record TookFault (read : FramesReading) (old new : Option (List ℕ)) (fault : FileError) :
     Type 0 where
   pub taken : List ℕ
@@ -114,7 +114,7 @@ pub record TookFault (read : FramesReading) (old new : Option (List ℕ)) (fault
   pub fails : read taken ≡ Err fault
   pub last : ((rest : List ℕ) → read (taken ++ rest) ≡ Err fault) ⊎ IsAtEnd new
 
--- why a call failed, unless device or memory did
+-- Why a call failed. Nothing is said of failures of the device or of memory.
 abbrev pub FailsToRead : FramesReading → Option (List ℕ) → Option (List ℕ) → FileError → Type 0
 FailsToRead read old new file.Io = Unit {0}
 FailsToRead read old new file.Memory = Unit {0}
@@ -126,13 +126,13 @@ FailsToRead read old new fault = TookFault read old new fault
 abbrev pub read_view : View
 read_view = record empty_view { max_recent = 2 ^ 64 - 1 }
 
--- The view took these frames and no others, in order, and learnt their details.
+-- The view took exactly these frames, in order, and knows their details.
 pub record IsViewOf (stored : List Stored) (v : FrameView) : Type 0 where
   pub took : Took (map contents_of (map frame_stored stored)) (view_of v)
   pub frames : view_of v ≡ after_all read_view (map frame_stored stored)
   pub details : collection_of v ≡ with_all_details no_details (flat_map details_stored stored)
 
--- A call read a view from a device: it is the view of the frames that were taken.
+-- A call read a view from a device: that of the frames whose bytes it took.
 abbrev pub ReadsView : FramesReading → Option (List ℕ) → Option (List ℕ) →
     Result FrameView FileError → Type 0
 ReadsView read old new (Ok view) =

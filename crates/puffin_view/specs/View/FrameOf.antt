@@ -1,4 +1,4 @@
--- Frames of the code, as a view sees them.
+-- The frames of the code as a view's model holds them.
 use Rattle.std.specs.Prelude.{List, map, is_some}
 use denote.Ref.{Bor}
 use Rattle.std.specs.Arc.{arc_value}
@@ -21,10 +21,10 @@ shared_frame arc = frame_of (arc_value arc)
 abbrev pub frames_of : {A : Type 0} → List (Arc FrameData A) → List Frame
 frames_of arcs = map shared_frame arcs
 
--- the details that a frame tells
+-- the details of a frame
 abbrev pub details_of_frame : Frame → List Details
 details_of_frame f = f.contents.details
 
--- the same of borrowed ones
+-- borrowed frames, as a view sees them
 abbrev pub lent_frames : {A : Type 0} → List (Bor (Arc FrameData A)) → List Frame
 lent_frames arcs = map (λ a. shared_frame a.now) arcs

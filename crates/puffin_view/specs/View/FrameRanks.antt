@@ -1,4 +1,4 @@
--- Where a frame stands among the slowest, and the order of these places.
+-- The rank of a frame among the slowest, and the order of ranks.
 use Rattle.std.specs.declared.cmp.Ordering.{Ordering}
 use Rattle.std.specs.Ordering.{nat_cmp, int_cmp, ordering_then}
 use Rattle.puffin_view.specs.declared.profile_view.slow_rank.SlowRank.{SlowRank}

@@ -1,11 +1,11 @@
--- Files of frames, by their format: the letters, packets that store the frames, the end, and what follows it.
+-- The format of files: letters, packets, the end, and what may follow it.
 use Rattle.std.specs.Prelude.{◌≡◌, ◌⊎◌, ◌<◌, ℕ, List, [], ◌∷◌, ◌++◌, length, map}
 use Rattle.puffin_frames.specs.Packet.Stored.{Said, Stored}
 use Rattle.puffin_frames.specs.Packet.Grammar.{Stores}
 use Rattle.puffin_view.specs.View.ViewedFrames.{contents_of}
 use Rattle.puffin_view.specs.View.File.{magic, frame_stored}
 
--- a packet of each frame, in their order and with nothing between, in any form that is read: older and legacy ones too
+-- one packet for each frame, in order and with nothing between, in any form that is read, older and legacy ones included
 abbrev pub ArePackets : List ℕ → List Stored → Type 0
 ArePackets bytes [] = bytes ≡ []
 ArePackets bytes (s ∷ frames) =
@@ -16,7 +16,7 @@ ArePackets bytes (s ∷ frames) =
 abbrev pub IsEnd : List ℕ → List ℕ → Type 0
 IsEnd end after = (end ≡ 0 ∷ 0 ∷ 0 ∷ 0 ∷ []) ⊎ ((length end < 4) × (after ≡ []))
 
--- The bytes are a file of these frames, and after is what follows its end.
+-- The bytes are a file of these frames, and after is the bytes after its end.
 pub record IsFile (bytes : List ℕ) (frames : List Stored) (after : List ℕ) : Type 0 where
   pub packets : List ℕ
   pub end : List ℕ
@@ -24,6 +24,6 @@ pub record IsFile (bytes : List ℕ) (frames : List Stored) (after : List ℕ) :
   pub stored : ArePackets packets frames
   pub ends : IsEnd end after
 
--- what its frames say
+-- the contents of its frames
 abbrev pub contents_stored : List Stored → List Said
 contents_stored frames = map contents_of (map frame_stored frames)

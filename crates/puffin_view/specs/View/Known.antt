@@ -1,4 +1,4 @@
--- What contracts see of a view of frames.
+-- What contracts see of a view with its collection of details.
 use Rattle.std.specs.Prelude.{Bool}
 use Rattle.std.specs.List.{list_any}
 use Rattle.puffin_threads.specs.Details.{lacks_id}
@@ -13,10 +13,10 @@ view_of view = view.frames
 abbrev pub collection_of : FrameView → Collection
 collection_of view = view.scope_collection
 
--- the same with other frames
+-- the view with other frames
 abbrev pub with_frames : FrameView → View → FrameView
 with_frames view frames = record view { frames = frames }
 
--- whether one of a frame's details has no id
+-- whether some of a frame's details have no id
 abbrev pub lacks_ids : Said → Bool
 lacks_ids c = list_any lacks_id c.details

@@ -1,28 +1,28 @@
--- The first of a list in an order, and the last of it as it stands.
+-- The first elements of a list by an order, and its last ones by position.
 use Rattle.std.specs.Prelude.{ℕ, ◌-◌, ◌≡◌, Bool, false, cond, List, [], ◌∷◌, length, take, drop, Option, Some, None, IsPermutation, nat_eq}
 use Rattle.std.specs.List.{AllPairs, list_any}
 use Rattle.puffin_view.specs.declared.profile_view.slow_rank.SlowRank.{SlowRank}
 
--- what one more comes to in a list in order: behind all that it doesn't come before
+-- an ordered list with one more item, in front of the first one that it comes before
 abbrev pub place : {F : Type 0} → (F → F → Bool) → F → List F → List F
 place before f [] = f ∷ []
 place before f (x ∷ xs) = cond (before f x) (f ∷ (x ∷ xs)) (x ∷ place before f xs)
 
--- the same for one that stood in front of all of them: behind those that come before it
+-- the same for an item that was in front of all others: it goes behind those that come before it
 abbrev pub place_first : {F : Type 0} → (F → F → Bool) → F → List F → List F
 place_first before f [] = f ∷ []
 place_first before f (x ∷ xs) = cond (before x f) (x ∷ place_first before f xs) (f ∷ (x ∷ xs))
 
--- a list, sorted; those of which neither comes before the other stay as they stood
+-- a list, sorted; items of which neither comes before the other keep their order
 abbrev pub in_order : {F : Type 0} → (F → F → Bool) → List F → List F
 in_order before [] = []
 in_order before (x ∷ xs) = place_first before x (in_order before xs)
 
--- the first k in an order; ties go to the earlier
+-- the first k items in an order; of equal ones, the earlier
 abbrev pub first_in_order : {F : Type 0} → (F → F → Bool) → ℕ → List F → List F
 first_in_order before k xs = take k (in_order before xs)
 
--- out is the first k of all of a list in order: of these none comes before one in front of it
+-- out is the first k items of an ordered list of all, in which none comes before one in front of it
 pub record AreFirst {F : Type 0} (before : F → F → Bool) (k : ℕ) (xs out : List F) : Type 0 where
   pub ordered : List F
   pub all : IsPermutation xs ordered
@@ -46,6 +46,6 @@ last_in (x ∷ xs) = Some (last_from x xs)
 abbrev pub has : ℕ → List ℕ → Bool
 has q is = list_any (nat_eq q) is
 
--- the index of the frame that a rank stands for
+-- the index of a rank's frame
 abbrev pub rank_index : SlowRank → ℕ
 rank_index r = r.frame_index

@@ -1,4 +1,4 @@
--- The slowest of a list of frames.
+-- The slowest frames of a list, as `select_slowest` returns them.
 use Rattle.std.specs.Prelude.{ℕ, ℤ, suc, Bool, List, [], ◌∷◌, ◌≡◌, take, IsPermutation, slice_get, filter_map}
 use Rattle.std.specs.List.Sorted.{IsSortedBy}
 use Rattle.std.specs.declared.cmp.Ordering.{Ordering}
@@ -36,11 +36,11 @@ older_cmp =
 abbrev pub older_rank : Rank → Rank → Bool
 older_rank a b = is_lt (older_cmp a b)
 
--- the places of the code, as ranks
+-- a place of the code, as a rank
 abbrev pub old_place : OldPlace → Rank
 old_place r = record { duration = r.duration_ns; index = r.frame_index; place = r.place }
 
--- out is the first max of frames by falling duration, then rising index, then place, given by rising index, then place
+-- out is the first max frames by falling duration, then rising index, then place, ordered by rising index, then place
 pub record IsSelection (max : ℕ) (frames out : List Frame) : Type 0 where
   pub ranked : List Rank
   pub ranks : IsPermutation (ranks_from 0 frames) ranked

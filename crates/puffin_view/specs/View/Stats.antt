@@ -1,10 +1,10 @@
--- How many frames a view holds, and how many bytes they take.
+-- The statistics of a list of frames.
 use Rattle.std.specs.Prelude.{ℕ, ◌-◌, ◌^◌, min, List, length}
 use Rattle.std.specs.List.{sum_by, count_by}
 use Rattle.puffin_view.specs.declared.profile_view.stats.FrameStats.{FrameStats}
 use Rattle.puffin_view.specs.View.ViewedFrames.{Frame, ram_of}
 
--- a sum, cut where it doesn't fit usize
+-- a sum, or the greatest usize if it doesn't fit
 abbrev pub cut : ℕ → ℕ
 cut n = min (2 ^ 64 - 1) n
 

@@ -1,4 +1,4 @@
--- What a view sees of a frame, and the orders of frames.
+-- A frame as a view sees it: what it says and how it is held, with the orders of frames.
 use Rattle.std.specs.Prelude.{ℕ, ◌+◌, ◌-◌, ◌^◌, ℤ, ◌-ℤ◌, Bool, true, false, cond, min, List, [], ◌∷◌, nat_lt, nat_eq, ◌&&◌, length, map}
 use Rattle.std.specs.declared.cmp.Ordering.{Ordering}
 use Rattle.std.specs.Ordering.{nat_cmp, int_cmp, is_lt, on, then_cmp, flip_args}
@@ -42,7 +42,7 @@ is_slower_frame f g = is_slower f.contents g.contents
 abbrev pub slowest : ℕ → List Said → List Said
 slowest k cs = first_in_order is_slower k cs
 
--- whether indices rise strictly along a list, the first above i
+-- whether the indices of a list rise strictly, from above i
 abbrev pub rises_above : ℕ → List Said → Bool
 rises_above i [] = true
 rises_above i (c ∷ cs) = nat_lt i (frame_index c) && rises_above (frame_index c) cs
@@ -51,16 +51,17 @@ abbrev pub is_rising : List Said → Bool
 is_rising [] = true
 is_rising (c ∷ cs) = rises_above (frame_index c) cs
 
--- the longest end of a list along which indices rise strictly: the frames since a view was last emptied by an index that didn't rise
+-- the longest suffix of a list whose indices rise strictly: the frames that a view took since it was last emptied, by an index
+-- that didn't rise
 abbrev pub rising_end : List Said → List Said
 rising_end [] = []
 rising_end (c ∷ cs) = cond (is_rising (c ∷ cs)) (c ∷ cs) (rising_end cs)
 
--- a frame held packed alone
+-- the frame, held packed only
 abbrev pub packed_alone : Frame → Frame
 packed_alone f = record { contents = f.contents; is_unpacked = false; is_packed = true }
 
--- the frame of an index packed, another as it is
+-- the frame, packed if it has this index
 abbrev pub packed_under : ℕ → Frame → Frame
 packed_under i f = cond (nat_eq (index_of f) i) (packed_alone f) f
 
@@ -72,10 +73,10 @@ ram_of f =
     + cond f.is_packed (length f.contents.streams) 0)
     (2 ^ 64 - 1)
 
--- frames by their indices, the first at each
+-- frames by their indices; of those with one index, the first
 abbrev pub frames_by_index : List Frame → map.FinMap nat_cmp Frame
 frames_by_index fs = map.from_entries (map (λ f. (index_of f, f)) fs)
 
--- frames by rising index, the first at each
+-- frames by rising index; of those with one index, the first
 abbrev pub chronological : List Frame → List Frame
 chronological fs = map.values (frames_by_index fs)

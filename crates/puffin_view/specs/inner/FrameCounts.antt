@@ -1,10 +1,10 @@
--- Statistics with one frame more.
+-- Statistics with one more frame.
 use Rattle.std.specs.Prelude.{◌+◌, cond}
 use Rattle.puffin_view.specs.declared.profile_view.stats.FrameStats.{FrameStats}
 use Rattle.puffin_view.specs.View.ViewedFrames.{Frame, ram_of}
 use Rattle.puffin_view.specs.View.Stats.{cut}
 
--- statistics of a view's frames, and of one more
+-- statistics with one more frame
 abbrev pub with_frame : FrameStats → Frame → FrameStats
 with_frame s f = record {
   frames = cut (s.frames + 1);

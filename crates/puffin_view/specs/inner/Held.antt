@@ -1,5 +1,5 @@
--- Frames that are held, each under its index.
-use Rattle.std.specs.Prelude.{ℕ, Bool, cond, List, Option, length, map, unwrap_or, ◌≡◌}
+-- Frames that are held, each under its index, with running sums.
+use Rattle.std.specs.Prelude.{ℕ, Bool, cond, List, Option, length, map, unwrap_or, ◌≡◌, ◌<◌, ◌^◌}
 use Rattle.std.specs.Option.{option_map}
 use Rattle.std.specs.List.{sum_by}
 use Rattle.std.specs.List.Sorted.{IsStrictlySortedBy}
@@ -20,14 +20,14 @@ HeldFrames = map.FinMap nat_cmp Frame
 abbrev pub held_code : Coded HeldFrames
 held_code = map.code coded_ℕ frame_code
 
--- what a map's entries hold
+-- the entries of a map, as a view sees them
 abbrev pub frames_seen : {A : Type 0} → List (ℕ × Arc FrameData A) → List (ℕ × Frame)
 frames_seen es = map (λ e. (e.0, shared_frame e.1)) es
 
 abbrev pub held_of : {A : Type 0} → List (ℕ × Arc FrameData A) → HeldFrames
 held_of es = map.from_entries (frames_seen es)
 
--- how many unpacked frames one is, and how many bytes it takes
+-- 1 if it is true, else 0
 abbrev pub number_if : Bool → ℕ
 number_if b = cond b 1 0
 
@@ -46,6 +46,7 @@ ram_if o = unwrap_or (option_map ram_taken o) 0
 -- the sums are those of the frames
 pub record IsSummed {A : Type 0} (es : List (ℕ × Arc FrameData A)) (sums : Sums) : Type 0 where
   pub ordered : IsStrictlySortedBy nat_cmp (keys_of es)
+  pub few : length es < 2 ^ 64
   pub frames : sums.frames ≡ length es
   pub unpacked_frames : sums.unpacked_frames ≡ sum_by unpacked_number (values_of es)
   pub bytes : sums.bytes_of_ram_used ≡ sum_by ram_taken (values_of es)

@@ -1,15 +1,15 @@
--- What is true of the lists of every view.
+-- The invariant of a view's lists.
 use Rattle.std.specs.Prelude.{ℕ, ◌<◌, ◌≤◌, List, [], ◌∷◌, Option, Some, None, ◌≢◌}
 use Rattle.std.specs.List.{AllByRecursion}
 use Rattle.puffin_view.specs.View.{View}
 use Rattle.puffin_view.specs.View.ViewedFrames.{Frame, index_of}
 
--- an index is among those up to the last one taken
+-- an index is at most the last one taken
 abbrev pub IsUpTo : Option ℕ → ℕ → Type 0
 IsUpTo None i = ⊥
 IsUpTo (Some last) i = i ≤ last
 
--- each slow frame was taken no later than the last
+-- the index of each slow frame is at most the last one taken
 abbrev pub IsSteady : View → Type 0
 IsSteady v = AllByRecursion (λ f. IsUpTo v.last (index_of f)) v.slow
 
@@ -18,7 +18,7 @@ abbrev pub AreRising : List Frame → Type 0
 AreRising [] = Unit {0}
 AreRising (f ∷ fs) = AllByRecursion (λ g. index_of f < index_of g) fs × AreRising fs
 
--- no two have one index
+-- no two frames have the same index
 abbrev pub HaveOwnIndices : List Frame → Type 0
 HaveOwnIndices [] = Unit {0}
 HaveOwnIndices (f ∷ fs) = AllByRecursion (λ g. index_of g ≢ index_of f) fs × HaveOwnIndices fs

@@ -1,4 +1,4 @@
--- The places of the code, as ranks.
+-- The positions that a selection sorts, as ranks.
 use Rattle.puffin_view.specs.declared.profile_view.select.SlowPlace.{SlowPlace}
 use Rattle.puffin_view.specs.View.Selection.{Rank}
 

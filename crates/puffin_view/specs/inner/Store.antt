@@ -1,4 +1,4 @@
--- How a view keeps its frames: each once, by its index, and two lists of where they stand.
+-- How a view stores its frames: each once by its index, with two lists of indices and ranks.
 use Rattle.std.specs.Prelude.{ℕ, Bool, false, List, Option, Some, None, map, ◌++◌, ◌≡◌, nat_eq}
 use Rattle.std.specs.List.{AllByRecursion, filter_map, list_any}
 use Rattle.std.specs.List.Sorted.{IsStrictlySortedBy}
@@ -10,7 +10,7 @@ use Rattle.puffin_view.specs.View.FrameRanks.{rank_of, rank_cmp}
 use Rattle.puffin_view.specs.View.Ranking.{rank_index}
 use Rattle.puffin_view.specs.inner.Kept.{AreViewLists}
 
--- the frames at indices
+-- the frames held under these indices
 abbrev pub frames_under : HeldFrames → List ℕ → List Frame
 frames_under held is = filter_map (map.get held) is
 
@@ -22,7 +22,7 @@ AreHeld held fs = AllByRecursion (λ f. held (index_of f) ≡ Some f) fs
 abbrev pub has_index : ℕ → List Frame → Bool
 has_index q fs = list_any (λ f. nat_eq q (index_of f)) fs
 
--- what is kept agrees with the frames that it stands for
+-- the map and the two lists agree with the frames that they store
 pub record AreStored (held : HeldFrames) (recent : List ℕ) (slow : List SlowRank)
     (last : Option ℕ) (recent_frames slow_frames : List Frame) : Type 0 where
   pub recent_at : recent ≡ map index_of recent_frames

@@ -2,7 +2,7 @@
 
 ghost use Rattle.std.specs.Prelude.{◌≡◌, ◌⊎◌, ◌+◌, ◌-◌, ◌^◌, ◌<◌, true, false, IfErr, OnOk};
 ghost use Rattle.std.specs.List.{AllByRecursion, Any};
-ghost use Rattle.std.specs.Io.KnownBytes.{Appends, Consumes};
+ghost use Rattle.std.specs.Io.KnownBytes.{Appends};
 ghost use Rattle.puffin_data.specs.declared.error.Error.{Error};
 ghost use Rattle.puffin_data.specs.declared.file_error.FileError.{FileError};
 ghost use Rattle.puffin_data.specs.Device.{TookNothing, WritesBeginning, failures_after};
@@ -13,40 +13,15 @@ ghost use Rattle.puffin_view.specs.View.ViewedFrames.{contents_of};
 ghost use Rattle.puffin_view.specs.View.FrameOf.{frame_of, details_of_frame};
 ghost use Rattle.puffin_view.specs.View.{after_taking};
 ghost use Rattle.puffin_view.specs.View.Known.{view_of, collection_of, lacks_ids};
-ghost use Rattle.puffin_view.specs.View.File.{magic, begins_file, file_of, contents_in, file_at, frames_at, most_packets, FailsToRead, ReadsView};
+ghost use Rattle.puffin_view.specs.View.File.{file_of, contents_in, file_at, ReadsView};
 
+use crate::profile_view::frame_file::{next_frame, read_magic, write_magic};
 use crate::profile_view::frame_view::FrameView;
-use puffin_data::data::{Drain, Source, read_up_to, write_all};
+use puffin_data::data::{Drain, Source};
 use puffin_data::{Error, FileError};
 use puffin_frames::frame_data::FrameData;
 use std::alloc::Global;
 use std::sync::Arc;
-
-/// Whether these letters begin a file.
-fn is_magic(letters: [u8; 4]) -> bool
-    ensures { result ≡ begins_file letters }
-{
-    letters[0] == b'P' && letters[1] == b'U' && letters[2] == b'F' && letters[3] == b'0'
-}
-
-/// Reads the letters that a file begins with.
-fn read_magic<S: Source>(source: &mut S) -> Result<(), FileError>
-    requires { S.failures source.old < 2 ^ 64 - 1 }
-    ensures ok { OnOk result (Consumes (S.remaining source.old) (S.remaining source.new) magic) }
-    ensures err { IfErr result (λ e.
-        FailsToRead file_at (S.remaining source.old) (S.remaining source.new) e) }
-    ensures failures { S.failures source.new ≡ failures_after (S.failures source.old) result }
-{
-    let mut letters = [0; 4];
-    if read_up_to(source, &mut letters)? < 4 {
-        return Err(FileError::NoMagic);
-    }
-    if is_magic(letters) {
-        Ok(())
-    } else {
-        Err(FileError::NoMagic)
-    }
-}
 
 /// Adds a frame that was read to a view.
 fn add_read(alloc: Global, view: &mut FrameView, frame: FrameData) -> Result<(), FileError>
@@ -69,30 +44,12 @@ fn add_read(alloc: Global, view: &mut FrameView, frame: FrameData) -> Result<(),
     }
 }
 
-/// Reads all frames up to the end.
-fn read_frames<S: Source>(alloc: Global, source: &mut S) -> Result<FrameView, FileError>
-    requires { S.failures source.old < 2 ^ 64 - 1 }
-    ensures frames { ReadsView (frames_at most_packets) (S.remaining source.old)
-        (S.remaining source.new) result }
-    ensures failures { S.failures source.new ≡ failures_after (S.failures source.old) result }
-{
-    let mut view = FrameView::new(alloc);
-    view.set_max_recent(usize::MAX);
-    'packets: for _ in 0..u64::MAX {
-        let Some(frame) = FrameData::read_next(alloc, source)? else {
-            return Ok(view);
-        };
-        add_read(alloc, &mut view, frame)?;
-    }
-    Err(FileError::Truncated)
-}
-
 impl FrameView {
-    /// Writes a file: `PUF0`, and then a packet of each frame, the recent and the slowest ones, each once, by rising index
-    /// and with its own `scope_delta`.
+    /// Writes a file: `PUF0`, and then a packet for each frame that the view holds, recent or slow, by rising index. Each packet
+    /// has the details that are new in its frame (`scope_delta`).
     ///
-    /// Refused with `PartTooLong` where a part of a packet has `2^32` bytes or more, with `Memory`, and with `Io` where a
-    /// write failed or took nothing of a piece that wasn't empty. A beginning of the file is then written.
+    /// Fails with `PartTooLong` if a part of a packet has `2^32` bytes or more, with `Memory`, or with `Io` if a write fails or
+    /// takes nothing of a piece that isn't empty. A beginning of the file is then written.
     ///
     /// ```
     /// view.write(&mut Counted::new(File::create(&rt, "frames.puffin")?))?;
@@ -116,19 +73,20 @@ impl FrameView {
             (e ≡ FileError.PartTooLong) ⊎ (e ≡ FileError.Memory) ⊎ (e ≡ FileError.Io)) }
         ensures failures { OnOk result (D.failures drain.new ≡ D.failures drain.old) }
     {
-        write_all(drain, b"PUF0")?;
+        write_magic(drain)?;
         'frames: for frame in self.all_uniq() {
             frame.write_into(None, drain)?;
         }
         Ok(())
     }
 
-    /// Reads a file: a new view that has taken each of its frames, in order. It keeps up to `usize::MAX` recent and 256 slow
-    /// frames, and packs. A file ends where fewer than four bytes are left, or four zeros stand; nothing more is read then.
+    /// Reads a file into a new view, which takes each of its frames, in order. The view keeps up to `usize::MAX` recent and 256
+    /// slow frames, and packing is on. The file ends if fewer than four bytes are left, or at four zeros; nothing after these is
+    /// read.
     ///
-    /// Refused with the first that applies: `NoMagic` where there are fewer than four bytes, or others than `PUF0`; as
-    /// [`FrameData::read_next`] at each frame; `Refused(MissingId)` where some of a frame's details have no id; and
-    /// `Truncated` where `2^64 - 1` frames stand before the end. How far it read is then unspecified.
+    /// Fails with the first that applies: `NoMagic` if the first four bytes aren't `PUF0`, or there are fewer; as
+    /// [`FrameData::read_next`] does at each frame; `Refused(MissingId)` if some of a frame's details have no id; `Truncated` if
+    /// there are `2^64 - 1` frames before the end. How far it read is then unspecified.
     ///
     /// ```
     /// let view = FrameView::read(alloc, &mut Counted::new(File::open(&rt, "frames.puffin")?))?;
@@ -139,6 +97,14 @@ impl FrameView {
         ensures failures { S.failures source.new ≡ failures_after (S.failures source.old) result }
     {
         read_magic(source)?;
-        read_frames(alloc, source)
+        let mut view = FrameView::new(alloc);
+        view.set_max_recent(usize::MAX);
+        'packets: for _ in 0..u64::MAX {
+            let Some(frame) = next_frame(alloc, source)? else {
+                return Ok(view);
+            };
+            add_read(alloc, &mut view, frame)?;
+        }
+        Err(FileError::Truncated)
     }
 }

@@ -1,3 +1,4 @@
+//! How a view stores its frames.
 ghost use Rattle.std.specs.Prelude.{◌≡◌, ◌↔◌, IsTrue, IfOk, ◌-◌, ◌<◌, ◌≤◌, OnOk, OnErr, IfErr, IfSome, [], false, take, drop, map, length, Some, insert, nat_eq};
 ghost use Rattle.std.specs.Ordering.{nat_cmp};
 ghost use Rattle.std.specs.List.{list_any};
@@ -28,7 +29,8 @@ use std::collections::VecDeque;
 use std::marker::Model;
 use std::sync::Arc;
 
-/// The frames of a view: each is held once, and two lists say where they stand.
+/// The frames and the settings of a view. Each frame is held once, by its index; two lists have the indices of the recent
+/// frames and the ranks of the slowest.
 #[derive(Drop)]
 pub(crate) struct FrameStore {
     held: HeldFrames,
@@ -66,6 +68,7 @@ impl Model for FrameStore {
 }
 
 impl FrameStore {
+    /// Makes a store without frames, which keeps up to 1,000 recent and 256 slow frames, and packs.
     pub fn new(alloc: Global) -> FrameStore
         ensures { result ≡ empty_view }
     {
@@ -80,50 +83,56 @@ impl FrameStore {
         }
     }
 
+    /// Returns how many recent frames are kept at most.
     pub fn max_recent(&self) -> usize
         ensures { result ≡ self.now.max_recent }
     {
         self.max_recent
     }
 
+    /// Returns how many of the slowest frames are kept at most.
     pub fn max_slow(&self) -> usize
         ensures { result ≡ self.now.max_slow }
     {
         self.max_slow
     }
 
+    /// Returns whether the newest frame is packed before another is taken.
     pub fn pack_frames(&self) -> bool
         ensures { result ≡ self.now.packs }
     {
         self.pack_frames
     }
 
+    /// Sets how many recent frames are kept at most.
     pub fn set_max_recent(&mut self, max_recent: usize)
         ensures { self.new ≡ record self.old { max_recent = max_recent } }
     {
         self.max_recent = max_recent;
     }
 
+    /// Sets how many of the slowest frames are kept at most.
     pub fn set_max_slow(&mut self, max_slow: usize)
         ensures { self.new ≡ record self.old { max_slow = max_slow } }
     {
         self.max_slow = max_slow;
     }
 
+    /// Sets whether the newest frame is packed before another is taken.
     pub fn set_pack_frames(&mut self, pack_frames: bool)
         ensures { self.new ≡ record self.old { packs = pack_frames } }
     {
         self.pack_frames = pack_frames;
     }
 
-    /// Drops the slowest frames, where they aren't recent.
+    /// Clears the list of the slowest frames, and drops those that aren't recent.
     pub fn clear_slowest(&mut self)
         ensures { self.new ≡ record self.old { slow = [] } }
     {
         cut_slow(&mut self.held, &self.recent, &mut self.slow, 0);
     }
 
-    /// The last of the recent frames.
+    /// Returns the last of the recent frames.
     pub fn latest_frame(&self) -> Option<&Arc<FrameData>>
         ensures { option_map (λ a. shared_frame a.now) result ≡ last_in self.now.recent }
     {
@@ -133,21 +142,21 @@ impl FrameStore {
         }
     }
 
-    /// Whether there is no frame.
+    /// Returns whether there are no frames.
     pub fn is_empty(&self) -> bool
         ensures { IsTrue result ↔ ((self.now.recent ≡ []) × (self.now.slow ≡ [])) }
     {
         self.recent.is_empty() && self.slow.is_empty()
     }
 
-    /// The recent frames, oldest first.
+    /// Iterates over the recent frames, oldest first.
     pub fn recent_frames(&self) -> RecentFrames<'_>
         ensures { recent_left result ≡ self.now.recent }
     {
         RecentFrames::new(self.recent.iter(), &self.held)
     }
 
-    /// The last `n` of the recent frames, oldest first.
+    /// Iterates over the last `n` of the recent frames, oldest first.
     pub fn latest_frames(&self, n: usize) -> RecentFrames<'_>
         ensures { recent_left result ≡ last_of n self.now.recent }
     {
@@ -155,21 +164,21 @@ impl FrameStore {
         RecentFrames::new(self.recent.range(first..), &self.held)
     }
 
-    /// All frames, each once, by rising index.
+    /// Iterates over all frames, each once, by rising index.
     pub fn all_uniq(&self) -> AllFrames<'_>
         ensures { all_left result ≡ all_uniq self.now }
     {
-        AllFrames::new(self.held.values())
+        AllFrames::new(self.held.iter())
     }
 
-    /// The slowest frames, by rising index.
+    /// Iterates over the slowest frames, by rising index.
     pub fn slowest_frames_chronological(&self) -> SlowestFrames<'_>
         ensures { slowest_left result ≡ chronological self.now.slow }
     {
-        SlowestFrames::new(self.held.values(), &self.slow)
+        SlowestFrames::new(self.held.iter(), &self.slow)
     }
 
-    /// A copy, which shares the frames. Refused only with `Memory`.
+    /// Returns a copy, which shares the frames. Fails only with `Memory`.
     pub fn clone(&self) -> Result<FrameStore>
         ensures ok { IfOk result (λ copy. copy ≡ self.now) }
         ensures cause { IfErr result (λ e. e ≡ Error.Memory) }
@@ -185,14 +194,14 @@ impl FrameStore {
         })
     }
 
-    /// How many frames there are, and how many bytes they take.
+    /// Returns how many frames there are, how many of them unpacked, and how many bytes they take.
     pub fn stats(&self) -> FrameStats
         ensures { result ≡ stats_of (all_uniq self.now) }
     {
         self.held.stats()
     }
 
-    /// The same settings, with no frames.
+    /// Returns a store without frames that has the same settings.
     fn emptied(&self) -> FrameStore
         ensures { result ≡ without_frames self.now }
     {
@@ -208,7 +217,7 @@ impl FrameStore {
         }
     }
 
-    /// Whether an index isn't above the last one taken.
+    /// Returns whether an index isn't above that of the last frame taken.
     fn is_past(&self, index: FrameIndex) -> bool
         ensures past { result ≡ is_past self.now index }
         ensures steady { IsSteady self.now }
@@ -219,7 +228,8 @@ impl FrameStore {
         }
     }
 
-    /// Packs the newest frame. One that is packed already is left as it is, and not copied.
+    /// Packs the newest frame. Does nothing, and copies nothing, if that is held packed only. Fails only with `Memory`; nothing
+    /// changes then.
     fn pack_newest(&mut self) -> Result<()>
         ensures ok { OnOk result (self.new ≡ with_newest_packed self.old) }
         ensures err { OnErr result (self.new ≡ self.old) }
@@ -233,11 +243,11 @@ impl FrameStore {
             return Ok(());
         }
         let packed = Arc::new(alloc, newest.packed_copy()?)?;
-        self.held.insert(packed)?;
+        self.held.replace(packed);
         Ok(())
     }
 
-    /// Adds a frame whose index is above those of all frames.
+    /// Adds a frame whose index is above that of the last frame taken. Fails only with `Memory`; nothing changes then.
     fn join(&mut self, frame: Arc<FrameData>) -> Result<()>
         requires { is_past self.old (index_of (shared_frame frame)) ≡ false }
         ensures ok { OnOk result (self.new ≡ joined_by self.old (shared_frame frame)) }
@@ -247,7 +257,7 @@ impl FrameStore {
         let rank = SlowRank::of(&frame);
         self.recent.reserve(1)?;
         self.slow.reserve(1)?;
-        self.held.insert(frame)?;
+        self.held.push(frame)?;
         self.last = Some(rank.frame_index);
         self.recent.push_back_reserved(rank.frame_index);
         enter_slow(
@@ -266,7 +276,8 @@ impl FrameStore {
         Ok(())
     }
 
-    /// Takes a frame. Where its index isn't above the last one taken, only that frame is left.
+    /// Takes a frame. If its index isn't above that of the last frame taken, drops all others. Fails only with `Memory`; the
+    /// newest frame may then be packed.
     pub fn take(&mut self, frame: Arc<FrameData>) -> Result<()>
         ensures ok { OnOk result (self.new ≡ after_taking self.old (shared_frame frame)) }
         ensures err { OnErr result (KeepsFrames self.old (index_of (shared_frame frame)) self.new) }
@@ -286,7 +297,7 @@ impl FrameStore {
     }
 }
 
-/// Whether a frame of an index is recent.
+/// Returns whether the frame with this index is among the recent ones.
 fn is_recent(recent: &VecDeque<FrameIndex>, index: FrameIndex) -> bool
     requires { IsStrictlySortedBy nat_cmp recent.now.items }
     ensures { result ≡ list_any (λ i. nat_eq i index) recent.now.items }
@@ -294,7 +305,7 @@ fn is_recent(recent: &VecDeque<FrameIndex>, index: FrameIndex) -> bool
     recent.binary_search(&index).is_ok()
 }
 
-/// Whether a frame of an index is among the slowest.
+/// Returns whether the frame with this index is among the slowest.
 fn is_slow(held: &HeldFrames, slow: &VecDeque<SlowRank>, index: FrameIndex) -> bool
     requires sorted { IsStrictlySortedBy rank_cmp slow.now.items }
     requires ranked { AreRanked held.now slow.now.items }
@@ -312,7 +323,7 @@ fn is_slow(held: &HeldFrames, slow: &VecDeque<SlowRank>, index: FrameIndex) -> b
     }
 }
 
-/// Puts a rank among the slowest, if it comes there, and cuts them.
+/// Inserts a rank among the slowest if it belongs there, and then cuts them to `max`.
 fn enter_slow(
     held: &mut HeldFrames,
     recent: &VecDeque<FrameIndex>,
@@ -337,7 +348,7 @@ fn enter_slow(
     }
 }
 
-/// Cuts the slowest. A frame that is neither slow nor recent any more is let go.
+/// Cuts the slowest frames to `max`. Drops a frame that is then neither slow nor recent.
 fn cut_slow(
     held: &mut HeldFrames,
     recent: &VecDeque<FrameIndex>,
@@ -357,7 +368,7 @@ fn cut_slow(
     slow.truncate(max);
 }
 
-/// Drops the first of the recent ones. A frame that is neither recent nor slow any more is let go.
+/// Cuts the recent frames to the last `max`. Drops a frame that is then neither recent nor slow.
 fn cut_recent(
     held: &mut HeldFrames,
     recent: &mut VecDeque<FrameIndex>,
@@ -372,7 +383,9 @@ fn cut_recent(
 {
     for _ in 0..recent.len().saturating_sub(max) {
         if let Some(index) = recent.pop_front() {
-            if !is_slow(held, slow, index) {
+            if is_slow(held, slow, index) {
+                held.set_aside();
+            } else {
                 held.remove(index);
             }
         }

@@ -1,3 +1,4 @@
+//! Views of frames.
 ghost use Rattle.std.specs.Prelude.{◌≡◌, ◌⊎◌, ◌↔◌, ◌++◌, ◌∷◌, [], List, OnOk, OnErr, IfOk, IfErr, IsTrue, true, false};
 ghost use Rattle.std.specs.Option.{option_map};
 ghost use Rattle.puffin_data.specs.declared.error.Error.{Error};
@@ -20,7 +21,15 @@ use puffin_frames::scope_details::ScopeCollection;
 use std::alloc::Global;
 use std::sync::Arc;
 
-/// The last frames that were added and the slowest ones, with the details of all scopes that any frame told of.
+/// Keeps the last frames that were added and the slowest ones, with the details of all scopes that any frame listed.
+///
+/// ```
+/// let mut view = FrameView::new(alloc);
+/// view.add_frame(frame)?;
+/// for frame in view.recent_frames() {
+///     let (index, duration) = (frame.frame_index(), frame.duration_ns());
+/// }
+/// ```
 #[derive(Drop)]
 pub struct FrameView {
     frames: FrameStore,
@@ -28,7 +37,12 @@ pub struct FrameView {
 }
 
 impl FrameView {
-    /// A view with no frame: it holds up to 1,000 recent and 256 slow frames, and packs. Takes no memory.
+    /// Makes a view without frames, which keeps up to 1,000 recent and 256 slow frames, and packs. Allocates nothing.
+    ///
+    /// ```
+    /// let mut view = FrameView::new(alloc);
+    /// view.set_max_recent(200);
+    /// ```
     pub fn new(alloc: Global) -> FrameView
         ensures frames { view_of result ≡ empty_view }
         ensures took { Took [] (view_of result) }
@@ -40,7 +54,7 @@ impl FrameView {
         }
     }
 
-    /// Whether there is no frame.
+    /// Returns whether the view has no frames.
     pub fn is_empty(&self) -> bool
         ensures { IsTrue result
             ↔ (((view_of self.now).recent ≡ []) × ((view_of self.now).slow ≡ [])) }
@@ -48,25 +62,34 @@ impl FrameView {
         self.frames.is_empty()
     }
 
-    /// The details of all scopes that any frame told of.
+    /// Returns the details of all scopes that any frame listed.
     pub fn scope_collection(&self) -> &ScopeCollection
         ensures { result.now ≡ collection_of self.now }
     {
         &self.scope_collection
     }
 
-    /// Adds a frame, and learns the details that it tells. Where its index isn't above that of the frame added last, all
-    /// others are dropped. Where frames are packed, the newest one until now is packed first.
+    /// Adds a frame, and its details to the collection. The frame becomes the newest of the recent ones. It is also among the
+    /// slowest if there is room, or if it took longer than one of them. Frames beyond both limits are dropped.
     ///
-    /// Refused with `MissingId` just where some of the frame's details have no id, and nothing is changed then. Else refused
-    /// only with `Memory`: some of the first details may then be known, and if frames are packed and none had to go, the
-    /// newest may be packed.
+    /// If its index isn't above that of the frame added last, all other frames are dropped. Otherwise, if packing is on, the
+    /// newest frame so far is packed first.
+    ///
+    /// Fails with `MissingId` exactly when some of the frame's details have no id, and then changes nothing; else only with
+    /// `Memory`. Then a beginning of its details may be known, and if packing is on and no frames had to be dropped, the newest
+    /// frame may be packed.
+    ///
+    /// ```
+    /// if let Some(frame) = profiler.collect_frame()? {
+    ///     view.add_frame(frame)?;
+    /// }
+    /// ```
     pub fn add_frame(&mut self, frame: Arc<FrameData>) -> Result<()>
-        // A view with the last and the slowest of the frames that it took has those of them and this one.
+        // If the view held the last and the slowest of the frames it took, it holds those of them and this one.
         ensures took { OnOk result (
             (cs : List Said) → Took cs (view_of self.old) →
             Took (cs ++ contents_of (shared_frame frame) ∷ []) (view_of self.new)) }
-        // What the view holds of any two lists, it holds of them with the frame.
+        // The same for any two lists of frames, each extended by this one.
         ensures more { OnOk result (
             (cs ds : List Said) →
             is_past (view_of self.old) (index_of (shared_frame frame)) ≡ false →
@@ -78,7 +101,7 @@ impl FrameView {
             Holds (contents_of (shared_frame frame) ∷ [])
             (contents_of (shared_frame frame) ∷ []) (view_of self.new)) }
 
-        // The same step by step.
+        // The change to frames and details, and the errors.
         ensures ok { OnOk result (
             view_of self.new ≡ after_taking (view_of self.old) (shared_frame frame)) }
         ensures learnt { OnOk result (
@@ -89,7 +112,7 @@ impl FrameView {
             ↔ (lacks_ids (contents_of (shared_frame frame)) ≡ true) }
         ensures unchanged { (result ≡ Err Error.MissingId) → self.new ≡ self.old }
         ensures cause { IfErr result (λ e. (e ≡ Error.MissingId) ⊎ (e ≡ Error.Memory)) }
-        // What a refusal for memory may leave.
+        // What may have changed if it fails.
         ensures err { OnErr result (
             KeepsFrames (view_of self.old) (index_of (shared_frame frame)) (view_of self.new)) }
         ensures known { OnErr result (
@@ -100,42 +123,48 @@ impl FrameView {
         self.frames.take(frame)
     }
 
-    /// The last frame, if there is a recent one.
+    /// Returns the newest frame, or `None` if there is no recent one.
     pub fn latest_frame(&self) -> Option<&Arc<FrameData>>
         ensures { option_map (λ a. shared_frame a.now) result ≡ last_in (view_of self.now).recent }
     {
         self.frames.latest_frame()
     }
 
-    /// The last `n` of the recent frames, oldest first.
+    /// Iterates over the last `n` of the recent frames, oldest first; over all of them if there are fewer.
+    ///
+    /// ```
+    /// for frame in view.latest_frames(10) {
+    ///     let duration = frame.duration_ns();
+    /// }
+    /// ```
     pub fn latest_frames(&self, n: usize) -> RecentFrames<'_>
         ensures { recent_left result ≡ last_of n (view_of self.now).recent }
     {
         self.frames.latest_frames(n)
     }
 
-    /// The recent frames, oldest first.
+    /// Iterates over the recent frames, oldest first.
     pub fn recent_frames(&self) -> RecentFrames<'_>
         ensures { recent_left result ≡ (view_of self.now).recent }
     {
         self.frames.recent_frames()
     }
 
-    /// The slowest frames, by rising index.
+    /// Iterates over the slowest frames, by rising index.
     pub fn slowest_frames_chronological(&self) -> SlowestFrames<'_>
         ensures { slowest_left result ≡ chronological (view_of self.now).slow }
     {
         self.frames.slowest_frames_chronological()
     }
 
-    /// The recent and the slowest frames, each once, by rising index.
+    /// Iterates over the recent and the slowest frames, each once, by rising index.
     pub fn all_uniq(&self) -> AllFrames<'_>
         ensures { all_left result ≡ all_uniq (view_of self.now) }
     {
         self.frames.all_uniq()
     }
 
-    /// Forgets which frames were the slowest.
+    /// Clears the list of the slowest frames. Those that are also recent are still held.
     pub fn clear_slowest(&mut self)
         ensures frames { self.new
             ≡ with_frames self.old (record (view_of self.old) { slow = [] }) }
@@ -145,14 +174,14 @@ impl FrameView {
         self.frames.clear_slowest();
     }
 
-    /// How many recent frames are kept.
+    /// Returns how many recent frames are kept at most.
     pub fn max_recent(&self) -> usize
         ensures { result ≡ (view_of self.now).max_recent }
     {
         self.frames.max_recent()
     }
 
-    /// Sets how many recent frames are kept, from the next frame on.
+    /// Sets how many recent frames are kept at most, effective when the next frame is added.
     pub fn set_max_recent(&mut self, max_recent: usize)
         ensures { self.new
             ≡ with_frames self.old (record (view_of self.old) { max_recent = max_recent }) }
@@ -160,14 +189,14 @@ impl FrameView {
         self.frames.set_max_recent(max_recent);
     }
 
-    /// How many of the slowest frames are kept.
+    /// Returns how many of the slowest frames are kept at most.
     pub fn max_slow(&self) -> usize
         ensures { result ≡ (view_of self.now).max_slow }
     {
         self.frames.max_slow()
     }
 
-    /// Sets how many of the slowest frames are kept, from the next frame on that comes among them.
+    /// Sets how many of the slowest frames are kept at most, effective when the next slow frame is added.
     pub fn set_max_slow(&mut self, max_slow: usize)
         ensures { self.new
             ≡ with_frames self.old (record (view_of self.old) { max_slow = max_slow }) }
@@ -175,14 +204,14 @@ impl FrameView {
         self.frames.set_max_slow(max_slow);
     }
 
-    /// Whether the newest frame is packed before another is added.
+    /// Returns whether packing is on: whether the newest frame is packed before another is added.
     pub fn pack_frames(&self) -> bool
         ensures { result ≡ (view_of self.now).packs }
     {
         self.frames.pack_frames()
     }
 
-    /// Sets whether the newest frame is packed before another is added.
+    /// Turns packing on or off: whether the newest frame is packed before another is added.
     pub fn set_pack_frames(&mut self, pack_frames: bool)
         ensures { self.new
             ≡ with_frames self.old (record (view_of self.old) { packs = pack_frames }) }
@@ -190,21 +219,25 @@ impl FrameView {
         self.frames.set_pack_frames(pack_frames);
     }
 
-    /// How many frames are held, how many of them unpacked, and how many bytes they take, as they are counted on the way.
+    /// Returns how many frames are held, how many of them unpacked, and how many bytes they take. Reads running sums.
+    ///
+    /// ```
+    /// let (frames, bytes) = (view.stats().frames(), view.stats().bytes_of_ram_used());
+    /// ```
     pub fn stats(&self) -> FrameStats
         ensures { result ≡ stats_of (all_uniq (view_of self.now)) }
     {
         self.frames.stats()
     }
 
-    /// The same, counted anew.
+    /// Returns the same as [`FrameView::stats`], but goes over all frames.
     pub fn stats_full(&self) -> FrameStats
         ensures { result ≡ stats_of (all_uniq (view_of self.now)) }
     {
         FrameStats::from_frames(self.all_uniq())
     }
 
-    /// A copy, which shares frames and details. Refused only with `Memory`.
+    /// Returns a copy, which shares its frames and details. Fails only with `Memory`.
     pub fn clone(&self) -> Result<FrameView>
         ensures same { IfOk result (λ copy. copy ≡ self.now) }
         ensures cause { IfErr result (λ e. e ≡ Error.Memory) }

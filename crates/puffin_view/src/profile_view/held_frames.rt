@@ -1,25 +1,26 @@
-ghost use Rattle.std.specs.Prelude.{◌≡◌, OnOk, OnErr, IfOk, IfErr};
+//! The frames of a view by their indices.
+ghost use Rattle.std.specs.Prelude.{◌≡◌, ℕ, ◌≤◌, None, OnOk, OnErr, IfOk, IfErr, IsSome};
 ghost use Rattle.std.specs.FinMap as map;
 ghost use Rattle.std.specs.Option.{option_map};
 ghost use Rattle.puffin_data.specs.declared.error.Error.{Error};
 ghost use Rattle.puffin_view.specs.View.ViewedFrames.{index_of};
 ghost use Rattle.puffin_view.specs.View.FrameOf.{shared_frame, frames_of};
+ghost use Rattle.puffin_view.specs.View.Listings.{frames_left};
 ghost use Rattle.puffin_view.specs.View.Stats.{stats_of};
 
+use crate::profile_view::frame_rows::{FrameRows, FrameRowsIter};
 use crate::profile_view::stats::FrameStats;
 use crate::profile_view::sums::Sums;
-use puffin_data::{Error, Result};
+use puffin_data::Result;
 use puffin_frames::frame_data::{FrameData, FrameIndex};
 use std::alloc::Global;
-use std::collections::BTreeMap;
-use std::collections::btree_map::Values;
 use std::marker::Model;
 use std::sync::Arc;
 
-/// Frames, each once under its index, with running sums over them.
+/// Frames by their indices, with running sums over them.
 #[derive(Drop)]
 pub(crate) struct HeldFrames {
-    frames: BTreeMap<FrameIndex, Arc<FrameData>>,
+    frames: FrameRows,
     sums: Sums,
 }
 
@@ -31,64 +32,85 @@ impl Model for HeldFrames {
     ghost coded = { held_code };
 
     ghost use Rattle.puffin_view.specs.inner.Held.{held_of, IsSummed};
+    ghost use Rattle.puffin_view.specs.inner.Rows.{rows_of};
 
-    ghost view = { λ h. held_of h.frames.entries };
+    ghost view = { λ h. held_of (rows_of h.frames) };
 
-    ghost invariant = { λ h. IsSummed h.frames.entries h.sums };
+    ghost invariant = { λ h. IsSummed (rows_of h.frames) h.sums };
 }
 
 impl HeldFrames {
+    /// Makes a map without frames.
     pub fn new(alloc: Global) -> HeldFrames
         ensures { result ≡ map.empty }
     {
         HeldFrames {
-            frames: BTreeMap::new(alloc),
+            frames: FrameRows::new(alloc),
             sums: Sums::new(),
         }
     }
 
+    /// Returns the frame with this index.
     pub fn get(&self, index: FrameIndex) -> Option<&Arc<FrameData>>
         ensures { option_map (λ a. shared_frame a.now) result ≡ map.get self.now index }
     {
-        self.frames.get(&index)
+        self.frames.get(index)
     }
 
-    /// Puts a frame under its index, in place of the one that is there. Refused only with `Memory`, and not where one is there.
-    pub fn insert(&mut self, frame: Arc<FrameData>) -> Result<()>
+    /// Adds a frame whose index is above all others. Fails only with `Memory`; nothing changes then.
+    pub fn push(&mut self, frame: Arc<FrameData>) -> Result<()>
+        requires { (q : ℕ) → index_of (shared_frame frame) ≤ q → map.get self.old q ≡ None }
         ensures ok { OnOk result (
             self.new
             ≡ map.insert self.old (index_of (shared_frame frame)) (shared_frame frame)) }
         ensures err { OnErr result (self.new ≡ self.old) }
         ensures cause { IfErr result (λ e. e ≡ Error.Memory) }
     {
-        let index = frame.frame_index();
         let is_unpacked = frame.has_unpacked();
         let bytes = frame.bytes_of_ram_used();
-        let Ok(before) = self.frames.insert(index, frame) else {
-            return Err(Error::Memory);
-        };
-        self.sums.frames = self.frames.len() as u128;
-        self.sums.lower(before);
+        self.frames.push(frame)?;
+        self.sums.frames = self.frames.len();
         self.sums.raise(is_unpacked, bytes);
         Ok(())
     }
 
+    /// Replaces the frame with this frame's index, which has to be there.
+    pub fn replace(&mut self, frame: Arc<FrameData>)
+        requires { IsSome (map.get self.old (index_of (shared_frame frame))) }
+        ensures { self.new
+            ≡ map.insert self.old (index_of (shared_frame frame)) (shared_frame frame) }
+    {
+        let is_unpacked = frame.has_unpacked();
+        let bytes = frame.bytes_of_ram_used();
+        let before = self.frames.replace(frame);
+        self.sums.lower(before);
+        self.sums.raise(is_unpacked, bytes);
+    }
+
+    /// Removes the frame with this index, if there is one.
     pub fn remove(&mut self, index: FrameIndex)
         ensures { self.new ≡ map.remove self.old index }
     {
-        let before = self.frames.remove(&index);
-        self.sums.frames = self.frames.len() as u128;
+        let before = self.frames.remove(index);
+        self.sums.frames = self.frames.len();
         self.sums.lower(before);
     }
 
-    /// The frames by rising index.
-    pub fn values(&self) -> Values<'_, FrameIndex, Arc<FrameData>>
-        ensures { frames_of result ≡ map.values self.now }
+    /// Moves the oldest frame of the row into the map, so that the frames behind it can leave the row. The frames stay the same.
+    pub fn set_aside(&mut self)
+        ensures { self.new ≡ self.old }
     {
-        self.frames.values()
+        self.frames.set_aside();
     }
 
-    /// A copy, which shares the frames. Refused only with `Memory`.
+    /// Iterates over the frames by rising index.
+    pub fn iter(&self) -> FrameRowsIter<'_>
+        ensures { frames_of (frames_left result) ≡ map.values self.now }
+    {
+        self.frames.iter()
+    }
+
+    /// Returns a copy, which shares the frames. Fails only with `Memory`.
     pub fn clone(&self) -> Result<HeldFrames>
         ensures ok { IfOk result (λ copy. copy ≡ self.now) }
         ensures cause { IfErr result (λ e. e ≡ Error.Memory) }
@@ -99,7 +121,7 @@ impl HeldFrames {
         })
     }
 
-    /// The sums over all frames, cut where they don't fit.
+    /// Returns the sums over all frames. One that doesn't fit is `usize::MAX`.
     pub fn stats(&self) -> FrameStats
         ensures { result ≡ stats_of (map.values self.now) }
     {

@@ -1,7 +1,7 @@
 //! Laws of views and their files, as contracts of functions that do nothing. A proof of another crate cites them by calling
 //! the function.
 
-ghost use Rattle.std.specs.Prelude.{ℕ, Bool, List, ◌≡◌, ◌↔◌, ◌<◌, ◌<ℤ◌, false, Option, Some, ◌++◌, ◌-◌, ◌^◌, true, Ok, Err, length, map, drop};
+ghost use Rattle.std.specs.Prelude.{ℕ, Bool, List, ◌≡◌, ◌↔◌, ◌<◌, ◌<ℤ◌, ◌≤◌, false, Option, Some, None, [], ◌∷◌, ◌++◌, ◌-◌, ◌^◌, true, Ok, Err, length, map, drop, nat_lt, if◌then◌else◌};
 ghost use Rattle.std.specs.List.{AllPairs, AllByRecursion, list_any};
 ghost use Rattle.std.specs.declared.cmp.Ordering.TheVariants.{Less, Equal};
 ghost use Rattle.std.specs.Ordering.{eq_by_cmp};
@@ -9,7 +9,7 @@ ghost use Rattle.std.specs.Cmp.{IsTotalOrder};
 ghost use Rattle.puffin_frames.specs.Packet.Stored.{Said, Stored, packed};
 ghost use Rattle.puffin_view.specs.declared.profile_view.slow_rank.SlowRank.{SlowRank};
 ghost use Rattle.puffin_view.specs.View.Ranking.{AreFirst};
-ghost use Rattle.puffin_view.specs.View.ViewedFrames.{Frame, contents_of, duration, frame_index, by_duration, is_slower, slowest};
+ghost use Rattle.puffin_view.specs.View.ViewedFrames.{Frame, contents_of, duration, frame_index, by_duration, is_slower, slowest, rising_end};
 ghost use Rattle.puffin_view.specs.View.FrameRanks.{rank_of, rank_cmp};
 ghost use Rattle.puffin_view.specs.declared.profile_view.select.OldPlace.{OldPlace};
 ghost use Rattle.puffin_view.specs.View.Selection.{Rank, older_cmp, old_place};
@@ -20,24 +20,26 @@ ghost use Rattle.puffin_data.specs.Value.Layout.{IsBytes};
 ghost use Rattle.puffin_frames.specs.Packet.Front.{is_end};
 ghost use Rattle.puffin_frames.specs.Packet.Grammar.{IsPacked};
 ghost use Rattle.puffin_view.specs.declared.profile_view.frame_view.FrameView.{FrameView};
-ghost use Rattle.puffin_view.specs.View.{View, after_all};
+ghost use Rattle.puffin_view.specs.View.{View, after_all, last_index, rises_behind};
 ghost use Rattle.puffin_view.specs.View.Known.{view_of, lacks_ids};
 ghost use Rattle.puffin_view.specs.View.Grammar.{contents_stored, IsFile};
+ghost use Rattle.puffin_view.specs.View.FrameFile.{GivesNext, HasGiven, IsCut};
 ghost use Rattle.puffin_view.specs.View.File.{file_of, contents_held, contents_in, frame_stored, read_view, file_at, TookFrames, FailsToRead, ReadsView};
 
 use crate::profile_view::select::OldPlace;
 use crate::profile_view::slow_rank::SlowRank;
 use puffin_frames::frame_data::laws::{only_packets_are_read, written_is_read};
 
-/// The slowest frames of a list are the first of all of them, once they stand by falling duration, then rising index. So
-/// none of the slowest comes before one in front of it.
+/// The `k` slowest frames of a list are its first `k` in the order by falling duration, then rising index. They are returned in
+/// that order.
 pub fn slowest_first()
     ensures first { (k : ℕ) (cs : List Said) → AreFirst is_slower k cs (slowest k cs) }
     ensures in_order { (k : ℕ) (cs : List Said) →
         AllPairs (λ c d. is_slower d c ≡ false) (slowest k cs) }
 {}
 
-/// The order by falling duration, then rising index. It is total, and ties just what has the same duration and index.
+/// Frames are ordered by falling duration, then rising index. The order is total, and two frames tie exactly when both are
+/// the same.
 pub fn order_by_duration()
     ensures longer_first { (c d : Said) → duration d <ℤ duration c → by_duration c d ≡ Less }
     ensures then_by_index { (c d : Said) → duration c ≡ duration d → frame_index c < frame_index d →
@@ -47,8 +49,8 @@ pub fn order_by_duration()
     ensures total { IsTotalOrder by_duration }
 {}
 
-/// The order by rising index, then place in a list. It is total; a selection is sorted by places of frames, whose equality
-/// and order agree with it.
+/// A selection orders frames by rising index, then position in the list. The order is total, and equality and order of
+/// `OldPlace`, by which a selection is sorted, agree with it.
 pub fn order_by_index()
     ensures lower_first { (r s : Rank) → r.index < s.index → older_cmp r s ≡ Less }
     ensures then_by_place { (r s : Rank) → r.index ≡ s.index → r.place < s.place
@@ -61,8 +63,8 @@ pub fn order_by_index()
     ensures one { (p q : OldPlace) → older_cmp (old_place p) (old_place q) ≡ Equal → p ≡ q }
 {}
 
-/// A view compares frames by their ranks: these are ordered as their frames are by duration, and equality, order and
-/// sameness agree.
+/// A view compares frames by their ranks. Ranks are ordered as their frames are by duration, and two ranks compare as equal
+/// exactly when they are the same.
 pub fn ranks_by_duration()
     ensures order { (f g : Frame) →
         ⟦<SlowRank as Ord>⟧.cmp (rank_of f) (rank_of g)
@@ -72,8 +74,8 @@ pub fn ranks_by_duration()
     ensures one { (r s : SlowRank) → rank_cmp r s ≡ Equal → r ≡ s }
 {}
 
-/// A view holds no frame but those that it held before and those that it took: a test that none of these passes is passed
-/// by none in the view after, or in its file.
+/// After taking frames, a view holds only frames that it held before or took, and its file has only frames that it holds. This
+/// is stated by any test `p`: if none of the former passes it, none of the latter does.
 pub fn views_hold_what_they_took()
     ensures held { (p : Said → Bool) (v : View) (fs : List Frame) →
         list_any p (contents_held v) ≡ false → list_any p (map contents_of fs) ≡ false →
@@ -82,8 +84,8 @@ pub fn views_hold_what_they_took()
         list_any p (contents_in v) ≡ false }
 {}
 
-/// A file that was written is read again as its frames and no others, where the end follows; or it is refused, where one of
-/// their details has no id. A file has one list of frames.
+/// If the end follows a file that was written, it is read as exactly its frames, or refused with `MissingId` if some of their
+/// details have no id. Only one list of frames is written as these bytes.
 pub fn written_files_are_read()
     ensures again { (cs : List Said) (end : List ℕ) → AllByRecursion IsPacked cs →
         length cs < 2 ^ 64 - 1 → is_end end ≡ true → list_any lacks_ids cs ≡ false →
@@ -98,9 +100,9 @@ pub fn written_files_are_read()
     written_is_read();
 }
 
-/// Bytes are read as frames exactly where they are a file of these by its format: the letters, a packet for each of them, in
-/// their order and in any form that is read, and the end. A file whose frames have a detail without an id is refused. Both
-/// hold of fewer than `2^64 - 1` frames, and no more are read.
+/// Bytes are read as frames exactly when they are a file of these frames: the letters, a packet for each frame, in order and in
+/// any form that is read, and the end. A file is refused with `MissingId` if some details of its frames have no id. Both hold
+/// for fewer than `2^64 - 1` frames; a file with more isn't read.
 pub fn only_files_are_read()
     ensures read { (bytes : List ℕ) (frames : List Stored) (after : List ℕ) → IsBytes bytes →
         (file_at bytes ≡ Ok (frames, after))
@@ -115,9 +117,16 @@ pub fn only_files_are_read()
     only_packets_are_read();
 }
 
-/// What is read of a reader that has a written file, and nothing after it: the frames that were written and no others, which
-/// are then the recent frames of the view, in their order. Reader and memory aside, it is refused only where one of their
-/// details has no id.
+/// A file with `2^64 - 1` frames or more before its end is refused as if it were cut short, whatever follows.
+pub fn files_have_an_end()
+    ensures { (old new : Option (List ℕ)) (frames : List Stored) →
+        HasGiven old new frames → length frames ≡ 2 ^ 64 - 1 →
+        FailsToRead file_at old new FileError.Truncated }
+{}
+
+/// A reader that has a written file, and nothing after it, gives exactly the frames that were written. They are then the recent
+/// frames of the view that was read, in order. If neither the reader fails nor memory runs out, reading is refused only if some
+/// of their details have no id.
 pub fn what_was_written_is_read()
     ensures frames { (cs : List Said) (new : Option (List ℕ)) (frames : List Stored) →
         AllByRecursion IsPacked cs → length cs < 2 ^ 64 - 1 →
@@ -134,6 +143,51 @@ pub fn what_was_written_is_read()
     ensures all { (v : View) → length (contents_in v) < 2 ^ 64 - 1 →
         contents_in (after_all read_view (map frame_stored (map packed (contents_in v))))
         ≡ contents_in v }
+{
+    // For the proof alone: a law of packets.
+    written_is_read();
+}
+
+/// A view that reads fewer than `2^64 - 1` frames keeps exactly those since the last frame whose index isn't above the index of
+/// the frame before it. With one more frame these are the frames that were kept and that one, or that one alone.
+pub fn reading_keeps_what_rises()
+    ensures kept { (fs : List Frame) → length fs < 2 ^ 64 - 1 →
+        contents_in (after_all read_view fs) ≡ rising_end (map contents_of fs) }
+    ensures goes_on { (cs : List Said) (c : Said) → rises_behind (last_index cs) c ≡ true →
+        rising_end (cs ++ c ∷ []) ≡ rising_end cs ++ c ∷ [] }
+    ensures begins_anew { (cs : List Said) (c : Said) → rises_behind (last_index cs) c ≡ false →
+        rising_end (cs ++ c ∷ []) ≡ c ∷ [] }
+{}
+
+/// Every beginning of a written file, from its four letters on, as a crash may leave it, is the file of its first frames and some
+/// bytes of the next packet. Read one frame at a time, it gives exactly these frames, in order, and then the end if fewer than
+/// four bytes of the next packet are left, or else `Truncated`. No frame is changed, and none comes that wasn't written.
+pub fn cut_files_give_whole_frames()
+    // what is left of a file
+    ensures cut { (cs : List Said) (bytes lost : List ℕ) → file_of cs ≡ bytes ++ lost →
+        4 ≤ length bytes → (whole : List Said) × IsCut cs bytes whole }
+    // what a call gives that reads it at once
+    ensures file { (cs : List Said) (bytes : List ℕ) (whole : List Said)
+        (h : IsCut cs bytes whole) → AllByRecursion IsPacked cs → length cs < 2 ^ 64 - 1 →
+        list_any lacks_ids cs ≡ false →
+        file_at bytes
+        ≡ (if nat_lt (length h.left) 4 then Ok (map packed whole, [])
+        else Err FileError.Truncated) }
+    // what a reader has given of it: the first of these frames
+    ensures given { (cs : List Said) (bytes : List ℕ) (whole : List Said) →
+        IsCut cs bytes whole → AllByRecursion IsPacked cs → list_any lacks_ids cs ≡ false →
+        (new : Option (List ℕ)) (frames : List Stored) → HasGiven (Some bytes) new frames →
+        (given more : List Said) × (whole ≡ given ++ more) × (frames ≡ map packed given) }
+    // and all of them, once it is at the end or refuses
+    ensures end { (cs : List Said) (bytes : List ℕ) (whole : List Said) →
+        IsCut cs bytes whole → AllByRecursion IsPacked cs → list_any lacks_ids cs ≡ false →
+        (mid new : Option (List ℕ)) (frames : List Stored) → HasGiven (Some bytes) mid frames →
+        GivesNext mid new (Ok None) → frames ≡ map packed whole }
+    ensures fault { (cs : List Said) (bytes : List ℕ) (whole : List Said) →
+        IsCut cs bytes whole → AllByRecursion IsPacked cs → list_any lacks_ids cs ≡ false →
+        (mid new : Option (List ℕ)) (frames : List Stored) (e : FileError) →
+        HasGiven (Some bytes) mid frames → GivesNext mid new (Err e) → ¬ IsOutside e →
+        (e ≡ FileError.Truncated) × (frames ≡ map packed whole) }
 {
     // For the proof alone: a law of packets.
     written_is_read();

@@ -1,14 +1,17 @@
+//! Iterators over the frames of a view.
 ghost use Rattle.std.specs.Prelude.{◌≡◌};
 ghost use Rattle.std.specs.Iterator.{YieldsFirstBy, item_count};
 ghost use Rattle.puffin_view.specs.View.FrameOf.{shared_frame};
 
+use crate::profile_view::frame_rows::FrameRowsIter;
 use crate::profile_view::held_frames::HeldFrames;
 use crate::profile_view::slow_rank::{SlowRank, has_index};
 use puffin_frames::frame_data::{FrameData, FrameIndex};
-use std::collections::{VecDeque, btree_map, vec_deque};
+use std::collections::{VecDeque, vec_deque};
 use std::sync::Arc;
 
-/// The recent frames of a view, oldest first.
+/// Iterates over recent frames of a view, oldest first. Returned by
+/// [`FrameView::recent_frames`](crate::profile_view::FrameView::recent_frames) and `latest_frames`.
 #[derive(Drop)]
 pub struct RecentFrames<'a> {
     rest: vec_deque::Iter<'a, FrameIndex>,
@@ -16,6 +19,7 @@ pub struct RecentFrames<'a> {
 }
 
 impl<'a> RecentFrames<'a> {
+    /// Makes an iterator over the frames that are held under these indices.
     pub(crate) fn new(rest: vec_deque::Iter<'a, FrameIndex>, held: &'a HeldFrames) -> Self
         ensures rest { result.rest ≡ rest.entry }
         ensures held { result.held.now ≡ held.now }
@@ -44,14 +48,16 @@ impl<'a> Iterator for RecentFrames<'a> {
     }
 }
 
-/// All frames of a view, each once, by rising index.
+/// Iterates over all frames of a view, each once, by rising index. Returned by
+/// [`FrameView::all_uniq`](crate::profile_view::FrameView::all_uniq).
 #[derive(Drop)]
 pub struct AllFrames<'a> {
-    rest: btree_map::Values<'a, FrameIndex, Arc<FrameData>>,
+    rest: FrameRowsIter<'a>,
 }
 
 impl<'a> AllFrames<'a> {
-    pub(crate) fn new(rest: btree_map::Values<'a, FrameIndex, Arc<FrameData>>) -> Self
+    /// Makes an iterator over these frames.
+    pub(crate) fn new(rest: FrameRowsIter<'a>) -> Self
         ensures { result.rest ≡ rest.entry }
     {
         AllFrames { rest }
@@ -72,18 +78,17 @@ impl<'a> Iterator for AllFrames<'a> {
     }
 }
 
-/// The slowest frames of a view, by rising index.
+/// Iterates over the slowest frames of a view, by rising index. Returned by
+/// [`FrameView::slowest_frames_chronological`](crate::profile_view::FrameView::slowest_frames_chronological).
 #[derive(Drop)]
 pub struct SlowestFrames<'a> {
-    rest: btree_map::Values<'a, FrameIndex, Arc<FrameData>>,
+    rest: FrameRowsIter<'a>,
     slow: &'a VecDeque<SlowRank>,
 }
 
 impl<'a> SlowestFrames<'a> {
-    pub(crate) fn new(
-        rest: btree_map::Values<'a, FrameIndex, Arc<FrameData>>,
-        slow: &'a VecDeque<SlowRank>,
-    ) -> Self
+    /// Makes an iterator over those of these frames that have a rank among the slowest.
+    pub(crate) fn new(rest: FrameRowsIter<'a>, slow: &'a VecDeque<SlowRank>) -> Self
         ensures rest { result.rest ≡ rest.entry }
         ensures slow { result.slow.now ≡ slow.now }
     {

@@ -1,3 +1,4 @@
+//! Selects the slowest of a list of frames.
 ghost use Rattle.std.specs.Prelude.{◌≡◌, ◌++◌, IfOk, IfErr, OnOk, map, filter_map, slice_get};
 ghost use Rattle.std.specs.Option.{option_to_list};
 ghost use Rattle.puffin_data.specs.declared.error.Error.{Error};
@@ -13,7 +14,7 @@ use std::alloc::Global;
 use std::cmp::Reverse;
 use std::sync::Arc;
 
-/// A place in a list of frames: by falling duration of the frame there, then its rising index, then the place.
+/// A place in a list of frames, ordered by the falling duration of its frame, then by the rising index, then by the place.
 #[derive(Clone, Copy, Debug, PartialEq, Eq, PartialOrd, Ord)]
 struct SlowPlace {
     duration_ns: Reverse<NanoSecond>,
@@ -22,6 +23,7 @@ struct SlowPlace {
 }
 
 impl SlowPlace {
+    /// Makes the place of a frame.
     fn of(frame: &FrameData, place: usize) -> SlowPlace
         ensures { slow_place result ≡ rank_at place (frame_of frame.now) }
     {
@@ -33,7 +35,8 @@ impl SlowPlace {
     }
 }
 
-/// A place in a list of frames: by rising index of the frame there, then the place, which is another for each.
+/// A place in a list of frames, ordered by the rising index of its frame, then by the place. No two places are equal, so the
+/// duration never decides.
 #[derive(Clone, Copy, Debug, PartialEq, Eq, PartialOrd, Ord)]
 pub(super) struct OldPlace {
     frame_index: FrameIndex,
@@ -41,7 +44,7 @@ pub(super) struct OldPlace {
     duration_ns: NanoSecond,
 }
 
-/// The places of a list of frames.
+/// Returns the places of all frames of a list. Fails only with `Memory`.
 fn slow_places(alloc: Global, frames: &[Arc<FrameData>]) -> Result<Vec<SlowPlace>>
     ensures ok { IfOk result (λ v. map slow_place v.items ≡ ranks_from 0 (frames_of frames.now)) }
     ensures cause { IfErr result (λ e. e ≡ Error.Memory) }
@@ -53,7 +56,7 @@ fn slow_places(alloc: Global, frames: &[Arc<FrameData>]) -> Result<Vec<SlowPlace
     Ok(places)
 }
 
-/// The same places, in the other order's form.
+/// Converts places into the form that has the other order. Fails only with `Memory`.
 fn old_places(alloc: Global, slow: &[SlowPlace]) -> Result<Vec<OldPlace>>
     ensures ok { IfOk result (λ v. map old_place v.items ≡ map slow_place slow.now) }
     ensures cause { IfErr result (λ e. e ≡ Error.Memory) }
@@ -70,7 +73,7 @@ fn old_places(alloc: Global, slow: &[SlowPlace]) -> Result<Vec<OldPlace>>
     Ok(places)
 }
 
-/// Adds the frame at a place, if there is one.
+/// Appends the frame at a place, if there is one. Fails only with `Memory`.
 fn push_at(all: &mut Vec<Arc<FrameData>>, frames: &[Arc<FrameData>], place: usize) -> Result<()>
     ensures ok { OnOk result (
         frames_of all.new.items
@@ -86,7 +89,7 @@ fn push_at(all: &mut Vec<Arc<FrameData>>, frames: &[Arc<FrameData>], place: usiz
     }
 }
 
-/// The frames at places.
+/// Returns the frames at these places, in this order. Fails only with `Memory`.
 fn frames_at(
     alloc: Global,
     frames: &[Arc<FrameData>],
@@ -104,8 +107,12 @@ fn frames_at(
     Ok(all)
 }
 
-/// The slowest frames, at most so many: by falling duration, then rising index, then place in the list. They are given by
-/// rising index, then place. Refused only with `Memory`.
+/// Returns the `max` slowest frames of a list, or all if there are fewer: the first by falling duration, then rising index,
+/// then place in the list. The result is ordered by rising index, then place. Fails only with `Memory`.
+///
+/// ```
+/// let slowest = select_slowest(alloc, &frames, 10)?;
+/// ```
 pub fn select_slowest(
     alloc: Global,
     frames: &[Arc<FrameData>],

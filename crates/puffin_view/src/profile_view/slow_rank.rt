@@ -1,3 +1,4 @@
+//! Ranks of frames among the slowest.
 ghost use Rattle.std.specs.Prelude.{◌≡◌, ◌≤◌, nat_eq, length, insert};
 ghost use Rattle.std.specs.List.{list_any};
 ghost use Rattle.std.specs.Ordering.{is_eq};
@@ -12,7 +13,7 @@ use puffin_frames::frame_data::{FrameData, FrameIndex};
 use std::cmp::Reverse;
 use std::collections::VecDeque;
 
-/// Where a frame stands among the slowest: by falling duration, then rising index.
+/// A frame's rank among the slowest: by falling duration, then rising index.
 #[derive(Clone, Copy, Debug, PartialEq, Eq, PartialOrd, Ord)]
 pub(crate) struct SlowRank {
     pub duration_ns: Reverse<NanoSecond>,
@@ -20,6 +21,7 @@ pub(crate) struct SlowRank {
 }
 
 impl SlowRank {
+    /// Returns the rank of a frame.
     pub fn of(frame: &FrameData) -> SlowRank
         ensures { result ≡ rank_of (frame_of frame.now) }
     {
@@ -29,7 +31,7 @@ impl SlowRank {
         }
     }
 
-    /// Where it goes among others.
+    /// Returns the place at which the rank belongs among sorted ones.
     pub fn place_in(self, slow: &VecDeque<SlowRank>) -> usize
         requires { IsStrictlySortedBy rank_cmp slow.now.items }
         ensures bound { result ≤ length slow.now.items }
@@ -38,15 +40,18 @@ impl SlowRank {
         slow.partition_point(|other| *other <= self)
     }
 
-    /// Whether it is one of others.
+    /// Returns whether the rank is among sorted ones. A rank behind the last of them isn't looked for.
     pub fn is_among(self, slow: &VecDeque<SlowRank>) -> bool
         requires { IsStrictlySortedBy rank_cmp slow.now.items }
         ensures { result ≡ list_any (λ other. is_eq (rank_cmp other self)) slow.now.items }
     {
-        slow.binary_search(&self).is_ok()
+        match slow.back() {
+            Some(last) => self <= *last && slow.binary_search(&self).is_ok(),
+            None => false,
+        }
     }
 
-    /// Whether it comes among the slowest: where there is room, or where it comes before the last of them.
+    /// Returns whether the rank belongs among the `max` slowest: if there is room, or if it comes before the last of them.
     pub fn enters(self, slow: &VecDeque<SlowRank>, max: usize) -> bool
         ensures { result ≡ rank_enters max slow.now.items self }
     {
@@ -60,7 +65,7 @@ impl SlowRank {
     }
 }
 
-/// Whether a frame of an index is among the slowest.
+/// Returns whether the frame with this index is among the slowest.
 pub(crate) fn has_index(slow: &VecDeque<SlowRank>, index: FrameIndex) -> bool
     ensures { result ≡ list_any (λ rank. nat_eq rank.frame_index index) slow.now.items }
 {

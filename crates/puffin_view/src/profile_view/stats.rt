@@ -1,3 +1,4 @@
+//! Statistics of frames.
 ghost use Rattle.std.specs.Prelude.{◌≡◌, ◌+◌, []};
 ghost use Rattle.std.specs.Iterator.{IsFinite};
 ghost use Rattle.std.specs.Iterator.Runs.{WholeRun};
@@ -9,8 +10,8 @@ use puffin_frames::frame_data::FrameData;
 use std::fmt::Debug;
 use std::sync::Arc;
 
-/// How many frames there are, how many of them are held unpacked, and how many bytes they take. A number that is too great
-/// for `usize` is `usize::MAX`.
+/// The number of frames, of those that are held unpacked, and of the bytes that all take. A number that doesn't fit `usize` is
+/// `usize::MAX`.
 #[derive(Clone, Copy, Debug, Default)]
 pub struct FrameStats {
     pub(super) frames: usize,
@@ -19,7 +20,7 @@ pub struct FrameStats {
 }
 
 impl FrameStats {
-    /// Those of an iterator's frames.
+    /// Counts the frames of an iterator.
     pub fn from_frames<'a, I: Iterator<Item = &'a Arc<FrameData>>>(frames: I) -> FrameStats
         requires can { I.can_next frames }
         requires finite { IsFinite (I.remaining frames) }
@@ -28,7 +29,7 @@ impl FrameStats {
         frames.fold(FrameStats::default(), |stats, frame| stats.with(frame))
     }
 
-    /// The same with one frame more.
+    /// Returns the statistics with one more frame.
     fn with(self, frame: &FrameData) -> FrameStats
         ensures { result ≡ with_frame self (frame_of frame.now) }
     {
@@ -43,28 +44,28 @@ impl FrameStats {
         }
     }
 
-    /// How many frames there are.
+    /// Returns the number of frames.
     pub fn frames(&self) -> usize
         ensures { result ≡ self.now.frames }
     {
         self.frames
     }
 
-    /// How many of them are held unpacked, packed too or not.
+    /// Returns the number of frames that are held unpacked, whether or not they are packed too.
     pub fn unpacked_frames(&self) -> usize
         ensures { result ≡ self.now.unpacked_frames }
     {
         self.unpacked_frames
     }
 
-    /// How many bytes they take.
+    /// Returns how many bytes the frames take: those of their streams, unpacked and packed.
     pub fn bytes_of_ram_used(&self) -> usize
         ensures { result ≡ self.now.bytes_of_ram_used }
     {
         self.bytes_of_ram_used
     }
 
-    /// Sets all three to 0.
+    /// Sets all three numbers to 0.
     pub fn clear(&mut self)
         ensures { self.new ≡ stats_of [] }
     {

@@ -1,3 +1,4 @@
+//! Running sums over the frames of a view.
 ghost use Rattle.std.specs.Prelude.{◌≡◌, ◌+◌, ◌^◌, ◌<◌, ◌≤◌};
 ghost use Rattle.puffin_view.specs.View.Stats.{cut};
 ghost use Rattle.puffin_view.specs.inner.Held.{number_if, ram_if, unpacked_if};
@@ -6,7 +7,7 @@ use crate::profile_view::stats::FrameStats;
 use puffin_frames::frame_data::FrameData;
 use std::sync::Arc;
 
-/// Running sums over frames. They may be too great for `usize`, and are right again where they fall.
+/// Running sums over frames. They are exact even while they exceed `usize`.
 #[derive(Clone, Copy, Debug)]
 pub(crate) struct Sums {
     pub frames: u128,
@@ -15,7 +16,7 @@ pub(crate) struct Sums {
 }
 
 impl Sums {
-    /// Those of no frames.
+    /// Makes the sums over no frames.
     pub fn new() -> Sums
         ensures { result ≡ record { frames = 0; unpacked_frames = 0; bytes_of_ram_used = 0 } }
     {
@@ -26,7 +27,7 @@ impl Sums {
         }
     }
 
-    /// Adds what one frame takes.
+    /// Adds one frame to the sums, except to the number of frames.
     pub fn raise(&mut self, is_unpacked: bool, bytes: usize)
         requires unpacked_frames { self.old.unpacked_frames + 1 < 2 ^ 128 }
         requires bytes { self.old.bytes_of_ram_used + bytes < 2 ^ 128 }
@@ -40,7 +41,7 @@ impl Sums {
         self.bytes_of_ram_used += bytes as u128;
     }
 
-    /// Takes off what a frame takes, if there is one.
+    /// Subtracts one frame, if there is one, from the sums, except from the number of frames.
     pub fn lower(&mut self, frame: Option<Arc<FrameData>>)
         requires unpacked_frames { unpacked_if frame ≤ self.old.unpacked_frames }
         requires bytes { ram_if frame ≤ self.old.bytes_of_ram_used }
@@ -55,7 +56,7 @@ impl Sums {
         }
     }
 
-    /// The sums, each cut where it doesn't fit.
+    /// Returns the sums. One that doesn't fit is `usize::MAX`.
     pub fn stats(&self) -> FrameStats
         ensures { result ≡ record {
           frames = cut self.now.frames;
@@ -71,7 +72,7 @@ impl Sums {
     }
 }
 
-/// A sum, cut where it doesn't fit.
+/// Returns a sum, or `usize::MAX` if it doesn't fit.
 fn cut(sum: u128) -> usize
     ensures { result ≡ cut sum }
 {

@@ -9,39 +9,48 @@ use Rattle.puffin_view.specs.View.FrameOf.{frame_of, shared_frame}
 use Rattle.puffin_view.specs.inner.Store.{AreStored, frames_under}
 use Rattle.puffin_view.proofs.HoldingViews.{packed_copied, packed_already}
 use Rattle.puffin_view.proofs.JoiningPending.{packed_newest, newest_is_packed}
-use Rattle.puffin_view.proofs.Storing.{stored_as, stored-already, view_as}
+use Rattle.puffin_view.proofs.Storing.{newest_there, stored_as, stored-already, view_as}
 use Rattle.puffin_view.proofs.profile_view.frame_store.FrameStore.pack_newest.Goals as goal
 
-abbrev newest : goal.In_ok-insert → Frame
+abbrev newest : goal.After-replace → Frame
 newest c = shared_frame c.in-Some.newest.now
 
-newest_is : (c : goal.In_ok-insert) → last_in c.args.self.now.recent ≡ Some (newest c)
+newest_is : (c : goal.After-replace) → last_in c.args.self.now.recent ≡ Some (newest c)
 newest_is c = sym c.latest_frame.ensures ∙ ap (option_map (λ a. shared_frame a.now)) c.in-Some.is
 
-abbrev before : goal.In_ok-insert → View
+abbrev before : goal.After-replace → View
 before c =
     let s = c.self.inside in
     record { recent = frames_under s.held s.recent.items; slow = frames_under s.held (map rank_index s.slow.items); last = s.last; max_recent = s.max_recent; max_slow = s.max_slow; packs = s.pack_frames }
 
-same : (c : goal.In_ok-insert) → before c ≡ c.args.self.now
+same : (c : goal.After-replace) → before c ≡ c.args.self.now
 same c = c.self.view_is
 
-packs : (c : goal.In_ok-insert) → shared_frame c.in_ok-packed.packed ≡ packed_alone (newest c)
+packs : (c : goal.After-replace) → shared_frame c.in_ok-packed.packed ≡ packed_alone (newest c)
 packs c =
     ap frame_of c.in_ok-packed.ensures.ok ∙ packed_copied c.deref-2.result.now c.in_ok-packed_copy.field-0 c.in_ok-packed_copy.ensures.held c.in_ok-packed_copy.ensures.says ∙ ap (λ f. packed_alone (frame_of f)) c.deref-2.ensures
 
-stored : (c : goal.In_ok-insert) → AreStored c.insert.new.self c.self.inside.recent.items c.self.inside.slow.items c.self.inside.last (with_packed (index_of (newest c)) (before c)).recent (with_packed (index_of (newest c)) (before c)).slow
+stored : (c : goal.After-replace) → AreStored c.replace.new.self c.self.inside.recent.items c.self.inside.slow.items c.self.inside.last (with_packed (index_of (newest c)) (before c)).recent (with_packed (index_of (newest c)) (before c)).slow
 stored c =
-    packed_newest c.self.inside.held c.insert.new.self c.self.inside.recent.items c.self.inside.slow.items c.self.inside.last (before c).recent (before c).slow (newest c) (shared_frame c.in_ok-packed.packed)
-    c.self.invariant (ap (λ v. last_in v.recent) (same c) ∙ newest_is c) (packs c) c.in_ok-insert.ensures.ok
+    packed_newest c.self.inside.held c.replace.new.self c.self.inside.recent.items c.self.inside.slow.items c.self.inside.last (before c).recent (before c).slow (newest c) (shared_frame c.in_ok-packed.packed)
+    c.self.invariant (ap (λ v. last_in v.recent) (same c) ∙ newest_is c) (packs c) c.replace.ensures
 
-pub invariant_of-self-2 : goal.invariant_of-self-2
-invariant_of-self-2 c = stored_as c.insert.new.self c.self.inside.recent.items c.self.inside.slow.items c.self.inside.last _ _ (stored c)
+pub invariant_of-self : goal.invariant_of-self
+invariant_of-self c = stored_as c.replace.new.self c.self.inside.recent.items c.self.inside.slow.items c.self.inside.last _ _ (stored c)
 
 pub returns-clause-ok : goal.returns-clause-ok
 returns-clause-ok c =
-    view_as c.insert.new.self c.self.inside.recent.items c.self.inside.slow.items c.self.inside.last c.self.inside.max_recent c.self.inside.max_slow c.self.inside.pack_frames (with_packed (index_of (newest c)) (before c)) (stored c) refl refl refl refl
+    view_as c.replace.new.self c.self.inside.recent.items c.self.inside.slow.items c.self.inside.last c.self.inside.max_recent c.self.inside.max_slow c.self.inside.pack_frames (with_packed (index_of (newest c)) (before c)) (stored c) refl refl refl refl
     ∙ newest_is_packed c.args.self.now (before c) (newest c) (newest_is c) (same c)
+
+pub replace-requires : goal.replace-requires
+replace-requires c =
+    let s = c.self.inside in
+    let f : Frame = shared_frame c.in-Some.newest.now in
+    let found : last_in c.args.self.now.recent ≡ Some f = sym c.latest_frame.ensures ∙ ap (option_map (λ a. shared_frame a.now)) c.in-Some.is in
+    let packed : shared_frame c.in_ok-packed.packed ≡ packed_alone f =
+    ap frame_of c.in_ok-packed.ensures.ok ∙ packed_copied c.deref-2.result.now c.in_ok-packed_copy.field-0 c.in_ok-packed_copy.ensures.held c.in_ok-packed_copy.ensures.says ∙ ap (λ f. packed_alone (frame_of f)) c.deref-2.ensures in
+    newest_there s.held s.recent.items s.slow.items s.last (frames_under s.held s.recent.items) (frames_under s.held (map rank_index s.slow.items)) f (index_of (shared_frame c.in_ok-packed.packed)) c.self.invariant (ap (λ v. last_in v.recent) c.self.view_is ∙ found) (ap index_of packed)
 
 -- ---- a newest frame that is packed already
 

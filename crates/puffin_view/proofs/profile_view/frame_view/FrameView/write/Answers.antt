@@ -13,10 +13,10 @@ use Rattle.puffin_view.specs.View.File.{contents_in}
 use Rattle.puffin_view.proofs.FilesWritten.{file_more, all_more, one_left, magic_begins, begun, any_of}
 use Rattle.puffin_view.proofs.profile_view.frame_view.FrameView.write.Goals as goal
 
-pub returns-in_err-write_all-clause-begun : goal.returns-in_err-write_all-clause-begun
-returns-in_err-write_all-clause-begun g c =
+pub returns-in_err-write_magic-clause-begun : goal.returns-in_err-write_magic-clause-begun
+returns-in_err-write_magic-clause-begun g c =
     let p = err_from_is_err_and c.from_residual.result c.from_residual.ensures.1 in
-    rw p.1 (magic_begins _ _ (contents_in (view_of c.args.self.now)) c.in_err-write_all.ensures.err)
+    rw p.1 (magic_begins _ _ (contents_in (view_of c.args.self.now)) c.in_err-write_magic.ensures.err.1)
 
 pub frames-preserved : goal.frames-preserved
 frames-preserved g c =

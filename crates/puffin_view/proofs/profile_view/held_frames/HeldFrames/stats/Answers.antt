@@ -1,7 +1,8 @@
 use Rattle.std.proofs.Common.{ap, ◌∙◌}
 use Rattle.puffin_view.specs.View.Stats.{stats_of}
+use Rattle.puffin_view.specs.inner.Rows.{rows_of}
 use Rattle.puffin_view.proofs.HoldingViews.{stats_summed}
 use Rattle.puffin_view.proofs.profile_view.held_frames.HeldFrames.stats.Goals as goal
 
 pub returns : goal.returns
-returns c = c.stats.ensures ∙ stats_summed c.self.inside.frames.entries c.self.inside.sums c.self.invariant ∙ ap (λ m. stats_of (Rattle.std.specs.FinMap.values m)) c.self.view_is
+returns c = c.stats.ensures ∙ stats_summed (rows_of c.self.inside.frames) c.self.inside.sums c.self.invariant ∙ ap (λ m. stats_of (Rattle.std.specs.FinMap.values m)) c.self.view_is

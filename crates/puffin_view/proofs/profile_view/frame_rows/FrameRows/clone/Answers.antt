@@ -1,0 +1,7 @@
+use Rattle.puffin_view.proofs.RowPlaces.{zipped}
+use Rattle.puffin_view.proofs.profile_view.frame_rows.FrameRows.clone.Goals as goal
+
+pub returns-clause-ok : goal.returns-clause-ok
+returns-clause-ok c =
+    let s = c.args.self.now in
+    zipped s.older.entries c.in_ok-clone.field-0.entries s.newest.items c.in_ok-clone-2.field-0.items c.in_ok-clone.ensures.cases c.in_ok-clone-2.ensures.cases.0

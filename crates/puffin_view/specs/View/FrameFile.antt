@@ -1,0 +1,87 @@
+-- Files of frames that are read and written one frame at a time.
+use Rattle.std.specs.Prelude.{◌≡◌, ◌<◌, ℕ, Bool, true, false, List, [], ◌∷◌, ◌++◌, Option, Some, None, Result, Ok, Err, length}
+use Rattle.std.specs.Io.KnownBytes.{Consumes, Appends}
+use Rattle.puffin_data.specs.declared.file_error.FileError.{FileError}
+use Rattle.puffin_data.specs.Device.{FromDevice, FailsAt}
+use Rattle.puffin_data.specs.Part.{◌>>=◌}
+use Rattle.puffin_frames.specs.declared.frame_data.frame.FrameData.{FrameData}
+use Rattle.puffin_frames.specs.Packet.Stored.{Said, Stored}
+use Rattle.puffin_frames.specs.Packet.Front.{next_at, AtEnd}
+use Rattle.puffin_frames.specs.Packet.Next.{stored_of}
+use Rattle.puffin_frames.specs.Packet.Grammar.{packet}
+use Rattle.puffin_view.specs.View.File.{magic, file_of, with_ids}
+
+-- ---- reading
+
+abbrev pub frame_with_ids : Option Stored → List ℕ → Result (Option Stored × List ℕ) FileError
+frame_with_ids None rest = Ok (None, rest)
+frame_with_ids (Some s) rest = do
+  frame ← with_ids s
+  Ok (Some frame, rest)
+
+-- The next frame and the bytes after it, none at the end, or the first fault: also where some of the frame's details have no id.
+abbrev pub frame_at : List ℕ → Result (Option Stored × List ℕ) FileError
+frame_at bytes = do
+  next ← next_at bytes
+  frame_with_ids next.0 next.1
+
+-- A call took bytes from a device: those of the frame that it returned, whatever follows; or the device is at its end; or the bytes that were taken have this fault.
+abbrev pub GivesNext : Option (List ℕ) → Option (List ℕ) → Result (Option FrameData) FileError →
+    Type 0
+GivesNext old new (Ok (Some frame)) =
+    FromDevice {X = FrameData} (λ f. Some (stored_of f)) old new (Ok frame) frame_at
+GivesNext old new (Ok None) = AtEnd old new
+GivesNext old new (Err e) = FailsAt e old new frame_at
+
+-- the bytes are those of these frames, one behind the other: each is read from its own bytes, whatever follows them
+abbrev pub AreGiven : List ℕ → List Stored → Type 0
+AreGiven bytes [] = bytes ≡ []
+AreGiven bytes (s ∷ frames) =
+    (front : List ℕ)
+    × (others : List ℕ)
+    × (bytes ≡ front ++ others)
+    × ((rest : List ℕ) → frame_at (front ++ rest) ≡ Ok (Some s, rest))
+    × AreGiven others frames
+
+-- The four letters of a file and these frames were taken of a device, and nothing else.
+pub record HasGiven (old new : Option (List ℕ)) (frames : List Stored) : Type 0 where
+  pub bytes : List ℕ
+  pub consumed : Consumes old new (magic ++ bytes)
+  pub given : AreGiven bytes frames
+
+-- ---- writing
+
+-- the device got the file of these frames
+abbrev pub HoldsFile : Option (List ℕ) → Option (List ℕ) → List Said → Type 0
+HoldsFile old new cs = Appends old new (file_of cs)
+
+-- the device got the file of these frames, and a beginning of one more packet
+abbrev pub HoldsBegun : Option (List ℕ) → Option (List ℕ) → List Said → Said → Type 0
+HoldsBegun old new cs c =
+    (front : List ℕ) × (rest : List ℕ) × (packet c ≡ front ++ rest)
+    × Appends old new (file_of cs ++ front)
+
+-- What a device holds of the frames written so far: their file, and where a write broke off a beginning of one packet more.
+abbrev pub HoldsSoFar : Bool → Option (List ℕ) → Option (List ℕ) → List Said → Type 0
+HoldsSoFar false old new cs = HoldsFile old new cs
+HoldsSoFar true old new cs = (c : Said) × HoldsBegun old new cs c
+
+-- the frames written so far, after a call that wrote one more or was refused
+abbrev pub written_after : Result (Unit {0}) FileError → List Said → Said → List Said
+written_after (Ok done) cs c = cs ++ c ∷ []
+written_after (Err e) cs c = cs
+
+-- ---- files that were cut
+
+-- What is left of a packet that was cut: some of its bytes, and not all. Of no packet nothing is left.
+abbrev pub IsLeftOf : List ℕ → List Said → Type 0
+IsLeftOf left [] = left ≡ []
+IsLeftOf left (c ∷ cs) = (lost : List ℕ) × (packet c ≡ left ++ lost) × (0 < length lost)
+
+-- A file of frames was cut: the file of those that are whole is left, and what is left of the packet of the next one.
+pub record IsCut (cs : List Said) (bytes : List ℕ) (whole : List Said) : Type 0 where
+  pub lost : List Said
+  pub in_order : cs ≡ whole ++ lost
+  pub left : List ℕ
+  pub split : bytes ≡ file_of whole ++ left
+  pub begun : IsLeftOf left lost

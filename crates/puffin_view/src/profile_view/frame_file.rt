@@ -1,0 +1,306 @@
+//! Files of frames, one frame at a time.
+
+ghost use Rattle.std.specs.Prelude.{◌≡◌, ◌≢◌, ◌⊎◌, ◌+◌, ◌-◌, ◌^◌, ◌<◌, ◌++◌, ◌∷◌, [], List, ℕ, false, true, Option, None, length, Err, Ok, IfOk, IfErr, IfSome, IfNone, OnOk};
+ghost use Rattle.std.specs.List.{list_any};
+ghost use Rattle.std.specs.Arc.{arc_value};
+ghost use Rattle.std.specs.Io.KnownBytes.{Appends, Consumes};
+ghost use Rattle.puffin_data.specs.declared.file_error.FileError.{FileError};
+ghost use Rattle.puffin_data.specs.Device.{TookNothing, WritesBeginning, failures_after, is_io};
+ghost use Rattle.puffin_threads.specs.Details.{details_of, lacks_id};
+ghost use Rattle.puffin_frames.specs.Packet.Stored.{Said, Stored};
+ghost use Rattle.puffin_frames.specs.Packet.Next.{stored_of, IsFresh};
+ghost use Rattle.puffin_frames.specs.Packet.Grammar.{IsPacked, packet};
+ghost use Rattle.puffin_frames.specs.Packet.Writing.{HasLongPart, WritesPacket};
+ghost use Rattle.puffin_frames.specs.Frame.Contents.{frame_says};
+ghost use Rattle.puffin_view.specs.View.Known.{lacks_ids};
+ghost use Rattle.puffin_view.specs.View.File.{magic, begins_file, file_at, TookFrames, FailsToRead};
+ghost use Rattle.puffin_view.specs.View.FrameFile.{GivesNext, HasGiven, HoldsFile, HoldsBegun, HoldsSoFar, written_after};
+
+use puffin_data::data::{Drain, Source, read_up_to, write_all};
+use puffin_data::{Error, FileError};
+use puffin_frames::frame_data::FrameData;
+use puffin_frames::scope_details::ScopeDetails;
+use std::alloc::Global;
+use std::sync::Arc;
+
+/// Whether these letters begin a file.
+fn is_magic(letters: [u8; 4]) -> bool
+    ensures { result ≡ begins_file letters }
+{
+    letters[0] == b'P' && letters[1] == b'U' && letters[2] == b'F' && letters[3] == b'0'
+}
+
+/// Reads the four letters that a file begins with, as [`FrameReader::new`] does, of a borrowed reader.
+pub fn read_magic<S: Source>(source: &mut S) -> Result<(), FileError>
+    requires { S.failures source.old < 2 ^ 64 - 1 }
+    ensures begun { OnOk result (
+        HasGiven (S.remaining source.old) (S.remaining source.new) []) }
+    ensures err { IfErr result (λ e.
+        FailsToRead file_at (S.remaining source.old) (S.remaining source.new) e) }
+    ensures cause { IfErr result (λ e. (e ≡ FileError.NoMagic) ⊎ (e ≡ FileError.Io)) }
+    ensures failures { S.failures source.new ≡ failures_after (S.failures source.old) result }
+{
+    let mut letters = [0; 4];
+    if read_up_to(source, &mut letters)? < 4 {
+        return Err(FileError::NoMagic);
+    }
+    if is_magic(letters) {
+        Ok(())
+    } else {
+        Err(FileError::NoMagic)
+    }
+}
+
+/// Whether some of these details have no id.
+fn any_lacks_id(details: &[Arc<ScopeDetails>]) -> bool
+    ensures { result ≡ list_any (λ d. lacks_id (details_of (arc_value d))) details.now }
+{
+    details.iter().any(|details| details.scope_id().is_none())
+}
+
+/// Reads the next frame, if all of its details have ids.
+fn checked_frame<S: Source>(alloc: Global, source: &mut S) -> Result<Option<FrameData>, FileError>
+    requires { S.failures source.old < 2 ^ 64 - 1 }
+    ensures next { GivesNext (S.remaining source.old) (S.remaining source.new) result }
+    ensures ids { IfOk result (λ next. IfSome next (λ frame.
+        lacks_ids (frame_says frame) ≡ false)) }
+    ensures fresh { IfOk result (λ next. IfSome next IsFresh) }
+    ensures failures { S.failures source.new ≡ failures_after (S.failures source.old) result }
+{
+    let Some(frame) = FrameData::read_next(alloc, source)? else {
+        return Ok(None);
+    };
+    if any_lacks_id(&frame.scope_delta) {
+        return Err(FileError::Refused(Error::MissingId));
+    }
+    Ok(Some(frame))
+}
+
+/// Reads the next frame of a borrowed reader, behind [`read_magic`]. Returns and refuses as [`FrameReader::next`].
+pub fn next_frame<S: Source>(alloc: Global, source: &mut S) -> Result<Option<FrameData>, FileError>
+    requires { S.failures source.old < 2 ^ 64 - 1 }
+    ensures given { IfOk result (λ next. IfSome next (λ frame.
+        (old : Option (List ℕ)) (frames : List Stored) →
+        HasGiven old (S.remaining source.old) frames →
+        HasGiven old (S.remaining source.new) (frames ++ stored_of frame ∷ []))) }
+    ensures end { IfOk result (λ next. IfNone next (
+        (old : Option (List ℕ)) (frames : List Stored) →
+        HasGiven old (S.remaining source.old) frames → length frames < 2 ^ 64 - 1 →
+        TookFrames file_at old (S.remaining source.new) frames)) }
+    ensures fault { IfErr result (λ e. (old : Option (List ℕ)) (frames : List Stored) →
+        HasGiven old (S.remaining source.old) frames → length frames < 2 ^ 64 - 1 →
+        FailsToRead file_at old (S.remaining source.new) e) }
+    // The same of this call alone.
+    ensures next { GivesNext (S.remaining source.old) (S.remaining source.new) result }
+    ensures ids { IfOk result (λ next. IfSome next (λ frame.
+        lacks_ids (frame_says frame) ≡ false)) }
+    ensures fresh { IfOk result (λ next. IfSome next IsFresh) }
+    ensures failures { S.failures source.new ≡ failures_after (S.failures source.old) result }
+{
+    checked_frame(alloc, source)
+}
+
+/// Writes the letters that a file begins with.
+pub(super) fn write_magic<D: Drain>(drain: &mut D) -> Result<(), FileError>
+    requires { D.failures drain.old < 2 ^ 64 - 1 }
+    ensures ok { OnOk result (Appends (D.contents drain.old) (D.contents drain.new) magic) }
+    ensures err { IfErr result (λ e.
+        (e ≡ FileError.Io)
+        × WritesBeginning (D.contents drain.old) (D.contents drain.new) magic
+        × ((D.failures drain.new ≡ D.failures drain.old + 1) ⊎ TookNothing D.takes drain.new)) }
+    ensures failures { OnOk result (D.failures drain.new ≡ D.failures drain.old) }
+{
+    write_all(drain, b"PUF0")
+}
+
+/// Reads a file one frame at a time, in the memory of one frame.
+///
+/// ```
+/// let mut reader = FrameReader::new(alloc, Counted::new(File::open(&rt, "frames.puffin")?))?;
+/// while let Some(frame) = reader.next()? {
+///     println!(rt; "{}", frame.frame_index())?;
+/// }
+/// ```
+#[derive(Drop)]
+pub struct FrameReader<S: Source> {
+    alloc: Global,
+    source: S,
+    /// After the end or a fault.
+    is_done: bool,
+    ghost countable: { is_done ≡ false → S.failures source < 2 ^ 64 - 1 },
+}
+
+impl<S: Source> FrameReader<S> {
+    ghost use Rattle.puffin_view.specs.View.FrameDevices.{source_of, is_done_of, ends_reading};
+
+    /// Reads the four letters that a file begins with.
+    ///
+    /// Refused with `NoMagic` where there are fewer than four bytes, or others than `PUF0`, and with `Io` where a read
+    /// failed. The reader is then dropped; how far it was read is unspecified.
+    pub fn new(alloc: Global, source: S) -> Result<FrameReader<S>, FileError>
+    where
+        S: Drop,
+        requires { S.failures source < 2 ^ 64 - 1 }
+        ensures begun { IfOk result (λ reader.
+            HasGiven (S.remaining source) (S.remaining (source_of reader)) []) }
+        // what a refusal left of the reader that was dropped
+        ensures err { IfErr result (λ e.
+            (dropped : S)
+            × FailsToRead file_at (S.remaining source) (S.remaining dropped) e
+            × (S.failures dropped ≡ failures_after (S.failures source) result)) }
+        ensures cause { IfErr result (λ e. (e ≡ FileError.NoMagic) ⊎ (e ≡ FileError.Io)) }
+        ensures failures { IfOk result (λ reader.
+            S.failures (source_of reader) ≡ S.failures source) }
+        ensures not_done { IfOk result (λ reader. is_done_of reader ≡ false) }
+    {
+        let mut source = source;
+        read_magic(&mut source)?;
+        Ok(FrameReader {
+            alloc,
+            source,
+            is_done: false,
+        })
+    }
+
+    /// Returns the next frame, or `None` at the end: where fewer than four bytes are left, or four zeros stand.
+    ///
+    /// Fails as [`FrameData::read_next`], and with `Refused(MissingId)` if some of the frame's details have no id. How far
+    /// it read is then unspecified. After the end or a fault each call returns `None`, and reads nothing.
+    pub fn next(&mut self) -> Result<Option<FrameData>, FileError>
+        // A reader that has given the frames of a file up to here has given this one too.
+        ensures given { IfOk result (λ next. IfSome next (λ frame.
+            (old : Option (List ℕ)) (frames : List Stored) →
+            HasGiven old (S.remaining (source_of self.old)) frames →
+            HasGiven old (S.remaining (source_of self.new)) (frames ++ stored_of frame ∷ []))) }
+        // At the end these are all frames of the file, as when it is read at once.
+        ensures end { IfOk result (λ next. IfNone next (
+            is_done_of self.old ≡ false →
+            (old : Option (List ℕ)) (frames : List Stored) →
+            HasGiven old (S.remaining (source_of self.old)) frames →
+            length frames < 2 ^ 64 - 1 →
+            TookFrames file_at old (S.remaining (source_of self.new)) frames)) }
+        // A refusal is that of reading the file at once.
+        ensures fault { IfErr result (λ e. (old : Option (List ℕ)) (frames : List Stored) →
+            HasGiven old (S.remaining (source_of self.old)) frames →
+            length frames < 2 ^ 64 - 1 →
+            FailsToRead file_at old (S.remaining (source_of self.new)) e) }
+        // It goes on behind a frame, and behind nothing else.
+        ensures goes_on { is_done_of self.new ≡ ends_reading result }
+        ensures done { is_done_of self.old ≡ true →
+            (result ≡ Ok None) × (self.new ≡ self.old) }
+
+        // The same of this call alone.
+        ensures next { is_done_of self.old ≡ false → GivesNext
+            (S.remaining (source_of self.old)) (S.remaining (source_of self.new)) result }
+        ensures ids { IfOk result (λ next. IfSome next (λ frame.
+            lacks_ids (frame_says frame) ≡ false)) }
+        ensures fresh { IfOk result (λ next. IfSome next IsFresh) }
+        ensures failures { S.failures (source_of self.new)
+            ≡ failures_after (S.failures (source_of self.old)) result }
+    {
+        if self.is_done {
+            return Ok(None);
+        }
+        let next = next_frame(self.alloc, &mut self.source);
+        self.is_done = !matches!(next, Ok(Some(_)));
+        next
+    }
+
+    /// Returns the reader, which stands behind what was read of it.
+    pub fn into_source(self) -> S
+        ensures { result ≡ source_of self }
+    {
+        self.source
+    }
+}
+
+/// Writes a file one frame at a time.
+///
+/// ```
+/// let mut writer = FrameWriter::new(Counted::new(File::create(&rt, "frames.puffin")?))?;
+/// writer.write(&frame)?;
+/// ```
+#[derive(Drop)]
+pub struct FrameWriter<D: Drain> {
+    drain: D,
+    /// After a write that failed in the middle of a packet.
+    is_broken: bool,
+    ghost countable: { is_broken ≡ false → D.failures drain < 2 ^ 64 - 1 },
+}
+
+impl<D: Drain> FrameWriter<D> {
+    ghost use Rattle.puffin_view.specs.View.FrameDevices.{drain_of, is_broken_of};
+
+    /// Writes the four letters that a file begins with.
+    ///
+    /// Refused with `Io` alone, where a write failed or took nothing of a piece that wasn't empty. The writer, to which a
+    /// beginning of the letters is written, is then dropped.
+    pub fn new(drain: D) -> Result<FrameWriter<D>, FileError>
+    where
+        D: Drop,
+        requires { D.failures drain < 2 ^ 64 - 1 }
+        ensures begun { IfOk result (λ writer.
+            HoldsFile (D.contents drain) (D.contents (drain_of writer)) []) }
+        // what a refusal left of the writer that was dropped
+        ensures err { IfErr result (λ e.
+            (dropped : D)
+            × WritesBeginning (D.contents drain) (D.contents dropped) magic
+            × ((D.failures dropped ≡ D.failures drain + 1) ⊎ TookNothing D.takes dropped)) }
+        ensures cause { IfErr result (λ e. e ≡ FileError.Io) }
+        ensures failures { IfOk result (λ writer.
+            D.failures (drain_of writer) ≡ D.failures drain) }
+        ensures not_broken { IfOk result (λ writer. is_broken_of writer ≡ false) }
+    {
+        let mut drain = drain;
+        write_magic(&mut drain)?;
+        Ok(FrameWriter {
+            drain,
+            is_broken: false,
+        })
+    }
+
+    /// Appends a frame, as one packet with its own `scope_delta`.
+    ///
+    /// Fails as [`FrameData::write_into`]. After `Io` a beginning of the packet is written; each further call then fails with
+    /// `Io` and writes nothing, since what stands behind a packet that was cut is never read. After another error the
+    /// writer is unchanged.
+    pub fn write(&mut self, frame: &FrameData) -> Result<(), FileError>
+        // After each call the device holds the frames written so far, and nothing behind them but
+        // a beginning of one packet where the writer is broken.
+        ensures so_far { (old : Option (List ℕ)) (cs : List Said) →
+            HoldsSoFar (is_broken_of self.old) old (D.contents (drain_of self.old)) cs →
+            HoldsSoFar (is_broken_of self.new) old (D.contents (drain_of self.new))
+            (written_after result cs (frame_says frame.now)) }
+        ensures breaks { is_broken_of self.new ≡ is_io result }
+        ensures broken { is_broken_of self.old ≡ true →
+            (result ≡ Err FileError.Io) × (self.new ≡ self.old) }
+        ensures written { OnOk result ((old : Option (List ℕ)) (cs : List Said) →
+            HoldsFile old (D.contents (drain_of self.old)) cs →
+            HoldsFile old (D.contents (drain_of self.new)) (cs ++ frame_says frame.now ∷ [])) }
+        ensures begun { IfErr result (λ e. (old : Option (List ℕ)) (cs : List Said) →
+            HoldsFile old (D.contents (drain_of self.old)) cs →
+            HoldsBegun old (D.contents (drain_of self.new)) cs (frame_says frame.now)) }
+        ensures unchanged { IfErr result (λ e. e ≢ FileError.Io → self.new ≡ self.old) }
+        // What is written is read again.
+        ensures packed { OnOk result (IsPacked (frame_says frame.now)) }
+
+        // The same of this call alone.
+        ensures packet { is_broken_of self.old ≡ false → WritesPacket D.contents D.failures D.takes
+            (drain_of self.old) (drain_of self.new)
+            (packet (frame_says frame.now)) (HasLongPart (frame_says frame.now)) result }
+    {
+        if self.is_broken {
+            return Err(FileError::Io);
+        }
+        let written = frame.write_into(None, &mut self.drain);
+        self.is_broken = matches!(written, Err(FileError::Io));
+        written
+    }
+
+    /// Returns the writer.
+    pub fn into_drain(self) -> D
+        ensures { result ≡ drain_of self }
+    {
+        self.drain
+    }
+}

@@ -1,0 +1,201 @@
+//! Frames by rising index: the newest in a row, older ones in a map.
+ghost use Rattle.std.specs.Prelude.{◌≡◌, ◌<◌, ◌^◌, ◌∷◌, ◌++◌, [], None, length, IfNone, IfOk, IfErr, IfSome, IsSome, OnErr, OnOk, nat_eq, false};
+ghost use Rattle.std.specs.BTreeMap.{insert_entry, is_at};
+ghost use Rattle.std.specs.Iterator.{YieldsFirstBy, item_count};
+ghost use Rattle.std.specs.List.{AllZip, HoldsAt};
+ghost use Rattle.std.specs.List.Sorted.{IsStrictlySortedBy};
+ghost use Rattle.std.specs.Map.{keys_of, values_of, lookup, remove_entry};
+ghost use Rattle.std.specs.Option.{option_copied, option_map_or};
+ghost use Rattle.std.specs.Ordering.{nat_cmp};
+ghost use Rattle.std.specs.Arc.{arc_value};
+ghost use Rattle.puffin_data.specs.declared.error.Error.{Error};
+ghost use Rattle.puffin_view.specs.View.ViewedFrames.{index_of};
+ghost use Rattle.puffin_view.specs.View.FrameOf.{shared_frame};
+ghost use Rattle.puffin_view.specs.View.Listings.{frames_left};
+ghost use Rattle.puffin_view.specs.inner.Rows.{keyed, rows_of};
+
+use puffin_data::{Error, Result};
+use puffin_frames::frame_data::{FrameData, FrameIndex};
+use std::alloc::Global;
+use std::collections::{BTreeMap, VecDeque, btree_map, vec_deque};
+use std::mem;
+use std::sync::Arc;
+
+/// Frames, each once under its index: the newest in a row, and older ones in a map. Indices in the map are below those in the row.
+#[derive(Drop)]
+pub(crate) struct FrameRows {
+    older: BTreeMap<FrameIndex, Arc<FrameData>>,
+    newest: VecDeque<Arc<FrameData>>,
+}
+
+impl FrameRows {
+    /// Makes rows without frames. Allocates nothing.
+    pub fn new(alloc: Global) -> FrameRows
+        ensures { rows_of result ≡ [] }
+    {
+        FrameRows {
+            older: BTreeMap::new(alloc),
+            newest: VecDeque::new(alloc),
+        }
+    }
+
+    /// Returns the number of frames.
+    pub fn len(&self) -> u128
+        ensures len { result ≡ length (rows_of self.now) }
+        ensures small { result < 2 ^ 64 }
+    {
+        self.older.len() as u128 + self.newest.len() as u128
+    }
+
+    /// Returns the frame with this index.
+    pub fn get(&self, index: FrameIndex) -> Option<&Arc<FrameData>>
+        requires { IsStrictlySortedBy nat_cmp (keys_of (rows_of self.now)) }
+        ensures { option_copied result ≡ lookup (is_at (nat_cmp index)) (rows_of self.now) }
+    {
+        match place_in(&self.newest, index) {
+            Some(at) => self.newest.get(at),
+            None => self.older.get(&index),
+        }
+    }
+
+    /// Adds a frame behind all others. Fails only with `Memory`; nothing changes then.
+    pub fn push(&mut self, frame: Arc<FrameData>) -> Result<()>
+        ensures ok { OnOk result (
+            rows_of self.new
+            ≡ rows_of self.old ++ (index_of (shared_frame frame), frame) ∷ []) }
+        ensures err { OnErr result (rows_of self.new ≡ rows_of self.old) }
+        ensures cause { IfErr result (λ e. e ≡ Error.Memory) }
+    {
+        self.newest.reserve(1)?;
+        self.newest.push_back_reserved(frame);
+        Ok(())
+    }
+
+    /// Replaces the frame with this frame's index, which has to be there, and returns the old one.
+    pub fn replace(&mut self, frame: Arc<FrameData>) -> Option<Arc<FrameData>>
+        requires sorted { IsStrictlySortedBy nat_cmp (keys_of (rows_of self.old)) }
+        requires there { IsSome (
+            lookup (is_at (nat_cmp (index_of (shared_frame frame)))) (rows_of self.old)) }
+        ensures old { result
+            ≡ lookup (is_at (nat_cmp (index_of (shared_frame frame)))) (rows_of self.old) }
+        ensures entries { rows_of self.new
+            ≡ insert_entry nat_cmp (rows_of self.old) (index_of (shared_frame frame)) frame }
+    {
+        let index = frame.frame_index();
+        match place_in(&self.newest, index) {
+            Some(at) => Some(mem::replace(&mut self.newest[at], frame)),
+            None => match self.older.insert(index, frame) {
+                Ok(before) => before,
+                Err(_) => unreachable!(),
+            },
+        }
+    }
+
+    /// Removes the frame with this index, if there is one, and returns it.
+    pub fn remove(&mut self, index: FrameIndex) -> Option<Arc<FrameData>>
+        requires { IsStrictlySortedBy nat_cmp (keys_of (rows_of self.old)) }
+        ensures value { result ≡ lookup (is_at (nat_cmp index)) (rows_of self.old) }
+        ensures entries { rows_of self.new
+            ≡ remove_entry (is_at (nat_cmp index)) (rows_of self.old) }
+    {
+        match place_in(&self.newest, index) {
+            Some(at) => self.newest.remove(at),
+            None => self.older.remove(&index),
+        }
+    }
+
+    /// Moves the oldest frame of the row into the map. If there is no memory for that, it stays in the row.
+    pub fn set_aside(&mut self)
+        requires { IsStrictlySortedBy nat_cmp (keys_of (rows_of self.old)) }
+        ensures { rows_of self.new ≡ rows_of self.old }
+    {
+        let Some(frame) = self.newest.pop_front() else {
+            return;
+        };
+        let index = frame.frame_index();
+        if let Err(refused) = self.older.insert(index, frame) {
+            self.newest.push_front_reserved(refused.value.1);
+        }
+    }
+
+    /// Iterates over the frames by rising index.
+    pub fn iter(&self) -> FrameRowsIter<'_>
+        ensures { frames_left result ≡ values_of (rows_of self.now) }
+    {
+        FrameRowsIter {
+            older: self.older.values(),
+            newest: self.newest.iter(),
+        }
+    }
+
+    /// Returns a copy, which shares the frames. Fails only with `Memory`.
+    pub fn clone(&self) -> Result<FrameRows>
+        ensures ok { IfOk result (λ copy.
+            AllZip (λ p q. (q.0 ≡ p.0) × (arc_value q.1 ≡ arc_value p.1)) (rows_of self.now) (
+            rows_of copy)) }
+        ensures cause { IfErr result (λ e. e ≡ Error.Memory) }
+    {
+        Ok(FrameRows {
+            older: self.older.clone()?,
+            newest: self.newest.clone()?,
+        })
+    }
+}
+
+/// Returns the position of the frame with this index in a row. Tries two positions before it searches: the one that the frame has
+/// if no index before it was left out, and the last.
+fn place_in(row: &VecDeque<Arc<FrameData>>, index: FrameIndex) -> Option<usize>
+    requires { IsStrictlySortedBy nat_cmp (keys_of (keyed row.now.items)) }
+    ensures found { IfSome result (λ at.
+        (at < length row.now.items)
+        × HoldsAt (λ a. index_of (shared_frame a) ≡ index) row.now.items at) }
+    ensures none { IfNone result (
+        lookup (is_at (nat_cmp index)) (keyed row.now.items) ≡ None) }
+{
+    if let Some(first) = row.front() {
+        let at = index.saturating_sub(first.frame_index()) as usize;
+        if is_of(row.get(at), index) {
+            return Some(at);
+        }
+    }
+    if is_of(row.back(), index) {
+        return Some(row.len() - 1);
+    }
+    match row.binary_search_by_key(&index, |frame| frame.frame_index()) {
+        Ok(at) => Some(at),
+        Err(_) => None,
+    }
+}
+
+/// Returns whether there is a frame with this index.
+fn is_of(frame: Option<&Arc<FrameData>>, index: FrameIndex) -> bool
+    ensures { result
+        ≡ option_map_or (λ a. nat_eq (index_of (shared_frame a.now)) index) frame.entry false }
+{
+    match frame {
+        Some(frame) => frame.frame_index() == index,
+        None => false,
+    }
+}
+
+/// Iterates over frames in rows, by rising index.
+#[derive(Drop)]
+pub(crate) struct FrameRowsIter<'a> {
+    older: btree_map::Values<'a, FrameIndex, Arc<FrameData>>,
+    newest: vec_deque::Iter<'a, Arc<FrameData>>,
+}
+
+impl<'a> Iterator for FrameRowsIter<'a> {
+    type Item = &'a Arc<FrameData>;
+
+    ghost next_gives = { YieldsFirstBy (λ x. x.now) frames_left };
+
+    ghost remaining = { item_count frames_left };
+
+    fn next(&mut self) -> Option<&'a Arc<FrameData>> {
+        match self.older.next() {
+            Some(frame) => Some(frame),
+            None => self.newest.next(),
+        }
+    }
+}

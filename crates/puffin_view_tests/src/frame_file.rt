@@ -1,0 +1,245 @@
+//! Files that are read and written one frame at a time.
+
+ghost use Rattle.std.specs.Prelude.{◌≡◌};
+
+use crate::devices::Full;
+use crate::files::{FILE, Outcome, bytes_of, view};
+use puffin_data::data::{Counted, Drain, Source};
+use puffin_data::{Error, FileError};
+use puffin_frames::frame_data::{FrameData, FrameIndex};
+use puffin_view::profile_view::{FrameReader, FrameView, FrameWriter, next_frame, read_magic};
+use std::alloc::Global;
+use std::io;
+use std::io::{ErrorKind, Write};
+use std::test::Fail;
+
+/// Where the first frame of the file ends. The second one ends with the file.
+const ONE_FRAME: usize = 79;
+
+/// The index of a frame, where there is one.
+fn index_of(next: &Option<FrameData>) -> Option<FrameIndex> {
+    next.as_ref().map(|frame| frame.frame_index())
+}
+
+/// The indices of the frames that a reader gives of a file, and its refusal, or `None` at the end.
+fn given(
+    alloc: Global,
+    bytes: &[u8],
+) -> std::result::Result<(Vec<FrameIndex>, Option<FileError>), Fail> {
+    let mut reader = FrameReader::new(alloc, Counted::new(bytes))?;
+    let mut indices = Vec::new(alloc);
+    'frames: for _ in 0..3 {
+        match reader.next() {
+            Ok(Some(frame)) => indices.push(frame.frame_index())?,
+            Ok(None) => return Ok((indices, None)),
+            Err(fault) => return Ok((indices, Some(fault))),
+        }
+    }
+    Err(Fail::new("more frames than there are"))
+}
+
+/// A reader gives frames of these indices, and then this refusal or the end.
+fn are_given(
+    rt: &HostRuntime,
+    bytes: &[u8],
+    indices: &[FrameIndex],
+    refusal: Option<FileError>,
+) -> Outcome {
+    let (found, end) = given(rt.alloc(), bytes)?;
+    if found.as_slice() == indices && end == refusal {
+        Ok(())
+    } else {
+        Err(Fail::new("other frames or another end"))
+    }
+}
+
+#[test]
+fn a_file_is_read_one_frame_at_a_time(rt: HostRuntime) -> Outcome {
+    let bytes = bytes_of(&rt, &[&FILE[..ONE_FRAME], &[0, 0, 0, 0], b"more"])?;
+    let mut reader = FrameReader::new(rt.alloc(), Counted::new(bytes.as_slice()))?;
+    let first = reader.next()?;
+    assert!(rt; index_of(&first) == Some(0));
+    let end = reader.next()?;
+    assert!(rt; end.is_none());
+    let behind = reader.next()?;
+    assert!(rt; behind.is_none());
+    // What stands behind the end is left.
+    let mut source = reader.into_source();
+    let mut left = [0; 6];
+    let count = source.read(&mut left)?;
+    assert!(rt; (count, left) == (4, *b"more\0\0"));
+    Ok(())
+}
+
+#[test]
+fn frames_are_read_without_a_reader(rt: HostRuntime) -> Outcome {
+    let mut source = Counted::new(&FILE[..ONE_FRAME]);
+    read_magic(&mut source)?;
+    let first = next_frame(rt.alloc(), &mut source)?;
+    assert!(rt; index_of(&first) == Some(0));
+    let end = next_frame(rt.alloc(), &mut source)?;
+    assert!(rt; end.is_none());
+    assert!(rt; source.faults() == 0);
+    Ok(())
+}
+
+#[test]
+fn a_reader_begins_with_the_letters_of_a_file(rt: HostRuntime) -> Outcome {
+    for letters in [b"".as_slice(), b"PUF", b"PUF1", &FILE[4..]] {
+        let refused = FrameReader::new(rt.alloc(), Counted::new(letters)).err();
+        assert!(rt; refused == Some(FileError::NoMagic));
+    }
+    Ok(())
+}
+
+/// What a reader gives of the first so many bytes of the file.
+fn given_of_cut(len: usize) -> (&'static [FrameIndex], Option<FileError>) {
+    let whole: &[FrameIndex] = if len < ONE_FRAME {
+        &[]
+    } else if len < FILE.len() {
+        &[0]
+    } else {
+        &[0, 1]
+    };
+    let end = match whole.len() {
+        0 => 4,
+        1 => ONE_FRAME,
+        _ => FILE.len(),
+    };
+    // Fewer than four bytes behind the last whole frame are the end.
+    let refusal = if len < end + 4 {
+        None
+    } else {
+        Some(FileError::Truncated)
+    };
+    (whole, refusal)
+}
+
+#[test]
+fn a_file_that_is_cut_gives_its_whole_frames(rt: HostRuntime) -> Outcome {
+    for len in 4..FILE.len() + 1 {
+        let (whole, refusal) = given_of_cut(len);
+        are_given(&rt, &FILE[..len], whole, refusal)?;
+    }
+    Ok(())
+}
+
+#[test]
+fn a_fault_comes_behind_the_frames_before_it(rt: HostRuntime) -> Outcome {
+    let newer = bytes_of(&rt, &[&FILE[..ONE_FRAME], b"PFD9", &FILE[83..]])?;
+    are_given(&rt, &newer, &[0], Some(FileError::Newer))?;
+    let no_id = b"\x07\0\0\0\x01\0\0\x01f\0\0";
+    let missing = bytes_of(&rt, &[&FILE, &FILE[4..74], no_id, &FILE[4..]])?;
+    let refused = Some(FileError::Refused(Error::MissingId));
+    are_given(&rt, &missing, &[0, 1], refused)
+}
+
+#[test]
+fn a_reader_stops_at_a_fault(rt: HostRuntime) -> Outcome {
+    let bytes = bytes_of(&rt, &[b"PUF0PFD9", &FILE[4..]])?;
+    let mut reader = FrameReader::new(rt.alloc(), Counted::new(bytes.as_slice()))?;
+    let fault = reader.next().err();
+    assert!(rt; fault == Some(FileError::Newer));
+    // The frames behind the fault are left.
+    let behind = reader.next()?;
+    assert!(rt; behind.is_none());
+    Ok(())
+}
+
+/// Writes the frames of a view, one at a time.
+fn write_frames<D: Drain + Drop>(drain: D, view: &FrameView) -> std::result::Result<D, FileError>
+    requires { D.failures drain ≡ 0 }
+{
+    let mut writer = FrameWriter::new(drain)?;
+    'frames: for frame in view.recent_frames() {
+        writer.write(frame)?;
+    }
+    Ok(writer.into_drain())
+}
+
+#[test]
+fn a_file_is_written_one_frame_at_a_time(rt: HostRuntime) -> Outcome {
+    for len in [4, ONE_FRAME, FILE.len()] {
+        let view = view(&rt, &FILE[..len])?;
+        let mut bytes = Vec::new(rt.alloc());
+        let drain = write_frames(Counted::new(&mut bytes), &view)?;
+        assert!(rt; drain.faults() == 0);
+        assert!(rt; Some(bytes.as_slice()) == FILE.get(..len));
+    }
+    Ok(())
+}
+
+/// What is written of the file's frames to a writer that takes so much and then fails.
+fn written_to_full(rt: &HostRuntime, view: &FrameView, room: usize) -> (Vec<u8>, bool) {
+    let mut full = Full {
+        step: 5,
+        room,
+        failure: Some(ErrorKind::Other),
+        written: Vec::new(rt.alloc()),
+    };
+    let refused = write_frames(Counted::new(&mut full), view).is_err();
+    (full.written, refused)
+}
+
+#[test]
+fn a_refused_write_leaves_a_beginning_of_its_packet(rt: HostRuntime) -> Outcome {
+    let view = view(&rt, &FILE)?;
+    for room in 0..FILE.len() + 1 {
+        let (written, refused) = written_to_full(&rt, &view, room);
+        assert!(rt; refused == (room < FILE.len()));
+        assert!(rt; Some(written.as_slice()) == FILE.get(..room));
+    }
+    Ok(())
+}
+
+/// A writer that fails at most once, at this call.
+#[derive(Drop)]
+struct Flaky {
+    calls: usize,
+    written: Vec<u8>,
+}
+
+impl Write for Flaky {
+    fn write(&mut self, buf: &[u8]) -> io::Result<usize> {
+        let calls = self.calls;
+        self.calls = calls.wrapping_sub(1);
+        if calls == 0 || self.written.extend_from_slice(buf).is_err() {
+            return Err(io::Error::from(ErrorKind::Other));
+        }
+        Ok(buf.len())
+    }
+
+    fn flush(&mut self) -> io::Result<()> {
+        Ok(())
+    }
+}
+
+/// What is refused where two frames are written to such a writer.
+fn refused_by(
+    flaky: &mut Flaky,
+    view: &FrameView,
+) -> std::result::Result<Vec<Option<FileError>>, Fail> {
+    let mut refused = Vec::new(*flaky.written.allocator());
+    let mut writer = FrameWriter::new(Counted::new(flaky))?;
+    for frame in view.recent_frames() {
+        refused.push(writer.write(frame).err())?;
+    }
+    Ok(refused)
+}
+
+#[test]
+fn nothing_is_written_behind_a_packet_that_was_cut(rt: HostRuntime) -> Outcome {
+    let view = view(&rt, &FILE)?;
+    // The letters are the first call, and the second call of the first packet fails.
+    let mut flaky = Flaky {
+        calls: 2,
+        written: Vec::new(rt.alloc()),
+    };
+    let refused = refused_by(&mut flaky, &view)?;
+    let io = Some(FileError::Io);
+    assert!(rt; refused.as_slice() == [io, io].as_slice());
+    let len = flaky.written.len();
+    assert!(rt; len < ONE_FRAME);
+    assert!(rt; Some(flaky.written.as_slice()) == FILE.get(..len));
+    Ok(())
+}
