@@ -1,4 +1,4 @@
--- The promise in one: what was reported under a thread's start and name is read again, in the frames that a view keeps, and nothing else is.
+-- The whole promise: each emitted frame spells what was due, and the file that is read again has the kept frames.
 use Rattle.std.specs.Prelude.{◌≡◌, ◌⊎◌, ℕ, ◌^◌, ◌-◌, Bool, true, false, if◌then◌else◌, List, [], ◌∷◌, ◌++◌, map, Option, Some, None}
 use Rattle.std.specs.List.{AllZip, Any, filter, flat_map, list_any}
 use Rattle.std.specs.FinMap.{values}
@@ -42,7 +42,7 @@ before_frames done [] = []
 before_frames done (a ∷ later) =
     (if is_emitted a then done ∷ [] else []) ++ before_frames (done ++ (a ∷ [])) later
 
--- What a frame says that was emitted after these actions. It has a stream under just those starts and names of threads under which scopes were reported since the frame before, and each spells these scopes and no others, in order, with their true count, depth and range. Its meta is that of all of them, with the next index, and it tells of the scope details that were due.
+-- What a frame says that was emitted after these actions. It has a stream exactly under those starts and names of threads under which scopes were reported since the frame before, and each spells exactly these scopes, in order, with their true count, depth and range. Its meta is that of all of them, with the next index, and it lists the scope details that were due.
 pub record SaysDue (o : Opening) (done : List Action) (frame : Said) : Type 0 where
   pub streams : Streams
   pub unpacked : streams_in (
@@ -56,7 +56,7 @@ pub record SaysDue (o : Opening) (done : List Action) (frame : Said) : Type 0 wh
 abbrev pub frames_said : List Reply → List Said
 frames_said replies = map contents_of (frames_emitted replies)
 
--- the last n of frames whose indices rise, and the k slowest of them: each once, in their order
+-- the last n frames of a list with rising indices, and its k slowest: each once, in the list's order
 abbrev pub kept_frames : ℕ → ℕ → List Said → List Said
 kept_frames n k cs =
     filter (λ c. has (frame_index c) (map frame_index (last_of n cs ++ slowest k cs))) cs
@@ -66,16 +66,16 @@ kept_frames n k cs =
 -- A session ran these commands, from start to end, with these replies, and emitted what was due.
 pub record EmitsDue (start end : SessionState) (commands : List Command) (replies : List Reply) :
     Type 0 where
-  -- each command got a reply that it may get after those before it, be it a refusal
+  -- each command got a reply that it may get after those before it, possibly a refusal
   pub run : Records start end commands replies
-  -- each action that emitted a frame has its own frame, in order, and that says what was due by all that the session held before and by what was done since
+  -- each action that emitted a frame has its own frame, in order, which says what was due by the session's state before and by what was done since then
   pub due : AllZip (SaysDue (opening_of start))
       (before_frames [] (actions_of commands replies run.learnt)) (frames_said replies)
   pub rising : is_rising (frames_said replies) ≡ true
 
 -- ---- what is read
 
--- A view that was read of the file of these frames has them and no others, with the limits of a view that is read, and knows the details that they tell and nothing else.
+-- A view read from the file of these frames has exactly them, with the limits of a view that is read, and knows exactly the details that they list.
 pub record IsReadOf (cs : List Said) (read : FrameView) : Type 0 where
   pub recent : map contents_of (view_of read).recent ≡ cs
   pub slow : map contents_of (view_of read).slow ≡ slowest 256 cs
@@ -83,23 +83,23 @@ pub record IsReadOf (cs : List Said) (read : FrameView) : Type 0 where
   pub max_recent : (view_of read).max_recent ≡ 2 ^ 64 - 1
   pub max_slow : (view_of read).max_slow ≡ 256
   pub packs : (view_of read).packs ≡ true
-  -- all of it at once, and how each frame is held: a view that is read took a packet of each
+  -- all of it at once, and how each frame is held: a view that is read took each frame from its packet
   pub frames : view_of read ≡ after_all read_view (map frame_stored (map packed cs))
   pub known : collection_of read
       ≡ with_all_details no_details (flat_map (λ (c : Said). c.details) cs)
 
 -- ---- the promise
 
--- Commands were run in a session, with these replies, a view took the emitted frames after those that it held, and another view was read of its file.
+-- Commands were run in a session, with these replies; a view took the emitted frames after those that it held; and another view was read from its file.
 pub record KeepsRun (start end : SessionState) (commands : List Command) (old new : FrameView)
     (replies : List Reply) (read : FrameView) : Type 0 where
   pub emits : EmitsDue start end commands replies
   pub taken : Takes (frames_emitted replies) old new
   pub took : TookAlso (frames_emitted replies) (view_of old) (view_of new)
-  -- what is read are the frames of the view, and nothing else
+  -- exactly the frames of the view are read
   pub again : IsReadOf (contents_in (view_of new)) read
 
--- The same of a new session of threads with these names and forms, and of a new view with these limits: what is read are the last and the slowest of the emitted frames, and nothing else.
+-- The same for a new session of threads with these names and forms, and a new view with these limits: exactly the last and the slowest of the emitted frames are read.
 pub record KeepsPromise (threads : List (List ℕ × Form)) (commands : List Command)
     (max_recent max_slow : ℕ) (replies : List Reply) (read : FrameView) : Type 0 where
   pub end : SessionState
@@ -108,7 +108,7 @@ pub record KeepsPromise (threads : List (List ℕ × Form)) (commands : List Com
 
 -- ---- why nothing is read
 
--- Why the file of a view isn't written into memory or read again: for want of memory; or a part of a frame that the view has is too long; or details of a frame that it held before have no id.
+-- Why the file of a view can't be written into memory or read back: memory runs out; or a part of a frame in the view is too long; or details of a frame that it held before have no id.
 abbrev pub IsFileFault : FrameView → FrameView → FileError → Type 0
 IsFileFault old new fault =
     (fault ≡ file.Memory)
@@ -116,9 +116,9 @@ IsFileFault old new fault =
     ⊎ ((fault ≡ file.Refused MissingId)
     × (list_any lacks_ids (contents_held (view_of old)) ≡ true))
 
--- A session went from start to end, and a view from old to new. What is told are the replies of the run that was made.
+-- A session went from start to end, and a view from old to new. `told` are the replies of the run that was made.
 module _ (start end : SessionState) (commands : List Command) (old new : FrameView) where
-  -- there was no memory to run the commands, and nothing is changed
+  -- there was no memory to run the commands, and nothing changed
   abbrev pub IsNotRun : FileError → Option (List Reply) → Type 0
   IsNotRun fault told = (fault ≡ file.Memory) × (told ≡ None) × (end ≡ start) × Takes [] old new
 
@@ -131,7 +131,7 @@ module _ (start end : SessionState) (commands : List Command) (old new : FrameVi
       × TakesSome (frames_emitted replies) old new
       × (fault ≡ file.Memory)
 
-  -- the commands were run and the view took all frames of the run, but its file wasn't read
+  -- the commands were run and the view took all frames of the run, but its file couldn't be read back
   abbrev pub IsNotRead : FileError → Option (List Reply) → Type 0
   IsNotRead fault told =
       (replies : List Reply)
@@ -144,7 +144,7 @@ module _ (start end : SessionState) (commands : List Command) (old new : FrameVi
   abbrev pub IsUnread : FileError → Option (List Reply) → Type 0
   IsUnread fault told = IsNotRun fault told ⊎ IsNotTaken fault told ⊎ IsNotRead fault told
 
--- Of the run that was made, whose replies are told: a frame that is kept has a part that is too long to be written.
+-- In the run with these replies, a frame that is kept has a part that is too long to be written.
 abbrev pub IsTooLong : List (List ℕ × Form) → List Command → ℕ → ℕ → Option (List Reply) → Type 0
 IsTooLong threads commands max_recent max_slow told =
     (replies : List Reply)

@@ -1,4 +1,4 @@
--- What a script asks for.
+-- The commands of a script.
 pub mod Statements
 use Rattle.std.specs.Prelude.{◌≡◌, ℕ, ◌+◌, ◌==◌, List, [], ◌∷◌, ◌++◌, map, Bool, true, false, Option, Some, None, option_map, Result, Ok, Err, if◌then◌else◌, slice_get}
 use Rattle.std.specs.List.{slice_split, list_any, filter}
@@ -18,7 +18,7 @@ use Rattle.puffin_replay.specs.declared.replay.script.Script.{Script}
 abbrev pub is_line_feed : ℕ → Bool
 is_line_feed byte = byte == 10
 
--- the lines of a script, without their line feeds; behind the last line feed stands a line that may be empty
+-- the lines of a script, without their line feeds; after the last line feed comes a line that may be empty
 abbrev pub lines_in : List ℕ → List (List ℕ)
 lines_in bytes = slice_split is_line_feed bytes
 
@@ -31,7 +31,7 @@ abbrev pub meaning_or_number : ℕ → Option Meaning → Result (Option Meaning
 meaning_or_number number None = Err number
 meaning_or_number number (Some s) = Ok (Some s)
 
--- what a line with this number says, unless it is skipped; or the number, where it isn't text or says nothing that is known
+-- the meaning of a line with this number, unless it is skipped; or the number, if the line isn't text or isn't valid
 unfoldable pub told_by : ℕ → List ℕ → Result (Option Meaning) ℕ
 told_by number line =
     if is_utf8 line
@@ -49,7 +49,7 @@ thread_named_by (ends thread at) = Some thread
 thread_named_by (registers thread name function file line) = Some thread
 thread_named_by _ = None
 
--- a name comes behind the others where it is new
+-- a new name is appended to the others
 abbrev pub with_name : List (List ℕ) → List ℕ → List (List ℕ)
 with_name names name = if list_any (bytes_eq name) names then names else names ++ name ∷ []
 
@@ -60,17 +60,17 @@ with_if_named names (Some name) = with_name names name
 abbrev pub with_thread_of : List (List ℕ) → Meaning → List (List ℕ)
 with_thread_of names s = with_if_named names (thread_named_by s)
 
--- the threads' names in the order in which they appear first, behind those that were there
+-- the threads' names, in the order of their first lines, after those that were there
 abbrev pub threads_after : List (List ℕ) → List (ℕ × Meaning) → List (List ℕ)
 threads_after names [] = names
 threads_after names (s ∷ ss) = threads_after (with_thread_of names s.1) ss
 
--- the form that a thread's texts have where this is its first line
+-- the form of a thread whose first line this is
 abbrev pub form_begun : Meaning → Form
 form_begun (makes_long thread) = Long
 form_begun _ = Short
 
--- the form of a new name comes behind the others
+-- the form of a new name is appended to the others
 abbrev pub with_form : List (List ℕ) → List Form → Option (List ℕ) → Form → List Form
 with_form names forms None form = forms
 with_form names forms (Some name) form =
@@ -87,7 +87,7 @@ forms_after names forms (s ∷ ss) =
 
 -- ---- statements
 
--- a line makes a thread's texts long that an earlier one has named
+-- a line makes the form of a thread long that an earlier line has named
 abbrev pub is_late : List (List ℕ) → Meaning → Bool
 is_late names (makes_long thread) = list_any (bytes_eq thread) names
 is_late names _ = false
@@ -101,14 +101,14 @@ abbrev pub onto : ℕ × Meaning → Result (List (ℕ × Meaning)) ℕ → Resu
 onto first (Ok later) = Ok (first ∷ later)
 onto first (Err wrong) = Err wrong
 
--- what a line says, before what the later ones say, which stand after its thread
+-- the meaning of a line, before those of the later lines, which come after its thread
 abbrev pub with_first : ℕ → List (List ℕ) → Result (Option Meaning) ℕ →
     (List (List ℕ) → Result (List (ℕ × Meaning)) ℕ) → Result (List (ℕ × Meaning)) ℕ
 with_first number names (Err wrong) later = Err wrong
 with_first number names (Ok None) later = later names
 with_first number names (Ok (Some s)) later = onto (number, s) (later (with_thread_of names s))
 
--- what the lines from this number on say after these threads, in order, each with its number; or the number of the first that says nothing that is known, or comes too late
+-- the meanings of the lines from this number on, after these threads, in order, each with its number; or the number of the first line that isn't valid or comes too late
 abbrev pub statements_from : ℕ → List (List ℕ) → List (List ℕ) → Result (List (ℕ × Meaning)) ℕ
 statements_from number names [] = Ok []
 statements_from number names (line ∷ lines) =
@@ -121,7 +121,7 @@ abbrev pub user_said : List (List ℕ) → Option Meaning
 user_said (name ∷ []) = Some (registers_user name)
 user_said _ = None
 
--- what a command says, where threads have these names
+-- the meaning of a command, if threads have these names
 abbrev pub command_said : List (List ℕ) → Command → Option Meaning
 command_said names (command.Begin thread at id text) =
     option_map (λ t. begins t at id (string_bytes text)) (slice_get names thread)
@@ -138,7 +138,7 @@ command_said names (command.ReportUser info stream) = None
 command_said names command.Snapshot = Some tells_all
 command_said names command.NewFrame = Some takes_frame
 
--- a line that makes a thread's texts long is no command
+-- a line that makes a thread's form long is no command
 abbrev pub is_command : Meaning → Bool
 is_command (makes_long thread) = false
 is_command _ = true
@@ -146,7 +146,7 @@ is_command _ = true
 abbrev pub commands_in : List (ℕ × Meaning) → List (ℕ × Meaning)
 commands_in ss = filter (λ s. is_command s.1) ss
 
--- The lines say what the commands do, by threads that are numbered as they appear, and each command has its line's number.
+-- The lines have the meanings of the commands, with threads numbered in the order of their first lines, and each command has its line's number.
 pub record IsScript (bytes : List ℕ) (script : Script) : Type 0 where
   pub statements : List (ℕ × Meaning)
   pub told : statements_from 1 [] (lines_in bytes) ≡ Ok statements
@@ -156,7 +156,7 @@ pub record IsScript (bytes : List ℕ) (script : Script) : Type 0 where
   pub commands : map (command_said (map string_bytes script.names.items)) script.commands.items
       ≡ map (λ s. Some s.1) (commands_in statements)
 
--- the fault is the number of the first line that says nothing that is known, or comes too late
+-- the fault is the number of the first line that isn't valid or comes too late
 abbrev pub IsLineFault : List ℕ → ToolFault → Type 0
 IsLineFault bytes told =
     (number : ℕ)
@@ -165,7 +165,7 @@ IsLineFault bytes told =
 
 -- ---- the threads of a script
 
--- names with their forms, short where there is none
+-- names with their forms, short if there is none
 abbrev pub with_forms : List (List ℕ) → List Form → List (List ℕ × Form)
 with_forms [] forms = []
 with_forms (name ∷ names) [] = (name, Short) ∷ with_forms names []

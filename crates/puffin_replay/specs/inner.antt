@@ -1,3 +1,3 @@
--- What contracts of private functions and proofs alone cite.
+-- What only private functions and proofs cite.
 pub mod ScriptReading
 pub mod InMemory

@@ -1,4 +1,4 @@
-//! The words of the program, what each of them does, and how a fault is told.
+//! The program's arguments, its tasks, and its faults.
 
 mod fault;
 mod recorder;

@@ -64,6 +64,17 @@ fn refuses(rt: &(impl AllocGlobal + Abort), file: &[u8], cause: FileError) -> Ou
     Ok(())
 }
 
+/// The file with these bytes at these places.
+fn changed(changes: &[(usize, u8)]) -> [u8; 79] {
+    let mut file = FILE;
+    for &(place, byte) in changes {
+        if let Some(changed) = file.get_mut(place) {
+            *changed = byte;
+        }
+    }
+    file
+}
+
 /// Nor is the file where one of its bytes is another.
 fn refuses_byte(
     rt: &(impl AllocGlobal + Abort),
@@ -71,11 +82,7 @@ fn refuses_byte(
     byte: u8,
     cause: FileError,
 ) -> Outcome<()> {
-    let mut file = FILE;
-    if let Some(changed) = file.get_mut(place) {
-        *changed = byte;
-    }
-    refuses(rt, &file, cause)
+    refuses(rt, &changed(&[(place, byte)]), cause)
 }
 
 #[test]
@@ -85,4 +92,84 @@ fn what_is_not_unpacked_or_merged_is_refused(rt: HostRuntime) -> Outcome<()> {
     refuses_byte(&rt, 24, 2, FileError::BadStreams)?;
     refuses_byte(&rt, 33, 0, FileError::Refused(Error::InvalidStream))?;
     refuses(&rt, &FILE[..78], FileError::Truncated)
+}
+
+/// The frame's index is 1, so it comes after that of [`FILE`].
+const LATER: (usize, u8) = (12, 1);
+
+/// The frame's streams are packed by zstd, which isn't unpacked here.
+const ZSTD: (usize, u8) = (23, 2);
+
+/// The frame's stream doesn't begin with a scope.
+const NO_SCOPE: (usize, u8) = (33, 0);
+
+/// The file of two frames, each that of [`FILE`] with some bytes changed, without so many of the last bytes.
+fn two_frames(
+    rt: &impl AllocGlobal,
+    first: &[(usize, u8)],
+    second: &[(usize, u8)],
+    cut: usize,
+) -> Outcome<Vec<u8>> {
+    let mut file = Vec::new(rt.alloc());
+    file.extend_from_slice(&changed(first))?;
+    file.extend_from_slice(&changed(second)[4..])?;
+    file.truncate(file.len().saturating_sub(cut));
+    Ok(file)
+}
+
+/// Where the first of two frames isn't kept, the file is summed up as if it were not there.
+fn forgets_the_first(
+    rt: &(impl AllocGlobal + Abort),
+    first: &[(usize, u8)],
+    second: &[(usize, u8)],
+) -> Outcome<()> {
+    let file = two_frames(rt, first, second, 0)?;
+    has_data_alone(rt, &summed(rt, &file, Some(100))??);
+    Ok(())
+}
+
+#[test]
+fn a_frame_whose_index_does_not_rise_begins_anew(rt: HostRuntime) -> Outcome<()> {
+    forgets_the_first(&rt, &[ZSTD], &[])?;
+    forgets_the_first(&rt, &[NO_SCOPE], &[])?;
+    forgets_the_first(&rt, &[LATER, ZSTD], &[])?;
+    forgets_the_first(&rt, &[LATER], &[LATER])
+}
+
+/// Two frames aren't summed up, for this cause.
+fn refuses_two(
+    rt: &(impl AllocGlobal + Abort),
+    first: &[(usize, u8)],
+    second: &[(usize, u8)],
+    cut: usize,
+    cause: FileError,
+) -> Outcome<()> {
+    refuses(rt, &two_frames(rt, first, second, cut)?, cause)
+}
+
+#[test]
+fn the_file_s_fault_comes_before_that_of_a_frame(rt: HostRuntime) -> Outcome<()> {
+    refuses_two(&rt, &[ZSTD], &[LATER], 1, FileError::Truncated)?;
+    refuses_two(&rt, &[NO_SCOPE], &[LATER], 1, FileError::Truncated)
+}
+
+#[test]
+fn a_frame_that_is_not_unpacked_comes_before_the_merge(rt: HostRuntime) -> Outcome<()> {
+    let invalid = FileError::Refused(Error::InvalidStream);
+    refuses_two(&rt, &[ZSTD], &[LATER], 0, FileError::Compressed(2))?;
+    refuses_two(
+        &rt,
+        &[NO_SCOPE],
+        &[LATER, ZSTD],
+        0,
+        FileError::Compressed(2),
+    )?;
+    refuses_two(
+        &rt,
+        &[ZSTD],
+        &[LATER, NO_SCOPE],
+        0,
+        FileError::Compressed(2),
+    )?;
+    refuses_two(&rt, &[NO_SCOPE], &[LATER], 0, invalid)
 }

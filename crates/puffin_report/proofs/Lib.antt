@@ -1,3 +1,4 @@
 pub mod lemmas
-mod Summing
+mod Summaries
+mod Stepping
 mod PrintedScopes

@@ -1,4 +1,4 @@
--- What counting a stream from a reader to a writer comes to.
+-- What counting a stream from a reader writes and returns.
 use Rattle.std.specs.Prelude.{◌≡◌, ℕ, List, [], Option, Some, ◌⊎◌}
 use Rattle.std.specs.Io.KnownBytes.{Consumes, Appends, IsAtEnd}
 use Rattle.puffin_data.specs.declared.data.form.Form.TheVariants.{Short}
@@ -9,11 +9,12 @@ use Rattle.puffin_data.specs.Walk.{IsFault}
 use Rattle.puffin_data.specs.Device.{WritesBeginning}
 use Rattle.puffin_report.specs.Lines.{lines_of, frame_of_forest, refusal_of}
 
--- the reader gave all that it had, which is these bytes
+-- the reader gave these bytes, which are all that it had
 abbrev pub ReadsAll : Option (List ℕ) → Option (List ℕ) → List ℕ → Type 0
 ReadsAll old new bytes = Consumes old new bytes × IsAtEnd new
 
--- The bytes spell a forest, whose two lines were written, and the answer is the cause that refuses its frame, if any; or the answer is the bytes' fault, and nothing was written.
+-- The bytes spell a forest, its two lines were written, and the answer is the cause that refuses its frame, if any; or the
+-- answer is the fault of the bytes, and nothing was written.
 abbrev pub IsCounted : List ℕ → Option (List ℕ) → Option (List ℕ) → Option Error → Type 0
 IsCounted bytes old new answer =
     ((f : Forest)
@@ -22,7 +23,7 @@ IsCounted bytes old new answer =
     × (answer ≡ refusal_of (frame_of_forest Short f)))
     ⊎ ((cause : Error) × (answer ≡ Some cause) × IsFault Short bytes cause × Appends old new [])
 
--- A refused call wrote nothing, or a beginning of the lines of what the reader gave.
+-- A call that failed wrote nothing, or a beginning of the lines of the bytes that the reader gave.
 abbrev pub IsCutShort : Option (List ℕ) → Option (List ℕ) → Option (List ℕ) → Option (List ℕ) →
     Type 0
 IsCutShort unread left old new =

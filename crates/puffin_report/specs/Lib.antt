@@ -3,3 +3,4 @@ pub mod Count
 pub mod Summary
 pub mod ReportLines
 pub mod Report
+pub mod inner

@@ -1,4 +1,4 @@
--- The two lines that the program prints of a stream.
+-- The two lines that `count` prints.
 use Rattle.std.specs.Prelude.{ℕ, ◌^◌, ℤ, pos, ◌-ℤ◌, int_lt, List, ◌++◌, length, codes, Option, Some, None, Result, Ok, Err, if◌then◌else◌}
 use Rattle.std.specs.Fmt.{decimal, signed_decimal}
 use Rattle.puffin_data.specs.declared.data.form.Form.{Form}
@@ -23,7 +23,7 @@ count_line (node s children others) =
     let f = node s children others in
     measures_line (scope_count f) (height f) (least_start f) (greatest_stop f)
 
--- the line of a frame: its sums, and its range with the time between
+-- the two halves of a frame's line: its sums, and its range with the duration
 abbrev pub sums_text : ℕ → ℕ → ℕ → List ℕ
 sums_text index bytes scopes =
     codes "frame " ++ (decimal index
@@ -39,11 +39,11 @@ meta_line meta =
     sums_text meta.frame_index meta.num_bytes meta.num_scopes
     ++ range_text meta.range_ns.0 meta.range_ns.1 (meta.range_ns.1 -ℤ meta.range_ns.0)
 
--- the line of a frame that was refused
+-- the line of a frame that was refused with this cause
 abbrev pub none_line : Error → List ℕ
 none_line cause = codes "frame none " ++ (error_name cause ++ codes "\n")
 
--- what frame 0 says of a forest whose bytes have a form, as the stream of one thread
+-- the meta of frame 0 with a forest as its one stream, in this form
 abbrev pub meta_of_forest : Form → Forest → FrameMeta
 meta_of_forest form f = record {
   frame_index = 0;
@@ -52,7 +52,8 @@ meta_of_forest form f = record {
   num_scopes = scope_count f;
 }
 
--- what making that frame comes to: there is none of no scope, and none where the time from the least start to the greatest stop is no i64
+-- what making that frame returns: it is refused if there is no scope, or if the time from the least start to the greatest stop
+-- doesn't fit i64
 abbrev pub frame_of_forest : Form → Forest → Result FrameMeta Error
 frame_of_forest form empty = Err Empty
 frame_of_forest form (node s children others) =
@@ -64,7 +65,7 @@ abbrev pub outcome_line : Result FrameMeta Error → List ℕ
 outcome_line (Ok meta) = meta_line meta
 outcome_line (Err cause) = none_line cause
 
--- the cause that the program ends with: that there is no scope is none
+-- the cause that the program ends with, if any: `Empty` is none
 abbrev pub refusal_of : Result FrameMeta Error → Option Error
 refusal_of (Ok meta) = None
 refusal_of (Err Empty) = None

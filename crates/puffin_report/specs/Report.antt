@@ -1,4 +1,4 @@
--- What reporting a file from a reader to a writer comes to.
+-- What reporting a file from a reader writes and returns.
 use Rattle.std.specs.Prelude.{◌≡◌, ◌⊎◌, ℕ, List, [], Option}
 use Rattle.std.specs.Io.KnownBytes.{Appends}
 use Rattle.puffin_data.specs.declared.file_error.FileError.{FileError}
@@ -11,7 +11,7 @@ use Rattle.puffin_report.specs.declared.summary.Summary.{Summary}
 use Rattle.puffin_report.specs.Summary.{IsSummary, FailsToSumUp}
 use Rattle.puffin_report.specs.ReportLines.{report_lines}
 
--- A reader went from unread to left, and a writer from before to after: the file that was read has this summary under an info.
+-- A reader went from unread to left: the file that was read has this summary under an info.
 pub record HasSummary (info : Info) (unread left : Option (List ℕ)) (summary : Summary) :
     Type 0 where
   pub stored : List Stored
@@ -26,7 +26,8 @@ module _ (info : Info) (unread left before after : Option (List ℕ)) where
       × HasSummary info unread left summary
       × Appends before after (report_lines summary)
 
-  -- the file isn't summed up, or there was no memory, and nothing is written; or the writer failed, and a beginning of the lines is
+  -- the file couldn't be summed up, or memory ran out, and nothing was written; or the writer failed, after a beginning of the
+  -- lines may have been written
   abbrev pub IsUnreported : FileError → Type 0
   IsUnreported fault =
       (FailsToSumUp info unread left fault × Appends before after [])

@@ -1,4 +1,4 @@
--- What a file of frames is summed up as.
+-- The summary of a file: its number of frames, their merge for one thread, and the details of scopes.
 use Rattle.std.specs.Prelude.{◌≡◌, ◌⊎◌, ℕ, false, List, [], ◌∷◌, Option, Result, Ok, Err, map, length}
 use Rattle.std.specs.List.{flat_map, list_any}
 use Rattle.std.specs.Option.{option_map}
@@ -21,7 +21,7 @@ use Rattle.puffin_view.specs.View.Known.{lacks_ids}
 use Rattle.puffin_view.specs.View.{after_all}
 use Rattle.puffin_report.specs.declared.summary.Summary.{Summary}
 
--- what merging reads of a frame with these streams: its range's start, and the bytes under an info
+-- what merging reads of a frame with these streams: the start of its range, and the bytes under an info
 abbrev pub bytes_under : Info → Said → Result Streams FileError → Result FrameBytes FileError
 bytes_under info c (Ok streams) =
     Ok (
@@ -31,11 +31,11 @@ bytes_under info c (Ok streams) =
     })
 bytes_under info c (Err cause) = Err cause
 
--- the streams that a frame's packed copy is unpacked to, or why it isn't
+-- the streams in a frame's packed bytes, or why they can't be unpacked
 abbrev pub streams_said : Said → Result Streams FileError
 streams_said c = unpacking (record { form = c.form; kind = c.kind; bytes = c.streams })
 
--- what merging reads of a frame whose streams are packed, or why they aren't unpacked
+-- what merging reads of a frame that is packed, or why it can't be unpacked
 abbrev pub bytes_in : Info → Said → Result FrameBytes FileError
 bytes_in info c = bytes_under info c (streams_said c)
 
@@ -45,16 +45,16 @@ followed_by (Err cause) others = Err cause
 followed_by (Ok frame) (Err cause) = Err cause
 followed_by (Ok frame) (Ok frames) = Ok (frame ∷ frames)
 
--- of each frame, or why the first that isn't unpacked isn't
+-- what merging reads of each frame, or why the first that can't be unpacked can't
 abbrev pub all_bytes_in : Info → List Said → Result (List FrameBytes) FileError
 all_bytes_in info [] = Ok []
 all_bytes_in info (c ∷ cs) = followed_by (bytes_in info c) (all_bytes_in info cs)
 
--- what the frames of a view say that reads these
+-- the contents of the frames of a view that reads these
 abbrev pub contents_read : List Stored → List Said
 contents_read stored = contents_in (after_all read_view (map frame_stored stored))
 
--- the number of frames, their merge under an info, and these details, in order
+-- The summary has the number of frames, their merge under an info, and these details, added in order.
 pub record SumsUp (info : Info) (cs : List Said) (told : List Details) (summary : Summary) :
     Type 0 where
   pub frames : summary.frames ≡ length cs
@@ -63,20 +63,20 @@ pub record SumsUp (info : Info) (cs : List Said) (told : List Details) (summary 
   pub merged : AreMerged streams (forest_in summary.merged.items)
   pub scopes : summary.scopes ≡ with_all_details no_details told
 
--- the frames of a view that reads a file, and the details of all frames of the file
+-- the summary is that of the frames in a view that reads the file, with the details of all frames of the file
 abbrev pub IsSummary : Info → List Stored → Summary → Type 0
 IsSummary info stored summary =
     SumsUp info (contents_read stored) (flat_map details_stored stored) summary
 
--- the details that frames tell
+-- the details of all frames, in order
 abbrev pub details_said : List Said → List Details
 details_said cs = flat_map (λ c. c.details) cs
 
--- all details that frames tell have ids
+-- all details of all frames have ids
 abbrev pub NoneLacksIds : List Said → Type 0
 NoneLacksIds cs = list_any lacks_ids cs ≡ false
 
--- why frames aren't summed up: the first that isn't unpacked, or what refuses their merge, which isn't want of memory
+-- why frames can't be summed up: the fault of the first that can't be unpacked, or what refuses their merge, other than memory
 abbrev pub IsHindered : Info → List Said → FileError → Type 0
 IsHindered info cs fault =
     (all_bytes_in info cs ≡ Err fault)
@@ -87,7 +87,8 @@ IsHindered info cs fault =
     × (cause ≡ Memory → ⊥)
     × IsMergeRefusal streams cause)
 
--- A call read a device and summed nothing up: the device or memory failed, or the bytes that were taken have this fault, or they are frames that have it.
+-- A call read a device and failed: the device or memory failed, or the bytes taken have this fault, or they are frames that
+-- have it.
 abbrev pub FailsToSumUp : Info → Option (List ℕ) → Option (List ℕ) → FileError → Type 0
 FailsToSumUp info old new fault =
     FailsToRead file_at old new fault

@@ -1,3 +1,4 @@
+//! Counts a stream, and prints the counts.
 ghost use Rattle.std.specs.Prelude.{◌≡◌, ◌+◌, ◌-◌, ◌^◌, ◌<◌, ◌-ℤ◌, List, ℕ, IfOk, IfErr, OnErr, MatchResult, ◌⊎◌};
 ghost use Rattle.std.specs.String.{string_bytes};
 ghost use Rattle.puffin_data.specs.Forest.{Forest};
@@ -14,7 +15,7 @@ use puffin_frames::thread_profiler::ThreadInfo;
 use std::alloc::{AllocError, Global};
 use std::collections::BTreeMap;
 
-/// The line of these measures.
+/// Returns the line of these measures.
 fn measures_line(
     alloc: Global,
     scopes: usize,
@@ -27,7 +28,7 @@ fn measures_line(
     format!(in alloc; "scopes {scopes} depth {depth} range {start} {stop}\n")
 }
 
-/// The line of an honest info.
+/// Returns the line of the measures of an honest info.
 fn line_of(alloc: Global, info: &StreamInfo) -> Result<String, AllocError>
     ensures { IfOk result (λ line.
         (f : Forest) → IsHonest info.now f → string_bytes line ≡ count_line f) }
@@ -39,7 +40,7 @@ fn line_of(alloc: Global, info: &StreamInfo) -> Result<String, AllocError>
     measures_line(alloc, info.num_scopes, info.depth, start, stop)
 }
 
-/// The first half of a frame's line.
+/// Returns the first half of a frame's line: its index, bytes and scopes.
 fn sums_text(
     alloc: Global,
     index: FrameIndex,
@@ -51,7 +52,7 @@ fn sums_text(
     format!(in alloc; "frame {index} bytes {bytes} scopes {scopes}")
 }
 
-/// The other half.
+/// Returns the second half of a frame's line: its range and duration.
 fn range_text(
     alloc: Global,
     start: NanoSecond,
@@ -63,7 +64,7 @@ fn range_text(
     format!(in alloc; " range {start} {stop} duration {duration}\n")
 }
 
-/// The line of a frame.
+/// Returns a frame's line.
 fn meta_line(alloc: Global, frame: &UnpackedFrameData) -> Result<String, AllocError>
     ensures { IfOk result (λ line. string_bytes line ≡ meta_line frame.now.meta) }
 {
@@ -75,20 +76,20 @@ fn meta_line(alloc: Global, frame: &UnpackedFrameData) -> Result<String, AllocEr
     Ok(line)
 }
 
-/// The line of a frame that was refused.
+/// Returns the line of a frame that was refused with this cause.
 fn none_line(alloc: Global, cause: Error) -> Result<String, AllocError>
     ensures { IfOk result (λ line. string_bytes line ≡ none_line cause) }
 {
     format!(in alloc; "frame none {cause}\n")
 }
 
-/// An honest info as the one stream of frame 0.
+/// Makes frame 0 with an honest info as its one stream.
 fn frame_of(alloc: Global, info: StreamInfo) -> Result<UnpackedFrameData, Error>
     ensures { (f : Forest) → IsHonest info f →
         MatchResult result (λ frame. frame_of_forest info.stream.form f ≡ Ok frame.meta) (λ e.
         (e ≡ Error.Memory) ⊎ (frame_of_forest info.stream.form f ≡ Err e)) }
 {
-    // For the proof alone: a law about forests.
+    // Only for the proof: a law about forests.
     range_of_a_forest();
     let thread = ThreadInfo {
         start_time_ns: None,
@@ -99,7 +100,7 @@ fn frame_of(alloc: Global, info: StreamInfo) -> Result<UnpackedFrameData, Error>
     UnpackedFrameData::new(alloc, 0, streams)
 }
 
-/// The frame's line of an honest info, and the cause that the program ends with, if any.
+/// Returns the line of the frame of an honest info, and the cause if the frame is refused, unless that is `Empty`.
 fn frame_line(alloc: Global, info: StreamInfo) -> Result<(String, Option<Error>), FileError>
     ensures ok { IfOk result (λ it.
         (f : Forest) → IsHonest info f →
@@ -115,13 +116,22 @@ fn frame_line(alloc: Global, info: StreamInfo) -> Result<(String, Option<Error>)
     }
 }
 
-/// Reads a stream to its end, and writes two lines: the measures of the forest that its bytes spell, in nanoseconds, and
-/// what frame 0 of it says, as the stream of the thread `stdin` that has no start.
+/// Reads a stream of the short form to its end, and writes two lines, as `docs/FORMAT.md` lists them: the counts of its scopes
+/// with their range in nanoseconds, and the counts of frame 0, which has the stream alone, under a thread `stdin` without a
+/// start.
 ///
-/// Returns `None` where the lines are written, or the cause that refuses the frame where it isn't `Empty`. Where the
-/// bytes are refused, returns their fault and writes nothing. Fails with `Memory`, where nothing is written, or with
-/// `Io` where the reader or the writer failed: in the second case a beginning of the lines may be written. The lines are
-/// made whole before any of them is written. How far it read before a failure is unspecified.
+/// Returns `None` if the frame is made or has no scope, else the cause that refuses it; both lines are written either way. If
+/// the bytes aren't scopes, returns their fault and writes nothing.
+///
+/// Fails with `Memory`, and then writes nothing; or with `Io` if the reader or the writer fails. The lines are made before any
+/// of them is written; if the writer fails, a beginning of them may be written. If the call fails, how far it read is
+/// unspecified.
+///
+/// ```
+/// let mut input = Counted::new(rt.stdin());
+/// let mut output = Counted::new(rt.stdout());
+/// let cause = count_stream(alloc, &mut input, &mut output)?;
+/// ```
 pub fn count_stream<S: Source, D: Drain>(
     alloc: Global,
     source: &mut S,
@@ -137,7 +147,7 @@ pub fn count_stream<S: Source, D: Drain>(
     ensures written { OnErr result (
         IsCutShort (S.remaining source.old) (S.remaining source.new) (D.contents drain.old)
         (D.contents drain.new)) }
-    // The reader failed in this call, or the writer failed in it, or the writer took nothing.
+    // `Io` means that the reader or the writer failed in this call, or that the writer took no bytes.
     ensures io { (result ≡ Err FileError.Io) → (S.failures source.new ≡ S.failures source.old + 1)
         ⊎ ((D.failures drain.new ≡ D.failures drain.old + 1) ⊎ TookNothing D.takes drain.new) }
 {

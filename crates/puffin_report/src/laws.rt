@@ -1,4 +1,5 @@
-//! Laws of recordings and reports, as contracts of functions that do nothing. A proof of another crate cites them by calling the function.
+//! Laws of recordings and reports, as contracts of functions that do nothing. A proof of another crate cites them by calling
+//! the function.
 
 ghost use Rattle.std.specs.Prelude.{ℕ, List, ◌≡◌, ◌<◌, ◌-◌, ◌^◌, Option, Some, Ok, length};
 ghost use Rattle.std.specs.List.{AllByRecursion};
@@ -20,9 +21,9 @@ use puffin_frames::frame_data::laws::each_frame_is_read_again;
 use puffin_merge::merge::laws::one_outcome;
 use puffin_view::profile_view::laws::what_was_written_is_read;
 
-/// What is summed up of a reader that has the file of a view, and nothing after it: the frames that were written and no
-/// others, and the details that they tell. Reader and memory aside, if these have ids, only a frame that isn't unpacked
-/// or the merge stops it.
+/// The summary of a reader that has the file of a view, and nothing after it, is that of exactly the frames that were written,
+/// with the details that they list. If all these details have ids, the reader doesn't fail and memory doesn't run out, the
+/// summary is refused only because a frame can't be unpacked or the frames can't be merged.
 pub fn what_was_recorded_is_summed_up()
     ensures summary { (info : Info) (v : View) (new : Option (List ℕ)) (stored : List Stored)
         (summary : Summary) →
@@ -46,7 +47,7 @@ pub fn what_was_recorded_is_summed_up()
     each_frame_is_read_again();
 }
 
-/// The frames of a file have one report under an info: whichever summary of them is printed, the lines are the same.
+/// For one info, all summaries of the same frames are printed as the same lines.
 pub fn one_report()
     ensures { (info : Info) (stored : List Stored) (one another : Summary) →
         IsSummary info stored one → IsSummary info stored another →

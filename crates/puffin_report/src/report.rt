@@ -1,4 +1,4 @@
-//! What is printed of a file of frames.
+//! Prints the report of a file of frames.
 
 ghost use Rattle.std.specs.Prelude.{◌≡◌, ◌++◌, ◌+◌, ◌-◌, ◌^◌, ◌<◌, ◌⊎◌, [], ◌∷◌, OnOk, IfOk, IfErr};
 ghost use Rattle.std.specs.String.{string_bytes};
@@ -16,7 +16,7 @@ use puffin_frames::thread_profiler::ThreadInfo;
 use puffin_merge::merge::MergeScope;
 use std::alloc::{AllocError, Global};
 
-/// The first line.
+/// Returns the first line, which has the number of frames.
 fn frames_line(alloc: Global, frames: usize) -> Result<String, AllocError>
     ensures { IfOk result (λ line. string_bytes line ≡ frames_line frames) }
 {
@@ -27,7 +27,7 @@ fn frames_line(alloc: Global, frames: usize) -> Result<String, AllocError>
 fn push_indent(lines: &mut String, level: usize) -> Result<(), AllocError>
     ensures text { OnOk result (
         string_bytes lines.new ≡ string_bytes lines.old ++ indent level) }
-    // So many blanks have room, so the next level is a number too.
+    // This many blanks fit into memory, so the next level fits `usize`.
     ensures level { OnOk result (level < 2 ^ 63) }
 {
     for _ in 0..level {
@@ -36,7 +36,7 @@ fn push_indent(lines: &mut String, level: usize) -> Result<(), AllocError>
     Ok(())
 }
 
-/// Appends the name that details give an id, or else the id.
+/// Appends the name of the scope with this id, or `#` and the id if it has no details.
 fn push_name(
     alloc: Global,
     lines: &mut String,
@@ -55,7 +55,7 @@ fn push_name(
     }
 }
 
-/// Appends a text, unless it is empty.
+/// Appends a text in parentheses, unless it is empty.
 fn push_text(lines: &mut String, text: &str) -> Result<(), AllocError>
     ensures { OnOk result (
         string_bytes lines.new ≡ string_bytes lines.old ++ text_part text.now) }
@@ -68,7 +68,7 @@ fn push_text(lines: &mut String, text: &str) -> Result<(), AllocError>
     lines.push_str(")")
 }
 
-/// The first half of a merged scope's numbers.
+/// Returns the first half of a merged scope's numbers.
 fn pieces_text(
     alloc: Global,
     pieces: usize,
@@ -80,7 +80,7 @@ fn pieces_text(
     format!(in alloc; " pieces {pieces} total {total} per_frame {per_frame}")
 }
 
-/// The other half.
+/// Returns the second half of a merged scope's numbers.
 fn greatest_text(
     alloc: Global,
     greatest: NanoSecond,
@@ -91,7 +91,7 @@ fn greatest_text(
     format!(in alloc; " max {greatest} start {start}\n")
 }
 
-/// Appends the line of a merged scope at a level, and then those of the scopes in it.
+/// Appends the line of a merged scope at this level, and then the lines of its children, one level deeper.
 fn push_scope(
     alloc: Global,
     lines: &mut String,
@@ -120,7 +120,7 @@ fn push_scope(
     Ok(())
 }
 
-/// The lines of a summary.
+/// Returns the lines of a summary.
 fn report_lines(alloc: Global, summary: &Summary) -> Result<String, AllocError>
     ensures { IfOk result (λ lines. string_bytes lines ≡ report_lines summary.now) }
 {
@@ -131,12 +131,19 @@ fn report_lines(alloc: Global, summary: &Summary) -> Result<String, AllocError>
     Ok(lines)
 }
 
-/// Sums up a file as [`summarize`] does, and writes the number of its frames and then a line for each merged scope of the
-/// thread, two blanks deeper than that of the scope around it, which stands before it. Times are in nanoseconds.
+/// Sums up a file as [`summarize`] does, and writes the summary in lines, as `docs/FORMAT.md` lists them: the number of its
+/// frames, and then a line for each merged scope of the thread. The children of a scope come after it, indented by two more
+/// blanks. Times are in nanoseconds.
 ///
-/// Fails as [`summarize`] does, or with `Memory`, and then nothing is written; or with `Io` where the writer failed, and a
-/// beginning of the lines may then be written. They are made whole before any of them is written. The reader's place is
-/// open after a failure.
+/// Fails as [`summarize`] does, or with `Memory`, and then writes nothing; or with `Io` if the writer fails. The lines are made
+/// before any of them is written; if the writer fails, a beginning of them may be written. If the call fails, how far it read
+/// is unspecified.
+///
+/// ```
+/// let mut file = Counted::new(File::open(&rt, "frames.puffin")?);
+/// let mut lines = Counted::new(rt.stdout());
+/// print_report(alloc, &mut file, &thread, &mut lines)?;
+/// ```
 pub fn print_report<S: Source, D: Drain>(
     alloc: Global,
     source: &mut S,
@@ -151,7 +158,7 @@ pub fn print_report<S: Source, D: Drain>(
     ensures err { IfErr result (λ e.
         IsUnreported (info_of thread.now) (S.remaining source.old) (S.remaining source.new)
         (D.contents drain.old) (D.contents drain.new) e) }
-    // The reader failed in this call, or the writer failed in it, or the writer took nothing.
+    // `Io` means that the reader or the writer failed in this call, or that the writer took no bytes.
     ensures io { (result ≡ Err FileError.Io) → (S.failures source.new ≡ S.failures source.old + 1)
         ⊎ ((D.failures drain.new ≡ D.failures drain.old + 1) ⊎ TookNothing D.takes drain.new) }
 {

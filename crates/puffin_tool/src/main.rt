@@ -1,4 +1,5 @@
-//! `puffin-tool`: counts a stream of scopes, replays a script of commands into a file of frames, and reports a file.
+//! `puffin-tool`: counts a stream of scopes, replays a script of commands into a file of frames, and prints the report of a
+//! file.
 #![tactic(auto)]
 
 use puffin_data::data::Counted;
@@ -16,14 +17,14 @@ use std::{env, io};
 /// How many bytes of a file are read ahead.
 const READ_AHEAD: usize = 65_536;
 
-/// Takes the places of standard input, output and error where they are closed, so that no file that is opened later is
-/// taken for one of them: such an input is at its end, and nothing can be written to such an output. The files are open
-/// until they are dropped.
+/// Opens three files, which take the places of standard input, output and error if those are closed. So no file that is opened
+/// later is taken for one of them: such an input is at its end, and nothing can be written to such an output. The files stay
+/// open until they are dropped.
 fn placeholders(rt: &HostRuntime) -> [io::Result<File>; 3] {
     [(); 3].map(|_| File::open(rt, "/dev/null"))
 }
 
-/// The program's words, or the fault where they are no text or there is no memory for them.
+/// Returns the program's arguments. Fails if one isn't text, or with `Memory`.
 fn words(rt: &HostRuntime) -> Result<Vec<String>, ToolFault> {
     let mut words = Vec::new(rt.alloc());
     let args = match env::args(rt) {
@@ -41,7 +42,7 @@ fn words(rt: &HostRuntime) -> Result<Vec<String>, ToolFault> {
     Ok(words)
 }
 
-/// The fault of a file that isn't opened or made.
+/// Returns the fault of a file that can't be opened or made.
 fn not_opened(error: &io::Error) -> ToolFault {
     match error.kind() {
         io::ErrorKind::OutOfMemory => ToolFault::File(FileError::Memory),
@@ -49,6 +50,7 @@ fn not_opened(error: &io::Error) -> ToolFault {
     }
 }
 
+/// Counts the stream on standard input.
 fn count(rt: &HostRuntime) -> Result<(), ToolFault> {
     let mut input = Counted::new(rt.stdin());
     let mut output = Counted::new(rt.stdout());
@@ -59,7 +61,7 @@ fn count(rt: &HostRuntime) -> Result<(), ToolFault> {
     }
 }
 
-/// The script in a file.
+/// Reads the script in a file.
 fn script_in(rt: &HostRuntime, path: &str) -> Result<Script, ToolFault> {
     match File::open(rt, path) {
         Ok(file) => read_script(rt.alloc(), &mut Counted::new(file)),
@@ -67,7 +69,7 @@ fn script_in(rt: &HostRuntime, path: &str) -> Result<Script, ToolFault> {
     }
 }
 
-/// The script is read before the file is made.
+/// Replays a script. Reads it before it makes the file.
 fn replay(rt: &HostRuntime, script: &str, out: &str) -> Result<(), ToolFault> {
     let script = script_in(rt, script)?;
     let mut out = match File::create(rt, out) {
@@ -81,11 +83,12 @@ fn replay(rt: &HostRuntime, script: &str, out: &str) -> Result<(), ToolFault> {
     }
 }
 
-/// A file that is read ahead, so that small packets take few calls of the system.
+/// Opens a file that is read ahead, so that small packets take few system calls.
 fn read_ahead(rt: &HostRuntime, path: &str) -> io::Result<BufReader<File>> {
     BufReader::with_capacity(rt.alloc(), READ_AHEAD, File::open(rt, path)?)
 }
 
+/// Prints the report of a file on one thread.
 fn report(rt: &HostRuntime, path: &str, thread: &ThreadInfo) -> Result<(), ToolFault> {
     let mut file = match read_ahead(rt, path) {
         Ok(file) => Counted::new(file),
@@ -98,6 +101,7 @@ fn report(rt: &HostRuntime, path: &str, thread: &ThreadInfo) -> Result<(), ToolF
     }
 }
 
+/// Does what the arguments ask for.
 fn run(rt: &HostRuntime) -> Result<(), ToolFault> {
     let words = words(rt)?;
     match read_words(words.as_slice()) {

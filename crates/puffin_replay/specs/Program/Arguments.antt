@@ -1,4 +1,4 @@
--- What the program's words ask for.
+-- What the program's arguments ask for.
 use Rattle.std.specs.Prelude.{ℕ, ◌+◌, ◌^◌, ◌==◌, ℤ, pos, neg_ℤ, List, [], ◌∷◌, Bool, Option, Some, None, option_map, codes, if◌then◌else◌}
 use Rattle.std.specs.List.{list_any, before_first, after_first}
 use Rattle.std.specs.Str.{bytes_eq}
@@ -10,14 +10,14 @@ use Rattle.puffin_replay.specs.Script.Statements.{number_of, moment_in}
 
 -- ---- a thread
 
--- a time, in nanoseconds, which a `-` in front makes negative
+-- a time, in nanoseconds; a leading `-` makes it negative
 abbrev pub signed_moment_in : List ℕ → Option ℤ
 signed_moment_in [] = None
 signed_moment_in (byte ∷ bytes) =
     if byte == 45 then option_map (λ n. neg_ℤ (pos n)) (number_of (2 ^ 63 + 1) bytes)
     else moment_in (byte ∷ bytes)
 
--- when a thread's first scope started: `-` where none did
+-- the start of a thread's first scope, or `-` for none
 abbrev pub start_in : List ℕ → Option (Option ℤ)
 start_in word =
     if bytes_eq word (codes "-") then Some None
@@ -26,7 +26,7 @@ start_in word =
 abbrev pub is_colon : ℕ → Bool
 is_colon byte = byte == 58
 
--- `START:NAME`, where the name is all that stands behind the first colon
+-- `START:NAME`; the name is all that follows the first colon
 abbrev pub thread_of_word : List ℕ → Option Info
 thread_of_word word =
     if list_any is_colon word
@@ -36,7 +36,7 @@ thread_of_word word =
 
 -- ---- what is asked for
 
--- a count, a replay of the script at a path into the file at another, or a report of the file at a path for a thread
+-- a count, a replay of the script at one path into the file at another, or a report of the file at a path for a thread
 pub data Request : Type 0 where
   count : Request
   replay : List ℕ → List ℕ → Request
@@ -52,13 +52,13 @@ request_in (word ∷ (first ∷ (second ∷ []))) =
     if bytes_eq word (codes "report") then report_by first second else None
 request_in _ = None
 
--- the same of a task
+-- the request of a task
 abbrev pub request_of : Task → Request
 request_of task.Count = count
 request_of (task.Replay script out) = replay (string_bytes script) (string_bytes out)
 request_of (task.Report file thread) = report (string_bytes file) (info_of thread)
 
--- what is asked for has paths
+-- the request has paths
 abbrev pub HasPaths : Option Request → Type 0
 HasPaths None = ⊥
 HasPaths (Some count) = ⊥

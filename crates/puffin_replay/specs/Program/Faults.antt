@@ -1,4 +1,4 @@
--- How the program tells a fault.
+-- The line and the status of a fault of the program.
 use Rattle.std.specs.Prelude.{ℕ, List, [], ◌++◌, Option, Some, None, codes}
 use Rattle.std.specs.Fmt.{decimal}
 use Rattle.puffin_data.specs.Cause.{error_name, file_error_text}

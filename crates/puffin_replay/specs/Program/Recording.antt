@@ -1,4 +1,4 @@
--- What a run of commands from a new session emits, and what recording it makes of a view and of the view's file.
+-- The frames that a run emits, and what recording them makes of a view and of its file.
 use Rattle.std.specs.Prelude.{◌≡◌, ◌⊎◌, ℕ, List, [], ◌∷◌, ◌++◌, map, Option, Some, None}
 use Rattle.std.specs.List.{flat_map}
 use Rattle.std.specs.declared.sync.Arc.{Arc}
@@ -29,7 +29,7 @@ abbrev pub frame_in : Option (Arc FrameData Global) → List Frame
 frame_in None = []
 frame_in (Some frame) = shared_frame frame ∷ []
 
--- the frame that a reply tells of, if any
+-- the frame that a reply has, if any
 abbrev pub emitted_by : Reply → List Frame
 emitted_by (reply.Frame emitted) = frame_in emitted.frame
 emitted_by _ = []
@@ -40,13 +40,13 @@ frames_emitted replies = flat_map emitted_by replies
 
 -- ---- what a view makes of them
 
--- The view took these frames, in order, and knows the details that they tell.
+-- The view took these frames, in order, and knows the details that they list.
 pub record Takes (frames : List Frame) (old new : FrameView) : Type 0 where
   pub taken : view_of new ≡ after_all (view_of old) frames
   pub details : collection_of new
       ≡ with_all_details (collection_of old) (flat_map details_of_frame frames)
 
--- The view took a beginning of these frames, and there was no memory for the next: it knows a beginning of what that tells, and its newest frame may be packed, where it would have been.
+-- The view took a prefix of these frames, and memory ran out for the next: the view knows a prefix of what that lists, and its newest frame may be packed, as it would have been.
 pub record TakesSome (frames : List Frame) (old new : FrameView) : Type 0 where
   pub front : List Frame
   pub next : Frame
@@ -56,12 +56,12 @@ pub record TakesSome (frames : List Frame) (old new : FrameView) : Type 0 where
   pub details : LearnsSome (with_all_details (collection_of old) (flat_map details_of_frame front))
       (details_of_frame next) (collection_of new)
 
--- a view that took a list took these frames besides
+-- a view that took a list of frames took these besides
 abbrev pub TookAlso : List Frame → View → View → Type 0
 TookAlso frames old new =
     (cs : List Said) → Took cs old → Took (cs ++ map contents_of frames) new
 
--- where all details that a view held had ids, so have those that it holds, and those that its file lists
+-- if all details that a view held had ids, so have those that it holds now, and those that its file lists
 abbrev pub HoldsIds : View → View → Type 0
 HoldsIds old new = NoneLacksIds (contents_held old) → NoneLacksIds (contents_held new)
 
@@ -74,19 +74,19 @@ ListsIds old new = NoneLacksIds (contents_held old) → NoneLacksIds (contents_i
 abbrev pub file_of_view : FrameView → List ℕ
 file_of_view view = file_of (contents_in (view_of view))
 
--- a file is refused for a part that is too long, for want of memory, or by its writer
+-- why a file can't be written: a part is too long, memory runs out, or the writer fails
 abbrev pub IsWriteFault : FileError → Type 0
 IsWriteFault fault = (fault ≡ file.PartTooLong) ⊎ (fault ≡ file.Memory) ⊎ (fault ≡ file.Io)
 
--- What a recording that failed has left: its session went from start to end, its view from old to new, and what is written from before to after.
+-- The state after a recording that failed: its session went from start to end, its view from old to new, and what is written from before to after.
 module _ (start end : SessionState) (commands : List Command) (old new : FrameView)
     (before after : Option (List ℕ)) where
-  -- there was no memory to run the commands, and nothing is changed or written
+  -- there was no memory to run the commands, and nothing changed or was written
   abbrev pub HasNotRun : FileError → Type 0
   HasNotRun fault =
       (fault ≡ file.Memory) × (end ≡ start) × Takes [] old new × Appends before after []
 
-  -- the commands were run, but there was no memory for the view to take all frames of the run, and nothing is written
+  -- the commands were run, but there was no memory for the view to take all frames of the run, and nothing was written
   abbrev pub HasNotTaken : FileError → Type 0
   HasNotTaken fault =
       (replies : List Reply)
@@ -95,7 +95,7 @@ module _ (start end : SessionState) (commands : List Command) (old new : FrameVi
       × (fault ≡ file.Memory)
       × Appends before after []
 
-  -- the commands were run and the view took all frames of the run, but only a beginning of its file is written
+  -- the commands were run and the view took all frames of the run, but only a beginning of its file was written
   abbrev pub HasNotWritten : FileError → Type 0
   HasNotWritten fault =
       (replies : List Reply)
@@ -105,6 +105,6 @@ module _ (start end : SessionState) (commands : List Command) (old new : FrameVi
       × IsWriteFault fault
       × TookAlso (frames_emitted replies) (view_of old) (view_of new)
 
-  -- why a recording failed, and what it left
+  -- why a recording failed, and the state after it
   abbrev pub IsBroken : FileError → Type 0
   IsBroken fault = HasNotRun fault ⊎ HasNotTaken fault ⊎ HasNotWritten fault

@@ -1,4 +1,4 @@
--- The line that the program prints of a reply, if any.
+-- The line that `replay` prints for a reply, if any.
 use Rattle.std.specs.Prelude.{ℕ, ℤ, ◌-ℤ◌, List, [], ◌∷◌, ◌++◌, codes, Option, Some, None}
 use Rattle.std.specs.Option.{unwrap_or}
 use Rattle.std.specs.Fmt.{decimal, signed_decimal}
@@ -32,7 +32,7 @@ taken_line threads meta =
     frame_text meta.frame_index threads meta.num_scopes
     ++ duration_text meta.num_bytes (meta.range_ns.1 -ℤ meta.range_ns.0)
 
--- the line of a command that was refused, and of a report, by the line that the command stands in
+-- the lines of a refused command and of a refused report, with the number of the command's script line
 abbrev pub refused_line : ℕ → Error → List ℕ
 refused_line number cause =
     codes "refused " ++ (decimal number ++ (codes " " ++ (error_name cause ++ codes "\n")))
@@ -45,7 +45,7 @@ abbrev pub ended_line : ℕ → Closed → Option (List ℕ)
 ended_line number (closed.Kept cause) = Some (kept_line number cause)
 ended_line number _ = None
 
--- how many threads a frame has streams of, as it is held unpacked; a frame that was just taken is
+-- the number of threads of a frame, as it is held unpacked; a frame that was just taken is
 abbrev pub threads_held : Option Streams → ℕ
 threads_held None = 0
 threads_held (Some streams) = len streams
@@ -58,14 +58,14 @@ emitted_line (Some frame) =
     taken_line (thread_count (arc_value frame)) (frame_meta (arc_value frame))
 emitted_line None = codes "frame none\n"
 
--- what is printed of a reply to the command in this line, if anything
+-- the output for a reply to the command in this line, if any
 abbrev pub reply_line : ℕ → Reply → Option (List ℕ)
 reply_line number (reply.Frame emitted) = Some (emitted_line emitted.frame)
 reply_line number (reply.Refused cause) = Some (refused_line number cause)
 reply_line number (reply.Ended closed) = ended_line number closed
 reply_line number _ = None
 
--- what is printed of replies to the commands in these lines, one after another
+-- the output for replies to the commands in these lines
 abbrev pub reply_lines : List ℕ → List Reply → List ℕ
 reply_lines (number ∷ numbers) (reply ∷ replies) =
     unwrap_or (reply_line number reply) [] ++ reply_lines numbers replies

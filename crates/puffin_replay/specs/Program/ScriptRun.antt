@@ -1,4 +1,4 @@
--- What a script's run writes.
+-- What running a script writes.
 use Rattle.std.specs.Prelude.{◌≡◌, ◌⊎◌, ℕ, false, List, [], Option, map}
 use Rattle.std.specs.List.{AllByRecursion, Any}
 use Rattle.std.specs.Io.KnownBytes.{Appends}
@@ -28,11 +28,11 @@ AreAnswers script replies end =
 abbrev pub loose_view : View
 loose_view = record empty_view { packs = false }
 
--- such a view that took the frames of replies, and no others
+-- such a view after it took the frames of these replies, and no others
 abbrev pub view_after : List Reply → View
 view_after replies = after_all loose_view (frames_emitted replies)
 
--- One writer got the file of a view that took the frames of a run of the script, and the other the lines of the run's replies. Each emitted frame says what was due, and the file has just those that a new view keeps.
+-- One writer got the file of a view that took the frames of a run of the script, and the other the lines of the run's replies. Each emitted frame says what was due, and the file has exactly those that a new view keeps.
 pub record IsReplayed (script : Script)
     (file_before file_after lines_before lines_after : Option (List ℕ)) : Type 0 where
   pub replies : List Reply
@@ -45,7 +45,7 @@ pub record IsReplayed (script : Script)
   pub ids : NoneLacksIds (contents_in (view_after replies))
   pub told : Appends lines_before lines_after (reply_lines script.lines.items replies)
 
--- Why a script's run failed, and what it wrote: there was no memory, and nothing is written; or a beginning of the file is, and no line; or the file is, and a beginning of the lines.
+-- Why a script's run failed, and what it wrote: memory ran out, and nothing is written; or a beginning of the file, and no line; or the file, and a beginning of the lines.
 abbrev pub IsUnfinished : Script → FileError → Option (List ℕ) → Option (List ℕ) → Option (List ℕ) →
     Option (List ℕ) → Type 0
 IsUnfinished script fault file_before file_after lines_before lines_after =

@@ -1,4 +1,4 @@
--- What a line of a script says.
+-- The meaning of one line of a script.
 use Rattle.std.specs.Prelude.{ℕ, ◌^◌, ℤ, pos, ◌==◌, List, [], ◌∷◌, codes, Bool, Option, Some, None, option_map, if◌then◌else◌, nat_lt}
 use Rattle.std.specs.List.{slice_split, join_with_byte}
 use Rattle.std.specs.Option.{option_and_then}
@@ -6,18 +6,18 @@ use Rattle.std.specs.Str.{bytes_eq, all_ascii_digits}
 use Rattle.std.specs.Str.Parse.{digits_value}
 
 pub data Meaning : Type 0 where
-  -- a thread's texts are long
+  -- makes the form of a thread long
   makes_long : (thread : List ℕ) → Meaning
-  -- a scope begins
+  -- begins a scope
   begins : (thread : List ℕ) → (at : ℤ) → (id : ℕ) → (text : List ℕ) → Meaning
-  -- the innermost open scope of a thread ends
+  -- ends the innermost open scope of a thread
   ends : (thread : List ℕ) → (at : ℤ) → Meaning
-  -- a thread registers a scope's details: a function's without a name
+  -- registers a scope's details with a thread; a function's have no name
   registers : (thread : List ℕ) → (name : Option (List ℕ)) → (function : List ℕ) → (file : List ℕ) →
       (line : ℕ) → Meaning
-  -- a scope of another origin is registered
+  -- registers a scope of another origin
   registers_user : (name : List ℕ) → Meaning
-  -- the next frame tells of all scopes
+  -- makes the next frame list every known scope
   tells_all : Meaning
   takes_frame : Meaning
 
@@ -26,11 +26,11 @@ pub data Meaning : Type 0 where
 abbrev pub is_blank : ℕ → Bool
 is_blank byte = byte == 32
 
--- the words of a line, with one blank between two
+-- the words of a line, separated by one blank each
 abbrev pub words_in : List ℕ → List (List ℕ)
 words_in line = slice_split is_blank line
 
--- words as they stood in a line
+-- words joined again as in their line
 abbrev pub joined_words : List (List ℕ) → List ℕ
 joined_words words = join_with_byte 32 words
 
@@ -116,7 +116,7 @@ abbrev pub alone : Meaning → List (List ℕ) → Option Meaning
 alone what [] = Some what
 alone what (word ∷ words) = None
 
--- what a line says, by its words
+-- the meaning of a line, by its words
 abbrev pub line_meaning : List (List ℕ) → Option Meaning
 line_meaning [] = None
 line_meaning (verb ∷ words) =

@@ -10,12 +10,12 @@ use Rattle.puffin_view.specs.View.{View}
 use Rattle.puffin_view.specs.View.Known.{lacks_ids}
 use Rattle.puffin_view.specs.View.File.{file_of, contents_in}
 
--- the bytes are the file of a view, and may be read again
+-- the bytes are the file of a view, and can be read back
 pub record IsFileOf (bytes : List ℕ) (v : View) : Type 0 where
   pub file : bytes ≡ file_of (contents_in v)
   pub packed : AllByRecursion IsPacked (contents_in v)
 
--- why a file of these frames isn't read again: for want of memory, or details have no id
+-- why a file of these frames can't be read back: memory runs out, or details have no id
 abbrev pub IsReadFault : List Said → FileError → Type 0
 IsReadFault cs fault =
     (fault ≡ file.Memory) ⊎ ((fault ≡ file.Refused MissingId) × (list_any lacks_ids cs ≡ true))

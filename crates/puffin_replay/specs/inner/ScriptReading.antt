@@ -27,7 +27,7 @@ words_behind (Some text) = words_in text.now
 abbrev pub words_left : Words → List (List ℕ)
 words_left words = words_behind words.left
 
--- what a line says, as the code holds it
+-- the meaning of a line, as the code holds it
 abbrev pub meaning_of : Statement → Meaning
 meaning_of (statement.Long thread) = makes_long thread.now
 meaning_of (statement.Begin thread at id text) = begins thread.now at id text.now
@@ -50,14 +50,14 @@ lines_left lines = lines_behind lines.left
 abbrev pub names_in : Threads → List (List ℕ)
 names_in threads = map string_bytes threads.names.items
 
--- each name has its place, and no other text has one
+-- each name has its number, and no other text has one
 abbrev pub IsNumbered : Threads → Type 0
 IsNumbered threads =
     (name : List ℕ) → MatchOption (get_by (λ k. slice_cmp nat_cmp name k.now) threads.numbers)
     (list_any (bytes_eq name) (names_in threads) ≡ false)
     (λ number. slice_get (names_in threads) number ≡ Some name)
 
--- a command says what a line says; where there is none the line is no command
+-- a command has the meaning of a line; without a command the line is none
 abbrev pub Asks : List (List ℕ) → Option Command → Meaning → Type 0
 Asks names None s = is_command s ≡ false
 Asks names (Some c) s = (is_command s ≡ true) × (command_said names c ≡ Some s)

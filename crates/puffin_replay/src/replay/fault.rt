@@ -13,16 +13,16 @@ use puffin_data::data::{Drain, write_all};
 use puffin_data::{Error, FileError};
 use std::alloc::AllocError;
 
-/// Why the program didn't do what it was asked.
+/// Why the program failed.
 #[derive(Clone, Copy, Debug, PartialEq, Eq)]
 pub enum ToolFault {
-    /// Its words are others than those that it knows.
+    /// The arguments aren't a task.
     Words,
-    /// This line of the script isn't a command, counted from 1.
+    /// This line of the script, counted from 1, isn't a valid line.
     Line(u64),
-    /// What it read was refused.
+    /// What was read was refused with this error.
     Cause(Error),
-    /// Reading or writing was refused.
+    /// Reading or writing failed with this error.
     File(FileError),
 }
 
@@ -34,10 +34,10 @@ impl From<AllocError> for ToolFault {
     }
 }
 
-/// A line that is longer than each that is printed.
+/// A buffer that is longer than any line that is printed.
 type Line = ArrayString<80>;
 
-/// Appends the text of a fault.
+/// Appends the text of an error.
 fn push_file_error(line: &mut Line, fault: FileError)
     requires { array_string_len line.old ≤ 32 }
     ensures text { line.new.bytes ≡ line.old.bytes ++ file_error_text fault }
@@ -57,7 +57,7 @@ fn push_file_error(line: &mut Line, fault: FileError)
     }
 }
 
-/// The line for standard error.
+/// Formats the line for standard error.
 fn line_of(fault: ToolFault) -> Line
     ensures { result.bytes ≡ fault_line fault }
 {
@@ -85,14 +85,14 @@ fn line_of(fault: ToolFault) -> Line
     line
 }
 
-/// Writes the line that reports a fault, if there is one, and returns the program's status: 0 without a fault, 2 for other
-/// words, else 1. A failure of the writer doesn't change it; a beginning of the line is then written.
+/// Writes the line that reports a fault, if there is one. Returns the program's status: 0 without a fault, 2 for wrong
+/// arguments, else 1. If the writer fails, the status is the same, and a beginning of the line has been written.
 pub fn finish<D: Drain>(fault: Option<ToolFault>, drain: &mut D) -> u8
     requires { D.failures drain.old < 2 ^ 64 - 1 }
     ensures status { result ≡ status_of fault }
     ensures beginning { WritesBeginning (D.contents drain.old) (D.contents drain.new) (
         fault_text fault) }
-    // The whole line is written, or the writer failed, or took nothing.
+    // The whole line is written, or the writer failed or took no byte.
     ensures whole { Appends (D.contents drain.old) (D.contents drain.new) (fault_text fault)
         ⊎ ((D.failures drain.new ≡ D.failures drain.old + 1) ⊎ TookNothing D.takes drain.new) }
 {

@@ -1,4 +1,4 @@
-//! Recording what a session emits.
+//! Recording the frames that a session emits.
 
 ghost use Rattle.std.specs.Prelude.{◌≡◌, ◌⊎◌, ◌+◌, ◌-◌, ◌^◌, ◌<◌, ◌++◌, [], List, All, map, option_map, IfOk, IfErr, OnOk, get_or};
 ghost use Rattle.std.specs.List.{AllByRecursion, Any};
@@ -30,16 +30,16 @@ use puffin_view::profile_view::laws::views_hold_what_they_took;
 use std::alloc::{AllocError, Global};
 use std::sync::Arc;
 
-/// Why a recording isn't read again.
+/// Why a recording couldn't be made or read back.
 #[derive(Drop)]
 pub struct Unread {
-    /// The cause.
+    /// The error.
     pub fault: FileError,
-    /// The reply to each command, in order, where the commands were run.
+    /// The reply to each command, in order, or `None` if the commands weren't run.
     pub replies: Option<Vec<Reply>>,
 }
 
-/// The frame that a reply tells of, if any.
+/// Returns the frame that a reply has, if any.
 fn emitted_by(reply: &Reply) -> Option<&Arc<FrameData>>
     ensures { frame_in (option_map (λ frame. frame.now) result) ≡ emitted_by reply.now }
 {
@@ -49,7 +49,7 @@ fn emitted_by(reply: &Reply) -> Option<&Arc<FrameData>>
     }
 }
 
-/// Adds each frame that the replies tell of to a view, in order. Refused only with `Memory`.
+/// Adds each frame of the replies to a view, in order. Fails only with `Memory`.
 fn add_frames(view: &mut FrameView, replies: &[Reply]) -> Answer<()>
     requires { All HasIds replies.now }
     ensures ok { OnOk result (Takes (frames_emitted replies.now) view.old view.new) }
@@ -66,9 +66,9 @@ fn add_frames(view: &mut FrameView, replies: &[Reply]) -> Answer<()>
     Ok(())
 }
 
-/// Runs commands in a session, and adds each emitted frame to a view, in order. Returns one reply to each command.
+/// Runs commands in a session, and adds each emitted frame to a view, in order. Returns one reply for each command.
 ///
-/// Refused only with `Memory`. The session may then have run the commands, or none of them, and the view have taken a
+/// Fails only with `Memory`. The session may then have run the commands or none of them, and the view may have taken a
 /// beginning of the frames.
 pub(crate) fn run_into(
     session: &mut Session,
@@ -110,11 +110,17 @@ pub(crate) fn run_into(
     }
 }
 
-/// Runs commands in a session, adds each emitted frame to a view, in order, and writes the view's file. Returns one reply to
+/// Runs commands in a session, adds each emitted frame to a view, in order, and writes the view's file. Returns one reply for
 /// each command.
 ///
-/// Fails with `Memory`, and as [`FrameView::write`] with `PartTooLong` and `Io`. The session may then have run the commands,
-/// or none of them, and the view have taken a beginning of the frames, but nothing is written before it took all of them.
+/// Fails with `Memory`, and as [`FrameView::write`] does with `PartTooLong` and `Io`. The session may then have run the
+/// commands or none of them, and the view may have taken a beginning of the frames. Nothing is written before the view has
+/// taken all of them.
+///
+/// ```
+/// let mut drain = Counted::new(file);
+/// let replies = record_session(&mut session, &commands, &mut view, &mut drain)?;
+/// ```
 pub fn record_session<D: Drain>(
     session: &mut Session,
     commands: &[Command],
@@ -150,11 +156,16 @@ pub fn record_session<D: Drain>(
     Ok(replies)
 }
 
-/// Runs commands in a new session of threads with these names, whose texts are short: [`record_session`] of it. It adds
-/// each emitted frame to a view, in order, and writes the view's file. Returns one reply to each command.
+/// Runs commands in a new session of threads with these names, in the short form. Adds each emitted frame to a view, in order,
+/// and writes the view's file, as [`record_session`] does. Returns one reply for each command.
 ///
-/// Fails with `Memory`, and as [`FrameView::write`] with `PartTooLong` and `Io`; the view may then have taken a beginning of
-/// the frames, but nothing is written before it took all of them.
+/// Fails with `Memory`, and as [`FrameView::write`] does with `PartTooLong` and `Io`. The view may then have taken a beginning
+/// of the frames. Nothing is written before the view has taken all of them.
+///
+/// ```
+/// let mut drain = Counted::new(file);
+/// let replies = record(alloc, names, &commands, &mut view, &mut drain)?;
+/// ```
 pub fn record<D: Drain>(
     alloc: Global,
     names: Vec<String>,
@@ -163,7 +174,7 @@ pub fn record<D: Drain>(
     drain: &mut D,
 ) -> Result<Vec<Reply>, FileError>
     requires { D.failures drain.old < 2 ^ 64 - 1 }
-    // The commands were run, each emitted frame says what was due, and the view took the frames of that run.
+    // The commands were run, each emitted frame has what was due, and the view took the frames of that run.
     ensures run { IfOk result (λ replies.
         (end : SessionState)
         × EmitsDue (new_session (map (λ name. (string_bytes name, Short)) names.items)) end
@@ -173,7 +184,7 @@ pub fn record<D: Drain>(
         TookAlso (frames_emitted replies.items) (view_of view.old) (view_of view.new)) }
     ensures written { OnOk result (
         Appends (D.contents drain.old) (D.contents drain.new) (file_of_view view.new)) }
-    // What is written is read again: it has packets, and, where the view's frames had ids in all details, so has it.
+    // What is written can be read: it consists of packets, and if all details of the view's frames had ids, so have the file's.
     ensures packed { OnOk result (AllByRecursion IsPacked (contents_in (view_of view.new))) }
     ensures held_ids { OnOk result (HoldsIds (view_of view.old) (view_of view.new)) }
     ensures ids { OnOk result (ListsIds (view_of view.old) (view_of view.new)) }
@@ -183,7 +194,7 @@ pub fn record<D: Drain>(
         (end : SessionState)
         × IsBroken (new_session (map (λ name. (string_bytes name, Short)) names.items)) end
         commands.now view.old view.new (D.contents drain.old) (D.contents drain.new) e) }
-    // The writer failed in this call, or took nothing.
+    // The writer failed in this call, or took no byte.
     ensures io { (result ≡ Err FileError.Io) →
         (D.failures drain.new ≡ D.failures drain.old + 1) ⊎ TookNothing D.takes drain.new }
     ensures too_long { (result ≡ Err FileError.PartTooLong) →
@@ -195,8 +206,7 @@ pub fn record<D: Drain>(
     }
 }
 
-/// A view with no frame that packs none: the frames that it takes stay as the replies have them, and are packed when they
-/// are written.
+/// Makes an empty view that packs no frames. Its frames stay as the replies have them, and are packed when they are written.
 fn loose_view(alloc: Global) -> FrameView
     ensures frames { view_of result ≡ loose_view }
     ensures took { Took [] (view_of result) }
@@ -206,7 +216,7 @@ fn loose_view(alloc: Global) -> FrameView
     view
 }
 
-/// The form at this place, short where there is none.
+/// Returns the form at this place, or the short one if there is none.
 fn form_at(forms: &[Form], index: usize) -> Form
     ensures { result ≡ get_or forms.now index Short }
 {
@@ -216,7 +226,7 @@ fn form_at(forms: &[Form], index: usize) -> Form
     }
 }
 
-/// The threads of a script.
+/// Returns the names and the forms of a script's threads.
 fn threads_of(alloc: Global, script: &Script) -> Result<Vec<(String, Form)>, AllocError>
     ensures { IfOk result (λ threads.
         map (λ t. (string_bytes t.0, t.1)) threads.items ≡ threads_said script.now) }
@@ -228,10 +238,15 @@ fn threads_of(alloc: Global, script: &Script) -> Result<Vec<(String, Form)>, All
     Ok(threads)
 }
 
-/// Runs a script in a new session, and writes two things: first the file of a new view that took each frame of the run,
-/// then the lines of the replies.
+/// Runs a script in a new session. A new view takes each frame of the run. Writes the view's file to `out`, and then the lines
+/// of the replies, which `docs/FORMAT.md` lists, to `lines`.
 ///
-/// Fails as [`record`] does, with no line written; and with `Memory` or `Io` where a line can't be written.
+/// Fails as [`record`] does, before any line is written; or with `Memory` or `Io` if the lines can't be written.
+///
+/// ```
+/// let script = read_script(alloc, &mut source)?;
+/// run_script(alloc, &script, &mut out, &mut lines)?;
+/// ```
 pub fn run_script<D: Drain, E: Drain>(
     alloc: Global,
     script: &Script,
@@ -246,7 +261,7 @@ pub fn run_script<D: Drain, E: Drain>(
     ensures fails { IfErr result (λ e.
         IsUnfinished script.now e (D.contents out.old) (D.contents out.new)
         (E.contents lines.old) (E.contents lines.new)) }
-    // One of the writers failed in this call, or took nothing.
+    // One of the writers failed in this call, or took no byte.
     ensures io { (result ≡ Err FileError.Io) →
         ((D.failures out.new ≡ D.failures out.old + 1) ⊎ TookNothing D.takes out.new)
         ⊎ ((E.failures lines.new ≡ E.failures lines.old + 1) ⊎ TookNothing E.takes lines.new) }

@@ -1,4 +1,4 @@
-//! Recording into memory, and reading what was recorded: the whole promise in one contract.
+//! Recording into memory, and reading the recording back: the whole promise in one contract.
 
 ghost use Rattle.std.specs.Prelude.{◌≡◌, ◌⊎◌, true, map, option_map, Some, IfOk, IfErr};
 ghost use Rattle.std.specs.List.{Any, list_any};
@@ -22,27 +22,27 @@ use std::alloc::Global;
 use std::io;
 use std::io::Write;
 
-/// How many frames a view keeps, and how.
+/// Which frames a view keeps, and whether it packs them.
 #[derive(Clone, Copy, Debug, PartialEq, Eq)]
 pub struct Limits {
-    /// How many of the last frames are kept.
+    /// The number of recent frames kept.
     pub max_recent: usize,
-    /// How many of the slowest frames are kept.
+    /// The number of slowest frames kept.
     pub max_slow: usize,
     /// Whether the newest frame is packed before another is added.
     pub packs: bool,
 }
 
-/// A recording that was read again.
+/// A recording that was read back.
 #[derive(Drop)]
 pub struct Recording {
     /// The reply to each command, in order.
     pub replies: Vec<Reply>,
-    /// The view that was read of the file.
+    /// The view read from the file.
     pub view: FrameView,
 }
 
-/// A file in memory. A write to it fails only for want of memory.
+/// A file in memory. A write to it fails only if memory runs out.
 #[derive(Drop)]
 struct MemoryFile {
     bytes: Vec<u8>,
@@ -67,7 +67,7 @@ impl Drain for MemoryFile {
     }
 }
 
-/// The fault of a call that reads or writes memory, which fails for want of memory alone.
+/// Converts the error of a call that reads or writes memory: its `Io` is `Memory`.
 fn in_memory(fault: FileError) -> FileError
     ensures io { fault ≡ FileError.Io → result ≡ FileError.Memory }
     ensures other { (fault ≡ FileError.Io → ⊥) → result ≡ fault }
@@ -78,7 +78,7 @@ fn in_memory(fault: FileError) -> FileError
     }
 }
 
-/// A view with no frame and these limits.
+/// Makes an empty view with these limits.
 fn limited_view(alloc: Global, limits: Limits) -> FrameView
     ensures frames { view_of result ≡ record empty_view {
       max_recent = limits.max_recent;
@@ -93,7 +93,7 @@ fn limited_view(alloc: Global, limits: Limits) -> FrameView
     view
 }
 
-/// Reads the file of a view. Refused only with `Memory`, or where details have no id.
+/// Reads the file of a view. Fails with `Memory`, or with `Refused(MissingId)` if details have no id.
 fn read_file(alloc: Global, bytes: &[u8]) -> Result<FrameView, FileError>
     ensures ok { IfOk result (λ read.
         (v : View) → IsFileOf bytes.now v → IsReadOf (contents_in v) read) }
@@ -125,17 +125,21 @@ fn written_and_read(alloc: Global, view: &FrameView) -> Result<FrameView, FileEr
     }
 }
 
-/// Runs commands in a session, adds each emitted frame to a view, in order, writes the view's file into memory, and reads
-/// that into another view. Returns one reply to each command, and the view that was read.
+/// Runs commands in a session, adds each emitted frame to a view, in order, writes the view's file into memory, and reads that
+/// into another view. Returns one reply for each command, and the view that was read.
 ///
-/// The session may have done anything before, and the view have taken any frames. So each emitted frame has, under each
-/// thread's start and name, the scopes that were reported there since the frame before it, be that one of this call or of
-/// an earlier one; and the view that was read has just the frames that the first one has then, and the details that these
-/// tell.
+/// The session may have done anything before, and the view may have taken any frames. Each emitted frame has, under each
+/// thread's start and name, exactly the scopes reported there since the emitted frame before it, of this call or an earlier
+/// one. The view that was read has exactly the frames that the first view then has, and the details that these list. It keeps
+/// up to `usize::MAX` recent frames and 256 slow ones, as [`FrameView::read`] does.
 ///
-/// The view that was read keeps `usize::MAX` recent frames and 256 slow ones, as [`FrameView::read`] says. Fails with
-/// `Memory`, with `PartTooLong` where a part of a packet has `2^32` bytes or more, and with `Refused(MissingId)` where
-/// details of a frame that the view held before have no id. The replies of the run that was made come with the cause.
+/// Fails with `Memory`, with `PartTooLong` if a part of a packet has `2^32` bytes or more, and with `Refused(MissingId)` if
+/// details of a frame that the view held before have no id. The error has the replies if the commands were run.
+///
+/// ```
+/// let recorded = record_session_and_read(alloc, &mut session, &commands, &mut view);
+/// let recording = recorded.map_err(|unread| unread.fault)?;
+/// ```
 pub fn record_session_and_read(
     alloc: Global,
     session: &mut Session,
@@ -159,12 +163,17 @@ pub fn record_session_and_read(
     }
 }
 
-/// Records into memory and reads again, as [`record_session_and_read`], in a new session of threads with these names, whose
-/// texts have the form beside the name, and with a new view with these limits.
+/// Runs commands in a new session of threads with these names and forms, and reads the recording back as
+/// [`record_session_and_read`] does, with a new view that has these limits.
 ///
-/// So the last and the slowest of the emitted frames are read again, and nothing else; and each of them has, under each
-/// thread's start and name, the scopes that were reported there since the frame before it. Fails with `Memory`, and with
-/// `PartTooLong` where a part of a packet has `2^32` bytes or more.
+/// So exactly the last and the slowest of the emitted frames are read back. Each of them has, under each thread's start and
+/// name, exactly the scopes reported there since the frame before it. Fails with `Memory`, and with `PartTooLong` if a part of
+/// a packet has `2^32` bytes or more.
+///
+/// ```
+/// let recorded = record_and_read(alloc, threads, &commands, limits);
+/// let recording = recorded.map_err(|unread| unread.fault)?;
+/// ```
 pub fn record_and_read(
     alloc: Global,
     threads: Vec<(String, Form)>,

@@ -1,4 +1,4 @@
-//! What is printed of a reply.
+//! The lines that are printed for replies.
 
 ghost use Rattle.std.specs.Prelude.{◌≡◌, IfOk, Some, option_map};
 ghost use Rattle.std.specs.String.{string_bytes};
@@ -11,7 +11,7 @@ use puffin_frames::thread_profiler::Closed;
 use puffin_session::Reply;
 use std::alloc::{AllocError, Global};
 
-/// The first half of a frame's line.
+/// Formats the first half of a frame's line.
 fn frame_text(
     alloc: Global,
     index: FrameIndex,
@@ -23,14 +23,14 @@ fn frame_text(
     format!(in alloc; "frame {index} threads {threads} scopes {scopes}")
 }
 
-/// The other half.
+/// Formats the second half of a frame's line.
 fn duration_text(alloc: Global, bytes: usize, duration: NanoSecond) -> Result<String, AllocError>
     ensures { IfOk result (λ text. string_bytes text ≡ duration_text bytes duration) }
 {
     format!(in alloc; " bytes {bytes} duration {duration}\n")
 }
 
-/// How many threads a frame has streams of.
+/// Returns the number of threads that a frame has streams of.
 fn thread_count(frame: &FrameData) -> usize
     ensures { result ≡ thread_count frame.now }
 {
@@ -40,7 +40,7 @@ fn thread_count(frame: &FrameData) -> usize
     }
 }
 
-/// The line of a frame that was taken.
+/// Formats the line of a frame that was taken.
 fn taken_line(alloc: Global, frame: &FrameData) -> Result<String, AllocError>
     ensures { IfOk result (λ line.
         string_bytes line ≡ taken_line (thread_count frame.now) (frame_meta frame.now)) }
@@ -57,21 +57,21 @@ fn taken_line(alloc: Global, frame: &FrameData) -> Result<String, AllocError>
     Ok(line)
 }
 
-/// The line of a command that was refused.
+/// Formats the line of a command that was refused.
 fn refused_line(alloc: Global, number: u64, cause: Error) -> Result<String, AllocError>
     ensures { IfOk result (λ line. string_bytes line ≡ refused_line number cause) }
 {
     format!(in alloc; "refused {number} {cause}\n")
 }
 
-/// The line of a report that was refused.
+/// Formats the line of a report that was refused.
 fn kept_line(alloc: Global, number: u64, cause: Error) -> Result<String, AllocError>
     ensures { IfOk result (λ line. string_bytes line ≡ kept_line number cause) }
 {
     format!(in alloc; "kept {number} {cause}\n")
 }
 
-/// The line that is printed for the reply to the command of the script's line `number`, or `None` where nothing is printed for it.
+/// Formats the output for script line `number`, or returns `None` if the reply has none.
 pub(crate) fn reply_line(
     alloc: Global,
     number: u64,
@@ -91,7 +91,7 @@ pub(crate) fn reply_line(
     Ok(Some(line))
 }
 
-/// The lines that are printed for the replies to the commands of these lines of the script, one after another.
+/// Formats the output for the replies to the commands of these script lines.
 pub(crate) fn reply_lines(
     alloc: Global,
     numbers: &[u64],

@@ -15,12 +15,12 @@ use puffin_session::Command;
 use std::alloc::{AllocError, Global};
 use std::collections::BTreeMap;
 
-/// What a session is to do, as a script says it.
+/// A script's threads and commands.
 #[derive(Drop)]
 pub struct Script {
-    /// The threads' names, in the order in which they appear first.
+    /// The names of the threads, in the order of their first lines.
     pub names: Vec<String>,
-    /// The form of each thread's texts, one a name: long where the first line that names the thread makes it so.
+    /// The form of each thread, in the same order: long if the first line that names the thread is `long`.
     pub forms: Vec<Form>,
     /// The commands, in order. A thread's number is the place of its name.
     pub commands: Vec<Command>,
@@ -51,7 +51,7 @@ impl<'s> Threads<'s> {
         }
     }
 
-    /// The number of this name, which is the next one where it is new, and its thread then has this form.
+    /// Returns the number of this name. A new name gets the next number, and its thread has this form.
     fn number(&mut self, name: &'s str, form: Form) -> Result<usize, AllocError>
         ensures { IfOk result (λ number.
             IsNumbered self.old →
@@ -71,7 +71,7 @@ impl<'s> Threads<'s> {
         Ok(number)
     }
 
-    /// Whether a statement makes a thread's texts long that an earlier one has named.
+    /// Returns whether a statement is `long` for a thread that an earlier line has named.
     fn is_late(&self, statement: &Statement<'s>) -> bool
         ensures { IsNumbered self.now →
             result ≡ is_late (names_in self.now) (meaning_of statement.now) }
@@ -82,7 +82,7 @@ impl<'s> Threads<'s> {
         }
     }
 
-    /// The command that a statement asks for, or `None` where it only says how a thread's texts are stored.
+    /// Makes the command of a statement, or `None` if it only sets a thread's form.
     fn command(&mut self, statement: &Statement<'s>) -> Result<Option<Command>, AllocError>
         ensures { IfOk result (λ command.
             IsNumbered self.old →
@@ -142,13 +142,13 @@ impl<'s> Threads<'s> {
     }
 }
 
-/// The lines that are left of a script, each without its line feed.
+/// The rest of a script, line by line. The lines don't include their line feeds.
 #[derive(Clone, Copy)]
 struct Lines<'s> {
     left: Option<&'s [u8]>,
 }
 
-/// Where the first line ends, if a line feed ends it.
+/// Returns the offset of the first line feed, if there is one.
 fn line_end(bytes: &[u8]) -> Option<usize>
     ensures { result ≡ position is_line_feed bytes.now }
 {
@@ -174,7 +174,7 @@ impl<'s> Lines<'s> {
     }
 }
 
-/// Whether a line is empty, or begins with `#`.
+/// Returns whether a line is empty or begins with `#`.
 fn is_skipped(line: &[u8]) -> bool
     ensures { result ≡ is_skipped line.now }
 {
@@ -184,7 +184,7 @@ fn is_skipped(line: &[u8]) -> bool
     }
 }
 
-/// What a line says, `None` where it is skipped, or a fault.
+/// Parses a line. Returns `None` if it is skipped, and its number as the fault if it is invalid.
 fn told(number: u64, line: &[u8]) -> Result<Option<Statement<'_>>, ToolFault>
     ensures { MatchResult result
         (λ statement. told_by number line.now ≡ Ok (option_map meaning_of statement))
@@ -254,7 +254,7 @@ impl<'s> Reading<'s> {
     }
 }
 
-/// The script that these bytes spell.
+/// Parses a script.
 fn script_of(alloc: Global, bytes: &[u8]) -> Result<Script, ToolFault>
     requires { length bytes.now < 2 ^ 63 }
     ensures ok { IfOk result (IsScript bytes.now) }
@@ -280,17 +280,22 @@ fn script_of(alloc: Global, bytes: &[u8]) -> Result<Script, ToolFault>
     Ok(reading.into_script())
 }
 
-/// Reads a script to its end: a command in each line, but for those that are empty or begin with `#`, and for `long T`,
-/// which makes the texts of thread `T` long and has to be the first line that names it. Refused with the number of the first
-/// line that isn't UTF-8 or says nothing that is known there; else with `Io` where the reader failed, or with `Memory`;
-/// how far it read is then unspecified.
+/// Reads a script to its end. `docs/FORMAT.md` lists the commands. Each line is one, except lines that are empty or begin with
+/// `#`, and `long T`, which makes the form of thread `T` long and has to be the first line that names it.
+///
+/// Fails with `Line` and the number of the first line that isn't UTF-8 or isn't valid there; else with `Io` if the reader
+/// fails, or with `Memory`; how far it read is then unspecified.
+///
+/// ```
+/// let script = read_script(alloc, &mut Counted::new(b"begin main 100 1\nend main 200\nframe\n".as_slice()))?;
+/// ```
 pub fn read_script<S: Source>(alloc: Global, source: &mut S) -> Result<Script, ToolFault>
     requires { S.failures source.old < 2 ^ 64 - 1 }
     ensures script { IfOk result (λ script.
         (bytes : List ℕ)
         × ReadsAll (S.remaining source.old) (S.remaining source.new) bytes
         × IsScript bytes script) }
-    // The number is that of the first line that says nothing that is known.
+    // The number is that of the first invalid line.
     ensures fails { IfErr result (λ fault.
         ((bytes : List ℕ)
         × ReadsAll (S.remaining source.old) (S.remaining source.new) bytes

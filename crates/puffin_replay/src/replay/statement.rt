@@ -1,4 +1,4 @@
-//! What a line of a script says, with its words as they stand there.
+//! Parsing a line of a script. The words borrow from the line.
 
 ghost use Rattle.std.specs.Prelude.{◌≡◌, ◌^◌, List, ℕ, [], ◌∷◌, Some, None, option_map, MatchOption};
 ghost use Rattle.puffin_replay.specs.inner.ScriptReading.{meaning_of, words_left};
@@ -7,26 +7,26 @@ ghost use Rattle.puffin_replay.specs.Script.Statements.{line_meaning, words_in, 
 use puffin_data::NanoSecond;
 use puffin_data::data::ScopeId;
 
-/// What one line says.
+/// The meaning of one line.
 #[derive(Clone, Copy, Debug, PartialEq, Eq)]
 pub(crate) enum Statement<'l> {
-    /// A thread's texts are long.
+    /// Makes the form of a thread long.
     Long {
         thread: &'l str,
     },
-    /// A scope begins.
+    /// Begins a scope.
     Begin {
         thread: &'l str,
         at: NanoSecond,
         id: ScopeId,
         text: &'l str,
     },
-    /// The innermost open scope of a thread ends.
+    /// Ends the innermost open scope of a thread.
     End {
         thread: &'l str,
         at: NanoSecond,
     },
-    /// A thread registers a scope's details: a function's without a name.
+    /// Registers a scope's details with a thread. A function's details have no name.
     Register {
         thread: &'l str,
         name: Option<&'l str>,
@@ -34,24 +34,24 @@ pub(crate) enum Statement<'l> {
         file: &'l str,
         line: u32,
     },
-    /// A scope of another origin is registered.
+    /// Registers a scope of another origin.
     RegisterUser {
         name: &'l str,
     },
-    /// The next frame tells of all scopes.
+    /// Makes the next frame list every known scope.
     Snapshot,
-    /// A frame is taken.
+    /// Takes a frame.
     NewFrame,
 }
 
-/// The words that are left of a line, with one blank between two.
+/// The words that are left of a line, separated by one blank each.
 #[derive(Clone, Copy)]
 struct Words<'l> {
     left: Option<&'l str>,
 }
 
 impl<'l> Words<'l> {
-    /// The next word, which may be empty.
+    /// Returns the next word, which may be empty.
     fn next(&mut self) -> Option<&'l str>
         ensures { MatchOption result (words_left self.old ≡ []) (λ word.
             words_left self.old ≡ word.now ∷ words_left self.new) }
@@ -69,7 +69,7 @@ impl<'l> Words<'l> {
         }
     }
 
-    /// What is left, as it stands there.
+    /// Returns the rest of the line, unchanged.
     fn rest(self) -> &'l str
         ensures { result.now ≡ joined_words (words_left self.entry) }
     {
@@ -79,7 +79,7 @@ impl<'l> Words<'l> {
         }
     }
 
-    /// `None` where a word is left.
+    /// Returns `None` if a word is left.
     fn end(self) -> Option<()>
         ensures { MatchOption result
             ((word : List ℕ) × (words : List (List ℕ)) × (words_left self.entry ≡ word ∷ words))
@@ -92,7 +92,7 @@ impl<'l> Words<'l> {
     }
 }
 
-/// A decimal number without a sign, below `2^64`.
+/// Parses a decimal number without a sign, below `2^64`.
 fn number(word: &str) -> Option<u64>
     ensures { result ≡ number_of (2 ^ 64) word.now }
 {
@@ -102,35 +102,35 @@ fn number(word: &str) -> Option<u64>
     word.parse::<u64>().ok()
 }
 
-/// A time, in nanoseconds.
+/// Parses a time, in nanoseconds.
 fn time(word: &str) -> Option<NanoSecond>
     ensures { result ≡ moment_in word.now }
 {
     i64::try_from(number(word)?).ok()
 }
 
-/// A scope's id.
+/// Parses a scope's id.
 fn scope_id(word: &str) -> Option<ScopeId>
     ensures { result ≡ id_of word.now }
 {
     ScopeId::new(line_number(word)?)
 }
 
-/// The number of a line of code.
+/// Parses the number of a line of code.
 fn line_number(word: &str) -> Option<u32>
     ensures { result ≡ line_of word.now }
 {
     u32::try_from(number(word)?).ok()
 }
 
-/// A word that isn't empty.
+/// Returns the word unless it is empty.
 fn name(word: &str) -> Option<&str>
     ensures { option_map (λ x. x.now) result ≡ name_in word.now }
 {
     if word.is_empty() { None } else { Some(word) }
 }
 
-/// `T TIME ID`, and perhaps a text, which is the rest of the line.
+/// Parses `T TIME ID`, and a text if there is one: the rest of the line.
 fn begin<'l>(mut words: Words<'l>) -> Option<Statement<'l>>
     ensures { option_map meaning_of result ≡ begin_of (words_left words.entry) }
 {
@@ -146,7 +146,7 @@ fn begin<'l>(mut words: Words<'l>) -> Option<Statement<'l>>
     })
 }
 
-/// `T TIME`.
+/// Parses `T TIME`.
 fn end<'l>(mut words: Words<'l>) -> Option<Statement<'l>>
     ensures { option_map meaning_of result ≡ end_of (words_left words.entry) }
 {
@@ -156,7 +156,7 @@ fn end<'l>(mut words: Words<'l>) -> Option<Statement<'l>>
     Some(Statement::End { thread, at })
 }
 
-/// `FUNCTION FILE LINE`.
+/// Parses `FUNCTION FILE LINE`.
 fn details<'l>(
     thread: &'l str,
     scope: Option<&'l str>,
@@ -179,7 +179,7 @@ fn details<'l>(
     })
 }
 
-/// `T FUNCTION FILE LINE`.
+/// Parses `T FUNCTION FILE LINE`.
 fn function<'l>(mut words: Words<'l>) -> Option<Statement<'l>>
     ensures { option_map meaning_of result ≡ function_of (words_left words.entry) }
 {
@@ -187,7 +187,7 @@ fn function<'l>(mut words: Words<'l>) -> Option<Statement<'l>>
     details(thread, None, words)
 }
 
-/// `T NAME FUNCTION FILE LINE`.
+/// Parses `T NAME FUNCTION FILE LINE`.
 fn scope<'l>(mut words: Words<'l>) -> Option<Statement<'l>>
     ensures { option_map meaning_of result ≡ scope_of (words_left words.entry) }
 {
@@ -196,7 +196,7 @@ fn scope<'l>(mut words: Words<'l>) -> Option<Statement<'l>>
     details(thread, Some(scope), words)
 }
 
-/// `T`.
+/// Parses `T`.
 fn long<'l>(mut words: Words<'l>) -> Option<Statement<'l>>
     ensures { option_map meaning_of result ≡ long_of (words_left words.entry) }
 {
@@ -205,7 +205,7 @@ fn long<'l>(mut words: Words<'l>) -> Option<Statement<'l>>
     Some(Statement::Long { thread })
 }
 
-/// `NAME`.
+/// Parses `NAME`.
 fn user<'l>(mut words: Words<'l>) -> Option<Statement<'l>>
     ensures { option_map meaning_of result ≡ user_of (words_left words.entry) }
 {
@@ -214,7 +214,7 @@ fn user<'l>(mut words: Words<'l>) -> Option<Statement<'l>>
     Some(Statement::RegisterUser { name })
 }
 
-/// What a line says, or `None` where it says nothing that is known.
+/// Parses a line. Returns `None` if it isn't valid.
 pub(crate) fn read_statement(line: &str) -> Option<Statement<'_>>
     ensures { option_map meaning_of result ≡ line_meaning (words_in line.now) }
 {

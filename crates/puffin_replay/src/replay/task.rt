@@ -5,18 +5,18 @@ ghost use Rattle.puffin_replay.specs.Program.Arguments.{signed_moment_in, start_
 use puffin_data::{Error, NanoSecond, Result};
 use puffin_frames::thread_profiler::ThreadInfo;
 
-/// What the program is asked to do.
+/// A task of the program.
 #[derive(Debug, Drop, PartialEq, Eq)]
 pub enum Task {
-    /// Count the stream on standard input.
+    /// Counts the stream on standard input.
     Count,
-    /// Run the script at the first path, and write its frames to a file at the second.
+    /// Runs the script at the first path, and writes its frames to a file at the second.
     Replay(String, String),
-    /// Print what the file at a path says of a thread.
+    /// Prints the report of the file at a path for a thread.
     Report(String, ThreadInfo),
 }
 
-/// A time, in nanoseconds, which may be below 0.
+/// Parses a time, in nanoseconds, which may be negative.
 fn signed_time(word: &str) -> Option<NanoSecond>
     ensures { result ≡ signed_moment_in word.now }
 {
@@ -26,7 +26,7 @@ fn signed_time(word: &str) -> Option<NanoSecond>
     word.parse::<i64>().ok()
 }
 
-/// When a thread's first scope started: `-` where none did.
+/// Parses the start of a thread: a time, or `-` for none.
 fn start(word: &str) -> Option<Option<NanoSecond>>
     ensures { result ≡ start_in word.now }
 {
@@ -36,7 +36,7 @@ fn start(word: &str) -> Option<Option<NanoSecond>>
     Some(Some(signed_time(word)?))
 }
 
-/// The start and the name in a word `START:NAME`, or `None` for another word.
+/// Parses `START:NAME`. Returns `None` for another word.
 fn thread_of(word: &str) -> Option<(Option<NanoSecond>, &str)>
     ensures { option_map (λ t. record { start = t.0; name = t.1.now }) result
         ≡ thread_of_word word.now }
@@ -45,7 +45,7 @@ fn thread_of(word: &str) -> Option<(Option<NanoSecond>, &str)>
     Some((start(before)?, name))
 }
 
-/// The report of a file for the thread that a word says, or `None` for another word.
+/// Makes the task to report a file for the thread in `word`. Returns `None` if that isn't `START:NAME`.
 fn report_of(file: &String, word: &str) -> Result<Option<Task>>
     ensures task { IfOk result (λ task.
         option_map request_of task ≡ report_by (string_bytes file.now) word.now) }
@@ -63,7 +63,8 @@ fn report_of(file: &String, word: &str) -> Result<Option<Task>>
     Ok(Some(Task::Report(file.clone()?, thread)))
 }
 
-/// The task that the program's words ask for, or `None` for other words. Refused only with `Memory`, where it holds paths.
+/// Parses the program's arguments. Returns `None` if they aren't a task. Fails only with `Memory`, and only for a task with
+/// paths.
 pub fn read_words(words: &[String]) -> Result<Option<Task>>
     ensures task { IfOk result (λ task.
         option_map request_of task ≡ request_in (map string_bytes words.now)) }

@@ -2,7 +2,7 @@ use Rattle.std.proofs.Common.{◌∙◌, sym, ap}
 use Rattle.puffin_view.specs.View.File.{contents_in}
 use Rattle.puffin_frames.specs.Frame.Contents.{holding_of}
 use Rattle.puffin_frames.specs.Frame.Holding.{packing_of, held_contents}
-use Rattle.puffin_report.proofs.Summing.{summed_again, hindered_again, unpacked_again}
+use Rattle.puffin_report.proofs.Summaries.{summed_again, hindered_again, unpacked_again}
 use Rattle.puffin_report.proofs.laws.what_was_recorded_is_summed_up.Goals as goal
 
 pub returns-clause-summary : goal.returns-clause-summary

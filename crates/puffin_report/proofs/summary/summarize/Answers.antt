@@ -1,30 +1,45 @@
--- What was read is unpacked and merged.
-use Rattle.std.proofs.Common.{◌≡◌, List, Ok, length, sym, ap, ◌∙◌, arith}
+-- What was given is summed up.
+use Rattle.std.proofs.Common.{List, [], ◌∷◌, ◌++◌, ◌∙◌, inl, arith, length-append}
 use Rattle.std.proofs.lemmas.Result.{err_from_is_err_and}
 use Rattle.puffin_threads.specs.Thread.Info.{info_of}
-use Rattle.puffin_view.specs.View.File.{contents_in}
-use Rattle.puffin_view.specs.View.Known.{view_of}
-use Rattle.puffin_merge.specs.Merge.Scopes.{frames_bytes}
-use Rattle.puffin_report.specs.declared.summary.Summary.{Summary}
-use Rattle.puffin_report.proofs.Summing.{Unpacked, frames_fail, merge_fails, summed}
+use Rattle.puffin_frames.specs.Packet.Stored.{Stored}
+use Rattle.puffin_frames.specs.Packet.Next.{stored_of}
+use Rattle.puffin_report.proofs.Stepping.{fresh_frame, room_left, none_left, ends_so, if_ok_so, if_err_so}
 use Rattle.puffin_report.proofs.summary.summarize.Goals as goal
 
-pub returns-in_err-frames-clause-failures : goal.returns-in_err-frames-clause-failures
-returns-in_err-frames-clause-failures g c =
-    let p = err_from_is_err_and c.from_residual-in_err-frames.result c.from_residual-in_err-frames.ensures.1 in
-    rw (p.1, p.2) (c.in_ok-view.ensures.failures ∙ sym (frames_fail Summary _ (info_of c.args.thread.now) (contents_in (view_of c.in_ok-view.view)) c.in_err-frames.field-0.0 c.in_err-frames.ensures.err))
+pub returns-in_err-frame-clause-err : goal.returns-in_err-frame-clause-err
+returns-in_err-frame-clause-err g c =
+    let p = err_from_is_err_and c.from_residual-in_err-frame.result c.from_residual-in_err-frame.ensures.1 in
+    let before = c.frames.invariant in
+    rw (p.1, p.2) (inl (c.in_err-frame.ensures.fault _ before.0 before.1 (room_left before.0 c.frames.counter before.3 c.frames-test.true)))
 
-pub returns-in-Err-clause-err : goal.returns-in-Err-clause-err
-returns-in-Err-clause-err g c =
-    let info = info_of c.args.thread.now in
-    let f = c.in_ok-view.ensures.file in
-    let read = c.in_ok-frames.ensures.ok info ∙ ap (λ (held : List Unpacked). Ok (frames_bytes info held)) (sym c.as_slice.ensures.value) in
-    merge_fails info _ _ c.in_ok-view.view c.as_slice.result.now c.in-Err.cause c.as_file_error.result f.0 f.1 f.2 read c.in-Err.ensures.err c.as_file_error.ensures.memory c.as_file_error.ensures.other
+pub returns-in_default-clause-summary : goal.returns-in_default-clause-summary
+returns-in_default-clause-summary g c =
+    let before = c.frames.invariant in
+    let few = room_left before.0 c.frames.counter before.3 c.frames-test.true in
+    let took = (rw c.in_default.is at c.in_ok-frame.ensures.end) _ before.0 before.1 few in
+    if_ok_so c.finish.result (λ summary sums. (before.0, took, sums (info_of c.args.thread.now) before.0 before.2 few)) c.finish.ensures.ok
 
-pub returns-clause-summary : goal.returns-clause-summary
-returns-clause-summary g c =
-    let info = info_of c.args.thread.now in
-    let f = c.in_ok-view.ensures.file in
-    let read = c.in_ok-frames.ensures.ok info ∙ ap (λ (held : List Unpacked). Ok (frames_bytes info held)) (sym c.as_slice.ensures.value) in
-    let number : c.len.result ≡ length c.as_slice.result.now = omega (arith, c.len.ensures, c.in_ok-frames.frames.ok.0, ap length c.as_slice.ensures.value) in
-    (f.0, f.1, summed info f.0 c.in_ok-view.view c.as_slice.result.now (record { frames = c.len.result; scopes = c.in-Ok-clone.scopes; merged = c.in-Ok.merged }) f.2 number read c.in-Ok.ensures.merged (c.in-Ok-clone.ensures.ok ∙ c.scope_collection-in-Ok.ensures))
+pub returns-in_default-clause-err : goal.returns-in_default-clause-err
+returns-in_default-clause-err g c =
+    let before = c.frames.invariant in
+    let few = room_left before.0 c.frames.counter before.3 c.frames-test.true in
+    let took = (rw c.in_default.is at c.in_ok-frame.ensures.end) _ before.0 before.1 few in
+    if_err_so c.finish.result (λ fault ends. ends_so (info_of c.args.thread.now) _ _ before.0 fault took (ends (info_of c.args.thread.now) before.0 before.2 few)) c.finish.ensures.err
+
+pub frames-preserved : goal.frames-preserved
+frames-preserved g c =
+    let before = c.frames.invariant in
+    let frame = c.in-Some.frame in
+    let one : List Stored = stored_of frame ∷ [] in (
+      before.0 ++ one,
+      (rw c.in-Some.is at c.in_ok-frame.ensures.given) _ before.0 before.1,
+      c.in_ok-sum.ensures.ok (info_of c.args.thread.now) before.0 (stored_of frame) (fresh_frame frame (rw c.in-Some.is at c.in_ok-frame.ensures.fresh)) before.2,
+      omega (arith, length-append before.0 one, before.3),
+      c.in_ok-frame.ensures.failures ∙ before.4,
+    )
+
+pub returns-clause-err : goal.returns-clause-err
+returns-clause-err g c =
+    let before = c.frames.invariant in
+    inl (c.files_have_an_end.ensures _ _ before.0 before.1 (none_left before.0 c.frames.counter before.3 c.frames-test.false c.frames.auto.counter-end))

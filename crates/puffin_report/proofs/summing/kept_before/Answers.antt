@@ -1,0 +1,6 @@
+use Rattle.puffin_report.proofs.Stepping.{rises_so, all_kept}
+use Rattle.puffin_report.proofs.summing.kept_before.Goals as goal
+
+pub returns-then-rises : goal.returns-then-rises
+returns-then-rises c = λ info cs d last index h none.
+    all_kept info cs d c.args.progress h (c.reading_keeps_what_rises.ensures.goes_on cs d (rises_so c.args.last c.args.index cs d c.rises.result _ last index c.rises.ensures c.if-rises.true))

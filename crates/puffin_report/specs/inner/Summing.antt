@@ -1,0 +1,75 @@
+-- What summing up a file has of the frames so far, in the memory of one frame.
+use Rattle.std.specs.Prelude.{◌≡◌, ◌<◌, ◌≤◌, ◌-◌, ◌^◌, List, [], ◌∷◌, ◌++◌, Ok, Err, map, length}
+use Rattle.std.specs.List.{flat_map}
+use Rattle.puffin_data.specs.declared.error.Error.{Error}
+use Rattle.puffin_data.specs.declared.error.Error.TheVariants.{Memory}
+use Rattle.puffin_threads.specs.Thread.Info.{Info, info_of}
+use Rattle.puffin_threads.specs.Details.Collection.{no_details, with_all_details}
+use Rattle.puffin_frames.specs.Packet.Stored.{Said, Stored}
+use Rattle.puffin_view.specs.View.{last_index}
+use Rattle.puffin_view.specs.View.ViewedFrames.{contents_of, rising_end}
+use Rattle.puffin_view.specs.View.File.{frame_stored, details_stored}
+use Rattle.puffin_merge.specs.declared.merge.merger.Merger.{Merger}
+use Rattle.puffin_merge.specs.Merge.FrameBytes.{FrameBytes}
+use Rattle.puffin_merge.specs.Merge.Refusals.{IsMergeRefusal}
+use Rattle.puffin_merge.specs.Merge.Merger.{HasAdded}
+use Rattle.puffin_report.specs.declared.summing.Progress.{Progress}
+use Rattle.puffin_report.specs.declared.summing.Progress.TheVariants as progress
+use Rattle.puffin_report.specs.declared.summing.Summing.{Summing}
+use Rattle.puffin_report.specs.Summary.{all_bytes_in}
+
+-- what frames say that were read
+abbrev pub said_by : List Stored → List Said
+said_by stored = map contents_of (map frame_stored stored)
+
+-- those since the last one whose index isn't above that of the frame before it
+abbrev pub kept_of : List Stored → List Said
+kept_of stored = rising_end (said_by stored)
+
+-- ---- how far merging came with the frames that are kept
+
+-- all of them were unpacked and added
+abbrev pub AreAdded : Info → List Said → Merger → Type 0
+AreAdded info kept m =
+    (streams : List FrameBytes)
+    × (all_bytes_in info kept ≡ Ok streams)
+    × HasAdded streams m
+    × (info_of m.info.now ≡ info)
+
+-- all of them were unpacked, and merging them is refused so, whatever frames follow
+abbrev pub AreRefused : Info → List Said → Error → Type 0
+AreRefused info kept cause =
+    (streams : List FrameBytes)
+    × (all_bytes_in info kept ≡ Ok streams)
+    × (cause ≡ Memory → ⊥)
+    × ((later : List FrameBytes) → IsMergeRefusal (streams ++ later) cause)
+
+-- by which of the two it came, or the fault of the first that isn't unpacked
+abbrev pub IsProgress : Info → List Said → Progress → Type 0
+IsProgress info kept (progress.Merged m) = AreAdded info kept m
+IsProgress info kept (progress.Refused cause) = AreRefused info kept cause
+IsProgress info kept (progress.NotUnpacked fault) = all_bytes_in info kept ≡ Err fault
+
+-- that of some frames, and one more can be added
+abbrev pub CanGoOn : Progress → Type 0
+CanGoOn p = (info : Info) × (kept : List Said) × IsProgress info kept p × (length kept < 2 ^ 64 - 1)
+
+-- that of the frames which, with one frame more, are those that are kept of all
+pub record IsKeptWith (info : Info) (cs : List Said) (c : Said) (p : Progress) : Type 0 where
+  pub before : List Said
+  pub fewer : length before ≤ length cs
+  pub progress : IsProgress info before p
+  pub kept : rising_end (cs ++ c ∷ []) ≡ before ++ c ∷ []
+
+-- ---- how far summing up came with the frames that were read
+
+pub record HasSummed (info : Info) (stored : List Stored) (s : Summing) : Type 0 where
+  pub thread : info_of s.thread.now ≡ info
+  pub last : s.last_index ≡ last_index (said_by stored)
+  pub scopes : s.scopes ≡ with_all_details no_details (flat_map details_stored stored)
+  pub progress : IsProgress info (kept_of stored) s.progress
+
+-- Some frames were read, and one more can be.
+abbrev pub CanTake : Summing → Type 0
+CanTake s =
+    (info : Info) × (stored : List Stored) × HasSummed info stored s × (length stored < 2 ^ 64 - 1)
