@@ -6,11 +6,17 @@ The first program, asked for `memory`, makes each call again that was refused fo
 print the same whichever allocation it was. The second must do what it does otherwise; or end with status 1 and say that there
 was no memory, and nothing but a beginning of its output is written then; or, where it replays a script, tell in one line that
 one command was refused or one report kept for memory, and go on: of a script of one scope each such end is known, with the
-file of the frames that its lines tell of. A C compiler is needed: `cc`, or what CC names.
+file of the frames that its lines tell of. Asked for `threads`, the first has to end too, whichever allocation or start of a
+thread was refused: with all parts done, and each scope that was begun reported, or with an error before the first part. A C
+compiler is needed: `cc`, or what CC names.
+
+At last the second program reports a file of many frames in little memory (one frame's and the report's, and not the file's), and
+refuses a packet whose details are fewer than their number says, without memory for one of them.
 """
 
 import os
 import pathlib
+import resource
 import subprocess
 import sys
 import tempfile
@@ -36,6 +42,14 @@ frame
 frame
 """
 
+# a frame of twenty scopes; the file of sixty thousand such frames has 45 MB
+SCOPES = b"".join(b"begin main %d 1 data\nend main %d\n" % (start, start + 5) for start in range(100, 300, 10)) + b"frame\n"
+MANY = 60_000
+MANY_LINES = b"frames %d\n#1 (data) pieces %d total %d per_frame 100 max 5 start 100\n" % (MANY, 20 * MANY, 100 * MANY)
+# the address space in which it is reported
+ROOM = 16_000_000
+LYING = 50_000_000
+
 
 class Refusing:
     """Runs a program in a folder, with one allocation refused."""
@@ -44,15 +58,19 @@ class Refusing:
         self.folder = folder
         self.library = f"{folder}/refuse.so"
         compiler = os.environ.get("CC", "cc")
-        subprocess.run([compiler, "-O2", "-shared", "-fPIC", "-o", self.library, HERE / "refuse.c"], check=True)
+        subprocess.run([compiler, "-O2", "-shared", "-fPIC", "-o", self.library, HERE / "refuse.c", "-ldl"], check=True)
 
-    def run(self, words, given, number):
-        """The status, what was written, and how many allocations there were (0: refused)."""
+    def run(self, words, given, number, thread=0):
+        """The status (None: it doesn't end), what was written, and how many allocations there were. 0 is none that is refused."""
         told, out = f"{self.folder}/count", pathlib.Path(f"{self.folder}/out")
         for path in (told, out):
             pathlib.Path(path).unlink(missing_ok=True)
-        settings = {"LD_PRELOAD": self.library, "REFUSED": str(number), "REFUSED_COUNT": told}
-        ran = subprocess.run(words, input=given, capture_output=True, cwd=self.folder, env={**os.environ, **settings}, timeout=120)
+        settings = {"LD_PRELOAD": self.library, "REFUSED": str(number), "REFUSED_THREAD": str(thread), "REFUSED_COUNT": told}
+        environment = {**os.environ, **settings}
+        try:
+            ran = subprocess.run(words, input=given, capture_output=True, cwd=self.folder, env=environment, timeout=60)
+        except subprocess.TimeoutExpired as late:
+            return None, late.stdout or b"", late.stderr or b"", b"", 0
         count = int(pathlib.Path(told).read_text()) if os.path.exists(told) else 0
         return ran.returncode, ran.stdout, ran.stderr, out.read_bytes() if out.exists() else b"", count
 
@@ -87,17 +105,75 @@ def is_one_scope_replied(first):
     return lambda ended, usual: ended[0] == 0 and ended[1] in lines and not ended[2] and ended[3] == NO_FRAMES
 
 
+def is_not_begun(ended, usual):
+    """No part of a round was done."""
+    return ended[:3] == (0, b"parts 0 begun 0 refused\n", b"")
+
+
+def is_all_reported(ended, usual):
+    """Each part was done, what was begun was reported, and that was handed out or waits; each frame is in the view, or missed."""
+    words = ended[1].split()
+    told = dict(zip(words[::2], map(int, words[1::2]))) if words[1::2] and all(it.isdigit() for it in words[1::2]) else {}
+    if ended[0] or ended[2] or list(told) != usual[1].split()[::2] or told[b"parts"] != int(usual[1].split()[1]):
+        return False
+    is_whole = told[b"begun"] == told[b"reported"] == told[b"handed"] + told[b"pending"]
+    return is_whole and told[b"frames"] == told[b"held"] + told[b"missed"]
+
+
+def faults_of_threads(refusing, words):
+    """The same of the program's three threads, each of which can't be started in turn: nothing begins."""
+    usual = refusing.run(words, b"", 0)
+    ended = {number: refusing.run(words, b"", 0, number) for number in (1, 2, 3)}
+    return 3, [f"thread {number}: {it[:3]}" for number, it in ended.items() if not is_not_begun(it, usual)]
+
+
 def faults(refusing, words, given, ends):
     """How many allocations were refused, and the runs that ended in none of these ways."""
     usual = refusing.run(words, given, 0)
     if usual[0]:
         return 0, [f"with memory it ends with status {usual[0]}: {usual[2]!r:.200}"]
+    if not usual[4]:
+        return 0, ["no allocation was counted"]
     found = []
     for number in range(1, usual[4] + 1):
         ended = refusing.run(words, given, number)
         if not any(is_well(ended, usual) for is_well in ends):
             found.append(f"at {number}: status {ended[0]}, {ended[1]!r:.200}, {ended[2]!r:.200}")
     return usual[4], found
+
+
+def numbered(packet, index):
+    """The packet of frame 0 as that of another index."""
+    size = int.from_bytes(packet[4:8], "little")
+    number = bytes([index]) if index < 251 else b"\xfb" + index.to_bytes(2, "little")
+    return packet[:4] + (size - 1 + len(number)).to_bytes(4, "little") + number + packet[9:]
+
+
+def run_within(room, words, folder):
+    """The status and what was written, of a program that may have so many bytes of memory."""
+    limit = lambda: resource.setrlimit(resource.RLIMIT_AS, (room, room))
+    ran = subprocess.run(words, capture_output=True, cwd=folder, preexec_fn=limit, timeout=120)
+    return ran.returncode, ran.stdout, ran.stderr
+
+
+def faults_of_lying_details(tool, folder):
+    """What is wrong with the refusal of details that are fewer than their number says: none of them may take memory."""
+    frame = pathlib.Path(f"{folder}/one_frame").read_bytes()
+    details = b"\xfc" + (2 * LYING).to_bytes(4, "little") + bytes(LYING - 5)
+    pathlib.Path(f"{folder}/lying").write_bytes(frame[:-5] + LYING.to_bytes(4, "little") + details)
+    ended = run_within(4 * LYING, [tool, "report", "lying", "100:main"], folder)
+    return [] if ended == (1, b"", b"puffin-tool: BadScopes\n") else [f"{ended!r:.300}"]
+
+
+def many_faults(tool, folder):
+    """What is wrong with the report of many frames in little memory."""
+    with open(f"{folder}/scopes", "rb") as file:
+        letters, packet = file.read(4), file.read()
+    with open(f"{folder}/many", "wb") as file:
+        file.write(letters)
+        file.writelines(numbered(packet, index) for index in range(MANY))
+    ended = run_within(ROOM, [tool, "report", "many", "100:main"], folder)
+    return [] if ended == (0, MANY_LINES, b"") else [f"{ended!r:.300}"]
 
 
 def main():
@@ -113,10 +189,13 @@ def main():
         pathlib.Path(f"{folder}/script").write_bytes(SCRIPT)
         pathlib.Path(f"{folder}/one_scope").write_bytes(ONE_SCOPE)
         pathlib.Path(f"{folder}/long_scope").write_bytes(LONG_SCOPE)
-        for script, frames in (("script", "frames"), ("one_scope", "one_frame"), ("long_scope", "long_frames")):
+        pathlib.Path(f"{folder}/scopes_script").write_bytes(SCOPES)
+        replayed = {"script": "frames", "one_scope": "one_frame", "long_scope": "long_frames", "scopes_script": "scopes"}
+        for script, frames in replayed.items():
             subprocess.run([tool, "replay", script, frames], capture_output=True, cwd=folder, check=True)
         cases = {
             "each call twice": ([trials, "memory"], b"", [is_alike]),
+            "threads": ([trials, "threads"], b"", [is_all_reported, is_not_begun]),
             "count": ([tool, "count"], STREAM, [is_alike, is_told]),
             "replay": ([tool, "replay", "script", "out"], b"", [is_alike, is_told, is_replied]),
             "replay of one scope": ([tool, "replay", "one_scope", "out"], b"", [is_alike, is_told, is_one_scope_replied(1)]),
@@ -129,7 +208,16 @@ def main():
             count, found = faults(refusing, words, given, ends)
             failed += bool(found)
             print(f"memory {name} ... {'; '.join(found) if found else f'{count} allocations refused in turn: ok'}")
-    print(f"{len(cases) - failed} passed, {failed} failed")
+        count, found = faults_of_threads(refusing, [trials, "threads"])
+        failed += bool(found)
+        print(f"memory threads not started ... {'; '.join(found) if found else f'{count} starts refused in turn: ok'}")
+        found = many_faults(tool, folder)
+        failed += bool(found)
+        print(f"memory of a report of many frames ... {'; '.join(found) or f'{MANY} frames in {ROOM // 1_000_000} MB: ok'}")
+        found = faults_of_lying_details(tool, folder)
+        failed += bool(found)
+        print(f"memory of details that lie ... {'; '.join(found) or f'{LYING} bytes in {4 * LYING // 1_000_000} MB: ok'}")
+    print(f"{len(cases) + 3 - failed} passed, {failed} failed")
     return 1 if failed else 0
 
 

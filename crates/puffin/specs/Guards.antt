@@ -1,4 +1,4 @@
--- How scopes of a thread begin at places, and end with guards.
+-- What beginning and ending a scope at a `Place` does to a thread.
 use Rattle.std.specs.Prelude.{ℕ, ◌+◌, ◌≡◌, ◌≢◌, ℤ, pos, ◌≤ℤ◌, List, Option, Some, None}
 use Rattle.std.specs.Borrow.{Bor}
 use Rattle.puffin_data.specs.declared.error.Error.{Error}

@@ -2,5 +2,6 @@ pub mod Profiler
 pub mod Sinks
 pub mod Shares
 pub mod SharedCauses
+pub mod Taking
 pub mod Guards
 pub mod inner

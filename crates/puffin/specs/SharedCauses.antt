@@ -1,4 +1,4 @@
--- Why a call under a lock is refused. What stood under the lock is not the caller's to see: these are the causes that remain.
+-- The causes of a refusal by a shared profiler, whose state a caller can't see.
 use Rattle.std.specs.Prelude.{◌≡◌, List, ◌⊎◌}
 use Rattle.puffin_data.specs.declared.error.Error.{Error}
 use Rattle.puffin_data.specs.declared.error.Error.TheVariants.{IdsExhausted, IndexExhausted, MissingId, UnlikeForms, TooLarge, RangeTooLong, Memory}

@@ -3,6 +3,7 @@ use Rattle.std.specs.Prelude.{◌≡◌, ℕ, ◌+◌, List, Option, Some, None,
 use Rattle.std.specs.FinMap as map
 use Rattle.std.specs.Arc.{arc_value}
 use Rattle.std.specs.declared.sync.Arc.{Arc}
+use Rattle.std.specs.declared.sync.ledger.Blank.{Blank}
 use Rattle.puffin_frames.specs.declared.frame_data.frame.FrameData.{FrameData}
 use Rattle.puffin_frames.specs.Frame.Contents.{Streams, AreHonest, holding_of, frame_meta}
 use Rattle.puffin_frames.specs.Frame.Sums.{total_scopes}
@@ -28,6 +29,11 @@ all_reported shares = sum_by (λ c. c.reported) shares
 
 abbrev pub all_handed : List ShareCounts → ℕ
 all_handed shares = sum_by (λ c. c.handed) shares
+
+-- a blank for so many shares, of the ledger that has this name and so many parts
+abbrev pub IsBlankFor : ℕ → ℕ → ℕ → Blank → Type 0
+IsBlankFor name parts shares blank =
+    (blank.name ≡ name) × (blank.parts ≡ parts) × (blank.parts ≡ shares)
 
 -- a share counts the scopes of a frame that is handed out to it, if there is one
 abbrev pub CountsFrame : {A : Type 0} → ShareCounts → Option (Arc FrameData A) → ShareCounts →

@@ -1,2 +1,2 @@
--- What private types and functions alone cite.
+-- What only private types and functions cite.
 pub mod Numbers

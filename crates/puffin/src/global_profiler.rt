@@ -1,4 +1,5 @@
-//! What threads report, and the frames that it is handed out in.
+//! A profiler that collects what threads report, hands it out in frames and hands these to sinks; and the same profiler behind
+//! a lock, for several threads.
 
 mod booked;
 mod global_frame_view;

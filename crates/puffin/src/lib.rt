@@ -1,25 +1,24 @@
-//! A profiler that threads report to and that hands out what they reported in frames, views that keep frames, and the
-//! totals of scopes over frames. The modules of the crates below stand here again under their own names, so that a
-//! program needs this crate alone.
+//! A profiler that threads report to and that hands out their scopes in frames, views that keep frames, and totals of scopes
+//! over frames. The modules of the crates below are re-exported under their own names, so a program needs only this crate.
 //!
 //! | to | call |
 //! |---|---|
 //! | profile a program in few lines | [`light`] |
 //! | record one thread's scopes | [`thread_profiler::ThreadProfiler::new`]; `with_form` for texts of up to 16,383 bytes |
-//! | gather what threads report | [`global_profiler::GlobalProfiler::new`]; it is the [`thread_profiler::Reporter`] of each `end_scope` |
+//! | collect what threads report | [`global_profiler::GlobalProfiler::new`]; it is the [`thread_profiler::Reporter`] of each `end_scope` |
 //! | take a frame | [`global_profiler::GlobalProfiler::new_frame`] |
 //! | hand each frame to others too | [`global_profiler::GlobalProfiler::add_sink`], [`global_profiler::FrameSink`] |
 //! | share a profiler among threads | [`global_profiler::SharedProfiler::open`]; a [`global_profiler::SharedReporter`] for each thread |
 //! | keep a view of a shared profiler's frames | [`global_profiler::GlobalFrameView::attach`] |
-//! | see that nothing is missing, over all threads | [`global_profiler::SharedProfiler::settle`] |
+//! | check that no scope is missing, over all threads | [`global_profiler::SharedProfiler::settle`] |
 //! | register and report scopes of another origin | [`global_profiler::GlobalProfiler::register_user_scopes`], `report_user_scopes` |
-//! | have the next frame tell of all known scopes | [`global_profiler::GlobalProfiler::emit_scope_snapshot`] |
-//! | see that nothing is missing | [`global_profiler::GlobalProfiler::totals`] |
+//! | make the next frame list every known scope | [`global_profiler::GlobalProfiler::emit_scope_snapshot`] |
+//! | check that no scope is missing | [`global_profiler::GlobalProfiler::totals`] |
 //! | keep the last and the slowest frames | [`profile_view::FrameView::add_frame`]; its listings and `stats` |
 //! | write them to a `.puffin` file, and read one | [`profile_view::FrameView::write`], [`profile_view::FrameView::read`] |
-//! | pick the slowest of any frames | [`profile_view::select_slowest`] |
+//! | select the slowest of any frames | [`profile_view::select_slowest`] |
 //! | add up one thread's scopes over frames | [`merge::merge_scopes_for_thread`] |
-//! | the same, one frame at a time | [`merge::Merger`] |
+//! | add them up one frame at a time | [`merge::Merger`] |
 //! | make a scope of a function, or of a part of it | the macros `profile_function`, `profile_scope` and the four like them; [`ProfilerScope`] by hand |
 //! | turn those scopes on and off | [`Switch::set_scopes_on`] |
 //! | keep the id of a place in the code | [`Site::new`] |

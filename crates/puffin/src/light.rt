@@ -1,22 +1,24 @@
-//! Profiling with little to write: a thread that has all that its scopes need, places that know their names, and threads that
-//! are started, joined and settled here.
+//! Profiling in few lines: a thread with its clock and reporter, places with their names, and programs whose threads are
+//! started, joined and settled for you.
 //!
 //! | to | call |
 //! |---|---|
 //! | name a place in the code | the macro `place`; a struct of [`Place`]s is a program's list of them |
 //! | profile one thread | [`Thread::start`], then [`Records::scope`] or the macro `profile` |
 //! | open a scope within another | [`Guard::scope`] |
-//! | say what belongs to one run of a scope | [`Records::scope_with`], [`Guard::scope_with`] |
+//! | give a scope a text | [`Records::scope_with`], [`Guard::scope_with`] |
 //! | turn all scopes off and on | [`Scopes::set_on`] |
 //! | take a frame of one thread | [`Thread::new_frame`] |
 //! | write frames to a file | [`save`] |
 //! | profile several threads that work in rounds, a frame a round | [`Rounds`], [`in_rounds`] |
-//! | profile several threads that do as they please | [`Program`], [`profiled`] |
+//! | the same, if each thread keeps a state from round to round | [`StatefulRounds`] |
+//! | profile several threads that decide themselves when frames are taken | [`Program`], [`profiled`] |
 
 mod counted;
 pub mod files;
 mod gate;
 pub mod guard;
+pub mod laws;
 mod macros;
 pub mod place;
 pub mod program;
@@ -24,12 +26,13 @@ mod ready;
 pub mod rounds;
 pub mod scopes;
 mod started;
+mod taker;
 pub mod thread;
 
 pub use files::save;
 pub use guard::{Guard, Records, Standing};
 pub use place::Place;
 pub use program::{Frames, Outcome, Program, profiled};
-pub use rounds::{Rounds, in_rounds};
+pub use rounds::{Rounds, StatefulRounds, in_rounds};
 pub use scopes::Scopes;
 pub use thread::Thread;

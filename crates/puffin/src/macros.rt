@@ -1,21 +1,21 @@
-//! Macros that make guards. They take, in this order:
+//! Macros that make guards. They take these arguments, in this order:
 //!
 //! | argument | is |
 //! |---|---|
-//! | `guard` | the name of the guard |
+//! | `guard` | the name of the guard, in the macros that bind one |
 //! | `condition` | in the `_if` forms, a `bool` that is evaluated only while the switch is on |
-//! | `profiler` | a `&mut` to the thread's profiler, or a call that gives one, as `outer.profiler()` |
+//! | `profiler` | a `&mut` to the thread's profiler, or a call that returns one, as `outer.profiler()` |
 //! | `switch` | the [`crate::Switch`] |
 //! | `ids` | a `&` to the ids that all threads draw from |
 //! | `site` | the [`crate::Site`] of this place, and of no other |
 //! | `function` | the function's name |
-//! | `name` | of a scope within a function, its name: a `&'static str`, a `String` or a `CowStr`, which is evaluated at the place's first use alone |
-//! | `text` | what belongs to this one run; it may be left out |
+//! | `name` | the name of a scope within a function: a `&'static str`, a `String` or a `CowStr`, which is evaluated only until the place has an id |
+//! | `text` | a text for this one run of the scope; may be left out |
 //!
-//! Where the switch is off or the condition false, the guard is off. Where registering or beginning is refused, it is off
-//! too, and its `refusal` says why.
+//! If the switch is off or the condition is false, the guard has no scope. If registering or beginning the scope fails, it has
+//! none either, and its `refusal` returns the error.
 
-/// Binds a guard of the whole function, where the condition holds.
+/// Binds a guard as [`profile_function`](crate::profile_function) does. The guard has a scope only if the condition holds.
 #[macro_export]
 macro_rules! profile_function_if {
     ($guard:ident, $condition:expr, $profiler:expr, $switch:expr, $ids:expr, $site:expr, $function:expr $(,)?) => {
@@ -40,6 +40,10 @@ macro_rules! profile_function_if {
 }
 
 /// Binds a guard of the whole function.
+///
+/// ```
+/// profile_function!(whole, thread, switch, ids, places.draw, "draw");
+/// ```
 #[macro_export]
 macro_rules! profile_function {
     ($guard:ident, $($rest:tt)*) => {
@@ -47,7 +51,8 @@ macro_rules! profile_function {
     };
 }
 
-/// A guard of a scope with a name, where the condition holds.
+/// Makes a guard as [`profile_scope_custom`](crate::profile_scope_custom) does. The guard has a scope only if the condition
+/// holds.
 #[macro_export]
 macro_rules! profile_scope_custom_if {
     ($condition:expr, $profiler:expr, $switch:expr, $ids:expr, $site:expr, $function:expr, $name:expr $(,)?) => {
@@ -72,7 +77,7 @@ macro_rules! profile_scope_custom_if {
     }};
 }
 
-/// A guard of a scope with a name.
+/// Makes a guard of a scope with a name. It is an expression, so the caller binds the guard.
 #[macro_export]
 macro_rules! profile_scope_custom {
     ($($rest:tt)*) => {
@@ -81,6 +86,11 @@ macro_rules! profile_scope_custom {
 }
 
 /// Binds a guard of a scope with a name.
+///
+/// ```
+/// let profiler = whole.profiler();
+/// profile_scope!(row, profiler, switch, ids, places.row, "draw", "row");
+/// ```
 #[macro_export]
 macro_rules! profile_scope {
     ($guard:ident, $($rest:tt)*) => {
@@ -88,7 +98,7 @@ macro_rules! profile_scope {
     };
 }
 
-/// Binds a guard of a scope with a name, where the condition holds.
+/// Binds a guard as [`profile_scope`](crate::profile_scope) does. The guard has a scope only if the condition holds.
 #[macro_export]
 macro_rules! profile_scope_if {
     ($guard:ident, $($rest:tt)*) => {

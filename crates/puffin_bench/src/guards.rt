@@ -1,4 +1,5 @@
-//! Scopes by guards and by macros, on a thread whose reports nobody keeps. Its clock stands still, but for one line.
+//! Scopes with guards and macros, on a thread whose reports nobody keeps. Its clock stays at one time, except where a work uses
+//! the system's clock.
 
 use crate::reports::Ignored;
 use puffin::data::ScopeId;
@@ -9,14 +10,14 @@ use puffin_data::Result;
 
 /// How many nests of scopes a run makes.
 const NESTS: usize = 512;
-/// How many scopes stand one within the other in a nest.
+/// The nesting depth of a nest.
 const DEPTH: usize = 8;
 /// How many scopes a run makes.
 pub const SCOPES: usize = NESTS * DEPTH;
 
 type Thread = ThreadProfiler<ScriptClock>;
 
-/// What the threads of a program share.
+/// The switch, the ids and the places that the threads of a program share.
 #[derive(Drop)]
 pub struct Scopes {
     switch: Switch,
@@ -27,7 +28,7 @@ pub struct Scopes {
 }
 
 impl Scopes {
-    /// With the switch on or off.
+    /// Makes places, with the switch on or off.
     pub fn new(on: bool) -> Scopes {
         let scopes = Scopes {
             switch: Switch::new(),
@@ -41,7 +42,7 @@ impl Scopes {
     }
 }
 
-/// Scopes that are switched off, one after the other.
+/// Makes scopes that are switched off, one after the other.
 #[inline(never)]
 fn off(thread: &mut Thread, scopes: &Scopes) {
     for _ in 0..SCOPES {
@@ -57,7 +58,7 @@ fn off(thread: &mut Thread, scopes: &Scopes) {
     }
 }
 
-/// So many scopes with a name, one within the other.
+/// Makes named scopes, nested `depth` deep.
 #[inline(never)]
 fn named<C: NsSource>(thread: &mut ThreadProfiler<C>, scopes: &Scopes, depth: usize) {
     profile_scope!(
@@ -74,7 +75,7 @@ fn named<C: NsSource>(thread: &mut ThreadProfiler<C>, scopes: &Scopes, depth: us
     }
 }
 
-/// The same with a text.
+/// Makes named scopes with a text, nested `depth` deep.
 #[inline(never)]
 fn named_with_text(thread: &mut Thread, scopes: &Scopes, text: &str, depth: usize) {
     profile_scope!(
@@ -92,7 +93,7 @@ fn named_with_text(thread: &mut Thread, scopes: &Scopes, text: &str, depth: usiz
     }
 }
 
-/// So many functions, one within the other.
+/// Makes scopes of functions, nested `depth` deep.
 #[inline(never)]
 fn functions(thread: &mut Thread, scopes: &Scopes, depth: usize) {
     profile_function!(
@@ -108,7 +109,7 @@ fn functions(thread: &mut Thread, scopes: &Scopes, depth: usize) {
     }
 }
 
-/// So many guards by hand, one within the other.
+/// Makes guards by hand, nested `depth` deep.
 #[inline(never)]
 fn guards(thread: &mut Thread, id: ScopeId, depth: usize) {
     let mut guard = ProfilerScope::open(thread, Ok(id), "");
@@ -117,7 +118,7 @@ fn guards(thread: &mut Thread, id: ScopeId, depth: usize) {
     }
 }
 
-/// The nests of [`GuardWork::Named`] by any clock, each reported at its end. Returns how many reports there were.
+/// Makes the nests of [`GuardWork::Named`] by any clock, and reports each at its end. Returns the number of reports.
 #[inline(never)]
 pub fn named_nests<C: NsSource>(thread: &mut ThreadProfiler<C>, scopes: &Scopes) -> Result<usize> {
     let mut reports: usize = 0;
@@ -130,23 +131,23 @@ pub fn named_nests<C: NsSource>(thread: &mut ThreadProfiler<C>, scopes: &Scopes)
     Ok(reports)
 }
 
-/// A kind of work.
+/// A kind of work with guards.
 #[derive(Clone, Copy, PartialEq, Eq)]
 pub enum GuardWork {
-    /// Scopes while the switch is off.
+    /// Macro scopes while the switch is off.
     Off,
-    /// Scopes with a name.
+    /// Macro scopes with a name.
     Named,
-    /// Functions.
+    /// Macro scopes of functions.
     Functions,
-    /// Scopes with a name and a text.
+    /// Macro scopes with a name and a text.
     Text,
-    /// Guards by hand.
+    /// Guards made by hand.
     Guards,
 }
 
 impl GuardWork {
-    /// Each kind of work.
+    /// Every kind of work.
     pub const ALL: [GuardWork; 5] = [
         GuardWork::Off,
         GuardWork::Named,
@@ -155,7 +156,7 @@ impl GuardWork {
         GuardWork::Guards,
     ];
 
-    /// What it is called where its time is printed.
+    /// Returns the name under which the time is printed.
     pub fn name(self) -> &'static str {
         match self {
             GuardWork::Off => "macro_scope_off",
@@ -166,11 +167,12 @@ impl GuardWork {
         }
     }
 
-    /// Whether the switch is on.
+    /// Returns whether the switch is on.
     pub fn is_on(self) -> bool {
         self != GuardWork::Off
     }
 
+    /// Makes one nest of scopes, or none for [`GuardWork::Off`].
     fn nest(self, thread: &mut Thread, scopes: &Scopes, id: ScopeId) {
         match self {
             GuardWork::Off => {}
@@ -181,7 +183,7 @@ impl GuardWork {
         }
     }
 
-    /// Makes the scopes of a run, and reports each nest at its end. Returns how many reports there were.
+    /// Makes the scopes of a run, and reports each nest at its end. Returns the number of reports.
     #[inline(never)]
     pub fn run(self, thread: &mut Thread, scopes: &Scopes) -> Result<usize> {
         let mut reports: usize = 0;

@@ -1,9 +1,15 @@
-//! Times what the profiler does, for a comparison with the Rust crate. Without words it runs each kind of work once and
-//! prints what it counted; with the word `time` it prints the nanoseconds that each takes, with `time threads_` those of
-//! threads that share a profiler alone, with `frames` those of merging and of views alone.
+//! Times the profiler, for a comparison with the Rust crate.
+//!
+//! | words | what it does |
+//! |---|---|
+//! | none | runs each kind of work once, and prints its counts |
+//! | `time` | prints the nanoseconds that each kind of work takes |
+//! | `time threads_` | prints those of threads that share a profiler |
+//! | `frames` | prints those of merging and of views |
 #![tactic(auto)]
 
 mod guards;
+mod light;
 mod merges;
 mod names;
 mod packets;
@@ -16,6 +22,7 @@ mod views;
 
 use anyhow::{Context, Result};
 use guards::{GuardWork, Scopes, named_nests};
+use light::{count_light, time_light};
 use merges::{MergeWork, main_thread, merged};
 use names::NameWork;
 use packets::{FileWork, Files};
@@ -29,30 +36,30 @@ use std::env;
 use std::time::Instant;
 use views::{ViewWork, added};
 
-/// How often each work is run; the fastest run counts.
+/// How often each kind of work is run; the fastest run counts.
 const ROUNDS: u32 = 4_000;
-/// The same by the system's clock.
+/// How often work by the system's clock is run.
 const REAL_ROUNDS: u32 = 1_000;
-/// The same of names.
+/// How often names are shortened.
 const NAME_ROUNDS: u32 = 1_000;
-/// The same of files.
+/// How often files are written or read.
 const FILE_ROUNDS: u32 = 40;
-/// The same of views.
+/// How often frames are added to a view.
 const VIEW_ROUNDS: u32 = 10;
 
-/// A thread's profiler whose clock stands at 1.
+/// Makes a thread profiler whose clock stays at 1.
 fn thread(rt: &HostRuntime) -> Result<ThreadProfiler<ScriptClock>> {
     let name = String::from_str(rt.alloc(), "main")?;
     Ok(ThreadProfiler::new(rt.alloc(), name, ScriptClock::new(1)))
 }
 
-/// A thread's profiler by the system's clock.
+/// Makes a thread profiler with the system's clock.
 fn clocked_thread(rt: HostRuntime) -> Result<ThreadProfiler<SystemClock<HostRuntime>>> {
     let name = String::from_str(rt.alloc(), "main")?;
     Ok(ThreadProfiler::new(rt.alloc(), name, SystemClock::new(rt)?))
 }
 
-/// Prints a line: a name, and behind it what was counted, each number behind its word.
+/// Prints a line: a name, and then each count after its word.
 fn print_counts(rt: &impl Print, name: &str, counts: &[(&str, usize)]) -> Result<()> {
     print!(rt; "{name}")?;
     for (word, number) in counts {
@@ -62,7 +69,7 @@ fn print_counts(rt: &impl Print, name: &str, counts: &[(&str, usize)]) -> Result
     Ok(())
 }
 
-/// Writes and counts the scopes of each work, and prints how many there are and in how many bytes.
+/// Writes and counts the scopes of each work, and prints the numbers of scopes and bytes.
 fn count_streams(rt: &HostRuntime) -> Result<()> {
     for work in Work::ALL {
         let stream = stream_of(rt.alloc(), &work)?;
@@ -76,7 +83,7 @@ fn count_streams(rt: &HostRuntime) -> Result<()> {
     Ok(())
 }
 
-/// Runs each work once, and prints what it counted.
+/// Runs each kind of work once, and prints its counts.
 fn count(rt: &HostRuntime) -> Result<()> {
     count_streams(rt)?;
     let scopes = profiled(&mut thread(rt)?, TEXT)?;
@@ -85,10 +92,11 @@ fn count(rt: &HostRuntime) -> Result<()> {
     count_merges(rt)?;
     count_views(rt)?;
     count_guards(rt)?;
+    count_light(rt)?;
     count_names(rt)
 }
 
-/// Merges a few frames, and prints how many scopes they have and how many top scopes come of it.
+/// Merges a few frames, and prints the numbers of their scopes and of merged top-level scopes.
 fn count_merges(rt: &HostRuntime) -> Result<()> {
     let work = MergeWork {
         name: "merge_wide",
@@ -104,7 +112,7 @@ fn count_merges(rt: &HostRuntime) -> Result<()> {
     print_counts(rt, "merge", &[("scopes", work.scopes()), ("tops", tops)])
 }
 
-/// Makes scopes by guards, and prints how many nests were reported.
+/// Makes scopes with guards and macros, and prints how many nests were reported.
 fn count_guards(rt: &HostRuntime) -> Result<()> {
     let mut thread = thread(rt)?;
     for work in GuardWork::ALL {
@@ -115,7 +123,7 @@ fn count_guards(rt: &HostRuntime) -> Result<()> {
     Ok(())
 }
 
-/// Shortens names, and prints how many bytes they have.
+/// Shortens names, and prints how many bytes the short names have.
 fn count_names(rt: &HostRuntime) -> Result<()> {
     for work in NameWork::ALL {
         let bytes = work.run(rt.alloc())?;
@@ -128,7 +136,7 @@ fn count_names(rt: &HostRuntime) -> Result<()> {
     Ok(())
 }
 
-/// Gives frames to a small view, and prints how many it holds.
+/// Adds frames to a small view, and prints how many were added and how many it holds.
 fn count_views(rt: &HostRuntime) -> Result<()> {
     let work = ViewWork {
         name: "add",
@@ -143,12 +151,12 @@ fn count_views(rt: &HostRuntime) -> Result<()> {
     print_counts(rt, "view", &[("frames", frames), ("held", held)])
 }
 
-/// With how many frames a work is done.
+/// Does a work on files, and returns with how many frames.
 fn worked(rt: &HostRuntime, files: &mut Files, work: FileWork) -> Result<usize> {
     files.work(rt.alloc(), work).ok().context("a file")
 }
 
-/// Reads a file, and writes and reads that of a view; prints how many frames they have.
+/// Reads a file, and writes and reads the file of a view. Prints the numbers of their frames.
 fn count_files(rt: &HostRuntime, files: &mut Files) -> Result<()> {
     let frames = worked(rt, files, FileWork::ReadUnpacked)?;
     let bytes = files.file.len();
@@ -158,13 +166,13 @@ fn count_files(rt: &HostRuntime, files: &mut Files) -> Result<()> {
     print_counts(rt, "view_file", &[("frames", frames)])
 }
 
-/// Writes and reads a small file, and prints how many frames and bytes it has.
+/// Writes and reads a small file, and prints the numbers of its frames and bytes.
 fn count_packets(rt: &HostRuntime) -> Result<()> {
     let mut files = Files::new(rt.alloc(), 10).ok().context("a file")?;
     count_files(rt, &mut files)
 }
 
-/// Prints the nanoseconds that one unit takes, in hundredths, and how many units were timed.
+/// Prints the nanoseconds that one unit takes, to hundredths, and the number of units that were timed.
 fn print(rt: &impl Print, name: &str, best: u128, units: usize) -> Result<()> {
     let hundredths = best.saturating_mul(100) / (units as u128).max(1);
     let (whole, part) = (hundredths / 100, hundredths % 100);
@@ -172,7 +180,7 @@ fn print(rt: &impl Print, name: &str, best: u128, units: usize) -> Result<()> {
     Ok(())
 }
 
-/// Times scopes in a stream whose memory is used again.
+/// Times writing scopes into a stream whose memory is reused.
 fn time_scopes(rt: &HostRuntime, work: &Work) -> Result<()> {
     let mut stream = Stream::with_form(rt.alloc(), work.form);
     let mut best = u128::MAX;
@@ -186,7 +194,7 @@ fn time_scopes(rt: &HostRuntime, work: &Work) -> Result<()> {
     print(rt, work.name, best, scopes)
 }
 
-/// Times a walk over the scopes of a work, which counts them.
+/// Times a walk that counts the scopes of a work.
 fn time_walk(rt: &HostRuntime, work: &Work) -> Result<()> {
     let stream = stream_of(rt.alloc(), work)?;
     let mut best = u128::MAX;
@@ -205,7 +213,7 @@ fn time_walk(rt: &HostRuntime, work: &Work) -> Result<()> {
     )
 }
 
-/// Times the scopes of a thread profiler, eight deep, with a report for each nest.
+/// Times the scopes of a thread profiler, nested eight deep, with a report for each nest.
 fn time_thread<C: NsSource>(
     rt: &HostRuntime,
     name: &str,
@@ -222,7 +230,7 @@ fn time_thread<C: NsSource>(
     print(rt, name, best, scopes)
 }
 
-/// The nanoseconds of the fastest run of scopes by guards and by macros.
+/// Returns the nanoseconds of the fastest run of scopes with guards and macros.
 fn fastest_guards(
     rt: &HostRuntime,
     work: GuardWork,
@@ -238,14 +246,14 @@ fn fastest_guards(
     Ok(best)
 }
 
-/// Times scopes by guards and by macros, eight deep, with a report for each nest.
+/// Times scopes with guards and macros, nested eight deep, with a report for each nest.
 fn time_guards(rt: &HostRuntime, work: GuardWork) -> Result<()> {
     let scopes = Scopes::new(work.is_on());
     let best = fastest_guards(rt, work, &mut thread(rt)?, &scopes)?;
     print(rt, work.name(), best, guards::SCOPES)
 }
 
-/// Times scopes by the system's clock: those of a thread profiler, and those by macros.
+/// Times scopes by the system's clock: those of a thread profiler, and those of macros.
 fn time_real_scopes(rt: HostRuntime) -> Result<()> {
     let mut thread = clocked_thread(rt)?;
     time_thread(&rt, "real_empty", &mut thread, ("", REAL_ROUNDS))?;
@@ -259,7 +267,7 @@ fn time_real_scopes(rt: HostRuntime) -> Result<()> {
     print(&rt, "real_macro", best, guards::SCOPES)
 }
 
-/// Times short names, a name being a unit.
+/// Times shortening names; the unit is a name.
 fn time_names(rt: &HostRuntime, work: NameWork) -> Result<()> {
     let mut best = u128::MAX;
     for _ in 0..NAME_ROUNDS {
@@ -270,7 +278,7 @@ fn time_names(rt: &HostRuntime, work: NameWork) -> Result<()> {
     print(rt, work.name(), best, work.units())
 }
 
-/// Times what is done with the frames of a file, a frame being a unit.
+/// Times a work on a file; the unit is a frame.
 fn time_file(rt: &HostRuntime, files: &mut Files, work: FileWork) -> Result<()> {
     let mut best = u128::MAX;
     let mut frames = 0;
@@ -282,7 +290,7 @@ fn time_file(rt: &HostRuntime, files: &mut Files, work: FileWork) -> Result<()> 
     print(rt, work.name(), best, frames)
 }
 
-/// Times writing and reading packets.
+/// Times each work on a file.
 fn time_packets(rt: &HostRuntime) -> Result<()> {
     let mut files = Files::new(rt.alloc(), packets::FRAMES)
         .ok()
@@ -293,7 +301,7 @@ fn time_packets(rt: &HostRuntime) -> Result<()> {
     Ok(())
 }
 
-/// Times merging, a scope being a unit.
+/// Times merging; the unit is a scope.
 fn time_merges(rt: &HostRuntime, work: &MergeWork) -> Result<()> {
     let frames = work.frames(rt.alloc())?;
     let collection = ScopeCollection::new(rt.alloc());
@@ -307,7 +315,7 @@ fn time_merges(rt: &HostRuntime, work: &MergeWork) -> Result<()> {
     print(rt, work.name, best, work.scopes())
 }
 
-/// Times frames that are added to a full view.
+/// Times adding frames to a full view; the unit is a frame.
 fn time_views(rt: &HostRuntime, work: &ViewWork) -> Result<()> {
     let mut best = u128::MAX;
     let mut count = 0;
@@ -321,7 +329,7 @@ fn time_views(rt: &HostRuntime, work: &ViewWork) -> Result<()> {
     print(rt, work.name, best, count)
 }
 
-/// Times each work.
+/// Times each kind of work that needs no lock and no system clock.
 fn time(rt: &HostRuntime) -> Result<()> {
     for work in Work::ALL {
         time_scopes(rt, &work)?;
@@ -334,6 +342,7 @@ fn time(rt: &HostRuntime) -> Result<()> {
     for work in GuardWork::ALL {
         time_guards(rt, work)?;
     }
+    time_light(rt)?;
     for work in NameWork::ALL {
         time_names(rt, work)?;
     }
@@ -341,7 +350,7 @@ fn time(rt: &HostRuntime) -> Result<()> {
     time_frames(rt)
 }
 
-/// Times what is done with frames: merging, and views.
+/// Times merging and views.
 fn time_frames(rt: &HostRuntime) -> Result<()> {
     for work in MergeWork::ALL {
         time_merges(rt, &work)?;

@@ -1,4 +1,4 @@
-//! Frames whose scopes are merged.
+//! Merging the scopes of frames.
 
 use crate::scopes::{TEXT, end};
 use puffin::frame_data::UnpackedFrameData;
@@ -11,26 +11,26 @@ use std::alloc::Global;
 use std::collections::BTreeMap;
 use std::sync::Arc;
 
-/// How many top scopes a frame has.
+/// How many top-level scopes a frame has.
 const TOPS: u32 = 10;
 
-/// Frames of one thread, of ten top scopes each.
+/// A work on frames of one thread, with ten top-level scopes each.
 #[derive(Clone, Copy)]
 pub struct MergeWork {
-    /// What it is called where its time is printed.
+    /// The name under which the time is printed.
     pub name: &'static str,
     /// The form of the streams.
     pub form: Form,
     /// How many frames there are.
     pub frames: u32,
-    /// How many scopes stand in each top scope.
+    /// How many children each top-level scope has.
     pub children: u32,
-    /// How often it is run.
+    /// How often the work is run.
     pub rounds: u32,
 }
 
 impl MergeWork {
-    /// Each kind of work: 1,000, 10,000 and 100,000 scopes a frame, and 1,000 in the long form.
+    /// Every kind of work: 1,000, 10,000 and 100,000 scopes a frame, and 1,000 in the long form.
     pub const ALL: [MergeWork; 4] = [
         MergeWork {
             name: "merge_wide",
@@ -62,7 +62,7 @@ impl MergeWork {
         },
     ];
 
-    /// The stream of one frame, from a time on.
+    /// Makes the stream of one frame, beginning at `start`.
     fn stream(&self, alloc: Global, start: i64) -> Result<Stream> {
         let mut stream = Stream::with_form(alloc, self.form);
         let mut now = start;
@@ -76,7 +76,7 @@ impl MergeWork {
         Ok(stream)
     }
 
-    /// The frame of an index.
+    /// Makes the frame with this index.
     fn frame(&self, alloc: Global, index: u32) -> Result<Arc<UnpackedFrameData>> {
         let stream = self.stream(alloc, 10_000_000 * i64::from(index))?;
         let mut streams = BTreeMap::new(alloc);
@@ -85,7 +85,7 @@ impl MergeWork {
         Ok(Arc::new(alloc, frame)?)
     }
 
-    /// The frames.
+    /// Makes all frames.
     pub fn frames(&self, alloc: Global) -> Result<Vec<Arc<UnpackedFrameData>>> {
         let mut frames = Vec::new(alloc);
         for index in 0..self.frames {
@@ -94,7 +94,7 @@ impl MergeWork {
         Ok(frames)
     }
 
-    /// How many scopes they have together.
+    /// Returns how many scopes all frames have together.
     pub fn scopes(&self) -> usize {
         (self.frames as usize)
             .saturating_mul(TOPS as usize)
@@ -102,7 +102,7 @@ impl MergeWork {
     }
 }
 
-/// The thread of each frame that is made here.
+/// Makes the info of the thread that all frames have.
 pub fn main_thread(alloc: Global) -> Result<ThreadInfo> {
     Ok(ThreadInfo {
         start_time_ns: Some(0),
@@ -110,7 +110,7 @@ pub fn main_thread(alloc: Global) -> Result<ThreadInfo> {
     })
 }
 
-/// Scopes one after the other, of an id each. Returns the clock after them.
+/// Writes scopes one after the other, each with its own id. Returns the time after them.
 fn leaves(stream: &mut Stream, count: u32, mut now: i64) -> Result<i64> {
     for number in 1..=count {
         if let Some(id) = ScopeId::new(number) {
@@ -123,7 +123,7 @@ fn leaves(stream: &mut Stream, count: u32, mut now: i64) -> Result<i64> {
     Ok(now)
 }
 
-/// Merges the scopes of frames, and returns how many top scopes come of it.
+/// Merges the scopes of frames, and returns the number of merged top-level scopes.
 #[inline(never)]
 pub fn merged(
     alloc: Global,

@@ -1,4 +1,4 @@
-//! Short names of functions and of files.
+//! Shortening the names of functions and files.
 
 use puffin::utils::{clean_function_name, short_file_name};
 use puffin_data::Result;
@@ -7,6 +7,7 @@ use std::alloc::Global;
 /// How often a run goes over its table.
 const TIMES: usize = 100;
 
+/// The names of functions that are shortened.
 const FUNCTIONS: [&str; 7] = [
     "",
     "foo::f",
@@ -17,6 +18,7 @@ const FUNCTIONS: [&str; 7] = [
     "user scope",
 ];
 
+/// The paths of files that are shortened.
 const FILES: [&str; 11] = [
     "",
     "foo.rs",
@@ -31,7 +33,7 @@ const FILES: [&str; 11] = [
     "a/b/src",
 ];
 
-/// A kind of work.
+/// A kind of work with names.
 #[derive(Clone, Copy)]
 pub enum NameWork {
     /// Names of functions.
@@ -41,10 +43,10 @@ pub enum NameWork {
 }
 
 impl NameWork {
-    /// Each kind of work.
+    /// Every kind of work.
     pub const ALL: [NameWork; 2] = [NameWork::Functions, NameWork::Files];
 
-    /// What it is called where its time is printed.
+    /// Returns the name under which the time is printed.
     pub fn name(self) -> &'static str {
         match self {
             NameWork::Functions => "clean_function_name",
@@ -52,7 +54,7 @@ impl NameWork {
         }
     }
 
-    /// How many names a run shortens.
+    /// Returns how many names a run shortens.
     pub fn units(self) -> usize {
         match self {
             NameWork::Functions => TIMES * FUNCTIONS.len(),
@@ -60,6 +62,7 @@ impl NameWork {
         }
     }
 
+    /// Returns the short form of a name.
     fn shortened(self, alloc: Global, name: &str) -> Result<String> {
         match self {
             NameWork::Functions => clean_function_name(alloc, name),
@@ -67,7 +70,7 @@ impl NameWork {
         }
     }
 
-    /// Shortens each name of the table, so often. Returns how many bytes the short names have.
+    /// Goes over the table a number of times, and shortens each name. Returns the sum of the lengths, in bytes.
     #[inline(never)]
     pub fn run(self, alloc: Global) -> Result<usize> {
         let table: &[&str] = match self {

@@ -1,4 +1,4 @@
-//! Frames that are written as packets, and read again.
+//! Writing frames as packets, and reading them.
 
 use crate::merges::main_thread;
 use crate::scopes::nest;
@@ -10,14 +10,14 @@ use std::alloc::Global;
 use std::collections::BTreeMap;
 use std::sync::Arc;
 
-/// How many frames a file has, at most.
+/// The greatest number of frames in a file.
 pub const FRAMES: u32 = 1_000;
 /// How many nests of eight scopes a frame has. Its stream has about 35 kB.
 const NESTS: usize = 106;
 /// The text of each scope, of 10 bytes.
 const TEXT: &str = "mesh-7.obj";
 
-/// The stream of one frame, from a time on.
+/// Makes the stream of one frame, beginning at `start`.
 fn stream(alloc: Global, start: i64) -> Result<Stream> {
     let mut stream = Stream::new(alloc);
     let mut now = start;
@@ -29,7 +29,7 @@ fn stream(alloc: Global, start: i64) -> Result<Stream> {
     Ok(stream)
 }
 
-/// A frame of one thread.
+/// Makes a frame of one thread.
 fn frame(alloc: Global, index: u32) -> Result<FrameData> {
     let info = StreamInfo::parse(alloc, stream(alloc, 10_000 * i64::from(index))?)?;
     let mut streams = BTreeMap::new(alloc);
@@ -37,7 +37,7 @@ fn frame(alloc: Global, index: u32) -> Result<FrameData> {
     FrameData::new(alloc, u64::from(index), streams, Vec::new(alloc), false)
 }
 
-/// So many frames.
+/// Makes `count` frames.
 fn frames(alloc: Global, count: u32) -> Result<Vec<FrameData>> {
     let mut frames = Vec::new(alloc);
     for index in 0..count {
@@ -46,7 +46,7 @@ fn frames(alloc: Global, count: u32) -> Result<Vec<FrameData>> {
     Ok(frames)
 }
 
-/// The same frames, packed.
+/// Returns packed copies of frames.
 fn packed(alloc: Global, frames: &[FrameData]) -> std::result::Result<Vec<FrameData>, FileError> {
     let mut packed = Vec::new(alloc);
     for frame in frames {
@@ -58,25 +58,25 @@ fn packed(alloc: Global, frames: &[FrameData]) -> std::result::Result<Vec<FrameD
     Ok(packed)
 }
 
-/// What is done with the frames of a file.
+/// A kind of work with the frames of a file.
 #[derive(Clone, Copy)]
 pub enum FileWork {
-    /// Frames are packed as they are written.
+    /// Packs frames while writing them.
     Write,
-    /// Packed frames are written.
+    /// Writes packed frames.
     WritePacked,
-    /// Frames are read.
+    /// Reads frames.
     Read,
-    /// Frames are read and unpacked.
+    /// Reads frames and unpacks them.
     ReadUnpacked,
-    /// A view of packed frames writes its file.
+    /// Writes the file of a view of packed frames.
     ViewWrite,
-    /// A view is read from its file.
+    /// Reads a view from its file.
     ViewRead,
 }
 
 impl FileWork {
-    /// Each kind of work.
+    /// Every kind of work.
     pub const ALL: [FileWork; 6] = [
         FileWork::Write,
         FileWork::WritePacked,
@@ -86,7 +86,7 @@ impl FileWork {
         FileWork::ViewRead,
     ];
 
-    /// What it is called where its time is printed.
+    /// Returns the name under which the time is printed.
     pub fn name(self) -> &'static str {
         match self {
             FileWork::Write => "write",
@@ -99,7 +99,7 @@ impl FileWork {
     }
 }
 
-/// Frames, the same packed, and the memory of a file.
+/// Frames, packed copies of them, a view, and the bytes of their files.
 #[derive(Drop)]
 pub struct Files {
     frames: Vec<FrameData>,
@@ -111,7 +111,7 @@ pub struct Files {
 }
 
 impl Files {
-    /// So many frames, and a file of them.
+    /// Makes `count` frames, and files of them.
     pub fn new(alloc: Global, count: u32) -> std::result::Result<Files, FileError> {
         let frames = match frames(alloc, count) {
             Ok(frames) => frames,
@@ -132,7 +132,7 @@ impl Files {
         })
     }
 
-    /// Does one work, and returns with how many frames.
+    /// Does one kind of work, and returns with how many frames.
     pub fn work(&mut self, alloc: Global, work: FileWork) -> std::result::Result<usize, FileError> {
         match work {
             FileWork::Write => written(&self.frames, &mut self.file),
@@ -145,7 +145,7 @@ impl Files {
     }
 }
 
-/// Writes frames into memory that is used again.
+/// Writes frames into memory that is reused, and returns how many.
 #[inline(never)]
 fn written(frames: &[FrameData], file: &mut Vec<u8>) -> std::result::Result<usize, FileError> {
     file.clear();
@@ -183,7 +183,7 @@ fn read_unpacked(alloc: Global, file: &[u8]) -> std::result::Result<usize, FileE
     Ok(frames.len())
 }
 
-/// A view of copies of these frames.
+/// Makes a view of copies of these frames.
 fn view(alloc: Global, frames: &[FrameData]) -> std::result::Result<FrameView, FileError> {
     let mut view = FrameView::new(alloc);
     for frame in frames {
@@ -198,7 +198,7 @@ fn view(alloc: Global, frames: &[FrameData]) -> std::result::Result<FrameView, F
     Ok(view)
 }
 
-/// Writes a view into memory that is used again.
+/// Writes the file of a view into memory that is reused, and returns how many frames the view holds.
 #[inline(never)]
 fn view_written(view: &FrameView, file: &mut Vec<u8>) -> std::result::Result<usize, FileError> {
     file.clear();
@@ -206,7 +206,7 @@ fn view_written(view: &FrameView, file: &mut Vec<u8>) -> std::result::Result<usi
     Ok(view.stats().frames())
 }
 
-/// Reads a view.
+/// Reads a view, and returns how many frames it holds.
 #[inline(never)]
 fn view_read(alloc: Global, file: &[u8]) -> std::result::Result<usize, FileError> {
     let view = FrameView::read(alloc, &mut Counted::new(file))?;

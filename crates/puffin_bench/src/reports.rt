@@ -13,12 +13,12 @@ use std::sync::Wait;
 
 /// How many nests of scopes a run profiles.
 const NESTS: usize = 512;
-/// How many scopes stand one within the other in a nest.
+/// The nesting depth of a nest.
 const DEPTH: usize = 8;
 /// How many frames a run of reports takes.
 const FRAMES: usize = 1_000;
 
-/// A reporter that takes everything and keeps nothing.
+/// A reporter that accepts everything and keeps nothing.
 #[derive(Drop)]
 pub struct Ignored;
 
@@ -37,7 +37,7 @@ impl Reporter for Ignored {
     }
 }
 
-/// One nest of scopes of a thread, which is reported at its end.
+/// Makes one nest of scopes of a thread, which reports it at its end.
 #[inline(never)]
 fn nest<C: NsSource>(thread: &mut ThreadProfiler<C>, id: ScopeId, text: &str) -> Result<()> {
     let mut offsets = [0; DEPTH];
@@ -50,7 +50,7 @@ fn nest<C: NsSource>(thread: &mut ThreadProfiler<C>, id: ScopeId, text: &str) ->
     Ok(())
 }
 
-/// Profiles scopes, and returns how many.
+/// Profiles scopes, and returns their number.
 #[inline(never)]
 pub fn profiled<C: NsSource>(thread: &mut ThreadProfiler<C>, text: &str) -> Result<usize> {
     if let Some(id) = ScopeId::new(1) {
@@ -61,7 +61,7 @@ pub fn profiled<C: NsSource>(thread: &mut ThreadProfiler<C>, text: &str) -> Resu
     Ok(NESTS * DEPTH)
 }
 
-/// The stream of two scopes, one in the other.
+/// Makes a stream of two scopes, one within the other.
 pub fn two_scopes(alloc: Global) -> Result<Stream> {
     let mut stream = Stream::new(alloc);
     if let Some(id) = ScopeId::new(1) {
@@ -76,7 +76,8 @@ pub fn two_scopes(alloc: Global) -> Result<Stream> {
     Ok(stream)
 }
 
-/// Reports an honest info under each of four names, twice, and takes a frame; so often. Returns how many reports.
+/// Reports an honest info twice under each of four names, and takes a frame; does so for each frame of a run. Returns the
+/// number of reports.
 #[inline(never)]
 pub fn reported<R: Wait>(
     rt: &R,

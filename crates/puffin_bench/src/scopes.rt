@@ -6,7 +6,7 @@ use std::alloc::Global;
 
 /// How many nests of scopes a run writes.
 const NESTS: usize = 512;
-/// How many scopes stand one within the other in a nest.
+/// The nesting depth of a nest.
 const DEPTH: usize = 8;
 
 /// A text of 12 bytes.
@@ -16,12 +16,12 @@ const LONG_TEXT: &str = "a text of two hundred bytes, as a path or a query may h
     assets/textures/environment/forest/autumn/ground/leaves-and-needles-with-stones-12-diffuse.png?\
     size=4096&mips=all&format=bc7&repeat=xy&zz";
 
-/// A kind of work.
+/// A kind of work with scopes in a stream.
 #[derive(Clone, Copy)]
 pub struct Work {
-    /// What it is called where its time is printed.
+    /// The name under which the time is printed.
     pub name: &'static str,
-    /// Whether the scopes stand one within the other, and not one after the other.
+    /// Whether the scopes are nested, and not one after the other.
     pub nested: bool,
     /// The form of the stream.
     pub form: Form,
@@ -30,7 +30,7 @@ pub struct Work {
 }
 
 impl Work {
-    /// Each kind of work.
+    /// Every kind of work.
     pub const ALL: [Work; 7] = [
         Work {
             name: "scope_empty",
@@ -77,7 +77,7 @@ impl Work {
     ];
 }
 
-/// Ends a scope, where there is one at this offset.
+/// Ends the scope at this offset, if it lies within the stream.
 #[inline]
 pub fn end(stream: &mut Stream, offset: usize, stop: i64) -> Result<()> {
     if stream.len() < 8 || offset > stream.len() - 8 {
@@ -86,7 +86,7 @@ pub fn end(stream: &mut Stream, offset: usize, stop: i64) -> Result<()> {
     stream.end_scope(offset, stop)
 }
 
-/// Scopes one within the other. Returns the clock after them.
+/// Writes a nest of scopes. Returns the time after them.
 #[inline(never)]
 pub fn nest(stream: &mut Stream, id: ScopeId, text: &str, mut now: i64) -> Result<i64> {
     let mut offsets = [0; DEPTH];
@@ -102,7 +102,7 @@ pub fn nest(stream: &mut Stream, id: ScopeId, text: &str, mut now: i64) -> Resul
     Ok(now)
 }
 
-/// Scopes one after the other. Returns the clock after them.
+/// Writes scopes one after the other. Returns the time after them.
 #[inline(never)]
 fn row(stream: &mut Stream, id: ScopeId, text: &str, mut now: i64) -> Result<i64> {
     for _ in 0..DEPTH {
@@ -115,7 +115,7 @@ fn row(stream: &mut Stream, id: ScopeId, text: &str, mut now: i64) -> Result<i64
     Ok(now)
 }
 
-/// Writes the scopes of a work into a stream, and returns how many there are.
+/// Writes the scopes of a work into a stream, and returns their number.
 #[inline(never)]
 pub fn written(stream: &mut Stream, work: &Work) -> Result<usize> {
     let mut now = 0;
@@ -131,14 +131,14 @@ pub fn written(stream: &mut Stream, work: &Work) -> Result<usize> {
     Ok(NESTS * DEPTH)
 }
 
-/// The stream of a work.
+/// Makes the stream of a work.
 pub fn stream_of(alloc: Global, work: &Work) -> Result<Stream> {
     let mut stream = Stream::with_form(alloc, work.form);
     let _scopes = written(&mut stream, work)?;
     Ok(stream)
 }
 
-/// Counts the scopes of a stream, by a walk over it.
+/// Counts the scopes of a stream with a walk.
 #[inline(never)]
 pub fn counted(alloc: Global, stream: &Stream) -> Result<usize> {
     let (scopes, _depth) = Reader::count_scope_and_depth(alloc, stream)?;

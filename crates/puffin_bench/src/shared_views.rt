@@ -21,7 +21,7 @@ pub const FRAMES: usize = 1_000;
 /// How many runs fill a view.
 const FILLING: u32 = 2;
 
-/// What came of the runs.
+/// The result of the runs.
 #[derive(Clone, Copy)]
 pub struct Timed {
     /// The nanoseconds of the fastest run.
@@ -30,7 +30,7 @@ pub struct Timed {
     pub held: usize,
 }
 
-/// Reports an honest info and takes a frame, so often.
+/// Reports an honest info and takes a frame, for each frame of a run.
 #[inline(never)]
 fn taken<L: Ledger, M: Ledger, R: Wait>(
     rt: &R,
@@ -53,7 +53,7 @@ fn taken<L: Ledger, M: Ledger, R: Wait>(
     Ok(())
 }
 
-/// Fills the view that is attached, and takes frames in so many runs more. Returns the nanoseconds of the fastest.
+/// Fills the attached view, and then takes frames in `runs` more runs. Returns the nanoseconds of the fastest.
 fn fastest<L: Ledger, M: Ledger, R: Wait + Clock>(
     rt: &R,
     alloc: Global,
@@ -74,7 +74,7 @@ fn fastest<L: Ledger, M: Ledger, R: Wait + Clock>(
     Ok(best)
 }
 
-/// Attaches a view, fills it, and takes frames in so many runs more.
+/// Attaches a view, fills it, and takes frames in `runs` more runs.
 fn viewed<L: Ledger, M: Ledger, R: Wait + Clock>(
     rt: &R,
     alloc: Global,
@@ -102,7 +102,7 @@ fn viewed<L: Ledger, M: Ledger, R: Wait + Clock>(
     Ok(Timed { best, held })
 }
 
-/// Takes frames of a profiler that one view is attached to, in so many runs.
+/// Takes frames of a profiler that one view is attached to, in `runs` runs.
 pub fn run<R: Wait + Clock>(rt: &R, alloc: Global, runs: u32) -> Result<Timed> {
     viewed::<Brand, Brand, R>(rt, alloc, runs, Blank::new(1), Blank::new(1))
 }

@@ -1,4 +1,4 @@
-//! Reports and frames of profilers, which wait for locks: counted and timed.
+//! Counts and times reports and frames of profilers that wait for locks.
 
 ghost use Rattle.puffin_data.specs.Forest.{Forest};
 ghost use Rattle.puffin_data.specs.Honesty.{IsHonest};
@@ -16,12 +16,12 @@ use std::time::Instant;
 
 /// How often reports are run; the fastest run counts.
 const REPORT_ROUNDS: u32 = 300;
-/// The same of frames that a shared profiler hands to a view.
+/// How often frames of a shared profiler are handed to a view.
 const VIEW_ROUNDS: u32 = 40;
-/// The same of threads that report to one profiler.
+/// How often threads report to one profiler.
 const THREAD_ROUNDS: u32 = 20;
 
-/// Reports to a profiler. Returns how many reports there were, and the profiler's totals.
+/// Reports to a profiler. Returns the number of reports and the profiler's totals.
 fn totals_reported<R: Wait>(rt: &R, alloc: Global) -> Result<(usize, Totals)> {
     let info = StreamInfo::parse(alloc, two_scopes(alloc)?)?;
     let mut profiler = GlobalProfiler::new(alloc);
@@ -29,8 +29,8 @@ fn totals_reported<R: Wait>(rt: &R, alloc: Global) -> Result<(usize, Totals)> {
     Ok((reports, profiler.totals()))
 }
 
-/// Reports to a profiler, and attaches a view to a shared one; prints what was reported and handed out, and how many frames
-/// the view holds.
+/// Reports to a profiler, and attaches a view to a shared one. Prints how many scopes were reported and handed out, and how
+/// many frames the view holds.
 pub fn count_sharing<R: Runtime + AllocGlobal + Wait>(rt: &R) -> Result<()> {
     let (reports, totals) = totals_reported(rt, rt.alloc())?;
     let (scopes, emitted) = (totals.reported as usize, totals.emitted as usize);
@@ -44,7 +44,7 @@ pub fn count_sharing<R: Runtime + AllocGlobal + Wait>(rt: &R) -> Result<()> {
     print_counts(rt, "new_frame_view", &[("held", held)])
 }
 
-/// The nanoseconds of the fastest run of reports, and how many there are in one.
+/// Returns the nanoseconds of the fastest run of reports, and the number of reports in a run.
 fn fastest_reports<R: Runtime + AllocGlobal + Wait>(
     rt: &R,
     profiler: &mut GlobalProfiler,
@@ -62,7 +62,7 @@ fn fastest_reports<R: Runtime + AllocGlobal + Wait>(
     Ok((best, reports))
 }
 
-/// Times reports of two scopes, with a frame after every eight.
+/// Times reports of two scopes, with a frame after every eight; the unit is a report.
 pub fn time_reports<R: Runtime + AllocGlobal + Wait>(rt: &R) -> Result<()> {
     let info = StreamInfo::parse(rt.alloc(), two_scopes(rt.alloc())?)?;
     let mut profiler = GlobalProfiler::new(rt.alloc());
@@ -70,13 +70,13 @@ pub fn time_reports<R: Runtime + AllocGlobal + Wait>(rt: &R) -> Result<()> {
     print(rt, "report", best, reports)
 }
 
-/// Times frames of a shared profiler that a view is attached to, a frame being a unit.
+/// Times frames of a shared profiler that a view is attached to; the unit is a frame.
 pub fn time_shared_views<R: Runtime + AllocGlobal + Wait>(rt: &R) -> Result<()> {
     let best = shared_views::run(rt, rt.alloc(), VIEW_ROUNDS)?.best;
     print(rt, "new_frame_view", best, shared_views::FRAMES)
 }
 
-/// Times 1, 2, 4 and 8 threads that report to one profiler, a report being a unit.
+/// Times 1, 2, 4 and 8 threads that report to one profiler; the unit is a report.
 pub fn time_threads<
     R: Runtime + AllocGlobal + Threads + Wait + Clock + Copy + Send + Sync + 'static,
 >(rt: R) -> Result<()> {

@@ -1,4 +1,4 @@
-//! Threads that report to a shared profiler while another takes frames.
+//! Threads that report to a shared profiler while another thread takes frames.
 
 ghost use Rattle.std.specs.Prelude.{◌≡◌, ◌<◌};
 ghost use Rattle.puffin_data.specs.Forest.{Forest};
@@ -22,13 +22,13 @@ use std::time::Duration;
 pub const REPORTS: usize = 10_000;
 /// How many scopes a report has.
 const SCOPES: usize = 2;
-/// From one frame to the next, in microseconds.
+/// The time from one frame to the next, in microseconds.
 const PAUSE: u64 = 100;
-/// What the threads need to begin, in microseconds.
+/// The time that the threads get to begin, in microseconds.
 const GATHERING: u64 = 2_000;
-/// How many frames are taken at most, should a thread end without its reports.
+/// The greatest number of frames taken, in case a thread ends without its reports.
 const MOST_FRAMES: u32 = 1_000_000;
-/// What the threads are called.
+/// The names of the threads.
 const NAMES: [&str; 8] = [
     "worker-0", "worker-1", "worker-2", "worker-3", "worker-4", "worker-5", "worker-6", "worker-7",
 ];
@@ -40,7 +40,7 @@ struct Lap {
     ended: Duration,
 }
 
-/// Reports an honest info, so often.
+/// Reports an honest info a number of times.
 #[inline(never)]
 fn reported<L: Ledger, M: Ledger, R: Wait>(
     rt: &R,
@@ -63,7 +63,7 @@ fn reported<L: Ledger, M: Ledger, R: Wait>(
     Ok(())
 }
 
-/// Waits until the profiler is free, and reports.
+/// Waits until the lock is free, and then makes all reports of a thread.
 fn report_all<L: Ledger, M: Ledger, R: Wait + Clock>(
     rt: &R,
     alloc: Global,
@@ -80,7 +80,7 @@ fn report_all<L: Ledger, M: Ledger, R: Wait + Clock>(
     Some(Lap { begun, ended })
 }
 
-/// What a thread of its own does.
+/// Does the work of a thread.
 fn work<L: Ledger, M: Ledger, R: Wait + Clock>(
     rt: &R,
     alloc: Global,
@@ -107,7 +107,7 @@ fn start<
     Ok(thread::spawn(&rt, move || { work(&rt, alloc, profiler, share, worker) })?)
 }
 
-/// Takes frames until so many scopes were handed out.
+/// Takes frames until `scopes` scopes were handed out.
 fn take_frames<L: Ledger, M: Ledger, R: Wait + Clock>(
     rt: &R,
     profiler: &SharedProfiler<L, M>,
@@ -127,7 +127,7 @@ fn take_frames<L: Ledger, M: Ledger, R: Wait + Clock>(
     Ok(())
 }
 
-/// The time from the first of the laps' begins to the last one's end.
+/// Returns the nanoseconds from the first begin of the laps to their last end.
 fn whole(laps: &[Lap]) -> u128 {
     let mut begun = Duration::MAX;
     let mut ended = Duration::ZERO;
@@ -138,7 +138,7 @@ fn whole(laps: &[Lap]) -> u128 {
     ended.saturating_sub(begun).as_nanos()
 }
 
-/// Starts a thread for each share; all begin when the lock is free.
+/// Starts a thread for each share. All begin when the lock is free.
 fn start_all<
     L: Ledger + Send + Sync + 'static,
     M: Ledger + Send + Sync + 'static,
@@ -158,7 +158,7 @@ fn start_all<
     Ok(workers)
 }
 
-/// Waits for the workers' ends, and returns the time from the first begin to the last end.
+/// Waits for all workers to end, and returns the nanoseconds from the first begin to the last end.
 fn joined<R: Threads + Wait>(
     rt: &R,
     alloc: Global,
@@ -171,7 +171,7 @@ fn joined<R: Threads + Wait>(
     Ok(whole(laps.as_slice()))
 }
 
-/// Starts a thread for each share but one, which takes frames.
+/// Starts a thread for each share but one, and takes frames with that one.
 fn round<
     L: Ledger + Send + Sync + 'static,
     M: Ledger + Send + Sync + 'static,
@@ -199,7 +199,7 @@ fn round<
     joined(&rt, alloc, workers)
 }
 
-/// So many threads report and one more takes frames: the nanoseconds from the first begin to the last end.
+/// Lets `threads` threads report while one more takes frames. Returns the nanoseconds from the first begin to the last end.
 pub fn run<R: Threads + Wait + Clock + Copy + Send + Sync + 'static>(
     rt: R,
     alloc: Global,

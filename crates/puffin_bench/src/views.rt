@@ -1,4 +1,4 @@
-//! Views that take frames.
+//! Adding frames to full views.
 
 use crate::merges::main_thread;
 use crate::scopes::{end, nest};
@@ -10,28 +10,28 @@ use std::alloc::Global;
 use std::collections::BTreeMap;
 use std::sync::Arc;
 
-/// How many frames a full view is given.
+/// How many frames are added to a full view.
 const FRAMES: u32 = 1_000;
 /// The text of each scope, of 12 bytes.
 const TEXT: &str = "image-12.png";
 
-/// A view that is full, and how frames are added to it.
+/// A work on a full view to which frames are added.
 #[derive(Clone, Copy)]
 pub struct ViewWork {
-    /// What it is called where its time is printed.
+    /// The name under which the time is printed.
     pub name: &'static str,
-    /// How many recent frames it keeps.
+    /// How many recent frames the view keeps.
     pub max_recent: u32,
-    /// How many of the slowest frames it keeps.
+    /// How many of the slowest frames the view keeps.
     pub max_slow: u32,
-    /// Whether it packs the newest frame.
+    /// Whether the view packs the newest frame.
     pub packs: bool,
-    /// Whether each frame takes longer than those before it, so that it comes among the slowest, and not shorter.
+    /// Whether each frame takes longer than those before it, and so is among the slowest. Else each is shorter.
     pub rises: bool,
 }
 
 impl ViewWork {
-    /// A view of the limits that a new one has.
+    /// Makes a work on a view with the limits of a new one.
     fn usual(name: &'static str, packs: bool, rises: bool) -> ViewWork {
         ViewWork {
             name,
@@ -42,7 +42,7 @@ impl ViewWork {
         }
     }
 
-    /// A view of ten times these limits.
+    /// Makes a work on a view with ten times these limits.
     fn large(name: &'static str, packs: bool, rises: bool) -> ViewWork {
         ViewWork {
             name,
@@ -53,7 +53,7 @@ impl ViewWork {
         }
     }
 
-    /// Each kind of work.
+    /// Returns every kind of work.
     pub fn all() -> [ViewWork; 8] {
         [
             ViewWork::usual("add_shorter", false, false),
@@ -67,12 +67,12 @@ impl ViewWork {
         ]
     }
 
-    /// How much longer than a microsecond the frame of an index takes, in nanoseconds.
+    /// Returns how many nanoseconds more than a microsecond the frame with this index takes.
     fn extra_ns(&self, index: u32) -> u32 {
         if self.rises { index } else { u32::MAX - index }
     }
 
-    /// The scopes of the frame of an index: eight in one.
+    /// Makes the scopes of the frame with this index: eight, nested in one more.
     fn info(&self, alloc: Global, index: u32) -> Result<StreamInfo> {
         let start = 1_000_000 * i64::from(index);
         let mut stream = Stream::new(alloc);
@@ -85,7 +85,7 @@ impl ViewWork {
         StreamInfo::parse(alloc, stream)
     }
 
-    /// The frame of an index, of nine scopes.
+    /// Makes the frame with this index, of nine scopes.
     fn frame(&self, alloc: Global, index: u32) -> Result<Arc<FrameData>> {
         let mut streams = BTreeMap::new(alloc);
         let _before = streams.insert(main_thread(alloc)?, self.info(alloc, index)?)?;
@@ -93,12 +93,12 @@ impl ViewWork {
         Ok(Arc::new(alloc, frame)?)
     }
 
-    /// The index of the first frame that a full view is given.
+    /// Returns the index of the first frame that is added to the full view.
     fn first(&self) -> u32 {
         self.max_recent.saturating_add(self.max_slow)
     }
 
-    /// A view that was given as many frames as it may hold.
+    /// Makes a view, and adds as many frames as it can hold.
     pub fn full(&self, alloc: Global) -> Result<FrameView> {
         let mut view = FrameView::new(alloc);
         view.set_max_recent(self.max_recent as usize);
@@ -110,7 +110,7 @@ impl ViewWork {
         Ok(view)
     }
 
-    /// The frames that a full view is given.
+    /// Makes the frames that are added to the full view.
     pub fn frames(&self, alloc: Global) -> Result<Vec<Arc<FrameData>>> {
         let mut frames = Vec::with_capacity(alloc, FRAMES as usize)?;
         for index in 0..FRAMES {
@@ -120,7 +120,7 @@ impl ViewWork {
     }
 }
 
-/// Gives frames to a view, and returns how many.
+/// Adds frames to a view, and returns how many.
 #[inline(never)]
 pub fn added(view: &mut FrameView, frames: Vec<Arc<FrameData>>) -> Result<usize> {
     let count = frames.len();

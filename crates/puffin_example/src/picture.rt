@@ -1,29 +1,38 @@
 //! A picture in rows: how many steps each point of a plane makes until it is far from 0.
 
-use puffin::scope_details::ScopeIds;
-use puffin::thread_profiler::{NsSource, ThreadProfiler};
-use puffin::{Site, Switch, profile_function, profile_scope};
+use puffin::light::{Place, Records};
+use puffin::{place, profile};
 use std::sync::atomic::{AtomicU64, Ordering};
 
-/// What all threads share: the steps so far, the switch, the ids, and a line for each place of a scope.
+/// What all threads share: the steps so far, and the places of the scopes.
 #[derive(Drop)]
-pub struct Places {
+pub struct Picture {
     pub steps: AtomicU64,
-    pub switch: Switch,
-    ids: ScopeIds,
-    draw: Site,
-    row: Site,
+    draw: Place,
+    row: Place,
 }
 
-impl Places {
-    /// With the switch off.
-    pub fn new() -> Places {
-        Places {
+impl Picture {
+    /// A picture that isn't begun.
+    pub fn new() -> Picture {
+        Picture {
             steps: AtomicU64::new(0),
-            switch: Switch::new(),
-            ids: ScopeIds::new(),
-            draw: Site::new("src/picture.rt", 48),
-            row: Site::new("src/picture.rt", 51),
+            draw: place!("draw"),
+            row: place!("draw", "row"),
+        }
+    }
+
+    /// Draws four rows, the same in each round. The number is that of the thread.
+    pub fn draw<T: Records>(&self, number: usize, thread: &mut T) {
+        profile!(whole, thread, self.draw);
+        let first = u32::try_from(number).unwrap_or(0).saturating_mul(4);
+        for y in first..first.saturating_add(4) {
+            profile!(_row, whole, self.row);
+            let mut sum: u64 = 0;
+            for x in -96..96 {
+                sum = sum.wrapping_add(steps(i64::from(x) * 96, i64::from(y) * 96 - 768));
+            }
+            self.steps.fetch_add(sum, Ordering::Relaxed);
         }
     }
 }
@@ -40,19 +49,4 @@ fn steps(x: i64, y: i64) -> u64 {
         a = aa.wrapping_sub(bb).wrapping_add(x);
     }
     500
-}
-
-/// Draws four rows from this one on.
-pub fn draw<C: NsSource>(thread: &mut ThreadProfiler<C>, places: &Places, first: u32) {
-    let (switch, ids) = (&places.switch, &places.ids);
-    profile_function!(whole, thread, switch, ids, places.draw, "draw");
-    for y in first..first.saturating_add(4) {
-        let profiler = whole.profiler();
-        profile_scope!(_row, profiler, switch, ids, places.row, "draw", "row");
-        let mut sum: u64 = 0;
-        for x in -96..96 {
-            sum = sum.wrapping_add(steps(i64::from(x) * 96, i64::from(y) * 96 - 768));
-        }
-        places.steps.fetch_add(sum, Ordering::Relaxed);
-    }
 }

@@ -16,6 +16,8 @@ fn main(rt: HostRuntime) -> anyhow::Result<()> {
             profile!(_physics, whole, physics, "all bodies");
         }
         if let Some(frame) = thread.new_frame(&rt)? {
+            let (index, scopes) = (frame.frame_index(), frame.meta().num_scopes);
+            println!(rt; "frame {index} scopes {scopes}")?;
             view.add_frame(frame)?;
         }
     }

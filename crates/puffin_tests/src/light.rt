@@ -4,7 +4,8 @@ use crate::equal::equal;
 use puffin::data::Counted;
 use puffin::global_profiler::{GlobalProfiler, Settled};
 use puffin::light::{
-    Frames, Outcome, Place, Program, Records, Rounds, Standing, Thread, in_rounds, profiled, save,
+    Frames, Outcome, Place, Program, Records, Rounds, Standing, StatefulRounds, Thread, in_rounds,
+    profiled, save,
 };
 use puffin::profile_view::FrameView;
 use puffin::{FileError, place, profile};
@@ -113,7 +114,7 @@ fn has<R: Abort + Wait>(rt: &R, outcome: &Outcome, reported: &[u64], sum: u64, f
         pending: 0,
     };
     equal(rt, outcome.settled, settled);
-    equal(rt, outcome.missed, 0);
+    equal(rt, (outcome.frames, outcome.missed), (frames as u64, 0));
     equal(rt, outcome.view.lock(rt).stats().frames(), frames);
 }
 
@@ -123,6 +124,20 @@ fn a_frame_is_taken_after_each_round(rt: HostRuntime) -> Tested {
     has(&rt, &outcome, &[0, 10, 10], 20, 5);
     let outcome = in_rounds(rt, &["a", "b", "c"], 0, &Places::new())?;
     has(&rt, &outcome, &[0, 0, 0], 0, 0);
+    Ok(())
+}
+
+#[test]
+fn one_thread_two_and_64(rt: HostRuntime) -> Tested {
+    let places = Places::new();
+    let outcome = in_rounds(rt, &["a"], 2, &places)?;
+    has(&rt, &outcome, &[0], 0, 0);
+    let outcome = in_rounds(rt, &["a", "b"], 2, &places)?;
+    has(&rt, &outcome, &[0, 4], 4, 2);
+    let outcome = in_rounds(rt, &["a"; 64], 2, &places)?;
+    equal(&rt, outcome.reported.len(), 64);
+    equal(&rt, outcome.settled.handed, 252);
+    equal(&rt, outcome.frames, 2);
     Ok(())
 }
 
@@ -158,5 +173,38 @@ fn all_that_threads_report_is_handed_out_or_pending(rt: HostRuntime) -> Tested {
     let settled = outcome.settled;
     equal(&rt, settled.reported, 6);
     equal(&rt, settled.handed.checked_add(settled.pending), Some(6));
+    Ok(())
+}
+
+/// In each round a thread begins two scopes more than in the one before, and none once it has made as many as its number says.
+#[derive(Drop)]
+struct Rising {
+    places: Places,
+}
+
+impl StatefulRounds for Rising {
+    type State = usize;
+
+    fn state(&self, _number: usize) -> usize {
+        0
+    }
+
+    fn part<T: Records>(&self, number: usize, done: &mut usize, thread: &mut T) {
+        if *done < number {
+            *done = done.saturating_add(1);
+            for _ in 0..*done {
+                both(thread, &self.places);
+            }
+        }
+    }
+}
+
+#[test]
+fn a_thread_keeps_its_state_from_round_to_round(rt: HostRuntime) -> Tested {
+    let rising = Rising {
+        places: Places::new(),
+    };
+    let outcome = in_rounds(rt, &["a", "b", "c", "d"], 5, &rising)?;
+    has(&rt, &outcome, &[0, 2, 6, 12], 20, 3);
     Ok(())
 }

@@ -1,4 +1,4 @@
-//! What has to hold of any bytes.
+//! Checks that have to hold for any bytes.
 
 use crate::devices::OneByte;
 use puffin_data::data::{Counted, Reader, Stream};
@@ -8,18 +8,18 @@ use puffin_report::{count_stream, print_report};
 use puffin_view::profile_view::FrameView;
 use std::alloc::{AllocError, Global};
 
-/// What doesn't hold.
+/// A check that failed.
 #[derive(Clone, Copy, Debug, PartialEq, Eq)]
 pub enum Broken {
-    /// There was no memory, which says nothing.
+    /// Memory ran out, so nothing was checked.
     Memory,
-    /// More readings than one for each 31 bytes and one more.
+    /// A walk made more readings than one for each 31 bytes and one more.
     Tries,
-    /// Counted or reported otherwise where the bytes come one a call.
+    /// Counting, reporting or reading differs if each call of the reader gives one byte.
     OneByteACall,
-    /// Counted, but not walked, or the other way round.
+    /// The stream is counted but not walked, or walked but not counted.
     Counting,
-    /// What was read is written, and then read or written otherwise.
+    /// A view that was read can't be written, or what it writes can't be read and written again with the same bytes.
     Again,
 }
 
@@ -29,13 +29,14 @@ impl From<AllocError> for Broken {
     }
 }
 
-/// What was printed, and why no more was.
+/// The lines that were printed, and the fault that ended them.
 #[derive(Drop)]
 struct Printed {
     lines: Vec<u8>,
     fault: Option<FileError>,
 }
 
+/// Counts a stream. If `slowly`, each call of the reader gives one byte.
 fn counted(alloc: Global, bytes: &[u8], slowly: bool) -> Printed {
     let mut lines = Vec::new(alloc);
     let mut drain = Counted::new(&mut lines);
@@ -76,6 +77,7 @@ pub fn check_stream(alloc: Global, bytes: &[u8]) -> Result<bool, Broken> {
     }
 }
 
+/// Reports on a file. If `slowly`, each call of the reader gives one byte.
 fn reported(alloc: Global, bytes: &[u8], thread: &ThreadInfo, slowly: bool) -> Printed {
     let mut lines = Vec::new(alloc);
     let mut drain = Counted::new(&mut lines);
@@ -91,13 +93,14 @@ fn reported(alloc: Global, bytes: &[u8], thread: &ThreadInfo, slowly: bool) -> P
     }
 }
 
+/// Returns the file of a view.
 fn written(alloc: Global, view: &FrameView) -> Result<Vec<u8>, FileError> {
     let mut bytes = Vec::new(alloc);
     view.write(&mut Counted::new(&mut bytes))?;
     Ok(bytes)
 }
 
-/// Writes a view that was read, and reads and writes that again, which has to give the same bytes.
+/// Writes a view that was read, reads that file and writes it again. The bytes have to be the same.
 fn check_again(alloc: Global, view: &FrameView) -> Result<(), Broken> {
     let Ok(first) = written(alloc, view) else {
         return Err(Broken::Again);
@@ -111,7 +114,7 @@ fn check_again(alloc: Global, view: &FrameView) -> Result<(), Broken> {
     }
 }
 
-/// Reads, reports and writes a file. Returns whether it is read.
+/// Reads, reports and writes a file. Returns whether it can be read.
 pub fn check_file(alloc: Global, bytes: &[u8], thread: &ThreadInfo) -> Result<bool, Broken> {
     let first = reported(alloc, bytes, thread, false);
     let second = reported(alloc, bytes, thread, true);

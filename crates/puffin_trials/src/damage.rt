@@ -1,12 +1,12 @@
-//! Faults in bytes.
+//! Damages bytes.
 
 use crate::random::Random;
 use std::alloc::AllocError;
 
-/// Bytes that begin or end something, or make a number longer or a length great.
+/// Bytes that begin or end something, that make a number longer, or that make a length great.
 const BYTES: [u8; 10] = [0, 1, 0x28, 0x29, 0x30, 0x34, 0x7f, 0x80, 0xfb, 0xff];
 
-/// Puts these bytes over those from a place on.
+/// Overwrites bytes from a place on.
 fn overwrite(bytes: &mut [u8], at: usize, with: &[u8]) {
     for (number, byte) in with.iter().enumerate() {
         if let Some(place) = bytes.get_mut(at.saturating_add(number)) {
@@ -22,8 +22,8 @@ fn exchange(bytes: &mut [u8], one: usize, other: usize) {
     }
 }
 
-/// One fault at random: the end or a byte is missing, a bit is turned, a byte is another or one more, a number or a length
-/// is another, two bytes are exchanged.
+/// Makes one random fault: cuts the bytes, flips a bit, overwrites a byte or a number, inserts or removes a byte, exchanges
+/// two, or appends one.
 pub fn damage(random: &mut Random, bytes: &mut Vec<u8>) -> Result<(), AllocError> {
     let at = random.below(bytes.len());
     match random.below(9) {

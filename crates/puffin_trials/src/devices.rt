@@ -3,9 +3,10 @@
 use std::io;
 use std::io::Read;
 
-/// Gives bytes one a call.
+/// Gives the bytes that are left, one a call.
 #[derive(Drop)]
 pub struct OneByte<'a> {
+    /// The bytes that are left.
     pub left: &'a [u8],
 }
 

@@ -1,4 +1,4 @@
-//! Files of frames at random.
+//! Random files of frames.
 
 use crate::random::Random;
 use crate::streams::forest;
@@ -16,7 +16,7 @@ use std::sync::Arc;
 /// The names of threads.
 const NAMES: [&str; 3] = ["main", "größe", ""];
 
-/// A thread that files at random have.
+/// Makes the info of a thread that random files may have.
 pub fn thread(alloc: Global, name: &str) -> Result<ThreadInfo> {
     Ok(ThreadInfo {
         start_time_ns: Some(5),
@@ -24,6 +24,7 @@ pub fn thread(alloc: Global, name: &str) -> Result<ThreadInfo> {
     })
 }
 
+/// Makes random streams of up to three threads.
 fn streams(alloc: Global, random: &mut Random) -> Result<BTreeMap<ThreadInfo, StreamInfo>> {
     let mut streams = BTreeMap::new(alloc);
     for _ in 0..random.below(4) {
@@ -34,6 +35,7 @@ fn streams(alloc: Global, random: &mut Random) -> Result<BTreeMap<ThreadInfo, St
     Ok(streams)
 }
 
+/// Makes the details of up to two scopes, some of them without an id.
 fn details(alloc: Global, random: &mut Random) -> Result<Vec<Arc<ScopeDetails>>> {
     let mut all = Vec::new(alloc);
     for number in 0..random.below(3) as u32 {
@@ -54,7 +56,7 @@ fn details(alloc: Global, random: &mut Random) -> Result<Vec<Arc<ScopeDetails>>>
     Ok(all)
 }
 
-/// A file of at most so many frames.
+/// Makes a random file of at most `frames` frames.
 pub fn file(alloc: Global, random: &mut Random, frames: u64) -> Result<Vec<u8>> {
     let mut view = FrameView::new(alloc);
     for index in 0..frames {
@@ -69,7 +71,7 @@ pub fn file(alloc: Global, random: &mut Random, frames: u64) -> Result<Vec<u8>> 
             let Ok(frame) = Arc::new(alloc, frame) else {
                 return Err(Error::Memory);
             };
-            // (a frame with details that have no id is refused)
+            // A frame that has details without an id is refused.
             let _taken = view.add_frame(frame);
         }
     }

@@ -1,4 +1,4 @@
-//! Scopes by macros.
+//! Scopes with macros.
 
 use crate::again;
 use crate::registrations::{closed, frame};
@@ -11,7 +11,7 @@ use std::sync::Wait;
 
 type Thread = ThreadProfiler<ScriptClock>;
 
-/// What the threads of a program share.
+/// The switch, the ids and the places that the threads of a program share.
 #[derive(Drop)]
 struct Scopes {
     switch: Switch,
@@ -20,7 +20,7 @@ struct Scopes {
     part: Site,
 }
 
-/// A scope in the one that is open.
+/// Makes a scope within the open one.
 fn part(thread: &mut Thread, scopes: &Scopes) -> Result<()> {
     profile_scope!(
         guard,
@@ -38,7 +38,7 @@ fn part(thread: &mut Thread, scopes: &Scopes) -> Result<()> {
     }
 }
 
-/// A function's scope and one in it.
+/// Makes a function's scope and one within it.
 fn load(
     thread: &mut Thread,
     scopes: &Scopes,
@@ -67,12 +67,13 @@ fn reported(thread: &mut Thread, scopes: &Scopes, profiler: &mut GlobalProfiler)
     closed(outcome, thread, profiler)
 }
 
+/// Makes a thread profiler.
 fn thread(alloc: Global) -> Option<Thread> {
     let name = again!(String::from_str(alloc, "main"))?;
     Some(ThreadProfiler::new(alloc, name, ScriptClock::new(100)))
 }
 
-/// Two places, with the scopes on.
+/// Makes two places, with the switch on.
 fn places() -> Scopes {
     let scopes = Scopes {
         switch: Switch::new(),
@@ -84,7 +85,7 @@ fn places() -> Scopes {
     scopes
 }
 
-/// A thread runs a function twice, for one frame.
+/// Runs a function twice on a thread, and takes a frame.
 fn steps<R: Print + Wait>(
     rt: &R,
     scopes: &Scopes,
@@ -96,7 +97,7 @@ fn steps<R: Print + Wait>(
     frame(rt, profiler)
 }
 
-/// Two places that are switched on, in a thread that reports to a profiler.
+/// Makes scopes with macros on a thread that reports to a profiler.
 pub fn run<R: Print + AllocGlobal + Wait>(rt: &R) -> Option<()> {
     let mut thread = thread(rt.alloc())?;
     let mut profiler = GlobalProfiler::new(rt.alloc());

@@ -1,5 +1,5 @@
-//! Bytes that nobody wrote, counted, read, reported and written: streams and files at random, with up to three faults,
-//! crafted and deep.
+//! Counts, reads, reports and writes bytes that no writer made: random streams and files with up to three faults, crafted
+//! streams and deep ones.
 
 use crate::checks::{Broken, check_file, check_stream};
 use crate::damage::damage;
@@ -11,14 +11,14 @@ use puffin_data::data::{Reader, Stream};
 use std::alloc::Global;
 use std::time::Instant;
 
-/// How many streams and files there are where no word says it.
+/// How many streams and files there are without an argument.
 const CASES: u64 = 1_000;
-/// How many levels the deep and the crafted stream have then.
+/// How many levels the deep and the crafted stream have without an argument.
 const LEVELS: u64 = 2_000;
-/// How often a time is taken at most, until two are in proportion.
+/// How often two times are measured at most, until they are in proportion.
 const ROUNDS: u32 = 100;
 
-/// How many were taken, and how many refused.
+/// How many cases were accepted, and how many refused.
 #[derive(Clone, Copy)]
 struct Outcomes {
     taken: u64,
@@ -26,6 +26,7 @@ struct Outcomes {
 }
 
 impl Outcomes {
+    /// Counts one case.
     fn count(&mut self, is_taken: bool) {
         if is_taken {
             self.taken = self.taken.saturating_add(1);
@@ -35,11 +36,12 @@ impl Outcomes {
     }
 }
 
+/// Makes the error for a check that failed.
 fn broken(what: &str, number: u64, broken: Broken) -> anyhow::Error {
     anyhow!("{what} {number}: {broken:?}")
 }
 
-/// Up to three faults.
+/// Makes up to three faults.
 fn damaged(random: &mut Random, bytes: &mut Vec<u8>) -> Result<()> {
     for _ in 0..random.below(4) {
         damage(random, bytes)?;
@@ -47,7 +49,7 @@ fn damaged(random: &mut Random, bytes: &mut Vec<u8>) -> Result<()> {
     Ok(())
 }
 
-/// A stream at random with none to three faults.
+/// Checks a random stream with up to three faults. Returns whether it is accepted.
 fn stream_case(alloc: Global, number: u64) -> Result<bool> {
     let mut random = Random::new(number);
     let scopes = random.below(40);
@@ -57,7 +59,7 @@ fn stream_case(alloc: Global, number: u64) -> Result<bool> {
     check_stream(alloc, &bytes).map_err(|why| broken("stream", number, why))
 }
 
-/// The same of a file.
+/// Checks a random file with up to three faults. Returns whether it is accepted.
 fn file_case(alloc: Global, number: u64) -> Result<bool> {
     let mut random = Random::new(number);
     let frames = random.below(5) as u64;
@@ -67,7 +69,7 @@ fn file_case(alloc: Global, number: u64) -> Result<bool> {
     check_file(alloc, &bytes, &thread).map_err(|why| broken("file", number, why))
 }
 
-/// Runs so many cases.
+/// Runs `cases` cases of streams or files.
 fn run(alloc: Global, cases: u64, files: bool) -> Result<Outcomes> {
     let mut outcomes = Outcomes {
         taken: 0,
@@ -84,7 +86,7 @@ fn run(alloc: Global, cases: u64, files: bool) -> Result<Outcomes> {
     Ok(outcomes)
 }
 
-/// Streams and files at random: prints how many there were.
+/// Checks random streams and files, and prints how many.
 fn small(rt: &impl Print, alloc: Global) -> Result<()> {
     let _streams = run(alloc, CASES, false)?;
     let _files = run(alloc, CASES, true)?;
@@ -92,7 +94,7 @@ fn small(rt: &impl Print, alloc: Global) -> Result<()> {
     Ok(())
 }
 
-/// So many of them: prints how many were taken for what they are, and how many refused.
+/// Checks `cases` random streams and files, and prints how many were accepted and how many refused.
 fn large(rt: &impl Print, alloc: Global, cases: u64) -> Result<()> {
     for (what, files) in [("streams", false), ("files", true)] {
         let Outcomes { taken, refused } = run(alloc, cases, files)?;
@@ -101,7 +103,7 @@ fn large(rt: &impl Print, alloc: Global, cases: u64) -> Result<()> {
     Ok(())
 }
 
-/// The nanoseconds that a walk over a stream takes.
+/// Returns the nanoseconds that a walk over a stream takes.
 fn walked(rt: &HostRuntime, stream: &Stream) -> Result<u128> {
     let mut tries = 0;
     let begun = Instant::now(rt)?;
@@ -109,7 +111,8 @@ fn walked(rt: &HostRuntime, stream: &Stream) -> Result<u128> {
     Ok(begun.elapsed(rt)?.as_nanos())
 }
 
-/// Walks a stream and one of ten times the length, until the time of the second is at most 14 times that of the first.
+/// Walks a stream and one of about ten times the length, until the second takes at most 14 times as long as the first. Fails if
+/// it never does.
 fn grows(rt: &HostRuntime, what: &str, short: Vec<u8>, long: Vec<u8>) -> Result<()> {
     let (short, long) = (Stream::from(short), Stream::from(long));
     let (mut one, mut ten) = (u128::MAX, u128::MAX);
@@ -125,7 +128,8 @@ fn grows(rt: &HostRuntime, what: &str, short: Vec<u8>, long: Vec<u8>) -> Result<
     Err(anyhow!("{what}: {one} ns, and ten times as long {ten} ns"))
 }
 
-/// Deep streams, and crafted ones, whose children reach past their parents: walked in a time in proportion.
+/// Checks that the time of a walk grows in proportion, for deep streams and for crafted ones whose children reach past their
+/// parents.
 fn growth(rt: &HostRuntime) -> Result<()> {
     let alloc = rt.alloc();
     grows(rt, "deep", nested(alloc, 10_000)?, nested(alloc, 100_000)?)?;
@@ -137,7 +141,7 @@ fn growth(rt: &HostRuntime) -> Result<()> {
     )
 }
 
-/// The same with fewer levels, counted.
+/// Counts a deep and a crafted stream with fewer levels.
 fn levels(rt: &impl Print, alloc: Global) -> Result<()> {
     for bytes in [nested(alloc, LEVELS)?, crafted(alloc, LEVELS)?] {
         let is_taken = check_stream(alloc, &bytes).map_err(|why| broken("levels", LEVELS, why))?;
@@ -146,14 +150,13 @@ fn levels(rt: &impl Print, alloc: Global) -> Result<()> {
     Ok(())
 }
 
-/// Streams and files at random, and with fewer levels the deep and the crafted ones.
+/// Checks random streams and files, and a deep and a crafted stream.
 pub fn run_some(rt: &HostRuntime) -> Result<()> {
     small(rt, rt.alloc())?;
     levels(rt, rt.alloc())
 }
 
-/// So many of them: prints how many were taken and how many refused, and looks at how the time of a walk grows with the
-/// length.
+/// Checks `cases` random streams and files, and how the time of a walk grows with the length.
 pub fn run_many(rt: &HostRuntime, cases: u64) -> Result<()> {
     large(rt, rt.alloc(), cases)?;
     growth(rt)

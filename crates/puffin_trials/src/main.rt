@@ -1,7 +1,12 @@
-//! Trials of what no contract speaks of. The first does each kind of work once, for a run in which one allocation is
-//! refused: a call that was refused for memory is made once more, so what is printed is the same whichever allocation it
-//! is. The second counts, reads, reports and writes bytes that nobody wrote. Ends with status 1 where one of them isn't as
-//! it should be. The word `memory` asks for the first alone, and a number for the second with so many streams and files.
+//! Tries what no contract promises, in two parts.
+//!
+//! The first part does each kind of work once. It is for runs in which one allocation is refused: a call that fails for lack of
+//! memory is made again, so the output is the same whichever allocation it is. The second part counts, reads, reports and
+//! writes random and damaged bytes.
+//!
+//! Without arguments both parts run. The argument `memory` runs the first alone, and a number runs the second with that many
+//! streams and files. The argument `threads` runs threads in rounds instead, and prints what they reported. The status is 1 if
+//! a result isn't as expected.
 #![tactic(auto)]
 
 mod checks;
@@ -17,20 +22,25 @@ mod registrations;
 mod shared;
 mod streams;
 mod summaries;
+mod threads;
 
 use anyhow::{Context, Result, anyhow};
 use std::env;
 
-/// Which trials are asked for.
+/// The parts that are to run.
 #[derive(Clone, Copy)]
 enum Task {
+    /// Both parts.
     All,
+    /// The first part.
     Memory,
-    /// So many streams and files.
+    /// Threads in rounds.
+    Threads,
+    /// The second part, with this many streams and files.
     Bytes(u64),
 }
 
-/// What the program's first word asks for. The words are read once more where memory was refused.
+/// Returns what the first argument asks for. Reads the arguments again if that fails at first.
 fn asked(rt: &HostRuntime) -> Result<Task> {
     let mut words = match env::args(rt) {
         Ok(words) => words,
@@ -39,13 +49,14 @@ fn asked(rt: &HostRuntime) -> Result<Task> {
     match words.nth(1) {
         None => Ok(Task::All),
         Some(word) if word.as_str() == "memory" => Ok(Task::Memory),
+        Some(word) if word.as_str() == "threads" => Ok(Task::Threads),
         Some(word) => Ok(Task::Bytes(word.as_str().parse().ok().context("how many cases")?)),
     }
 }
 
 fn main(rt: HostRuntime) -> Result<()> {
     let task = asked(&rt)?;
-    let is_done = matches!(task, Task::Bytes(_))
+    let is_done = matches!(task, Task::Bytes(_) | Task::Threads)
         || registrations::run(&rt).is_some()
             && packets::run(&rt).is_some()
             && summaries::run(&rt).is_some()
@@ -57,6 +68,7 @@ fn main(rt: HostRuntime) -> Result<()> {
     match task {
         Task::All => hostile::run_some(&rt),
         Task::Memory => Ok(()),
+        Task::Threads => threads::run(rt).context("a line that can't be printed"),
         Task::Bytes(cases) => hostile::run_many(&rt, cases),
     }
 }

@@ -12,7 +12,7 @@ use std::borrow::CowStr;
 use std::collections::BTreeMap;
 use std::sync::Arc;
 
-/// Writes one scope in another.
+/// Writes one scope within another.
 fn nest(stream: &mut Stream, id: ScopeId, start: i64, stop: i64) -> puffin_data::Result<()> {
     let (outer, _) = stream.begin_scope(|| start, id, "outer")?;
     let (inner, _) = stream.begin_scope(|| start, id, "")?;
@@ -20,7 +20,7 @@ fn nest(stream: &mut Stream, id: ScopeId, start: i64, stop: i64) -> puffin_data:
     stream.end_scope(outer, stop)
 }
 
-/// The stream of one scope in another, for which memory is taken at once.
+/// Makes the stream of one scope within another, with one allocation.
 fn stream(alloc: Global, start: i64, length: u32) -> Option<Stream> {
     let id = ScopeId::new(7)?;
     let mut stream = Stream::new(alloc);
@@ -35,6 +35,7 @@ fn stream(alloc: Global, start: i64, length: u32) -> Option<Stream> {
     Some(stream)
 }
 
+/// Makes the info of a thread.
 pub fn thread(alloc: Global, start: i64, name: &str) -> Option<ThreadInfo> {
     Some(ThreadInfo {
         start_time_ns: Some(start),
@@ -42,6 +43,7 @@ pub fn thread(alloc: Global, start: i64, name: &str) -> Option<ThreadInfo> {
     })
 }
 
+/// Makes the details of one scope.
 fn details(alloc: Global) -> Option<Vec<Arc<ScopeDetails>>> {
     let name = again!(String::from_str(alloc, "named"))?;
     let details = ScopeDetails::from_scope_name(CowStr::Owned(name))
@@ -50,7 +52,7 @@ fn details(alloc: Global) -> Option<Vec<Arc<ScopeDetails>>> {
     only(alloc, Arc::new(alloc, details).ok()?)
 }
 
-/// The streams of two threads, of this length.
+/// Makes the streams of two threads, of this length.
 fn streams(alloc: Global, length: u32) -> Option<BTreeMap<ThreadInfo, StreamInfo>> {
     let mut streams = BTreeMap::new(alloc);
     for (name, start) in [("main", 100), ("other", 150)] {
@@ -60,12 +62,13 @@ fn streams(alloc: Global, length: u32) -> Option<BTreeMap<ThreadInfo, StreamInfo
     Some(streams)
 }
 
+/// Tries once to make a frame.
 fn frame_once(alloc: Global, index: u64, length: u32) -> Option<FrameData> {
     let streams = streams(alloc, length)?;
     FrameData::new(alloc, index, streams, details(alloc)?, false).ok()
 }
 
-/// A frame of two threads, of this index and length, which tells of one scope.
+/// Makes a frame of two threads with this index and length, which lists one scope.
 pub fn frame(alloc: Global, index: u64, length: u32) -> Option<FrameData> {
     match frame_once(alloc, index, length) {
         Some(made) => Some(made),
@@ -73,6 +76,7 @@ pub fn frame(alloc: Global, index: u64, length: u32) -> Option<FrameData> {
     }
 }
 
+/// Returns the packet of a frame.
 fn packet(alloc: Global, frame: &FrameData) -> Result<Vec<u8>, FileError> {
     let mut bytes = Vec::new(alloc);
     let mut drain = Counted::new(&mut bytes);
@@ -80,12 +84,13 @@ fn packet(alloc: Global, frame: &FrameData) -> Result<Vec<u8>, FileError> {
     Ok(bytes)
 }
 
+/// Reads the first frame of some bytes.
 fn read(alloc: Global, bytes: &[u8]) -> Result<Option<FrameData>, FileError> {
     let mut source = Counted::new(bytes);
     FrameData::read_next(alloc, &mut source)
 }
 
-/// Writes a frame, and prints a sum over its bytes.
+/// Writes a frame, and prints the number of its bytes and a sum over them. Returns the bytes.
 fn write(rt: &HostRuntime, held: &str, frame: &FrameData) -> Option<Vec<u8>> {
     let bytes = again!(packet(rt.alloc(), frame))?;
     let mut sum: u64 = 0;
@@ -97,23 +102,25 @@ fn write(rt: &HostRuntime, held: &str, frame: &FrameData) -> Option<Vec<u8>> {
     Some(bytes)
 }
 
-/// Writes a frame, whose bytes aren't kept.
+/// Writes a frame, and drops the bytes.
 fn show(rt: &HostRuntime, held: &str, frame: &FrameData) -> Option<()> {
     let _bytes = write(rt, held, frame)?;
     Some(())
 }
 
+/// Writes a copy of a frame.
 fn copy(rt: &HostRuntime, made: &FrameData) -> Option<()> {
     let copy = again!(made.clone())?;
     show(rt, "copy", &copy)
 }
 
+/// Writes a packed copy of a frame.
 fn packed_copy(rt: &HostRuntime, made: &FrameData) -> Option<()> {
     let copy = again!(made.packed_copy())?;
     show(rt, "packed copy", &copy)
 }
 
-/// Writes a frame that is held unpacked, and copies of it; and packs it then.
+/// Writes a frame that is held unpacked, and copies of it; then packs and writes it. Returns the last bytes.
 fn packed(rt: &HostRuntime, made: &mut FrameData) -> Option<Vec<u8>> {
     show(rt, "unpacked", made)?;
     copy(rt, made)?;
@@ -122,7 +129,7 @@ fn packed(rt: &HostRuntime, made: &mut FrameData) -> Option<Vec<u8>> {
     write(rt, "packed", made)
 }
 
-/// Writes a frame that was read, packed and held both ways.
+/// Writes a frame that was read: held packed, and then held both ways.
 fn both_ways(rt: &HostRuntime, made: &mut FrameData) -> Option<()> {
     show(rt, "read", made)?;
     let threads = again!(made.unpacked())?.thread_streams.len();
@@ -130,13 +137,13 @@ fn both_ways(rt: &HostRuntime, made: &mut FrameData) -> Option<()> {
     println!(rt; "threads {threads}").ok()
 }
 
-/// Writes a frame that is held unpacked and then packed. Returns what was written last.
+/// Writes a frame that is held unpacked and then packed. Returns the last bytes.
 fn written(rt: &HostRuntime) -> Option<Vec<u8>> {
     let mut made = frame(rt.alloc(), 4, 0)?;
     packed(rt, &mut made)
 }
 
-/// Writes a frame in each state that it may be held in.
+/// Writes a frame in each state in which it may be held.
 pub fn run(rt: &HostRuntime) -> Option<()> {
     let bytes = written(rt)?;
     let mut made = again!(read(rt.alloc(), &bytes))??;

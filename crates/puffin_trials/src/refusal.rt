@@ -1,11 +1,11 @@
-//! Which refusals are for want of memory.
+//! Calls that are made again if memory was refused.
 
 use puffin_data::{Error, FileError};
 use std::alloc::{AllocError, Global};
 
-/// Why a call was refused.
+/// An error that may mean that memory was refused.
 pub trait Refusal {
-    /// Whether it was for want of memory, as far as a file that is kept in memory can tell.
+    /// Returns whether memory was refused. For a file in memory, `Io` means that too.
     fn is_memory(self) -> bool;
 }
 
@@ -27,7 +27,7 @@ impl Refusal for FileError {
     }
 }
 
-/// What a call gave: its value, or nothing for another cause; `None` where it is to be made again.
+/// Returns the value of a call, `Some(None)` if it failed for another cause than memory, or `None` if it is to be made again.
 pub fn settled<T, E: Refusal>(first: Result<T, E>) -> Option<Option<T>> {
     match first {
         Ok(value) => Some(Some(value)),
@@ -35,7 +35,8 @@ pub fn settled<T, E: Refusal>(first: Result<T, E>) -> Option<Option<T>> {
     }
 }
 
-/// What a call returns, made once more where memory was refused; `None` where it is refused then, or for another cause.
+/// Evaluates a call, and evaluates it once more if memory was refused. Gives its value, or `None` if it failed again or for
+/// another cause.
 #[macro_export]
 macro_rules! again {
     ($call:expr) => {
@@ -46,7 +47,7 @@ macro_rules! again {
     };
 }
 
-/// A list of one value.
+/// Returns a vector of one value.
 pub fn only<T: Drop>(alloc: Global, value: T) -> Option<Vec<T>> {
     let mut all = Vec::new(alloc);
     again!(all.reserve(1))?;

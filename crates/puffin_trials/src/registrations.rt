@@ -1,4 +1,4 @@
-//! Scopes that are registered, reported and told of in frames.
+//! Scopes that are registered, reported and listed by frames.
 ghost use Rattle.std.specs.Prelude.{◌≡◌};
 ghost use Rattle.puffin.specs.Profiler.{collected_of};
 
@@ -15,16 +15,18 @@ use std::sync::Wait;
 
 type Thread = ThreadProfiler<ScriptClock>;
 
-/// The text in memory of its own.
+/// Copies a text into memory of its own.
 pub fn owned(alloc: Global, text: &str) -> Option<CowStr<'static>> {
     Some(CowStr::Owned(again!(String::from_str(alloc, text))?))
 }
 
+/// Makes a thread profiler.
 fn thread(alloc: Global, name: &str) -> Option<Thread> {
     let name = again!(String::from_str(alloc, name))?;
     Some(ThreadProfiler::new(alloc, name, ScriptClock::new(0)))
 }
 
+/// Tries once to register a function.
 fn function_once(
     alloc: Global,
     thread: &mut Thread,
@@ -33,10 +35,12 @@ fn function_once(
     Some(thread.register_function_scope(ids, owned(alloc, "load")?, owned(alloc, "a.rs")?, 7))
 }
 
+/// Registers a function.
 fn function(alloc: Global, thread: &mut Thread, ids: &ScopeIds) -> Option<ScopeId> {
     again!(function_once(alloc, thread, ids)?)
 }
 
+/// Tries once to register a named scope.
 fn named_once(
     alloc: Global,
     thread: &mut Thread,
@@ -51,11 +55,12 @@ fn named_once(
     ))
 }
 
+/// Registers a named scope.
 fn named(alloc: Global, thread: &mut Thread, ids: &ScopeIds) -> Option<ScopeId> {
     again!(named_once(alloc, thread, ids)?)
 }
 
-/// The last scope ended with this outcome; a report kept for want of memory is made again.
+/// Checks the outcome of ending the last scope. If the report was kept for lack of memory, reports again.
 pub fn closed(outcome: Closed, thread: &mut Thread, profiler: &mut GlobalProfiler) -> Option<()> {
     match outcome {
         Closed::Reported => Some(()),
@@ -67,7 +72,7 @@ pub fn closed(outcome: Closed, thread: &mut Thread, profiler: &mut GlobalProfile
     }
 }
 
-/// Reports one scope in another.
+/// Reports one scope within another.
 fn report(
     profiler: &mut GlobalProfiler,
     thread: &mut Thread,
@@ -83,7 +88,7 @@ fn report(
     closed(outcome, thread, profiler)
 }
 
-/// The details of a scope that stands in a file.
+/// Makes the details of a scope with a file and a line.
 fn in_file(alloc: Global, name: &str) -> Option<ScopeDetails> {
     let details = ScopeDetails::from_scope_name(owned(alloc, name)?);
     Some(details.with_file(owned(alloc, "b.rs")?).with_line_nr(3))
@@ -114,7 +119,7 @@ fn users(alloc: Global, profiler: &mut GlobalProfiler, ids: &ScopeIds) -> Option
     again!(register(profiler, ids, &details))
 }
 
-/// Prints what a frame has, and the scopes that it tells of.
+/// Prints the counts of a frame, and the scopes that it lists.
 pub fn print_frame<R: Print>(rt: &R, frame: &FrameData) -> Option<()> {
     let meta = frame.meta();
     let (index, scopes, bytes) = (meta.frame_index, meta.num_scopes, meta.num_bytes);
@@ -136,7 +141,7 @@ pub fn frame<R: Print + Wait>(rt: &R, profiler: &mut GlobalProfiler) -> Option<(
     }
 }
 
-/// Reports one scope in another, and takes a frame.
+/// Reports one scope within another, and takes a frame.
 fn report_frame<R: Print + Wait>(
     rt: &R,
     profiler: &mut GlobalProfiler,
@@ -148,7 +153,7 @@ fn report_frame<R: Print + Wait>(
     frame(rt, profiler)
 }
 
-/// Two threads register scopes and report them in two frames. Returns those of the main thread.
+/// Registers scopes of two threads, and reports them in two frames. Returns the main thread's scopes.
 fn registered<R: Print + AllocGlobal + Wait>(
     rt: &R,
     ids: &ScopeIds,
@@ -166,7 +171,7 @@ fn registered<R: Print + AllocGlobal + Wait>(
     Some(mains)
 }
 
-/// What is done with a profiler and two threads, over four frames; the last one tells of all that is known.
+/// Does everything with a profiler and two threads, in four frames. The last one lists every known scope.
 fn steps<R: Print + AllocGlobal + Wait>(
     rt: &R,
     profiler: &mut GlobalProfiler,
@@ -182,14 +187,14 @@ fn steps<R: Print + AllocGlobal + Wait>(
     report_frame(rt, profiler, main, mains, 700)
 }
 
-/// Two threads that report to a profiler.
+/// Lets two threads report to a profiler.
 fn threads<R: Print + AllocGlobal + Wait>(rt: &R, profiler: &mut GlobalProfiler) -> Option<()> {
     let mut main = thread(rt.alloc(), "main")?;
     let mut other = thread(rt.alloc(), "other")?;
     steps(rt, profiler, &mut main, &mut other)
 }
 
-/// Why a scope of the caller's own is refused, memory aside. It is registered once more where that was wanting.
+/// Registers scopes of the caller's own, again if memory was refused. Returns the error.
 fn refusal(
     profiler: &mut GlobalProfiler,
     ids: &ScopeIds,
@@ -201,7 +206,7 @@ fn refusal(
     }
 }
 
-/// Registers scopes until there is no id left, and prints that the last one was refused for that.
+/// Registers scopes until no id is left, and prints that the last one was refused for that.
 fn run_out<R: Print + AllocGlobal>(rt: &R, profiler: &mut GlobalProfiler) -> Option<()> {
     let ids = ScopeIds::starting_at(u64::from(u32::MAX) - 1);
     let mut last = None;
@@ -215,7 +220,7 @@ fn run_out<R: Print + AllocGlobal>(rt: &R, profiler: &mut GlobalProfiler) -> Opt
     }
 }
 
-/// Two threads register scopes and report them, and another profiler's scopes run out of ids.
+/// Registers and reports scopes of two threads, and registers scopes with another profiler until no id is left.
 pub fn run<R: Print + AllocGlobal + Wait>(rt: &R) -> Option<()> {
     let mut profiler = GlobalProfiler::new(rt.alloc());
     threads(rt, &mut profiler)?;

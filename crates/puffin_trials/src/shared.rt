@@ -21,7 +21,7 @@ use std::marker::Brand;
 use std::sync::ledger::{Blank, Ledger};
 use std::sync::{Arc, Mutex, Wait};
 
-/// One scope of the caller's own.
+/// Makes one scope of the caller's own.
 fn own_scope(alloc: Global, id: ScopeId) -> Result<StreamInfo>
     ensures { IfOk result (λ info. (f : Forest) × IsHonest info f) }
 {
@@ -31,7 +31,7 @@ fn own_scope(alloc: Global, id: ScopeId) -> Result<StreamInfo>
     StreamInfo::parse(alloc, stream)
 }
 
-/// A view that nobody looks at.
+/// Makes a sink of a view that nobody looks at.
 fn view(alloc: Global) -> Option<Sink> {
     let view = match Arc::new(alloc, Mutex::new(FrameView::new(alloc))) {
         Ok(view) => view,
@@ -40,6 +40,7 @@ fn view(alloc: Global) -> Option<Sink> {
     Some(Sink::View(view))
 }
 
+/// Adds a sink.
 fn add<L: Ledger, M: Ledger>(
     rt: &impl Wait,
     profiler: &SharedProfiler<L, M>,
@@ -55,6 +56,7 @@ fn add<L: Ledger, M: Ledger>(
     }
 }
 
+/// Attaches a view.
 fn attach<L: Ledger, M: Ledger>(
     rt: &impl Wait,
     alloc: Global,
@@ -63,6 +65,7 @@ fn attach<L: Ledger, M: Ledger>(
     again!(GlobalFrameView::attach(rt, alloc, profiler))
 }
 
+/// Registers one scope of the caller's own.
 fn register<L: Ledger, M: Ledger>(
     rt: &impl Wait,
     alloc: Global,
@@ -99,7 +102,7 @@ fn handed<L: Ledger, M: Ledger>(
     Some(profiler.add_frame(rt, again!(Arc::try_clone(frame))?))
 }
 
-/// Prints a frame. Where a sink had no memory for it, it is added to the sinks once more.
+/// Prints a frame. If a sink had no memory for it, hands it to the sinks once more.
 fn print_emitted<L: Ledger, M: Ledger, R: Print + Wait>(
     rt: &R,
     profiler: &SharedProfiler<L, M>,
@@ -122,13 +125,13 @@ fn frame<L: Ledger, M: Ledger, R: Print + Wait>(
     print_emitted(rt, profiler, &emitted)
 }
 
-/// Whether a view knows the scope that the profiler knew before the view was attached.
+/// Returns whether a view knows the scope that the profiler knew before the view was attached.
 fn knows_early(rt: &impl Wait, view: &GlobalFrameView) -> bool {
     let view = view.lock(rt);
     view.scope_collection().fetch_by_name("early").is_some()
 }
 
-/// Prints which sinks there are and what the view holds, and takes the view out.
+/// Prints the numbers of the sinks and what the view holds, and detaches the view.
 fn close<L: Ledger, M: Ledger, R: Print + Wait>(
     rt: &R,
     profiler: &SharedProfiler<L, M>,
@@ -142,6 +145,7 @@ fn close<L: Ledger, M: Ledger, R: Print + Wait>(
     println!(rt; "sinks {first} {second} held {held} knows {knows} detached {detached}").ok()
 }
 
+/// Settles the one share, and prints the counts.
 fn settle<L: Ledger, M: Ledger, R: Print + Wait>(
     rt: &R,
     alloc: Global,
@@ -156,7 +160,7 @@ fn settle<L: Ledger, M: Ledger, R: Print + Wait>(
     println!(rt; "reported {reported} handed {handed} pending {pending}").ok()
 }
 
-/// Adds a second sink, reports a scope and takes a frame. The number of the sink.
+/// Adds a second sink, reports a scope and takes a frame. Returns the number of the sink.
 fn reported<L: Ledger, M: Ledger, R: Print + Wait>(
     rt: &R,
     alloc: Global,
@@ -171,7 +175,7 @@ fn reported<L: Ledger, M: Ledger, R: Print + Wait>(
     Some(other)
 }
 
-/// What is done while a view is attached.
+/// Attaches a view, reports a scope, takes a frame, and detaches the view.
 fn viewed<L: Ledger, M: Ledger, R: Print + Wait>(
     rt: &R,
     alloc: Global,
@@ -184,7 +188,7 @@ fn viewed<L: Ledger, M: Ledger, R: Print + Wait>(
     close(rt, profiler, view, other)
 }
 
-/// What is done with a shared profiler.
+/// Does everything with a shared profiler, and settles its share.
 fn shared<L: Ledger, M: Ledger, R: Print + Wait>(
     rt: &R,
     alloc: Global,
@@ -197,7 +201,7 @@ fn shared<L: Ledger, M: Ledger, R: Print + Wait>(
     settle(rt, alloc, profiler, share)
 }
 
-/// The same with a clone of a profiler.
+/// Does everything with another handle to a shared profiler.
 fn cloned<L: Ledger, M: Ledger, R: Print + Wait>(
     rt: &R,
     alloc: Global,
@@ -209,7 +213,7 @@ fn cloned<L: Ledger, M: Ledger, R: Print + Wait>(
     shared(rt, alloc, &profiler, share, ids)
 }
 
-/// The same with a profiler that is opened first. Where that is refused, the profiler that came back.
+/// Opens a profiler, and does everything with it. Returns the profiler if it was refused.
 fn opened<L: Ledger, M: Ledger, R: Print + Wait>(
     rt: &R,
     profiler: GlobalProfiler,
@@ -235,7 +239,7 @@ fn opened<L: Ledger, M: Ledger, R: Print + Wait>(
     }
 }
 
-/// Lets a profiler know one scope.
+/// Makes a profiler know one scope.
 fn prepare(alloc: Global, ids: &ScopeIds, profiler: &mut GlobalProfiler) -> Option<()>
     ensures reported { (collected_of profiler.new).reported
         ≡ (collected_of profiler.old).reported }
@@ -246,7 +250,7 @@ fn prepare(alloc: Global, ids: &ScopeIds, profiler: &mut GlobalProfiler) -> Opti
     again!(registrations::register(profiler, ids, &details))
 }
 
-/// What is done with a profiler, which knows one scope then; where it isn't opened, it comes back.
+/// Makes a profiler know one scope, and does everything with it. Returns the profiler if it couldn't be opened.
 fn once<R: Print + AllocGlobal + Wait>(
     rt: &R,
     profiler: GlobalProfiler,
@@ -259,7 +263,7 @@ fn once<R: Print + AllocGlobal + Wait>(
     opened::<Brand, Brand, R>(rt, profiler, &ids, rt.alloc(), Blank::new(1), Blank::new(1))
 }
 
-/// Reports one scope of the caller's own.
+/// Reports one scope of the caller's own to a profiler without a lock.
 fn report_to(alloc: Global, profiler: &mut GlobalProfiler) -> Option<()> {
     let scope = own_scope(alloc, ScopeId::new(1)?).ok()?;
     let user = ThreadInfo {
@@ -271,7 +275,7 @@ fn report_to(alloc: Global, profiler: &mut GlobalProfiler) -> Option<()> {
         .ok()
 }
 
-/// Whether a frame has the number 0 and one scope, and tells of one.
+/// Returns whether a frame has the index 0 and one scope, and lists the scope `early` alone.
 fn is_first(frame: &FrameData) -> bool {
     let (index, scopes) = (frame.meta().frame_index, frame.meta().num_scopes);
     let told = match frame.scope_delta.first() {
@@ -281,13 +285,13 @@ fn is_first(frame: &FrameData) -> bool {
     (index, scopes, frame.scope_delta.len()) == (0, 1, 1) && told
 }
 
-/// Whether a profiler knows one scope, and has taken no frame: it tells of it in frame 0.
+/// Returns whether a profiler knows the one scope and has taken no frame: frame 0 lists it.
 fn is_as_prepared<R: AllocGlobal + Wait>(rt: &R, profiler: &mut GlobalProfiler) -> Option<bool> {
     report_to(rt.alloc(), profiler)?;
     Some(is_first(&*profiler.new_frame(rt).ok()?.frame?))
 }
 
-/// Shares another profiler, which is opened.
+/// Shares another profiler, which has to be opened.
 fn another<R: Print + AllocGlobal + Wait>(rt: &R) -> Option<()> {
     match once(rt, GlobalProfiler::new(rt.alloc()))? {
         None => Some(()),
@@ -295,7 +299,7 @@ fn another<R: Print + AllocGlobal + Wait>(rt: &R) -> Option<()> {
     }
 }
 
-/// Shares a profiler. Where it isn't opened for want of memory, it comes back as it was, and another one is shared.
+/// Shares a profiler. If it couldn't be opened for lack of memory, checks that it is as before, and shares another one.
 pub fn run<R: Print + AllocGlobal + Wait>(rt: &R) -> Option<()> {
     let Some(mut refused) = once(rt, GlobalProfiler::new(rt.alloc()))? else {
         return Some(());

@@ -1,4 +1,4 @@
-//! Streams of scopes, valid and crafted.
+//! Random, deep and crafted streams of scopes.
 
 use crate::random::Random;
 use puffin_data::data::{ScopeId, Stream};
@@ -13,7 +13,7 @@ const TEXTS: [&str; 4] = [
     "a text of so many bytes that its length shows",
 ];
 
-/// Begins a scope at random.
+/// Begins a random scope, and returns its offset.
 fn begin(stream: &mut Stream, random: &mut Random, now: i64) -> Result<usize> {
     let id = ScopeId::new(1 + random.below(9) as u32).ok_or(Error::InvalidStream)?;
     let text = random.one_of(&TEXTS, "");
@@ -21,7 +21,7 @@ fn begin(stream: &mut Stream, random: &mut Random, now: i64) -> Result<usize> {
     Ok(offset)
 }
 
-/// Ends a scope, where there is one at this offset.
+/// Ends the scope at this offset, if it lies within the stream.
 fn end(stream: &mut Stream, offset: usize, now: i64) -> Result<()> {
     if stream.len() < 8 || offset > stream.len() - 8 {
         return Ok(());
@@ -29,7 +29,7 @@ fn end(stream: &mut Stream, offset: usize, now: i64) -> Result<()> {
     stream.end_scope(offset, now)
 }
 
-/// A stream of at most so many scopes at random, at most `deepest` of them one in the other.
+/// Makes a random stream of at most `scopes` scopes, nested at most `deepest` deep.
 pub fn forest(alloc: Global, random: &mut Random, scopes: usize, deepest: usize) -> Result<Stream> {
     let mut stream = Stream::new(alloc);
     let mut open: Vec<usize> = Vec::new(alloc);
@@ -48,20 +48,20 @@ pub fn forest(alloc: Global, random: &mut Random, scopes: usize, deepest: usize)
     Ok(stream)
 }
 
-/// The bytes of a scope's beginning at 0, without a text, whose children take so many bytes.
+/// Appends the beginning of a scope at time 0, without a text, whose children take `size` bytes.
 fn beginning(bytes: &mut Vec<u8>, size: u64) -> Result<()> {
     bytes.extend_from_slice(b"(\x01\0\0\0\0\0\0\0\0\0\0\0\0")?;
     bytes.extend_from_slice(&size.to_le_bytes())?;
     Ok(())
 }
 
-/// The bytes of a scope's end at 0.
+/// Appends the end of a scope at time 0.
 fn ending(bytes: &mut Vec<u8>) -> Result<()> {
     bytes.extend_from_slice(b")\0\0\0\0\0\0\0\0")?;
     Ok(())
 }
 
-/// So many scopes without texts, each in the one before.
+/// Makes `levels` scopes without texts, each within the one before.
 pub fn nested(alloc: Global, levels: u64) -> Result<Vec<u8>> {
     let mut bytes = Vec::new(alloc);
     for level in 0..levels {
@@ -74,8 +74,8 @@ pub fn nested(alloc: Global, levels: u64) -> Result<Vec<u8>> {
     Ok(bytes)
 }
 
-/// So many scopes whose child begins in them and has their end: what goes over children anew at each level takes twice as
-/// long for each.
+/// Makes `levels` scopes, each with a child that begins in it and reaches past it. A walk that goes over the children again at
+/// each level takes twice as long with each level.
 pub fn crafted(alloc: Global, levels: u64) -> Result<Vec<u8>> {
     let mut bytes = Vec::new(alloc);
     for _ in 0..levels {

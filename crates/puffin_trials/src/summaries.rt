@@ -12,7 +12,7 @@ use puffin_replay::replay::{Summary, summarize};
 use std::alloc::Global;
 use std::sync::Arc;
 
-/// A frame of this index and length, in shared memory.
+/// Makes a frame with this index and length, in shared memory.
 fn shared(alloc: Global, index: u64, length: u32) -> Option<Arc<FrameData>> {
     match Arc::new(alloc, frame(alloc, index, length)?) {
         Ok(shared) => Some(shared),
@@ -20,16 +20,18 @@ fn shared(alloc: Global, index: u64, length: u32) -> Option<Arc<FrameData>> {
     }
 }
 
+/// Tries once to add a frame to a view.
 fn added(view: &mut FrameView, frame: &Arc<FrameData>) -> Option<puffin_data::Result<()>> {
     Some(view.add_frame(again!(frame.clone())?))
 }
 
-/// Adds a frame of this index and length.
+/// Adds a frame with this index and length.
 fn add(alloc: Global, view: &mut FrameView, index: u64, length: u32) -> Option<()> {
     let frame = shared(alloc, index, length)?;
     again!(added(view, &frame)?)
 }
 
+/// Adds three frames.
 fn add_all(alloc: Global, view: &mut FrameView) -> Option<()> {
     for (index, length) in [(0, 300), (1, 100), (2, 200)] {
         add(alloc, view, index, length)?;
@@ -37,7 +39,7 @@ fn add_all(alloc: Global, view: &mut FrameView) -> Option<()> {
     Some(())
 }
 
-/// A view of three frames, of which two are recent and one is slow.
+/// Makes a view that took three frames, and keeps two recent ones and one slow one.
 fn view(alloc: Global) -> Option<FrameView> {
     let mut view = FrameView::new(alloc);
     view.set_max_recent(2);
@@ -46,6 +48,7 @@ fn view(alloc: Global) -> Option<FrameView> {
     Some(view)
 }
 
+/// Returns the file of a view.
 fn file(alloc: Global, view: &FrameView) -> Result<Vec<u8>, FileError> {
     let mut bytes = Vec::new(alloc);
     let mut drain = Counted::new(&mut bytes);
@@ -53,12 +56,13 @@ fn file(alloc: Global, view: &FrameView) -> Result<Vec<u8>, FileError> {
     Ok(bytes)
 }
 
+/// Sums up a file for a thread.
 fn summary(alloc: Global, file: &[u8], thread: &ThreadInfo) -> Result<Summary, FileError> {
     let mut source = Counted::new(file);
     summarize(alloc, &mut source, thread)
 }
 
-/// Prints a merged scope and the number of those in it.
+/// Prints a merged scope and the number of its children.
 fn print(rt: &HostRuntime, scope: &MergeScope) -> Option<()> {
     let (pieces, total) = (scope.num_pieces, scope.total_duration_ns);
     let (start, longest) = (scope.relative_start_ns, scope.max_duration_ns);
@@ -68,18 +72,19 @@ fn print(rt: &HostRuntime, scope: &MergeScope) -> Option<()> {
     println!(rt; "    start {start} longest {longest} within {within}").ok()
 }
 
-/// The file of a view, of which a copy is written.
+/// Returns the file of a copy of a view.
 fn copied(alloc: Global, view: &FrameView) -> Option<Vec<u8>> {
     let copy = again!(view.clone())?;
     again!(file(alloc, &copy))
 }
 
+/// Makes a view, and returns its file.
 fn viewed(alloc: Global) -> Option<Vec<u8>> {
     let view = view(alloc)?;
     copied(alloc, &view)
 }
 
-/// Prints what a file sums up to.
+/// Prints a summary.
 fn print_summary(rt: &HostRuntime, summary: &Summary) -> Option<()> {
     let (frames, merged) = (summary.frames, summary.merged.len());
     println!(rt; "summary frames {frames} scopes {merged}").ok()?;
@@ -89,7 +94,7 @@ fn print_summary(rt: &HostRuntime, summary: &Summary) -> Option<()> {
     Some(())
 }
 
-/// Sums a file up for one of its threads.
+/// Sums up a file for one of its threads, and prints the summary.
 fn summed_up(rt: &HostRuntime, file: &[u8]) -> Option<()> {
     let len = file.len();
     println!(rt; "file bytes {len}").ok()?;

@@ -1,4 +1,4 @@
--- What becomes of the sinks when a frame is handed on.
+-- What happens to each sink when a frame is handed to all of them.
 use Rattle.std.specs.Prelude.{◌≡◌, ℕ, List, [], ◌∷◌, Result, Ok, Err, Option, Some, None, sum_by}
 use Rattle.std.specs.declared.alloc.Global.{Global}
 use Rattle.std.specs.declared.dyn_box.DynBox.{DynBox}

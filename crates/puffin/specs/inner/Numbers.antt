@@ -1,4 +1,4 @@
--- The numbers of sinks.
+-- The numbers of sinks rise strictly.
 use Rattle.std.specs.Prelude.{ℕ, List, [], ◌∷◌, ◌++◌, map}
 use Rattle.std.specs.List.Sorted.{IsStrictlyIncreasing}
 use Rattle.puffin.specs.declared.global_profiler.sinks.Entry.{Entry}

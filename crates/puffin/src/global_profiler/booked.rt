@@ -1,4 +1,4 @@
-//! What the lock of a shared profiler keeps.
+//! The value that a shared profiler's lock protects.
 ghost use Rattle.std.specs.Prelude.{◌≡◌, ◌+◌, ◌-◌, ◌^◌, ◌<◌, ◌≤◌, ◌⊎◌, ◌↔◌, [], true, vec_len, Some, OnOk, OnErr, IfOk, IfErr, IfSome, IfNone};
 ghost use Rattle.std.specs.FinMap as map;
 ghost use Rattle.std.specs.List.{list_any};
@@ -29,11 +29,11 @@ use puffin_frames::thread_profiler::ThreadInfo;
 use std::sync::ledger::{Book, Ledger};
 use std::sync::{Arc, Wait};
 
-/// A profiler with the books of what its shares reported and of what was handed out to them. Each call makes the call of
-/// that name of [`GlobalProfiler`], and counts it in a share.
+/// A profiler with the books of its shares: one of the scopes that they reported, and one of the scopes that were handed out to
+/// them. Each call makes the call of the same name of [`GlobalProfiler`]; a report and a new frame are also counted in a share.
 #[derive(Drop)]
 pub struct Booked<L: Ledger, M: Ledger> {
-    /// Keeps the profiler off the cache line of the lock, at which other threads look while one has it.
+    /// Keeps the profiler off the cache line of the lock, which other threads read while one holds it.
     apart: [u64; 16],
     profiler: GlobalProfiler,
     reported: Book<L>,
@@ -46,15 +46,16 @@ pub struct Booked<L: Ledger, M: Ledger> {
 /// What all shares of a profiler count together, and what is left.
 #[derive(Clone, Copy, Debug, PartialEq, Eq)]
 pub struct Settled {
-    /// The scopes that all shares reported.
+    /// The scopes that were reported through all shares.
     pub reported: u64,
-    /// The scopes in the frames that were handed out to them.
+    /// The scopes in the frames that were handed out to all shares.
     pub handed: u64,
-    /// The scopes that the next frame will hold.
+    /// The scopes that the next frame will have.
     pub pending: u64,
 }
 
 impl<L: Ledger, M: Ledger> Booked<L, M> {
+    /// Puts a profiler beside its books. Their totals have to be the profiler's own.
     pub(crate) fn new(
         profiler: GlobalProfiler,
         reported: Book<L>,
@@ -74,6 +75,7 @@ impl<L: Ledger, M: Ledger> Booked<L, M> {
         }
     }
 
+    /// Returns the profiler, and drops its books.
     pub(crate) fn into_profiler(self) -> GlobalProfiler
         ensures { result ≡ self.profiler }
     {
@@ -87,7 +89,7 @@ impl<L: Ledger, M: Ledger> Booked<L, M> {
         profiler
     }
 
-    /// [`GlobalProfiler::report`]. Where it is accepted, the share counts the scopes.
+    /// Reports as [`GlobalProfiler::report`] does. If that succeeds, the share counts the scopes.
     #[inline(always)]
     pub fn report(
         &mut self,
@@ -116,7 +118,8 @@ impl<L: Ledger, M: Ledger> Booked<L, M> {
         Ok(())
     }
 
-    /// [`GlobalProfiler::report_user_scopes`]. Where it is accepted, the share counts the scopes.
+    /// Reports scopes of the caller's own as [`GlobalProfiler::report_user_scopes`] does. If that succeeds, the share counts
+    /// the scopes.
     pub fn report_user_scopes(
         &mut self,
         share: &mut Share<L, M>,
@@ -138,7 +141,7 @@ impl<L: Ledger, M: Ledger> Booked<L, M> {
         self.report(share, info, &[], times)
     }
 
-    /// [`GlobalProfiler::register_user_scopes`].
+    /// Registers scopes of the caller's own as [`GlobalProfiler::register_user_scopes`] does.
     pub fn register_user_scopes(
         &mut self,
         ids: &ScopeIds,
@@ -156,7 +159,7 @@ impl<L: Ledger, M: Ledger> Booked<L, M> {
         self.profiler.register_user_scopes(ids, details)
     }
 
-    /// [`GlobalProfiler::emit_scope_snapshot`].
+    /// Makes the next frame list every known scope, as [`GlobalProfiler::emit_scope_snapshot`] does.
     pub fn emit_scope_snapshot(&mut self)
         requires { Unit {0} }
         ensures wants { collected_of self.new.profiler
@@ -166,7 +169,7 @@ impl<L: Ledger, M: Ledger> Booked<L, M> {
         self.profiler.emit_scope_snapshot();
     }
 
-    /// [`GlobalProfiler::new_frame`]. Where a frame is handed out, the share counts its scopes.
+    /// Hands out a frame as [`GlobalProfiler::new_frame`] does. If there is one, the share counts its scopes.
     pub fn new_frame<R: Wait>(&mut self, rt: &R, share: &mut Share<L, M>) -> Result<Emitted>
         requires { Unit {0} }
         ensures ok { IfOk result (λ emitted.
@@ -205,7 +208,7 @@ impl<L: Ledger, M: Ledger> Booked<L, M> {
         })
     }
 
-    /// [`GlobalProfiler::add_frame`]. No share counts the frame.
+    /// Hands a frame of another origin to the sinks, as [`GlobalProfiler::add_frame`] does. No share counts it.
     pub fn add_frame<R: Wait>(&mut self, rt: &R, frame: Arc<FrameData>) -> Result<usize>
         requires { Unit {0} }
         ensures learnt { OnOk result (
@@ -228,7 +231,7 @@ impl<L: Ledger, M: Ledger> Booked<L, M> {
         self.profiler.add_frame(rt, frame)
     }
 
-    /// [`GlobalProfiler::add_sink`].
+    /// Adds a sink as [`GlobalProfiler::add_sink`] does.
     pub fn add_sink(&mut self, sink: Sink) -> std::result::Result<FrameSinkId, (Error, Sink)>
         requires { Unit {0} }
         ensures ok { IfOk result (λ id.
@@ -247,7 +250,7 @@ impl<L: Ledger, M: Ledger> Booked<L, M> {
         self.profiler.add_sink(sink)
     }
 
-    /// [`GlobalProfiler::remove_sink`].
+    /// Removes a sink as [`GlobalProfiler::remove_sink`] does.
     pub fn remove_sink(&mut self, id: FrameSinkId) -> Option<Sink>
         requires { Unit {0} }
         ensures some { IfSome result (λ sink.
@@ -261,7 +264,8 @@ impl<L: Ledger, M: Ledger> Booked<L, M> {
         self.profiler.remove_sink(id)
     }
 
-    /// [`GlobalProfiler::totals`]. They are not below what the share counts. The share is changed in nothing.
+    /// Returns the profiler's totals as [`GlobalProfiler::totals`] does. They are at least the share's counts. The share
+    /// doesn't change.
     pub fn totals(&mut self, share: &mut Share<L, M>) -> Totals
         requires { Unit {0} }
         ensures reported { result.reported ≡ (collected_of self.old.profiler).reported }
@@ -274,15 +278,16 @@ impl<L: Ledger, M: Ledger> Booked<L, M> {
             × (share.old.handed ≤ result.emitted) }
         ensures same { (self.new.profiler ≡ self.old.profiler) × (share.new ≡ share.old) }
     {
-        // For the proof alone: no share has more than its book.
+        // Only for the proof: no share counts more than its book.
         self.reported.audit(&mut share.reported);
         self.handed.audit(&mut share.handed);
         self.profiler.totals()
     }
 
-    /// What all shares count together, where these are all. Takes no memory.
+    /// Adds up the counts of all shares, and returns them with the number of pending scopes. Every scope reported is then
+    /// handed out or pending. Allocates nothing.
     ///
-    /// Refused where they aren't as many as were made: the same shares come back.
+    /// Fails if these aren't as many shares as were made, and returns them.
     pub fn settle(
         &mut self,
         shares: Vec<Share<L, M>>,
@@ -314,7 +319,7 @@ impl<L: Ledger, M: Ledger> Booked<L, M> {
             all_reported.merge(reported);
             all_handed.merge(handed);
         }
-        // For the proof alone: all shares together have what their books have.
+        // Only for the proof: all shares together count what their books do.
         self.reported.audit(&mut all_reported);
         self.handed.audit(&mut all_handed);
         let totals = self.profiler.totals();

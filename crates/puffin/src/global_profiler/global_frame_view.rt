@@ -1,4 +1,4 @@
-//! A view that a shared profiler keeps filled.
+//! A view of a shared profiler's frames.
 ghost use Rattle.std.specs.Prelude.{◌≡◌, ◌⊎◌, IfErr};
 
 use crate::global_profiler::shared_profiler::SharedProfiler;
@@ -9,7 +9,8 @@ use std::alloc::Global;
 use std::sync::ledger::Ledger;
 use std::sync::{Arc, Mutex, MutexGuard, Wait};
 
-/// A view that is a sink of a shared profiler: it holds the frames that are taken from when it was attached on.
+/// A view that is a sink of a shared profiler. It gets each frame that the profiler hands to its sinks after the view was
+/// attached.
 #[derive(Drop)]
 pub struct GlobalFrameView {
     view: Arc<Mutex<FrameView>>,
@@ -17,10 +18,10 @@ pub struct GlobalFrameView {
 }
 
 impl GlobalFrameView {
-    /// Adds a new view to the profiler's sinks, and lets the next frame tell of all scopes that are known, so that the view
-    /// finds them too. Both happen under one holding of the lock.
+    /// Adds a new view to the profiler's sinks, and makes the next frame list every known scope, so that the view gets the
+    /// details of those too. Takes the lock once for both.
     ///
-    /// Refused with `SinkIdsExhausted` or `Memory`, and nothing is changed then.
+    /// Fails with `SinkIdsExhausted` or `Memory`; nothing changes then.
     ///
     /// ```
     /// let view = GlobalFrameView::attach(&rt, alloc, &profiler)?;
@@ -48,7 +49,8 @@ impl GlobalFrameView {
         }
     }
 
-    /// Takes the view out of the profiler's sinks. Returns whether it was there.
+    /// Removes the view from the profiler's sinks, and returns whether it was there. Pass the profiler that the view was
+    /// attached to: from another one, this would remove the sink with the same number.
     pub fn detach<L: Ledger, M: Ledger>(
         self,
         rt: &impl Wait,
@@ -59,14 +61,15 @@ impl GlobalFrameView {
         profiler.remove_sink(rt, self.sink_id).is_some()
     }
 
-    /// The number of the sink that the view is.
+    /// Returns the view's number among the profiler's sinks.
     pub fn sink_id(&self) -> FrameSinkId
         ensures { result ≡ self.now.sink_id }
     {
         self.sink_id
     }
 
-    /// Waits for the view's lock, and lends the view until the guard is dropped. While it is lent, new frames wait.
+    /// Waits for the view's lock, and lends the view until the guard is dropped. Until then, a frame that is handed to the view
+    /// waits.
     pub fn lock(&self, rt: &impl Wait) -> MutexGuard<'_, FrameView> {
         self.view.lock(rt)
     }

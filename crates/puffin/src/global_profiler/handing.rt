@@ -1,3 +1,4 @@
+//! Hands a frame to the sinks of a profiler.
 ghost use Rattle.std.specs.Prelude.{◌≡◌, ◌≤◌};
 ghost use Rattle.std.specs.Arc.{arc_value};
 ghost use Rattle.puffin.specs.Sinks.Handing.{Answers, HandedTo, HandsOn, refusal};
@@ -9,18 +10,19 @@ use puffin_frames::frame_data::FrameData;
 use puffin_view::profile_view::FrameView;
 use std::sync::{Arc, Mutex, Wait};
 
-/// What became of a frame at one sink.
+/// The result of handing a frame to one sink.
 #[derive(Clone, Copy, Debug, PartialEq, Eq)]
 pub enum Outcome {
-    /// The sink took it.
+    /// The sink took the frame.
     Accepted,
-    /// The sink refused it.
+    /// The sink refused the frame.
     Refused,
-    /// No copy could be made for it.
+    /// The frame's `Arc` couldn't be cloned, so the sink wasn't called.
     NoCopy,
 }
 
 impl Outcome {
+    /// Returns the outcome for what the sink returned.
     fn of(taken: Result<()>) -> Outcome {
         match taken {
             Ok(()) => Outcome::Accepted,
@@ -28,7 +30,7 @@ impl Outcome {
         }
     }
 
-    /// 1 where it counts as refused, else 0.
+    /// Returns 1 if the outcome counts as a refusal, else 0.
     fn refusals(self) -> usize
         ensures which { result ≡ refusal self }
         ensures one { result ≤ 1 }
@@ -40,7 +42,7 @@ impl Outcome {
     }
 }
 
-/// Hands a frame to each sink by rising number, and returns how many didn't take it.
+/// Hands a frame to each sink by rising number. Returns how many sinks didn't take it.
 pub(crate) fn hand_all<R: Wait>(rt: &R, sinks: &mut Vec<Entry>, frame: &Arc<FrameData>) -> usize
     ensures { HandsOn (λ b. (FrameSink-box b).accepts) (arc_value frame.now) sinks.old.items result
         sinks.new.items }
@@ -48,6 +50,7 @@ pub(crate) fn hand_all<R: Wait>(rt: &R, sinks: &mut Vec<Entry>, frame: &Arc<Fram
     hand_each(rt, sinks, frame)
 }
 
+/// Hands a frame to each sink of a slice, in order. Returns how many sinks didn't take it.
 fn hand_each<R: Wait>(rt: &R, sinks: &mut [Entry], frame: &Arc<FrameData>) -> usize
     ensures { HandsOn (λ b. (FrameSink-box b).accepts) (arc_value frame.now) sinks.old result
         sinks.new }
@@ -60,7 +63,7 @@ fn hand_each<R: Wait>(rt: &R, sinks: &mut [Entry], frame: &Arc<FrameData>) -> us
     refused
 }
 
-/// Hands a copy of a frame to one sink.
+/// Hands a frame to one sink, which shares it.
 fn hand<R: Wait>(rt: &R, sink: &mut Sink, frame: &Arc<FrameData>) -> Outcome
     ensures { HandedTo (λ b. (FrameSink-box b).accepts) (arc_value frame.now) sink.old result
         sink.new }
@@ -77,12 +80,14 @@ fn hand<R: Wait>(rt: &R, sink: &mut Sink, frame: &Arc<FrameData>) -> Outcome
     }
 }
 
+/// Hands a frame to a boxed sink.
 fn hand_to_box(sink: &mut Box<dyn FrameSink + Send>, frame: Arc<FrameData>) -> Result<()>
     ensures { Answers (λ b. (FrameSink-box b).accepts) sink.old (arc_value frame) result sink.new }
 {
     sink.accept(frame)
 }
 
+/// Waits for the lock of a view, and adds a frame to it.
 fn hand_to_view<R: Wait>(
     rt: &R,
     view: &Arc<Mutex<FrameView>>,

@@ -1,5 +1,5 @@
-//! Laws of a profiler's sinks, as contracts of functions that do nothing. A proof of another crate cites them by calling the
-//! function.
+//! Laws of a profiler's sinks. Each is the contract of a function that does nothing; a proof of another crate cites it by
+//! calling the function.
 
 ghost use Rattle.std.specs.Prelude.{◌≡◌, ◌==◌};
 ghost use Rattle.std.specs.Hash as fed;
@@ -8,7 +8,7 @@ ghost use Rattle.puffin.specs.declared.global_profiler.sink.FrameSinkId.{FrameSi
 use crate::global_profiler::sink::FrameSinkId;
 use std::hash::Hash;
 
-/// Numbers of sinks are equal where they are the same number, and are hashed as numbers.
+/// Numbers of sinks are equal exactly when they are the same number, and hash as that number does.
 pub fn sink_ids()
     ensures equality { (a b : FrameSinkId) →
         ⟦<FrameSinkId as PartialEq>⟧.eq a b ≡ (a.0 == b.0) }

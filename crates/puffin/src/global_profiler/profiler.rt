@@ -1,3 +1,4 @@
+//! A profiler that threads report to.
 ghost use Rattle.std.specs.Prelude.{◌≡◌, ◌+◌, ◌-◌, ◌^◌, ◌<◌, ◌⊎◌, ◌↔◌, [], true, OnOk, OnErr, IfOk, IfErr, IfSome, IfNone};
 ghost use Rattle.std.specs.FinMap as map;
 ghost use Rattle.std.specs.List.{list_any};
@@ -26,7 +27,13 @@ use puffin_frames::thread_profiler::{Reporter, ThreadInfo};
 use std::alloc::Global;
 use std::sync::{Arc, Wait};
 
-/// What threads report to. It collects what they report, and hands it out in frames, to its sinks too.
+/// Collects what threads report, and hands it out in frames, to the caller and to its sinks.
+///
+/// ```
+/// let mut profiler = GlobalProfiler::new(alloc);
+/// thread.end_scope(scope, &mut profiler)?;
+/// let frame = profiler.new_frame(&rt)?.frame;
+/// ```
 #[derive(Drop)]
 pub struct GlobalProfiler {
     collector: Collector,
@@ -34,22 +41,22 @@ pub struct GlobalProfiler {
 }
 
 impl GlobalProfiler {
-    /// With nothing reported, and no sinks. The first frame has the index 0.
+    /// Makes a profiler without scopes and without sinks. Its first frame has the index 0.
     pub fn new(alloc: Global) -> GlobalProfiler
         ensures { IsNewProfiler 0 result }
     {
         GlobalProfiler::with_frame_index(alloc, 0)
     }
 
-    /// The same with this index for the first frame. The last frame that there can be has the index `2^64 - 2`.
+    /// Makes a profiler whose first frame has this index. No frame has an index above `2^64 - 2`.
     pub fn with_frame_index(alloc: Global, frame_index: FrameIndex) -> GlobalProfiler
         ensures { IsNewProfiler frame_index result }
     {
         GlobalProfiler::with_sinks(alloc, frame_index, Vec::new(alloc))
     }
 
-    /// The same for a caller in another crate that keeps the profiler in a type of its own: the empty list of sinks is made
-    /// by the caller.
+    /// Makes the same profiler out of an empty list of sinks. It is for callers in other crates that keep the profiler in a
+    /// type of their own, and so make the list themselves.
     pub fn with_sinks(
         alloc: Global,
         frame_index: FrameIndex,
@@ -64,8 +71,8 @@ impl GlobalProfiler {
         }
     }
 
-    /// Appends a thread's scopes to those that are pending, and details to the new ones, by one call of
-    /// [`Collector::report`], refused as that is.
+    /// Appends a thread's scopes to the pending ones, and its details to the next frame's new ones, as [`Collector::report`]
+    /// does. Fails in the same cases.
     #[inline(always)]
     pub fn report(
         &mut self,
@@ -85,7 +92,8 @@ impl GlobalProfiler {
         self.collector.report(info, details, times)
     }
 
-    /// Appends scopes of the caller's own, by one call of [`Collector::report_user_scopes`], refused as that is.
+    /// Appends scopes of the caller's own to the pending ones, as [`Collector::report_user_scopes`] does. Fails in the
+    /// same cases.
     pub fn report_user_scopes(&mut self, info: ThreadInfo, times: &StreamInfoRef) -> Result<()>
         requires { (f : Forest) × IsHonestRef times.now f }
         ensures ok { OnOk result (
@@ -99,7 +107,8 @@ impl GlobalProfiler {
         self.collector.report_user_scopes(info, times)
     }
 
-    /// Registers scopes of the caller's own, by one call of [`Collector::register_user_scopes`], refused as that is.
+    /// Registers scopes of the caller's own by their names, and returns an id for each, as [`Collector::register_user_scopes`]
+    /// does. Fails in the same cases.
     pub fn register_user_scopes(
         &mut self,
         ids: &ScopeIds,
@@ -117,7 +126,7 @@ impl GlobalProfiler {
         self.collector.register_user_scopes(ids, details)
     }
 
-    /// Lets the next frame tell of all scopes that are known, besides the new ones. Takes no memory.
+    /// Makes the next frame list every known scope, besides the new ones. Allocates nothing.
     pub fn emit_scope_snapshot(&mut self)
         requires { Unit {0} }
         ensures wants { collected_of self.new ≡ after_wanting (collected_of self.old) }
@@ -126,7 +135,8 @@ impl GlobalProfiler {
         self.collector.emit_scope_snapshot();
     }
 
-    /// Hands out all that is pending, by one call of [`Collector::collect_frame`], refused as that is.
+    /// Hands out all that is pending in one frame, as [`Collector::collect_frame`] does, and calls no sink. Fails in the
+    /// same cases.
     ///
     /// ```
     /// if let Some(frame) = profiler.collect_frame()? {
@@ -137,10 +147,10 @@ impl GlobalProfiler {
         requires { Unit {0} }
         ensures ok { IfOk result (λ frame.
             Collects (collected_of self.old) frame (collected_of self.new)) }
-        // What a frame tells of has ids.
+        // All of the frame's details have ids.
         ensures ids { IfOk result TellsIds }
         ensures honest { AreHonest (collected_of self.old).streams }
-        // And what was reported is pending or was handed out.
+        // Each reported scope is pending or was handed out.
         ensures sum { (collected_of self.old).reported ≡ (collected_of self.old).emitted
             + total_scopes (map.values (collected_of self.old).streams) }
         ensures exhausted { (result ≡ Err Error.IndexExhausted)
@@ -152,21 +162,22 @@ impl GlobalProfiler {
         self.collector.collect_frame()
     }
 
-    /// The same, and hands the frame to the sinks too, by rising number: each gets a copy that it shares with the others.
+    /// Hands out a frame as [`GlobalProfiler::collect_frame`] does, and hands it to each sink too, by rising number. The caller
+    /// and the sinks share the frame. Waits for the lock of each view.
     ///
-    /// Refused as [`Collector::collect_frame`] is, and then no sink is called. A sink that refuses is counted, and so is one
-    /// for which no copy can be made. It waits for the lock of each view.
+    /// Fails as [`Collector::collect_frame`] does, before any sink is called. The result counts the sinks that refused the
+    /// frame, and those for which its `Arc` couldn't be cloned.
     pub fn new_frame<R: Wait>(&mut self, rt: &R) -> Result<Emitted>
         requires { Unit {0} }
         ensures ok { IfOk result (λ emitted.
             Collects (collected_of self.old) emitted.frame (collected_of self.new)) }
-        // What a frame tells of has ids.
+        // All of the frame's details have ids.
         ensures ids { IfOk result (λ emitted. TellsIds emitted.frame) }
         ensures handed { IfOk result (λ emitted.
             HandsOnAny (λ b. (FrameSink-box b).accepts) emitted.frame (sinks_of self.old)
             emitted.refused (sinks_of self.new)) }
         ensures honest { AreHonest (collected_of self.old).streams }
-        // And what was reported is pending or was handed out.
+        // Each reported scope is pending or was handed out.
         ensures sum { (collected_of self.old).reported ≡ (collected_of self.old).emitted
             + total_scopes (map.values (collected_of self.old).streams) }
         ensures exhausted { (result ≡ Err Error.IndexExhausted)
@@ -189,11 +200,11 @@ impl GlobalProfiler {
         })
     }
 
-    /// Learns the details that a frame of another origin tells, and hands it to the sinks as it is. Returns how many sinks
-    /// didn't take it, as [`GlobalProfiler::new_frame`] counts them. The frame isn't counted in the totals.
+    /// Adds the details of a frame of another origin to the known ones, and hands the frame to each sink. Returns how many
+    /// sinks didn't take it, counted as by [`GlobalProfiler::new_frame`]. The totals don't count the frame's scopes.
     ///
-    /// Refused with `MissingId` where some of its details have no id, and nothing is changed then; else only with `Memory`,
-    /// after which a beginning of its details may be known. No sink is called then.
+    /// Fails with `MissingId` exactly when some of its details have no id, and then changes nothing; else only with `Memory`,
+    /// after which a beginning of its details may be known. If it fails, no sink is called.
     pub fn add_frame<R: Wait>(&mut self, rt: &R, frame: Arc<FrameData>) -> Result<usize>
         requires { Unit {0} }
         ensures learnt { OnOk result (
@@ -217,10 +228,15 @@ impl GlobalProfiler {
         Ok(self.sinks.hand_on(rt, &frame))
     }
 
-    /// Adds a sink, which is handed all frames from the next one on, and returns its number.
+    /// Adds a sink, and returns its number. The sink gets the frames of all later calls of [`GlobalProfiler::new_frame`] and
+    /// [`GlobalProfiler::add_frame`].
     ///
-    /// Refused with `SinkIdsExhausted` where no number is left, else only with `Memory`. The sink comes back then, and
-    /// nothing is changed.
+    /// Fails with `SinkIdsExhausted` if no number is left, else only with `Memory`. Then the sink is returned with the error,
+    /// and nothing changes.
+    ///
+    /// ```
+    /// let Ok(id) = profiler.add_sink(Sink::View(view)) else { return Err(Error::Memory) };
+    /// ```
     pub fn add_sink(&mut self, sink: Sink) -> std::result::Result<FrameSinkId, (Error, Sink)>
         requires { Unit {0} }
         ensures ok { IfOk result (λ id.
@@ -239,8 +255,8 @@ impl GlobalProfiler {
         self.sinks.add(sink)
     }
 
-    /// Takes out the sink with this number, if there is one. The others stay, and the number isn't given again. Takes no
-    /// memory.
+    /// Removes the sink with this number and returns it, or returns `None` if there is none. The other sinks keep their
+    /// numbers, and this one isn't used again. Allocates nothing.
     pub fn remove_sink(&mut self, id: FrameSinkId) -> Option<Sink>
         requires { Unit {0} }
         ensures some { IfSome result (λ sink.
@@ -253,14 +269,14 @@ impl GlobalProfiler {
         self.sinks.remove(id)
     }
 
-    /// How many scopes were reported, are pending, and were handed out. Takes no memory.
+    /// Returns how many scopes were reported, are pending, and were handed out. Allocates nothing.
     pub fn totals(&self) -> Totals
         ensures reported { result.reported ≡ (collected_of self.now).reported }
         ensures pending { result.pending
             ≡ total_scopes (map.values (collected_of self.now).streams) }
         ensures emitted { result.emitted ≡ (collected_of self.now).emitted }
         ensures sum { result.reported ≡ result.pending + result.emitted }
-        // What is pending is honest, at any time.
+        // Pending scopes are always honest.
         ensures honest { AreHonest (collected_of self.now).streams }
     {
         self.collector.totals()

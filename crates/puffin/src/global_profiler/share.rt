@@ -1,12 +1,12 @@
-//! Shares of the counts that a lock keeps.
+//! Shares of a shared profiler's counts.
 ghost use Rattle.std.specs.Prelude.{◌≡◌, ◌<◌};
 
 use std::marker::{Model, PhantomData};
 use std::sync::ledger;
 use std::sync::ledger::Ledger;
 
-/// One share of a shared profiler. It counts the scopes that were reported by it, and those in the frames that were handed
-/// out to it. The two ledgers rule out the shares of another profiler.
+/// One share of a shared profiler's counts: of the scopes reported through it, and of those in the frames handed out to it. The
+/// two ledgers rule out shares of another profiler.
 #[derive(Drop)]
 pub struct Share<L: Ledger, M: Ledger> {
     pub(crate) reported: ledger::Share<L>,
@@ -24,7 +24,7 @@ impl<L: Ledger, M: Ledger> Model for Share<L, M> {
     ghost invariant = { λ s. (s.reported.parts ≡ 1) × (s.handed.parts ≡ 1) };
 }
 
-/// How many parts both ledgers have.
+/// The number of parts that both ledgers have.
 #[derive(Drop)]
 pub(crate) struct Parts<L: Ledger, M: Ledger> {
     n: u64,
@@ -42,6 +42,7 @@ impl<L: Ledger, M: Ledger> Model for Parts<L, M> {
 }
 
 impl<L: Ledger, M: Ledger> Parts<L, M> {
+    /// Keeps the number of parts, which both ledgers have to have.
     pub(crate) fn new(n: u64) -> Parts<L, M>
         requires { (0 < n) × (n ≡ L.parts) × (n ≡ M.parts) }
         ensures { result ≡ n }
@@ -49,6 +50,7 @@ impl<L: Ledger, M: Ledger> Parts<L, M> {
         Parts { n, of: PhantomData }
     }
 
+    /// Returns the number of parts.
     pub(crate) fn n(&self) -> u64
         ensures number { result ≡ self.now }
         ensures some { 0 < result }

@@ -26,15 +26,15 @@ use std::sync::ledger::{Blank, Ledger};
 use std::sync::{Arc, Mutex, MutexGuard, Wait};
 use std::thread::yield_now;
 
-/// How often a thread looks whether the lock is free before it sleeps.
+/// How often a thread tries the lock again before it sleeps.
 const LOOKS: u32 = 20;
-/// How often the processor pauses after the first look.
+/// How many spin-loop hints the first pause has.
 const FIRST_PAUSES: u32 = 64;
-/// After how many looks the pauses grow no longer, and other threads may run too.
+/// How many pauses are twice as long as the one before. Those after them have one length, and let other threads run.
 const GROWING: u32 = 4;
 
-/// Lets some time go by after so many looks at the lock, at first twice as much each time: so a thread waits at most about
-/// twice as long as it has to.
+/// Pauses before the lock is tried again, after so many earlier pauses. The first ones are each twice as long as the one
+/// before, so that a thread waits at most about twice as long as it has to.
 fn pause(looks: u32) {
     for _ in 0..FIRST_PAUSES << looks.min(GROWING) {
         spin_loop();
@@ -44,11 +44,11 @@ fn pause(looks: u32) {
     }
 }
 
-/// A profiler behind a lock, for several threads. Each call but `clone` waits for the lock, and makes the call of that name of
-/// [`Booked`] under it.
+/// A profiler behind a lock, for several threads. Each call but `clone` waits for the lock, and makes the call of the same name
+/// of [`Booked`] under it.
 ///
-/// A thread reports by its [`Share`], through a [`SharedReporter`](crate::global_profiler::SharedReporter); whoever takes
-/// frames has a share too. `L` and `M` name two ledgers, of scopes that were reported and of scopes that were handed out: a
+/// A thread reports through its [`Share`], with a [`SharedReporter`](crate::global_profiler::SharedReporter). Whoever takes
+/// frames has a share too. `L` and `M` name two ledgers, one of the scopes reported and one of the scopes handed out. A
 /// function that opens a profiler is generic over both, and is called with `Brand` for each.
 #[derive(Drop)]
 pub struct SharedProfiler<L: Ledger, M: Ledger> {
@@ -56,10 +56,10 @@ pub struct SharedProfiler<L: Ledger, M: Ledger> {
 }
 
 impl<L: Ledger, M: Ledger> SharedProfiler<L, M> {
-    /// Puts a profiler behind a lock, and makes `n` shares of its counts. Nothing may have been reported to it, and both
-    /// blanks have `n` parts.
+    /// Puts a profiler behind a lock, and makes `n` shares of its counts. No scopes may have been reported to it, and both
+    /// blanks have to have `n` parts.
     ///
-    /// Refused with `Memory`: the profiler comes back.
+    /// Fails with `Memory`, and then returns the profiler.
     ///
     /// ```
     /// let opened = SharedProfiler::<L, M>::open(alloc, GlobalProfiler::new(alloc), 5, reported, handed);
@@ -106,7 +106,7 @@ impl<L: Ledger, M: Ledger> SharedProfiler<L, M> {
         }
     }
 
-    /// The same profiler once more. Refused only with `Memory`.
+    /// Returns another handle to this profiler. Fails only with `Memory`.
     pub fn clone(&self) -> Result<SharedProfiler<L, M>>
         requires { Unit {0} }
         ensures cause { IfErr result (λ e. e ≡ Error.Memory) }
@@ -116,10 +116,10 @@ impl<L: Ledger, M: Ledger> SharedProfiler<L, M> {
         })
     }
 
-    /// Waits for the lock, and lends what it keeps until the guard is dropped.
+    /// Waits for the lock, and lends the value that it protects until the guard is dropped.
     ///
-    /// A thread looks at the lock a few times, after longer and longer pauses, before it sleeps: most calls hold it for less
-    /// time than it takes to wake a thread.
+    /// A thread tries the lock several times, with pauses between, before it sleeps: most calls hold the lock for less time
+    /// than waking a thread takes.
     #[inline]
     pub fn lock(&self, rt: &impl Wait) -> MutexGuard<'_, Booked<L, M>>
         requires { Unit {0} }
@@ -130,7 +130,7 @@ impl<L: Ledger, M: Ledger> SharedProfiler<L, M> {
         }
     }
 
-    /// Looks again whether the lock is free, and at last sleeps until it is.
+    /// Tries the lock again, with pauses between, and sleeps at last until it is free.
     #[cold]
     #[inline(never)]
     fn lock_later(&self, rt: &impl Wait) -> MutexGuard<'_, Booked<L, M>>
@@ -145,7 +145,7 @@ impl<L: Ledger, M: Ledger> SharedProfiler<L, M> {
         self.booked.lock(rt)
     }
 
-    /// [`Booked::report`] under the lock.
+    /// Calls [`Booked::report`] under the lock.
     #[inline(always)]
     pub fn report(
         &self,
@@ -165,7 +165,7 @@ impl<L: Ledger, M: Ledger> SharedProfiler<L, M> {
         self.lock(rt).report(share, info, details, times)
     }
 
-    /// [`Booked::report_user_scopes`] under the lock.
+    /// Calls [`Booked::report_user_scopes`] under the lock.
     pub fn report_user_scopes(
         &self,
         rt: &impl Wait,
@@ -182,7 +182,7 @@ impl<L: Ledger, M: Ledger> SharedProfiler<L, M> {
         self.lock(rt).report_user_scopes(share, info, times)
     }
 
-    /// [`Booked::register_user_scopes`] under the lock.
+    /// Calls [`Booked::register_user_scopes`] under the lock.
     pub fn register_user_scopes(
         &self,
         rt: &impl Wait,
@@ -195,14 +195,19 @@ impl<L: Ledger, M: Ledger> SharedProfiler<L, M> {
         self.lock(rt).register_user_scopes(ids, details)
     }
 
-    /// [`Booked::emit_scope_snapshot`] under the lock.
+    /// Calls [`Booked::emit_scope_snapshot`] under the lock.
     pub fn emit_scope_snapshot(&self, rt: &impl Wait)
         requires { Unit {0} }
     {
         self.lock(rt).emit_scope_snapshot();
     }
 
-    /// [`Booked::new_frame`] under the lock, which is held until all sinks were called.
+    /// Calls [`Booked::new_frame`] under the lock, which it holds until all sinks were called. Fails only with `IndexExhausted`
+    /// or `Memory`.
+    ///
+    /// ```
+    /// let emitted = profiler.new_frame(&rt, &mut share)?;
+    /// ```
     pub fn new_frame<R: Wait>(&self, rt: &R, share: &mut Share<L, M>) -> Result<Emitted>
         requires { Unit {0} }
         ensures counted { IfOk result (λ emitted.
@@ -214,7 +219,7 @@ impl<L: Ledger, M: Ledger> SharedProfiler<L, M> {
         self.lock(rt).new_frame(rt, share)
     }
 
-    /// [`Booked::add_frame`] under the lock, which is held until all sinks were called.
+    /// Calls [`Booked::add_frame`] under the lock, which it holds until all sinks were called.
     pub fn add_frame<R: Wait>(&self, rt: &R, frame: Arc<FrameData>) -> Result<usize>
         requires { Unit {0} }
         ensures missing { (result ≡ Err Error.MissingId)
@@ -224,7 +229,7 @@ impl<L: Ledger, M: Ledger> SharedProfiler<L, M> {
         self.lock(rt).add_frame(rt, frame)
     }
 
-    /// [`Booked::add_sink`] under the lock.
+    /// Calls [`Booked::add_sink`] under the lock.
     pub fn add_sink(
         &self,
         rt: &impl Wait,
@@ -237,14 +242,14 @@ impl<L: Ledger, M: Ledger> SharedProfiler<L, M> {
         self.lock(rt).add_sink(sink)
     }
 
-    /// [`Booked::remove_sink`] under the lock.
+    /// Calls [`Booked::remove_sink`] under the lock.
     pub fn remove_sink(&self, rt: &impl Wait, id: FrameSinkId) -> Option<Sink>
         requires { Unit {0} }
     {
         self.lock(rt).remove_sink(id)
     }
 
-    /// [`Booked::totals`] under the lock.
+    /// Calls [`Booked::totals`] under the lock.
     pub fn totals(&self, rt: &impl Wait, share: &mut Share<L, M>) -> Totals
         requires { Unit {0} }
         ensures sum { result.reported ≡ result.pending + result.emitted }
@@ -255,7 +260,13 @@ impl<L: Ledger, M: Ledger> SharedProfiler<L, M> {
         self.lock(rt).totals(share)
     }
 
-    /// [`Booked::settle`] under the lock.
+    /// Calls [`Booked::settle`] under the lock.
+    ///
+    /// ```
+    /// if let Ok(Settled { reported, handed, pending }) = profiler.settle(&rt, shares) {
+    ///     println!(rt; "{reported} = {handed} + {pending}")?;
+    /// }
+    /// ```
     pub fn settle(
         &self,
         rt: &impl Wait,

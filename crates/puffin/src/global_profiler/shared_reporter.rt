@@ -1,4 +1,4 @@
-//! A thread's way to a shared profiler.
+//! The reporter of a thread to a shared profiler.
 ghost use Rattle.std.specs.Prelude.{◌≡◌, ◌≢◌, ◌+◌, ◌≤◌, ℤ, pos, ◌≤ℤ◌, Some, OnOk, OnErr, IfOk, IfErr, slice_get};
 ghost use Rattle.puffin_data.specs.declared.error.Error.{Error};
 ghost use Rattle.puffin_data.specs.Forest.{Forest};
@@ -16,7 +16,15 @@ use puffin_frames::thread_profiler::{AnyThread, Closed, Reporter, ThreadInfo};
 use std::sync::Wait;
 use std::sync::ledger::Ledger;
 
-/// Reports to a shared profiler by a share, which counts what is accepted. It has the handle to wait by.
+/// Reports to a shared profiler through a share, which counts the scopes that are accepted. It owns the handle `rt`, with
+/// which it waits for the lock.
+///
+/// ```
+/// let mut reporter = SharedReporter::new(rt, profiler, share);
+/// let scope = thread.begin_scope(id, "image-12.png")?;
+/// reporter.end_scope(&mut thread, scope)?;
+/// let share = reporter.into_share();
+/// ```
 #[derive(Drop)]
 pub struct SharedReporter<L: Ledger, M: Ledger, R: Wait> {
     rt: R,
@@ -25,7 +33,7 @@ pub struct SharedReporter<L: Ledger, M: Ledger, R: Wait> {
 }
 
 impl<L: Ledger, M: Ledger, R: Wait> SharedReporter<L, M, R> {
-    /// Reports to this profiler by this share.
+    /// Makes a reporter to this profiler through this share.
     pub fn new(rt: R, profiler: SharedProfiler<L, M>, share: Share<L, M>) -> SharedReporter<L, M, R>
         requires { Unit {0} }
         ensures { result.share ≡ share }
@@ -37,7 +45,7 @@ impl<L: Ledger, M: Ledger, R: Wait> SharedReporter<L, M, R> {
         }
     }
 
-    /// The profiler's totals, which are not below what the share counts. Waits for the lock.
+    /// Returns the profiler's totals. They are at least the share's counts. Waits for the lock.
     pub fn totals(&mut self) -> Totals
         requires { Unit {0} }
         ensures sum { result.reported ≡ result.pending + result.emitted }
@@ -48,10 +56,11 @@ impl<L: Ledger, M: Ledger, R: Wait> SharedReporter<L, M, R> {
         self.profiler.totals(&self.rt, &mut self.share)
     }
 
-    /// Ends the innermost open scope of a thread, whose offset this has to be. Where it was the last, all that has closed
-    /// since the last accepted report goes to the profiler, and the share counts it. Refused as
-    /// [`ThreadProfiler::end_scope`](crate::thread_profiler::ThreadProfiler::end_scope) is; waits for the lock where it
-    /// reports.
+    /// Ends a thread's innermost open scope, which has to have this offset. If it was the last open one, reports all scopes
+    /// that have closed since the last accepted report, and the share counts them. Waits for the lock if it reports.
+    ///
+    /// Fails only with `MismatchedEnd`, as [`ThreadProfiler::end_scope`](crate::thread_profiler::ThreadProfiler::end_scope)
+    /// does; nothing changes then.
     ///
     /// ```
     /// let scope = thread.begin_scope(id, "image-12.png")?;
@@ -76,9 +85,10 @@ impl<L: Ledger, M: Ledger, R: Wait> SharedReporter<L, M, R> {
         thread.end_innermost(offset, self)
     }
 
-    /// Reports the closed scopes of a thread that wait, as those do whose guards are gone. `Ok(false)` where none waits.
-    /// Refused as [`ThreadProfiler::report_closed`](crate::thread_profiler::ThreadProfiler::report_closed) is; waits for
-    /// the lock where it reports.
+    /// Reports the closed scopes of a thread that wait, as those of dropped guards do. Returns `Ok(false)` if none waits. Waits
+    /// for the lock if it reports.
+    ///
+    /// Fails as [`ThreadProfiler::report_closed`](crate::thread_profiler::ThreadProfiler::report_closed) does.
     pub fn report_closed<T: AnyThread>(&mut self, thread: &mut T) -> Result<bool>
         requires { Unit {0} }
         ensures { Reports ⟦<SharedReporter<L, M, R> as Reporter>⟧.accepts
@@ -90,7 +100,7 @@ impl<L: Ledger, M: Ledger, R: Wait> SharedReporter<L, M, R> {
 }
 
 impl<L: Ledger, M: Ledger, R: Wait + Drop> SharedReporter<L, M, R> {
-    /// Gives the share back.
+    /// Returns the share.
     pub fn into_share(self) -> Share<L, M>
         requires { Unit {0} }
         ensures { result ≡ self.share }

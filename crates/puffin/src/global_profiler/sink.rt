@@ -1,4 +1,4 @@
-//! What is handed each frame.
+//! Sinks, which get the frames of a profiler.
 ghost use Rattle.std.specs.Arc.{arc_value};
 
 use puffin_data::{Error, Result};
@@ -6,29 +6,29 @@ use puffin_frames::frame_data::FrameData;
 use puffin_view::profile_view::FrameView;
 use std::sync::{Arc, Mutex};
 
-/// What takes the frames of a profiler.
+/// Takes the frames of a profiler.
 pub trait FrameSink: Drop {
     ghost use Rattle.std.specs.Prelude.{Result};
     ghost use Rattle.puffin_data.specs.declared.error.Error.{Error};
     ghost use Rattle.puffin_frames.specs.declared.frame_data.frame.FrameData.{FrameData};
 
-    /// Taking a frame in this state, with this result, may leave that state.
+    /// What `accept` may do: a state, a frame, a result and the state after it.
     ghost accepts: { Self → FrameData → Result (Unit {0}) Error → Self → Type 0 };
 
-    /// Takes a frame, which other sinks share. Refused with any error; the profiler counts that, and goes on.
+    /// Takes a frame, which it shares with other sinks. May fail with any error; the profiler counts that, and goes on.
     fn accept(&mut self, frame: Arc<FrameData>) -> Result<()>
         ensures { accepts self.old (arc_value frame) result self.new };
 }
 
-/// A sink of a profiler: a view that others look at too, or any other by itself.
+/// A sink of a profiler: a view that others use too, or any other sink.
 #[derive(Drop)]
 pub enum Sink {
-    /// A view behind a lock. It is locked for each frame.
+    /// A view behind a lock, which is taken for each frame.
     View(Arc<Mutex<FrameView>>),
-    /// Any sink, in a box that the caller made.
+    /// Any sink, in a box.
     Boxed(Box<dyn FrameSink + Send>),
 }
 
-/// The number of a sink. The first one of a profiler is 1, and none is given twice.
+/// The number of a sink. A profiler's first sink has the number 1, and no number is used twice.
 #[derive(Clone, Copy, Debug, PartialEq, Eq, Hash)]
 pub struct FrameSinkId(pub u64);

@@ -1,3 +1,4 @@
+//! The sinks of a profiler.
 ghost use Rattle.std.specs.Prelude.{◌≡◌, ◌+◌, ◌-◌, ◌<◌, ◌⊎◌, ◌∷◌, [], ◌++◌, ◌^◌, length, slice_get, Some, IfOk, IfErr, IfSome, IfNone};
 ghost use Rattle.std.specs.Arc.{arc_value};
 ghost use Rattle.puffin.specs.Sinks.Handing.{HandsOn};
@@ -17,7 +18,7 @@ pub struct Entry {
     pub(crate) sink: Sink,
 }
 
-/// The sinks of a profiler by rising number, all below the next one.
+/// The sinks of a profiler by rising number, all below the next number.
 #[derive(Drop)]
 pub(crate) struct Sinks {
     pub(crate) entries: Vec<Entry>,
@@ -26,7 +27,7 @@ pub(crate) struct Sinks {
 }
 
 impl Sinks {
-    /// No sinks, in an empty list.
+    /// Makes a list without sinks out of an empty vector. The first sink will have the number 1.
     pub(crate) fn of_none(none: Vec<Entry>) -> Sinks
         requires { none.items ≡ [] }
         ensures entries { result.entries.items ≡ [] }
@@ -38,8 +39,8 @@ impl Sinks {
         }
     }
 
-    /// Adds a sink under the next number. Refused with `SinkIdsExhausted` or `Memory`: the sink comes back, and nothing is
-    /// changed.
+    /// Adds a sink under the next number, and returns that. Fails with `SinkIdsExhausted` or `Memory`; then the sink is
+    /// returned, and nothing changes.
     pub(crate) fn add(&mut self, sink: Sink) -> std::result::Result<FrameSinkId, (Error, Sink)>
         ensures ok { IfOk result (λ id.
             (id.0 ≡ self.old.next)
@@ -69,7 +70,7 @@ impl Sinks {
         }
     }
 
-    /// Takes out the sink with this number, if there is one.
+    /// Removes the sink with this number and returns it, or returns `None` if there is none.
     pub(crate) fn remove(&mut self, id: FrameSinkId) -> Option<Sink>
         ensures some { IfSome result (λ sink.
             TakesOut id.0 sink self.old.entries.items self.new.entries.items) }
@@ -85,7 +86,7 @@ impl Sinks {
         Some(sink)
     }
 
-    /// Hands a frame to each sink by rising number, and returns how many didn't take it.
+    /// Hands a frame to each sink by rising number. Returns how many sinks didn't take it.
     pub(crate) fn hand_on<R: Wait>(&mut self, rt: &R, frame: &Arc<FrameData>) -> usize
         ensures handed { HandsOn (λ b. (FrameSink-box b).accepts) (arc_value frame.now)
             self.old.entries.items result self.new.entries.items }
@@ -95,7 +96,7 @@ impl Sinks {
     }
 }
 
-/// The place of the sink with this number.
+/// Returns the position of the sink with this number.
 fn place_of(entries: &[Entry], id: u64) -> Option<usize>
     ensures some { IfSome result (λ i.
         (e : _) × (slice_get entries.now i ≡ Some e) × (e.id ≡ id) × (i < length entries.now)) }

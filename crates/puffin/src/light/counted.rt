@@ -15,20 +15,24 @@ pub(crate) struct CountedShare<L: Ledger, M: Ledger> {
     pub(crate) share: Share<L, M>,
     pub(crate) reported: u64,
     ghost counted: { share.reported < 2 ^ 64 → reported ≡ share.reported },
+    ghost none_handed: { share.handed ≡ 0 },
 }
 
-/// A thread's way to a shared profiler, which counts the scopes of accepted reports.
+/// A thread's reporter to a shared profiler. Counts the scopes of accepted reports.
 #[derive(Drop)]
 pub(crate) struct Counting<L: Ledger, M: Ledger, R: Wait> {
     reporter: SharedReporter<L, M, R>,
     reported: u64,
     ghost counted: { reporter.share.reported < 2 ^ 64 → reported ≡ reporter.share.reported },
+    ghost none_handed: { reporter.share.handed ≡ 0 },
 }
 
 impl<L: Ledger, M: Ledger, R: Wait> Counting<L, M, R> {
-    /// Counts from 0, by a share that counts nothing yet.
+    ghost use Rattle.puffin.specs.Shares.{no_counts};
+
+    /// Makes a reporter with a count of 0, from a share whose count is 0.
     pub(crate) fn new(reporter: SharedReporter<L, M, R>) -> Counting<L, M, R>
-        requires { reporter.share.reported ≡ 0 }
+        requires { reporter.share ≡ no_counts }
     {
         Counting {
             reporter,
@@ -38,7 +42,7 @@ impl<L: Ledger, M: Ledger, R: Wait> Counting<L, M, R> {
 }
 
 impl<L: Ledger, M: Ledger, R: Wait + Drop> Counting<L, M, R> {
-    /// Gives the share back, with the number.
+    /// Returns the share, with the number of scopes that it counts.
     pub(crate) fn into_share(self) -> CountedShare<L, M> {
         let Counting { reporter, reported } = self;
         CountedShare {

@@ -1,4 +1,4 @@
-//! Views in files.
+//! Writing a view to a file.
 
 use crate::profile_view::FrameView;
 use puffin_data::FileError;
@@ -7,7 +7,7 @@ use std::fs::File;
 use std::rt::Files;
 use std::{fs, result};
 
-/// Writes the frames of a view to a file that is made anew.
+/// Writes the frames of a view to a file, which is created or emptied first.
 fn write_to(rt: &impl Files, path: &str, view: &FrameView) -> result::Result<(), FileError> {
     let Ok(file) = File::create(rt, path) else {
         return Err(FileError::Io);
@@ -15,7 +15,7 @@ fn write_to(rt: &impl Files, path: &str, view: &FrameView) -> result::Result<(),
     view.write(&mut Counted::new(file))
 }
 
-/// Whether something other than a plain file has this name, as a device or a link.
+/// Returns whether something other than a plain file has this name, for example a device or a link.
 fn is_no_file(rt: &impl Files, path: &str) -> bool {
     match fs::symlink_metadata(rt, path) {
         Ok(found) => !found.is_file(),
@@ -23,12 +23,13 @@ fn is_no_file(rt: &impl Files, path: &str) -> bool {
     }
 }
 
-/// Writes the frames of a view to a file with this name. A file that is there is replaced once all is written: the frames are
-/// written beside it, under the same name and `.part`, and moved into its place. A device, a pipe or a link is written to
-/// as it stands.
+/// Writes the frames of a view to a file with this name. The frames are first written beside it, to a file with `.part` added to
+/// the name, which then replaces the old file. A device, a pipe or a link is written to directly.
 ///
-/// Refused with `Io` where a file can't be made, written or moved, with `Memory`, else as [`FrameView::write`] is: a plain file
-/// that was there is as it was.
+/// Fails with `Io` if a file can't be made, written or moved, with `Memory`, or as [`FrameView::write`] does. If it fails, an old
+/// plain file is unchanged.
+///
+/// No contract states what the file then holds, since the kit has no word for it; tests read it again.
 ///
 /// ```
 /// save(&rt, "frames.puffin", &view)?;

@@ -4,18 +4,18 @@ use crate::light::guard::Records;
 use crate::light::program::{Frames, Program};
 use std::sync::{Condvar, Mutex, Wait};
 
-/// Whether threads may begin.
+/// The states of a gate.
 #[derive(Clone, Copy, Debug, PartialEq, Eq)]
 enum Signal {
-    /// They wait.
+    /// Threads wait.
     Wait,
-    /// They begin.
+    /// Threads begin.
     Begin,
-    /// They end without having begun.
+    /// Threads end without having begun.
     Leave,
 }
 
-/// A program whose threads begin once all of them were started. Where one can't be started, those that wait end.
+/// A program whose threads begin once all of them were started. If one can't be started, those that wait end.
 pub(crate) struct Gate<'p, W> {
     program: &'p W,
     signal: Mutex<Signal>,
@@ -23,7 +23,7 @@ pub(crate) struct Gate<'p, W> {
 }
 
 impl<'p, W> Gate<'p, W> {
-    /// A program at whose begin all threads wait.
+    /// Makes a closed gate before a program.
     pub(crate) fn new(program: &'p W) -> Gate<'p, W> {
         Gate {
             program,
@@ -32,7 +32,7 @@ impl<'p, W> Gate<'p, W> {
         }
     }
 
-    /// Takes the gate away.
+    /// Drops the gate.
     pub(crate) fn end(self) {
         let Gate {
             program: _,

@@ -1,4 +1,4 @@
-//! Guards of scopes, which report too.
+//! Guards that end their scope when they are dropped, and report after the outermost one.
 
 ghost use Rattle.std.specs.Prelude.{◌≡◌, Some, None, []};
 
@@ -6,14 +6,14 @@ use crate::light::place::Place;
 use crate::light::scopes::Scopes;
 use puffin_data::Error;
 
-/// What became of the begin of a scope.
+/// Whether a guard's scope began.
 #[derive(Clone, Copy, Debug, PartialEq, Eq)]
 pub enum Standing {
-    /// It began, and its size stands at this offset.
+    /// It began. The size of its children is written at this offset when it ends.
     On(usize),
-    /// It didn't, since scopes are off.
+    /// It didn't, because scopes are off.
     Off,
-    /// Its id or its beginning was refused.
+    /// It didn't, because drawing its id or beginning it failed with this cause.
     Refused(Error),
 }
 
@@ -29,19 +29,19 @@ pub trait Records {
     /// Ending the scope at this offset may leave that state.
     ghost ends: { Self → ℕ → Self → Type 0 };
 
-    /// The switch of all scopes and their ids, which all threads of a program share.
+    /// Returns the switch of all scopes and the source of their ids, which all threads of a program share.
     fn scopes(&self) -> &Scopes;
 
-    /// Begins a scope at a place, where scopes are on, with a text that belongs to this run.
+    /// Begins a scope at a place, with a text, if scopes are on.
     fn begin(&mut self, place: &Place, text: &str) -> Standing
         ensures { begins self.old place.now text.now result self.new };
 
-    /// Ends the scope at this offset where it is the innermost; else it does nothing. Where it was the last, all that has closed
-    /// is reported; where that is refused, it waits for the thread's next report.
+    /// Ends the scope at this offset if it is the innermost open one; otherwise does nothing. If no other scope is open then,
+    /// reports everything that has closed; if that is refused, the closed scopes wait for the thread's next report.
     fn end(&mut self, offset: usize)
         ensures { ends self.old offset self.new };
 
-    /// Begins a scope at a place, where scopes are on: it ends with the guard.
+    /// Begins a scope at a place, without a text, if scopes are on. It ends when the guard is dropped.
     #[inline(always)]
     final fn scope(&mut self, place: &Place) -> Guard<'_, Self>
         ensures { begins self.old place.now [] result.standing result.thread.now }
@@ -49,7 +49,7 @@ pub trait Records {
         Guard::open(self, place, "")
     }
 
-    /// The same with a text that belongs to this run.
+    /// Begins a scope at a place, with a text, if scopes are on. It ends when the guard is dropped.
     #[inline(always)]
     final fn scope_with(&mut self, place: &Place, text: &str) -> Guard<'_, Self>
         ensures { begins self.old place.now text.now result.standing result.thread.now }
@@ -58,15 +58,15 @@ pub trait Records {
     }
 }
 
-/// A guard of a scope of a thread. The scope ends where the guard is dropped, and where it was the outermost one, it is
-/// reported with all that has closed since the report before.
+/// Ends a thread's scope when it is dropped. If that was the outermost scope, everything that has closed since the last report
+/// is reported.
 pub struct Guard<'t, T: Records> {
     thread: &'t mut T,
     standing: Standing,
 }
 
 impl<'t, T: Records> Guard<'t, T> {
-    /// Begins a scope at a place, where scopes are on, with a text that belongs to this run.
+    /// Begins a scope at a place, with a text, if scopes are on.
     #[inline(always)]
     pub fn open(thread: &'t mut T, place: &Place, text: &str) -> Guard<'t, T>
         ensures same_reference { result.thread.ghost_name ≡ thread.entry.ghost_name }
@@ -77,7 +77,7 @@ impl<'t, T: Records> Guard<'t, T> {
         Guard { thread, standing }
     }
 
-    /// Begins a scope within this one.
+    /// Begins a scope within this one, without a text.
     #[inline(always)]
     pub fn scope(&mut self, place: &Place) -> Guard<'_, T>
         ensures { T.begins self.old.thread.now place.now [] result.standing result.thread.now }
@@ -85,7 +85,7 @@ impl<'t, T: Records> Guard<'t, T> {
         Guard::open(&mut *self.thread, place, "")
     }
 
-    /// The same with a text that belongs to this run.
+    /// Begins a scope within this one, with a text.
     #[inline(always)]
     pub fn scope_with(&mut self, place: &Place, text: &str) -> Guard<'_, T>
         ensures { T.begins self.old.thread.now place.now text.now result.standing
@@ -94,7 +94,7 @@ impl<'t, T: Records> Guard<'t, T> {
         Guard::open(&mut *self.thread, place, text)
     }
 
-    /// The thread, for calls that open scopes within this one.
+    /// Lends the thread, for calls of functions that open scopes within this one.
     #[inline(always)]
     pub fn thread(&mut self) -> &mut T
         ensures { result.now ≡ self.old.thread.now }
@@ -102,7 +102,7 @@ impl<'t, T: Records> Guard<'t, T> {
         &mut *self.thread
     }
 
-    /// What became of the begin of its scope.
+    /// Returns whether the scope began.
     pub fn standing(&self) -> Standing
         ensures { result ≡ self.now.standing }
     {

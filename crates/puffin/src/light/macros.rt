@@ -1,6 +1,11 @@
 //! Macros that name places and bind guards.
 
-/// The place of a function, or of a part of it with a name of its own. Its file is the module where this stands.
+/// Makes the [`Place`](crate::light::Place) of a function, or of a part of it with a name of its own. Its file is the module that
+/// the macro is in.
+///
+/// ```
+/// let (update, physics) = (place!("update"), place!("update", "physics"));
+/// ```
 #[macro_export]
 macro_rules! place {
     ($function:expr $(,)?) => {
@@ -11,7 +16,17 @@ macro_rules! place {
     };
 }
 
-/// Binds a guard of a scope at a place, by a thread or within another guard. The text may be left out.
+/// Begins a scope at a place and binds its guard to a variable: `profile!(guard, outer, place, text)`. `outer` is the thread, or
+/// the guard of the scope around it; it is borrowed until the new guard is dropped, which ends the scope. The text is a `&str`,
+/// which may be left out; braces in it aren't filled in.
+///
+/// ```
+/// profile!(whole, thread, update);
+/// {
+///     profile!(_physics, whole, physics, "all bodies");
+/// }
+/// profile!(_sound, whole, sound);
+/// ```
 #[macro_export]
 macro_rules! profile {
     ($guard:ident, $outer:expr, $place:expr $(,)?) => {

@@ -10,8 +10,8 @@ use puffin_data::Result;
 use puffin_data::data::ScopeId;
 use std::borrow::CowStr;
 
-/// A place in the code where a scope begins, with its names. It keeps the id that was drawn at its first use. Any number of
-/// threads may share one.
+/// A place in the code where scopes begin, with its names. Keeps the id that is drawn at its first use. Any number of threads may
+/// share a place.
 #[derive(Drop)]
 pub struct Place {
     site: Site,
@@ -24,7 +24,7 @@ impl Place {
     ghost use Rattle.puffin_scopes.specs.Sites.{IsKnownOrNew};
     ghost use Rattle.puffin.specs.Guards.{names_of};
 
-    /// That of a whole function, in a file that may be named by its path or its module.
+    /// Makes the place of a whole function. `file` is a path or a module.
     pub fn function(file: &'static str, function: &'static str) -> Place
         ensures place { (result.site.file.now ≡ file.now)
             × (result.site.line ≡ 0)
@@ -38,7 +38,7 @@ impl Place {
         }
     }
 
-    /// That of a part of a function, with a name of its own.
+    /// Makes the place of a part of a function, with a name of its own. `file` is a path or a module.
     pub fn named(file: &'static str, function: &'static str, name: &'static str) -> Place
         ensures place { (result.site.file.now ≡ file.now)
             × (result.site.line ≡ 0)
@@ -52,9 +52,9 @@ impl Place {
         }
     }
 
-    /// Its id. At the first use it is drawn, and the names are registered with the thread.
+    /// Returns the id of the place. The first call draws it, and registers the names with the thread.
     ///
-    /// Refused with `IdsExhausted` or `Memory`: nothing is registered then.
+    /// Fails with `IdsExhausted` or `Memory`, and then registers nothing.
     #[inline(always)]
     pub fn id<C: NsSource>(
         &self,
@@ -73,7 +73,7 @@ impl Place {
         }
     }
 
-    /// The same at the first use.
+    /// Draws the id and registers the names.
     #[cold]
     fn first_id<C: NsSource>(
         &self,

@@ -1,5 +1,5 @@
 //! Programs whose threads are profiled.
-ghost use Rattle.std.specs.Prelude.{◌≡◌, ◌+◌, ◌<◌, IfOk, vec_len, length, sum};
+ghost use Rattle.std.specs.Prelude.{◌≡◌, ◌+◌, ◌<◌, ◌≤◌, IfOk, vec_len, length, sum};
 ghost use Rattle.puffin.specs.Shares.{SpellsItsScopes};
 
 use crate::global_profiler::{Emitted, GlobalFrameView, Settled};
@@ -17,38 +17,62 @@ use std::sync::ledger::Blank;
 use std::sync::{Arc, Wait};
 use std::thread::Threads;
 
-/// Takes frames of what all threads report.
+/// Takes frames of what all threads of a program report.
 pub trait Frames {
-    /// Hands out what was reported since the frame before, if anything was.
+    /// Hands out everything that was reported since the frame before, if anything was. The view takes the frame too.
     ///
-    /// Refused with `IndexExhausted` or `Memory`: what was reported waits for the next frame.
+    /// Fails with `IndexExhausted` or `Memory`; what was reported then waits for the next frame.
     fn new_frame(&mut self) -> Result<Emitted>
         ensures spells { IfOk result (λ emitted. SpellsItsScopes emitted.frame) };
 }
 
-/// A program whose threads are profiled. They all share it by `&`; what one thread alone changes is a local of its `work`.
+/// A program whose threads are profiled. All threads share it by `&`; what one thread alone changes is a local variable of its
+/// `work`.
+///
+/// ```
+/// impl Program for Game {
+///     fn work<R: Wait, T: Records>(&self, rt: &R, _number: usize, thread: &mut T) {
+///         let mut loaded = false;
+///         for _ in 0..10 {
+///             profile!(_whole, thread, self.update, if loaded { "warm" } else { "cold" });
+///             loaded = true;
+///         }
+///         self.done.wait(rt);
+///     }
+///
+///     fn lead<R: Wait, F: Frames>(&self, rt: &R, frames: &mut F) {
+///         self.done.wait(rt);
+///         let _emitted = frames.new_frame();
+///     }
+/// }
+/// ```
+///
+/// Here `done` is a `Barrier` of all threads and the leader. What is reported after the last frame is in no frame;
+/// `Outcome::settled` counts it as pending.
 pub trait Program {
-    /// What the thread with this number does. They count from 0, in the order of their names.
+    /// Does the work of the thread with this number. Numbers count from 0, in the order of the threads' names.
     fn work<R: Wait, T: Records>(&self, rt: &R, number: usize, thread: &mut T);
 
-    /// What the thread that takes frames does meanwhile.
+    /// Takes frames while the threads work. It runs on the thread that called [`profiled`].
     fn lead<R: Wait, F: Frames>(&self, rt: &R, frames: &mut F);
 }
 
-/// What came of a program.
+/// The result of a program whose threads are profiled.
 #[derive(Drop)]
 pub struct Outcome {
     /// The last and the slowest frames.
     pub view: GlobalFrameView,
-    /// How many scopes each thread reported, in the order of their names.
+    /// The number of scopes that each thread reported, in the order of the threads' names.
     pub reported: Vec<u64>,
-    /// What all threads reported, what was handed out, and what is left.
+    /// The number of scopes that all threads reported, that frames handed out, and that are left.
     pub settled: Settled,
-    /// How many frames the view didn't take.
+    /// The number of frames that were handed out.
+    pub frames: u64,
+    /// The number of these frames that the view didn't take, for want of memory.
     pub missed: u64,
 }
 
-/// A thread for each name, on the system's clock.
+/// Prepares a thread for each name, on the system's clock.
 fn ready<R: AllocGlobal + Clock + Copy>(
     rt: R,
     names: &[&str],
@@ -65,11 +89,11 @@ fn ready<R: AllocGlobal + Clock + Copy>(
     Ok(threads)
 }
 
-/// Runs a program's threads, profiled, under these names, and its leader on this one, and waits for their ends. No thread
-/// begins before all were started.
+/// Runs a program: starts a thread under each of these names, runs the program's leader on the calling thread, joins all threads
+/// and adds up what they reported. No thread begins its work before all of them are started.
 ///
-/// Refused where a clock can't be read, a thread can't be made, or for want of memory: threads that were started end without
-/// having begun.
+/// Fails if a clock can't be read, a thread can't be started, or memory runs out. Threads that were already started then end
+/// without having begun their work.
 ///
 /// ```
 /// let outcome = profiled(rt, &["loader", "painter"], &program)?;
@@ -84,6 +108,9 @@ pub fn profiled<R: AllocGlobal + Threads + Wait + Clock + Copy + Send + Sync, W:
     ensures threads { IfOk result (λ outcome.
         (vec_len outcome.reported ≡ length names.now)
         × (sum outcome.reported.items ≡ outcome.settled.reported)) }
+    ensures frames { IfOk result (λ outcome.
+        (outcome.missed ≤ outcome.frames)
+        × (outcome.frames ≡ 0 → outcome.settled.handed ≡ 0)) }
 {
     let threads = ready(rt, names)?;
     let parts = names.len() + 1;

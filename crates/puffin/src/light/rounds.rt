@@ -1,6 +1,6 @@
 //! Programs whose threads work in rounds.
 
-ghost use Rattle.std.specs.Prelude.{◌≡◌, ◌+◌, IfOk, vec_len, length, sum};
+ghost use Rattle.std.specs.Prelude.{◌≡◌, ◌+◌, ◌≤◌, IfOk, vec_len, length, sum};
 
 use crate::light::guard::Records;
 use crate::light::program::{Frames, Outcome, Program, profiled};
@@ -9,24 +9,50 @@ use std::rt::Clock;
 use std::sync::{Barrier, Wait};
 use std::thread::Threads;
 
-/// A program whose threads each do a part of every round. They all share it by `&`.
+/// A program whose threads each do a part of every round. All threads share it by `&`.
 pub trait Rounds {
-    /// What the thread with this number does in a round. They count from 0, in the order of their names.
+    /// Does one thread's part of a round. Numbers count from 0, in the order of the threads' names. A thread that is done before
+    /// the others does nothing in the remaining rounds.
     fn part<T: Records>(&self, number: usize, thread: &mut T);
 }
 
-/// So many rounds of a program, at whose begin and end all threads meet.
+/// A program in rounds whose threads each keep a state of their own from round to round. Every [`Rounds`] is one with the state
+/// `()`.
+pub trait StatefulRounds {
+    /// The state that one thread alone reads and changes. It never leaves its thread, but the proof of [`in_rounds`] requires that
+    /// it may.
+    type State: Drop + Send;
+
+    /// Makes the state of the thread with this number. This is called once on that thread, before the first round.
+    fn state(&self, number: usize) -> Self::State;
+
+    /// Does one thread's part of a round, as [`Rounds::part`] does.
+    fn part<T: Records>(&self, number: usize, state: &mut Self::State, thread: &mut T);
+}
+
+impl<W: Rounds> StatefulRounds for W {
+    type State = ();
+
+    fn state(&self, _number: usize) {}
+
+    fn part<T: Records>(&self, number: usize, _state: &mut (), thread: &mut T) {
+        Rounds::part(self, number, thread);
+    }
+}
+
+/// A number of rounds of a program. All threads meet at the beginning and at the end of each.
 struct InRounds<'p, W> {
     program: &'p W,
     rounds: usize,
     meeting: Barrier,
 }
 
-impl<W: Rounds> Program for InRounds<'_, W> {
+impl<W: StatefulRounds> Program for InRounds<'_, W> {
     fn work<R: Wait, T: Records>(&self, rt: &R, number: usize, thread: &mut T) {
+        let mut state = self.program.state(number);
         for _ in 0..self.rounds {
             self.meeting.wait(rt);
-            self.program.part(number, thread);
+            self.program.part(number, &mut state, thread);
             self.meeting.wait(rt);
         }
     }
@@ -40,26 +66,28 @@ impl<W: Rounds> Program for InRounds<'_, W> {
     }
 }
 
-/// Runs so many rounds of a program on threads of these names, profiled, and takes a frame after each. What a frame that is
-/// refused would have held is in the next one, and after the last round it is counted as pending.
+/// Runs a number of rounds of a program ([`Rounds`], or [`StatefulRounds`] if each thread has a state), on a thread for each of
+/// these names, and takes a frame after each round. If a frame is refused, its scopes are in the next one; after the last round
+/// they are counted as pending.
 ///
-/// Refused as [`profiled`] is: no round has begun then.
+/// Fails as [`profiled`] does; no round has begun then.
 ///
 /// ```
 /// let outcome = in_rounds(rt, &["north", "east", "south", "west"], 10, &game)?;
 /// save(&rt, "frames.puffin", &outcome.view.lock(&rt))?;
 /// ```
-pub fn in_rounds<R: AllocGlobal + Threads + Wait + Clock + Copy + Send + Sync, W: Rounds + Sync>(
-    rt: R,
-    names: &[&str],
-    rounds: usize,
-    program: &W,
-) -> io::Result<Outcome>
+pub fn in_rounds<
+    R: AllocGlobal + Threads + Wait + Clock + Copy + Send + Sync,
+    W: StatefulRounds + Sync,
+>(rt: R, names: &[&str], rounds: usize, program: &W) -> io::Result<Outcome>
     ensures sum { IfOk result (λ outcome.
         outcome.settled.reported ≡ outcome.settled.handed + outcome.settled.pending) }
     ensures threads { IfOk result (λ outcome.
         (vec_len outcome.reported ≡ length names.now)
         × (sum outcome.reported.items ≡ outcome.settled.reported)) }
+    ensures frames { IfOk result (λ outcome.
+        (outcome.missed ≤ outcome.frames)
+        × (outcome.frames ≡ 0 → outcome.settled.handed ≡ 0)) }
 {
     let meeting = Barrier::new(names.len().saturating_add(1));
     let program = InRounds {

@@ -1,38 +1,21 @@
 //! Threads of a program, from their start until all shares are back.
-ghost use Rattle.std.specs.Prelude.{◌≡◌, ◌+◌, ◌<◌, ◌^◌, [], IfOk, vec_len, All, sum};
-ghost use Rattle.puffin.specs.Shares.{no_counts, all_reported};
+ghost use Rattle.std.specs.Prelude.{◌≡◌, ◌+◌, ◌<◌, ◌≤◌, ◌^◌, [], IfOk, vec_len, All, sum};
+ghost use Rattle.puffin.specs.Shares.{IsBlankFor, no_counts, all_reported, all_handed};
 
 use crate::global_profiler::{
-    Emitted, GlobalFrameView, GlobalProfiler, Settled, Share, SharedProfiler, SharedReporter,
+    GlobalFrameView, GlobalProfiler, Share, SharedProfiler, SharedReporter,
 };
 use crate::light::counted::{CountedShare, Counting};
 use crate::light::gate::Gated;
-use crate::light::program::{Frames, Outcome, Program};
+use crate::light::program::{Outcome, Program};
 use crate::light::ready::AnyReady;
-use puffin_data::Result;
+use crate::light::taker::{Taken, Taker};
 use std::sync::Wait;
 use std::sync::ledger::{Blank, Ledger};
 use std::thread::{JoinHandle, Scope, Threads};
 use std::{io, thread};
 
-/// Takes frames of a shared profiler by a share, and counts those that the view didn't take.
-struct Taker<L: Ledger, M: Ledger, R: Wait> {
-    rt: R,
-    profiler: SharedProfiler<L, M>,
-    share: Share<L, M>,
-    missed: u64,
-    ghost none: { share.reported ≡ 0 },
-}
-
-impl<L: Ledger, M: Ledger, R: Wait> Frames for Taker<L, M, R> {
-    fn new_frame(&mut self) -> Result<Emitted> {
-        let emitted = self.profiler.new_frame(&self.rt, &mut self.share)?;
-        self.missed = self.missed.saturating_add(emitted.refused as u64);
-        Ok(emitted)
-    }
-}
-
-/// What a thread does. Gives its share back.
+/// Does a thread's work, and returns its share.
 fn work<L: Ledger, M: Ledger, R: Wait + Copy, T: AnyReady, W: Program>(
     rt: R,
     number: usize,
@@ -41,14 +24,14 @@ fn work<L: Ledger, M: Ledger, R: Wait + Copy, T: AnyReady, W: Program>(
     thread: T,
     program: &W,
 ) -> CountedShare<L, M>
-    requires { share.reported ≡ 0 }
+    requires { share ≡ no_counts }
 {
     let mut reporter = Counting::new(SharedReporter::new(rt, profiler, share));
     thread.run(&rt, number, &mut reporter, program);
     reporter.into_share()
 }
 
-/// The same on a thread of its own.
+/// Starts a thread that does so.
 fn start<
     's,
     E,
@@ -66,21 +49,21 @@ fn start<
     thread: T,
     program: &'s W,
 ) -> io::Result<JoinHandle<CountedShare<L, M>>>
-    requires { share.reported ≡ 0 }
+    requires { share ≡ no_counts }
 {
     Ok(scope.spawn(
         move || -> CountedShare<L, M>
-            requires { share.reported ≡ 0 }
+            requires { share ≡ no_counts }
         { work(rt, number, profiler, share, thread, program) },
     )?)
 }
 
-/// For want of memory.
+/// Returns the error for want of memory.
 fn no_memory() -> io::Error {
     io::Error::from(io::ErrorKind::OutOfMemory)
 }
 
-/// The program's threads, each started with a share of its own. They wait for their program's gate.
+/// Starts the program's threads, each with a share of its own. They wait at the program's gate.
 fn start_all<
     's,
     E,
@@ -115,7 +98,7 @@ fn start_all<
     Ok(started)
 }
 
-/// Memory for what comes back of all threads, so that none is asked for once they have begun.
+/// Memory for what all threads return, so that none is allocated once they have begun.
 #[derive(Drop)]
 struct Room<L: Ledger, M: Ledger> {
     shares: Vec<Share<L, M>>,
@@ -124,7 +107,7 @@ struct Room<L: Ledger, M: Ledger> {
 }
 
 impl<L: Ledger, M: Ledger> Room<L, M> {
-    /// For so many threads and the leader.
+    /// Allocates for a number of threads and the leader.
     fn new<R: AllocGlobal>(rt: &R, threads: usize) -> io::Result<Room<L, M>> {
         Ok(Room {
             shares: Vec::with_capacity(rt.alloc(), threads.saturating_add(1))?,
@@ -133,34 +116,40 @@ impl<L: Ledger, M: Ledger> Room<L, M> {
     }
 }
 
-/// What came back of all threads: every share, and for each thread the number of scopes that it reported.
+/// What all threads returned: every share, the number of scopes that each thread reported, and what the leader counted.
 #[derive(Drop)]
 struct Joined<L: Ledger, M: Ledger> {
     shares: Vec<Share<L, M>>,
     reported: Vec<u64>,
+    frames: u64,
     missed: u64,
     ghost all_back: { vec_len shares ≡ vec_len reported + 1 },
+    ghost none_handed: { frames ≡ 0 → all_handed shares.items ≡ 0 },
+    ghost some: { missed ≤ frames },
     ghost counted: { all_reported shares.items < 2 ^ 64
         → sum reported.items ≡ all_reported shares.items },
 }
 
-#[tactic(auto, using(crate::proofs::CountedShares::counted_more))]
-/// Waits for all threads, and puts their shares behind the leader's.
+#[tactic(auto, using(crate::proofs::CountedShares::counted_more, crate::proofs::CountedShares::none_more))]
+/// Joins all threads, and puts their shares behind the leader's.
 fn join_all<L: Ledger, M: Ledger, R: Threads>(
     rt: &R,
     started: Vec<JoinHandle<CountedShare<L, M>>>,
-    own: Share<L, M>,
-    missed: u64,
+    taken: Taken<L, M>,
     room: Room<L, M>,
 ) -> io::Result<Joined<L, M>>
-    requires { own.reported ≡ 0 }
     ensures { IfOk result (λ joined. vec_len joined.reported ≡ vec_len started) }
 {
     let Room {
         mut shares,
         mut reported,
     } = room;
-    shares.push(own)?;
+    let Taken {
+        share,
+        frames,
+        missed,
+    } = taken;
+    shares.push(share)?;
     for thread in started {
         let counted = thread.join(rt);
         shares.push(counted.share)?;
@@ -169,13 +158,14 @@ fn join_all<L: Ledger, M: Ledger, R: Threads>(
     Ok(Joined {
         shares,
         reported,
+        frames,
         missed,
     })
 }
 
-/// Starts the program's threads, opens its gate, and lets its leader work. Gives all shares back.
+/// Starts the program's threads, opens its gate, runs its leader, and returns all shares.
 ///
-/// Refused where a thread can't be made, or for want of memory: those that were started leave.
+/// Fails if a thread can't be started or memory runs out; the threads that were started then leave.
 fn run_all<
     's,
     E,
@@ -193,12 +183,12 @@ fn run_all<
     threads: Vec<T>,
     program: &'s W,
 ) -> io::Result<Joined<L, M>>
-    requires own { own.reported ≡ 0 }
+    requires own { own ≡ no_counts }
     requires shares { All (λ share. share ≡ no_counts) shares.items }
     ensures { IfOk result (λ joined. vec_len joined.reported ≡ vec_len threads) }
 {
     let room = Room::new(&rt, threads.len())?;
-    let Ok(taken) = profiler.clone() else {
+    let Ok(leader) = profiler.clone() else {
         return Err(no_memory());
     };
     let started = start_all(scope, rt, profiler, shares, threads, program);
@@ -206,21 +196,19 @@ fn run_all<
     let started = started?;
     let mut taker = Taker {
         rt,
-        profiler: taken,
-        share: own,
-        missed: 0,
+        profiler: leader,
+        taken: Taken::new(own),
     };
     program.lead(&rt, &mut taker);
     let Taker {
         rt: _,
         profiler: _,
-        share,
-        missed,
+        taken,
     } = taker;
-    join_all(&rt, started, share, missed, room)
+    join_all(&rt, started, taken, room)
 }
 
-/// The same in a scope.
+/// Does the same in a thread scope.
 fn scoped<
     L: Ledger + Send + Sync,
     M: Ledger + Send + Sync,
@@ -235,7 +223,7 @@ fn scoped<
     threads: Vec<T>,
     program: &W,
 ) -> io::Result<Joined<L, M>>
-    requires own { own.reported ≡ 0 }
+    requires own { own ≡ no_counts }
     requires shares { All (λ share. share ≡ no_counts) shares.items }
     ensures { IfOk result (λ joined. vec_len joined.reported ≡ vec_len threads) }
 {
@@ -243,11 +231,86 @@ fn scoped<
         thread::scope_env(),
         &rt,
         move |scope| -> io::Result<Joined<L, M>>
-            requires own { own.reported ≡ 0 }
+            requires own { own ≡ no_counts }
             requires shares { All (λ share. share ≡ no_counts) shares.items }
             ensures { IfOk result (λ joined. vec_len joined.reported ≡ vec_len threads) }
         { run_all(scope, rt, profiler, own, shares, threads, program) },
     )
+}
+
+/// A shared profiler with its view, the leader's share and one for each thread.
+struct Opened<L: Ledger, M: Ledger> {
+    profiler: SharedProfiler<L, M>,
+    view: GlobalFrameView,
+    own: Share<L, M>,
+    shares: Vec<Share<L, M>>,
+    ghost own_new: { own ≡ no_counts },
+    ghost all_new: { All (λ share. share ≡ no_counts) shares.items },
+}
+
+impl<L: Ledger, M: Ledger> Opened<L, M> {
+    /// Opens a new profiler with this number of shares. Fails for want of memory.
+    fn new<R: AllocGlobal + Wait>(
+        rt: &R,
+        parts: usize,
+        reported: Blank,
+        handed: Blank,
+    ) -> io::Result<Opened<L, M>>
+        requires some { 0 < parts }
+        requires reported { IsBlankFor L.name L.parts parts reported }
+        requires handed { IsBlankFor M.name M.parts parts handed }
+    {
+        let profiler = GlobalProfiler::new(rt.alloc());
+        let opened = SharedProfiler::<L, M>::open(rt.alloc(), profiler, parts, reported, handed);
+        let Ok((profiler, mut shares)) = opened else {
+            return Err(no_memory());
+        };
+        let Some(own) = shares.pop() else {
+            return Err(no_memory());
+        };
+        let Ok(view) = GlobalFrameView::attach(rt, rt.alloc(), &profiler) else {
+            return Err(no_memory());
+        };
+        Ok(Opened {
+            profiler,
+            view,
+            own,
+            shares,
+        })
+    }
+}
+
+/// Settles all shares.
+fn settled<L: Ledger, M: Ledger, R: Wait>(
+    rt: &R,
+    profiler: &SharedProfiler<L, M>,
+    view: GlobalFrameView,
+    joined: Joined<L, M>,
+) -> Outcome
+    requires { vec_len joined.reported + 1 ≡ L.parts }
+    ensures sum { result.settled.reported ≡ result.settled.handed + result.settled.pending }
+    ensures threads { (result.reported ≡ joined.reported)
+        × (sum result.reported.items ≡ result.settled.reported) }
+    ensures frames { (result.missed ≤ result.frames)
+        × (result.frames ≡ 0 → result.settled.handed ≡ 0) }
+{
+    let Joined {
+        shares,
+        reported,
+        frames,
+        missed,
+    } = joined;
+    match profiler.settle(rt, shares) {
+        Ok(settled) => Outcome {
+            view,
+            reported,
+            settled,
+            frames,
+            missed,
+        },
+        // All shares are back.
+        Err(_) => unreachable!(),
+    }
 }
 
 /// Opens a shared profiler with a share for each thread and one for the leader, and runs the program.
@@ -266,43 +329,24 @@ pub(crate) fn run<
     handed: Blank,
 ) -> io::Result<Outcome>
     requires some { vec_len threads + 1 ≡ parts }
-    requires reported { (reported.name ≡ L.name)
-        × (reported.parts ≡ L.parts)
-        × (reported.parts ≡ parts) }
-    requires handed { (handed.name ≡ M.name)
-        × (handed.parts ≡ M.parts)
-        × (handed.parts ≡ parts) }
+    requires reported { IsBlankFor L.name L.parts parts reported }
+    requires handed { IsBlankFor M.name M.parts parts handed }
     ensures sum { IfOk result (λ outcome.
         outcome.settled.reported ≡ outcome.settled.handed + outcome.settled.pending) }
     ensures threads { IfOk result (λ outcome.
         (vec_len outcome.reported ≡ vec_len threads)
         × (sum outcome.reported.items ≡ outcome.settled.reported)) }
+    ensures frames { IfOk result (λ outcome.
+        (outcome.missed ≤ outcome.frames)
+        × (outcome.frames ≡ 0 → outcome.settled.handed ≡ 0)) }
 {
-    let profiler = GlobalProfiler::new(rt.alloc());
-    let opened = SharedProfiler::<L, M>::open(rt.alloc(), profiler, parts, reported, handed);
-    let Ok((profiler, mut shares)) = opened else {
-        return Err(no_memory());
-    };
-    let Some(own) = shares.pop() else {
-        return Err(no_memory());
-    };
-    let Ok(view) = GlobalFrameView::attach(&rt, rt.alloc(), &profiler) else {
-        return Err(no_memory());
-    };
-    let joined = scoped(rt, &profiler, own, shares, threads, program)?;
-    let Joined {
+    let opened = Opened::<L, M>::new(&rt, parts, reported, handed)?;
+    let Opened {
+        profiler,
+        view,
+        own,
         shares,
-        reported,
-        missed,
-    } = joined;
-    match profiler.settle(&rt, shares) {
-        Ok(settled) => Ok(Outcome {
-            view,
-            reported,
-            settled,
-            missed,
-        }),
-        // All shares are back.
-        Err(_) => unreachable!(),
-    }
+    } = opened;
+    let joined = scoped(rt, &profiler, own, shares, threads, program)?;
+    Ok(settled(&rt, &profiler, view, joined))
 }

@@ -17,8 +17,8 @@ use std::io;
 use std::rt::Clock;
 use std::sync::{Arc, Wait};
 
-/// A thread that is profiled: whenever its outermost scope ends, all that has closed goes to the reporter. Where a report is
-/// refused, the scopes wait for the next one.
+/// A thread that is profiled. Whenever its outermost scope ends, all closed scopes go to the reporter. If a report is refused,
+/// its scopes wait for the next one.
 #[derive(Drop)]
 pub struct Thread<C, P> {
     profiler: ThreadProfiler<C>,
@@ -27,9 +27,9 @@ pub struct Thread<C, P> {
 }
 
 impl<R: Clock + AllocGlobal + Copy, P: Reporter + Drop> Thread<SystemClock<R>, P> {
-    /// A thread of this name on the system's clock, which reports to this reporter. Its scopes are on.
+    /// Makes a thread with this name and the system's clock, which reports to this reporter. Its scopes are on.
     ///
-    /// Refused where the clock can't be read, or for want of memory: the reporter is gone then.
+    /// Fails if the clock can't be read or memory runs out; the reporter is then dropped.
     ///
     /// ```
     /// let mut thread = Thread::start(rt, "main", GlobalProfiler::new(rt.alloc()))?;
@@ -55,9 +55,10 @@ impl<R: Clock + AllocGlobal + Copy, P: Reporter + Drop> Thread<SystemClock<R>, P
 }
 
 impl<C> Thread<C, GlobalProfiler> {
-    /// Hands out what was reported since the frame before, if anything was, to the caller and to the profiler's sinks.
+    /// Hands out everything that was reported since the frame before, to the caller and to the profiler's sinks. Returns `None` if
+    /// nothing was reported.
     ///
-    /// Refused with `IndexExhausted` or `Memory`: what was reported waits for the next frame.
+    /// Fails with `IndexExhausted` or `Memory`; what was reported then waits for the next frame.
     pub fn new_frame(&mut self, rt: &impl Wait) -> Result<Option<Arc<FrameData>>>
         ensures ok { IfOk result (λ frame.
             Collects (collected_of self.old.reporter) frame (collected_of self.new.reporter)) }
@@ -71,7 +72,9 @@ impl<C> Thread<C, GlobalProfiler> {
 }
 
 impl<C: NsSource, P: Reporter> Thread<C, P> {
-    /// A thread that reports to this reporter.
+    ghost use Rattle.puffin.specs.Guards.{EndsAt};
+
+    /// Makes a thread that reports to this reporter.
     pub fn new(profiler: ThreadProfiler<C>, reporter: P, scopes: Arc<Scopes>) -> Thread<C, P>
         ensures { (result.profiler ≡ profiler) × (result.reporter ≡ reporter) }
     {
@@ -82,16 +85,26 @@ impl<C: NsSource, P: Reporter> Thread<C, P> {
         }
     }
 
-    /// What the scopes are reported to.
+    /// Borrows the reporter.
     pub fn reporter(&mut self) -> &mut P
         ensures { result.now ≡ self.old.reporter }
     {
         &mut self.reporter
     }
 
-    /// Reports closed scopes that wait, since a report of theirs was refused. `Ok(false)` where none waits.
+    /// Ends the scope at this offset, as [`Records::end`] does, with the profiler's own call, which reports if no other scope is
+    /// open.
+    #[inline(never)]
+    fn end_and_report(&mut self, offset: usize)
+        ensures { EndsAt C.answers P.accepts P.refuses offset self.old.profiler
+            self.new.profiler self.old.reporter self.new.reporter }
+    {
+        let _ = self.profiler.end_scope(offset, &mut self.reporter);
+    }
+
+    /// Reports the closed scopes that wait because an earlier report was refused. Returns `Ok(false)` if none waits.
     ///
-    /// Refused as [`ThreadProfiler::report_closed`] is: nothing changes for the thread.
+    /// Fails as [`ThreadProfiler::report_closed`] does; the thread doesn't change then.
     pub fn report_closed(&mut self) -> Result<bool>
         ensures reports { Reports P.accepts P.refuses (thread_of self.old.profiler)
             (thread_of self.new.profiler) self.old.reporter self.new.reporter result }
@@ -133,12 +146,16 @@ impl<C: NsSource, P: Reporter> Records for Thread<C, P> {
 
     #[inline(always)]
     fn end(&mut self, offset: usize) {
-        let _ = self.profiler.end_scope(offset, &mut self.reporter);
+        if self.profiler.depth() > 1 {
+            let _ = self.profiler.close_scope(offset);
+        } else {
+            self.end_and_report(offset);
+        }
     }
 }
 
 impl<C: Drop, P> Thread<C, P> {
-    /// Gives the reporter back.
+    /// Returns the reporter.
     pub fn into_reporter(self) -> P
         ensures { result ≡ self.reporter }
     {

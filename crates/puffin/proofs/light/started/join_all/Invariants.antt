@@ -1,5 +1,5 @@
 use Rattle.std.specs.Prelude.{◌≡◌, ◌+◌, ◌<◌, ◌^◌, vec_len, length, sum}
-use Rattle.puffin.specs.Shares.{all_reported}
+use Rattle.puffin.specs.Shares.{all_reported, all_handed}
 use Rattle.puffin.proofs.light.started.join_all.Given as goal
 
 abbrev pub invariant-loop-thread : goal.invariant-loop-thread
@@ -7,4 +7,5 @@ invariant-loop-thread g l = record {
   shares : vec_len l.shares ≡ length l.yielded + 1;
   reported : vec_len l.reported ≡ length l.yielded;
   counted : all_reported l.shares.items < 2 ^ 64 → sum l.reported.items ≡ all_reported l.shares.items;
+  none_handed : l.frames ≡ 0 → all_handed l.shares.items ≡ 0;
 }

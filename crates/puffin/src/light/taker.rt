@@ -1,0 +1,83 @@
+//! The frames that a program's leader takes, by a share of its own.
+ghost use Rattle.std.specs.Prelude.{◌≡◌, ◌≤◌, ◌<◌, ◌^◌};
+ghost use Rattle.puffin.specs.Taking.{CountsTaken};
+
+use crate::global_profiler::{Emitted, Share, SharedProfiler};
+use crate::light::program::Frames;
+use puffin_data::Result;
+use std::sync::Wait;
+use std::sync::ledger::Ledger;
+
+/// The leader's share, the number of frames that were handed out to it, and the number of these that the view didn't take.
+#[derive(Drop)]
+pub(crate) struct Taken<L: Ledger, M: Ledger> {
+    pub(crate) share: Share<L, M>,
+    pub(crate) frames: u64,
+    pub(crate) missed: u64,
+    ghost none_reported: { share.reported ≡ 0 },
+    ghost none_handed: { frames ≡ 0 → share.handed ≡ 0 },
+    ghost some: { missed ≤ frames },
+}
+
+impl<L: Ledger, M: Ledger> Taken<L, M> {
+    ghost use Rattle.puffin.specs.Shares.{no_counts};
+
+    /// Starts with no frames.
+    pub(crate) fn new(share: Share<L, M>) -> Taken<L, M>
+        requires { share ≡ no_counts }
+    {
+        Taken {
+            share,
+            frames: 0,
+            missed: 0,
+        }
+    }
+}
+
+/// Counts a frame, if one was handed out. Returns the numbers of frames and of missed frames.
+fn counted(emitted: &Emitted, frames: u64, missed: u64) -> (u64, u64)
+    requires { missed ≤ frames }
+    ensures counts { CountsTaken emitted.now.frame emitted.now.refused (frames, missed) result }
+    ensures some { result.1 ≤ result.0 }
+{
+    if emitted.frame.is_none() {
+        return (frames, missed);
+    }
+    if emitted.refused == 0 {
+        return (frames.saturating_add(1), missed);
+    }
+    (frames.saturating_add(1), missed.saturating_add(1))
+}
+
+/// Takes frames of a shared profiler, whose only sink is a view.
+pub(crate) struct Taker<L: Ledger, M: Ledger, R: Wait> {
+    pub(crate) rt: R,
+    pub(crate) profiler: SharedProfiler<L, M>,
+    pub(crate) taken: Taken<L, M>,
+}
+
+impl<L: Ledger, M: Ledger, R: Wait> Frames for Taker<L, M, R> {
+    ghost use Rattle.std.specs.Prelude.{◌≡◌, IfOk, OnErr};
+    ghost use Rattle.puffin.specs.Shares.{SpellsItsScopes, CountsFrame};
+    ghost use Rattle.puffin.specs.Taking.{CountsTaken};
+
+    fn new_frame(&mut self) -> Result<Emitted>
+        ensures spells { IfOk result (λ emitted. SpellsItsScopes emitted.frame) }
+        ensures share { IfOk result (λ emitted.
+            CountsFrame self.old.taken.share emitted.frame self.new.taken.share) }
+        ensures counts { IfOk result (λ emitted. CountsTaken emitted.frame emitted.refused
+            (self.old.taken.frames, self.old.taken.missed)
+            (self.new.taken.frames, self.new.taken.missed)) }
+        ensures unchanged { OnErr result (
+            (self.new.taken.share ≡ self.old.taken.share)
+            × (self.new.taken.frames ≡ self.old.taken.frames)
+            × (self.new.taken.missed ≡ self.old.taken.missed)) }
+    {
+        let taken = &mut self.taken;
+        let emitted = self.profiler.new_frame(&self.rt, &mut taken.share)?;
+        let (frames, missed) = counted(&emitted, taken.frames, taken.missed);
+        taken.frames = frames;
+        taken.missed = missed;
+        Ok(emitted)
+    }
+}
