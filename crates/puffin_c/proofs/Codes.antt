@@ -1,0 +1,151 @@
+-- Each answer has a number of its own: it is read back from its number.
+use Rattle.std.proofs.Common.{◌≡◌, ◌<◌, ℕ, ◌+◌, ◌*◌, ◌/◌, ◌%◌, refl, sym, ap, ◌∙◌, arith}
+use Rattle.std.specs.Prelude.{Result, Ok, Err, ◌==◌, if◌then◌else◌}
+use Rattle.puffin_data.specs.Cause.{error_number}
+use Rattle.puffin_data.specs.declared.error.Error.{Error}
+use Rattle.puffin_data.specs.declared.error.Error.TheVariants as error
+use Rattle.puffin_data.specs.declared.file_error.FileError.{FileError}
+use Rattle.puffin_data.specs.declared.file_error.FileError.TheVariants as file
+use Rattle.puffin_c.specs.declared.fault.Fault.{Fault}
+use Rattle.puffin_c.specs.declared.fault.Fault.TheVariants as fault
+use Rattle.puffin_c.specs.Faults.{answer_code}
+
+abbrev Answer : Type 0
+Answer = Result (Unit {0}) Fault
+
+abbrev error_at : ℕ → Error
+error_at n =
+    if n == 1 then error.PrematureEnd else
+    if n == 2 then error.InvalidStream else
+    if n == 3 then error.ScopeNeverEnded else
+    if n == 4 then error.InvalidOffset else
+    if n == 5 then error.Empty else
+    if n == 6 then error.TooLarge else
+    if n == 7 then error.RangeTooLong else
+    if n == 8 then error.MismatchedEnd else
+    if n == 9 then error.ScopesOpen else
+    if n == 10 then error.MissingId else
+    if n == 11 then error.IdsExhausted else
+    if n == 12 then error.IndexExhausted else
+    if n == 13 then error.SinkIdsExhausted else
+    if n == 14 then error.TooDeep else
+    if n == 15 then error.NoThread else
+    if n == 16 then error.Memory else
+    error.UnlikeForms
+
+-- the answer whose number is r and 256 times q
+abbrev answer_at : ℕ → ℕ → Answer
+answer_at r q =
+    if r == 0 then Ok tt else
+    if r == 1 then Err (fault.Refused error.PrematureEnd) else
+    if r == 2 then Err (fault.Refused error.InvalidStream) else
+    if r == 3 then Err (fault.Refused error.ScopeNeverEnded) else
+    if r == 4 then Err (fault.Refused error.InvalidOffset) else
+    if r == 5 then Err (fault.Refused error.Empty) else
+    if r == 6 then Err (fault.Refused error.TooLarge) else
+    if r == 7 then Err (fault.Refused error.RangeTooLong) else
+    if r == 8 then Err (fault.Refused error.MismatchedEnd) else
+    if r == 9 then Err (fault.Refused error.ScopesOpen) else
+    if r == 10 then Err (fault.Refused error.MissingId) else
+    if r == 11 then Err (fault.Refused error.IdsExhausted) else
+    if r == 12 then Err (fault.Refused error.IndexExhausted) else
+    if r == 13 then Err (fault.Refused error.SinkIdsExhausted) else
+    if r == 14 then Err (fault.Refused error.TooDeep) else
+    if r == 15 then Err (fault.Refused error.NoThread) else
+    if r == 16 then Err (fault.Refused error.Memory) else
+    if r == 17 then Err (fault.Refused error.UnlikeForms) else
+    if r == 32 then Err fault.NotText else
+    if r == 33 then Err fault.NoId else
+    if r == 34 then Err fault.NotOpen else
+    if r == 35 then Err fault.IsOpen else
+    if r == 65 then Err (fault.File file.Io) else
+    if r == 66 then Err (fault.File file.NoMagic) else
+    if r == 67 then Err (fault.File file.Truncated) else
+    if r == 68 then Err (fault.File file.Legacy) else
+    if r == 69 then Err (fault.File file.Newer) else
+    if r == 72 then Err (fault.File file.BadMeta) else
+    if r == 73 then Err (fault.File file.BadStreams) else
+    if r == 74 then Err (fault.File file.BadScopes) else
+    if r == 75 then Err (fault.File file.BadRange) else
+    if r == 76 then Err (fault.File file.PartTooLong) else
+    if r == 78 then Err (fault.File file.Memory) else
+    if r == 70 then Err (fault.File (file.UnknownKind q)) else
+    if r == 71 then Err (fault.File (file.Compressed q)) else
+    Err (fault.File (file.Refused (error_at q)))
+
+abbrev answer_of : ℕ → Answer
+answer_of n = answer_at (n % 256) (n / 256)
+
+high : (a q : ℕ) → a < 256 → answer_of (a + 256 * q) ≡ answer_at a q
+high a q low =
+    let rest : (a + 256 * q) % 256 ≡ a = omega (arith, low) in
+    let times : (a + 256 * q) / 256 ≡ q = omega (arith, low) in
+    ap (λ (r : ℕ). answer_at r ((a + 256 * q) / 256)) rest ∙ ap (answer_at a) times
+
+refused : (e : Error) → answer_of (64 + (13 + 256 * error_number e)) ≡ Err (fault.File (file.Refused e))
+refused error.PrematureEnd = refl
+refused error.InvalidStream = refl
+refused error.ScopeNeverEnded = refl
+refused error.InvalidOffset = refl
+refused error.Empty = refl
+refused error.TooLarge = refl
+refused error.RangeTooLong = refl
+refused error.MismatchedEnd = refl
+refused error.ScopesOpen = refl
+refused error.MissingId = refl
+refused error.IdsExhausted = refl
+refused error.IndexExhausted = refl
+refused error.SinkIdsExhausted = refl
+refused error.TooDeep = refl
+refused error.NoThread = refl
+refused error.Memory = refl
+refused error.UnlikeForms = refl
+
+of_file : (f : FileError) → answer_of (answer_code (Err (fault.File f))) ≡ Err (fault.File f)
+of_file file.Io = refl
+of_file file.NoMagic = refl
+of_file file.Truncated = refl
+of_file file.Legacy = refl
+of_file file.Newer = refl
+of_file file.BadMeta = refl
+of_file file.BadStreams = refl
+of_file file.BadScopes = refl
+of_file file.BadRange = refl
+of_file file.PartTooLong = refl
+of_file file.Memory = refl
+of_file (file.UnknownKind k) =
+    let same : 64 + (6 + 256 * k) ≡ 70 + 256 * k = omega arith in ap answer_of same ∙ high 70 k (omega arith)
+of_file (file.Compressed k) =
+    let same : 64 + (7 + 256 * k) ≡ 71 + 256 * k = omega arith in ap answer_of same ∙ high 71 k (omega arith)
+of_file (file.Refused e) = refused e
+
+of_error : (e : Error) → answer_of (answer_code (Err (fault.Refused e))) ≡ Err (fault.Refused e)
+of_error error.PrematureEnd = refl
+of_error error.InvalidStream = refl
+of_error error.ScopeNeverEnded = refl
+of_error error.InvalidOffset = refl
+of_error error.Empty = refl
+of_error error.TooLarge = refl
+of_error error.RangeTooLong = refl
+of_error error.MismatchedEnd = refl
+of_error error.ScopesOpen = refl
+of_error error.MissingId = refl
+of_error error.IdsExhausted = refl
+of_error error.IndexExhausted = refl
+of_error error.SinkIdsExhausted = refl
+of_error error.TooDeep = refl
+of_error error.NoThread = refl
+of_error error.Memory = refl
+of_error error.UnlikeForms = refl
+
+read_back : (answer : Answer) → answer_of (answer_code answer) ≡ answer
+read_back (Ok tt) = refl
+read_back (Err (fault.Refused e)) = of_error e
+read_back (Err (fault.File f)) = of_file f
+read_back (Err fault.NotText) = refl
+read_back (Err fault.NoId) = refl
+read_back (Err fault.NotOpen) = refl
+read_back (Err fault.IsOpen) = refl
+
+pub distinct : (one other : Answer) → answer_code one ≡ answer_code other → one ≡ other
+distinct one other same = sym (read_back one) ∙ ap answer_of same ∙ read_back other

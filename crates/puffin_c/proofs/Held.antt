@@ -1,0 +1,60 @@
+-- What handles hold, and calls on it that are refused.
+use Rattle.std.proofs.Common.{◌≡◌, ◌⊎◌, refl, sym, ap, ◌∙◌, subst, inl, inr}
+use mathlib.Core.Bool.{Bool, false, true≢false}
+use Rattle.std.specs.Prelude.{Option, Some, None, is_some, Result, Ok, Err, OnErr}
+use Rattle.std.specs.List.{Any}
+use Rattle.puffin_data.specs.declared.error.Error.{Error}
+use Rattle.puffin_data.specs.declared.error.Error.TheVariants as error
+use Rattle.puffin_data.specs.declared.file_error.FileError.{FileError}
+use Rattle.puffin_data.specs.declared.file_error.FileError.TheVariants as file
+use Rattle.puffin_threads.specs.Thread.Calls.{Thread}
+use Rattle.puffin_threads.specs.Thread.Closing.{Reports}
+use Rattle.puffin_frames.specs.Packet.Writing.{HasLongPart}
+use Rattle.puffin_collector.specs.Collector.State.{Collected, AcceptsReport, RefusesReport}
+use Rattle.puffin_view.specs.View.Known.{view_of}
+use Rattle.puffin_view.specs.View.File.{contents_in}
+use Rattle.puffin_c.specs.declared.fault.Fault.{Fault}
+use Rattle.puffin_c.specs.declared.fault.Fault.TheVariants as fault
+use Rattle.puffin_c.specs.declared.profiler.Profiler.{Profiler}
+use Rattle.puffin_c.specs.Faults.{file_fault}
+
+pub nothing_held : {X : Type 0} (o : Option X) (is_open : Bool) → is_open ≡ is_some o → is_open ≡ false → o ≡ None
+nothing_held None is_open e f = refl
+nothing_held (Some x) is_open e f = absurd (true≢false (sym e ∙ f))
+
+pub on_err : {X : Type 0} (r : Result X Error) (P : Type 0) → P → OnErr r P
+on_err (Ok x) P h = tt
+on_err (Err e) P h = h
+
+-- a report that is refused leaves thread and profiler
+pub refusal_keeps : (old new : Thread) (before after : Collected) (e : Error) →
+    Reports AcceptsReport RefusesReport old new before after (Err e) → (new ≡ old) × (after ≡ before)
+refusal_keeps old new before after e (same, inl begun) = (same, begun.2)
+refusal_keeps old new before after e (same, inr (waits, inl memory)) = (same, memory.1)
+refusal_keeps old new before after e (same, inr (waits, inr (r, is, refuses))) = (same, refuses.1)
+
+-- the same report, of what equals its thread and its profiler
+pub reported_so : (t now new : Thread) (q here : Profiler) (after : Collected) (r : Result Bool Error) → now ≡ t → here ≡ q →
+    Reports AcceptsReport RefusesReport now new here.collector after r →
+    Reports AcceptsReport RefusesReport t new q.collector after r
+reported_so t now new q here after r e f h =
+    subst (λ (x : Thread). Reports AcceptsReport RefusesReport x new q.collector after r) e
+    (subst (λ (p : Profiler). Reports AcceptsReport RefusesReport now new p.collector after r) f h)
+
+pub refused_so : (t now new : Thread) (q here : Profiler) (after : Collected) (e : Error) → now ≡ t → here ≡ q →
+    Reports AcceptsReport RefusesReport now new here.collector after (Err e) →
+    Reports AcceptsReport RefusesReport t t q.collector q.collector (Err e)
+refused_so t now new q here after e s f h =
+    let keeps = refusal_keeps now new here.collector after e h in
+    reported_so t now t q here q.collector (Err e) s f
+    (subst (λ (x : Thread). Reports AcceptsReport RefusesReport now x here.collector q.collector (Err e)) (keeps.0 ∙ s)
+    (subst (λ (c : Collected). Reports AcceptsReport RefusesReport now new here.collector c (Err e))
+    (keeps.1 ∙ ap (λ (p : Profiler). p.collector) f) h))
+
+pub file_refusal : (here q : Profiler) (e : FileError) (f : Fault) → here ≡ q → f ≡ file_fault e →
+    (((e ≡ file.PartTooLong) × Any HasLongPart (contents_in (view_of here.view))) ⊎ (e ≡ file.Memory) ⊎ (e ≡ file.Io)) →
+    (f ≡ fault.Refused error.Memory) ⊎ ((f ≡ fault.File file.PartTooLong) × Any HasLongPart (contents_in (view_of q.view)))
+file_refusal here q e f same is (inl (long, any)) =
+    inr (is ∙ ap file_fault long, subst (λ (p : Profiler). Any HasLongPart (contents_in (view_of p.view))) same any)
+file_refusal here q e f same is (inr (inl memory)) = inl (is ∙ ap file_fault memory)
+file_refusal here q e f same is (inr (inr io)) = inl (is ∙ ap file_fault io)

@@ -1,0 +1,10 @@
+pub mod Codes
+pub mod Frames
+pub mod Held
+pub mod IdsSlots
+pub mod Named
+pub mod ProfilerSlots
+pub mod RawBoxes
+pub mod Reports
+pub mod Sending
+pub mod ThreadSlots

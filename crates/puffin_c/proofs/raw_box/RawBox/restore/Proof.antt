@@ -1,0 +1,102 @@
+-- `restore` hands what a `RawBox` owns to `Box::from_raw`.
+use Rattle.std.proofs.Common.{◌≡◌, List, [], ◌∷◌, ◌++◌, refl, sym, ap, subst}
+use mir.Syntax.{Args, a_type, dcons, dnil}
+use mir.Val.{Val, vptr}
+use mir.MapTy.{inst_fn}
+use base.Logic.{SProp, ent, id⊢}
+use base.Fml.{ftrue, flft}
+use prog.Wp.{WpFn}
+use types.Kit.{‵, raw, ◌⊛◌, some, later, at_ret, ◌$◌, ◌∵◌, !, qed, by, move, keep, drop, split, split3, join, fsplit, fjoin, pick, suffices, use1, await, rewrite, feq_i}
+use types.Run.{stop, fld, of_opd, no_more, and_then, first, blocks, exec, returns, enter}
+use types.ByLocal.{alloc_all, pass_all, free_all, look_at, get, get_in, sets, lands_last, env}
+use types.Part.{sub, whole}
+use contract.Monad.{fact}
+use contract.BorrowLft.{◌⊑◌}
+use contract.Running.{tables}
+use denote.Exit.{no}
+use denote.RattleType.{RattleType, owns}
+use denote.Signature.{types_at, plain}
+use denote.RawPtr.{block_ptr}
+use denote.Steps.{nothing, only}
+use denote.Param.{param, layout, bounded}
+use denote.Param.Laws.{param_laws}
+use denote.Triple.Clauses.{Lasts, lasts}
+use denote.Triple.Spec.{triple_of}
+use denote.Triple.Call.{calls_at_last}
+use denote.Triple.Walked.{Stays, stay_dropped, walk_of}
+use Rattle.core.proofs.alloc.Calls.{Goes-blank}
+use Rattle.core.proofs.alloc.Shapes.{after}
+use Rattle.core.proofs.atomic.Steps.{fm}
+use Rattle.core.proofs.cell.Inside.{Good}
+use Rattle.std_alloc.proofs.BoxSteps.Form as box
+use Rattle.std_alloc.proofs.BoxSteps.Steps.{box_out, box_in}
+use Rattle.std.proofs.raw_atomic.Walks.{proved_at, leaves}
+use Rattle.std_alloc.specs.contracts.boxed.Box.from_raw as callee
+use Rattle.std_alloc.proofs.boxed.Box.from_raw.Met.{met}
+use Rattle.puffin_c.proofs.RawBoxes.{Raw, two, fits_two, opened}
+use Rattle.puffin_c.specs.contracts.raw_box.RawBox.restore as own
+use Rattle.puffin_c.proofs.raw_box.RawBox.restore.Statement.{statement}
+use Rattle.puffin_c.proofs.raw_box.RawBox.restore.Code as code
+
+pub restore_spec : {M : Type 1} → statement M
+restore_spec 𝓤 𝓛 𝓜 𝓡 wired T A LT LA g d dT dA allocates T_drops A_drops =
+    let H = 𝓛.H in
+    let 𝓣 = tables 𝓤 H 𝓜 𝓡 𝓡.env in
+    let R : RattleType = param 0 T in
+    let Z : RattleType = param 1 A in
+    let LZ = param_laws 1 A LA in
+    let E : box.Bx = record { row = T; laws = LT; al = record { row = A; laws = LA; g = g; d = d; drops = dA } } in
+    let B : RattleType = box.B E in
+    let taken = plain (λ _. Raw R Z LZ g) in
+    let ended = own.ended T A g d dT dA in
+    let clauses = own.clauses T A g d dT dA 𝓛 𝓜.mem 𝓡.returns in
+    let args : Args = bounded (a_type ∷ a_type ∷ []) (T, (A, tt)) (dcons d (dcons dT (dcons dA dnil))) in
+    let fn = inst_fn args code.function in
+    let moved : Stays ended.signature.params ended.kept = (stay_dropped taken no, tt) in
+    proved_at 𝓛 ended moved clauses 𝓜 𝓡 (Goes-blank 𝓛 2 taken no (λ κs x f. tt), tt)
+    (own.Key.name args) fn (code.unfolded 𝓤 H 𝓜 𝓡 wired (T, (A, tt)) d dT dA) (λ z are.
+    let κs = z.0.0 in
+    let qs = z.0.1 in
+    let given = z.0.3.0 in
+    let a = given.heap in
+    let x = given.value in
+    let Post : Val → SProp 𝓤 = (walk_of 𝓛 ended moved clauses).post z in
+    let Run : List Val → SProp 𝓤 = λ ws. WpFn 𝓤 H 𝓣.C 𝓣.Λ fn ws Post in
+    let alive = ‵ (flft κs.0 qs.0) ⊛ ‵ (flft κs.1.0 qs.1.0) ⊛ ‵ ftrue in
+    let params = ‵ (owns (types_at ended.signature.params κs) z.0.3 z.0.4) in
+    let called = triple_of 𝓛 (callee.signature T A g d dA) (callee.spec T A g d dA 𝓛 𝓜.mem 𝓡.returns) in
+    let at_end = callee.ended T A g d dA in
+    qed 𝓛 ((alive ⊛ params) ∷ raw ((clauses κs z.0.3).requires z.1) ∷ []) ∵
+    split ! $ move ! (1 ∷ []) $ fsplit ! $
+    -- [the box; the handle; the tokens; what is left of the parameters; the bounds of the lifetimes]
+    opened R Z LZ g ! given z.0.4.0 (λ b o h ws fits.
+    let word : Val = two (vptr b o) h in
+    let typed = fits_two R Z LZ g b o h fits in
+    let y : called.Ghost = ((κs, qs, tt, (a, (block_ptr b o, tt)), (h ∷ [], (vptr b o ∷ [], tt))), x) in
+    move ! (4 ∷ []) $ use1 𝓛 (raw (fact 𝓤 (κs.0 ⊑ T.lives)) ⊛ raw (fact 𝓤 (κs.1.0 ⊑ A.lives)) ⊛ ‵ ftrue) (id⊢ 𝓤 _) $
+    split3 ! $ move ! (2 ∷ []) $ drop ! $ move ! (1 ∷ 2 ∷ []) $ join ! $ move ! (1 ∷ 0 ∷ []) $ join ! $ move ! (2 ∷ []) $
+    feq_i ! (List Val) (vptr b o ∷ []) (vptr b o ∷ []) refl $ fjoin ! $ move ! (2 ∷ 0 ∷ []) $ fjoin ! $
+    move ! (2 ∷ 0 ∷ []) $ join ! $ join ! $ use1 𝓛 (raw (called.pre y)) (id⊢ 𝓤 _) $
+    suffices ! (Run (word ∷ []))
+    (subst (λ (us : List Val). ent 𝓤 (Run (word ∷ [])) (Run us)) (sym (λ i. ws i ++ [])) (id⊢ 𝓤 (Run (word ∷ [])))) $
+    enter ! 𝓣.C 𝓣.Λ fn (word ∷ []) Post $ alloc_all ! (λ l. pass_all ! refl (typed, tt) $
+    let locals = env fn.locals l in
+    sets ! (of_opd ! (get_in ! (fld ! refl (stop !)) (sub ! 0 refl (whole !)))) refl (tt, tt) $
+    sets ! (of_opd ! (get_in ! (fld ! refl (stop !)) (sub ! 1 refl (whole !)))) refl fits $
+    first ! $ blocks ! $ sets ! (of_opd ! (get ! refl)) refl fits $
+    calls_at_last ! (fm 𝓛 𝓜 𝓡) called
+    (met 𝓤 𝓛 𝓜 𝓡 (code.calls-std_alloc::boxed::Box::from_raw 𝓡.env wired) T A LT LA g d dA allocates A_drops)
+    y (and_then ! (get ! refl) (and_then ! (get ! refl) (no_more !))) (λ u.
+    -- what the call returned: the box, with this value
+    use1 𝓛 (later (some (λ (r : B.Denot). (alive ⊛ ‵ (B.own_val r (u ∷ []))) ⊛
+    some (λ (ls : Lasts at_end κs y.0.3). ‵ (lasts at_end κs y.0.3 ls) ⊛
+    (raw (fact 𝓤 (r.value ≡ x)) ⊛ raw (fact 𝓤 (r.alloc ≡ a))))))) (id⊢ 𝓤 (called.post y u)) $
+    await ! tt $ pick ! (λ r. split ! $ move ! (1 ∷ []) $ pick ! (λ _. split3 ! $ drop ! $ move ! (2 ∷ []) $ split ! $
+    move ! (1 ∷ []) $ box_out E ! r (u ∷ []) (λ b' o' h' at' us fits'. box_in E ! r b' o' r.value at' refl $
+    rewrite ! 0 (λ (xs : List Val). ‵ (B.own_val r xs)) (sym us) refl $
+    let good : Good (layout B) u = subst (Good (layout B)) (sym (ap only us)) (fits_two R Z LZ g b' o' h' fits') in
+    lands_last ! refl good $ exec ! 𝓣.C 𝓣.Λ locals (after 3 fn.body) (at_ret locals Post) $
+    sets ! (of_opd ! (get ! refl)) refl good $
+    -- the result
+    nothing ! $ nothing ! $ fjoin ! $ returns ! (look_at ! 0 refl) $ free_all ! refl $ keep ! (2 ∷ 0 ∷ 1 ∷ 3 ∷ []) $
+    by ! (leaves 𝓛 ended moved clauses z u r ((tt, (tt, tt)), tt) (tt, tt)))))))))

@@ -1,0 +1,35 @@
+-- What counting a stream comes to.
+use Rattle.std.specs.Prelude.{◌≡◌, ◌⊎◌, ℕ, Bool, true, false, List, Result, Ok, Err}
+use Rattle.puffin_data.specs.declared.error.Error.{Error}
+use Rattle.puffin_data.specs.declared.error.Error.TheVariants as error
+use Rattle.puffin_data.specs.declared.data.form.Form.{Form}
+use Rattle.puffin_data.specs.declared.data.form.Form.TheVariants.{Short, Long}
+use Rattle.puffin_data.specs.declared.data.walk.Walk.{Walk}
+use Rattle.puffin_data.specs.Forest.{Forest}
+use Rattle.puffin_data.specs.Forest.Spelling.{Spells}
+use Rattle.puffin_data.specs.Honesty.{Counts}
+use Rattle.puffin_data.specs.Walk.{Refuses}
+use Rattle.puffin_c.specs.declared.fault.Fault.{Fault}
+use Rattle.puffin_c.specs.declared.fault.Fault.TheVariants as fault
+use Rattle.puffin_c.specs.declared.count.PuffinCount.{PuffinCount}
+
+-- the form of texts that a program asks for
+abbrev pub form_given : Bool → Form
+form_given true = Long
+form_given false = Short
+
+abbrev pub walk_in : PuffinCount → Walk
+walk_in count = record {
+  num_scopes = count.scopes;
+  depth = count.depth;
+  range_ns = (count.start_ns, count.stop_ns);
+}
+
+-- The bytes spell a forest of scopes, and the numbers are its measures; or memory ran out, or they are refused with their first fault, and only the tries are told.
+abbrev pub IsCounted : Form → List ℕ → PuffinCount → PuffinCount → Result (Unit {0}) Fault → Type 0
+IsCounted form bytes old new (Ok _) =
+    (f : Forest) × Spells form bytes f × Counts (walk_in new) f × (new.tries ≡ new.scopes)
+IsCounted form bytes old new (Err f) =
+    (new ≡ record old { tries = new.tries })
+    × ((f ≡ fault.Refused error.Memory)
+    ⊎ ((e : Error) × (f ≡ fault.Refused e) × Refuses form bytes e new.tries))

@@ -1,0 +1,219 @@
+-- What the calls on a profiler's handle do to what it holds.
+use Rattle.std.specs.Prelude.{◌≡◌, ◌⊎◌, ◌<◌, ℕ, List, [], Bool, true, false, Option, Some, None, Result, Ok, Err, is_some, length, drop, min}
+use Rattle.std.specs.List.{Any}
+use Rattle.std.specs.Arc.{arc_value}
+use Rattle.std.specs.Option.{option_map}
+use Rattle.std.specs.FinMap.{empty, values}
+use Rattle.puffin_data.specs.declared.error.Error.{Error}
+use Rattle.puffin_data.specs.declared.error.Error.TheVariants as error
+use Rattle.puffin_data.specs.declared.file_error.FileError.TheVariants as file
+use Rattle.puffin_threads.specs.Details.Collection.{no_details}
+use Rattle.puffin_threads.specs.Thread.Calls.{Thread}
+use Rattle.puffin_threads.specs.Thread.Closing.{Reports}
+use Rattle.puffin_frames.specs.declared.frame_data.frame.FrameData.{FrameData}
+use Rattle.puffin_frames.specs.declared.frame_data.meta.FrameMeta.{FrameMeta}
+use Rattle.puffin_frames.specs.Frame.Contents.{frame_meta}
+use Rattle.puffin_frames.specs.Frame.Sums.{total_scopes}
+use Rattle.puffin_frames.specs.Packet.Writing.{HasLongPart}
+use Rattle.puffin_collector.specs.Collector.State.{Collected, AcceptsReport, RefusesReport, after_frame, after_no_frame, after_wanting}
+use Rattle.puffin_collector.specs.Collector.Collecting.{HoldsAll, HaveNoScopes, KeepsPending}
+use Rattle.puffin_view.specs.View.{empty_view, after_taking, KeepsFrames}
+use Rattle.puffin_view.specs.View.ViewedFrames.{index_of}
+use Rattle.puffin_view.specs.View.FrameOf.{frame_of}
+use Rattle.puffin_view.specs.View.Known.{view_of}
+use Rattle.puffin_view.specs.View.File.{file_of, contents_in}
+use Rattle.puffin_c.specs.declared.fault.Fault.{Fault}
+use Rattle.puffin_c.specs.declared.fault.Fault.TheVariants as fault
+use Rattle.puffin_c.specs.declared.frame.PuffinFrame.{PuffinFrame}
+use Rattle.puffin_c.specs.declared.profiler.Profiler.{Profiler}
+use Rattle.puffin_c.specs.Reporting.{laid_over}
+
+-- ---- a profiler
+
+abbrev pub nothing_collected : Collected
+nothing_collected = record {
+  index = 0;
+  reported = 0;
+  emitted = 0;
+  streams = empty;
+  collection = no_details;
+  new_details = [];
+  wants_all = false;
+}
+
+-- the frame that was collected, and waits to be taken by the view
+abbrev pub waiting_frame : Profiler → Option FrameData
+waiting_frame p = option_map arc_value p.waiting
+
+-- the file of the view
+abbrev pub view_file : Profiler → List ℕ
+view_file p = file_of (contents_in (view_of p.view))
+
+-- a new profiler: nothing was reported, the view is empty, no frame waits, and no file is read
+pub record IsNew (p : Profiler) : Type 0 where
+  pub collected : p.collector ≡ nothing_collected
+  pub view : view_of p.view ≡ empty_view
+  pub waiting : waiting_frame p ≡ None
+  pub unread : p.unread ≡ []
+
+abbrev pub OpensProfiler : Option Profiler → Bool → Option Profiler → Result (Unit {0}) Fault → Type 0
+OpensProfiler old has_ids new (Ok _) =
+    (old ≡ None) × (has_ids ≡ true) × (p : Profiler) × (new ≡ Some p) × IsNew p
+OpensProfiler old has_ids new (Err f) =
+    (new ≡ old)
+    × (((f ≡ fault.IsOpen) × (is_some old ≡ true))
+    ⊎ ((f ≡ fault.NotOpen) × (has_ids ≡ false))
+    ⊎ (f ≡ fault.Refused error.Memory))
+
+-- the profiler with something else collected
+abbrev pub with_collected : Profiler → Collected → Profiler
+with_collected p c = record p { collector = c }
+
+-- ---- reports
+
+-- A thread handed over what waits, if anything; or nothing is changed.
+abbrev pub Hands : Option Thread → Option Profiler → Option Thread → Option Profiler →
+    Result (Unit {0}) Fault → Type 0
+Hands t p t' p' (Ok _) =
+    (some : Bool)
+    × (old new : Thread)
+    × (q : Profiler)
+    × (after : Collected)
+    × (t ≡ Some old)
+    × (t' ≡ Some new)
+    × (p ≡ Some q)
+    × (p' ≡ Some (with_collected q after))
+    × Reports AcceptsReport RefusesReport old new q.collector after (Ok some)
+Hands t p t' p' (Err f) =
+    (t' ≡ t)
+    × (p' ≡ p)
+    × (((f ≡ fault.NotOpen) × ((t ≡ None) ⊎ (p ≡ None)))
+    ⊎ ((e : Error)
+    × (f ≡ fault.Refused e)
+    × (old : Thread)
+    × (q : Profiler)
+    × (t ≡ Some old)
+    × (p ≡ Some q)
+    × Reports AcceptsReport RefusesReport old old q.collector q.collector (Err e)))
+
+-- ---- frames
+
+-- what is told of a frame
+abbrev pub told_of : FrameMeta → PuffinFrame
+told_of meta = record {
+  index = meta.frame_index;
+  scopes = meta.num_scopes;
+  bytes = meta.num_bytes;
+  start_ns = meta.range_ns.0;
+  stop_ns = meta.range_ns.1;
+  is_some = true;
+}
+
+-- The next frame of a profiler: the one that waits, or else one of all that is pending.
+abbrev pub IsNext : Profiler → FrameData → Collected → Type 0
+IsNext old frame after =
+    ((waiting_frame old ≡ Some frame) × (after ≡ old.collector))
+    ⊎ ((waiting_frame old ≡ None)
+    × HoldsAll old.collector frame
+    × (0 < total_scopes (values old.collector.streams))
+    × (after ≡ after_frame old.collector))
+
+-- no scope is pending, and the index alone has risen
+abbrev pub HasNone : Profiler → Profiler → Type 0
+HasNone old new =
+    (waiting_frame old ≡ None)
+    × (waiting_frame new ≡ None)
+    × HaveNoScopes old.collector.streams
+    × (new.collector ≡ after_no_frame old.collector)
+
+-- the next frame waits, or there is none
+abbrev pub IsCollected : Profiler → Profiler → Type 0
+IsCollected old new =
+    (new.view ≡ old.view)
+    × (new.unread ≡ old.unread)
+    × (HasNone old new
+    ⊎ ((frame : FrameData) × IsNext old frame new.collector × (waiting_frame new ≡ Some frame)))
+
+-- The next frame went to the view; or there is none, as no scope is pending.
+abbrev pub IsTaken : Profiler → Profiler → Option FrameMeta → Type 0
+IsTaken old new (Some meta) =
+    (frame : FrameData)
+    × IsNext old frame new.collector
+    × (meta ≡ frame_meta frame)
+    × (view_of new.view ≡ after_taking (view_of old.view) (frame_of frame))
+    × (waiting_frame new ≡ None)
+    × (new.unread ≡ old.unread)
+IsTaken old new None = HasNone old new × (new.view ≡ old.view) × (new.unread ≡ old.unread)
+
+-- The call was refused. All that is pending is kept; or the next frame is collected, and waits for the next call.
+abbrev pub IsLeft : Profiler → Profiler → Error → Type 0
+IsLeft old new e =
+    (new.unread ≡ old.unread)
+    × (((waiting_frame old ≡ None)
+    × (waiting_frame new ≡ None)
+    × KeepsPending old.collector e new.collector
+    × (new.view ≡ old.view))
+    ⊎ ((frame : FrameData)
+    × IsNext old frame new.collector
+    × (waiting_frame new ≡ Some frame)
+    × KeepsFrames (view_of old.view) (index_of (frame_of frame)) (view_of new.view)))
+
+-- what a program is told: the frame, or that there is none, and nothing where the call is refused
+abbrev pub IsTold : Option FrameMeta → PuffinFrame → PuffinFrame → Type 0
+IsTold (Some meta) before told = told ≡ told_of meta
+IsTold None before told = told ≡ record before { is_some = false }
+
+abbrev pub TakesFrame : Option Profiler → Option Profiler → PuffinFrame → PuffinFrame →
+    Result (Unit {0}) Fault → Type 0
+TakesFrame p p' before told (Ok _) =
+    (old new : Profiler)
+    × (meta : Option FrameMeta)
+    × (p ≡ Some old)
+    × (p' ≡ Some new)
+    × IsTaken old new meta
+    × IsTold meta before told
+TakesFrame p p' before told (Err f) =
+    (told ≡ before)
+    × (((f ≡ fault.NotOpen) × (p ≡ None) × (p' ≡ None))
+    ⊎ ((e : Error)
+    × (f ≡ fault.Refused e)
+    × (old new : Profiler)
+    × (p ≡ Some old)
+    × (p' ≡ Some new)
+    × IsLeft old new e))
+
+-- the next frame is to tell of all scopes that are known
+abbrev pub WantsAll : Option Profiler → Option Profiler → Result (Unit {0}) Fault → Type 0
+WantsAll p p' (Ok _) =
+    (q : Profiler) × (p ≡ Some q) × (p' ≡ Some (with_collected q (after_wanting q.collector)))
+WantsAll p p' (Err f) = (f ≡ fault.NotOpen) × (p ≡ None) × (p' ≡ None)
+
+-- ---- the view's file
+
+-- The file of the view is made, and waits to be read in place of what waited; or nothing is changed.
+abbrev pub MakesFile : Option Profiler → Option Profiler → ℕ → ℕ → Result (Unit {0}) Fault → Type 0
+MakesFile p p' before size (Ok _) =
+    (q : Profiler)
+    × (p ≡ Some q)
+    × (p' ≡ Some (record q { unread = view_file q }))
+    × (size ≡ length (view_file q))
+MakesFile p p' before size (Err f) =
+    (p' ≡ p)
+    × (size ≡ before)
+    × (((f ≡ fault.NotOpen) × (p ≡ None))
+    ⊎ ((q : Profiler)
+    × (p ≡ Some q)
+    × ((f ≡ fault.Refused error.Memory)
+    ⊎ ((f ≡ fault.File file.PartTooLong) × Any HasLongPart (contents_in (view_of q.view))))))
+
+-- As many bytes of what waits to be read as there is room for are laid over the beginning of the caller's bytes, and wait no more.
+abbrev pub ReadsFile : Option Profiler → Option Profiler → List ℕ → List ℕ → ℕ → ℕ →
+    Result (Unit {0}) Fault → Type 0
+ReadsFile p p' old new before size (Ok _) =
+    (q : Profiler)
+    × (p ≡ Some q)
+    × (size ≡ min (length q.unread) (length old))
+    × (p' ≡ Some (record q { unread = drop size q.unread }))
+    × (new ≡ laid_over old q.unread)
+ReadsFile p p' old new before size (Err f) =
+    (f ≡ fault.NotOpen) × (p ≡ None) × (p' ≡ None) × (new ≡ old) × (size ≡ before)

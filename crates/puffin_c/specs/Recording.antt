@@ -1,0 +1,118 @@
+-- What the calls on a thread's handle do to what it holds.
+use Rattle.std.specs.Prelude.{◌≡◌, ◌≢◌, ◌⊎◌, ℕ, ◌<◌, ℤ, pos, Bool, true, List, [], ◌∷◌, Option, Some, None, Result, Ok, Err, is_some, slice_get}
+use Rattle.std.specs.Str.{IsUtf8}
+use Rattle.puffin_data.specs.declared.data.form.Form.{Form}
+use Rattle.puffin_data.specs.declared.error.Error.TheVariants as error
+use Rattle.puffin_data.specs.Text.{cut_text}
+use Rattle.puffin_threads.specs.Details.{Details, default_details, with_id}
+use Rattle.puffin_threads.specs.Thread.Calls.{Thread, after_begin, after_end, after_registering, offsets_of}
+use Rattle.puffin_c.specs.declared.fault.Fault.{Fault}
+use Rattle.puffin_c.specs.declared.fault.Fault.TheVariants as fault
+use Rattle.puffin_c.specs.Times.{clock_time, begun_place}
+
+-- a thread of this name and form, before its first scope
+abbrev pub new_thread : List ℕ → Form → Thread
+new_thread name form = record {
+  name = name;
+  form = form;
+  first_start = None;
+  latest = pos 0;
+  word = [];
+  details = [];
+}
+
+-- why a text isn't taken
+abbrev pub IsNoText : List ℕ → Fault → Type 0
+IsNoText text f = ((f ≡ fault.NotText) × ¬ (IsUtf8 text)) ⊎ (f ≡ fault.Refused error.Memory)
+
+-- some of these aren't UTF-8
+abbrev pub HasNoText : List (List ℕ) → Type 0
+HasNoText [] = ⊥
+HasNoText (text ∷ rest) = (¬ (IsUtf8 text)) ⊎ HasNoText rest
+
+-- why some of these texts aren't taken
+abbrev pub AreNoTexts : List (List ℕ) → Fault → Type 0
+AreNoTexts texts f =
+    ((f ≡ fault.NotText) × HasNoText texts) ⊎ (f ≡ fault.Refused error.Memory)
+
+-- a handle that held nothing holds ids; or nothing is changed
+abbrev pub OpensIds : {X : Type 0} → Option X → Option X → Result (Unit {0}) Fault → Type 0
+OpensIds old new (Ok _) = (old ≡ None) × (is_some new ≡ true)
+OpensIds old new (Err f) =
+    (new ≡ old)
+    × (((f ≡ fault.IsOpen) × (is_some old ≡ true)) ⊎ (f ≡ fault.Refused error.Memory))
+
+-- a handle that held nothing holds a new thread, where there are ids; or nothing is changed
+abbrev pub Opens : Option Thread → Bool → List ℕ → Form → Option Thread →
+    Result (Unit {0}) Fault → Type 0
+Opens old has_ids name form new (Ok _) =
+    (old ≡ None) × (has_ids ≡ true) × (new ≡ Some (new_thread name form))
+Opens old has_ids name form new (Err f) =
+    (new ≡ old)
+    × (((f ≡ fault.IsOpen) × (is_some old ≡ true))
+    ⊎ ((f ≡ fault.NotOpen) × (has_ids ≢ true))
+    ⊎ IsNoText name f)
+
+-- a handle holds nothing, and held something unless it is refused
+abbrev pub Closes : {X : Type 0} → Option X → Option X → Result (Unit {0}) Fault → Type 0
+Closes old new (Ok _) = (is_some old ≡ true) × (new ≡ None)
+Closes old new (Err f) = (f ≡ fault.NotOpen) × (old ≡ None) × (new ≡ None)
+
+-- a scope was begun in what it holds, at this place; or nothing is changed
+abbrev pub Begins : Option Thread → ℤ → ℕ → List ℕ → Option Thread → ℕ → ℕ →
+    Result (Unit {0}) Fault → Type 0
+Begins old at id text new before place (Ok _) =
+    (t : Thread)
+    × (old ≡ Some t)
+    × (0 < id)
+    × (new ≡ Some (after_begin t id (cut_text t.form text) (clock_time at)))
+    × (place ≡ begun_place t text)
+Begins old at id text new before place (Err f) =
+    (new ≡ old)
+    × (place ≡ before)
+    × (((f ≡ fault.NotOpen) × (old ≡ None))
+    ⊎ ((f ≡ fault.NoId) × (id ≡ 0) × (is_some old ≡ true))
+    ⊎ (IsNoText text f × (is_some old ≡ true)))
+
+-- the innermost scope was ended, which begins at this place; or nothing is changed
+abbrev pub Ends : Option Thread → ℤ → ℕ → Option Thread → Result (Unit {0}) Fault → Type 0
+Ends old at place new (Ok _) =
+    (t : Thread)
+    × (old ≡ Some t)
+    × (slice_get (offsets_of t) 0 ≡ Some place)
+    × (new ≡ Some (after_end t (clock_time at)))
+Ends old at place new (Err f) =
+    (new ≡ old)
+    × (((f ≡ fault.NotOpen) × (old ≡ None))
+    ⊎ ((f ≡ fault.Refused error.MismatchedEnd)
+    × (t : Thread)
+    × (old ≡ Some t)
+    × (slice_get (offsets_of t) 0 ≢ Some place)))
+
+-- the details of a function, and of a scope with a name of its own
+abbrev pub function_details : List ℕ → List ℕ → ℕ → Details
+function_details function file line = record default_details {
+  function_name = function;
+  file_path = file;
+  line_nr = line;
+}
+
+abbrev pub scope_details : List ℕ → List ℕ → List ℕ → ℕ → Details
+scope_details name function file line = record default_details {
+  scope_name = Some name;
+  function_name = function;
+  file_path = file;
+  line_nr = line;
+}
+
+-- A scope with these details was registered under this id, and goes with the thread's next report; or nothing is changed.
+abbrev pub RegistersFor : Option Thread → List (List ℕ) → Details → Option Thread → ℕ → ℕ →
+    Result (Unit {0}) Fault → Type 0
+RegistersFor old texts d new before id (Ok _) =
+    (t : Thread) × (old ≡ Some t) × (new ≡ Some (after_registering t (with_id d id)))
+RegistersFor old texts d new before id (Err f) =
+    (new ≡ old)
+    × (id ≡ before)
+    × (((f ≡ fault.NotOpen) × (old ≡ None))
+    ⊎ ((is_some old ≡ true)
+    × (AreNoTexts texts f ⊎ (f ≡ fault.Refused error.IdsExhausted))))

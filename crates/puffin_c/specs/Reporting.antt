@@ -1,0 +1,63 @@
+-- What a file's check and its report say.
+use Rattle.std.specs.Prelude.{◌≡◌, ◌⊎◌, ℕ, ℤ, Bool, true, false, List, [], ◌∷◌, ◌++◌, length, take, drop, map, min, Option, Some, None, Result, Ok, Err}
+use Rattle.puffin_data.specs.declared.file_error.FileError.{FileError}
+use Rattle.puffin_data.specs.declared.file_error.FileError.TheVariants as file
+use Rattle.puffin_threads.specs.Thread.Info.{Info}
+use Rattle.puffin_frames.specs.Packet.Stored.{Stored}
+use Rattle.puffin_view.specs.View.{after_all, all_uniq}
+use Rattle.puffin_view.specs.View.Stats.{stats_of}
+use Rattle.puffin_view.specs.View.File.{file_at, read_view, frame_stored, TookFrames, FailsToRead}
+use Rattle.puffin_report.specs.declared.summary.Summary.{Summary}
+use Rattle.puffin_report.specs.Summary.{FailsToSumUp}
+use Rattle.puffin_report.specs.Report.{HasSummary}
+use Rattle.puffin_report.specs.ReportLines.{report_lines}
+use Rattle.puffin_c.specs.declared.fault.Fault.{Fault}
+use Rattle.puffin_c.specs.Faults.{file_fault}
+use Rattle.puffin_c.specs.Recording.{AreNoTexts}
+
+-- The bytes begin with a file, of which a view keeps so many frames; or they have this fault, and nothing is told.
+abbrev pub IsChecked : List ℕ → ℕ → ℕ → Result (Unit {0}) Fault → Type 0
+IsChecked bytes before n (Ok _) =
+    (left : Option (List ℕ))
+    × (stored : List Stored)
+    × TookFrames file_at (Some bytes) left stored
+    × (n ≡ (stats_of (all_uniq (after_all read_view (map frame_stored stored)))).frames)
+IsChecked bytes before n (Err f) =
+    (n ≡ before)
+    × (left : Option (List ℕ))
+    × (e : FileError)
+    × (f ≡ file_fault e)
+    × FailsToRead file_at (Some bytes) left e
+
+-- whose scopes are meant
+abbrev pub info_given : Bool → ℤ → List ℕ → Info
+info_given true start name = record { start = Some start; name = name }
+info_given false start name = record { start = None; name = name }
+
+-- the lines of the file's report
+abbrev pub HasLines : List ℕ → Info → List ℕ → Type 0
+HasLines bytes info lines =
+    (left : Option (List ℕ))
+    × (summary : Summary)
+    × HasSummary info (Some bytes) left summary
+    × (lines ≡ report_lines summary)
+
+-- why there is no report: what the file is refused for, or want of memory
+abbrev pub LacksLines : List ℕ → Info → FileError → Type 0
+LacksLines bytes info e =
+    ((left : Option (List ℕ)) × FailsToSumUp info (Some bytes) left e) ⊎ (e ≡ file.Io)
+
+-- bytes over the beginning of others
+abbrev pub laid_over : List ℕ → List ℕ → List ℕ
+laid_over old bytes =
+    take (min (length bytes) (length old)) bytes ++ drop (min (length bytes) (length old)) old
+
+-- The report is laid over what was there, and is so long; or nothing is changed.
+abbrev pub IsPrinted : List ℕ → Info → List ℕ → List ℕ → ℕ → ℕ → Result (Unit {0}) Fault → Type 0
+IsPrinted bytes info old new before size (Ok _) =
+    (lines : List ℕ) × HasLines bytes info lines × (new ≡ laid_over old lines) × (size ≡ length lines)
+IsPrinted bytes info old new before size (Err f) =
+    (new ≡ old)
+    × (size ≡ before)
+    × (AreNoTexts (info.name ∷ []) f
+    ⊎ ((e : FileError) × (f ≡ file_fault e) × LacksLines bytes info e))

@@ -1,0 +1,112 @@
+//! Files of frames, and reports of them.
+
+ghost use Rattle.std.specs.Prelude.{◌≡◌, [], ◌∷◌, Result, IfOk, IfErr};
+ghost use Rattle.puffin_threads.specs.Thread.Info.{info_of};
+ghost use Rattle.puffin_c.specs.declared.fault.Fault.{Fault};
+ghost use Rattle.puffin_c.specs.Faults.{answer_code};
+ghost use Rattle.puffin_c.specs.Recording.{AreNoTexts};
+ghost use Rattle.puffin_c.specs.Reporting.{IsChecked, HasLines, LacksLines, info_given, IsPrinted};
+
+use crate::fault::{Fault, answer_code};
+use crate::memory_file::MemoryFile;
+use crate::texts::owned_text;
+use crate::unread::lay_over;
+use puffin_data::FileError;
+use puffin_data::data::Counted;
+use puffin_frames::thread_profiler::ThreadInfo;
+use puffin_report::print_report;
+use puffin_view::profile_view::FrameView;
+use std::alloc::Global;
+
+/// Reads a file's frames, and counts those that a view of it keeps.
+fn checked(alloc: Global, file: &[u8], frames: &mut u64) -> Result<(), Fault>
+    ensures { IsChecked file.now frames.old frames.new result }
+{
+    let view = FrameView::read(alloc, &mut Counted::new(file))?;
+    *frames = view.stats().frames() as u64;
+    Ok(())
+}
+
+/// Reads a file of any origin, and sets `frames` to the number of its frames.
+///
+/// Refused with the first fault of the file, or with `Memory`, and `frames` stays then.
+#[unsafe(no_mangle)]
+pub extern "C" fn puffin_check_file(alloc: Global, file: &[u8], frames: &mut u64) -> u32
+    ensures { (answer : Result (Unit {0}) Fault)
+        × (result ≡ answer_code answer)
+        × IsChecked file.now frames.old frames.new answer }
+{
+    let answer = checked(alloc, file, frames);
+    answer_code(answer)
+}
+
+/// A thread's info, whose name has to be text.
+pub(crate) fn named_thread(
+    alloc: Global,
+    has_start: bool,
+    start_ns: i64,
+    name: &[u8],
+) -> Result<ThreadInfo, Fault>
+    ensures ok { IfOk result (λ info. info_of info ≡ info_given has_start start_ns name.now) }
+    ensures err { IfErr result (AreNoTexts (name.now ∷ [])) }
+{
+    let name = owned_text(alloc, name)?;
+    Ok(ThreadInfo {
+        start_time_ns: if has_start { Some(start_ns) } else { None },
+        name,
+    })
+}
+
+/// The lines of a file's report for a thread.
+fn lines_of(alloc: Global, file: &[u8], thread: &ThreadInfo) -> Result<MemoryFile, FileError>
+    ensures ok { IfOk result (λ lines. HasLines file.now (info_of thread.now) lines.bytes.items) }
+    ensures err { IfErr result (LacksLines file.now (info_of thread.now)) }
+{
+    let mut lines = MemoryFile::new(alloc);
+    match print_report(alloc, &mut Counted::new(file), thread, &mut lines) {
+        Ok(()) => Ok(lines),
+        Err(fault) => Err(fault),
+    }
+}
+
+/// Makes the report, and lays it over the caller's bytes.
+fn printed(
+    alloc: Global,
+    file: &[u8],
+    thread: &ThreadInfo,
+    out: &mut [u8],
+    size: &mut u64,
+) -> Result<(), Fault>
+    ensures { IsPrinted file.now (info_of thread.now) out.old out.new size.old size.new result }
+{
+    let lines = lines_of(alloc, file, thread)?;
+    let bytes: &[u8] = &lines.bytes;
+    lay_over(bytes, out);
+    *size = bytes.len() as u64;
+    Ok(())
+}
+
+/// Reports a file of any origin for one thread, which `has_start`, `start_ns` and `name` name. Lays the lines over the
+/// beginning of `out`, as far as it goes, and sets `size` to the number of their bytes.
+///
+/// Refused with `NotText` of the name, with the first fault of the file or with `Memory`: `out` and `size` stay then.
+#[unsafe(no_mangle)]
+pub extern "C" fn puffin_report_file(
+    alloc: Global,
+    file: &[u8],
+    has_start: bool,
+    start_ns: i64,
+    name: &[u8],
+    out: &mut [u8],
+    size: &mut u64,
+) -> u32
+    ensures { (answer : Result (Unit {0}) Fault)
+        × (result ≡ answer_code answer)
+        × IsPrinted file.now (info_given has_start start_ns name.now) out.old out.new size.old
+        size.new answer }
+{
+    match named_thread(alloc, has_start, start_ns, name) {
+        Ok(thread) => answer_code(printed(alloc, file, &thread, out, size)),
+        Err(fault) => answer_code(Err(fault)),
+    }
+}

@@ -1,0 +1,39 @@
+ghost use Rattle.std.specs.Prelude.{◌≡◌};
+ghost use Rattle.puffin_c.specs.Profiling.{told_of};
+
+use puffin_frames::frame_data::FrameMeta;
+
+/// What a frame says.
+#[repr(C)]
+#[derive(Clone, Copy)]
+pub struct PuffinFrame {
+    /// The frame's number.
+    pub index: u64,
+    /// The number of its scopes.
+    pub scopes: u64,
+    /// The number of bytes of their streams.
+    pub bytes: u64,
+    /// The least start of its scopes.
+    pub start_ns: i64,
+    /// The greatest stop of its scopes.
+    pub stop_ns: i64,
+    /// Whether there was a frame: none is made if no scope was reported.
+    pub is_some: bool,
+}
+
+impl PuffinFrame {
+    /// What this meta says.
+    pub(crate) fn of(meta: FrameMeta) -> PuffinFrame
+        ensures { result ≡ told_of meta }
+    {
+        let (start_ns, stop_ns) = meta.range_ns;
+        PuffinFrame {
+            index: meta.frame_index,
+            scopes: meta.num_scopes as u64,
+            bytes: meta.num_bytes as u64,
+            start_ns,
+            stop_ns,
+            is_some: true,
+        }
+    }
+}

@@ -1,0 +1,44 @@
+//! The sizes of what crosses, for a program that compares its header with the library.
+
+use crate::count::PuffinCount;
+use crate::frame::PuffinFrame;
+use crate::ids::PuffinIds;
+use crate::profiling::PuffinProfiler;
+use crate::thread::PuffinThread;
+use std::mem::size_of;
+
+/// Sizes in bytes.
+#[repr(C)]
+#[derive(Clone, Copy)]
+pub struct PuffinSizes {
+    /// Of a [`PuffinCount`].
+    pub count: u64,
+    /// Of a [`PuffinFrame`].
+    pub frame: u64,
+    /// Of a [`PuffinIds`].
+    pub ids: u64,
+    /// Of a [`PuffinThread`].
+    pub thread: u64,
+    /// Of a [`PuffinProfiler`].
+    pub profiler: u64,
+}
+
+/// Sets `sizes` to the sizes in bytes of the structs that cross.
+#[unsafe(no_mangle)]
+pub extern "C" fn puffin_sizes(sizes: &mut PuffinSizes) {
+    sizes.count = size_of::<PuffinCount>() as u64;
+    sizes.frame = size_of::<PuffinFrame>() as u64;
+    sizes.ids = size_of::<PuffinIds>() as u64;
+    sizes.thread = size_of::<PuffinThread>() as u64;
+    sizes.profiler = size_of::<PuffinProfiler>() as u64;
+}
+
+/// Asks that a value may go to another thread.
+fn may_cross<T: Send>(_value: &T) {}
+
+/// A law: each handle may go to another thread.
+pub fn handles_may_cross(ids: &PuffinIds, thread: &PuffinThread, profiler: &PuffinProfiler) {
+    may_cross(ids);
+    may_cross(thread);
+    may_cross(profiler);
+}

@@ -1,0 +1,26 @@
+//! What C, C++ and Rust programs call. Each function is exported under its own name; `puffin.h` declares them.
+//!
+//! A call returns 0, or the number of a fault ([`fault::Fault`]).
+#![tactic(auto)]
+
+pub mod count;
+pub mod fault;
+pub mod file;
+pub mod frame;
+pub mod ids;
+pub mod ids_slot;
+pub mod layout;
+mod memory_file;
+pub mod naming;
+mod profiler;
+pub mod profiler_slot;
+pub mod profiling;
+mod raw_box;
+mod recorder;
+mod shared_ids;
+pub mod stream;
+mod texts;
+pub mod thread;
+pub mod thread_slot;
+mod unread;
+pub mod view_file;

@@ -1,0 +1,103 @@
+//! Registering the scopes of a thread, so that files tell their names.
+
+ghost use Rattle.std.specs.Prelude.{◌≡◌, [], ◌∷◌, Some, Result};
+ghost use Rattle.puffin_c.specs.declared.fault.Fault.{Fault};
+ghost use Rattle.puffin_c.specs.Faults.{answer_code};
+ghost use Rattle.puffin_c.specs.Recording.{RegistersFor, function_details, scope_details};
+
+use crate::fault::{Fault, answer_code};
+use crate::texts::{Place, owned_text};
+use crate::thread::PuffinThread;
+use std::alloc::Global;
+
+fn function_registered(
+    alloc: Global,
+    thread: &mut PuffinThread,
+    function: &[u8],
+    file: &[u8],
+    line: u32,
+    id: &mut u32,
+) -> Result<(), Fault>
+    ensures { RegistersFor thread.old.slot.held (function.now ∷ file.now ∷ [])
+        (function_details function.now file.now line) thread.new.slot.held id.old id.new result }
+{
+    if !thread.is_open {
+        return Err(Fault::NotOpen);
+    }
+    let place = Place::of(alloc, function, file)?;
+    let mut recorder = thread.take(alloc);
+    let answer = recorder.register_function(place.function, place.file, line);
+    thread.put(recorder);
+    *id = answer?.get();
+    Ok(())
+}
+
+/// Registers a function as a scope, and sets `id` to what [`puffin_begin`] takes. A line of 0 is unknown. The next report of
+/// the thread tells the profiler of it.
+///
+/// Refused with `NotOpen`, `NotText`, `IdsExhausted` or `Memory`, and nothing is changed then, though an id may be used up.
+///
+/// [`puffin_begin`]: crate::thread::puffin_begin
+#[unsafe(no_mangle)]
+pub extern "C" fn puffin_register_function(
+    alloc: Global,
+    thread: &mut PuffinThread,
+    function: &[u8],
+    file: &[u8],
+    line: u32,
+    id: &mut u32,
+) -> u32
+    ensures { (answer : Result (Unit {0}) Fault)
+        × (result ≡ answer_code answer)
+        × RegistersFor thread.old.slot.held (function.now ∷ file.now ∷ [])
+        (function_details function.now file.now line) thread.new.slot.held id.old id.new answer }
+{
+    let answer = function_registered(alloc, thread, function, file, line, id);
+    answer_code(answer)
+}
+
+fn scope_registered(
+    alloc: Global,
+    thread: &mut PuffinThread,
+    name: &[u8],
+    function: &[u8],
+    file: &[u8],
+    line: u32,
+    id: &mut u32,
+) -> Result<(), Fault>
+    ensures { RegistersFor thread.old.slot.held (name.now ∷ function.now ∷ file.now ∷ [])
+        (scope_details name.now function.now file.now line) thread.new.slot.held id.old id.new
+        result }
+{
+    if !thread.is_open {
+        return Err(Fault::NotOpen);
+    }
+    let name = owned_text(alloc, name)?;
+    let place = Place::of(alloc, function, file)?;
+    let mut recorder = thread.take(alloc);
+    let answer = recorder.register_scope(name, place.function, place.file, line);
+    thread.put(recorder);
+    *id = answer?.get();
+    Ok(())
+}
+
+/// Registers a scope with a name of its own within a function. Else as [`puffin_register_function`].
+#[unsafe(no_mangle)]
+pub extern "C" fn puffin_register_scope(
+    alloc: Global,
+    thread: &mut PuffinThread,
+    name: &[u8],
+    function: &[u8],
+    file: &[u8],
+    line: u32,
+    id: &mut u32,
+) -> u32
+    ensures { (answer : Result (Unit {0}) Fault)
+        × (result ≡ answer_code answer)
+        × RegistersFor thread.old.slot.held (name.now ∷ function.now ∷ file.now ∷ [])
+        (scope_details name.now function.now file.now line) thread.new.slot.held id.old id.new
+        answer }
+{
+    let answer = scope_registered(alloc, thread, name, function, file, line, id);
+    answer_code(answer)
+}

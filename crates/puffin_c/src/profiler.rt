@@ -1,0 +1,127 @@
+//! What collects the scopes of all threads, hands out frames, and keeps a view of them.
+
+ghost use Rattle.std.specs.Prelude.{◌≡◌, ◌⊎◌, Some, length, OnOk, OnErr, IfOk, IfErr};
+ghost use Rattle.std.specs.Arc.{arc_value};
+ghost use Rattle.std.specs.List.{Any};
+ghost use Rattle.std.specs.Option.{option_map};
+ghost use Rattle.puffin_data.specs.declared.file_error.FileError.TheVariants as file;
+ghost use Rattle.puffin_frames.specs.declared.frame_data.frame.FrameData.{FrameData};
+ghost use Rattle.puffin_frames.specs.Packet.Writing.{HasLongPart};
+ghost use Rattle.puffin_view.specs.View.Known.{view_of};
+ghost use Rattle.puffin_view.specs.View.File.{contents_in};
+
+use crate::memory_file::MemoryFile;
+use crate::shared_ids::SharedIds;
+use crate::unread::Unread;
+use puffin_collector::Collector;
+use puffin_data::{FileError, Result as Answer};
+use puffin_frames::frame_data::{FrameData, FrameMeta};
+use puffin_view::profile_view::FrameView;
+use std::alloc::Global;
+use std::sync::Arc;
+
+/// What is collected for the next frame, and a view of the frames that were taken. A frame that the view had no memory for
+/// waits; and so do the bytes of the view's file that weren't read yet.
+#[derive(Drop)]
+pub(crate) struct Profiler {
+    pub(crate) collector: Collector,
+    pub(crate) view: FrameView,
+    pub(crate) shared: SharedIds,
+    pub(crate) waiting: Option<Arc<FrameData>>,
+    pub(crate) unread: Unread,
+}
+
+impl Profiler {
+    ghost use Rattle.puffin_c.specs.Profiling.{waiting_frame, IsNew, IsCollected, IsTaken, IsLeft, view_file};
+
+    /// With nothing reported.
+    pub(crate) fn new(alloc: Global, shared: SharedIds) -> Profiler
+        ensures { IsNew result }
+    {
+        Profiler {
+            collector: Collector::new(alloc, 0),
+            view: FrameView::new(alloc),
+            shared,
+            waiting: None,
+            unread: Unread::nothing(alloc),
+        }
+    }
+
+    /// Collects the next frame, unless one waits already: then nothing is collected.
+    fn collect(&mut self) -> Answer<()>
+        ensures ok { OnOk result (IsCollected self.old self.new) }
+        ensures err { IfErr result (IsLeft self.old self.new) }
+    {
+        if self.waiting.is_some() {
+            return Ok(());
+        }
+        self.waiting = self.collector.collect_frame()?;
+        Ok(())
+    }
+
+    /// A copy of the frame that waits, which shares it. Refused only with `Memory`.
+    fn waiting(&self) -> Answer<Option<Arc<FrameData>>>
+        ensures ok { IfOk result (λ copy. option_map arc_value copy ≡ waiting_frame self.now) }
+        ensures err { OnErr result (
+            (frame : FrameData) × (waiting_frame self.now ≡ Some frame)) }
+    {
+        match &self.waiting {
+            Some(frame) => Ok(Some(frame.clone()?)),
+            None => Ok(None),
+        }
+    }
+
+    /// Takes all that is pending as a frame, and lets the view take it. A frame that waits goes first, and then nothing is
+    /// collected. `None` where no scope is pending.
+    pub(crate) fn take_frame(&mut self) -> Answer<Option<FrameMeta>>
+        ensures ok { IfOk result (IsTaken self.old self.new) }
+        ensures err { IfErr result (IsLeft self.old self.new) }
+    {
+        self.collect()?;
+        let Some(frame) = self.waiting()? else {
+            return Ok(None);
+        };
+        let meta = *frame.meta();
+        self.view.add_frame(frame)?;
+        self.waiting = None;
+        Ok(Some(meta))
+    }
+
+    /// The file of the view. Refused with `PartTooLong`, or for want of memory.
+    pub(crate) fn file(&self, alloc: Global) -> Result<MemoryFile, FileError>
+        ensures ok { IfOk result (λ written. written.bytes.items ≡ view_file self.now) }
+        ensures err { IfErr result (λ e.
+            ((e ≡ file.PartTooLong) × Any HasLongPart (contents_in (view_of self.now.view)))
+            ⊎ (e ≡ file.Memory)
+            ⊎ (e ≡ file.Io)) }
+    {
+        let mut file = MemoryFile::new(alloc);
+        match self.view.write(&mut file) {
+            Ok(()) => Ok(file),
+            Err(fault) => Err(fault),
+        }
+    }
+
+    /// Makes the file of the view, which is read from its beginning, and returns how many bytes it has. Refused as
+    /// [`Profiler::file`] is, and nothing is changed then.
+    pub(crate) fn begin_file(&mut self, alloc: Global) -> Result<usize, FileError>
+        ensures size { IfOk result (λ size. size ≡ length (view_file self.old)) }
+        ensures made { OnOk result (
+            self.new ≡ record self.old { unread = view_file self.old }) }
+        ensures unchanged { OnErr result (self.new ≡ self.old) }
+        ensures err { IfErr result (λ e.
+            ((e ≡ file.PartTooLong) × Any HasLongPart (contents_in (view_of self.old.view)))
+            ⊎ (e ≡ file.Memory)
+            ⊎ (e ≡ file.Io)) }
+    {
+        match self.file(alloc) {
+            Ok(file) => {
+                let bytes: &[u8] = &file.bytes;
+                let size = bytes.len();
+                self.unread = Unread::of(file.bytes);
+                Ok(size)
+            }
+            Err(fault) => Err(fault),
+        }
+    }
+}

@@ -1,0 +1,226 @@
+//! Collecting what threads report, by a handle that C holds.
+
+ghost use Rattle.std.specs.Prelude.{◌≡◌, None, Some, Result, is_some, true};
+ghost use Rattle.puffin_c.specs.declared.fault.Fault.{Fault};
+ghost use Rattle.puffin_c.specs.Faults.{answer_code};
+ghost use Rattle.puffin_c.specs.Recording.{Closes};
+ghost use Rattle.puffin_c.specs.Profiling.{OpensProfiler, Hands, IsTold, TakesFrame, WantsAll};
+
+use crate::fault::{Fault, answer_code};
+use crate::frame::PuffinFrame;
+use crate::ids::PuffinIds;
+use crate::profiler::Profiler;
+use crate::profiler_slot::ProfilerSlot;
+use crate::raw_box::RawBox;
+use crate::thread::PuffinThread;
+use puffin_data::Error;
+use puffin_frames::frame_data::FrameMeta;
+use std::alloc::Global;
+use std::mem;
+
+/// A profiler's handle. C makes it of zeros, and then it holds nothing.
+#[repr(C)]
+pub struct PuffinProfiler {
+    pub(crate) slot: ProfilerSlot,
+    pub(crate) is_open: bool,
+    ghost tied: { is_open ≡ is_some slot.held },
+}
+
+impl PuffinProfiler {
+    /// Takes out what the handle holds.
+    #[inline(always)]
+    pub(crate) fn take(&mut self, alloc: Global) -> Box<Profiler>
+        requires { self.old.is_open ≡ true }
+        ensures taken { self.old.slot.held ≡ Some result.value }
+        ensures left { self.new.slot.held ≡ None }
+    {
+        let slot = mem::replace(&mut self.slot, ProfilerSlot::empty(alloc));
+        self.is_open = false;
+        slot.into_raw().restore()
+    }
+
+    /// Lets the handle hold what this box holds.
+    #[inline(always)]
+    pub(crate) fn put(&mut self, held: Box<Profiler>)
+        requires { self.old.slot.held ≡ None }
+        ensures { self.new.slot.held ≡ Some held.value }
+    {
+        self.slot = ProfilerSlot::of(RawBox::take(held));
+        self.is_open = true;
+    }
+}
+
+fn opened(alloc: Global, profiler: &mut PuffinProfiler, ids: &mut PuffinIds) -> Result<(), Fault>
+    ensures opens { OpensProfiler profiler.old.slot.held (is_some ids.old.slot.held)
+        profiler.new.slot.held result }
+    ensures same_ids { ids.new.slot.held ≡ ids.old.slot.held }
+{
+    if profiler.is_open {
+        return Err(Fault::IsOpen);
+    }
+    let shared = ids.share(alloc)?;
+    match Box::new(alloc, Profiler::new(alloc, shared)) {
+        Ok(held) => {
+            profiler.put(held);
+            Ok(())
+        }
+        Err(_) => Err(Fault::Refused(Error::Memory)),
+    }
+}
+
+/// Makes a profiler under a handle that holds nothing. Scopes of the caller's own are registered under ids of `ids`. Its view
+/// keeps the last 1,000 frames and the 256 slowest ones.
+///
+/// Refused with `IsOpen`, `NotOpen` of `ids` or `Memory`, and nothing is changed then.
+#[unsafe(no_mangle)]
+pub extern "C" fn puffin_profiler_open(
+    alloc: Global,
+    profiler: &mut PuffinProfiler,
+    ids: &mut PuffinIds,
+) -> u32
+    ensures opens { (answer : Result (Unit {0}) Fault)
+        × (result ≡ answer_code answer)
+        × OpensProfiler profiler.old.slot.held (is_some ids.old.slot.held)
+        profiler.new.slot.held answer }
+    ensures same_ids { ids.new.slot.held ≡ ids.old.slot.held }
+{
+    let answer = opened(alloc, profiler, ids);
+    answer_code(answer)
+}
+
+fn closed(alloc: Global, profiler: &mut PuffinProfiler) -> Result<(), Fault>
+    ensures { Closes profiler.old.slot.held profiler.new.slot.held result }
+{
+    if !profiler.is_open {
+        return Err(Fault::NotOpen);
+    }
+    drop(profiler.take(alloc));
+    Ok(())
+}
+
+/// Frees what a handle holds: its view, and the scopes that no frame has handed out. It holds nothing then.
+///
+/// Refused with `NotOpen`.
+#[unsafe(no_mangle)]
+pub extern "C" fn puffin_profiler_close(alloc: Global, profiler: &mut PuffinProfiler) -> u32
+    ensures { (answer : Result (Unit {0}) Fault)
+        × (result ≡ answer_code answer)
+        × Closes profiler.old.slot.held profiler.new.slot.held answer }
+{
+    let answer = closed(alloc, profiler);
+    answer_code(answer)
+}
+
+fn reported(
+    alloc: Global,
+    thread: &mut PuffinThread,
+    profiler: &mut PuffinProfiler,
+) -> Result<(), Fault>
+    ensures { Hands thread.old.slot.held profiler.old.slot.held thread.new.slot.held
+        profiler.new.slot.held result }
+{
+    if !thread.is_open || !profiler.is_open {
+        return Err(Fault::NotOpen);
+    }
+    let mut recorder = thread.take(alloc);
+    let mut whole = profiler.take(alloc);
+    let answer = recorder.report(&mut whole.collector);
+    thread.put(recorder);
+    profiler.put(whole);
+    match answer {
+        Ok(_some) => Ok(()),
+        Err(cause) => Err(Fault::Refused(cause)),
+    }
+}
+
+/// Hands a thread's closed scopes that wait to a profiler, with the details of those that were registered since its last
+/// report. Changes nothing where none waits.
+///
+/// Refused with `NotOpen`, with `ScopesOpen` while a scope is open, with `UnlikeForms`, `TooLarge` or `RangeTooLong` where the
+/// profiler refuses the scopes, or with `Memory`: the scopes wait on then.
+#[unsafe(no_mangle)]
+pub extern "C" fn puffin_report(
+    alloc: Global,
+    thread: &mut PuffinThread,
+    profiler: &mut PuffinProfiler,
+) -> u32
+    ensures { (answer : Result (Unit {0}) Fault)
+        × (result ≡ answer_code answer)
+        × Hands thread.old.slot.held profiler.old.slot.held thread.new.slot.held
+        profiler.new.slot.held answer }
+{
+    let answer = reported(alloc, thread, profiler);
+    answer_code(answer)
+}
+
+/// Tells of a frame, or that there is none.
+fn tell(meta: Option<FrameMeta>, frame: &mut PuffinFrame)
+    ensures { IsTold meta frame.old frame.new }
+{
+    match meta {
+        Some(meta) => *frame = PuffinFrame::of(meta),
+        None => frame.is_some = false,
+    }
+}
+
+fn taken(alloc: Global, profiler: &mut PuffinProfiler, frame: &mut PuffinFrame) -> Result<(), Fault>
+    ensures { TakesFrame profiler.old.slot.held profiler.new.slot.held frame.old frame.new result }
+{
+    if !profiler.is_open {
+        return Err(Fault::NotOpen);
+    }
+    let mut whole = profiler.take(alloc);
+    let answer = whole.take_frame();
+    profiler.put(whole);
+    match answer {
+        Ok(meta) => {
+            tell(meta, frame);
+            Ok(())
+        }
+        Err(cause) => Err(Fault::Refused(cause)),
+    }
+}
+
+/// Takes all that was reported since the last frame as a new frame, lets the view take it, and sets `frame` to what it says.
+/// Where no scope was reported, there is no frame: `frame.is_some` is then not set.
+///
+/// Refused with `NotOpen`, `IndexExhausted` or `Memory`, and `frame` stays then. Nothing that was reported is lost: a frame
+/// that the view had no memory for waits, and the next call takes it.
+#[unsafe(no_mangle)]
+pub extern "C" fn puffin_new_frame(
+    alloc: Global,
+    profiler: &mut PuffinProfiler,
+    frame: &mut PuffinFrame,
+) -> u32
+    ensures { (answer : Result (Unit {0}) Fault)
+        × (result ≡ answer_code answer)
+        × TakesFrame profiler.old.slot.held profiler.new.slot.held frame.old frame.new answer }
+{
+    let answer = taken(alloc, profiler, frame);
+    answer_code(answer)
+}
+
+fn wanted(alloc: Global, profiler: &mut PuffinProfiler) -> Result<(), Fault>
+    ensures { WantsAll profiler.old.slot.held profiler.new.slot.held result }
+{
+    if !profiler.is_open {
+        return Err(Fault::NotOpen);
+    }
+    let mut whole = profiler.take(alloc);
+    whole.collector.emit_scope_snapshot();
+    profiler.put(whole);
+    Ok(())
+}
+
+/// Makes the next frame list every known scope, besides the new ones.
+///
+/// Refused with `NotOpen`.
+#[unsafe(no_mangle)]
+pub extern "C" fn puffin_snapshot(alloc: Global, profiler: &mut PuffinProfiler) -> u32
+    ensures { (answer : Result (Unit {0}) Fault)
+        × (result ≡ answer_code answer)
+        × WantsAll profiler.old.slot.held profiler.new.slot.held answer }
+{
+    let answer = wanted(alloc, profiler);
+    answer_code(answer)
+}

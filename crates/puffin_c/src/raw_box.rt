@@ -1,0 +1,36 @@
+//! A box taken apart.
+
+ghost use Rattle.std.specs.Prelude.{◌≡◌};
+ghost use Rattle.std_alloc.specs.Box.Ownership.{box_owns};
+
+use std::alloc::Allocator;
+use std::marker::Model;
+
+/// The address of what a box holds, and the heap that it came from. It owns the box.
+pub(crate) struct RawBox<T, A: Allocator> {
+    pub(crate) at: *mut T,
+    pub(crate) heap: A,
+    pub(crate) ghost value: { T },
+}
+
+impl<T, A: Allocator> Model for RawBox<T, A> {
+    ghost also_owns = { λ raw. box_owns (A.dealloc_token raw.heap) T.row raw.at raw.value };
+}
+
+impl<T: Drop, A: Allocator> RawBox<T, A> {
+    /// Takes a box apart.
+    pub(crate) fn take(whole: Box<T, A>) -> RawBox<T, A>
+        ensures { result.value ≡ whole.value }
+    {
+        let (at, heap) = Box::into_raw_with_allocator(whole);
+        RawBox { at, heap }
+    }
+
+    /// Makes the box again.
+    pub(crate) fn restore(self) -> Box<T, A>
+        ensures { result.value ≡ self.value }
+    {
+        let RawBox { at, heap } = self;
+        unsafe { Box::from_raw(heap, at) }
+    }
+}

@@ -1,0 +1,131 @@
+//! A thread's profiler, whose times the caller hands in.
+
+ghost use Rattle.std.specs.Prelude.{◌≡◌, ◌≢◌, Some, OnOk, OnErr, IfOk, IfErr, string_bytes, slice_get};
+ghost use Rattle.puffin_data.specs.declared.error.Error.TheVariants.{Memory, MismatchedEnd};
+ghost use Rattle.puffin_data.specs.Text.{cut_text};
+ghost use Rattle.puffin_threads.specs.Thread.Calls.{after_begin, after_end, offsets_of};
+ghost use Rattle.puffin_threads.specs.Thread.Calls.{RegistersScope};
+ghost use Rattle.puffin_threads.specs.Thread.Closing.{Reports};
+ghost use Rattle.puffin_threads.specs.Details.{default_details};
+ghost use Rattle.puffin_collector.specs.Collector.State.{AcceptsReport, RefusesReport};
+ghost use Rattle.puffin_c.specs.Times.{clock_time, begun_place};
+ghost use Rattle.puffin_c.specs.Recording.{new_thread};
+
+use crate::shared_ids::SharedIds;
+use puffin_collector::Collector;
+use puffin_data::data::{Form, ScopeId};
+use puffin_data::{NanoSecond, Result};
+use puffin_frames::thread_profiler::{ScriptClock, ThreadProfiler};
+use std::alloc::Global;
+use std::borrow::CowStr;
+use std::marker::Model;
+
+/// A thread's profiler. Contracts see what the thread has recorded.
+#[derive(Drop)]
+pub(crate) struct Recorder {
+    profiler: ThreadProfiler<ScriptClock>,
+    shared: SharedIds,
+}
+
+impl Model for Recorder {
+    ghost use Rattle.puffin_threads.specs.Thread.Calls.{Thread};
+    ghost use Rattle.puffin_threads.specs.Thread.ThreadProfiler.{thread_of};
+
+    ghost Value = { Thread };
+
+    ghost view = { λ r. thread_of r.profiler };
+}
+
+impl Recorder {
+    /// A thread of this name, before its first scope.
+    pub(crate) fn new(alloc: Global, shared: SharedIds, name: String, form: Form) -> Recorder
+        ensures { result ≡ new_thread (string_bytes name) form }
+    {
+        Recorder {
+            profiler: ThreadProfiler::with_form(alloc, name, ScriptClock::new(0), form),
+            shared,
+        }
+    }
+
+    /// Begins a scope at this time, and returns its offset. Refused only with `Memory`.
+    #[inline(always)]
+    pub(crate) fn begin(&mut self, at: NanoSecond, id: ScopeId, text: &str) -> Result<usize>
+        ensures ok { OnOk result (
+            self.new ≡ after_begin self.old id (cut_text self.old.form text.now) (clock_time at)) }
+        ensures offset { IfOk result (λ offset. offset ≡ begun_place self.old text.now) }
+        ensures err { OnErr result (self.new ≡ self.old) }
+        ensures memory { IfErr result (λ e. e ≡ Memory) }
+    {
+        self.profiler.clock().set(at);
+        self.profiler.begin_scope(id, text)
+    }
+
+    /// Ends the innermost open scope, whose offset this has to be, at this time. It waits for the next report.
+    #[inline(always)]
+    pub(crate) fn end(&mut self, at: NanoSecond, offset: usize) -> Result<()>
+        ensures ok { OnOk result (
+            (slice_get (offsets_of self.old) 0 ≡ Some offset)
+            × (self.new ≡ after_end self.old (clock_time at))) }
+        ensures err { OnErr result (self.new ≡ self.old) }
+        ensures cause { IfErr result (λ e.
+            (e ≡ MismatchedEnd) × (slice_get (offsets_of self.old) 0 ≢ Some offset)) }
+    {
+        self.profiler.clock().set(at);
+        self.profiler.close_scope(offset)
+    }
+
+    /// Hands over the closed scopes that wait.
+    pub(crate) fn report(&mut self, collector: &mut Collector) -> Result<bool>
+        ensures { Reports AcceptsReport RefusesReport self.old self.new collector.old collector.new
+            result }
+    {
+        self.profiler.report_closed(collector)
+    }
+
+    /// Registers a function as a scope, under a newly drawn id. Refused with `IdsExhausted` or `Memory`.
+    pub(crate) fn register_function(
+        &mut self,
+        function: String,
+        file: String,
+        line: u32,
+    ) -> Result<ScopeId>
+        ensures { RegistersScope self.old
+            (record default_details {
+              function_name = string_bytes function;
+              file_path = string_bytes file;
+              line_nr = line;
+            }) result self.new }
+    {
+        self.profiler.register_function_scope(
+            &self.shared.ids,
+            CowStr::Owned(function),
+            CowStr::Owned(file),
+            line,
+        )
+    }
+
+    /// Registers a scope with a name of its own, under a newly drawn id. Refused with `IdsExhausted` or `Memory`.
+    pub(crate) fn register_scope(
+        &mut self,
+        name: String,
+        function: String,
+        file: String,
+        line: u32,
+    ) -> Result<ScopeId>
+        ensures { RegistersScope self.old
+            (record default_details {
+              scope_name = Some (string_bytes name);
+              function_name = string_bytes function;
+              file_path = string_bytes file;
+              line_nr = line;
+            }) result self.new }
+    {
+        self.profiler.register_named_scope(
+            &self.shared.ids,
+            CowStr::Owned(name),
+            CowStr::Owned(function),
+            CowStr::Owned(file),
+            line,
+        )
+    }
+}

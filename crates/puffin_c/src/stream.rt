@@ -1,0 +1,50 @@
+//! Counting the scopes of bytes of any origin.
+
+ghost use Rattle.std.specs.Prelude.{◌≡◌, ◌+◌, ◌/◌, ◌≤◌, length, Result};
+ghost use Rattle.puffin_c.specs.declared.fault.Fault.{Fault};
+ghost use Rattle.puffin_c.specs.Faults.{answer_code};
+ghost use Rattle.puffin_c.specs.Counting.{IsCounted, form_given};
+
+use crate::count::PuffinCount;
+use crate::fault::{Fault, answer_code};
+use puffin_data::data::{Form, walk_forest};
+use std::alloc::Global;
+
+/// The form of texts that a program asks for.
+pub(crate) fn form_of(long_texts: bool) -> Form
+    ensures { result ≡ form_given long_texts }
+{
+    if long_texts { Form::Long } else { Form::Short }
+}
+
+/// Walks over the bytes, and takes down what they hold.
+fn counted(alloc: Global, bytes: &[u8], form: Form, count: &mut PuffinCount) -> Result<(), Fault>
+    ensures counted { IsCounted form bytes.now count.old count.new result }
+    ensures few { count.new.tries ≤ length bytes.now / 31 + 1 }
+{
+    let walk = walk_forest(alloc, form, bytes, &mut count.tries)?;
+    count.scopes = walk.num_scopes as u64;
+    count.depth = walk.depth as u64;
+    (count.start_ns, count.stop_ns) = walk.range_ns;
+    Ok(())
+}
+
+/// Counts the scopes of a stream of any origin, whose texts have one byte for their length, or up to two where `long_texts`
+/// is set.
+///
+/// Refused with the first fault of the bytes, or with `Memory`. The number of tries is set then too, and nothing else.
+#[unsafe(no_mangle)]
+pub extern "C" fn puffin_count(
+    alloc: Global,
+    bytes: &[u8],
+    long_texts: bool,
+    count: &mut PuffinCount,
+) -> u32
+    ensures counted { (answer : Result (Unit {0}) Fault)
+        × (result ≡ answer_code answer)
+        × IsCounted (form_given long_texts) bytes.now count.old count.new answer }
+    ensures few { count.new.tries ≤ length bytes.now / 31 + 1 }
+{
+    let answer = counted(alloc, bytes, form_of(long_texts), count);
+    answer_code(answer)
+}

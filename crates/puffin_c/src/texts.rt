@@ -1,0 +1,55 @@
+//! Texts that a program passes as bytes.
+
+ghost use Rattle.std.specs.Prelude.{◌≡◌, [], ◌∷◌, IfOk, IfErr, MatchResult, string_bytes};
+ghost use Rattle.std.specs.Str.{IsUtf8};
+ghost use Rattle.puffin_c.specs.declared.fault.Fault.TheVariants as fault;
+ghost use Rattle.puffin_c.specs.Recording.{IsNoText, AreNoTexts};
+
+use crate::fault::Fault;
+use puffin_data::Error;
+use std::alloc::Global;
+
+/// These bytes as a text. Refused with `NotText`.
+#[inline(always)]
+pub(crate) fn text(bytes: &[u8]) -> Result<&str, Fault>
+    ensures { MatchResult result (λ s. s.now ≡ bytes.now) (λ f.
+        (f ≡ fault.NotText) × ¬ (IsUtf8 bytes.now)) }
+{
+    match str::from_utf8(bytes) {
+        Ok(text) => Ok(text),
+        Err(_) => Err(Fault::NotText),
+    }
+}
+
+/// A copy of a text. Refused with `NotText` or `Memory`.
+pub(crate) fn owned_text(alloc: Global, bytes: &[u8]) -> Result<String, Fault>
+    ensures ok { IfOk result (λ s. string_bytes s ≡ bytes.now) }
+    ensures err { IfErr result (IsNoText bytes.now) }
+{
+    let text = text(bytes)?;
+    match String::from_str(alloc, text) {
+        Ok(text) => Ok(text),
+        Err(_) => Err(Fault::Refused(Error::Memory)),
+    }
+}
+
+/// What function and file a scope is in.
+#[derive(Drop)]
+pub(crate) struct Place {
+    pub(crate) function: String,
+    pub(crate) file: String,
+}
+
+impl Place {
+    /// Copies of these texts. Refused with `NotText` or `Memory`.
+    pub(crate) fn of(alloc: Global, function: &[u8], file: &[u8]) -> Result<Place, Fault>
+        ensures function { IfOk result (λ place. string_bytes place.function ≡ function.now) }
+        ensures file { IfOk result (λ place. string_bytes place.file ≡ file.now) }
+        ensures err { IfErr result (AreNoTexts (function.now ∷ file.now ∷ [])) }
+    {
+        Ok(Place {
+            function: owned_text(alloc, function)?,
+            file: owned_text(alloc, file)?,
+        })
+    }
+}

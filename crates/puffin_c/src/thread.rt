@@ -1,0 +1,202 @@
+//! Recording the scopes of one thread, by a handle that C holds.
+
+ghost use Rattle.std.specs.Prelude.{◌≡◌, None, Some, Result, is_some, true};
+ghost use Rattle.puffin_c.specs.declared.fault.Fault.{Fault};
+ghost use Rattle.puffin_c.specs.Faults.{answer_code};
+ghost use Rattle.puffin_c.specs.Counting.{form_given};
+ghost use Rattle.puffin_c.specs.Recording.{Opens, Closes, Begins, Ends};
+
+use crate::fault::{Fault, answer_code};
+use crate::ids::PuffinIds;
+use crate::raw_box::RawBox;
+use crate::recorder::Recorder;
+use crate::stream::form_of;
+use crate::texts::{owned_text, text};
+use crate::thread_slot::ThreadSlot;
+use puffin_data::Error;
+use puffin_data::data::{Form, ScopeId};
+use std::alloc::Global;
+use std::mem;
+
+/// A thread's handle. C makes it of zeros, and then it holds nothing.
+#[repr(C)]
+pub struct PuffinThread {
+    pub(crate) slot: ThreadSlot,
+    pub(crate) is_open: bool,
+    ghost tied: { is_open ≡ is_some slot.held },
+}
+
+impl PuffinThread {
+    /// Takes out what the handle holds.
+    #[inline(always)]
+    pub(crate) fn take(&mut self, alloc: Global) -> Box<Recorder>
+        requires { self.old.is_open ≡ true }
+        ensures taken { self.old.slot.held ≡ Some result.value }
+        ensures left { self.new.slot.held ≡ None }
+    {
+        let slot = mem::replace(&mut self.slot, ThreadSlot::empty(alloc));
+        self.is_open = false;
+        slot.into_raw().restore()
+    }
+
+    /// Lets the handle hold what this box holds.
+    #[inline(always)]
+    pub(crate) fn put(&mut self, held: Box<Recorder>)
+        requires { self.old.slot.held ≡ None }
+        ensures { self.new.slot.held ≡ Some held.value }
+    {
+        self.slot = ThreadSlot::of(RawBox::take(held));
+        self.is_open = true;
+    }
+}
+
+fn opened(
+    alloc: Global,
+    thread: &mut PuffinThread,
+    ids: &mut PuffinIds,
+    name: &[u8],
+    form: Form,
+) -> Result<(), Fault>
+    ensures opens { Opens thread.old.slot.held (is_some ids.old.slot.held) name.now form
+        thread.new.slot.held result }
+    ensures same_ids { ids.new.slot.held ≡ ids.old.slot.held }
+{
+    if thread.is_open {
+        return Err(Fault::IsOpen);
+    }
+    let shared = ids.share(alloc)?;
+    let name = owned_text(alloc, name)?;
+    match Box::new(alloc, Recorder::new(alloc, shared, name, form)) {
+        Ok(held) => {
+            thread.put(held);
+            Ok(())
+        }
+        Err(_) => Err(Fault::Refused(Error::Memory)),
+    }
+}
+
+/// Makes a thread's profiler under a handle that holds nothing. Its scopes are registered under ids of `ids`. Texts have up
+/// to 127 bytes, or 16,383 where `long_texts` is set; longer ones are cut at the end of a character.
+///
+/// Refused with `IsOpen`, `NotOpen` of `ids`, `NotText` of the name or `Memory`, and nothing is changed then.
+#[unsafe(no_mangle)]
+pub extern "C" fn puffin_thread_open(
+    alloc: Global,
+    thread: &mut PuffinThread,
+    ids: &mut PuffinIds,
+    name: &[u8],
+    long_texts: bool,
+) -> u32
+    ensures opens { (answer : Result (Unit {0}) Fault)
+        × (result ≡ answer_code answer)
+        × Opens thread.old.slot.held (is_some ids.old.slot.held) name.now (form_given long_texts)
+        thread.new.slot.held answer }
+    ensures same_ids { ids.new.slot.held ≡ ids.old.slot.held }
+{
+    let answer = opened(alloc, thread, ids, name, form_of(long_texts));
+    answer_code(answer)
+}
+
+fn closed(alloc: Global, thread: &mut PuffinThread) -> Result<(), Fault>
+    ensures { Closes thread.old.slot.held thread.new.slot.held result }
+{
+    if !thread.is_open {
+        return Err(Fault::NotOpen);
+    }
+    drop(thread.take(alloc));
+    Ok(())
+}
+
+/// Frees what a handle holds, with the scopes that weren't reported. It holds nothing then.
+///
+/// Refused with `NotOpen`.
+#[unsafe(no_mangle)]
+pub extern "C" fn puffin_thread_close(alloc: Global, thread: &mut PuffinThread) -> u32
+    ensures { (answer : Result (Unit {0}) Fault)
+        × (result ≡ answer_code answer)
+        × Closes thread.old.slot.held thread.new.slot.held answer }
+{
+    let answer = closed(alloc, thread);
+    answer_code(answer)
+}
+
+#[inline(always)]
+fn begun(
+    alloc: Global,
+    thread: &mut PuffinThread,
+    now_ns: i64,
+    id: u32,
+    bytes: &[u8],
+    scope: &mut u64,
+) -> Result<(), Fault>
+    ensures { Begins thread.old.slot.held now_ns id bytes.now thread.new.slot.held scope.old
+        scope.new result }
+{
+    if !thread.is_open {
+        return Err(Fault::NotOpen);
+    }
+    let Some(id) = ScopeId::new(id) else {
+        return Err(Fault::NoId);
+    };
+    let text = text(bytes)?;
+    let mut recorder = thread.take(alloc);
+    let answer = recorder.begin(now_ns, id, text);
+    thread.put(recorder);
+    *scope = answer? as u64;
+    Ok(())
+}
+
+/// Begins a scope at this time, and sets `scope` to what [`puffin_end`] takes. A time below 0 counts as 0, and one below the
+/// thread's last counts as that.
+///
+/// Refused with the first of `NotOpen`, `NoId` and `NotText` that applies, or with `Memory`, and nothing is changed then.
+#[unsafe(no_mangle)]
+pub extern "C" fn puffin_begin(
+    alloc: Global,
+    thread: &mut PuffinThread,
+    now_ns: i64,
+    id: u32,
+    bytes: &[u8],
+    scope: &mut u64,
+) -> u32
+    ensures { (answer : Result (Unit {0}) Fault)
+        × (result ≡ answer_code answer)
+        × Begins thread.old.slot.held now_ns id bytes.now thread.new.slot.held scope.old
+        scope.new answer }
+{
+    let answer = begun(alloc, thread, now_ns, id, bytes, scope);
+    answer_code(answer)
+}
+
+#[inline(always)]
+fn ended(alloc: Global, thread: &mut PuffinThread, now_ns: i64, scope: u64) -> Result<(), Fault>
+    ensures { Ends thread.old.slot.held now_ns scope thread.new.slot.held result }
+{
+    if !thread.is_open {
+        return Err(Fault::NotOpen);
+    }
+    let mut recorder = thread.take(alloc);
+    let answer = recorder.end(now_ns, scope as usize);
+    thread.put(recorder);
+    Ok(answer?)
+}
+
+/// Ends the innermost open scope, which has to be this one, at this time. It waits for the next [`puffin_report`].
+///
+/// Refused with `NotOpen` or `MismatchedEnd`, and nothing is changed then.
+///
+/// [`puffin_report`]: crate::profiling::puffin_report
+#[unsafe(no_mangle)]
+pub extern "C" fn puffin_end(
+    alloc: Global,
+    thread: &mut PuffinThread,
+    now_ns: i64,
+    scope: u64,
+) -> u32
+    ensures { (answer : Result (Unit {0}) Fault)
+        × (result ≡ answer_code answer)
+        × Ends thread.old.slot.held now_ns scope thread.new.slot.held answer }
+{
+    let answer = ended(alloc, thread, now_ns, scope);
+    answer_code(answer)
+}

@@ -1,0 +1,63 @@
+//! What owns a thread's recorder, as C holds it.
+
+ghost use Rattle.std.specs.Prelude.{◌≡◌, Option, Some, None, is_some, true};
+ghost use Rattle.puffin_threads.specs.Thread.Calls.{Thread};
+ghost use Rattle.puffin_c.specs.contracts.recorder.Recorder.{the_row as held_row};
+ghost use Rattle.puffin_c.specs.Owning.{owns_held};
+
+use crate::raw_box::RawBox;
+use crate::recorder::Recorder;
+use std::alloc::Global;
+use std::marker::Model;
+use std::ptr::null_mut;
+
+/// The address of a box that holds a thread's recorder, or null.
+#[repr(C)]
+#[derive(Drop)]
+pub struct ThreadSlot {
+    at: *mut u8,
+    heap: Global,
+    pub ghost held: { Option Thread },
+}
+
+impl Model for ThreadSlot {
+    ghost also_owns = { λ slot. owns_held held_row slot.heap slot.at slot.held };
+}
+
+impl ThreadSlot {
+    /// Holds nothing.
+    pub(crate) fn empty(heap: Global) -> ThreadSlot
+        ensures { result.held ≡ None }
+    {
+        ThreadSlot {
+            at: null_mut(),
+            heap,
+        }
+    }
+
+    /// Holds what this box holds.
+    pub(crate) fn of(raw: RawBox<Recorder, Global>) -> ThreadSlot
+        ensures { result.held ≡ Some raw.value }
+    {
+        let RawBox { at, heap } = raw;
+        ThreadSlot {
+            at: at as *mut u8,
+            heap,
+        }
+    }
+
+    /// Gives the box back.
+    pub(crate) fn into_raw(self) -> RawBox<Recorder, Global>
+        requires { is_some self.held ≡ true }
+        ensures { self.held ≡ Some result.value }
+    {
+        let ThreadSlot { at, heap } = self;
+        RawBox {
+            at: at as *mut Recorder,
+            heap,
+        }
+    }
+}
+
+// It may go to another thread if what it holds may.
+unsafe impl Send for ThreadSlot {}

@@ -1,0 +1,65 @@
+//! Bytes that a program reads piece by piece.
+
+ghost use Rattle.std.specs.Prelude.{◌≡◌, ◌≤◌, [], drop, length, min};
+ghost use Rattle.puffin_c.specs.Reporting.{laid_over};
+
+use std::alloc::Global;
+use std::io::Read;
+use std::marker::Model;
+
+/// Lays bytes over the beginning of others, as far as these go, and returns how many were laid.
+pub(crate) fn lay_over(bytes: &[u8], out: &mut [u8]) -> usize
+    ensures out { out.new ≡ laid_over out.old bytes.now }
+    ensures number { result ≡ min (length bytes.now) (length out.old) }
+{
+    let number = bytes.len().min(out.len());
+    out[..number].copy_from_slice(&bytes[..number]);
+    number
+}
+
+/// Bytes, some of which were read. Contracts see those that weren't.
+#[derive(Drop)]
+pub(crate) struct Unread {
+    bytes: Vec<u8>,
+    read: usize,
+}
+
+impl Model for Unread {
+    ghost use Rattle.std.specs.Prelude.{ℕ, ◌≤◌, List, drop, length};
+
+    ghost Value = { List ℕ };
+
+    ghost view = { λ u. drop u.read u.bytes.items };
+
+    ghost invariant = { λ u. u.read ≤ length u.bytes.items };
+}
+
+impl Unread {
+    /// No byte.
+    pub(crate) fn nothing(alloc: Global) -> Unread
+        ensures { result ≡ [] }
+    {
+        Unread {
+            bytes: Vec::new(alloc),
+            read: 0,
+        }
+    }
+
+    /// These bytes.
+    pub(crate) fn of(bytes: Vec<u8>) -> Unread
+        ensures { result ≡ bytes.items }
+    {
+        Unread { bytes, read: 0 }
+    }
+
+    /// Reads as many bytes as there is room for, and returns how many.
+    pub(crate) fn read(&mut self, out: &mut [u8]) -> usize
+        ensures out { out.new ≡ laid_over out.old self.old }
+        ensures number { result ≡ min (length self.old) (length out.old) }
+        ensures left { self.new ≡ drop result self.old }
+    {
+        let number = lay_over(&self.bytes[self.read..], out);
+        self.read += number;
+        number
+    }
+}

@@ -1,0 +1,222 @@
+/* Calls each function of puffin.h. calls.c FILE writes the file of a profiler's view there; two threads record at once, with
+ * a lock around what they share. With a number as second argument they record one after the other, and the allocation with
+ * that number is refused: the program tries once more what was refused for memory. */
+#include "puffin.h"
+#include <inttypes.h>
+#include <pthread.h>
+#include <stdio.h>
+#include <stdlib.h>
+#include <string.h>
+
+/* The library's allocations are counted, and one of them is refused. The linker puts these in place of malloc and realloc
+ * (--wrap). */
+void *__real_malloc(size_t size);
+void *__real_realloc(void *block, size_t size);
+static long allocations, refused_one = -1;
+static bool counts;
+
+static bool refuses(void) {
+    return __atomic_load_n(&counts, __ATOMIC_SEQ_CST) && __atomic_add_fetch(&allocations, 1, __ATOMIC_SEQ_CST) == refused_one;
+}
+void *__wrap_malloc(size_t size) { return refuses() ? NULL : __real_malloc(size); }
+void *__wrap_realloc(void *block, size_t size) { return refuses() ? NULL : __real_realloc(block, size); }
+
+#define TEXT(s) (const uint8_t *)(s), sizeof(s) - 1
+
+static void fail(const char *what, long got, long wanted) {
+    fprintf(stderr, "%s: %ld in place of %ld\n", what, got, wanted);
+    exit(1);
+}
+static void is(const char *what, uint64_t got, uint64_t wanted) {
+    if (got != wanted)
+        fail(what, (long)got, (long)wanted);
+}
+
+/* What is refused for memory is called once more. */
+#define CALL(call)                                                                                                          \
+    do {                                                                                                                    \
+        uint32_t answer_ = call;                                                                                            \
+        if (answer_ == PUFFIN_MEMORY)                                                                                       \
+            answer_ = call;                                                                                                 \
+        is(#call, answer_, PUFFIN_OK);                                                                                      \
+    } while (0)
+
+/* The same of a call that is refused for another reason. */
+#define REFUSED(what, call, wanted)                                                                                         \
+    do {                                                                                                                    \
+        uint32_t answer_ = call;                                                                                            \
+        if (answer_ == PUFFIN_MEMORY)                                                                                       \
+            answer_ = call;                                                                                                 \
+        is(what, answer_, wanted);                                                                                          \
+    } while (0)
+
+static PuffinIds ids;
+static PuffinProfiler profiler;
+static pthread_mutex_t lock = PTHREAD_MUTEX_INITIALIZER;
+
+struct work {
+    const char *name;
+    int64_t start;
+    bool long_texts;
+};
+
+/* A function with two scopes in it, twice, each reported under the lock. */
+static void *record(void *given) {
+    struct work *work = given;
+    PuffinThread thread = {0};
+    uint32_t whole = 0, part = 0;
+    uint64_t outer, inner;
+    const uint8_t *name = (const uint8_t *)work->name;
+    pthread_mutex_lock(&lock);
+    CALL(puffin_thread_open(&thread, &ids, name, strlen(work->name), work->long_texts));
+    pthread_mutex_unlock(&lock);
+    CALL(puffin_register_function(&thread, TEXT("record"), TEXT("calls.c"), 50, &whole));
+    CALL(puffin_register_scope(&thread, TEXT("part"), TEXT("record"), TEXT("calls.c"), 60, &part));
+    int64_t now = work->start;
+    for (int round = 0; round < 2; round++) {
+        CALL(puffin_begin(&thread, now, whole, TEXT(""), &outer));
+        pthread_mutex_lock(&lock);
+        is("a report while a scope is open", puffin_report(&thread, &profiler), PUFFIN_SCOPES_OPEN);
+        pthread_mutex_unlock(&lock);
+        for (int step = 0; step < 2; step++) {
+            now += 100;
+            CALL(puffin_begin(&thread, now, part, TEXT("step"), &inner));
+            is("an outer scope's end", puffin_end(&thread, now, outer), PUFFIN_MISMATCHED_END);
+            is("end", puffin_end(&thread, now += 50, inner), PUFFIN_OK);
+        }
+        is("end", puffin_end(&thread, now += 100, outer), PUFFIN_OK);
+        pthread_mutex_lock(&lock);
+        CALL(puffin_report(&thread, &profiler));
+        pthread_mutex_unlock(&lock);
+    }
+    CALL(puffin_thread_close(&thread));
+    is("a thread closed twice", puffin_thread_close(&thread), PUFFIN_NOT_OPEN);
+    return NULL;
+}
+
+static void refusals(void) {
+    PuffinIds no_ids = {0};
+    PuffinThread none = {0}, thread = {0};
+    PuffinProfiler nothing = {0};
+    PuffinFrame frame = {.index = 7};
+    uint64_t number = 7;
+    uint32_t id = 7;
+    uint8_t out[1] = {7};
+    is("close", puffin_ids_close(&no_ids), PUFFIN_NOT_OPEN);
+    is("open without ids", puffin_thread_open(&none, &no_ids, TEXT("t"), false), PUFFIN_NOT_OPEN);
+    is("open without ids", puffin_profiler_open(&nothing, &no_ids), PUFFIN_NOT_OPEN);
+    is("close", puffin_thread_close(&none), PUFFIN_NOT_OPEN);
+    is("close", puffin_profiler_close(&nothing), PUFFIN_NOT_OPEN);
+    is("begin", puffin_begin(&none, 0, 0, TEXT("\xff"), &number), PUFFIN_NOT_OPEN);
+    is("end", puffin_end(&none, 0, 0), PUFFIN_NOT_OPEN);
+    is("register", puffin_register_function(&none, TEXT("\xff"), TEXT(""), 0, &id), PUFFIN_NOT_OPEN);
+    is("register", puffin_register_scope(&none, TEXT("\xff"), TEXT(""), TEXT(""), 0, &id), PUFFIN_NOT_OPEN);
+    is("report", puffin_report(&none, &profiler), PUFFIN_NOT_OPEN);
+    is("new frame", puffin_new_frame(&nothing, &frame), PUFFIN_NOT_OPEN);
+    is("snapshot", puffin_snapshot(&nothing), PUFFIN_NOT_OPEN);
+    is("file", puffin_file_begin(&nothing, &number), PUFFIN_NOT_OPEN);
+    is("file", puffin_file_next(&nothing, out, 1, &number), PUFFIN_NOT_OPEN);
+    CALL(puffin_thread_open(&thread, &ids, TEXT("t"), false));
+    is("report", puffin_report(&thread, &nothing), PUFFIN_NOT_OPEN);
+    is("open again", puffin_thread_open(&thread, &ids, TEXT("t"), false), PUFFIN_IS_OPEN);
+    is("open again", puffin_ids_open(&ids), PUFFIN_IS_OPEN);
+    is("open again", puffin_profiler_open(&profiler, &ids), PUFFIN_IS_OPEN);
+    is("no id", puffin_begin(&thread, 0, 0, TEXT(""), &number), PUFFIN_NO_ID);
+    is("no text", puffin_begin(&thread, 0, 1, TEXT("\xff"), &number), PUFFIN_NOT_TEXT);
+    REFUSED("no text", puffin_register_function(&thread, TEXT("f"), TEXT("\xff"), 0, &id), PUFFIN_NOT_TEXT);
+    REFUSED("no text", puffin_register_scope(&thread, TEXT("s"), TEXT("\xff"), TEXT(""), 0, &id), PUFFIN_NOT_TEXT);
+    is("end of nothing", puffin_end(&thread, 0, 0), PUFFIN_MISMATCHED_END);
+    CALL(puffin_thread_close(&thread));
+    is("what a refusal leaves", number + id + out[0] + frame.index, 28);
+}
+
+/* The bytes of one scope: id 1, from 5 to 9, without a text. */
+static const uint8_t one_scope[31] = {'(', 1, 0, 0, 0, 5, 0, 0, 0, 0, 0, 0, 0, 0, 0, 0, 0, 0, 0, 0, 0, 0, ')', 9};
+
+static void counting(void) {
+    PuffinCount count = {0};
+    CALL(puffin_count(one_scope, 0, false, &count));
+    is("scopes", count.scopes, 0);
+    is("start", (uint64_t)count.start_ns, (uint64_t)INT64_MAX);
+    is("stop", (uint64_t)count.stop_ns, (uint64_t)INT64_MIN);
+    CALL(puffin_count(one_scope, 31, false, &count));
+    is("scopes", count.scopes, 1);
+    is("depth", count.depth, 1);
+    is("start", (uint64_t)count.start_ns, 5);
+    is("stop", (uint64_t)count.stop_ns, 9);
+    is("tries", count.tries, 1);
+    is("cut bytes", puffin_count(one_scope, 30, false, &count), PUFFIN_PREMATURE_END);
+    is("what a refusal leaves", count.scopes, 1);
+}
+
+static size_t read_file(uint8_t *file, uint64_t size) {
+    uint64_t got = 1, all = 0;
+    while (got) {
+        size_t room = size - all < 33 ? size - all : 33;
+        CALL(puffin_file_next(&profiler, file + all, room, &got));
+        all += got;
+    }
+    return all;
+}
+
+static void reading(const char *path) {
+    uint64_t size = 0, frames = 0, lines = 0;
+    static uint8_t file[4096], out[2000];
+    CALL(puffin_file_begin(&profiler, &size));
+    is("bytes of the file", read_file(file, size), size);
+    FILE *written = fopen(path, "wb");
+    fwrite(file, 1, size, written);
+    fclose(written);
+    CALL(puffin_check_file(file, size, &frames));
+    is("frames", frames, 1);
+    is("a cut file", puffin_check_file(file, size - 1, &frames), PUFFIN_FILE_TRUNCATED);
+    is("no file", puffin_check_file(TEXT("XUF0"), &frames), PUFFIN_FILE_NO_MAGIC);
+    CALL(puffin_report_file(file, size, true, 1000, TEXT("main"), out, sizeof out, &lines));
+    fwrite(out, 1, lines, stdout);
+    uint8_t few[3] = {0};
+    CALL(puffin_report_file(file, size, true, 1000, TEXT("main"), few, 2, &lines));
+    is("a report's beginning", few[0] == 'f' && few[1] == 'r' && few[2] == 0, true);
+    is("no text", puffin_report_file(file, size, false, 0, TEXT("\xff"), out, 0, &lines), PUFFIN_NOT_TEXT);
+}
+
+int main(int argc, char **argv) {
+    struct work works[2] = {{"main", 1000, false}, {"worker", 1500, true}};
+    pthread_t threads[2];
+    PuffinFrame frame = {0};
+    /* both threads at once, or one behind the other where allocations are numbered */
+    bool at_once = argc < 3;
+    refused_one = at_once ? -1 : atol(argv[2]);
+    counts = true;
+    CALL(puffin_ids_open(&ids));
+    CALL(puffin_profiler_open(&profiler, &ids));
+    refusals();
+    counting();
+    for (int i = 0; i < 2; i++) {
+        counts = false;
+        pthread_create(&threads[i], NULL, record, &works[i]);
+        counts = true;
+        if (!at_once) {
+            pthread_join(threads[i], NULL);
+        }
+    }
+    for (int i = 0; at_once && i < 2; i++) {
+        pthread_join(threads[i], NULL);
+    }
+    CALL(puffin_snapshot(&profiler));
+    CALL(puffin_new_frame(&profiler, &frame));
+    is("frame", frame.is_some, true);
+    is("index", frame.index, 0);
+    is("scopes", frame.scopes, 12);
+    is("start", (uint64_t)frame.start_ns, 1000);
+    is("stop", (uint64_t)frame.stop_ns, 2300);
+    CALL(puffin_new_frame(&profiler, &frame));
+    is("a frame of nothing", frame.is_some, false);
+    counts = false;
+    reading(argv[1]);
+    counts = true;
+    CALL(puffin_ids_close(&ids));
+    CALL(puffin_profiler_close(&profiler));
+    counts = false;
+    printf("allocations %ld\n", allocations);
+    return 0;
+}

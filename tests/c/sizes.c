@@ -1,0 +1,50 @@
+/* Compares the header's structs with the library's: their sizes, as the library tells them, and the places of their fields,
+ * as the numbers that it writes there tell them. It is a C program and a C++ one. */
+#include "puffin.h"
+#include <stdio.h>
+
+static int failures;
+
+static void is(const char *what, uint64_t got, uint64_t wanted) {
+    if (got != wanted) {
+        printf("%s: %llu in place of %llu\n", what, (unsigned long long)got, (unsigned long long)wanted);
+        failures++;
+    }
+}
+
+/* A scope of id 1 without a text, with so many bytes of children in it: 31 bytes, and those of the children. */
+static void put_scope(uint8_t *at, uint8_t start, uint8_t stop, uint8_t children) {
+    at[0] = '(';
+    at[1] = 1;
+    at[5] = start;
+    at[14] = children;
+    at[22 + children] = ')';
+    at[23 + children] = stop;
+}
+
+int main(void) {
+    /* From 5 to 9, with two scopes in it. */
+    static uint8_t bytes[93];
+    PuffinSizes sizes;
+    PuffinCount count;
+    put_scope(bytes, 5, 9, 62);
+    put_scope(bytes + 22, 6, 7, 0);
+    put_scope(bytes + 53, 7, 8, 0);
+    puffin_sizes(&sizes);
+    is("PuffinCount", sizes.count, sizeof(PuffinCount));
+    is("PuffinFrame", sizes.frame, sizeof(PuffinFrame));
+    is("PuffinIds", sizes.ids, sizeof(PuffinIds));
+    is("PuffinThread", sizes.thread, sizeof(PuffinThread));
+    is("PuffinProfiler", sizes.profiler, sizeof(PuffinProfiler));
+    is("count", puffin_count(bytes, sizeof bytes, false, &count), PUFFIN_OK);
+    is("scopes", count.scopes, 3);
+    is("depth", count.depth, 2);
+    is("start_ns", (uint64_t)count.start_ns, 5);
+    is("stop_ns", (uint64_t)count.stop_ns, 9);
+    is("tries", count.tries, 3);
+    bytes[0] = ')';
+    is("a fault", puffin_count(bytes, sizeof bytes, false, &count), PUFFIN_INVALID_STREAM);
+    is("tries", count.tries, 0);
+    is("scopes", count.scopes, 3);
+    return failures != 0;
+}
