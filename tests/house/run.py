@@ -4,13 +4,16 @@
 
 Clauses have at most 100 columns; crates cite of those below them no proofs but `lemmas`; each wrong body can be applied
 and stands in docs/PROOFS.md, in italics where it is one of the long run, and the gate tries at most twelve of a crate; the
-rows there name clauses that are there; links in the documents lead somewhere. The last line is 'N passed, M failed'.
+rows there name clauses that are there; each spec file begins with a line that says what it defines, and docs/ARCHITECTURE.md
+has these lines as they are; links in the documents lead somewhere. The last line is 'N passed, M failed'.
 """
 
 import pathlib
 import re
 import subprocess
 import sys
+
+import spec_files
 
 TOP = pathlib.Path(__file__).resolve().parents[2]
 MOST_IN_THE_GATE = 12
@@ -94,8 +97,8 @@ def crates_with_too_many_edits():
 
 def clauses_that_are_not_there():
     """Of a row's contracts: each function is linked, and behind a colon stand the labels of its clauses."""
-    proofs = TOP / "docs/PROOFS.md"
-    for row in proofs.read_text().split("\n"):
+    text = with_targets((TOP / "docs/PROOFS.md").read_text())
+    for row in text.split("\n"):
         cells = row.split(" | ")
         for part in cells[1].split("; ") if len(cells) == 3 else []:
             part = re.sub(r"\((?!\.\./)(?:[^()]|\([^()]*\))*\)", "", part)  # definitions, in brackets
@@ -109,15 +112,32 @@ def clauses_that_are_not_there():
                     yield f"docs/PROOFS.md: no clause {label} in {', '.join(linked)}"
 
 
+def spec_files_without_a_summary():
+    for path in spec_files.without_summary():
+        yield f"{short(path)}: its first line isn't a comment of one line that says what the file defines"
+
+
+def spec_files_that_are_not_listed():
+    if not spec_files.is_current():
+        yield "docs/ARCHITECTURE.md: its tables of spec files are old; run: python3 tests/house/spec_files.py --write"
+
+
+def with_targets(text):
+    """The text with each link `[it][name]` written as `[it](target)`, by the line `[name]: target`."""
+    targets = dict(re.findall(r"^\[([^\]]+)\]: (\S+)$", text, re.M))
+    return re.sub(r"\]\[([^\]]+)\]", lambda link: f"]({targets.get(link[1], '?' + link[1])})", text)
+
+
 def anchors(text):
-    """What the headings of a document can be linked by."""
+    """What a document can be linked by: its headings, and what has an `<a id="..">`."""
     heads = re.findall(r"^#+ (.*)$", text, re.M)
-    return {re.sub(r"[^\w\- ]", "", head.lower()).replace(" ", "-") for head in heads}
+    named = re.findall(r'<a id="([^"]+)">', text)
+    return {re.sub(r"[^\w\- ]", "", head.lower()).replace(" ", "-") for head in heads} | set(named)
 
 
 def broken_links():
     for path in files(".md"):
-        for target in re.findall(r"\]\(([^)\s]+)\)", path.read_text()):
+        for target in re.findall(r"\]\(([^)\s]+)\)", with_targets(path.read_text())):
             if target.startswith("http"):
                 continue
             name, _, anchor = target.partition("#")
@@ -137,6 +157,8 @@ def main():
         edits_without_a_promise,
         crates_with_too_many_edits,
         clauses_that_are_not_there,
+        spec_files_without_a_summary,
+        spec_files_that_are_not_listed,
         broken_links,
     )
     for rule in rules:
