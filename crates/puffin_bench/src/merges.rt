@@ -68,7 +68,7 @@ impl MergeWork {
         let mut now = start;
         for top in 1..=TOPS {
             if let Some(id) = ScopeId::new(top) {
-                let (offset, _) = stream.begin_scope(|| now, id, TEXT)?;
+                let offset = stream.begin_scope_at(now, id, TEXT)?;
                 now = leaves(&mut stream, self.children, now)?;
                 end(&mut stream, offset, now)?;
             }
@@ -114,8 +114,7 @@ pub fn main_thread(alloc: Global) -> Result<ThreadInfo> {
 fn leaves(stream: &mut Stream, count: u32, mut now: i64) -> Result<i64> {
     for number in 1..=count {
         if let Some(id) = ScopeId::new(number) {
-            let at = now;
-            let (offset, _) = stream.begin_scope(|| at, id, TEXT)?;
+            let offset = stream.begin_scope_at(now, id, TEXT)?;
             now = now.wrapping_add(1);
             end(stream, offset, now)?;
         }

@@ -65,8 +65,8 @@ pub fn profiled<C: NsSource>(thread: &mut ThreadProfiler<C>, text: &str) -> Resu
 pub fn two_scopes(alloc: Global) -> Result<Stream> {
     let mut stream = Stream::new(alloc);
     if let Some(id) = ScopeId::new(1) {
-        let (outer, _) = stream.begin_scope(|| 0, id, "outer text")?;
-        let (inner, _) = stream.begin_scope(|| 10, id, "inner text")?;
+        let outer = stream.begin_scope_at(0, id, "outer text")?;
+        let inner = stream.begin_scope_at(10, id, "inner text")?;
         for (offset, stop) in [(inner, 500), (outer, 1_000)] {
             if stream.len() >= 8 && offset <= stream.len() - 8 {
                 stream.end_scope(offset, stop)?;

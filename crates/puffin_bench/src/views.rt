@@ -77,7 +77,7 @@ impl ViewWork {
         let start = 1_000_000 * i64::from(index);
         let mut stream = Stream::new(alloc);
         if let Some(id) = ScopeId::new(1) {
-            let (offset, _) = stream.begin_scope(|| start, id, TEXT)?;
+            let offset = stream.begin_scope_at(start, id, TEXT)?;
             let _now = nest(&mut stream, id, TEXT, start)?;
             let stop = start + 1_000 + i64::from(self.extra_ns(index));
             end(&mut stream, offset, stop)?;

@@ -18,7 +18,7 @@ fn lettered(
     }
     text.push(last)?;
     let mut stream = Stream::with_form(alloc, form);
-    let (offset, _) = stream.begin_scope(|| 100, id(1)?, text.as_str())?;
+    let offset = stream.begin_scope_at(100, id(1)?, text.as_str())?;
     end(&mut stream, offset, 300)?;
     Ok((offset, stream))
 }

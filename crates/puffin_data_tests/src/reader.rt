@@ -60,13 +60,13 @@ fn write_child(
     (start, stop): (i64, i64),
     text: &str,
 ) -> std::result::Result<(), Fail> {
-    let (offset, _) = stream.begin_scope(|| start, id(number)?, text)?;
+    let offset = stream.begin_scope_at(start, id(number)?, text)?;
     end(stream, offset, stop)
 }
 
 /// Writes a scope with two children.
 fn write_two_children(stream: &mut Stream) -> std::result::Result<(), Fail> {
-    let (top, _) = stream.begin_scope(|| 100, id(1)?, "data_top")?;
+    let top = stream.begin_scope_at(100, id(1)?, "data_top")?;
     write_child(stream, 2, (200, 300), "data_middle_0")?;
     write_child(stream, 3, (300, 400), "data_middle_1")?;
     end(stream, top, 400)

@@ -72,7 +72,7 @@ fn stored_size(rt: &HostRuntime, letters: usize, last: char) -> std::result::Res
     text.push(last)?;
     let first = id(1)?;
     let mut stream = Stream::new(rt.alloc());
-    let (offset, _) = stream.begin_scope(|| 100, first, text.as_str())?;
+    let offset = stream.begin_scope_at(100, first, text.as_str())?;
     end(&mut stream, offset, 300)?;
     let len = stream.len();
     let said = stream.bytes().get(13).copied().map(usize::from);
@@ -114,7 +114,7 @@ fn within_the_room_nothing_is_refused(rt: HostRuntime) -> std::result::Result<()
     stream.reserve(35 + 35)?;
     assert!(rt; 70 <= stream.room());
     for left in [35, 0] {
-        let (offset, _) = stream.begin_scope(|| 100, id(1)?, "data")?;
+        let offset = stream.begin_scope_at(100, id(1)?, "data")?;
         assert!(rt; left + 9 <= stream.room());
         end(&mut stream, offset, 300)?;
         assert!(rt; left <= stream.room());
@@ -156,9 +156,9 @@ const NESTED: &[u8] =
 
 /// Writes the same scopes.
 fn write_nested(stream: &mut Stream) -> std::result::Result<(), Fail> {
-    let (outer, _) = stream.begin_scope(|| 1092, id(9)?, "")?;
-    let (middle, _) = stream.begin_scope(|| 1152, id(8)?, "mesh")?;
-    let (inner, _) = stream.begin_scope(|| 1169, id(18)?, "mesh")?;
+    let outer = stream.begin_scope_at(1092, id(9)?, "")?;
+    let middle = stream.begin_scope_at(1152, id(8)?, "mesh")?;
+    let inner = stream.begin_scope_at(1169, id(18)?, "mesh")?;
     for (offset, stop) in [(inner, 1179), (middle, 1218), (outer, 1218)] {
         end(stream, offset, stop)?;
     }

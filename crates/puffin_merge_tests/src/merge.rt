@@ -22,7 +22,7 @@ pub(crate) type Numbers = (u32, NanoSecond, NanoSecond, NanoSecond, NanoSecond, 
 pub(crate) fn begin(stream: &mut Stream, id: u32, start: NanoSecond, text: &str) -> Result<usize> {
     match ScopeId::new(id) {
         None => Err(Error::PrematureEnd),
-        Some(id) => Ok(stream.begin_scope(move || start, id, text)?.0),
+        Some(id) => stream.begin_scope_at(start, id, text),
     }
 }
 

@@ -29,7 +29,7 @@ fn own_scope(alloc: Global, id: ScopeId) -> puffin::Result<StreamInfo>
     ensures { IfOk result (λ info. (f : Forest) × IsHonest info f) }
 {
     let mut stream = Stream::with_form(alloc, Form::Long);
-    let (scope, _) = stream.begin_scope(|| 100, id, "own")?;
+    let scope = stream.begin_scope_at(100, id, "own")?;
     stream.end_scope(scope, 250)?;
     StreamInfo::parse(alloc, stream)
 }

@@ -14,8 +14,8 @@ use std::sync::Arc;
 
 /// Writes one scope within another.
 fn nest(stream: &mut Stream, id: ScopeId, start: i64, stop: i64) -> puffin_data::Result<()> {
-    let (outer, _) = stream.begin_scope(|| start, id, "outer")?;
-    let (inner, _) = stream.begin_scope(|| start, id, "")?;
+    let outer = stream.begin_scope_at(start, id, "outer")?;
+    let inner = stream.begin_scope_at(start, id, "")?;
     stream.end_scope(inner, start)?;
     stream.end_scope(outer, stop)
 }

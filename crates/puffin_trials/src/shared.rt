@@ -26,7 +26,7 @@ fn own_scope(alloc: Global, id: ScopeId) -> Result<StreamInfo>
     ensures { IfOk result (λ info. (f : Forest) × IsHonest info f) }
 {
     let mut stream = Stream::new(alloc);
-    let (scope, _) = stream.begin_scope(|| 100, id, "")?;
+    let scope = stream.begin_scope_at(100, id, "")?;
     stream.end_scope(scope, 250)?;
     StreamInfo::parse(alloc, stream)
 }

@@ -17,8 +17,7 @@ const TEXTS: [&str; 4] = [
 fn begin(stream: &mut Stream, random: &mut Random, now: i64) -> Result<usize> {
     let id = ScopeId::new(1 + random.below(9) as u32).ok_or(Error::InvalidStream)?;
     let text = random.one_of(&TEXTS, "");
-    let (offset, _) = stream.begin_scope(|| now, id, text)?;
-    Ok(offset)
+    stream.begin_scope_at(now, id, text)
 }
 
 /// Ends the scope at this offset, if it lies within the stream.

@@ -5,14 +5,18 @@ use Rattle.puffin_data.specs.declared.error.Error.TheVariants.{PrematureEnd, Inv
 use Rattle.puffin_data.specs.declared.data.form.Form.{Form}
 use Rattle.puffin_data.specs.declared.data.form.Form.TheVariants.{Short, Long}
 
+-- the greatest length that two groups of 7 bits encode
+abbrev pub two_groups_limit : ℕ
+two_groups_limit = 16383
+
 -- the most bytes of a stored text that is read, and of a text that is written
 abbrev pub stored_limit : Form → ℕ
 stored_limit Short = 255
-stored_limit Long = 16383
+stored_limit Long = two_groups_limit
 
 abbrev pub text_limit : Form → ℕ
 text_limit Short = 127
-text_limit Long = 16383
+text_limit Long = two_groups_limit
 
 -- One byte; or 7 bits in each byte, the lowest first, with 128 added to a byte that another follows.
 unfoldable pub length_layout : Form → ℕ → List ℕ

@@ -11,6 +11,8 @@ use crate::error::{Error, Result};
 
 /// The greatest length that both forms encode in one byte.
 pub(crate) const ONE_GROUP: usize = 127;
+/// The greatest length that two groups of 7 bits encode.
+const TWO_GROUPS: usize = 16_383;
 
 /// How a stream encodes the lengths of its texts: in one byte, or in one or two groups of 7 bits.
 #[derive(Clone, Copy, Debug, PartialEq, Eq)]
@@ -30,7 +32,7 @@ impl Form {
     {
         match self {
             Form::Short => 127,
-            Form::Long => 16383,
+            Form::Long => TWO_GROUPS,
         }
     }
 
@@ -70,8 +72,29 @@ impl Form {
         }
         match self {
             Form::Short => BEGIN_LIMIT,
-            Form::Long => FRONT_SIZE + 2 + text.len().min(16383) + WORD_SIZE,
+            Form::Long => FRONT_SIZE + 2 + text.len().min(TWO_GROUPS) + WORD_SIZE,
         }
+    }
+
+    /// Returns the size of a scope's beginning with this text.
+    #[inline(always)]
+    pub(crate) fn begin_size(self, text: &str) -> usize
+        ensures { result ≡ head_size self (cut_text self text.now) }
+    {
+        if text.len() <= ONE_GROUP {
+            return FRONT_SIZE + 1 + text.len() + WORD_SIZE;
+        }
+        self.longer_begin_size(text)
+    }
+
+    /// Does the same with a text that may have to be cut, and whose length may take two bytes.
+    #[inline(never)]
+    fn longer_begin_size(self, text: &str) -> usize
+        ensures { result ≡ head_size self (cut_text self text.now) }
+    {
+        let stored = self.cut(text);
+        let (_, second) = groups(self, stored.len());
+        FRONT_SIZE + 1 + usize::from(second.is_some()) + stored.len() + WORD_SIZE
     }
 }
 

@@ -4,7 +4,7 @@ ghost use Rattle.std.specs.Prelude.{◌≡◌, ◌+◌, ◌≤◌, [], ◌++◌,
 ghost use Rattle.byteorder.specs.Endian.{little_bytes};
 ghost use Rattle.puffin_data.specs.Forest.Spelling.{begin_mark, end_mark, time_bytes};
 
-use crate::data::scope::{END_SIZE, FRONT_SIZE, SCOPE_END};
+use crate::data::scope::{END_SIZE, FRONT_SIZE, SCOPE_BEGIN, SCOPE_END};
 use crate::error::NanoSecond;
 use byteorder::{ByteOrder, LittleEndian};
 
@@ -16,8 +16,7 @@ pub(crate) fn front(id: u32, start: NanoSecond, group: u8) -> [u8; 16]
         ≡ begin_mark ∷ (little_bytes 4 id ++ (time_bytes start ++ (group ∷ []))) }
 {
     let time = start.cast_unsigned();
-    // The lowest byte, 40, is `SCOPE_BEGIN`.
-    let low = 40 + u64::from(id) * 0x100 + time % 0x100_0000 * 0x100_0000_0000;
+    let low = SCOPE_BEGIN as u64 + u64::from(id) * 0x100 + time % 0x100_0000 * 0x100_0000_0000;
     let high = time / 0x100_0000 + u64::from(group) * 0x100_0000_0000;
     let mut front = [0; 16];
     LittleEndian::write_u64(&mut front[8..], high);

@@ -5,9 +5,7 @@ ghost use Rattle.puffin_data.specs.Value.Layout.{number, signed, byte, block, fl
 ghost use Rattle.puffin_data.specs.Value.Decoding.{byte_at, number_at, word_at, signed_at, flag_at, bytes_at, text_at};
 ghost use Rattle.puffin_data.specs.Value.Outcomes.{Reads, Gives};
 
-use crate::wire::front::{
-    read_byte, read_bytes, read_flag, read_number, read_signed, read_text, read_word,
-};
+use crate::wire::front::{byte_in, bytes_in, flag_in, number_in, signed_in, text_in, word_in};
 use std::marker::Model;
 
 /// Reads values from the front of bytes. Each of its reading calls returns `None` exactly when no layout of its kind is at the
@@ -49,7 +47,7 @@ impl<'s> Cursor<'s> {
         ensures reads { Reads (λ x. x) IsByte byte self.old result self.new }
         ensures exact { Gives (λ x. x) self.old result self.new (byte_at self.old) }
     {
-        let (value, rest) = read_byte(self.bytes)?;
+        let (value, rest) = byte_in(self.bytes)?;
         self.bytes = rest;
         Some(value)
     }
@@ -59,7 +57,7 @@ impl<'s> Cursor<'s> {
         ensures reads { Reads (λ x. x) IsLong number self.old result self.new }
         ensures exact { Gives (λ x. x) self.old result self.new (number_at self.old) }
     {
-        let (value, rest) = read_number(self.bytes)?;
+        let (value, rest) = number_in(self.bytes)?;
         self.bytes = rest;
         Some(value)
     }
@@ -69,7 +67,7 @@ impl<'s> Cursor<'s> {
         ensures reads { Reads (λ x. x) IsWord number self.old result self.new }
         ensures exact { Gives (λ x. x) self.old result self.new (word_at self.old) }
     {
-        let (value, rest) = read_word(self.bytes)?;
+        let (value, rest) = word_in(self.bytes)?;
         self.bytes = rest;
         Some(value)
     }
@@ -79,7 +77,7 @@ impl<'s> Cursor<'s> {
         ensures reads { Reads (λ x. x) IsSigned signed self.old result self.new }
         ensures exact { Gives (λ x. x) self.old result self.new (signed_at self.old) }
     {
-        let (value, rest) = read_signed(self.bytes)?;
+        let (value, rest) = signed_in(self.bytes)?;
         self.bytes = rest;
         Some(value)
     }
@@ -89,7 +87,7 @@ impl<'s> Cursor<'s> {
         ensures reads { Reads (λ x. x.now) IsBlock block self.old result self.new }
         ensures exact { Gives (λ x. x.now) self.old result self.new (bytes_at self.old) }
     {
-        let (value, rest) = read_bytes(self.bytes)?;
+        let (value, rest) = bytes_in(self.bytes)?;
         self.bytes = rest;
         Some(value)
     }
@@ -99,7 +97,7 @@ impl<'s> Cursor<'s> {
         ensures reads { Reads (λ x. x.now) IsText block self.old result self.new }
         ensures exact { Gives (λ x. x.now) self.old result self.new (text_at self.old) }
     {
-        let (value, rest) = read_text(self.bytes)?;
+        let (value, rest) = text_in(self.bytes)?;
         self.bytes = rest;
         Some(value)
     }
@@ -109,7 +107,7 @@ impl<'s> Cursor<'s> {
         ensures reads { Reads (λ x. x) IsAny flag self.old result self.new }
         ensures exact { Gives (λ x. x) self.old result self.new (flag_at self.old) }
     {
-        let (value, rest) = read_flag(self.bytes)?;
+        let (value, rest) = flag_in(self.bytes)?;
         self.bytes = rest;
         Some(value)
     }

@@ -55,10 +55,11 @@ fn eight_bytes_in(bytes: &[u8]) -> Option<(u64, &[u8])>
     Some((n, bytes.split_at(8).1))
 }
 
-/// Reads a number: one byte, or a mark and the bytes after it.
+/// Reads a number in its shortest layout: one byte, or a mark and the bytes after it.
 #[tactic(auto, unfolding(crate::specs::Value::Decoding::number_after))]
-fn number_in(bytes: &[u8]) -> Option<(u64, &[u8])>
-    ensures { GivesWithRest (λ x. (x.0, x.1.now)) result (number_at bytes.now) }
+pub(super) fn number_in(bytes: &[u8]) -> Option<(u64, &[u8])>
+    ensures reads { ReadsWithRest (λ x. (x.0, x.1.now)) IsLong number bytes.now result }
+    ensures exact { GivesWithRest (λ x. (x.0, x.1.now)) result (number_at bytes.now) }
 {
     match bytes {
         [] => None,
@@ -79,9 +80,10 @@ fn number_in(bytes: &[u8]) -> Option<(u64, &[u8])>
     }
 }
 
-/// Reads a number that fits 32 bits.
-fn word_in(bytes: &[u8]) -> Option<(u32, &[u8])>
-    ensures { GivesWithRest (λ x. (x.0, x.1.now)) result (word_at bytes.now) }
+/// Reads a number that fits 32 bits, in its shortest layout.
+pub(super) fn word_in(bytes: &[u8]) -> Option<(u32, &[u8])>
+    ensures reads { ReadsWithRest (λ x. (x.0, x.1.now)) IsWord number bytes.now result }
+    ensures exact { GivesWithRest (λ x. (x.0, x.1.now)) result (word_at bytes.now) }
 {
     let (n, rest) = number_in(bytes)?;
     if n < 4294967296 {
@@ -102,17 +104,19 @@ fn zigzag_back(n: u64) -> i64
     }
 }
 
-/// Reads a signed number.
-fn signed_in(bytes: &[u8]) -> Option<(i64, &[u8])>
-    ensures { GivesWithRest (λ x. (x.0, x.1.now)) result (signed_at bytes.now) }
+/// Reads a signed number, which is folded and then laid out as a number.
+pub(super) fn signed_in(bytes: &[u8]) -> Option<(i64, &[u8])>
+    ensures reads { ReadsWithRest (λ x. (x.0, x.1.now)) IsSigned signed bytes.now result }
+    ensures exact { GivesWithRest (λ x. (x.0, x.1.now)) result (signed_at bytes.now) }
 {
     let (n, rest) = number_in(bytes)?;
     Some((zigzag_back(n), rest))
 }
 
-/// Reads bytes after their number.
-fn bytes_in(bytes: &[u8]) -> Option<(&[u8], &[u8])>
-    ensures { GivesWithRest (λ x. (x.0.now, x.1.now)) result (bytes_at bytes.now) }
+/// Reads a number and as many bytes after it.
+pub(super) fn bytes_in(bytes: &[u8]) -> Option<(&[u8], &[u8])>
+    ensures reads { ReadsWithRest (λ x. (x.0.now, x.1.now)) IsBlock block bytes.now result }
+    ensures exact { GivesWithRest (λ x. (x.0.now, x.1.now)) result (bytes_at bytes.now) }
 {
     let (n, rest) = number_in(bytes)?;
     if (rest.len() as u64) < n {
@@ -133,9 +137,10 @@ fn text_of(stored: &[u8]) -> Option<&str>
     }
 }
 
-/// Reads a text, which is bytes that are UTF-8.
-fn text_in(bytes: &[u8]) -> Option<(&str, &[u8])>
-    ensures { GivesWithRest (λ x. (x.0.now, x.1.now)) result (text_at bytes.now) }
+/// Reads a text: a number and as many bytes after it, which have to be UTF-8.
+pub(super) fn text_in(bytes: &[u8]) -> Option<(&str, &[u8])>
+    ensures reads { ReadsWithRest (λ x. (x.0.now, x.1.now)) IsText block bytes.now result }
+    ensures exact { GivesWithRest (λ x. (x.0.now, x.1.now)) result (text_at bytes.now) }
 {
     let (stored, rest) = bytes_in(bytes)?;
     let text = text_of(stored)?;
@@ -143,8 +148,9 @@ fn text_in(bytes: &[u8]) -> Option<(&str, &[u8])>
 }
 
 /// Reads a flag, which is one byte, 0 or 1.
-fn flag_in(bytes: &[u8]) -> Option<(bool, &[u8])>
-    ensures { GivesWithRest (λ x. (x.0, x.1.now)) result (flag_at bytes.now) }
+pub(super) fn flag_in(bytes: &[u8]) -> Option<(bool, &[u8])>
+    ensures reads { ReadsWithRest (λ x. (x.0, x.1.now)) IsAny flag bytes.now result }
+    ensures exact { GivesWithRest (λ x. (x.0, x.1.now)) result (flag_at bytes.now) }
 {
     match bytes {
         [0, rest @ ..] => Some((false, rest)),
@@ -154,67 +160,12 @@ fn flag_in(bytes: &[u8]) -> Option<(bool, &[u8])>
 }
 
 /// Reads one byte.
-fn byte_in(bytes: &[u8]) -> Option<(u8, &[u8])>
-    ensures { GivesWithRest (λ x. (x.0, x.1.now)) result (byte_at bytes.now) }
+pub(super) fn byte_in(bytes: &[u8]) -> Option<(u8, &[u8])>
+    ensures reads { ReadsWithRest (λ x. (x.0, x.1.now)) IsByte byte bytes.now result }
+    ensures exact { GivesWithRest (λ x. (x.0, x.1.now)) result (byte_at bytes.now) }
 {
     match bytes {
         [] => None,
         [first, rest @ ..] => Some((*first, rest)),
     }
-}
-
-/// Reads one byte.
-pub(super) fn read_byte(bytes: &[u8]) -> Option<(u8, &[u8])>
-    ensures reads { ReadsWithRest (λ x. (x.0, x.1.now)) IsByte byte bytes.now result }
-    ensures exact { GivesWithRest (λ x. (x.0, x.1.now)) result (byte_at bytes.now) }
-{
-    byte_in(bytes)
-}
-
-/// Reads a number in its shortest layout.
-pub(super) fn read_number(bytes: &[u8]) -> Option<(u64, &[u8])>
-    ensures reads { ReadsWithRest (λ x. (x.0, x.1.now)) IsLong number bytes.now result }
-    ensures exact { GivesWithRest (λ x. (x.0, x.1.now)) result (number_at bytes.now) }
-{
-    number_in(bytes)
-}
-
-/// Reads a number that fits 32 bits, in its shortest layout.
-pub(super) fn read_word(bytes: &[u8]) -> Option<(u32, &[u8])>
-    ensures reads { ReadsWithRest (λ x. (x.0, x.1.now)) IsWord number bytes.now result }
-    ensures exact { GivesWithRest (λ x. (x.0, x.1.now)) result (word_at bytes.now) }
-{
-    word_in(bytes)
-}
-
-/// Reads a signed number, which is folded and then laid out as a number.
-pub(super) fn read_signed(bytes: &[u8]) -> Option<(i64, &[u8])>
-    ensures reads { ReadsWithRest (λ x. (x.0, x.1.now)) IsSigned signed bytes.now result }
-    ensures exact { GivesWithRest (λ x. (x.0, x.1.now)) result (signed_at bytes.now) }
-{
-    signed_in(bytes)
-}
-
-/// Reads a number and as many bytes after it.
-pub(super) fn read_bytes(bytes: &[u8]) -> Option<(&[u8], &[u8])>
-    ensures reads { ReadsWithRest (λ x. (x.0.now, x.1.now)) IsBlock block bytes.now result }
-    ensures exact { GivesWithRest (λ x. (x.0.now, x.1.now)) result (bytes_at bytes.now) }
-{
-    bytes_in(bytes)
-}
-
-/// Reads a text: a number and as many bytes after it, which have to be UTF-8.
-pub(super) fn read_text(bytes: &[u8]) -> Option<(&str, &[u8])>
-    ensures reads { ReadsWithRest (λ x. (x.0.now, x.1.now)) IsText block bytes.now result }
-    ensures exact { GivesWithRest (λ x. (x.0.now, x.1.now)) result (text_at bytes.now) }
-{
-    text_in(bytes)
-}
-
-/// Reads a flag: a byte that is 0 or 1.
-pub(super) fn read_flag(bytes: &[u8]) -> Option<(bool, &[u8])>
-    ensures reads { ReadsWithRest (λ x. (x.0, x.1.now)) IsAny flag bytes.now result }
-    ensures exact { GivesWithRest (λ x. (x.0, x.1.now)) result (flag_at bytes.now) }
-{
-    flag_in(bytes)
 }

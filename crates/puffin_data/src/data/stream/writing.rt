@@ -1,0 +1,194 @@
+//! Writing scopes, each in two steps: when it begins and when it ends.
+
+ghost use Rattle.std.specs.Prelude.{◌≡◌, ◌+◌, ◌-◌, ◌≤◌, ◌++◌, length, IfOk, OnOk, OnErr, IfErr, IsOk, ◌^◌, ◌∷◌};
+ghost use Rattle.puffin_data.specs.Forest.Spelling.{begin_bytes, head_size};
+ghost use Rattle.puffin_data.specs.Forest.Open.{ended_bytes};
+ghost use Rattle.puffin_data.specs.Text.{cut_text};
+ghost use Rattle.puffin_data.specs.Text.Lengths.{text_limit, length_layout};
+ghost use Rattle.puffin_data.specs.inner.Groups.{second_byte};
+ghost use Rattle.puffin_data.specs.inner.Beginnings.{Begins};
+
+use crate::data::form::{ONE_GROUP, groups};
+use crate::data::scope::END_SIZE;
+use crate::data::scope_id::ScopeId;
+use crate::data::spelling::{back, front, size_word};
+use crate::data::stream::Stream;
+use crate::error::{Error, NanoSecond, Result};
+
+impl Stream {
+    /// Appends the beginning of a scope, with a placeholder for the size of its children. Returns the offset of that
+    /// placeholder, which [`Stream::end_scope`] takes, and the start. The text is cut to what the form stores (127 or 16,383
+    /// bytes), at a character boundary.
+    ///
+    /// Reads the clock once, after it has made room. Fails only with `Memory`; then nothing is appended and the clock isn't
+    /// read. Never fails if the beginning fits the room.
+    #[inline(always)]
+    pub fn begin_scope<F: Fn() -> NanoSecond + Drop>(
+        &mut self,
+        now_ns: F,
+        id: ScopeId,
+        text: &str,
+    ) -> Result<(usize, NanoSecond)>
+        requires { F.IsAlwaysCallable now_ns }
+        ensures begun { IfOk result (λ at.
+            self.new.bytes
+            ≡ self.old.bytes
+            ++ begin_bytes self.old.form id at.1 (cut_text self.old.form text.now)
+            (2 ^ 64 - 1)) }
+        ensures offset { IfOk result (λ at. at.0 + 8 ≡ length self.new.bytes) }
+        ensures clock { IfOk result (λ at. F.post now_ns at.1) }
+        ensures err { OnErr result (self.new.bytes ≡ self.old.bytes) }
+        ensures form { self.new.form ≡ self.old.form }
+        ensures memory { IfErr result (λ e. e ≡ Error.Memory) }
+        ensures succeeds { head_size self.old.form (cut_text self.old.form text.now)
+            ≤ self.old.room → IsOk result }
+        ensures room { self.old.room
+            ≤ self.new.room + head_size self.old.form (cut_text self.old.form text.now) }
+    {
+        let mut now_ns = now_ns;
+        self.begin_scope_by(&mut now_ns, id, text)
+    }
+
+    /// Appends the beginning of a scope as [`Stream::begin_scope`] does, with a clock that may change when it is read. If the
+    /// call fails, the clock doesn't change.
+    #[inline(always)]
+    pub fn begin_scope_by<F: FnMut() -> NanoSecond>(
+        &mut self,
+        now_ns: &mut F,
+        id: ScopeId,
+        text: &str,
+    ) -> Result<(usize, NanoSecond)>
+        requires { F.IsAlwaysCallable now_ns.old }
+        ensures begun { IfOk result (λ at.
+            self.new.bytes
+            ≡ self.old.bytes
+            ++ begin_bytes self.old.form id at.1 (cut_text self.old.form text.now)
+            (2 ^ 64 - 1)) }
+        ensures offset { IfOk result (λ at. at.0 + 8 ≡ length self.new.bytes) }
+        ensures clock { IfOk result (λ at. F.step now_ns.old at.1 now_ns.new) }
+        ensures err { OnErr result (self.new.bytes ≡ self.old.bytes) }
+        ensures form { self.new.form ≡ self.old.form }
+        ensures unasked { OnErr result (now_ns.new ≡ now_ns.old) }
+        ensures memory { IfErr result (λ e. e ≡ Error.Memory) }
+        ensures succeeds { head_size self.old.form (cut_text self.old.form text.now)
+            ≤ self.old.room → IsOk result }
+        ensures room { self.old.room
+            ≤ self.new.room + head_size self.old.form (cut_text self.old.form text.now) }
+    {
+        let size = self.form().begin_size(text);
+        self.reserve(size)?;
+        let start = now_ns();
+        Ok((self.begin_within(start, id, text), start))
+    }
+
+    /// Appends the beginning of a scope as [`Stream::begin_scope`] does, with a start that is known. Returns the offset of the
+    /// placeholder.
+    #[inline(always)]
+    pub fn begin_scope_at(&mut self, start: NanoSecond, id: ScopeId, text: &str) -> Result<usize>
+        ensures begun { OnOk result (
+            self.new.bytes
+            ≡ self.old.bytes
+            ++ begin_bytes self.old.form id start (cut_text self.old.form text.now)
+            (2 ^ 64 - 1)) }
+        ensures offset { IfOk result (λ offset. offset + 8 ≡ length self.new.bytes) }
+        ensures err { OnErr result (self.new.bytes ≡ self.old.bytes) }
+        ensures form { self.new.form ≡ self.old.form }
+        ensures memory { IfErr result (λ e. e ≡ Error.Memory) }
+        ensures succeeds { head_size self.old.form (cut_text self.old.form text.now)
+            ≤ self.old.room → IsOk result }
+        ensures room { self.old.room
+            ≤ self.new.room + head_size self.old.form (cut_text self.old.form text.now) }
+    {
+        self.reserve(self.form().begin_size(text))?;
+        Ok(self.begin_within(start, id, text))
+    }
+
+    /// Appends the beginning of a scope as [`Stream::begin_scope_at`] does. It has to fit the room, so the call neither allocates
+    /// nor fails.
+    #[inline(always)]
+    pub fn begin_within(&mut self, start: NanoSecond, id: ScopeId, text: &str) -> usize
+        requires { head_size self.old.form (cut_text self.old.form text.now) ≤ self.old.room }
+        ensures begun { self.new.bytes
+            ≡ self.old.bytes
+            ++ begin_bytes self.old.form id start (cut_text self.old.form text.now) (2 ^ 64 - 1) }
+        ensures offset { result + 8 ≡ length self.new.bytes }
+        ensures form { self.new.form ≡ self.old.form }
+        ensures room { self.old.room
+            ≤ self.new.room + head_size self.old.form (cut_text self.old.form text.now) }
+    {
+        // Both forms encode a text of this length alike.
+        if text.len() <= ONE_GROUP {
+            return self.write_begin(start, id, text, text.len() as u8, None);
+        }
+        self.longer_within(start, id, text)
+    }
+
+    /// Does the same with a text that may have to be cut, and whose length may take two bytes. It is out of line, so that a
+    /// scope with a short text needs few registers.
+    #[inline(never)]
+    fn longer_within(&mut self, start: NanoSecond, id: ScopeId, text: &str) -> usize
+        requires { head_size self.old.form (cut_text self.old.form text.now) ≤ self.old.room }
+        ensures { Begins self.old self.new id start (cut_text self.old.form text.now) result }
+    {
+        let kept = self.form().cut(text);
+        let (group, second) = groups(self.form(), kept.len());
+        self.write_begin(start, id, kept, group, second)
+    }
+
+    /// Does the same with a text that isn't cut, and whose length has this encoding.
+    #[inline(always)]
+    fn write_begin(
+        &mut self,
+        start: NanoSecond,
+        id: ScopeId,
+        text: &str,
+        group: u8,
+        second: Option<u8>,
+    ) -> usize
+        requires enough { head_size self.old.form text.now ≤ self.old.room }
+        requires short { length text.now ≤ text_limit self.old.form }
+        requires layout { length_layout self.old.form (length text.now)
+            ≡ group ∷ second_byte second }
+        ensures { Begins self.old self.new id start text.now result }
+    {
+        self.put_front(&front(id.get(), start, group));
+        self.put_second(second);
+        self.put_text(text.as_bytes());
+        let offset = self.len();
+        self.put(&size_word(u64::MAX));
+        offset
+    }
+
+    /// Ends the scope whose size is at `offset`: overwrites that size with the number of bytes after it, and appends the end
+    /// with its stop, in nanoseconds. There have to be eight bytes at `offset`.
+    ///
+    /// Fails only with `Memory`; nothing changes then. Never fails with a room of at least 9 bytes.
+    #[inline]
+    pub fn end_scope(&mut self, offset: usize, stop_ns: NanoSecond) -> Result<()>
+        requires { offset + 8 ≤ length self.old.bytes }
+        ensures ended { OnOk result (self.new.bytes ≡ ended_bytes self.old.bytes offset stop_ns) }
+        ensures err { OnErr result (self.new.bytes ≡ self.old.bytes) }
+        ensures form { self.new.form ≡ self.old.form }
+        ensures memory { IfErr result (λ e. e ≡ Error.Memory) }
+        ensures succeeds { END_SIZE ≤ self.old.room → IsOk result }
+        ensures room { self.old.room ≤ self.new.room + END_SIZE }
+    {
+        self.reserve(END_SIZE)?;
+        self.end_within(offset, stop_ns);
+        Ok(())
+    }
+
+    /// Ends a scope as [`Stream::end_scope`] does. The end has to fit the room, so the call neither allocates nor fails.
+    #[inline(always)]
+    pub fn end_within(&mut self, offset: usize, stop_ns: NanoSecond)
+        requires inside { offset + 8 ≤ length self.old.bytes }
+        requires room { END_SIZE ≤ self.old.room }
+        ensures ended { self.new.bytes ≡ ended_bytes self.old.bytes offset stop_ns }
+        ensures form { self.new.form ≡ self.old.form }
+        ensures room { self.old.room ≤ self.new.room + END_SIZE }
+    {
+        let size = self.len() - (offset + 8);
+        self.overwrite(offset, &size_word(size as u64));
+        self.put(&back(stop_ns));
+    }
+}
