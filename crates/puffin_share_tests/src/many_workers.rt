@@ -54,7 +54,7 @@ fn ended<T: AnyThread, L: Ledger, M: Ledger, R: Wait>(
     scope: usize,
     wary: &mut Wary<L, M, R>,
 ) -> Result<Closed> {
-    thread.end_innermost(scope, wary)
+    thread.end_scope(scope, wary)
 }
 
 /// Reports what waits until nothing does, in three calls at most. `None` where something waits still.
@@ -63,7 +63,7 @@ fn reported_all<T: AnyThread, L: Ledger, M: Ledger, R: Wait>(
     wary: &mut Wary<L, M, R>,
 ) -> Option<()> {
     for _ in 0..3 {
-        if thread.report_waiting(wary) == Ok(false) {
+        if thread.report_closed(wary) == Ok(false) {
             return Some(());
         }
     }

@@ -7,6 +7,6 @@ pub mod laws;
 mod scope_type;
 
 pub use collection::ScopeCollection;
-pub use details::ScopeDetails;
+pub use details::{ScopeDetails, any_lacks_id};
 pub use ids::ScopeIds;
 pub use scope_type::ScopeType;

@@ -82,7 +82,7 @@ impl<L: Ledger, M: Ledger, R: Wait> SharedReporter<L, M, R> {
             ⟦<SharedReporter<L, M, R> as Reporter>⟧.refuses (T.recorded thread.old)
             (T.recorded thread.new) at self.old self.new closed) }
     {
-        thread.end_innermost(offset, self)
+        thread.end_scope(offset, self)
     }
 
     /// Reports the closed scopes of a thread that wait, as those of dropped guards do. Returns `Ok(false)` if none waits. Waits
@@ -95,7 +95,7 @@ impl<L: Ledger, M: Ledger, R: Wait> SharedReporter<L, M, R> {
             ⟦<SharedReporter<L, M, R> as Reporter>⟧.refuses (T.recorded thread.old)
             (T.recorded thread.new) self.old self.new result }
     {
-        thread.report_waiting(self)
+        thread.report_closed(self)
     }
 }
 

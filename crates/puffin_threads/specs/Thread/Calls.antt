@@ -1,5 +1,5 @@
 -- What a thread has recorded, and how each call changes it.
-use Rattle.std.specs.Prelude.{◌≡◌, ℕ, ◌+◌, ◌⊎◌, ℤ, List, [], ◌∷◌, ◌++◌, drop, fold, Option, Some, Result, Ok, Err}
+use Rattle.std.specs.Prelude.{◌≡◌, ℕ, ◌+◌, ◌⊎◌, ℤ, pos, List, [], ◌∷◌, ◌++◌, drop, fold, Option, Some, None, Result, Ok, Err}
 use Rattle.std.specs.Int.{int_max}
 use Rattle.std.specs.Option.{option_or}
 use Rattle.puffin_data.specs.declared.error.Error.{Error}
@@ -19,42 +19,39 @@ pub record Thread : Type 0 where
   pub word : List Event
   pub details : List Details
 
+-- a thread with this name and form that has recorded nothing
+abbrev pub new_thread : List ℕ → Form → Thread
+new_thread name form = record {
+  name = name;
+  form = form;
+  first_start = None;
+  latest = pos 0;
+  word = [];
+  details = [];
+}
+
 -- the time of a call if the clock answers `at`: the greatest answer so far
 abbrev pub time_of : Thread → ℤ → ℤ
 time_of thread at = int_max thread.latest at
 
 -- after beginning a scope with this id and stored text
 abbrev pub after_begin : Thread → ℕ → List ℕ → ℤ → Thread
-after_begin thread id text at = record {
-  name = thread.name;
-  form = thread.form;
+after_begin thread id text at = record thread {
   first_start = option_or thread.first_start (Some (time_of thread at));
   latest = time_of thread at;
   word = thread.word ++ (Open id text (time_of thread at) ∷ []);
-  details = thread.details;
 }
 
 -- after ending the innermost scope
 abbrev pub after_end : Thread → ℤ → Thread
-after_end thread at = record {
-  name = thread.name;
-  form = thread.form;
-  first_start = thread.first_start;
+after_end thread at = record thread {
   latest = time_of thread at;
   word = thread.word ++ (Close (time_of thread at) ∷ []);
-  details = thread.details;
 }
 
 -- after registering details
 abbrev pub after_registering : Thread → Details → Thread
-after_registering thread d = record {
-  name = thread.name;
-  form = thread.form;
-  first_start = thread.first_start;
-  latest = thread.latest;
-  word = thread.word;
-  details = thread.details ++ (d ∷ []);
-}
+after_registering thread d = record thread { details = thread.details ++ (d ∷ []) }
 
 -- Registers a scope with these details and the id drawn for it, for the next accepted report; or nothing changes.
 abbrev pub RegistersScope : Thread → Details → Result ℕ Error → Thread → Type 0
@@ -63,14 +60,7 @@ RegistersScope old d (Err e) new = (new ≡ old) × ((e ≡ IdsExhausted) ⊎ (e
 
 -- after an accepted report, which hands over all of its events and details
 abbrev pub after_handing : Thread → Thread
-after_handing thread = record {
-  name = thread.name;
-  form = thread.form;
-  first_start = thread.first_start;
-  latest = thread.latest;
-  word = [];
-  details = [];
-}
+after_handing thread = record thread { word = []; details = [] }
 
 -- the info under which a report hands scopes over
 abbrev pub info_of_thread : Thread → Info

@@ -6,7 +6,7 @@ ghost use Rattle.puffin_data.specs.declared.error.Error.{Error};
 ghost use Rattle.puffin_threads.specs.Details.{details_of, shared_details, lacks_id};
 ghost use Rattle.puffin_threads.specs.Details.Collection.{no_details, with_details, with_all_details, LearnsSome, kept_for, KeepsOwnIds, by_ids, by_names};
 
-use crate::scope_details::details::ScopeDetails;
+use crate::scope_details::details::{ScopeDetails, any_lacks_id};
 use puffin_data::data::ScopeId;
 use puffin_data::{Error, Result};
 use std::alloc::Global;
@@ -54,13 +54,6 @@ fn put_name(
     }
     let _none = by_name.insert(String::from_str(alloc, name)?, id)?;
     Ok(())
-}
-
-/// Returns whether some of these details have no id.
-fn any_lacks_id(details: &[Arc<ScopeDetails>]) -> bool
-    ensures { result ≡ list_any (λ d. lacks_id (details_of (arc_value d))) details.now }
-{
-    details.iter().any(|details| details.scope_id().is_none())
 }
 
 impl ScopeCollection {

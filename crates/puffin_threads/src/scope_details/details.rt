@@ -1,13 +1,16 @@
 ghost use Rattle.std.specs.Prelude.{◌≡◌, Some, string_bytes, IfOk, IfErr};
+ghost use Rattle.std.specs.List.{list_any};
+ghost use Rattle.std.specs.Arc.{arc_value};
 ghost use Rattle.std.specs.Cow.{cow_str_bytes};
 ghost use Rattle.puffin_data.specs.declared.error.Error.{Error};
-ghost use Rattle.puffin_threads.specs.Details.{details_of, default_details, name_of, type_of, location_of, with_id};
+ghost use Rattle.puffin_threads.specs.Details.{details_of, default_details, name_of, type_of, location_of, with_id, lacks_id};
 
 use crate::scope_details::scope_type::ScopeType;
 use puffin_data::data::ScopeId;
 use puffin_data::{Error, Result};
 use std::alloc::Global;
 use std::borrow::CowStr;
+use std::sync::Arc;
 
 /// The details of a scope: its id, its names and its place in the code. Details are ordered by id, then by scope name,
 /// function, file and line; a missing id or name comes first.
@@ -141,4 +144,11 @@ impl Default for ScopeDetails {
             line_nr: 0,
         }
     }
+}
+
+/// Returns whether some of these details have no id.
+pub fn any_lacks_id(details: &[Arc<ScopeDetails>]) -> bool
+    ensures { result ≡ list_any (λ d. lacks_id (details_of (arc_value d))) details.now }
+{
+    details.iter().any(|details| details.scope_id().is_none())
 }

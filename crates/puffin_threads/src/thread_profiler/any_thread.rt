@@ -22,7 +22,7 @@ pub trait AnyThread {
     ghost answers: { Self → ℤ → Self → Type 0 };
 
     /// Ends the innermost open scope, as [`ThreadProfiler::end_scope`] does.
-    fn end_innermost<R: Reporter>(&mut self, offset: usize, reporter: &mut R) -> Result<Closed>
+    fn end_scope<R: Reporter>(&mut self, offset: usize, reporter: &mut R) -> Result<Closed>
         ensures innermost { OnOk result (
             slice_get (offsets_of (recorded self.old)) 0 ≡ Some offset) }
         ensures mismatched { IfErr result (λ e.
@@ -37,7 +37,7 @@ pub trait AnyThread {
             reporter.new closed) };
 
     /// Reports the closed scopes that wait, as [`ThreadProfiler::report_closed`] does.
-    fn report_waiting<R: Reporter>(&mut self, reporter: &mut R) -> Result<bool>
+    fn report_closed<R: Reporter>(&mut self, reporter: &mut R) -> Result<bool>
         ensures reports { Reports R.accepts R.refuses (recorded self.old) (recorded self.new)
             reporter.old reporter.new result };
 }
@@ -49,11 +49,11 @@ impl<C: NsSource> AnyThread for ThreadProfiler<C> {
 
     ghost answers = { λ old at new. C.answers (clock_of old) at (clock_of new) };
 
-    fn end_innermost<R: Reporter>(&mut self, offset: usize, reporter: &mut R) -> Result<Closed> {
+    fn end_scope<R: Reporter>(&mut self, offset: usize, reporter: &mut R) -> Result<Closed> {
         self.end_scope(offset, reporter)
     }
 
-    fn report_waiting<R: Reporter>(&mut self, reporter: &mut R) -> Result<bool> {
+    fn report_closed<R: Reporter>(&mut self, reporter: &mut R) -> Result<bool> {
         self.report_closed(reporter)
     }
 }

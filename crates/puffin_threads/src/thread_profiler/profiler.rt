@@ -25,7 +25,7 @@ impl<C: NsSource> ThreadProfiler<C> {
     ghost use Rattle.puffin_data.specs.Forest.Spelling.{size_offset};
     ghost use Rattle.puffin_data.specs.Text.{cut_text};
     ghost use Rattle.puffin_data.specs.Forest.Words.{word_size, open_after};
-    ghost use Rattle.puffin_threads.specs.Thread.Calls.{after_begin, after_end, RegistersScope, offsets_of};
+    ghost use Rattle.puffin_threads.specs.Thread.Calls.{new_thread, after_begin, after_end, RegistersScope, offsets_of};
     ghost use Rattle.puffin_threads.specs.Details.{default_details};
     ghost use Rattle.puffin_threads.specs.Thread.Closing.{Closes, Reports};
     ghost use Rattle.puffin_threads.specs.Thread.ThreadProfiler.{thread_of, clock_of, allocator_of, with_clock};
@@ -39,14 +39,7 @@ impl<C: NsSource> ThreadProfiler<C> {
     /// let mut thread = ThreadProfiler::new(alloc, name, SystemClock::new(rt)?);
     /// ```
     pub fn new(alloc: Global, name: String, clock: C) -> ThreadProfiler<C>
-        ensures thread { thread_of result ≡ record {
-          name = string_bytes name;
-          form = Form.Short;
-          first_start = None;
-          latest = pos 0;
-          word = [];
-          details = [];
-        } }
+        ensures thread { thread_of result ≡ new_thread (string_bytes name) Form.Short }
         ensures clock { clock_of result ≡ clock }
         ensures allocator { allocator_of result ≡ alloc }
     {
@@ -55,14 +48,7 @@ impl<C: NsSource> ThreadProfiler<C> {
 
     /// Makes a profiler of a thread with this name, without scopes and in this form.
     pub fn with_form(alloc: Global, name: String, clock: C, form: Form) -> ThreadProfiler<C>
-        ensures thread { thread_of result ≡ record {
-          name = string_bytes name;
-          form = form;
-          first_start = None;
-          latest = pos 0;
-          word = [];
-          details = [];
-        } }
+        ensures thread { thread_of result ≡ new_thread (string_bytes name) form }
         ensures clock { clock_of result ≡ clock }
         ensures allocator { allocator_of result ≡ alloc }
     {

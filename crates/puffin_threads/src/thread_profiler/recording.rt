@@ -7,7 +7,7 @@ ghost use Rattle.puffin_data.specs.declared.error.Error.{Error};
 ghost use Rattle.puffin_data.specs.Forest.Spelling.{begin_bytes, size_offset, head_size};
 ghost use Rattle.puffin_data.specs.Text.{cut_text};
 ghost use Rattle.puffin_data.specs.Forest.Words.{word_size, open_after};
-ghost use Rattle.puffin_threads.specs.Thread.Calls.{after_begin, after_end, after_handing, RegistersScope, offsets_of};
+ghost use Rattle.puffin_threads.specs.Thread.Calls.{new_thread, after_begin, after_end, after_handing, RegistersScope, offsets_of};
 ghost use Rattle.puffin_threads.specs.Thread.Closing.{GoesTo};
 ghost use Rattle.puffin_threads.specs.Details.{details_of};
 
@@ -142,14 +142,7 @@ fn write_begin(stream: &mut Stream, at: NanoSecond, id: ScopeId, text: &str) -> 
 impl Recording {
     /// Makes a recording without scopes, in this form.
     pub(crate) fn new(alloc: Global, name: String, form: Form) -> Recording
-        ensures { result ≡ record {
-          name = string_bytes name;
-          form = form;
-          first_start = None;
-          latest = pos 0;
-          word = [];
-          details = [];
-        } }
+        ensures { result ≡ new_thread (string_bytes name) form }
     {
         Recording {
             name,
