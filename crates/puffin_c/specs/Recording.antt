@@ -1,25 +1,14 @@
 -- What the calls on a thread's handle do to what it holds.
-use Rattle.std.specs.Prelude.{◌≡◌, ◌≢◌, ◌⊎◌, ℕ, ◌<◌, ℤ, pos, Bool, true, List, [], ◌∷◌, Option, Some, None, Result, Ok, Err, is_some, slice_get}
+use Rattle.std.specs.Prelude.{◌≡◌, ◌≢◌, ◌⊎◌, ℕ, ◌<◌, ℤ, Bool, true, List, [], ◌∷◌, Option, Some, None, Result, Ok, Err, is_some, slice_get}
 use Rattle.std.specs.Str.{IsUtf8}
 use Rattle.puffin_data.specs.declared.data.form.Form.{Form}
 use Rattle.puffin_data.specs.declared.error.Error.TheVariants as error
 use Rattle.puffin_data.specs.Text.{cut_text}
 use Rattle.puffin_threads.specs.Details.{Details, default_details, with_id}
-use Rattle.puffin_threads.specs.Thread.Calls.{Thread, after_begin, after_end, after_registering, offsets_of}
+use Rattle.puffin_threads.specs.Thread.Calls.{Thread, new_thread, after_begin, after_end, after_registering, offsets_of}
 use Rattle.puffin_c.specs.declared.fault.Fault.{Fault}
 use Rattle.puffin_c.specs.declared.fault.Fault.TheVariants as fault
 use Rattle.puffin_c.specs.Times.{clock_time, begun_place}
-
--- a thread of this name and form, before its first scope
-abbrev pub new_thread : List ℕ → Form → Thread
-new_thread name form = record {
-  name = name;
-  form = form;
-  first_start = None;
-  latest = pos 0;
-  word = [];
-  details = [];
-}
 
 -- why a text isn't taken
 abbrev pub IsNoText : List ℕ → Fault → Type 0

@@ -3,13 +3,12 @@
 ghost use Rattle.std.specs.Prelude.{◌≡◌, ◌≢◌, Some, OnOk, OnErr, IfOk, IfErr, string_bytes, slice_get};
 ghost use Rattle.puffin_data.specs.declared.error.Error.TheVariants.{Memory, MismatchedEnd};
 ghost use Rattle.puffin_data.specs.Text.{cut_text};
-ghost use Rattle.puffin_threads.specs.Thread.Calls.{after_begin, after_end, offsets_of};
+ghost use Rattle.puffin_threads.specs.Thread.Calls.{new_thread, after_begin, after_end, offsets_of};
 ghost use Rattle.puffin_threads.specs.Thread.Calls.{RegistersScope};
 ghost use Rattle.puffin_threads.specs.Thread.Closing.{Reports};
 ghost use Rattle.puffin_threads.specs.Details.{default_details};
 ghost use Rattle.puffin_collector.specs.Collector.State.{AcceptsReport, RefusesReport};
 ghost use Rattle.puffin_c.specs.Times.{clock_time, begun_place};
-ghost use Rattle.puffin_c.specs.Recording.{new_thread};
 
 use crate::shared_ids::SharedIds;
 use puffin_collector::Collector;

@@ -6,7 +6,7 @@ pub mod Notes
 pub mod Actions
 pub mod Replies
 pub mod Runs
-use Rattle.std.specs.Prelude.{◌≡◌, ℕ, ◌+◌, ◌<◌, pos, false, List, [], length, map, Option, Some, None}
+use Rattle.std.specs.Prelude.{◌≡◌, ℕ, ◌+◌, ◌<◌, false, List, [], length, map, Option, Some, None}
 use Rattle.std.specs.List.{slice_index_or}
 use Rattle.std.specs.FinMap.{empty, entries, get}
 use Rattle.puffin_data.specs.declared.data.form.Form.{Form}
@@ -17,7 +17,7 @@ use Rattle.puffin_data.specs.Forest.Words.{word_size}
 use Rattle.puffin_data.specs.Text.{cut_text}
 use Rattle.puffin_data.specs.Honesty.{Recorded, IsHonestRecord}
 use Rattle.puffin_threads.specs.Thread.Info.{Info}
-use Rattle.puffin_threads.specs.Thread.Calls.{Thread}
+use Rattle.puffin_threads.specs.Thread.Calls.{Thread, new_thread}
 use Rattle.puffin_frames.specs.Frame.Contents.{Streams}
 use Rattle.puffin_threads.specs.Details.Collection.{no_details}
 use Rattle.puffin_collector.specs.Collector.State.{Collected}
@@ -32,17 +32,6 @@ pub record SessionState : Type 0 where
   pub threads : List Thread
   pub collected : Collected
 
--- a thread with this name and form, before its first scope
-abbrev pub new_thread : List ℕ × Form → Thread
-new_thread thread = record {
-  name = thread.0;
-  form = thread.1;
-  first_start = None;
-  latest = pos 0;
-  word = [];
-  details = [];
-}
-
 abbrev pub nothing_collected : Collected
 nothing_collected = record {
   index = 0;
@@ -56,7 +45,7 @@ nothing_collected = record {
 
 -- a session of these threads, before any command
 abbrev pub new_session : List (List ℕ × Form) → SessionState
-new_session threads = record { threads = map new_thread threads; collected = nothing_collected }
+new_session threads = record { threads = map (λ thread. new_thread thread.0 thread.1) threads; collected = nothing_collected }
 
 -- the word that bytes spell in a form
 abbrev pub word_in : Form → List ℕ → Word

@@ -3,8 +3,8 @@ ghost use Rattle.std.specs.String.{string_bytes};
 ghost use Rattle.puffin_data.specs.Text.{cut_text};
 ghost use Rattle.puffin_data.specs.Forest.Words.{open_after};
 ghost use Rattle.puffin_threads.specs.Details.{AllHaveIds};
-ghost use Rattle.puffin_threads.specs.Thread.Calls.{after_begin, after_registering};
-ghost use Rattle.puffin_session.specs.Session.{new_thread, begun_place};
+ghost use Rattle.puffin_threads.specs.Thread.Calls.{new_thread, after_begin, after_registering};
+ghost use Rattle.puffin_session.specs.Session.{begun_place};
 ghost use Rattle.puffin_session.specs.Session.Actions.{details_given};
 ghost use Rattle.puffin_session.specs.inner.Serving.{clock_time, EndsInnermost};
 
@@ -42,7 +42,7 @@ impl Model for Profiled {
 impl Profiled {
     /// Makes a thread without scopes, in this form.
     pub(crate) fn new(alloc: Global, name: String, form: Form) -> Profiled
-        ensures { result ≡ new_thread (string_bytes name, form) }
+        ensures { result ≡ new_thread (string_bytes name) form }
     {
         Profiled {
             profiler: ThreadProfiler::with_form(alloc, name, ScriptClock::new(0), form),

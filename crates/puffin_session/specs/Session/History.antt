@@ -6,7 +6,7 @@ use Rattle.puffin_data.specs.declared.data.form.Form.{Form}
 use Rattle.puffin_data.specs.declared.data.form.Form.TheVariants.{Short}
 use Rattle.puffin_data.specs.Forest.Tour.{Event}
 use Rattle.puffin_threads.specs.Thread.Info.{Info}
-use Rattle.puffin_threads.specs.Thread.Calls.{Thread}
+use Rattle.puffin_threads.specs.Thread.Calls.{Thread, new_thread}
 use Rattle.puffin_threads.specs.Details.{Details}
 use Rattle.puffin_threads.specs.Details.Collection.{Collection}
 
@@ -54,14 +54,7 @@ pub data Action : Type 0 where
 -- ---- the calls of one thread
 
 abbrev pub nobody : Thread
-nobody = record {
-  name = [];
-  form = Short;
-  first_start = None;
-  latest = pos 0;
-  word = [];
-  details = [];
-}
+nobody = new_thread [] Short
 
 abbrev pub thread_at : Opening → ℕ → Thread
 thread_at o t = slice_index_or o.threads t nobody
