@@ -6,7 +6,7 @@
 //!
 //! | to | call |
 //! |---|---|
-//! | write a scope | [`data::Stream::begin_scope`], [`data::Stream::end_scope`] |
+//! | write a scope | [`data::Stream::begin_scope`] or [`data::Stream::begin_scope_at`], then [`data::Stream::end_scope`] |
 //! | write scopes with texts of up to 16,383 bytes | [`data::Stream::with_form`] with [`data::Form::Long`] |
 //! | check that bytes are scopes, and count them | [`data::StreamInfo::parse`], [`data::walk_forest`], [`data::Reader::count_scope_and_depth`] |
 //! | visit each scope of a stream | [`data::walk_with`] a [`data::Visitor`] |

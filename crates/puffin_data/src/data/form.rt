@@ -87,7 +87,8 @@ impl Form {
         self.longer_begin_size(text)
     }
 
-    /// Does the same with a text that may have to be cut, and whose length may take two bytes.
+    /// Does the same with a text that may have to be cut, and whose length may take two bytes. It is out of line, as such texts
+    /// are rare.
     #[inline(never)]
     fn longer_begin_size(self, text: &str) -> usize
         ensures { result ≡ head_size self (cut_text self text.now) }

@@ -18,7 +18,7 @@ use std::marker::Model;
 ///
 /// ```
 /// let mut stream = Stream::new(alloc);
-/// let (offset, start) = stream.begin_scope(|| 100, id, "data")?;
+/// let offset = stream.begin_scope_at(100, id, "data")?;
 /// stream.end_scope(offset, 300)?;
 /// ```
 #[derive(Drop)]
