@@ -19,7 +19,7 @@ pub struct ThreadProfiler<C> {
 }
 
 impl<C: NsSource> ThreadProfiler<C> {
-    ghost use Rattle.std.specs.Prelude.{◌≡◌, ◌≢◌, ◌+◌, ℤ, pos, ◌≤ℤ◌, [], length, None, Some, OnOk, OnErr, IfOk, IfErr, string_bytes, slice_get};
+    ghost use Rattle.std.specs.Prelude.{◌≡◌, ◌≢◌, ◌+◌, ℤ, pos, ◌≤ℤ◌, length, Some, OnOk, OnErr, IfOk, IfErr, string_bytes, slice_get};
     ghost use Rattle.puffin_data.specs.declared.error.Error.{Error};
     ghost use Rattle.std.specs.Cow.{cow_str_bytes};
     ghost use Rattle.puffin_data.specs.Forest.Spelling.{size_offset};
