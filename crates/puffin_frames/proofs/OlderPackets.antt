@@ -9,8 +9,11 @@ use Rattle.puffin_data.specs.declared.data.form.Form.TheVariants.{Short}
 use Rattle.puffin_data.specs.Value.Layout.{number, signed}
 use Rattle.puffin_data.proofs.lemmas.Readers.{whole_again}
 use Rattle.puffin_threads.specs.Details.{Details}
+use Rattle.puffin_frames.specs.declared.frame_data.kind.Kind.{Kind}
+use Rattle.puffin_frames.specs.declared.frame_data.kind.Kind.TheVariants.{Zstd}
 use Rattle.puffin_frames.specs.Packet.Structs.{meta_layout, streams_layout, Legacy, IsLegacy, legacy_layout, legacy_at}
 use Rattle.puffin_frames.specs.Packet.Stored.{Said, packed, legacy}
+use Rattle.puffin_frames.specs.Packet.Kinds.{to_byte, kind_of_byte}
 use Rattle.puffin_frames.specs.Packet.Letters.{is_packet}
 use Rattle.puffin_frames.specs.Packet.Parts.{streams_part_at, legacy_part_at}
 use Rattle.puffin_frames.specs.Packet.Forms.{packet_at, stored_after, as_stored}
@@ -23,18 +26,18 @@ use Rattle.puffin_frames.proofs.Packets.{part_again, length_again, meta_again}
 
 -- ---- without details
 
-streams_51 : (p : Said) (rest : List ℕ) → IsPacked p → streams_part_at 51 (little_bytes 4 (length p.streams) ++ (p.kind ∷ (p.streams ++ rest))) ≡ Ok ((p.kind, p.streams), rest)
+streams_51 : (p : Said) (rest : List ℕ) → IsPacked p → streams_part_at 51 (little_bytes 4 (length p.streams) ++ (to_byte p.kind ∷ (p.streams ++ rest))) ≡ Ok ((p.kind, p.streams), rest)
 streams_51 p rest h =
-    rw (length_again (length p.streams) (p.kind ∷ (p.streams ++ rest)) h.short, part_again 1 (p.kind ∷ []) (p.streams ++ rest) refl, h.kind, part_again (length p.streams) p.streams rest refl) refl
+    rw (length_again (length p.streams) (to_byte p.kind ∷ (p.streams ++ rest)) h.short, part_again 1 (to_byte p.kind ∷ []) (p.streams ++ rest) refl, kind_of_byte p.kind, part_again (length p.streams) p.streams rest refl) refl
 
 -- what older packets can't say otherwise
 without : (p : Said) → p.form ≡ Short → p.details ≡ [] → record p { form = Short; details = [] } ≡ p
 without p short none = ap (λ (form : Form). record p { form = form; details = [] }) (sym short) ∙ ap (λ (ds : List Details). record p { details = ds }) (sym none)
 
 parts_51 : (p : Said) (rest : List ℕ) → IsPacked p → p.form ≡ Short → p.details ≡ []
-    → packet_at 51 (counted_part (meta_layout p.meta) ++ (little_bytes 4 (length p.streams) ++ (p.kind ∷ (p.streams ++ rest)))) ≡ Ok (p, rest)
+    → packet_at 51 (counted_part (meta_layout p.meta) ++ (little_bytes 4 (length p.streams) ++ (to_byte p.kind ∷ (p.streams ++ rest)))) ≡ Ok (p, rest)
 parts_51 p rest h short none =
-    rw (meta_again p (little_bytes 4 (length p.streams) ++ (p.kind ∷ (p.streams ++ rest))) h, streams_51 p rest h) (ap (λ (s : Said). Ok (s, rest)) (without p short none))
+    rw (meta_again p (little_bytes 4 (length p.streams) ++ (to_byte p.kind ∷ (p.streams ++ rest))) h, streams_51 p rest h) (ap (λ (s : Said). Ok (s, rest)) (without p short none))
 
 after_51 : (xs : List ℕ) → next_at (80 ∷ 70 ∷ 68 ∷ 51 ∷ xs) ≡ as_stored packed (packet_at 51 xs)
 unfolding next_at
@@ -49,21 +52,21 @@ pub without_details_again : (p : Said) (rest : List ℕ) → IsPacked p → p.fo
 without_details_again p rest h short none =
     let m = counted_part (meta_layout p.meta) in
     let l = little_bytes 4 (length p.streams) in
-    ap next_at (row_51 m l p.streams rest p.kind) ∙ (after_51 (m ++ (l ++ (p.kind ∷ (p.streams ++ rest)))) ∙ ap (as_stored packed) (parts_51 p rest h short none))
+    ap next_at (row_51 m l p.streams rest (to_byte p.kind)) ∙ (after_51 (m ++ (l ++ (to_byte p.kind ∷ (p.streams ++ rest)))) ∙ ap (as_stored packed) (parts_51 p rest h short none))
 
 -- ---- without a kind
 
-streams_50 : (p : Said) (rest : List ℕ) → IsPacked p → streams_part_at 50 (little_bytes 4 (length p.streams) ++ (p.streams ++ rest)) ≡ Ok ((2, p.streams), rest)
+streams_50 : (p : Said) (rest : List ℕ) → IsPacked p → streams_part_at 50 (little_bytes 4 (length p.streams) ++ (p.streams ++ rest)) ≡ Ok ((Zstd, p.streams), rest)
 streams_50 p rest h =
     rw (length_again (length p.streams) (p.streams ++ rest) h.short, part_again (length p.streams) p.streams rest refl) refl
 
-older : (p : Said) → p.form ≡ Short → p.kind ≡ 2 → p.details ≡ [] → record p { form = Short; kind = 2; details = [] } ≡ p
-older p short two none = ap (λ (k : ℕ). record p { form = Short; kind = k; details = [] }) (sym two) ∙ without p short none
+older : (p : Said) → p.form ≡ Short → p.kind ≡ Zstd → p.details ≡ [] → record p { form = Short; kind = Zstd; details = [] } ≡ p
+older p short zstd none = ap (λ (k : Kind). record p { form = Short; kind = k; details = [] }) (sym zstd) ∙ without p short none
 
-parts_50 : (p : Said) (rest : List ℕ) → IsPacked p → p.form ≡ Short → p.kind ≡ 2 → p.details ≡ []
+parts_50 : (p : Said) (rest : List ℕ) → IsPacked p → p.form ≡ Short → p.kind ≡ Zstd → p.details ≡ []
     → packet_at 50 (counted_part (meta_layout p.meta) ++ (little_bytes 4 (length p.streams) ++ (p.streams ++ rest))) ≡ Ok (p, rest)
-parts_50 p rest h short two none =
-    rw (meta_again p (little_bytes 4 (length p.streams) ++ (p.streams ++ rest)) h, streams_50 p rest h) (ap (λ (s : Said). Ok (s, rest)) (older p short two none))
+parts_50 p rest h short zstd none =
+    rw (meta_again p (little_bytes 4 (length p.streams) ++ (p.streams ++ rest)) h, streams_50 p rest h) (ap (λ (s : Said). Ok (s, rest)) (older p short zstd none))
 
 after_50 : (xs : List ℕ) → next_at (80 ∷ 70 ∷ 68 ∷ 50 ∷ xs) ≡ as_stored packed (packet_at 50 xs)
 unfolding next_at
@@ -74,11 +77,11 @@ after_50 xs =
 pub row_50 : (m l s rest : List ℕ) → ((80 ∷ 70 ∷ 68 ∷ 50 ∷ []) ++ (m ++ (l ++ s))) ++ rest ≡ 80 ∷ 70 ∷ 68 ∷ 50 ∷ (m ++ (l ++ (s ++ rest)))
 row_50 m l s rest = simp append_assoc
 
-pub without_kind_again : (p : Said) (rest : List ℕ) → IsPacked p → p.form ≡ Short → p.kind ≡ 2 → p.details ≡ [] → next_at (packet_without_kind p ++ rest) ≡ Ok (Some (packed p), rest)
-without_kind_again p rest h short two none =
+pub without_kind_again : (p : Said) (rest : List ℕ) → IsPacked p → p.form ≡ Short → p.kind ≡ Zstd → p.details ≡ [] → next_at (packet_without_kind p ++ rest) ≡ Ok (Some (packed p), rest)
+without_kind_again p rest h short zstd none =
     let m = counted_part (meta_layout p.meta) in
     let l = little_bytes 4 (length p.streams) in
-    ap next_at (row_50 m l p.streams rest) ∙ (after_50 (m ++ (l ++ (p.streams ++ rest))) ∙ ap (as_stored packed) (parts_50 p rest h short two none))
+    ap next_at (row_50 m l p.streams rest) ∙ (after_50 (m ++ (l ++ (p.streams ++ rest))) ∙ ap (as_stored packed) (parts_50 p rest h short zstd none))
 
 -- ---- the first form
 

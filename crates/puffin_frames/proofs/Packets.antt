@@ -12,6 +12,7 @@ use Rattle.puffin_data.specs.Value.Layout.{NoneBeginsAnother}
 use Rattle.puffin_data.proofs.lemmas.Readers.{whole_again}
 use Rattle.puffin_frames.specs.Packet.Structs.{IsMeta, meta_layout, meta_at, AreDetails, details_layout, details_at}
 use Rattle.puffin_frames.specs.Packet.Stored.{Said, Stored, packed}
+use Rattle.puffin_frames.specs.Packet.Kinds.{to_byte, kind_of_byte}
 use Rattle.puffin_frames.specs.Packet.Letters.{letter_for, form_behind}
 use Rattle.puffin_frames.specs.Packet.Parts.{meta_part_at, streams_part_at, details_part_at}
 use Rattle.puffin_frames.specs.Packet.Forms.{packet_at, as_stored}
@@ -48,19 +49,19 @@ pub letter_of : (form : Form) → Letter form (letter_for form)
 letter_of Short = record { other = refl; details = refl; behind = refl }
 letter_of Long = record { other = refl; details = refl; behind = refl }
 
-streams_again : (p : Said) (rest : List ℕ) → IsPacked p → streams_part_at (letter_for p.form) (little_bytes 4 (length p.streams) ++ (p.kind ∷ (p.streams ++ rest))) ≡ Ok ((p.kind, p.streams), rest)
+streams_again : (p : Said) (rest : List ℕ) → IsPacked p → streams_part_at (letter_for p.form) (little_bytes 4 (length p.streams) ++ (to_byte p.kind ∷ (p.streams ++ rest))) ≡ Ok ((p.kind, p.streams), rest)
 streams_again p rest h =
-    rw ((letter_of p.form).other, length_again (length p.streams) (p.kind ∷ (p.streams ++ rest)) h.short, part_again 1 (p.kind ∷ []) (p.streams ++ rest) refl, h.kind, part_again (length p.streams) p.streams rest refl) refl
+    rw ((letter_of p.form).other, length_again (length p.streams) (to_byte p.kind ∷ (p.streams ++ rest)) h.short, part_again 1 (to_byte p.kind ∷ []) (p.streams ++ rest) refl, kind_of_byte p.kind, part_again (length p.streams) p.streams rest refl) refl
 
 details_again : (p : Said) (rest : List ℕ) → IsPacked p → details_part_at (letter_for p.form) (counted_part (details_layout p.details) ++ rest) ≡ Ok (p.details, rest)
 details_again p rest h =
     rw ((letter_of p.form).details, counted_again (details_layout p.details) rest h.details_short, whole_again AreDetails details_layout details_at details_reader p.details h.details) refl
 
 parts_again : (p : Said) (rest : List ℕ) → IsPacked p
-    → packet_at (letter_for p.form) (counted_part (meta_layout p.meta) ++ (little_bytes 4 (length p.streams) ++ (p.kind ∷ (p.streams ++ (counted_part (details_layout p.details) ++ rest))))) ≡ Ok (p, rest)
+    → packet_at (letter_for p.form) (counted_part (meta_layout p.meta) ++ (little_bytes 4 (length p.streams) ++ (to_byte p.kind ∷ (p.streams ++ (counted_part (details_layout p.details) ++ rest))))) ≡ Ok (p, rest)
 parts_again p rest h =
     let d = counted_part (details_layout p.details) ++ rest in
-    rw (meta_again p (little_bytes 4 (length p.streams) ++ (p.kind ∷ (p.streams ++ d))) h, streams_again p d h, details_again p rest h) (ap (λ (form : Form). Ok (record p { form = form }, rest)) (letter_of p.form).behind)
+    rw (meta_again p (little_bytes 4 (length p.streams) ++ (to_byte p.kind ∷ (p.streams ++ d))) h, streams_again p d h, details_again p rest h) (ap (λ (form : Form). Ok (record p { form = form }, rest)) (letter_of p.form).behind)
 
 after_letters : (form : Form) (xs : List ℕ) → next_at (80 ∷ 70 ∷ 68 ∷ letter_for form ∷ xs) ≡ as_stored packed (packet_at (letter_for form) xs)
 unfolding next_at
@@ -81,7 +82,7 @@ packet_again p rest h =
     let m = counted_part (meta_layout p.meta) in
     let l = little_bytes 4 (length p.streams) in
     let d = counted_part (details_layout p.details) in
-    ap next_at (in_a_row m l p.streams d rest (letter_for p.form) p.kind) ∙ (after_letters p.form (m ++ (l ++ (p.kind ∷ (p.streams ++ (d ++ rest))))) ∙ ap (as_stored packed) (parts_again p rest h))
+    ap next_at (in_a_row m l p.streams d rest (letter_for p.form) (to_byte p.kind)) ∙ (after_letters p.form (m ++ (l ++ (to_byte p.kind ∷ (p.streams ++ (d ++ rest))))) ∙ ap (as_stored packed) (parts_again p rest h))
 
 said_is : (a b : Said) → packed a ≡ packed b → a ≡ b
 said_is a b e = cc

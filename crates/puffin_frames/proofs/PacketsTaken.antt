@@ -1,6 +1,6 @@
 -- A frame is read from bytes that store it, and from no others.
 use Rattle.std.proofs.Common.{◌≡◌, ℕ, ◌^◌, ◌<◌, ◌≤◌, ◌⊎◌, inl, inr, Bool, true, false, cond, ltb, eqb, ◌||◌, List, [], ◌∷◌, ◌++◌, length, take, drop, Option, Some, None, Result, Ok, Err, refl, sym, ap, subst, ◌∙◌, append_assoc, arith}
-use Rattle.std.specs.Prelude.{◌↔◌, nat_lt, slice_index}
+use Rattle.std.specs.Prelude.{◌↔◌, slice_index}
 use Rattle.std.proofs.lemmas.Bool.{ltb-false, eqb-true}
 use Rattle.std.proofs.lemmas.List.{append-nil, take_all, take-append-drop, length-take, length-append}
 use Rattle.byteorder.specs.Endian.{little_bytes, little_number}
@@ -14,8 +14,11 @@ use Rattle.puffin_data.specs.Part.{◌>>=◌, part_of, part_length_at}
 use Rattle.puffin_data.proofs.lemmas.Numbers.{IsBytes-take, IsBytes-drop, IsBytes-nil, IsBytes-append, bytes_4, below_4}
 use Rattle.puffin_data.proofs.lemmas.Readers.{IsBytes-after}
 use Rattle.puffin_threads.specs.Details.{Details}
+use Rattle.puffin_frames.specs.declared.frame_data.kind.Kind.{Kind}
+use Rattle.puffin_frames.specs.declared.frame_data.kind.Kind.TheVariants.{Zstd}
 use Rattle.puffin_frames.specs.Packet.Structs.{meta_layout, details_layout, Legacy, legacy_layout}
 use Rattle.puffin_frames.specs.Packet.Stored.{Said, Stored, packed, legacy}
+use Rattle.puffin_frames.specs.Packet.Kinds.{to_byte}
 use Rattle.puffin_frames.specs.Packet.Letters.{letter_for, form_behind, is_packet}
 use Rattle.puffin_frames.specs.Packet.Parts.{meta_part_at, kind_at, streams_part_at, given_details_at, details_part_at, legacy_part_at}
 use Rattle.puffin_frames.specs.Packet.Forms.{packet_at, form_at, as_stored, stored_after}
@@ -29,10 +32,9 @@ use Rattle.puffin_frames.proofs.Packets.{Letter, letter_of, packet_again, in_a_r
 
 -- ---- streams
 
-record StreamsTaken (bytes : List ℕ) (k : ℕ) (s rest : List ℕ) : Type 0 where
-  known : nat_lt 2 k ≡ false
+record StreamsTaken (bytes : List ℕ) (k : Kind) (s rest : List ℕ) : Type 0 where
   short : length s < 2 ^ 32
-  text : bytes ≡ little_bytes 4 (length s) ++ (k ∷ (s ++ rest))
+  text : bytes ≡ little_bytes 4 (length s) ++ (to_byte k ∷ (s ++ rest))
 
 otherwise : {A : Type 0} (b : Bool) (x y z : A) → b ≡ false → cond b x y ≡ z → y ≡ z
 otherwise b x y z fails e = rw fails at e
@@ -40,35 +42,35 @@ otherwise b x y z fails e = rw fails at e
 only : {A : Type 0} (b : Bool) (x y z : A) → b ≡ true → cond b x y ≡ z → x ≡ z
 only b x y z holds e = rw holds at e
 
-streams_taken : (letter : ℕ) (bytes : List ℕ) (ks : ℕ × List ℕ) (rest : List ℕ) → eqb letter 50 ≡ false → IsBytes bytes → streams_part_at letter bytes ≡ Ok (ks, rest) → StreamsTaken bytes ks.0 ks.1 rest
+streams_taken : (letter : ℕ) (bytes : List ℕ) (ks : Kind × List ℕ) (rest : List ℕ) → eqb letter 50 ≡ false → IsBytes bytes → streams_part_at letter bytes ≡ Ok (ks, rest) → StreamsTaken bytes ks.0 ks.1 rest
 streams_taken letter bytes ks rest other is e =
     let a = bind_ok (part_length_at bytes) (λ n. kind_at letter n.1 >>= λ kind. part_of n.0 kind.1 >>= λ streams. Ok ((kind.0, streams.0), streams.1)) (ks, rest) e in
     let b = bind_ok (kind_at letter a.0.1) (λ kind. part_of a.0.0 kind.1 >>= λ streams. Ok ((kind.0, streams.0), streams.1)) (ks, rest) a.2 in
     let d = bind_ok (part_of a.0.0 b.0.1) (λ streams. Ok ((b.0.0, streams.0), streams.1)) (ks, rest) b.2 in
     let l = length_taken bytes a.0.0 a.0.1 is a.1 in
-    let k = kind_taken a.0.1 b.0.0 b.0.1 (otherwise (eqb letter 50) (Ok (2, a.0.1)) (given_kind_at a.0.1) (Ok b.0) other b.1) in
+    let k = kind_taken a.0.1 b.0.0 b.0.1 (otherwise (eqb letter 50) (Ok (Zstd, a.0.1)) (given_kind_at a.0.1) (Ok b.0) other b.1) in
     let p = part_taken a.0.0 b.0.1 d.0.0 d.0.1 d.1 in
-    let made : ((ℕ × List ℕ) × List ℕ) = ((b.0.0, d.0.0), d.0.1) in
-    let text : bytes ≡ little_bytes 4 a.0.0 ++ (b.0.0 ∷ (d.0.0 ++ d.0.1)) = l.1 ∙ ap (λ (t : List ℕ). little_bytes 4 a.0.0 ++ t) (k.1 ∙ ap (λ (t : List ℕ). b.0.0 ∷ t) p.1) in
-    let taken : StreamsTaken bytes b.0.0 d.0.0 d.0.1 = record { known = k.0; short = rw p.0 l.0; text = rw p.0 text } in
-    subst (λ (y : (ℕ × List ℕ) × List ℕ). StreamsTaken bytes y.0.0 y.0.1 y.1) (same_ok made (ks, rest) d.2) taken
+    let made : ((Kind × List ℕ) × List ℕ) = ((b.0.0, d.0.0), d.0.1) in
+    let text : bytes ≡ little_bytes 4 a.0.0 ++ (to_byte b.0.0 ∷ (d.0.0 ++ d.0.1)) = l.1 ∙ ap (λ (t : List ℕ). little_bytes 4 a.0.0 ++ t) (k ∙ ap (λ (t : List ℕ). to_byte b.0.0 ∷ t) p.1) in
+    let taken : StreamsTaken bytes b.0.0 d.0.0 d.0.1 = record { short = rw p.0 l.0; text = rw p.0 text } in
+    subst (λ (y : (Kind × List ℕ) × List ℕ). StreamsTaken bytes y.0.0 y.0.1 y.1) (same_ok made (ks, rest) d.2) taken
 
-record PlainTaken (bytes : List ℕ) (k : ℕ) (s rest : List ℕ) : Type 0 where
-  two : k ≡ 2
+record PlainTaken (bytes : List ℕ) (k : Kind) (s rest : List ℕ) : Type 0 where
+  zstd : k ≡ Zstd
   short : length s < 2 ^ 32
   text : bytes ≡ little_bytes 4 (length s) ++ (s ++ rest)
 
 -- without a kind
-plain_taken : (bytes : List ℕ) (ks : ℕ × List ℕ) (rest : List ℕ) → IsBytes bytes → streams_part_at 50 bytes ≡ Ok (ks, rest) → PlainTaken bytes ks.0 ks.1 rest
+plain_taken : (bytes : List ℕ) (ks : Kind × List ℕ) (rest : List ℕ) → IsBytes bytes → streams_part_at 50 bytes ≡ Ok (ks, rest) → PlainTaken bytes ks.0 ks.1 rest
 plain_taken bytes ks rest is e =
-    let a = bind_ok (part_length_at bytes) (λ n. part_of n.0 n.1 >>= λ streams. Ok ((2, streams.0), streams.1)) (ks, rest) e in
-    let d = bind_ok (part_of a.0.0 a.0.1) (λ streams. Ok ((2, streams.0), streams.1)) (ks, rest) a.2 in
+    let a = bind_ok (part_length_at bytes) (λ n. part_of n.0 n.1 >>= λ streams. Ok ((Zstd, streams.0), streams.1)) (ks, rest) e in
+    let d = bind_ok (part_of a.0.0 a.0.1) (λ streams. Ok ((Zstd, streams.0), streams.1)) (ks, rest) a.2 in
     let l = length_taken bytes a.0.0 a.0.1 is a.1 in
     let p = part_taken a.0.0 a.0.1 d.0.0 d.0.1 d.1 in
-    let made : ((ℕ × List ℕ) × List ℕ) = ((2, d.0.0), d.0.1) in
+    let made : ((Kind × List ℕ) × List ℕ) = ((Zstd, d.0.0), d.0.1) in
     let text : bytes ≡ little_bytes 4 a.0.0 ++ (d.0.0 ++ d.0.1) = l.1 ∙ ap (λ (t : List ℕ). little_bytes 4 a.0.0 ++ t) p.1 in
-    let taken : PlainTaken bytes 2 d.0.0 d.0.1 = record { two = refl; short = rw p.0 l.0; text = rw p.0 text } in
-    subst (λ (y : (ℕ × List ℕ) × List ℕ). PlainTaken bytes y.0.0 y.0.1 y.1) (same_ok made (ks, rest) d.2) taken
+    let taken : PlainTaken bytes Zstd d.0.0 d.0.1 = record { zstd = refl; short = rw p.0 l.0; text = rw p.0 text } in
+    subst (λ (y : (Kind × List ℕ) × List ℕ). PlainTaken bytes y.0.0 y.0.1 y.1) (same_ok made (ks, rest) d.2) taken
 
 -- ---- what follows the letters
 
@@ -78,7 +80,7 @@ none_short = omega (arith, number_short 0, length-append (number 0) [])
 record FullTaken (form : Form) (bytes : List ℕ) (p : Said) (rest : List ℕ) : Type 0 where
   is_packed : IsPacked p
   form_is : p.form ≡ form
-  text : bytes ≡ counted_part (meta_layout p.meta) ++ (little_bytes 4 (length p.streams) ++ (p.kind ∷ (p.streams ++ (counted_part (details_layout p.details) ++ rest))))
+  text : bytes ≡ counted_part (meta_layout p.meta) ++ (little_bytes 4 (length p.streams) ++ (to_byte p.kind ∷ (p.streams ++ (counted_part (details_layout p.details) ++ rest))))
 
 full_taken : (form : Form) (letter : ℕ) → Letter form letter → (bytes : List ℕ) (p : Said) (rest : List ℕ) → IsBytes bytes → packet_at letter bytes ≡ Ok (p, rest) → FullTaken form bytes p rest
 full_taken form letter says bytes p rest is e =
@@ -88,14 +90,14 @@ full_taken form letter says bytes p rest is e =
     let m = meta_taken bytes a.0.0 a.0.1 is a.1 in
     let after_meta : IsBytes a.0.1 = IsBytes-after bytes (counted_part (meta_layout a.0.0)) a.0.1 m.text is in
     let s = streams_taken letter a.0.1 b.0.0 b.0.1 says.other after_meta b.1 in
-    let after_streams : IsBytes b.0.1 = IsBytes-after (b.0.0.1 ++ b.0.1) b.0.0.1 b.0.1 refl (IsBytes-after a.0.1 (little_bytes 4 (length b.0.0.1) ++ (b.0.0.0 ∷ [])) (b.0.0.1 ++ b.0.1) (s.text ∙ sym (append_assoc (little_bytes 4 (length b.0.0.1)) (b.0.0.0 ∷ []) (b.0.0.1 ++ b.0.1))) after_meta) in
+    let after_streams : IsBytes b.0.1 = IsBytes-after (b.0.0.1 ++ b.0.1) b.0.0.1 b.0.1 refl (IsBytes-after a.0.1 (little_bytes 4 (length b.0.0.1) ++ (to_byte b.0.0.0 ∷ [])) (b.0.0.1 ++ b.0.1) (s.text ∙ sym (append_assoc (little_bytes 4 (length b.0.0.1)) (to_byte b.0.0.0 ∷ []) (b.0.0.1 ++ b.0.1))) after_meta) in
     let t = details_taken b.0.1 d.0.0 d.0.1 after_streams (only (eqb letter 52 || eqb letter 76) (given_details_at b.0.1) (Ok ([], b.0.1)) (Ok d.0) says.details d.1) in
     let said : Said = record { meta = a.0.0; form = form_behind letter; kind = b.0.0.0; streams = b.0.0.1; details = d.0.0 } in
     let made : (Said × List ℕ) = (said, d.0.1) in
     let taken : FullTaken form bytes said d.0.1 = record {
       form_is = says.behind;
-      is_packed = record { meta = m.fits; range = m.range; kind = s.known; short = s.short; details = t.fits; details_short = t.short };
-      text = m.text ∙ ap (λ (x : List ℕ). counted_part (meta_layout a.0.0) ++ x) (s.text ∙ ap (λ (x : List ℕ). little_bytes 4 (length b.0.0.1) ++ (b.0.0.0 ∷ (b.0.0.1 ++ x))) t.text);
+      is_packed = record { meta = m.fits; range = m.range; short = s.short; details = t.fits; details_short = t.short };
+      text = m.text ∙ ap (λ (x : List ℕ). counted_part (meta_layout a.0.0) ++ x) (s.text ∙ ap (λ (x : List ℕ). little_bytes 4 (length b.0.0.1) ++ (to_byte b.0.0.0 ∷ (b.0.0.1 ++ x))) t.text);
     } in
     subst (λ (y : Said × List ℕ). FullTaken form bytes y.0 y.1) (same_ok made (p, rest) d.2) taken
 
@@ -103,7 +105,7 @@ record KindTaken (bytes : List ℕ) (p : Said) (rest : List ℕ) : Type 0 where
   is_packed : IsPacked p
   form_is : p.form ≡ Short
   none : p.details ≡ []
-  text : bytes ≡ counted_part (meta_layout p.meta) ++ (little_bytes 4 (length p.streams) ++ (p.kind ∷ (p.streams ++ rest)))
+  text : bytes ≡ counted_part (meta_layout p.meta) ++ (little_bytes 4 (length p.streams) ++ (to_byte p.kind ∷ (p.streams ++ rest)))
 
 without_details_taken : (bytes : List ℕ) (p : Said) (rest : List ℕ) → IsBytes bytes → packet_at 51 bytes ≡ Ok (p, rest) → KindTaken bytes p rest
 without_details_taken bytes p rest is e =
@@ -117,7 +119,7 @@ without_details_taken bytes p rest is e =
     let made : (Said × List ℕ) = (said, b.0.1) in
     let taken : KindTaken bytes said b.0.1 = record {
       form_is = refl;
-      is_packed = record { meta = m.fits; range = m.range; kind = s.known; short = s.short; details = (omega arith, tt); details_short = none_short };
+      is_packed = record { meta = m.fits; range = m.range; short = s.short; details = (omega arith, tt); details_short = none_short };
       none = refl;
       text = m.text ∙ ap (λ (x : List ℕ). counted_part (meta_layout a.0.0) ++ x) s.text;
     } in
@@ -126,12 +128,9 @@ without_details_taken bytes p rest is e =
 record NoKindTaken (bytes : List ℕ) (p : Said) (rest : List ℕ) : Type 0 where
   is_packed : IsPacked p
   form_is : p.form ≡ Short
-  two : p.kind ≡ 2
+  zstd : p.kind ≡ Zstd
   none : p.details ≡ []
   text : bytes ≡ counted_part (meta_layout p.meta) ++ (little_bytes 4 (length p.streams) ++ (p.streams ++ rest))
-
-two_known : (k : ℕ) → k ≡ 2 → nat_lt 2 k ≡ false
-two_known k e = ap (nat_lt 2) e
 
 without_kind_taken : (bytes : List ℕ) (p : Said) (rest : List ℕ) → IsBytes bytes → packet_at 50 bytes ≡ Ok (p, rest) → NoKindTaken bytes p rest
 without_kind_taken bytes p rest is e =
@@ -145,8 +144,8 @@ without_kind_taken bytes p rest is e =
     let made : (Said × List ℕ) = (said, b.0.1) in
     let taken : NoKindTaken bytes said b.0.1 = record {
       form_is = refl;
-      is_packed = record { meta = m.fits; range = m.range; kind = two_known b.0.0.0 s.two; short = s.short; details = (omega arith, tt); details_short = none_short };
-      two = s.two;
+      is_packed = record { meta = m.fits; range = m.range; short = s.short; details = (omega arith, tt); details_short = none_short };
+      zstd = s.zstd;
       none = refl;
       text = m.text ∙ ap (λ (x : List ℕ). counted_part (meta_layout a.0.0) ++ x) s.text;
     } in
@@ -164,21 +163,21 @@ full_from form bytes xs p rest e t =
     let m = counted_part (meta_layout p.meta) in
     let l = little_bytes 4 (length p.streams) in
     let d = counted_part (details_layout p.details) in
-    (packet p, (t.is_packed, inl refl), e ∙ (ap (λ (x : List ℕ). 80 ∷ 70 ∷ 68 ∷ letter_for form ∷ x) t.text ∙ (ap (λ (f : Form). 80 ∷ 70 ∷ 68 ∷ letter_for f ∷ (m ++ (l ++ (p.kind ∷ (p.streams ++ (d ++ rest)))))) (sym t.form_is) ∙ sym (in_a_row m l p.streams d rest (letter_for p.form) p.kind))))
+    (packet p, (t.is_packed, inl refl), e ∙ (ap (λ (x : List ℕ). 80 ∷ 70 ∷ 68 ∷ letter_for form ∷ x) t.text ∙ (ap (λ (f : Form). 80 ∷ 70 ∷ 68 ∷ letter_for f ∷ (m ++ (l ++ (to_byte p.kind ∷ (p.streams ++ (d ++ rest)))))) (sym t.form_is) ∙ sym (in_a_row m l p.streams d rest (letter_for p.form) (to_byte p.kind)))))
 
 without_details_from : (bytes xs : List ℕ) (p : Said) (rest : List ℕ) → bytes ≡ 80 ∷ 70 ∷ 68 ∷ 51 ∷ xs → KindTaken xs p rest → StoredFrom bytes (packed p) rest
 unfolding StoredFrom
 without_details_from bytes xs p rest e t =
     let m = counted_part (meta_layout p.meta) in
     let l = little_bytes 4 (length p.streams) in
-    (packet_without_details p, (t.is_packed, inr (inl (refl, t.form_is, t.none))), e ∙ (ap (λ (x : List ℕ). 80 ∷ 70 ∷ 68 ∷ 51 ∷ x) t.text ∙ sym (row_51 m l p.streams rest p.kind)))
+    (packet_without_details p, (t.is_packed, inr (inl (refl, t.form_is, t.none))), e ∙ (ap (λ (x : List ℕ). 80 ∷ 70 ∷ 68 ∷ 51 ∷ x) t.text ∙ sym (row_51 m l p.streams rest (to_byte p.kind))))
 
 without_kind_from : (bytes xs : List ℕ) (p : Said) (rest : List ℕ) → bytes ≡ 80 ∷ 70 ∷ 68 ∷ 50 ∷ xs → NoKindTaken xs p rest → StoredFrom bytes (packed p) rest
 unfolding StoredFrom
 without_kind_from bytes xs p rest e t =
     let m = counted_part (meta_layout p.meta) in
     let l = little_bytes 4 (length p.streams) in
-    (packet_without_kind p, (t.is_packed, inr (inr (refl, t.form_is, t.two, t.none))), e ∙ (ap (λ (x : List ℕ). 80 ∷ 70 ∷ 68 ∷ 50 ∷ x) t.text ∙ sym (row_50 m l p.streams rest)))
+    (packet_without_kind p, (t.is_packed, inr (inr (refl, t.form_is, t.zstd, t.none))), e ∙ (ap (λ (x : List ℕ). 80 ∷ 70 ∷ 68 ∷ 50 ∷ x) t.text ∙ sym (row_50 m l p.streams rest)))
 
 either_so : (a b : Bool) → (a || b) ≡ true → (a ≡ true) ⊎ (b ≡ true)
 either_so true b e = inl refl

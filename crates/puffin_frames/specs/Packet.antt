@@ -2,6 +2,7 @@
 pub mod Structs
 pub mod Stored
 pub mod Letters
+pub mod Kinds
 pub mod Parts
 pub mod Forms
 pub mod Front

@@ -4,6 +4,7 @@ mod decode;
 mod encode;
 mod frame;
 mod held;
+mod kind;
 pub mod laws;
 mod meta;
 mod packing_info;

@@ -9,6 +9,8 @@ use Rattle.puffin_data.specs.declared.file_error.FileError.{FileError}
 use Rattle.puffin_data.specs.declared.file_error.FileError.TheVariants as file
 use Rattle.puffin_data.specs.Part.{◌>>=◌, part_of, first_at, part_length_at, counted_part_at}
 use Rattle.puffin_data.specs.Value.Decoding.{whole}
+use Rattle.puffin_frames.specs.declared.frame_data.kind.Kind.{Kind}
+use Rattle.puffin_frames.specs.declared.frame_data.kind.Kind.TheVariants.{Zstd}
 use Rattle.puffin_frames.specs.declared.frame_data.meta.FrameMeta.{FrameMeta}
 use Rattle.puffin_threads.specs.Details.{Details}
 use Rattle.puffin_frames.specs.Packet.Structs.{details_at}
@@ -101,7 +103,7 @@ meta_cut = both counted_part_at (λ part rest. meta_from part >>= λ meta. Ok (m
 
 kind_cut : (letter : ℕ) → IsCuttable (kind_at letter)
 kind_cut letter =
-    either (letter == digit_2) (λ bytes. Ok (2, bytes)) (λ bytes. first_at bytes >>= λ b. kind_from b.0 >>= λ k. Ok (k, b.1)) (valued 2)
+    either (letter == digit_2) (λ bytes. Ok (Zstd, bytes)) (λ bytes. first_at bytes >>= λ b. kind_from b.0 >>= λ k. Ok (k, b.1)) (valued Zstd)
     (both first_at (λ b rest. kind_from b >>= λ k. Ok (k, rest)) first_cut (λ b. decided (kind_from b) (λ k. k)))
 
 streams_cut : (letter : ℕ) → IsCuttable (streams_part_at letter)
@@ -116,7 +118,7 @@ details_cut letter =
     (both counted_part_at (λ part rest. details_from (whole details_at part) >>= λ ds. Ok (ds, rest)) counted_cut (λ part. decided (details_from (whole details_at part)) (λ ds. ds)))
     (valued [])
 
-abbrev said_of : ℕ → FrameMeta → ℕ × List ℕ → List Details → Said
+abbrev said_of : ℕ → FrameMeta → Kind × List ℕ → List Details → Said
 said_of letter meta streams details = record { meta = meta; form = form_behind letter; kind = streams.0; streams = streams.1; details = details }
 
 packet_cut : (letter : ℕ) → IsCuttable (packet_at letter)
@@ -171,7 +173,7 @@ letters_of_packet : (c : Said) → (t : List ℕ) × (packet c ≡ 80 ∷ 70 ∷
 unfolding packet_head letter_in
 letters_of_packet c = by_form c.form c.meta c.kind c.streams c.details
   where
-    by_form : (form : Form) (meta : FrameMeta) (kind : ℕ) (streams : List ℕ) (details : List Details)
+    by_form : (form : Form) (meta : FrameMeta) (kind : Kind) (streams : List ℕ) (details : List Details)
         → (t : List ℕ) × (packet (record { meta = meta; form = form; kind = kind; streams = streams; details = details }) ≡ 80 ∷ 70 ∷ 68 ∷ letter_in form ∷ t)
     by_form Short meta kind streams details = (_, refl)
     by_form Long meta kind streams details = (_, refl)

@@ -1,12 +1,15 @@
 -- Reading the parts of a packet or of a legacy frame.
-use Rattle.std.specs.Prelude.{ℕ, List, [], Option, Some, None, Result, Ok, Err, nat_lt, ◌==◌, if◌then◌else◌}
+use Rattle.std.specs.Prelude.{ℕ, List, [], Option, Some, None, Result, Ok, Err, ◌==◌, if◌then◌else◌}
 use Rattle.puffin_data.specs.declared.file_error.FileError.{FileError}
 use Rattle.puffin_data.specs.declared.file_error.FileError.TheVariants as file
 use Rattle.puffin_data.specs.Range.{is_range_at}
 use Rattle.puffin_data.specs.Value.Decoding.{whole}
 use Rattle.puffin_data.specs.Part.{◌>>=◌, part_of, first_at, part_length_at, counted_part_at}
+use Rattle.puffin_frames.specs.declared.frame_data.kind.Kind.{Kind}
+use Rattle.puffin_frames.specs.declared.frame_data.kind.Kind.TheVariants.{Zstd}
 use Rattle.puffin_frames.specs.declared.frame_data.meta.FrameMeta.{FrameMeta}
 use Rattle.puffin_threads.specs.Details.{Details}
+use Rattle.puffin_frames.specs.Packet.Kinds.{from_byte}
 use Rattle.puffin_frames.specs.Packet.Letters.{digit_2, has_details}
 use Rattle.puffin_frames.specs.Packet.Structs.{meta_at, details_at, Legacy, legacy_at}
 
@@ -24,13 +27,17 @@ meta_part_at bytes = do
   meta ← meta_from part.0
   Ok (meta, part.1)
 
-abbrev pub kind_from : ℕ → Result ℕ FileError
-kind_from b = if nat_lt 2 b then Err (file.UnknownKind b) else Ok b
+abbrev pub known_kind : ℕ → Option Kind → Result Kind FileError
+known_kind byte None = Err (file.UnknownKind byte)
+known_kind byte (Some kind) = Ok kind
 
--- the kind of the streams, after this letter; the second form doesn't store it, as its kind is 2
-abbrev pub kind_at : ℕ → List ℕ → Result (ℕ × List ℕ) FileError
+abbrev pub kind_from : ℕ → Result Kind FileError
+kind_from byte = known_kind byte (from_byte byte)
+
+-- the kind of the streams, after this letter; the second form doesn't store it, as it is `Zstd`
+abbrev pub kind_at : ℕ → List ℕ → Result (Kind × List ℕ) FileError
 kind_at letter bytes =
-    if letter == digit_2 then Ok (2, bytes)
+    if letter == digit_2 then Ok (Zstd, bytes)
     else first_at bytes >>= λ b. kind_from b.0 >>= λ k. Ok (k, b.1)
 
 abbrev pub details_from : Option (List Details) → Result (List Details) FileError
@@ -49,7 +56,7 @@ details_part_at letter bytes =
     if has_details letter then given_details_at bytes else Ok ([], bytes)
 
 -- the kind and the bytes of the streams; the length comes first, and doesn't count the kind
-abbrev pub streams_part_at : ℕ → List ℕ → Result ((ℕ × List ℕ) × List ℕ) FileError
+abbrev pub streams_part_at : ℕ → List ℕ → Result ((Kind × List ℕ) × List ℕ) FileError
 streams_part_at letter bytes = do
   n ← part_length_at bytes
   kind ← kind_at letter n.1

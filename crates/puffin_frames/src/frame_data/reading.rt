@@ -20,6 +20,7 @@ ghost use Rattle.puffin_frames.specs.Packet.Next.{legacy_of, stored_of, IsFresh,
 use crate::frame_data::decode::{Stop, details_in, legacy_in, meta_in};
 use crate::frame_data::frame::FrameData;
 use crate::frame_data::held::{Held, PackedFrame, PackedStreams};
+use crate::frame_data::kind::Kind;
 use crate::frame_data::meta::FrameMeta;
 use crate::frame_data::unpacked::UnpackedFrameData;
 use byteorder::{ByteOrder, LittleEndian};
@@ -62,27 +63,24 @@ fn read_meta_part<S: Source>(alloc: Global, source: &mut S) -> Result<FrameMeta,
     Ok(meta)
 }
 
-fn kind_of(byte: u8) -> Result<u8, FileError>
-    ensures decided { Decided (λ k. k) result (kind_from byte) }
-    ensures known { IfOk result (λ k. k ≤ 2) }
+fn kind_of(byte: u8) -> Result<Kind, FileError>
+    ensures { Decided (λ k. k) result (kind_from byte) }
 {
-    if byte > 2 {
-        Err(FileError::UnknownKind(byte))
-    } else {
-        Ok(byte)
+    match Kind::from_byte(byte) {
+        Some(kind) => Ok(kind),
+        None => Err(FileError::UnknownKind(byte)),
     }
 }
 
-/// Reads the kind of the packed streams. A packet with the letter `2` doesn't store it: its kind is 2.
-fn read_kind<S: Source>(source: &mut S, letter: u8) -> Result<u8, FileError>
+/// Reads the kind of the packed streams. A packet with the letter `2` doesn't store it: its streams were compressed by zstd.
+fn read_kind<S: Source>(source: &mut S, letter: u8) -> Result<Kind, FileError>
     requires { S.failures source.old < 2 ^ 64 - 1 }
     ensures part { FromDevice (λ k. k) (S.remaining source.old) (S.remaining source.new) result
         (kind_at letter) }
-    ensures known { IfOk result (λ k. k ≤ 2) }
     ensures failures { S.failures source.new ≡ failures_after (S.failures source.old) result }
 {
     if letter == b'2' {
-        return Ok(2);
+        return Ok(Kind::Zstd);
     }
     let byte = read_byte(source)?;
     kind_of(byte)
@@ -93,11 +91,10 @@ fn read_streams_part<S: Source>(
     alloc: Global,
     source: &mut S,
     letter: u8,
-) -> Result<(u8, Vec<u8>), FileError>
+) -> Result<(Kind, Vec<u8>), FileError>
     requires { S.failures source.old < 2 ^ 64 - 1 }
     ensures part { FromDevice (λ p. (p.0, p.1.items)) (S.remaining source.old)
         (S.remaining source.new) result (streams_part_at letter) }
-    ensures known { IfOk result (λ p. p.0 ≤ 2) }
     ensures failures { S.failures source.new ≡ failures_after (S.failures source.old) result }
 {
     let len = read_length(source)?;

@@ -6,6 +6,7 @@ ghost use Rattle.puffin_data.specs.declared.file_error.FileError.{FileError};
 ghost use Rattle.puffin_data.specs.Device.{TookNothing, WritesBeginning};
 ghost use Rattle.std.specs.FinMap.{values};
 ghost use Rattle.puffin_threads.specs.Details.{shared_details};
+ghost use Rattle.puffin_frames.specs.declared.frame_data.kind.Kind.{Kind};
 ghost use Rattle.puffin_frames.specs.Packet.Structs.{meta_layout, IsMeta, details_layout, AreDetails};
 ghost use Rattle.puffin_frames.specs.Frame.Contents.{frame_details, contents};
 ghost use Rattle.puffin_frames.specs.Frame.Holding.{plainly_packed};
@@ -16,6 +17,7 @@ ghost use Rattle.puffin_frames.specs.Packet.Writing.{details_or, says_with, HasL
 use crate::frame_data::encode::{put_details, put_details_by_id, put_meta};
 use crate::frame_data::frame::FrameData;
 use crate::frame_data::held::{Held, PackedStreams};
+use crate::frame_data::kind::Kind;
 use crate::frame_data::meta::FrameMeta;
 use crate::frame_data::unpacked::UnpackedFrameData;
 use puffin_data::FileError;
@@ -77,7 +79,7 @@ fn head(
     alloc: Global,
     form: Form,
     meta: &FrameMeta,
-    kind: u8,
+    kind: Kind,
     len: u32,
 ) -> Result<Vec<u8>, FileError>
     ensures ok { IfOk result (λ bytes. bytes.items ≡ packet_head form meta.now kind len) }
@@ -90,7 +92,7 @@ fn head(
     bytes.extend_from_slice(&(part.len() as u32).to_le_bytes())?;
     bytes.extend_from_slice(&part)?;
     bytes.extend_from_slice(&len.to_le_bytes())?;
-    bytes.push(kind)?;
+    bytes.push(kind.to_byte())?;
     Ok(bytes)
 }
 
@@ -129,7 +131,7 @@ fn write_unpacked<D: Drain>(
 ) -> Result<(), FileError>
     requires { D.failures drain.old < 2 ^ 64 - 1 }
     ensures written { WritesPacket D.contents D.failures D.takes drain.old drain.new
-        (packet_with (plainly_packed (contents frame.now)).form frame.now.meta 0
+        (packet_with (plainly_packed (contents frame.now)).form frame.now.meta Kind.Uncompressed
         (plainly_packed (contents frame.now)).bytes details.now)
         ((2 ^ 32 ≤ length (plainly_packed (contents frame.now)).bytes)
         ⊎ (2 ^ 32 ≤ length details.now)) result }

@@ -2,6 +2,7 @@ use Rattle.std.proofs.Common.{◌≡◌, sym, ap, ◌∙◌, subst, ℕ, List, R
 use Rattle.std.proofs.lemmas.Result.{err_from_is_err_and}
 use Rattle.puffin_data.specs.declared.file_error.FileError.{FileError}
 use Rattle.puffin_threads.specs.Details.{Details}
+use Rattle.puffin_frames.specs.declared.frame_data.kind.Kind.{Kind}
 use Rattle.puffin_frames.specs.declared.frame_data.meta.FrameMeta.{FrameMeta}
 use Rattle.puffin_frames.specs.Packet.Stored.{Said}
 use Rattle.puffin_threads.specs.Details.{shared_details}
@@ -16,7 +17,7 @@ use Rattle.puffin_data.specs.declared.data.form.Form.{Form}
 use Rattle.puffin_data.proofs.lemmas.Devices.{fails_on, gives_on, stops, given}
 use Rattle.puffin_frames.proofs.frame_data.reading.read_packed.Goals as goal
 
-made : ℕ → FrameMeta → ℕ × List ℕ → List Details → Said
+made : ℕ → FrameMeta → Kind × List ℕ → List Details → Said
 made letter m s ds = record { meta = m; form = form_behind letter; kind = s.0; streams = s.1; details = ds }
 
 -- what follows the meta, and what follows the streams
@@ -24,7 +25,7 @@ after_meta : ℕ → FrameMeta → List ℕ → Result (Said × List ℕ) FileEr
 unfolding made
 after_meta letter m bytes = streams_part_at letter bytes >>= λ s. details_part_at letter s.1 >>= λ d. Ok (made letter m s.0 d.0, d.1)
 
-after_streams : ℕ → FrameMeta → ℕ × List ℕ → List ℕ → Result (Said × List ℕ) FileError
+after_streams : ℕ → FrameMeta → Kind × List ℕ → List ℕ → Result (Said × List ℕ) FileError
 after_streams letter m s bytes = details_part_at letter bytes >>= λ d. Ok (made letter m s d.0, d.1)
 
 pub returns-in_err-kind-clause-part : goal.returns-in_err-kind-clause-part
@@ -44,7 +45,7 @@ returns-in_err-scope_delta-clause-part g c =
     let e = c.in_err-scope_delta.field-0.0 in
     let letter = c.args.letter in
     let m = c.in_ok-meta.meta in
-    let s : (ℕ × List ℕ) = (c.in_ok-kind.kind, c.in_ok-kind.bytes.items) in
+    let s : (Kind × List ℕ) = (c.in_ok-kind.kind, c.in_ok-kind.bytes.items) in
     rw (p.1, p.2) (fails_on e m _ _ _ meta_part_at (after_meta letter) c.in_ok-meta.ensures.part
     (fails_on e s _ _ _ (streams_part_at letter) (after_streams letter m) c.in_ok-kind.ensures.part
     (stops e _ _ (details_part_at letter) (λ d bytes. Ok (made letter m s d, bytes)) c.in_err-scope_delta.ensures.part)))
@@ -54,7 +55,7 @@ unfolding made after_meta after_streams
 returns-clause-part g c =
     let letter = c.args.letter in
     let m = c.in_ok-meta.meta in
-    let s : (ℕ × List ℕ) = (c.in_ok-kind.kind, c.in_ok-kind.bytes.items) in
+    let s : (Kind × List ℕ) = (c.in_ok-kind.kind, c.in_ok-kind.bytes.items) in
     let d = shared_details c.in_ok-scope_delta.scope_delta.items in
     let out : Said = made letter m s d in
     let says : Packing → Said = λ (p : Packing). record { meta = m; form = p.form; kind = p.kind; streams = p.bytes; details = d } in

@@ -2,15 +2,16 @@ use Rattle.std.proofs.Common.{ℕ, List, Result, Ok}
 use Rattle.std.proofs.lemmas.Result.{err_from_is_err_and}
 use Rattle.puffin_data.specs.declared.file_error.FileError.{FileError}
 use Rattle.puffin_data.specs.Part.{◌>>=◌, part_of, part_length_at}
+use Rattle.puffin_frames.specs.declared.frame_data.kind.Kind.{Kind}
 use Rattle.puffin_frames.specs.Packet.Parts.{kind_at}
 use Rattle.puffin_data.proofs.lemmas.Devices.{fails_on, gives_on, stops, given}
 use Rattle.puffin_frames.proofs.frame_data.reading.read_streams_part.Goals as goal
 
 -- what follows the length, and what follows the kind
-after_length : ℕ → ℕ → List ℕ → Result ((ℕ × List ℕ) × List ℕ) FileError
+after_length : ℕ → ℕ → List ℕ → Result ((Kind × List ℕ) × List ℕ) FileError
 after_length letter n bytes = kind_at letter bytes >>= λ k. part_of n k.1 >>= λ s. Ok ((k.0, s.0), s.1)
 
-after_kind : ℕ → ℕ → List ℕ → Result ((ℕ × List ℕ) × List ℕ) FileError
+after_kind : ℕ → Kind → List ℕ → Result ((Kind × List ℕ) × List ℕ) FileError
 after_kind n k bytes = part_of n bytes >>= λ s. Ok ((k, s.0), s.1)
 
 pub returns-in_err-kind-clause-part : goal.returns-in_err-kind-clause-part
@@ -42,7 +43,7 @@ returns-clause-part g c =
     let n = c.in_ok-len.len in
     let k = c.in_ok-kind.kind in
     let s = c.in_ok-streams.streams.items in
-    let out : (ℕ × List ℕ) = (k, s) in
+    let out : (Kind × List ℕ) = (k, s) in
     gives_on n out _ _ _ part_length_at (after_length letter) c.in_ok-len.ensures.part
     (gives_on k out _ _ _ (kind_at letter) (after_kind n) c.in_ok-kind.ensures.part
     (gives_on s out _ _ _ (part_of n) (λ t bytes. Ok ((k, t), bytes)) c.in_ok-streams.ensures.part
