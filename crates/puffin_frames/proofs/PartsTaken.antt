@@ -18,7 +18,7 @@ use Rattle.puffin_threads.specs.Details.{Details}
 use Rattle.puffin_frames.specs.Packet.Structs.{IsMeta, meta_layout, meta_at, AreDetails, details_layout, details_at, Legacy, IsLegacy, legacy_layout, legacy_at}
 use Rattle.puffin_data.specs.Range.{is_range_at}
 use Rattle.puffin_frames.specs.Packet.Kinds.{to_byte}
-use Rattle.puffin_frames.specs.Packet.Parts.{meta_with_range, meta_from, meta_part_at, known_kind, kind_from, details_from, given_details_at, legacy_with_range, legacy_from, legacy_part_at}
+use Rattle.puffin_frames.specs.Packet.Parts.{meta_with_range, meta_from, meta_part_at, known_kind, kind_from, given_kind_at, details_from, given_details_at, legacy_with_range, legacy_from, legacy_part_at}
 use Rattle.puffin_frames.specs.Packet.Grammar.{counted_part}
 use Rattle.puffin_frames.proofs.Structs.{meta_reader, details_reader, legacy_reader}
 
@@ -123,9 +123,6 @@ kind_given byte kind e = by_test byte kind (eqb byte 0) (eqb byte 1) (eqb byte 2
     by_test byte kind false true two is_0 is_1 is_2 e = is_1 refl ∙ ap to_byte (same_ok Lz4 kind e)
     by_test byte kind false false true is_0 is_1 is_2 e = is_2 refl ∙ ap to_byte (same_ok Zstd kind e)
     by_test byte kind false false false is_0 is_1 is_2 e = absurd cc
-
-abbrev pub given_kind_at : List ℕ → Result (Kind × List ℕ) FileError
-given_kind_at bytes = first_at bytes >>= λ b. kind_from b.0 >>= λ k. Ok (k, b.1)
 
 pub kind_taken : (bytes : List ℕ) (k : Kind) (rest : List ℕ) → given_kind_at bytes ≡ Ok (k, rest) → bytes ≡ to_byte k ∷ rest
 kind_taken bytes k rest e =

@@ -11,6 +11,7 @@ mod packing_info;
 mod reading;
 mod thread_streams;
 mod unpacked;
+mod version;
 mod writing;
 
 pub use frame::FrameData;

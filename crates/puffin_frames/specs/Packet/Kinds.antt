@@ -23,15 +23,15 @@ is_uncompressed Uncompressed = true
 is_uncompressed Lz4 = false
 is_uncompressed Zstd = false
 
-pub kind_of_byte : (kind : Kind) → from_byte (to_byte kind) ≡ Some kind
-kind_of_byte Uncompressed = refl
-kind_of_byte Lz4 = refl
-kind_of_byte Zstd = refl
+pub from_byte-reads_back : (kind : Kind) → from_byte (to_byte kind) ≡ Some kind
+from_byte-reads_back Uncompressed = refl
+from_byte-reads_back Lz4 = refl
+from_byte-reads_back Zstd = refl
 
-pub kind_by_byte : (kind : Kind) → unwrap_or (from_byte (to_byte kind)) Uncompressed ≡ kind
-kind_by_byte Uncompressed = refl
-kind_by_byte Lz4 = refl
-kind_by_byte Zstd = refl
+pub kind_again : (kind : Kind) → unwrap_or (from_byte (to_byte kind)) Uncompressed ≡ kind
+kind_again Uncompressed = refl
+kind_again Lz4 = refl
+kind_again Zstd = refl
 
 abbrev pub kind_code : Coded Kind
-kind_code = code_by ℕ coded_ℕ to_byte (λ byte. unwrap_or (from_byte byte) Uncompressed) kind_by_byte
+kind_code = code_by ℕ coded_ℕ to_byte (λ byte. unwrap_or (from_byte byte) Uncompressed) kind_again

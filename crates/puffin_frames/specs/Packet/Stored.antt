@@ -14,7 +14,7 @@ pub record Said : Type 0 where
   pub streams : List ℕ
   pub details : List Details
 
--- a frame whose streams are packed, or one of the first form
+-- a frame whose streams are packed, or a legacy one
 pub data Stored : Type 0 where
   packed : Said → Stored
   legacy : Legacy → Stored

@@ -22,8 +22,8 @@ use std::sync::Arc;
 
 /// The streams of a frame, packed.
 ///
-/// The layout, if they are uncompressed, is that of packets of a form: the short one if all streams are short, else the long one, in which each stream's
-/// form comes before it.
+/// The layout of uncompressed streams is that of packets of a form: the short one if all streams are short, else the long one,
+/// in which each stream's form comes before it.
 #[derive(Drop)]
 pub(crate) struct PackedStreams {
     pub(crate) form: Form,
