@@ -1,5 +1,5 @@
 -- A packet that was written is read again, whatever follows it.
-use Rattle.std.proofs.Common.{◌≡◌, ℕ, true, eqb, ◌||◌, ◌^◌, ◌<◌, false, ltb, List, [], ◌∷◌, ◌++◌, length, Option, Some, Result, Ok, refl, sym, ap, ◌∙◌, append_assoc, arith}
+use Rattle.std.proofs.Common.{◌≡◌, ℕ, true, ◌^◌, ◌<◌, false, ltb, List, [], ◌∷◌, ◌++◌, length, Option, Some, Result, Ok, refl, sym, ap, ◌∙◌, append_assoc, arith}
 use Rattle.std.proofs.lemmas.Bool.{le-ltb}
 use Rattle.std.proofs.lemmas.List.{take_at, drop_at, length-append}
 use Rattle.byteorder.specs.Endian.{little_bytes, little_number}
@@ -10,11 +10,14 @@ use Rattle.puffin_data.specs.declared.file_error.FileError.{FileError}
 use Rattle.puffin_data.specs.Part.{part_of, part_length_at, counted_part_at}
 use Rattle.puffin_data.specs.Value.Layout.{NoneBeginsAnother}
 use Rattle.puffin_data.proofs.lemmas.Readers.{whole_again}
+use Rattle.puffin_frames.specs.declared.frame_data.version.Version.{Version}
+use Rattle.puffin_frames.specs.declared.frame_data.version.Version.TheVariants.{Pfd2, Pfd3, Pfd4, PfdL}
 use Rattle.puffin_frames.specs.Packet.Structs.{IsMeta, meta_layout, meta_at, AreDetails, details_layout, details_at}
 use Rattle.puffin_frames.specs.Packet.Stored.{Said, Stored, packed}
-use Rattle.puffin_frames.specs.Packet.Letters.{letter_for, form_behind}
+use Rattle.puffin_frames.specs.Packet.Kinds.{to_byte, from_byte-reads_back}
+use Rattle.puffin_frames.specs.Packet.Letters.{last_letter, for_form, has_kind, has_details, text_form}
 use Rattle.puffin_frames.specs.Packet.Parts.{meta_part_at, streams_part_at, details_part_at}
-use Rattle.puffin_frames.specs.Packet.Forms.{packet_at, as_stored}
+use Rattle.puffin_frames.specs.Packet.Versions.{packet_at, as_stored}
 use Rattle.puffin_frames.specs.Packet.Front.{next_at}
 use Rattle.puffin_frames.specs.Packet.Grammar.{counted_part, packet_head, packet, IsPacked}
 use Rattle.puffin_frames.proofs.Structs.{meta_reader, details_reader}
@@ -38,36 +41,42 @@ pub meta_again : (p : Said) (rest : List ℕ) → IsPacked p → meta_part_at (c
 meta_again p rest h =
     rw (counted_again (meta_layout p.meta) rest (meta_short p.meta), whole_again IsMeta meta_layout meta_at meta_reader p.meta h.meta, h.range) refl
 
--- what the letter of a packet that is written says
-pub record Letter (form : Form) (letter : ℕ) : Type 0 where
-  pub other : eqb letter 50 ≡ false
-  pub details : (eqb letter 52 || eqb letter 76) ≡ true
-  pub behind : form_behind letter ≡ form
+-- a version that is written, with all parts, of streams of this form
+pub record IsWritten (form : Form) (version : Version) : Type 0 where
+  pub kind : has_kind version ≡ true
+  pub details : has_details version ≡ true
+  pub texts : text_form version ≡ form
 
-pub letter_of : (form : Form) → Letter form (letter_for form)
-letter_of Short = record { other = refl; details = refl; behind = refl }
-letter_of Long = record { other = refl; details = refl; behind = refl }
+pub written : (form : Form) → IsWritten form (for_form form)
+written Short = record { kind = refl; details = refl; texts = refl }
+written Long = record { kind = refl; details = refl; texts = refl }
 
-streams_again : (p : Said) (rest : List ℕ) → IsPacked p → streams_part_at (letter_for p.form) (little_bytes 4 (length p.streams) ++ (p.kind ∷ (p.streams ++ rest))) ≡ Ok ((p.kind, p.streams), rest)
+streams_again : (p : Said) (rest : List ℕ) → IsPacked p → streams_part_at (for_form p.form) (little_bytes 4 (length p.streams) ++ (to_byte p.kind ∷ (p.streams ++ rest))) ≡ Ok ((p.kind, p.streams), rest)
 streams_again p rest h =
-    rw ((letter_of p.form).other, length_again (length p.streams) (p.kind ∷ (p.streams ++ rest)) h.short, part_again 1 (p.kind ∷ []) (p.streams ++ rest) refl, h.kind, part_again (length p.streams) p.streams rest refl) refl
+    rw ((written p.form).kind, length_again (length p.streams) (to_byte p.kind ∷ (p.streams ++ rest)) h.short, part_again 1 (to_byte p.kind ∷ []) (p.streams ++ rest) refl, from_byte-reads_back p.kind, part_again (length p.streams) p.streams rest refl) refl
 
-details_again : (p : Said) (rest : List ℕ) → IsPacked p → details_part_at (letter_for p.form) (counted_part (details_layout p.details) ++ rest) ≡ Ok (p.details, rest)
+details_again : (p : Said) (rest : List ℕ) → IsPacked p → details_part_at (for_form p.form) (counted_part (details_layout p.details) ++ rest) ≡ Ok (p.details, rest)
 details_again p rest h =
-    rw ((letter_of p.form).details, counted_again (details_layout p.details) rest h.details_short, whole_again AreDetails details_layout details_at details_reader p.details h.details) refl
+    rw ((written p.form).details, counted_again (details_layout p.details) rest h.details_short, whole_again AreDetails details_layout details_at details_reader p.details h.details) refl
 
 parts_again : (p : Said) (rest : List ℕ) → IsPacked p
-    → packet_at (letter_for p.form) (counted_part (meta_layout p.meta) ++ (little_bytes 4 (length p.streams) ++ (p.kind ∷ (p.streams ++ (counted_part (details_layout p.details) ++ rest))))) ≡ Ok (p, rest)
+    → packet_at (for_form p.form) (counted_part (meta_layout p.meta) ++ (little_bytes 4 (length p.streams) ++ (to_byte p.kind ∷ (p.streams ++ (counted_part (details_layout p.details) ++ rest))))) ≡ Ok (p, rest)
 parts_again p rest h =
     let d = counted_part (details_layout p.details) ++ rest in
-    rw (meta_again p (little_bytes 4 (length p.streams) ++ (p.kind ∷ (p.streams ++ d))) h, streams_again p d h, details_again p rest h) (ap (λ (form : Form). Ok (record p { form = form }, rest)) (letter_of p.form).behind)
+    rw (meta_again p (little_bytes 4 (length p.streams) ++ (to_byte p.kind ∷ (p.streams ++ d))) h, streams_again p d h, details_again p rest h) (ap (λ (form : Form). Ok (record p { form = form }, rest)) (written p.form).texts)
 
-after_letters : (form : Form) (xs : List ℕ) → next_at (80 ∷ 70 ∷ 68 ∷ letter_for form ∷ xs) ≡ as_stored packed (packet_at (letter_for form) xs)
+pub after_letters : (version : Version) (xs : List ℕ) → next_at (80 ∷ 70 ∷ 68 ∷ last_letter version ∷ xs) ≡ as_stored packed (packet_at version xs)
 unfolding next_at
-after_letters Short xs =
+after_letters Pfd2 xs =
+    let long : ltb (length (80 ∷ 70 ∷ 68 ∷ 50 ∷ xs)) 4 ≡ false = le-ltb _ _ (omega arith) in
+    rw long refl
+after_letters Pfd3 xs =
+    let long : ltb (length (80 ∷ 70 ∷ 68 ∷ 51 ∷ xs)) 4 ≡ false = le-ltb _ _ (omega arith) in
+    rw long refl
+after_letters Pfd4 xs =
     let long : ltb (length (80 ∷ 70 ∷ 68 ∷ 52 ∷ xs)) 4 ≡ false = le-ltb _ _ (omega arith) in
     rw long refl
-after_letters Long xs =
+after_letters PfdL xs =
     let long : ltb (length (80 ∷ 70 ∷ 68 ∷ 76 ∷ xs)) 4 ≡ false = le-ltb _ _ (omega arith) in
     rw long refl
 
@@ -81,7 +90,7 @@ packet_again p rest h =
     let m = counted_part (meta_layout p.meta) in
     let l = little_bytes 4 (length p.streams) in
     let d = counted_part (details_layout p.details) in
-    ap next_at (in_a_row m l p.streams d rest (letter_for p.form) p.kind) ∙ (after_letters p.form (m ++ (l ++ (p.kind ∷ (p.streams ++ (d ++ rest))))) ∙ ap (as_stored packed) (parts_again p rest h))
+    ap next_at (in_a_row m l p.streams d rest (last_letter (for_form p.form)) (to_byte p.kind)) ∙ (after_letters (for_form p.form) (m ++ (l ++ (to_byte p.kind ∷ (p.streams ++ (d ++ rest))))) ∙ ap (as_stored packed) (parts_again p rest h))
 
 said_is : (a b : Said) → packed a ≡ packed b → a ≡ b
 said_is a b e = cc

@@ -18,7 +18,7 @@ use Rattle.puffin_frames.specs.Frame.Contents.{holding_of, frame_says}
 use Rattle.puffin_frames.specs.Packet.Stored.{Said, Stored, packed, legacy}
 use Rattle.puffin_frames.specs.Packet.Structs.{Legacy}
 use Rattle.puffin_frames.specs.Packet.Next.{legacy_of, stored_as, stored_of}
-use Rattle.puffin_frames.specs.Packet.Forms.{as_stored, stored_after}
+use Rattle.puffin_frames.specs.Packet.Versions.{as_stored, stored_after}
 use Rattle.puffin_frames.specs.Packet.Front.{is_end, next_at}
 
 -- ---- behind a header

@@ -1,9 +1,8 @@
 -- Packing and unpacking keep what a frame holds.
-use Rattle.std.proofs.Common.{◌≡◌, ℕ, Bool, true, false, cond, eqb, List, Option, Some, None, Result, Ok, Err, IfOk, refl, sym, ap, subst, ◌∙◌}
+use Rattle.std.proofs.Common.{◌≡◌, ℕ, Bool, true, false, cond, List, Option, Some, None, Result, Ok, Err, IfOk, refl, sym, ap, subst, ◌∙◌}
 use Rattle.std.specs.Prelude.{◌↔◌, IfSome}
 use Rattle.std.specs.Option.{option_map}
 use Rattle.std.specs.FinMap.{entries, from_sorted, entries-from_sorted}
-use Rattle.std.proofs.lemmas.Bool.{eqb-true}
 use Rattle.std.proofs.lemmas.Option.{same_Some}
 use Rattle.puffin_data.specs.declared.file_error.FileError.{FileError}
 use Rattle.puffin_data.specs.declared.file_error.FileError.TheVariants as file
@@ -15,8 +14,11 @@ use Rattle.puffin_data.proofs.lemmas.Readers.{whole_taken}
 use Rattle.puffin_frames.specs.declared.frame_data.held.Held.{Held}
 use Rattle.puffin_frames.specs.declared.frame_data.held.Held.TheVariants.{Own, Shared, Packed, Both}
 use Rattle.puffin_frames.specs.Frame.Contents.{packed_as, held_as, said_of}
+use Rattle.puffin_frames.specs.declared.frame_data.kind.Kind.{Kind}
+use Rattle.puffin_frames.specs.declared.frame_data.kind.Kind.TheVariants.{Uncompressed, Lz4, Zstd}
 use Rattle.puffin_frames.specs.declared.frame_data.meta.FrameMeta.{FrameMeta}
 use Rattle.puffin_threads.specs.Details.{Details}
+use Rattle.puffin_frames.specs.Packet.Kinds.{to_byte, is_uncompressed}
 use Rattle.puffin_frames.specs.Packet.Tries.{DecidedInMemory}
 use Rattle.puffin_threads.specs.Thread.Info.{Info, info_cmp}
 use Rattle.puffin_frames.specs.Frame.Streams.{Streams}
@@ -59,13 +61,18 @@ streams_from : (o : Option (List (Info × Recorded))) (streams : Streams) → op
 streams_from None streams e = absurd cc
 streams_from (Some es) streams e = (es, refl, same_Some (from_sorted es) streams e)
 
+uncompressed : (kind : Kind) → is_uncompressed kind ≡ true → kind ≡ Uncompressed
+uncompressed Uncompressed e = refl
+uncompressed Lz4 e = absurd cc
+uncompressed Zstd e = absurd cc
+
 streams_taken : (p : Packing) (streams : Streams) → IsBytes p.bytes → streams_in p ≡ Some streams → HoldsStreams p streams
 streams_taken p streams is e =
-    let g = cond_option (eqb p.kind 0) (option_map from_sorted (whole (streams_at p.form) p.bytes)) streams e in
+    let g = cond_option (is_uncompressed p.kind) (option_map from_sorted (whole (streams_at p.form) p.bytes)) streams e in
     let o = streams_from (whole (streams_at p.form) p.bytes) streams g.1 in
     let w = whole_taken (AreStreams p.form) (streams_layout p.form) (streams_at p.form) (streams_reader p.form) p.bytes o.0 is o.1 in
     let back : entries streams ≡ o.0 = ap entries (sym o.2) ∙ entries-from_sorted info_cmp o.0 (holds _ (sorted_in p.form o.0 w.0.1)) in
-    (eqb-true _ _ g.0, subst (λ (es : List (Info × Recorded)). AreStreams p.form es) (sym back) w.0, w.1 ∙ ap (streams_layout p.form) (sym back))
+    (uncompressed p.kind g.0, subst (λ (es : List (Info × Recorded)). AreStreams p.form es) (sym back) w.0, w.1 ∙ ap (streams_layout p.form) (sym back))
   where
     cond_option : (b : Bool) (o : Option Streams) (streams : Streams) → cond b o None ≡ Some streams → (b ≡ true) × (o ≡ Some streams)
     cond_option true o streams e = (refl, e)
@@ -74,9 +81,9 @@ streams_taken p streams is e =
 same_packing : (p : Packing) (streams : Streams) → HoldsStreams p streams → p ≡ plainly_packed streams
 same_packing p streams h =
     let form : p.form ≡ form_of_all (entries streams) = form_stored p.form (entries streams) h.1 in
-    ap (λ (k : ℕ). record p { kind = k }) h.0
-    ∙ ap (λ (bytes : List ℕ). record { form = p.form; kind = 0; bytes = bytes }) h.2
-    ∙ ap (λ (f : Form). record { form = f; kind = 0; bytes = streams_layout f (entries streams) }) form
+    ap (λ (k : Kind). record p { kind = k }) h.0
+    ∙ ap (λ (bytes : List ℕ). record { form = p.form; kind = Uncompressed; bytes = bytes }) h.2
+    ∙ ap (λ (f : Form). record { form = f; kind = Uncompressed; bytes = streams_layout f (entries streams) }) form
 
 streams_given : (p : Packing) (streams : Streams) → HoldsStreams p streams → streams_in p ≡ Some streams
 streams_given p streams h =
@@ -96,7 +103,7 @@ unpacked_so false kind o streams e = absurd cc
 -- what was unpacked is read again, packed as it is
 pub unpacked-again : (p : Packing) (streams : Streams) → IsBytes p.bytes → unpacking p ≡ Ok streams → AreReadAgain streams
 unpacked-again p streams is e =
-    let taken = unpacked_so (eqb p.kind 0) p.kind (option_map from_sorted (whole (streams_at p.form) p.bytes)) streams e in
+    let taken = unpacked_so (is_uncompressed p.kind) (to_byte p.kind) (option_map from_sorted (whole (streams_at p.form) p.bytes)) streams e in
     ap streams_in (sym (same_packing p streams (streams_taken p streams is taken))) ∙ taken
 
 bad_so : (b : Bool) (kind : ℕ) (o : Option Streams) (streams : Streams) → cond b (or_bad o) (Err (file.Compressed kind)) ≡ Err file.BadStreams → cond b o None ≡ Some streams → ⊥
@@ -110,7 +117,7 @@ layout_of (Own u) streams e = tt
 layout_of (Shared u) streams e = tt
 layout_of (Packed p) streams e =
     let o : Option Streams = option_map from_sorted (whole (streams_at p.streams.form) p.streams.bytes.items) in
-    streams_taken (packed_as p.streams) streams p.streams.are_bytes (unpacked_so (eqb p.streams.kind 0) p.streams.kind o streams e)
+    streams_taken (packed_as p.streams) streams p.streams.are_bytes (unpacked_so (is_uncompressed p.streams.kind) (to_byte p.streams.kind) o streams e)
 layout_of (Both b) streams e =
     streams_taken (packed_as b.packed) streams b.packed.are_bytes (b.same ∙ ap Some (same_ok _ streams e))
 
@@ -123,7 +130,7 @@ bad_of (Own u) e = tt
 bad_of (Shared u) e = tt
 bad_of (Packed p) e = λ streams held.
     let o : Option Streams = option_map from_sorted (whole (streams_at p.streams.form) p.streams.bytes.items) in
-    bad_so (eqb p.streams.kind 0) p.streams.kind o streams e (streams_given (packed_as p.streams) streams held)
+    bad_so (is_uncompressed p.streams.kind) (to_byte p.streams.kind) o streams e (streams_given (packed_as p.streams) streams held)
 bad_of (Both b) e = absurd cc
 
 pub unpacked_no_layout : {X : Type 0} (view : X → Streams) (h : Held) (r : Result X FileError) → DecidedInMemory view r (unpacked_from (held_as h)) → r ≡ Err file.BadStreams → IfSome (held_as h).packed (λ p. (streams : Streams) → HoldsStreams p streams → ⊥)

@@ -1,7 +1,7 @@
 -- What a packet's parts were read from.
-use Rattle.std.proofs.Common.{◌≡◌, ℕ, ◌^◌, ◌<◌, ◌≤◌, Bool, true, false, cond, ltb, List, [], ◌∷◌, ◌++◌, length, take, drop, Option, Some, None, Result, Ok, Err, refl, sym, ap, subst, ◌∙◌, append_assoc, arith}
-use Rattle.std.specs.Prelude.{nat_lt, slice_index}
-use Rattle.std.proofs.lemmas.Bool.{ltb-false}
+use Rattle.std.proofs.Common.{◌≡◌, ℕ, ◌^◌, ◌<◌, ◌≤◌, Bool, true, false, cond, ltb, eqb, List, [], ◌∷◌, ◌++◌, length, take, drop, Option, Some, None, Result, Ok, Err, refl, sym, ap, subst, ◌∙◌, append_assoc, arith}
+use Rattle.std.specs.Prelude.{slice_index}
+use Rattle.std.proofs.lemmas.Bool.{ltb-false, eqb-true}
 use Rattle.std.proofs.lemmas.List.{take_at, take_all, take-append-drop, length-take}
 use Rattle.byteorder.specs.Endian.{little_bytes, little_number}
 use Rattle.puffin_data.specs.declared.file_error.FileError.{FileError}
@@ -11,11 +11,14 @@ use Rattle.puffin_data.specs.Value.Decoding.{whole}
 use Rattle.puffin_data.specs.Part.{◌>>=◌, part_of, first_at, part_length_at, counted_part_at}
 use Rattle.puffin_data.proofs.lemmas.Numbers.{IsBytes-take, bytes_4, below_4}
 use Rattle.puffin_data.proofs.lemmas.Readers.{IsBytes-after, whole_taken}
+use Rattle.puffin_frames.specs.declared.frame_data.kind.Kind.{Kind}
+use Rattle.puffin_frames.specs.declared.frame_data.kind.Kind.TheVariants.{Uncompressed, Lz4, Zstd}
 use Rattle.puffin_frames.specs.declared.frame_data.meta.FrameMeta.{FrameMeta}
 use Rattle.puffin_threads.specs.Details.{Details}
 use Rattle.puffin_frames.specs.Packet.Structs.{IsMeta, meta_layout, meta_at, AreDetails, details_layout, details_at, Legacy, IsLegacy, legacy_layout, legacy_at}
 use Rattle.puffin_data.specs.Range.{is_range_at}
-use Rattle.puffin_frames.specs.Packet.Parts.{meta_with_range, meta_from, meta_part_at, kind_from, details_from, given_details_at, legacy_with_range, legacy_from, legacy_part_at}
+use Rattle.puffin_frames.specs.Packet.Kinds.{to_byte}
+use Rattle.puffin_frames.specs.Packet.Parts.{meta_with_range, meta_from, meta_part_at, known_kind, kind_from, given_kind_at, details_from, given_details_at, legacy_with_range, legacy_from, legacy_part_at}
 use Rattle.puffin_frames.specs.Packet.Grammar.{counted_part}
 use Rattle.puffin_frames.proofs.Structs.{meta_reader, details_reader, legacy_reader}
 
@@ -111,18 +114,23 @@ first_taken bytes b rest e =
     let text : bytes ≡ slice_index a.0.0 0 ∷ a.0.1 = p.1 ∙ ap (λ (t : List ℕ). t ++ a.0.1) (one_item a.0.0 p.0) in
     subst (λ (y : ℕ × List ℕ). bytes ≡ y.0 ∷ y.1) (same_ok made (b, rest) a.2) text
 
-abbrev pub given_kind_at : List ℕ → Result (ℕ × List ℕ) FileError
-given_kind_at bytes = first_at bytes >>= λ b. kind_from b.0 >>= λ k. Ok (k, b.1)
+kind_given : (byte : ℕ) (kind : Kind) → kind_from byte ≡ Ok kind → byte ≡ to_byte kind
+kind_given byte kind e = by_test byte kind (eqb byte 0) (eqb byte 1) (eqb byte 2) (eqb-true byte 0) (eqb-true byte 1) (eqb-true byte 2) e
+  where
+    by_test : (byte : ℕ) (kind : Kind) (zero one two : Bool) → (zero ≡ true → byte ≡ 0) → (one ≡ true → byte ≡ 1) → (two ≡ true → byte ≡ 2)
+        → known_kind byte (cond zero (Some Uncompressed) (cond one (Some Lz4) (cond two (Some Zstd) None))) ≡ Ok kind → byte ≡ to_byte kind
+    by_test byte kind true one two is_0 is_1 is_2 e = is_0 refl ∙ ap to_byte (same_ok Uncompressed kind e)
+    by_test byte kind false true two is_0 is_1 is_2 e = is_1 refl ∙ ap to_byte (same_ok Lz4 kind e)
+    by_test byte kind false false true is_0 is_1 is_2 e = is_2 refl ∙ ap to_byte (same_ok Zstd kind e)
+    by_test byte kind false false false is_0 is_1 is_2 e = absurd cc
 
-pub kind_taken : (bytes : List ℕ) (k : ℕ) (rest : List ℕ) → given_kind_at bytes ≡ Ok (k, rest) → (nat_lt 2 k ≡ false) × (bytes ≡ k ∷ rest)
+pub kind_taken : (bytes : List ℕ) (k : Kind) (rest : List ℕ) → given_kind_at bytes ≡ Ok (k, rest) → bytes ≡ to_byte k ∷ rest
 kind_taken bytes k rest e =
     let a = bind_ok (first_at bytes) (λ b. kind_from b.0 >>= λ k. Ok (k, b.1)) (k, rest) e in
     let b = bind_ok (kind_from a.0.0) (λ k. Ok (k, a.0.1)) (k, rest) a.2 in
-    let g = unless (nat_lt 2 a.0.0) (file.UnknownKind a.0.0) a.0.0 b.0 b.1 in
-    let text : bytes ≡ b.0 ∷ a.0.1 = first_taken bytes a.0.0 a.0.1 a.1 ∙ ap (λ (x : ℕ). x ∷ a.0.1) g.1 in
-    let known : nat_lt 2 b.0 ≡ false = rw (← g.1) g.0 in
-    let made : (ℕ × List ℕ) = (b.0, a.0.1) in
-    subst (λ (y : ℕ × List ℕ). (nat_lt 2 y.0 ≡ false) × (bytes ≡ y.0 ∷ y.1)) (same_ok made (k, rest) b.2) (known, text)
+    let text : bytes ≡ to_byte b.0 ∷ a.0.1 = first_taken bytes a.0.0 a.0.1 a.1 ∙ ap (λ (x : ℕ). x ∷ a.0.1) (kind_given a.0.0 b.0 b.1) in
+    let made : (Kind × List ℕ) = (b.0, a.0.1) in
+    subst (λ (y : Kind × List ℕ). bytes ≡ to_byte y.0 ∷ y.1) (same_ok made (k, rest) b.2) text
 
 -- ---- details
 

@@ -2,8 +2,9 @@
 pub mod Structs
 pub mod Stored
 pub mod Letters
+pub mod Kinds
 pub mod Parts
-pub mod Forms
+pub mod Versions
 pub mod Front
 pub mod Next
 pub mod Writing

@@ -1,4 +1,3 @@
 -- What only private functions and proofs cite.
-pub mod Age
 pub mod Stopping
 pub mod Pairs

@@ -4,12 +4,14 @@ mod decode;
 mod encode;
 mod frame;
 mod held;
+mod kind;
 pub mod laws;
 mod meta;
 mod packing_info;
 mod reading;
 mod thread_streams;
 mod unpacked;
+mod version;
 mod writing;
 
 pub use frame::FrameData;

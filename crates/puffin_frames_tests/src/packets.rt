@@ -261,14 +261,14 @@ fn the_second_form_is_kept_compressed(rt: HostRuntime) -> Outcome {
     is_written(&rt, rt.alloc(), &frame, &expected)
 }
 
-/// The packet's frame in the first form, with what stands after its streams.
-fn first_form(alloc: Global, end: &[u8]) -> std::result::Result<Vec<u8>, Fail> {
+/// The packet's frame as a legacy one, with what stands after its streams.
+fn legacy_frame(alloc: Global, end: &[u8]) -> std::result::Result<Vec<u8>, Fail> {
     bytes_of(alloc, &[&[57, 0, 0, 0, 0], &PACKET[20..70], end])
 }
 
 #[test]
-fn the_first_form_is_held_unpacked(rt: HostRuntime) -> Outcome {
-    let bytes = first_form(rt.alloc(), &[0xc8, 0xfb, 0x58, 0x02, 0x23, 0x01])?;
+fn a_legacy_frame_is_held_unpacked(rt: HostRuntime) -> Outcome {
+    let bytes = legacy_frame(rt.alloc(), &[0xc8, 0xfb, 0x58, 0x02, 0x23, 0x01])?;
     equal(&rt, bytes.len(), 61);
     let frame = read_one(rt.alloc(), &bytes)?;
     drop(bytes);

@@ -13,6 +13,7 @@ use Rattle.puffin_data.specs.declared.data.form.Form.{Form}
 use Rattle.puffin_threads.specs.Thread.Info.{Info, info_of}
 use Rattle.puffin_threads.specs.Details.{Details}
 use Rattle.puffin_threads.specs.Details.Collection.{Collection, no_details, with_details, with_all_details}
+use Rattle.puffin_frames.specs.declared.frame_data.kind.Kind.TheVariants.{Uncompressed}
 use Rattle.puffin_frames.specs.declared.frame_data.frame.FrameData.{FrameData}
 use Rattle.puffin_frames.specs.declared.frame_data.held.Held.{Held}
 use Rattle.puffin_frames.specs.declared.frame_data.held.Held.TheVariants.{Own, Shared, Packed, Both}
@@ -229,7 +230,7 @@ no_io_before info stored s fault h is =
 -- ---- a frame that was read, as a view sees it
 
 abbrev first_said : FrameMeta → Form → List ℕ → List Details → Frame
-first_said m form streams ds = record { contents = record { meta = m; form = form; kind = 0; streams = streams; details = ds }; is_unpacked = true; is_packed = false }
+first_said m form streams ds = record { contents = record { meta = m; form = form; kind = Uncompressed; streams = streams; details = ds }; is_unpacked = true; is_packed = false }
 
 true_is_not_false : true ≡ false → ⊥
 true_is_not_false e = cc

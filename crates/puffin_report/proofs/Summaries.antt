@@ -1,6 +1,6 @@
 -- What a file of frames is summed up as, and why it isn't.
 use Rattle.std.proofs.Common.{◌≡◌, ℕ, suc, ◌-◌, ◌^◌, ◌<◌, List, [], ◌∷◌, ◌++◌, length, map, Result, Ok, Err, Bool, true, false, ◌⊎◌, inl, inr, refl, sym, ap, subst, ◌∙◌}
-use Rattle.std.specs.Prelude.{Option, Some, None, if◌then◌else◌, ◌==◌, ◌≢◌}
+use Rattle.std.specs.Prelude.{Option, Some, None, if◌then◌else◌, ◌≢◌}
 use Rattle.std.specs.List.{list_any, flat_map}
 use Rattle.puffin_data.specs.declared.error.Error.{Error}
 use Rattle.puffin_data.specs.declared.error.Error.TheVariants.{Memory, MissingId}
@@ -11,6 +11,7 @@ use Rattle.puffin_threads.specs.Thread.Info.{Info}
 use Rattle.puffin_frames.specs.Frame.Streams.{Streams}
 use Rattle.puffin_frames.specs.Frame.Holding.{Packing, streams_in, or_bad, unpacking}
 use Rattle.puffin_threads.specs.Details.{Details}
+use Rattle.puffin_frames.specs.Packet.Kinds.{is_uncompressed, to_byte}
 use Rattle.puffin_frames.specs.Packet.Stored.{Said, Stored, packed}
 use Rattle.puffin_view.specs.View.File.{file_of, contents_in, details_stored, file_at, TookFrames, FailsToRead}
 use Rattle.puffin_merge.specs.Merge.FrameBytes.{FrameBytes}
@@ -50,7 +51,7 @@ unfolding NoIo
 compressed k e is io = cc
 
 not_unpacked : (p : Packing) (e : FileError) → unpacking p ≡ Err e → NoIo e
-not_unpacked p e is = either (p.kind == 0) _ (Err (file.Compressed p.kind)) e (bad_streams _ e) (compressed p.kind e) is
+not_unpacked p e is = either (is_uncompressed p.kind) _ (Err (file.Compressed (to_byte p.kind))) e (bad_streams _ e) (compressed (to_byte p.kind) e) is
 
 under : (info : Info) (c : Said) (r : Result Streams FileError) (e : FileError) → bytes_under info c r ≡ Err e → (r ≡ Err e)
 under info c (Ok streams) e is = absurd (cc)
@@ -115,4 +116,4 @@ of_kind true k o s is = held_unpacked o s is
 of_kind false k o s is = cc
 
 pub unpacked_again : (p : Packing) (s : Streams) → streams_in p ≡ Some s → unpacking p ≡ Ok s
-unpacked_again p s is = of_kind (p.kind == 0) p.kind _ s is
+unpacked_again p s is = of_kind (is_uncompressed p.kind) (to_byte p.kind) _ s is

@@ -10,6 +10,7 @@ use Rattle.puffin_data.specs.declared.data.form.Form.{Form}
 use Rattle.puffin_data.specs.declared.error.Error.TheVariants.{MissingId}
 use Rattle.puffin_data.specs.declared.file_error.FileError.{FileError}
 use Rattle.puffin_data.specs.declared.file_error.FileError.TheVariants as file
+use Rattle.puffin_frames.specs.declared.frame_data.kind.Kind.TheVariants.{Uncompressed}
 use Rattle.puffin_frames.specs.Frame.Contents.{frame_says}
 use Rattle.puffin_frames.specs.declared.frame_data.frame.FrameData.{FrameData}
 use Rattle.puffin_frames.specs.declared.frame_data.meta.FrameMeta.{FrameMeta}
@@ -31,7 +32,7 @@ use Rattle.puffin_view.proofs.Taking.{Took-all, Took-none}
 -- ---- a frame that was read, as a view sees it
 
 abbrev frame_said : FrameMeta → Form → List ℕ → List Details → Frame
-frame_said m form streams ds = record { contents = record { meta = m; form = form; kind = 0; streams = streams; details = ds }; is_unpacked = true; is_packed = false }
+frame_said m form streams ds = record { contents = record { meta = m; form = form; kind = Uncompressed; streams = streams; details = ds }; is_unpacked = true; is_packed = false }
 
 true_is_not_false : true ≡ false → ⊥
 true_is_not_false e = cc

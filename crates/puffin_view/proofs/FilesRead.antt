@@ -13,7 +13,7 @@ use Rattle.puffin_data.proofs.lemmas.Devices.{stops}
 use Rattle.puffin_data.specs.Part.{◌>>=◌}
 use Rattle.puffin_frames.specs.Packet.Stored.{Stored, packed, legacy}
 use Rattle.puffin_frames.specs.Packet.Letters.{is_packet}
-use Rattle.puffin_frames.specs.Packet.Forms.{as_stored, stored_after}
+use Rattle.puffin_frames.specs.Packet.Versions.{as_stored, stored_after}
 use Rattle.puffin_frames.specs.Packet.Front.{is_end, next_at, AtEnd}
 use Rattle.puffin_frames.specs.Packet.Next.{stored_of}
 use Rattle.puffin_frames.specs.declared.frame_data.frame.FrameData.{FrameData}

@@ -1,6 +1,6 @@
 -- Readings of bytes that are cut short: what ends within the beginning that is left is read as before, and the rest is `Truncated`.
 use Rattle.std.proofs.Common.{◌≡◌, ℕ, ◌<◌, ◌≤◌, Bool, true, false, cond, ltb, List, [], ◌∷◌, ◌++◌, length, take, drop, Option, Result, Ok, Err, ◌⊎◌, inl, inr, refl, sym, ap, ◌∙◌, arith, length-append}
-use Rattle.std.specs.Prelude.{slice_index, ◌==◌}
+use Rattle.std.specs.Prelude.{slice_index}
 use Rattle.std.proofs.lemmas.Bool.{le-ltb, ltb-false}
 use Rattle.std.proofs.lemmas.List.{append-nil, take-append-le, drop-append-le}
 use Rattle.puffin_data.specs.declared.data.form.Form.{Form}
@@ -9,12 +9,16 @@ use Rattle.puffin_data.specs.declared.file_error.FileError.{FileError}
 use Rattle.puffin_data.specs.declared.file_error.FileError.TheVariants as file
 use Rattle.puffin_data.specs.Part.{◌>>=◌, part_of, first_at, part_length_at, counted_part_at}
 use Rattle.puffin_data.specs.Value.Decoding.{whole}
+use Rattle.puffin_frames.specs.declared.frame_data.kind.Kind.{Kind}
+use Rattle.puffin_frames.specs.declared.frame_data.kind.Kind.TheVariants.{Zstd}
 use Rattle.puffin_frames.specs.declared.frame_data.meta.FrameMeta.{FrameMeta}
+use Rattle.puffin_frames.specs.declared.frame_data.version.Version.{Version}
+use Rattle.puffin_frames.specs.declared.frame_data.version.Version.TheVariants.{Pfd4, PfdL}
 use Rattle.puffin_threads.specs.Details.{Details}
 use Rattle.puffin_frames.specs.Packet.Structs.{details_at}
-use Rattle.puffin_frames.specs.Packet.Letters.{digit_2, has_details, form_behind}
-use Rattle.puffin_frames.specs.Packet.Parts.{meta_from, meta_part_at, kind_from, kind_at, details_from, given_details_at, details_part_at, streams_part_at}
-use Rattle.puffin_frames.specs.Packet.Forms.{packet_at, as_stored}
+use Rattle.puffin_frames.specs.Packet.Letters.{has_kind, has_details, text_form}
+use Rattle.puffin_frames.specs.Packet.Parts.{meta_from, meta_part_at, kind_from, given_kind_at, kind_at, details_from, given_details_at, details_part_at, streams_part_at}
+use Rattle.puffin_frames.specs.Packet.Versions.{packet_at, as_stored}
 use Rattle.puffin_frames.specs.Packet.Front.{next_at}
 use Rattle.puffin_frames.specs.Packet.Grammar.{packet, packet_head}
 use Rattle.puffin_frames.specs.Packet.Stored.{Said, Stored, packed}
@@ -99,31 +103,32 @@ counted_cut = both part_length_at part_of length_cut part_cut
 meta_cut : IsCuttable meta_part_at
 meta_cut = both counted_part_at (λ part rest. meta_from part >>= λ meta. Ok (meta, rest)) counted_cut (λ part. decided (meta_from part) (λ meta. meta))
 
-kind_cut : (letter : ℕ) → IsCuttable (kind_at letter)
-kind_cut letter =
-    either (letter == digit_2) (λ bytes. Ok (2, bytes)) (λ bytes. first_at bytes >>= λ b. kind_from b.0 >>= λ k. Ok (k, b.1)) (valued 2)
+kind_cut : (version : Version) → IsCuttable (kind_at version)
+kind_cut version =
+    either (has_kind version) given_kind_at (λ bytes. Ok (Zstd, bytes))
     (both first_at (λ b rest. kind_from b >>= λ k. Ok (k, rest)) first_cut (λ b. decided (kind_from b) (λ k. k)))
+    (valued Zstd)
 
-streams_cut : (letter : ℕ) → IsCuttable (streams_part_at letter)
-streams_cut letter =
-    both part_length_at (λ n rest. kind_at letter rest >>= λ kind. part_of n kind.1 >>= λ streams. Ok ((kind.0, streams.0), streams.1)) length_cut
-    (λ n. both (kind_at letter) (λ kind rest. part_of n rest >>= λ streams. Ok ((kind, streams.0), streams.1)) (kind_cut letter)
+streams_cut : (version : Version) → IsCuttable (streams_part_at version)
+streams_cut version =
+    both part_length_at (λ n rest. kind_at version rest >>= λ kind. part_of n kind.1 >>= λ streams. Ok ((kind.0, streams.0), streams.1)) length_cut
+    (λ n. both (kind_at version) (λ kind rest. part_of n rest >>= λ streams. Ok ((kind, streams.0), streams.1)) (kind_cut version)
     (λ kind. both (part_of n) (λ streams rest. Ok ((kind, streams), rest)) (part_cut n) (λ streams. valued (kind, streams))))
 
-details_cut : (letter : ℕ) → IsCuttable (details_part_at letter)
-details_cut letter =
-    either (has_details letter) given_details_at (λ bytes. Ok ([], bytes))
+details_cut : (version : Version) → IsCuttable (details_part_at version)
+details_cut version =
+    either (has_details version) given_details_at (λ bytes. Ok ([], bytes))
     (both counted_part_at (λ part rest. details_from (whole details_at part) >>= λ ds. Ok (ds, rest)) counted_cut (λ part. decided (details_from (whole details_at part)) (λ ds. ds)))
     (valued [])
 
-abbrev said_of : ℕ → FrameMeta → ℕ × List ℕ → List Details → Said
-said_of letter meta streams details = record { meta = meta; form = form_behind letter; kind = streams.0; streams = streams.1; details = details }
+abbrev said_of : Version → FrameMeta → Kind × List ℕ → List Details → Said
+said_of version meta streams details = record { meta = meta; form = text_form version; kind = streams.0; streams = streams.1; details = details }
 
-packet_cut : (letter : ℕ) → IsCuttable (packet_at letter)
-packet_cut letter =
-    both meta_part_at (λ meta rest. streams_part_at letter rest >>= λ streams. details_part_at letter streams.1 >>= λ details. Ok (said_of letter meta streams.0 details.0, details.1)) meta_cut
-    (λ meta. both (streams_part_at letter) (λ streams rest. details_part_at letter rest >>= λ details. Ok (said_of letter meta streams details.0, details.1)) (streams_cut letter)
-    (λ streams. both (details_part_at letter) (λ details rest. Ok (said_of letter meta streams details, rest)) (details_cut letter) (λ details. valued (said_of letter meta streams details))))
+packet_cut : (version : Version) → IsCuttable (packet_at version)
+packet_cut version =
+    both meta_part_at (λ meta rest. streams_part_at version rest >>= λ streams. details_part_at version streams.1 >>= λ details. Ok (said_of version meta streams.0 details.0, details.1)) meta_cut
+    (λ meta. both (streams_part_at version) (λ streams rest. details_part_at version rest >>= λ details. Ok (said_of version meta streams details.0, details.1)) (streams_cut version)
+    (λ streams. both (details_part_at version) (λ details rest. Ok (said_of version meta streams details, rest)) (details_cut version) (λ details. valued (said_of version meta streams details))))
 
 -- ---- packets
 
@@ -131,10 +136,10 @@ apart : (x y : List ℕ) → 0 < length y → [] ≡ x ++ y → ⊥
 apart x y some e = omega (arith, some, ap length e, length-append x y)
 
 -- a packet that is cut short behind its letters
-letters_stay : (letter : ℕ) (l more : List ℕ) (p : Said) → 0 < length more → packet_at letter (l ++ more) ≡ Ok (p, []) → packet_at letter l ≡ Err file.Truncated
-letters_stay letter l more p some is = by_cut (packet_cut letter l more p [] is)
+letters_stay : (version : Version) (l more : List ℕ) (p : Said) → 0 < length more → packet_at version (l ++ more) ≡ Ok (p, []) → packet_at version l ≡ Err file.Truncated
+letters_stay version l more p some is = by_cut (packet_cut version l more p [] is)
   where
-    by_cut : (packet_at letter l ≡ Err file.Truncated) ⊎ ((rest : List ℕ) × (packet_at letter l ≡ Ok (p, rest)) × ([] ≡ rest ++ more)) → packet_at letter l ≡ Err file.Truncated
+    by_cut : (packet_at version l ≡ Err file.Truncated) ⊎ ((rest : List ℕ) × (packet_at version l ≡ Ok (p, rest)) × ([] ≡ rest ++ more)) → packet_at version l ≡ Err file.Truncated
     by_cut (inl short) = short
     by_cut (inr h) = absurd (apart h.0 more some h.2)
 
@@ -152,16 +157,16 @@ unfolding next_at
 short_cut l more s some is =
     let long : ltb (length (80 ∷ 70 ∷ 68 ∷ 52 ∷ l)) 4 ≡ false = le-ltb _ _ (omega arith) in
     let longer : ltb (length (80 ∷ 70 ∷ 68 ∷ 52 ∷ (l ++ more))) 4 ≡ false = le-ltb _ _ (omega arith) in
-    let p = told (packet_at 52 (l ++ more)) s (rw longer at is) in
-    rw long (ap (as_stored packed) (letters_stay 52 l more p.0 some p.1))
+    let p = told (packet_at Pfd4 (l ++ more)) s (rw longer at is) in
+    rw long (ap (as_stored packed) (letters_stay Pfd4 l more p.0 some p.1))
 
 long_cut : (l more : List ℕ) (s : Option Stored) → 0 < length more → next_at (80 ∷ 70 ∷ 68 ∷ 76 ∷ (l ++ more)) ≡ Ok (s, []) → next_at (80 ∷ 70 ∷ 68 ∷ 76 ∷ l) ≡ Err file.Truncated
 unfolding next_at
 long_cut l more s some is =
     let long : ltb (length (80 ∷ 70 ∷ 68 ∷ 76 ∷ l)) 4 ≡ false = le-ltb _ _ (omega arith) in
     let longer : ltb (length (80 ∷ 70 ∷ 68 ∷ 76 ∷ (l ++ more))) 4 ≡ false = le-ltb _ _ (omega arith) in
-    let p = told (packet_at 76 (l ++ more)) s (rw longer at is) in
-    rw long (ap (as_stored packed) (letters_stay 76 l more p.0 some p.1))
+    let p = told (packet_at PfdL (l ++ more)) s (rw longer at is) in
+    rw long (ap (as_stored packed) (letters_stay PfdL l more p.0 some p.1))
 
 letter_in : Form → ℕ
 letter_in Short = 52
@@ -171,7 +176,7 @@ letters_of_packet : (c : Said) → (t : List ℕ) × (packet c ≡ 80 ∷ 70 ∷
 unfolding packet_head letter_in
 letters_of_packet c = by_form c.form c.meta c.kind c.streams c.details
   where
-    by_form : (form : Form) (meta : FrameMeta) (kind : ℕ) (streams : List ℕ) (details : List Details)
+    by_form : (form : Form) (meta : FrameMeta) (kind : Kind) (streams : List ℕ) (details : List Details)
         → (t : List ℕ) × (packet (record { meta = meta; form = form; kind = kind; streams = streams; details = details }) ≡ 80 ∷ 70 ∷ 68 ∷ letter_in form ∷ t)
     by_form Short meta kind streams details = (_, refl)
     by_form Long meta kind streams details = (_, refl)

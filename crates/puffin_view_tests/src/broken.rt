@@ -98,7 +98,7 @@ fn is_cut_short(rt: &HostRuntime, front: &[u8]) -> Outcome {
 fn a_length_that_lies_cuts_the_file_short(rt: HostRuntime) -> Outcome {
     let truncated = Some(FileError::Truncated);
     has_fault(&rt, &[b"PUF0PFD4", &LIES, &FILE[12..19]], truncated)?;
-    // So it does before the streams and the details, and before a frame of the first form.
+    // So it does before the streams and the details, and before a legacy frame.
     is_cut_short(&rt, &FILE[..19])?;
     is_cut_short(&rt, &FILE[..74])?;
     is_cut_short(&rt, b"PUF0")

@@ -127,8 +127,8 @@ fn each_fault_of_a_packet_is_the_file_s(rt: HostRuntime) -> Outcome {
     Ok(())
 }
 
-/// A packet of the first form of so many bytes, the first frame's streams with this end, is at fault.
-fn first_form_is_at_fault(rt: &HostRuntime, size: u8, end: &[u8], fault: FileError) -> Outcome {
+/// A legacy frame of so many bytes, the first frame's streams with this end, is at fault.
+fn legacy_frame_is_at_fault(rt: &HostRuntime, size: u8, end: &[u8], fault: FileError) -> Outcome {
     let streams = FILE.get(24..74).ok_or("the streams")?;
     has_fault(
         rt,
@@ -138,9 +138,9 @@ fn first_form_is_at_fault(rt: &HostRuntime, size: u8, end: &[u8], fault: FileErr
 }
 
 #[test]
-fn each_fault_of_the_first_form_is_the_file_s(rt: HostRuntime) -> Outcome {
+fn each_fault_of_a_legacy_frame_is_the_file_s(rt: HostRuntime) -> Outcome {
     let range = b"\xfb\x58\x02\xc8\x23\x01";
-    first_form_is_at_fault(&rt, 57, range, FileError::BadRange)?;
+    legacy_frame_is_at_fault(&rt, 57, range, FileError::BadRange)?;
     let left_over = b"\xc8\xfb\x58\x02\x23\x01\0";
-    first_form_is_at_fault(&rt, 58, left_over, FileError::BadStreams)
+    legacy_frame_is_at_fault(&rt, 58, left_over, FileError::BadStreams)
 }

@@ -176,7 +176,7 @@ fn files_end_at_few_bytes_or_four_zeros(rt: HostRuntime) -> Outcome {
 }
 
 #[test]
-fn frames_of_the_first_form_are_held_unpacked(rt: HostRuntime) -> Outcome {
+fn legacy_frames_are_held_unpacked(rt: HostRuntime) -> Outcome {
     let bytes = bytes_of(
         &rt,
         &[

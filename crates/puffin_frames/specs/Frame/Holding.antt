@@ -1,5 +1,5 @@
 -- The two ways of holding a frame's streams, packed and unpacked, and the one content of both.
-use Rattle.std.specs.Prelude.{◌≡◌, ℕ, List, [], Option, Some, None, Result, Ok, Err, ◌==◌, if◌then◌else◌}
+use Rattle.std.specs.Prelude.{◌≡◌, ℕ, List, [], Option, Some, None, Result, Ok, Err, if◌then◌else◌}
 use Rattle.std.specs.FinMap.{entries, from_sorted}
 use Rattle.std.specs.Option.{option_map}
 use Rattle.puffin_data.specs.declared.data.form.Form.{Form}
@@ -10,13 +10,16 @@ use Rattle.puffin_data.specs.Honesty.{Recorded}
 use Rattle.puffin_data.specs.Value.Layout.{AreItems}
 use Rattle.puffin_data.specs.Value.Decoding.{whole}
 use Rattle.puffin_threads.specs.Thread.Info.{Info}
+use Rattle.puffin_frames.specs.declared.frame_data.kind.Kind.{Kind}
+use Rattle.puffin_frames.specs.declared.frame_data.kind.Kind.TheVariants.{Uncompressed}
 use Rattle.puffin_frames.specs.Frame.Streams.{Streams}
+use Rattle.puffin_frames.specs.Packet.Kinds.{to_byte, is_uncompressed}
 use Rattle.puffin_frames.specs.Packet.Structs.{IsInfo, AreCounts, form_of_all, streams_layout, streams_at, AreStreams}
 
 -- packed streams: the form of their packet, the kind, and the bytes
 pub record Packing : Type 0 where
   pub form : Form
-  pub kind : ℕ
+  pub kind : Kind
   pub bytes : List ℕ
 
 -- packed, unpacked, or both
@@ -24,22 +27,23 @@ pub record Holding : Type 0 where
   pub packed : Option Packing
   pub unpacked : Option Streams
 
--- the bytes are the layout of these streams, with kind 0
+-- the bytes are the layout of these streams, uncompressed
 abbrev pub HoldsStreams : Packing → Streams → Type 0
 HoldsStreams p streams =
-    (p.kind ≡ 0) × AreStreams p.form (entries streams)
+    (p.kind ≡ Uncompressed) × AreStreams p.form (entries streams)
     × (p.bytes ≡ streams_layout p.form (entries streams))
 
--- the streams whose layout packed bytes are; none for other kinds than 0
+-- the streams whose layout packed bytes are; none if they are compressed
 abbrev pub streams_in : Packing → Option Streams
 streams_in p =
-    if p.kind == 0 then option_map from_sorted (whole (streams_at p.form) p.bytes) else None
+    if is_uncompressed p.kind then option_map from_sorted (whole (streams_at p.form) p.bytes)
+    else None
 
--- streams packed with kind 0
+-- streams packed, uncompressed
 abbrev pub plainly_packed : Streams → Packing
 plainly_packed streams = record {
   form = form_of_all (entries streams);
-  kind = 0;
+  kind = Uncompressed;
   bytes = streams_layout (form_of_all (entries streams)) (entries streams);
 }
 
@@ -47,7 +51,7 @@ plainly_packed streams = record {
 abbrev pub HaveLayout : Streams → Type 0
 HaveLayout streams = AreItems (λ (e : Info × Recorded). IsInfo e.0 × AreCounts e.1) (entries streams)
 
--- packed with kind 0, they are read as the same streams
+-- packed, they are read as the same streams
 abbrev pub AreReadAgain : Streams → Type 0
 AreReadAgain streams = streams_in (plainly_packed streams) ≡ Some streams
 
@@ -77,7 +81,7 @@ IsHolding h = Agree h.packed h.unpacked
 abbrev pub packing : Option Packing → Option Streams → Packing
 packing (Some p) u = p
 packing None (Some streams) = plainly_packed streams
-packing None None = record { form = Short; kind = 0; bytes = [] }
+packing None None = record { form = Short; kind = Uncompressed; bytes = [] }
 
 abbrev pub packing_of : Holding → Packing
 packing_of h = packing h.packed h.unpacked
@@ -97,8 +101,9 @@ or_bad (Some streams) = Ok streams
 
 abbrev pub unpacking : Packing → Result Streams FileError
 unpacking p =
-    if p.kind == 0 then or_bad (option_map from_sorted (whole (streams_at p.form) p.bytes))
-    else Err (file.Compressed p.kind)
+    if is_uncompressed p.kind
+    then or_bad (option_map from_sorted (whole (streams_at p.form) p.bytes))
+    else Err (file.Compressed (to_byte p.kind))
 
 abbrev pub unpacked_of : Option Packing → Option Streams → Result Streams FileError
 unpacked_of p (Some streams) = Ok streams

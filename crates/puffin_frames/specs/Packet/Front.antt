@@ -4,7 +4,7 @@ use Rattle.std.specs.Io.KnownBytes.{Consumes, IsAtEnd}
 use Rattle.byteorder.specs.Endian.{little_number}
 use Rattle.puffin_data.specs.declared.file_error.FileError.{FileError}
 use Rattle.puffin_frames.specs.Packet.Stored.{Stored}
-use Rattle.puffin_frames.specs.Packet.Forms.{stored_after}
+use Rattle.puffin_frames.specs.Packet.Versions.{stored_after}
 
 -- fewer than four bytes, or four zeros
 abbrev pub is_end : List ℕ → Bool

@@ -1,12 +1,16 @@
 -- The bytes that store a frame: the packet that is written, older ones, and legacy frames.
-use Rattle.std.specs.Prelude.{◌≡◌, ◌^◌, ◌<◌, ◌⊎◌, ℕ, true, false, List, [], ◌∷◌, ◌++◌, length, nat_lt, Option}
+use Rattle.std.specs.Prelude.{◌≡◌, ◌^◌, ◌<◌, ◌⊎◌, ℕ, true, false, List, [], ◌∷◌, ◌++◌, length, Option}
 use Rattle.std.specs.Io.KnownBytes.{Consumes}
 use Rattle.byteorder.specs.Endian.{little_bytes}
 use Rattle.puffin_data.specs.declared.data.form.Form.{Form}
 use Rattle.puffin_data.specs.declared.data.form.Form.TheVariants.{Short}
 use Rattle.puffin_data.specs.Range.{is_range_at}
+use Rattle.puffin_frames.specs.declared.frame_data.kind.Kind.{Kind}
+use Rattle.puffin_frames.specs.declared.frame_data.kind.Kind.TheVariants.{Zstd}
 use Rattle.puffin_frames.specs.declared.frame_data.meta.FrameMeta.{FrameMeta}
-use Rattle.puffin_frames.specs.Packet.Letters.{digit_2, digit_3, letter_for, letters_of, is_packet}
+use Rattle.puffin_frames.specs.declared.frame_data.version.Version.TheVariants.{Pfd2, Pfd3}
+use Rattle.puffin_frames.specs.Packet.Kinds.{to_byte}
+use Rattle.puffin_frames.specs.Packet.Letters.{letters, for_form, is_packet}
 use Rattle.puffin_frames.specs.Packet.Structs.{IsMeta, meta_layout, AreDetails, details_layout, Legacy, IsLegacy, legacy_layout}
 use Rattle.puffin_frames.specs.Packet.Stored.{Said, Stored, packed, legacy}
 
@@ -14,13 +18,13 @@ abbrev pub counted_part : List ℕ → List ℕ
 counted_part part = little_bytes 4 (length part) ++ part
 
 -- the letters, the meta, and the length and the kind of the streams
-unfoldable pub packet_head : Form → FrameMeta → ℕ → ℕ → List ℕ
+unfoldable pub packet_head : Form → FrameMeta → Kind → ℕ → List ℕ
 packet_head form meta kind len =
-    letters_of (letter_for form)
-    ++ (counted_part (meta_layout meta) ++ (little_bytes 4 len ++ (kind ∷ [])))
+    letters (for_form form)
+    ++ (counted_part (meta_layout meta) ++ (little_bytes 4 len ++ (to_byte kind ∷ [])))
 
 -- a packet of these streams and this part of details
-abbrev pub packet_with : Form → FrameMeta → ℕ → List ℕ → List ℕ → List ℕ
+abbrev pub packet_with : Form → FrameMeta → Kind → List ℕ → List ℕ → List ℕ
 packet_with form meta kind streams details =
     (packet_head form meta kind (length streams) ++ streams) ++ counted_part details
 
@@ -32,36 +36,35 @@ packet p = packet_with p.form p.meta p.kind p.streams (details_layout p.details)
 pub record IsPacked (p : Said) : Type 0 where
   pub meta : IsMeta p.meta
   pub range : is_range_at p.meta.range_ns.0 p.meta.range_ns.1 ≡ true
-  pub kind : nat_lt 2 p.kind ≡ false
   pub short : length p.streams < 2 ^ 32
   pub details : AreDetails p.details
   pub details_short : length (details_layout p.details) < 2 ^ 32
 
--- the third form: `PFD3`, and no details
+-- an older version: `PFD3`, and no details
 abbrev pub packet_without_details : Said → List ℕ
 packet_without_details p =
-    letters_of digit_3
+    letters Pfd3
     ++ (counted_part (meta_layout p.meta)
-    ++ (little_bytes 4 (length p.streams) ++ (p.kind ∷ p.streams)))
+    ++ (little_bytes 4 (length p.streams) ++ (to_byte p.kind ∷ p.streams)))
 
--- the second form: `PFD2`, with neither details nor a kind, as its streams are of kind 2
+-- the version before: `PFD2`, with neither details nor a kind, as its streams are of kind `Zstd`
 abbrev pub packet_without_kind : Said → List ℕ
 packet_without_kind p =
-    letters_of digit_2 ++ (counted_part (meta_layout p.meta) ++ counted_part p.streams)
+    letters Pfd2 ++ (counted_part (meta_layout p.meta) ++ counted_part p.streams)
 
--- the first form: a length, and meta and streams in one
+-- a legacy frame: a length, and meta and streams in one
 abbrev pub legacy_bytes : Legacy → List ℕ
 legacy_bytes l = counted_part (legacy_layout l)
 
--- a packet in one of the three forms that stores this; the older ones lack details, and the oldest the kind
+-- a packet of one of these versions that stores this; the older ones lack details, and the oldest the kind
 abbrev pub IsPacketFor : Said → List ℕ → Type 0
 IsPacketFor p bytes =
     (bytes ≡ packet p)
     ⊎ ((bytes ≡ packet_without_details p) × (p.form ≡ Short) × (p.details ≡ []))
-    ⊎ ((bytes ≡ packet_without_kind p) × (p.form ≡ Short) × (p.kind ≡ 2) × (p.details ≡ []))
+    ⊎ ((bytes ≡ packet_without_kind p) × (p.form ≡ Short) × (p.kind ≡ Zstd) × (p.details ≡ []))
 
--- what the first form can store: its length isn't mistaken for the letters of a packet
-pub record IsFirstForm (l : Legacy) : Type 0 where
+-- what can be stored as a legacy frame: its length isn't mistaken for the letters of a packet
+pub record IsLegacyFrame (l : Legacy) : Type 0 where
   pub layout : IsLegacy l
   pub range : is_range_at l.meta.range_ns.0 l.meta.range_ns.1 ≡ true
   pub short : length (legacy_layout l) < 2 ^ 32
@@ -70,7 +73,7 @@ pub record IsFirstForm (l : Legacy) : Type 0 where
 -- the bytes store this frame
 abbrev pub Stores : List ℕ → Stored → Type 0
 Stores bytes (packed p) = IsPacked p × IsPacketFor p bytes
-Stores bytes (legacy l) = IsFirstForm l × (bytes ≡ legacy_bytes l)
+Stores bytes (legacy l) = IsLegacyFrame l × (bytes ≡ legacy_bytes l)
 
 -- a call took from a device the bytes that store this frame, and no others
 abbrev pub TookStored : Option (List ℕ) → Option (List ℕ) → Stored → Type 0

@@ -1,7 +1,9 @@
--- The letters that packets begin with: `PFD` and a digit, or `L` where a stream has long texts.
+-- The versions of packets, and the letters that they begin with: `PFD` and a digit, or `L` if a stream has long texts.
+use Rattle.std.specs.Prelude.{ℕ, Bool, true, false, ◌&&◌, List, [], ◌∷◌, Option, Some, None, slice_index, ◌==◌, if◌then◌else◌}
 use Rattle.puffin_data.specs.declared.data.form.Form.{Form}
 use Rattle.puffin_data.specs.declared.data.form.Form.TheVariants.{Short, Long}
-use Rattle.std.specs.Prelude.{ℕ, Bool, ◌&&◌, ◌||◌, List, [], ◌∷◌, slice_index, ◌==◌, if◌then◌else◌}
+use Rattle.puffin_frames.specs.declared.frame_data.version.Version.{Version}
+use Rattle.puffin_frames.specs.declared.frame_data.version.Version.TheVariants.{Pfd2, Pfd3, Pfd4, PfdL}
 
 abbrev pub letter_p : ℕ
 letter_p = 80
@@ -30,22 +32,50 @@ digit_4 = 52
 abbrev pub letter_l : ℕ
 letter_l = 76
 
--- the last letter of a packet written in this form
-abbrev pub letter_for : Form → ℕ
-letter_for Short = digit_4
-letter_for Long = letter_l
+abbrev pub last_letter : Version → ℕ
+last_letter Pfd2 = digit_2
+last_letter Pfd3 = digit_3
+last_letter Pfd4 = digit_4
+last_letter PfdL = letter_l
 
--- whether packets with this last letter have details, as those that are written do
-abbrev pub has_details : ℕ → Bool
-has_details letter = (letter == digit_4) || (letter == letter_l)
+-- the four letters of a packet of this version
+abbrev pub letters : Version → List ℕ
+letters version = letter_p ∷ letter_f ∷ letter_d ∷ last_letter version ∷ []
 
--- the form of the packets with this last letter
-abbrev pub form_behind : ℕ → Form
-form_behind letter = if letter == letter_l then Long else Short
+-- the version of the packets with this last letter
+abbrev pub from_letter : ℕ → Option Version
+from_letter letter =
+    if letter == digit_2 then Some Pfd2
+    else if letter == digit_3 then Some Pfd3
+    else if letter == digit_4 then Some Pfd4
+    else if letter == letter_l then Some PfdL
+    else None
 
--- the four letters of a packet of this form
-abbrev pub letters_of : ℕ → List ℕ
-letters_of digit = letter_p ∷ letter_f ∷ letter_d ∷ digit ∷ []
+-- whether packets of this version store the kind of their streams
+abbrev pub has_kind : Version → Bool
+has_kind Pfd2 = false
+has_kind Pfd3 = true
+has_kind Pfd4 = true
+has_kind PfdL = true
+
+-- whether packets of this version have details
+abbrev pub has_details : Version → Bool
+has_details Pfd2 = false
+has_details Pfd3 = false
+has_details Pfd4 = true
+has_details PfdL = true
+
+-- the form of the texts in packets of this version
+abbrev pub text_form : Version → Form
+text_form Pfd2 = Short
+text_form Pfd3 = Short
+text_form Pfd4 = Short
+text_form PfdL = Long
+
+-- the version that is written of texts in this form
+abbrev pub for_form : Form → Version
+for_form Short = Pfd4
+for_form Long = PfdL
 
 -- a header begins with `PFD`
 abbrev pub is_packet : List ℕ → Bool

@@ -16,7 +16,7 @@ abbrev pub entries_if_any : Option Streams → List (Info × Recorded)
 entries_if_any None = []
 entries_if_any (Some streams) = entries streams
 
--- an unpacked frame, as the first form stores it
+-- an unpacked frame, as it is stored as a legacy one
 abbrev pub legacy_of : FrameData → Legacy
 legacy_of frame =
     record { meta = frame_meta frame; streams = entries_if_any (holding_of frame).unpacked }
@@ -29,7 +29,7 @@ stored_as frame None = legacy (legacy_of frame)
 abbrev pub stored_of : FrameData → Stored
 stored_of frame = stored_as frame (holding_of frame).packed
 
--- a frame that was read: it is held in one way, `full_delta` is false, and one of the first form has no details
+-- a frame that was read: it is held in one way, `full_delta` is false, and a legacy one has no details
 pub record IsFresh (frame : FrameData) : Type 0 where
   pub one_way : is_some (holding_of frame).packed ≡ not (is_some (holding_of frame).unpacked)
   pub full_delta : frame.full_delta ≡ false

@@ -1,13 +1,17 @@
 -- Reading the parts of a packet or of a legacy frame.
-use Rattle.std.specs.Prelude.{ℕ, List, [], Option, Some, None, Result, Ok, Err, nat_lt, ◌==◌, if◌then◌else◌}
+use Rattle.std.specs.Prelude.{ℕ, List, [], Option, Some, None, Result, Ok, Err, if◌then◌else◌}
 use Rattle.puffin_data.specs.declared.file_error.FileError.{FileError}
 use Rattle.puffin_data.specs.declared.file_error.FileError.TheVariants as file
 use Rattle.puffin_data.specs.Range.{is_range_at}
 use Rattle.puffin_data.specs.Value.Decoding.{whole}
 use Rattle.puffin_data.specs.Part.{◌>>=◌, part_of, first_at, part_length_at, counted_part_at}
+use Rattle.puffin_frames.specs.declared.frame_data.kind.Kind.{Kind}
+use Rattle.puffin_frames.specs.declared.frame_data.kind.Kind.TheVariants.{Zstd}
 use Rattle.puffin_frames.specs.declared.frame_data.meta.FrameMeta.{FrameMeta}
+use Rattle.puffin_frames.specs.declared.frame_data.version.Version.{Version}
 use Rattle.puffin_threads.specs.Details.{Details}
-use Rattle.puffin_frames.specs.Packet.Letters.{digit_2, has_details}
+use Rattle.puffin_frames.specs.Packet.Kinds.{from_byte}
+use Rattle.puffin_frames.specs.Packet.Letters.{has_kind, has_details}
 use Rattle.puffin_frames.specs.Packet.Structs.{meta_at, details_at, Legacy, legacy_at}
 
 abbrev pub meta_with_range : Option FrameMeta → Result FrameMeta FileError
@@ -24,14 +28,23 @@ meta_part_at bytes = do
   meta ← meta_from part.0
   Ok (meta, part.1)
 
-abbrev pub kind_from : ℕ → Result ℕ FileError
-kind_from b = if nat_lt 2 b then Err (file.UnknownKind b) else Ok b
+abbrev pub known_kind : ℕ → Option Kind → Result Kind FileError
+known_kind byte None = Err (file.UnknownKind byte)
+known_kind byte (Some kind) = Ok kind
 
--- the kind of the streams, after this letter; the second form doesn't store it, as its kind is 2
-abbrev pub kind_at : ℕ → List ℕ → Result (ℕ × List ℕ) FileError
-kind_at letter bytes =
-    if letter == digit_2 then Ok (2, bytes)
-    else first_at bytes >>= λ b. kind_from b.0 >>= λ k. Ok (k, b.1)
+abbrev pub kind_from : ℕ → Result Kind FileError
+kind_from byte = known_kind byte (from_byte byte)
+
+abbrev pub given_kind_at : List ℕ → Result (Kind × List ℕ) FileError
+given_kind_at bytes = do
+  byte ← first_at bytes
+  kind ← kind_from byte.0
+  Ok (kind, byte.1)
+
+-- the kind of the streams in a packet of this version; it is `Zstd` where none is stored
+abbrev pub kind_at : Version → List ℕ → Result (Kind × List ℕ) FileError
+kind_at version bytes =
+    if has_kind version then given_kind_at bytes else Ok (Zstd, bytes)
 
 abbrev pub details_from : Option (List Details) → Result (List Details) FileError
 details_from None = Err file.BadScopes
@@ -43,16 +56,16 @@ given_details_at bytes = do
   ds ← details_from (whole details_at part.0)
   Ok (ds, part.1)
 
--- only packets of the form that is written have details
-abbrev pub details_part_at : ℕ → List ℕ → Result (List Details × List ℕ) FileError
-details_part_at letter bytes =
-    if has_details letter then given_details_at bytes else Ok ([], bytes)
+-- no details where the version has none
+abbrev pub details_part_at : Version → List ℕ → Result (List Details × List ℕ) FileError
+details_part_at version bytes =
+    if has_details version then given_details_at bytes else Ok ([], bytes)
 
 -- the kind and the bytes of the streams; the length comes first, and doesn't count the kind
-abbrev pub streams_part_at : ℕ → List ℕ → Result ((ℕ × List ℕ) × List ℕ) FileError
-streams_part_at letter bytes = do
+abbrev pub streams_part_at : Version → List ℕ → Result ((Kind × List ℕ) × List ℕ) FileError
+streams_part_at version bytes = do
   n ← part_length_at bytes
-  kind ← kind_at letter n.1
+  kind ← kind_at version n.1
   streams ← part_of n.0 kind.1
   Ok ((kind.0, streams.0), streams.1)
 
@@ -64,7 +77,7 @@ legacy_with_range (Some l) =
 abbrev pub legacy_from : List ℕ → Result Legacy FileError
 legacy_from part = legacy_with_range (whole legacy_at part)
 
--- n bytes, which are a frame of the first form
+-- n bytes, which are a legacy frame
 abbrev pub legacy_part_at : ℕ → List ℕ → Result (Legacy × List ℕ) FileError
 legacy_part_at n bytes = do
   part ← part_of n bytes

@@ -1,6 +1,7 @@
 -- What a packet stores of a frame (`Said`), and legacy frames.
 use Rattle.std.specs.Prelude.{ℕ, List}
 use Rattle.puffin_data.specs.declared.data.form.Form.{Form}
+use Rattle.puffin_frames.specs.declared.frame_data.kind.Kind.{Kind}
 use Rattle.puffin_frames.specs.declared.frame_data.meta.FrameMeta.{FrameMeta}
 use Rattle.puffin_threads.specs.Details.{Details}
 use Rattle.puffin_frames.specs.Packet.Structs.{Legacy}
@@ -9,11 +10,11 @@ use Rattle.puffin_frames.specs.Packet.Structs.{Legacy}
 pub record Said : Type 0 where
   pub meta : FrameMeta
   pub form : Form
-  pub kind : ℕ
+  pub kind : Kind
   pub streams : List ℕ
   pub details : List Details
 
--- a frame whose streams are packed, or one of the first form
+-- a frame whose streams are packed, or a legacy one
 pub data Stored : Type 0 where
   packed : Said → Stored
   legacy : Legacy → Stored

@@ -168,7 +168,7 @@ AreDetails = AreItems IsDetail
 unfoldable pub details_at : List ℕ → Option (List Details × List ℕ)
 details_at = items_at detail_at
 
--- ---- a frame of the first form: meta and streams in one, and all streams short
+-- ---- a legacy frame: meta and streams in one, and all streams short
 
 pub record Legacy : Type 0 where
   pub meta : FrameMeta

@@ -1,6 +1,6 @@
 //! The ways to hold a frame's streams, and the changes from one to another.
 
-ghost use Rattle.std.specs.Prelude.{◌≡◌, ◌≤◌, ◌-ℤ◌, ◌≤ℤ◌, Some, FitsSigned};
+ghost use Rattle.std.specs.Prelude.{◌≡◌, ◌-ℤ◌, ◌≤ℤ◌, Some, FitsSigned};
 ghost use Rattle.std.specs.Int.{w64};
 ghost use Rattle.std.specs.Arc.{arc_value};
 ghost use Rattle.std.specs.Coded.{Coded-set, coded_option};
@@ -11,6 +11,7 @@ ghost use Rattle.puffin_frames.specs.Frame.Holding.{streams_in};
 
 use crate::frame_data::decode::{self, Stop};
 use crate::frame_data::encode::{packed_form, put_streams, streams_size};
+use crate::frame_data::kind::Kind;
 use crate::frame_data::meta::FrameMeta;
 use crate::frame_data::thread_streams::ThreadStreams;
 use crate::frame_data::unpacked::UnpackedFrameData;
@@ -19,16 +20,15 @@ use puffin_data::{FileError, Result};
 use std::alloc::Global;
 use std::sync::Arc;
 
-/// The streams of a frame, packed. Kind 0 is their layout itself, kind 1 was compressed by lz4, and kind 2 by zstd.
+/// The streams of a frame, packed.
 ///
-/// The layout is that of packets of a form: the short one if all streams are short, else the long one, in which each stream's
-/// form comes before it.
+/// The layout of uncompressed streams is that of packets of a form: the short one if all streams are short, else the long one,
+/// in which each stream's form comes before it.
 #[derive(Drop)]
 pub(crate) struct PackedStreams {
     pub(crate) form: Form,
-    pub(crate) kind: u8,
+    pub(crate) kind: Kind,
     pub(crate) bytes: Vec<u8>,
-    ghost known: { kind ≤ 2 },
     ghost are_bytes: { IsBytes bytes.items },
 }
 
@@ -76,14 +76,13 @@ impl PackedStreams {
     ghost use Rattle.puffin_frames.specs.Packet.Tries.{DecidedInMemory};
 
     /// Makes packed streams of their bytes. Allocates nothing.
-    pub(crate) fn new(form: Form, kind: u8, bytes: Vec<u8>) -> PackedStreams
-        requires { kind ≤ 2 }
+    pub(crate) fn new(form: Form, kind: Kind, bytes: Vec<u8>) -> PackedStreams
         ensures { packed_as result ≡ record { form = form; kind = kind; bytes = bytes.items } }
     {
         PackedStreams { form, kind, bytes }
     }
 
-    /// Packs streams, with kind 0. Fails only with `Memory`.
+    /// Packs streams, uncompressed. Fails only with `Memory`.
     pub(crate) fn of(alloc: Global, streams: &ThreadStreams) -> Result<PackedStreams>
         ensures ok { IfOk result (λ packed.
             packed_as packed ≡ plainly_packed (shared_streams streams.now.entries)) }
@@ -94,7 +93,7 @@ impl PackedStreams {
         let form = packed_form(streams);
         let mut bytes = Vec::with_capacity(alloc, streams_size(streams))?;
         put_streams(&mut bytes, form, streams)?;
-        Ok(PackedStreams::new(form, 0, bytes))
+        Ok(PackedStreams::new(form, Kind::Uncompressed, bytes))
     }
 
     /// Copies the packed streams. Fails only with `Memory`.
@@ -106,14 +105,14 @@ impl PackedStreams {
         Ok(PackedStreams::new(self.form, self.kind, bytes))
     }
 
-    /// Unpacks the streams. Fails with `Compressed` if the kind isn't 0, with `BadStreams` if the bytes aren't a layout of
+    /// Unpacks the streams. Fails with `Compressed` if they are compressed, with `BadStreams` if the bytes aren't a layout of
     /// streams, and with `Memory`.
     fn unpack(&self, alloc: Global) -> std::result::Result<ThreadStreams, FileError>
         ensures { DecidedInMemory (λ streams. shared_streams streams.entries) result (
             unpacking (packed_as self.now)) }
     {
-        if self.kind != 0 {
-            return Err(FileError::Compressed(self.kind));
+        if !self.kind.is_uncompressed() {
+            return Err(FileError::Compressed(self.kind.to_byte()));
         }
         match decode::streams_in(alloc, self.form, &self.bytes) {
             Ok(streams) => Ok(streams),
@@ -139,7 +138,7 @@ impl PackedFrame {
                 num_bytes: 0,
                 num_scopes: 0,
             },
-            streams: PackedStreams::new(Form::Short, 0, Vec::new(alloc)),
+            streams: PackedStreams::new(Form::Short, Kind::Uncompressed, Vec::new(alloc)),
         }
     }
 

@@ -38,7 +38,7 @@ pub fn only_layouts_are_read()
     ensures legacy { ReadsLayouts IsLegacy legacy_layout legacy_at }
 {}
 
-/// A frame is read from the front of bytes exactly when they begin with bytes that store it: a packet of the form that is
+/// A frame is read from the front of bytes exactly when they begin with bytes that store it: a packet of the version that is
 /// written or of an older one, or a legacy frame.
 pub fn only_packets_are_read()
     ensures { (bytes rest : List ℕ) (s : Stored) → IsBytes bytes →
@@ -52,7 +52,7 @@ pub fn packed_contents()
         (streams_in p ≡ Some streams) ↔ HoldsStreams p streams }
 {}
 
-/// A packet that was written is read as what it stores, whatever follows it. No packet begins another, in either form.
+/// A packet that was written is read as what it stores, whatever follows it. No packet begins another, in either version.
 pub fn written_is_read()
     ensures again { (p : Said) (rest : List ℕ) → IsPacked p →
         next_at (packet p ++ rest) ≡ Ok (Some (packed p), rest) }

@@ -10,22 +10,23 @@ ghost use Rattle.puffin_threads.specs.Details.{shared_details};
 ghost use Rattle.puffin_frames.specs.Frame.Contents.{holding_of, frame_says};
 ghost use Rattle.puffin_frames.specs.Packet.Tries.{DecidedInMemory};
 ghost use Rattle.puffin_frames.specs.inner.Stopping.{Decided, HeaderFrom};
-ghost use Rattle.puffin_frames.specs.inner.Age.{IsAgeOf};
-ghost use Rattle.puffin_frames.specs.Packet.Letters.{form_behind, has_details, is_packet};
+ghost use Rattle.puffin_frames.specs.Packet.Letters.{is_packet};
 ghost use Rattle.puffin_frames.specs.Packet.Parts.{meta_from, meta_part_at, kind_from, kind_at, details_from, details_part_at, streams_part_at, legacy_from, legacy_part_at};
-ghost use Rattle.puffin_frames.specs.Packet.Forms.{packet_at, form_at, stored_after};
+ghost use Rattle.puffin_frames.specs.Packet.Versions.{packet_at, version_at, stored_after};
 ghost use Rattle.puffin_frames.specs.Packet.Grammar.{TookStored};
 ghost use Rattle.puffin_frames.specs.Packet.Next.{legacy_of, stored_of, IsFresh, ReadsNext};
 
 use crate::frame_data::decode::{Stop, details_in, legacy_in, meta_in};
 use crate::frame_data::frame::FrameData;
 use crate::frame_data::held::{Held, PackedFrame, PackedStreams};
+use crate::frame_data::kind::Kind;
 use crate::frame_data::meta::FrameMeta;
 use crate::frame_data::unpacked::UnpackedFrameData;
+use crate::frame_data::version::Version;
 use byteorder::{ByteOrder, LittleEndian};
 use puffin_data::FileError;
 use puffin_data::data::{
-    Form, Source, is_range, read_byte, read_counted_part, read_length, read_part, read_up_to,
+    Source, is_range, read_byte, read_counted_part, read_length, read_part, read_up_to,
 };
 use puffin_threads::scope_details::ScopeDetails;
 use std::alloc::Global;
@@ -62,27 +63,24 @@ fn read_meta_part<S: Source>(alloc: Global, source: &mut S) -> Result<FrameMeta,
     Ok(meta)
 }
 
-fn kind_of(byte: u8) -> Result<u8, FileError>
-    ensures decided { Decided (λ k. k) result (kind_from byte) }
-    ensures known { IfOk result (λ k. k ≤ 2) }
+fn kind_of(byte: u8) -> Result<Kind, FileError>
+    ensures { Decided (λ k. k) result (kind_from byte) }
 {
-    if byte > 2 {
-        Err(FileError::UnknownKind(byte))
-    } else {
-        Ok(byte)
+    match Kind::from_byte(byte) {
+        Some(kind) => Ok(kind),
+        None => Err(FileError::UnknownKind(byte)),
     }
 }
 
-/// Reads the kind of the packed streams. A packet with the letter `2` doesn't store it: its kind is 2.
-fn read_kind<S: Source>(source: &mut S, letter: u8) -> Result<u8, FileError>
+/// Reads the kind of the packed streams. A packet that doesn't store it has streams that were compressed by zstd.
+fn read_kind<S: Source>(source: &mut S, version: Version) -> Result<Kind, FileError>
     requires { S.failures source.old < 2 ^ 64 - 1 }
     ensures part { FromDevice (λ k. k) (S.remaining source.old) (S.remaining source.new) result
-        (kind_at letter) }
-    ensures known { IfOk result (λ k. k ≤ 2) }
+        (kind_at version) }
     ensures failures { S.failures source.new ≡ failures_after (S.failures source.old) result }
 {
-    if letter == b'2' {
-        return Ok(2);
+    if !version.has_kind() {
+        return Ok(Kind::Zstd);
     }
     let byte = read_byte(source)?;
     kind_of(byte)
@@ -92,16 +90,15 @@ fn read_kind<S: Source>(source: &mut S, letter: u8) -> Result<u8, FileError>
 fn read_streams_part<S: Source>(
     alloc: Global,
     source: &mut S,
-    letter: u8,
-) -> Result<(u8, Vec<u8>), FileError>
+    version: Version,
+) -> Result<(Kind, Vec<u8>), FileError>
     requires { S.failures source.old < 2 ^ 64 - 1 }
     ensures part { FromDevice (λ p. (p.0, p.1.items)) (S.remaining source.old)
-        (S.remaining source.new) result (streams_part_at letter) }
-    ensures known { IfOk result (λ p. p.0 ≤ 2) }
+        (S.remaining source.new) result (streams_part_at version) }
     ensures failures { S.failures source.new ≡ failures_after (S.failures source.old) result }
 {
     let len = read_length(source)?;
-    let kind = read_kind(source, letter)?;
+    let kind = read_kind(source, version)?;
     let streams = read_part(alloc, source, len)?;
     Ok((kind, streams))
 }
@@ -117,98 +114,73 @@ fn parsed_details(alloc: Global, bytes: &[u8]) -> Result<Vec<Arc<ScopeDetails>>,
     }
 }
 
-/// Returns whether packets with this last letter have scope details.
-fn has_details(letter: u8) -> bool
-    ensures { result ≡ has_details letter }
-{
-    letter == b'4' || letter == b'L'
-}
-
 /// Reads the scope details. Returns none for an older packet, which has no such part.
 fn read_details_part<S: Source>(
     alloc: Global,
     source: &mut S,
-    letter: u8,
+    version: Version,
 ) -> Result<Vec<Arc<ScopeDetails>>, FileError>
     requires { S.failures source.old < 2 ^ 64 - 1 }
     ensures part { FromDevice (λ v. shared_details v.items) (S.remaining source.old)
-        (S.remaining source.new) result (details_part_at letter) }
+        (S.remaining source.new) result (details_part_at version) }
     ensures failures { S.failures source.new ≡ failures_after (S.failures source.old) result }
 {
-    if !has_details(letter) {
+    if !version.has_details() {
         return Ok(Vec::new(alloc));
     }
     let part = read_counted_part(alloc, source)?;
     parsed_details(alloc, &part)
 }
 
-/// Returns the form of packets with this last letter.
-fn packed_form_of(letter: u8) -> Form
-    ensures { result ≡ form_behind letter }
-{
-    if letter == b'L' {
-        Form::Long
-    } else {
-        Form::Short
-    }
-}
-
-/// Reads the parts of a packet whose four letters end with this one.
-fn read_packed<S: Source>(alloc: Global, source: &mut S, letter: u8) -> Result<FrameData, FileError>
+/// Reads the parts of a packet of this version, of which the letters were read.
+fn read_packed<S: Source>(
+    alloc: Global,
+    source: &mut S,
+    version: Version,
+) -> Result<FrameData, FileError>
     requires { S.failures source.old < 2 ^ 64 - 1 }
     ensures part { FromDevice frame_says (S.remaining source.old) (S.remaining source.new) result
-        (packet_at letter) }
+        (packet_at version) }
     ensures packed { IfOk result (λ frame. is_some (holding_of frame).packed ≡ true) }
     ensures fresh { IfOk result IsFresh }
     ensures failures { S.failures source.new ≡ failures_after (S.failures source.old) result }
 {
     let meta = read_meta_part(alloc, source)?;
-    let (kind, bytes) = read_streams_part(alloc, source, letter)?;
-    let scope_delta = read_details_part(alloc, source, letter)?;
+    let (kind, bytes) = read_streams_part(alloc, source, version)?;
+    let scope_delta = read_details_part(alloc, source, version)?;
     Ok(FrameData {
         scope_delta,
         full_delta: false,
         held: Held::Packed(PackedFrame {
             meta,
-            streams: PackedStreams::new(packed_form_of(letter), kind, bytes),
+            streams: PackedStreams::new(version.text_form(), kind, bytes),
         }),
     })
 }
 
-/// Whether packets with a certain last letter are read.
-enum Age {
-    /// No longer read.
-    Old,
-    /// Read.
-    Read,
-    /// Unknown.
-    New,
-}
-
-fn age_of(letter: u8) -> Age
-    ensures { IsAgeOf letter result }
-{
-    match letter {
-        b'0' | b'1' => Age::Old,
-        b'2' | b'3' | b'4' | b'L' => Age::Read,
-        _ => Age::New,
-    }
-}
-
 /// Reads the rest of a packet, of which `PFD` and this letter were read. Fails with `Legacy` or `Newer` if such packets aren't
 /// read.
-fn read_form<S: Source>(alloc: Global, source: &mut S, letter: u8) -> Result<FrameData, FileError>
+fn read_version<S: Source>(
+    alloc: Global,
+    source: &mut S,
+    letter: u8,
+) -> Result<FrameData, FileError>
     requires { S.failures source.old < 2 ^ 64 - 1 }
     ensures part { FromDevice frame_says (S.remaining source.old) (S.remaining source.new) result
-        (form_at letter) }
+        (version_at letter) }
     ensures packed { IfOk result (λ frame. is_some (holding_of frame).packed ≡ true) }
     ensures fresh { IfOk result IsFresh }
     ensures failures { S.failures source.new ≡ failures_after (S.failures source.old) result }
 {
-    match age_of(letter) {
-        Age::Old => Err(FileError::Legacy),
-        Age::Read => read_packed(alloc, source, letter),
-        Age::New => Err(FileError::Newer),
+    match Version::from_letter(letter) {
+        Some(version) => read_packed(alloc, source, version),
+        None => {
+            if letter == b'0' || letter == b'1' {
+                Err(FileError::Legacy)
+            } else {
+                Err(FileError::Newer)
+            }
+        }
     }
 }
 
@@ -287,7 +259,7 @@ fn read_stored<S: Source>(
     ensures failures { S.failures source.new ≡ failures_after (S.failures source.old) result }
 {
     if is_packet_header(header) {
-        read_form(alloc, source, header[3])
+        read_version(alloc, source, header[3])
     } else {
         let len = LittleEndian::read_u32(&header) as usize;
         read_legacy_part(alloc, source, len)
@@ -295,13 +267,13 @@ fn read_stored<S: Source>(
 }
 
 impl FrameData {
-    /// Reads the next frame, in any form that is still read; `docs/FORMAT.md` lists them. Returns `None` at the end: if fewer
+    /// Reads the next frame, in any version that is still read; `docs/FORMAT.md` lists them. Returns `None` at the end: if fewer
     /// than four bytes are left, or the next four are zeros.
     ///
     /// A packet's frame is held packed only. A legacy frame, which comes without letters behind its length, is held unpacked
     /// only. The frame's range isn't reversed, and its duration fits `i64`; `full_delta` is false.
     ///
-    /// Fails with the first cause that applies: `Io` if a read fails; `Legacy` or `Newer` if packets of this form aren't read;
+    /// Fails with the first cause that applies: `Io` if a read fails; `Legacy` or `Newer` if packets of this version aren't read;
     /// `Truncated` if the bytes end within the frame; `BadMeta`, `BadRange`, `UnknownKind` or `BadScopes`, or `BadStreams` of a
     /// legacy frame, if that part isn't valid; and `Memory`. How far it read is then unspecified.
     /// Scope details are checked before any of them is made, so bytes that aren't details take no memory but their own.

@@ -6,18 +6,20 @@ ghost use Rattle.puffin_data.specs.declared.file_error.FileError.{FileError};
 ghost use Rattle.puffin_data.specs.Device.{TookNothing, WritesBeginning};
 ghost use Rattle.std.specs.FinMap.{values};
 ghost use Rattle.puffin_threads.specs.Details.{shared_details};
+ghost use Rattle.puffin_frames.specs.declared.frame_data.kind.Kind.{Kind};
 ghost use Rattle.puffin_frames.specs.Packet.Structs.{meta_layout, IsMeta, details_layout, AreDetails};
 ghost use Rattle.puffin_frames.specs.Frame.Contents.{frame_details, contents};
 ghost use Rattle.puffin_frames.specs.Frame.Holding.{plainly_packed};
-ghost use Rattle.puffin_frames.specs.Packet.Letters.{letter_for, letters_of};
 ghost use Rattle.puffin_frames.specs.Packet.Grammar.{packet_head, packet_with, packet, IsPacked};
 ghost use Rattle.puffin_frames.specs.Packet.Writing.{details_or, says_with, HasLongPart, WritesPacket};
 
 use crate::frame_data::encode::{put_details, put_details_by_id, put_meta};
 use crate::frame_data::frame::FrameData;
 use crate::frame_data::held::{Held, PackedStreams};
+use crate::frame_data::kind::Kind;
 use crate::frame_data::meta::FrameMeta;
 use crate::frame_data::unpacked::UnpackedFrameData;
+use crate::frame_data::version::Version;
 use puffin_data::FileError;
 use puffin_data::data::{Drain, Form, write_all};
 use puffin_threads::scope_details::{ScopeCollection, ScopeDetails};
@@ -60,16 +62,6 @@ fn meta_part(alloc: Global, meta: FrameMeta) -> Result<Vec<u8>, FileError>
     }
 }
 
-/// Returns the letters of packets of this form.
-fn letters(form: Form) -> &'static [u8]
-    ensures { result.now ≡ letters_of (letter_for form) }
-{
-    match form {
-        Form::Short => b"PFD4",
-        Form::Long => b"PFDL",
-    }
-}
-
 /// Encodes the front of a packet: its letters, its meta part, and the length and the kind of its streams. Fails only with
 /// `Memory`.
 #[tactic(auto, unfolding(crate::specs::Packet::Grammar::packet_head))]
@@ -77,7 +69,7 @@ fn head(
     alloc: Global,
     form: Form,
     meta: &FrameMeta,
-    kind: u8,
+    kind: Kind,
     len: u32,
 ) -> Result<Vec<u8>, FileError>
     ensures ok { IfOk result (λ bytes. bytes.items ≡ packet_head form meta.now kind len) }
@@ -86,11 +78,11 @@ fn head(
 {
     let part = meta_part(alloc, *meta)?;
     let mut bytes = Vec::with_capacity(alloc, PACKET_HEAD_SIZE + part.len())?;
-    bytes.extend_from_slice(letters(form))?;
+    bytes.extend_from_slice(Version::for_form(form).letters())?;
     bytes.extend_from_slice(&(part.len() as u32).to_le_bytes())?;
     bytes.extend_from_slice(&part)?;
     bytes.extend_from_slice(&len.to_le_bytes())?;
-    bytes.push(kind)?;
+    bytes.push(kind.to_byte())?;
     Ok(bytes)
 }
 
@@ -129,7 +121,7 @@ fn write_unpacked<D: Drain>(
 ) -> Result<(), FileError>
     requires { D.failures drain.old < 2 ^ 64 - 1 }
     ensures written { WritesPacket D.contents D.failures D.takes drain.old drain.new
-        (packet_with (plainly_packed (contents frame.now)).form frame.now.meta 0
+        (packet_with (plainly_packed (contents frame.now)).form frame.now.meta Kind.Uncompressed
         (plainly_packed (contents frame.now)).bytes details.now)
         ((2 ^ 32 ≤ length (plainly_packed (contents frame.now)).bytes)
         ⊎ (2 ^ 32 ≤ length details.now)) result }

@@ -8,6 +8,7 @@ use Rattle.puffin_data.specs.declared.file_error.FileError.TheVariants as file
 use Rattle.puffin_data.specs.Part.{◌>>=◌}
 use Rattle.puffin_threads.specs.Details.{Details}
 use Rattle.puffin_threads.specs.Details.Collection.{no_details, with_all_details}
+use Rattle.puffin_frames.specs.declared.frame_data.kind.Kind.TheVariants.{Uncompressed}
 use Rattle.puffin_frames.specs.Packet.Structs.{Legacy, form_of_all, streams_layout}
 use Rattle.puffin_frames.specs.Packet.Stored.{Said, Stored, packed, legacy}
 use Rattle.puffin_frames.specs.Packet.Front.{next_at}
@@ -43,7 +44,7 @@ abbrev pub said_at_first : Legacy → Said
 said_at_first l = record {
   meta = l.meta;
   form = form_of_all l.streams;
-  kind = 0;
+  kind = Uncompressed;
   streams = streams_layout (form_of_all l.streams) l.streams;
   details = [];
 }

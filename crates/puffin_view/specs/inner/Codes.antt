@@ -3,8 +3,10 @@ use Rattle.std.specs.Prelude.{ℕ, ℤ, Bool, List, Option, refl}
 use Rattle.std.specs.Coded.{Coded, code_by, coded×, coded_option, coded_list, coded_ℕ, coded_ℤ, coded_bool}
 use Rattle.puffin_data.specs.declared.data.form.Form.{Form}
 use Rattle.puffin_data.specs.Text.Flags.{form_code}
+use Rattle.puffin_frames.specs.declared.frame_data.kind.Kind.{Kind}
 use Rattle.puffin_frames.specs.declared.frame_data.meta.FrameMeta.{FrameMeta}
 use Rattle.puffin_threads.specs.Details.{Details, details_code}
+use Rattle.puffin_frames.specs.Packet.Kinds.{kind_code}
 use Rattle.puffin_frames.specs.Packet.Stored.{Said}
 use Rattle.puffin_view.specs.View.ViewedFrames.{Frame}
 use Rattle.puffin_view.specs.View.{View}
@@ -19,9 +21,9 @@ meta_code =
 
 abbrev pub said_code : Coded Said
 said_code =
-    code_by (FrameMeta × (Form × (ℕ × (List ℕ × List Details)))) (
+    code_by (FrameMeta × (Form × (Kind × (List ℕ × List Details)))) (
     coded× meta_code (
-    coded× form_code (coded× coded_ℕ (coded× (coded_list coded_ℕ) (coded_list details_code)))))
+    coded× form_code (coded× kind_code (coded× (coded_list coded_ℕ) (coded_list details_code)))))
     (λ c. (c.meta, (c.form, (c.kind, (c.streams, c.details)))))
     (λ p. record {
       meta = p.0;

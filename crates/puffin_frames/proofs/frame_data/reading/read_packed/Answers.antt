@@ -1,7 +1,9 @@
 use Rattle.std.proofs.Common.{◌≡◌, sym, ap, ◌∙◌, subst, ℕ, List, Result, Ok}
 use Rattle.std.proofs.lemmas.Result.{err_from_is_err_and}
 use Rattle.puffin_data.specs.declared.file_error.FileError.{FileError}
+use Rattle.puffin_frames.specs.declared.frame_data.version.Version.{Version}
 use Rattle.puffin_threads.specs.Details.{Details}
+use Rattle.puffin_frames.specs.declared.frame_data.kind.Kind.{Kind}
 use Rattle.puffin_frames.specs.declared.frame_data.meta.FrameMeta.{FrameMeta}
 use Rattle.puffin_frames.specs.Packet.Stored.{Said}
 use Rattle.puffin_threads.specs.Details.{shared_details}
@@ -9,60 +11,60 @@ use Rattle.puffin_data.specs.Device.{FromDevice}
 use Rattle.puffin_frames.specs.Frame.Holding.{Packing}
 use Rattle.puffin_data.specs.Part.{◌>>=◌}
 use Rattle.puffin_frames.specs.Packet.Parts.{meta_part_at, streams_part_at, details_part_at}
-use Rattle.puffin_frames.specs.Packet.Forms.{packet_at}
-use Rattle.puffin_frames.specs.Packet.Letters.{form_behind}
+use Rattle.puffin_frames.specs.Packet.Versions.{packet_at}
+use Rattle.puffin_frames.specs.Packet.Letters.{text_form}
 use Rattle.puffin_frames.specs.Frame.Contents.{packed_as}
 use Rattle.puffin_data.specs.declared.data.form.Form.{Form}
 use Rattle.puffin_data.proofs.lemmas.Devices.{fails_on, gives_on, stops, given}
 use Rattle.puffin_frames.proofs.frame_data.reading.read_packed.Goals as goal
 
-made : ℕ → FrameMeta → ℕ × List ℕ → List Details → Said
-made letter m s ds = record { meta = m; form = form_behind letter; kind = s.0; streams = s.1; details = ds }
+made : Version → FrameMeta → Kind × List ℕ → List Details → Said
+made version m s ds = record { meta = m; form = text_form version; kind = s.0; streams = s.1; details = ds }
 
 -- what follows the meta, and what follows the streams
-after_meta : ℕ → FrameMeta → List ℕ → Result (Said × List ℕ) FileError
+after_meta : Version → FrameMeta → List ℕ → Result (Said × List ℕ) FileError
 unfolding made
-after_meta letter m bytes = streams_part_at letter bytes >>= λ s. details_part_at letter s.1 >>= λ d. Ok (made letter m s.0 d.0, d.1)
+after_meta version m bytes = streams_part_at version bytes >>= λ s. details_part_at version s.1 >>= λ d. Ok (made version m s.0 d.0, d.1)
 
-after_streams : ℕ → FrameMeta → ℕ × List ℕ → List ℕ → Result (Said × List ℕ) FileError
-after_streams letter m s bytes = details_part_at letter bytes >>= λ d. Ok (made letter m s d.0, d.1)
+after_streams : Version → FrameMeta → Kind × List ℕ → List ℕ → Result (Said × List ℕ) FileError
+after_streams version m s bytes = details_part_at version bytes >>= λ d. Ok (made version m s d.0, d.1)
 
 pub returns-in_err-kind-clause-part : goal.returns-in_err-kind-clause-part
 unfolding made after_meta after_streams
 returns-in_err-kind-clause-part g c =
     let p = err_from_is_err_and c.from_residual-in_err-kind.result c.from_residual-in_err-kind.ensures.1 in
     let e = c.in_err-kind.field-0.0 in
-    let letter = c.args.letter in
+    let version = c.args.version in
     let m = c.in_ok-meta.meta in
-    rw (p.1, p.2) (fails_on e m _ _ _ meta_part_at (after_meta letter) c.in_ok-meta.ensures.part
-    (stops e _ _ (streams_part_at letter) (after_streams letter m) c.in_err-kind.ensures.part))
+    rw (p.1, p.2) (fails_on e m _ _ _ meta_part_at (after_meta version) c.in_ok-meta.ensures.part
+    (stops e _ _ (streams_part_at version) (after_streams version m) c.in_err-kind.ensures.part))
 
 pub returns-in_err-scope_delta-clause-part : goal.returns-in_err-scope_delta-clause-part
 unfolding made after_meta after_streams
 returns-in_err-scope_delta-clause-part g c =
     let p = err_from_is_err_and c.from_residual-in_err-scope_delta.result c.from_residual-in_err-scope_delta.ensures.1 in
     let e = c.in_err-scope_delta.field-0.0 in
-    let letter = c.args.letter in
+    let version = c.args.version in
     let m = c.in_ok-meta.meta in
-    let s : (ℕ × List ℕ) = (c.in_ok-kind.kind, c.in_ok-kind.bytes.items) in
-    rw (p.1, p.2) (fails_on e m _ _ _ meta_part_at (after_meta letter) c.in_ok-meta.ensures.part
-    (fails_on e s _ _ _ (streams_part_at letter) (after_streams letter m) c.in_ok-kind.ensures.part
-    (stops e _ _ (details_part_at letter) (λ d bytes. Ok (made letter m s d, bytes)) c.in_err-scope_delta.ensures.part)))
+    let s : (Kind × List ℕ) = (c.in_ok-kind.kind, c.in_ok-kind.bytes.items) in
+    rw (p.1, p.2) (fails_on e m _ _ _ meta_part_at (after_meta version) c.in_ok-meta.ensures.part
+    (fails_on e s _ _ _ (streams_part_at version) (after_streams version m) c.in_ok-kind.ensures.part
+    (stops e _ _ (details_part_at version) (λ d bytes. Ok (made version m s d, bytes)) c.in_err-scope_delta.ensures.part)))
 
 pub returns-clause-part : goal.returns-clause-part
 unfolding made after_meta after_streams
 returns-clause-part g c =
-    let letter = c.args.letter in
+    let version = c.args.version in
     let m = c.in_ok-meta.meta in
-    let s : (ℕ × List ℕ) = (c.in_ok-kind.kind, c.in_ok-kind.bytes.items) in
+    let s : (Kind × List ℕ) = (c.in_ok-kind.kind, c.in_ok-kind.bytes.items) in
     let d = shared_details c.in_ok-scope_delta.scope_delta.items in
-    let out : Said = made letter m s d in
+    let out : Said = made version m s d in
     let says : Packing → Said = λ (p : Packing). record { meta = m; form = p.form; kind = p.kind; streams = p.bytes; details = d } in
-    let same : says (packed_as c.new.result) ≡ out = ap says c.new.ensures ∙ ap (λ (form : Form). record { meta = m; form = form; kind = s.0; streams = s.1; details = d }) c.packed_form_of.ensures in
+    let same : says (packed_as c.new.result) ≡ out = ap says c.new.ensures ∙ ap (λ (form : Form). record { meta = m; form = form; kind = s.0; streams = s.1; details = d }) c.text_form.ensures in
     let old = g.S.Source.remaining c.args.source.now in
     let now = g.S.Source.remaining c.read_details_part.new.source in
-    subst (λ (said : Said). FromDevice (λ (x : Said). x) old now (Ok said) (packet_at letter)) (sym same)
-    (gives_on m out _ _ _ meta_part_at (after_meta letter) c.in_ok-meta.ensures.part
-    (gives_on s out _ _ _ (streams_part_at letter) (after_streams letter m) c.in_ok-kind.ensures.part
-    (gives_on d out _ _ _ (details_part_at letter) (λ x bytes. Ok (made letter m s x, bytes)) c.in_ok-scope_delta.ensures.part
+    subst (λ (said : Said). FromDevice (λ (x : Said). x) old now (Ok said) (packet_at version)) (sym same)
+    (gives_on m out _ _ _ meta_part_at (after_meta version) c.in_ok-meta.ensures.part
+    (gives_on s out _ _ _ (streams_part_at version) (after_streams version m) c.in_ok-kind.ensures.part
+    (gives_on d out _ _ _ (details_part_at version) (λ x bytes. Ok (made version m s x, bytes)) c.in_ok-scope_delta.ensures.part
     (given out _))))

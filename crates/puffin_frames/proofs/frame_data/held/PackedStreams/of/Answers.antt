@@ -1,5 +1,6 @@
 use Rattle.std.proofs.Common.{◌≡◌, Some, List, ap, sym, ◌∙◌}
 use Rattle.puffin_data.specs.declared.data.form.Form.{Form}
+use Rattle.puffin_frames.specs.declared.frame_data.kind.Kind.TheVariants.{Uncompressed}
 use Rattle.puffin_data.specs.Honesty.{Recorded}
 use Rattle.puffin_threads.specs.Thread.Info.{Info}
 use Rattle.puffin_frames.proofs.FormsOfAll.{sorted_in}
@@ -20,9 +21,9 @@ returns-clause-ok c =
     let put = rw c.in_ok-bytes.ensures.items at c.in_ok-put_streams.ensures.ok in
     let form = c.packed_form-form.result in
     let listed = entries-listed es (sorted_in form (pairs_of es) c.in_ok-put_streams.ensures.fit.1) in
-    c.new.ensures ∙ ap (λ bytes. record { form = form; kind = 0; bytes = bytes }) put
-    ∙ ap (λ (f : Form). record { form = f; kind = 0; bytes = streams_layout f (pairs_of es) }) c.packed_form-form.ensures
-    ∙ ap (λ (xs : List (Info × Recorded)). record { form = form_of_all xs; kind = 0; bytes = streams_layout (form_of_all xs) xs }) (sym listed)
+    c.new.ensures ∙ ap (λ bytes. record { form = form; kind = Uncompressed; bytes = bytes }) put
+    ∙ ap (λ (f : Form). record { form = f; kind = Uncompressed; bytes = streams_layout f (pairs_of es) }) c.packed_form-form.ensures
+    ∙ ap (λ (xs : List (Info × Recorded)). record { form = form_of_all xs; kind = Uncompressed; bytes = streams_layout (form_of_all xs) xs }) (sym listed)
 
 pub returns-clause-content : goal.returns-clause-content
 returns-clause-content c =
