@@ -1,8 +1,6 @@
 -- What contracts see of a profiler: what it collects, and its sinks.
-use Rattle.std.specs.Prelude.{◌≡◌, ℕ, List, [], false}
-use Rattle.std.specs.FinMap as map
-use Rattle.puffin_threads.specs.Details.Collection.{no_details}
-use Rattle.puffin_collector.specs.Collector.State.{Collected}
+use Rattle.std.specs.Prelude.{◌≡◌, ℕ, List, []}
+use Rattle.puffin_collector.specs.Collector.State.{Collected, nothing_collected}
 use Rattle.puffin.specs.declared.global_profiler.profiler.GlobalProfiler.{GlobalProfiler}
 use Rattle.puffin.specs.declared.global_profiler.sinks.Entry.{Entry}
 
@@ -19,14 +17,6 @@ module _ {I : Type 0} {F : I → Type 0} where
 
   -- nothing was reported, the next frame has this index, and there are no sinks
   pub record IsNewProfiler (index : ℕ) (profiler : GlobalProfiler I F) : Type 0 where
-    pub collected : collected_of profiler ≡ record {
-      index = index;
-      reported = 0;
-      emitted = 0;
-      streams = map.empty;
-      collection = no_details;
-      new_details = [];
-      wants_all = false;
-    }
+    pub collected : collected_of profiler ≡ nothing_collected index
     pub sinks : sinks_of profiler ≡ []
     pub next : next_sink_of profiler ≡ 1

@@ -3,11 +3,10 @@ use Rattle.std.specs.Prelude.{◌≡◌, ◌⊎◌, ◌<◌, ℕ, List, [], Bool
 use Rattle.std.specs.List.{Any}
 use Rattle.std.specs.Arc.{arc_value}
 use Rattle.std.specs.Option.{option_map}
-use Rattle.std.specs.FinMap.{empty, values}
+use Rattle.std.specs.FinMap.{values}
 use Rattle.puffin_data.specs.declared.error.Error.{Error}
 use Rattle.puffin_data.specs.declared.error.Error.TheVariants as error
 use Rattle.puffin_data.specs.declared.file_error.FileError.TheVariants as file
-use Rattle.puffin_threads.specs.Details.Collection.{no_details}
 use Rattle.puffin_threads.specs.Thread.Calls.{Thread}
 use Rattle.puffin_threads.specs.Thread.Closing.{Reports}
 use Rattle.puffin_frames.specs.declared.frame_data.frame.FrameData.{FrameData}
@@ -15,7 +14,7 @@ use Rattle.puffin_frames.specs.declared.frame_data.meta.FrameMeta.{FrameMeta}
 use Rattle.puffin_frames.specs.Frame.Contents.{frame_meta}
 use Rattle.puffin_frames.specs.Frame.Sums.{total_scopes}
 use Rattle.puffin_frames.specs.Packet.Writing.{HasLongPart}
-use Rattle.puffin_collector.specs.Collector.State.{Collected, AcceptsReport, RefusesReport, after_frame, after_no_frame, after_wanting}
+use Rattle.puffin_collector.specs.Collector.State.{Collected, nothing_collected, AcceptsReport, RefusesReport, after_frame, after_no_frame, after_wanting}
 use Rattle.puffin_collector.specs.Collector.Collecting.{HoldsAll, HaveNoScopes, KeepsPending}
 use Rattle.puffin_view.specs.View.{empty_view, after_taking, KeepsFrames}
 use Rattle.puffin_view.specs.View.ViewedFrames.{index_of}
@@ -30,17 +29,6 @@ use Rattle.puffin_c.specs.Reporting.{laid_over}
 
 -- ---- a profiler
 
-abbrev pub nothing_collected : Collected
-nothing_collected = record {
-  index = 0;
-  reported = 0;
-  emitted = 0;
-  streams = empty;
-  collection = no_details;
-  new_details = [];
-  wants_all = false;
-}
-
 -- the frame that was collected, and waits to be taken by the view
 abbrev pub waiting_frame : Profiler → Option FrameData
 waiting_frame p = option_map arc_value p.waiting
@@ -51,7 +39,7 @@ view_file p = file_of (contents_in (view_of p.view))
 
 -- a new profiler: nothing was reported, the view is empty, no frame waits, and no file is read
 pub record IsNew (p : Profiler) : Type 0 where
-  pub collected : p.collector ≡ nothing_collected
+  pub collected : p.collector ≡ nothing_collected 0
   pub view : view_of p.view ≡ empty_view
   pub waiting : waiting_frame p ≡ None
   pub unread : p.unread ≡ []

@@ -1,35 +1,32 @@
-ghost use Rattle.std.specs.Prelude.{◌≡◌, List, ◌+◌, ◌-◌, ◌^◌, ◌<◌, ◌⊎◌, ◌↔◌, [], ◌∷◌, None, Some, true, false, OnOk, OnErr, IfOk, IfErr};
-ghost use Rattle.std.specs.Bool.{MatchBool};
+ghost use Rattle.std.specs.Prelude.{◌≡◌, ◌+◌, ◌-◌, ◌^◌, ◌<◌, ◌⊎◌, ◌↔◌, [], ◌∷◌, None, Some, true, OnOk, OnErr, IfOk, IfErr};
+ghost use Rattle.std.specs.Arc.{arc_value};
 ghost use Rattle.std.specs.List.{list_any};
 ghost use Rattle.std.specs.FinMap as map;
-ghost use Rattle.puffin_data.specs.Forest.{Forest};
-ghost use Rattle.puffin_data.specs.Honesty.{IsHonestRef, record_of_ref};
-ghost use Rattle.puffin_threads.specs.Thread.Info.{info_of};
-ghost use Rattle.puffin_threads.specs.Details.{Details, details_of, details_seen, shared_details, lacks_id, with_id, AllHaveIds};
-ghost use Rattle.puffin_threads.specs.Details.Collection.{no_details};
+ghost use Rattle.puffin_threads.specs.Details.{details_of, details_seen, shared_details, lacks_id, with_id};
 ghost use Rattle.puffin_frames.specs.Frame.Contents.{AreHonest};
-ghost use Rattle.puffin_frames.specs.Frame.Sums.{total_scopes, IsOrdered, DurationFits};
-ghost use Rattle.puffin_collector.specs.Collector.State.{IsReportRefusal, AcceptsReport, RefusesReport, after_adding, after_learning, after_wanting, PendingFits, range_with, IsTooLong, IsSumRefusal};
-ghost use Rattle.puffin_collector.specs.inner.ReportSums.{IsFirstCause, AddsUp};
+ghost use Rattle.puffin_frames.specs.Frame.Sums.{total_scopes};
+ghost use Rattle.puffin_collector.specs.Collector.State.{nothing_collected, after_adding, after_learning, after_wanting};
 ghost use Rattle.puffin_collector.specs.Collector.Registering.{known_id, Adds, AddsSome};
 ghost use Rattle.puffin_collector.specs.Collector.Collecting.{Collects, TellsIds, KeepsPending, KnowsSome};
+ghost use Rattle.puffin_collector.specs.inner.HandingOut.{HoldsPending, after_handing_out};
 
-use crate::delta::{all_have_ids, copies, scope_delta};
+use crate::delta::scope_delta;
 use crate::totals::Totals;
-use puffin_data::data::{ScopeId, StreamInfoRef, is_range};
-use puffin_data::{Error, NanoSecond, Result};
+use puffin_data::data::ScopeId;
+use puffin_data::{Error, Result};
 use puffin_frames::frame_data::laws::streams_with_a_layout;
 use puffin_frames::frame_data::{
-    FrameData, FrameIndex, FrameMeta, ThreadStreams, UnpackedFrameData, are_unlike, report_to,
+    FrameData, FrameIndex, FrameMeta, ThreadStreams, UnpackedFrameData,
 };
 use puffin_frames::laws;
 use puffin_frames::scope_details::{ScopeCollection, ScopeDetails, ScopeIds};
-use puffin_frames::thread_profiler::{Reporter, ThreadInfo};
 use std::alloc::Global;
 use std::collections::BTreeMap;
 use std::marker::Model;
 use std::mem;
 use std::sync::Arc;
+
+mod reporting;
 
 /// Collects what threads report, and hands it out in frames. It has no sinks.
 ///
@@ -80,15 +77,7 @@ impl Model for Collector {
 impl Collector {
     /// Makes a collector without scopes, whose next frame has this index.
     pub fn new(alloc: Global, frame_index: FrameIndex) -> Collector
-        ensures { result ≡ record {
-          index = frame_index;
-          reported = 0;
-          emitted = 0;
-          streams = map.empty;
-          collection = no_details;
-          new_details = [];
-          wants_all = false;
-        } }
+        ensures { result ≡ nothing_collected frame_index }
     {
         // Laws for the proof of the invariant.
         laws::reported_streams();
@@ -104,144 +93,6 @@ impl Collector {
             new_details: Vec::new(alloc),
             wants_all: false,
         }
-    }
-
-    /// Appends a thread's scopes to those that are pending under its info, and adds the details to the next frame's new ones.
-    /// The scopes have to be honest.
-    ///
-    /// Fails with the first cause that applies, and then changes nothing: `MissingId` if some details have no id; `UnlikeForms`
-    /// if these scopes and those pending under the info have bytes in unlike forms; `TooLarge` if the pending bytes or scopes,
-    /// or the scopes ever reported, don't fit 64 bits; `RangeTooLong` if the joined range of all pending scopes isn't reversed
-    /// and its duration doesn't fit `i64`; `Memory`.
-    #[inline(always)]
-    pub fn report(
-        &mut self,
-        info: ThreadInfo,
-        details: &[ScopeDetails],
-        times: &StreamInfoRef,
-    ) -> Result<()>
-        requires { (f : Forest) × IsHonestRef times.now f }
-        ensures ok { OnOk result (
-            AcceptsReport self.old (info_of info) (details_seen details.now)
-            (record_of_ref times.now) self.new) }
-        ensures err { IfErr result (λ e.
-            RefusesReport self.old (info_of info) (details_seen details.now)
-            (record_of_ref times.now) e self.new) }
-    {
-        if details.is_empty() {
-            self.report_user_scopes(info, times)
-        } else {
-            self.report_with_details(info, details, times)
-        }
-    }
-
-    /// Handles a report with details, which is rare.
-    #[cold]
-    #[inline(never)]
-    fn report_with_details(
-        &mut self,
-        info: ThreadInfo,
-        details: &[ScopeDetails],
-        times: &StreamInfoRef,
-    ) -> Result<()>
-        requires { (f : Forest) × IsHonestRef times.now f }
-        ensures ok { OnOk result (
-            AcceptsReport self.old (info_of info) (details_seen details.now)
-            (record_of_ref times.now) self.new) }
-        ensures err { IfErr result (λ e.
-            RefusesReport self.old (info_of info) (details_seen details.now)
-            (record_of_ref times.now) e self.new) }
-    {
-        if !all_have_ids(details) {
-            return Err(Error::MissingId);
-        }
-        let mut fresh = match copies(self.alloc, details) {
-            Ok(fresh) => fresh,
-            Err(_) => return Err(self.cause_without_memory(&info, times)),
-        };
-        let known = self.new_details.len();
-        match self.new_details.append(&mut fresh) {
-            Ok(()) => {}
-            Err(_) => return Err(self.cause_without_memory(&info, times)),
-        }
-        match self.report_user_scopes(info, times) {
-            Ok(()) => Ok(()),
-            Err(cause) => {
-                self.new_details.truncate(known);
-                Err(cause)
-            }
-        }
-    }
-
-    /// Returns the error of a report for which there is no memory: the first cause that applies.
-    fn cause_without_memory(&self, info: &ThreadInfo, times: &StreamInfoRef) -> Error
-        ensures { (ds : List Details) → AllHaveIds ds →
-            IsReportRefusal self.now (info_of info.now) ds (record_of_ref times.now) result }
-    {
-        match self.sums_with(times) {
-            Ok(_) => self.first_cause(info, times, Error::Memory),
-            Err(cause) => self.first_cause(info, times, cause),
-        }
-    }
-
-    /// Returns the error of a report that already has this cause: `UnlikeForms` if that applies, as it comes first, else this
-    /// cause.
-    fn first_cause(&self, info: &ThreadInfo, times: &StreamInfoRef, cause: Error) -> Error
-        ensures { IsFirstCause self.now (info_of info.now) (record_of_ref times.now) cause result }
-    {
-        if are_unlike(&self.pending, info, times) {
-            Error::UnlikeForms
-        } else {
-            cause
-        }
-    }
-
-    /// Returns the meta of all that is pending and this report, and the number of scopes reported including it. Fails with the
-    /// first cause that applies, memory aside.
-    fn sums_with(&self, times: &StreamInfoRef) -> Result<(FrameMeta, u64)>
-        ensures sums { IfOk result (λ sums.
-            AddsUp self.now sums.0 (record_of_ref times.now)
-            × (sums.1 ≡ self.now.reported + times.now.num_scopes)) }
-        ensures fits { OnOk result (
-            PendingFits self.now (record_of_ref times.now)
-            × ¬ IsTooLong (range_with self.now (record_of_ref times.now))) }
-        ensures refusal { IfErr result (IsSumRefusal self.now (record_of_ref times.now)) }
-    {
-        // For the proof: the joined range with one stream more.
-        laws::joined_ranges();
-        let Some(meta) = self.meta.joined(times) else {
-            return Err(Error::TooLarge);
-        };
-        let Some(reported) = self.reported.checked_add(times.num_scopes as u64) else {
-            return Err(Error::TooLarge);
-        };
-        if is_too_long(meta.range_ns) {
-            return Err(Error::RangeTooLong);
-        }
-        Ok((meta, reported))
-    }
-
-    /// Appends scopes of the caller's own, as [`Collector::report`] does without details. Fails in the same cases.
-    #[inline(always)]
-    pub fn report_user_scopes(&mut self, info: ThreadInfo, times: &StreamInfoRef) -> Result<()>
-        requires { (f : Forest) × IsHonestRef times.now f }
-        ensures ok { OnOk result (
-            AcceptsReport self.old (info_of info) [] (record_of_ref times.now) self.new) }
-        ensures err { IfErr result (λ e.
-            RefusesReport self.old (info_of info) [] (record_of_ref times.now) e self.new) }
-    {
-        // Laws for the proof of the invariant.
-        laws::joined_ranges();
-        laws::reported_streams();
-        laws::honest_streams();
-        let (meta, reported) = match self.sums_with(times) {
-            Ok(sums) => sums,
-            Err(cause) => return Err(self.first_cause(&info, times, cause)),
-        };
-        report_to(self.alloc, &mut self.pending, info, times)?;
-        self.meta = meta;
-        self.reported = reported;
-        Ok(())
     }
 
     /// Registers scopes of the caller's own by their names, and returns an id for each. A known name returns its id. Other
@@ -349,6 +200,28 @@ impl Collector {
             self.wants_all,
         )?;
         self.collection.insert_all(&self.new_details)?;
+        let frame = self.hand_out(next, delta)?;
+        Ok(Some(frame))
+    }
+
+    /// Moves all that is pending, which is at least one scope, into a frame that lists these details. The next frame then has
+    /// the index `next`, no new details, and no request for a snapshot. Fails only with `Memory`; nothing changes then.
+    fn hand_out(
+        &mut self,
+        next: FrameIndex,
+        delta: Vec<Arc<ScopeDetails>>,
+    ) -> Result<Arc<FrameData>>
+        requires { 0 < total_scopes (map.values self.old.streams) }
+        ensures frame { IfOk result (λ frame.
+            HoldsPending self.old (shared_details delta.items) (arc_value frame)) }
+        ensures ok { OnOk result (self.new ≡ after_handing_out self.old next) }
+        ensures err { OnErr result (self.new ≡ self.old) }
+        ensures memory { IfErr result (λ e. e ≡ Error.Memory) }
+    {
+        // For the proof: laws of no streams, of honest ones, and of those that have a layout.
+        laws::reported_streams();
+        laws::honest_streams();
+        streams_with_a_layout();
         let thread_streams = mem::replace(&mut self.pending, BTreeMap::new(self.alloc));
         let unpacked = UnpackedFrameData {
             meta: self.meta,
@@ -361,7 +234,7 @@ impl Collector {
                 self.emitted = self.reported;
                 self.new_details.clear();
                 self.wants_all = false;
-                Ok(Some(frame))
+                Ok(frame)
             }
             Err(refused) => {
                 self.pending = refused.value.into_unpacked().thread_streams;
@@ -385,29 +258,4 @@ impl Collector {
             emitted: self.emitted,
         }
     }
-}
-
-impl Reporter for Collector {
-    ghost use Rattle.std.specs.Prelude.{◌≡◌};
-    ghost use Rattle.puffin_collector.specs.Collector.State.{AcceptsReport, RefusesReport};
-
-    ghost accepts = { AcceptsReport };
-
-    ghost refuses = { RefusesReport };
-
-    fn report(
-        &mut self,
-        info: ThreadInfo,
-        details: &[ScopeDetails],
-        times: &StreamInfoRef,
-    ) -> Result<()> {
-        Collector::report(self, info, details, times)
-    }
-}
-
-/// Returns whether a range isn't reversed but its duration doesn't fit `i64`.
-fn is_too_long(range: (NanoSecond, NanoSecond)) -> bool
-    ensures { MatchBool result (IsTooLong range) (IsOrdered range → DurationFits range) }
-{
-    range.0 <= range.1 && !is_range(range)
 }

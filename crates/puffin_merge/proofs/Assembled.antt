@@ -2,15 +2,15 @@
 use Rattle.std.specs.Prelude.{◌≡◌, ℕ, ◌-◌, ◌/◌, ◌<◌, ◌≤◌, ◌==◌, ℤ, pos, cond, List, [], ◌∷◌, filter, map, slice_index_or, All, ◌⊎◌}
 use Rattle.std.specs.declared.cmp.Ordering.TheVariants.{Less}
 use Rattle.puffin_merge.specs.declared.merge.table.Node as table
-use Rattle.puffin_merge.specs.declared.merge.tree.Place.{Place}
-use Rattle.puffin_merge.specs.declared.merge.tree.Drawn.{Drawn}
+use Rattle.puffin_merge.specs.declared.merge.tree.OrderedNode.{OrderedNode}
+use Rattle.puffin_merge.specs.declared.merge.tree.Placement.{Placement}
 use Rattle.puffin_merge.specs.Merge.Occurrences.{Label, Path, Occurrence}
 use Rattle.puffin_merge.specs.Merge.Pieces.{Merged, merged_at}
 use Rattle.puffin_merge.specs.Merge.Starts.{earliest_starts}
 use Rattle.puffin_merge.specs.Merge.Tree.{Node, MergedForest, no_node, merged}
 use Rattle.puffin_merge.specs.Merge.{below, sibling_cmp, sibling_of}
 use Rattle.puffin_merge.specs.inner.Tables.{merged_in}
-use Rattle.puffin_merge.specs.inner.Places.{drawn_after}
+use Rattle.puffin_merge.specs.inner.Places.{placement_after}
 
 -- a node of the table, named by its number; its parent's number is 0 at the top
 pub record Entry : Type 0 where
@@ -83,23 +83,23 @@ pub record IsTable (all : List Occurrence) (frames : ℕ) (path_of : ℕ → Pat
       ≡ earliest_starts (pos 0) (
       map (λ e. sibling_of e.merged frames) (children_of p entries))
 
--- ---- the entries of places
+-- ---- the entries of ordered nodes
 
--- what the forest is made of: the places, with their nodes' sums and where they are drawn
-abbrev pub entry_of : List table.Node → Place → Drawn → table.Node → Entry
-entry_of nodes p drawn d = record {
+-- what the forest is made of: the ordered nodes, with their nodes' sums and where they are placed
+abbrev pub entry_of : List table.Node → OrderedNode → Placement → table.Node → Entry
+entry_of nodes p placements d = record {
   parent = p.parent.number;
   number = p.number.number;
   label = record { id = p.id; text = p.text.now };
   merged = merged_in (slice_index_or nodes (p.number.number - 1) d).sums;
-  start = drawn.start;
+  start = placements.start;
 }
 
-abbrev pub entries_from : List table.Node → ℕ → Drawn → List Place → table.Node → List Entry
+abbrev pub entries_from : List table.Node → ℕ → Placement → List OrderedNode → table.Node → List Entry
 entries_from nodes frames before [] d = []
-entries_from nodes frames before (p ∷ places) d =
+entries_from nodes frames before (p ∷ ordered_nodes) d =
     entry_of nodes p
-    (drawn_after frames (slice_index_or nodes (p.number.number - 1) d).sums p before) d
+    (placement_after frames (slice_index_or nodes (p.number.number - 1) d).sums p before) d
     ∷ entries_from nodes frames
-    (drawn_after frames (slice_index_or nodes (p.number.number - 1) d).sums p before) places
+    (placement_after frames (slice_index_or nodes (p.number.number - 1) d).sums p before) ordered_nodes
     d

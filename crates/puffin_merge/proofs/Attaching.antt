@@ -1,4 +1,4 @@
--- The rows below the nodes hold the forests of the entries of all places so far, the last sibling first.
+-- The rows below the nodes hold the forests of the entries of all ordered nodes so far, the last sibling first.
 use Rattle.std.proofs.Common.{◌≡◌, ℕ, zero, suc, ◌+◌, ◌-◌, ◌<◌, ℤ, ◌+ℤ◌, FitsSigned, Bool, true, false, cond, eqb, List, [], ◌∷◌, ◌++◌, length, get_or, set, reverse, drop, inl, inr, refl, sym, ap, subst, ◌∙◌, arith, w64, vec_len}
 use Rattle.std.specs.Prelude.{SomeIff, Option, Some, None}
 use Rattle.std.proofs.lemmas.Bool.{cases_eq}
@@ -12,8 +12,8 @@ use Rattle.std.specs.declared.borrow.CowStr.{CowStr}
 use Rattle.std.specs.Cow.{cow_str_bytes}
 use Rattle.puffin_merge.specs.declared.merge.table.Table.{Table}
 use Rattle.puffin_merge.specs.declared.merge.table.Node.{Node}
-use Rattle.puffin_merge.specs.declared.merge.tree.Place.{Place}
-use Rattle.puffin_merge.specs.declared.merge.tree.Drawn.{Drawn}
+use Rattle.puffin_merge.specs.declared.merge.tree.OrderedNode.{OrderedNode}
+use Rattle.puffin_merge.specs.declared.merge.tree.Placement.{Placement}
 use Rattle.puffin_merge.specs.Merge.Occurrences.{Occurrence}
 use Rattle.puffin_merge.specs.Merge.Tree.{MergedForest, no_node, merged}
 use Rattle.puffin_merge.specs.Merge.Tree as forests
@@ -21,7 +21,7 @@ use Rattle.puffin_merge.specs.Merge.Refusals.{EndsFit}
 use Rattle.puffin_merge.specs.Merge.Scopes.{scope_then, children_in, forest_in}
 use Rattle.puffin_merge.proofs.Assembled.{Entry, node_of, forest_below, entry_of, entries_from}
 use Rattle.puffin_merge.specs.inner.Tables.{IsTableOf}
-use Rattle.puffin_merge.specs.inner.Places.{EachOf, AreApart, EndFits, ArePlacesOf, above_all, drawn_after, drawn_from, drawn_node}
+use Rattle.puffin_merge.specs.inner.Places.{EachOf, AreApart, EndFits, AreOrderedNodesOf, above_all, placement_after, placements_from, placed_node}
 use Rattle.puffin_merge.specs.Merge.{IsMerge}
 use Rattle.puffin_merge.proofs.PlaceEntries.{forest_merged}
 use Rattle.puffin_merge.proofs.Finding.{same_at}
@@ -58,39 +58,39 @@ held_is (Some x) P v w n h e = cc
 
 -- ---- entries
 
--- the entries of places and of where they are drawn
-abbrev pub entries_of : List Node → List Place → List Drawn → List Entry
-entries_of nodes [] drawn = []
-entries_of nodes (p ∷ places) [] = []
-entries_of nodes (p ∷ places) (x ∷ drawn) = entry_of nodes p x blank ∷ entries_of nodes places drawn
+-- the entries of ordered nodes and their placements
+abbrev pub entries_of : List Node → List OrderedNode → List Placement → List Entry
+entries_of nodes [] placements = []
+entries_of nodes (p ∷ ordered_nodes) [] = []
+entries_of nodes (p ∷ ordered_nodes) (x ∷ placements) = entry_of nodes p x blank ∷ entries_of nodes ordered_nodes placements
 
-entries_are : (nodes : List Node) (frames : ℕ) (places : List Place) (before : Drawn) → entries_from nodes frames before places blank ≡ entries_of nodes places (drawn_from nodes frames before places blank)
+entries_are : (nodes : List Node) (frames : ℕ) (ordered_nodes : List OrderedNode) (before : Placement) → entries_from nodes frames before ordered_nodes blank ≡ entries_of nodes ordered_nodes (placements_from nodes frames before ordered_nodes blank)
 entries_are nodes frames [] before = refl
-entries_are nodes frames (p ∷ places) before =
-    let x = drawn_after frames (get_or nodes (p.number.number - 1) blank).sums p before in
-    ap (λ (es : List Entry). entry_of nodes p x blank ∷ es) (entries_are nodes frames places x)
+entries_are nodes frames (p ∷ ordered_nodes) before =
+    let x = placement_after frames (get_or nodes (p.number.number - 1) blank).sums p before in
+    ap (λ (es : List Entry). entry_of nodes p x blank ∷ es) (entries_are nodes frames ordered_nodes x)
 
 -- ends that fit
 both_fit : (b : Bool) (n : forests.Node) (under others : MergedForest) → FitsSigned w64 (n.start +ℤ n.per_frame) → EndsFit under → EndsFit others → EndsFit (cond b (merged n under others) others)
 both_fit true n under others h k l = (h, k, l)
 both_fit false n under others h k l = l
 
-forest_fits : (nodes : List Node) (frames : ℕ) (places : List Place) (before : Drawn) (q : ℕ) → EachOf EndFits (drawn_from nodes frames before places blank) → EndsFit (forest_below frames q (entries_from nodes frames before places blank))
+forest_fits : (nodes : List Node) (frames : ℕ) (ordered_nodes : List OrderedNode) (before : Placement) (q : ℕ) → EachOf EndFits (placements_from nodes frames before ordered_nodes blank) → EndsFit (forest_below frames q (entries_from nodes frames before ordered_nodes blank))
 forest_fits nodes frames [] before q h = tt
-forest_fits nodes frames (p ∷ places) before q h =
-    let x = drawn_after frames (get_or nodes (p.number.number - 1) blank).sums p before in
-    let rest = entries_from nodes frames x places blank in
+forest_fits nodes frames (p ∷ ordered_nodes) before q h =
+    let x = placement_after frames (get_or nodes (p.number.number - 1) blank).sums p before in
+    let rest = entries_from nodes frames x ordered_nodes blank in
     both_fit (eqb p.parent.number q) (node_of frames (entry_of nodes p x blank)) (forest_below frames p.number.number rest) (forest_below frames q rest) h.0
-    (forest_fits nodes frames places x p.number.number h.1) (forest_fits nodes frames places x q h.1)
+    (forest_fits nodes frames ordered_nodes x p.number.number h.1) (forest_fits nodes frames ordered_nodes x q h.1)
 
 -- ---- rows
 
-abbrev pub IsNot : ℕ → List Place → Type 0
-IsNot q places = EachOf (λ p. p.number.number ≡ q → ⊥) places
+abbrev pub IsNot : ℕ → List OrderedNode → Type 0
+IsNot q ordered_nodes = EachOf (λ p. p.number.number ≡ q → ⊥) ordered_nodes
 
--- the row below each number that no place so far has
-abbrev pub HoldForests : List Node → ℕ → List Siblings → List Place → List Drawn → Type 0
-HoldForests nodes frames rows places drawn = (q : ℕ) (r : Siblings) → q < length rows → IsNot q places → forest_in (reverse (get_or rows q r).items) ≡ forest_below frames q (entries_of nodes places drawn)
+-- the row below each number that no ordered node so far has
+abbrev pub HoldForests : List Node → ℕ → List Siblings → List OrderedNode → List Placement → Type 0
+HoldForests nodes frames rows ordered_nodes placements = (q : ℕ) (r : Siblings) → q < length rows → IsNot q ordered_nodes → forest_in (reverse (get_or rows q r).items) ≡ forest_below frames q (entries_of nodes ordered_nodes placements)
 
 abbrev pub AreEmpty : List Siblings → Type 0
 AreEmpty rows = EachOf (λ r. r.items ≡ []) rows
@@ -106,9 +106,9 @@ none_after [] (suc n) e = absurd (omega arith)
 none_after (x ∷ xs) zero e = absurd (omega arith)
 none_after (x ∷ xs) (suc n) e = none_after xs n (omega arith)
 
-turned : (places : List Place) (q : ℕ) → EachOf (λ z. q ≡ z.number.number → ⊥) places → IsNot q places
+turned : (ordered_nodes : List OrderedNode) (q : ℕ) → EachOf (λ z. q ≡ z.number.number → ⊥) ordered_nodes → IsNot q ordered_nodes
 turned [] q h = tt
-turned (z ∷ places) q h = (λ e. h.0 (sym e), turned places q h.1)
+turned (z ∷ ordered_nodes) q h = (λ e. h.0 (sym e), turned ordered_nodes q h.1)
 
 eqb_same : (a b : ℕ) → a ≡ b → eqb a b ≡ true
 eqb_same a b h = grind arith
@@ -116,13 +116,13 @@ eqb_same a b h = grind arith
 eqb_other : (a b : ℕ) → (a ≡ b → ⊥) → eqb a b ≡ false
 eqb_other a b h = grind arith
 
--- one place more: its row becomes its scope's children, and the scope stands first in its parent's
-pub hold_more : (nodes : List Node) (frames : ℕ) (rows taken given : List Siblings) (p : Place) (x : Drawn) (places : List Place) (drawn : List Drawn) (scope : MergeScope) (empty pushed r v : Siblings) (children : List MergeScope)
-    → HoldForests nodes frames rows places drawn → EachOf (λ z. p.number.number ≡ z.number.number → ⊥) places → p.parent.number < p.number.number → p.number.number < length rows
+-- one ordered node more: its row becomes its scope's children, and the scope stands first in its parent's
+pub hold_more : (nodes : List Node) (frames : ℕ) (rows taken given : List Siblings) (p : OrderedNode) (x : Placement) (ordered_nodes : List OrderedNode) (placements : List Placement) (scope : MergeScope) (empty pushed r v : Siblings) (children : List MergeScope)
+    → HoldForests nodes frames rows ordered_nodes placements → EachOf (λ z. p.number.number ≡ z.number.number → ⊥) ordered_nodes → p.parent.number < p.number.number → p.number.number < length rows
     → taken ≡ set rows p.number.number empty → length taken ≡ length rows → given ≡ set taken p.parent.number pushed → pushed.items ≡ (get_or taken p.parent.number r).items ++ (scope ∷ [])
     → children ≡ reverse (get_or rows p.number.number v).items → ((others : MergedForest) → scope_then scope others ≡ merged (node_of frames (entry_of nodes p x blank)) (forest_in children) others)
-    → length given ≡ length rows → HoldForests nodes frames given (p ∷ places) (x ∷ drawn)
-hold_more nodes frames rows taken given p x places drawn scope empty pushed r v children hold apart under inside take size give push below is same_size q s lt other = elim (cases_eq p.parent.number q) [
+    → length given ≡ length rows → HoldForests nodes frames given (p ∷ ordered_nodes) (x ∷ placements)
+hold_more nodes frames rows taken given p x ordered_nodes placements scope empty pushed r v children hold apart under inside take size give push below is same_size q s lt other = elim (cases_eq p.parent.number q) [
   | inl same ↦
       let at : get_or given q s ≡ pushed = ap (λ (rs : List Siblings). get_or rs q s) give ∙ get_or-set_at taken p.parent.number q pushed s (sym same) (omega (arith, under, inside, size)) in
       let kept : get_or taken p.parent.number r ≡ get_or rows q r =
@@ -132,7 +132,7 @@ hold_more nodes frames rows taken given p x places drawn scope empty pushed r v 
       ap (λ (scopes : List MergeScope). forest_in (reverse scopes)) items
       ∙ ap forest_in (reverse-append (get_or rows q r).items (scope ∷ []))
       ∙ is (forest_in (reverse (get_or rows q r).items))
-      ∙ ap (λ (f : MergedForest). merged node f (forest_in (reverse (get_or rows q r).items))) (ap forest_in below ∙ hold p.number.number v inside (turned places p.number.number apart))
+      ∙ ap (λ (f : MergedForest). merged node f (forest_in (reverse (get_or rows q r).items))) (ap forest_in below ∙ hold p.number.number v inside (turned ordered_nodes p.number.number apart))
       ∙ ap (merged node (forest_below frames p.number.number rest)) (hold q r (omega (arith, lt, same_size)) other.1)
       ∙ sym (ap (λ (b : Bool). cond b (merged node (forest_below frames p.number.number rest) (forest_below frames q rest)) (forest_below frames q rest)) (eqb_same p.parent.number q same))
   | inr differ ↦
@@ -145,59 +145,59 @@ hold_more nodes frames rows taken given p x places drawn scope empty pushed r v 
 ]
   where
     rest : List Entry
-    rest = entries_of nodes places drawn
+    rest = entries_of nodes ordered_nodes placements
 
     node : forests.Node
     node = node_of frames (entry_of nodes p x blank)
 
--- places that differ, from some place on
-pub apart_from : (places : List Place) (i : ℕ) (q : Place) → AreApart places → i < length places → EachOf (λ z. (get_or places i q).number.number ≡ z.number.number → ⊥) (drop (i + 1) places)
+-- ordered nodes that differ, from some ordered node on
+pub apart_from : (ordered_nodes : List OrderedNode) (i : ℕ) (q : OrderedNode) → AreApart ordered_nodes → i < length ordered_nodes → EachOf (λ z. (get_or ordered_nodes i q).number.number ≡ z.number.number → ⊥) (drop (i + 1) ordered_nodes)
 apart_from [] i q h lt = absurd (omega arith)
-apart_from (p ∷ places) zero q h lt = h.0
-apart_from (p ∷ places) (suc i) q h lt =
+apart_from (p ∷ ordered_nodes) zero q h lt = h.0
+apart_from (p ∷ ordered_nodes) (suc i) q h lt =
     let e : suc (i + 1) ≡ suc i + 1 = omega arith in
-    subst (λ (n : ℕ). EachOf (λ z. (get_or (p ∷ places) (suc i) q).number.number ≡ z.number.number → ⊥) (drop n (p ∷ places))) e (apart_from places i q h.1 (omega arith))
+    subst (λ (n : ℕ). EachOf (λ z. (get_or (p ∷ ordered_nodes) (suc i) q).number.number ≡ z.number.number → ⊥) (drop n (p ∷ ordered_nodes))) e (apart_from ordered_nodes i q h.1 (omega arith))
 
--- the place before those so far
-pub hold_next : (t : Table) (frames : ℕ) (rows : List Siblings) (places : List Place) (drawn : List Drawn) (i j : ℕ) (p q : Place) (x y : Drawn) (n d : Node) (scope : MergeScope) (empty pushed own below r v : Siblings) (children : List MergeScope)
-    → ArePlacesOf t.nodes.items places → j + 1 ≡ i → j < length places → j < length drawn → p ≡ get_or places j q → x ≡ get_or drawn j y → n ≡ get_or t.nodes.items (p.number.number - 1) d → Usable t p n
-    → HoldForests t.nodes.items frames rows (drop i places) (drop i drawn) → p.number.number < length rows
+-- the ordered node before those so far
+pub hold_next : (t : Table) (frames : ℕ) (rows : List Siblings) (ordered_nodes : List OrderedNode) (placements : List Placement) (i j : ℕ) (p q : OrderedNode) (x y : Placement) (n d : Node) (scope : MergeScope) (empty pushed own below r v : Siblings) (children : List MergeScope)
+    → AreOrderedNodesOf t.nodes.items ordered_nodes → j + 1 ≡ i → j < length ordered_nodes → j < length placements → p ≡ get_or ordered_nodes j q → x ≡ get_or placements j y → n ≡ get_or t.nodes.items (p.number.number - 1) d → Usable t p n
+    → HoldForests t.nodes.items frames rows (drop i ordered_nodes) (drop i placements) → p.number.number < length rows
     → own ≡ get_or (set rows p.number.number empty) p.parent.number r → pushed.items ≡ own.items ++ (scope ∷ [])
     → below ≡ get_or rows p.number.number v → children ≡ reverse below.items
-    → ((others : MergedForest) → scope_then scope others ≡ merged (drawn_node frames n.sums p x) (forest_in children) others)
-    → HoldForests t.nodes.items frames (set (set rows p.number.number empty) p.parent.number pushed) (drop j places) (drop j drawn)
-hold_next t frames rows places drawn i j p q x y n d scope empty pushed own below r v children are step lt lt_drawn place drawn_at node usable hold inside own_is push below_is turn is =
+    → ((others : MergedForest) → scope_then scope others ≡ merged (placed_node frames n.sums p x) (forest_in children) others)
+    → HoldForests t.nodes.items frames (set (set rows p.number.number empty) p.parent.number pushed) (drop j ordered_nodes) (drop j placements)
+hold_next t frames rows ordered_nodes placements i j p q x y n d scope empty pushed own below r v children are step lt lt_placement ordered_node placements_at node usable hold inside own_is push below_is turn is =
     let nodes = t.nodes.items in
     let low = usable.low in
     let high = usable.high in
     let size : vec_len t.nodes ≡ length nodes = t.nodes.ok.0 in
-    let places_are : p ∷ drop i places ≡ drop j places = ap (λ (z : Place). z ∷ drop i places) place ∙ ap (λ (k : ℕ). get_or places j q ∷ drop k places) (sym step) ∙ sym (drop_more places j q lt) in
-    let drawn_are : x ∷ drop i drawn ≡ drop j drawn = ap (λ (z : Drawn). z ∷ drop i drawn) drawn_at ∙ ap (λ (k : ℕ). get_or drawn j y ∷ drop k drawn) (sym step) ∙ sym (drop_more drawn j y lt_drawn) in
+    let places_are : p ∷ drop i ordered_nodes ≡ drop j ordered_nodes = ap (λ (z : OrderedNode). z ∷ drop i ordered_nodes) ordered_node ∙ ap (λ (k : ℕ). get_or ordered_nodes j q ∷ drop k ordered_nodes) (sym step) ∙ sym (drop_more ordered_nodes j q lt) in
+    let placements_are : x ∷ drop i placements ≡ drop j placements = ap (λ (z : Placement). z ∷ drop i placements) placements_at ∙ ap (λ (k : ℕ). get_or placements j y ∷ drop k placements) (sym step) ∙ sym (drop_more placements j y lt_placement) in
     let same : n ≡ get_or nodes (p.number.number - 1) blank = node ∙ same_at nodes (p.number.number - 1) d blank (omega (arith, low, high, size)) in
-    let apart : EachOf (λ z. p.number.number ≡ z.number.number → ⊥) (drop i places) =
-    subst (λ (k : ℕ). EachOf (λ z. p.number.number ≡ z.number.number → ⊥) (drop k places)) step
-    (subst (λ (o : Place). EachOf (λ z. o.number.number ≡ z.number.number → ⊥) (drop (j + 1) places)) (sym place) (apart_from places j q are.apart lt)) in
+    let apart : EachOf (λ z. p.number.number ≡ z.number.number → ⊥) (drop i ordered_nodes) =
+    subst (λ (k : ℕ). EachOf (λ z. p.number.number ≡ z.number.number → ⊥) (drop k ordered_nodes)) step
+    (subst (λ (o : OrderedNode). EachOf (λ z. o.number.number ≡ z.number.number → ⊥) (drop (j + 1) ordered_nodes)) (sym ordered_node) (apart_from ordered_nodes j q are.apart lt)) in
     let once = length-set rows p.number.number empty in
     let twice = length-set (set rows p.number.number empty) p.parent.number pushed in
-    let step_on : HoldForests nodes frames (set (set rows p.number.number empty) p.parent.number pushed) (p ∷ drop i places) (x ∷ drop i drawn) =
-    hold_more nodes frames rows (set rows p.number.number empty) (set (set rows p.number.number empty) p.parent.number pushed) p x (drop i places) (drop i drawn) scope empty pushed r v children
+    let step_on : HoldForests nodes frames (set (set rows p.number.number empty) p.parent.number pushed) (p ∷ drop i ordered_nodes) (x ∷ drop i placements) =
+    hold_more nodes frames rows (set rows p.number.number empty) (set (set rows p.number.number empty) p.parent.number pushed) p x (drop i ordered_nodes) (drop i placements) scope empty pushed r v children
     hold apart usable.parent inside refl once refl (push ∙ ap (λ (o : Siblings). o.items ++ (scope ∷ [])) own_is) (turn ∙ ap (λ (o : Siblings). reverse o.items) below_is)
-    (λ others. is others ∙ ap (λ (m : Node). merged (drawn_node frames m.sums p x) (forest_in children) others) same) (twice ∙ once) in
-    subst (λ (ds : List Drawn). HoldForests nodes frames (set (set rows p.number.number empty) p.parent.number pushed) (drop j places) ds) drawn_are
-    (subst (λ (ps : List Place). HoldForests nodes frames (set (set rows p.number.number empty) p.parent.number pushed) ps (x ∷ drop i drawn)) places_are step_on)
+    (λ others. is others ∙ ap (λ (m : Node). merged (placed_node frames m.sums p x) (forest_in children) others) same) (twice ∙ once) in
+    subst (λ (ds : List Placement). HoldForests nodes frames (set (set rows p.number.number empty) p.parent.number pushed) (drop j ordered_nodes) ds) placements_are
+    (subst (λ (ps : List OrderedNode). HoldForests nodes frames (set (set rows p.number.number empty) p.parent.number pushed) ps (x ∷ drop i placements)) places_are step_on)
 
-no_zero : (nodes : List Node) (places : List Place) → ((i : ℕ) (q : Place) → i < length places → 0 < (get_or places i q).number.number) → IsNot 0 places
+no_zero : (nodes : List Node) (ordered_nodes : List OrderedNode) → ((i : ℕ) (q : OrderedNode) → i < length ordered_nodes → 0 < (get_or ordered_nodes i q).number.number) → IsNot 0 ordered_nodes
 no_zero nodes [] h = tt
-no_zero nodes (p ∷ places) h = let low : 0 < p.number.number = h 0 p (omega arith) in (λ e. omega (arith, low, e), no_zero nodes places (λ i q lt. h (suc i) q (omega arith)))
+no_zero nodes (p ∷ ordered_nodes) h = let low : 0 < p.number.number = h 0 p (omega arith) in (λ e. omega (arith, low, e), no_zero nodes ordered_nodes (λ i q lt. h (suc i) q (omega arith)))
 
--- after all places, the top row is the merge
-pub top_merged : (t : Table) (frames : ℕ) (rows : List Siblings) (places : List Place) (drawn : List Drawn) (r : Siblings) (merged_scopes : List MergeScope) → ArePlacesOf t.nodes.items places → drawn ≡ drawn_from t.nodes.items frames above_all places blank → EachOf EndFits drawn
-    → HoldForests t.nodes.items frames rows places drawn → 0 < length rows → merged_scopes ≡ reverse (get_or rows 0 r).items
+-- after all ordered nodes, the top row is the merge
+pub top_merged : (t : Table) (frames : ℕ) (rows : List Siblings) (ordered_nodes : List OrderedNode) (placements : List Placement) (r : Siblings) (merged_scopes : List MergeScope) → AreOrderedNodesOf t.nodes.items ordered_nodes → placements ≡ placements_from t.nodes.items frames above_all ordered_nodes blank → EachOf EndFits placements
+    → HoldForests t.nodes.items frames rows ordered_nodes placements → 0 < length rows → merged_scopes ≡ reverse (get_or rows 0 r).items
     → (all : List Occurrence) → IsTableOf all t → IsMerge all frames (forest_in merged_scopes) × EndsFit (forest_in merged_scopes)
-top_merged t frames rows places drawn r scopes are is fit hold some top all table =
-    let forest : forest_in scopes ≡ forest_below frames 0 (entries_from t.nodes.items frames above_all places blank) =
-    ap forest_in top ∙ hold 0 r some (no_zero t.nodes.items places (λ i q lt. let of = are.each i q lt in let number = of.2.number in omega (arith, number)))
-    ∙ ap (λ (ds : List Drawn). forest_below frames 0 (entries_of t.nodes.items places ds)) is ∙ sym (ap (forest_below frames 0) (entries_are t.nodes.items frames places above_all)) in (
-      subst (IsMerge all frames) (sym forest) (forest_merged all t frames places blank table are),
-      subst EndsFit (sym forest) (forest_fits t.nodes.items frames places above_all 0 (subst (EachOf EndFits) is fit)),
+top_merged t frames rows ordered_nodes placements r scopes are is fit hold some top all table =
+    let forest : forest_in scopes ≡ forest_below frames 0 (entries_from t.nodes.items frames above_all ordered_nodes blank) =
+    ap forest_in top ∙ hold 0 r some (no_zero t.nodes.items ordered_nodes (λ i q lt. let of = are.each i q lt in let number = of.2.number in omega (arith, number)))
+    ∙ ap (λ (ds : List Placement). forest_below frames 0 (entries_of t.nodes.items ordered_nodes ds)) is ∙ sym (ap (forest_below frames 0) (entries_are t.nodes.items frames ordered_nodes above_all)) in (
+      subst (IsMerge all frames) (sym forest) (forest_merged all t frames ordered_nodes blank table are),
+      subst EndsFit (sym forest) (forest_fits t.nodes.items frames ordered_nodes above_all 0 (subst (EachOf EndFits) is fit)),
     )

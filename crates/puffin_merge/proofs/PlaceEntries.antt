@@ -1,4 +1,4 @@
--- The places of a table's nodes, in order, are the entries that its forest is made of.
+-- The ordered nodes of a table's nodes, in order, are the entries that its forest is made of.
 use Rattle.std.proofs.Common.{◌≡◌, ℕ, suc, ◌+◌, ◌-◌, ◌/◌, ◌<◌, ◌≤◌, ℤ, pos, Bool, true, false, cond, eqb, List, [], ◌∷◌, length, get_or, map, All, ◌⊎◌, inl, inr, refl, sym, ap, subst, ◌∙◌, arith, vec_len}
 use Rattle.std.specs.List.{AllByRecursion}
 use Rattle.std.specs.List.Sorted.{IsSorted}
@@ -13,22 +13,22 @@ use Rattle.std.specs.Cmp.Lexicographic.{slice_cmp, nat_list_cmp_total}
 use Rattle.std.specs.FinMap.{nat_cmp-IsAntisymmetric, slice_cmp-IsAntisymmetric}
 use Rattle.puffin_merge.specs.declared.merge.table.Table.{Table}
 use Rattle.puffin_merge.specs.declared.merge.table.Node.{Node}
-use Rattle.puffin_merge.specs.declared.merge.tree.Place.{Place}
-use Rattle.puffin_merge.specs.declared.merge.tree.Drawn.{Drawn}
+use Rattle.puffin_merge.specs.declared.merge.tree.OrderedNode.{OrderedNode}
+use Rattle.puffin_merge.specs.declared.merge.tree.Placement.{Placement}
 use Rattle.puffin_merge.specs.Merge.Occurrences.{Label, Path, Occurrence}
 use Rattle.puffin_merge.specs.Merge.Pieces.{Merged, merged_at}
 use Rattle.puffin_merge.specs.Merge.Starts.{Sibling, earliest_starts, earliest_start, end_from}
 use Rattle.puffin_merge.specs.Merge.{below, sibling_of, IsMerge}
 use Rattle.puffin_merge.proofs.Assembled.{Entry, children_of, forest_below, Each, Some_of, StandsBefore, InOrder, IsEntry, entry_of, entries_from}
 use Rattle.puffin_merge.specs.inner.Tables.{label_in, merged_in, path_at, IsTableOf}
-use Rattle.puffin_merge.specs.inner.Places.{IsPlaceOf, SomeOf, EachOf, AreApart, place_cmp, ArePlacesOf, above_all, drawn_after}
+use Rattle.puffin_merge.specs.inner.Places.{IsOrderedNodeOf, SomeOf, EachOf, AreApart, ordered_node_cmp, AreOrderedNodesOf, above_all, placement_after}
 use Rattle.std.proofs.lemmas.Cmp.{tied_itself}
 use Rattle.puffin_merge.proofs.Assembling.{table-merged}
 use Rattle.puffin_merge.proofs.Paths.{ties, top_path}
 
--- ---- each place's entry
+-- ---- each ordered node's entry
 
-one_entry : (all : List Occurrence) (t : Table) (p : Place) (x : Drawn) (d : Node) → IsTableOf all t → IsPlaceOf t.nodes.items p → IsEntry (merged_at all) (path_at t.nodes.items) (vec_len t.nodes) (entry_of t.nodes.items p x d)
+one_entry : (all : List Occurrence) (t : Table) (p : OrderedNode) (x : Placement) (d : Node) → IsTableOf all t → IsOrderedNodeOf t.nodes.items p → IsEntry (merged_at all) (path_at t.nodes.items) (vec_len t.nodes) (entry_of t.nodes.items p x d)
 one_entry all t p x d table of =
     let size : vec_len t.nodes ≡ length t.nodes.items = t.nodes.ok.0 in
     let nodes = t.nodes.items in
@@ -37,14 +37,14 @@ one_entry all t p x d table of =
     let at = of.2 in
     let is = table.each k d (omega arith) in
     let number : p.number.number ≡ k + 1 = at.number in
-    let place : p.number.number - 1 ≡ k = omega arith in
+    let ordered_node : p.number.number - 1 ≡ k = omega arith in
     let parent = at.parent d in
     let early = is.earlier in
     let text = at.text d in
     let id = at.id d in
     let label : ◌≡◌ {A = Label} (label_in (get_or nodes k d).key) (record { id = p.id; text = p.text.now }) = λ i. record { id = sym id i; text = sym text i } in
     let sums : merged_in (get_or nodes (p.number.number - 1) d).sums ≡ merged_at all (path_at nodes p.number.number) =
-    ap (λ (j : ℕ). merged_in (get_or nodes j d).sums) place ∙ is.sums ∙ ap (λ (j : ℕ). merged_at all (path_at nodes j)) (sym number) in
+    ap (λ (j : ℕ). merged_in (get_or nodes j d).sums) ordered_node ∙ is.sums ∙ ap (λ (j : ℕ). merged_at all (path_at nodes j)) (sym number) in
     record {
       after_parent = omega (arith, early, parent, number);
       number = omega (arith, number, inside);
@@ -53,52 +53,52 @@ one_entry all t p x d table of =
       any = subst (λ (m : Merged). 0 < m.number) (is.sums ∙ ap (λ (j : ℕ). merged_at all (path_at nodes j)) (sym number)) is.some;
     }
 
-pub each_entry : (all : List Occurrence) (t : Table) (frames : ℕ) (places : List Place) (before : Drawn) (d : Node) → IsTableOf all t → AllByRecursion (IsPlaceOf t.nodes.items) places
-    → Each (IsEntry (merged_at all) (path_at t.nodes.items) (vec_len t.nodes)) (entries_from t.nodes.items frames before places d)
+pub each_entry : (all : List Occurrence) (t : Table) (frames : ℕ) (ordered_nodes : List OrderedNode) (before : Placement) (d : Node) → IsTableOf all t → AllByRecursion (IsOrderedNodeOf t.nodes.items) ordered_nodes
+    → Each (IsEntry (merged_at all) (path_at t.nodes.items) (vec_len t.nodes)) (entries_from t.nodes.items frames before ordered_nodes d)
 each_entry all t frames [] before d table h = tt
-each_entry all t frames (p ∷ places) before d table h = (one_entry all t p (drawn_after frames (get_or t.nodes.items (p.number.number - 1) d).sums p before) d table h.0, each_entry all t frames places (drawn_after frames (get_or t.nodes.items (p.number.number - 1) d).sums p before) d table h.1)
+each_entry all t frames (p ∷ ordered_nodes) before d table h = (one_entry all t p (placement_after frames (get_or t.nodes.items (p.number.number - 1) d).sums p before) d table h.0, each_entry all t frames ordered_nodes (placement_after frames (get_or t.nodes.items (p.number.number - 1) d).sums p before) d table h.1)
 
--- a node's place is among them
-some_entry : (nodes : List Node) (frames : ℕ) (places : List Place) (before : Drawn) (d : Node) (k : ℕ) (path : Path) → path_at nodes (k + 1) ≡ path → SomeOf (λ p. p.number.number ≡ k + 1) places → Some_of (λ e. path_at nodes e.number ≡ path) (entries_from nodes frames before places d)
+-- a node is among the ordered nodes
+some_entry : (nodes : List Node) (frames : ℕ) (ordered_nodes : List OrderedNode) (before : Placement) (d : Node) (k : ℕ) (path : Path) → path_at nodes (k + 1) ≡ path → SomeOf (λ p. p.number.number ≡ k + 1) ordered_nodes → Some_of (λ e. path_at nodes e.number ≡ path) (entries_from nodes frames before ordered_nodes d)
 some_entry nodes frames [] before d k path e h = h
-some_entry nodes frames (p ∷ places) before d k path e (inl h) = inl (ap (path_at nodes) h ∙ e)
-some_entry nodes frames (p ∷ places) before d k path e (inr h) = inr (some_entry nodes frames places _ d k path e h)
+some_entry nodes frames (p ∷ ordered_nodes) before d k path e (inl h) = inl (ap (path_at nodes) h ∙ e)
+some_entry nodes frames (p ∷ ordered_nodes) before d k path e (inr h) = inr (some_entry nodes frames ordered_nodes _ d k path e h)
 
-pub whole_entries : (all : List Occurrence) (t : Table) (frames : ℕ) (before : Drawn) (places : List Place) (d : Node) → IsTableOf all t → ArePlacesOf t.nodes.items places
-    → All (λ o. Some_of (λ e. path_at t.nodes.items e.number ≡ o.path) (entries_from t.nodes.items frames before places d)) all
-whole_entries all t frames before places d table are =
-    λ j o lt. let w = table.whole j o lt in let inside = w.1 in some_entry t.nodes.items frames places before d w.0 _ w.2 (are.whole w.0 (omega (arith, inside, t.nodes.ok.0)))
+pub whole_entries : (all : List Occurrence) (t : Table) (frames : ℕ) (before : Placement) (ordered_nodes : List OrderedNode) (d : Node) → IsTableOf all t → AreOrderedNodesOf t.nodes.items ordered_nodes
+    → All (λ o. Some_of (λ e. path_at t.nodes.items e.number ≡ o.path) (entries_from t.nodes.items frames before ordered_nodes d)) all
+whole_entries all t frames before ordered_nodes d table are =
+    λ j o lt. let w = table.whole j o lt in let inside = w.1 in some_entry t.nodes.items frames ordered_nodes before d w.0 _ w.2 (are.whole w.0 (omega (arith, inside, t.nodes.ok.0)))
 
--- ---- places in order
+-- ---- ordered nodes in order
 
 turn_gt : (r : Ordering) → is_gt (ordering_reverse r) ≡ is_lt r
 turn_gt Less = refl
 turn_gt Equal = refl
 turn_gt Greater = refl
 
-abbrev pub InRow : List Place → Type 0
+abbrev pub InRow : List OrderedNode → Type 0
 InRow [] = Unit {0}
-InRow (p ∷ places) = EachOf (λ q. is_gt (place_cmp p q) ≡ false) places × InRow places
+InRow (p ∷ ordered_nodes) = EachOf (λ q. is_gt (ordered_node_cmp p q) ≡ false) ordered_nodes × InRow ordered_nodes
 
-pub place_cmp_total : IsTotalOrder place_cmp
-place_cmp_total = then_total (on_total (λ (p : Place). p.parent.number) nat_cmp_total) (then_total (on_total (λ (p : Place). p.own_start) int_cmp_total)
-    (then_total (on_total (λ (p : Place). p.id) nat_cmp_total) (then_total (on_total (λ (p : Place). p.text.now) nat_list_cmp_total) (on_total (λ (p : Place). p.number.number) nat_cmp_total))))
+pub ordered_node_cmp_total : IsTotalOrder ordered_node_cmp
+ordered_node_cmp_total = then_total (on_total (λ (p : OrderedNode). p.parent.number) nat_cmp_total) (then_total (on_total (λ (p : OrderedNode). p.own_start) int_cmp_total)
+    (then_total (on_total (λ (p : OrderedNode). p.id) nat_cmp_total) (then_total (on_total (λ (p : OrderedNode). p.text.now) nat_list_cmp_total) (on_total (λ (p : OrderedNode). p.number.number) nat_cmp_total))))
 
-after_next : (p q : Place) (places : List Place) → is_gt (place_cmp p q) ≡ false → EachOf (λ z. is_gt (place_cmp q z) ≡ false) places → EachOf (λ z. is_gt (place_cmp p z) ≡ false) places
+after_next : (p q : OrderedNode) (ordered_nodes : List OrderedNode) → is_gt (ordered_node_cmp p q) ≡ false → EachOf (λ z. is_gt (ordered_node_cmp q z) ≡ false) ordered_nodes → EachOf (λ z. is_gt (ordered_node_cmp p z) ≡ false) ordered_nodes
 after_next p q [] h k = tt
-after_next p q (z ∷ places) h k = (upto place_cmp_total p q z h k.0, after_next p q places h k.1)
+after_next p q (z ∷ ordered_nodes) h k = (upto ordered_node_cmp_total p q z h k.0, after_next p q ordered_nodes h k.1)
 
-pub in_row : (places : List Place) → IsSorted place_cmp places → InRow places
+pub in_row : (ordered_nodes : List OrderedNode) → IsSorted ordered_node_cmp ordered_nodes → InRow ordered_nodes
 in_row [] h = tt
 in_row (p ∷ []) h = (tt, tt)
-in_row (p ∷ (q ∷ places)) h =
-    let first : is_gt (place_cmp p q) ≡ false = ap is_gt (place_cmp_total.antisymm p q) ∙ turn_gt (place_cmp q p) ∙ h 0 p (omega arith) (omega arith) in
-    let rest = in_row (q ∷ places) (λ k d low lt. let e : suc k + 1 ≡ suc (k + 1) = omega arith in subst (λ (n : ℕ). is_lt (place_cmp (get_or (p ∷ (q ∷ places)) n d) (get_or (q ∷ places) k d)) ≡ false) e (h (suc k) d (omega arith) (omega arith))) in
-    ((first, after_next p q places first rest.0), rest)
+in_row (p ∷ (q ∷ ordered_nodes)) h =
+    let first : is_gt (ordered_node_cmp p q) ≡ false = ap is_gt (ordered_node_cmp_total.antisymm p q) ∙ turn_gt (ordered_node_cmp q p) ∙ h 0 p (omega arith) (omega arith) in
+    let rest = in_row (q ∷ ordered_nodes) (λ k d low lt. let e : suc k + 1 ≡ suc (k + 1) = omega arith in subst (λ (n : ℕ). is_lt (ordered_node_cmp (get_or (p ∷ (q ∷ ordered_nodes)) n d) (get_or (q ∷ ordered_nodes) k d)) ≡ false) e (h (suc k) d (omega arith) (omega arith))) in
+    ((first, after_next p q ordered_nodes first rest.0), rest)
 
 -- ---- starts
 
-parents_rise : (p q : Place) → is_gt (place_cmp p q) ≡ false → p.parent.number ≤ q.parent.number
+parents_rise : (p q : OrderedNode) → is_gt (ordered_node_cmp p q) ≡ false → p.parent.number ≤ q.parent.number
 parents_rise p q h = by_order p.parent.number q.parent.number _ (cases_lt q.parent.number p.parent.number) h where
   by_order : (a b : ℕ) (s : Ordering) → (b < a) ⊎ (a ≤ b) → is_gt (ordering_then (nat_cmp a b) s) ≡ false → a ≤ b
   by_order a b s (inr le) h = le
@@ -123,25 +123,25 @@ eqb_same a b h = grind arith
 eqb_other : (a b : ℕ) → (a ≡ b → ⊥) → eqb a b ≡ false
 eqb_other a b h = grind arith
 
-abbrev rest_of : List Node → ℕ → Drawn → Place → List Place → Node → List Entry
-rest_of nodes frames before p places d = entries_from nodes frames (drawn_after frames (get_or nodes (p.number.number - 1) d).sums p before) places d
+abbrev rest_of : List Node → ℕ → Placement → OrderedNode → List OrderedNode → Node → List Entry
+rest_of nodes frames before p ordered_nodes d = entries_from nodes frames (placement_after frames (get_or nodes (p.number.number - 1) d).sums p before) ordered_nodes d
 
--- a place that is no child, and one that is
-skips : (nodes : List Node) (frames : ℕ) (before : Drawn) (parent : ℕ) (p : Place) (places : List Place) (d : Node) → eqb p.parent.number parent ≡ false → children_of parent (entries_from nodes frames before (p ∷ places) d) ≡ children_of parent (rest_of nodes frames before p places d)
-skips nodes frames before parent p places d e =
-    ap (λ (b : Bool). cond b (entry_of nodes p (drawn_after frames (get_or nodes (p.number.number - 1) d).sums p before) d ∷ children_of parent (rest_of nodes frames before p places d)) (children_of parent (rest_of nodes frames before p places d))) e
+-- an ordered node that is no child, and one that is
+skips : (nodes : List Node) (frames : ℕ) (before : Placement) (parent : ℕ) (p : OrderedNode) (ordered_nodes : List OrderedNode) (d : Node) → eqb p.parent.number parent ≡ false → children_of parent (entries_from nodes frames before (p ∷ ordered_nodes) d) ≡ children_of parent (rest_of nodes frames before p ordered_nodes d)
+skips nodes frames before parent p ordered_nodes d e =
+    ap (λ (b : Bool). cond b (entry_of nodes p (placement_after frames (get_or nodes (p.number.number - 1) d).sums p before) d ∷ children_of parent (rest_of nodes frames before p ordered_nodes d)) (children_of parent (rest_of nodes frames before p ordered_nodes d))) e
 
-takes : (nodes : List Node) (frames : ℕ) (before : Drawn) (parent : ℕ) (p : Place) (places : List Place) (d : Node) → eqb p.parent.number parent ≡ true
-    → children_of parent (entries_from nodes frames before (p ∷ places) d) ≡ entry_of nodes p (drawn_after frames (get_or nodes (p.number.number - 1) d).sums p before) d ∷ children_of parent (rest_of nodes frames before p places d)
-takes nodes frames before parent p places d e =
-    ap (λ (b : Bool). cond b (entry_of nodes p (drawn_after frames (get_or nodes (p.number.number - 1) d).sums p before) d ∷ children_of parent (rest_of nodes frames before p places d)) (children_of parent (rest_of nodes frames before p places d))) e
+takes : (nodes : List Node) (frames : ℕ) (before : Placement) (parent : ℕ) (p : OrderedNode) (ordered_nodes : List OrderedNode) (d : Node) → eqb p.parent.number parent ≡ true
+    → children_of parent (entries_from nodes frames before (p ∷ ordered_nodes) d) ≡ entry_of nodes p (placement_after frames (get_or nodes (p.number.number - 1) d).sums p before) d ∷ children_of parent (rest_of nodes frames before p ordered_nodes d)
+takes nodes frames before parent p ordered_nodes d e =
+    ap (λ (b : Bool). cond b (entry_of nodes p (placement_after frames (get_or nodes (p.number.number - 1) d).sums p before) d ∷ children_of parent (rest_of nodes frames before p ordered_nodes d)) (children_of parent (rest_of nodes frames before p ordered_nodes d))) e
 
 -- no child of a parent that stands before
-none_of : (nodes : List Node) (frames : ℕ) (parent low : ℕ) (places : List Place) (before : Drawn) (d : Node) → parent < low → EachOf (λ q. low ≤ q.parent.number) places → children_of parent (entries_from nodes frames before places d) ≡ []
+none_of : (nodes : List Node) (frames : ℕ) (parent low : ℕ) (ordered_nodes : List OrderedNode) (before : Placement) (d : Node) → parent < low → EachOf (λ q. low ≤ q.parent.number) ordered_nodes → children_of parent (entries_from nodes frames before ordered_nodes d) ≡ []
 none_of nodes frames parent low [] before d lt h = refl
-none_of nodes frames parent low (p ∷ places) before d lt h =
+none_of nodes frames parent low (p ∷ ordered_nodes) before d lt h =
     let at_least = h.0 in
-    skips nodes frames before parent p places d (eqb_other p.parent.number parent (λ e. omega arith)) ∙ none_of nodes frames parent low places _ d lt h.1
+    skips nodes frames before parent p ordered_nodes d (eqb_other p.parent.number parent (λ e. omega arith)) ∙ none_of nodes frames parent low ordered_nodes _ d lt h.1
 
 abbrev starts_of : List Entry → List ℤ
 starts_of entries = map (λ e. e.start) entries
@@ -149,41 +149,41 @@ starts_of entries = map (λ e. e.start) entries
 abbrev siblings_of : ℕ → List Entry → List Sibling
 siblings_of frames entries = map (λ e. sibling_of e.merged frames) entries
 
--- what is free for the first child of a parent, after what was drawn before
-abbrev free_of : ℕ → Drawn → ℤ
+-- what is free for the first child of a parent, after what was placed before
+abbrev free_of : ℕ → Placement → ℤ
 free_of parent before = cond (eqb parent before.parent) before.end (pos 0)
 
-pub each_at_least : (p : Place) (places : List Place) → EachOf (λ q. is_gt (place_cmp p q) ≡ false) places → EachOf (λ q. p.parent.number ≤ q.parent.number) places
+pub each_at_least : (p : OrderedNode) (ordered_nodes : List OrderedNode) → EachOf (λ q. is_gt (ordered_node_cmp p q) ≡ false) ordered_nodes → EachOf (λ q. p.parent.number ≤ q.parent.number) ordered_nodes
 each_at_least p [] h = tt
-each_at_least p (q ∷ places) h = (parents_rise p q h.0, each_at_least p places h.1)
+each_at_least p (q ∷ ordered_nodes) h = (parents_rise p q h.0, each_at_least p ordered_nodes h.1)
 
-own_is : (nodes : List Node) (p : Place) (d : Node) → IsPlaceOf nodes p → p.own_start ≡ (get_or nodes (p.number.number - 1) d).sums.own_start
+own_is : (nodes : List Node) (p : OrderedNode) (d : Node) → IsOrderedNodeOf nodes p → p.own_start ≡ (get_or nodes (p.number.number - 1) d).sums.own_start
 own_is nodes p d of =
     let number = of.2.number in
-    let place : of.0 ≡ p.number.number - 1 = omega arith in
-    of.2.own_start d ∙ ap (λ (k : ℕ). (get_or nodes k d).sums.own_start) place
+    let ordered_node : of.0 ≡ p.number.number - 1 = omega arith in
+    of.2.own_start d ∙ ap (λ (k : ℕ). (get_or nodes k d).sums.own_start) ordered_node
 
 -- the starts of a parent's children are the earliest
-abbrev Earliest : ℕ → ℕ → List Entry → Drawn → Type 0
+abbrev Earliest : ℕ → ℕ → List Entry → Placement → Type 0
 Earliest frames parent entries before = starts_of (children_of parent entries) ≡ earliest_starts (free_of parent before) (siblings_of frames (children_of parent entries))
 
 -- without children, whatever is free
-earliest_of_none : (frames parent : ℕ) (entries : List Entry) (a b : Drawn) → children_of parent entries ≡ [] → Earliest frames parent entries a → Earliest frames parent entries b
+earliest_of_none : (frames parent : ℕ) (entries : List Entry) (a b : Placement) → children_of parent entries ≡ [] → Earliest frames parent entries a → Earliest frames parent entries b
 earliest_of_none frames parent entries a b none h = ap starts_of none ∙ ap (λ (es : List Entry). earliest_starts (free_of parent b) (siblings_of frames es)) (sym none)
 
-not_child : (nodes : List Node) (frames parent : ℕ) (p : Place) (places : List Place) (before : Drawn) (d : Node) → EachOf (λ q. p.parent.number ≤ q.parent.number) places → before.parent ≤ p.parent.number → eqb p.parent.number parent ≡ false
-    → Earliest frames parent (rest_of nodes frames before p places d) (drawn_after frames (get_or nodes (p.number.number - 1) d).sums p before) → Earliest frames parent (entries_from nodes frames before (p ∷ places) d) before
-not_child nodes frames parent p places before d later low e h =
-    let skip = skips nodes frames before parent p places d e in
-    let rest = rest_of nodes frames before p places d in
+not_child : (nodes : List Node) (frames parent : ℕ) (p : OrderedNode) (ordered_nodes : List OrderedNode) (before : Placement) (d : Node) → EachOf (λ q. p.parent.number ≤ q.parent.number) ordered_nodes → before.parent ≤ p.parent.number → eqb p.parent.number parent ≡ false
+    → Earliest frames parent (rest_of nodes frames before p ordered_nodes d) (placement_after frames (get_or nodes (p.number.number - 1) d).sums p before) → Earliest frames parent (entries_from nodes frames before (p ∷ ordered_nodes) d) before
+not_child nodes frames parent p ordered_nodes before d later low e h =
+    let skip = skips nodes frames before parent p ordered_nodes d e in
+    let rest = rest_of nodes frames before p ordered_nodes d in
     let apart = eqb_not p.parent.number parent e in
     let moved : Earliest frames parent rest before = elim (cases_eq parent before.parent) [
       | inl same ↦
-          earliest_of_none frames parent rest (drawn_after frames (get_or nodes (p.number.number - 1) d).sums p before) before
-          (none_of nodes frames parent p.parent.number places (drawn_after frames (get_or nodes (p.number.number - 1) d).sums p before) d (strictly before.parent p.parent.number parent low (sym same) apart) later) h
+          earliest_of_none frames parent rest (placement_after frames (get_or nodes (p.number.number - 1) d).sums p before) before
+          (none_of nodes frames parent p.parent.number ordered_nodes (placement_after frames (get_or nodes (p.number.number - 1) d).sums p before) d (strictly before.parent p.parent.number parent low (sym same) apart) later) h
       | inr other ↦
           h ∙ ap (λ (t : ℤ). earliest_starts t (siblings_of frames (children_of parent rest)))
-          (ap (λ (b : Bool). cond b (drawn_after frames (get_or nodes (p.number.number - 1) d).sums p before).end (pos 0)) (eqb_other parent p.parent.number (λ f. apart (sym f)))
+          (ap (λ (b : Bool). cond b (placement_after frames (get_or nodes (p.number.number - 1) d).sums p before).end (pos 0)) (eqb_other parent p.parent.number (λ f. apart (sym f)))
           ∙ sym (ap (λ (b : Bool). cond b before.end (pos 0)) (eqb_other parent before.parent other)))
     ] in
     ap starts_of skip ∙ moved ∙ ap (λ (es : List Entry). earliest_starts (free_of parent before) (siblings_of frames es)) (sym skip)
@@ -194,13 +194,13 @@ not_child nodes frames parent p places before d later low e h =
       | inr other ↦ omega arith
     ]
 
-is_child : (nodes : List Node) (frames parent : ℕ) (p : Place) (places : List Place) (before : Drawn) (d : Node) → IsPlaceOf nodes p → eqb p.parent.number parent ≡ true
-    → Earliest frames parent (rest_of nodes frames before p places d) (drawn_after frames (get_or nodes (p.number.number - 1) d).sums p before) → Earliest frames parent (entries_from nodes frames before (p ∷ places) d) before
-is_child nodes frames parent p places before d of e h =
-    let take = takes nodes frames before parent p places d e in
-    let rest = rest_of nodes frames before p places d in
+is_child : (nodes : List Node) (frames parent : ℕ) (p : OrderedNode) (ordered_nodes : List OrderedNode) (before : Placement) (d : Node) → IsOrderedNodeOf nodes p → eqb p.parent.number parent ≡ true
+    → Earliest frames parent (rest_of nodes frames before p ordered_nodes d) (placement_after frames (get_or nodes (p.number.number - 1) d).sums p before) → Earliest frames parent (entries_from nodes frames before (p ∷ ordered_nodes) d) before
+is_child nodes frames parent p ordered_nodes before d of e h =
+    let take = takes nodes frames before parent p ordered_nodes d e in
+    let rest = rest_of nodes frames before p ordered_nodes d in
     let sums = (get_or nodes (p.number.number - 1) d).sums in
-    let x = drawn_after frames sums p before in
+    let x = placement_after frames sums p before in
     let same : p.parent.number ≡ parent = eqb_is p.parent.number parent e in
     let s : Sibling = sibling_of (merged_in sums) frames in
     let start : x.start ≡ earliest_start (free_of parent before) s =
@@ -213,17 +213,17 @@ is_child nodes frames parent p places before d of e h =
     ∙ ap (λ (ts : List ℤ). earliest_start (free_of parent before) s ∷ ts) (h ∙ ap (λ (t : ℤ). earliest_starts t (siblings_of frames (children_of parent rest))) free)
     ∙ ap (λ (es : List Entry). earliest_starts (free_of parent before) (siblings_of frames es)) (sym take)
 
-pub starts_earliest : (nodes : List Node) (frames parent : ℕ) (places : List Place) (before : Drawn) (d : Node) → AllByRecursion (IsPlaceOf nodes) places → InRow places → EachOf (λ q. before.parent ≤ q.parent.number) places
-    → Earliest frames parent (entries_from nodes frames before places d) before
+pub starts_earliest : (nodes : List Node) (frames parent : ℕ) (ordered_nodes : List OrderedNode) (before : Placement) (d : Node) → AllByRecursion (IsOrderedNodeOf nodes) ordered_nodes → InRow ordered_nodes → EachOf (λ q. before.parent ≤ q.parent.number) ordered_nodes
+    → Earliest frames parent (entries_from nodes frames before ordered_nodes d) before
 starts_earliest nodes frames parent [] before d of row low = refl
-starts_earliest nodes frames parent (p ∷ places) before d of row low =
-    by_test nodes frames parent p places before d of row low (eqb p.parent.number parent) refl
-    (starts_earliest nodes frames parent places (drawn_after frames (get_or nodes (p.number.number - 1) d).sums p before) d of.1 row.1 (each_at_least p places row.0))
+starts_earliest nodes frames parent (p ∷ ordered_nodes) before d of row low =
+    by_test nodes frames parent p ordered_nodes before d of row low (eqb p.parent.number parent) refl
+    (starts_earliest nodes frames parent ordered_nodes (placement_after frames (get_or nodes (p.number.number - 1) d).sums p before) d of.1 row.1 (each_at_least p ordered_nodes row.0))
   where
-    by_test : (nodes : List Node) (frames parent : ℕ) (p : Place) (places : List Place) (before : Drawn) (d : Node) → AllByRecursion (IsPlaceOf nodes) (p ∷ places) → InRow (p ∷ places) → EachOf (λ q. before.parent ≤ q.parent.number) (p ∷ places)
-        → (b : Bool) → eqb p.parent.number parent ≡ b → Earliest frames parent (rest_of nodes frames before p places d) (drawn_after frames (get_or nodes (p.number.number - 1) d).sums p before) → Earliest frames parent (entries_from nodes frames before (p ∷ places) d) before
-    by_test nodes frames parent p places before d of row low false e h = not_child nodes frames parent p places before d (each_at_least p places row.0) low.0 e h
-    by_test nodes frames parent p places before d of row low true e h = is_child nodes frames parent p places before d of.0 e h
+    by_test : (nodes : List Node) (frames parent : ℕ) (p : OrderedNode) (ordered_nodes : List OrderedNode) (before : Placement) (d : Node) → AllByRecursion (IsOrderedNodeOf nodes) (p ∷ ordered_nodes) → InRow (p ∷ ordered_nodes) → EachOf (λ q. before.parent ≤ q.parent.number) (p ∷ ordered_nodes)
+        → (b : Bool) → eqb p.parent.number parent ≡ b → Earliest frames parent (rest_of nodes frames before p ordered_nodes d) (placement_after frames (get_or nodes (p.number.number - 1) d).sums p before) → Earliest frames parent (entries_from nodes frames before (p ∷ ordered_nodes) d) before
+    by_test nodes frames parent p ordered_nodes before d of row low false e h = not_child nodes frames parent p ordered_nodes before d (each_at_least p ordered_nodes row.0) low.0 e h
+    by_test nodes frames parent p ordered_nodes before d of row low true e h = is_child nodes frames parent p ordered_nodes before d of.0 e h
 
 -- ---- the order of entries
 
@@ -239,15 +239,15 @@ less_of Equal Equal Equal Less e tie apart h = refl
 less_of Equal Equal Equal Greater e tie apart h = cc
 less_of Equal Equal Equal Equal e tie apart h = absurd (apart refl)
 
--- what an entry's place says of its path and its least start
-entry_path : (all : List Occurrence) (t : Table) (p : Place) (d : Node) → IsTableOf all t → IsPlaceOf t.nodes.items p → path_at t.nodes.items p.number.number ≡ below (path_at t.nodes.items p.parent.number) (record { id = p.id; text = p.text.now })
+-- what an entry's ordered node says of its path and its least start
+entry_path : (all : List Occurrence) (t : Table) (p : OrderedNode) (d : Node) → IsTableOf all t → IsOrderedNodeOf t.nodes.items p → path_at t.nodes.items p.number.number ≡ below (path_at t.nodes.items p.parent.number) (record { id = p.id; text = p.text.now })
 entry_path all t p d table of = (one_entry all t p above_all d table of).path
 
-entry_start : (all : List Occurrence) (t : Table) (p : Place) (d : Node) → IsTableOf all t → IsPlaceOf t.nodes.items p → p.own_start ≡ (merged_at all (below (path_at t.nodes.items p.parent.number) (record { id = p.id; text = p.text.now }))).own_start
+entry_start : (all : List Occurrence) (t : Table) (p : OrderedNode) (d : Node) → IsTableOf all t → IsOrderedNodeOf t.nodes.items p → p.own_start ≡ (merged_at all (below (path_at t.nodes.items p.parent.number) (record { id = p.id; text = p.text.now }))).own_start
 entry_start all t p d table of =
     own_is t.nodes.items p d of ∙ ap (λ (m : Merged). m.own_start) ((one_entry all t p above_all d table of).merged ∙ ap (merged_at all) (entry_path all t p d table of))
 
-stands_before : (all : List Occurrence) (t : Table) (p q : Place) (x y : Drawn) (d : Node) → IsTableOf all t → IsPlaceOf t.nodes.items p → IsPlaceOf t.nodes.items q → is_gt (place_cmp p q) ≡ false → (p.number.number ≡ q.number.number → ⊥)
+stands_before : (all : List Occurrence) (t : Table) (p q : OrderedNode) (x y : Placement) (d : Node) → IsTableOf all t → IsOrderedNodeOf t.nodes.items p → IsOrderedNodeOf t.nodes.items q → is_gt (ordered_node_cmp p q) ≡ false → (p.number.number ≡ q.number.number → ⊥)
     → StandsBefore (merged_at all) (path_at t.nodes.items) (entry_of t.nodes.items p x d) (entry_of t.nodes.items q y d)
 stands_before all t p q x y d table of og h other =
     let nodes = t.nodes.items in
@@ -281,42 +281,42 @@ stands_before all t p q x y d table of og h other =
     nat_tied : (n : ℕ) → nat_cmp n n ≡ Equal
     nat_tied n = tied_itself nat_cmp_total n
 
-before_rest : (all : List Occurrence) (t : Table) (frames : ℕ) (p : Place) (x : Drawn) (places : List Place) (before : Drawn) (d : Node) → IsTableOf all t → IsPlaceOf t.nodes.items p → AllByRecursion (IsPlaceOf t.nodes.items) places
-    → EachOf (λ q. is_gt (place_cmp p q) ≡ false) places → EachOf (λ q. p.number.number ≡ q.number.number → ⊥) places
-    → Each (StandsBefore (merged_at all) (path_at t.nodes.items) (entry_of t.nodes.items p x d)) (entries_from t.nodes.items frames before places d)
+before_rest : (all : List Occurrence) (t : Table) (frames : ℕ) (p : OrderedNode) (x : Placement) (ordered_nodes : List OrderedNode) (before : Placement) (d : Node) → IsTableOf all t → IsOrderedNodeOf t.nodes.items p → AllByRecursion (IsOrderedNodeOf t.nodes.items) ordered_nodes
+    → EachOf (λ q. is_gt (ordered_node_cmp p q) ≡ false) ordered_nodes → EachOf (λ q. p.number.number ≡ q.number.number → ⊥) ordered_nodes
+    → Each (StandsBefore (merged_at all) (path_at t.nodes.items) (entry_of t.nodes.items p x d)) (entries_from t.nodes.items frames before ordered_nodes d)
 before_rest all t frames p x [] before d table of are row apart = tt
-before_rest all t frames p x (q ∷ places) before d table of are row apart = (
-  stands_before all t p q x (drawn_after frames (get_or t.nodes.items (q.number.number - 1) d).sums q before) d table of are.0 row.0 apart.0,
-  before_rest all t frames p x places (drawn_after frames (get_or t.nodes.items (q.number.number - 1) d).sums q before) d table of are.1 row.1 apart.1,
+before_rest all t frames p x (q ∷ ordered_nodes) before d table of are row apart = (
+  stands_before all t p q x (placement_after frames (get_or t.nodes.items (q.number.number - 1) d).sums q before) d table of are.0 row.0 apart.0,
+  before_rest all t frames p x ordered_nodes (placement_after frames (get_or t.nodes.items (q.number.number - 1) d).sums q before) d table of are.1 row.1 apart.1,
 )
 
-pub entries_in_order : (all : List Occurrence) (t : Table) (frames : ℕ) (places : List Place) (before : Drawn) (d : Node) → IsTableOf all t → AllByRecursion (IsPlaceOf t.nodes.items) places → InRow places → AreApart places
-    → InOrder (merged_at all) (path_at t.nodes.items) (entries_from t.nodes.items frames before places d)
+pub entries_in_order : (all : List Occurrence) (t : Table) (frames : ℕ) (ordered_nodes : List OrderedNode) (before : Placement) (d : Node) → IsTableOf all t → AllByRecursion (IsOrderedNodeOf t.nodes.items) ordered_nodes → InRow ordered_nodes → AreApart ordered_nodes
+    → InOrder (merged_at all) (path_at t.nodes.items) (entries_from t.nodes.items frames before ordered_nodes d)
 entries_in_order all t frames [] before d table are row apart = tt
-entries_in_order all t frames (p ∷ places) before d table are row apart = (
-  before_rest all t frames p (drawn_after frames (get_or t.nodes.items (p.number.number - 1) d).sums p before) places (drawn_after frames (get_or t.nodes.items (p.number.number - 1) d).sums p before) d table are.0 are.1 row.0 apart.0,
-  entries_in_order all t frames places (drawn_after frames (get_or t.nodes.items (p.number.number - 1) d).sums p before) d table are.1 row.1 apart.1,
+entries_in_order all t frames (p ∷ ordered_nodes) before d table are row apart = (
+  before_rest all t frames p (placement_after frames (get_or t.nodes.items (p.number.number - 1) d).sums p before) ordered_nodes (placement_after frames (get_or t.nodes.items (p.number.number - 1) d).sums p before) d table are.0 are.1 row.0 apart.0,
+  entries_in_order all t frames ordered_nodes (placement_after frames (get_or t.nodes.items (p.number.number - 1) d).sums p before) d table are.1 row.1 apart.1,
 )
 
 -- ---- all of it
 
-low_enough : (places : List Place) → EachOf (λ q. 0 ≤ q.parent.number) places
+low_enough : (ordered_nodes : List OrderedNode) → EachOf (λ q. 0 ≤ q.parent.number) ordered_nodes
 low_enough [] = tt
-low_enough (q ∷ places) = (omega arith, low_enough places)
+low_enough (q ∷ ordered_nodes) = (omega arith, low_enough ordered_nodes)
 
 -- the forest of the table is the merge
-pub forest_merged : (all : List Occurrence) (t : Table) (frames : ℕ) (places : List Place) (d : Node) → IsTableOf all t → ArePlacesOf t.nodes.items places
-    → IsMerge all frames (forest_below frames 0 (entries_from t.nodes.items frames above_all places d))
-forest_merged all t frames places d table are =
-    let each = recursion_from_All (IsPlaceOf t.nodes.items) places are.each in
-    let row = in_row places are.sorted in
-    table-merged all frames (path_at t.nodes.items) (vec_len t.nodes) (entries_from t.nodes.items frames above_all places d) (record {
+pub forest_merged : (all : List Occurrence) (t : Table) (frames : ℕ) (ordered_nodes : List OrderedNode) (d : Node) → IsTableOf all t → AreOrderedNodesOf t.nodes.items ordered_nodes
+    → IsMerge all frames (forest_below frames 0 (entries_from t.nodes.items frames above_all ordered_nodes d))
+forest_merged all t frames ordered_nodes d table are =
+    let each = recursion_from_All (IsOrderedNodeOf t.nodes.items) ordered_nodes are.each in
+    let row = in_row ordered_nodes are.sorted in
+    table-merged all frames (path_at t.nodes.items) (vec_len t.nodes) (entries_from t.nodes.items frames above_all ordered_nodes d) (record {
       top = top_path t.nodes.items;
       apart = table.apart;
-      each = each_entry all t frames places above_all d table each;
-      whole = whole_entries all t frames above_all places d table are;
-      order = entries_in_order all t frames places above_all d table each row are.apart;
-      starts = λ p h. starts_earliest t.nodes.items frames p places above_all d each row (low_enough places) ∙ ap (λ (s : ℤ). earliest_starts s (siblings_of frames (children_of p (entries_from t.nodes.items frames above_all places d)))) (nothing_free p);
+      each = each_entry all t frames ordered_nodes above_all d table each;
+      whole = whole_entries all t frames above_all ordered_nodes d table are;
+      order = entries_in_order all t frames ordered_nodes above_all d table each row are.apart;
+      starts = λ p h. starts_earliest t.nodes.items frames p ordered_nodes above_all d each row (low_enough ordered_nodes) ∙ ap (λ (s : ℤ). earliest_starts s (siblings_of frames (children_of p (entries_from t.nodes.items frames above_all ordered_nodes d)))) (nothing_free p);
     })
   where
     nothing_free : (p : ℕ) → free_of p above_all ≡ pos 0

@@ -21,7 +21,7 @@ use Rattle.puffin_data.specs.Walk.{IsFault}
 use Rattle.puffin_data.specs.Forest.Words.{num_begun, open_after}
 use Rattle.puffin_threads.specs.Thread.Info.{Info, info_of}
 use Rattle.puffin_threads.specs.Thread.Calls.{Thread, after_begin, after_end, after_handing, after_registering, info_of_thread}
-use Rattle.puffin_threads.specs.Details.{Details, AllHaveIds, shared_details}
+use Rattle.puffin_threads.specs.Details.{Details, with_id, AllHaveIds, shared_details}
 use Rattle.puffin_threads.specs.Details.Collection.{Collection, with_all_details, Begins}
 use Rattle.puffin_frames.specs.Frame.Contents.{Streams}
 use Rattle.puffin_frames.specs.Frame.Sums.{total_scopes}
@@ -114,12 +114,12 @@ Continues-began now t at id text offset there place = (
 )
 
 pub Continues-registered : (now : SessionState) (t : ℕ) (name : Option (String Global)) (function file : String Global) (line id : ℕ) → t < length now.threads
-    → Continues now (session_with_thread now t (after_registering (session_thread now t) (details_given (option_map string_bytes name) (string_bytes function) (string_bytes file) line id)) now.collected) (Register t name function file line) (reply.Registered id)
+    → Continues now (session_with_thread now t (after_registering (session_thread now t) (with_id (details_given (option_map string_bytes name) (string_bytes function) (string_bytes file) line) id)) now.collected) (Register t name function file line) (reply.Registered id)
 Continues-registered now t name function file line id there = (
   [],
   λ o done before.
       let within : t < length o.threads = omega (arith, before.stands.num_threads) in
-      let d = details_given (option_map string_bytes name) (string_bytes function) (string_bytes file) line id in
+      let d = with_id (details_given (option_map string_bytes name) (string_bytes function) (string_bytes file) line) id in
       let changed = after_registering (session_thread now t) d in
       let new = session_with_thread now t changed now.collected in (
         record {

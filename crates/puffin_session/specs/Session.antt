@@ -6,9 +6,9 @@ pub mod Notes
 pub mod Actions
 pub mod Replies
 pub mod Runs
-use Rattle.std.specs.Prelude.{◌≡◌, ℕ, ◌+◌, ◌<◌, false, List, [], length, map, Option, Some, None}
+use Rattle.std.specs.Prelude.{◌≡◌, ℕ, ◌+◌, ◌<◌, List, [], length, map, Option, Some, None}
 use Rattle.std.specs.List.{slice_index_or}
-use Rattle.std.specs.FinMap.{empty, entries, get}
+use Rattle.std.specs.FinMap.{entries, get}
 use Rattle.puffin_data.specs.declared.data.form.Form.{Form}
 use Rattle.puffin_data.specs.Forest.{Forest}
 use Rattle.puffin_data.specs.Forest.Tour.{tour}
@@ -19,8 +19,7 @@ use Rattle.puffin_data.specs.Honesty.{Recorded, IsHonestRecord}
 use Rattle.puffin_threads.specs.Thread.Info.{Info}
 use Rattle.puffin_threads.specs.Thread.Calls.{Thread, new_thread}
 use Rattle.puffin_frames.specs.Frame.Contents.{Streams}
-use Rattle.puffin_threads.specs.Details.Collection.{no_details}
-use Rattle.puffin_collector.specs.Collector.State.{Collected}
+use Rattle.puffin_collector.specs.Collector.State.{Collected, nothing_collected}
 use Rattle.puffin_threads.specs.Thread.Events.{events_in}
 use Rattle.puffin_session.specs.Session.History.{Word, Opening, Action, nobody, thread_at, latest_of}
 use Rattle.puffin_session.specs.Session.Deliveries.{Delivery, unreported, first_start_of}
@@ -32,20 +31,12 @@ pub record SessionState : Type 0 where
   pub threads : List Thread
   pub collected : Collected
 
-abbrev pub nothing_collected : Collected
-nothing_collected = record {
-  index = 0;
-  reported = 0;
-  emitted = 0;
-  streams = empty;
-  collection = no_details;
-  new_details = [];
-  wants_all = false;
-}
-
 -- a session of these threads, before any command
 abbrev pub new_session : List (List ℕ × Form) → SessionState
-new_session threads = record { threads = map (λ thread. new_thread thread.0 thread.1) threads; collected = nothing_collected }
+new_session threads = record {
+  threads = map (λ thread. new_thread thread.0 thread.1) threads;
+  collected = nothing_collected 0;
+}
 
 -- the word that bytes spell in a form
 abbrev pub word_in : Form → List ℕ → Word

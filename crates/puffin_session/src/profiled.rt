@@ -2,7 +2,7 @@ ghost use Rattle.std.specs.Prelude.{◌≡◌, ◌+◌, ◌-◌, ◌<◌, ◌⊎
 ghost use Rattle.std.specs.String.{string_bytes};
 ghost use Rattle.puffin_data.specs.Text.{cut_text};
 ghost use Rattle.puffin_data.specs.Forest.Words.{open_after};
-ghost use Rattle.puffin_threads.specs.Details.{AllHaveIds};
+ghost use Rattle.puffin_threads.specs.Details.{with_id, AllHaveIds};
 ghost use Rattle.puffin_threads.specs.Thread.Calls.{new_thread, after_begin, after_registering};
 ghost use Rattle.puffin_session.specs.Session.{begun_place};
 ghost use Rattle.puffin_session.specs.Session.Actions.{details_given};
@@ -76,9 +76,9 @@ impl Profiled {
         line: u32,
     ) -> Result<ScopeId>
         ensures ok { IfOk result (λ id.
-            self.new ≡ after_registering self.old (
-            details_given (option_map string_bytes name.now) (string_bytes function.now)
-            (string_bytes file.now) line id)) }
+            self.new ≡ after_registering self.old (with_id
+            (details_given (option_map string_bytes name.now) (string_bytes function.now)
+            (string_bytes file.now) line) id)) }
         ensures err { OnErr result (self.new ≡ self.old) }
         ensures cause { IfErr result (λ e. (e ≡ Error.IdsExhausted) ⊎ (e ≡ Error.Memory)) }
     {

@@ -7,12 +7,12 @@ ghost use Rattle.puffin_data.specs.Text.{cut_text};
 ghost use Rattle.puffin_data.specs.Walk.{IsFault};
 ghost use Rattle.puffin_data.specs.Forest.Words.{open_after};
 ghost use Rattle.puffin_threads.specs.Thread.Info.{info_of};
-ghost use Rattle.puffin_threads.specs.Details.{AllHaveIds, details_seen};
+ghost use Rattle.puffin_threads.specs.Details.{with_id, AllHaveIds, details_seen};
 ghost use Rattle.puffin_threads.specs.Thread.Calls.{after_begin, after_registering};
-ghost use Rattle.puffin_collector.specs.Collector.State.{AcceptsReport, IsReportRefusal, after_wanting};
+ghost use Rattle.puffin_collector.specs.Collector.State.{AcceptsReport, IsReportRefusal, nothing_collected, after_wanting};
 ghost use Rattle.puffin_collector.specs.Collector.Collecting.{Collects, TellsIds, KeepsPending};
 ghost use Rattle.puffin_collector.specs.Collector.Registering.{Adds, AddsSome};
-ghost use Rattle.puffin_session.specs.Session.{new_session, nothing_collected, begun_place};
+ghost use Rattle.puffin_session.specs.Session.{new_session, begun_place};
 ghost use Rattle.puffin_session.specs.Session.Runs.{Records, HasIds};
 ghost use Rattle.puffin_session.specs.Session.Actions.{details_given, user_details};
 ghost use Rattle.puffin_session.specs.inner.Serving.{clock_time, session_thread, session_with_thread, session_with_collected, EndsInnermost, Continues};
@@ -93,7 +93,7 @@ impl Session {
 
     /// Makes a session of these threads, with nothing collected.
     fn of(alloc: Global, profiled: Vec<Profiled>) -> Session
-        ensures { result ≡ record { threads = profiled.items; collected = nothing_collected } }
+        ensures { result ≡ record { threads = profiled.items; collected = nothing_collected 0 } }
     {
         Session {
             profiled,
@@ -131,46 +131,50 @@ impl Session {
         ensures continues { Continues self.old self.new command.now result }
         ensures ids { HasIds result }
     {
+        match self.accept(command) {
+            Ok(reply) => reply,
+            Err(cause) => Reply::Refused(cause),
+        }
+    }
+
+    /// Runs one command. If it is refused, fails with the cause.
+    fn accept(&mut self, command: &Command) -> Result<Reply>
+        ensures accepted { IfOk result (λ reply. Continues self.old self.new command.now reply) }
+        ensures refused { IfErr result (λ e.
+            Continues self.old self.new command.now (Reply.Refused e)) }
+        ensures ids { IfOk result HasIds }
+    {
         match command {
             Command::Begin {
                 thread,
                 at,
                 id,
                 text,
-            } => match self.begin(*thread, *at, *id, text.as_str()) {
-                Ok(offset) => Reply::Began(offset),
-                Err(cause) => Reply::Refused(cause),
-            },
-            Command::End { thread, at, back } => match self.end(*thread, *at, *back) {
-                Ok(closed) => Reply::Ended(closed),
-                Err(cause) => Reply::Refused(cause),
-            },
+            } => Ok(Reply::Began(self.begin(*thread, *at, *id, text.as_str())?)),
+            Command::End { thread, at, back } => Ok(Reply::Ended(self.end(*thread, *at, *back)?)),
             Command::Register {
                 thread,
                 name,
                 function,
                 file,
                 line,
-            } => match self.register(*thread, name, function, file, *line) {
-                Ok(id) => Reply::Registered(id),
-                Err(cause) => Reply::Refused(cause),
-            },
-            Command::RegisterUser { names } => match self.register_user(names) {
-                Ok(ids) => Reply::RegisteredUser(ids),
-                Err(cause) => Reply::Refused(cause),
-            },
-            Command::ReportUser { info, stream } => match self.report_user(info, stream) {
-                Ok(()) => Reply::Reported,
-                Err(cause) => Reply::Refused(cause),
-            },
+            } => Ok(Reply::Registered(self.register(*thread, name, function, file, *line)?)),
+            Command::RegisterUser { names } => {
+                let ids = self.register_user(names)?;
+                Ok(Reply::RegisteredUser(ids))
+            }
+            Command::ReportUser { info, stream } => {
+                self.report_user(info, stream)?;
+                Ok(Reply::Reported)
+            }
             Command::Snapshot => {
                 self.collector.emit_scope_snapshot();
-                Reply::Snapshot
+                Ok(Reply::Snapshot)
             }
-            Command::NewFrame => match self.new_frame() {
-                Ok(frame) => Reply::Frame(Emitted { frame, refused: 0 }),
-                Err(cause) => Reply::Refused(cause),
-            },
+            Command::NewFrame => {
+                let frame = self.new_frame()?;
+                Ok(Reply::Frame(Emitted { frame, refused: 0 }))
+            }
         }
     }
 
@@ -226,9 +230,9 @@ impl Session {
         ensures ok { IfOk result (λ id.
             (thread < length self.old.threads)
             × (self.new ≡ session_with_thread self.old thread
-            (after_registering (session_thread self.old thread) (
-            details_given (option_map string_bytes name.now)
-            (string_bytes function.now) (string_bytes file.now) line id))
+            (after_registering (session_thread self.old thread) (with_id
+            (details_given (option_map string_bytes name.now) (string_bytes function.now)
+            (string_bytes file.now) line) id))
             self.old.collected)) }
         ensures err { OnErr result (self.new ≡ self.old) }
         ensures cause { IfErr result (λ e.

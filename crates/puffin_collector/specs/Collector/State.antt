@@ -8,7 +8,7 @@ use Rattle.puffin_data.specs.declared.error.Error.TheVariants.{MissingId, Unlike
 use Rattle.puffin_data.specs.Honesty.{Recorded, AreUnlike}
 use Rattle.puffin_threads.specs.Thread.Info.{Info}
 use Rattle.puffin_threads.specs.Details.{Details, details_code, AllHaveIds}
-use Rattle.puffin_threads.specs.Details.Collection.{Collection, collection_code, with_all_details}
+use Rattle.puffin_threads.specs.Details.Collection.{Collection, collection_code, no_details, with_all_details}
 use Rattle.puffin_frames.specs.Frame.Contents.{Streams, streams_code, stream_under}
 use Rattle.puffin_frames.specs.Frame.Sums.{total_bytes, total_scopes, joined_range, IsOrdered, DurationFits}
 
@@ -40,6 +40,18 @@ collected_code =
       wants_all = p.1.1.1.1.1.1;
     })
     (λ _. refl)
+
+-- nothing was reported and no details are known; the next frame has this index
+abbrev pub nothing_collected : ℕ → Collected
+nothing_collected index = record {
+  index = index;
+  reported = 0;
+  emitted = 0;
+  streams = map.empty;
+  collection = no_details;
+  new_details = [];
+  wants_all = false;
+}
 
 -- ---- reports
 

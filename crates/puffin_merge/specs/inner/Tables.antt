@@ -13,7 +13,7 @@ use Rattle.puffin_merge.specs.declared.merge.table.Key.{Key}
 use Rattle.puffin_merge.specs.declared.merge.table.Asked.{Asked}
 use Rattle.puffin_merge.specs.declared.merge.table.Spot.{Spot}
 use Rattle.puffin_merge.specs.declared.merge.table.TextNumber.{TextNumber}
-use Rattle.puffin_merge.specs.declared.merge.table.Sums.{Sums}
+use Rattle.puffin_merge.specs.declared.merge.table.PieceTotals.{PieceTotals}
 use Rattle.puffin_merge.specs.declared.merge.table.NodeNumber.{NodeNumber}
 use Rattle.puffin_merge.specs.Merge.Occurrences.{Label, Path, Occurrence}
 use Rattle.puffin_merge.specs.Merge.Pieces.{Merged, merged_at}
@@ -26,7 +26,7 @@ label_in key = record { id = key.id; text = string_bytes key.text }
 abbrev pub asked_for : Asked → Label
 asked_for key = record { id = key.id; text = key.text.now }
 
-abbrev pub merged_in : Sums → Merged
+abbrev pub merged_in : PieceTotals → Merged
 merged_in sums = record {
   number = sums.number;
   total = sums.total;

@@ -2,12 +2,11 @@
 
 ghost use Rattle.std.specs.Prelude.{◌≡◌, ℕ, ◌+◌, ◌-◌, ◌^◌, ◌<◌, ◌≤◌, ◌⊎◌, ◌++◌, ◌∷◌, [], List, length, OnOk, IfOk, IfErr};
 ghost use Rattle.puffin_data.specs.declared.error.Error.{Error};
-ghost use Rattle.puffin_threads.specs.Thread.Info.{info_of};
 ghost use Rattle.puffin_merge.specs.Merge.Occurrences.{occurrences};
 ghost use Rattle.puffin_merge.specs.Merge.FrameBytes.{FrameBytes, most_tries_of};
 ghost use Rattle.puffin_merge.specs.Merge.Refusals.{IsMergeRefusal, IsRefusalAfter, AreMerged};
 ghost use Rattle.puffin_merge.specs.Merge.Scopes.{frame_bytes, forest_in};
-ghost use Rattle.puffin_merge.specs.Merge.Merger.{HasAdded, CanAdd, tries_for};
+ghost use Rattle.puffin_merge.specs.Merge.Merger.{HasAdded, CanAdd, merged_info, tries_for};
 
 use crate::merge::scope::MergeScope;
 use crate::merge::stream::{Merging, read_frame};
@@ -67,10 +66,10 @@ impl<'i> Merger<'i> {
         requires { CanAdd self.old }
         ensures info { self.new.info ≡ self.old.info }
         ensures added { OnOk result ((added : List FrameBytes) → HasAdded added self.old →
-            HasAdded (added ++ (frame_bytes (info_of self.old.info.now) frame.now ∷ [])) self.new) }
+            HasAdded (added ++ (frame_bytes (merged_info self.old) frame.now ∷ [])) self.new) }
         ensures refused { IfErr result (λ e. (added later : List FrameBytes) →
             HasAdded added self.old → (e ≡ Error.Memory) ⊎ IsMergeRefusal
-            (added ++ (frame_bytes (info_of self.old.info.now) frame.now ∷ later)) e) }
+            (added ++ (frame_bytes (merged_info self.old) frame.now ∷ later)) e) }
     {
         let mut tries = 0;
         self.add_counted(frame, &mut tries)
@@ -82,16 +81,16 @@ impl<'i> Merger<'i> {
         ensures info { self.new.info ≡ self.old.info }
         ensures added { OnOk result ((added : List FrameBytes) →
             (before : HasAdded added self.old) →
-            (h : HasAdded (added ++ (frame_bytes (info_of self.old.info.now) frame.now ∷ []))
+            (h : HasAdded (added ++ (frame_bytes (merged_info self.old) frame.now ∷ []))
             self.new)
             × (tries_for h ≡ tries_for before + tries.new)) }
         ensures refused { IfErr result (λ e. (added later : List FrameBytes) →
             (h : HasAdded added self.old) →
             (e ≡ Error.Memory) ⊎ IsRefusalAfter
-            (added ++ (frame_bytes (info_of self.old.info.now) frame.now ∷ later))
+            (added ++ (frame_bytes (merged_info self.old) frame.now ∷ later))
             (tries_for h + tries.new) e) }
         ensures few { tries.new
-            ≤ most_tries_of (frame_bytes (info_of self.old.info.now) frame.now) }
+            ≤ most_tries_of (frame_bytes (merged_info self.old) frame.now) }
     {
         let first = self.first_with(frame);
         read_frame(

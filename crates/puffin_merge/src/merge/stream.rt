@@ -135,19 +135,13 @@ pub(crate) fn read_frame(
     requires { (all : List Occurrence) × IsTableOf all merging.old.table }
     ensures ok { IfOk result (λ _.
         TakesAll (form_of (frame_bytes (info_of info.now) frame.now)) TakesScopes
-        (record {
-          table = merging.old.table;
-          origin = frame.now.meta.range_ns.0 -ℤ first;
-        })
+        (record merging.old { origin = frame.now.meta.range_ns.0 -ℤ first })
         merging.new (bytes_of (frame_bytes (info_of info.now) frame.now)) tries.new) }
     ensures err { IfErr result (λ e.
         (e ≡ Error.Memory)
         ⊎ StopsEarly (form_of (frame_bytes (info_of info.now) frame.now)) TakesScopes
         RefusesScope
-        (record {
-          table = merging.old.table;
-          origin = frame.now.meta.range_ns.0 -ℤ first;
-        })
+        (record merging.old { origin = frame.now.meta.range_ns.0 -ℤ first })
         merging.new (bytes_of (frame_bytes (info_of info.now) frame.now)) tries.new e) }
     ensures few { tries.new ≤ most_tries_of (frame_bytes (info_of info.now) frame.now) }
     ensures short { length (bytes_of (frame_bytes (info_of info.now) frame.now)) < 2 ^ 63 }

@@ -52,20 +52,20 @@ pub(crate) struct Spot {
 
 /// The sums of a node's pieces.
 #[derive(Clone, Copy, Debug)]
-pub(crate) struct Sums {
+pub(crate) struct PieceTotals {
     pub number: usize,
     pub total: u64,
     pub greatest: u64,
     pub own_start: NanoSecond,
 }
 
-impl Sums {
+impl PieceTotals {
     /// Makes the sums of one piece.
-    pub(crate) fn one(own_start: NanoSecond, duration: u64) -> Sums
+    pub(crate) fn one(own_start: NanoSecond, duration: u64) -> PieceTotals
         ensures { result
             ≡ record { number = 1; total = duration; greatest = duration; own_start = own_start } }
     {
-        Sums {
+        PieceTotals {
             number: 1,
             total: duration,
             greatest: duration,
@@ -74,7 +74,7 @@ impl Sums {
     }
 
     /// Adds one piece. Returns `None` if the number or the total doesn't fit.
-    pub(crate) fn more(self, own_start: NanoSecond, duration: u64) -> Option<Sums>
+    pub(crate) fn more(self, own_start: NanoSecond, duration: u64) -> Option<PieceTotals>
         ensures some { IfSome result (λ sums.
             sums ≡ record {
               number = self.number + 1;
@@ -92,7 +92,7 @@ impl Sums {
         if total > i64::MAX as u64 {
             return None;
         }
-        Some(Sums {
+        Some(PieceTotals {
             number,
             total,
             greatest: self.greatest.max(duration),
@@ -105,7 +105,7 @@ impl Sums {
 #[derive(Debug, Drop)]
 pub(crate) struct Node {
     pub key: Key,
-    pub sums: Sums,
+    pub sums: PieceTotals,
 }
 
 /// The nodes, and maps that find them.
@@ -274,7 +274,7 @@ impl Table {
         };
         self.nodes.push(Node {
             key,
-            sums: Sums::one(own_start, duration),
+            sums: PieceTotals::one(own_start, duration),
         })?;
         let number = NodeNumber { number: place + 1 };
         let _none = self.numbers.insert(spot, number)?;

@@ -6,7 +6,7 @@ use Rattle.std.specs.declared.string.String.{String}
 use Rattle.puffin_threads.specs.Thread.Info.{info_of}
 use Rattle.puffin_threads.specs.declared.thread_profiler.reporter.Closed.{Closed}
 use Rattle.puffin_threads.specs.declared.thread_profiler.reporter.Closed.TheVariants as closed
-use Rattle.puffin_threads.specs.Details.{Details, default_details}
+use Rattle.puffin_threads.specs.Details.{Details, default_details, with_id}
 use Rattle.puffin_session.specs.declared.command.Command.{Command}
 use Rattle.puffin_session.specs.declared.command.Command.TheVariants.{Begin, End, Register, RegisterUser, ReportUser, Snapshot, NewFrame}
 use Rattle.puffin_session.specs.declared.command.Reply.{Reply}
@@ -19,10 +19,9 @@ abbrev pub is_reported : Closed → Bool
 is_reported closed.Reported = true
 is_reported _ = false
 
--- the details that a command registers, under the id that was drawn
-abbrev pub details_given : Option (List ℕ) → List ℕ → List ℕ → ℕ → ℕ → Details
-details_given name function file line id = record {
-  id = Some id;
+-- the details that a command registers, before they have an id
+abbrev pub details_given : Option (List ℕ) → List ℕ → List ℕ → ℕ → Details
+details_given name function file line = record default_details {
   scope_name = name;
   function_name = function;
   file_path = file;
@@ -41,9 +40,9 @@ action_of (Begin thread at id text) (reply.Began offset) learnt =
 action_of (End thread at back) (reply.Ended closed) learnt =
     calls thread (record { at = at; mark = ended (is_reported closed) })
 action_of (Register thread name function file line) (reply.Registered id) learnt =
-    registers thread (
-    details_given (option_map string_bytes name) (string_bytes function) (string_bytes file)
-    line id)
+    registers thread (with_id
+    (details_given (option_map string_bytes name) (string_bytes function) (string_bytes file) line)
+    id)
 action_of (RegisterUser names) (reply.RegisteredUser ids) learnt = adds learnt
 action_of (RegisterUser names) (reply.Refused e) learnt = adds learnt
 action_of (ReportUser info stream) reply.Reported learnt =

@@ -42,8 +42,8 @@ invariant_of-self-2 c =
     let ids = all_ids _ c.args.details.now c.all_have_ids.ensures c.if-not-all_have_ids.false in
     (c.self.invariant.0, ids_after _ _ _ c.in-Ok-append.ensures.items c.self.invariant.1 (subst AllHaveIds (sym c.in-Ok.ensures.ok) ids))
 
-pub returns-in-Ok-report_user_scopes-clause-ok : goal.returns-in-Ok-report_user_scopes-clause-ok
-returns-in-Ok-report_user_scopes-clause-ok c =
+pub returns-in-Ok-append-2-clause-ok : goal.returns-in-Ok-append-2-clause-ok
+returns-in-Ok-append-2-clause-ok c =
     let inside = c.self.inside in
     let i = info_of c.args.info in
     let ds = details_seen c.args.details.now in
@@ -61,7 +61,7 @@ returns-in-Ok-report_user_scopes-clause-ok c =
     let all = shared_details c.append.new.self.items in
     let joined : all ≡ seen.new_details ++ ds =
     ap shared_details c.in-Ok-append.ensures.items ∙ map-append (λ d. details_of (arc_value d)) inside.new_details.items c.in-Ok.fresh.items ∙ ap (λ more. seen.new_details ++ more) c.in-Ok.ensures.ok in
-    let accepted = c.in-Ok-report_user_scopes.ensures.ok in (
+    let accepted = c.in-Ok-append-2.ensures.ok in (
       accepted.0 ∙ accepted_before seen all r i ds joined ∙ ap (λ (v : Collected). after_report v i ds r) c.self.view_is,
       ids,
       subst (λ (v : Collected). ¬ IsUnlike v i r) c.self.view_is accepted.2,
@@ -69,9 +69,9 @@ returns-in-Ok-report_user_scopes-clause-ok c =
       subst (λ (v : Collected). ¬ IsTooLong (range_with v r)) c.self.view_is accepted.4,
     )
 
-pub invariant_of-self-in-Err-report_user_scopes : goal.invariant_of-self-in-Err-report_user_scopes
-invariant_of-self-in-Err-report_user_scopes c =
-    let left = ap (λ (v : Collected). v.new_details) (c.self-2.view_is ∙ c.in-Err-report_user_scopes.ensures.err.1) ∙ ap shared_details c.in-Ok-append.ensures.items in
+pub invariant_of-self-in-Err-append-2 : goal.invariant_of-self-in-Err-append-2
+invariant_of-self-in-Err-append-2 c =
+    let left = ap (λ (v : Collected). v.new_details) (c.self-2.view_is ∙ c.in-Err-append-2.ensures.err.1) ∙ ap shared_details c.in-Ok-append.ensures.items in
     let back = ap shared_details c.truncate.ensures.items ∙ seen_before c.len-known.result c.self.inside.new_details.items c.in-Ok.fresh.items c.self-2.inside.new_details.items (sym (c.len-known.ensures ∙ c.self.inside.new_details.ok.0)) left in
     (c.self-2.invariant.0, subst AllHaveIds (sym back) c.self.invariant.1)
 
@@ -92,11 +92,11 @@ returns-clause-err c =
       wants_all = inside.wants_all;
     }) in
     let seen : Collected = with (shared_details inside.new_details.items) in
-    let refused = c.in-Err-report_user_scopes.ensures.err in
+    let refused = c.in-Err-append-2.ensures.err in
     let left = ap (λ (v : Collected). v.new_details) (c.self-2.view_is ∙ refused.1) ∙ ap shared_details c.in-Ok-append.ensures.items in
     let back = ap shared_details c.truncate.ensures.items ∙ seen_before c.len-known.result inside.new_details.items c.in-Ok.fresh.items c.self-2.inside.new_details.items (sym (c.len-known.ensures ∙ c.self.inside.new_details.ok.0)) left in
     let cut = λ (v : Collected). record v { new_details = shared_details c.truncate.new.self.items } in (
-      subst (λ (v : Collected). IsReportRefusal v i ds r c.in-Err-report_user_scopes.cause) c.self.view_is
-          (refused_before seen (shared_details c.append.new.self.items) r i ds c.in-Err-report_user_scopes.cause ids refused.0),
+      subst (λ (v : Collected). IsReportRefusal v i ds r c.in-Err-append-2.cause) c.self.view_is
+          (refused_before seen (shared_details c.append.new.self.items) r i ds c.in-Err-append-2.cause ids refused.0),
       ap cut (c.self-2.view_is ∙ refused.1) ∙ ap with back ∙ c.self.view_is,
     )

@@ -15,7 +15,7 @@ use Rattle.puffin_collector.specs.Collector.Collecting.{IsTallied}
 use Rattle.puffin_collector.specs.inner.ReportSums.{AddsUp}
 use Rattle.puffin_collector.proofs.Reporting.{Laws, kept_after}
 use Rattle.puffin_collector.proofs.Refusing.{first_of_sums, late_refusal, reported_as}
-use Rattle.puffin_collector.proofs.collector.Collector.report_user_scopes.Goals as goal
+use Rattle.puffin_collector.proofs.collector.Collector.append.Goals as goal
 
 no_ids : AllHaveIds []
 no_ids = All-nil (λ d. IsSome d.id)

@@ -1,0 +1,198 @@
+//! Reports of threads, and of the caller's own scopes.
+
+ghost use Rattle.std.specs.Prelude.{◌≡◌, List, ◌+◌, [], OnOk, IfOk, IfErr};
+ghost use Rattle.std.specs.Bool.{MatchBool};
+ghost use Rattle.puffin_data.specs.Forest.{Forest};
+ghost use Rattle.puffin_data.specs.Honesty.{IsHonestRef, record_of_ref};
+ghost use Rattle.puffin_threads.specs.Thread.Info.{info_of};
+ghost use Rattle.puffin_threads.specs.Details.{Details, details_seen, AllHaveIds};
+ghost use Rattle.puffin_frames.specs.Frame.Sums.{IsOrdered, DurationFits};
+ghost use Rattle.puffin_collector.specs.Collector.State.{IsReportRefusal, AcceptsReport, RefusesReport, PendingFits, range_with, IsTooLong, IsSumRefusal};
+ghost use Rattle.puffin_collector.specs.inner.ReportSums.{IsFirstCause, AddsUp};
+
+use crate::collector::Collector;
+use crate::delta::{all_have_ids, copies};
+use puffin_data::data::{StreamInfoRef, is_range};
+use puffin_data::{Error, NanoSecond, Result};
+use puffin_frames::frame_data::{FrameMeta, are_unlike, report_to};
+use puffin_frames::laws;
+use puffin_frames::scope_details::ScopeDetails;
+use puffin_frames::thread_profiler::{Reporter, ThreadInfo};
+
+impl Collector {
+    /// Appends a thread's scopes to those that are pending under its info, and adds the details to the next frame's new ones.
+    /// The scopes have to be honest.
+    ///
+    /// Fails with the first cause that applies, and then changes nothing: `MissingId` if some details have no id; `UnlikeForms`
+    /// if these scopes and those pending under the info have bytes in unlike forms; `TooLarge` if the pending bytes or scopes,
+    /// or the scopes ever reported, don't fit 64 bits; `RangeTooLong` if the joined range of all pending scopes isn't reversed
+    /// and its duration doesn't fit `i64`; `Memory`.
+    #[inline(always)]
+    pub fn report(
+        &mut self,
+        info: ThreadInfo,
+        details: &[ScopeDetails],
+        times: &StreamInfoRef,
+    ) -> Result<()>
+        requires { (f : Forest) × IsHonestRef times.now f }
+        ensures ok { OnOk result (
+            AcceptsReport self.old (info_of info) (details_seen details.now)
+            (record_of_ref times.now) self.new) }
+        ensures err { IfErr result (λ e.
+            RefusesReport self.old (info_of info) (details_seen details.now)
+            (record_of_ref times.now) e self.new) }
+    {
+        if details.is_empty() {
+            self.append(info, times)
+        } else {
+            self.report_with_details(info, details, times)
+        }
+    }
+
+    /// Appends scopes of the caller's own, as [`Collector::report`] does without details. Fails in the same cases.
+    #[inline(always)]
+    pub fn report_user_scopes(&mut self, info: ThreadInfo, times: &StreamInfoRef) -> Result<()>
+        requires { (f : Forest) × IsHonestRef times.now f }
+        ensures ok { OnOk result (
+            AcceptsReport self.old (info_of info) [] (record_of_ref times.now) self.new) }
+        ensures err { IfErr result (λ e.
+            RefusesReport self.old (info_of info) [] (record_of_ref times.now) e self.new) }
+    {
+        self.append(info, times)
+    }
+
+    /// Handles a report with details, which is rare.
+    #[cold]
+    #[inline(never)]
+    fn report_with_details(
+        &mut self,
+        info: ThreadInfo,
+        details: &[ScopeDetails],
+        times: &StreamInfoRef,
+    ) -> Result<()>
+        requires { (f : Forest) × IsHonestRef times.now f }
+        ensures ok { OnOk result (
+            AcceptsReport self.old (info_of info) (details_seen details.now)
+            (record_of_ref times.now) self.new) }
+        ensures err { IfErr result (λ e.
+            RefusesReport self.old (info_of info) (details_seen details.now)
+            (record_of_ref times.now) e self.new) }
+    {
+        if !all_have_ids(details) {
+            return Err(Error::MissingId);
+        }
+        let mut fresh = match copies(self.alloc, details) {
+            Ok(fresh) => fresh,
+            Err(_) => return Err(self.cause_without_memory(&info, times)),
+        };
+        let known = self.new_details.len();
+        match self.new_details.append(&mut fresh) {
+            Ok(()) => {}
+            Err(_) => return Err(self.cause_without_memory(&info, times)),
+        }
+        match self.append(info, times) {
+            Ok(()) => Ok(()),
+            Err(cause) => {
+                self.new_details.truncate(known);
+                Err(cause)
+            }
+        }
+    }
+
+    /// Appends scopes to those that are pending under their thread's info, without details. Fails as [`Collector::report`]
+    /// does.
+    #[inline(always)]
+    fn append(&mut self, info: ThreadInfo, times: &StreamInfoRef) -> Result<()>
+        requires { (f : Forest) × IsHonestRef times.now f }
+        ensures ok { OnOk result (
+            AcceptsReport self.old (info_of info) [] (record_of_ref times.now) self.new) }
+        ensures err { IfErr result (λ e.
+            RefusesReport self.old (info_of info) [] (record_of_ref times.now) e self.new) }
+    {
+        // Laws for the proof of the invariant.
+        laws::joined_ranges();
+        laws::reported_streams();
+        laws::honest_streams();
+        let (meta, reported) = match self.sums_with(times) {
+            Ok(sums) => sums,
+            Err(cause) => return Err(self.first_cause(&info, times, cause)),
+        };
+        report_to(self.alloc, &mut self.pending, info, times)?;
+        self.meta = meta;
+        self.reported = reported;
+        Ok(())
+    }
+
+    /// Returns the error of a report for which there is no memory: the first cause that applies.
+    fn cause_without_memory(&self, info: &ThreadInfo, times: &StreamInfoRef) -> Error
+        ensures { (ds : List Details) → AllHaveIds ds →
+            IsReportRefusal self.now (info_of info.now) ds (record_of_ref times.now) result }
+    {
+        match self.sums_with(times) {
+            Ok(_) => self.first_cause(info, times, Error::Memory),
+            Err(cause) => self.first_cause(info, times, cause),
+        }
+    }
+
+    /// Returns the error of a report that already has this cause: `UnlikeForms` if that applies, as it comes first, else this
+    /// cause.
+    fn first_cause(&self, info: &ThreadInfo, times: &StreamInfoRef, cause: Error) -> Error
+        ensures { IsFirstCause self.now (info_of info.now) (record_of_ref times.now) cause result }
+    {
+        if are_unlike(&self.pending, info, times) {
+            Error::UnlikeForms
+        } else {
+            cause
+        }
+    }
+
+    /// Returns the meta of all that is pending and this report, and the number of scopes reported including it. Fails with the
+    /// first cause that applies, memory aside.
+    fn sums_with(&self, times: &StreamInfoRef) -> Result<(FrameMeta, u64)>
+        ensures sums { IfOk result (λ sums.
+            AddsUp self.now sums.0 (record_of_ref times.now)
+            × (sums.1 ≡ self.now.reported + times.now.num_scopes)) }
+        ensures fits { OnOk result (
+            PendingFits self.now (record_of_ref times.now)
+            × ¬ IsTooLong (range_with self.now (record_of_ref times.now))) }
+        ensures refusal { IfErr result (IsSumRefusal self.now (record_of_ref times.now)) }
+    {
+        // For the proof: the joined range with one stream more.
+        laws::joined_ranges();
+        let Some(meta) = self.meta.joined(times) else {
+            return Err(Error::TooLarge);
+        };
+        let Some(reported) = self.reported.checked_add(times.num_scopes as u64) else {
+            return Err(Error::TooLarge);
+        };
+        if is_too_long(meta.range_ns) {
+            return Err(Error::RangeTooLong);
+        }
+        Ok((meta, reported))
+    }
+}
+
+impl Reporter for Collector {
+    ghost use Rattle.std.specs.Prelude.{◌≡◌};
+    ghost use Rattle.puffin_collector.specs.Collector.State.{AcceptsReport, RefusesReport};
+
+    ghost accepts = { AcceptsReport };
+
+    ghost refuses = { RefusesReport };
+
+    fn report(
+        &mut self,
+        info: ThreadInfo,
+        details: &[ScopeDetails],
+        times: &StreamInfoRef,
+    ) -> Result<()> {
+        Collector::report(self, info, details, times)
+    }
+}
+
+/// Returns whether a range isn't reversed but its duration doesn't fit `i64`.
+fn is_too_long(range: (NanoSecond, NanoSecond)) -> bool
+    ensures { MatchBool result (IsTooLong range) (IsOrdered range → DurationFits range) }
+{
+    range.0 <= range.1 && !is_range(range)
+}

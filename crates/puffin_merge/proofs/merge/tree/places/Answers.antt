@@ -1,8 +1,0 @@
--- The places were made in the nodes' order, and then sorted.
-use Rattle.std.proofs.Common.{arith}
-use Rattle.puffin_merge.proofs.NodePlaces.{places_sorted}
-use Rattle.puffin_merge.proofs.merge.tree.places.Goals as goal
-
-pub returns-clause-places : goal.returns-clause-places
-returns-clause-places c =
-    places_sorted c.args.table.now.nodes.items c.loop-i.places.items c.sort.new.self.items (omega (arith, c.args.table.now.nodes.ok.0, c.len-i-end.ensures)) c.loop-i.invariant.each c.in_ok-sort.ensures.permutation c.in_ok-sort.ensures.sorted
