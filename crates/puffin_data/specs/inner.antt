@@ -2,4 +2,3 @@
 pub mod Walking
 pub mod Fronts
 pub mod Groups
-pub mod Filling
