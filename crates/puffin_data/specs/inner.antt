@@ -2,5 +2,4 @@
 pub mod Walking
 pub mod Fronts
 pub mod Groups
-pub mod Filling
 pub mod Beginnings

@@ -1,5 +1,6 @@
 //! Streams of scopes: their bytes, the strict walk over them, and the counts that it gives.
 
+mod buffered;
 mod device;
 mod form;
 mod info;
@@ -15,6 +16,7 @@ mod transfer;
 mod visit;
 mod walk;
 
+pub use buffered::Buffered;
 pub use device::{Counted, Drain, Source};
 pub use form::Form;
 pub use info::{StreamInfo, StreamInfoRef};

@@ -1,14 +1,16 @@
 //! Readers and writers that count their failures.
 
-ghost use Rattle.std.specs.Prelude.{◌≡◌, ◌+◌, ◌-◌, ◌^◌, ◌<◌, ℕ, List, Option, None, IfOk, is_err, if◌then◌else◌};
+ghost use Rattle.std.specs.Prelude.{◌≡◌, ◌++◌, ◌+◌, ◌-◌, ◌^◌, ◌<◌, ◌≤◌, ℕ, List, Option, None, IfOk, IfErr, OnOk, is_err, length, if◌then◌else◌};
 ghost use Rattle.std.specs.Io.{ReadsAtMost, WritesAtMost};
-ghost use Rattle.std.specs.Io.KnownBytes.{ReadConsumes, WriteAppends};
+ghost use Rattle.std.specs.Io.KnownBytes.{Consumes, IsAtEnd, ReadConsumes, WriteAppends};
+ghost use Rattle.puffin_data.specs.Device.{IsOutside, failures_after};
 
+use crate::file_error::FileError;
 use std::io;
 use std::io::{Read, Write};
 
 /// A reader that counts its failed calls, so that a caller can tell a failure of the reader from one of its own. Wrap any
-/// reader of std in [`Counted`] to get one.
+/// reader of std in [`Counted`] to get one, or in [`Buffered`](super::Buffered) if it lends its buffer.
 pub trait Source {
     /// The bytes still to be read, if they are known.
     ghost remaining: { Self → Option (List ℕ) } = { λ _. None };
@@ -24,6 +26,35 @@ pub trait Source {
         ensures bytes { ReadConsumes (remaining self.old) (remaining self.new) result buf.new }
         ensures failed { failures self.new
             ≡ (if is_err result then failures self.old + 1 else failures self.old) };
+
+    /// Reads until `bytes` has `len` bytes or the reader ends, and appends what came. Fails with `Io` if a read fails, or with
+    /// `Memory`; what `bytes` then holds and how far it read are unspecified.
+    fn read_to_len(&mut self, bytes: &mut Vec<u8>, len: usize) -> Result<(), FileError>
+        requires failures { failures self.old < 2 ^ 64 - 1 }
+        requires len { length bytes.old.items ≤ len }
+        ensures grown { OnOk result (
+            (taken : List ℕ)
+            × (bytes.new.items ≡ bytes.old.items ++ taken)
+            × Consumes (remaining self.old) (remaining self.new) taken) }
+        ensures most { OnOk result (length bytes.new.items ≤ len) }
+        ensures ends { OnOk result (length bytes.new.items < len → IsAtEnd (remaining self.new)) }
+        ensures outside { IfErr result IsOutside }
+        ensures counted { failures self.new ≡ failures_after (failures self.old) result }
+    {
+        let mut end = bytes.len();
+        bytes.resize(len, 0)?;
+        'reads: while end < bytes.len() {
+            match self.read(&mut bytes[end..]) {
+                Ok(0) => {
+                    bytes.truncate(end);
+                    return Ok(());
+                }
+                Ok(n) => end += n,
+                Err(_) => return Err(FileError::Io),
+            }
+        }
+        Ok(())
+    }
 
     /// Returns the number of failed reads.
     fn faults(&self) -> u64

@@ -5,7 +5,6 @@ ghost use Rattle.std.specs.Io.KnownBytes.{Consumes, Appends, IsAtEnd};
 ghost use Rattle.puffin_data.specs.Device.{IsOutside, TookNothing, WritesBeginning, failures_after};
 
 use crate::data::device::{Drain, Source};
-use crate::data::parts::append_piece;
 use crate::file_error::FileError;
 use std::alloc::Global;
 
@@ -24,7 +23,7 @@ pub fn read_to_end<S: Source>(alloc: Global, source: &mut S) -> Result<Vec<u8>, 
     let mut bytes = Vec::new(alloc);
     'pieces: loop {
         let wanted = bytes.len() + PIECE_SIZE;
-        append_piece(source, &mut bytes, wanted)?;
+        source.read_to_len(&mut bytes, wanted)?;
         if bytes.len() < wanted {
             return Ok(bytes);
         }

@@ -1,0 +1,131 @@
+//! A reader that lends its buffer, so that bytes are copied once and into no room of zeros.
+
+ghost use Rattle.std.specs.Prelude.{◌≡◌, ◌++◌, ◌<◌, ◌≤◌, ℕ, List, IfOk, IfErr, OnOk, length};
+ghost use Rattle.std.specs.Io.KnownBytes.{Consumes, IsAtEnd};
+ghost use Rattle.puffin_data.specs.Device.{IsOutside};
+
+use crate::data::device::Source;
+use crate::file_error::FileError;
+use std::io;
+use std::io::{BufRead, Read};
+
+/// Appends bytes that the reader lends, at most `most`, and returns how many. Fails with `Io` or `Memory`.
+fn append_lent<B: BufRead>(
+    reader: &mut B,
+    bytes: &mut Vec<u8>,
+    most: usize,
+) -> Result<usize, FileError>
+    ensures grown { IfOk result (λ n.
+        (taken : List ℕ)
+        × (bytes.new.items ≡ bytes.old.items ++ taken)
+        × Consumes (B.remaining reader.old) (B.remaining reader.new) taken
+        × (length taken ≡ n)) }
+    ensures most { IfOk result (λ n. n ≤ most) }
+    ensures outside { IfErr result IsOutside }
+{
+    let lent = match reader.fill_buf() {
+        Ok(lent) => lent,
+        Err(_) => return Err(FileError::Io),
+    };
+    let count = lent.len().min(most);
+    bytes.extend_from_slice(&lent[..count])?;
+    reader.consume(count);
+    Ok(count)
+}
+
+/// Reads one byte and appends it. Returns how many came; 0 means the end. Fails with `Io` or `Memory`.
+fn append_byte<R: Read>(reader: &mut R, bytes: &mut Vec<u8>) -> Result<usize, FileError>
+    ensures grown { IfOk result (λ n.
+        (taken : List ℕ)
+        × (bytes.new.items ≡ bytes.old.items ++ taken)
+        × Consumes (R.remaining reader.old) (R.remaining reader.new) taken
+        × (length taken ≡ n)) }
+    ensures most { IfOk result (λ n. n ≤ 1) }
+    ensures end { IfOk result (λ n. n ≡ 0 → IsAtEnd (R.remaining reader.new)) }
+    ensures outside { IfErr result IsOutside }
+{
+    let mut byte = [0];
+    let count = match reader.read(&mut byte) {
+        Ok(count) => count,
+        Err(_) => return Err(FileError::Io),
+    };
+    bytes.extend_from_slice(&byte[..count])?;
+    Ok(count)
+}
+
+/// Appends what the reader lends until `bytes` has `len` bytes or the reader ends. A reader that lends nothing is asked for one
+/// byte, since only `read` promises that a reader without a byte is at its end. Fails with `Io` or `Memory`.
+fn append_to_len<B: BufRead>(
+    reader: &mut B,
+    bytes: &mut Vec<u8>,
+    len: usize,
+) -> Result<(), FileError>
+    requires { length bytes.old.items ≤ len }
+    ensures grown { OnOk result (
+        (taken : List ℕ)
+        × (bytes.new.items ≡ bytes.old.items ++ taken)
+        × Consumes (B.remaining reader.old) (B.remaining reader.new) taken) }
+    ensures most { OnOk result (length bytes.new.items ≤ len) }
+    ensures ends { OnOk result (length bytes.new.items < len → IsAtEnd (B.remaining reader.new)) }
+    ensures outside { IfErr result IsOutside }
+{
+    'pieces: while bytes.len() < len {
+        let most = len - bytes.len();
+        if append_lent(reader, bytes, most)? == 0 && append_byte(reader, bytes)? == 0 {
+            return Ok(());
+        }
+    }
+    Ok(())
+}
+
+/// A reader of std that lends its buffer, such as a slice of bytes or a `BufReader`, with the number of its failures. It reads
+/// parts faster than [`Counted`](super::Counted) does: it copies them from the reader's buffer, and doesn't fill room with
+/// zeros first.
+///
+/// ```
+/// let mut source = Buffered::new(b"\x04\0\0\0data".as_slice());
+/// let part = read_counted_part(alloc, &mut source)?;
+/// ```
+#[derive(Drop)]
+pub struct Buffered<B> {
+    reader: B,
+    faults: u64,
+}
+
+impl<B> Buffered<B> {
+    ghost use Rattle.puffin_data.specs.Device.Counting.{buffered_reader, failed_reads};
+
+    /// Wraps a reader, with no failures so far.
+    pub fn new(reader: B) -> Buffered<B>
+        ensures reader { buffered_reader result ≡ reader }
+        ensures faults { failed_reads result ≡ 0 }
+    {
+        Buffered { reader, faults: 0 }
+    }
+}
+
+impl<B: BufRead> Source for Buffered<B> {
+    ghost remaining = { λ s. B.remaining s.reader };
+
+    ghost failures = { λ s. s.faults };
+
+    fn read(&mut self, buf: &mut [u8]) -> io::Result<usize> {
+        let result = self.reader.read(buf);
+        if result.is_err() {
+            self.faults += 1;
+        }
+        result
+    }
+
+    fn read_to_len(&mut self, bytes: &mut Vec<u8>, len: usize) -> Result<(), FileError> {
+        let result = append_to_len(&mut self.reader, bytes, len);
+        if let Err(FileError::Io) = result {
+            self.faults += 1;
+        }
+        result
+    }
+
+    fn faults(&self) -> u64 {
+        self.faults
+    }
+}
