@@ -9,7 +9,7 @@ use Rattle.std.specs.Str.Replace.{ReplacesMatches}
 use Rattle.puffin_scopes.specs.Names.Files.{with_slashes}
 
 -- without a backslash nothing changes
-same : (s : List ℕ) → ((i : ℕ) → i < length s → get_or s i 0 ≢ 92) → with_slashes s ≡ s
+pub same : (s : List ℕ) → ((i : ℕ) → i < length s → get_or s i 0 ≢ 92) → with_slashes s ≡ s
 same [] h = refl
 same (b ∷ s) h =
     let first : b ≢ 92 = h 0 (omega arith) in

@@ -14,6 +14,9 @@ pub fn short_file_name(alloc: Global, path: &str) -> Result<String>
     ensures ok { IfOk result (λ name. string_bytes name ≡ short_file path.now) }
     ensures err { IfErr result (λ e. e ≡ Error.Memory) }
 {
+    if !path.contains('\\') {
+        return shortened(alloc, path);
+    }
     let path = path.replace(alloc, '\\', "/")?;
     shortened(alloc, &path)
 }
