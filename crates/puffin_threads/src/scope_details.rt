@@ -6,7 +6,7 @@ mod ids;
 pub mod laws;
 mod scope_type;
 
-pub use collection::ScopeCollection;
+pub use collection::{ScopeCollection, any_lacks_id};
 pub use details::ScopeDetails;
 pub use ids::ScopeIds;
 pub use scope_type::ScopeType;

@@ -57,7 +57,7 @@ fn put_name(
 }
 
 /// Returns whether some of these details have no id.
-fn any_lacks_id(details: &[Arc<ScopeDetails>]) -> bool
+pub fn any_lacks_id(details: &[Arc<ScopeDetails>]) -> bool
     ensures { result ≡ list_any (λ d. lacks_id (details_of (arc_value d))) details.now }
 {
     details.iter().any(|details| details.scope_id().is_none())
