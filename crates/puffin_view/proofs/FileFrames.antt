@@ -1,17 +1,18 @@
 -- Views of frames that were read.
-use Rattle.std.proofs.Common.{◌≡◌, ℕ, Bool, true, false, List, [], ◌∷◌, ◌++◌, map, Option, ◌⊎◌, inl, inr, refl, sym, ap, subst, ◌∙◌}
-use Rattle.std.specs.Prelude.{◌||◌}
+use Rattle.std.proofs.Common.{◌≡◌, ℕ, ◌-◌, ◌^◌, ◌<◌, Bool, true, false, List, [], ◌∷◌, ◌++◌, length, map, Option, Some, Result, Ok, Err, ◌⊎◌, inl, inr, refl, sym, ap, subst, ◌∙◌}
+use Rattle.std.specs.Prelude.{◌||◌, ◌↔◌}
 use Rattle.std.specs.List.{flat_map, list_any}
 use Rattle.std.specs.Arc.{arc_value}
 use Rattle.std.specs.declared.sync.Arc.{Arc}
 use Rattle.std.proofs.lemmas.List.{map-append, flat_map_more}
 use Rattle.std.proofs.lemmas.List.Sums.{fold-append}
 use Rattle.puffin_data.specs.declared.data.form.Form.{Form}
+use Rattle.puffin_data.specs.declared.error.Error.{Error}
 use Rattle.puffin_data.specs.declared.error.Error.TheVariants.{MissingId}
 use Rattle.puffin_data.specs.declared.file_error.FileError.{FileError}
 use Rattle.puffin_data.specs.declared.file_error.FileError.TheVariants as file
 use Rattle.puffin_frames.specs.declared.frame_data.kind.Kind.TheVariants.{Uncompressed}
-use Rattle.puffin_frames.specs.Frame.Contents.{frame_says}
+use Rattle.puffin_data.specs.Device.{FromDevice}
 use Rattle.puffin_frames.specs.declared.frame_data.frame.FrameData.{FrameData}
 use Rattle.puffin_frames.specs.declared.frame_data.meta.FrameMeta.{FrameMeta}
 use Rattle.puffin_frames.specs.declared.frame_data.held.Held.{Held}
@@ -20,6 +21,7 @@ use Rattle.puffin_threads.specs.declared.scope_details.details.ScopeDetails.{Sco
 use Rattle.puffin_threads.specs.Details.{Details, details_of, shared_details, lacks_id}
 use Rattle.puffin_threads.specs.Details.Collection.{Collection, no_details, with_details, with_all_details}
 use Rattle.puffin_frames.specs.Packet.Stored.{Stored}
+use Rattle.puffin_frames.specs.Packet.Front.{next_at}
 use Rattle.puffin_frames.specs.Packet.Next.{stored_of, IsFresh}
 use Rattle.puffin_view.specs.declared.profile_view.frame_view.FrameView.{FrameView}
 use Rattle.puffin_view.specs.View.ViewedFrames.{Frame, contents_of}
@@ -27,7 +29,9 @@ use Rattle.puffin_view.specs.View.FrameOf.{frame_of, details_of_frame}
 use Rattle.puffin_view.specs.View.{View, after_taking, after_all, Took}
 use Rattle.puffin_view.specs.View.Known.{view_of, collection_of, lacks_ids}
 use Rattle.puffin_view.specs.View.File.{frame_stored, details_stored, read_view, file_at, FailsToRead, IsViewOf}
+use Rattle.puffin_view.specs.View.FrameFile.{HasGiven}
 use Rattle.puffin_view.proofs.Taking.{Took-all, Took-none}
+use Rattle.puffin_view.proofs.FilesRead.{checked, refused, given_more, fault_given}
 
 -- ---- a frame that was read, as a view sees it
 
@@ -74,17 +78,23 @@ view_of_more stored s f v w is h taken learnt =
     (learnt ∙ (ap (λ (c : Collection). with_all_details c (details_of_frame f)) h.details ∙ (ap (λ (g : Frame). with_all_details (with_all_details no_details (flat_map details_stored stored)) (details_of_frame g)) is
     ∙ (sym (fold-append with_details no_details (flat_map details_stored stored) (details_stored s)) ∙ ap (with_all_details no_details) (flat_map_more details_stored [] stored s)))))
 
--- ---- a frame that a view refused
+-- ---- a frame that was read and then refused or taken
 
-not_both : (b : Bool) → b ≡ false → b ≡ true → ⊥
-not_both true e f = absurd cc
-not_both false e f = absurd cc
+-- some of its details have no id, or there was no memory
+pub refused_frame : (old mid new : Option (List ℕ)) (frames : List Stored) (e : FileError) (frame : FrameData) → HasGiven old mid frames → length frames < 2 ^ 64 - 1 → IsFresh frame
+    → FromDevice {X = FrameData} (λ f. Some (stored_of f)) mid new (Ok frame) next_at → (e ≡ file.Refused MissingId → lacks_ids (contents_of (frame_of frame)) ≡ true) → (e ≡ file.Refused MissingId) ⊎ (e ≡ file.Memory)
+    → FailsToRead file_at old new e
+refused_frame old mid new frames e frame given few fresh next lacks (inl missing) =
+    let without = refused mid new frame next (ap (λ (f : Frame). lacks_ids (contents_of f)) (sym (fresh_frame frame fresh)) ∙ lacks missing) in
+    subst (λ (f : FileError). FailsToRead file_at old new f) (sym missing) (fault_given mid new (Err (file.Refused MissingId)) without old frames given few)
+refused_frame old mid new frames e frame given few fresh next lacks (inr memory) = subst (λ (f : FileError). FailsToRead file_at old new f) (sym memory) tt
 
--- one that has ids is refused for memory alone
-pub memory_alone : (old new : Option (List ℕ)) (e : FileError) (frame : FrameData) → lacks_ids (frame_says frame) ≡ false → (e ≡ file.Refused MissingId → lacks_ids (contents_of (frame_of frame)) ≡ true)
-    → (e ≡ file.Refused MissingId) ⊎ (e ≡ file.Memory) → FailsToRead file_at old new e
-memory_alone old new e frame ids lacks (inl missing) = absurd (not_both (lacks_ids (frame_says frame)) ids (lacks missing))
-memory_alone old new e frame ids lacks (inr memory) = subst (λ (f : FileError). FailsToRead file_at old new f) (sym memory) tt
+-- one that a view took is given with its ids
+pub given_frame : (old mid new : Option (List ℕ)) (frames : List Stored) (frame : FrameData) → HasGiven old mid frames → IsFresh frame → FromDevice {X = FrameData} (λ f. Some (stored_of f)) mid new (Ok frame) next_at
+    → lacks_ids (contents_of (frame_of frame)) ≡ false → HasGiven old new (frames ++ stored_of frame ∷ [])
+given_frame old mid new frames frame given fresh next ids =
+    let with_ids = checked mid new frame next (ap (λ (f : Frame). lacks_ids (contents_of f)) (sym (fresh_frame frame fresh)) ∙ ids) in
+    given_more mid new (Ok (Some frame)) with_ids old frames given
 
 -- ---- the test of ids
 
@@ -95,3 +105,8 @@ any_shared (d ∷ ds) = ap (λ (b : Bool). lacks_id (details_of (arc_value d)) |
 -- what a test of shared details tells of what they say
 pub tested : {A : Type 0} (b : Bool) (ds : List (Arc ScopeDetails A)) (said : List Details) → b ≡ list_any (λ d. lacks_id (details_of (arc_value d))) ds → shared_details ds ≡ said → list_any lacks_id said ≡ b
 tested b ds said is same = ap (list_any lacks_id) (sym same) ∙ sym (is ∙ any_shared ds)
+
+-- details that weren't refused all have ids
+pub has_ids : (b : Bool) (r : Result (Unit {0}) Error) (done : Unit {0}) → r ≡ Ok done → ((r ≡ Err MissingId) ↔ (b ≡ true)) → b ≡ false
+has_ids true r done ok h = let e : ◌≡◌ {A = Result (Unit {0}) Error} (Ok done) (Err MissingId) = sym ok ∙ h.1 refl in absurd (cc)
+has_ids false r done ok h = refl

@@ -107,9 +107,6 @@ one_more : (bytes : List ℕ) (frames : List Stored) (t : List ℕ) (s : Stored)
 one_more bytes [] t s none is = (t, [], ap (λ (b : List ℕ). b ++ t) none ∙ sym (append-nil t), is, refl)
 one_more bytes (f ∷ frames) t s h is = (h.0, h.1 ++ t, ap (λ (b : List ℕ). b ++ t) h.2 ∙ append_assoc h.0 h.1 t, h.3, one_more h.1 frames t s h.4 is)
 
-pub none_given : (old new : Option (List ℕ)) → Consumes old new magic → HasGiven old new []
-none_given old new c = record { bytes = []; consumed = c; given = refl }
-
 pub gives_one : (old mid new : Option (List ℕ)) (frames : List Stored) (s : Stored) (t : List ℕ) → HasGiven old mid frames → Consumes mid new t → ((rest : List ℕ) → frame_at (t ++ rest) ≡ Ok (Some s, rest))
     → HasGiven old new (frames ++ s ∷ [])
 gives_one old mid new frames s t h c is = record {

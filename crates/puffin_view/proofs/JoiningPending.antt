@@ -1,4 +1,4 @@
--- What the steps of a view's store make of it.
+-- What the steps of adding a frame make of a view.
 use Rattle.std.proofs.Common.{◌≡◌, ℕ, zero, suc, ◌-◌, ◌<◌, ◌≤◌, Bool, true, false, cond, List, [], ◌∷◌, ◌++◌, length, take, drop, map, Option, Some, None, refl, sym, ap, subst, ◌∙◌, arith}
 use Rattle.std.specs.Prelude.{◌≢◌}
 use Rattle.std.specs.List.{AllByRecursion}
@@ -14,11 +14,16 @@ use Rattle.puffin_view.specs.inner.Held.{HeldFrames}
 use Rattle.puffin_view.specs.inner.Ranks.{is_before, rank_enters, ranks_after, ranks_gone, AreRanked, LetsGo}
 use Rattle.puffin_view.specs.View.FrameRanks.{rank_of, rank_cmp}
 use Rattle.puffin_view.specs.View.{View, is_past, joined_by, slow_after, with_packed, with_newest_packed}
+use Rattle.puffin_view.specs.View.Known.{KnownView, with_frames}
 use Rattle.puffin_view.specs.inner.Store.{frames_under, AreHeld, AreStored}
 use Rattle.puffin_view.proofs.Orders.{map-take, map-drop, map-length}
 use Rattle.puffin_view.proofs.Taking.{steady_before}
 use Rattle.puffin_view.proofs.Searching.{stored_rising, stored_ranked}
 use Rattle.puffin_view.proofs.Storing.{held_back, stored-cut_slow, stored-cut_recent, stored-added, stored-placed, stored-packed, enters_same, index-rank_of, got_itself, has_index-append, none_has, first_false}
+
+-- a view whose lists of frames were changed
+pub known_as : (v w : KnownView) (frames made : View) → v ≡ w → frames ≡ made → record v { frames = frames } ≡ with_frames w made
+known_as v w frames made same is = λ j. record { frames = is j; scope_collection = (same j).scope_collection }
 
 pub lets_as : (old new : HeldFrames) (a b c d : List ℕ) → a ≡ b → c ≡ d → LetsGo old a c new → LetsGo old b d new
 lets_as old new a b c d e p h =

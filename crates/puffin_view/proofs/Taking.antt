@@ -8,6 +8,7 @@ use Rattle.puffin_view.specs.View.Ranking.{place, last_of, last_from, last_in}
 use Rattle.puffin_frames.specs.Packet.Stored.{Said}
 use Rattle.puffin_view.specs.View.ViewedFrames.{Frame, frame_index, contents_of, index_of, duration_of, is_slower, is_slower_frame, slowest, packed_under, packed_alone, rising_end, rises_above}
 use Rattle.puffin_view.specs.View.{View, without_frames, with_packed, with_newest_packed, is_past, enters_among, joined_by, after_taking, after_all, Holds, Took}
+use Rattle.puffin_view.specs.View.Adding.{HoldsAlso}
 use Rattle.puffin_view.specs.inner.Kept.{IsUpTo, IsSteady}
 use Rattle.puffin_view.proofs.Rankings.{last_of-more, first_in_order-more, first_in_order-same}
 use Rattle.puffin_view.proofs.Orders.{slower_order, later_behind, map-place, map-take, map-drop, map-more, map-length, map-last_from, packed_at_says}
@@ -208,6 +209,14 @@ Took-more v f [] steady h = record { holds = Holds-more v f [] [] steady (ap (λ
 Took-more v f (x ∷ xs) steady h = record {
   holds = took_at v f x xs (is_past v (index_of f)) refl h.last steady h.holds;
   last = ap (λ c. Some (frame_index c)) (sym (last-more x xs (contents_of f)));
+}
+
+-- what a view holds when it has taken one more
+pub HoldsAlso-taking : (v w : View) (f : Frame) → IsSteady v → w ≡ after_taking v f → HoldsAlso f v w
+HoldsAlso-taking v w f steady is = record {
+  took = λ cs h. let P : View → Type 0 = λ u. Took (cs ++ contents_of f ∷ []) u in subst P (sym is) (Took-more v f cs steady h);
+  more = λ cs ds p h. let P : View → Type 0 = λ u. Holds (cs ++ contents_of f ∷ []) (ds ++ contents_of f ∷ []) u in subst P (sym is) (Holds-more v f cs ds steady p h);
+  anew = λ p. let P : View → Type 0 = λ u. Holds (contents_of f ∷ []) (contents_of f ∷ []) u in subst P (sym is) (Holds-anew v f p);
 }
 
 -- a view that took some frames, and takes more

@@ -4,6 +4,7 @@ pub mod ViewedFrames
 pub mod FrameOf
 pub mod FrameRanks
 pub mod Known
+pub mod Adding
 pub mod File
 pub mod Grammar
 pub mod FrameFile

@@ -1,9 +1,9 @@
 //! The last frames and the slowest ones.
 
+mod cutting;
 mod file;
 mod frame_file;
 mod frame_rows;
-mod frame_store;
 mod frame_view;
 mod held_frames;
 pub mod laws;

@@ -23,7 +23,6 @@ use Rattle.std.proofs.MapsCrossing as maps
 use Rattle.puffin_frames.specs.contracts.frame_data.frame.FrameData as Frame
 use Rattle.puffin_threads.specs.contracts.scope_details.collection.ScopeCollection as Collection
 use Rattle.puffin_view.specs.contracts.profile_view.held_frames.HeldFrames as Held
-use Rattle.puffin_view.specs.contracts.profile_view.frame_store.FrameStore as Store
 use Rattle.puffin_view.specs.contracts.profile_view.frame_view.FrameView as View
 use Rattle.puffin_view.specs.contracts.profile_view.slow_rank.SlowRank as Rank
 use Rattle.puffin_collector.specs.contracts.collector.Collector as Collector
@@ -43,11 +42,8 @@ rank_send = search (maps.crosses, crosses, sendable) depth 60 fits 100000
 pub held_send : IsSend Held.the_row
 held_send = search (frame_send, frame_sync, maps.crosses, crosses, sendable) depth 60 fits 100000
 
-pub store_send : IsSend Store.the_row
-store_send = search (held_send, rank_send, maps.crosses, crosses, sendable) depth 60 fits 100000
-
 pub view_send : IsSend View.the_row
-view_send = search (store_send, collection_send, crosses, sendable) depth 60 fits 100000
+view_send = search (held_send, rank_send, collection_send, maps.crosses, crosses, sendable) depth 60 fits 100000
 
 pub collector_send : IsSend Collector.the_row
 collector_send = search (maps.crosses, crosses, sendable) depth 60 fits 100000

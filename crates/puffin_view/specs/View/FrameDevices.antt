@@ -22,6 +22,6 @@ ends_reading (Err e) = true
 abbrev pub drain_of : {D : Type 0} {d : _} → FrameWriter D d → D
 drain_of writer = writer.drain
 
--- whether a write failed in the middle of a packet
+-- whether a call failed with `Io`
 abbrev pub is_broken_of : {D : Type 0} {d : _} → FrameWriter D d → Bool
 is_broken_of writer = writer.is_broken

@@ -1,20 +1,24 @@
--- What contracts see of a view with its collection of details.
+-- What contracts see of a view: its frames and settings, and its collection of details.
 use Rattle.std.specs.Prelude.{Bool}
 use Rattle.std.specs.List.{list_any}
 use Rattle.puffin_threads.specs.Details.{lacks_id}
 use Rattle.puffin_frames.specs.Packet.Stored.{Said}
 use Rattle.puffin_threads.specs.Details.Collection.{Collection}
-use Rattle.puffin_view.specs.declared.profile_view.frame_view.FrameView.{FrameView}
 use Rattle.puffin_view.specs.View.{View}
 
-abbrev pub view_of : FrameView → View
+pub record KnownView : Type 0 where
+  pub frames : View
+  -- the details of all scopes that any frame listed
+  pub scope_collection : Collection
+
+abbrev pub view_of : KnownView → View
 view_of view = view.frames
 
-abbrev pub collection_of : FrameView → Collection
+abbrev pub collection_of : KnownView → Collection
 collection_of view = view.scope_collection
 
 -- the view with other frames
-abbrev pub with_frames : FrameView → View → FrameView
+abbrev pub with_frames : KnownView → View → KnownView
 with_frames view frames = record view { frames = frames }
 
 -- whether some of a frame's details have no id

@@ -7,9 +7,11 @@ use Rattle.puffin_frames.specs.declared.frame_data.kind.Kind.{Kind}
 use Rattle.puffin_frames.specs.declared.frame_data.meta.FrameMeta.{FrameMeta}
 use Rattle.puffin_threads.specs.Details.{Details, details_code}
 use Rattle.puffin_frames.specs.Packet.Kinds.{kind_code}
+use Rattle.puffin_threads.specs.Details.Collection.{Collection, collection_code}
 use Rattle.puffin_frames.specs.Packet.Stored.{Said}
 use Rattle.puffin_view.specs.View.ViewedFrames.{Frame}
 use Rattle.puffin_view.specs.View.{View}
+use Rattle.puffin_view.specs.View.Known.{KnownView}
 
 abbrev pub meta_code : Coded FrameMeta
 meta_code =
@@ -55,4 +57,10 @@ view_code =
       max_slow = p.1.1.1.1.0;
       packs = p.1.1.1.1.1;
     })
+    (λ _. refl)
+
+abbrev pub known_code : Coded KnownView
+known_code = code_by (View × Collection) (coded× view_code collection_code)
+    (λ v. (v.frames, v.scope_collection))
+    (λ p. record { frames = p.0; scope_collection = p.1 })
     (λ _. refl)

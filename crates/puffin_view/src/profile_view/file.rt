@@ -1,21 +1,20 @@
 //! Files of views.
 
-ghost use Rattle.std.specs.Prelude.{◌≡◌, ◌⊎◌, ◌+◌, ◌-◌, ◌^◌, ◌<◌, true, false, IfErr, OnOk};
+ghost use Rattle.std.specs.Prelude.{◌≡◌, ◌⊎◌, ◌+◌, ◌-◌, ◌^◌, ◌<◌, true, IfErr, OnOk};
 ghost use Rattle.std.specs.List.{AllByRecursion, Any};
 ghost use Rattle.std.specs.Io.KnownBytes.{Appends};
 ghost use Rattle.puffin_data.specs.declared.error.Error.{Error};
 ghost use Rattle.puffin_data.specs.declared.file_error.FileError.{FileError};
 ghost use Rattle.puffin_data.specs.Device.{TookNothing, WritesBeginning, failures_after};
-ghost use Rattle.puffin_threads.specs.Details.Collection.{with_all_details};
 ghost use Rattle.puffin_frames.specs.Packet.Grammar.{IsPacked};
 ghost use Rattle.puffin_frames.specs.Packet.Writing.{HasLongPart};
 ghost use Rattle.puffin_view.specs.View.ViewedFrames.{contents_of};
-ghost use Rattle.puffin_view.specs.View.FrameOf.{frame_of, details_of_frame};
-ghost use Rattle.puffin_view.specs.View.{after_taking};
-ghost use Rattle.puffin_view.specs.View.Known.{view_of, collection_of, lacks_ids};
+ghost use Rattle.puffin_view.specs.View.FrameOf.{frame_of};
+ghost use Rattle.puffin_view.specs.View.Known.{view_of, lacks_ids};
+ghost use Rattle.puffin_view.specs.View.Adding.{Adds};
 ghost use Rattle.puffin_view.specs.View.File.{file_of, contents_in, file_at, ReadsView};
 
-use crate::profile_view::frame_file::{next_frame, read_magic, write_magic};
+use crate::profile_view::frame_file::{read_magic, write_magic};
 use crate::profile_view::frame_view::FrameView;
 use puffin_data::data::{Drain, Source};
 use puffin_data::{Error, FileError};
@@ -25,11 +24,7 @@ use std::sync::Arc;
 
 /// Adds a frame that was read to a view.
 fn add_read(alloc: Global, view: &mut FrameView, frame: FrameData) -> Result<(), FileError>
-    ensures ok { OnOk result (view_of view.new ≡ after_taking (view_of view.old) (frame_of frame)) }
-    ensures learnt { OnOk result (
-        collection_of view.new
-        ≡ with_all_details (collection_of view.old) (details_of_frame (frame_of frame))) }
-    ensures ids { OnOk result (lacks_ids (contents_of (frame_of frame)) ≡ false) }
+    ensures ok { OnOk result (Adds (frame_of frame) view.old view.new) }
     ensures missing { IfErr result (λ e.
         e ≡ FileError.Refused Error.MissingId →
         lacks_ids (contents_of (frame_of frame)) ≡ true) }
@@ -100,7 +95,7 @@ impl FrameView {
         let mut view = FrameView::new(alloc);
         view.set_max_recent(usize::MAX);
         'packets: for _ in 0..u64::MAX {
-            let Some(frame) = next_frame(alloc, source)? else {
+            let Some(frame) = FrameData::read_next(alloc, source)? else {
                 return Ok(view);
             };
             add_read(alloc, &mut view, frame)?;

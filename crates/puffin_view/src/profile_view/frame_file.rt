@@ -1,12 +1,9 @@
 //! Files of frames, one frame at a time.
 
 ghost use Rattle.std.specs.Prelude.{◌≡◌, ◌≢◌, ◌⊎◌, ◌+◌, ◌-◌, ◌^◌, ◌<◌, ◌++◌, ◌∷◌, [], List, ℕ, false, true, Option, None, length, Err, Ok, IfOk, IfErr, IfSome, IfNone, OnOk};
-ghost use Rattle.std.specs.List.{list_any};
-ghost use Rattle.std.specs.Arc.{arc_value};
 ghost use Rattle.std.specs.Io.KnownBytes.{Appends, Consumes};
 ghost use Rattle.puffin_data.specs.declared.file_error.FileError.{FileError};
 ghost use Rattle.puffin_data.specs.Device.{TookNothing, WritesBeginning, failures_after, is_io};
-ghost use Rattle.puffin_threads.specs.Details.{details_of, lacks_id};
 ghost use Rattle.puffin_frames.specs.Packet.Stored.{Said, Stored};
 ghost use Rattle.puffin_frames.specs.Packet.Next.{stored_of, IsFresh};
 ghost use Rattle.puffin_frames.specs.Packet.Grammar.{IsPacked, packet};
@@ -19,9 +16,8 @@ ghost use Rattle.puffin_view.specs.View.FrameFile.{GivesNext, HasGiven, HoldsFil
 use puffin_data::data::{Drain, Source, read_up_to, write_all};
 use puffin_data::{Error, FileError};
 use puffin_frames::frame_data::FrameData;
-use puffin_frames::scope_details::ScopeDetails;
+use puffin_threads::scope_details::any_lacks_id;
 use std::alloc::Global;
-use std::sync::Arc;
 
 /// Whether these letters begin a file.
 fn is_magic(letters: [u8; 4]) -> bool
@@ -49,13 +45,6 @@ pub fn read_magic<S: Source>(source: &mut S) -> Result<(), FileError>
     } else {
         Err(FileError::NoMagic)
     }
-}
-
-/// Whether some of these details have no id.
-fn any_lacks_id(details: &[Arc<ScopeDetails>]) -> bool
-    ensures { result ≡ list_any (λ d. lacks_id (details_of (arc_value d))) details.now }
-{
-    details.iter().any(|details| details.scope_id().is_none())
 }
 
 /// Reads the next frame, if all of its details have ids.
@@ -135,15 +124,15 @@ impl<S: Source> FrameReader<S> {
 
     /// Reads the four letters that a file begins with.
     ///
-    /// Refused with `NoMagic` where there are fewer than four bytes, or others than `PUF0`, and with `Io` where a read
-    /// failed. The reader is then dropped; how far it was read is unspecified.
+    /// Fails with `NoMagic` if there are fewer than four bytes, or others than `PUF0`, and with `Io` if a read fails. The
+    /// reader is then dropped; how far it was read is unspecified.
     pub fn new(alloc: Global, source: S) -> Result<FrameReader<S>, FileError>
     where
         S: Drop,
         requires { S.failures source < 2 ^ 64 - 1 }
         ensures begun { IfOk result (λ reader.
             HasGiven (S.remaining source) (S.remaining (source_of reader)) []) }
-        // what a refusal left of the reader that was dropped
+        // what a failure left of the reader that was dropped
         ensures err { IfErr result (λ e.
             (dropped : S)
             × FailsToRead file_at (S.remaining source) (S.remaining dropped) e
@@ -223,7 +212,7 @@ impl<S: Source> FrameReader<S> {
 #[derive(Drop)]
 pub struct FrameWriter<D: Drain> {
     drain: D,
-    /// After a write that failed in the middle of a packet.
+    /// After `Io`: a beginning of a packet may be written, and nothing behind it would be read.
     is_broken: bool,
     ghost countable: { is_broken ≡ false → D.failures drain < 2 ^ 64 - 1 },
 }
@@ -233,15 +222,15 @@ impl<D: Drain> FrameWriter<D> {
 
     /// Writes the four letters that a file begins with.
     ///
-    /// Refused with `Io` alone, where a write failed or took nothing of a piece that wasn't empty. The writer, to which a
-    /// beginning of the letters is written, is then dropped.
+    /// Fails only with `Io`, if a write fails or takes nothing of a piece that isn't empty. The writer, to which a beginning
+    /// of the letters is written, is then dropped.
     pub fn new(drain: D) -> Result<FrameWriter<D>, FileError>
     where
         D: Drop,
         requires { D.failures drain < 2 ^ 64 - 1 }
         ensures begun { IfOk result (λ writer.
             HoldsFile (D.contents drain) (D.contents (drain_of writer)) []) }
-        // what a refusal left of the writer that was dropped
+        // what a failure left of the writer that was dropped
         ensures err { IfErr result (λ e.
             (dropped : D)
             × WritesBeginning (D.contents drain) (D.contents dropped) magic

@@ -1,24 +1,29 @@
 //! Views of frames.
-ghost use Rattle.std.specs.Prelude.{◌≡◌, ◌⊎◌, ◌↔◌, ◌++◌, ◌∷◌, [], List, OnOk, OnErr, IfOk, IfErr, IsTrue, true, false};
+ghost use Rattle.std.specs.Prelude.{◌≡◌, ◌↔◌, [], IfOk, IfErr, IsTrue};
 ghost use Rattle.std.specs.Option.{option_map};
 ghost use Rattle.puffin_data.specs.declared.error.Error.{Error};
-ghost use Rattle.puffin_threads.specs.Details.Collection.{no_details, with_all_details, LearnsSome};
+ghost use Rattle.puffin_threads.specs.Details.Collection.{no_details};
 ghost use Rattle.puffin_view.specs.View.Ranking.{last_of, last_in};
-ghost use Rattle.puffin_frames.specs.Packet.Stored.{Said};
-ghost use Rattle.puffin_view.specs.View.ViewedFrames.{contents_of, index_of, chronological};
-ghost use Rattle.puffin_view.specs.View.FrameOf.{shared_frame, details_of_frame};
-ghost use Rattle.puffin_view.specs.View.{empty_view, is_past, after_taking, KeepsFrames, all_uniq, Holds, Took};
+ghost use Rattle.puffin_view.specs.View.ViewedFrames.{chronological};
+ghost use Rattle.puffin_view.specs.View.FrameOf.{shared_frame};
+ghost use Rattle.puffin_view.specs.View.{empty_view, all_uniq, Took};
 ghost use Rattle.puffin_view.specs.View.Stats.{stats_of};
 ghost use Rattle.puffin_view.specs.View.Listings.{recent_left, all_left, slowest_left};
-ghost use Rattle.puffin_view.specs.View.Known.{view_of, collection_of, with_frames, lacks_ids};
+ghost use Rattle.puffin_view.specs.View.Known.{view_of, collection_of};
 
-use crate::profile_view::frame_store::FrameStore;
+mod adding;
+mod limits;
+
+use crate::profile_view::held_frames::HeldFrames;
 use crate::profile_view::listings::{AllFrames, RecentFrames, SlowestFrames};
+use crate::profile_view::slow_rank::SlowRank;
 use crate::profile_view::stats::FrameStats;
 use puffin_data::{Error, Result};
-use puffin_frames::frame_data::FrameData;
+use puffin_frames::frame_data::{FrameData, FrameIndex};
 use puffin_frames::scope_details::ScopeCollection;
 use std::alloc::Global;
+use std::collections::VecDeque;
+use std::marker::Model;
 use std::sync::Arc;
 
 /// Keeps the last frames that were added and the slowest ones, with the details of all scopes that any frame listed.
@@ -32,8 +37,46 @@ use std::sync::Arc;
 /// ```
 #[derive(Drop)]
 pub struct FrameView {
-    frames: FrameStore,
+    /// Each frame that is recent or slow, once, by its index.
+    held: HeldFrames,
+    /// The indices of the recent frames.
+    recent: VecDeque<FrameIndex>,
+    /// The ranks of the slowest frames.
+    slow: VecDeque<SlowRank>,
+    /// The index of the frame added last.
+    last: Option<FrameIndex>,
+    max_recent: usize,
+    max_slow: usize,
+    pack_frames: bool,
     scope_collection: ScopeCollection,
+}
+
+impl Model for FrameView {
+    ghost use Rattle.std.specs.Prelude.{map};
+    ghost use Rattle.puffin_view.specs.View.Known.{KnownView};
+    ghost use Rattle.puffin_view.specs.inner.Codes.{known_code};
+
+    ghost Value = { KnownView };
+
+    ghost coded = { known_code };
+
+    ghost use Rattle.puffin_view.specs.View.Ranking.{rank_index};
+    ghost use Rattle.puffin_view.specs.inner.Store.{frames_under, IsStored};
+
+    ghost view = { λ v.
+        record {
+          frames = record {
+            recent = frames_under v.held v.recent.items;
+            slow = frames_under v.held (map rank_index v.slow.items);
+            last = v.last;
+            max_recent = v.max_recent;
+            max_slow = v.max_slow;
+            packs = v.pack_frames;
+          };
+          scope_collection = v.scope_collection;
+        } };
+
+    ghost invariant = { λ v. IsStored v.held v.recent.items v.slow.items v.last };
 }
 
 impl FrameView {
@@ -49,7 +92,13 @@ impl FrameView {
         ensures collection { collection_of result ≡ no_details }
     {
         FrameView {
-            frames: FrameStore::new(alloc),
+            held: HeldFrames::new(alloc),
+            recent: VecDeque::new(alloc),
+            slow: VecDeque::new(alloc),
+            last: None,
+            max_recent: 1000,
+            max_slow: 256,
+            pack_frames: true,
             scope_collection: ScopeCollection::new(alloc),
         }
     }
@@ -59,7 +108,7 @@ impl FrameView {
         ensures { IsTrue result
             ↔ (((view_of self.now).recent ≡ []) × ((view_of self.now).slow ≡ [])) }
     {
-        self.frames.is_empty()
+        self.recent.is_empty() && self.slow.is_empty()
     }
 
     /// Returns the details of all scopes that any frame listed.
@@ -69,65 +118,14 @@ impl FrameView {
         &self.scope_collection
     }
 
-    /// Adds a frame, and its details to the collection. The frame becomes the newest of the recent ones. It is also among the
-    /// slowest if there is room, or if it took longer than one of them. Frames beyond both limits are dropped.
-    ///
-    /// If its index isn't above that of the frame added last, all other frames are dropped. Otherwise, if packing is on, the
-    /// newest frame so far is packed first.
-    ///
-    /// Fails with `MissingId` exactly when some of the frame's details have no id, and then changes nothing; else only with
-    /// `Memory`. Then a beginning of its details may be known, and if packing is on and no frames had to be dropped, the newest
-    /// frame may be packed.
-    ///
-    /// ```
-    /// if let Some(frame) = profiler.collect_frame()? {
-    ///     view.add_frame(frame)?;
-    /// }
-    /// ```
-    pub fn add_frame(&mut self, frame: Arc<FrameData>) -> Result<()>
-        // If the view held the last and the slowest of the frames it took, it holds those of them and this one.
-        ensures took { OnOk result (
-            (cs : List Said) → Took cs (view_of self.old) →
-            Took (cs ++ contents_of (shared_frame frame) ∷ []) (view_of self.new)) }
-        // The same for any two lists of frames, each extended by this one.
-        ensures more { OnOk result (
-            (cs ds : List Said) →
-            is_past (view_of self.old) (index_of (shared_frame frame)) ≡ false →
-            Holds cs ds (view_of self.old) →
-            Holds (cs ++ contents_of (shared_frame frame) ∷ [])
-            (ds ++ contents_of (shared_frame frame) ∷ []) (view_of self.new)) }
-        ensures anew { OnOk result (
-            is_past (view_of self.old) (index_of (shared_frame frame)) ≡ true →
-            Holds (contents_of (shared_frame frame) ∷ [])
-            (contents_of (shared_frame frame) ∷ []) (view_of self.new)) }
-
-        // The change to frames and details, and the errors.
-        ensures ok { OnOk result (
-            view_of self.new ≡ after_taking (view_of self.old) (shared_frame frame)) }
-        ensures learnt { OnOk result (
-            collection_of self.new ≡ with_all_details (collection_of self.old) (
-            details_of_frame (shared_frame frame))) }
-        ensures ids { OnOk result (lacks_ids (contents_of (shared_frame frame)) ≡ false) }
-        ensures missing { (result ≡ Err Error.MissingId)
-            ↔ (lacks_ids (contents_of (shared_frame frame)) ≡ true) }
-        ensures unchanged { (result ≡ Err Error.MissingId) → self.new ≡ self.old }
-        ensures cause { IfErr result (λ e. (e ≡ Error.MissingId) ⊎ (e ≡ Error.Memory)) }
-        // What may have changed if it fails.
-        ensures err { OnErr result (
-            KeepsFrames (view_of self.old) (index_of (shared_frame frame)) (view_of self.new)) }
-        ensures known { OnErr result (
-            LearnsSome (collection_of self.old) (details_of_frame (shared_frame frame))
-            (collection_of self.new)) }
-    {
-        self.scope_collection.insert_all(&frame.scope_delta)?;
-        self.frames.take(frame)
-    }
-
     /// Returns the newest frame, or `None` if there is no recent one.
     pub fn latest_frame(&self) -> Option<&Arc<FrameData>>
         ensures { option_map (λ a. shared_frame a.now) result ≡ last_in (view_of self.now).recent }
     {
-        self.frames.latest_frame()
+        match self.recent.back() {
+            Some(index) => self.held.get(*index),
+            None => None,
+        }
     }
 
     /// Iterates over the last `n` of the recent frames, oldest first; over all of them if there are fewer.
@@ -140,83 +138,29 @@ impl FrameView {
     pub fn latest_frames(&self, n: usize) -> RecentFrames<'_>
         ensures { recent_left result ≡ last_of n (view_of self.now).recent }
     {
-        self.frames.latest_frames(n)
+        let first = self.recent.len().saturating_sub(n);
+        RecentFrames::new(self.recent.range(first..), &self.held)
     }
 
     /// Iterates over the recent frames, oldest first.
     pub fn recent_frames(&self) -> RecentFrames<'_>
         ensures { recent_left result ≡ (view_of self.now).recent }
     {
-        self.frames.recent_frames()
+        RecentFrames::new(self.recent.iter(), &self.held)
     }
 
     /// Iterates over the slowest frames, by rising index.
     pub fn slowest_frames_chronological(&self) -> SlowestFrames<'_>
         ensures { slowest_left result ≡ chronological (view_of self.now).slow }
     {
-        self.frames.slowest_frames_chronological()
+        SlowestFrames::new(self.held.iter(), &self.slow)
     }
 
     /// Iterates over the recent and the slowest frames, each once, by rising index.
     pub fn all_uniq(&self) -> AllFrames<'_>
         ensures { all_left result ≡ all_uniq (view_of self.now) }
     {
-        self.frames.all_uniq()
-    }
-
-    /// Clears the list of the slowest frames. Those that are also recent are still held.
-    pub fn clear_slowest(&mut self)
-        ensures frames { self.new
-            ≡ with_frames self.old (record (view_of self.old) { slow = [] }) }
-        ensures holds { (cs ds : List Said) → Holds cs ds (view_of self.old) →
-            Holds cs [] (view_of self.new) }
-    {
-        self.frames.clear_slowest();
-    }
-
-    /// Returns how many recent frames are kept at most.
-    pub fn max_recent(&self) -> usize
-        ensures { result ≡ (view_of self.now).max_recent }
-    {
-        self.frames.max_recent()
-    }
-
-    /// Sets how many recent frames are kept at most, effective when the next frame is added.
-    pub fn set_max_recent(&mut self, max_recent: usize)
-        ensures { self.new
-            ≡ with_frames self.old (record (view_of self.old) { max_recent = max_recent }) }
-    {
-        self.frames.set_max_recent(max_recent);
-    }
-
-    /// Returns how many of the slowest frames are kept at most.
-    pub fn max_slow(&self) -> usize
-        ensures { result ≡ (view_of self.now).max_slow }
-    {
-        self.frames.max_slow()
-    }
-
-    /// Sets how many of the slowest frames are kept at most, effective when the next slow frame is added.
-    pub fn set_max_slow(&mut self, max_slow: usize)
-        ensures { self.new
-            ≡ with_frames self.old (record (view_of self.old) { max_slow = max_slow }) }
-    {
-        self.frames.set_max_slow(max_slow);
-    }
-
-    /// Returns whether packing is on: whether the newest frame is packed before another is added.
-    pub fn pack_frames(&self) -> bool
-        ensures { result ≡ (view_of self.now).packs }
-    {
-        self.frames.pack_frames()
-    }
-
-    /// Turns packing on or off: whether the newest frame is packed before another is added.
-    pub fn set_pack_frames(&mut self, pack_frames: bool)
-        ensures { self.new
-            ≡ with_frames self.old (record (view_of self.old) { packs = pack_frames }) }
-    {
-        self.frames.set_pack_frames(pack_frames);
+        AllFrames::new(self.held.iter())
     }
 
     /// Returns how many frames are held, how many of them unpacked, and how many bytes they take. Reads running sums.
@@ -227,7 +171,7 @@ impl FrameView {
     pub fn stats(&self) -> FrameStats
         ensures { result ≡ stats_of (all_uniq (view_of self.now)) }
     {
-        self.frames.stats()
+        self.held.stats()
     }
 
     /// Returns the same as [`FrameView::stats`], but goes over all frames.
@@ -243,7 +187,13 @@ impl FrameView {
         ensures cause { IfErr result (λ e. e ≡ Error.Memory) }
     {
         Ok(FrameView {
-            frames: self.frames.clone()?,
+            held: self.held.clone()?,
+            recent: self.recent.clone()?,
+            slow: self.slow.clone()?,
+            last: self.last,
+            max_recent: self.max_recent,
+            max_slow: self.max_slow,
+            pack_frames: self.pack_frames,
             scope_collection: self.scope_collection.clone()?,
         })
     }

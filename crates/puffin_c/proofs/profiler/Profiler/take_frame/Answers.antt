@@ -28,7 +28,7 @@ returns-in_err-add_frame-clause-err c =
     let waits = sym c.in_ok-frame.ensures.ok ∙ ap (option_map arc_value) c.in-Some.is in
     on_any c.from_residual-in_err-add_frame.result (IsLeft old new) (λ e.
     still_waits old mid new e (arc_value c.in-Some.frame) c.in_ok-collect.ensures.ok waits refl refl refl
-    c.in_err-add_frame.ensures.err)
+    c.in_err-add_frame.ensures.err.frames)
 
 pub returns-clause-ok : goal.returns-clause-ok
 returns-clause-ok c =
@@ -40,7 +40,7 @@ returns-clause-ok c =
       frame,
       the_next old mid frame collected waits,
       c.meta-meta.ensures ∙ ap frame_meta c.deref.ensures,
-      c.in_ok-add_frame.ensures.ok ∙ ap (λ (v : FrameView). after_taking (view_of v) (frame_of frame)) collected.0,
+      c.in_ok-add_frame.ensures.ok.frames ∙ ap (λ (v : FrameView). after_taking (view_of v) (frame_of frame)) collected.0,
       refl,
       collected.1,
     )

@@ -1,12 +1,12 @@
-use Rattle.std.proofs.Common.{List, [], ◌∷◌, ◌++◌, ◌-◌, ◌^◌, refl, ap, ◌∙◌, arith, length-append}
+use Rattle.std.proofs.Common.{List, [], ◌∷◌, ◌++◌, ◌-◌, ◌^◌, Ok, Err, None, refl, ap, ◌∙◌, arith, length-append}
 use Rattle.std.proofs.lemmas.Result.{err_from_is_err_and}
 use Rattle.puffin_frames.specs.Packet.Stored.{Stored}
 use Rattle.puffin_frames.specs.Packet.Next.{stored_of}
 use Rattle.puffin_view.specs.View.FrameOf.{frame_of}
 use Rattle.puffin_view.specs.View.Known.{view_of, collection_of}
 use Rattle.puffin_view.specs.View.{View}
-use Rattle.puffin_view.proofs.FilesRead.{spent, none_left}
-use Rattle.puffin_view.proofs.FileFrames.{fresh_frame, view_of_frames, view_of_more, memory_alone}
+use Rattle.puffin_view.proofs.FilesRead.{spent, none_left, failed, all_given, fault_given}
+use Rattle.puffin_view.proofs.FileFrames.{fresh_frame, view_of_frames, view_of_more, refused_frame, given_frame}
 use Rattle.puffin_view.proofs.profile_view.frame_view.FrameView.read.Goals as goal
 
 pub packets-init : goal.packets-init
@@ -18,28 +18,32 @@ pub returns-in_err-frame-clause-file : goal.returns-in_err-frame-clause-file
 returns-in_err-frame-clause-file g c =
     let p = err_from_is_err_and c.from_residual-in_err-frame.result c.from_residual-in_err-frame.ensures.1 in
     let before = c.packets.invariant in
-    rw (p.1, p.2) (c.in_err-frame.ensures.fault _ before.0 before.1 (omega (arith, before.3, c.packets-test.true)))
+    rw (p.1, p.2) (fault_given _ _ (Err c.in_err-frame.field-0.0) (failed _ _ _ c.in_err-frame.ensures.next) _ before.0 before.1 (omega (arith, before.3, c.packets-test.true)))
 
 pub returns-in_default-clause-file : goal.returns-in_default-clause-file
 returns-in_default-clause-file g c =
     let before = c.packets.invariant in
-    (before.0, (rw c.in_default.is at c.in_ok-frame.ensures.end) _ before.0 before.1 (omega (arith, before.3, c.packets-test.true)), before.2)
+    (before.0, all_given _ _ (Ok None) (rw c.in_default.is at c.in_ok-frame.ensures.next) _ before.0 before.1 (omega (arith, before.3, c.packets-test.true)), before.2)
 
 pub returns-in_err-add_read-clause-file : goal.returns-in_err-add_read-clause-file
 returns-in_err-add_read-clause-file g c =
     let p = err_from_is_err_and c.from_residual-in_err-add_read.result c.from_residual-in_err-add_read.ensures.1 in
-    let ids = rw c.in-Some.is at c.in_ok-frame.ensures.ids in
-    rw (p.1, p.2) (memory_alone _ _ c.in_err-add_read.field-0.0 c.in-Some.frame ids c.in_err-add_read.ensures.missing c.in_err-add_read.ensures.cause)
+    let before = c.packets.invariant in
+    let next = rw c.in-Some.is at c.in_ok-frame.ensures.next in
+    let fresh = rw c.in-Some.is at c.in_ok-frame.ensures.fresh in
+    rw (p.1, p.2) (refused_frame _ _ _ before.0 c.in_err-add_read.field-0.0 c.in-Some.frame before.1 (omega (arith, before.3, c.packets-test.true)) fresh next c.in_err-add_read.ensures.missing c.in_err-add_read.ensures.cause)
 
 pub packets-preserved : goal.packets-preserved
 packets-preserved g c =
     let before = c.packets.invariant in
     let frame = c.in-Some.frame in
-    let seen = fresh_frame frame (rw c.in-Some.is at c.in_ok-frame.ensures.fresh) in
+    let fresh = rw c.in-Some.is at c.in_ok-frame.ensures.fresh in
+    let seen = fresh_frame frame fresh in
+    let added = c.in_ok-add_read.ensures.ok in
     let one : List Stored = stored_of frame ∷ [] in (
       before.0 ++ one,
-      (rw c.in-Some.is at c.in_ok-frame.ensures.given) _ before.0 before.1,
-      view_of_more before.0 (stored_of frame) (frame_of frame) c.packets.view c.add_read.new.view seen before.2 c.in_ok-add_read.ensures.ok c.in_ok-add_read.ensures.learnt,
+      given_frame _ _ _ before.0 frame before.1 fresh (rw c.in-Some.is at c.in_ok-frame.ensures.next) added.ids,
+      view_of_more before.0 (stored_of frame) (frame_of frame) c.packets.view c.add_read.new.view seen before.2 added.frames added.learnt,
       omega (arith, length-append before.0 one, before.3),
       c.in_ok-frame.ensures.failures ∙ before.4,
     )

@@ -1,0 +1,13 @@
+use Rattle.std.proofs.Common.{◌≡◌, ◌<◌, length, arith, refl, ap, ◌∙◌}
+use Rattle.std.specs.VecDeque.{deque_len}
+use Rattle.puffin_view.specs.View.Ranking.{last_in}
+use Rattle.puffin_view.proofs.Storing.{newest_held}
+use Rattle.puffin_view.proofs.Placing.{last_or_of}
+use Rattle.puffin_view.proofs.profile_view.frame_view.FrameView.latest_frame.Goals as goal
+
+pub returns-in-Some : goal.returns-in-Some
+returns-in-Some c =
+    let s = c.self.inside in
+    let filled : 0 < deque_len s.recent = c.in-Some.ensures.variant.0 refl in
+    let as_many : deque_len s.recent ≡ length s.recent.items = omega arith in
+    c.get.ensures ∙ newest_held s.held s.recent.items s.slow.items s.last _ _ c.in-Some.index.now c.self.invariant (last_or_of s.recent.items (deque_len s.recent) c.in-Some.index.now as_many filled c.in-Some.ensures.lookup) ∙ ap (λ v. last_in v.frames.recent) c.self.view_is

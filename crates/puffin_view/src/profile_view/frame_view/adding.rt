@@ -1,0 +1,157 @@
+//! Adding frames to a view.
+ghost use Rattle.std.specs.Prelude.{◌≡◌, ◌⊎◌, ◌↔◌, true, false, OnOk, OnErr, IfErr};
+ghost use Rattle.puffin_data.specs.declared.error.Error.{Error};
+ghost use Rattle.puffin_threads.specs.Details.Collection.{no_details};
+ghost use Rattle.puffin_view.specs.View.ViewedFrames.{contents_of, index_of};
+ghost use Rattle.puffin_view.specs.View.FrameOf.{shared_frame};
+ghost use Rattle.puffin_view.specs.View.{without_frames, with_newest_packed, is_past, joined_by, after_taking, KeepsFrames};
+ghost use Rattle.puffin_view.specs.inner.Kept.{IsSteady};
+ghost use Rattle.puffin_view.specs.View.Known.{view_of, collection_of, with_frames, lacks_ids};
+ghost use Rattle.puffin_view.specs.View.Adding.{HoldsAlso, Adds, FailsToAdd};
+
+use crate::profile_view::cutting::{cut_recent, enter_slow};
+use crate::profile_view::frame_view::FrameView;
+use crate::profile_view::held_frames::HeldFrames;
+use crate::profile_view::slow_rank::SlowRank;
+use puffin_data::{Error, Result};
+use puffin_frames::frame_data::{FrameData, FrameIndex};
+use puffin_frames::scope_details::ScopeCollection;
+use std::collections::VecDeque;
+use std::mem;
+use std::sync::Arc;
+
+impl FrameView {
+    /// Adds a frame, and its details to the collection. The frame becomes the newest of the recent ones. It is also among the
+    /// slowest if there is room, or if it took longer than one of them. Frames beyond both limits are dropped.
+    ///
+    /// If its index isn't above that of the frame added last, all other frames are dropped. Otherwise, if packing is on, the
+    /// newest frame so far is packed first.
+    ///
+    /// Fails with `MissingId` exactly when some of the frame's details have no id, and then changes nothing; else only with
+    /// `Memory`. Then a beginning of its details may be known, and if packing is on and no frames had to be dropped, the newest
+    /// frame may be packed.
+    ///
+    /// ```
+    /// if let Some(frame) = profiler.collect_frame()? {
+    ///     view.add_frame(frame)?;
+    /// }
+    /// ```
+    pub fn add_frame(&mut self, frame: Arc<FrameData>) -> Result<()>
+        // If the view held the last and the slowest of some frames, it holds those of them and this one.
+        ensures holds { OnOk result (
+            HoldsAlso (shared_frame frame) (view_of self.old) (view_of self.new)) }
+        ensures ok { OnOk result (Adds (shared_frame frame) self.old self.new) }
+        ensures missing { (result ≡ Err Error.MissingId)
+            ↔ (lacks_ids (contents_of (shared_frame frame)) ≡ true) }
+        ensures unchanged { (result ≡ Err Error.MissingId) → self.new ≡ self.old }
+        ensures cause { IfErr result (λ e. (e ≡ Error.MissingId) ⊎ (e ≡ Error.Memory)) }
+        // What may have changed if it fails.
+        ensures err { OnErr result (FailsToAdd (shared_frame frame) self.old self.new) }
+    {
+        self.scope_collection.insert_all(&frame.scope_delta)?;
+        self.take(frame)
+    }
+
+    /// Returns a view without frames and details that has the same settings.
+    fn emptied(&self) -> FrameView
+        ensures frames { view_of result ≡ without_frames (view_of self.now) }
+        ensures collection { collection_of result ≡ no_details }
+    {
+        let alloc = *self.recent.allocator();
+        FrameView {
+            held: HeldFrames::new(alloc),
+            recent: VecDeque::new(alloc),
+            slow: VecDeque::new(alloc),
+            last: None,
+            max_recent: self.max_recent,
+            max_slow: self.max_slow,
+            pack_frames: self.pack_frames,
+            scope_collection: ScopeCollection::new(alloc),
+        }
+    }
+
+    /// Returns whether an index isn't above that of the last frame taken.
+    fn is_past(&self, index: FrameIndex) -> bool
+        ensures past { result ≡ is_past (view_of self.now) index }
+        ensures steady { IsSteady (view_of self.now) }
+    {
+        match self.last {
+            Some(last) => index <= last,
+            None => false,
+        }
+    }
+
+    /// Packs the newest frame. Does nothing, and copies nothing, if that is held packed only. Fails only with `Memory`; nothing
+    /// changes then.
+    fn pack_newest(&mut self) -> Result<()>
+        ensures ok { OnOk result (
+            self.new ≡ with_frames self.old (with_newest_packed (view_of self.old))) }
+        ensures err { OnErr result (self.new ≡ self.old) }
+        ensures cause { IfErr result (λ e. e ≡ Error.Memory) }
+    {
+        let alloc = *self.recent.allocator();
+        let Some(newest) = self.latest_frame() else {
+            return Ok(());
+        };
+        if !newest.has_unpacked() {
+            return Ok(());
+        }
+        let packed = Arc::new(alloc, newest.packed_copy()?)?;
+        self.held.replace(packed);
+        Ok(())
+    }
+
+    /// Adds a frame whose index is above that of the last frame taken. Fails only with `Memory`; nothing changes then.
+    fn join(&mut self, frame: Arc<FrameData>) -> Result<()>
+        requires { is_past (view_of self.old) (index_of (shared_frame frame)) ≡ false }
+        ensures ok { OnOk result (
+            self.new ≡ with_frames self.old (joined_by (view_of self.old) (shared_frame frame))) }
+        ensures err { OnErr result (self.new ≡ self.old) }
+        ensures cause { IfErr result (λ e. e ≡ Error.Memory) }
+    {
+        let rank = SlowRank::of(&frame);
+        self.recent.reserve(1)?;
+        self.slow.reserve(1)?;
+        self.held.push(frame)?;
+        self.last = Some(rank.frame_index);
+        self.recent.push_back_reserved(rank.frame_index);
+        enter_slow(
+            &mut self.held,
+            &self.recent,
+            &mut self.slow,
+            rank,
+            self.max_slow,
+        );
+        cut_recent(
+            &mut self.held,
+            &mut self.recent,
+            &self.slow,
+            self.max_recent,
+        );
+        Ok(())
+    }
+
+    /// Takes a frame. If its index isn't above that of the last frame taken, drops all others. Fails only with `Memory`; the
+    /// newest frame may then be packed.
+    fn take(&mut self, frame: Arc<FrameData>) -> Result<()>
+        ensures ok { OnOk result (
+            view_of self.new ≡ after_taking (view_of self.old) (shared_frame frame)) }
+        ensures err { OnErr result (
+            KeepsFrames (view_of self.old) (index_of (shared_frame frame)) (view_of self.new)) }
+        ensures collection { collection_of self.new ≡ collection_of self.old }
+        ensures cause { IfErr result (λ e. e ≡ Error.Memory) }
+        ensures steady { IsSteady (view_of self.old) }
+    {
+        if self.is_past(frame.frame_index()) {
+            let mut anew = self.emptied();
+            anew.join(frame)?;
+            mem::swap(&mut anew.scope_collection, &mut self.scope_collection);
+            *self = anew;
+            return Ok(());
+        }
+        if self.pack_frames {
+            self.pack_newest()?;
+        }
+        self.join(frame)
+    }
+}
