@@ -41,7 +41,7 @@ fn one_scope_is_written_within_the_room(rt: HostRuntime) -> std::result::Result<
     Ok(())
 }
 
-/// What is read of a scope: its id, its times and its text.
+/// Returns the id, times and text of a scope.
 fn read_of<'s>(scope: &Scope<'s>) -> (u32, i64, i64, i64, &'s str) {
     let record = scope.rec;
     (
@@ -63,7 +63,8 @@ fn one_scope_is_read_as_it_was_written(rt: HostRuntime) -> std::result::Result<(
     Ok(())
 }
 
-/// How many bytes of a text of so many letters and one other character are stored, and read back as they were.
+/// Writes a scope whose text is `letters` letters and then `last`. Returns how many bytes of the text are stored, after
+/// checking that they are read back unchanged.
 fn stored_size(rt: &HostRuntime, letters: usize, last: char) -> std::result::Result<usize, Fail> {
     let mut text = String::new(rt.alloc());
     for _ in 0..letters {
@@ -150,7 +151,7 @@ fn a_refusal_leaves_stream_and_clock(rt: HostRuntime) -> std::result::Result<(),
     Ok(())
 }
 
-/// What the Rust crate writes of three scopes, one within the other.
+/// Three nested scopes as the Rust crate writes them.
 const NESTED: &[u8] =
     b"(\x09\0\0\0\x44\x04\0\0\0\0\0\0\0\x46\0\0\0\0\0\0\0(\x08\0\0\0\x80\x04\0\0\0\0\0\0\x04mesh\x23\0\0\0\0\0\0\0(\x12\0\0\0\x91\x04\0\0\0\0\0\0\x04mesh\0\0\0\0\0\0\0\0)\x9b\x04\0\0\0\0\0\0)\xc2\x04\0\0\0\0\0\0)\xc2\x04\0\0\0\0\0\0";
 

@@ -8,10 +8,10 @@ use std::test::Fail;
 
 type Outcome = std::result::Result<(), Fail>;
 
-/// How many scopes, how deep, and their range.
+/// The number of scopes, the nesting depth and the range.
 type Counts = (usize, usize, (NanoSecond, NanoSecond));
 
-/// What a walk counts of a stream, or its fault, and how many tries it makes.
+/// Walks a stream. Returns its counts or the fault, and the number of readings.
 fn walked(alloc: Global, stream: &Stream) -> (Result<Counts>, u64) {
     let mut tries = 99;
     let counts = match Reader::walk(alloc, stream, &mut tries) {
@@ -21,7 +21,7 @@ fn walked(alloc: Global, stream: &Stream) -> (Result<Counts>, u64) {
     (counts, tries)
 }
 
-/// The same of bytes that are in no stream.
+/// Does the same with bytes that are in no stream.
 fn walked_there(alloc: Global, bytes: &[u8]) -> (Result<Counts>, u64) {
     let mut tries = 99;
     let counts = match walk_forest(alloc, Form::Short, bytes, &mut tries) {
@@ -31,14 +31,14 @@ fn walked_there(alloc: Global, bytes: &[u8]) -> (Result<Counts>, u64) {
     (counts, tries)
 }
 
-/// What a parse of a stream with these bytes counts, and whether it keeps them, or its fault.
+/// Parses a stream. Returns its counts and whether its bytes are still `bytes`, or the fault.
 fn parsed(alloc: Global, stream: Stream, bytes: &[u8]) -> Result<(Counts, bool)> {
     let info = StreamInfo::parse(alloc, stream)?;
     let counts = (info.num_scopes, info.depth, info.range_ns);
     Ok((counts, info.stream.bytes() == bytes))
 }
 
-/// A walk, a count and a parse of these bytes find so many scopes, so deep, in this range.
+/// Checks that a walk, a count and a parse of `bytes` find `counts`.
 fn finds(rt: &impl Abort, alloc: Global, what: &str, bytes: &[u8], counts: Counts) -> Result<()> {
     let stream = stream_of(alloc, bytes)?;
     let (scopes, depth, _) = counts;
@@ -52,7 +52,7 @@ fn finds(rt: &impl Abort, alloc: Global, what: &str, bytes: &[u8], counts: Count
     Ok(())
 }
 
-/// A walk, a count and a parse of these bytes are refused with this fault, the walk after so many tries.
+/// Checks that a walk, a count and a parse of `bytes` are refused with `fault`, the walk after `made` readings.
 fn refuses(
     rt: &impl Abort,
     alloc: Global,
@@ -72,7 +72,7 @@ fn refuses(
     Ok(())
 }
 
-/// Forests, and what is found of each.
+/// Forests with their counts.
 const FORESTS: [(&str, &[u8], Counts); 7] = [
     ("no scope", b"", (0, 0, NONE)),
     (
@@ -135,7 +135,7 @@ fn long_texts_and_deep_scopes_are_counted(rt: HostRuntime) -> Outcome {
     Ok(())
 }
 
-/// Bytes that are no forest, with the fault of each and how many tries a walk over them makes.
+/// Bytes that aren't a forest, each with the fault and the number of readings that a walk makes.
 const FAULTY: [(&str, &[u8], (Error, u64)); 12] = [
     (
         "not ended",
@@ -201,7 +201,7 @@ fn other_bytes_are_refused(rt: HostRuntime) -> Outcome {
     Ok(())
 }
 
-/// A walk and a count of 40 scopes one in the other find them, or say that there is no memory.
+/// Checks that a walk and a count of 40 nested scopes find them all or fail with `Memory`.
 fn counts_or_tells(rt: &impl Abort, alloc: Global, stream: &Stream) {
     let (walk, tries) = walked(alloc, stream);
     match walk {
@@ -217,7 +217,7 @@ fn counts_or_tells(rt: &impl Abort, alloc: Global, stream: &Stream) {
     }
 }
 
-/// An info of 40 scopes is extended by its copy, or stays as it was where there is no memory.
+/// Extends an info of 40 scopes by its copy. Checks that it then has 80 scopes, or is unchanged if memory was refused.
 fn extends_or_tells(rt: &impl Abort, info: &mut StreamInfo, copy: &StreamInfo) {
     equal(rt, copy.stream.bytes(), info.stream.bytes());
     match info.extend(&copy.as_stream_into_ref()) {
@@ -233,7 +233,7 @@ fn extends_or_tells(rt: &impl Abort, info: &mut StreamInfo, copy: &StreamInfo) {
     }
 }
 
-/// The same with a copy that is made here, and cleared in the end.
+/// Copies an info, does the same with the copy, and then clears the copy.
 fn copies_or_tells(rt: &impl Abort, info: &mut StreamInfo) {
     match info.clone() {
         Ok(mut copy) => {
@@ -245,7 +245,7 @@ fn copies_or_tells(rt: &impl Abort, info: &mut StreamInfo) {
     }
 }
 
-/// Each of its allocations may fail: then the call says so, and the rest is as it was.
+/// Any of its allocations may fail: that call then returns `Memory` and changes nothing.
 #[test]
 fn want_of_memory_is_told(rt: HostRuntime) {
     let Ok(bytes) = nest(rt.alloc(), 40) else {

@@ -17,7 +17,7 @@ fn info(alloc: Global, form: Form) -> Result<StreamInfo> {
     StreamInfo::parse(alloc, Stream::from_bytes(bytes, form))
 }
 
-/// What is said of a frame: its index, its range, and its bytes and scopes.
+/// Returns a frame's index, its range, and its numbers of bytes and scopes.
 fn facts(meta: FrameMeta) -> (u64, (NanoSecond, NanoSecond), (usize, usize)) {
     let counts = (meta.num_bytes, meta.num_scopes);
     (meta.frame_index, meta.range_ns, counts)

@@ -20,8 +20,9 @@ pub(crate) static PACKET: [u8; 75] = [
     0, 0, 41, 44, 1, 0, 0, 0, 0, 0, 0, 1, 1, 200, 251, 88, 2, 1, 0, 0, 0, 0,
 ];
 
-/// The two packets that the Rust crate writes, at kind 0, of these scopes: `t1` from 374487 to 375371, and then `t0` with one
-/// scope in another from 378236 to 378240 and `t1` from 378300 to 70000000000; each frame with the details of one new scope.
+/// The two packets that the Rust crate writes, at kind 0, of these scopes: `t1` from 374487 to 375371, and then `t0`
+/// with one scope in another from 378236 to 378240 and `t1` from 378300 to 70000000000; each frame with the details of
+/// one new scope.
 static RUST_PACKETS: [u8; 314] = [
     80, 70, 68, 52, 13, 0, 0, 0, 0, 252, 174, 109, 11, 0, 252, 150, 116, 11, 0, 31, 1, 54, 0, 0, 0,
     0, 1, 1, 252, 174, 109, 11, 0, 2, 116, 49, 31, 40, 3, 0, 0, 0, 215, 182, 5, 0, 0, 0, 0, 0, 0,
@@ -327,7 +328,7 @@ fn frame_with_details(alloc: Global) -> std::result::Result<FrameData, Fail> {
     Ok(frame)
 }
 
-/// A frame tells of just these details.
+/// Checks that a frame lists exactly these details.
 fn tells_of_one(rt: &impl Abort, frame: &FrameData) -> Outcome {
     equal(rt, only_name(frame)?, "my-scope");
     equal(rt, only_details(frame)?, ("a", 7));

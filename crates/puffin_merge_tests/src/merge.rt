@@ -321,9 +321,8 @@ fn copies(rt: HostRuntime) -> Outcome {
     Ok(())
 }
 
-/// The file that the Rust crate writes of three frames of the thread `main`, whose first scope starts at 100. It was made by
-/// that crate of a script of scopes with ids 1 to 4, some with texts `a` and `b`, and these are the merged scopes that it
-/// tells of it.
+/// The file that the Rust crate writes of three frames of the thread `main`, whose first scope starts at 100. They have
+/// scopes with ids 1 to 4, some with the text `a` or `b`. The numbers in the test are those of that crate's merge.
 const FILE: [u8; 477] = [
     80, 85, 70, 48, 80, 70, 68, 52, 7, 0, 0, 0, 0, 200, 251, 204, 1, 126, 4, 141, 0, 0, 0, 0, 1, 1,
     200, 4, 109, 97, 105, 110, 126, 40, 1, 0, 0, 0, 100, 0, 0, 0, 0, 0, 0, 0, 0, 64, 0, 0, 0, 0, 0,

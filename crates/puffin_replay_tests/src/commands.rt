@@ -20,7 +20,7 @@ pub(crate) enum Step<'a> {
     Frame,
 }
 
-/// The command that a step stands for.
+/// Makes the command of a step.
 fn command(rt: &impl AllocGlobal, step: &Step<'_>) -> Outcome<Command> {
     match step {
         Step::Begin(at, id, text) => Ok(Command::Begin {
@@ -49,7 +49,7 @@ fn report(rt: &impl AllocGlobal, name: &str, bytes: &[u8]) -> Outcome<Command> {
     Ok(Command::ReportUser { info, stream })
 }
 
-/// The commands that these steps stand for.
+/// Makes the commands of these steps.
 pub(crate) fn commands(rt: &impl AllocGlobal, steps: &[Step<'_>]) -> Outcome<Vec<Command>> {
     let mut commands = Vec::new(rt.alloc());
     for step in steps {

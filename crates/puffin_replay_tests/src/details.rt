@@ -14,7 +14,8 @@ fn is_registered(reply: Option<&Reply>, number: u32) -> bool {
     }
 }
 
-/// Whether a reply is a frame with so many scopes and bytes, which tells of scopes with these names.
+/// Returns whether a reply is a frame with these numbers of scopes and bytes that lists scopes with exactly these
+/// names.
 fn tells_of(
     reply: Option<&Reply>,
     counts: (usize, usize),

@@ -43,7 +43,7 @@ fn refused_scope<C: NsSource>(profiler: &mut ThreadProfiler<C>, e: Error)
     let _guard = ProfilerScope::open(profiler, Err(e), "");
 }
 
-/// So does a guard that is off, and its end tells of nothing.
+/// So does a guard that is off, and ending it returns `None`.
 fn no_scope<C: NsSource, R: Reporter>(
     profiler: &mut ThreadProfiler<C>,
     reporter: &mut R,

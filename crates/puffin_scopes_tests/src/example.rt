@@ -62,7 +62,7 @@ fn reports(
     thread.report_closed(profiler)
 }
 
-/// The frame with this index has both scopes, and tells of so many.
+/// Takes a frame. Checks that it has this index and both scopes, and how many scopes it lists.
 fn has_both(rt: &impl Abort, profiler: &mut GlobalProfiler, index: u64, told: usize) -> Outcome {
     let frame = next_frame(profiler)?;
     equal(rt, frame.frame_index(), index);

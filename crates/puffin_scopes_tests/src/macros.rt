@@ -131,7 +131,7 @@ fn nested<C: NsSource>(
     depth + last.profiler().depth()
 }
 
-/// The nest in a frame of its own, which has so many scopes and bytes and tells of so many.
+/// Makes the nest in a frame of its own. Returns the frame's numbers of scopes, bytes and listed scopes.
 fn nest_in_frame(
     rt: &impl Abort,
     thread: &mut Thread,

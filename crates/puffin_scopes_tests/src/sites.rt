@@ -40,7 +40,7 @@ fn frame_of(
     next_frame(profiler)
 }
 
-/// The frame of one scope with this id tells of this place alone.
+/// Checks that the frame of one scope with this id lists this place alone.
 fn is_of_place(
     rt: &impl Abort,
     thread: &mut ThreadProfiler<ScriptClock>,

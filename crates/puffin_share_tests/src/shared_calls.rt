@@ -1,5 +1,5 @@
-//! Calls through the lock, each with what comes out of the next frame: details that a thread or an added frame tells of,
-//! a snapshot, and scopes that wait.
+//! Calls through the lock, checked by the frame that follows: details of a thread's scope and of an added frame, a
+//! snapshot, and scopes that wait to be reported.
 
 ghost use Rattle.std.specs.Prelude.{◌≡◌};
 
@@ -41,7 +41,7 @@ fn id(number: u32) -> Result<ScopeId> {
     ScopeId::new(number).ok_or(Error::MissingId)
 }
 
-/// A frame tells of scopes with these ids and names, in this order.
+/// Checks that a frame lists exactly these scopes, given by id and name, in this order.
 fn tells_of(rt: &impl Abort, frame: &FrameData, scopes: &[(u32, &str)]) {
     equal(rt, frame.scope_delta.len(), scopes.len());
     for (details, (number, name)) in frame.scope_delta.iter().zip(scopes) {
@@ -73,7 +73,7 @@ fn is_reported_once<L: Ledger, M: Ledger, R: Wait + Abort>(
     Ok(())
 }
 
-/// The frame that follows has the scope, and tells of it.
+/// Reports a scope whose guard is gone. Checks that the next frame has it and lists it.
 fn closed_is_reported<L: Ledger, M: Ledger, R: Wait + Abort + Copy + Drop>(
     rt: R,
     alloc: Global,
@@ -88,8 +88,8 @@ fn closed_is_reported<L: Ledger, M: Ledger, R: Wait + Abort + Copy + Drop>(
     Ok(())
 }
 
-/// Frames of a scope each: the first tells of the one that was registered, the second of nothing, and the third, for a
-/// snapshot, of it again.
+/// Takes three frames of one scope each. The first lists the scope that was registered, the second lists none, and the
+/// third, for a snapshot, lists it again.
 fn snapshot_tells_all<L: Ledger, M: Ledger, R: Wait + Abort + Copy + Drop>(
     rt: R,
     alloc: Global,
@@ -147,7 +147,7 @@ fn is_viewed<R: Wait + Abort>(rt: &R, view: &GlobalFrameView) -> Outcome {
     Ok(())
 }
 
-/// An added frame is handed to a view, and the profiler's next frame, for a snapshot, tells of its scope.
+/// Checks that an added frame is handed to a view, and that its scope is listed by a snapshot in the next frame.
 fn added_is_handed_on<
     L: Ledger + Send + Sync + 'static,
     M: Ledger + Send + Sync + 'static,

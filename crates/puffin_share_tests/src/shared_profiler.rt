@@ -26,8 +26,8 @@ pub(crate) const SCOPES: u32 = 1000;
 /// The names of the workers.
 const NAMES: [&str; 4] = ["w0", "w1", "w2", "w3"];
 
-/// Begins and ends a scope with the thread's name for its text, which is reported at its end. `None` where it isn't, or the
-/// totals are below what was reported.
+/// Begins and ends a scope with the thread's name for its text, which is reported at its end. `None` where it isn't, or
+/// the totals are below what was reported.
 fn scope<L: Ledger, M: Ledger, R: Wait>(
     reporter: &mut SharedReporter<L, M, R>,
     thread: &mut ThreadProfiler<ScriptClock>,

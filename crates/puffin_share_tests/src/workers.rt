@@ -178,7 +178,8 @@ fn followed(scopes: &[Scope<'_>], text: &str, last: u32) -> Option<u32> {
     Some(last)
 }
 
-/// How many scopes the frames joined have under a name, where their ids rise from 1 on and each has the name for its text.
+/// How many scopes the frames joined have under a name, where their ids rise from 1 on and each has the name for its
+/// text.
 fn in_order(alloc: Global, frames: &Frames, name: &str) -> puffin::Result<Option<u32>> {
     let mut last = Some(0);
     for frame in frames {

@@ -1,4 +1,5 @@
 use crate::equal::equal;
+use crate::rig::{Outcome, id};
 use puffin_data::data::ScopeId;
 use puffin_data::{Error, Result};
 use puffin_threads::scope_details::{ScopeCollection, ScopeDetails, ScopeIds, ScopeType};
@@ -8,12 +9,6 @@ use std::process::Abort;
 use std::sync::Arc;
 use std::test::Fail;
 use std::thread;
-
-type Outcome = std::result::Result<(), Fail>;
-
-fn id(number: u32) -> Result<ScopeId> {
-    ScopeId::new(number).ok_or(Error::MissingId)
-}
 
 /// A named scope with an id.
 fn named(alloc: Global, number: u32, name: &'static str) -> Result<Arc<ScopeDetails>> {

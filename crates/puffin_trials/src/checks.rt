@@ -10,7 +10,7 @@ use std::alloc::{AllocError, Global};
 
 /// A check that failed.
 #[derive(Clone, Copy, Debug, PartialEq, Eq)]
-pub enum Broken {
+pub(crate) enum Broken {
     /// Memory ran out, so nothing was checked.
     Memory,
     /// A walk made more readings than one for each 31 bytes and one more.
@@ -54,7 +54,7 @@ fn counted(alloc: Global, bytes: &[u8], slowly: bool) -> Printed {
 }
 
 /// Walks and counts a stream. Returns whether it is a forest of scopes.
-pub fn check_stream(alloc: Global, bytes: &[u8]) -> Result<bool, Broken> {
+pub(crate) fn check_stream(alloc: Global, bytes: &[u8]) -> Result<bool, Broken> {
     let mut copy = Vec::new(alloc);
     copy.extend_from_slice(bytes)?;
     let stream = Stream::from(copy);
@@ -115,7 +115,7 @@ fn check_again(alloc: Global, view: &FrameView) -> Result<(), Broken> {
 }
 
 /// Reads, reports and writes a file. Returns whether it can be read.
-pub fn check_file(alloc: Global, bytes: &[u8], thread: &ThreadInfo) -> Result<bool, Broken> {
+pub(crate) fn check_file(alloc: Global, bytes: &[u8], thread: &ThreadInfo) -> Result<bool, Broken> {
     let first = reported(alloc, bytes, thread, false);
     let second = reported(alloc, bytes, thread, true);
     if first.lines != second.lines || first.fault != second.fault {

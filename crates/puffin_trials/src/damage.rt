@@ -22,9 +22,9 @@ fn exchange(bytes: &mut [u8], one: usize, other: usize) {
     }
 }
 
-/// Makes one random fault: cuts the bytes, flips a bit, overwrites a byte or a number, inserts or removes a byte, exchanges
-/// two, or appends one.
-pub fn damage(random: &mut Random, bytes: &mut Vec<u8>) -> Result<(), AllocError> {
+/// Makes one random fault: cuts the bytes, flips a bit, overwrites a byte or a number, inserts or removes a byte,
+/// exchanges two, or appends one.
+pub(crate) fn damage(random: &mut Random, bytes: &mut Vec<u8>) -> Result<(), AllocError> {
     let at = random.below(bytes.len());
     match random.below(9) {
         0 => bytes.truncate(at),

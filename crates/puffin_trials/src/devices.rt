@@ -5,9 +5,9 @@ use std::io::Read;
 
 /// Gives the bytes that are left, one a call.
 #[derive(Drop)]
-pub struct OneByte<'a> {
+pub(crate) struct OneByte<'a> {
     /// The bytes that are left.
-    pub left: &'a [u8],
+    pub(crate) left: &'a [u8],
 }
 
 impl Read for OneByte<'_> {

@@ -17,7 +17,7 @@ use std::sync::Arc;
 const NAMES: [&str; 3] = ["main", "größe", ""];
 
 /// Makes the info of a thread that random files may have.
-pub fn thread(alloc: Global, name: &str) -> Result<ThreadInfo> {
+pub(crate) fn thread(alloc: Global, name: &str) -> Result<ThreadInfo> {
     Ok(ThreadInfo {
         start_time_ns: Some(5),
         name: String::from_str(alloc, name)?,
@@ -57,7 +57,7 @@ fn details(alloc: Global, random: &mut Random) -> Result<Vec<Arc<ScopeDetails>>>
 }
 
 /// Makes a random file of at most `frames` frames.
-pub fn file(alloc: Global, random: &mut Random, frames: u64) -> Result<Vec<u8>> {
+pub(crate) fn file(alloc: Global, random: &mut Random, frames: u64) -> Result<Vec<u8>> {
     let mut view = FrameView::new(alloc);
     for index in 0..frames {
         let made = FrameData::new(

@@ -98,7 +98,7 @@ fn steps<R: Print + Wait>(
 }
 
 /// Makes scopes with macros on a thread that reports to a profiler.
-pub fn run<R: Print + AllocGlobal + Wait>(rt: &R) -> Option<()> {
+pub(crate) fn run<R: Print + AllocGlobal + Wait>(rt: &R) -> Option<()> {
     let mut thread = thread(rt.alloc())?;
     let mut profiler = GlobalProfiler::new(rt.alloc());
     steps(rt, &places(), &mut profiler, &mut thread)

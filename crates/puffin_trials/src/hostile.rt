@@ -1,5 +1,5 @@
-//! Counts, reads, reports and writes bytes that no writer made: random streams and files with up to three faults, crafted
-//! streams and deep ones.
+//! Counts, reads, reports and writes bytes that no writer made: random streams and files with up to three faults,
+//! crafted streams and deep ones.
 
 use crate::checks::{Broken, check_file, check_stream};
 use crate::damage::damage;
@@ -111,8 +111,8 @@ fn walked(rt: &HostRuntime, stream: &Stream) -> Result<u128> {
     Ok(begun.elapsed(rt)?.as_nanos())
 }
 
-/// Walks a stream and one of about ten times the length, until the second takes at most 14 times as long as the first. Fails if
-/// it never does.
+/// Walks a stream and one of about ten times the length, until the second takes at most 14 times as long as the first.
+/// Fails if it never does.
 fn grows(rt: &HostRuntime, what: &str, short: Vec<u8>, long: Vec<u8>) -> Result<()> {
     let (short, long) = (Stream::from(short), Stream::from(long));
     let (mut one, mut ten) = (u128::MAX, u128::MAX);
@@ -128,8 +128,8 @@ fn grows(rt: &HostRuntime, what: &str, short: Vec<u8>, long: Vec<u8>) -> Result<
     Err(anyhow!("{what}: {one} ns, and ten times as long {ten} ns"))
 }
 
-/// Checks that the time of a walk grows in proportion, for deep streams and for crafted ones whose children reach past their
-/// parents.
+/// Checks that the time of a walk grows in proportion, for deep streams and for crafted ones whose children reach past
+/// their parents.
 fn growth(rt: &HostRuntime) -> Result<()> {
     let alloc = rt.alloc();
     grows(rt, "deep", nested(alloc, 10_000)?, nested(alloc, 100_000)?)?;
@@ -151,13 +151,13 @@ fn levels(rt: &impl Print, alloc: Global) -> Result<()> {
 }
 
 /// Checks random streams and files, and a deep and a crafted stream.
-pub fn run_some(rt: &HostRuntime) -> Result<()> {
+pub(crate) fn run_some(rt: &HostRuntime) -> Result<()> {
     small(rt, rt.alloc())?;
     levels(rt, rt.alloc())
 }
 
 /// Checks `cases` random streams and files, and how the time of a walk grows with the length.
-pub fn run_many(rt: &HostRuntime, cases: u64) -> Result<()> {
+pub(crate) fn run_many(rt: &HostRuntime, cases: u64) -> Result<()> {
     large(rt, rt.alloc(), cases)?;
     growth(rt)
 }

@@ -1,12 +1,12 @@
 //! Tries what no contract promises, in two parts.
 //!
-//! The first part does each kind of work once. It is for runs in which one allocation is refused: a call that fails for lack of
-//! memory is made again, so the output is the same whichever allocation it is. The second part counts, reads, reports and
-//! writes random and damaged bytes.
+//! The first part does each kind of work once. It is for runs in which one allocation is refused: a call that fails for
+//! lack of memory is made again, so the output is the same whichever allocation it is. The second part counts, reads,
+//! reports and writes random and damaged bytes.
 //!
-//! Without arguments both parts run. The argument `memory` runs the first alone, and a number runs the second with that many
-//! streams and files. The argument `threads` runs threads in rounds instead, and prints what they reported. The status is 1 if
-//! a result isn't as expected.
+//! Without arguments both parts run. The argument `memory` runs the first alone, and a number runs the second with that
+//! many streams and files. The argument `threads` runs threads in rounds instead, and prints what they reported. The
+//! status is 1 if a result isn't as expected.
 #![tactic(auto)]
 
 mod checks;

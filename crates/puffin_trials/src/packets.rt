@@ -36,7 +36,7 @@ fn stream(alloc: Global, start: i64, length: u32) -> Option<Stream> {
 }
 
 /// Makes the info of a thread.
-pub fn thread(alloc: Global, start: i64, name: &str) -> Option<ThreadInfo> {
+pub(crate) fn thread(alloc: Global, start: i64, name: &str) -> Option<ThreadInfo> {
     Some(ThreadInfo {
         start_time_ns: Some(start),
         name: again!(String::from_str(alloc, name))?,
@@ -69,7 +69,7 @@ fn frame_once(alloc: Global, index: u64, length: u32) -> Option<FrameData> {
 }
 
 /// Makes a frame of two threads with this index and length, which lists one scope.
-pub fn frame(alloc: Global, index: u64, length: u32) -> Option<FrameData> {
+pub(crate) fn frame(alloc: Global, index: u64, length: u32) -> Option<FrameData> {
     match frame_once(alloc, index, length) {
         Some(made) => Some(made),
         None => frame_once(alloc, index, length),
@@ -144,7 +144,7 @@ fn written(rt: &HostRuntime) -> Option<Vec<u8>> {
 }
 
 /// Writes a frame in each state in which it may be held.
-pub fn run(rt: &HostRuntime) -> Option<()> {
+pub(crate) fn run(rt: &HostRuntime) -> Option<()> {
     let bytes = written(rt)?;
     let mut made = again!(read(rt.alloc(), &bytes))??;
     both_ways(rt, &mut made)

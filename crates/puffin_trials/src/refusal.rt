@@ -4,7 +4,7 @@ use puffin_data::{Error, FileError};
 use std::alloc::{AllocError, Global};
 
 /// An error that may mean that memory was refused.
-pub trait Refusal {
+pub(crate) trait Refusal {
     /// Returns whether memory was refused. For a file in memory, `Io` means that too.
     fn is_memory(self) -> bool;
 }
@@ -27,16 +27,17 @@ impl Refusal for FileError {
     }
 }
 
-/// Returns the value of a call, `Some(None)` if it failed for another cause than memory, or `None` if it is to be made again.
-pub fn settled<T, E: Refusal>(first: Result<T, E>) -> Option<Option<T>> {
+/// Returns the value of a call, `Some(None)` if it failed for another cause than memory, or `None` if it is to be made
+/// again.
+pub(crate) fn settled<T, E: Refusal>(first: Result<T, E>) -> Option<Option<T>> {
     match first {
         Ok(value) => Some(Some(value)),
         Err(cause) => { if cause.is_memory() { None } else { Some(None) } }
     }
 }
 
-/// Evaluates a call, and evaluates it once more if memory was refused. Gives its value, or `None` if it failed again or for
-/// another cause.
+/// Evaluates a call, and evaluates it once more if memory was refused. Gives its value, or `None` if it failed again or
+/// for another cause.
 #[macro_export]
 macro_rules! again {
     ($call:expr) => {
@@ -48,7 +49,7 @@ macro_rules! again {
 }
 
 /// Returns a vector of one value.
-pub fn only<T: Drop>(alloc: Global, value: T) -> Option<Vec<T>> {
+pub(crate) fn only<T: Drop>(alloc: Global, value: T) -> Option<Vec<T>> {
     let mut all = Vec::new(alloc);
     again!(all.reserve(1))?;
     all.push(value).ok()?;

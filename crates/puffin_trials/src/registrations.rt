@@ -16,7 +16,7 @@ use std::sync::Wait;
 type Thread = ThreadProfiler<ScriptClock>;
 
 /// Copies a text into memory of its own.
-pub fn owned(alloc: Global, text: &str) -> Option<CowStr<'static>> {
+pub(crate) fn owned(alloc: Global, text: &str) -> Option<CowStr<'static>> {
     Some(CowStr::Owned(again!(String::from_str(alloc, text))?))
 }
 
@@ -61,7 +61,11 @@ fn named(alloc: Global, thread: &mut Thread, ids: &ScopeIds) -> Option<ScopeId> 
 }
 
 /// Checks the outcome of ending the last scope. If the report was kept for lack of memory, reports again.
-pub fn closed(outcome: Closed, thread: &mut Thread, profiler: &mut GlobalProfiler) -> Option<()> {
+pub(crate) fn closed(
+    outcome: Closed,
+    thread: &mut Thread,
+    profiler: &mut GlobalProfiler,
+) -> Option<()> {
     match outcome {
         Closed::Reported => Some(()),
         Closed::Kept(Error::Memory) => {
@@ -95,7 +99,7 @@ fn in_file(alloc: Global, name: &str) -> Option<ScopeDetails> {
 }
 
 /// Registers scopes of the caller's own.
-pub fn register(
+pub(crate) fn register(
     profiler: &mut GlobalProfiler,
     ids: &ScopeIds,
     details: &[ScopeDetails],
@@ -120,7 +124,7 @@ fn users(alloc: Global, profiler: &mut GlobalProfiler, ids: &ScopeIds) -> Option
 }
 
 /// Prints the counts of a frame, and the scopes that it lists.
-pub fn print_frame<R: Print>(rt: &R, frame: &FrameData) -> Option<()> {
+pub(crate) fn print_frame<R: Print>(rt: &R, frame: &FrameData) -> Option<()> {
     let meta = frame.meta();
     let (index, scopes, bytes) = (meta.frame_index, meta.num_scopes, meta.num_bytes);
     println!(rt; "frame {index} scopes {scopes} bytes {bytes}").ok()?;
@@ -133,7 +137,7 @@ pub fn print_frame<R: Print>(rt: &R, frame: &FrameData) -> Option<()> {
 }
 
 /// Takes a frame, and prints it.
-pub fn frame<R: Print + Wait>(rt: &R, profiler: &mut GlobalProfiler) -> Option<()> {
+pub(crate) fn frame<R: Print + Wait>(rt: &R, profiler: &mut GlobalProfiler) -> Option<()> {
     let emitted = again!(profiler.new_frame(rt))?;
     match &emitted.frame {
         Some(frame) => print_frame(rt, frame),
@@ -221,7 +225,7 @@ fn run_out<R: Print + AllocGlobal>(rt: &R, profiler: &mut GlobalProfiler) -> Opt
 }
 
 /// Registers and reports scopes of two threads, and registers scopes with another profiler until no id is left.
-pub fn run<R: Print + AllocGlobal + Wait>(rt: &R) -> Option<()> {
+pub(crate) fn run<R: Print + AllocGlobal + Wait>(rt: &R) -> Option<()> {
     let mut profiler = GlobalProfiler::new(rt.alloc());
     threads(rt, &mut profiler)?;
     run_out(rt, &mut GlobalProfiler::new(rt.alloc()))

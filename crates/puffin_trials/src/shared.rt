@@ -300,7 +300,7 @@ fn another<R: Print + AllocGlobal + Wait>(rt: &R) -> Option<()> {
 }
 
 /// Shares a profiler. If it couldn't be opened for lack of memory, checks that it is as before, and shares another one.
-pub fn run<R: Print + AllocGlobal + Wait>(rt: &R) -> Option<()> {
+pub(crate) fn run<R: Print + AllocGlobal + Wait>(rt: &R) -> Option<()> {
     let Some(mut refused) = once(rt, GlobalProfiler::new(rt.alloc()))? else {
         return Some(());
     };

@@ -29,7 +29,12 @@ fn end(stream: &mut Stream, offset: usize, now: i64) -> Result<()> {
 }
 
 /// Makes a random stream of at most `scopes` scopes, nested at most `deepest` deep.
-pub fn forest(alloc: Global, random: &mut Random, scopes: usize, deepest: usize) -> Result<Stream> {
+pub(crate) fn forest(
+    alloc: Global,
+    random: &mut Random,
+    scopes: usize,
+    deepest: usize,
+) -> Result<Stream> {
     let mut stream = Stream::new(alloc);
     let mut open: Vec<usize> = Vec::new(alloc);
     let mut now: i64 = 0;
@@ -61,7 +66,7 @@ fn ending(bytes: &mut Vec<u8>) -> Result<()> {
 }
 
 /// Makes `levels` scopes without texts, each within the one before.
-pub fn nested(alloc: Global, levels: u64) -> Result<Vec<u8>> {
+pub(crate) fn nested(alloc: Global, levels: u64) -> Result<Vec<u8>> {
     let mut bytes = Vec::new(alloc);
     for level in 0..levels {
         let inner = levels.saturating_sub(level).saturating_sub(1);
@@ -73,9 +78,9 @@ pub fn nested(alloc: Global, levels: u64) -> Result<Vec<u8>> {
     Ok(bytes)
 }
 
-/// Makes `levels` scopes, each with a child that begins in it and reaches past it. A walk that goes over the children again at
-/// each level takes twice as long with each level.
-pub fn crafted(alloc: Global, levels: u64) -> Result<Vec<u8>> {
+/// Makes `levels` scopes, each with a child that begins in it and reaches past it. A walk that goes over the children
+/// again at each level takes twice as long with each level.
+pub(crate) fn crafted(alloc: Global, levels: u64) -> Result<Vec<u8>> {
     let mut bytes = Vec::new(alloc);
     for _ in 0..levels {
         beginning(&mut bytes, 22)?;

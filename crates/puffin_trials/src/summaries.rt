@@ -104,7 +104,7 @@ fn summed_up(rt: &HostRuntime, file: &[u8]) -> Option<()> {
 }
 
 /// Writes the file of a view, and sums it up for one of its threads.
-pub fn run(rt: &HostRuntime) -> Option<()> {
+pub(crate) fn run(rt: &HostRuntime) -> Option<()> {
     let file = viewed(rt.alloc())?;
     summed_up(rt, &file)
 }

@@ -68,7 +68,7 @@ fn print_outcome<R: Print + Wait>(rt: &R, outcome: &Outcome) -> Option<()> {
 }
 
 /// Runs the threads, and prints what came of them, or that they were refused.
-pub fn run<R: AllocGlobal + Clock + Print + Threads + Wait + Copy + Send + Sync>(
+pub(crate) fn run<R: AllocGlobal + Clock + Print + Threads + Wait + Copy + Send + Sync>(
     rt: R,
 ) -> Option<()> {
     let parts = Parts::new();

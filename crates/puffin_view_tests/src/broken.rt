@@ -1,15 +1,12 @@
 //! Files that are cut short, and readers and writers that fail.
 
 use crate::devices::{Full, Tired};
-use crate::files::{FILE, Outcome, are_recent, has_fault, is_written, view};
+use crate::files::{FILE, ONE_FRAME, Outcome, are_recent, has_fault, is_written, view};
 use puffin_data::FileError;
 use puffin_data::data::{Counted, Drain, Source};
 use puffin_view::profile_view::FrameView;
 use std::io::ErrorKind;
 use std::test::Fail;
-
-/// How many bytes a file of one frame takes.
-const ONE_FRAME: usize = 79;
 
 /// A reader of one frame's file that gives its bytes one by one takes a call for each, and one more at their end.
 const CALLS: usize = ONE_FRAME + 1;
@@ -104,7 +101,8 @@ fn a_length_that_lies_cuts_the_file_short(rt: HostRuntime) -> Outcome {
     is_cut_short(&rt, b"PUF0")
 }
 
-/// What is written of a view to a writer that takes so much and then fails, or takes nothing; the refusal; the failures.
+/// What is written of a view to a writer that takes so much and then fails, or takes nothing; the refusal; the
+/// failures.
 fn written_to_full(
     rt: &HostRuntime,
     view: &FrameView,

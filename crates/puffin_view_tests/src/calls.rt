@@ -1,7 +1,7 @@
 //! Statistics of frames that are packed or not, and writers that take one byte a call.
 
 use crate::devices::Full;
-use crate::files::{FILE, Outcome, has_fault, view};
+use crate::files::{FILE, ONE_FRAME, Outcome, has_fault, view};
 use puffin_data::data::{Counted, Stream, StreamInfo};
 use puffin_data::{Error, FileError, Result};
 use puffin_frames::frame_data::{FrameData, FrameIndex};
@@ -10,9 +10,6 @@ use puffin_view::profile_view::{FrameStats, FrameView};
 use std::alloc::Global;
 use std::collections::BTreeMap;
 use std::sync::Arc;
-
-/// How many bytes a file of one frame takes.
-const ONE_FRAME: usize = 79;
 
 /// A frame with this index of the file's first scope, which has 35 bytes.
 fn frame(alloc: Global, index: FrameIndex) -> Result<Arc<FrameData>> {

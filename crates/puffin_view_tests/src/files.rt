@@ -6,8 +6,8 @@ use std::test::Fail;
 
 pub(crate) type Outcome = std::result::Result<(), Fail>;
 
-/// The file that the Rust crate writes of two frames of the thread `main`: one scope `data` of id 1 from 100 to 300, which
-/// takes 79 bytes, and then one scope `a` from 400 to 401.
+/// The file that the Rust crate writes of two frames of the thread `main`: one scope `data` of id 1 from 100 to 300,
+/// which takes 79 bytes, and then one scope `a` from 400 to 401.
 pub(crate) const FILE: [u8; 155] = [
     80, 85, 70, 48, 80, 70, 68, 52, 7, 0, 0, 0, 0, 200, 251, 88, 2, 35, 1, 50, 0, 0, 0, 0, 1, 1,
     200, 4, 109, 97, 105, 110, 35, 40, 1, 0, 0, 0, 100, 0, 0, 0, 0, 0, 0, 0, 4, 100, 97, 116, 97,
@@ -16,6 +16,9 @@ pub(crate) const FILE: [u8; 155] = [
     97, 105, 110, 32, 40, 1, 0, 0, 0, 144, 1, 0, 0, 0, 0, 0, 0, 1, 97, 0, 0, 0, 0, 0, 0, 0, 0, 41,
     145, 1, 0, 0, 0, 0, 0, 0, 1, 1, 251, 32, 3, 251, 34, 3, 1, 0, 0, 0, 0,
 ];
+
+/// How many bytes the first frame takes in [`FILE`], with the letters of the file.
+pub(crate) const ONE_FRAME: usize = 79;
 
 pub(crate) fn bytes_of(rt: &HostRuntime, pieces: &[&[u8]]) -> std::result::Result<Vec<u8>, Fail> {
     let mut bytes = Vec::new(rt.alloc());

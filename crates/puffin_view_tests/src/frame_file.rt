@@ -3,7 +3,7 @@
 ghost use Rattle.std.specs.Prelude.{◌≡◌};
 
 use crate::devices::Full;
-use crate::files::{FILE, Outcome, bytes_of, view};
+use crate::files::{FILE, ONE_FRAME, Outcome, bytes_of, view};
 use puffin_data::data::{Counted, Drain, Source};
 use puffin_data::{Error, FileError};
 use puffin_frames::frame_data::{FrameData, FrameIndex};
@@ -12,9 +12,6 @@ use std::alloc::Global;
 use std::io;
 use std::io::{ErrorKind, Write};
 use std::test::Fail;
-
-/// Where the first frame of the file ends. The second one ends with the file.
-const ONE_FRAME: usize = 79;
 
 /// The index of a frame, where there is one.
 fn index_of(next: &Option<FrameData>) -> Option<FrameIndex> {

@@ -12,7 +12,7 @@ use std::test::Fail;
 
 type Outcome = std::result::Result<(), Fail>;
 
-/// What is said of the stream that has these bytes.
+/// Parses the stream of these pieces.
 fn info(alloc: Global, bytes: &[&[u8]]) -> Result<StreamInfo> {
     let mut all = Vec::new(alloc);
     for piece in bytes {
