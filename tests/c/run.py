@@ -2,10 +2,12 @@
 
     python3 run.py LIBRARY KIT_LIBRARY [TOOL]
 
-LIBRARY is libpuffin_c.a, KIT_LIBRARY the kit's c/liblibc_c.a, and TOOL puffin-tool, which reports the files. What isn't
-there (TOOL, a C++ compiler, rustc, valgrind) is left out and named. The last line is 'N passed, M failed'.
+LIBRARY is libpuffin_c.a, KIT_LIBRARY the kit's c/liblibc_c.a, and TOOL puffin-tool, which reports the files. A C compiler is
+needed: `cc`, or what CC names. What else isn't there (a C++ compiler, rustc, valgrind) is left out and named, and so is
+puffin-tool without TOOL. The last line is 'N passed, M failed'.
 """
 
+import os
 import pathlib
 import shutil
 import subprocess
@@ -14,6 +16,7 @@ import tempfile
 
 HERE = pathlib.Path(__file__).resolve().parent
 HEADER = HERE.parents[1] / "crates" / "puffin_c"
+C_COMPILER = os.environ.get("CC", "cc")
 WRAPPED = ["-Wl,--wrap=malloc", "-Wl,--wrap=realloc"]
 
 passed = failed = 0
@@ -47,7 +50,7 @@ def report(tool, path, thread):
 def calls(place, libraries, tool):
     """The C program: each call, and each allocation refused in turn."""
     words = ["-std=c11", "-Wall", "-Wextra", "-Werror", "-O1", "-I", HEADER, HERE / "calls.c", *libraries, *WRAPPED, "-lpthread"]
-    if not built("calls.c", "cc", *words, "-o", place / "calls"):
+    if not built("calls.c", C_COMPILER, *words, "-o", place / "calls"):
         return
     got = run(place / "calls", place / "file")
     check("calls.c", got.returncode == 0, got.stderr.decode())
@@ -72,7 +75,7 @@ def calls(place, libraries, tool):
 
 def first(place, libraries, tool):
     """The program that docs/C.md shows."""
-    if not built("first.c", "cc", "-std=gnu11", "-Wall", "-Wextra", "-Werror", "-I", HEADER, HERE / "first.c", *libraries, "-o", place / "first"):
+    if not built("first.c", C_COMPILER, "-std=gnu11", "-Wall", "-Wextra", "-Werror", "-I", HEADER, HERE / "first.c", *libraries, "-o", place / "first"):
         return
     got = run(place / "first", place / "file")
     check("first.c", got.returncode == 0 and (place / "file").read_bytes().startswith(b"PUF0"), got.stderr.decode())
@@ -83,14 +86,17 @@ def first(place, libraries, tool):
 
 def main():
     library, kit, *rest = (pathlib.Path(word).resolve() for word in sys.argv[1:4])
-    tool = rest[0] if rest and rest[0].exists() else None
+    tool = rest[0] if rest else None
+    if not shutil.which(C_COMPILER) or (tool and not tool.is_file()):
+        print("failed: this needs a C compiler (cc, or what CC names), and puffin-tool where it is named", "0 passed, 1 failed", sep="\n")
+        return 1
     if not tool:
         print("left out: puffin-tool")
     with tempfile.TemporaryDirectory() as folder:
         place = pathlib.Path(folder)
         calls(place, [library, kit], tool)
         first(place, [library, kit], tool)
-        for compiler, more in (("cc", []), ("c++", ["-x", "c++"])):
+        for compiler, more in ((C_COMPILER, []), ("c++", ["-x", "c++"])):
             if not shutil.which(compiler):
                 print(f"left out: {compiler}")
                 continue

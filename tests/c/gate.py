@@ -1,0 +1,64 @@
+"""Builds libpuffin_c.a after `rt ci`, and tests it by run.py.
+
+    python3 gate.py
+
+`rt ci` proves puffin_c and makes no archive of it, but it leaves each library below in that crate's out/rlib. `rattle build`
+makes the archive over these. It builds only what it has proved itself, so it proves puffin_c once more, and nothing below.
+In a checkout where earlier runs of rt have kept libraries, `rt ci` puts those back, and `rt lib` makes the archive over them.
+The archive is crates/puffin_c/out/libpuffin_c.a. The last line is 'N passed, M failed'.
+"""
+
+import os
+import pathlib
+import subprocess
+import sys
+
+HERE = pathlib.Path(__file__).resolve().parent
+CRATES = HERE.parents[1] / "crates"
+CRATE = CRATES / "puffin_c"
+ARCHIVE = CRATE / "out" / "libpuffin_c.a"
+TOOL = CRATES / "puffin_tool" / "out" / "puffin_tool"
+
+
+def kit_folder():
+    """The kit's folder: `rt doc` prints a path in it."""
+    said = subprocess.run(["rt", "doc"], capture_output=True, text=True, check=True)
+    return pathlib.Path(said.stdout.strip()).parent
+
+
+def libraries():
+    """What crates.txt says that puffin_c uses."""
+    for line in (CRATES.parent / "crates.txt").read_text().splitlines():
+        name, _, used = line.partition(":")
+        if name.split()[:1] == ["puffin_c"]:
+            return used.split()
+    sys.exit("crates.txt has no line for puffin_c")
+
+
+def building(kit):
+    """The command that makes the archive over what `rt ci` left."""
+    words = [kit / "bin" / "rattle", "build", "--crate-name", "puffin_c", "src/lib.rt", "--crate-type", "staticlib"]
+    for name in ["std", *libraries()]:
+        above = CRATES / name / "out" / "rlib" if (CRATES / name).is_dir() else kit / "rlibs"
+        words += ["--extern", f"{name}={above / name}.rlib"]
+    for folder in [kit / "rlibs", *sorted(CRATES.glob("*/out/rlib"))]:
+        words += ["-L", f"dependency={folder}"]
+    words += ["--antt-project", kit / "rattle" / "logic" / "antt-project.json", "--logic-built", kit / "logic_built"]
+    return [*words, "--toolchain", kit / "toolchain", "--jobs", os.environ.get("RT_JOBS", "2"), "-o", ARCHIVE]
+
+
+def main():
+    kit = kit_folder()
+    ARCHIVE.parent.mkdir(exist_ok=True)
+    ARCHIVE.unlink(missing_ok=True)
+    has_kept = any(CRATES.glob("*/out/rlib/stamp"))
+    made = subprocess.run(["rt", "lib"] if has_kept else building(kit), cwd=CRATE, capture_output=True, text=True, errors="replace")
+    said = (made.stdout + made.stderr).splitlines()
+    if made.returncode or not ARCHIVE.is_file():
+        print(*said, "failed: libpuffin_c.a isn't built", "0 passed, 1 failed", sep="\n")
+        return 1
+    print(*[line for line in said if line.startswith("logic=")], sep="\n", flush=True)
+    return subprocess.run([sys.executable, HERE / "run.py", ARCHIVE, kit / "c" / "liblibc_c.a", TOOL]).returncode
+
+
+sys.exit(main())
