@@ -45,8 +45,8 @@ enum {
     /* Faults of a file. One that holds a number has it 256 times above its own. */
     PUFFIN_FILE_NO_MAGIC = 66,     /* other letters than PUF0 */
     PUFFIN_FILE_TRUNCATED = 67,    /* bytes end within a packet */
-    PUFFIN_FILE_LEGACY = 68,       /* a form that is no longer read */
-    PUFFIN_FILE_NEWER = 69,        /* a form that isn't known */
+    PUFFIN_FILE_LEGACY = 68,       /* a version that is no longer read */
+    PUFFIN_FILE_NEWER = 69,        /* a version that isn't known */
     PUFFIN_FILE_UNKNOWN_KIND = 70, /* + 256 * the packing's number, which isn't known */
     PUFFIN_FILE_COMPRESSED = 71,   /* + 256 * the packing's number, which isn't unpacked here */
     PUFFIN_FILE_BAD_META = 72,

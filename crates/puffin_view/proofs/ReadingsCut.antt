@@ -12,11 +12,9 @@ use Rattle.puffin_data.specs.Value.Decoding.{whole}
 use Rattle.puffin_frames.specs.declared.frame_data.kind.Kind.{Kind}
 use Rattle.puffin_frames.specs.declared.frame_data.kind.Kind.TheVariants.{Zstd}
 use Rattle.puffin_frames.specs.declared.frame_data.meta.FrameMeta.{FrameMeta}
-use Rattle.puffin_frames.specs.declared.frame_data.version.Version.{Version}
-use Rattle.puffin_frames.specs.declared.frame_data.version.Version.TheVariants.{Pfd4, PfdL}
 use Rattle.puffin_threads.specs.Details.{Details}
 use Rattle.puffin_frames.specs.Packet.Structs.{details_at}
-use Rattle.puffin_frames.specs.Packet.Letters.{has_kind, has_details, text_form}
+use Rattle.puffin_frames.specs.Packet.Letters.{for_form, has_kind, has_details, text_form}
 use Rattle.puffin_frames.specs.Packet.Parts.{meta_from, meta_part_at, kind_from, given_kind_at, kind_at, details_from, given_details_at, details_part_at, streams_part_at}
 use Rattle.puffin_frames.specs.Packet.Versions.{packet_at, as_stored}
 use Rattle.puffin_frames.specs.Packet.Front.{next_at}
@@ -103,32 +101,32 @@ counted_cut = both part_length_at part_of length_cut part_cut
 meta_cut : IsCuttable meta_part_at
 meta_cut = both counted_part_at (λ part rest. meta_from part >>= λ meta. Ok (meta, rest)) counted_cut (λ part. decided (meta_from part) (λ meta. meta))
 
-kind_cut : (version : Version) → IsCuttable (kind_at version)
-kind_cut version =
-    either (has_kind version) given_kind_at (λ bytes. Ok (Zstd, bytes))
+kind_cut : (form : Form) → IsCuttable (kind_at (for_form form))
+kind_cut form =
+    either (has_kind (for_form form)) given_kind_at (λ bytes. Ok (Zstd, bytes))
     (both first_at (λ b rest. kind_from b >>= λ k. Ok (k, rest)) first_cut (λ b. decided (kind_from b) (λ k. k)))
     (valued Zstd)
 
-streams_cut : (version : Version) → IsCuttable (streams_part_at version)
-streams_cut version =
-    both part_length_at (λ n rest. kind_at version rest >>= λ kind. part_of n kind.1 >>= λ streams. Ok ((kind.0, streams.0), streams.1)) length_cut
-    (λ n. both (kind_at version) (λ kind rest. part_of n rest >>= λ streams. Ok ((kind, streams.0), streams.1)) (kind_cut version)
+streams_cut : (form : Form) → IsCuttable (streams_part_at (for_form form))
+streams_cut form =
+    both part_length_at (λ n rest. kind_at (for_form form) rest >>= λ kind. part_of n kind.1 >>= λ streams. Ok ((kind.0, streams.0), streams.1)) length_cut
+    (λ n. both (kind_at (for_form form)) (λ kind rest. part_of n rest >>= λ streams. Ok ((kind, streams.0), streams.1)) (kind_cut form)
     (λ kind. both (part_of n) (λ streams rest. Ok ((kind, streams), rest)) (part_cut n) (λ streams. valued (kind, streams))))
 
-details_cut : (version : Version) → IsCuttable (details_part_at version)
-details_cut version =
-    either (has_details version) given_details_at (λ bytes. Ok ([], bytes))
+details_cut : (form : Form) → IsCuttable (details_part_at (for_form form))
+details_cut form =
+    either (has_details (for_form form)) given_details_at (λ bytes. Ok ([], bytes))
     (both counted_part_at (λ part rest. details_from (whole details_at part) >>= λ ds. Ok (ds, rest)) counted_cut (λ part. decided (details_from (whole details_at part)) (λ ds. ds)))
     (valued [])
 
-abbrev said_of : Version → FrameMeta → Kind × List ℕ → List Details → Said
-said_of version meta streams details = record { meta = meta; form = text_form version; kind = streams.0; streams = streams.1; details = details }
+abbrev said_of : Form → FrameMeta → Kind × List ℕ → List Details → Said
+said_of form meta streams details = record { meta = meta; form = text_form (for_form form); kind = streams.0; streams = streams.1; details = details }
 
-packet_cut : (version : Version) → IsCuttable (packet_at version)
-packet_cut version =
-    both meta_part_at (λ meta rest. streams_part_at version rest >>= λ streams. details_part_at version streams.1 >>= λ details. Ok (said_of version meta streams.0 details.0, details.1)) meta_cut
-    (λ meta. both (streams_part_at version) (λ streams rest. details_part_at version rest >>= λ details. Ok (said_of version meta streams details.0, details.1)) (streams_cut version)
-    (λ streams. both (details_part_at version) (λ details rest. Ok (said_of version meta streams details, rest)) (details_cut version) (λ details. valued (said_of version meta streams details))))
+packet_cut : (form : Form) → IsCuttable (packet_at (for_form form))
+packet_cut form =
+    both meta_part_at (λ meta rest. streams_part_at (for_form form) rest >>= λ streams. details_part_at (for_form form) streams.1 >>= λ details. Ok (said_of form meta streams.0 details.0, details.1)) meta_cut
+    (λ meta. both (streams_part_at (for_form form)) (λ streams rest. details_part_at (for_form form) rest >>= λ details. Ok (said_of form meta streams details.0, details.1)) (streams_cut form)
+    (λ streams. both (details_part_at (for_form form)) (λ details rest. Ok (said_of form meta streams details, rest)) (details_cut form) (λ details. valued (said_of form meta streams details))))
 
 -- ---- packets
 
@@ -136,10 +134,10 @@ apart : (x y : List ℕ) → 0 < length y → [] ≡ x ++ y → ⊥
 apart x y some e = omega (arith, some, ap length e, length-append x y)
 
 -- a packet that is cut short behind its letters
-letters_stay : (version : Version) (l more : List ℕ) (p : Said) → 0 < length more → packet_at version (l ++ more) ≡ Ok (p, []) → packet_at version l ≡ Err file.Truncated
-letters_stay version l more p some is = by_cut (packet_cut version l more p [] is)
+letters_stay : (form : Form) (l more : List ℕ) (p : Said) → 0 < length more → packet_at (for_form form) (l ++ more) ≡ Ok (p, []) → packet_at (for_form form) l ≡ Err file.Truncated
+letters_stay form l more p some is = by_cut (packet_cut form l more p [] is)
   where
-    by_cut : (packet_at version l ≡ Err file.Truncated) ⊎ ((rest : List ℕ) × (packet_at version l ≡ Ok (p, rest)) × ([] ≡ rest ++ more)) → packet_at version l ≡ Err file.Truncated
+    by_cut : (packet_at (for_form form) l ≡ Err file.Truncated) ⊎ ((rest : List ℕ) × (packet_at (for_form form) l ≡ Ok (p, rest)) × ([] ≡ rest ++ more)) → packet_at (for_form form) l ≡ Err file.Truncated
     by_cut (inl short) = short
     by_cut (inr h) = absurd (apart h.0 more some h.2)
 
@@ -151,22 +149,22 @@ told : (r : Result (Said × List ℕ) FileError) (s : Option Stored) → as_stor
 told (Err e) s is = absurd cc
 told (Ok p) s is = (p.0, ap (λ rest. Ok (p.0, rest)) (ap rest_in is))
 
--- its letters, in either form
+-- its letters, in either version
 short_cut : (l more : List ℕ) (s : Option Stored) → 0 < length more → next_at (80 ∷ 70 ∷ 68 ∷ 52 ∷ (l ++ more)) ≡ Ok (s, []) → next_at (80 ∷ 70 ∷ 68 ∷ 52 ∷ l) ≡ Err file.Truncated
 unfolding next_at
 short_cut l more s some is =
     let long : ltb (length (80 ∷ 70 ∷ 68 ∷ 52 ∷ l)) 4 ≡ false = le-ltb _ _ (omega arith) in
     let longer : ltb (length (80 ∷ 70 ∷ 68 ∷ 52 ∷ (l ++ more))) 4 ≡ false = le-ltb _ _ (omega arith) in
-    let p = told (packet_at Pfd4 (l ++ more)) s (rw longer at is) in
-    rw long (ap (as_stored packed) (letters_stay Pfd4 l more p.0 some p.1))
+    let p = told (packet_at (for_form Short) (l ++ more)) s (rw longer at is) in
+    rw long (ap (as_stored packed) (letters_stay Short l more p.0 some p.1))
 
 long_cut : (l more : List ℕ) (s : Option Stored) → 0 < length more → next_at (80 ∷ 70 ∷ 68 ∷ 76 ∷ (l ++ more)) ≡ Ok (s, []) → next_at (80 ∷ 70 ∷ 68 ∷ 76 ∷ l) ≡ Err file.Truncated
 unfolding next_at
 long_cut l more s some is =
     let long : ltb (length (80 ∷ 70 ∷ 68 ∷ 76 ∷ l)) 4 ≡ false = le-ltb _ _ (omega arith) in
     let longer : ltb (length (80 ∷ 70 ∷ 68 ∷ 76 ∷ (l ++ more))) 4 ≡ false = le-ltb _ _ (omega arith) in
-    let p = told (packet_at PfdL (l ++ more)) s (rw longer at is) in
-    rw long (ap (as_stored packed) (letters_stay PfdL l more p.0 some p.1))
+    let p = told (packet_at (for_form Long) (l ++ more)) s (rw longer at is) in
+    rw long (ap (as_stored packed) (letters_stay Long l more p.0 some p.1))
 
 letter_in : Form → ℕ
 letter_in Short = 52

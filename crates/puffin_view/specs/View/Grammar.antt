@@ -5,7 +5,7 @@ use Rattle.puffin_frames.specs.Packet.Grammar.{Stores}
 use Rattle.puffin_view.specs.View.ViewedFrames.{contents_of}
 use Rattle.puffin_view.specs.View.File.{magic, frame_stored}
 
--- one packet for each frame, in order and with nothing between, in any form that is read, older and legacy ones included
+-- one packet for each frame, in order and with nothing between, of any version that is read; older and legacy ones too
 abbrev pub ArePackets : List ℕ → List Stored → Type 0
 ArePackets bytes [] = bytes ≡ []
 ArePackets bytes (s ∷ frames) =
