@@ -4,7 +4,7 @@ use crate::merges::main_thread;
 use crate::scopes::nest;
 use puffin::frame_data::FrameData;
 use puffin::profile_view::FrameView;
-use puffin_data::data::{Counted, Drain, ScopeId, Source, Stream, StreamInfo};
+use puffin_data::data::{Buffered, Counted, Drain, ScopeId, Source, Stream, StreamInfo};
 use puffin_data::{FileError, Result};
 use std::alloc::Global;
 use std::collections::BTreeMap;
@@ -161,7 +161,7 @@ fn written(frames: &[FrameData], file: &mut Vec<u8>) -> std::result::Result<usiz
 /// Reads the frames of a file.
 #[inline(never)]
 fn read(alloc: Global, file: &[u8]) -> std::result::Result<Vec<FrameData>, FileError> {
-    let mut source = Counted::new(file);
+    let mut source = Buffered::new(file);
     let mut frames = Vec::new(alloc);
     for _ in 0..FRAMES {
         if source.faults() == 0
@@ -209,6 +209,6 @@ fn view_written(view: &FrameView, file: &mut Vec<u8>) -> std::result::Result<usi
 /// Reads a view, and returns how many frames it holds.
 #[inline(never)]
 fn view_read(alloc: Global, file: &[u8]) -> std::result::Result<usize, FileError> {
-    let view = FrameView::read(alloc, &mut Counted::new(file))?;
+    let view = FrameView::read(alloc, &mut Buffered::new(file))?;
     Ok(view.stats().frames())
 }

@@ -1,13 +1,15 @@
-ghost use Rattle.std.specs.Prelude.{◌≡◌};
-ghost use Rattle.puffin_data.specs.Device.Counting.{failed_calls};
+ghost use Rattle.std.specs.Prelude.{◌≡◌, IfOk};
+ghost use Rattle.puffin_data.specs.Device.Counting.{failed_calls, failed_reads};
 
 use crate::equal::equal;
 use puffin_data::FileError;
 use puffin_data::data::{
-    Counted, Source, read_byte, read_counted_part, read_length, read_part, read_up_to,
+    Buffered, Counted, Source, read_byte, read_counted_part, read_length, read_part, read_to_end,
+    read_up_to,
 };
+use std::alloc::Global;
 use std::io;
-use std::io::Read;
+use std::io::{BufReader, Read};
 use std::process::Abort;
 use std::test::Fail;
 
@@ -42,6 +44,18 @@ fn source_of(end: u8, fails: bool) -> Counted<Trickle>
         end,
         fails,
     })
+}
+
+/// The same bytes, through a buffer of five.
+fn buffered(alloc: Global, end: u8, fails: bool) -> io::Result<Buffered<BufReader<Trickle>>>
+    ensures { IfOk result (λ source. failed_reads source ≡ 0) }
+{
+    let trickle = Trickle {
+        next: 0,
+        end,
+        fails,
+    };
+    Ok(Buffered::new(BufReader::with_capacity(alloc, 5, trickle)?))
 }
 
 #[test]
@@ -98,6 +112,39 @@ fn a_counted_part(rt: HostRuntime) -> Result<(), Fail> {
     assert!(rt; empty.is_empty());
     let lies = read_counted_part(rt.alloc(), &mut source);
     equal(&rt, lies.err(), Some(FileError::Truncated));
+    Ok(())
+}
+
+#[test]
+fn a_part_from_a_buffer(rt: HostRuntime) -> Result<(), Fail> {
+    let mut source = buffered(rt.alloc(), 12, false)?;
+    equal(&rt, read_byte(&mut source)?, 0);
+    let part = read_part(rt.alloc(), &mut source, 8)?;
+    equal(
+        &rt,
+        part.as_slice(),
+        b"\x01\x02\x03\x04\x05\x06\x07\x08".as_slice(),
+    );
+    let rest = read_to_end(rt.alloc(), &mut source)?;
+    equal(&rt, rest.as_slice(), b"\x09\x0a\x0b".as_slice());
+    let none = read_part(rt.alloc(), &mut source, 1);
+    equal(&rt, none.err(), Some(FileError::Truncated));
+    equal(&rt, Source::faults(&source), 0);
+    let mut memory = Buffered::new(b"\x04\0\0\0datab".as_slice());
+    let part = read_counted_part(rt.alloc(), &mut memory)?;
+    equal(&rt, part.as_slice(), b"data".as_slice());
+    equal(&rt, read_byte(&mut memory)?, b'b');
+    Ok(())
+}
+
+#[test]
+fn a_buffer_that_fails(rt: HostRuntime) -> Result<(), Fail> {
+    let mut source = buffered(rt.alloc(), 5, true)?;
+    let part = read_part(rt.alloc(), &mut source, 6);
+    equal(&rt, part.err(), Some(FileError::Io));
+    equal(&rt, Source::faults(&source), 1);
+    equal(&rt, read_byte(&mut source), Err(FileError::Io));
+    equal(&rt, Source::faults(&source), 2);
     Ok(())
 }
 

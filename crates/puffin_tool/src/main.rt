@@ -2,7 +2,7 @@
 //! file.
 #![tactic(auto)]
 
-use puffin_data::data::Counted;
+use puffin_data::data::{Buffered, Counted};
 use puffin_data::{Error, FileError};
 use puffin_frames::thread_profiler::ThreadInfo;
 use puffin_replay::replay::{
@@ -91,7 +91,7 @@ fn read_ahead(rt: &HostRuntime, path: &str) -> io::Result<BufReader<File>> {
 /// Prints the report of a file on one thread.
 fn report(rt: &HostRuntime, path: &str, thread: &ThreadInfo) -> Result<(), ToolFault> {
     let mut file = match read_ahead(rt, path) {
-        Ok(file) => Counted::new(file),
+        Ok(file) => Buffered::new(file),
         Err(error) => return Err(not_opened(&error)),
     };
     let mut lines = Counted::new(rt.stdout());
