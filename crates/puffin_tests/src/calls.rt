@@ -1,22 +1,18 @@
-//! What a profiler is handed by others: details without an id, details of an added frame, and sinks that come back.
+//! What callers hand to a profiler: details without an id, details to learn, and sinks that are returned.
 
+use crate::details::named;
 use crate::equal::equal;
 use crate::global_profiler::{borrowed, report, scope, thread};
+use crate::sinks::added;
 use puffin::data::ScopeId;
 use puffin::global_profiler::{Collector, FrameSinkId, GlobalProfiler, Sink};
 use puffin::profile_view::FrameView;
-use puffin::scope_details::ScopeDetails;
 use puffin::{Error, Result};
-use std::borrow::CowStr;
 use std::process::Abort;
 use std::sync::{Arc, Mutex, Wait};
 use std::test::Fail;
 
 type Outcome = std::result::Result<(), Fail>;
-
-fn named(name: &'static str) -> ScopeDetails {
-    ScopeDetails::from_scope_name(CowStr::Borrowed(name))
-}
 
 /// Reports one scope with details that have no id.
 fn report_nameless(rt: &impl AllocGlobal, profiler: &mut GlobalProfiler) -> Result<()> {
@@ -24,7 +20,7 @@ fn report_nameless(rt: &impl AllocGlobal, profiler: &mut GlobalProfiler) -> Resu
     profiler.report(thread(rt, "a")?, &[named("x")], &borrowed(&info))
 }
 
-/// Such a report is refused, and leaves the totals and what is pending as they were.
+/// Checks that such a report is refused, and changes neither the totals nor what is pending.
 fn changes_nothing<R: AllocGlobal + Wait + Abort>(
     rt: &R,
     profiler: &mut GlobalProfiler,
@@ -48,7 +44,7 @@ fn details_alone_without_an_id_are_refused(rt: HostRuntime) -> Outcome {
     changes_nothing(&rt, &mut GlobalProfiler::new(rt.alloc()))
 }
 
-/// Learns of a scope, and tells of it where all are wanted.
+/// Adds the details of a scope to those that are known. Checks that a snapshot lists them.
 fn learns(rt: &(impl AllocGlobal + Abort), collector: &mut Collector) -> Outcome {
     let id = ScopeId::new(7).ok_or("an id")?;
     let mut details = Vec::new(rt.alloc());
@@ -67,7 +63,7 @@ fn details_that_were_learnt_are_told(rt: HostRuntime) -> Outcome {
     learns(&rt, &mut Collector::new(rt.alloc(), 0))
 }
 
-/// Adds a view with a limit of recent frames by which it is known again.
+/// Adds a view that keeps `limit` recent frames. The test tells views apart by this limit.
 fn add_view(
     rt: &impl AllocGlobal,
     profiler: &mut GlobalProfiler,
@@ -75,13 +71,13 @@ fn add_view(
 ) -> std::result::Result<FrameSinkId, Fail> {
     let mut view = FrameView::new(rt.alloc());
     view.set_max_recent(limit);
-    match profiler.add_sink(Sink::View(Arc::new(rt.alloc(), Mutex::new(view))?)) {
-        Ok(id) => Ok(id),
-        Err((_error, _sink)) => Err(Fail::new("a sink is refused")),
-    }
+    added(
+        profiler,
+        Sink::View(Arc::new(rt.alloc(), Mutex::new(view))?),
+    )
 }
 
-/// The limit of a view that is taken out.
+/// Removes a view, and returns its limit, or `None` if there is no view with this number.
 fn removed<R: Wait>(rt: &R, profiler: &mut GlobalProfiler, id: FrameSinkId) -> Option<usize> {
     match profiler.remove_sink(id) {
         Some(Sink::View(view)) => Some(view.lock(rt).max_recent()),
@@ -89,7 +85,7 @@ fn removed<R: Wait>(rt: &R, profiler: &mut GlobalProfiler, id: FrameSinkId) -> O
     }
 }
 
-/// Of three views the second comes back, once.
+/// Adds three views. Checks that removing the second returns it, once.
 fn comes_back<R: AllocGlobal + Wait + Abort>(rt: &R, profiler: &mut GlobalProfiler) -> Outcome {
     for limit in 1..4 {
         let id = add_view(rt, profiler, limit)?;

@@ -1,4 +1,4 @@
-//! Where memory is there, each call that takes some succeeds: copies say the same, and frames are handed on.
+//! Calls that allocate, while there is memory: copies equal what they were made from, and frames are handed on.
 
 ghost use Rattle.std.specs.Prelude.{◌≡◌};
 
@@ -49,7 +49,8 @@ fn frame(alloc: Global) -> Result<FrameData> {
     FrameData::new(alloc, 0, streams, Vec::new(alloc), false)
 }
 
-/// Details under two ids: the second `a` stands under a second id, and `b` is not kept, as its id is known.
+/// Makes a collection with two ids. Both have details named `a`; of those named `b`, whose id is taken, only the name
+/// is kept.
 fn collection(alloc: Global) -> std::result::Result<ScopeCollection, Fail> {
     let mut collection = ScopeCollection::new(alloc);
     for (number, name) in [(1, "a"), (1, "b"), (2, "a")] {
@@ -73,13 +74,13 @@ fn written(
     Ok(bytes)
 }
 
-/// How many scopes a packet tells of.
+/// Returns how many scopes a packet lists.
 fn scopes_told(alloc: Global, packet: &[u8]) -> std::result::Result<usize, Fail> {
     let read = FrameData::read_next(alloc, &mut Counted::new(packet))?.ok_or("a frame")?;
     Ok(read.scope_delta.len())
 }
 
-/// A frame is written as the packet; with a collection, its packet tells of two scopes.
+/// Checks that a frame is written as [`PACKET`], and lists two scopes if it is written with the collection.
 fn is_written<R: Abort>(
     rt: &R,
     alloc: Global,
@@ -96,7 +97,7 @@ fn is_written<R: Abort>(
     Ok(())
 }
 
-/// So are its copies.
+/// Checks the same of its copies.
 fn copies_are_written<R: Abort>(
     rt: &R,
     alloc: Global,
@@ -125,7 +126,7 @@ fn an_empty_stream_gets_room(rt: HostRuntime) -> Outcome {
     Ok(())
 }
 
-/// A frame is added to a copy of a shared profiler without sinks.
+/// Adds a frame to a shared profiler without sinks, by another handle. Checks that no sink refuses it.
 fn added<L: Ledger, M: Ledger, R: Wait + Abort>(
     rt: &R,
     profiler: &SharedProfiler<L, M>,
@@ -135,7 +136,7 @@ fn added<L: Ledger, M: Ledger, R: Wait + Abort>(
     Ok(())
 }
 
-/// A profiler is shared, and the frame added to it.
+/// Makes a shared profiler, and adds a frame to it.
 fn added_where_shared<L: Ledger, M: Ledger, R: Wait + Abort>(
     rt: &R,
     alloc: Global,
@@ -179,7 +180,7 @@ fn copies_of_details(rt: HostRuntime) -> Outcome {
     Ok(())
 }
 
-/// The info of a copy of the packet's scope, copied in turn.
+/// Copies the packet's stream, and then the info of that copy.
 fn copied_info(alloc: Global) -> Result<StreamInfo> {
     StreamInfo::parse(alloc, stream(alloc)?.clone()?)?.clone()
 }
@@ -196,7 +197,7 @@ fn copies_of_streams(rt: HostRuntime) -> Outcome {
     Ok(())
 }
 
-/// A view of one frame.
+/// Makes a view of one frame.
 fn viewed(alloc: Global) -> std::result::Result<FrameView, Fail> {
     let mut view = FrameView::new(alloc);
     view.add_frame(Arc::new(alloc, frame(alloc)?)?)?;
@@ -217,7 +218,7 @@ fn copies_of_collections(rt: HostRuntime) -> Outcome {
     Ok(())
 }
 
-/// A view of one frame, copied.
+/// Makes a copy of a view of one frame.
 fn copied_view(alloc: Global) -> std::result::Result<FrameView, Fail> {
     Ok(viewed(alloc)?.clone()?)
 }

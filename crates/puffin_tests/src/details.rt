@@ -1,4 +1,4 @@
-//! What frames tell of scopes: new details, and all that are known.
+//! The details that frames list: new ones, or all that are known.
 
 use crate::equal::equal;
 use crate::global_profiler::{borrowed, emitted, holds, report, scope, thread};
@@ -14,7 +14,7 @@ use std::test::Fail;
 
 type Outcome = std::result::Result<(), Fail>;
 
-fn named(name: &'static str) -> ScopeDetails {
+pub(crate) fn named(name: &'static str) -> ScopeDetails {
     ScopeDetails::from_scope_name(CowStr::Borrowed(name))
 }
 
@@ -22,7 +22,7 @@ fn id(number: u32) -> Result<ScopeId> {
     ScopeId::new(number).ok_or(Error::MissingId)
 }
 
-/// Whether a frame tells of scopes with these ids and names, in this order.
+/// Returns whether a frame lists the details of exactly these scopes, given by id and name, in this order.
 fn tells_of(frame: &FrameData, scopes: &[(u32, &str)]) -> bool {
     frame.scope_delta.len() == scopes.len()
         && frame.scope_delta.iter().zip(scopes).all(|(details, (number, name))| {
@@ -31,7 +31,7 @@ fn tells_of(frame: &FrameData, scopes: &[(u32, &str)]) -> bool {
         })
 }
 
-/// Reports one scope under a thread, with details.
+/// Reports one scope of the thread `a`, with details.
 fn report_with(
     rt: &impl AllocGlobal,
     profiler: &mut GlobalProfiler,
@@ -42,7 +42,7 @@ fn report_with(
     profiler.report(thread(rt, "a")?, details, &borrowed(&info))
 }
 
-/// The only frame that is emitted now tells of these scopes, and of all that are known, where that is said.
+/// Takes a frame. Checks which scopes it lists, and whether it says that it lists all that are known.
 fn tells<R: Wait + Abort>(
     rt: &R,
     profiler: &mut GlobalProfiler,
@@ -55,7 +55,8 @@ fn tells<R: Wait + Abort>(
     Ok(())
 }
 
-/// A report whose second details have no id is refused, and leaves the first report and the totals as they were.
+/// Checks that a report whose second details have no id is refused, and changes neither the totals nor what was
+/// reported before.
 fn without_an_id<R: AllocGlobal + Wait + Abort>(rt: &R, profiler: &mut GlobalProfiler) -> Outcome {
     report(rt, profiler, "a", 1, (100, 200))?;
     let before = profiler.totals();
@@ -74,7 +75,8 @@ fn details_without_an_id_are_refused(rt: HostRuntime) -> Outcome {
     without_an_id(&rt, &mut GlobalProfiler::new(rt.alloc()))
 }
 
-/// Registers the first scope of the caller's own, `u`, and takes no frame, as no scope was reported.
+/// Registers a scope of the caller's own, `u`, which gets the id 1. Checks that there is no frame, as no scope was
+/// reported.
 fn register_first<R: Wait + Abort>(rt: &R, profiler: &mut GlobalProfiler) -> Outcome {
     let drawn = profiler.register_user_scopes(&ScopeIds::new(), &[named("u")])?;
     equal(rt, drawn.as_slice(), [id(1)?].as_slice());
@@ -82,7 +84,7 @@ fn register_first<R: Wait + Abort>(rt: &R, profiler: &mut GlobalProfiler) -> Out
     Ok(())
 }
 
-/// Reports one scope without details, and takes the frame, which tells of these.
+/// Reports one scope without details, and takes a frame. Checks which scopes it lists.
 fn reported_and_told<R: AllocGlobal + Wait + Abort>(
     rt: &R,
     profiler: &mut GlobalProfiler,
@@ -94,7 +96,7 @@ fn reported_and_told<R: AllocGlobal + Wait + Abort>(
     tells(rt, profiler, scopes, full_delta)
 }
 
-/// Details of a scope that was registered stand in the next frame, and in none after it.
+/// Checks that the details of a registered scope are in the next frame, and in none after it.
 fn told_once<R: AllocGlobal + Wait + Abort>(rt: &R, profiler: &mut GlobalProfiler) -> Outcome {
     register_first(rt, profiler)?;
     reported_and_told(rt, profiler, 100, &[(1, "u")], false)?;
@@ -110,7 +112,7 @@ fn details_wait_for_the_next_frame(rt: HostRuntime) -> Outcome {
     told_once(&rt, &mut GlobalProfiler::new(rt.alloc()))
 }
 
-/// Reports one scope with details, which are known after the report's frame, and takes that frame.
+/// Reports one scope with new details, and takes a frame. Checks that it lists these before the ones that were known.
 fn learnt_and_told<R: AllocGlobal + Wait + Abort>(
     rt: &R,
     profiler: &mut GlobalProfiler,
@@ -120,7 +122,8 @@ fn learnt_and_told<R: AllocGlobal + Wait + Abort>(
     tells(rt, profiler, &[(7, "t"), (1, "u")], true)
 }
 
-/// Three snapshots: of a scope that was registered, of this and a new one, and of both.
+/// Takes three snapshots. The first lists a scope that is both new and known, the second a new one and a known one, and
+/// the third two known ones.
 fn snapshots<R: AllocGlobal + Wait + Abort>(rt: &R, profiler: &mut GlobalProfiler) -> Outcome {
     profiler.emit_scope_snapshot();
     register_first(rt, profiler)?;

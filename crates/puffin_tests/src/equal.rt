@@ -1,4 +1,5 @@
-//! How tests compare values. A call takes a third of what proving the macro's expansion takes.
+//! How tests compare values. A call takes a third of what proving the macro's expansion takes. Each crate of tests has
+//! a copy of this file, since a library may not take `Abort`.
 
 ghost use Rattle.std.specs.Prelude.{◌≡◌, true};
 

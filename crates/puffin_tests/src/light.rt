@@ -1,4 +1,4 @@
-//! Scopes of places, of one thread and of several.
+//! Scopes at places, on one thread and on several.
 
 use crate::equal::equal;
 use puffin::data::Counted;
@@ -17,7 +17,7 @@ use std::test::Fail;
 
 type Tested = std::result::Result<(), Fail>;
 
-/// A function, and a part of it.
+/// The places of a function and of a part of it.
 #[derive(Drop)]
 struct Places {
     whole: Place,
@@ -33,7 +33,7 @@ impl Places {
     }
 }
 
-/// Two scopes, one within the other.
+/// Makes a scope with a child.
 fn both<T: Records>(thread: &mut T, places: &Places) {
     profile!(whole, thread, places.whole);
     profile!(_part, whole, places.part, "text");
@@ -105,7 +105,8 @@ impl Rounds for Places {
     }
 }
 
-/// Each thread reported so many scopes, all of which were handed out, in so many frames that the view took.
+/// Checks that each thread reported as many scopes as `reported` lists, `sum` together, and that all of them were
+/// handed out, in `frames` frames that are all in the view.
 fn has<R: Abort + Wait>(rt: &R, outcome: &Outcome, reported: &[u64], sum: u64, frames: usize) {
     equal(rt, outcome.reported.as_slice() == reported, true);
     let settled = Settled {
@@ -141,7 +142,7 @@ fn one_thread_two_and_64(rt: HostRuntime) -> Tested {
     Ok(())
 }
 
-/// Each thread begins two scopes as often as its number says; one frame is taken.
+/// Thread `number` makes `number` scopes, each with a child. One frame is taken.
 #[derive(Drop)]
 struct Uneven {
     places: Places,
@@ -176,7 +177,8 @@ fn all_that_threads_report_is_handed_out_or_pending(rt: HostRuntime) -> Tested {
     Ok(())
 }
 
-/// In each round a thread begins two scopes more than in the one before, and none once it has made as many as its number says.
+/// In round `n`, counted from 1, thread `number` makes `n` scopes, each with a child. After `number` rounds it makes
+/// none.
 #[derive(Drop)]
 struct Rising {
     places: Places,

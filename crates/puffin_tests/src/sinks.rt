@@ -1,14 +1,9 @@
-ghost use Rattle.std.specs.Prelude.{IfOk};
-ghost use Rattle.puffin_data.specs.Forest.{Forest};
-ghost use Rattle.puffin_data.specs.Honesty.{IsHonest};
-
 use crate::equal::equal;
-use puffin::data::{Stream, StreamInfo};
+use crate::global_profiler::{report, scope, thread};
 use puffin::frame_data::{FrameData, FrameIndex};
 use puffin::global_profiler::{FrameSink, FrameSinkId, GlobalProfiler, Sink, Totals};
 use puffin::profile_view::FrameView;
 use puffin::scope_details::ScopeDetails;
-use puffin::thread_profiler::ThreadInfo;
 use puffin::{Error, Result};
 use std::borrow::CowStr;
 use std::collections::BTreeMap;
@@ -19,10 +14,10 @@ use std::vec::IntoIter;
 
 type Outcome = std::result::Result<(), Fail>;
 
-/// Which sinks were handed which frames, in order.
+/// The names of the sinks that were handed a frame, each with the index of the frame, in order.
 type Handed = Arc<Mutex<Vec<(u64, FrameIndex)>>>;
 
-/// Notes each frame that it is handed under its name, and refuses it or not.
+/// A sink that notes its name and the index of each frame. It refuses every frame or none.
 #[derive(Drop)]
 struct Noting<R: Wait> {
     name: u64,
@@ -45,8 +40,8 @@ impl<R: Wait + Drop> FrameSink for Noting<R> {
     }
 }
 
-/// The sinks with the names from 1 to a number, of which the one with a certain name refuses each frame. (A box of what waits
-/// can only be made where the runtime is at hand.)
+/// Makes sinks with the names 1 to `$count`. The one with the name `$refusing` refuses every frame. (A box of a type
+/// that waits can only be made in a function that has the runtime.)
 macro_rules! sinks_named {
     ($rt:expr, $handed:expr, $count:expr, $refusing:expr) => {{
         let mut sinks = Vec::new($rt.alloc());
@@ -71,14 +66,17 @@ fn nothing_handed(rt: &impl AllocGlobal) -> std::result::Result<Handed, Fail> {
 }
 
 /// Adds a sink, and returns its number.
-fn added(profiler: &mut GlobalProfiler, sink: Sink) -> std::result::Result<FrameSinkId, Fail> {
+pub(crate) fn added(
+    profiler: &mut GlobalProfiler,
+    sink: Sink,
+) -> std::result::Result<FrameSinkId, Fail> {
     match profiler.add_sink(sink) {
         Ok(id) => Ok(id),
         Err((_error, _sink)) => Err(Fail::new("a sink is refused")),
     }
 }
 
-/// Adds sinks in their order.
+/// Adds all sinks, in order.
 fn all_added(profiler: &mut GlobalProfiler, sinks: Vec<Sink>) -> Outcome {
     for sink in sinks {
         let _id = added(profiler, sink)?;
@@ -86,29 +84,7 @@ fn all_added(profiler: &mut GlobalProfiler, sinks: Vec<Sink>) -> Outcome {
     Ok(())
 }
 
-/// One scope of a nanosecond, without a text.
-fn scope(rt: &impl AllocGlobal) -> Result<StreamInfo>
-    ensures { IfOk result (λ info. (f : Forest) × IsHonest info f) }
-{
-    let mut bytes = Vec::from_slice(rt.alloc(), b"(\x01\0\0\0\x64\0\0\0\0\0\0\0\0")?;
-    bytes.extend_from_slice(b"\0\0\0\0\0\0\0\0)\x65\0\0\0\0\0\0\0")?;
-    StreamInfo::parse(rt.alloc(), Stream::from(bytes))
-}
-
-fn thread(rt: &impl AllocGlobal) -> Result<ThreadInfo> {
-    Ok(ThreadInfo {
-        start_time_ns: None,
-        name: String::from_str(rt.alloc(), "a")?,
-    })
-}
-
-/// Reports one scope.
-fn report(rt: &impl AllocGlobal, profiler: &mut GlobalProfiler) -> Result<()> {
-    let info = scope(rt)?;
-    profiler.report(thread(rt)?, &[], &info.as_stream_into_ref())
-}
-
-/// Adds the next of some sinks, and returns its number.
+/// Adds the next sink, and returns its number.
 fn next_added(
     profiler: &mut GlobalProfiler,
     sinks: &mut IntoIter<Sink>,
@@ -116,7 +92,7 @@ fn next_added(
     added(profiler, sinks.next().ok_or("a sink")?)
 }
 
-/// Four sinks are numbered from 1 on, and the number of one that was taken out isn't given again.
+/// Checks that sinks are numbered from 1 on, and that the number of a removed one isn't given again.
 fn are_numbered<R: AllocGlobal + Abort>(rt: &R, sinks: Vec<Sink>) -> Outcome {
     let mut profiler = GlobalProfiler::new(rt.alloc());
     let mut sinks = sinks.into_iter();
@@ -140,18 +116,18 @@ fn numbers_of_sinks(rt: HostRuntime) -> Outcome {
     are_numbered(&rt, sinks)
 }
 
-/// What the sinks were handed.
+/// Returns what the sinks noted.
 fn notes<R: Wait>(rt: &R, handed: &Handed) -> std::result::Result<Vec<(u64, FrameIndex)>, Fail> {
     Ok(handed.lock(rt).clone()?)
 }
 
-/// A frame is refused by the first sink, and the third is called.
+/// Checks that the third sink is called although the first refuses the frame.
 fn one_refuses<R: AllocGlobal + Wait + Abort>(
     rt: &R,
     profiler: &mut GlobalProfiler,
     handed: &Handed,
 ) -> Outcome {
-    report(rt, profiler)?;
+    report(rt, profiler, "a", 1, (100, 101))?;
     let emitted = profiler.new_frame(rt)?;
     assert!(rt; emitted.frame.is_some());
     equal(rt, emitted.refused, 1);
@@ -163,7 +139,7 @@ fn one_refuses<R: AllocGlobal + Wait + Abort>(
     Ok(())
 }
 
-/// Without a frame no sink is called.
+/// Checks that no sink is called if there is no frame.
 fn none_is_called<R: Wait + Abort>(
     rt: &R,
     profiler: &mut GlobalProfiler,
@@ -187,17 +163,17 @@ fn a_sink_that_refuses_is_counted_and_the_next_is_called(rt: HostRuntime) -> Out
     none_is_called(&rt, &mut profiler, &handed)
 }
 
-/// A frame of one scope with this index.
+/// Makes a frame of one scope, with this index.
 fn frame_at(
     rt: &impl AllocGlobal,
     frame_index: FrameIndex,
 ) -> std::result::Result<Arc<FrameData>, Fail> {
     let mut other = GlobalProfiler::with_frame_index(rt.alloc(), frame_index);
-    report(rt, &mut other)?;
+    report(rt, &mut other, "a", 1, (100, 101))?;
     Ok(other.collect_frame()?.ok_or("no frame")?)
 }
 
-/// Frame 7 is added: the second of two sinks refuses it, and no total counts it.
+/// Adds frame 7. Checks that both sinks are handed it, that the second refuses it, and that no total counts it.
 fn is_handed_on<R: AllocGlobal + Wait + Abort>(
     rt: &R,
     profiler: &mut GlobalProfiler,
@@ -227,16 +203,16 @@ fn a_frame_that_is_added_is_handed_on_and_not_counted(rt: HostRuntime) -> Outcom
     is_handed_on(&rt, &mut profiler, &handed)
 }
 
-/// Takes a frame of one scope, which no sink refuses.
+/// Takes a frame of one scope. Checks that no sink refuses it.
 fn taken<R: AllocGlobal + Wait + Abort>(rt: &R, profiler: &mut GlobalProfiler) -> Outcome {
-    report(rt, profiler)?;
+    report(rt, profiler, "a", 1, (100, 101))?;
     let emitted = profiler.new_frame(rt)?;
     assert!(rt; emitted.frame.is_some());
     equal(rt, emitted.refused, 0);
     Ok(())
 }
 
-/// The indices of a view's recent frames.
+/// Returns the indices of a view's recent frames.
 fn recent<R: AllocGlobal + Wait>(
     rt: &R,
     view: &Mutex<FrameView>,
@@ -248,7 +224,7 @@ fn recent<R: AllocGlobal + Wait>(
     Ok(indices)
 }
 
-/// Two frames are taken, one is added, and one more is taken when this sink is no longer there.
+/// Takes two frames, adds one, removes the sink, and takes one more.
 fn three_are_handed_on<R: AllocGlobal + Wait + Abort>(
     rt: &R,
     profiler: &mut GlobalProfiler,
@@ -271,7 +247,7 @@ fn a_view_is_a_sink(rt: HostRuntime) -> Outcome {
     Ok(())
 }
 
-/// Details without an id.
+/// Makes details without an id.
 fn nameless_details(rt: &impl AllocGlobal) -> Result<Vec<Arc<ScopeDetails>>> {
     let details = ScopeDetails::from_scope_name(CowStr::Borrowed("no id"));
     let mut delta = Vec::new(rt.alloc());
@@ -279,15 +255,15 @@ fn nameless_details(rt: &impl AllocGlobal) -> Result<Vec<Arc<ScopeDetails>>> {
     Ok(delta)
 }
 
-/// A frame that tells of a scope without an id.
+/// Makes a frame that lists a scope without an id.
 fn nameless(rt: &impl AllocGlobal) -> std::result::Result<Arc<FrameData>, Fail> {
     let mut streams = BTreeMap::new(rt.alloc());
-    let _none = streams.insert(thread(rt)?, scope(rt)?)?;
+    let _none = streams.insert(thread(rt, "a")?, scope(rt, 1, 100, 101)?)?;
     let frame = FrameData::new(rt.alloc(), 3, streams, nameless_details(rt)?, false)?;
     Ok(Arc::new(rt.alloc(), frame)?)
 }
 
-/// A frame that tells of a scope without an id is handed to no sink.
+/// Checks that a frame that lists a scope without an id is handed to no sink.
 fn is_handed_to_none<R: AllocGlobal + Wait + Abort>(
     rt: &R,
     profiler: &mut GlobalProfiler,
