@@ -10,7 +10,7 @@ use Rattle.puffin_data.specs.declared.error.Error.TheVariants.{Memory}
 use Rattle.puffin_data.specs.declared.file_error.FileError.{FileError}
 use Rattle.puffin_data.specs.declared.file_error.FileError.TheVariants as file
 use Rattle.puffin_data.specs.declared.data.form.Form.{Form}
-use Rattle.puffin_threads.specs.Thread.Info.{Info, info_of}
+use Rattle.puffin_threads.specs.Thread.Info.{Info}
 use Rattle.puffin_threads.specs.Details.{Details}
 use Rattle.puffin_threads.specs.Details.Collection.{Collection, no_details, with_details, with_all_details}
 use Rattle.puffin_frames.specs.declared.frame_data.kind.Kind.TheVariants.{Uncompressed}
@@ -31,7 +31,7 @@ use Rattle.puffin_merge.specs.declared.merge.merger.Merger.{Merger}
 use Rattle.puffin_merge.specs.Merge.FrameBytes.{FrameBytes}
 use Rattle.puffin_merge.specs.Merge.Refusals.{IsRefusalAfter, IsMergeRefusal, AreMerged}
 use Rattle.puffin_merge.specs.Merge.Scopes.{frame_bytes, forest_in}
-use Rattle.puffin_merge.specs.Merge.Merger.{HasAdded, CanAdd, tries_for}
+use Rattle.puffin_merge.specs.Merge.Merger.{HasAdded, CanAdd, merged_info, tries_for}
 use Rattle.puffin_report.specs.Summary.{bytes_in, followed_by, all_bytes_in, contents_read, IsSummary, IsHindered, FailsToSumUp}
 use Rattle.puffin_report.specs.declared.summing.Progress.{Progress}
 use Rattle.puffin_report.specs.declared.summing.Progress.TheVariants as progress
@@ -93,7 +93,7 @@ can_add p m is h =
     ((a.0, a.2), omega (arith, h.3, a.2.number, size_of_all h.0 h.1 a.0 a.1))
 
 pub one_added : (info : Info) (kept : List Said) (m new : Merger) (c : Said) (u : UnpackedFrameData) → AreAdded info kept m → bytes_in info c ≡ Ok (frame_bytes info u) → new.info ≡ m.info
-    → ((added : List FrameBytes) → HasAdded added m → HasAdded (added ++ (frame_bytes (info_of m.info.now) u ∷ [])) new) → AreAdded info (kept ++ c ∷ []) new
+    → ((added : List FrameBytes) → HasAdded added m → HasAdded (added ++ (frame_bytes (merged_info m) u ∷ [])) new) → AreAdded info (kept ++ c ∷ []) new
 one_added info kept m new c u h read same more = (
   h.0 ++ frame_bytes info u ∷ [],
   all_with info kept c h.0 (Ok (frame_bytes info u)) h.1 read,
@@ -102,7 +102,7 @@ one_added info kept m new c u h read same more = (
 )
 
 pub one_refused : (info : Info) (kept : List Said) (m : Merger) (c : Said) (u : UnpackedFrameData) (cause : Error) → AreAdded info kept m → bytes_in info c ≡ Ok (frame_bytes info u) → (cause ≡ Memory → ⊥)
-    → ((added later : List FrameBytes) → HasAdded added m → (cause ≡ Memory) ⊎ IsMergeRefusal (added ++ (frame_bytes (info_of m.info.now) u ∷ later)) cause) → AreRefused info (kept ++ c ∷ []) cause
+    → ((added later : List FrameBytes) → HasAdded added m → (cause ≡ Memory) ⊎ IsMergeRefusal (added ++ (frame_bytes (merged_info m) u ∷ later)) cause) → AreRefused info (kept ++ c ∷ []) cause
 one_refused info kept m c u cause h read differs refused =
     let b = frame_bytes info u in (
       h.0 ++ b ∷ [],
@@ -141,10 +141,7 @@ rises_so last index cs c r b at_last at_index test is =
 pub all_kept : (info : Info) (cs : List Said) (c : Said) (p : Progress) → IsProgress info (rising_end cs) p → rising_end (cs ++ c ∷ []) ≡ rising_end cs ++ c ∷ [] → IsKeptWith info cs c p
 all_kept info cs c p h kept = record { before = rising_end cs; fewer = fewer_kept cs; progress = h; kept = kept }
 
-pub none_kept : (info : Info) (cs : List Said) (c : Said) (p : Progress) → IsProgress info [] p → rising_end (cs ++ c ∷ []) ≡ c ∷ [] → IsKeptWith info cs c p
-none_kept info cs c p h kept = record { before = []; fewer = omega arith; progress = h; kept = kept }
-
-pub none_added : (info : Info) (m : Merger) → HasAdded [] m → info_of m.info.now ≡ info → AreAdded info [] m
+pub none_added : (info : Info) (m : Merger) → HasAdded [] m → merged_info m ≡ info → AreAdded info [] m
 none_added info m h same = ([], refl, h, same)
 
 pub can_go_on : (info : Info) (stored : List Stored) (c : Said) (p : Progress) → length stored < 2 ^ 64 - 1 → IsKeptWith info (said_by stored) c p → CanGoOn p

@@ -12,7 +12,7 @@ use Rattle.puffin_view.specs.View.File.{frame_stored, details_stored}
 use Rattle.puffin_merge.specs.declared.merge.merger.Merger.{Merger}
 use Rattle.puffin_merge.specs.Merge.FrameBytes.{FrameBytes}
 use Rattle.puffin_merge.specs.Merge.Refusals.{IsMergeRefusal}
-use Rattle.puffin_merge.specs.Merge.Merger.{HasAdded}
+use Rattle.puffin_merge.specs.Merge.Merger.{HasAdded, merged_info}
 use Rattle.puffin_report.specs.declared.summing.Progress.{Progress}
 use Rattle.puffin_report.specs.declared.summing.Progress.TheVariants as progress
 use Rattle.puffin_report.specs.declared.summing.Summing.{Summing}
@@ -34,7 +34,7 @@ AreAdded info kept m =
     (streams : List FrameBytes)
     × (all_bytes_in info kept ≡ Ok streams)
     × HasAdded streams m
-    × (info_of m.info.now ≡ info)
+    × (merged_info m ≡ info)
 
 -- all of them were unpacked, and merging them is refused so, whatever frames follow
 abbrev pub AreRefused : Info → List Said → Error → Type 0
