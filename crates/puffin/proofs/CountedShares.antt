@@ -1,5 +1,5 @@
 -- Shares with the numbers that their threads counted.
-use Rattle.std.proofs.Common.{◌≡◌, ℕ, ◌+◌, ◌<◌, ◌^◌, List, [], ◌∷◌, ◌++◌, sum, ◌∙◌, arith}
+use Rattle.std.proofs.Common.{◌≡◌, ℕ, ◌+◌, ◌<◌, ◌≤◌, ◌^◌, List, [], ◌∷◌, ◌++◌, sum, ◌∙◌, arith}
 use Rattle.std.proofs.lemmas.List.Sums.{sum_by-append}
 use Rattle.puffin.specs.Shares.{ShareCounts, all_reported, all_handed}
 
@@ -18,3 +18,9 @@ pub none_more : (shares : List ShareCounts) (s : ShareCounts) (frames : ℕ) →
 none_more shares s frames so_far one none =
     let whole : all_handed (shares ++ s ∷ []) ≡ all_handed shares + s.handed = sum_by-append (λ (c : ShareCounts). c.handed) shares (s ∷ []) ∙ omega arith in
     omega (arith, whole, so_far none, one none)
+
+-- one share more, where the others count at least as many scopes as there are frames
+pub some_more : (shares : List ShareCounts) (s : ShareCounts) (frames : ℕ) → frames ≤ all_handed shares → frames ≤ all_handed (shares ++ s ∷ [])
+some_more shares s frames so_far =
+    let whole : all_handed (shares ++ s ∷ []) ≡ all_handed shares + s.handed = sum_by-append (λ (c : ShareCounts). c.handed) shares (s ∷ []) ∙ omega arith in
+    omega (arith, whole, so_far)

@@ -20,21 +20,22 @@ use Rattle.puffin.specs.declared.light.guard.Standing.{Standing}
 use Rattle.puffin.specs.declared.light.guard.Standing.TheVariants.{On, Off, Refused}
 use Rattle.puffin.specs.declared.light.place.Place.{Place}
 
--- where its scope's size stands, if it has one
+-- the offset of a guard's scope, if it has one
 abbrev pub offset_in : Standing → Option ℕ
 offset_in (On offset) = Some offset
 offset_in Off = None
 offset_in (Refused e) = None
 
+-- the details of a function, or of a scope in it with this name
 abbrev pub details_at : Site → List ℕ → Option (Bor (List ℕ)) → Details
 details_at site function None = function_details site function
 details_at site function (Some name) = named_details site function name.now
 
--- what a place says of its scope
+-- the details that a place registers for its scope
 abbrev pub names_of : Place → Details
 names_of place = details_at place.site place.function.now place.name
 
--- A scope began at a moment, the innermost one: its names were known before, or are registered now.
+-- A scope began at the clock's time, and is now the innermost. Its details were registered before, or by this call.
 pub record Began {C : Type 0} (answers : C → ℤ → C → Type 0) (names : Details)
     (old : ThreadProfiler C) (text : List ℕ) (offset : ℕ) (new : ThreadProfiler C) : Type 0 where
   pub known : Thread
@@ -47,7 +48,7 @@ pub record Began {C : Type 0} (answers : C → ℤ → C → Type 0) (names : De
   pub offset_is : offset
       ≡ word_size known.form known.word + size_offset known.form (cut_text known.form text)
 
--- What a thread's begin leaves. Where it opens no scope, the names may be registered all the same.
+-- The thread after a `begin` with this outcome. A refused `begin` may have registered the details all the same.
 abbrev pub Begins : {C : Type 0} → (C → ℤ → C → Type 0) → Details → ThreadProfiler C → List ℕ →
     Standing → ThreadProfiler C → Type 0
 Begins answers names old text (On offset) new = Began answers names old text offset new
@@ -55,7 +56,7 @@ Begins answers names old text Off new = new ≡ old
 Begins answers names old text (Refused e) new =
     IsKnownOrNew names (thread_of old) (thread_of new) × (clock_of new ≡ clock_of old)
 
--- the innermost scope was ended at a moment, and all was reported where it was the last
+-- The innermost scope was ended at the clock's time. If no other scope was open, all closed scopes were reported.
 pub record Ended {C R : Type 0} (answers : C → ℤ → C → Type 0)
     (accepts : R → Info → List Details → Recorded → R → Type 0)
     (refuses : R → Info → List Details → Recorded → Error → R → Type 0)
@@ -66,7 +67,7 @@ pub record Ended {C R : Type 0} (answers : C → ℤ → C → Type 0)
   pub never_negative : pos 0 ≤ℤ at
   pub closes : Closes accepts refuses (thread_of old) (thread_of new) at before after closed
 
--- the scope at this offset was ended where it was the innermost; else nothing has changed
+-- the scope at this offset was ended if it was the innermost; otherwise nothing changed
 pub record EndsAt {C R : Type 0} (answers : C → ℤ → C → Type 0)
     (accepts : R → Info → List Details → Recorded → R → Type 0)
     (refuses : R → Info → List Details → Recorded → Error → R → Type 0) (offset : ℕ)
@@ -75,7 +76,7 @@ pub record EndsAt {C R : Type 0} (answers : C → ℤ → C → Type 0)
       Ended answers accepts refuses old new before after
   pub other : innermost_of old ≢ Some offset → (new ≡ old) × (after ≡ before)
 
--- what a guard leaves, of a scope at this offset or of none
+-- the thread after the drop of a guard that has a scope at this offset, or no scope
 abbrev pub Leaves : {T : Type 0} → (T → ℕ → T → Type 0) → Option ℕ → T → T → Type 0
 Leaves ends None old new = new ≡ old
 Leaves ends (Some offset) old new = ends old offset new

@@ -1,5 +1,5 @@
 -- What a share of a profiler counts.
-use Rattle.std.specs.Prelude.{◌≡◌, ℕ, ◌+◌, List, Option, Some, None, sum_by}
+use Rattle.std.specs.Prelude.{◌≡◌, ℕ, ◌+◌, ◌<◌, List, Option, Some, None, sum_by}
 use Rattle.std.specs.FinMap as map
 use Rattle.std.specs.Arc.{arc_value}
 use Rattle.std.specs.declared.sync.Arc.{Arc}
@@ -8,7 +8,7 @@ use Rattle.puffin_frames.specs.declared.frame_data.frame.FrameData.{FrameData}
 use Rattle.puffin_frames.specs.Frame.Contents.{Streams, AreHonest, holding_of, frame_meta}
 use Rattle.puffin_frames.specs.Frame.Sums.{total_scopes}
 
--- how many scopes were reported by it, and how many were in the frames that were handed out to it
+-- the number of scopes reported through the share, and of scopes in the frames handed out to it
 pub record ShareCounts : Type 0 where
   pub reported : ℕ
   pub handed : ℕ
@@ -30,22 +30,23 @@ all_reported shares = sum_by (λ c. c.reported) shares
 abbrev pub all_handed : List ShareCounts → ℕ
 all_handed shares = sum_by (λ c. c.handed) shares
 
--- a blank for so many shares, of the ledger that has this name and so many parts
+-- a blank of the ledger with this name and this number of parts, for as many shares
 abbrev pub IsBlankFor : ℕ → ℕ → ℕ → Blank → Type 0
 IsBlankFor name parts shares blank =
     (blank.name ≡ name) × (blank.parts ≡ parts) × (blank.parts ≡ shares)
 
--- a share counts the scopes of a frame that is handed out to it, if there is one
+-- if a frame is handed out to a share, the share counts its scopes; otherwise it doesn't change
 abbrev pub CountsFrame : {A : Type 0} → ShareCounts → Option (Arc FrameData A) → ShareCounts →
     Type 0
 CountsFrame old None new = new ≡ old
 CountsFrame old (Some frame) new =
     new ≡ with_handed old (frame_meta (arc_value frame)).num_scopes
 
--- A frame that is handed out holds honest streams, not packed, and their scopes are as many as it says.
+-- A frame that is handed out holds honest streams, not packed. It has at least one scope, and as many as its meta says.
 abbrev pub SpellsItsScopes : {A : Type 0} → Option (Arc FrameData A) → Type 0
 SpellsItsScopes None = Unit {0}
 SpellsItsScopes (Some frame) = (streams : Streams)
     × (holding_of (arc_value frame) ≡ record { packed = None; unpacked = Some streams })
     × AreHonest streams
     × ((frame_meta (arc_value frame)).num_scopes ≡ total_scopes (map.values streams))
+    × (0 < (frame_meta (arc_value frame)).num_scopes)

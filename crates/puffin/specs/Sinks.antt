@@ -5,11 +5,11 @@ use Rattle.puffin.specs.declared.global_profiler.sink.Sink.{Sink}
 use Rattle.puffin.specs.declared.global_profiler.sinks.Entry.{Entry}
 
 module _ {I : Type 0} {F : I → Type 0} where
-  -- a sink is put behind the others under its number
+  -- a sink is appended under this number
   abbrev pub PutsIn : ℕ → Sink I F → List (Entry I F) → List (Entry I F) → Type 0
   PutsIn id sink old new = new ≡ old ++ record { id = id; sink = sink } ∷ []
 
-  -- the sink under a number is taken out, and the others stay
+  -- the sink with this number is removed, and the others stay in order
   abbrev pub TakesOut : ℕ → Sink I F → List (Entry I F) → List (Entry I F) → Type 0
   TakesOut id sink old new = (before after : List (Entry I F))
       × (old ≡ before ++ record { id = id; sink = sink } ∷ after)

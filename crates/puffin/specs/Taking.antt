@@ -1,13 +1,14 @@
--- How frames are counted that are handed out to a program's leader.
+-- How a program's leader counts the frames that it takes.
 use Rattle.std.specs.Prelude.{ℕ, ◌+◌, ◌-◌, ◌^◌, ◌<◌, ◌≡◌, Option, Some, None, min}
 use Rattle.std.specs.declared.sync.Arc.{Arc}
 use Rattle.puffin_frames.specs.declared.frame_data.frame.FrameData.{FrameData}
 
--- one more, but never more than 64 bits hold
+-- one more, but at most the largest `u64`
 abbrev pub one_more : ℕ → ℕ
 one_more n = min (n + 1) (2 ^ 64 - 1)
 
--- a frame that was handed out, if there is one, is counted, and as missed too where it was refused
+-- The numbers of frames and of missed frames, before and after: a frame counts if one was handed out, and as missed too
+-- if a sink refused it.
 abbrev pub CountsTaken : {A : Type 0} → Option (Arc FrameData A) → ℕ → ℕ × ℕ → ℕ × ℕ → Type 0
 CountsTaken None refused old new = new ≡ old
 CountsTaken (Some frame) refused old new =

@@ -1,5 +1,9 @@
 //! A profiler that collects what threads report, hands it out in frames and hands these to sinks; and the same profiler behind
 //! a lock, for several threads.
+//!
+//! **The clause `requires boxed_sinks { ⊤ }`** always holds, so it asks nothing of a caller. It is there for the checker: if a
+//! function over a type with boxed sinks had no `requires`, calls from other crates would count as making a box and be
+//! refused.
 
 mod booked;
 mod global_frame_view;

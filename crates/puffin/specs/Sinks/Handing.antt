@@ -13,23 +13,23 @@ use Rattle.puffin.specs.declared.global_profiler.sink.Sink.TheVariants.{View, Bo
 use Rattle.puffin.specs.declared.global_profiler.handing.Outcome.{Outcome}
 use Rattle.puffin.specs.declared.global_profiler.handing.Outcome.TheVariants.{Accepted, Refused, NoCopy}
 
--- an outcome that counts as refused
+-- 1 for an outcome that counts as a refusal, else 0
 abbrev pub refusal : Outcome → ℕ
 refusal Accepted = 0
 refusal Refused = 1
 refusal NoCopy = 1
 
--- (what a sink's own `accept` relates, of any box)
+-- `accepts` is what `FrameSink::accepts` relates, for the sink in any box.
 module _ {I : Type 0} {F : I → Type 0}
     (accepts : (b : DynBox I Global F) → F b.vtable → FrameData → Result (Unit {0}) Error →
     F b.vtable → Type 0) where
-  -- the box after its sink returned a result
+  -- the sink in a box returned this result for this frame, and `c` is the box after that
   abbrev pub Answers : DynBox I Global F → FrameData → Result (Unit {0}) Error →
       DynBox I Global F → Type 0
   Answers b frame r c =
       (x : F b.vtable) × accepts b b.value frame r x × (c ≡ dyn_box_with b b.vtable x)
 
-  -- one sink after an outcome: a view stays in its place, and of what it holds nothing is said
+  -- One sink after an outcome. A view is still the same shared view; what it holds is left open.
   abbrev pub HandedTo : FrameData → Sink I F → Outcome → Sink I F → Type 0
   HandedTo frame (View v) o new = new ≡ View v
   HandedTo frame (Boxed b) Accepted new =
@@ -38,21 +38,21 @@ module _ {I : Type 0} {F : I → Type 0}
       (c : DynBox I Global F) × (e : Error) × Answers b frame (Err e) c × (new ≡ Boxed c)
   HandedTo frame (Boxed b) NoCopy new = new ≡ Boxed b
 
-  -- all sinks after their outcomes, one each, in order
+  -- all sinks after their outcomes, one outcome for each sink, in order
   abbrev pub Handed : FrameData → List (Entry I F) → List Outcome → List (Entry I F) → Type 0
   Handed frame [] [] [] = Unit {0}
   Handed frame (e ∷ es) (o ∷ os) (f ∷ fs) =
       (f.id ≡ e.id) × HandedTo frame e.sink o f.sink × Handed frame es os fs
   Handed frame _ _ _ = ⊥
 
-  -- a frame is handed to all sinks, and so many didn't take it
+  -- a frame is handed to all sinks, and this number of them didn't take it
   abbrev pub HandsOn : FrameData → List (Entry I F) → ℕ → List (Entry I F) → Type 0
   HandsOn frame old refused new =
       (outcomes : List Outcome)
       × Handed frame old outcomes new
       × (refused ≡ sum_by refusal outcomes)
 
-  -- the same of a frame, if there is one; without a frame sinks stay, and none refuses
+  -- the same if there is a frame; without one no sink changes, and none refuses
   abbrev pub HandsOnAny : {A : Type 0} → Option (Arc FrameData A) → List (Entry I F) → ℕ →
       List (Entry I F) → Type 0
   HandsOnAny None old refused new = (new ≡ old) × (refused ≡ 0)

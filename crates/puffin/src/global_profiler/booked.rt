@@ -1,5 +1,5 @@
 //! The value that a shared profiler's lock protects.
-ghost use Rattle.std.specs.Prelude.{◌≡◌, ◌+◌, ◌-◌, ◌^◌, ◌<◌, ◌≤◌, ◌⊎◌, ◌↔◌, [], true, vec_len, Some, OnOk, OnErr, IfOk, IfErr, IfSome, IfNone};
+ghost use Rattle.std.specs.Prelude.{◌≡◌, ◌+◌, ◌-◌, ◌^◌, ◌<◌, ◌≤◌, ◌⊎◌, ◌↔◌, [], true, vec_len, Some, OnOk, OnErr, IfOk, IfErr, IfSome, IfNone, ⊤};
 ghost use Rattle.std.specs.FinMap as map;
 ghost use Rattle.std.specs.List.{list_any};
 ghost use Rattle.std.specs.Arc.{arc_value};
@@ -147,7 +147,7 @@ impl<L: Ledger, M: Ledger> Booked<L, M> {
         ids: &ScopeIds,
         details: &[ScopeDetails],
     ) -> Result<Vec<ScopeId>>
-        requires { Unit {0} }
+        requires boxed_sinks { ⊤ }
         ensures ok { IfOk result (λ scope_ids.
             Adds (collected_of self.old.profiler) (details_seen details.now) scope_ids.items
             (collected_of self.new.profiler)) }
@@ -161,7 +161,7 @@ impl<L: Ledger, M: Ledger> Booked<L, M> {
 
     /// Makes the next frame list every known scope, as [`GlobalProfiler::emit_scope_snapshot`] does.
     pub fn emit_scope_snapshot(&mut self)
-        requires { Unit {0} }
+        requires boxed_sinks { ⊤ }
         ensures wants { collected_of self.new.profiler
             ≡ after_wanting (collected_of self.old.profiler) }
         ensures sinks { self.new.profiler.sinks ≡ self.old.profiler.sinks }
@@ -171,7 +171,7 @@ impl<L: Ledger, M: Ledger> Booked<L, M> {
 
     /// Hands out a frame as [`GlobalProfiler::new_frame`] does. If there is one, the share counts its scopes.
     pub fn new_frame<R: Wait>(&mut self, rt: &R, share: &mut Share<L, M>) -> Result<Emitted>
-        requires { Unit {0} }
+        requires boxed_sinks { ⊤ }
         ensures ok { IfOk result (λ emitted.
             Collects (collected_of self.old.profiler) emitted.frame
             (collected_of self.new.profiler)) }
@@ -210,7 +210,7 @@ impl<L: Ledger, M: Ledger> Booked<L, M> {
 
     /// Hands a frame of another origin to the sinks, as [`GlobalProfiler::add_frame`] does. No share counts it.
     pub fn add_frame<R: Wait>(&mut self, rt: &R, frame: Arc<FrameData>) -> Result<usize>
-        requires { Unit {0} }
+        requires boxed_sinks { ⊤ }
         ensures learnt { OnOk result (
             collected_of self.new.profiler
             ≡ after_learning (collected_of self.old.profiler) (frame_details (arc_value frame))) }
@@ -233,7 +233,7 @@ impl<L: Ledger, M: Ledger> Booked<L, M> {
 
     /// Adds a sink as [`GlobalProfiler::add_sink`] does.
     pub fn add_sink(&mut self, sink: Sink) -> std::result::Result<FrameSinkId, (Error, Sink)>
-        requires { Unit {0} }
+        requires boxed_sinks { ⊤ }
         ensures ok { IfOk result (λ id.
             (id.0 ≡ next_sink_of self.old.profiler)
             × (next_sink_of self.new.profiler ≡ next_sink_of self.old.profiler + 1)
@@ -252,7 +252,7 @@ impl<L: Ledger, M: Ledger> Booked<L, M> {
 
     /// Removes a sink as [`GlobalProfiler::remove_sink`] does.
     pub fn remove_sink(&mut self, id: FrameSinkId) -> Option<Sink>
-        requires { Unit {0} }
+        requires boxed_sinks { ⊤ }
         ensures some { IfSome result (λ sink.
             TakesOut id.0 sink (sinks_of self.old.profiler) (sinks_of self.new.profiler)) }
         ensures none { IfNone result (
@@ -267,7 +267,7 @@ impl<L: Ledger, M: Ledger> Booked<L, M> {
     /// Returns the profiler's totals as [`GlobalProfiler::totals`] does. They are at least the share's counts. The share
     /// doesn't change.
     pub fn totals(&mut self, share: &mut Share<L, M>) -> Totals
-        requires { Unit {0} }
+        requires boxed_sinks { ⊤ }
         ensures reported { result.reported ≡ (collected_of self.old.profiler).reported }
         ensures pending { result.pending
             ≡ total_scopes (map.values (collected_of self.old.profiler).streams) }
@@ -292,7 +292,7 @@ impl<L: Ledger, M: Ledger> Booked<L, M> {
         &mut self,
         shares: Vec<Share<L, M>>,
     ) -> std::result::Result<Settled, Vec<Share<L, M>>>
-        requires { Unit {0} }
+        requires boxed_sinks { ⊤ }
         ensures full { OnOk result (
             (vec_len shares ≡ L.parts) × (vec_len shares ≡ M.parts)) }
         ensures reported { IfOk result (λ s. s.reported ≡ all_reported shares.items) }
@@ -310,15 +310,7 @@ impl<L: Ledger, M: Ledger> Booked<L, M> {
         let Some(last) = shares.pop() else {
             return Err(shares);
         };
-        let Share {
-            reported: mut all_reported,
-            handed: mut all_handed,
-        } = last;
-        for share in shares {
-            let Share { reported, handed } = share;
-            all_reported.merge(reported);
-            all_handed.merge(handed);
-        }
+        let (mut all_reported, mut all_handed) = last.merge(shares);
         // Only for the proof: all shares together count what their books do.
         self.reported.audit(&mut all_reported);
         self.handed.audit(&mut all_handed);

@@ -1,5 +1,5 @@
 //! A view of a shared profiler's frames.
-ghost use Rattle.std.specs.Prelude.{◌≡◌, ◌⊎◌, IfErr};
+ghost use Rattle.std.specs.Prelude.{◌≡◌, ◌⊎◌, IfErr, ⊤};
 
 use crate::global_profiler::shared_profiler::SharedProfiler;
 use crate::global_profiler::sink::{FrameSinkId, Sink};
@@ -32,7 +32,7 @@ impl GlobalFrameView {
         alloc: Global,
         profiler: &SharedProfiler<L, M>,
     ) -> Result<GlobalFrameView>
-        requires { Unit {0} }
+        requires boxed_sinks { ⊤ }
         ensures cause { IfErr result (λ e. (e ≡ Error.SinkIdsExhausted) ⊎ (e ≡ Error.Memory)) }
     {
         let Ok(view) = Arc::new(alloc, Mutex::new(FrameView::new(alloc))) else {
@@ -56,7 +56,7 @@ impl GlobalFrameView {
         rt: &impl Wait,
         profiler: &SharedProfiler<L, M>,
     ) -> bool
-        requires { Unit {0} }
+        requires boxed_sinks { ⊤ }
     {
         profiler.remove_sink(rt, self.sink_id).is_some()
     }

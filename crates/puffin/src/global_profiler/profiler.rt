@@ -1,5 +1,5 @@
 //! A profiler that threads report to.
-ghost use Rattle.std.specs.Prelude.{◌≡◌, ◌+◌, ◌-◌, ◌^◌, ◌<◌, ◌⊎◌, ◌↔◌, [], true, OnOk, OnErr, IfOk, IfErr, IfSome, IfNone};
+ghost use Rattle.std.specs.Prelude.{◌≡◌, ◌+◌, ◌-◌, ◌^◌, ◌<◌, ◌⊎◌, ◌↔◌, [], true, OnOk, OnErr, IfOk, IfErr, IfSome, IfNone, ⊤};
 ghost use Rattle.std.specs.FinMap as map;
 ghost use Rattle.std.specs.List.{list_any};
 ghost use Rattle.std.specs.Arc.{arc_value};
@@ -114,7 +114,7 @@ impl GlobalProfiler {
         ids: &ScopeIds,
         details: &[ScopeDetails],
     ) -> Result<Vec<ScopeId>>
-        requires { Unit {0} }
+        requires boxed_sinks { ⊤ }
         ensures ok { IfOk result (λ scope_ids.
             Adds (collected_of self.old) (details_seen details.now) scope_ids.items (
             collected_of self.new)) }
@@ -128,7 +128,7 @@ impl GlobalProfiler {
 
     /// Makes the next frame list every known scope, besides the new ones. Allocates nothing.
     pub fn emit_scope_snapshot(&mut self)
-        requires { Unit {0} }
+        requires boxed_sinks { ⊤ }
         ensures wants { collected_of self.new ≡ after_wanting (collected_of self.old) }
         ensures sinks { self.new.sinks ≡ self.old.sinks }
     {
@@ -144,7 +144,7 @@ impl GlobalProfiler {
     /// }
     /// ```
     pub fn collect_frame(&mut self) -> Result<Option<Arc<FrameData>>>
-        requires { Unit {0} }
+        requires boxed_sinks { ⊤ }
         ensures ok { IfOk result (λ frame.
             Collects (collected_of self.old) frame (collected_of self.new)) }
         // All of the frame's details have ids.
@@ -168,7 +168,7 @@ impl GlobalProfiler {
     /// Fails as [`Collector::collect_frame`] does, before any sink is called. The result counts the sinks that refused the
     /// frame, and those for which its `Arc` couldn't be cloned.
     pub fn new_frame<R: Wait>(&mut self, rt: &R) -> Result<Emitted>
-        requires { Unit {0} }
+        requires boxed_sinks { ⊤ }
         ensures ok { IfOk result (λ emitted.
             Collects (collected_of self.old) emitted.frame (collected_of self.new)) }
         // All of the frame's details have ids.
@@ -206,7 +206,7 @@ impl GlobalProfiler {
     /// Fails with `MissingId` exactly when some of its details have no id, and then changes nothing; else only with `Memory`,
     /// after which a beginning of its details may be known. If it fails, no sink is called.
     pub fn add_frame<R: Wait>(&mut self, rt: &R, frame: Arc<FrameData>) -> Result<usize>
-        requires { Unit {0} }
+        requires boxed_sinks { ⊤ }
         ensures learnt { OnOk result (
             collected_of self.new
             ≡ after_learning (collected_of self.old) (frame_details (arc_value frame))) }
@@ -238,7 +238,7 @@ impl GlobalProfiler {
     /// let Ok(id) = profiler.add_sink(Sink::View(view)) else { return Err(Error::Memory) };
     /// ```
     pub fn add_sink(&mut self, sink: Sink) -> std::result::Result<FrameSinkId, (Error, Sink)>
-        requires { Unit {0} }
+        requires boxed_sinks { ⊤ }
         ensures ok { IfOk result (λ id.
             (id.0 ≡ next_sink_of self.old)
             × (next_sink_of self.new ≡ next_sink_of self.old + 1)
@@ -258,7 +258,7 @@ impl GlobalProfiler {
     /// Removes the sink with this number and returns it, or returns `None` if there is none. The other sinks keep their
     /// numbers, and this one isn't used again. Allocates nothing.
     pub fn remove_sink(&mut self, id: FrameSinkId) -> Option<Sink>
-        requires { Unit {0} }
+        requires boxed_sinks { ⊤ }
         ensures some { IfSome result (λ sink.
             TakesOut id.0 sink (sinks_of self.old) (sinks_of self.new)) }
         ensures none { IfNone result (

@@ -1,5 +1,5 @@
 //! A profiler that several threads share.
-ghost use Rattle.std.specs.Prelude.{◌≡◌, ◌+◌, ◌<◌, ◌≤◌, ◌⊎◌, ◌↔◌, true, vec_len, All, OnOk, OnErr, IfOk, IfErr};
+ghost use Rattle.std.specs.Prelude.{◌≡◌, ◌+◌, ◌<◌, ◌≤◌, ◌⊎◌, ◌↔◌, true, vec_len, All, OnOk, OnErr, IfOk, IfErr, ⊤};
 ghost use Rattle.std.specs.List.{list_any};
 ghost use Rattle.std.specs.Arc.{arc_value};
 ghost use Rattle.puffin_data.specs.Forest.{Forest};
@@ -85,17 +85,11 @@ impl<L: Ledger, M: Ledger> SharedProfiler<L, M> {
             (vec_len r.1 ≡ n) × All (λ share. share ≡ no_counts) r.1.items) }
         ensures err { IfErr result (λ e. e.0 ≡ Error.Memory) }
     {
-        let (reported, mut all_reported) = reported.open::<L>();
-        let (handed, mut all_handed) = handed.open::<M>();
-        let Ok(mut shares) = Vec::with_capacity(alloc, n) else {
+        let (reported, all_reported) = reported.open::<L>();
+        let (handed, all_handed) = handed.open::<M>();
+        let Ok(shares) = Share::split(alloc, n, all_reported, all_handed) else {
             return Err((Error::Memory, profiler));
         };
-        for _i in 0..n {
-            shares.push_reserved(Share {
-                reported: all_reported.split_off(1, 0),
-                handed: all_handed.split_off(1, 0),
-            });
-        }
         let parts = Parts::new(n as u64);
         match Arc::new(
             alloc,
@@ -108,7 +102,7 @@ impl<L: Ledger, M: Ledger> SharedProfiler<L, M> {
 
     /// Returns another handle to this profiler. Fails only with `Memory`.
     pub fn clone(&self) -> Result<SharedProfiler<L, M>>
-        requires { Unit {0} }
+        requires boxed_sinks { ⊤ }
         ensures cause { IfErr result (λ e. e ≡ Error.Memory) }
     {
         Ok(SharedProfiler {
@@ -122,7 +116,7 @@ impl<L: Ledger, M: Ledger> SharedProfiler<L, M> {
     /// than waking a thread takes.
     #[inline]
     pub fn lock(&self, rt: &impl Wait) -> MutexGuard<'_, Booked<L, M>>
-        requires { Unit {0} }
+        requires boxed_sinks { ⊤ }
     {
         match self.booked.try_lock() {
             Some(guard) => guard,
@@ -134,7 +128,7 @@ impl<L: Ledger, M: Ledger> SharedProfiler<L, M> {
     #[cold]
     #[inline(never)]
     fn lock_later(&self, rt: &impl Wait) -> MutexGuard<'_, Booked<L, M>>
-        requires { Unit {0} }
+        requires boxed_sinks { ⊤ }
     {
         for look in 0..LOOKS {
             pause(look);
@@ -189,7 +183,7 @@ impl<L: Ledger, M: Ledger> SharedProfiler<L, M> {
         ids: &ScopeIds,
         details: &[ScopeDetails],
     ) -> Result<Vec<ScopeId>>
-        requires { Unit {0} }
+        requires boxed_sinks { ⊤ }
         ensures cause { IfErr result IsAddingCause }
     {
         self.lock(rt).register_user_scopes(ids, details)
@@ -197,7 +191,7 @@ impl<L: Ledger, M: Ledger> SharedProfiler<L, M> {
 
     /// Calls [`Booked::emit_scope_snapshot`] under the lock.
     pub fn emit_scope_snapshot(&self, rt: &impl Wait)
-        requires { Unit {0} }
+        requires boxed_sinks { ⊤ }
     {
         self.lock(rt).emit_scope_snapshot();
     }
@@ -209,7 +203,7 @@ impl<L: Ledger, M: Ledger> SharedProfiler<L, M> {
     /// let emitted = profiler.new_frame(&rt, &mut share)?;
     /// ```
     pub fn new_frame<R: Wait>(&self, rt: &R, share: &mut Share<L, M>) -> Result<Emitted>
-        requires { Unit {0} }
+        requires boxed_sinks { ⊤ }
         ensures counted { IfOk result (λ emitted.
             CountsFrame share.old emitted.frame share.new) }
         ensures spells { IfOk result (λ emitted. SpellsItsScopes emitted.frame) }
@@ -221,7 +215,7 @@ impl<L: Ledger, M: Ledger> SharedProfiler<L, M> {
 
     /// Calls [`Booked::add_frame`] under the lock, which it holds until all sinks were called.
     pub fn add_frame<R: Wait>(&self, rt: &R, frame: Arc<FrameData>) -> Result<usize>
-        requires { Unit {0} }
+        requires boxed_sinks { ⊤ }
         ensures missing { (result ≡ Err Error.MissingId)
             ↔ (list_any lacks_id (frame_details (arc_value frame)) ≡ true) }
         ensures cause { IfErr result (λ e. (e ≡ Error.MissingId) ⊎ (e ≡ Error.Memory)) }
@@ -235,7 +229,7 @@ impl<L: Ledger, M: Ledger> SharedProfiler<L, M> {
         rt: &impl Wait,
         sink: Sink,
     ) -> std::result::Result<FrameSinkId, (Error, Sink)>
-        requires { Unit {0} }
+        requires boxed_sinks { ⊤ }
         ensures err { IfErr result (λ e.
             (e.1 ≡ sink) × ((e.0 ≡ Error.SinkIdsExhausted) ⊎ (e.0 ≡ Error.Memory))) }
     {
@@ -244,14 +238,14 @@ impl<L: Ledger, M: Ledger> SharedProfiler<L, M> {
 
     /// Calls [`Booked::remove_sink`] under the lock.
     pub fn remove_sink(&self, rt: &impl Wait, id: FrameSinkId) -> Option<Sink>
-        requires { Unit {0} }
+        requires boxed_sinks { ⊤ }
     {
         self.lock(rt).remove_sink(id)
     }
 
     /// Calls [`Booked::totals`] under the lock.
     pub fn totals(&self, rt: &impl Wait, share: &mut Share<L, M>) -> Totals
-        requires { Unit {0} }
+        requires boxed_sinks { ⊤ }
         ensures sum { result.reported ≡ result.pending + result.emitted }
         ensures own { (share.old.reported ≤ result.reported)
             × (share.old.handed ≤ result.emitted) }
@@ -272,7 +266,7 @@ impl<L: Ledger, M: Ledger> SharedProfiler<L, M> {
         rt: &impl Wait,
         shares: Vec<Share<L, M>>,
     ) -> std::result::Result<Settled, Vec<Share<L, M>>>
-        requires { Unit {0} }
+        requires boxed_sinks { ⊤ }
         ensures full { OnOk result (
             (vec_len shares ≡ L.parts) × (vec_len shares ≡ M.parts)) }
         ensures reported { IfOk result (λ s. s.reported ≡ all_reported shares.items) }

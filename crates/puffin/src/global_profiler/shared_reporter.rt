@@ -1,5 +1,5 @@
 //! The reporter of a thread to a shared profiler.
-ghost use Rattle.std.specs.Prelude.{◌≡◌, ◌≢◌, ◌+◌, ◌≤◌, ℤ, pos, ◌≤ℤ◌, Some, OnOk, OnErr, IfOk, IfErr, slice_get};
+ghost use Rattle.std.specs.Prelude.{◌≡◌, ◌≢◌, ◌+◌, ◌≤◌, ℤ, pos, ◌≤ℤ◌, Some, OnOk, OnErr, IfOk, IfErr, slice_get, ⊤};
 ghost use Rattle.puffin_data.specs.declared.error.Error.{Error};
 ghost use Rattle.puffin_data.specs.Forest.{Forest};
 ghost use Rattle.puffin_data.specs.Honesty.{IsHonestRef};
@@ -35,7 +35,7 @@ pub struct SharedReporter<L: Ledger, M: Ledger, R: Wait> {
 impl<L: Ledger, M: Ledger, R: Wait> SharedReporter<L, M, R> {
     /// Makes a reporter to this profiler through this share.
     pub fn new(rt: R, profiler: SharedProfiler<L, M>, share: Share<L, M>) -> SharedReporter<L, M, R>
-        requires { Unit {0} }
+        requires boxed_sinks { ⊤ }
         ensures { result.share ≡ share }
     {
         SharedReporter {
@@ -47,7 +47,7 @@ impl<L: Ledger, M: Ledger, R: Wait> SharedReporter<L, M, R> {
 
     /// Returns the profiler's totals. They are at least the share's counts. Waits for the lock.
     pub fn totals(&mut self) -> Totals
-        requires { Unit {0} }
+        requires boxed_sinks { ⊤ }
         ensures sum { result.reported ≡ result.pending + result.emitted }
         ensures own { (self.old.share.reported ≤ result.reported)
             × (self.old.share.handed ≤ result.emitted) }
@@ -67,7 +67,7 @@ impl<L: Ledger, M: Ledger, R: Wait> SharedReporter<L, M, R> {
     /// reporter.end_scope(&mut thread, scope)?;
     /// ```
     pub fn end_scope<T: AnyThread>(&mut self, thread: &mut T, offset: usize) -> Result<Closed>
-        requires { Unit {0} }
+        requires boxed_sinks { ⊤ }
         ensures innermost { OnOk result (
             slice_get (offsets_of (T.recorded thread.old)) 0 ≡ Some offset) }
         ensures mismatched { IfErr result (λ e.
@@ -90,7 +90,7 @@ impl<L: Ledger, M: Ledger, R: Wait> SharedReporter<L, M, R> {
     ///
     /// Fails as [`ThreadProfiler::report_closed`](crate::thread_profiler::ThreadProfiler::report_closed) does.
     pub fn report_closed<T: AnyThread>(&mut self, thread: &mut T) -> Result<bool>
-        requires { Unit {0} }
+        requires boxed_sinks { ⊤ }
         ensures { Reports ⟦<SharedReporter<L, M, R> as Reporter>⟧.accepts
             ⟦<SharedReporter<L, M, R> as Reporter>⟧.refuses (T.recorded thread.old)
             (T.recorded thread.new) self.old self.new result }
@@ -102,7 +102,7 @@ impl<L: Ledger, M: Ledger, R: Wait> SharedReporter<L, M, R> {
 impl<L: Ledger, M: Ledger, R: Wait + Drop> SharedReporter<L, M, R> {
     /// Returns the share.
     pub fn into_share(self) -> Share<L, M>
-        requires { Unit {0} }
+        requires boxed_sinks { ⊤ }
         ensures { result ≡ self.share }
     {
         let SharedReporter {

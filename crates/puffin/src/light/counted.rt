@@ -1,4 +1,4 @@
-//! Reporters that count what is accepted.
+//! A reporter that counts the scopes of accepted reports.
 ghost use Rattle.std.specs.Prelude.{◌≡◌, ◌<◌, ◌^◌};
 
 use crate::global_profiler::{Share, SharedReporter};
@@ -9,7 +9,7 @@ use puffin_data::data::StreamInfoRef;
 use std::sync::Wait;
 use std::sync::ledger::Ledger;
 
-/// A share that comes back from its thread, and the number of scopes that it counts as reported.
+/// A share that its thread has returned, with the number of scopes that it counts as reported.
 #[derive(Drop)]
 pub(crate) struct CountedShare<L: Ledger, M: Ledger> {
     pub(crate) share: Share<L, M>,

@@ -4,7 +4,7 @@ use crate::light::guard::Records;
 use crate::light::program::{Frames, Program};
 use std::sync::{Condvar, Mutex, Wait};
 
-/// The states of a gate.
+/// The state of a gate.
 #[derive(Clone, Copy, Debug, PartialEq, Eq)]
 enum Signal {
     /// Threads wait.
@@ -15,7 +15,7 @@ enum Signal {
     Leave,
 }
 
-/// A program whose threads begin once all of them were started. If one can't be started, those that wait end.
+/// Holds back a program's threads until all are started. If one can't be started, the others end without having begun.
 pub(crate) struct Gate<'p, W> {
     program: &'p W,
     signal: Mutex<Signal>,
@@ -23,7 +23,7 @@ pub(crate) struct Gate<'p, W> {
 }
 
 impl<'p, W> Gate<'p, W> {
-    /// Makes a closed gate before a program.
+    /// Makes a closed gate for a program.
     pub(crate) fn new(program: &'p W) -> Gate<'p, W> {
         Gate {
             program,
@@ -55,9 +55,9 @@ impl<'p, W> Gate<'p, W> {
     }
 }
 
-/// A program with a gate, which whoever starts its threads opens.
+/// A program behind a gate. The code that starts its threads opens the gate.
 pub(crate) trait Gated: Program {
-    /// Lets all threads begin, or has them leave.
+    /// Lets all threads begin or, if `begins` is false, end without having begun.
     fn open(&self, rt: &impl Wait, begins: bool);
 }
 

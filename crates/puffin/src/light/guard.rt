@@ -23,10 +23,10 @@ pub trait Records {
     ghost use Rattle.puffin.specs.declared.light.place.Place.{Place};
     ghost use Rattle.puffin.specs.declared.light.guard.Standing.{Standing};
 
-    /// Beginning a scope at this place, with this text, may have this outcome and leave that state.
+    /// What `begin` may do: a state, a place, a text, the outcome and the state after it.
     ghost begins: { Self → Place → List ℕ → Standing → Self → Type 0 };
 
-    /// Ending the scope at this offset may leave that state.
+    /// What `end` may do: a state, the scope's offset and the state after it.
     ghost ends: { Self → ℕ → Self → Type 0 };
 
     /// Returns the switch of all scopes and the source of their ids, which all threads of a program share.

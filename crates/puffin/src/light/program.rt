@@ -66,7 +66,7 @@ pub struct Outcome {
     pub reported: Vec<u64>,
     /// The number of scopes that all threads reported, that frames handed out, and that are left.
     pub settled: Settled,
-    /// The number of frames that were handed out.
+    /// The number of frames that were handed out. Each has at least one scope.
     pub frames: u64,
     /// The number of these frames that the view didn't take, for want of memory.
     pub missed: u64,
@@ -110,6 +110,7 @@ pub fn profiled<R: AllocGlobal + Threads + Wait + Clock + Copy + Send + Sync, W:
         × (sum outcome.reported.items ≡ outcome.settled.reported)) }
     ensures frames { IfOk result (λ outcome.
         (outcome.missed ≤ outcome.frames)
+        × (outcome.frames ≤ outcome.settled.handed)
         × (outcome.frames ≡ 0 → outcome.settled.handed ≡ 0)) }
 {
     let threads = ready(rt, names)?;

@@ -87,6 +87,7 @@ pub fn in_rounds<
         × (sum outcome.reported.items ≡ outcome.settled.reported)) }
     ensures frames { IfOk result (λ outcome.
         (outcome.missed ≤ outcome.frames)
+        × (outcome.frames ≤ outcome.settled.handed)
         × (outcome.frames ≡ 0 → outcome.settled.handed ≡ 0)) }
 {
     let meeting = Barrier::new(names.len().saturating_add(1));

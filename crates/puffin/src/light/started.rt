@@ -31,7 +31,7 @@ fn work<L: Ledger, M: Ledger, R: Wait + Copy, T: AnyReady, W: Program>(
     reporter.into_share()
 }
 
-/// Starts a thread that does so.
+/// Starts a thread that calls [`work`].
 fn start<
     's,
     E,
@@ -58,7 +58,7 @@ fn start<
     )?)
 }
 
-/// Returns the error for want of memory.
+/// Returns the error of a call that ran out of memory.
 fn no_memory() -> io::Error {
     io::Error::from(io::ErrorKind::OutOfMemory)
 }
@@ -98,7 +98,7 @@ fn start_all<
     Ok(started)
 }
 
-/// Memory for what all threads return, so that none is allocated once they have begun.
+/// Vectors with room for what all threads return, so that nothing is allocated once the threads have begun.
 #[derive(Drop)]
 struct Room<L: Ledger, M: Ledger> {
     shares: Vec<Share<L, M>>,
@@ -125,13 +125,14 @@ struct Joined<L: Ledger, M: Ledger> {
     missed: u64,
     ghost all_back: { vec_len shares ≡ vec_len reported + 1 },
     ghost none_handed: { frames ≡ 0 → all_handed shares.items ≡ 0 },
+    ghost some_each: { frames ≤ all_handed shares.items },
     ghost some: { missed ≤ frames },
     ghost counted: { all_reported shares.items < 2 ^ 64
         → sum reported.items ≡ all_reported shares.items },
 }
 
-#[tactic(auto, using(crate::proofs::CountedShares::counted_more, crate::proofs::CountedShares::none_more))]
-/// Joins all threads, and puts their shares behind the leader's.
+#[tactic(auto, using(crate::proofs::CountedShares::counted_more, crate::proofs::CountedShares::none_more, crate::proofs::CountedShares::some_more))]
+/// Joins all threads, and appends their shares to the leader's.
 fn join_all<L: Ledger, M: Ledger, R: Threads>(
     rt: &R,
     started: Vec<JoinHandle<CountedShare<L, M>>>,
@@ -161,6 +162,29 @@ fn join_all<L: Ledger, M: Ledger, R: Threads>(
         frames,
         missed,
     })
+}
+
+/// Runs the program's leader, with a share of its own, and returns what it took.
+fn lead<L: Ledger, M: Ledger, R: Wait + Copy, W: Program>(
+    rt: R,
+    profiler: SharedProfiler<L, M>,
+    own: Share<L, M>,
+    program: &W,
+) -> Taken<L, M>
+    requires { own ≡ no_counts }
+{
+    let mut taker = Taker {
+        rt,
+        profiler,
+        taken: Taken::new(own),
+    };
+    program.lead(&rt, &mut taker);
+    let Taker {
+        rt: _,
+        profiler: _,
+        taken,
+    } = taker;
+    taken
 }
 
 /// Starts the program's threads, opens its gate, runs its leader, and returns all shares.
@@ -194,21 +218,11 @@ fn run_all<
     let started = start_all(scope, rt, profiler, shares, threads, program);
     program.open(&rt, started.is_ok());
     let started = started?;
-    let mut taker = Taker {
-        rt,
-        profiler: leader,
-        taken: Taken::new(own),
-    };
-    program.lead(&rt, &mut taker);
-    let Taker {
-        rt: _,
-        profiler: _,
-        taken,
-    } = taker;
+    let taken = lead(rt, leader, own, program);
     join_all(&rt, started, taken, room)
 }
 
-/// Does the same in a thread scope.
+/// Calls [`run_all`] in a thread scope.
 fn scoped<
     L: Ledger + Send + Sync,
     M: Ledger + Send + Sync,
@@ -249,7 +263,7 @@ struct Opened<L: Ledger, M: Ledger> {
 }
 
 impl<L: Ledger, M: Ledger> Opened<L, M> {
-    /// Opens a new profiler with this number of shares. Fails for want of memory.
+    /// Opens a new profiler with this number of shares. Fails if memory runs out.
     fn new<R: AllocGlobal + Wait>(
         rt: &R,
         parts: usize,
@@ -280,7 +294,7 @@ impl<L: Ledger, M: Ledger> Opened<L, M> {
     }
 }
 
-/// Settles all shares.
+/// Settles all shares, and returns the program's outcome.
 fn settled<L: Ledger, M: Ledger, R: Wait>(
     rt: &R,
     profiler: &SharedProfiler<L, M>,
@@ -292,6 +306,7 @@ fn settled<L: Ledger, M: Ledger, R: Wait>(
     ensures threads { (result.reported ≡ joined.reported)
         × (sum result.reported.items ≡ result.settled.reported) }
     ensures frames { (result.missed ≤ result.frames)
+        × (result.frames ≤ result.settled.handed)
         × (result.frames ≡ 0 → result.settled.handed ≡ 0) }
 {
     let Joined {
@@ -338,6 +353,7 @@ pub(crate) fn run<
         × (sum outcome.reported.items ≡ outcome.settled.reported)) }
     ensures frames { IfOk result (λ outcome.
         (outcome.missed ≤ outcome.frames)
+        × (outcome.frames ≤ outcome.settled.handed)
         × (outcome.frames ≡ 0 → outcome.settled.handed ≡ 0)) }
 {
     let opened = Opened::<L, M>::new(&rt, parts, reported, handed)?;

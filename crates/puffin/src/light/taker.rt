@@ -16,6 +16,7 @@ pub(crate) struct Taken<L: Ledger, M: Ledger> {
     pub(crate) missed: u64,
     ghost none_reported: { share.reported ≡ 0 },
     ghost none_handed: { frames ≡ 0 → share.handed ≡ 0 },
+    ghost some_each: { frames ≤ share.handed },
     ghost some: { missed ≤ frames },
 }
 

@@ -92,8 +92,7 @@ impl<C: NsSource, P: Reporter> Thread<C, P> {
         &mut self.reporter
     }
 
-    /// Ends the scope at this offset, as [`Records::end`] does, with the profiler's own call, which reports if no other scope is
-    /// open.
+    /// Ends the scope at this offset by [`ThreadProfiler::end_scope`], which also reports if no other scope is open.
     #[inline(never)]
     fn end_and_report(&mut self, offset: usize)
         ensures { EndsAt C.answers P.accepts P.refuses offset self.old.profiler

@@ -1,4 +1,4 @@
-use Rattle.std.specs.Prelude.{◌≡◌, ◌+◌, ◌<◌, ◌^◌, vec_len, length, sum}
+use Rattle.std.specs.Prelude.{◌≡◌, ◌+◌, ◌<◌, ◌≤◌, ◌^◌, vec_len, length, sum}
 use Rattle.puffin.specs.Shares.{all_reported, all_handed}
 use Rattle.puffin.proofs.light.started.join_all.Given as goal
 
@@ -8,4 +8,5 @@ invariant-loop-thread g l = record {
   reported : vec_len l.reported ≡ length l.yielded;
   counted : all_reported l.shares.items < 2 ^ 64 → sum l.reported.items ≡ all_reported l.shares.items;
   none_handed : l.frames ≡ 0 → all_handed l.shares.items ≡ 0;
+  some_each : l.frames ≤ all_handed l.shares.items;
 }

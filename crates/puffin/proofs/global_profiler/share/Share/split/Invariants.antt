@@ -1,13 +1,13 @@
 use Rattle.std.specs.Prelude.{◌≡◌, ◌+◌, ◌≤◌, vec_len, vec_capacity, All}
 use Rattle.puffin.specs.Shares.{no_counts}
-use Rattle.puffin.proofs.global_profiler.shared_profiler.SharedProfiler.open.Given as goal
+use Rattle.puffin.proofs.global_profiler.share.Share.split.Given as goal
 
 abbrev pub invariant-loop-i : goal.invariant-loop-i
 invariant-loop-i g l = record {
-  reported_parts : l.all_reported.parts + l._i ≡ l.n;
-  handed_parts : l.all_handed.parts + l._i ≡ l.n;
-  reported : l.all_reported.amount ≡ 0;
-  handed : l.all_handed.amount ≡ 0;
+  reported_parts : l.reported.parts + l._i ≡ l.n;
+  handed_parts : l.handed.parts + l._i ≡ l.n;
+  reported : l.reported.amount ≡ 0;
+  handed : l.handed.amount ≡ 0;
   room : l.n ≤ vec_capacity l.shares;
   made : vec_len l.shares ≡ l._i;
   no_counts : All (λ s. s ≡ no_counts) l.shares.items;

@@ -2,7 +2,7 @@ use Rattle.std.proofs.Common.{◌≡◌, [], ◌∷◌, sym, subst, rules}
 use Rattle.std.specs.Prelude.{All}
 use Rattle.std.proofs.lemmas.List.Elements.{All-append, All-cons, All-nil}
 use Rattle.puffin.specs.Shares.{ShareCounts, no_counts}
-use Rattle.puffin.proofs.global_profiler.shared_profiler.SharedProfiler.open.Goals as goal
+use Rattle.puffin.proofs.global_profiler.share.Share.split.Goals as goal
 
 pub loop-i-preserved : goal.loop-i-preserved
 loop-i-preserved g c =
