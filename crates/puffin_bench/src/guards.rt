@@ -1,19 +1,13 @@
-//! Scopes with guards and macros, on a thread whose reports nobody keeps. Its clock stays at one time, except where a work uses
-//! the system's clock.
+//! Scopes with guards and macros, on a thread whose reports nobody keeps. Its clock stays at one time, except where a
+//! work uses the system's clock.
 
 use crate::reports::Ignored;
+use crate::scopes::{DEPTH, NESTS, SCOPES, TEXT};
 use puffin::data::ScopeId;
 use puffin::scope_details::ScopeIds;
 use puffin::thread_profiler::{NsSource, ScriptClock, ThreadProfiler};
 use puffin::{ProfilerScope, Site, Switch, profile_function, profile_scope};
 use puffin_data::Result;
-
-/// How many nests of scopes a run makes.
-const NESTS: usize = 512;
-/// The nesting depth of a nest.
-const DEPTH: usize = 8;
-/// How many scopes a run makes.
-pub const SCOPES: usize = NESTS * DEPTH;
 
 type Thread = ThreadProfiler<ScriptClock>;
 
@@ -178,7 +172,7 @@ impl GuardWork {
             GuardWork::Off => {}
             GuardWork::Named => named(thread, scopes, DEPTH),
             GuardWork::Functions => functions(thread, scopes, DEPTH),
-            GuardWork::Text => named_with_text(thread, scopes, "image-12.png", DEPTH),
+            GuardWork::Text => named_with_text(thread, scopes, TEXT, DEPTH),
             GuardWork::Guards => guards(thread, id, DEPTH),
         }
     }

@@ -1,5 +1,7 @@
-//! Scopes at places by [`puffin::light`], on a thread whose reports nobody keeps: counted and timed. Its clock stands still.
+//! Counts and times scopes at places by [`puffin::light`], on a thread whose reports nobody keeps. Its clock stays at
+//! one time.
 
+use crate::scopes::{DEPTH, NESTS, SCOPES, TEXT};
 use crate::{print, print_counts, thread};
 use anyhow::{Context, Result};
 use puffin::light::{Place, Records, Scopes, Thread};
@@ -10,16 +12,10 @@ use puffin_data::data::StreamInfoRef;
 use std::sync::Arc;
 use std::time::Instant;
 
-/// How many nests of scopes a run makes.
-const NESTS: usize = 512;
-/// How many scopes stand one within the other in a nest.
-const DEPTH: usize = 8;
-/// How many scopes a run makes.
-const SCOPES: usize = NESTS * DEPTH;
 /// How often each work is run; the fastest run counts.
 const ROUNDS: u32 = 4_000;
 
-/// A reporter that takes everything and counts the reports.
+/// A reporter that accepts everything and counts the reports.
 #[derive(Drop)]
 struct Reports {
     count: usize,
@@ -43,14 +39,14 @@ impl Reporter for Reports {
 
 type Recorder = Thread<ScriptClock, Reports>;
 
-/// A thread whose scopes are on or off.
+/// Makes a thread whose scopes are on or off.
 fn recorder(rt: &HostRuntime, on: bool) -> Result<Recorder> {
     let scopes = Arc::new(rt.alloc(), Scopes::new()).ok().context("memory")?;
     scopes.set_on(on);
     Ok(Thread::new(thread(rt)?, Reports { count: 0 }, scopes))
 }
 
-/// So many scopes, one within the other.
+/// Makes scopes nested `depth` deep.
 #[inline(never)]
 fn nest(thread: &mut Recorder, part: &Place, depth: usize) {
     let mut guard = thread.scope(part);
@@ -59,7 +55,7 @@ fn nest(thread: &mut Recorder, part: &Place, depth: usize) {
     }
 }
 
-/// The same with a text.
+/// Makes scopes with a text, nested `depth` deep.
 #[inline(never)]
 fn nest_with_text(thread: &mut Recorder, part: &Place, text: &str, depth: usize) {
     let mut guard = thread.scope_with(part, text);
@@ -68,7 +64,7 @@ fn nest_with_text(thread: &mut Recorder, part: &Place, text: &str, depth: usize)
     }
 }
 
-/// Scopes one after the other, each the outermost.
+/// Makes outermost scopes, one after the other.
 #[inline(never)]
 fn row(thread: &mut Recorder, part: &Place) {
     for _ in 0..SCOPES {
@@ -76,21 +72,21 @@ fn row(thread: &mut Recorder, part: &Place) {
     }
 }
 
-/// A kind of work.
+/// A kind of work with scopes at places.
 #[derive(Clone, Copy, PartialEq, Eq)]
 enum LightWork {
-    /// Scopes that are off.
+    /// Scopes that are switched off.
     Off,
     /// Nests of scopes.
     Nests,
     /// Nests of scopes with a text.
     Text,
-    /// Outermost scopes, each with its report.
+    /// Outermost scopes, each of which is reported at its end.
     Outermost,
 }
 
 impl LightWork {
-    /// Each kind of work.
+    /// Every kind of work.
     const ALL: [LightWork; 4] = [
         LightWork::Off,
         LightWork::Nests,
@@ -98,7 +94,7 @@ impl LightWork {
         LightWork::Outermost,
     ];
 
-    /// What it is called where its time is printed.
+    /// Returns the name under which the time is printed.
     fn name(self) -> &'static str {
         match self {
             LightWork::Off => "light_scope_off",
@@ -120,14 +116,14 @@ impl LightWork {
             }
             LightWork::Text => {
                 for _ in 0..NESTS {
-                    nest_with_text(thread, part, "image-12.png", DEPTH);
+                    nest_with_text(thread, part, TEXT, DEPTH);
                 }
             }
         }
     }
 }
 
-/// Makes scopes at places, and prints how many reports there were.
+/// Runs each kind of work once, and prints the number of reports.
 pub fn count_light(rt: &HostRuntime) -> Result<()> {
     for work in LightWork::ALL {
         let mut thread = recorder(rt, work != LightWork::Off)?;
@@ -138,7 +134,7 @@ pub fn count_light(rt: &HostRuntime) -> Result<()> {
     Ok(())
 }
 
-/// Times scopes at places, a scope being a unit.
+/// Times each kind of work; the unit is a scope.
 pub fn time_light(rt: &HostRuntime) -> Result<()> {
     for work in LightWork::ALL {
         let mut thread = recorder(rt, work != LightWork::Off)?;

@@ -250,7 +250,7 @@ fn fastest_guards(
 fn time_guards(rt: &HostRuntime, work: GuardWork) -> Result<()> {
     let scopes = Scopes::new(work.is_on());
     let best = fastest_guards(rt, work, &mut thread(rt)?, &scopes)?;
-    print(rt, work.name(), best, guards::SCOPES)
+    print(rt, work.name(), best, scopes::SCOPES)
 }
 
 /// Times scopes by the system's clock: those of a thread profiler, and those of macros.
@@ -264,7 +264,7 @@ fn time_real_scopes(rt: HostRuntime) -> Result<()> {
         let _reports = named_nests(&mut thread, &scopes)?;
         best = best.min(begun.elapsed(&rt)?.as_nanos());
     }
-    print(&rt, "real_macro", best, guards::SCOPES)
+    print(&rt, "real_macro", best, scopes::SCOPES)
 }
 
 /// Times shortening names; the unit is a name.

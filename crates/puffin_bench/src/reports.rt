@@ -3,6 +3,7 @@
 ghost use Rattle.puffin_data.specs.Forest.{Forest};
 ghost use Rattle.puffin_data.specs.Honesty.{IsHonest};
 
+use crate::scopes::{DEPTH, NESTS, SCOPES};
 use puffin::global_profiler::GlobalProfiler;
 use puffin::scope_details::ScopeDetails;
 use puffin::thread_profiler::{NsSource, Reporter, ThreadInfo, ThreadProfiler};
@@ -11,10 +12,6 @@ use puffin_data::data::{ScopeId, Stream, StreamInfo, StreamInfoRef};
 use std::alloc::Global;
 use std::sync::Wait;
 
-/// How many nests of scopes a run profiles.
-const NESTS: usize = 512;
-/// The nesting depth of a nest.
-const DEPTH: usize = 8;
 /// How many frames a run of reports takes.
 const FRAMES: usize = 1_000;
 
@@ -37,7 +34,7 @@ impl Reporter for Ignored {
     }
 }
 
-/// Makes one nest of scopes of a thread, which reports it at its end.
+/// Makes one nest of scopes on a thread, which reports them when the outermost one ends.
 #[inline(never)]
 fn nest<C: NsSource>(thread: &mut ThreadProfiler<C>, id: ScopeId, text: &str) -> Result<()> {
     let mut offsets = [0; DEPTH];
@@ -58,10 +55,10 @@ pub fn profiled<C: NsSource>(thread: &mut ThreadProfiler<C>, text: &str) -> Resu
             nest(thread, id, text)?;
         }
     }
-    Ok(NESTS * DEPTH)
+    Ok(SCOPES)
 }
 
-/// Makes a stream of two scopes, one within the other.
+/// Makes a stream of a scope with one child.
 pub fn two_scopes(alloc: Global) -> Result<Stream> {
     let mut stream = Stream::new(alloc);
     if let Some(id) = ScopeId::new(1) {
@@ -76,7 +73,7 @@ pub fn two_scopes(alloc: Global) -> Result<Stream> {
     Ok(stream)
 }
 
-/// Reports an honest info twice under each of four names, and takes a frame; does so for each frame of a run. Returns the
+/// For each frame of a run, reports an honest info twice under each of four names and then takes the frame. Returns the
 /// number of reports.
 #[inline(never)]
 pub fn reported<R: Wait>(

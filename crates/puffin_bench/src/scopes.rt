@@ -4,10 +4,12 @@ use puffin_data::Result;
 use puffin_data::data::{Form, Reader, ScopeId, Stream};
 use std::alloc::Global;
 
-/// How many nests of scopes a run writes.
-const NESTS: usize = 512;
+/// How many nests of scopes a run makes.
+pub const NESTS: usize = 512;
 /// The nesting depth of a nest.
-const DEPTH: usize = 8;
+pub const DEPTH: usize = 8;
+/// How many scopes a run makes.
+pub const SCOPES: usize = NESTS * DEPTH;
 
 /// A text of 12 bytes.
 pub const TEXT: &str = "image-12.png";
@@ -128,7 +130,7 @@ pub fn written(stream: &mut Stream, work: &Work) -> Result<usize> {
             };
         }
     }
-    Ok(NESTS * DEPTH)
+    Ok(SCOPES)
 }
 
 /// Makes the stream of a work.

@@ -29,8 +29,8 @@ fn totals_reported<R: Wait>(rt: &R, alloc: Global) -> Result<(usize, Totals)> {
     Ok((reports, profiler.totals()))
 }
 
-/// Reports to a profiler, and attaches a view to a shared one. Prints how many scopes were reported and handed out, and how
-/// many frames the view holds.
+/// Reports to a profiler, and attaches a view to a shared one. Prints how many scopes were reported and handed out, and
+/// how many frames the view holds.
 pub fn count_sharing<R: Runtime + AllocGlobal + Wait>(rt: &R) -> Result<()> {
     let (reports, totals) = totals_reported(rt, rt.alloc())?;
     let (scopes, emitted) = (totals.reported as usize, totals.emitted as usize);

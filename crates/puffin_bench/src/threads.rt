@@ -199,7 +199,8 @@ fn round<
     joined(&rt, alloc, workers)
 }
 
-/// Lets `threads` threads report while one more takes frames. Returns the nanoseconds from the first begin to the last end.
+/// Lets `threads` threads report while one more takes frames. Returns the nanoseconds from the first begin to the last
+/// end.
 pub fn run<R: Threads + Wait + Clock + Copy + Send + Sync + 'static>(
     rt: R,
     alloc: Global,

@@ -1,7 +1,7 @@
 //! Adding frames to full views.
 
 use crate::merges::main_thread;
-use crate::scopes::{end, nest};
+use crate::scopes::{TEXT, end, nest};
 use puffin::frame_data::FrameData;
 use puffin::profile_view::FrameView;
 use puffin_data::Result;
@@ -12,8 +12,6 @@ use std::sync::Arc;
 
 /// How many frames are added to a full view.
 const FRAMES: u32 = 1_000;
-/// The text of each scope, of 12 bytes.
-const TEXT: &str = "image-12.png";
 
 /// A work on a full view to which frames are added.
 #[derive(Clone, Copy)]
