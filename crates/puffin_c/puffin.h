@@ -1,20 +1,20 @@
-/* What libpuffin_c.a offers to C and C++ programs. docs/C.md says how to link it.
+/* The calls of libpuffin_c.a, for C and C++ programs. docs/C.md says how to link it.
  *
- * Each call but puffin_sizes returns 0, or the number of a fault (below). A refused call changes nothing but what its
- * comment says.
+ * Each call but puffin_sizes returns 0, or the number of a fault (below). A call that fails changes nothing, unless its
+ * comment says otherwise.
  *
- * Nothing checks these, neither here nor in the library:
+ * A program has to keep to these rules. Nothing checks them, neither here nor in the library:
  *
- * - A pointer is never NULL, not even where its length is 0. It points to as many bytes as its length says. While a call
- *   runs, nobody writes bytes that it reads, nor reads or writes those that it may write. No two parameters of a call
- *   overlap, unless both are only read.
- * - A handle (PuffinIds, PuffinThread, PuffinProfiler) is made of zeros ({0}) and then holds nothing: each call on it is
- *   refused with PUFFIN_NOT_OPEN, but for the call that opens it. The program reads and writes nothing in it, and never
- *   copies it. A handle that holds something is closed before its storage goes, or its memory is lost.
- * - One call at a time is given a handle. A handle may go to another thread between two calls if a lock, the start of a
- *   thread or a join orders them.
- * - No call is made from a signal handler, or in a forked child of a process with threads.
- * - malloc, realloc and free are one family, and align as the C standard asks.
+ * - Pass no NULL, not even with length 0. A pointer points to as many bytes as its length says. While a call runs, no other
+ *   thread writes bytes that it reads, or reads or writes bytes that it may write. No two parameters of a call overlap,
+ *   unless both are only read.
+ * - Fill a handle (PuffinIds, PuffinThread, PuffinProfiler) with zeros ({0}) before its first call. It isn't open then:
+ *   every call on it fails with PUFFIN_NOT_OPEN, but for the call that opens it. Don't read or write its fields, and don't
+ *   copy it. Close an open handle before its storage goes; otherwise its memory leaks.
+ * - Pass a handle to one call at a time. It may go to another thread between two calls if a lock, the start of a thread or a
+ *   join orders them.
+ * - Make no call from a signal handler, or in a forked child of a process with threads.
+ * - malloc, realloc and free belong together, and align as the C standard demands.
  */
 #ifndef PUFFIN_H
 #define PUFFIN_H
@@ -27,28 +27,28 @@ extern "C" {
 
 enum {
     PUFFIN_OK = 0,
-    PUFFIN_PREMATURE_END = 1,     /* bytes end within a scope, or an id in them is 0 */
-    PUFFIN_INVALID_STREAM = 2,    /* bytes aren't scopes */
+    PUFFIN_PREMATURE_END = 1,     /* the bytes end within a scope, or an id in them is 0 */
+    PUFFIN_INVALID_STREAM = 2,    /* the bytes aren't scopes */
     PUFFIN_SCOPE_NEVER_ENDED = 3, /* a scope in the bytes was begun and not ended */
-    PUFFIN_TOO_LARGE = 6,         /* a sum doesn't fit 64 bits */
+    PUFFIN_TOO_LARGE = 6,         /* a count doesn't fit 64 bits */
     PUFFIN_RANGE_TOO_LONG = 7,    /* the frame's duration wouldn't fit int64_t */
     PUFFIN_MISMATCHED_END = 8,    /* the scope isn't the innermost open one */
     PUFFIN_SCOPES_OPEN = 9,       /* a report while a scope is open */
-    PUFFIN_IDS_EXHAUSTED = 11,    /* all ids are drawn */
+    PUFFIN_IDS_EXHAUSTED = 11,    /* all ids are used up */
     PUFFIN_INDEX_EXHAUSTED = 12,  /* the frame's index is the last one */
     PUFFIN_MEMORY = 16,           /* an allocation failed */
     PUFFIN_UNLIKE_FORMS = 17,     /* long and short texts under one thread's name and start */
     PUFFIN_NOT_TEXT = 32,         /* a text isn't UTF-8 */
     PUFFIN_NO_ID = 33,            /* the id is 0 */
-    PUFFIN_NOT_OPEN = 34,         /* a handle holds nothing */
-    PUFFIN_IS_OPEN = 35,          /* the handle holds something already */
-    /* Faults of a file. One that holds a number has it 256 times above its own. */
-    PUFFIN_FILE_NO_MAGIC = 66,     /* other letters than PUF0 */
-    PUFFIN_FILE_TRUNCATED = 67,    /* bytes end within a packet */
+    PUFFIN_NOT_OPEN = 34,         /* a handle isn't open */
+    PUFFIN_IS_OPEN = 35,          /* the handle is open already */
+    /* Faults of a file. Three of them hold a number, which is added 256 times. */
+    PUFFIN_FILE_NO_MAGIC = 66,     /* the first four bytes aren't PUF0 */
+    PUFFIN_FILE_TRUNCATED = 67,    /* the file ends within a packet */
     PUFFIN_FILE_LEGACY = 68,       /* a version that is no longer read */
-    PUFFIN_FILE_NEWER = 69,        /* a version that isn't known */
-    PUFFIN_FILE_UNKNOWN_KIND = 70, /* + 256 * the packing's number, which isn't known */
-    PUFFIN_FILE_COMPRESSED = 71,   /* + 256 * the packing's number, which isn't unpacked here */
+    PUFFIN_FILE_NEWER = 69,        /* a version that isn't known yet */
+    PUFFIN_FILE_UNKNOWN_KIND = 70, /* + 256 * the number of the compression, which isn't known */
+    PUFFIN_FILE_COMPRESSED = 71,   /* + 256 * the number of the compression, which isn't decompressed here */
     PUFFIN_FILE_BAD_META = 72,
     PUFFIN_FILE_BAD_STREAMS = 73,
     PUFFIN_FILE_BAD_SCOPES = 74,
@@ -59,26 +59,26 @@ enum {
 
 /* ---- bytes of any origin */
 
-/* The measures of a stream. */
+/* The counts of a stream. */
 typedef struct PuffinCount {
     uint64_t scopes, depth;    /* the number of scopes, and the greatest nesting depth */
-    int64_t start_ns, stop_ns; /* the least start and the greatest stop, or INT64_MAX and INT64_MIN if there is none */
-    uint64_t tries;            /* how many times reading a scope was tried */
+    int64_t start_ns, stop_ns; /* the least start and the greatest stop, or INT64_MAX and INT64_MIN if there is no scope */
+    uint64_t tries;            /* the number of attempts to read a scope */
 } PuffinCount;
 
-/* Counts the scopes of a stream, whose texts are long ones where long_texts is set. Refused with the first fault of the
- * bytes; count->tries is set then too. */
+/* Counts the scopes of a stream, with long texts if long_texts is set. Fails with the first fault of the bytes; then only
+ * count->tries is set. */
 uint32_t puffin_count(const uint8_t *bytes, size_t size, bool long_texts, PuffinCount *count);
 
-/* Reads a file, and sets *frames to the number of its frames. Refused with the file's first fault. */
+/* Reads a file, and sets *frames to the number of its frames. Fails with the file's first fault. */
 uint32_t puffin_check_file(const uint8_t *file, size_t size, uint64_t *frames);
 
-/* Reports a file for the thread of this name, and of this start where has_start is set. Lays the lines over the beginning
- * of out, as far as it goes, and sets *size to the number of their bytes. */
+/* Reports on a file for the thread of this name and, if has_start is set, this start. Copies as much of the lines as fits to
+ * the front of out, and sets *size to the number of bytes of all lines. */
 uint32_t puffin_report_file(const uint8_t *file, size_t file_size, bool has_start, int64_t start_ns, const uint8_t *name,
                             size_t name_size, uint8_t *out, size_t room, uint64_t *size);
 
-/* ---- ids, shared by all threads and profilers that are opened with them */
+/* ---- ids, which threads and profilers share */
 
 typedef struct PuffinIds {
     void *at_;
@@ -89,26 +89,26 @@ uint32_t puffin_ids_open(PuffinIds *ids);
 /* Threads and profilers that were opened with the handle keep the ids. */
 uint32_t puffin_ids_close(PuffinIds *ids);
 
-/* ---- recording the scopes of one thread; times are nanoseconds, and come from the program */
+/* ---- recording the scopes of one thread; the program passes the times, in nanoseconds */
 
 typedef struct PuffinThread {
     void *at_;
     bool is_open_;
 } PuffinThread;
 
-/* Texts have up to 127 bytes, or 16,383 where long_texts is set. Longer ones are cut. */
+/* Texts are cut to 127 bytes, or to 16,383 if long_texts is set. */
 uint32_t puffin_thread_open(PuffinThread *thread, PuffinIds *ids, const uint8_t *name, size_t name_size, bool long_texts);
-/* Scopes that weren't reported are gone. */
+/* Drops the scopes that weren't reported. */
 uint32_t puffin_thread_close(PuffinThread *thread);
 
-/* Register a function, or a scope with a name of its own within a function, and set *id. A line of 0 is unknown. */
+/* Register a function, or a scope with a name of its own in a function, and set *id. Pass 0 if the line is unknown. */
 uint32_t puffin_register_function(PuffinThread *thread, const uint8_t *function, size_t function_size,
                                   const uint8_t *file, size_t file_size, uint32_t line, uint32_t *id);
 uint32_t puffin_register_scope(PuffinThread *thread, const uint8_t *name, size_t name_size, const uint8_t *function,
                                size_t function_size, const uint8_t *file, size_t file_size, uint32_t line, uint32_t *id);
 
-/* Begins a scope, and sets *scope to what puffin_end takes. A time below 0 counts as 0, and one below the thread's last
- * counts as that. */
+/* Begins a scope, and sets *scope to its offset, which puffin_end takes. A negative time counts as 0, and a time before the
+ * thread's last one counts as that. */
 uint32_t puffin_begin(PuffinThread *thread, int64_t now_ns, uint32_t id, const uint8_t *text, size_t text_size,
                       uint64_t *scope);
 /* Ends the innermost open scope, which has to be this one. */
@@ -121,30 +121,29 @@ typedef struct PuffinProfiler {
     bool is_open_;
 } PuffinProfiler;
 
-/* What a frame says. */
+/* The numbers of a frame. */
 typedef struct PuffinFrame {
     uint64_t index, scopes, bytes;
     int64_t start_ns, stop_ns;
-    bool is_some; /* no frame is made if no scope was reported */
+    bool is_some; /* whether there is a frame: none is made if no scope was reported */
 } PuffinFrame;
 
 /* The view keeps the last 1,000 frames and the 256 slowest ones. */
 uint32_t puffin_profiler_open(PuffinProfiler *profiler, PuffinIds *ids);
 uint32_t puffin_profiler_close(PuffinProfiler *profiler);
 
-/* Hands a thread's closed scopes to a profiler. Where it is refused, they wait on. */
+/* Reports a thread's closed scopes to a profiler. If it fails, they keep waiting. */
 uint32_t puffin_report(PuffinThread *thread, PuffinProfiler *profiler);
 
-/* Takes all that was reported since the last frame as a new one. Nothing is lost where it is refused: a frame that the view
- * had no memory for waits, and the next call takes it. */
+/* Makes a frame of everything that was reported since the last one. If it fails, nothing is lost: if the view has no memory
+ * for the frame, the frame waits, and the next call adds it. */
 uint32_t puffin_new_frame(PuffinProfiler *profiler, PuffinFrame *frame);
 /* Makes the next frame list every known scope. */
 uint32_t puffin_snapshot(PuffinProfiler *profiler);
 
 /* Makes the .puffin file of the view's frames, and sets *size to the number of its bytes. */
 uint32_t puffin_file_begin(PuffinProfiler *profiler, uint64_t *size);
-/* Lays the next bytes of that file over the beginning of out, as far as it goes, and sets *size to how many there are: 0 at
- * the end. */
+/* Copies as many of that file's next bytes as fit to the front of out, and sets *size to how many: 0 at the end. */
 uint32_t puffin_file_next(PuffinProfiler *profiler, uint8_t *out, size_t room, uint64_t *size);
 
 /* ---- sizes in bytes of these structs, for a program that compares its header with the library */

@@ -1,4 +1,4 @@
-/// The measures of a stream.
+/// The counts of a stream.
 #[repr(C)]
 #[derive(Clone, Copy)]
 pub struct PuffinCount {
@@ -6,10 +6,10 @@ pub struct PuffinCount {
     pub scopes: u64,
     /// The greatest nesting depth.
     pub depth: u64,
-    /// The least start of all scopes, or the greatest number if there is none.
+    /// The least start of all scopes, in nanoseconds, or `i64::MAX` if there are none.
     pub start_ns: i64,
-    /// The greatest stop of all scopes, or the least number if there is none.
+    /// The greatest stop of all scopes, in nanoseconds, or `i64::MIN` if there are none.
     pub stop_ns: i64,
-    /// How many times reading a scope was tried.
+    /// The number of attempts to read a scope.
     pub tries: u64,
 }

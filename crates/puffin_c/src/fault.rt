@@ -1,4 +1,4 @@
-//! Why a call is refused, as a number.
+//! The faults of calls, and their numbers.
 
 ghost use Rattle.std.specs.Prelude.{◌≡◌, Result};
 ghost use Rattle.puffin_c.specs.declared.fault.Fault.{Fault};
@@ -6,20 +6,20 @@ ghost use Rattle.puffin_c.specs.Faults.{code_of, file_code, answer_code};
 
 use puffin_data::{Error, FileError};
 
-/// Why a call is refused.
+/// The reason why a call failed.
 #[derive(Clone, Copy, Debug, PartialEq, Eq)]
 pub enum Fault {
-    /// A call of the profiler was refused.
+    /// The profiler refused the call.
     Refused(Error),
-    /// A file isn't read or written.
+    /// A file can't be read or written.
     File(FileError),
     /// A text isn't UTF-8.
     NotText,
     /// A scope's id is 0.
     NoId,
-    /// The handle holds nothing.
+    /// The handle isn't open.
     NotOpen,
-    /// The handle holds something already.
+    /// The handle is open already.
     IsOpen,
 }
 
@@ -42,14 +42,14 @@ impl From<FileError> for Fault {
 
     fn from(e: FileError) -> Fault {
         match e {
-            // Files lie in memory.
+            // The file is in memory.
             FileError::Io | FileError::Memory => Fault::Refused(Error::Memory),
             other => Fault::File(other),
         }
     }
 }
 
-/// The number of a file's fault, and 256 times the number that it holds.
+/// Returns the number of a file's fault, plus 256 times the number that the fault holds.
 fn file_code(fault: FileError) -> u32
     ensures { result ≡ file_code fault }
 {
@@ -61,7 +61,7 @@ fn file_code(fault: FileError) -> u32
     }
 }
 
-/// The number of a fault.
+/// Returns the number of a fault.
 pub fn code_of(fault: Fault) -> u32
     ensures { result ≡ code_of fault }
 {
@@ -75,7 +75,7 @@ pub fn code_of(fault: Fault) -> u32
     }
 }
 
-/// What a call returns: 0, or the number of its fault.
+/// Returns 0 for success, or the number of the fault.
 pub fn answer_code(answer: Result<(), Fault>) -> u32
     ensures { result ≡ answer_code answer }
 {
@@ -85,7 +85,8 @@ pub fn answer_code(answer: Result<(), Fault>) -> u32
     }
 }
 
-/// A law: two answers with the same number are the same. So 0 means success alone, and each fault has a number of its own.
+/// A law: two results with the same number are equal. So 0 means success and nothing else, and each fault has its own
+/// number.
 pub fn codes_are_distinct()
     ensures { (one other : Result (Unit {0}) Fault) →
         answer_code one ≡ answer_code other →

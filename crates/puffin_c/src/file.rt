@@ -1,4 +1,4 @@
-//! Files of frames, and reports of them.
+//! Counts the frames of files, and reports on them.
 
 ghost use Rattle.std.specs.Prelude.{◌≡◌, [], ◌∷◌, Result, IfOk, IfErr};
 ghost use Rattle.puffin_threads.specs.Thread.Info.{info_of};
@@ -18,7 +18,7 @@ use puffin_report::print_report;
 use puffin_view::profile_view::FrameView;
 use std::alloc::Global;
 
-/// Reads a file's frames, and counts those that a view of it keeps.
+/// Reads a file, and counts the frames that a view of it keeps.
 fn checked(alloc: Global, file: &[u8], frames: &mut u64) -> Result<(), Fault>
     ensures { IsChecked file.now frames.old frames.new result }
 {
@@ -29,7 +29,7 @@ fn checked(alloc: Global, file: &[u8], frames: &mut u64) -> Result<(), Fault>
 
 /// Reads a file of any origin, and sets `frames` to the number of its frames.
 ///
-/// Refused with the first fault of the file, or with `Memory`, and `frames` stays then.
+/// Fails with the first fault of the file, or with `Memory`. Then `frames` doesn't change.
 #[unsafe(no_mangle)]
 pub extern "C" fn puffin_check_file(alloc: Global, file: &[u8], frames: &mut u64) -> u32
     ensures { (answer : Result (Unit {0}) Fault)
@@ -40,7 +40,7 @@ pub extern "C" fn puffin_check_file(alloc: Global, file: &[u8], frames: &mut u64
     answer_code(answer)
 }
 
-/// A thread's info, whose name has to be text.
+/// Returns the info of a thread. Fails with `NotText` of its name, or with `Memory`.
 pub(crate) fn named_thread(
     alloc: Global,
     has_start: bool,
@@ -57,7 +57,7 @@ pub(crate) fn named_thread(
     })
 }
 
-/// The lines of a file's report for a thread.
+/// Returns the lines of a file's report for a thread.
 fn lines_of(alloc: Global, file: &[u8], thread: &ThreadInfo) -> Result<MemoryFile, FileError>
     ensures ok { IfOk result (λ lines. HasLines file.now (info_of thread.now) lines.bytes.items) }
     ensures err { IfErr result (LacksLines file.now (info_of thread.now)) }
@@ -69,7 +69,7 @@ fn lines_of(alloc: Global, file: &[u8], thread: &ThreadInfo) -> Result<MemoryFil
     }
 }
 
-/// Makes the report, and lays it over the caller's bytes.
+/// Makes the report, and copies as much of it as fits to the front of `out`.
 fn printed(
     alloc: Global,
     file: &[u8],
@@ -86,10 +86,11 @@ fn printed(
     Ok(())
 }
 
-/// Reports a file of any origin for one thread, which `has_start`, `start_ns` and `name` name. Lays the lines over the
-/// beginning of `out`, as far as it goes, and sets `size` to the number of their bytes.
+/// Reports on a file of any origin for one thread: the one of this name and, if `has_start` is set, this start. Copies
+/// as much of the lines as fits to the front of `out`, and sets `size` to the number of bytes of all lines.
 ///
-/// Refused with `NotText` of the name, with the first fault of the file or with `Memory`: `out` and `size` stay then.
+/// Fails with `NotText` of the name, with the first fault of the file, or with `Memory`. Then `out` and `size` don't
+/// change.
 #[unsafe(no_mangle)]
 pub extern "C" fn puffin_report_file(
     alloc: Global,

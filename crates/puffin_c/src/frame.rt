@@ -3,26 +3,26 @@ ghost use Rattle.puffin_c.specs.Profiling.{told_of};
 
 use puffin_frames::frame_data::FrameMeta;
 
-/// What a frame says.
+/// The numbers of a frame.
 #[repr(C)]
 #[derive(Clone, Copy)]
 pub struct PuffinFrame {
-    /// The frame's number.
+    /// The frame's index.
     pub index: u64,
-    /// The number of its scopes.
+    /// The number of scopes.
     pub scopes: u64,
-    /// The number of bytes of their streams.
+    /// The number of bytes of the scopes' streams.
     pub bytes: u64,
-    /// The least start of its scopes.
+    /// The least start of all scopes, in nanoseconds.
     pub start_ns: i64,
-    /// The greatest stop of its scopes.
+    /// The greatest stop of all scopes, in nanoseconds.
     pub stop_ns: i64,
-    /// Whether there was a frame: none is made if no scope was reported.
+    /// Whether there is a frame. None is made if no scope was reported.
     pub is_some: bool,
 }
 
 impl PuffinFrame {
-    /// What this meta says.
+    /// Returns the numbers of this meta.
     pub(crate) fn of(meta: FrameMeta) -> PuffinFrame
         ensures { result ≡ told_of meta }
     {

@@ -1,4 +1,4 @@
-//! A set of ids, by a handle that C holds.
+//! Ids that threads and profilers share.
 
 ghost use Rattle.std.specs.Prelude.{◌≡◌, ◌⊎◌, None, Some, Result, is_some, true, IfErr, OnOk, OnErr};
 ghost use Rattle.puffin_data.specs.declared.error.Error.TheVariants as error;
@@ -17,7 +17,7 @@ use std::alloc::Global;
 use std::mem;
 use std::sync::Arc;
 
-/// A handle of a set of ids. C makes it of zeros, and then it holds nothing.
+/// A handle of a set of ids. A C program fills it with zeros at first; it isn't open then.
 #[repr(C)]
 pub struct PuffinIds {
     pub(crate) slot: IdsSlot,
@@ -26,7 +26,7 @@ pub struct PuffinIds {
 }
 
 impl PuffinIds {
-    /// Takes out what the handle holds.
+    /// Takes the set of ids out of an open handle. The handle isn't open then.
     #[inline(always)]
     fn take(&mut self, alloc: Global) -> Box<SharedIds>
         requires { self.old.is_open ≡ true }
@@ -38,7 +38,7 @@ impl PuffinIds {
         slot.into_raw().restore()
     }
 
-    /// Lets the handle hold what this box holds.
+    /// Opens the handle with this set of ids.
     #[inline(always)]
     fn put(&mut self, held: Box<SharedIds>)
         requires { self.old.slot.held ≡ None }
@@ -48,7 +48,7 @@ impl PuffinIds {
         self.is_open = true;
     }
 
-    /// Shares the ids with a thread or a profiler. Refused with `NotOpen` or `Memory`.
+    /// Returns another reference to the ids. Fails with `NotOpen` or `Memory`.
     pub(crate) fn share(&mut self, alloc: Global) -> Result<SharedIds, Fault>
         ensures same { self.new.slot.held ≡ self.old.slot.held }
         ensures ok { OnOk result (is_some self.old.slot.held ≡ true) }
@@ -69,7 +69,7 @@ impl PuffinIds {
     }
 }
 
-/// Makes what an opened handle holds.
+/// Makes a set of ids. Fails only with `Memory`.
 fn made(alloc: Global) -> Result<Box<SharedIds>, Fault>
     ensures { IfErr result (λ f. f ≡ fault.Refused error.Memory) }
 {
@@ -93,9 +93,9 @@ fn opened(alloc: Global, ids: &mut PuffinIds) -> Result<(), Fault>
     Ok(())
 }
 
-/// Makes a set of ids under a handle that holds nothing.
+/// Opens a handle with a new set of ids.
 ///
-/// Refused with `IsOpen` or `Memory`, and nothing is changed then.
+/// Fails with `IsOpen` or `Memory`. Nothing changes then.
 #[unsafe(no_mangle)]
 pub extern "C" fn puffin_ids_open(alloc: Global, ids: &mut PuffinIds) -> u32
     ensures { (answer : Result (Unit {0}) Fault)
@@ -116,9 +116,9 @@ fn closed(alloc: Global, ids: &mut PuffinIds) -> Result<(), Fault>
     Ok(())
 }
 
-/// Frees a handle of ids, which then holds nothing. Threads and profilers that were opened with it keep the ids.
+/// Closes a handle. Threads and profilers that were opened with it keep the ids.
 ///
-/// Refused with `NotOpen`.
+/// Fails with `NotOpen`.
 #[unsafe(no_mangle)]
 pub extern "C" fn puffin_ids_close(alloc: Global, ids: &mut PuffinIds) -> u32
     ensures { (answer : Result (Unit {0}) Fault)

@@ -1,4 +1,4 @@
-//! What owns a set of ids, as C holds it.
+//! A slot for a set of ids in a handle.
 
 ghost use Rattle.std.specs.Prelude.{◌≡◌, Option, Some, None, is_some, true};
 ghost use Rattle.std.specs.Coded.{coded_option};
@@ -12,7 +12,7 @@ use std::alloc::Global;
 use std::marker::Model;
 use std::ptr::null_mut;
 
-/// The address of a box that holds a set of ids, or null.
+/// The address of a box with a set of ids, or null. It owns the box.
 #[repr(C)]
 #[derive(Drop)]
 pub struct IdsSlot {
@@ -26,7 +26,7 @@ impl Model for IdsSlot {
 }
 
 impl IdsSlot {
-    /// Holds nothing.
+    /// Makes an empty slot.
     pub(crate) fn empty(heap: Global) -> IdsSlot
         ensures { result.held ≡ None }
     {
@@ -36,7 +36,7 @@ impl IdsSlot {
         }
     }
 
-    /// Holds what this box holds.
+    /// Makes a slot that owns this box.
     pub(crate) fn of(raw: RawBox<SharedIds, Global>) -> IdsSlot
         ensures { result.held ≡ Some raw.value }
     {
@@ -47,7 +47,7 @@ impl IdsSlot {
         }
     }
 
-    /// Gives the box back.
+    /// Returns the box of a slot that isn't empty.
     pub(crate) fn into_raw(self) -> RawBox<SharedIds, Global>
         requires { is_some self.held ≡ true }
         ensures { self.held ≡ Some result.value }
@@ -60,5 +60,5 @@ impl IdsSlot {
     }
 }
 
-// It may go to another thread if what it holds may.
+// It may be sent to another thread, as what it owns may be.
 unsafe impl Send for IdsSlot {}

@@ -1,4 +1,4 @@
-//! The sizes of what crosses, for a program that compares its header with the library.
+//! The sizes of the interface's structs, for programs that compare their header with the library.
 
 use crate::count::PuffinCount;
 use crate::frame::PuffinFrame;
@@ -7,7 +7,7 @@ use crate::profiling::PuffinProfiler;
 use crate::thread::PuffinThread;
 use std::mem::size_of;
 
-/// Sizes in bytes.
+/// The sizes of the interface's structs, in bytes.
 #[repr(C)]
 #[derive(Clone, Copy)]
 pub struct PuffinSizes {
@@ -23,7 +23,7 @@ pub struct PuffinSizes {
     pub profiler: u64,
 }
 
-/// Sets `sizes` to the sizes in bytes of the structs that cross.
+/// Sets `sizes` to the sizes of the interface's structs, in bytes.
 #[unsafe(no_mangle)]
 pub extern "C" fn puffin_sizes(sizes: &mut PuffinSizes) {
     sizes.count = size_of::<PuffinCount>() as u64;
@@ -33,10 +33,10 @@ pub extern "C" fn puffin_sizes(sizes: &mut PuffinSizes) {
     sizes.profiler = size_of::<PuffinProfiler>() as u64;
 }
 
-/// Asks that a value may go to another thread.
+/// Requires that a value may be sent to another thread.
 fn may_cross<T: Send>(_value: &T) {}
 
-/// A law: each handle may go to another thread.
+/// A law: each handle may be sent to another thread.
 pub fn handles_may_cross(ids: &PuffinIds, thread: &PuffinThread, profiler: &PuffinProfiler) {
     may_cross(ids);
     may_cross(thread);

@@ -1,6 +1,7 @@
-//! What C, C++ and Rust programs call. Each function is exported under its own name; `puffin.h` declares them.
+//! The C interface, for C, C++ and Rust programs. Each function is exported under its own name, and declared in
+//! `puffin.h`.
 //!
-//! A call returns 0, or the number of a fault ([`fault::Fault`]).
+//! A call returns 0 for success, or the number of a [`fault::Fault`].
 #![tactic(auto)]
 
 pub mod count;

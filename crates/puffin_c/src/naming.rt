@@ -1,4 +1,4 @@
-//! Registering the scopes of a thread, so that files tell their names.
+//! Registers the scopes of a thread, so that files have their names.
 
 ghost use Rattle.std.specs.Prelude.{◌≡◌, [], ◌∷◌, Some, Result};
 ghost use Rattle.puffin_c.specs.declared.fault.Fault.{Fault};
@@ -32,10 +32,10 @@ fn function_registered(
     Ok(())
 }
 
-/// Registers a function as a scope, and sets `id` to what [`puffin_begin`] takes. A line of 0 is unknown. The next report of
-/// the thread tells the profiler of it.
+/// Registers a function as a scope, and sets `id` to its id, which [`puffin_begin`] takes. Pass 0 if the line is
+/// unknown. The details go to the profiler with the thread's next report.
 ///
-/// Refused with `NotOpen`, `NotText`, `IdsExhausted` or `Memory`, and nothing is changed then, though an id may be used up.
+/// Fails with `NotOpen`, `NotText`, `IdsExhausted` or `Memory`. Nothing changes then, but an id may be used up.
 ///
 /// [`puffin_begin`]: crate::thread::puffin_begin
 #[unsafe(no_mangle)]
@@ -81,7 +81,7 @@ fn scope_registered(
     Ok(())
 }
 
-/// Registers a scope with a name of its own within a function. Else as [`puffin_register_function`].
+/// Registers a scope with a name of its own in a function, as [`puffin_register_function`] does.
 #[unsafe(no_mangle)]
 pub extern "C" fn puffin_register_scope(
     alloc: Global,

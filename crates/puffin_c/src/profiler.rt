@@ -1,4 +1,4 @@
-//! What collects the scopes of all threads, hands out frames, and keeps a view of them.
+//! A collector of the scopes of all threads, with a view of the frames.
 
 ghost use Rattle.std.specs.Prelude.{◌≡◌, ◌⊎◌, Some, length, OnOk, OnErr, IfOk, IfErr};
 ghost use Rattle.std.specs.Arc.{arc_value};
@@ -20,8 +20,8 @@ use puffin_view::profile_view::FrameView;
 use std::alloc::Global;
 use std::sync::Arc;
 
-/// What is collected for the next frame, and a view of the frames that were taken. A frame that the view had no memory for
-/// waits; and so do the bytes of the view's file that weren't read yet.
+/// Collects scopes for the next frame, and keeps a view of the frames so far. Also holds a frame that the view had no
+/// memory for, and the unread bytes of the view's file.
 #[derive(Drop)]
 pub(crate) struct Profiler {
     pub(crate) collector: Collector,
@@ -34,7 +34,7 @@ pub(crate) struct Profiler {
 impl Profiler {
     ghost use Rattle.puffin_c.specs.Profiling.{waiting_frame, IsNew, IsCollected, IsTaken, IsLeft, view_file};
 
-    /// With nothing reported.
+    /// Makes a profiler without scopes and frames.
     pub(crate) fn new(alloc: Global, shared: SharedIds) -> Profiler
         ensures { IsNew result }
     {
@@ -47,7 +47,7 @@ impl Profiler {
         }
     }
 
-    /// Collects the next frame, unless one waits already: then nothing is collected.
+    /// Collects the next frame into `waiting`. Does nothing if a frame waits there already.
     fn collect(&mut self) -> Answer<()>
         ensures ok { OnOk result (IsCollected self.old self.new) }
         ensures err { IfErr result (IsLeft self.old self.new) }
@@ -59,7 +59,7 @@ impl Profiler {
         Ok(())
     }
 
-    /// A copy of the frame that waits, which shares it. Refused only with `Memory`.
+    /// Returns another reference to the waiting frame. Fails only with `Memory`.
     fn waiting(&self) -> Answer<Option<Arc<FrameData>>>
         ensures ok { IfOk result (λ copy. option_map arc_value copy ≡ waiting_frame self.now) }
         ensures err { OnErr result (
@@ -71,8 +71,10 @@ impl Profiler {
         }
     }
 
-    /// Takes all that is pending as a frame, and lets the view take it. A frame that waits goes first, and then nothing is
-    /// collected. `None` where no scope is pending.
+    /// Adds the next frame to the view, and returns its meta: the waiting frame, or else one of everything pending.
+    /// Returns `None` if no scope is pending.
+    ///
+    /// Fails with `IndexExhausted` or `Memory`. Nothing is lost then: everything stays pending, or the frame waits.
     pub(crate) fn take_frame(&mut self) -> Answer<Option<FrameMeta>>
         ensures ok { IfOk result (IsTaken self.old self.new) }
         ensures err { IfErr result (IsLeft self.old self.new) }
@@ -87,7 +89,7 @@ impl Profiler {
         Ok(Some(meta))
     }
 
-    /// The file of the view. Refused with `PartTooLong`, or for want of memory.
+    /// Returns the view's file. Fails with `PartTooLong`, or if memory runs out.
     pub(crate) fn file(&self, alloc: Global) -> Result<MemoryFile, FileError>
         ensures ok { IfOk result (λ written. written.bytes.items ≡ view_file self.now) }
         ensures err { IfErr result (λ e.
@@ -102,8 +104,8 @@ impl Profiler {
         }
     }
 
-    /// Makes the file of the view, which is read from its beginning, and returns how many bytes it has. Refused as
-    /// [`Profiler::file`] is, and nothing is changed then.
+    /// Makes the view's file, to be read from its beginning, and returns the number of its bytes. Fails as
+    /// [`Profiler::file`] does; nothing changes then.
     pub(crate) fn begin_file(&mut self, alloc: Global) -> Result<usize, FileError>
         ensures size { IfOk result (λ size. size ≡ length (view_file self.old)) }
         ensures made { OnOk result (

@@ -1,4 +1,4 @@
-//! Collecting what threads report, by a handle that C holds.
+//! Collects what threads report into frames.
 
 ghost use Rattle.std.specs.Prelude.{◌≡◌, None, Some, Result, is_some, true};
 ghost use Rattle.puffin_c.specs.declared.fault.Fault.{Fault};
@@ -18,7 +18,7 @@ use puffin_frames::frame_data::FrameMeta;
 use std::alloc::Global;
 use std::mem;
 
-/// A profiler's handle. C makes it of zeros, and then it holds nothing.
+/// A handle of a profiler. A C program fills it with zeros at first; it isn't open then.
 #[repr(C)]
 pub struct PuffinProfiler {
     pub(crate) slot: ProfilerSlot,
@@ -27,7 +27,7 @@ pub struct PuffinProfiler {
 }
 
 impl PuffinProfiler {
-    /// Takes out what the handle holds.
+    /// Takes the profiler out of an open handle. The handle isn't open then.
     #[inline(always)]
     pub(crate) fn take(&mut self, alloc: Global) -> Box<Profiler>
         requires { self.old.is_open ≡ true }
@@ -39,7 +39,7 @@ impl PuffinProfiler {
         slot.into_raw().restore()
     }
 
-    /// Lets the handle hold what this box holds.
+    /// Opens the handle with this profiler.
     #[inline(always)]
     pub(crate) fn put(&mut self, held: Box<Profiler>)
         requires { self.old.slot.held ≡ None }
@@ -68,10 +68,10 @@ fn opened(alloc: Global, profiler: &mut PuffinProfiler, ids: &mut PuffinIds) -> 
     }
 }
 
-/// Makes a profiler under a handle that holds nothing. Scopes of the caller's own are registered under ids of `ids`. Its view
-/// keeps the last 1,000 frames and the 256 slowest ones.
+/// Opens a handle with a new profiler, which shares the ids of `ids`. Its view keeps the last 1,000 frames and the 256
+/// slowest ones.
 ///
-/// Refused with `IsOpen`, `NotOpen` of `ids` or `Memory`, and nothing is changed then.
+/// Fails with `IsOpen`, with `NotOpen` of `ids`, or with `Memory`. Nothing changes then.
 #[unsafe(no_mangle)]
 pub extern "C" fn puffin_profiler_open(
     alloc: Global,
@@ -98,9 +98,9 @@ fn closed(alloc: Global, profiler: &mut PuffinProfiler) -> Result<(), Fault>
     Ok(())
 }
 
-/// Frees what a handle holds: its view, and the scopes that no frame has handed out. It holds nothing then.
+/// Closes a handle, and frees its profiler: the view, and the scopes that are in no frame yet.
 ///
-/// Refused with `NotOpen`.
+/// Fails with `NotOpen`.
 #[unsafe(no_mangle)]
 pub extern "C" fn puffin_profiler_close(alloc: Global, profiler: &mut PuffinProfiler) -> u32
     ensures { (answer : Result (Unit {0}) Fault)
@@ -133,11 +133,11 @@ fn reported(
     }
 }
 
-/// Hands a thread's closed scopes that wait to a profiler, with the details of those that were registered since its last
-/// report. Changes nothing where none waits.
+/// Reports a thread's waiting scopes to a profiler, with the details that were registered since the thread's last
+/// report. Does nothing if no scope waits.
 ///
-/// Refused with `NotOpen`, with `ScopesOpen` while a scope is open, with `UnlikeForms`, `TooLarge` or `RangeTooLong` where the
-/// profiler refuses the scopes, or with `Memory`: the scopes wait on then.
+/// Fails with `NotOpen`; with `ScopesOpen` while a scope is open; with `UnlikeForms`, `TooLarge` or `RangeTooLong` if
+/// the profiler refuses the scopes; or with `Memory`. The scopes keep waiting then.
 #[unsafe(no_mangle)]
 pub extern "C" fn puffin_report(
     alloc: Global,
@@ -153,7 +153,7 @@ pub extern "C" fn puffin_report(
     answer_code(answer)
 }
 
-/// Tells of a frame, or that there is none.
+/// Sets `frame` to the numbers of a frame, or to no frame.
 fn tell(meta: Option<FrameMeta>, frame: &mut PuffinFrame)
     ensures { IsTold meta frame.old frame.new }
 {
@@ -181,11 +181,11 @@ fn taken(alloc: Global, profiler: &mut PuffinProfiler, frame: &mut PuffinFrame) 
     }
 }
 
-/// Takes all that was reported since the last frame as a new frame, lets the view take it, and sets `frame` to what it says.
-/// Where no scope was reported, there is no frame: `frame.is_some` is then not set.
+/// Makes a frame of everything that was reported since the last one, adds it to the view, and sets `frame` to its
+/// numbers. If no scope was reported, there is no frame, and only `frame.is_some` is set, to `false`.
 ///
-/// Refused with `NotOpen`, `IndexExhausted` or `Memory`, and `frame` stays then. Nothing that was reported is lost: a frame
-/// that the view had no memory for waits, and the next call takes it.
+/// Fails with `NotOpen`, `IndexExhausted` or `Memory`; `frame` doesn't change then. Nothing that was reported is lost:
+/// if the view has no memory for the frame, the frame waits, and the next call adds it.
 #[unsafe(no_mangle)]
 pub extern "C" fn puffin_new_frame(
     alloc: Global,
@@ -214,7 +214,7 @@ fn wanted(alloc: Global, profiler: &mut PuffinProfiler) -> Result<(), Fault>
 
 /// Makes the next frame list every known scope, besides the new ones.
 ///
-/// Refused with `NotOpen`.
+/// Fails with `NotOpen`.
 #[unsafe(no_mangle)]
 pub extern "C" fn puffin_snapshot(alloc: Global, profiler: &mut PuffinProfiler) -> u32
     ensures { (answer : Result (Unit {0}) Fault)

@@ -1,4 +1,4 @@
-//! A box taken apart.
+//! A box as its raw parts.
 
 ghost use Rattle.std.specs.Prelude.{◌≡◌};
 ghost use Rattle.std_alloc.specs.Box.Ownership.{box_owns};
@@ -6,7 +6,7 @@ ghost use Rattle.std_alloc.specs.Box.Ownership.{box_owns};
 use std::alloc::Allocator;
 use std::marker::Model;
 
-/// The address of what a box holds, and the heap that it came from. It owns the box.
+/// The address of a box's value, and the allocator of the box. It owns the box.
 pub(crate) struct RawBox<T, A: Allocator> {
     pub(crate) at: *mut T,
     pub(crate) heap: A,
@@ -18,7 +18,7 @@ impl<T, A: Allocator> Model for RawBox<T, A> {
 }
 
 impl<T: Drop, A: Allocator> RawBox<T, A> {
-    /// Takes a box apart.
+    /// Splits a box into its parts.
     pub(crate) fn take(whole: Box<T, A>) -> RawBox<T, A>
         ensures { result.value ≡ whole.value }
     {
@@ -26,7 +26,7 @@ impl<T: Drop, A: Allocator> RawBox<T, A> {
         RawBox { at, heap }
     }
 
-    /// Makes the box again.
+    /// Returns the box.
     pub(crate) fn restore(self) -> Box<T, A>
         ensures { result.value ≡ self.value }
     {

@@ -1,4 +1,4 @@
-//! A thread's profiler, whose times the caller hands in.
+//! A thread's profiler, whose times the caller passes.
 
 ghost use Rattle.std.specs.Prelude.{◌≡◌, ◌≢◌, Some, OnOk, OnErr, IfOk, IfErr, string_bytes, slice_get};
 ghost use Rattle.puffin_data.specs.declared.error.Error.TheVariants.{Memory, MismatchedEnd};
@@ -36,7 +36,7 @@ impl Model for Recorder {
 }
 
 impl Recorder {
-    /// A thread of this name, before its first scope.
+    /// Makes a recorder of a thread with this name, without scopes.
     pub(crate) fn new(alloc: Global, shared: SharedIds, name: String, form: Form) -> Recorder
         ensures { result ≡ new_thread (string_bytes name) form }
     {
@@ -46,7 +46,7 @@ impl Recorder {
         }
     }
 
-    /// Begins a scope at this time, and returns its offset. Refused only with `Memory`.
+    /// Begins a scope at this time, and returns its offset. Fails only with `Memory`; nothing changes then.
     #[inline(always)]
     pub(crate) fn begin(&mut self, at: NanoSecond, id: ScopeId, text: &str) -> Result<usize>
         ensures ok { OnOk result (
@@ -59,7 +59,8 @@ impl Recorder {
         self.profiler.begin_scope(id, text)
     }
 
-    /// Ends the innermost open scope, whose offset this has to be, at this time. It waits for the next report.
+    /// Ends the innermost open scope, which has to have this offset, at this time. It waits for the next report. Fails
+    /// only with `MismatchedEnd`; nothing changes then.
     #[inline(always)]
     pub(crate) fn end(&mut self, at: NanoSecond, offset: usize) -> Result<()>
         ensures ok { OnOk result (
@@ -73,7 +74,7 @@ impl Recorder {
         self.profiler.close_scope(offset)
     }
 
-    /// Hands over the closed scopes that wait.
+    /// Reports the closed scopes that wait. Returns whether there were any.
     pub(crate) fn report(&mut self, collector: &mut Collector) -> Result<bool>
         ensures { Reports AcceptsReport RefusesReport self.old self.new collector.old collector.new
             result }
@@ -81,7 +82,7 @@ impl Recorder {
         self.profiler.report_closed(collector)
     }
 
-    /// Registers a function as a scope, under a newly drawn id. Refused with `IdsExhausted` or `Memory`.
+    /// Registers a function as a scope, under a newly drawn id. Fails with `IdsExhausted` or `Memory`.
     pub(crate) fn register_function(
         &mut self,
         function: String,
@@ -103,7 +104,7 @@ impl Recorder {
         )
     }
 
-    /// Registers a scope with a name of its own, under a newly drawn id. Refused with `IdsExhausted` or `Memory`.
+    /// Registers a scope with a name of its own, under a newly drawn id. Fails with `IdsExhausted` or `Memory`.
     pub(crate) fn register_scope(
         &mut self,
         name: String,

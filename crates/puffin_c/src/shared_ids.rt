@@ -1,7 +1,7 @@
 use puffin_frames::scope_details::ScopeIds;
 use std::sync::Arc;
 
-/// What gives out ids to all threads and profilers that were opened with it.
+/// Draws ids for all threads and profilers that were opened with it.
 #[derive(Drop)]
 pub(crate) struct SharedIds {
     pub(crate) ids: Arc<ScopeIds>,

@@ -1,4 +1,4 @@
-//! Counting the scopes of bytes of any origin.
+//! Counts the scopes of a stream.
 
 ghost use Rattle.std.specs.Prelude.{◌≡◌, ◌+◌, ◌/◌, ◌≤◌, length, Result};
 ghost use Rattle.puffin_c.specs.declared.fault.Fault.{Fault};
@@ -10,14 +10,14 @@ use crate::fault::{Fault, answer_code};
 use puffin_data::data::{Form, walk_forest};
 use std::alloc::Global;
 
-/// The form of texts that a program asks for.
+/// Returns the form with long or with short texts.
 pub(crate) fn form_of(long_texts: bool) -> Form
     ensures { result ≡ form_given long_texts }
 {
     if long_texts { Form::Long } else { Form::Short }
 }
 
-/// Walks over the bytes, and takes down what they hold.
+/// Walks over the bytes, and sets the counts.
 fn counted(alloc: Global, bytes: &[u8], form: Form, count: &mut PuffinCount) -> Result<(), Fault>
     ensures counted { IsCounted form bytes.now count.old count.new result }
     ensures few { count.new.tries ≤ length bytes.now / 31 + 1 }
@@ -29,10 +29,10 @@ fn counted(alloc: Global, bytes: &[u8], form: Form, count: &mut PuffinCount) -> 
     Ok(())
 }
 
-/// Counts the scopes of a stream of any origin, whose texts have one byte for their length, or up to two where `long_texts`
-/// is set.
+/// Counts the scopes of a stream of any origin. The lengths of its texts take one byte, or up to two if `long_texts` is
+/// set.
 ///
-/// Refused with the first fault of the bytes, or with `Memory`. The number of tries is set then too, and nothing else.
+/// Fails with the first fault of the bytes, or with `Memory`. Then only `tries` is set.
 #[unsafe(no_mangle)]
 pub extern "C" fn puffin_count(
     alloc: Global,

@@ -1,4 +1,4 @@
-//! Texts that a program passes as bytes.
+//! Texts that programs pass as bytes.
 
 ghost use Rattle.std.specs.Prelude.{◌≡◌, [], ◌∷◌, IfOk, IfErr, MatchResult, string_bytes};
 ghost use Rattle.std.specs.Str.{IsUtf8};
@@ -9,7 +9,7 @@ use crate::fault::Fault;
 use puffin_data::Error;
 use std::alloc::Global;
 
-/// These bytes as a text. Refused with `NotText`.
+/// Returns these bytes as a text. Fails only with `NotText`.
 #[inline(always)]
 pub(crate) fn text(bytes: &[u8]) -> Result<&str, Fault>
     ensures { MatchResult result (λ s. s.now ≡ bytes.now) (λ f.
@@ -21,7 +21,7 @@ pub(crate) fn text(bytes: &[u8]) -> Result<&str, Fault>
     }
 }
 
-/// A copy of a text. Refused with `NotText` or `Memory`.
+/// Copies a text. Fails with `NotText` or `Memory`.
 pub(crate) fn owned_text(alloc: Global, bytes: &[u8]) -> Result<String, Fault>
     ensures ok { IfOk result (λ s. string_bytes s ≡ bytes.now) }
     ensures err { IfErr result (IsNoText bytes.now) }
@@ -33,7 +33,7 @@ pub(crate) fn owned_text(alloc: Global, bytes: &[u8]) -> Result<String, Fault>
     }
 }
 
-/// What function and file a scope is in.
+/// The function and the file that a scope is in.
 #[derive(Drop)]
 pub(crate) struct Place {
     pub(crate) function: String,
@@ -41,7 +41,7 @@ pub(crate) struct Place {
 }
 
 impl Place {
-    /// Copies of these texts. Refused with `NotText` or `Memory`.
+    /// Copies these texts. Fails with `NotText` or `Memory`.
     pub(crate) fn of(alloc: Global, function: &[u8], file: &[u8]) -> Result<Place, Fault>
         ensures function { IfOk result (λ place. string_bytes place.function ≡ function.now) }
         ensures file { IfOk result (λ place. string_bytes place.file ≡ file.now) }

@@ -1,4 +1,4 @@
-//! Recording the scopes of one thread, by a handle that C holds.
+//! Records the scopes of one thread.
 
 ghost use Rattle.std.specs.Prelude.{◌≡◌, None, Some, Result, is_some, true};
 ghost use Rattle.puffin_c.specs.declared.fault.Fault.{Fault};
@@ -18,7 +18,7 @@ use puffin_data::data::{Form, ScopeId};
 use std::alloc::Global;
 use std::mem;
 
-/// A thread's handle. C makes it of zeros, and then it holds nothing.
+/// A handle of a thread's profiler. A C program fills it with zeros at first; it isn't open then.
 #[repr(C)]
 pub struct PuffinThread {
     pub(crate) slot: ThreadSlot,
@@ -27,7 +27,7 @@ pub struct PuffinThread {
 }
 
 impl PuffinThread {
-    /// Takes out what the handle holds.
+    /// Takes the recorder out of an open handle. The handle isn't open then.
     #[inline(always)]
     pub(crate) fn take(&mut self, alloc: Global) -> Box<Recorder>
         requires { self.old.is_open ≡ true }
@@ -39,7 +39,7 @@ impl PuffinThread {
         slot.into_raw().restore()
     }
 
-    /// Lets the handle hold what this box holds.
+    /// Opens the handle with this recorder.
     #[inline(always)]
     pub(crate) fn put(&mut self, held: Box<Recorder>)
         requires { self.old.slot.held ≡ None }
@@ -75,10 +75,10 @@ fn opened(
     }
 }
 
-/// Makes a thread's profiler under a handle that holds nothing. Its scopes are registered under ids of `ids`. Texts have up
-/// to 127 bytes, or 16,383 where `long_texts` is set; longer ones are cut at the end of a character.
+/// Opens a handle with a profiler of a thread of this name. Its scopes are registered under ids of `ids`. Texts are cut
+/// to 127 bytes, or to 16,383 if `long_texts` is set, at a character boundary.
 ///
-/// Refused with `IsOpen`, `NotOpen` of `ids`, `NotText` of the name or `Memory`, and nothing is changed then.
+/// Fails with `IsOpen`, with `NotOpen` of `ids`, with `NotText` of the name, or with `Memory`. Nothing changes then.
 #[unsafe(no_mangle)]
 pub extern "C" fn puffin_thread_open(
     alloc: Global,
@@ -107,9 +107,9 @@ fn closed(alloc: Global, thread: &mut PuffinThread) -> Result<(), Fault>
     Ok(())
 }
 
-/// Frees what a handle holds, with the scopes that weren't reported. It holds nothing then.
+/// Closes a handle, and drops the scopes that weren't reported.
 ///
-/// Refused with `NotOpen`.
+/// Fails with `NotOpen`.
 #[unsafe(no_mangle)]
 pub extern "C" fn puffin_thread_close(alloc: Global, thread: &mut PuffinThread) -> u32
     ensures { (answer : Result (Unit {0}) Fault)
@@ -146,10 +146,10 @@ fn begun(
     Ok(())
 }
 
-/// Begins a scope at this time, and sets `scope` to what [`puffin_end`] takes. A time below 0 counts as 0, and one below the
-/// thread's last counts as that.
+/// Begins a scope at this time, and sets `scope` to its offset, which [`puffin_end`] takes. A negative time counts as
+/// 0, and a time before the thread's last one counts as that.
 ///
-/// Refused with the first of `NotOpen`, `NoId` and `NotText` that applies, or with `Memory`, and nothing is changed then.
+/// Fails with the first of `NotOpen`, `NoId` and `NotText` that applies, or with `Memory`. Nothing changes then.
 #[unsafe(no_mangle)]
 pub extern "C" fn puffin_begin(
     alloc: Global,
@@ -183,7 +183,7 @@ fn ended(alloc: Global, thread: &mut PuffinThread, now_ns: i64, scope: u64) -> R
 
 /// Ends the innermost open scope, which has to be this one, at this time. It waits for the next [`puffin_report`].
 ///
-/// Refused with `NotOpen` or `MismatchedEnd`, and nothing is changed then.
+/// Fails with `NotOpen` or `MismatchedEnd`. Nothing changes then.
 ///
 /// [`puffin_report`]: crate::profiling::puffin_report
 #[unsafe(no_mangle)]

@@ -1,4 +1,4 @@
-//! What owns a thread's recorder, as C holds it.
+//! A slot for a thread's recorder in a handle.
 
 ghost use Rattle.std.specs.Prelude.{◌≡◌, Option, Some, None, is_some, true};
 ghost use Rattle.puffin_threads.specs.Thread.Calls.{Thread};
@@ -11,7 +11,7 @@ use std::alloc::Global;
 use std::marker::Model;
 use std::ptr::null_mut;
 
-/// The address of a box that holds a thread's recorder, or null.
+/// The address of a box with a thread's recorder, or null. It owns the box.
 #[repr(C)]
 #[derive(Drop)]
 pub struct ThreadSlot {
@@ -25,7 +25,7 @@ impl Model for ThreadSlot {
 }
 
 impl ThreadSlot {
-    /// Holds nothing.
+    /// Makes an empty slot.
     pub(crate) fn empty(heap: Global) -> ThreadSlot
         ensures { result.held ≡ None }
     {
@@ -35,7 +35,7 @@ impl ThreadSlot {
         }
     }
 
-    /// Holds what this box holds.
+    /// Makes a slot that owns this box.
     pub(crate) fn of(raw: RawBox<Recorder, Global>) -> ThreadSlot
         ensures { result.held ≡ Some raw.value }
     {
@@ -46,7 +46,7 @@ impl ThreadSlot {
         }
     }
 
-    /// Gives the box back.
+    /// Returns the box of a slot that isn't empty.
     pub(crate) fn into_raw(self) -> RawBox<Recorder, Global>
         requires { is_some self.held ≡ true }
         ensures { self.held ≡ Some result.value }
@@ -59,5 +59,5 @@ impl ThreadSlot {
     }
 }
 
-// It may go to another thread if what it holds may.
+// It may be sent to another thread, as what it owns may be.
 unsafe impl Send for ThreadSlot {}

@@ -1,4 +1,4 @@
-//! Bytes that a program reads piece by piece.
+//! Bytes that a program reads in pieces.
 
 ghost use Rattle.std.specs.Prelude.{◌≡◌, ◌≤◌, [], drop, length, min};
 ghost use Rattle.puffin_c.specs.Reporting.{laid_over};
@@ -7,7 +7,7 @@ use std::alloc::Global;
 use std::io::Read;
 use std::marker::Model;
 
-/// Lays bytes over the beginning of others, as far as these go, and returns how many were laid.
+/// Copies as many bytes as fit to the front of `out`, and returns how many.
 pub(crate) fn lay_over(bytes: &[u8], out: &mut [u8]) -> usize
     ensures out { out.new ≡ laid_over out.old bytes.now }
     ensures number { result ≡ min (length bytes.now) (length out.old) }
@@ -17,7 +17,7 @@ pub(crate) fn lay_over(bytes: &[u8], out: &mut [u8]) -> usize
     number
 }
 
-/// Bytes, some of which were read. Contracts see those that weren't.
+/// Bytes that are read from the front. Contracts see the unread ones.
 #[derive(Drop)]
 pub(crate) struct Unread {
     bytes: Vec<u8>,
@@ -35,7 +35,7 @@ impl Model for Unread {
 }
 
 impl Unread {
-    /// No byte.
+    /// Makes a reader of no bytes.
     pub(crate) fn nothing(alloc: Global) -> Unread
         ensures { result ≡ [] }
     {
@@ -45,14 +45,14 @@ impl Unread {
         }
     }
 
-    /// These bytes.
+    /// Makes a reader of these bytes.
     pub(crate) fn of(bytes: Vec<u8>) -> Unread
         ensures { result ≡ bytes.items }
     {
         Unread { bytes, read: 0 }
     }
 
-    /// Reads as many bytes as there is room for, and returns how many.
+    /// Reads as many bytes as fit into `out`, and returns how many.
     pub(crate) fn read(&mut self, out: &mut [u8]) -> usize
         ensures out { out.new ≡ laid_over out.old self.old }
         ensures number { result ≡ min (length self.old) (length out.old) }

@@ -1,4 +1,4 @@
-//! The file of a profiler's view, piece by piece.
+//! The file of a profiler's view, read in pieces.
 
 ghost use Rattle.std.specs.Prelude.{◌≡◌, Result};
 ghost use Rattle.puffin_c.specs.declared.fault.Fault.{Fault};
@@ -27,11 +27,11 @@ fn begun(alloc: Global, profiler: &mut PuffinProfiler, size: &mut u64) -> Result
     }
 }
 
-/// Makes the `.puffin` file of the frames that the view keeps, as it is now, and sets `size` to the number of its bytes.
-/// [`puffin_file_next`] reads it from its beginning; a file that was made before is dropped.
+/// Makes the `.puffin` file of the frames in the view, and sets `size` to the number of its bytes. [`puffin_file_next`]
+/// reads it from its beginning. A file that was made before is dropped.
 ///
-/// Refused with `NotOpen`, with `PartTooLong` where a part of a packet has `2^32` bytes or more, or with `Memory`, and nothing
-/// is changed then.
+/// Fails with `NotOpen`; with `PartTooLong` if a part of a packet has `2^32` bytes or more; or with `Memory`. Nothing
+/// changes then.
 #[unsafe(no_mangle)]
 pub extern "C" fn puffin_file_begin(
     alloc: Global,
@@ -64,10 +64,10 @@ fn read(
     Ok(())
 }
 
-/// Lays the next bytes of the file that [`puffin_file_begin`] made over the beginning of `out`, as far as it goes, and sets
-/// `size` to how many there are. It is 0 at the file's end, and where no file was made.
+/// Copies as many of the next bytes of the file that [`puffin_file_begin`] made as fit to the front of `out`, and sets
+/// `size` to how many. It is 0 at the file's end, and if no file was made.
 ///
-/// Refused with `NotOpen`: `out` and `size` stay then. Takes no memory.
+/// Fails with `NotOpen`; `out` and `size` don't change then. Allocates nothing.
 #[unsafe(no_mangle)]
 pub extern "C" fn puffin_file_next(
     alloc: Global,
