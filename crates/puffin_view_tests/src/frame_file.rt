@@ -18,6 +18,14 @@ fn index_of(next: &Option<FrameData>) -> Option<FrameIndex> {
     next.as_ref().map(|frame| frame.frame_index())
 }
 
+/// The index of the next frame that a reader gives, or `None` at the end.
+fn next_index<S: Source>(
+    reader: &mut FrameReader<S>,
+) -> std::result::Result<Option<FrameIndex>, FileError> {
+    let next = reader.next()?;
+    Ok(index_of(&next))
+}
+
 /// The indices of the frames that a reader gives of a file, and its refusal, or `None` at the end.
 fn given(
     alloc: Global,
@@ -26,8 +34,8 @@ fn given(
     let mut reader = FrameReader::new(alloc, Counted::new(bytes))?;
     let mut indices = Vec::new(alloc);
     'frames: for _ in 0..3 {
-        match reader.next() {
-            Ok(Some(frame)) => indices.push(frame.frame_index())?,
+        match next_index(&mut reader) {
+            Ok(Some(index)) => indices.push(index)?,
             Ok(None) => return Ok((indices, None)),
             Err(fault) => return Ok((indices, Some(fault))),
         }
@@ -50,31 +58,39 @@ fn are_given(
     }
 }
 
+/// Four bytes are left behind those that a reader read, and they begin this piece.
+fn has_left(rt: &HostRuntime, reader: FrameReader<Counted<&[u8]>>, piece: &[u8; 6]) -> Outcome {
+    let mut source = reader.into_source();
+    let mut left = [0; 6];
+    let count = source.read(&mut left)?;
+    if (count, left) == (4, *piece) {
+        Ok(())
+    } else {
+        Err(Fail::new("another piece is left"))
+    }
+}
+
 #[test]
 fn a_file_is_read_one_frame_at_a_time(rt: HostRuntime) -> Outcome {
     let bytes = bytes_of(&rt, &[&FILE[..ONE_FRAME], &[0, 0, 0, 0], b"more"])?;
     let mut reader = FrameReader::new(rt.alloc(), Counted::new(bytes.as_slice()))?;
-    let first = reader.next()?;
-    assert!(rt; index_of(&first) == Some(0));
-    let end = reader.next()?;
+    let first = next_index(&mut reader)?;
+    assert!(rt; first == Some(0));
+    let end = next_index(&mut reader)?;
     assert!(rt; end.is_none());
-    let behind = reader.next()?;
+    let behind = next_index(&mut reader)?;
     assert!(rt; behind.is_none());
     // What stands behind the end is left.
-    let mut source = reader.into_source();
-    let mut left = [0; 6];
-    let count = source.read(&mut left)?;
-    assert!(rt; (count, left) == (4, *b"more\0\0"));
-    Ok(())
+    has_left(&rt, reader, b"more\0\0")
 }
 
 #[test]
 fn frames_are_read_without_a_reader(rt: HostRuntime) -> Outcome {
     let mut source = Counted::new(&FILE[..ONE_FRAME]);
     read_magic(&mut source)?;
-    let first = next_frame(rt.alloc(), &mut source)?;
-    assert!(rt; index_of(&first) == Some(0));
-    let end = next_frame(rt.alloc(), &mut source)?;
+    let first = index_of(&next_frame(rt.alloc(), &mut source)?);
+    assert!(rt; first == Some(0));
+    let end = index_of(&next_frame(rt.alloc(), &mut source)?);
     assert!(rt; end.is_none());
     assert!(rt; source.faults() == 0);
     Ok(())
@@ -135,10 +151,10 @@ fn a_fault_comes_behind_the_frames_before_it(rt: HostRuntime) -> Outcome {
 fn a_reader_stops_at_a_fault(rt: HostRuntime) -> Outcome {
     let bytes = bytes_of(&rt, &[b"PUF0PFD9", &FILE[4..]])?;
     let mut reader = FrameReader::new(rt.alloc(), Counted::new(bytes.as_slice()))?;
-    let fault = reader.next().err();
+    let fault = next_index(&mut reader).err();
     assert!(rt; fault == Some(FileError::Newer));
     // The frames behind the fault are left.
-    let behind = reader.next()?;
+    let behind = next_index(&mut reader)?;
     assert!(rt; behind.is_none());
     Ok(())
 }
@@ -154,13 +170,22 @@ fn write_frames<D: Drain + Drop>(drain: D, view: &FrameView) -> std::result::Res
     Ok(writer.into_drain())
 }
 
+/// What is written of a view's frames, and how often the writer failed.
+fn written_frames(
+    alloc: Global,
+    view: &FrameView,
+) -> std::result::Result<(Vec<u8>, u64), FileError> {
+    let mut bytes = Vec::new(alloc);
+    let drain = write_frames(Counted::new(&mut bytes), view)?;
+    let faults = drain.faults();
+    Ok((bytes, faults))
+}
+
 #[test]
 fn a_file_is_written_one_frame_at_a_time(rt: HostRuntime) -> Outcome {
     for len in [4, ONE_FRAME, FILE.len()] {
-        let view = view(&rt, &FILE[..len])?;
-        let mut bytes = Vec::new(rt.alloc());
-        let drain = write_frames(Counted::new(&mut bytes), &view)?;
-        assert!(rt; drain.faults() == 0);
+        let (bytes, faults) = written_frames(rt.alloc(), &view(&rt, &FILE[..len])?)?;
+        assert!(rt; faults == 0);
         assert!(rt; Some(bytes.as_slice()) == FILE.get(..len));
     }
     Ok(())
@@ -224,19 +249,28 @@ fn refused_by(
     Ok(refused)
 }
 
-#[test]
-fn nothing_is_written_behind_a_packet_that_was_cut(rt: HostRuntime) -> Outcome {
-    let view = view(&rt, &FILE)?;
-    // The letters are the first call, and the second call of the first packet fails.
+/// What is written of a view to a writer that fails at this call, and what is refused.
+fn written_to_flaky(
+    rt: &HostRuntime,
+    view: &FrameView,
+    calls: usize,
+) -> std::result::Result<(Vec<u8>, Vec<Option<FileError>>), Fail> {
     let mut flaky = Flaky {
-        calls: 2,
+        calls,
         written: Vec::new(rt.alloc()),
     };
-    let refused = refused_by(&mut flaky, &view)?;
+    let refused = refused_by(&mut flaky, view)?;
+    Ok((flaky.written, refused))
+}
+
+#[test]
+fn nothing_is_written_behind_a_packet_that_was_cut(rt: HostRuntime) -> Outcome {
+    // The letters are the first call, and the second call of the first packet fails.
+    let (written, refused) = written_to_flaky(&rt, &view(&rt, &FILE)?, 2)?;
     let io = Some(FileError::Io);
     assert!(rt; refused.as_slice() == [io, io].as_slice());
-    let len = flaky.written.len();
+    let len = written.len();
     assert!(rt; len < ONE_FRAME);
-    assert!(rt; Some(flaky.written.as_slice()) == FILE.get(..len));
+    assert!(rt; Some(written.as_slice()) == FILE.get(..len));
     Ok(())
 }
