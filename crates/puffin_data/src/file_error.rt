@@ -16,9 +16,9 @@ pub enum FileError {
     NoMagic,
     /// The bytes end within a packet.
     Truncated,
-    /// The packet has a form that is no longer read: `PFD0` or `PFD1`.
+    /// The packet has a version that is no longer read: `PFD0` or `PFD1`.
     Legacy,
-    /// The packet has an unknown form.
+    /// The packet has an unknown version.
     Newer,
     /// The streams are packed in an unknown way, with this kind.
     UnknownKind(u8),

@@ -29,12 +29,12 @@ details_code =
     (coded× (coded_option coded_ℕ) (coded× (coded_option (coded_list coded_ℕ)) (
     coded× (coded_list coded_ℕ) (coded× (coded_list coded_ℕ) coded_ℕ))))
     (λ d. (d.id, (d.scope_name, (d.function_name, (d.file_path, d.line_nr)))))
-    (λ p. record {
-      id = p.0;
-      scope_name = p.1.0;
-      function_name = p.1.1.0;
-      file_path = p.1.1.1.0;
-      line_nr = p.1.1.1.1;
+    (λ (id, (scope_name, (function_name, (file_path, line_nr)))). record {
+      id = id;
+      scope_name = scope_name;
+      function_name = function_name;
+      file_path = file_path;
+      line_nr = line_nr;
     })
     (λ _. refl)
 

@@ -1,6 +1,7 @@
 //! Threads with all that their scopes need.
-ghost use Rattle.std.specs.Prelude.{◌≡◌, [], None, pos, IfOk, IfErr};
+ghost use Rattle.std.specs.Prelude.{◌≡◌, IfOk, IfErr};
 ghost use Rattle.puffin_data.specs.declared.data.form.Form.{Form};
+ghost use Rattle.puffin_threads.specs.Thread.Calls.{new_thread};
 ghost use Rattle.puffin_threads.specs.Thread.Closing.{Reports};
 ghost use Rattle.puffin_threads.specs.Thread.ThreadProfiler.{thread_of, clock_of};
 ghost use Rattle.puffin_collector.specs.Collector.Collecting.{Collects, TellsIds, KeepsPending};
@@ -36,14 +37,7 @@ impl<R: Clock + AllocGlobal + Copy, P: Reporter + Drop> Thread<SystemClock<R>, P
     /// ```
     pub fn start(rt: R, name: &str, reporter: P) -> io::Result<Thread<SystemClock<R>, P>>
         ensures thread { IfOk result (λ thread.
-            thread_of thread.profiler ≡ record {
-              name = name.now;
-              form = Form.Short;
-              first_start = None;
-              latest = pos 0;
-              word = [];
-              details = [];
-            }) }
+            thread_of thread.profiler ≡ new_thread name.now Form.Short) }
         ensures reporter { IfOk result (λ thread. thread.reporter ≡ reporter) }
     {
         let alloc = rt.alloc();
