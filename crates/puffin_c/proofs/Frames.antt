@@ -1,37 +1,36 @@
 -- Frames that are collected, wait, and are taken.
-use Rattle.std.proofs.Common.{◌≡◌, ◌⊎◌, refl, sym, ap, ◌∙◌, subst, inl, inr}
+use Rattle.std.proofs.Common.{◌≡◌, ◌⊎◌, ◌↔◌, refl, sym, ap, ◌∙◌, subst, inl, inr}
 use mathlib.Core.Bool.{Bool, true, false, true≢false}
-use Rattle.std.specs.Prelude.{Option, Some, None, is_some, Result, Ok, Err, IfErr}
+use Rattle.std.specs.Prelude.{Option, Some, None, is_some, Result, Ok, Err}
 use Rattle.std.specs.Arc.{arc_value}
+use Rattle.std.specs.List.{list_any}
 use Rattle.std.specs.Option.{option_map}
-use Rattle.std.specs.declared.sync.Arc.{Arc}
 use Rattle.puffin_data.specs.declared.error.Error.{Error}
+use Rattle.puffin_data.specs.declared.error.Error.TheVariants.{MissingId, Memory}
+use Rattle.puffin_threads.specs.Details.{lacks_id, AllHaveIds}
+use Rattle.puffin_threads.proofs.lemmas.Ids.{all_have}
 use Rattle.puffin_frames.specs.declared.frame_data.frame.FrameData.{FrameData}
-use Rattle.puffin_collector.specs.Collector.Collecting.{Collects}
+use Rattle.puffin_frames.specs.Frame.Contents.{frame_details}
 use Rattle.puffin_view.specs.declared.profile_view.frame_view.FrameView.{FrameView}
 use Rattle.puffin_view.specs.View.{View, KeepsFrames}
 use Rattle.puffin_view.specs.View.ViewedFrames.{index_of}
 use Rattle.puffin_view.specs.View.FrameOf.{frame_of}
 use Rattle.puffin_view.specs.View.Known.{view_of}
 use Rattle.puffin_c.specs.declared.profiler.Profiler.{Profiler}
+use Rattle.puffin_c.specs.declared.profiler.Waiting.{Waiting}
 use Rattle.puffin_c.specs.Profiling.{waiting_frame, IsNext, HasNone, IsCollected, IsLeft}
 
-pub waits : {A : Type 0} (w : Option (Arc FrameData A)) (b : Bool) → b ≡ is_some w → b ≡ true →
-    (frame : FrameData) × (option_map arc_value w ≡ Some frame)
+abbrev frame_in : Waiting → FrameData
+frame_in w = arc_value w.frame
+
+pub waits : (w : Option Waiting) (b : Bool) → b ≡ is_some w → b ≡ true →
+    (frame : FrameData) × (option_map frame_in w ≡ Some frame)
 waits None b e t = absurd (true≢false (sym t ∙ e))
-waits (Some arc) b e t = (arc_value arc, refl)
+waits (Some waiting) b e t = (frame_in waiting, refl)
 
-pub none_waits : {A : Type 0} (w : Option (Arc FrameData A)) (b : Bool) → b ≡ is_some w → b ≡ false →
-    option_map arc_value w ≡ None
+pub none_waits : (w : Option Waiting) (b : Bool) → b ≡ is_some w → b ≡ false → option_map frame_in w ≡ None
 none_waits None b e f = refl
-none_waits (Some arc) b e f = absurd (true≢false (sym e ∙ f))
-
--- what was collected waits
-pub kept : {A : Type 0} (old new : Profiler) (w : Option (Arc FrameData A)) → waiting_frame old ≡ None →
-    option_map arc_value w ≡ waiting_frame new → Collects old.collector w new.collector →
-    HasNone old new ⊎ ((frame : FrameData) × IsNext old frame new.collector × (waiting_frame new ≡ Some frame))
-kept old new None n e c = inl (n, sym e, c.0, c.1)
-kept old new (Some arc) n e c = inr (arc_value arc, inr (n, c.0, c.1, c.2), sym e)
+none_waits (Some waiting) b e f = absurd (true≢false (sym e ∙ f))
 
 held_or : {X : Type 0} → X → Option X → X
 held_or x None = x
@@ -54,11 +53,12 @@ the_next old mid frame (v, u, inr (other, next, e)) w =
 pub still_waits : (old mid new : Profiler) (e : Error) (frame : FrameData) → IsCollected old mid →
     waiting_frame mid ≡ Some frame → new.collector ≡ mid.collector → waiting_frame new ≡ waiting_frame mid →
     new.unread ≡ mid.unread → KeepsFrames (view_of mid.view) (index_of (frame_of frame)) (view_of new.view) →
-    IsLeft old new e
-still_waits old mid new e frame c w same waiting unread view =
+    e ≡ Memory → IsLeft old new e
+still_waits old mid new e frame c w same waiting unread view memory =
     let next = the_next old mid frame c w in (
       unread ∙ c.1,
       inr (
+        memory,
         frame,
         subst (IsNext old frame) (sym same) next,
         waiting ∙ w,
@@ -66,6 +66,14 @@ still_waits old mid new e frame c w same waiting unread view =
       ),
     )
 
-pub on_any : {X : Type 0} (r : Result X Error) (P : Error → Type 0) → ((e : Error) → P e) → IfErr r P
-on_any (Ok x) P h = tt
-on_any (Err e) P h = h e
+-- ---- ids
+
+-- a frame that was collected tells only ids
+pub tells_ids : (frame : FrameData) → AllHaveIds (frame_details frame) → list_any lacks_id (frame_details frame) ≡ false
+tells_ids frame all = all_have (frame_details frame) all
+
+-- a view that refuses a frame whose details have ids lacks memory
+pub memory_alone : {T : Type 0} (r : Result T Error) (e : Error) (missing : Bool) → r ≡ Err e → missing ≡ false →
+    ((r ≡ Err MissingId) ↔ (missing ≡ true)) → (e ≡ MissingId) ⊎ (e ≡ Memory) → e ≡ Memory
+memory_alone r e missing is none iff (inl lacks) = absurd (true≢false (sym (iff.0 (is ∙ ap Err lacks)) ∙ none))
+memory_alone r e missing is none iff (inr memory) = memory

@@ -12,6 +12,7 @@ use Rattle.puffin_view.specs.contracts.profile_view.slow_rank.SlowRank as Rank
 use Rattle.puffin_collector.specs.contracts.collector.Collector as Collector
 use Rattle.puffin_c.specs.contracts.shared_ids.SharedIds as Shared
 use Rattle.puffin_c.specs.contracts.profiler.Profiler as Profiler
+use Rattle.puffin_c.specs.contracts.profiler.Waiting as Waiting
 use Rattle.puffin_c.specs.contracts.recorder.Recorder as Recorder
 
 pub frame_send : IsSend Frame.the_row
@@ -47,6 +48,9 @@ shared_send = search (ids_send, ids_sync, crosses, sendable) depth 60 fits 10000
 pub recorder_send : IsSend Recorder.the_row
 recorder_send = search (shared_send, ids_send, ids_sync, crosses, sendable) depth 60 fits 100000
 
+waiting_send : IsSend Waiting.the_row
+waiting_send = search (frame_send, frame_sync, crosses, sendable) depth 60 fits 100000
+
 collector_field_send : IsSend Collector.the_field.row
 collector_field_send = search (collector_send, maps.crosses, crosses, sendable) depth 60 fits 100000
 
@@ -60,7 +64,7 @@ profiler_send = recorded_send Profiler.the_field.row _ _ Profiler.the_type.to_on
     view_field_send,
     (
       search (shared_send, ids_send, ids_sync, crosses, sendable) depth 60 fits 100000,
-      (search (frame_send, frame_sync, crosses, sendable) depth 60 fits 100000, (search (crosses, sendable) depth 60 fits 100000, tt)),
+      (search (waiting_send, crosses, sendable) depth 60 fits 100000, (search (crosses, sendable) depth 60 fits 100000, tt)),
     ),
   ),
 ))

@@ -31,7 +31,7 @@ use Rattle.puffin_c.specs.Reporting.{laid_over}
 
 -- the frame that was collected, and waits to be taken by the view
 abbrev pub waiting_frame : Profiler → Option FrameData
-waiting_frame p = option_map arc_value p.waiting
+waiting_frame p = option_map (λ w. arc_value w.frame) p.waiting
 
 -- the file of the view
 abbrev pub view_file : Profiler → List ℕ
@@ -133,7 +133,7 @@ IsTaken old new (Some meta) =
     × (new.unread ≡ old.unread)
 IsTaken old new None = HasNone old new × (new.view ≡ old.view) × (new.unread ≡ old.unread)
 
--- The call was refused. All that is pending is kept; or the next frame is collected, and waits for the next call.
+-- The call was refused. All that is pending is kept; or memory ran out after the next frame was collected, which waits for the next call.
 abbrev pub IsLeft : Profiler → Profiler → Error → Type 0
 IsLeft old new e =
     (new.unread ≡ old.unread)
@@ -141,7 +141,8 @@ IsLeft old new e =
     × (waiting_frame new ≡ None)
     × KeepsPending old.collector e new.collector
     × (new.view ≡ old.view))
-    ⊎ ((frame : FrameData)
+    ⊎ ((e ≡ error.Memory)
+    × (frame : FrameData)
     × IsNext old frame new.collector
     × (waiting_frame new ≡ Some frame)
     × KeepsFrames (view_of old.view) (index_of (frame_of frame)) (view_of new.view)))

@@ -1,11 +1,14 @@
 //! A collector of the scopes of all threads, with a view of the frames.
 
-ghost use Rattle.std.specs.Prelude.{◌≡◌, ◌⊎◌, Some, length, OnOk, OnErr, IfOk, IfErr};
+ghost use Rattle.std.specs.Prelude.{◌≡◌, ◌⊎◌, Some, length, false, OnOk, OnErr, IfOk, IfErr, IfSome};
 ghost use Rattle.std.specs.Arc.{arc_value};
-ghost use Rattle.std.specs.List.{Any};
+ghost use Rattle.std.specs.List.{Any, list_any};
 ghost use Rattle.std.specs.Option.{option_map};
+ghost use Rattle.puffin_data.specs.declared.error.Error.TheVariants as error;
 ghost use Rattle.puffin_data.specs.declared.file_error.FileError.TheVariants as file;
+ghost use Rattle.puffin_threads.specs.Details.{lacks_id};
 ghost use Rattle.puffin_frames.specs.declared.frame_data.frame.FrameData.{FrameData};
+ghost use Rattle.puffin_frames.specs.Frame.Contents.{frame_details};
 ghost use Rattle.puffin_frames.specs.Packet.Writing.{HasLongPart};
 ghost use Rattle.puffin_view.specs.View.Known.{view_of};
 ghost use Rattle.puffin_view.specs.View.File.{contents_in};
@@ -20,6 +23,13 @@ use puffin_view::profile_view::FrameView;
 use std::alloc::Global;
 use std::sync::Arc;
 
+/// A frame that waits for the view. All of its details have ids.
+#[derive(Drop)]
+pub(crate) struct Waiting {
+    pub(crate) frame: Arc<FrameData>,
+    ghost ids: { list_any lacks_id (frame_details (arc_value frame)) ≡ false },
+}
+
 /// Collects scopes for the next frame, and keeps a view of the frames so far. Also holds a frame that the view had no
 /// memory for, and the unread bytes of the view's file.
 #[derive(Drop)]
@@ -27,7 +37,7 @@ pub(crate) struct Profiler {
     pub(crate) collector: Collector,
     pub(crate) view: FrameView,
     pub(crate) shared: SharedIds,
-    pub(crate) waiting: Option<Arc<FrameData>>,
+    pub(crate) waiting: Option<Waiting>,
     pub(crate) unread: Unread,
 }
 
@@ -55,18 +65,23 @@ impl Profiler {
         if self.waiting.is_some() {
             return Ok(());
         }
-        self.waiting = self.collector.collect_frame()?;
+        if let Some(frame) = self.collector.collect_frame()? {
+            self.waiting = Some(Waiting { frame });
+        }
         Ok(())
     }
 
     /// Returns another reference to the waiting frame. Fails only with `Memory`.
     fn waiting(&self) -> Answer<Option<Arc<FrameData>>>
         ensures ok { IfOk result (λ copy. option_map arc_value copy ≡ waiting_frame self.now) }
+        ensures ids { IfOk result (λ copy. IfSome copy (λ frame.
+            list_any lacks_id (frame_details (arc_value frame)) ≡ false)) }
         ensures err { OnErr result (
             (frame : FrameData) × (waiting_frame self.now ≡ Some frame)) }
+        ensures memory { IfErr result (λ e. e ≡ error.Memory) }
     {
         match &self.waiting {
-            Some(frame) => Ok(Some(frame.clone()?)),
+            Some(waiting) => Ok(Some(waiting.frame.clone()?)),
             None => Ok(None),
         }
     }

@@ -9,9 +9,23 @@ use crate::fault::Fault;
 use puffin_data::Error;
 use std::alloc::Global;
 
-/// Returns these bytes as a text. Fails only with `NotText`.
+/// Returns these bytes as a text. Fails only with `NotText`. ASCII, which most texts are, is tested eight bytes at a
+/// time.
 #[inline(always)]
 pub(crate) fn text(bytes: &[u8]) -> Result<&str, Fault>
+    ensures { MatchResult result (λ s. s.now ≡ bytes.now) (λ f.
+        (f ≡ fault.NotText) × ¬ (IsUtf8 bytes.now)) }
+{
+    if bytes.is_ascii() {
+        return Ok(unsafe { str::from_utf8_unchecked(bytes) });
+    }
+    other_text(bytes)
+}
+
+/// Returns bytes that aren't ASCII as a text. Fails only with `NotText`.
+#[cold]
+#[inline(never)]
+fn other_text(bytes: &[u8]) -> Result<&str, Fault>
     ensures { MatchResult result (λ s. s.now ≡ bytes.now) (λ f.
         (f ≡ fault.NotText) × ¬ (IsUtf8 bytes.now)) }
 {

@@ -1,6 +1,6 @@
 use Rattle.std.proofs.Common.{refl, inl, inr}
-use Rattle.puffin_c.specs.declared.profiler.Profiler.{Profiler}
-use Rattle.puffin_c.proofs.Frames.{waits, none_waits, kept}
+use Rattle.std.specs.Arc.{arc_value}
+use Rattle.puffin_c.proofs.Frames.{waits, none_waits, tells_ids}
 use Rattle.puffin_c.proofs.profiler.Profiler.collect.Goals as goal
 
 pub returns-then-is_some-clause-ok : goal.returns-then-is_some-clause-ok
@@ -8,11 +8,17 @@ returns-then-is_some-clause-ok c =
     let w = waits c.args.self.now.waiting _ c.is_some.ensures c.if-is_some.true in
     (refl, refl, inr (w.0, inl (w.1, refl), w.1))
 
-pub returns-clause-ok : goal.returns-clause-ok
-returns-clause-ok c =
-    let old : Profiler = c.args.self.now in (
-      refl,
-      refl,
-      kept old (record old { collector = c.collect_frame.new.self; waiting = c.in_ok-self.field-0 }) c.in_ok-self.field-0
-          (none_waits old.waiting _ c.is_some.ensures c.if-is_some.false) refl c.in_ok-self.ensures.ok,
-    )
+pub invariant_of-t-14 : goal.invariant_of-t-14
+invariant_of-t-14 c = record { ids = tells_ids (arc_value c.in-Some.frame) (rw c.in-Some.is at c.in_ok-frame.ensures.ids) }
+
+pub returns-in-Some-clause-ok : goal.returns-in-Some-clause-ok
+returns-in-Some-clause-ok c =
+    let none = none_waits c.args.self.now.waiting _ c.is_some.ensures c.if-is_some.false in
+    let given = rw c.in-Some.is at c.in_ok-frame.ensures.ok in
+    (refl, refl, inr (arc_value c.in-Some.frame, inr (none, given.0, given.1, given.2), refl))
+
+pub returns-in_default-clause-ok : goal.returns-in_default-clause-ok
+returns-in_default-clause-ok c =
+    let none = none_waits c.args.self.now.waiting _ c.is_some.ensures c.if-is_some.false in
+    let given = rw c.in_default.is at c.in_ok-frame.ensures.ok in
+    (refl, refl, inl (none, none, given.0, given.1))
