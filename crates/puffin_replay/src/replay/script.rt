@@ -135,7 +135,7 @@ impl<'s> Threads<'s> {
         ensures { IfOk result (λ command.
             IsNumbered self.old →
             Follows self.old self.new (Some command)
-            (registers thread.now (option_map (λ n. n.now) name) function.now file.now line)) }
+            (registers thread.now (option_map (λ n. n.now) name.entry) function.now file.now line)) }
     {
         let alloc = self.alloc;
         Ok(Command::Register {
