@@ -14,7 +14,7 @@ use Rattle.puffin_replay.specs.declared.replay.statement.Statement.{Statement}
 use Rattle.puffin_replay.specs.declared.replay.statement.Statement.TheVariants as statement
 use Rattle.puffin_replay.specs.declared.replay.statement.Words.{Words}
 use Rattle.puffin_replay.specs.Script.Statements.{Meaning, words_in, makes_long, begins, ends, registers, registers_user, takes_frame, tells_all}
-use Rattle.puffin_replay.specs.Script.{lines_in, threads_after, forms_after, is_command, commands_in, command_said}
+use Rattle.puffin_replay.specs.Script.{lines_in, with_thread_of, with_form_of, threads_after, forms_after, is_command, commands_in, command_said}
 use Rattle.puffin_session.specs.declared.command.Command.{Command}
 
 -- ---- a line
@@ -61,6 +61,14 @@ IsNumbered threads =
 abbrev pub Asks : List (List ℕ) → Option Command → Meaning → Type 0
 Asks names None s = is_command s ≡ false
 Asks names (Some c) s = (is_command s ≡ true) × (command_said names c ≡ Some s)
+
+-- the threads after a line with this meaning, and its command
+abbrev pub Follows : Threads → Threads → Option Command → Meaning → Type 0
+Follows old new command s =
+    IsNumbered new
+    × (names_in new ≡ with_thread_of (names_in old) s)
+    × (new.forms.items ≡ with_form_of (names_in old) old.forms.items s)
+    × Asks (names_in new) command s
 
 -- what was read so far
 pub record IsReading (reading : Reading) (statements : List (ℕ × Meaning)) : Type 0 where

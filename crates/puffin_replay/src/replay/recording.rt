@@ -1,200 +1,278 @@
-//! Recording into memory, and reading the recording back: the whole promise in one contract.
+//! Recording the frames that a session emits.
 
-ghost use Rattle.std.specs.Prelude.{◌≡◌, ◌⊎◌, true, map, option_map, Some, IfOk, IfErr};
-ghost use Rattle.std.specs.List.{Any, list_any};
+ghost use Rattle.std.specs.Prelude.{◌≡◌, ◌⊎◌, ◌+◌, ◌-◌, ◌^◌, ◌<◌, ◌++◌, [], List, All, map, option_map, IfOk, IfErr, OnOk, get_or};
+ghost use Rattle.std.specs.List.{AllByRecursion, Any};
 ghost use Rattle.std.specs.String.{string_bytes};
-ghost use Rattle.puffin_data.specs.declared.error.Error.{Error};
-ghost use Rattle.puffin_data.specs.declared.file_error.FileError.{FileError};
+ghost use Rattle.std.specs.Io.KnownBytes.{Appends};
+ghost use Rattle.puffin_data.specs.declared.data.form.Form.TheVariants.{Short};
+ghost use Rattle.puffin_data.specs.Device.{TookNothing};
+ghost use Rattle.puffin_frames.specs.Packet.Grammar.{IsPacked};
 ghost use Rattle.puffin_frames.specs.Packet.Writing.{HasLongPart};
-ghost use Rattle.puffin_view.specs.View.{View, empty_view};
-ghost use Rattle.puffin_view.specs.View.Known.{view_of, lacks_ids};
+ghost use Rattle.puffin_view.specs.View.{Took};
+ghost use Rattle.puffin_view.specs.View.Known.{view_of};
 ghost use Rattle.puffin_view.specs.View.File.{contents_in};
-ghost use Rattle.puffin_replay.specs.Promise.{IsReadOf, KeepsRun, KeepsPromise, IsUnread, IsTooLong};
-ghost use Rattle.puffin_replay.specs.inner.InMemory.{IsFileOf, IsReadFault};
+ghost use Rattle.puffin_session.specs.Session.{SessionState, new_session};
+ghost use Rattle.puffin_session.specs.Session.Runs.{HasIds};
+ghost use Rattle.puffin_replay.specs.Script.{threads_said};
+ghost use Rattle.puffin_replay.specs.Program.Recording.{frame_in, emitted_by, frames_emitted, file_of_view, Takes, TakesSome, TookAlso, HoldsIds, ListsIds, IsBroken};
+ghost use Rattle.puffin_replay.specs.Program.ScriptRun.{loose_view, IsReplayed, IsUnfinished};
+ghost use Rattle.puffin_replay.specs.Promise.{EmitsDue, IsNotRun, IsNotTaken};
 
-use crate::replay::recorder::{Unread, run_into};
-use puffin_data::FileError;
-use puffin_data::data::{Counted, Drain, Form};
+use crate::replay::reply_line::reply_lines;
+use crate::replay::script::Script;
+use puffin_data::data::{Drain, Form, write_all};
+use puffin_data::{Error, FileError, Result as Answer};
+use puffin_frames::frame_data::FrameData;
+use puffin_frames::frame_data::laws::each_frame_is_read_again;
 use puffin_session::{Command, Reply, Session};
 use puffin_view::profile_view::FrameView;
-use puffin_view::profile_view::laws::what_was_written_is_read;
-use std::alloc::Global;
-use std::io;
-use std::io::Write;
+use puffin_view::profile_view::laws::views_hold_what_they_took;
+use std::alloc::{AllocError, Global};
+use std::sync::Arc;
 
-/// Which frames a view keeps, and whether it packs them.
-#[derive(Clone, Copy, Debug, PartialEq, Eq)]
-pub struct Limits {
-    /// The number of recent frames kept.
-    pub max_recent: usize,
-    /// The number of slowest frames kept.
-    pub max_slow: usize,
-    /// Whether the newest frame is packed before another is added.
-    pub packs: bool,
-}
-
-/// A recording that was read back.
+/// Why a recording couldn't be made or read back.
 #[derive(Drop)]
-pub struct Recording {
-    /// The reply to each command, in order.
-    pub replies: Vec<Reply>,
-    /// The view read from the file.
-    pub view: FrameView,
+pub struct Unread {
+    /// The error.
+    pub fault: FileError,
+    /// The reply to each command, in order, or `None` if the commands weren't run.
+    pub replies: Option<Vec<Reply>>,
 }
 
-/// A file in memory. A write to it fails only if memory runs out.
-#[derive(Drop)]
-struct MemoryFile {
-    bytes: Vec<u8>,
-    faults: u64,
+/// Returns the frame that a reply has, if any.
+fn emitted_by(reply: &Reply) -> Option<&Arc<FrameData>>
+    ensures { frame_in (option_map (λ frame. frame.now) result) ≡ emitted_by reply.now }
+{
+    match reply {
+        Reply::Frame(emitted) => emitted.frame.as_ref(),
+        _ => None,
+    }
 }
 
-impl Drain for MemoryFile {
-    ghost contents = { λ file. Some file.bytes.items };
-
-    ghost failures = { λ file. file.faults };
-
-    fn write(&mut self, buf: &[u8]) -> io::Result<usize> {
-        let result = self.bytes.write(buf);
-        if result.is_err() {
-            self.faults += 1;
+/// Adds each frame of the replies to a view, in order. Fails only with `Memory`.
+fn add_frames(view: &mut FrameView, replies: &[Reply]) -> Answer<()>
+    requires { All HasIds replies.now }
+    ensures ok { OnOk result (Takes (frames_emitted replies.now) view.old view.new) }
+    ensures took { OnOk result (
+        TookAlso (frames_emitted replies.now) (view_of view.old) (view_of view.new)) }
+    ensures refusal { IfErr result (λ e.
+        (e ≡ Error.Memory) × TakesSome (frames_emitted replies.now) view.old view.new) }
+{
+    for reply in replies {
+        if let Some(frame) = emitted_by(reply) {
+            view.add_frame(frame.clone()?)?;
         }
-        result
     }
-
-    fn faults(&self) -> u64 {
-        self.faults
-    }
+    Ok(())
 }
 
-/// Converts the error of a call that reads or writes memory: its `Io` is `Memory`.
-fn in_memory(fault: FileError) -> FileError
-    ensures io { fault ≡ FileError.Io → result ≡ FileError.Memory }
-    ensures other { (fault ≡ FileError.Io → ⊥) → result ≡ fault }
-{
-    match fault {
-        FileError::Io => FileError::Memory,
-        fault => fault,
-    }
-}
-
-/// Makes an empty view with these limits.
-fn limited_view(alloc: Global, limits: Limits) -> FrameView
-    ensures frames { view_of result ≡ record empty_view {
-      max_recent = limits.max_recent;
-      max_slow = limits.max_slow;
-      packs = limits.packs;
-    } }
-{
-    let mut view = FrameView::new(alloc);
-    view.set_max_recent(limits.max_recent);
-    view.set_max_slow(limits.max_slow);
-    view.set_pack_frames(limits.packs);
-    view
-}
-
-/// Reads the file of a view. Fails with `Memory`, or with `Refused(MissingId)` if details have no id.
-fn read_file(alloc: Global, bytes: &[u8]) -> Result<FrameView, FileError>
-    ensures ok { IfOk result (λ read.
-        (v : View) → IsFileOf bytes.now v → IsReadOf (contents_in v) read) }
-    ensures fault { IfErr result (λ e.
-        (v : View) → IsFileOf bytes.now v → IsReadFault (contents_in v) e) }
-{
-    // For the proof alone: a law about views and their files.
-    what_was_written_is_read();
-    match FrameView::read(alloc, &mut Counted::new(bytes)) {
-        Ok(view) => Ok(view),
-        Err(fault) => Err(in_memory(fault)),
-    }
-}
-
-/// Writes the file of a view into memory, and reads it into another view.
-fn written_and_read(alloc: Global, view: &FrameView) -> Result<FrameView, FileError>
-    ensures ok { IfOk result (λ read. IsReadOf (contents_in (view_of view.now)) read) }
-    ensures fault { IfErr result (λ e.
-        IsReadFault (contents_in (view_of view.now)) e
-        ⊎ ((e ≡ FileError.PartTooLong) × Any HasLongPart (contents_in (view_of view.now)))) }
-{
-    let mut file = MemoryFile {
-        bytes: Vec::new(alloc),
-        faults: 0,
-    };
-    match view.write(&mut file) {
-        Ok(()) => read_file(alloc, file.bytes.as_slice()),
-        Err(fault) => Err(in_memory(fault)),
-    }
-}
-
-/// Runs commands in a session, adds each emitted frame to a view, in order, writes the view's file into memory, and reads that
-/// into another view. Returns one reply for each command, and the view that was read.
+/// Runs commands in a session, and adds each emitted frame to a view, in order. Returns one reply for each command.
 ///
-/// The session may have done anything before, and the view may have taken any frames. Each emitted frame has, under each
-/// thread's start and name, exactly the scopes reported there since the emitted frame before it, of this call or an earlier
-/// one. The view that was read has exactly the frames that the first view then has, and the details that these list. It keeps
-/// up to `usize::MAX` recent frames and 256 slow ones, as [`FrameView::read`] does.
-///
-/// Fails with `Memory`, with `PartTooLong` if a part of a packet has `2^32` bytes or more, and with `Refused(MissingId)` if
-/// details of a frame that the view held before have no id. The error has the replies if the commands were run.
-///
-/// ```
-/// let recorded = record_session_and_read(alloc, &mut session, &commands, &mut view);
-/// let recording = recorded.map_err(|unread| unread.fault)?;
-/// ```
-pub fn record_session_and_read(
-    alloc: Global,
+/// Fails only with `Memory`. The session may then have run the commands or none of them, and the view may have taken a
+/// beginning of the frames.
+pub(crate) fn run_into(
     session: &mut Session,
     commands: &[Command],
     view: &mut FrameView,
-) -> Result<Recording, Unread>
-    ensures promise { IfOk result (λ recording.
-        KeepsRun session.old session.new commands.now view.old view.new recording.replies.items
-        recording.view) }
+) -> Result<Vec<Reply>, Unread>
+    ensures run { IfOk result (λ replies.
+        EmitsDue session.old session.new commands.now replies.items) }
+    ensures view { IfOk result (λ replies. Takes (frames_emitted replies.items) view.old view.new) }
+    ensures took { IfOk result (λ replies.
+        TookAlso (frames_emitted replies.items) (view_of view.old) (view_of view.new)) }
+    ensures held_ids { OnOk result (HoldsIds (view_of view.old) (view_of view.new)) }
+    ensures ids { OnOk result (ListsIds (view_of view.old) (view_of view.new)) }
     ensures refusal { IfErr result (λ e.
-        IsUnread session.old session.new commands.now view.old view.new e.fault
+        IsNotRun session.old session.new commands.now view.old view.new e.fault
+        (option_map (λ rs. rs.items) e.replies)
+        ⊎ IsNotTaken session.old session.new commands.now view.old view.new e.fault
         (option_map (λ rs. rs.items) e.replies)) }
+    ensures memory { IfErr result (λ e. e.fault ≡ FileError.Memory) }
 {
-    let replies = run_into(session, commands, view)?;
-    match written_and_read(alloc, view) {
-        Ok(view) => Ok(Recording { replies, view }),
-        Err(fault) => Err(Unread {
-            fault,
+    // For the proof alone: laws about frames and views.
+    each_frame_is_read_again();
+    views_hold_what_they_took();
+    let replies = match session.run(commands) {
+        Ok(replies) => replies,
+        Err(_) => {
+            return Err(Unread {
+                fault: FileError::Memory,
+                replies: None,
+            });
+        }
+    };
+    match add_frames(view, &replies) {
+        Ok(()) => Ok(replies),
+        Err(_) => Err(Unread {
+            fault: FileError::Memory,
             replies: Some(replies),
         }),
     }
 }
 
-/// Runs commands in a new session of threads with these names and forms, and reads the recording back as
-/// [`record_session_and_read`] does, with a new view that has these limits.
+/// Runs commands in a session, adds each emitted frame to a view, in order, and writes the view's file. Returns one reply for
+/// each command.
 ///
-/// So exactly the last and the slowest of the emitted frames are read back. Each of them has, under each thread's start and
-/// name, exactly the scopes reported there since the frame before it. Fails with `Memory`, and with `PartTooLong` if a part of
-/// a packet has `2^32` bytes or more.
+/// Fails with `Memory`, and as [`FrameView::write`] does with `PartTooLong` and `Io`. The session may then have run the
+/// commands or none of them, and the view may have taken a beginning of the frames. Nothing is written before the view has
+/// taken all of them.
 ///
 /// ```
-/// let recorded = record_and_read(alloc, threads, &commands, limits);
-/// let recording = recorded.map_err(|unread| unread.fault)?;
+/// let mut drain = Counted::new(file);
+/// let replies = record_session(&mut session, &commands, &mut view, &mut drain)?;
 /// ```
-pub fn record_and_read(
-    alloc: Global,
-    threads: Vec<(String, Form)>,
+pub fn record_session<D: Drain>(
+    session: &mut Session,
     commands: &[Command],
-    limits: Limits,
-) -> Result<Recording, Unread>
-    ensures promise { IfOk result (λ recording.
-        KeepsPromise (map (λ t. (string_bytes t.0, t.1)) threads.items) commands.now
-        limits.max_recent limits.max_slow recording.replies.items recording.view) }
-    ensures refusal { IfErr result (λ e.
-        (e.fault ≡ FileError.Memory)
-        ⊎ ((e.fault ≡ FileError.PartTooLong)
-        × IsTooLong (map (λ t. (string_bytes t.0, t.1)) threads.items) commands.now
-        limits.max_recent limits.max_slow (option_map (λ rs. rs.items) e.replies))) }
+    view: &mut FrameView,
+    drain: &mut D,
+) -> Result<Vec<Reply>, FileError>
+    requires { D.failures drain.old < 2 ^ 64 - 1 }
+    ensures run { IfOk result (λ replies.
+        EmitsDue session.old session.new commands.now replies.items) }
+    ensures view { IfOk result (λ replies. Takes (frames_emitted replies.items) view.old view.new) }
+    ensures took { IfOk result (λ replies.
+        TookAlso (frames_emitted replies.items) (view_of view.old) (view_of view.new)) }
+    ensures written { OnOk result (
+        Appends (D.contents drain.old) (D.contents drain.new) (file_of_view view.new)) }
+    ensures packed { OnOk result (AllByRecursion IsPacked (contents_in (view_of view.new))) }
+    ensures held_ids { OnOk result (HoldsIds (view_of view.old) (view_of view.new)) }
+    ensures ids { OnOk result (ListsIds (view_of view.old) (view_of view.new)) }
+    ensures failures { OnOk result (D.failures drain.new ≡ D.failures drain.old) }
+
+    ensures broken { IfErr result (λ e.
+        IsBroken session.old session.new commands.now view.old view.new (D.contents drain.old)
+        (D.contents drain.new) e) }
+    ensures io { (result ≡ Err FileError.Io) →
+        (D.failures drain.new ≡ D.failures drain.old + 1) ⊎ TookNothing D.takes drain.new }
+    ensures too_long { (result ≡ Err FileError.PartTooLong) →
+        Any HasLongPart (contents_in (view_of view.new)) }
 {
-    let mut view = limited_view(alloc, limits);
-    match Session::with_forms(alloc, threads) {
-        Ok(mut session) => record_session_and_read(alloc, &mut session, commands, &mut view),
-        Err(_) => Err(Unread {
-            fault: FileError::Memory,
-            replies: None,
-        }),
+    let replies = match run_into(session, commands, view) {
+        Ok(replies) => replies,
+        Err(unread) => return Err(unread.fault),
+    };
+    view.write(drain)?;
+    Ok(replies)
+}
+
+/// Runs commands in a new session of threads with these names, in the short form. Adds each emitted frame to a view, in order,
+/// and writes the view's file, as [`record_session`] does. Returns one reply for each command.
+///
+/// Fails with `Memory`, and as [`FrameView::write`] does with `PartTooLong` and `Io`. The view may then have taken a beginning
+/// of the frames. Nothing is written before the view has taken all of them.
+///
+/// ```
+/// let mut drain = Counted::new(file);
+/// let replies = record(alloc, names, &commands, &mut view, &mut drain)?;
+/// ```
+pub fn record<D: Drain>(
+    alloc: Global,
+    names: Vec<String>,
+    commands: &[Command],
+    view: &mut FrameView,
+    drain: &mut D,
+) -> Result<Vec<Reply>, FileError>
+    requires { D.failures drain.old < 2 ^ 64 - 1 }
+    // The commands were run, each emitted frame has what was due, and the view took the frames of that run.
+    ensures run { IfOk result (λ replies.
+        (end : SessionState)
+        × EmitsDue (new_session (map (λ name. (string_bytes name, Short)) names.items)) end
+        commands.now replies.items) }
+    ensures view { IfOk result (λ replies. Takes (frames_emitted replies.items) view.old view.new) }
+    ensures took { IfOk result (λ replies.
+        TookAlso (frames_emitted replies.items) (view_of view.old) (view_of view.new)) }
+    ensures written { OnOk result (
+        Appends (D.contents drain.old) (D.contents drain.new) (file_of_view view.new)) }
+    // What is written can be read: it consists of packets, and if all details of the view's frames had ids, so have the file's.
+    ensures packed { OnOk result (AllByRecursion IsPacked (contents_in (view_of view.new))) }
+    ensures held_ids { OnOk result (HoldsIds (view_of view.old) (view_of view.new)) }
+    ensures ids { OnOk result (ListsIds (view_of view.old) (view_of view.new)) }
+    ensures failures { OnOk result (D.failures drain.new ≡ D.failures drain.old) }
+
+    ensures broken { IfErr result (λ e.
+        (end : SessionState)
+        × IsBroken (new_session (map (λ name. (string_bytes name, Short)) names.items)) end
+        commands.now view.old view.new (D.contents drain.old) (D.contents drain.new) e) }
+    // The writer failed in this call, or took no byte.
+    ensures io { (result ≡ Err FileError.Io) →
+        (D.failures drain.new ≡ D.failures drain.old + 1) ⊎ TookNothing D.takes drain.new }
+    ensures too_long { (result ≡ Err FileError.PartTooLong) →
+        Any HasLongPart (contents_in (view_of view.new)) }
+{
+    match Session::new(alloc, names) {
+        Ok(mut session) => record_session(&mut session, commands, view, drain),
+        Err(_) => Err(FileError::Memory),
     }
+}
+
+/// Makes an empty view that packs no frames. Its frames stay as the replies have them, and are packed when they are written.
+fn loose_view(alloc: Global) -> FrameView
+    ensures frames { view_of result ≡ loose_view }
+    ensures took { Took [] (view_of result) }
+{
+    let mut view = FrameView::new(alloc);
+    view.set_pack_frames(false);
+    view
+}
+
+/// Returns the form at this place, or the short one if there is none.
+fn form_at(forms: &[Form], index: usize) -> Form
+    ensures { result ≡ get_or forms.now index Short }
+{
+    match forms.get(index) {
+        Some(form) => *form,
+        None => Form::Short,
+    }
+}
+
+/// Returns the names and the forms of a script's threads.
+fn threads_of(alloc: Global, script: &Script) -> Result<Vec<(String, Form)>, AllocError>
+    ensures { IfOk result (λ threads.
+        map (λ t. (string_bytes t.0, t.1)) threads.items ≡ threads_said script.now) }
+{
+    let mut threads = Vec::new(alloc);
+    'names: for (index, name) in script.names.iter().enumerate() {
+        threads.push((name.clone()?, form_at(&script.forms, index)))?;
+    }
+    Ok(threads)
+}
+
+/// Runs a script in a new session. A new view takes each frame of the run. Writes the view's file to `out`, and then the lines
+/// of the replies, which `docs/FORMAT.md` lists, to `lines`.
+///
+/// Fails as [`record`] does, before any line is written; or with `Memory` or `Io` if the lines can't be written.
+///
+/// ```
+/// let script = read_script(alloc, &mut source)?;
+/// run_script(alloc, &script, &mut out, &mut lines)?;
+/// ```
+pub fn run_script<D: Drain, E: Drain>(
+    alloc: Global,
+    script: &Script,
+    out: &mut D,
+    lines: &mut E,
+) -> Result<(), FileError>
+    requires out { D.failures out.old < 2 ^ 64 - 1 }
+    requires lines { E.failures lines.old < 2 ^ 64 - 1 }
+    ensures ok { OnOk result (
+        IsReplayed script.now (D.contents out.old) (D.contents out.new) (E.contents lines.old)
+        (E.contents lines.new)) }
+    ensures fails { IfErr result (λ e.
+        IsUnfinished script.now e (D.contents out.old) (D.contents out.new)
+        (E.contents lines.old) (E.contents lines.new)) }
+    // One of the writers failed in this call, or took no byte.
+    ensures io { (result ≡ Err FileError.Io) →
+        ((D.failures out.new ≡ D.failures out.old + 1) ⊎ TookNothing D.takes out.new)
+        ⊎ ((E.failures lines.new ≡ E.failures lines.old + 1) ⊎ TookNothing E.takes lines.new) }
+{
+    let threads = threads_of(alloc, script)?;
+    let mut session = match Session::with_forms(alloc, threads) {
+        Ok(session) => session,
+        Err(_) => return Err(FileError::Memory),
+    };
+    let mut view = loose_view(alloc);
+    let replies = record_session(&mut session, &script.commands, &mut view, out)?;
+    let text = reply_lines(alloc, &script.lines, &replies)?;
+    write_all(lines, text.as_bytes())
 }

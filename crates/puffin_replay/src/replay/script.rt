@@ -3,9 +3,9 @@
 ghost use Rattle.std.specs.Prelude.{◌≡◌, ◌+◌, ◌-◌, ◌^◌, ◌<◌, ◌⊎◌, List, ℕ, [], ◌∷◌, ◌++◌, Ok, Some, option_map, length, map, position, MatchOption, MatchResult, IfOk, IfErr, OnOk, slice_get};
 ghost use Rattle.std.specs.String.{string_bytes};
 ghost use Rattle.puffin_report.specs.Count.{ReadsAll};
-ghost use Rattle.puffin_replay.specs.Script.Statements.{Meaning};
-ghost use Rattle.puffin_replay.specs.inner.ScriptReading.{meaning_of, lines_left, names_in, IsNumbered, Asks, IsReading};
-ghost use Rattle.puffin_replay.specs.Script.{is_line_feed, is_skipped, told_by, with_name, with_thread_of, with_form, with_form_of, is_late, command_said, IsScript, IsLineFault};
+ghost use Rattle.puffin_replay.specs.Script.Statements.{Meaning, registers, registers_user};
+ghost use Rattle.puffin_replay.specs.inner.ScriptReading.{meaning_of, lines_left, names_in, IsNumbered, Follows, IsReading};
+ghost use Rattle.puffin_replay.specs.Script.{is_line_feed, is_skipped, told_by, with_name, with_form, is_late, command_said, IsScript, IsLineFault};
 
 use crate::replay::fault::ToolFault;
 use crate::replay::statement::{Statement, read_statement};
@@ -86,12 +86,7 @@ impl<'s> Threads<'s> {
     fn command(&mut self, statement: &Statement<'s>) -> Result<Option<Command>, AllocError>
         ensures { IfOk result (λ command.
             IsNumbered self.old →
-            IsNumbered self.new
-            × (names_in self.new
-            ≡ with_thread_of (names_in self.old) (meaning_of statement.now))
-            × (self.new.forms.items
-            ≡ with_form_of (names_in self.old) self.old.forms.items (meaning_of statement.now))
-            × Asks (names_in self.new) command (meaning_of statement.now)) }
+            Follows self.old self.new command (meaning_of statement.now)) }
     {
         let alloc = self.alloc;
         Ok(Some(match statement {
@@ -121,25 +116,49 @@ impl<'s> Threads<'s> {
                 function,
                 file,
                 line,
-            } => Command::Register {
-                thread: self.number(*thread, Form::Short)?,
-                name: match name {
-                    Some(name) => Some(String::from_str(alloc, *name)?),
-                    None => None,
-                },
-                function: String::from_str(alloc, *function)?,
-                file: String::from_str(alloc, *file)?,
-                line: *line,
-            },
-            Statement::RegisterUser { name } => {
-                let mut names = Vec::new(alloc);
-                names.push(String::from_str(alloc, *name)?)?;
-                Command::RegisterUser { names }
-            }
+            } => self.register(*thread, *name, *function, *file, *line)?,
+            Statement::RegisterUser { name } => register_user(alloc, *name)?,
             Statement::Snapshot => Command::Snapshot,
             Statement::NewFrame => Command::NewFrame,
         }))
     }
+
+    /// Makes the command that registers a scope's details with a thread.
+    fn register(
+        &mut self,
+        thread: &'s str,
+        name: Option<&'s str>,
+        function: &'s str,
+        file: &'s str,
+        line: u32,
+    ) -> Result<Command, AllocError>
+        ensures { IfOk result (λ command.
+            IsNumbered self.old →
+            Follows self.old self.new (Some command)
+            (registers thread.now (option_map (λ n. n.now) name.entry) function.now file.now line)) }
+    {
+        let alloc = self.alloc;
+        Ok(Command::Register {
+            thread: self.number(thread, Form::Short)?,
+            name: match name {
+                Some(name) => Some(String::from_str(alloc, name)?),
+                None => None,
+            },
+            function: String::from_str(alloc, function)?,
+            file: String::from_str(alloc, file)?,
+            line,
+        })
+    }
+}
+
+/// Makes the command that registers a scope of another origin.
+fn register_user(alloc: Global, name: &str) -> Result<Command, AllocError>
+    ensures { IfOk result (λ command. (names : List (List ℕ)) →
+        command_said names command ≡ Some (registers_user name.now)) }
+{
+    let mut names = Vec::new(alloc);
+    names.push(String::from_str(alloc, name)?)?;
+    Ok(Command::RegisterUser { names })
 }
 
 /// The rest of a script, line by line. The lines don't include their line feeds.
