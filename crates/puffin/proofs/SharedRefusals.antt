@@ -3,20 +3,20 @@ use Rattle.std.proofs.Common.{◌≡◌, List, [], Result, Ok, Err, inl, inr}
 use Rattle.std.specs.Prelude.{OnOk, IfErr}
 use Rattle.std.proofs.lemmas.List.Elements.{All-nil}
 use Rattle.puffin_data.specs.declared.error.Error.{Error}
-use Rattle.puffin_data.specs.Honesty.{Recorded}
-use Rattle.puffin_threads.specs.Thread.Info.{Info}
+use Rattle.puffin_data.specs.Honesty.{StreamFacts}
+use Rattle.puffin_threads.specs.Thread.ThreadKey.{ThreadKey}
 use Rattle.puffin_threads.specs.Details.{Details, AllHaveIds}
 use Rattle.puffin_collector.specs.Collector.State.{Collected, AcceptsReport, IsSumRefusal, IsReportRefusal}
 use Rattle.puffin_collector.specs.Collector.Collecting.{KeepsPending}
 use Rattle.puffin_collector.specs.Collector.Registering.{AddsSome}
 use Rattle.puffin.specs.SharedCauses.{IsReportCause, IsScopesCause, IsFrameCause, IsAddingCause}
 
-sum_cause : (c : Collected) (r : Recorded) (e : Error) → IsSumRefusal c r e → IsScopesCause e
+sum_cause : (c : Collected) (r : StreamFacts) (e : Error) → IsSumRefusal c r e → IsScopesCause e
 sum_cause c r e (inl large) = inr (inl large.0)
 sum_cause c r e (inr (inl long)) = inr (inr (inl long.0))
 sum_cause c r e (inr (inr memory)) = inr (inr (inr memory.0))
 
-report_cause : (c : Collected) (i : Info) (ds : List Details) (r : Recorded) (e : Error) → IsReportRefusal c i ds r e → IsReportCause ds e
+report_cause : (c : Collected) (i : ThreadKey) (ds : List Details) (r : StreamFacts) (e : Error) → IsReportRefusal c i ds r e → IsReportCause ds e
 report_cause c i ds r e (inl missing) = inl missing
 report_cause c i ds r e (inr (inl unlike)) = inr (unlike.1, inl unlike.0)
 report_cause c i ds r e (inr (inr sums)) = inr (sums.0, sum_cause c r e sums.2)
@@ -25,15 +25,15 @@ scopes_cause : (e : Error) → IsReportCause [] e → IsScopesCause e
 scopes_cause e (inl missing) = absurd (missing.1 (All-nil _))
 scopes_cause e (inr cause) = cause.1
 
-pub report_refused : {T : Type 0} (r : Result T Error) (old new : Collected) (i : Info) (ds : List Details) (times : Recorded) → IfErr r (λ e. IsReportRefusal old i ds times e × (new ≡ old)) → IfErr r (λ e. IsReportCause ds e)
+pub report_refused : {T : Type 0} (r : Result T Error) (old new : Collected) (i : ThreadKey) (ds : List Details) (times : StreamFacts) → IfErr r (λ e. IsReportRefusal old i ds times e × (new ≡ old)) → IfErr r (λ e. IsReportCause ds e)
 report_refused (Ok x) old new i ds times h = tt
 report_refused (Err e) old new i ds times h = report_cause old i ds times e h.0
 
-pub scopes_refused : {T : Type 0} (r : Result T Error) (old new : Collected) (i : Info) (times : Recorded) → IfErr r (λ e. IsReportRefusal old i [] times e × (new ≡ old)) → IfErr r IsScopesCause
+pub scopes_refused : {T : Type 0} (r : Result T Error) (old new : Collected) (i : ThreadKey) (times : StreamFacts) → IfErr r (λ e. IsReportRefusal old i [] times e × (new ≡ old)) → IfErr r IsScopesCause
 scopes_refused (Ok x) old new i times h = tt
 scopes_refused (Err e) old new i times h = scopes_cause e (report_cause old i [] times e h.0)
 
-pub report_accepted : {T : Type 0} (r : Result T Error) (old new : Collected) (i : Info) (ds : List Details) (times : Recorded) → OnOk r (AcceptsReport old i ds times new) → OnOk r (AllHaveIds ds)
+pub report_accepted : {T : Type 0} (r : Result T Error) (old new : Collected) (i : ThreadKey) (ds : List Details) (times : StreamFacts) → OnOk r (AcceptsReport old i ds times new) → OnOk r (AllHaveIds ds)
 report_accepted (Ok x) old new i ds times h = h.1
 report_accepted (Err e) old new i ds times h = tt
 

@@ -2,7 +2,7 @@
 use Rattle.std.specs.Prelude.{ℕ, ◌+◌, ◌≡◌, ◌≢◌, ℤ, pos, ◌≤ℤ◌, List, Option, Some, None}
 use Rattle.std.specs.Borrow.{Bor}
 use Rattle.puffin_data.specs.declared.error.Error.{Error}
-use Rattle.puffin_data.specs.Honesty.{Recorded}
+use Rattle.puffin_data.specs.Honesty.{StreamFacts}
 use Rattle.puffin_data.specs.Text.{cut_text}
 use Rattle.puffin_data.specs.Forest.Spelling.{size_offset}
 use Rattle.puffin_data.specs.Forest.Words.{word_size}
@@ -11,17 +11,17 @@ use Rattle.puffin_threads.specs.declared.thread_profiler.reporter.Closed.{Closed
 use Rattle.puffin_threads.specs.Thread.ThreadProfiler.{thread_of, clock_of}
 use Rattle.puffin_threads.specs.Thread.Calls.{Thread, after_begin}
 use Rattle.puffin_threads.specs.Thread.Closing.{Closes}
-use Rattle.puffin_threads.specs.Thread.Info.{Info}
+use Rattle.puffin_threads.specs.Thread.ThreadKey.{ThreadKey}
 use Rattle.puffin_threads.specs.Details.{Details}
 use Rattle.puffin_scopes.specs.declared.site.Site.{Site}
 use Rattle.puffin_scopes.specs.Guards.Ending.{innermost_of}
 use Rattle.puffin_scopes.specs.Sites.{IsKnownOrNew, function_details, named_details}
-use Rattle.puffin.specs.declared.light.guard.Standing.{Standing}
-use Rattle.puffin.specs.declared.light.guard.Standing.TheVariants.{On, Off, Refused}
+use Rattle.puffin.specs.declared.light.guard.GuardState.{GuardState}
+use Rattle.puffin.specs.declared.light.guard.GuardState.TheVariants.{On, Off, Refused}
 use Rattle.puffin.specs.declared.light.place.Place.{Place}
 
 -- the offset of a guard's scope, if it has one
-abbrev pub offset_in : Standing → Option ℕ
+abbrev pub offset_in : GuardState → Option ℕ
 offset_in (On offset) = Some offset
 offset_in Off = None
 offset_in (Refused e) = None
@@ -50,7 +50,7 @@ pub record Began {C : Type 0} (answers : C → ℤ → C → Type 0) (names : De
 
 -- The thread after a `begin` with this outcome. A refused `begin` may have registered the details all the same.
 abbrev pub Begins : {C : Type 0} → (C → ℤ → C → Type 0) → Details → ThreadProfiler C → List ℕ →
-    Standing → ThreadProfiler C → Type 0
+    GuardState → ThreadProfiler C → Type 0
 Begins answers names old text (On offset) new = Began answers names old text offset new
 Begins answers names old text Off new = new ≡ old
 Begins answers names old text (Refused e) new =
@@ -58,8 +58,8 @@ Begins answers names old text (Refused e) new =
 
 -- The innermost scope was ended at the clock's time. If no other scope was open, all closed scopes were reported.
 pub record Ended {C R : Type 0} (answers : C → ℤ → C → Type 0)
-    (accepts : R → Info → List Details → Recorded → R → Type 0)
-    (refuses : R → Info → List Details → Recorded → Error → R → Type 0)
+    (accepts : R → ThreadKey → List Details → StreamFacts → R → Type 0)
+    (refuses : R → ThreadKey → List Details → StreamFacts → Error → R → Type 0)
     (old new : ThreadProfiler C) (before after : R) : Type 0 where
   pub closed : Closed
   pub at : ℤ
@@ -69,8 +69,8 @@ pub record Ended {C R : Type 0} (answers : C → ℤ → C → Type 0)
 
 -- the scope at this offset was ended if it was the innermost; otherwise nothing changed
 pub record EndsAt {C R : Type 0} (answers : C → ℤ → C → Type 0)
-    (accepts : R → Info → List Details → Recorded → R → Type 0)
-    (refuses : R → Info → List Details → Recorded → Error → R → Type 0) (offset : ℕ)
+    (accepts : R → ThreadKey → List Details → StreamFacts → R → Type 0)
+    (refuses : R → ThreadKey → List Details → StreamFacts → Error → R → Type 0) (offset : ℕ)
     (old new : ThreadProfiler C) (before after : R) : Type 0 where
   pub innermost : innermost_of old ≡ Some offset →
       Ended answers accepts refuses old new before after

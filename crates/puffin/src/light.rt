@@ -30,7 +30,7 @@ mod taker;
 pub mod thread;
 
 pub use files::save;
-pub use guard::{Guard, Records, Standing};
+pub use guard::{Guard, GuardState, Records};
 pub use place::Place;
 pub use program::{Frames, Outcome, Program, profiled};
 pub use rounds::{Rounds, StatefulRounds, in_rounds};

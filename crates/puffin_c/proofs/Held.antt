@@ -12,7 +12,7 @@ use Rattle.puffin_threads.specs.Thread.Closing.{Reports}
 use Rattle.puffin_frames.specs.Packet.Writing.{HasLongPart}
 use Rattle.puffin_collector.specs.Collector.State.{Collected, AcceptsReport, RefusesReport}
 use Rattle.puffin_view.specs.View.Known.{view_of}
-use Rattle.puffin_view.specs.View.File.{contents_in}
+use Rattle.puffin_view.specs.View.File.{fields_in}
 use Rattle.puffin_c.specs.declared.fault.Fault.{Fault}
 use Rattle.puffin_c.specs.declared.fault.Fault.TheVariants as fault
 use Rattle.puffin_c.specs.declared.profiler.Profiler.{Profiler}
@@ -52,9 +52,9 @@ refused_so t now new q here after e s f h =
     (keeps.1 ∙ ap (λ (p : Profiler). p.collector) f) h))
 
 pub file_refusal : (here q : Profiler) (e : FileError) (f : Fault) → here ≡ q → f ≡ file_fault e →
-    (((e ≡ file.PartTooLong) × Any HasLongPart (contents_in (view_of here.view))) ⊎ (e ≡ file.Memory) ⊎ (e ≡ file.Io)) →
-    (f ≡ fault.Refused error.Memory) ⊎ ((f ≡ fault.File file.PartTooLong) × Any HasLongPart (contents_in (view_of q.view)))
+    (((e ≡ file.PartTooLong) × Any HasLongPart (fields_in (view_of here.view))) ⊎ (e ≡ file.Memory) ⊎ (e ≡ file.Io)) →
+    (f ≡ fault.Refused error.Memory) ⊎ ((f ≡ fault.File file.PartTooLong) × Any HasLongPart (fields_in (view_of q.view)))
 file_refusal here q e f same is (inl (long, any)) =
-    inr (is ∙ ap file_fault long, subst (λ (p : Profiler). Any HasLongPart (contents_in (view_of p.view))) same any)
+    inr (is ∙ ap file_fault long, subst (λ (p : Profiler). Any HasLongPart (fields_in (view_of p.view))) same any)
 file_refusal here q e f same is (inr (inl memory)) = inl (is ∙ ap file_fault memory)
 file_refusal here q e f same is (inr (inr io)) = inl (is ∙ ap file_fault io)

@@ -20,7 +20,7 @@ use Rattle.puffin_view.specs.View.{empty_view, after_taking, KeepsFrames}
 use Rattle.puffin_view.specs.View.ViewedFrames.{index_of}
 use Rattle.puffin_view.specs.View.FrameOf.{frame_of}
 use Rattle.puffin_view.specs.View.Known.{view_of}
-use Rattle.puffin_view.specs.View.File.{file_of, contents_in}
+use Rattle.puffin_view.specs.View.File.{file_of, fields_in}
 use Rattle.puffin_c.specs.declared.fault.Fault.{Fault}
 use Rattle.puffin_c.specs.declared.fault.Fault.TheVariants as fault
 use Rattle.puffin_c.specs.declared.frame.PuffinFrame.{PuffinFrame}
@@ -35,7 +35,7 @@ waiting_frame p = option_map (λ w. arc_value w.frame) p.waiting
 
 -- the file of the view
 abbrev pub view_file : Profiler → List ℕ
-view_file p = file_of (contents_in (view_of p.view))
+view_file p = file_of (fields_in (view_of p.view))
 
 -- a new profiler: nothing was reported, the view is empty, no frame waits, and no file is read
 pub record IsNew (p : Profiler) : Type 0 where
@@ -193,7 +193,7 @@ MakesFile p p' before size (Err f) =
     ⊎ ((q : Profiler)
     × (p ≡ Some q)
     × ((f ≡ fault.Refused error.Memory)
-    ⊎ ((f ≡ fault.File file.PartTooLong) × Any HasLongPart (contents_in (view_of q.view))))))
+    ⊎ ((f ≡ fault.File file.PartTooLong) × Any HasLongPart (fields_in (view_of q.view))))))
 
 -- As many bytes of what waits to be read as there is room for are laid over the beginning of the caller's bytes, and wait no more.
 abbrev pub ReadsFile : Option Profiler → Option Profiler → List ℕ → List ℕ → ℕ → ℕ →

@@ -2,7 +2,7 @@
 use Rattle.std.specs.Prelude.{◌≡◌, ◌⊎◌, ℕ, ℤ, Bool, true, false, List, [], ◌∷◌, ◌++◌, length, take, drop, map, min, Option, Some, None, Result, Ok, Err}
 use Rattle.puffin_data.specs.declared.file_error.FileError.{FileError}
 use Rattle.puffin_data.specs.declared.file_error.FileError.TheVariants as file
-use Rattle.puffin_threads.specs.Thread.Info.{Info}
+use Rattle.puffin_threads.specs.Thread.ThreadKey.{ThreadKey}
 use Rattle.puffin_frames.specs.Packet.Stored.{Stored}
 use Rattle.puffin_view.specs.View.{after_all, all_uniq}
 use Rattle.puffin_view.specs.View.Stats.{stats_of}
@@ -30,12 +30,12 @@ IsChecked bytes before n (Err f) =
     × FailsToRead file_at (Some bytes) left e
 
 -- whose scopes are meant
-abbrev pub info_given : Bool → ℤ → List ℕ → Info
-info_given true start name = record { start = Some start; name = name }
-info_given false start name = record { start = None; name = name }
+abbrev pub key_given : Bool → ℤ → List ℕ → ThreadKey
+key_given true start name = record { start = Some start; name = name }
+key_given false start name = record { start = None; name = name }
 
 -- the lines of the file's report
-abbrev pub HasLines : List ℕ → Info → List ℕ → Type 0
+abbrev pub HasLines : List ℕ → ThreadKey → List ℕ → Type 0
 HasLines bytes info lines =
     (left : Option (List ℕ))
     × (summary : Summary)
@@ -43,7 +43,7 @@ HasLines bytes info lines =
     × (lines ≡ report_lines summary)
 
 -- why there is no report: what the file is refused for, or want of memory
-abbrev pub LacksLines : List ℕ → Info → FileError → Type 0
+abbrev pub LacksLines : List ℕ → ThreadKey → FileError → Type 0
 LacksLines bytes info e =
     ((left : Option (List ℕ)) × FailsToSumUp info (Some bytes) left e) ⊎ (e ≡ file.Io)
 
@@ -53,7 +53,7 @@ laid_over old bytes =
     take (min (length bytes) (length old)) bytes ++ drop (min (length bytes) (length old)) old
 
 -- The report is laid over what was there, and is so long; or nothing is changed.
-abbrev pub IsPrinted : List ℕ → Info → List ℕ → List ℕ → ℕ → ℕ → Result (Unit {0}) Fault → Type 0
+abbrev pub IsPrinted : List ℕ → ThreadKey → List ℕ → List ℕ → ℕ → ℕ → Result (Unit {0}) Fault → Type 0
 IsPrinted bytes info old new before size (Ok _) =
     (lines : List ℕ) × HasLines bytes info lines × (new ≡ laid_over old lines) × (size ≡ length lines)
 IsPrinted bytes info old new before size (Err f) =

@@ -1,11 +1,11 @@
 //! Counts the frames of files, and reports on them.
 
 ghost use Rattle.std.specs.Prelude.{◌≡◌, [], ◌∷◌, Result, IfOk, IfErr};
-ghost use Rattle.puffin_threads.specs.Thread.Info.{info_of};
+ghost use Rattle.puffin_threads.specs.Thread.ThreadKey.{key_of};
 ghost use Rattle.puffin_c.specs.declared.fault.Fault.{Fault};
 ghost use Rattle.puffin_c.specs.Faults.{answer_code};
 ghost use Rattle.puffin_c.specs.Recording.{AreNoTexts};
-ghost use Rattle.puffin_c.specs.Reporting.{IsChecked, HasLines, LacksLines, info_given, IsPrinted};
+ghost use Rattle.puffin_c.specs.Reporting.{IsChecked, HasLines, LacksLines, key_given, IsPrinted};
 
 use crate::fault::{Fault, answer_code};
 use crate::memory_file::MemoryFile;
@@ -47,7 +47,7 @@ pub(crate) fn named_thread(
     start_ns: i64,
     name: &[u8],
 ) -> Result<ThreadInfo, Fault>
-    ensures ok { IfOk result (λ info. info_of info ≡ info_given has_start start_ns name.now) }
+    ensures ok { IfOk result (λ info. key_of info ≡ key_given has_start start_ns name.now) }
     ensures err { IfErr result (AreNoTexts (name.now ∷ [])) }
 {
     let name = owned_text(alloc, name)?;
@@ -59,8 +59,8 @@ pub(crate) fn named_thread(
 
 /// Returns the lines of a file's report for a thread.
 fn lines_of(alloc: Global, file: &[u8], thread: &ThreadInfo) -> Result<MemoryFile, FileError>
-    ensures ok { IfOk result (λ lines. HasLines file.now (info_of thread.now) lines.bytes.items) }
-    ensures err { IfErr result (LacksLines file.now (info_of thread.now)) }
+    ensures ok { IfOk result (λ lines. HasLines file.now (key_of thread.now) lines.bytes.items) }
+    ensures err { IfErr result (LacksLines file.now (key_of thread.now)) }
 {
     let mut lines = MemoryFile::new(alloc);
     match print_report(alloc, &mut Counted::new(file), thread, &mut lines) {
@@ -77,7 +77,7 @@ fn printed(
     out: &mut [u8],
     size: &mut u64,
 ) -> Result<(), Fault>
-    ensures { IsPrinted file.now (info_of thread.now) out.old out.new size.old size.new result }
+    ensures { IsPrinted file.now (key_of thread.now) out.old out.new size.old size.new result }
 {
     let lines = lines_of(alloc, file, thread)?;
     let bytes: &[u8] = &lines.bytes;
@@ -103,7 +103,7 @@ pub extern "C" fn puffin_report_file(
 ) -> u32
     ensures { (answer : Result (Unit {0}) Fault)
         × (result ≡ answer_code answer)
-        × IsPrinted file.now (info_given has_start start_ns name.now) out.old out.new size.old
+        × IsPrinted file.now (key_given has_start start_ns name.now) out.old out.new size.old
         size.new answer }
 {
     match named_thread(alloc, has_start, start_ns, name) {

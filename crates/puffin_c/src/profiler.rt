@@ -11,7 +11,7 @@ ghost use Rattle.puffin_frames.specs.declared.frame_data.frame.FrameData.{FrameD
 ghost use Rattle.puffin_frames.specs.Frame.Contents.{frame_details};
 ghost use Rattle.puffin_frames.specs.Packet.Writing.{HasLongPart};
 ghost use Rattle.puffin_view.specs.View.Known.{view_of};
-ghost use Rattle.puffin_view.specs.View.File.{contents_in};
+ghost use Rattle.puffin_view.specs.View.File.{fields_in};
 
 use crate::memory_file::MemoryFile;
 use crate::shared_ids::SharedIds;
@@ -108,7 +108,7 @@ impl Profiler {
     pub(crate) fn file(&self, alloc: Global) -> Result<MemoryFile, FileError>
         ensures ok { IfOk result (λ written. written.bytes.items ≡ view_file self.now) }
         ensures err { IfErr result (λ e.
-            ((e ≡ file.PartTooLong) × Any HasLongPart (contents_in (view_of self.now.view)))
+            ((e ≡ file.PartTooLong) × Any HasLongPart (fields_in (view_of self.now.view)))
             ⊎ (e ≡ file.Memory)
             ⊎ (e ≡ file.Io)) }
     {
@@ -127,7 +127,7 @@ impl Profiler {
             self.new ≡ record self.old { unread = view_file self.old }) }
         ensures unchanged { OnErr result (self.new ≡ self.old) }
         ensures err { IfErr result (λ e.
-            ((e ≡ file.PartTooLong) × Any HasLongPart (contents_in (view_of self.old.view)))
+            ((e ≡ file.PartTooLong) × Any HasLongPart (fields_in (view_of self.old.view)))
             ⊎ (e ≡ file.Memory)
             ⊎ (e ≡ file.Io)) }
     {

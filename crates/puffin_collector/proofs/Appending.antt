@@ -6,8 +6,8 @@ use Rattle.std.specs.declared.sync.Arc.{Arc}
 use Rattle.std.proofs.lemmas.List.{append-nil, length-map, map-append, take-map, take_at}
 use Rattle.std.proofs.lemmas.List.Elements.{All-nil}
 use Rattle.puffin_data.specs.declared.error.Error.{Error}
-use Rattle.puffin_data.specs.Honesty.{Recorded}
-use Rattle.puffin_threads.specs.Thread.Info.{Info}
+use Rattle.puffin_data.specs.Honesty.{StreamFacts}
+use Rattle.puffin_threads.specs.Thread.ThreadKey.{ThreadKey}
 use Rattle.puffin_threads.specs.declared.scope_details.details.ScopeDetails.{ScopeDetails}
 use Rattle.puffin_threads.specs.Details.{Details, details_of, shared_details, AllHaveIds}
 use Rattle.puffin_collector.specs.Collector.State.{Collected, PendingFits, IsSumRefusal, IsReportRefusal, after_report}
@@ -15,7 +15,7 @@ use Rattle.puffin_collector.specs.Collector.State.{Collected, PendingFits, IsSum
 pub no_ids : AllHaveIds []
 no_ids = All-nil (λ d. IsSome d.id)
 
-module _ (c : Collected) (all : List Details) (r : Recorded) where
+module _ (c : Collected) (all : List Details) (r : StreamFacts) where
   pub fits_before : PendingFits (record c { new_details = all }) r → PendingFits c r
   fits_before fits = record { bytes = fits.bytes; scopes = fits.scopes; reported = fits.reported }
 
@@ -27,12 +27,12 @@ module _ (c : Collected) (all : List Details) (r : Recorded) where
   sums_before e (inr (inl long)) = inr (inl (long.0, fits_before long.1, long.2))
   sums_before e (inr (inr memory)) = inr (inr (memory.0, fits_before memory.1, memory.2))
 
-  pub refused_before : (i : Info) (ds : List Details) (e : Error) → AllHaveIds ds → IsReportRefusal (record c { new_details = all }) i [] r e → IsReportRefusal c i ds r e
+  pub refused_before : (i : ThreadKey) (ds : List Details) (e : Error) → AllHaveIds ds → IsReportRefusal (record c { new_details = all }) i [] r e → IsReportRefusal c i ds r e
   refused_before i ds e ids (inl missing) = absurd (missing.1 no_ids)
   refused_before i ds e ids (inr (inl unlike)) = inr (inl (unlike.0, ids, unlike.2))
   refused_before i ds e ids (inr (inr sums)) = inr (inr (ids, sums.1, sums_before e sums.2))
 
-  pub accepted_before : (i : Info) (ds : List Details) → all ≡ c.new_details ++ ds → after_report (record c { new_details = all }) i [] r ≡ after_report c i ds r
+  pub accepted_before : (i : ThreadKey) (ds : List Details) → all ≡ c.new_details ++ ds → after_report (record c { new_details = all }) i [] r ≡ after_report c i ds r
   accepted_before i ds is = ap (λ (new : List Details). record (after_report c i [] r) { new_details = new }) (append-nil all ∙ is)
 
 -- the details that were there before others were appended

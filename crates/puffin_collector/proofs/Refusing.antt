@@ -3,8 +3,8 @@ use Rattle.std.proofs.Common.{◌≡◌, ℕ, ◌+◌, ◌++◌, ◌^◌, ◌≤
 use Rattle.std.specs.FinMap as map
 use Rattle.puffin_data.specs.declared.error.Error.{Error}
 use Rattle.puffin_data.specs.declared.error.Error.TheVariants.{UnlikeForms, TooLarge, Memory}
-use Rattle.puffin_data.specs.Honesty.{Recorded}
-use Rattle.puffin_threads.specs.Thread.Info.{Info}
+use Rattle.puffin_data.specs.Honesty.{StreamFacts}
+use Rattle.puffin_threads.specs.Thread.ThreadKey.{ThreadKey}
 use Rattle.puffin_threads.specs.Details.{Details, AllHaveIds}
 use Rattle.puffin_frames.specs.Frame.Contents.{Streams, stream_under, reported_to}
 use Rattle.puffin_frames.specs.Frame.Sums.{total_scopes}
@@ -14,7 +14,7 @@ use Rattle.puffin_collector.specs.inner.ReportSums.{IsFirstCause}
 abbrev failed : Error → Result (Unit {0}) Error
 failed e = Err e
 
-module _ (c : Collected) (i : Info) (ds : List Details) (r : Recorded) (ids : AllHaveIds ds) where
+module _ (c : Collected) (i : ThreadKey) (ds : List Details) (r : StreamFacts) (ids : AllHaveIds ds) where
   pub first_of_sums : (cause e : Error) → IsFirstCause c i r cause e → IsSumRefusal c r cause → IsReportRefusal c i ds r e
   first_of_sums cause e (inl unlike) sums = inr (inl (unlike.0, ids, unlike.1))
   first_of_sums cause e (inr like) sums = inr (inr (ids, like.1, subst (IsSumRefusal c r) (sym like.0) sums))
@@ -40,6 +40,6 @@ module _ (c : Collected) (i : Info) (ds : List Details) (r : Recorded) (ids : Al
   late_refusal e unlike large under fits (inr (inr is)) =
       inr (inr (ids, (λ apart. not_both e (same_error e UnlikeForms (unlike.1 apart)) is), inr (inr (is, fits.0, fits.1))))
 
-pub reported_as : (c : Collected) (i : Info) (more : List Details) (r : Recorded) (index reported : ℕ) (streams : Streams) (new : List Details) → index ≡ c.index → reported ≡ c.reported + r.num_scopes
+pub reported_as : (c : Collected) (i : ThreadKey) (more : List Details) (r : StreamFacts) (index reported : ℕ) (streams : Streams) (new : List Details) → index ≡ c.index → reported ≡ c.reported + r.num_scopes
     → streams ≡ reported_to c.streams i r → new ≡ c.new_details ++ more → record c { index = index; reported = reported; streams = streams; new_details = new } ≡ after_report c i more r
 reported_as c i more r index reported streams new a b s d = λ k. record c { index = a k; reported = b k; streams = s k; new_details = d k }

@@ -4,8 +4,8 @@ use Rattle.std.specs.Int.{int_min, int_max}
 use Rattle.std.specs.FinMap as map
 use Rattle.std.proofs.lemmas.Int.{ints, clamps}
 use Rattle.puffin_data.specs.Forest.{Forest}
-use Rattle.puffin_data.specs.Honesty.{Recorded, IsHonestRecord}
-use Rattle.puffin_threads.specs.Thread.Info.{Info}
+use Rattle.puffin_data.specs.Honesty.{StreamFacts, AreHonestFacts}
+use Rattle.puffin_threads.specs.Thread.ThreadKey.{ThreadKey}
 use Rattle.puffin_frames.specs.Frame.Contents.{Streams, reported_to, AreHonest}
 use Rattle.puffin_frames.specs.Frame.Holding.{HaveLayout}
 use Rattle.puffin_frames.specs.Frame.Sums.{total_bytes, total_scopes, joined_start, joined_stop, meta_of, IsOrdered, DurationFits}
@@ -15,7 +15,7 @@ use Rattle.puffin_collector.specs.Collector.Collecting.{IsTallied}
 use Rattle.puffin_collector.specs.inner.ReportSums.{AddsUp}
 
 -- what a frame of all that is pending would say, and what it says once joined with one info more
-pub record Joins (c : Collected) (meta more : FrameMeta) (r : Recorded) : Type 0 where
+pub record Joins (c : Collected) (meta more : FrameMeta) (r : StreamFacts) : Type 0 where
   pub sums : meta ≡ meta_of c.index (map.values c.streams)
   pub frame_index : more.frame_index ≡ meta.frame_index
   pub num_bytes : more.num_bytes ≡ meta.num_bytes + length r.bytes
@@ -25,7 +25,7 @@ pub record Joins (c : Collected) (meta more : FrameMeta) (r : Recorded) : Type 0
   pub fit : (more.num_bytes < 2 ^ 64) × (more.num_scopes < 2 ^ 64)
   pub reported : c.reported + r.num_scopes < 2 ^ 64
 
-module _ (c : Collected) (meta more : FrameMeta) (r : Recorded) (h : Joins c meta more r) where
+module _ (c : Collected) (meta more : FrameMeta) (r : StreamFacts) (h : Joins c meta more r) where
   bytes_are : meta.num_bytes ≡ total_bytes (map.values c.streams)
   bytes_are = ap (λ m. m.num_bytes) h.sums
 
@@ -46,7 +46,7 @@ module _ (c : Collected) (meta more : FrameMeta) (r : Recorded) (h : Joins c met
   }
 
   -- by the laws of one info more
-  pub range_is : ((x : Recorded) (xs : List Recorded) → joined_start (x ∷ xs) ≡ int_min x.range_ns.0 (joined_start xs)) → ((x : Recorded) (xs : List Recorded) → joined_stop (x ∷ xs) ≡ int_max x.range_ns.1 (joined_stop xs)) → more.range_ns ≡ range_with c r
+  pub range_is : ((x : StreamFacts) (xs : List StreamFacts) → joined_start (x ∷ xs) ≡ int_min x.range_ns.0 (joined_start xs)) → ((x : StreamFacts) (xs : List StreamFacts) → joined_stop (x ∷ xs) ≡ int_max x.range_ns.1 (joined_stop xs)) → more.range_ns ≡ range_with c r
   range_is one_start one_stop =
       let first : more.range_ns.0 ≡ joined_start (r ∷ map.values c.streams) = omega (arith, ints, clamps, h.start, start_is, one_start r (map.values c.streams)) in
       let last : more.range_ns.1 ≡ joined_stop (r ∷ map.values c.streams) = omega (arith, ints, clamps, h.stop, stop_is, one_stop r (map.values c.streams)) in
@@ -62,15 +62,15 @@ module _ (c : Collected) (meta more : FrameMeta) (r : Recorded) (h : Joins c met
   }
 
 -- what is kept after a report, by the laws of what a report does to all streams
-pub record Laws (streams : Streams) (i : Info) (r : Recorded) (f : Forest) : Type 0 where
+pub record Laws (streams : Streams) (i : ThreadKey) (r : StreamFacts) (f : Forest) : Type 0 where
   pub bytes : total_bytes (map.values (reported_to streams i r)) ≡ total_bytes (map.values streams) + length r.bytes
   pub scopes : total_scopes (map.values (reported_to streams i r)) ≡ total_scopes (map.values streams) + r.num_scopes
   pub start : joined_start (map.values (reported_to streams i r)) ≡ int_min (joined_start (map.values streams)) r.range_ns.0
   pub stop : joined_stop (map.values (reported_to streams i r)) ≡ int_max (joined_stop (map.values streams)) r.range_ns.1
-  pub honest : AreHonest streams → IsHonestRecord r f → AreHonest (reported_to streams i r)
+  pub honest : AreHonest streams → AreHonestFacts r f → AreHonest (reported_to streams i r)
 
-pub kept_after : (c : Collected) (meta more : FrameMeta) (i : Info) (r : Recorded) (f : Forest) (reported : ℕ) → Laws c.streams i r f → AddsUp c more r → joined_start (r ∷ map.values c.streams) ≡ int_min r.range_ns.0 (joined_start (map.values c.streams))
-    → joined_stop (r ∷ map.values c.streams) ≡ int_max r.range_ns.1 (joined_stop (map.values c.streams)) → IsTallied c.streams meta c.reported c.emitted → HaveLayout (reported_to c.streams i r) → IsHonestRecord r f → reported ≡ c.reported + r.num_scopes
+pub kept_after : (c : Collected) (meta more : FrameMeta) (i : ThreadKey) (r : StreamFacts) (f : Forest) (reported : ℕ) → Laws c.streams i r f → AddsUp c more r → joined_start (r ∷ map.values c.streams) ≡ int_min r.range_ns.0 (joined_start (map.values c.streams))
+    → joined_stop (r ∷ map.values c.streams) ≡ int_max r.range_ns.1 (joined_stop (map.values c.streams)) → IsTallied c.streams meta c.reported c.emitted → HaveLayout (reported_to c.streams i r) → AreHonestFacts r f → reported ≡ c.reported + r.num_scopes
     → IsTallied (reported_to c.streams i r) more reported c.emitted
 kept_after c meta more i r f reported laws h one_start one_stop kept layout honest sum = record {
   sums = λ j. record {
@@ -98,7 +98,7 @@ kept_after c meta more i r f reported laws h one_start one_stop kept layout hone
     scopes = omega (arith, h.num_scopes, laws.scopes)
 
 -- sums that don't fit
-pub too_large : (c : Collected) (meta : FrameMeta) (r : Recorded) → meta ≡ meta_of c.index (map.values c.streams) → (2 ^ 64 ≤ meta.num_bytes + length r.bytes) ⊎ (2 ^ 64 ≤ meta.num_scopes + r.num_scopes) → ¬ PendingFits c r
+pub too_large : (c : Collected) (meta : FrameMeta) (r : StreamFacts) → meta ≡ meta_of c.index (map.values c.streams) → (2 ^ 64 ≤ meta.num_bytes + length r.bytes) ⊎ (2 ^ 64 ≤ meta.num_scopes + r.num_scopes) → ¬ PendingFits c r
 too_large c meta r sums (inl bytes) fits = omega (arith, ap (λ (m : FrameMeta). m.num_bytes) sums, bytes, fits.bytes)
 too_large c meta r sums (inr scopes) fits = omega (arith, ap (λ (m : FrameMeta). m.num_scopes) sums, scopes, fits.scopes)
 

@@ -4,19 +4,19 @@ use Rattle.std.proofs.lemmas.List.{map-append}
 use Rattle.puffin_data.specs.declared.data.form.Form.{Form}
 use Rattle.puffin_data.specs.declared.error.Error.{Error}
 use Rattle.puffin_data.specs.declared.data.record.Scope.{Scope}
-use Rattle.puffin_data.specs.Reader.{ReadScope, Place, next_after, scope_read, ReaderGives, ends, stops, goes_on}
+use Rattle.puffin_data.specs.Reader.{ReadScope, ReaderState, next_after, scope_read, ReaderGives, ends, stops, goes_on}
 use Rattle.puffin_data.specs.Reader.ReadScopes.{scope_seen, IsNextRead, ReadsScopes, ReadsFault}
 
 abbrev items : List Scope → List (Result ReadScope Error)
 items scopes = map (λ s. Ok s) (map scope_seen scopes)
 
 -- after these scopes a reader stands at a place, and gives what is given from there
-pub record HasRead (from now : Place) (scopes : List Scope) : Type 0 where
+pub record HasRead (from now : ReaderState) (scopes : List Scope) : Type 0 where
   pub same_form : now.form ≡ from.form
   pub same_bytes : now.bytes ≡ from.bytes
   pub reads : (later : List (Result ReadScope Error)) → ReaderGives from.form from.bytes now.at later → ReaderGives from.form from.bytes from.at (items scopes ++ later)
 
-after_some : (from : Place) (x : Result (Option ReadScope) Error) (s : ReadScope) (at : ℕ) → (Some (Ok s), at) ≡ next_after from x → (x ≡ Ok (Some s)) × (at ≡ s.next_sibling)
+after_some : (from : ReaderState) (x : Result (Option ReadScope) Error) (s : ReadScope) (at : ℕ) → (Some (Ok s), at) ≡ next_after from x → (x ≡ Ok (Some s)) × (at ≡ s.next_sibling)
 after_some from (Ok None) s at e = absurd (some_none _ (ap (λ p. p.0) e))
   where
     some_none : (r : Result ReadScope Error) → Some r ≡ None → ⊥
@@ -32,7 +32,7 @@ after_some from (Err fault) s at e = absurd (ok_err s fault (ap (λ p. p.0) e))
     ok_err : (a : ReadScope) (b : Error) → ◌≡◌ {A = Option (Result ReadScope Error)} (Some (Ok a)) (Some (Err b)) → ⊥
     ok_err a b e = cc
 
-after_fault : (from : Place) (x : Result (Option ReadScope) Error) (fault : Error) (at : ℕ) → (Some (Err fault), at) ≡ next_after from x → x ≡ Err fault
+after_fault : (from : ReaderState) (x : Result (Option ReadScope) Error) (fault : Error) (at : ℕ) → (Some (Err fault), at) ≡ next_after from x → x ≡ Err fault
 after_fault from (Ok None) fault at e = absurd (some_none _ (ap (λ p. p.0) e))
   where
     some_none : (r : Result ReadScope Error) → Some r ≡ None → ⊥
@@ -46,7 +46,7 @@ after_fault from (Err other) fault at e = same_fault fault other (ap (λ p. p.0)
     same_fault : (a b : Error) → ◌≡◌ {A = Option (Result ReadScope Error)} (Some (Err a)) (Some (Err b)) → ◌≡◌ {A = Result (Option ReadScope) Error} (Err b) (Err a)
     same_fault a b e = cc
 
-after_none : (from : Place) (x : Result (Option ReadScope) Error) (at : ℕ) → (None, at) ≡ next_after from x → x ≡ Ok None
+after_none : (from : ReaderState) (x : Result (Option ReadScope) Error) (at : ℕ) → (None, at) ≡ next_after from x → x ≡ Ok None
 after_none from (Ok None) at e = refl
 after_none from (Ok (Some t)) at e = absurd (none_some _ (ap (λ p. p.0) e))
   where
@@ -58,13 +58,13 @@ after_none from (Err other) at e = absurd (none_some _ (ap (λ p. p.0) e))
     none_some r e = cc
 
 -- what is read at the place where a reader stands, said of the bytes where it began
-pub nothing_read : (from : Place) → HasRead from from []
+pub nothing_read : (from : ReaderState) → HasRead from from []
 nothing_read from = record { same_form = refl; same_bytes = refl; reads = λ later r. r }
 
-read_there : (from now : Place) (r : Result (Option ReadScope) Error) → now.form ≡ from.form → now.bytes ≡ from.bytes → scope_read now.form now.bytes now.at (length now.bytes) ≡ r → scope_read from.form from.bytes now.at (length from.bytes) ≡ r
+read_there : (from now : ReaderState) (r : Result (Option ReadScope) Error) → now.form ≡ from.form → now.bytes ≡ from.bytes → scope_read now.form now.bytes now.at (length now.bytes) ≡ r → scope_read from.form from.bytes now.at (length from.bytes) ≡ r
 read_there from now r one same e = subst (λ (bytes : List ℕ). scope_read from.form bytes now.at (length bytes) ≡ r) same (subst (λ (form : Form). scope_read form now.bytes now.at (length now.bytes) ≡ r) one e)
 
-pub one_more : (from now to : Place) (scopes all : List Scope) (s : Scope) → HasRead from now scopes → IsNextRead now (Some (Ok s)) to → all ≡ scopes ++ s ∷ [] → HasRead from to all
+pub one_more : (from now to : ReaderState) (scopes all : List Scope) (s : Scope) → HasRead from now scopes → IsNextRead now (Some (Ok s)) to → all ≡ scopes ++ s ∷ [] → HasRead from to all
 one_more from now to scopes all s h step grown =
     let x = scope_read now.form now.bytes now.at (length now.bytes) in
     let told = after_some now x (scope_seen s) to.at step.next in
@@ -78,12 +78,12 @@ one_more from now to scopes all s h step grown =
           subst (ReaderGives from.form from.bytes from.at) (sym (ap (λ (xs : List (Result ReadScope Error)). xs ++ later) split ∙ append_assoc (items scopes) (Ok (scope_seen s) ∷ []) later)) whole;
     }
 
-pub all_read : (from now to : Place) (scopes : List Scope) → HasRead from now scopes → IsNextRead now None to → ReadsScopes from scopes
+pub all_read : (from now to : ReaderState) (scopes : List Scope) → HasRead from now scopes → IsNextRead now None to → ReadsScopes from scopes
 all_read from now to scopes h step =
     let there = read_there from now (Ok None) h.same_form h.same_bytes (after_none now (scope_read now.form now.bytes now.at (length now.bytes)) to.at step.next) in
     subst (ReaderGives from.form from.bytes from.at) (append-nil (items scopes)) (h.reads [] (ends there))
 
-pub fault_read : (from now to : Place) (scopes : List Scope) (fault : Error) → HasRead from now scopes → IsNextRead now (Some (Err fault)) to → ReadsFault from fault
+pub fault_read : (from now to : ReaderState) (scopes : List Scope) (fault : Error) → HasRead from now scopes → IsNextRead now (Some (Err fault)) to → ReadsFault from fault
 fault_read from now to scopes fault h step =
     let there = read_there from now (Err fault) h.same_form h.same_bytes (after_fault now (scope_read now.form now.bytes now.at (length now.bytes)) fault to.at step.next) in
     (map scope_seen scopes, h.reads (Err fault ∷ []) (stops there))

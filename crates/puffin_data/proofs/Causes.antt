@@ -6,11 +6,11 @@ use Rattle.puffin_data.specs.declared.error.Error.{Error}
 use Rattle.puffin_data.specs.declared.error.Error.TheVariants.{PrematureEnd, InvalidStream, ScopeNeverEnded}
 use Rattle.puffin_data.specs.declared.data.form.Form.TheVariants.{Short, Long}
 use Rattle.puffin_data.specs.Text.Lengths.{length_at, with_second_group}
-use Rattle.puffin_data.specs.Walk.Reading.{Found, reading, sized_reading, unless_fault, text_length_in, found_in, id_in, time_in, size_in, child_begin_in, child_end_in}
+use Rattle.puffin_data.specs.Walk.Reading.{FoundScope, reading, sized_reading, unless_fault, text_length_in, found_in, id_in, time_in, size_in, child_begin_in, child_end_in}
 use Rattle.puffin_data.specs.Walk.{region, IsFault}
 
 abbrev Answer : Type 0
-Answer = Result (Option Found) Error
+Answer = Result (Option FoundScope) Error
 
 abbrev IsCause : Error → Type 0
 IsCause e = (e ≡ PrematureEnd) ⊎ (e ≡ InvalidStream) ⊎ (e ≡ ScopeNeverEnded)

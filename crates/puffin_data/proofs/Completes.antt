@@ -9,7 +9,7 @@ use Rattle.puffin_data.specs.declared.data.walk.Walk.{Walk}
 use Rattle.puffin_data.specs.Forest.{Span, Forest, empty, node, IsForest}
 use Rattle.puffin_data.specs.Forest.Measures.{scope_count, height, least_start, greatest_stop}
 use Rattle.puffin_data.specs.Forest.Spelling.{spelling, begin_bytes, end_bytes}
-use Rattle.puffin_data.specs.Walk.Reading.{Found}
+use Rattle.puffin_data.specs.Walk.Reading.{FoundScope}
 use Rattle.puffin_data.specs.Walk.{region, IsSoundAt, IsFaultAt, Reaches, here, child, sibling, Sounds, no_more, one_more}
 use Rattle.puffin_data.specs.inner.Walking.{with_scope, WalksTo, ends, goes_on}
 use Rattle.puffin_data.proofs.lemmas.Numbers.{IsBytes, IsBytes-drop, IsBytes-take}
@@ -39,13 +39,13 @@ nothing_reached form bytes p e q f fault h (child {s = s} sound r) at = nothing_
 nothing_reached form bytes p e q f fault h (sibling {s = s} sound r) at = nothing_is_not_sound form (region bytes p e) s h sound
 
 -- what is reached from a place where a sound scope stands
-pub after_sound : (form : Form) (bytes : List ℕ) (p e q f : ℕ) (s : Found) (fault : Error) → IsSoundAt form bytes p e s
+pub after_sound : (form : Form) (bytes : List ℕ) (p e q f : ℕ) (s : FoundScope) (fault : Error) → IsSoundAt form bytes p e s
     → (Reaches form bytes (p + s.child_begin) (p + s.child_end) q f → ⊥) → (Reaches form bytes (p + s.next_sibling) e q f → ⊥) → Reaches form bytes p e q f → IsFaultAt form bytes q f fault → ⊥
 after_sound form bytes p e q f s fault sound inner later here at = sound_is_no_fault form (region bytes p e) s fault sound at
 after_sound form bytes p e q f s fault sound inner later (child {s = t} other r) at =
-    inner (subst (λ (x : Found). Reaches form bytes (p + x.child_begin) (p + x.child_end) q f) (one_sound form (region bytes p e) t s other sound) r)
+    inner (subst (λ (x : FoundScope). Reaches form bytes (p + x.child_begin) (p + x.child_end) q f) (one_sound form (region bytes p e) t s other sound) r)
 after_sound form bytes p e q f s fault sound inner later (sibling {s = t} other r) at =
-    later (subst (λ (x : Found). Reaches form bytes (p + x.next_sibling) e q f) (one_sound form (region bytes p e) t s other sound) r)
+    later (subst (λ (x : FoundScope). Reaches form bytes (p + x.next_sibling) e q f) (one_sound form (region bytes p e) t s other sound) r)
 
 -- the spelling of a scope with its children and what follows it, from those of the parts
 pub joined : (form : Form) (part inner rest : List ℕ) (s : Span) (size : ℕ) (f g : Forest) → part ≡ begin_bytes form s.id s.start s.text size ++ (inner ++ (end_bytes s.stop ++ rest)) → length inner ≡ size → inner ≡ spelling form f → rest ≡ spelling form g → part ≡ spelling form (node s f g)

@@ -10,7 +10,7 @@ use Rattle.puffin_data.specs.declared.error.Error.TheVariants.{PrematureEnd, Inv
 use Rattle.puffin_data.specs.Forest.{Span, Forest, empty, node, IsSpan, IsForest}
 use Rattle.puffin_data.specs.Forest.Measures.{scope_count, height, least_start, greatest_stop}
 use Rattle.puffin_data.specs.Forest.Spelling.{spelling, begin_bytes, end_bytes}
-use Rattle.puffin_data.specs.Walk.Reading.{Found, reading, sized_reading, found_in, id_in, time_in, size_in}
+use Rattle.puffin_data.specs.Walk.Reading.{FoundScope, reading, sized_reading, found_in, id_in, time_in, size_in}
 use Rattle.puffin_data.specs.Walk.{region, IsSoundAt, IsFaultAt, Reaches, here, child, sibling, IsFirstFault, no_more, one_more, Refuses}
 use Rattle.puffin_data.proofs.Regions.{whole_region, between, one_sound, sound_is_no_fault, nothing_is_no_fault, nothing_is_not_sound, ok_is_not_err}
 
@@ -42,7 +42,7 @@ one = node data_span empty empty
 abbrev one_bytes : List ℕ
 one_bytes = codes "(\u{1}\0\0\0d\0\0\0\0\0\0\0\u{4}data\0\0\0\0\0\0\0\0),\u{1}\0\0\0\0\0\0"
 
-abbrev one_found : Found
+abbrev one_found : FoundScope
 one_found = record { span = data_span; child_begin = 26; child_end = 26; next_sibling = 35 }
 
 spelled : spelling Short one ≡ one_bytes
@@ -156,13 +156,13 @@ reversed = at_once _ _ refl
 -- ---- faults behind a sound scope
 
 -- a fault that is reached behind a sound scope, is reached from its children or from its next sibling
-parts : (bytes : List ℕ) (p e q f place : ℕ) (s : Found) (fault : Error) → IsSoundAt Short bytes p e s
+parts : (bytes : List ℕ) (p e q f place : ℕ) (s : FoundScope) (fault : Error) → IsSoundAt Short bytes p e s
     → (Reaches Short bytes (p + s.child_begin) (p + s.child_end) q f → place ≤ q) → (Reaches Short bytes (p + s.next_sibling) e q f → place ≤ q) → Reaches Short bytes p e q f → IsFaultAt Short bytes q f fault → place ≤ q
 parts bytes p e q f place s fault sound inner later here at = absurd (sound_is_no_fault Short (region bytes p e) s fault sound at)
 parts bytes p e q f place s fault sound inner later (child {s = t} other r) at =
-    inner (subst (λ (x : Found). Reaches Short bytes (p + x.child_begin) (p + x.child_end) q f) (one_sound Short (region bytes p e) t s other sound) r)
+    inner (subst (λ (x : FoundScope). Reaches Short bytes (p + x.child_begin) (p + x.child_end) q f) (one_sound Short (region bytes p e) t s other sound) r)
 parts bytes p e q f place s fault sound inner later (sibling {s = t} other r) at =
-    later (subst (λ (x : Found). Reaches Short bytes (p + x.next_sibling) e q f) (one_sound Short (region bytes p e) t s other sound) r)
+    later (subst (λ (x : FoundScope). Reaches Short bytes (p + x.next_sibling) e q f) (one_sound Short (region bytes p e) t s other sound) r)
 
 -- one scope, and a byte left over
 abbrev longer : List ℕ
@@ -194,7 +194,7 @@ left_over = record {
 abbrev past : List ℕ
 past = codes "(\u{1}\0\0\0\0\0\0\0\0\0\0\0\0\u{1f}\0\0\0\0\0\0\0(\u{2}\0\0\0\0\0\0\0\0\0\0\0\0\u{1f}\0\0\0\0\0\0\0)\0\0\0\0\0\0\0\0)\0\0\0\0\0\0\0\0"
 
-abbrev past_found : Found
+abbrev past_found : FoundScope
 past_found = record { span = record { id = 1; start = pos 0; stop = pos 0; text = [] }; child_begin = 22; child_end = 53; next_sibling = 62 }
 
 past_size : length past ≡ 62

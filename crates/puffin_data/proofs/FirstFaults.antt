@@ -9,7 +9,7 @@ use Rattle.puffin_data.specs.declared.error.Error.{Error}
 use Rattle.puffin_data.specs.declared.data.walk.Walk.{Walk}
 use Rattle.puffin_data.specs.Forest.{Forest, empty, node}
 use Rattle.puffin_data.specs.Forest.Measures.{scope_count}
-use Rattle.puffin_data.specs.Walk.Reading.{Found}
+use Rattle.puffin_data.specs.Walk.Reading.{FoundScope}
 use Rattle.puffin_data.specs.Walk.{region, IsSoundAt, IsFaultAt, Reaches, here, child, sibling, Sounds, no_more, one_more}
 use Rattle.puffin_data.specs.inner.Walking.{tries_in, with_scope, Stop, WalksTo, stops, stops_within, goes_on}
 use Rattle.puffin_data.proofs.lemmas.Numbers.{IsBytes}
@@ -82,13 +82,13 @@ pub record Stops (form : Form) (bytes : List ℕ) (w : Walk) (p e : ℕ) (stop :
   pub tries : stop.tries ≡ w.num_scopes + below stop.place places + tries_in (region bytes stop.place end)
 
 -- what is reached from a place where a sound scope stands, and isn't that place, is reached from its children or its next sibling
-pub by_parts : (form : Form) (bytes : List ℕ) (p e q f place : ℕ) (s : Found) (fault : Error) → IsSoundAt form bytes p e s
+pub by_parts : (form : Form) (bytes : List ℕ) (p e q f place : ℕ) (s : FoundScope) (fault : Error) → IsSoundAt form bytes p e s
     → (Reaches form bytes (p + s.child_begin) (p + s.child_end) q f → place ≤ q) → (Reaches form bytes (p + s.next_sibling) e q f → place ≤ q) → Reaches form bytes p e q f → IsFaultAt form bytes q f fault → place ≤ q
 by_parts form bytes p e q f place s fault sound inner later here at = absurd (sound_is_no_fault form (region bytes p e) s fault sound at)
 by_parts form bytes p e q f place s fault sound inner later (child {s = t} other r) at =
-    inner (subst (λ (x : Found). Reaches form bytes (p + x.child_begin) (p + x.child_end) q f) (one_sound form (region bytes p e) t s other sound) r)
+    inner (subst (λ (x : FoundScope). Reaches form bytes (p + x.child_begin) (p + x.child_end) q f) (one_sound form (region bytes p e) t s other sound) r)
 by_parts form bytes p e q f place s fault sound inner later (sibling {s = t} other r) at =
-    later (subst (λ (x : Found). Reaches form bytes (p + x.next_sibling) e q f) (one_sound form (region bytes p e) t s other sound) r)
+    later (subst (λ (x : FoundScope). Reaches form bytes (p + x.next_sibling) e q f) (one_sound form (region bytes p e) t s other sound) r)
 
 pub stopped_at : (form : Form) (bytes : List ℕ) (level : ℕ) (w : Walk) (p e : ℕ) (stop : Stop) → IsBytes bytes → p ≤ e → e ≤ length bytes → WalksTo form bytes level w p e (Err stop) → Stops form bytes w p e stop
 stopped_at form bytes level w p e stop fits h k (stops {fault = fault} at) =

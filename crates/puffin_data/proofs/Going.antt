@@ -5,7 +5,7 @@ use Rattle.puffin_data.specs.declared.data.form.Form.{Form}
 use Rattle.puffin_data.specs.declared.error.Error.{Error}
 use Rattle.puffin_data.specs.declared.data.visit.Region.{Region}
 use Rattle.puffin_data.specs.Forest.{Span}
-use Rattle.puffin_data.specs.Walk.Reading.{Found}
+use Rattle.puffin_data.specs.Walk.Reading.{FoundScope}
 use Rattle.puffin_data.specs.Walk.{region, IsSoundAt, IsFaultAt}
 use Rattle.puffin_data.specs.inner.Walking.{tries_in}
 use Rattle.puffin_data.proofs.Resuming.{IsNested, nested_push, nested_pop, nested_low}
@@ -28,13 +28,13 @@ pub data Goes (form : Form) {V W : Type 0} (enters : V → W → Span → W → 
   ends : {w : W} {v : V} {n p : ℕ} → Goes form enters refuses bytes w v n p p (over_all v n)
   meets_fault : {w : W} {v : V} {n p e : ℕ} {fault : Error} → IsFaultAt form bytes p e fault →
       Goes form enters refuses bytes w v n p e (at_fault v p fault (n + tries_in (region bytes p e)))
-  is_refused : {w : W} {v : V} {n p e : ℕ} {cause : Error} {s : Found} → IsSoundAt form bytes p e s →
+  is_refused : {w : W} {v : V} {n p e : ℕ} {cause : Error} {s : FoundScope} → IsSoundAt form bytes p e s →
       refuses v w s.span cause → Goes form enters refuses bytes w v n p e (at_refusal p cause (n + 1))
-  stops_within : {w x : W} {v u : V} {n p e : ℕ} {s : Found} {out : End V} → IsSoundAt form bytes p e s →
+  stops_within : {w x : W} {v u : V} {n p e : ℕ} {s : FoundScope} {out : End V} → IsSoundAt form bytes p e s →
       enters v w s.span x u → IsEarly out →
       Goes form enters refuses bytes x u (n + 1) (p + s.child_begin) (p + s.child_end) out →
       Goes form enters refuses bytes w v n p e out
-  goes_on : {w x : W} {v u t : V} {n m p e : ℕ} {s : Found} {out : End V} → IsSoundAt form bytes p e s →
+  goes_on : {w x : W} {v u t : V} {n m p e : ℕ} {s : FoundScope} {out : End V} → IsSoundAt form bytes p e s →
       enters v w s.span x u →
       Goes form enters refuses bytes x u (n + 1) (p + s.child_begin) (p + s.child_end) (over_all t m) →
       Goes form enters refuses bytes w t m (p + s.next_sibling) e out →
@@ -60,7 +60,7 @@ early_end form [] w v n p e out early g = outermost g
 early_end form (o ∷ outers) w v n p e out early g = breaks early g
 
 -- a scope is entered
-entered : (form : Form) → {V W : Type 0} {enters : V → W → Span → W → V → Type 0} {refuses : V → W → Span → Error → Type 0} {bytes : List ℕ} (outers : List (Region W)) (w x : W) (v u : V) (n p e : ℕ) (s : Found) (out : End V)
+entered : (form : Form) → {V W : Type 0} {enters : V → W → Span → W → V → Type 0} {refuses : V → W → Span → Error → Type 0} {bytes : List ℕ} (outers : List (Region W)) (w x : W) (v u : V) (n p e : ℕ) (s : FoundScope) (out : End V)
     → IsSoundAt form bytes p e s → enters v w s.span x u → s.child_end + 9 ≡ s.next_sibling → Resumes form enters refuses bytes (record { end = e; within = w } ∷ outers) x u (n + 1) (p + s.child_begin) (p + s.child_end) out → Resumes form enters refuses bytes outers w v n p e out
 entered form {V = V} {W = W} {enters = enters} {refuses = refuses} {bytes = bytes} outers w x v u n p e s out sound enter next (leaves {t = t} {m = m} g r) =
     let after : p + s.child_end + 9 ≡ p + s.next_sibling = omega arith in
@@ -86,7 +86,7 @@ regions_pop items all e o size h nested = nested_pop (ends_of items) (ends_of al
 pub nested_low_regions : {W : Type 0} (items : List (Region W)) (e size : ℕ) → IsNested e (reverse (ends_of items)) size → e + 9 * length items ≤ size
 nested_low_regions {W = W} items e size h = omega (arith, nested_low (ends_of items) e size h, length-map items (λ (r : Region W). r.end))
 
-pub enters_region : (form : Form) → {V W : Type 0} {enters : V → W → Span → W → V → Type 0} {refuses : V → W → Span → Error → Type 0} {bytes : List ℕ} (items all : List (Region W)) (w x : W) (v u : V) (n m p e : ℕ) (s : Found) (out : End V)
+pub enters_region : (form : Form) → {V W : Type 0} {enters : V → W → Span → W → V → Type 0} {refuses : V → W → Span → Error → Type 0} {bytes : List ℕ} (items all : List (Region W)) (w x : W) (v u : V) (n m p e : ℕ) (s : FoundScope) (out : End V)
     → IsSoundAt form bytes p e s → enters v w s.span x u → s.child_end + 9 ≡ s.next_sibling → all ≡ items ++ record { end = e; within = w } ∷ [] → m ≡ n + 1
     → Resumes form enters refuses bytes (reverse all) x u m (p + s.child_begin) (p + s.child_end) out → Resumes form enters refuses bytes (reverse items) w v n p e out
 enters_region form {V = V} {W = W} {enters = enters} {refuses = refuses} {bytes = bytes} items all w x v u n m p e s out sound enter next h one r =
@@ -109,7 +109,7 @@ pub fails : (form : Form) → {V W : Type 0} {enters : V → W → Span → W �
     → IsFaultAt form bytes p e fault → Resumes form enters refuses bytes outers w v n p e (at_fault v p fault (n + tries_in (region bytes p e)))
 fails form outers w v n p e fault at = early_end form outers w v n p e _ tt (meets_fault at)
 
-pub refusing : (form : Form) → {V W : Type 0} {enters : V → W → Span → W → V → Type 0} {refuses : V → W → Span → Error → Type 0} {bytes : List ℕ} (outers : List (Region W)) (w : W) (v : V) (n p e : ℕ) (s : Found) (cause : Error)
+pub refusing : (form : Form) → {V W : Type 0} {enters : V → W → Span → W → V → Type 0} {refuses : V → W → Span → Error → Type 0} {bytes : List ℕ} (outers : List (Region W)) (w : W) (v : V) (n p e : ℕ) (s : FoundScope) (cause : Error)
     → IsSoundAt form bytes p e s → refuses v w s.span cause → Resumes form enters refuses bytes outers w v n p e (at_refusal p cause (n + 1))
 refusing form outers w v n p e s cause sound refused = early_end form outers w v n p e _ tt (is_refused sound refused)
 

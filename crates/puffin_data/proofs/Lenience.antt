@@ -7,55 +7,55 @@ use Rattle.std.proofs.lemmas.Str.{utf8_valid_len-IsUtf8}
 use Rattle.puffin_data.specs.declared.data.form.Form.{Form}
 use Rattle.puffin_data.specs.declared.error.Error.{Error}
 use Rattle.puffin_data.specs.Text.{text_in}
-use Rattle.puffin_data.specs.Walk.Reading.{Found, reading, found_in}
+use Rattle.puffin_data.specs.Walk.Reading.{FoundScope, reading, found_in}
 use Rattle.puffin_data.specs.Walk.{region, IsSoundAt}
-use Rattle.puffin_data.specs.declared.data.scope.Sighting.{Sighting}
+use Rattle.puffin_data.specs.declared.data.scope.RawScope.{RawScope}
 use Rattle.puffin_data.specs.Walk.Sightings.{found_of}
 use Rattle.puffin_data.specs.inner.Walking.{reading_of}
 use Rattle.puffin_data.specs.Reader.{ReadScope, read_scope, read_from, scope_read}
-use Rattle.puffin_data.proofs.Found.{passes}
+use Rattle.puffin_data.proofs.FoundScope.{passes}
 use Rattle.puffin_data.proofs.Regions.{empty_region, nothing_is_no_fault}
 use Rattle.puffin_data.proofs.Resuming.{found_places}
 
 pub text_in-whole : (stored : List ℕ) → IsUtf8 stored → stored ≡ text_in stored
 text_in-whole stored utf8 = sym (ap (λ (n : ℕ). take n stored) (utf8_valid_len-IsUtf8 stored utf8) ∙ take_all (length stored) stored (omega arith))
 
-record Measured (s : Found) : Type 0 where
+record Measured (s : FoundScope) : Type 0 where
   id : 0 < s.span.id
   fits : FitsSigned w64 (s.span.stop -ℤ s.span.start)
 
-measured : (form : Form) (region : List ℕ) (s : Found) → reading form region ≡ Ok (Some s) → Measured s
+measured : (form : Form) (region : List ℕ) (s : FoundScope) → reading form region ≡ Ok (Some s) → Measured s
 unfolding found_in
 measured form region s e =
     let t = passes form region s e in
     subst Measured t.is (record { id = t.id; fits = t.fits })
 
 -- what the telling of a sound scope asks
-pub record CanBeTold (p size : ℕ) (s : Found) : Type 0 where
+pub record CanBeTold (p size : ℕ) (s : FoundScope) : Type 0 where
   pub id : 0 < s.span.id
   pub fits : FitsSigned w64 (s.span.stop -ℤ s.span.start)
   pub begins : s.child_begin ≤ s.child_end
   pub ends : s.child_end ≤ s.next_sibling
   pub within : p + s.next_sibling ≤ size
 
-pub can_be_told : (form : Form) (bytes : List ℕ) (p e : ℕ) (s : Found) → p ≤ e → e ≤ length bytes → IsSoundAt form bytes p e s → CanBeTold p e s
+pub can_be_told : (form : Form) (bytes : List ℕ) (p e : ℕ) (s : FoundScope) → p ≤ e → e ≤ length bytes → IsSoundAt form bytes p e s → CanBeTold p e s
 can_be_told form bytes p e s low high sound =
     let m = measured form (region bytes p e) s sound in
     let at = found_places form bytes p e s sound low high in
     record { id = m.id; fits = m.fits; begins = at.inside; ends = omega (arith, at.next); within = omega (arith, at.fits) }
 
 -- the same of the code's reading
-pub found_told : (form : Form) (bytes : List ℕ) (p e : ℕ) (seen_there : Option Sighting) (found : Sighting) → p ≤ e → e ≤ length bytes → reading_of (Ok seen_there) ≡ reading form (region bytes p e) → seen_there ≡ Some found → CanBeTold p e (found_of found)
+pub found_told : (form : Form) (bytes : List ℕ) (p e : ℕ) (seen_there : Option RawScope) (found : RawScope) → p ≤ e → e ≤ length bytes → reading_of (Ok seen_there) ≡ reading form (region bytes p e) → seen_there ≡ Some found → CanBeTold p e (found_of found)
 found_told form bytes p e seen_there found low high read is =
-    can_be_told form bytes p e (found_of found) low high (sym read ∙ ap (λ (o : Option Sighting). reading_of (Ok o)) is)
+    can_be_told form bytes p e (found_of found) low high (sym read ∙ ap (λ (o : Option RawScope). reading_of (Ok o)) is)
 
 -- a scope that was read is a sound one
-pub sound_from : (p : ℕ) (x : Result (Option Found) Error) (r : ReadScope) → read_from p x ≡ Ok (Some r) → (s : Found) × (x ≡ Ok (Some s)) × (r ≡ read_scope p s)
+pub sound_from : (p : ℕ) (x : Result (Option FoundScope) Error) (r : ReadScope) → read_from p x ≡ Ok (Some r) → (s : FoundScope) × (x ≡ Ok (Some s)) × (r ≡ read_scope p s)
 sound_from p (Ok None) r e = absurd cc
 sound_from p (Ok (Some s)) r e = (s, refl, cc)
 sound_from p (Err fault) r e = absurd cc
 
-pub fault_from : (p : ℕ) (x : Result (Option Found) Error) (fault : Error) → read_from p x ≡ Err fault → x ≡ Err fault
+pub fault_from : (p : ℕ) (x : Result (Option FoundScope) Error) (fault : Error) → read_from p x ≡ Err fault → x ≡ Err fault
 fault_from p (Ok None) fault e = absurd cc
 fault_from p (Ok (Some s)) fault e = absurd cc
 fault_from p (Err other) fault e = cc

@@ -1,6 +1,6 @@
 pub mod lemmas
 mod Examples
-mod Found
+mod FoundScope
 mod Resuming
 mod Spelled
 mod Again

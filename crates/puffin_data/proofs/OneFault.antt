@@ -2,7 +2,7 @@
 use Rattle.std.proofs.Common.{◌≡◌, ℕ, ◌+◌, ◌≤◌, List, length, refl, sym, subst, ◌∙◌, arith, None, Err, inl, inr}
 use Rattle.puffin_data.specs.declared.data.form.Form.{Form}
 use Rattle.puffin_data.specs.declared.error.Error.{Error}
-use Rattle.puffin_data.specs.Walk.Reading.{Found, IsFaultIn}
+use Rattle.puffin_data.specs.Walk.Reading.{FoundScope, IsFaultIn}
 use Rattle.puffin_data.specs.Walk.{region, IsFaultAt, Reaches, here, child, sibling, IsFirstFault}
 use Rattle.puffin_data.proofs.Resuming.{found_places}
 use Rattle.puffin_data.proofs.Regions.{between, one_sound, ok_is_not_err, Answer}
@@ -30,19 +30,19 @@ one_end form bytes p e q f g h k (sibling {s = s} sound a) here =
     absurd (omega (arith, at, z))
 one_end form bytes p e q f g h k (child {s = s} sound a) (child {s = t} other b) =
     let at = found_places form bytes p e s sound h k in
-    one_end form bytes (p + s.child_begin) (p + s.child_end) q f g (omega (arith, at)) (omega (arith, at)) a (subst (λ (x : Found). Reaches form bytes (p + x.child_begin) (p + x.child_end) q g) (one_sound form (region bytes p e) t s other sound) b)
+    one_end form bytes (p + s.child_begin) (p + s.child_end) q f g (omega (arith, at)) (omega (arith, at)) a (subst (λ (x : FoundScope). Reaches form bytes (p + x.child_begin) (p + x.child_end) q g) (one_sound form (region bytes p e) t s other sound) b)
 one_end form bytes p e q f g h k (sibling {s = s} sound a) (sibling {s = t} other b) =
     let at = found_places form bytes p e s sound h k in
-    one_end form bytes (p + s.next_sibling) e q f g (omega (arith, at)) k a (subst (λ (x : Found). Reaches form bytes (p + x.next_sibling) e q g) (one_sound form (region bytes p e) t s other sound) b)
+    one_end form bytes (p + s.next_sibling) e q f g (omega (arith, at)) k a (subst (λ (x : FoundScope). Reaches form bytes (p + x.next_sibling) e q g) (one_sound form (region bytes p e) t s other sound) b)
 one_end form bytes p e q f g h k (child {s = s} sound a) (sibling {s = t} other b) =
     let at = found_places form bytes p e s sound h k in
-    let b' = subst (λ (x : Found). Reaches form bytes (p + x.next_sibling) e q g) (one_sound form (region bytes p e) t s other sound) b in
+    let b' = subst (λ (x : FoundScope). Reaches form bytes (p + x.next_sibling) e q g) (one_sound form (region bytes p e) t s other sound) b in
     let y = between form bytes (p + s.child_begin) (p + s.child_end) q f (omega (arith, at)) (omega (arith, at)) a in
     let z = between form bytes (p + s.next_sibling) e q g (omega (arith, at)) k b' in
     absurd (omega (arith, at, y, z))
 one_end form bytes p e q f g h k (sibling {s = s} sound a) (child {s = t} other b) =
     let at = found_places form bytes p e s sound h k in
-    let b' = subst (λ (x : Found). Reaches form bytes (p + x.child_begin) (p + x.child_end) q g) (one_sound form (region bytes p e) t s other sound) b in
+    let b' = subst (λ (x : FoundScope). Reaches form bytes (p + x.child_begin) (p + x.child_end) q g) (one_sound form (region bytes p e) t s other sound) b in
     let y = between form bytes (p + s.child_begin) (p + s.child_end) q g (omega (arith, at)) (omega (arith, at)) b' in
     let z = between form bytes (p + s.next_sibling) e q f (omega (arith, at)) k a in
     absurd (omega (arith, at, y, z))

@@ -3,7 +3,7 @@ use Rattle.std.proofs.Common.{◌≡◌, ℕ, ◌+◌, ◌-◌, ◌≤◌, List,
 use Rattle.std.proofs.lemmas.List.{length-take, length-drop, take-take, drop-take, drop-drop, take_all}
 use Rattle.puffin_data.specs.declared.data.form.Form.{Form}
 use Rattle.puffin_data.specs.declared.error.Error.{Error}
-use Rattle.puffin_data.specs.Walk.Reading.{Found, reading, IsFaultIn}
+use Rattle.puffin_data.specs.Walk.Reading.{FoundScope, reading, IsFaultIn}
 use Rattle.puffin_data.specs.Walk.{region, Reaches, here, child, sibling}
 use Rattle.puffin_data.proofs.Resuming.{found_places}
 
@@ -35,22 +35,22 @@ whole_region bytes = take_all (length bytes - 0) bytes (omega arith)
 -- ---- nothing, a fault, a sound scope: one of the three
 
 abbrev pub Answer : Type 0
-Answer = Result (Option Found) Error
+Answer = Result (Option FoundScope) Error
 
 reading_nothing : (form : Form) → reading form [] ≡ Ok None
 unfolding reading
 reading_nothing form = refl
 
-pub ok_is_not_err : (o : Option Found) (d : Error) → ◌≡◌ {A = Answer} (Ok o) (Err d) → ⊥
+pub ok_is_not_err : (o : Option FoundScope) (d : Error) → ◌≡◌ {A = Answer} (Ok o) (Err d) → ⊥
 ok_is_not_err o d e = cc
 
-pub none_is_not_some : (s : Found) → ◌≡◌ {A = Answer} (Ok None) (Ok (Some s)) → ⊥
+pub none_is_not_some : (s : FoundScope) → ◌≡◌ {A = Answer} (Ok None) (Ok (Some s)) → ⊥
 none_is_not_some s e = cc
 
-some_is : (a b : Found) → ◌≡◌ {A = Answer} (Ok (Some a)) (Ok (Some b)) → a ≡ b
+some_is : (a b : FoundScope) → ◌≡◌ {A = Answer} (Ok (Some a)) (Ok (Some b)) → a ≡ b
 some_is a b e = cc
 
-pub sound_is_no_fault : (form : Form) (part : List ℕ) (s : Found) (fault : Error) → reading form part ≡ Ok (Some s) → IsFaultIn form part fault → ⊥
+pub sound_is_no_fault : (form : Form) (part : List ℕ) (s : FoundScope) (fault : Error) → reading form part ≡ Ok (Some s) → IsFaultIn form part fault → ⊥
 sound_is_no_fault form part s fault e (inl f) = ok_is_not_err (Some s) fault (sym e ∙ f)
 sound_is_no_fault form part s fault e (inr f) = none_is_not_some s (sym f.1 ∙ e)
 
@@ -58,10 +58,10 @@ pub nothing_is_no_fault : (form : Form) (part : List ℕ) (fault : Error) → pa
 nothing_is_no_fault form part fault h (inl f) = ok_is_not_err None fault (sym (ap (reading form) h ∙ reading_nothing form) ∙ f)
 nothing_is_no_fault form part fault h (inr f) = let size : length part ≡ 0 = ap length h in absurd (omega (arith, f.0))
 
-pub nothing_is_not_sound : (form : Form) (part : List ℕ) (s : Found) → part ≡ [] → reading form part ≡ Ok (Some s) → ⊥
+pub nothing_is_not_sound : (form : Form) (part : List ℕ) (s : FoundScope) → part ≡ [] → reading form part ≡ Ok (Some s) → ⊥
 nothing_is_not_sound form part s h e = none_is_not_some s (sym (ap (reading form) h ∙ reading_nothing form) ∙ e)
 
-pub one_sound : (form : Form) (part : List ℕ) (s t : Found) → reading form part ≡ Ok (Some s) → reading form part ≡ Ok (Some t) → s ≡ t
+pub one_sound : (form : Form) (part : List ℕ) (s t : FoundScope) → reading form part ≡ Ok (Some s) → reading form part ≡ Ok (Some t) → s ≡ t
 one_sound form part s t e f = some_is s t (sym e ∙ f)
 
 -- ---- what is reached lies within

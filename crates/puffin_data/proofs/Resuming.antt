@@ -2,10 +2,10 @@
 use Rattle.std.proofs.Common.{◌≡◌, ℕ, suc, ◌+◌, ◌-◌, ◌*◌, ◌≤◌, List, [], ◌∷◌, ◌++◌, length, reverse, Result, Ok, Err, refl, sym, ap, subst, ◌∙◌, arith, inr}
 use Rattle.std.proofs.lemmas.List.{length-take, length-drop, length-reverse, reverse-append}
 use Rattle.puffin_data.specs.declared.data.form.Form.{Form}
-use Rattle.puffin_data.proofs.Found.{Places, places}
+use Rattle.puffin_data.proofs.FoundScope.{Places, places}
 use Rattle.puffin_data.specs.declared.error.Error.{Error}
 use Rattle.puffin_data.specs.declared.data.walk.Walk.{Walk}
-use Rattle.puffin_data.specs.Walk.Reading.{Found}
+use Rattle.puffin_data.specs.Walk.Reading.{FoundScope}
 use Rattle.puffin_data.specs.Walk.{IsSoundAt, IsFaultAt, region}
 use Rattle.puffin_data.specs.inner.Walking.{tries_in, no_scope_counted, Stopped, Stop, WalksTo, ends, stops, stops_within, goes_on, with_scope}
 
@@ -43,14 +43,14 @@ stopped : (form : Form) (bytes : List ℕ) (outers : List ℕ) (w : Walk) (p e :
 stopped form bytes [] w p e stop v = outermost v
 stopped form bytes (outer ∷ outers) w p e stop v = breaks v
 
-entered : (form : Form) (bytes : List ℕ) (outers : List ℕ) (w x : Walk) (p e : ℕ) (s : Found) (a b : ℕ) (out : Result Walk Stop) → IsSoundAt form bytes p e s → x ≡ with_scope w (suc (length outers)) s.span → a ≡ p + s.child_begin → b ≡ p + s.child_end → b + 9 ≡ p + s.next_sibling → Resumes form bytes (e ∷ outers) x a b out → Resumes form bytes outers w p e out
+entered : (form : Form) (bytes : List ℕ) (outers : List ℕ) (w x : Walk) (p e : ℕ) (s : FoundScope) (a b : ℕ) (out : Result Walk Stop) → IsSoundAt form bytes p e s → x ≡ with_scope w (suc (length outers)) s.span → a ≡ p + s.child_begin → b ≡ p + s.child_end → b + 9 ≡ p + s.next_sibling → Resumes form bytes (e ∷ outers) x a b out → Resumes form bytes outers w p e out
 entered form bytes outers w x p e s a b out sound ex ea eb next (leaves {v = y} v r) =
     before form bytes outers w y p (b + 9) e out (λ end rest. goes_on sound (moved form bytes (suc (length outers)) x _ a b _ _ _ ex ea eb v) (subst (λ (n : ℕ). WalksTo form bytes (length outers) y n e end) next rest)) r
 entered form bytes outers w x p e s a b out sound ex ea eb next (breaks v) =
     stopped form bytes outers w p e _ (stops_within sound (moved form bytes (suc (length outers)) x _ a b _ _ _ ex ea eb v))
 
 -- a sound scope is entered
-pub enter : (form : Form) (bytes : List ℕ) (outers : List ℕ) (w : Walk) (p e : ℕ) (s : Found) (out : Result Walk Stop) → IsSoundAt form bytes p e s → s.child_end + 9 ≡ s.next_sibling → Resumes form bytes (e ∷ outers) (with_scope w (suc (length outers)) s.span) (p + s.child_begin) (p + s.child_end) out → Resumes form bytes outers w p e out
+pub enter : (form : Form) (bytes : List ℕ) (outers : List ℕ) (w : Walk) (p e : ℕ) (s : FoundScope) (out : Result Walk Stop) → IsSoundAt form bytes p e s → s.child_end + 9 ≡ s.next_sibling → Resumes form bytes (e ∷ outers) (with_scope w (suc (length outers)) s.span) (p + s.child_begin) (p + s.child_end) out → Resumes form bytes outers w p e out
 enter form bytes outers w p e s out sound next r =
     entered form bytes outers w _ p e s _ _ out sound refl refl refl (omega arith) r
 
@@ -69,7 +69,7 @@ whole form bytes w p e out (outermost v) = v
 -- ---- the same for the list of open scopes' ends as the walk keeps it, the innermost last
 
 -- where a scope is found, it lies within its region
-pub found_places : (form : Form) (bytes : List ℕ) (p e : ℕ) (s : Found) → IsSoundAt form bytes p e s → p ≤ e → e ≤ length bytes → Places (e - p) s
+pub found_places : (form : Form) (bytes : List ℕ) (p e : ℕ) (s : FoundScope) → IsSoundAt form bytes p e s → p ≤ e → e ≤ length bytes → Places (e - p) s
 found_places form bytes p e s sound low high =
     let size : length (region bytes p e) ≡ e - p = simp (length-take, length-drop) (omega arith) in
     subst (λ (n : ℕ). Places n s) size (places form (region bytes p e) s sound)
@@ -88,7 +88,7 @@ pub nested_pop : (items all : List ℕ) (e outer size : ℕ) → all ≡ items +
 nested_pop items all e outer size h nested =
     subst (λ (xs : List ℕ). IsNested e xs size) (turned items all outer h) nested
 
-pub enters : (form : Form) (bytes items all : List ℕ) (w v : Walk) (depth p e : ℕ) (s : Found) (out : Result Walk Stop) → IsSoundAt form bytes p e s → s.child_end + 9 ≡ s.next_sibling → all ≡ items ++ e ∷ [] → depth ≡ length all → v ≡ with_scope w depth s.span
+pub enters : (form : Form) (bytes items all : List ℕ) (w v : Walk) (depth p e : ℕ) (s : FoundScope) (out : Result Walk Stop) → IsSoundAt form bytes p e s → s.child_end + 9 ≡ s.next_sibling → all ≡ items ++ e ∷ [] → depth ≡ length all → v ≡ with_scope w depth s.span
     → Resumes form bytes (reverse all) v (p + s.child_begin) (p + s.child_end) out → Resumes form bytes (reverse items) w p e out
 enters form bytes items all w v depth p e s out sound next h d ev r =
     let deep : depth ≡ suc (length (reverse items)) = omega (arith, ap length (turned items all e h), length-reverse all) in

@@ -2,7 +2,7 @@
 use Rattle.std.proofs.Common.{◌≡◌, ℕ, zero, suc, ◌+◌, ◌-◌, ◌<◌, ◌≤◌, List, [], ◌∷◌, ◌++◌, length, get_or, refl, sym, ap, subst, ◌∙◌, arith, Some, None, Ok, Err}
 use Rattle.std.specs.List.Sorted.{IsStrictlyIncreasing}
 use Rattle.puffin_data.specs.declared.data.form.Form.{Form}
-use Rattle.puffin_data.specs.Walk.Reading.{Found, reading}
+use Rattle.puffin_data.specs.Walk.Reading.{FoundScope, reading}
 use Rattle.puffin_data.specs.Walk.{region, Sounds, no_more, one_more}
 use Rattle.puffin_data.proofs.Resuming.{found_places}
 use Rattle.puffin_data.proofs.Regions.{one_sound, ok_is_not_err, none_is_not_some, Answer}
@@ -40,8 +40,8 @@ one_list form bytes p e places others (no_more none) (one_more {s = t} other c d
 one_list form bytes p e places others (one_more {s = s} sound a b) (no_more none) = absurd (none s sound)
 one_list form bytes p e places others (one_more {s = s} {inner = i} {later = l} sound a b) (one_more {s = t} {inner = j} {later = m} other c d) =
     let same : t ≡ s = one_sound form (region bytes p e) t s other sound in
-    let inner : i ≡ j = one_list form bytes (p + s.child_begin) (p + s.child_end) i j a (subst (λ (x : Found). Sounds form bytes (p + x.child_begin) (p + x.child_end) j) same c) in
-    let later : l ≡ m = one_list form bytes (p + s.next_sibling) e l m b (subst (λ (x : Found). Sounds form bytes (p + x.next_sibling) e m) same d) in
+    let inner : i ≡ j = one_list form bytes (p + s.child_begin) (p + s.child_end) i j a (subst (λ (x : FoundScope). Sounds form bytes (p + x.child_begin) (p + x.child_end) j) same c) in
+    let later : l ≡ m = one_list form bytes (p + s.next_sibling) e l m b (subst (λ (x : FoundScope). Sounds form bytes (p + x.next_sibling) e m) same d) in
     both_parts p i j l m inner later
 
 -- ---- the places rise

@@ -5,10 +5,10 @@ use Rattle.puffin_data.specs.declared.data.form.Form.{Form}
 use Rattle.puffin_data.specs.declared.error.Error.{Error}
 use Rattle.puffin_data.specs.Forest.{Span, Forest, empty, node, IsForest}
 use Rattle.puffin_data.specs.Forest.Spelling.{spelling}
-use Rattle.puffin_data.specs.Walk.Reading.{Found}
+use Rattle.puffin_data.specs.Walk.Reading.{FoundScope}
 use Rattle.puffin_data.specs.Walk.{region, IsFaultAt, Reaches, here, child, sibling}
 use Rattle.puffin_data.specs.inner.Walking.{tries_in}
-use Rattle.puffin_data.specs.Walk.Sights.{Nested, nested_in, Sight, Sees, no_sight, one_sight, scopes_of, before}
+use Rattle.puffin_data.specs.Walk.Sights.{ScopeInContext, nested_in, PlacedScope, Sees, no_sight, one_sight, scopes_of, before}
 use Rattle.puffin_data.specs.Walk.Visitor.{Entering, Refusing, TakesAll, StopsAtFault, StopsAtRefusal}
 use Rattle.puffin_data.proofs.lemmas.Numbers.{IsBytes, IsBytes-drop, IsBytes-take}
 use Rattle.puffin_data.proofs.Spelled.{spelt}
@@ -21,49 +21,49 @@ use Rattle.puffin_data.proofs.RangesTold.{fault_inside}
 use Rattle.puffin_data.proofs.Going.{over_all, at_fault, at_refusal, Goes, ends, meets_fault, is_refused, stops_within, goes_on}
 
 -- laws of what a visitor takes, and of what it keeps of open scopes
-pub record VisitorLaws {V W : Type 0} (takes : V → List Nested → V → Type 0)
+pub record VisitorLaws {V W : Type 0} (takes : V → List ScopeInContext → V → Type 0)
     (stands_for : V → W → List Span → Type 0) : Type 0 where
   pub none : (v : V) → takes v [] v
-  pub more : (u v w : V) (xs ys : List Nested) → takes u xs v → takes v ys w → takes u (xs ++ ys) w
-  pub still : (u v : V) (xs : List Nested) (w : W) (around : List Span) → takes u xs v →
+  pub more : (u v w : V) (xs ys : List ScopeInContext) → takes u xs v → takes v ys w → takes u (xs ++ ys) w
+  pub still : (u v : V) (xs : List ScopeInContext) (w : W) (around : List Span) → takes u xs v →
       stands_for u w around → stands_for v w around
 
-abbrev sight_at : ℕ → List Span → Found → Sight
+abbrev sight_at : ℕ → List Span → FoundScope → PlacedScope
 sight_at p around s = record { place = p; scope = record { around = around; span = s.span } }
 
 -- the scopes of a sight, of those in it and of those after it
-scopes_split : (s : Sight) (inner later : List Sight) → scopes_of (s ∷ (inner ++ later)) ≡ (s.scope ∷ []) ++ (scopes_of inner ++ scopes_of later)
-scopes_split s inner later = ap (λ (xs : List Nested). s.scope ∷ xs) (map-append (λ (x : Sight). x.scope) inner later)
+scopes_split : (s : PlacedScope) (inner later : List PlacedScope) → scopes_of (s ∷ (inner ++ later)) ≡ (s.scope ∷ []) ++ (scopes_of inner ++ scopes_of later)
+scopes_split s inner later = ap (λ (xs : List ScopeInContext). s.scope ∷ xs) (map-append (λ (x : PlacedScope). x.scope) inner later)
 
 -- ---- a walk over its whole region
 
-pub record Done (form : Form) {V : Type 0} (takes : V → List Nested → V → Type 0) (bytes : List ℕ) (around : List Span) (v u : V) (n m p e : ℕ) : Type 0 where
+pub record Done (form : Form) {V : Type 0} (takes : V → List ScopeInContext → V → Type 0) (bytes : List ℕ) (around : List Span) (v u : V) (n m p e : ℕ) : Type 0 where
   pub forest : Forest
   pub fits : IsForest form forest
   pub spelled : region bytes p e ≡ spelling form forest
-  pub sights : List Sight
+  pub sights : List PlacedScope
   pub sees : Sees form bytes around p e sights
   pub same : scopes_of sights ≡ nested_in around forest
   pub taken : takes v (scopes_of sights) u
   pub tries : m ≡ n + length sights
   pub faultless : (q f : ℕ) (fault : Error) → Reaches form bytes p e q f → IsFaultAt form bytes q f fault → ⊥
 
-pub same_scopes : (s : Sight) (inner later : List Sight) (a b : List Nested) → scopes_of inner ≡ a → scopes_of later ≡ b → scopes_of (s ∷ (inner ++ later)) ≡ s.scope ∷ (a ++ b)
+pub same_scopes : (s : PlacedScope) (inner later : List PlacedScope) (a b : List ScopeInContext) → scopes_of inner ≡ a → scopes_of later ≡ b → scopes_of (s ∷ (inner ++ later)) ≡ s.scope ∷ (a ++ b)
 same_scopes s inner later a b x y =
-    scopes_split s inner later ∙ ap (λ (xs : List Nested). s.scope ∷ (xs ++ scopes_of later)) x ∙ ap (λ (xs : List Nested). s.scope ∷ (a ++ xs)) y
+    scopes_split s inner later ∙ ap (λ (xs : List ScopeInContext). s.scope ∷ (xs ++ scopes_of later)) x ∙ ap (λ (xs : List ScopeInContext). s.scope ∷ (a ++ xs)) y
 
-taken_more : {V : Type 0} {W : Type 0} {takes : V → List Nested → V → Type 0} {stands_for : V → W → List Span → Type 0} (laws : VisitorLaws takes stands_for) (v u t z : V) (s : Sight) (inner later : List Sight)
+taken_more : {V : Type 0} {W : Type 0} {takes : V → List ScopeInContext → V → Type 0} {stands_for : V → W → List Span → Type 0} (laws : VisitorLaws takes stands_for) (v u t z : V) (s : PlacedScope) (inner later : List PlacedScope)
     → takes v (s.scope ∷ []) u → takes u (scopes_of inner) t → takes t (scopes_of later) z → takes v (scopes_of (s ∷ (inner ++ later))) z
 taken_more {V = V} {takes = takes} laws v u t z s inner later a b c =
-    subst (λ (xs : List Nested). takes v xs z) (sym (scopes_split s inner later))
+    subst (λ (xs : List ScopeInContext). takes v xs z) (sym (scopes_split s inner later))
     (laws.more v u z (s.scope ∷ []) (scopes_of inner ++ scopes_of later) a (laws.more u t z (scopes_of inner) (scopes_of later) b c))
 
 -- what is kept around a scope still stands after it
-still_after : {V : Type 0} {W : Type 0} {takes : V → List Nested → V → Type 0} {stands_for : V → W → List Span → Type 0} (laws : VisitorLaws takes stands_for) (v u t : V) (s : Nested) (inner : List Nested) (w : W) (around : List Span)
+still_after : {V : Type 0} {W : Type 0} {takes : V → List ScopeInContext → V → Type 0} {stands_for : V → W → List Span → Type 0} (laws : VisitorLaws takes stands_for) (v u t : V) (s : ScopeInContext) (inner : List ScopeInContext) (w : W) (around : List Span)
     → takes v (s ∷ []) u → takes u inner t → stands_for v w around → stands_for t w around
 still_after laws v u t s inner w around a b stands = laws.still u t inner w around b (laws.still v u (s ∷ []) w around a stands)
 
-pub done : (form : Form) → {V W : Type 0} {takes : V → List Nested → V → Type 0} (refuses : V → Nested → Error → Type 0) {stands_for : V → W → List Span → Type 0} (laws : VisitorLaws takes stands_for) (bytes : List ℕ) (around : List Span) (w : W) (v u : V) (n m p e : ℕ)
+pub done : (form : Form) → {V W : Type 0} {takes : V → List ScopeInContext → V → Type 0} (refuses : V → ScopeInContext → Error → Type 0) {stands_for : V → W → List Span → Type 0} (laws : VisitorLaws takes stands_for) (bytes : List ℕ) (around : List Span) (w : W) (v u : V) (n m p e : ℕ)
     → IsBytes bytes → p ≤ e → e ≤ length bytes → stands_for v w around → Goes form (Entering takes stands_for) (Refusing refuses stands_for) bytes w v n p e (over_all u m) → Done form takes bytes around v u n m p e
 done form refuses laws bytes around w v u n m p e fits h k stands ends =
     record {
@@ -102,17 +102,17 @@ done form refuses laws bytes around w v z n o p e fits h k stands (goes_on {x = 
 
 -- ---- a walk that meets a fault
 
-pub record Meets (form : Form) {V : Type 0} (takes : V → List Nested → V → Type 0) (bytes : List ℕ) (around : List Span) (v u : V) (n m p e place : ℕ) (fault : Error) : Type 0 where
+pub record Meets (form : Form) {V : Type 0} (takes : V → List ScopeInContext → V → Type 0) (bytes : List ℕ) (around : List Span) (v u : V) (n m p e place : ℕ) (fault : Error) : Type 0 where
   pub end : ℕ
   pub reached : Reaches form bytes p e place end
   pub stands : IsFaultAt form bytes place end fault
   pub least : (q f : ℕ) (other : Error) → Reaches form bytes p e q f → IsFaultAt form bytes q f other → place ≤ q
-  pub sights : List Sight
+  pub sights : List PlacedScope
   pub sees : Sees form bytes around p e sights
   pub taken : takes v (scopes_of (before place sights)) u
   pub tries : m ≡ n + length (before place sights) + tries_in (region bytes place end)
 
-pub meets : (form : Form) → {V W : Type 0} {takes : V → List Nested → V → Type 0} (refuses : V → Nested → Error → Type 0) {stands_for : V → W → List Span → Type 0} (laws : VisitorLaws takes stands_for) (bytes : List ℕ) (around : List Span) (w : W) (v u : V) (n m p e place : ℕ) (fault : Error)
+pub meets : (form : Form) → {V W : Type 0} {takes : V → List ScopeInContext → V → Type 0} (refuses : V → ScopeInContext → Error → Type 0) {stands_for : V → W → List Span → Type 0} (laws : VisitorLaws takes stands_for) (bytes : List ℕ) (around : List Span) (w : W) (v u : V) (n m p e place : ℕ) (fault : Error)
     → IsBytes bytes → p ≤ e → e ≤ length bytes → stands_for v w around → Goes form (Entering takes stands_for) (Refusing refuses stands_for) bytes w v n p e (at_fault u place fault m) → Meets form takes bytes around v u n m p e place fault
 meets form refuses laws bytes around w v u n m p e place fault fits h k stands (meets_fault at) =
     record {
@@ -132,7 +132,7 @@ meets form {takes = takes} refuses laws bytes around w v z n m p e place fault f
     let inside = between form bytes (p + s.child_begin) (p + s.child_end) place a.end (omega (arith, at)) (omega (arith, at)) a.reached in
     let b = sights_in form bytes around (p + s.next_sibling) e (omega (arith, at)) k in
     let none = none_before form bytes around (p + s.next_sibling) e place b.0 (omega (arith, at)) k (omega (arith, at, inside)) b.1 in
-    let split = before-first place (sight_at p around s) a.sights b.0 (omega (arith, at, inside)) ∙ ap (λ (xs : List Sight). sight_at p around s ∷ (before place a.sights ++ xs)) none in
+    let split = before-first place (sight_at p around s) a.sights b.0 (omega (arith, at, inside)) ∙ ap (λ (xs : List PlacedScope). sight_at p around s ∷ (before place a.sights ++ xs)) none in
     record {
       end = a.end;
       reached = child sound a.reached;
@@ -140,7 +140,7 @@ meets form {takes = takes} refuses laws bytes around w v z n m p e place fault f
       least = λ q f other r y. by_parts form bytes p e q f place s other sound (λ c. a.least q f other c y) (λ c. let d = between form bytes (p + s.next_sibling) e q f (omega (arith, at)) k c in omega (arith, at, inside, d)) r y;
       sights = sight_at p around s ∷ (a.sights ++ b.0);
       sees = one_sight sound a.sees b.1;
-      taken = subst (λ (xs : List Sight). takes v (scopes_of xs) z) (sym split) (taken_more laws v u z z (sight_at p around s) (before place a.sights) [] first.0 a.taken (laws.none z));
+      taken = subst (λ (xs : List PlacedScope). takes v (scopes_of xs) z) (sym split) (taken_more laws v u z z (sight_at p around s) (before place a.sights) [] first.0 a.taken (laws.none z));
       tries = omega (arith, a.tries, ap length split, length-append (before place a.sights) []);
     }
 meets form {takes = takes} refuses laws bytes around w v z n o p e place fault fits h k stands (goes_on {x = x} {u = u} {t = t} {m = m} {s = s} sound enter inner later) =
@@ -150,7 +150,7 @@ meets form {takes = takes} refuses laws bytes around w v z n o p e place fault f
     let b = meets form refuses laws bytes around w t z m o (p + s.next_sibling) e place fault fits (omega (arith, at)) k (still_after laws v u t _ _ w around first.0 a.taken stands) later in
     let after = between form bytes (p + s.next_sibling) e place b.end (omega (arith, at)) k b.reached in
     let all = all_before form bytes (around ++ (s.span ∷ [])) (p + s.child_begin) (p + s.child_end) place a.sights (omega (arith, at)) (omega (arith, at)) (omega (arith, at, after)) a.sees in
-    let split = before-first place (sight_at p around s) a.sights b.sights (omega (arith, at, after)) ∙ ap (λ (xs : List Sight). sight_at p around s ∷ (xs ++ before place b.sights)) all in
+    let split = before-first place (sight_at p around s) a.sights b.sights (omega (arith, at, after)) ∙ ap (λ (xs : List PlacedScope). sight_at p around s ∷ (xs ++ before place b.sights)) all in
     record {
       end = b.end;
       reached = sibling sound b.reached;
@@ -158,16 +158,16 @@ meets form {takes = takes} refuses laws bytes around w v z n o p e place fault f
       least = λ q f other r y. by_parts form bytes p e q f place s other sound (λ c. absurd (a.faultless q f other c y)) (λ c. b.least q f other c y) r y;
       sights = sight_at p around s ∷ (a.sights ++ b.sights);
       sees = one_sight sound a.sees b.sees;
-      taken = subst (λ (xs : List Sight). takes v (scopes_of xs) z) (sym split) (taken_more laws v u t z (sight_at p around s) a.sights (before place b.sights) first.0 a.taken b.taken);
+      taken = subst (λ (xs : List PlacedScope). takes v (scopes_of xs) z) (sym split) (taken_more laws v u t z (sight_at p around s) a.sights (before place b.sights) first.0 a.taken b.taken);
       tries = omega (arith, a.tries, b.tries, ap length split, length-append a.sights (before place b.sights));
     }
 
 -- ---- a walk that is refused
 
-pub record Refused (form : Form) {V : Type 0} (takes : V → List Nested → V → Type 0) (refuses : V → Nested → Error → Type 0) (bytes : List ℕ) (around : List Span) (v : V) (n m p e : ℕ) (cause : Error) : Type 0 where
-  pub earlier : List Sight
-  pub sight : Sight
-  pub later : List Sight
+pub record Refused (form : Form) {V : Type 0} (takes : V → List ScopeInContext → V → Type 0) (refuses : V → ScopeInContext → Error → Type 0) (bytes : List ℕ) (around : List Span) (v : V) (n m p e : ℕ) (cause : Error) : Type 0 where
+  pub earlier : List PlacedScope
+  pub sight : PlacedScope
+  pub later : List PlacedScope
   pub sees : Sees form bytes around p e (earlier ++ (sight ∷ later))
   pub to : V
   pub taken : takes v (scopes_of earlier) to
@@ -177,13 +177,13 @@ pub record Refused (form : Form) {V : Type 0} (takes : V → List Nested → V �
   pub high : sight.place ≤ e
   pub tries : m ≡ n + (length earlier + 1)
 
-regroup_inner : (s t : Sight) (earlier later rest : List Sight) → s ∷ ((earlier ++ (t ∷ later)) ++ rest) ≡ (s ∷ earlier) ++ (t ∷ (later ++ rest))
-regroup_inner s t earlier later rest = ap (λ (xs : List Sight). s ∷ xs) (append_assoc earlier (t ∷ later) rest)
+regroup_inner : (s t : PlacedScope) (earlier later rest : List PlacedScope) → s ∷ ((earlier ++ (t ∷ later)) ++ rest) ≡ (s ∷ earlier) ++ (t ∷ (later ++ rest))
+regroup_inner s t earlier later rest = ap (λ (xs : List PlacedScope). s ∷ xs) (append_assoc earlier (t ∷ later) rest)
 
-regroup_later : (s t : Sight) (inner earlier later : List Sight) → s ∷ (inner ++ (earlier ++ (t ∷ later))) ≡ (s ∷ (inner ++ earlier)) ++ (t ∷ later)
-regroup_later s t inner earlier later = ap (λ (xs : List Sight). s ∷ xs) (sym (append_assoc inner earlier (t ∷ later)))
+regroup_later : (s t : PlacedScope) (inner earlier later : List PlacedScope) → s ∷ (inner ++ (earlier ++ (t ∷ later))) ≡ (s ∷ (inner ++ earlier)) ++ (t ∷ later)
+regroup_later s t inner earlier later = ap (λ (xs : List PlacedScope). s ∷ xs) (sym (append_assoc inner earlier (t ∷ later)))
 
-pub refused_at : (form : Form) → {V W : Type 0} {takes : V → List Nested → V → Type 0} (refuses : V → Nested → Error → Type 0) {stands_for : V → W → List Span → Type 0} (laws : VisitorLaws takes stands_for) (bytes : List ℕ) (around : List Span) (w : W) (v : V) (n m p e place : ℕ) (cause : Error)
+pub refused_at : (form : Form) → {V W : Type 0} {takes : V → List ScopeInContext → V → Type 0} (refuses : V → ScopeInContext → Error → Type 0) {stands_for : V → W → List Span → Type 0} (laws : VisitorLaws takes stands_for) (bytes : List ℕ) (around : List Span) (w : W) (v : V) (n m p e place : ℕ) (cause : Error)
     → IsBytes bytes → p ≤ e → e ≤ length bytes → stands_for v w around → Goes form (Entering takes stands_for) (Refusing refuses stands_for) bytes w v n p e (at_refusal place cause m) → Refused form takes refuses bytes around v n m p e cause
 refused_at form refuses laws bytes around w v n m p e place cause fits h k stands (is_refused {s = s} sound refused) =
     let at = found_places form bytes p e s sound h k in
@@ -213,7 +213,7 @@ refused_at form {takes = takes} refuses laws bytes around w v n m p e place caus
       earlier = sight_at p around s ∷ a.earlier;
       sight = a.sight;
       later = a.later ++ b.0;
-      sees = subst (λ (xs : List Sight). Sees form bytes around p e xs) (regroup_inner (sight_at p around s) a.sight a.earlier a.later b.0) (one_sight sound a.sees b.1);
+      sees = subst (λ (xs : List PlacedScope). Sees form bytes around p e xs) (regroup_inner (sight_at p around s) a.sight a.earlier a.later b.0) (one_sight sound a.sees b.1);
       to = a.to;
       taken = laws.more v u a.to (record { around = around; span = s.span } ∷ []) (scopes_of a.earlier) first.0 a.taken;
       refused = a.refused;
@@ -233,7 +233,7 @@ refused_at form {takes = takes} refuses laws bytes around w v n o p e place caus
       earlier = sight_at p around s ∷ (a.sights ++ b.earlier);
       sight = b.sight;
       later = b.later;
-      sees = subst (λ (xs : List Sight). Sees form bytes around p e xs) (regroup_later (sight_at p around s) b.sight a.sights b.earlier b.later) (one_sight sound a.sees b.sees);
+      sees = subst (λ (xs : List PlacedScope). Sees form bytes around p e xs) (regroup_later (sight_at p around s) b.sight a.sights b.earlier b.later) (one_sight sound a.sees b.sees);
       to = b.to;
       taken = taken_more laws v u t b.to (sight_at p around s) a.sights b.earlier first.0 a.taken b.taken;
       refused = b.refused;
@@ -245,22 +245,22 @@ refused_at form {takes = takes} refuses laws bytes around w v n o p e place caus
 
 -- ---- told of the whole bytes
 
-pub all_taken : (form : Form) → {V W : Type 0} {takes : V → List Nested → V → Type 0} (refuses : V → Nested → Error → Type 0) {stands_for : V → W → List Span → Type 0} (laws : VisitorLaws takes stands_for) (bytes : List ℕ) (w : W) (v u : V) (m : ℕ)
+pub all_taken : (form : Form) → {V W : Type 0} {takes : V → List ScopeInContext → V → Type 0} (refuses : V → ScopeInContext → Error → Type 0) {stands_for : V → W → List Span → Type 0} (laws : VisitorLaws takes stands_for) (bytes : List ℕ) (w : W) (v u : V) (m : ℕ)
     → IsBytes bytes → stands_for v w [] → Goes form (Entering takes stands_for) (Refusing refuses stands_for) bytes w v 0 0 (length bytes) (over_all u m) → TakesAll form takes v u bytes m
 all_taken form {takes = takes} refuses laws bytes w v u m fits stands g =
     let d = done form refuses laws bytes [] w v u 0 m 0 (length bytes) fits (omega arith) (omega arith) stands g in
     record {
       forest = d.forest;
       spells = record { whole = sym (whole_region bytes) ∙ d.spelled; fits = d.fits };
-      taken = subst (λ (xs : List Nested). takes v xs u) d.same d.taken;
-      tries = omega (arith, d.tries, ap length d.same, map_length (λ (x : Sight). x.scope) d.sights);
+      taken = subst (λ (xs : List ScopeInContext). takes v xs u) d.same d.taken;
+      tries = omega (arith, d.tries, ap length d.same, map_length (λ (x : PlacedScope). x.scope) d.sights);
     }
   where
     map_length : {A B : Type 0} (f : A → B) (xs : List A) → length (map f xs) ≡ length xs
     map_length f [] = refl
     map_length f (x ∷ xs) = let e = map_length f xs in omega arith
 
-pub stops_at_fault : (form : Form) → {V W : Type 0} {takes : V → List Nested → V → Type 0} (refuses : V → Nested → Error → Type 0) {stands_for : V → W → List Span → Type 0} (laws : VisitorLaws takes stands_for) (bytes : List ℕ) (w : W) (v u : V) (m place : ℕ) (fault : Error)
+pub stops_at_fault : (form : Form) → {V W : Type 0} {takes : V → List ScopeInContext → V → Type 0} (refuses : V → ScopeInContext → Error → Type 0) {stands_for : V → W → List Span → Type 0} (laws : VisitorLaws takes stands_for) (bytes : List ℕ) (w : W) (v u : V) (m place : ℕ) (fault : Error)
     → IsBytes bytes → stands_for v w [] → Goes form (Entering takes stands_for) (Refusing refuses stands_for) bytes w v 0 0 (length bytes) (at_fault u place fault m) → StopsAtFault form takes v u bytes m fault
 stops_at_fault form refuses laws bytes w v u m place fault fits stands g =
     let s = meets form refuses laws bytes [] w v u 0 m 0 (length bytes) place fault fits (omega arith) (omega arith) stands g in
@@ -277,7 +277,7 @@ stops_at_fault form refuses laws bytes w v u m place fault fits stands g =
       tries = omega (arith, s.tries, last);
     }
 
-pub stops_at_refusal : (form : Form) → {V W : Type 0} {takes : V → List Nested → V → Type 0} (refuses : V → Nested → Error → Type 0) {stands_for : V → W → List Span → Type 0} (laws : VisitorLaws takes stands_for) (bytes : List ℕ) (w : W) (v : V) (m place : ℕ) (cause : Error)
+pub stops_at_refusal : (form : Form) → {V W : Type 0} {takes : V → List ScopeInContext → V → Type 0} (refuses : V → ScopeInContext → Error → Type 0) {stands_for : V → W → List Span → Type 0} (laws : VisitorLaws takes stands_for) (bytes : List ℕ) (w : W) (v : V) (m place : ℕ) (cause : Error)
     → IsBytes bytes → stands_for v w [] → Goes form (Entering takes stands_for) (Refusing refuses stands_for) bytes w v 0 0 (length bytes) (at_refusal place cause m) → StopsAtRefusal form takes refuses v bytes m cause
 stops_at_refusal form refuses laws bytes w v m place cause fits stands g =
     let s = refused_at form refuses laws bytes [] w v 0 m 0 (length bytes) place cause fits (omega arith) (omega arith) stands g in

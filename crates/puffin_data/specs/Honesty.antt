@@ -17,15 +17,15 @@ pub record Counts (w : Walk) (f : Forest) : Type 0 where
   pub greatest_stop : w.range_ns.1 ≡ greatest_stop f
 
 -- what an info holds, apart from its stream's room
-pub record Recorded : Type 0 where
+pub record StreamFacts : Type 0 where
   pub form : Form
   pub bytes : List ℕ
   pub num_scopes : ℕ
   pub depth : ℕ
   pub range_ns : ℤ × ℤ
 
-abbrev pub record_of : StreamInfo → Recorded
-record_of info = record {
+abbrev pub facts_of : StreamInfo → StreamFacts
+facts_of info = record {
   form = info.stream.form;
   bytes = info.stream.bytes;
   num_scopes = info.num_scopes;
@@ -33,8 +33,8 @@ record_of info = record {
   range_ns = info.range_ns;
 }
 
-abbrev pub record_of_ref : StreamInfoRef → Recorded
-record_of_ref info = record {
+abbrev pub facts_of_ref : StreamInfoRef → StreamFacts
+facts_of_ref info = record {
   form = info.form;
   bytes = info.stream.now;
   num_scopes = info.num_scopes;
@@ -43,28 +43,28 @@ record_of_ref info = record {
 }
 
 -- the bytes spell the forest in their form, and the other fields are its measures
-pub record IsHonestRecord (r : Recorded) (f : Forest) : Type 0 where
+pub record AreHonestFacts (r : StreamFacts) (f : Forest) : Type 0 where
   pub stream : Spells r.form r.bytes f
   pub counts : Counts (record { num_scopes = r.num_scopes; depth = r.depth; range_ns = r.range_ns })
       f
 
 abbrev pub IsHonest : StreamInfo → Forest → Type 0
-IsHonest info f = IsHonestRecord (record_of info) f
+IsHonest info f = AreHonestFacts (facts_of info) f
 
 abbrev pub IsHonestRef : StreamInfoRef → Forest → Type 0
-IsHonestRef info f = IsHonestRecord (record_of_ref info) f
+IsHonestRef info f = AreHonestFacts (facts_of_ref info) f
 
 -- both have bytes, and their forms differ
-abbrev pub AreUnlike : Recorded → Recorded → Type 0
+abbrev pub AreUnlike : StreamFacts → StreamFacts → Type 0
 AreUnlike a b = (0 < length a.bytes) × (0 < length b.bytes) × (a.form ≢ b.form)
 
 -- the form of both, joined: the second's if the first has no bytes, else the first's
-abbrev pub joined_form : Recorded → Recorded → Form
+abbrev pub joined_form : StreamFacts → StreamFacts → Form
 joined_form a b = if length a.bytes == 0 then b.form else a.form
 
 -- two infos, joined
-abbrev pub joined_record : Recorded → Recorded → Recorded
-joined_record a b = record {
+abbrev pub joined_facts : StreamFacts → StreamFacts → StreamFacts
+joined_facts a b = record {
   form = joined_form a b;
   bytes = a.bytes ++ b.bytes;
   num_scopes = a.num_scopes + b.num_scopes;

@@ -6,7 +6,7 @@ use Rattle.puffin_data.specs.declared.data.form.Form.{Form}
 use Rattle.puffin_data.specs.Forest.{Forest, empty, node}
 use Rattle.puffin_data.specs.Forest.Spelling.{spelling, end_size, head_size}
 use Rattle.puffin_data.specs.Text.{text_in}
-use Rattle.puffin_data.specs.Walk.Reading.{Found, reading}
+use Rattle.puffin_data.specs.Walk.Reading.{FoundScope, reading}
 use Rattle.puffin_data.specs.Walk.{region}
 
 -- a scope as a reader returns it: with its stored bytes as text, and places counted from the stream's first byte
@@ -20,7 +20,7 @@ pub record ReadScope : Type 0 where
   pub next_sibling : ℕ
 
 -- the sound scope found at place p
-abbrev pub read_scope : ℕ → Found → ReadScope
+abbrev pub read_scope : ℕ → FoundScope → ReadScope
 read_scope p s = record {
   id = s.span.id;
   start = s.span.start;
@@ -31,7 +31,7 @@ read_scope p s = record {
   next_sibling = p + s.next_sibling;
 }
 
-abbrev pub read_from : ℕ → Result (Option Found) Error → Result (Option ReadScope) Error
+abbrev pub read_from : ℕ → Result (Option FoundScope) Error → Result (Option ReadScope) Error
 read_from p (Ok None) = Ok None
 read_from p (Ok (Some s)) = Ok (Some (read_scope p s))
 read_from p (Err fault) = Err fault
@@ -41,19 +41,19 @@ abbrev pub scope_read : Form → List ℕ → ℕ → ℕ → Result (Option Rea
 scope_read form bytes p e = read_from p (reading form (region bytes p e))
 
 -- a reader's place in a stream's bytes
-pub record Place : Type 0 where
+pub record ReaderState : Type 0 where
   pub form : Form
   pub bytes : List ℕ
   pub at : ℕ
 
 -- what a reader returns next, and its place then: after a fault, the end of all bytes
-abbrev pub next_after : Place → Result (Option ReadScope) Error →
+abbrev pub next_after : ReaderState → Result (Option ReadScope) Error →
     Option (Result ReadScope Error) × ℕ
 next_after from (Ok None) = (None, from.at)
 next_after from (Ok (Some s)) = (Some (Ok s), s.next_sibling)
 next_after from (Err fault) = (Some (Err fault), length from.bytes)
 
-abbrev pub next_read : Place → Option (Result ReadScope Error) × ℕ
+abbrev pub next_read : ReaderState → Option (Result ReadScope Error) × ℕ
 next_read from = next_after from (scope_read from.form from.bytes from.at (length from.bytes))
 
 -- All that a reader returns from place p on: the sound scopes one after the other, and then the fault, if there is one.

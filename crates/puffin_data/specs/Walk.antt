@@ -8,22 +8,22 @@ use Rattle.std.specs.List.{count_by}
 use Rattle.puffin_data.specs.declared.data.form.Form.{Form}
 use Rattle.puffin_data.specs.declared.error.Error.{Error}
 use Rattle.puffin_data.specs.Forest.Spelling.{begin_mark}
-use Rattle.puffin_data.specs.Walk.Reading.{Found, reading, IsFaultIn}
+use Rattle.puffin_data.specs.Walk.Reading.{FoundScope, reading, IsFaultIn}
 
 -- the bytes from place p to place e
 abbrev pub region : List ℕ → ℕ → ℕ → List ℕ
 region bytes p e = take (e - p) (drop p bytes)
 
 -- a sound scope is at p, in the region that ends at e
-abbrev pub IsSoundAt : (form : Form) → List ℕ → ℕ → ℕ → Found → Type 0
+abbrev pub IsSoundAt : (form : Form) → List ℕ → ℕ → ℕ → FoundScope → Type 0
 IsSoundAt form bytes p e s = reading form (region bytes p e) ≡ Ok (Some s)
 
 -- The places, each with the end of its region, that are reached from one: itself, and from a sound scope there, those reached from its children and from its next sibling.
 pub data Reaches (form : Form) (bytes : List ℕ) : ℕ → ℕ → ℕ → ℕ → Type 0 where
   here : {p e : ℕ} → Reaches form bytes p e p e
-  child : {p e q f : ℕ} {s : Found} → IsSoundAt form bytes p e s →
+  child : {p e q f : ℕ} {s : FoundScope} → IsSoundAt form bytes p e s →
       Reaches form bytes (p + s.child_begin) (p + s.child_end) q f → Reaches form bytes p e q f
-  sibling : {p e q f : ℕ} {s : Found} → IsSoundAt form bytes p e s →
+  sibling : {p e q f : ℕ} {s : FoundScope} → IsSoundAt form bytes p e s →
       Reaches form bytes (p + s.next_sibling) e q f → Reaches form bytes p e q f
 
 -- a fault is at p, in the region that ends at e
@@ -43,8 +43,8 @@ IsFault form bytes fault = (place : ℕ) × IsFirstFault form bytes place fault
 
 -- The places of a region's sound scopes, from p on: if one is at p, then p, those of its children, and those from its next sibling on.
 pub data Sounds (form : Form) (bytes : List ℕ) : ℕ → ℕ → List ℕ → Type 0 where
-  no_more : {p e : ℕ} → ((s : Found) → IsSoundAt form bytes p e s → ⊥) → Sounds form bytes p e []
-  one_more : {p e : ℕ} {s : Found} {inner later : List ℕ} → IsSoundAt form bytes p e s →
+  no_more : {p e : ℕ} → ((s : FoundScope) → IsSoundAt form bytes p e s → ⊥) → Sounds form bytes p e []
+  one_more : {p e : ℕ} {s : FoundScope} {inner later : List ℕ} → IsSoundAt form bytes p e s →
       Sounds form bytes (p + s.child_begin) (p + s.child_end) inner →
       Sounds form bytes (p + s.next_sibling) e later → Sounds form bytes p e (p ∷ (inner ++ later))
 

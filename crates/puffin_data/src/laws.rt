@@ -9,9 +9,9 @@ ghost use Rattle.std.specs.Int.{int_min, int_max, w64};
 ghost use Rattle.puffin_data.specs.Forest.{Forest, IsForest, empty, append};
 ghost use Rattle.puffin_data.specs.Forest.Measures.{scope_count, height, least_start, greatest_stop};
 ghost use Rattle.puffin_data.specs.Forest.Spelling.{spelling, Spells, begin_bytes, end_size, head_size};
-ghost use Rattle.puffin_data.specs.Honesty.{Recorded, IsHonestRecord, joined_record, AreUnlike};
+ghost use Rattle.puffin_data.specs.Honesty.{StreamFacts, AreHonestFacts, joined_facts, AreUnlike};
 ghost use Rattle.puffin_data.specs.Walk.{IsFault, IsFirstFault, Sounds};
-ghost use Rattle.puffin_data.specs.Walk.Sights.{nested_in, Sight, Sees, scopes_of};
+ghost use Rattle.puffin_data.specs.Walk.Sights.{nested_in, PlacedScope, Sees, scopes_of};
 ghost use Rattle.puffin_data.specs.Forest.Tour.{Event, Open, Close, tour, IsBalanced};
 ghost use Rattle.puffin_data.specs.Forest.Words.{word_size, num_begun, open_after, most_open, least_open, greatest_close};
 ghost use Rattle.puffin_data.specs.declared.data.form.Form.{Form};
@@ -19,8 +19,8 @@ ghost use Rattle.puffin_data.specs.Text.Lengths.{text_limit};
 ghost use Rattle.puffin_data.specs.Text.{cut_text, IsCut, text_in};
 ghost use Rattle.puffin_data.specs.Reader.{ReadScope, ReaderGives, top_scopes};
 ghost use Rattle.puffin_data.specs.Forest.Open.{Opened, IsOpened, open_spelling, open_word, size_place, ended_bytes, with_ended};
-ghost use Rattle.puffin_data.specs.Value.Layout.{NoneBeginsAnother, ReadsLayouts, byte, number, signed, flag, block, IsByte, IsWord, IsLong, IsSigned, IsAny, IsBlock, IsText};
-ghost use Rattle.puffin_data.specs.Value.Decoding.{byte_at, number_at, word_at, signed_at, flag_at, bytes_at, text_at};
+ghost use Rattle.puffin_data.specs.Value.Layout.{NoneBeginsAnother, ReadsLayouts, byte, number, signed, flag, block, IsByte, IsU32, IsLong, IsSigned, IsAny, IsBlock, IsText};
+ghost use Rattle.puffin_data.specs.Value.Decoding.{byte_at, number_at, u32_at, signed_at, flag_at, bytes_at, text_at};
 ghost use Rattle.puffin_data.specs.declared.error.Error.{Error};
 ghost use Rattle.puffin_data.specs.declared.data.record.Scope.{Scope};
 ghost use Rattle.puffin_data.specs.declared.data.record.ScopeRecord.{ScopeRecord};
@@ -62,8 +62,8 @@ pub fn range_of_a_forest()
 
 /// Two honest infos, joined, are an honest one, unless both have bytes and their forms differ.
 pub fn joined_infos()
-    ensures { (a b : Recorded) (f g : Forest) → ¬ AreUnlike a b → IsHonestRecord a f →
-        IsHonestRecord b g → IsHonestRecord (joined_record a b) (append f g) }
+    ensures { (a b : StreamFacts) (f g : Forest) → ¬ AreUnlike a b → AreHonestFacts a f →
+        AreHonestFacts b g → AreHonestFacts (joined_facts a b) (append f g) }
 {}
 
 /// Bytes have at most one first fault, at one offset.
@@ -94,11 +94,11 @@ pub fn sounds_rise()
 /// scopes.
 pub fn sights_of_a_walk()
     ensures has { (form : Form) (bytes : List ℕ) →
-        (sights : List Sight) × Sees form bytes [] 0 (length bytes) sights }
-    ensures one { (form : Form) (bytes : List ℕ) (sights others : List Sight) →
+        (sights : List PlacedScope) × Sees form bytes [] 0 (length bytes) sights }
+    ensures one { (form : Form) (bytes : List ℕ) (sights others : List PlacedScope) →
         Sees form bytes [] 0 (length bytes) sights → Sees form bytes [] 0 (length bytes) others →
         sights ≡ others }
-    ensures spelled { (form : Form) (bytes : List ℕ) (f : Forest) (sights : List Sight) →
+    ensures spelled { (form : Form) (bytes : List ℕ) (f : Forest) (sights : List PlacedScope) →
         length bytes < 2 ^ 64 →
         Spells form bytes f → Sees form bytes [] 0 (length bytes) sights →
         scopes_of sights ≡ nested_in [] f }
@@ -253,7 +253,7 @@ pub fn no_layout_begins_another()
 pub fn only_layouts_are_read()
     ensures bytes { ReadsLayouts IsByte byte byte_at }
     ensures numbers { ReadsLayouts IsLong number number_at }
-    ensures words { ReadsLayouts IsWord number word_at }
+    ensures words { ReadsLayouts IsU32 number u32_at }
     ensures signed { ReadsLayouts IsSigned signed signed_at }
     ensures flags { ReadsLayouts IsAny flag flag_at }
     ensures blocks { ReadsLayouts IsBlock block bytes_at }

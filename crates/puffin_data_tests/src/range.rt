@@ -1,5 +1,5 @@
 use crate::equal::equal;
-use puffin_data::data::is_range;
+use puffin_data::data::is_valid_range;
 
 #[test]
 fn a_range_is_ordered_and_its_duration_fits(rt: HostRuntime) {
@@ -11,6 +11,6 @@ fn a_range_is_ordered_and_its_duration_fits(rt: HostRuntime) {
         ((i64::MIN, -1), true),
         ((i64::MIN, 0), false),
     ] {
-        equal(&rt, is_range(range), expected);
+        equal(&rt, is_valid_range(range), expected);
     }
 }

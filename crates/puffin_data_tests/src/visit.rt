@@ -1,7 +1,7 @@
 //! A walk with a visitor of the test's own.
 
 use crate::samples::THREE;
-use puffin_data::data::{Form, Sighting, Visitor, walk_with};
+use puffin_data::data::{Form, RawScope, Visitor, walk_with};
 use puffin_data::{Error, Result};
 use std::test::Fail;
 
@@ -26,7 +26,7 @@ impl<'s> Visitor<'s> for Taken {
 
     ghost still_stands = { λ _ _ _ _ _ _ _. tt {0} };
 
-    fn enter(&mut self, around: usize, scope: &Sighting<'s>) -> Result<usize> {
+    fn enter(&mut self, around: usize, scope: &RawScope<'s>) -> Result<usize> {
         if self.scopes.push((scope.id, around)).is_err() {
             return Err(Error::Memory);
         }

@@ -2,25 +2,25 @@
 use Rattle.std.proofs.Common.{◌≡◌, ℕ, ◌+◌, ◌≤◌, ◌<◌, ◌^◌, List, [], ◌∷◌, length, ap, ◌∙◌, subst, arith, ◌⊎◌, inl, inr, ℤ}
 use Rattle.std.specs.List.{fold}
 use Rattle.std.specs.Int.{int_min, int_max}
-use Rattle.puffin_data.specs.Honesty.{Recorded}
+use Rattle.puffin_data.specs.Honesty.{StreamFacts}
 use Rattle.puffin_frames.specs.declared.frame_data.meta.FrameMeta.{FrameMeta}
 use Rattle.puffin_frames.specs.Frame.Sums.{total_bytes, total_scopes, joined_start, joined_stop, meta_of, TotalsFit}
 
 -- the bytes, scopes, starts and stops of infos, joined to what is there already
-abbrev pub bytes_from : ℕ → List Recorded → ℕ
+abbrev pub bytes_from : ℕ → List StreamFacts → ℕ
 bytes_from n infos = fold (λ a info. a + length info.bytes) n infos
 
-abbrev pub scopes_from : ℕ → List Recorded → ℕ
+abbrev pub scopes_from : ℕ → List StreamFacts → ℕ
 scopes_from n infos = fold (λ a info. a + info.num_scopes) n infos
 
-abbrev pub start_from : ℤ → List Recorded → ℤ
+abbrev pub start_from : ℤ → List StreamFacts → ℤ
 start_from z infos = fold (λ least info. int_min least info.range_ns.0) z infos
 
-abbrev pub stop_from : ℤ → List Recorded → ℤ
+abbrev pub stop_from : ℤ → List StreamFacts → ℤ
 stop_from z infos = fold (λ greatest info. int_max greatest info.range_ns.1) z infos
 
 -- with the infos that are left, the numbers so far come to those of all
-pub record ComesTo (meta : FrameMeta) (rest : List Recorded) (index : ℕ) (all : List Recorded) : Type 0 where
+pub record ComesTo (meta : FrameMeta) (rest : List StreamFacts) (index : ℕ) (all : List StreamFacts) : Type 0 where
   pub frame_index : meta.frame_index ≡ index
   pub num_bytes : bytes_from meta.num_bytes rest ≡ total_bytes all
   pub num_scopes : scopes_from meta.num_scopes rest ≡ total_scopes all
@@ -28,15 +28,15 @@ pub record ComesTo (meta : FrameMeta) (rest : List Recorded) (index : ℕ) (all 
   pub stop : stop_from meta.range_ns.1 rest ≡ joined_stop all
   pub fit : (meta.num_bytes < 2 ^ 64) × (meta.num_scopes < 2 ^ 64)
 
-pub bytes_above : (n : ℕ) (infos : List Recorded) → n ≤ bytes_from n infos
+pub bytes_above : (n : ℕ) (infos : List StreamFacts) → n ≤ bytes_from n infos
 bytes_above n [] = omega arith
 bytes_above n (x ∷ xs) = omega (arith, bytes_above (n + length x.bytes) xs)
 
-pub scopes_above : (n : ℕ) (infos : List Recorded) → n ≤ scopes_from n infos
+pub scopes_above : (n : ℕ) (infos : List StreamFacts) → n ≤ scopes_from n infos
 scopes_above n [] = omega arith
 scopes_above n (x ∷ xs) = omega (arith, scopes_above (n + x.num_scopes) xs)
 
-pub one_more : (meta more : FrameMeta) (x : Recorded) (rest all : List Recorded) (index : ℕ) → ComesTo meta (x ∷ rest) index all → more.frame_index ≡ meta.frame_index → more.num_bytes ≡ meta.num_bytes + length x.bytes → more.num_scopes ≡ meta.num_scopes + x.num_scopes
+pub one_more : (meta more : FrameMeta) (x : StreamFacts) (rest all : List StreamFacts) (index : ℕ) → ComesTo meta (x ∷ rest) index all → more.frame_index ≡ meta.frame_index → more.num_bytes ≡ meta.num_bytes + length x.bytes → more.num_scopes ≡ meta.num_scopes + x.num_scopes
     → more.range_ns.0 ≡ int_min meta.range_ns.0 x.range_ns.0 → more.range_ns.1 ≡ int_max meta.range_ns.1 x.range_ns.1 → (more.num_bytes < 2 ^ 64) × (more.num_scopes < 2 ^ 64) → ComesTo more rest index all
 one_more meta more x rest all index h ei eb es e0 e1 fits = record {
   frame_index = ei ∙ h.frame_index;
@@ -48,7 +48,7 @@ one_more meta more x rest all index h ei eb es e0 e1 fits = record {
 }
 
 -- a sum that doesn't fit on the way doesn't fit at the end
-pub too_large : (meta : FrameMeta) (x same : Recorded) (rest all : List Recorded) (index : ℕ) → ComesTo meta (x ∷ rest) index all → same ≡ x → (2 ^ 64 ≤ meta.num_bytes + length same.bytes) ⊎ (2 ^ 64 ≤ meta.num_scopes + same.num_scopes) → TotalsFit all → ⊥
+pub too_large : (meta : FrameMeta) (x same : StreamFacts) (rest all : List StreamFacts) (index : ℕ) → ComesTo meta (x ∷ rest) index all → same ≡ x → (2 ^ 64 ≤ meta.num_bytes + length same.bytes) ⊎ (2 ^ 64 ≤ meta.num_scopes + same.num_scopes) → TotalsFit all → ⊥
 too_large meta x same rest all index h is over fits =
     let bytes = bytes_above (meta.num_bytes + length x.bytes) rest in
     let scopes = scopes_above (meta.num_scopes + x.num_scopes) rest in
@@ -59,7 +59,7 @@ too_large meta x same rest all index h is over fits =
       | inr more ↦ omega (arith, scopes, same_scopes, h.num_scopes, fits.scopes)
     ]
 
-pub come : (meta : FrameMeta) (all : List Recorded) (index : ℕ) → ComesTo meta [] index all → meta ≡ meta_of index all
+pub come : (meta : FrameMeta) (all : List StreamFacts) (index : ℕ) → ComesTo meta [] index all → meta ≡ meta_of index all
 come meta all index h = λ i. record {
   frame_index = h.frame_index i;
   range_ns = (h.start i, h.stop i);
@@ -67,12 +67,12 @@ come meta all index h = λ i. record {
   num_scopes = h.num_scopes i;
 }
 
-pub totals_fit : (meta : FrameMeta) (all : List Recorded) (index : ℕ) → ComesTo meta [] index all → TotalsFit all
+pub totals_fit : (meta : FrameMeta) (all : List StreamFacts) (index : ℕ) → ComesTo meta [] index all → TotalsFit all
 totals_fit meta all index h = record {
   bytes = omega (arith, h.num_bytes, h.fit.0);
   scopes = omega (arith, h.num_scopes, h.fit.1);
 }
 
 -- what a loop over the rest leaves to be joined
-pub at_next : (meta : FrameMeta) (rest next : List Recorded) (all : List Recorded) (index : ℕ) → ComesTo meta rest index all → rest ≡ next → ComesTo meta next index all
-at_next meta rest next all index h e = subst (λ (infos : List Recorded). ComesTo meta infos index all) e h
+pub at_next : (meta : FrameMeta) (rest next : List StreamFacts) (all : List StreamFacts) (index : ℕ) → ComesTo meta rest index all → rest ≡ next → ComesTo meta next index all
+at_next meta rest next all index h e = subst (λ (infos : List StreamFacts). ComesTo meta infos index all) e h

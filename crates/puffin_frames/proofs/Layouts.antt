@@ -8,13 +8,13 @@ use Rattle.std.specs.Arc.{arc_value}
 use Rattle.std.specs.declared.sync.Arc.{Arc}
 use Rattle.puffin_data.specs.declared.data.form.Form.{Form}
 use Rattle.puffin_data.specs.declared.data.info.StreamInfo.{StreamInfo}
-use Rattle.puffin_data.specs.Honesty.{Recorded}
+use Rattle.puffin_data.specs.Honesty.{StreamFacts}
 use Rattle.puffin_threads.specs.declared.thread_profiler.thread_info.ThreadInfo.{ThreadInfo}
-use Rattle.puffin_threads.specs.Thread.Info.{Info, thread_cmp}
+use Rattle.puffin_threads.specs.Thread.ThreadKey.{ThreadKey, thread_cmp}
 use Rattle.puffin_frames.specs.declared.frame_data.frame.FrameData.{FrameData}
 use Rattle.puffin_frames.specs.declared.frame_data.held.Held.{Held}
 use Rattle.puffin_frames.specs.declared.frame_data.held.Held.TheVariants.{Own, Shared, Packed, Both}
-use Rattle.puffin_frames.specs.Packet.Structs.{IsInfo, AreCounts, form_of_all, AreStreams}
+use Rattle.puffin_frames.specs.Packet.Structs.{IsThreadKey, AreCounts, form_of_all, AreStreams}
 use Rattle.puffin_frames.specs.Frame.Contents.{shared_streams, held_as, holding_of}
 use Rattle.puffin_data.specs.Value.Layout.{AreItems}
 use Rattle.puffin_frames.specs.Frame.Holding.{HaveLayout, IsHolding}
@@ -27,11 +27,11 @@ module _ {A : Type 0} (es : List (ThreadInfo × Arc StreamInfo A)) where
   pub stored_plainly : (packed : Form) → AreStreams packed (pairs_of es) → AreStreams (form_of_all (entries (shared_streams es))) (entries (shared_streams es))
   stored_plainly packed fit =
       let listed = entries-listed es (sorted_in packed (pairs_of es) fit.1) in
-      subst (λ (xs : List (Info × Recorded)). AreStreams (form_of_all xs) xs) (sym listed) (subst (λ (f : Form). AreStreams f (pairs_of es)) (form_stored packed (pairs_of es) fit) fit)
+      subst (λ (xs : List (ThreadKey × StreamFacts)). AreStreams (form_of_all xs) xs) (sym listed) (subst (λ (f : Form). AreStreams f (pairs_of es)) (form_stored packed (pairs_of es) fit) fit)
 
   -- streams in order, whose threads and counts fit
-  pub all_laid_out : IsStrictlySortedBy thread_cmp (keys_of es) → length (pairs_of es) < 2 ^ 64 → AllByRecursion (λ (e : Info × Recorded). IsInfo e.0 × AreCounts e.1) (pairs_of es) → HaveLayout (shared_streams es)
-  all_laid_out sorted short fit = subst (λ (xs : List (Info × Recorded)). AreItems (λ (e : Info × Recorded). IsInfo e.0 × AreCounts e.1) xs) (sym (entries-listed es (listed-sorted es sorted))) (short, fit)
+  pub all_laid_out : IsStrictlySortedBy thread_cmp (keys_of es) → length (pairs_of es) < 2 ^ 64 → AllByRecursion (λ (e : ThreadKey × StreamFacts). IsThreadKey e.0 × AreCounts e.1) (pairs_of es) → HaveLayout (shared_streams es)
+  all_laid_out sorted short fit = subst (λ (xs : List (ThreadKey × StreamFacts)). AreItems (λ (e : ThreadKey × StreamFacts). IsThreadKey e.0 × AreCounts e.1) xs) (sym (entries-listed es (listed-sorted es sorted))) (short, fit)
 
 -- ---- frames
 

@@ -13,51 +13,51 @@ use Rattle.std.specs.Arc.{arc_value}
 use Rattle.std.specs.declared.sync.Arc.{Arc}
 use Rattle.std.proofs.lemmas.List.{length-map}
 use Rattle.std.proofs.lemmas.Map.{length-set_value, keys-set_value}
-use Rattle.puffin_data.specs.Honesty.{Recorded, record_of}
+use Rattle.puffin_data.specs.Honesty.{StreamFacts, facts_of}
 use Rattle.puffin_data.specs.Value.Layout.{AreItems}
 use Rattle.puffin_data.specs.declared.data.info.StreamInfo.{StreamInfo}
 use Rattle.puffin_threads.specs.declared.thread_profiler.thread_info.ThreadInfo.{ThreadInfo}
-use Rattle.puffin_threads.specs.Thread.Info.{Info, info_of, info_cmp, thread_cmp}
-use Rattle.puffin_threads.proofs.lemmas.Infos.{info_cmp_total, info_cmp-one}
-use Rattle.puffin_frames.specs.Packet.Structs.{IsInfo, AreCounts}
+use Rattle.puffin_threads.specs.Thread.ThreadKey.{ThreadKey, key_of, key_cmp, thread_cmp}
+use Rattle.puffin_threads.proofs.lemmas.ThreadKeys.{key_cmp_total, key_cmp-one}
+use Rattle.puffin_frames.specs.Packet.Structs.{IsThreadKey, AreCounts}
 use Rattle.puffin_frames.specs.Frame.Streams.{Streams, shared_streams}
 use Rattle.puffin_frames.specs.Frame.Holding.{HaveLayout}
 use Rattle.puffin_frames.proofs.Listed.{listed-sorted, entries-listed, no_length}
 use Rattle.puffin_frames.proofs.Reports.{WritesAt, written, there, shared-insert}
 
 -- a thread and what is recorded of it fit
-abbrev pub Fits : Info × Recorded → Type 0
-Fits e = IsInfo e.0 × AreCounts e.1
+abbrev pub Fits : ThreadKey × StreamFacts → Type 0
+Fits e = IsThreadKey e.0 × AreCounts e.1
 
 -- the streams of no thread
-pub none_laid_out : HaveLayout (empty {X = Recorded} {R = info_cmp})
+pub none_laid_out : HaveLayout (empty {X = StreamFacts} {R = key_cmp})
 none_laid_out =
-    let none : entries (empty {X = Recorded} {R = info_cmp}) ≡ [] = no_length _ (sym (len-entries (empty {X = Recorded} {R = info_cmp})) ∙ len-empty info_cmp Recorded) in
-    subst (λ (es : List (Info × Recorded)). AreItems Fits es) (sym none) (omega arith, tt)
+    let none : entries (empty {X = StreamFacts} {R = key_cmp}) ≡ [] = no_length _ (sym (len-entries (empty {X = StreamFacts} {R = key_cmp})) ∙ len-empty key_cmp StreamFacts) in
+    subst (λ (es : List (ThreadKey × StreamFacts)). AreItems Fits es) (sym none) (omega arith, tt)
 
 -- an entry in its place among others
-by_place : (o : Ordering) (i : Info) (r : Recorded) (e : Info × Recorded) (es later : List (Info × Recorded)) → IsInfo i → AreCounts r → Fits e → AllByRecursion Fits es → AllByRecursion Fits later → AllByRecursion Fits (by_order o ((i, r) ∷ e ∷ es) ((e.0, r) ∷ es) (e ∷ later))
+by_place : (o : Ordering) (i : ThreadKey) (r : StreamFacts) (e : ThreadKey × StreamFacts) (es later : List (ThreadKey × StreamFacts)) → IsThreadKey i → AreCounts r → Fits e → AllByRecursion Fits es → AllByRecursion Fits later → AllByRecursion Fits (by_order o ((i, r) ∷ e ∷ es) ((e.0, r) ∷ es) (e ∷ later))
 by_place Less i r e es later thread counts one rest all = ((thread, counts), (one, rest))
 by_place Equal i r e es later thread counts one rest all = ((one.0, counts), rest)
 by_place Greater i r e es later thread counts one rest all = (one, all)
 
-all_put : (i : Info) (r : Recorded) (es : List (Info × Recorded)) → IsInfo i → AreCounts r → AllByRecursion Fits es → AllByRecursion Fits (put info_cmp i r es)
+all_put : (i : ThreadKey) (r : StreamFacts) (es : List (ThreadKey × StreamFacts)) → IsThreadKey i → AreCounts r → AllByRecursion Fits es → AllByRecursion Fits (put key_cmp i r es)
 all_put i r [] thread counts all = ((thread, counts), tt)
-all_put i r (e ∷ es) thread counts all = by_place (info_cmp i e.0) i r e es (put info_cmp i r es) thread counts all.0 all.1 (all_put i r es thread counts all.1)
+all_put i r (e ∷ es) thread counts all = by_place (key_cmp i e.0) i r e es (put key_cmp i r es) thread counts all.0 all.1 (all_put i r es thread counts all.1)
 
 -- a thread that is there
-by_test : (o : Ordering) (i : Info) (x : Recorded) (e : Info × Recorded) (es : List (Info × Recorded)) → info_cmp i e.0 ≡ o → Fits e → (find info_cmp i es ≡ Some x → IsInfo i) → cond (is_eq o) (Some e.1) (find info_cmp i es) ≡ Some x → IsInfo i
+by_test : (o : Ordering) (i : ThreadKey) (x : StreamFacts) (e : ThreadKey × StreamFacts) (es : List (ThreadKey × StreamFacts)) → key_cmp i e.0 ≡ o → Fits e → (find key_cmp i es ≡ Some x → IsThreadKey i) → cond (is_eq o) (Some e.1) (find key_cmp i es) ≡ Some x → IsThreadKey i
 by_test Less i x e es is one later found = later found
-by_test Equal i x e es is one later found = subst IsInfo (sym (info_cmp-one i e.0 is)) one.0
+by_test Equal i x e es is one later found = subst IsThreadKey (sym (key_cmp-one i e.0 is)) one.0
 by_test Greater i x e es is one later found = later found
 
-thread_there : (i : Info) (x : Recorded) (es : List (Info × Recorded)) → find info_cmp i es ≡ Some x → AllByRecursion Fits es → IsInfo i
+thread_there : (i : ThreadKey) (x : StreamFacts) (es : List (ThreadKey × StreamFacts)) → find key_cmp i es ≡ Some x → AllByRecursion Fits es → IsThreadKey i
 thread_there i x [] found all = absurd cc
-thread_there i x (e ∷ es) found all = by_test (info_cmp i e.0) i x e es refl all.0 (λ later. thread_there i x es later all.1) found
+thread_there i x (e ∷ es) found all = by_test (key_cmp i e.0) i x e es refl all.0 (λ later. thread_there i x es later all.1) found
 
-inserted : (m : Streams) (i : Info) (r : Recorded) → length (entries (insert m i r)) < 2 ^ 64 → IsInfo i → AreCounts r → HaveLayout m → HaveLayout (insert m i r)
+inserted : (m : Streams) (i : ThreadKey) (r : StreamFacts) → length (entries (insert m i r)) < 2 ^ 64 → IsThreadKey i → AreCounts r → HaveLayout m → HaveLayout (insert m i r)
 inserted m i r short thread counts h =
-    (short, subst (λ (es : List (Info × Recorded)). AllByRecursion Fits es) (sym (entries-insert info_cmp_total m i r)) (all_put i r (entries m) thread counts h.1))
+    (short, subst (λ (es : List (ThreadKey × StreamFacts)). AllByRecursion Fits es) (sym (entries-insert key_cmp_total m i r)) (all_put i r (entries m) thread counts h.1))
 
 module _ {A : Type 0} where
   short_as : (fs : List (ThreadInfo × Arc StreamInfo A)) → IsStrictlySortedBy thread_cmp (keys_of fs) → length fs < 2 ^ 64 → length (entries (shared_streams fs)) < 2 ^ 64
@@ -67,18 +67,18 @@ module _ {A : Type 0} where
   length_seen es sorted = ap length (entries-listed es (listed-sorted es sorted)) ∙ simp length-map
 
   -- a stream that grows under a thread that is there
-  pub layout_over : (es : List (ThreadInfo × Arc StreamInfo A)) (k : ThreadInfo) (old w : Arc StreamInfo A) (fs : List (ThreadInfo × Arc StreamInfo A)) → WritesAt es k old w fs → AreCounts (record_of (arc_value w)) → HaveLayout (shared_streams es) → HaveLayout (shared_streams fs)
+  pub layout_over : (es : List (ThreadInfo × Arc StreamInfo A)) (k : ThreadInfo) (old w : Arc StreamInfo A) (fs : List (ThreadInfo × Arc StreamInfo A)) → WritesAt es k old w fs → AreCounts (facts_of (arc_value w)) → HaveLayout (shared_streams es) → HaveLayout (shared_streams fs)
   layout_over es k old w fs h counts before =
       let put = written es k old w fs h in
-      let thread = thread_there (info_of k) (record_of (arc_value old)) (entries (shared_streams es)) (sym (get-entries (shared_streams es) (info_of k)) ∙ there es k old w fs h) before.1 in
+      let thread = thread_there (key_of k) (facts_of (arc_value old)) (entries (shared_streams es)) (sym (get-entries (shared_streams es) (key_of k)) ∙ there es k old w fs h) before.1 in
       let sorted : IsStrictlySortedBy thread_cmp (keys_of fs) = subst (λ (ks : List ThreadInfo). IsStrictlySortedBy thread_cmp ks) (sym (ap keys_of h.after ∙ keys-set_value (is_at (thread_cmp k)) es w)) h.sorted in
       let same = ap length h.after ∙ length-set_value (is_at (thread_cmp k)) es w in
-      let short : length (entries (insert (shared_streams es) (info_of k) (record_of (arc_value w)))) < 2 ^ 64 = subst (λ (m : Streams). length (entries m) < 2 ^ 64) put (omega (arith, length_seen es h.sorted, length_seen fs sorted, same, before.0)) in
-      subst HaveLayout (sym put) (inserted (shared_streams es) (info_of k) (record_of (arc_value w)) short thread counts before)
+      let short : length (entries (insert (shared_streams es) (key_of k) (facts_of (arc_value w)))) < 2 ^ 64 = subst (λ (m : Streams). length (entries m) < 2 ^ 64) put (omega (arith, length_seen es h.sorted, length_seen fs sorted, same, before.0)) in
+      subst HaveLayout (sym put) (inserted (shared_streams es) (key_of k) (facts_of (arc_value w)) short thread counts before)
 
   -- the first stream of a thread
-  pub layout_first : (es : List (ThreadInfo × Arc StreamInfo A)) (k : ThreadInfo) (arc : Arc StreamInfo A) (fs : List (ThreadInfo × Arc StreamInfo A)) → fs ≡ insert_entry thread_cmp es k arc → IsStrictlySortedBy thread_cmp (keys_of fs) → length fs < 2 ^ 64 → IsInfo (info_of k) → AreCounts (record_of (arc_value arc)) → HaveLayout (shared_streams es) → HaveLayout (shared_streams fs)
+  pub layout_first : (es : List (ThreadInfo × Arc StreamInfo A)) (k : ThreadInfo) (arc : Arc StreamInfo A) (fs : List (ThreadInfo × Arc StreamInfo A)) → fs ≡ insert_entry thread_cmp es k arc → IsStrictlySortedBy thread_cmp (keys_of fs) → length fs < 2 ^ 64 → IsThreadKey (key_of k) → AreCounts (facts_of (arc_value arc)) → HaveLayout (shared_streams es) → HaveLayout (shared_streams fs)
   layout_first es k arc fs after sorted short thread counts before =
-      let put : shared_streams fs ≡ insert (shared_streams es) (info_of k) (record_of (arc_value arc)) = ap shared_streams after ∙ shared-insert es k arc in
-      let few : length (entries (insert (shared_streams es) (info_of k) (record_of (arc_value arc)))) < 2 ^ 64 = subst (λ (m : Streams). length (entries m) < 2 ^ 64) put (omega (arith, length_seen fs sorted, short)) in
-      subst HaveLayout (sym put) (inserted (shared_streams es) (info_of k) (record_of (arc_value arc)) few thread counts before)
+      let put : shared_streams fs ≡ insert (shared_streams es) (key_of k) (facts_of (arc_value arc)) = ap shared_streams after ∙ shared-insert es k arc in
+      let few : length (entries (insert (shared_streams es) (key_of k) (facts_of (arc_value arc)))) < 2 ^ 64 = subst (λ (m : Streams). length (entries m) < 2 ^ 64) put (omega (arith, length_seen fs sorted, short)) in
+      subst HaveLayout (sym put) (inserted (shared_streams es) (key_of k) (facts_of (arc_value arc)) few thread counts before)

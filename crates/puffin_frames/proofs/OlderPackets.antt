@@ -12,7 +12,7 @@ use Rattle.puffin_frames.specs.declared.frame_data.kind.Kind.{Kind}
 use Rattle.puffin_frames.specs.declared.frame_data.kind.Kind.TheVariants.{Zstd}
 use Rattle.puffin_frames.specs.declared.frame_data.version.Version.TheVariants.{Pfd2, Pfd3}
 use Rattle.puffin_frames.specs.Packet.Structs.{meta_layout, streams_layout, Legacy, IsLegacy, legacy_layout, legacy_at}
-use Rattle.puffin_frames.specs.Packet.Stored.{Said, packed, legacy}
+use Rattle.puffin_frames.specs.Packet.Stored.{PacketFields, packed, legacy}
 use Rattle.puffin_frames.specs.Packet.Kinds.{to_byte, from_byte-reads_back}
 use Rattle.puffin_frames.specs.Packet.Letters.{is_packet}
 use Rattle.puffin_frames.specs.Packet.Parts.{streams_part_at, legacy_part_at}
@@ -26,23 +26,23 @@ use Rattle.puffin_frames.proofs.Packets.{part_again, length_again, meta_again, a
 
 -- ---- without details
 
-streams_pfd3 : (p : Said) (rest : List ℕ) → IsPacked p → streams_part_at Pfd3 (little_bytes 4 (length p.streams) ++ (to_byte p.kind ∷ (p.streams ++ rest))) ≡ Ok ((p.kind, p.streams), rest)
+streams_pfd3 : (p : PacketFields) (rest : List ℕ) → IsPacked p → streams_part_at Pfd3 (little_bytes 4 (length p.streams) ++ (to_byte p.kind ∷ (p.streams ++ rest))) ≡ Ok ((p.kind, p.streams), rest)
 streams_pfd3 p rest h =
     rw (length_again (length p.streams) (to_byte p.kind ∷ (p.streams ++ rest)) h.short, part_again 1 (to_byte p.kind ∷ []) (p.streams ++ rest) refl, from_byte-reads_back p.kind, part_again (length p.streams) p.streams rest refl) refl
 
 -- what older packets can't say otherwise
-without : (p : Said) → p.form ≡ Short → p.details ≡ [] → record p { form = Short; details = [] } ≡ p
+without : (p : PacketFields) → p.form ≡ Short → p.details ≡ [] → record p { form = Short; details = [] } ≡ p
 without p short none = ap (λ (form : Form). record p { form = form; details = [] }) (sym short) ∙ ap (λ (ds : List Details). record p { details = ds }) (sym none)
 
-parts_pfd3 : (p : Said) (rest : List ℕ) → IsPacked p → p.form ≡ Short → p.details ≡ []
+parts_pfd3 : (p : PacketFields) (rest : List ℕ) → IsPacked p → p.form ≡ Short → p.details ≡ []
     → packet_at Pfd3 (counted_part (meta_layout p.meta) ++ (little_bytes 4 (length p.streams) ++ (to_byte p.kind ∷ (p.streams ++ rest)))) ≡ Ok (p, rest)
 parts_pfd3 p rest h short none =
-    rw (meta_again p (little_bytes 4 (length p.streams) ++ (to_byte p.kind ∷ (p.streams ++ rest))) h, streams_pfd3 p rest h) (ap (λ (s : Said). Ok (s, rest)) (without p short none))
+    rw (meta_again p (little_bytes 4 (length p.streams) ++ (to_byte p.kind ∷ (p.streams ++ rest))) h, streams_pfd3 p rest h) (ap (λ (s : PacketFields). Ok (s, rest)) (without p short none))
 
 pub row_pfd3 : (m l s rest : List ℕ) (kind : ℕ) → ((80 ∷ 70 ∷ 68 ∷ 51 ∷ []) ++ (m ++ (l ++ (kind ∷ s)))) ++ rest ≡ 80 ∷ 70 ∷ 68 ∷ 51 ∷ (m ++ (l ++ (kind ∷ (s ++ rest))))
 row_pfd3 m l s rest kind = simp append_assoc
 
-pub without_details_again : (p : Said) (rest : List ℕ) → IsPacked p → p.form ≡ Short → p.details ≡ [] → next_at (packet_without_details p ++ rest) ≡ Ok (Some (packed p), rest)
+pub without_details_again : (p : PacketFields) (rest : List ℕ) → IsPacked p → p.form ≡ Short → p.details ≡ [] → next_at (packet_without_details p ++ rest) ≡ Ok (Some (packed p), rest)
 without_details_again p rest h short none =
     let m = counted_part (meta_layout p.meta) in
     let l = little_bytes 4 (length p.streams) in
@@ -50,22 +50,22 @@ without_details_again p rest h short none =
 
 -- ---- without a kind
 
-streams_pfd2 : (p : Said) (rest : List ℕ) → IsPacked p → streams_part_at Pfd2 (little_bytes 4 (length p.streams) ++ (p.streams ++ rest)) ≡ Ok ((Zstd, p.streams), rest)
+streams_pfd2 : (p : PacketFields) (rest : List ℕ) → IsPacked p → streams_part_at Pfd2 (little_bytes 4 (length p.streams) ++ (p.streams ++ rest)) ≡ Ok ((Zstd, p.streams), rest)
 streams_pfd2 p rest h =
     rw (length_again (length p.streams) (p.streams ++ rest) h.short, part_again (length p.streams) p.streams rest refl) refl
 
-older : (p : Said) → p.form ≡ Short → p.kind ≡ Zstd → p.details ≡ [] → record p { form = Short; kind = Zstd; details = [] } ≡ p
+older : (p : PacketFields) → p.form ≡ Short → p.kind ≡ Zstd → p.details ≡ [] → record p { form = Short; kind = Zstd; details = [] } ≡ p
 older p short zstd none = ap (λ (k : Kind). record p { form = Short; kind = k; details = [] }) (sym zstd) ∙ without p short none
 
-parts_pfd2 : (p : Said) (rest : List ℕ) → IsPacked p → p.form ≡ Short → p.kind ≡ Zstd → p.details ≡ []
+parts_pfd2 : (p : PacketFields) (rest : List ℕ) → IsPacked p → p.form ≡ Short → p.kind ≡ Zstd → p.details ≡ []
     → packet_at Pfd2 (counted_part (meta_layout p.meta) ++ (little_bytes 4 (length p.streams) ++ (p.streams ++ rest))) ≡ Ok (p, rest)
 parts_pfd2 p rest h short zstd none =
-    rw (meta_again p (little_bytes 4 (length p.streams) ++ (p.streams ++ rest)) h, streams_pfd2 p rest h) (ap (λ (s : Said). Ok (s, rest)) (older p short zstd none))
+    rw (meta_again p (little_bytes 4 (length p.streams) ++ (p.streams ++ rest)) h, streams_pfd2 p rest h) (ap (λ (s : PacketFields). Ok (s, rest)) (older p short zstd none))
 
 pub row_pfd2 : (m l s rest : List ℕ) → ((80 ∷ 70 ∷ 68 ∷ 50 ∷ []) ++ (m ++ (l ++ s))) ++ rest ≡ 80 ∷ 70 ∷ 68 ∷ 50 ∷ (m ++ (l ++ (s ++ rest)))
 row_pfd2 m l s rest = simp append_assoc
 
-pub without_kind_again : (p : Said) (rest : List ℕ) → IsPacked p → p.form ≡ Short → p.kind ≡ Zstd → p.details ≡ [] → next_at (packet_without_kind p ++ rest) ≡ Ok (Some (packed p), rest)
+pub without_kind_again : (p : PacketFields) (rest : List ℕ) → IsPacked p → p.form ≡ Short → p.kind ≡ Zstd → p.details ≡ [] → next_at (packet_without_kind p ++ rest) ≡ Ok (Some (packed p), rest)
 without_kind_again p rest h short zstd none =
     let m = counted_part (meta_layout p.meta) in
     let l = little_bytes 4 (length p.streams) in

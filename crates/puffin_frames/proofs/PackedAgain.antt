@@ -3,7 +3,7 @@ use Rattle.std.proofs.Common.{◌≡◌, Some, refl, ap, ◌∙◌}
 use Rattle.std.specs.Option.{option_map}
 use Rattle.std.specs.FinMap.{entries, entries_sorted, from_sorted, entries-from_sorted, same_entries_map}
 use Rattle.puffin_data.proofs.lemmas.Readers.{whole_again}
-use Rattle.puffin_threads.specs.Thread.Info.{info_cmp}
+use Rattle.puffin_threads.specs.Thread.ThreadKey.{key_cmp}
 use Rattle.puffin_frames.specs.Frame.Streams.{Streams}
 use Rattle.puffin_frames.specs.Packet.Structs.{form_of_all, AreStreams, streams_layout, streams_at}
 use Rattle.puffin_frames.specs.Frame.Holding.{HaveLayout, AreReadAgain, streams_in, plainly_packed}
@@ -11,8 +11,8 @@ use Rattle.puffin_frames.proofs.Structs.{streams_reader}
 use Rattle.puffin_frames.proofs.Listed.{is_so}
 use Rattle.puffin_frames.proofs.FormsOfAll.{ordered_in, stored_in}
 
-from_entries_back : (m : Streams) → from_sorted {R = info_cmp} (entries m) ≡ m
-from_entries_back m = same_entries_map (from_sorted (entries m)) m (entries-from_sorted info_cmp (entries m) (entries_sorted m))
+from_entries_back : (m : Streams) → from_sorted {R = key_cmp} (entries m) ≡ m
+from_entries_back m = same_entries_map (from_sorted (entries m)) m (entries-from_sorted key_cmp (entries m) (entries_sorted m))
 
 pub packed_again : (m : Streams) → AreStreams (form_of_all (entries m)) (entries m) → streams_in (plainly_packed m) ≡ Some m
 packed_again m h =

@@ -13,7 +13,7 @@ use Rattle.puffin_data.proofs.lemmas.Readers.{whole_again}
 use Rattle.puffin_frames.specs.declared.frame_data.version.Version.{Version}
 use Rattle.puffin_frames.specs.declared.frame_data.version.Version.TheVariants.{Pfd2, Pfd3, Pfd4, PfdL}
 use Rattle.puffin_frames.specs.Packet.Structs.{IsMeta, meta_layout, meta_at, AreDetails, details_layout, details_at}
-use Rattle.puffin_frames.specs.Packet.Stored.{Said, Stored, packed}
+use Rattle.puffin_frames.specs.Packet.Stored.{PacketFields, Stored, packed}
 use Rattle.puffin_frames.specs.Packet.Kinds.{to_byte, from_byte-reads_back}
 use Rattle.puffin_frames.specs.Packet.Letters.{last_letter, for_form, has_kind, has_details, text_form}
 use Rattle.puffin_frames.specs.Packet.Parts.{meta_part_at, streams_part_at, details_part_at}
@@ -37,7 +37,7 @@ pub counted_again : (t rest : List ℕ) → length t < 2 ^ 32 → counted_part_a
 counted_again t rest h =
     ap counted_part_at (append_assoc (little_bytes 4 (length t)) t rest) ∙ rw (length_again (length t) (t ++ rest) h) (part_again (length t) t rest refl)
 
-pub meta_again : (p : Said) (rest : List ℕ) → IsPacked p → meta_part_at (counted_part (meta_layout p.meta) ++ rest) ≡ Ok (p.meta, rest)
+pub meta_again : (p : PacketFields) (rest : List ℕ) → IsPacked p → meta_part_at (counted_part (meta_layout p.meta) ++ rest) ≡ Ok (p.meta, rest)
 meta_again p rest h =
     rw (counted_again (meta_layout p.meta) rest (meta_short p.meta), whole_again IsMeta meta_layout meta_at meta_reader p.meta h.meta, h.range) refl
 
@@ -51,15 +51,15 @@ pub written : (form : Form) → IsWritten form (for_form form)
 written Short = record { kind = refl; details = refl; texts = refl }
 written Long = record { kind = refl; details = refl; texts = refl }
 
-streams_again : (p : Said) (rest : List ℕ) → IsPacked p → streams_part_at (for_form p.form) (little_bytes 4 (length p.streams) ++ (to_byte p.kind ∷ (p.streams ++ rest))) ≡ Ok ((p.kind, p.streams), rest)
+streams_again : (p : PacketFields) (rest : List ℕ) → IsPacked p → streams_part_at (for_form p.form) (little_bytes 4 (length p.streams) ++ (to_byte p.kind ∷ (p.streams ++ rest))) ≡ Ok ((p.kind, p.streams), rest)
 streams_again p rest h =
     rw ((written p.form).kind, length_again (length p.streams) (to_byte p.kind ∷ (p.streams ++ rest)) h.short, part_again 1 (to_byte p.kind ∷ []) (p.streams ++ rest) refl, from_byte-reads_back p.kind, part_again (length p.streams) p.streams rest refl) refl
 
-details_again : (p : Said) (rest : List ℕ) → IsPacked p → details_part_at (for_form p.form) (counted_part (details_layout p.details) ++ rest) ≡ Ok (p.details, rest)
+details_again : (p : PacketFields) (rest : List ℕ) → IsPacked p → details_part_at (for_form p.form) (counted_part (details_layout p.details) ++ rest) ≡ Ok (p.details, rest)
 details_again p rest h =
     rw ((written p.form).details, counted_again (details_layout p.details) rest h.details_short, whole_again AreDetails details_layout details_at details_reader p.details h.details) refl
 
-parts_again : (p : Said) (rest : List ℕ) → IsPacked p
+parts_again : (p : PacketFields) (rest : List ℕ) → IsPacked p
     → packet_at (for_form p.form) (counted_part (meta_layout p.meta) ++ (little_bytes 4 (length p.streams) ++ (to_byte p.kind ∷ (p.streams ++ (counted_part (details_layout p.details) ++ rest))))) ≡ Ok (p, rest)
 parts_again p rest h =
     let d = counted_part (details_layout p.details) ++ rest in
@@ -84,7 +84,7 @@ after_letters PfdL xs =
 pub in_a_row : (m l s d rest : List ℕ) (letter kind : ℕ) → ((((80 ∷ 70 ∷ 68 ∷ letter ∷ []) ++ (m ++ (l ++ (kind ∷ [])))) ++ s) ++ d) ++ rest ≡ 80 ∷ 70 ∷ 68 ∷ letter ∷ (m ++ (l ++ (kind ∷ (s ++ (d ++ rest)))))
 in_a_row m l s d rest letter kind = simp append_assoc
 
-pub packet_again : (p : Said) (rest : List ℕ) → IsPacked p → next_at (packet p ++ rest) ≡ Ok (Some (packed p), rest)
+pub packet_again : (p : PacketFields) (rest : List ℕ) → IsPacked p → next_at (packet p ++ rest) ≡ Ok (Some (packed p), rest)
 unfolding packet_head
 packet_again p rest h =
     let m = counted_part (meta_layout p.meta) in
@@ -92,7 +92,7 @@ packet_again p rest h =
     let d = counted_part (details_layout p.details) in
     ap next_at (in_a_row m l p.streams d rest (last_letter (for_form p.form)) (to_byte p.kind)) ∙ (after_letters (for_form p.form) (m ++ (l ++ (to_byte p.kind ∷ (p.streams ++ (d ++ rest))))) ∙ ap (as_stored packed) (parts_again p rest h))
 
-said_is : (a b : Said) → packed a ≡ packed b → a ≡ b
+said_is : (a b : PacketFields) → packed a ≡ packed b → a ≡ b
 said_is a b e = cc
 
 some_is : (a b : Stored) → Some a ≡ Some b → a ≡ b
@@ -105,7 +105,7 @@ pair_is : (u v : Option Stored × List ℕ) → found u ≡ found v → u ≡ v
 unfolding found
 pair_is u v e = cc
 
-one_frame : (a b : Said) (x y : List ℕ) → found (Some (packed a), x) ≡ found (Some (packed b), y) → (a ≡ b) × (x ≡ y)
+one_frame : (a b : PacketFields) (x y : List ℕ) → found (Some (packed a), x) ≡ found (Some (packed b), y) → (a ≡ b) × (x ≡ y)
 one_frame a b x y e =
     let same = pair_is (Some (packed a), x) (Some (packed b), y) e in
     (said_is a b (some_is (packed a) (packed b) (ap (λ (t : Option Stored × List ℕ). t.0) same)), ap (λ (t : Option Stored × List ℕ). t.1) same)

@@ -14,8 +14,8 @@ use Rattle.puffin_data.specs.Value.Layout.{IsBytes}
 use Rattle.puffin_data.proofs.lemmas.Numbers.{IsBytes-append}
 use Rattle.puffin_frames.specs.declared.frame_data.frame.FrameData.{FrameData}
 use Rattle.puffin_frames.specs.Frame.Holding.{Packing}
-use Rattle.puffin_frames.specs.Frame.Contents.{holding_of, frame_says}
-use Rattle.puffin_frames.specs.Packet.Stored.{Said, Stored, packed, legacy}
+use Rattle.puffin_frames.specs.Frame.Contents.{holding_of, packet_fields}
+use Rattle.puffin_frames.specs.Packet.Stored.{PacketFields, Stored, packed, legacy}
 use Rattle.puffin_frames.specs.Packet.Structs.{Legacy}
 use Rattle.puffin_frames.specs.Packet.Next.{legacy_of, stored_as, stored_of}
 use Rattle.puffin_frames.specs.Packet.Versions.{as_stored, stored_after}
@@ -80,11 +80,11 @@ fails_as form file.Memory old new read h = tt
 fails_as form file.Truncated old new read h = (h.0, h.1, h.2, ap (as_stored form) h.3)
 fails_as form _ old new read h = (h.0, h.1, λ rest. ap (as_stored form) (h.2 rest))
 
-packed_so : (frame : FrameData) (o : Option Packing) → is_some o ≡ true → stored_as frame o ≡ packed (frame_says frame)
+packed_so : (frame : FrameData) (o : Option Packing) → is_some o ≡ true → stored_as frame o ≡ packed (packet_fields frame)
 packed_so frame (Some p) e = refl
 packed_so frame None e = absurd cc
 
-pub if_packed_so : (r : Result FrameData FileError) (old new : Option (List ℕ)) (read : List ℕ → Result (Said × List ℕ) FileError) → IfOk r (λ frame. is_some (holding_of frame).packed ≡ true) → FromDevice frame_says old new r read → FromDevice (λ frame. Some (stored_of frame)) old new r (λ bytes. as_stored packed (read bytes))
+pub if_packed_so : (r : Result FrameData FileError) (old new : Option (List ℕ)) (read : List ℕ → Result (PacketFields × List ℕ) FileError) → IfOk r (λ frame. is_some (holding_of frame).packed ≡ true) → FromDevice packet_fields old new r read → FromDevice (λ frame. Some (stored_of frame)) old new r (λ bytes. as_stored packed (read bytes))
 if_packed_so (Ok frame) old new read is h =
     (h.0, h.1, λ rest. ap (as_stored packed) (h.2 rest) ∙ ap (λ (s : Stored). Ok (Some s, rest)) (sym (packed_so frame (holding_of frame).packed is)), h.3)
 if_packed_so (Err e) old new read is h = fails_as packed e old new read h

@@ -20,7 +20,7 @@ use Rattle.puffin_frames.specs.declared.frame_data.kind.Kind.TheVariants.{Zstd}
 use Rattle.puffin_frames.specs.declared.frame_data.version.Version.{Version}
 use Rattle.puffin_frames.specs.declared.frame_data.version.Version.TheVariants.{Pfd2, Pfd3, Pfd4, PfdL}
 use Rattle.puffin_frames.specs.Packet.Structs.{meta_layout, details_layout, Legacy, legacy_layout}
-use Rattle.puffin_frames.specs.Packet.Stored.{Said, Stored, packed, legacy}
+use Rattle.puffin_frames.specs.Packet.Stored.{PacketFields, Stored, packed, legacy}
 use Rattle.puffin_frames.specs.Packet.Kinds.{to_byte}
 use Rattle.puffin_frames.specs.Packet.Letters.{last_letter, from_letter, for_form, has_kind, has_details, text_form, is_packet}
 use Rattle.puffin_frames.specs.Packet.Parts.{meta_part_at, given_kind_at, kind_at, streams_part_at, given_details_at, details_part_at, legacy_part_at}
@@ -77,12 +77,12 @@ plain_taken bytes ks rest is e =
 none_short : length (details_layout []) < 2 ^ 32
 none_short = omega (arith, number_short 0, length-append (number 0) [])
 
-record FullTaken (form : Form) (bytes : List ℕ) (p : Said) (rest : List ℕ) : Type 0 where
+record FullTaken (form : Form) (bytes : List ℕ) (p : PacketFields) (rest : List ℕ) : Type 0 where
   is_packed : IsPacked p
   form_is : p.form ≡ form
   text : bytes ≡ counted_part (meta_layout p.meta) ++ (little_bytes 4 (length p.streams) ++ (to_byte p.kind ∷ (p.streams ++ (counted_part (details_layout p.details) ++ rest))))
 
-full_taken : (form : Form) (version : Version) → IsWritten form version → (bytes : List ℕ) (p : Said) (rest : List ℕ) → IsBytes bytes → packet_at version bytes ≡ Ok (p, rest) → FullTaken form bytes p rest
+full_taken : (form : Form) (version : Version) → IsWritten form version → (bytes : List ℕ) (p : PacketFields) (rest : List ℕ) → IsBytes bytes → packet_at version bytes ≡ Ok (p, rest) → FullTaken form bytes p rest
 full_taken form version says bytes p rest is e =
     let a = bind_ok (meta_part_at bytes) (λ meta. streams_part_at version meta.1 >>= λ streams. details_part_at version streams.1 >>= λ details. Ok (record { meta = meta.0; form = text_form version; kind = streams.0.0; streams = streams.0.1; details = details.0 }, details.1)) (p, rest) e in
     let b = bind_ok (streams_part_at version a.0.1) (λ streams. details_part_at version streams.1 >>= λ details. Ok (record { meta = a.0.0; form = text_form version; kind = streams.0.0; streams = streams.0.1; details = details.0 }, details.1)) (p, rest) a.2 in
@@ -92,22 +92,22 @@ full_taken form version says bytes p rest is e =
     let s = streams_taken version a.0.1 b.0.0 b.0.1 says.kind after_meta b.1 in
     let after_streams : IsBytes b.0.1 = IsBytes-after (b.0.0.1 ++ b.0.1) b.0.0.1 b.0.1 refl (IsBytes-after a.0.1 (little_bytes 4 (length b.0.0.1) ++ (to_byte b.0.0.0 ∷ [])) (b.0.0.1 ++ b.0.1) (s.text ∙ sym (append_assoc (little_bytes 4 (length b.0.0.1)) (to_byte b.0.0.0 ∷ []) (b.0.0.1 ++ b.0.1))) after_meta) in
     let t = details_taken b.0.1 d.0.0 d.0.1 after_streams (only (has_details version) (given_details_at b.0.1) (Ok ([], b.0.1)) (Ok d.0) says.details d.1) in
-    let said : Said = record { meta = a.0.0; form = text_form version; kind = b.0.0.0; streams = b.0.0.1; details = d.0.0 } in
-    let made : (Said × List ℕ) = (said, d.0.1) in
+    let said : PacketFields = record { meta = a.0.0; form = text_form version; kind = b.0.0.0; streams = b.0.0.1; details = d.0.0 } in
+    let made : (PacketFields × List ℕ) = (said, d.0.1) in
     let taken : FullTaken form bytes said d.0.1 = record {
       form_is = says.texts;
       is_packed = record { meta = m.fits; range = m.range; short = s.short; details = t.fits; details_short = t.short };
       text = m.text ∙ ap (λ (x : List ℕ). counted_part (meta_layout a.0.0) ++ x) (s.text ∙ ap (λ (x : List ℕ). little_bytes 4 (length b.0.0.1) ++ (to_byte b.0.0.0 ∷ (b.0.0.1 ++ x))) t.text);
     } in
-    subst (λ (y : Said × List ℕ). FullTaken form bytes y.0 y.1) (same_ok made (p, rest) d.2) taken
+    subst (λ (y : PacketFields × List ℕ). FullTaken form bytes y.0 y.1) (same_ok made (p, rest) d.2) taken
 
-record KindTaken (bytes : List ℕ) (p : Said) (rest : List ℕ) : Type 0 where
+record KindTaken (bytes : List ℕ) (p : PacketFields) (rest : List ℕ) : Type 0 where
   is_packed : IsPacked p
   form_is : p.form ≡ Short
   none : p.details ≡ []
   text : bytes ≡ counted_part (meta_layout p.meta) ++ (little_bytes 4 (length p.streams) ++ (to_byte p.kind ∷ (p.streams ++ rest)))
 
-without_details_taken : (bytes : List ℕ) (p : Said) (rest : List ℕ) → IsBytes bytes → packet_at Pfd3 bytes ≡ Ok (p, rest) → KindTaken bytes p rest
+without_details_taken : (bytes : List ℕ) (p : PacketFields) (rest : List ℕ) → IsBytes bytes → packet_at Pfd3 bytes ≡ Ok (p, rest) → KindTaken bytes p rest
 without_details_taken bytes p rest is e =
     let none : List Details = [] in
     let a = bind_ok (meta_part_at bytes) (λ meta. streams_part_at Pfd3 meta.1 >>= λ streams. Ok (record { meta = meta.0; form = Short; kind = streams.0.0; streams = streams.0.1; details = none }, streams.1)) (p, rest) e in
@@ -115,24 +115,24 @@ without_details_taken bytes p rest is e =
     let m = meta_taken bytes a.0.0 a.0.1 is a.1 in
     let after_meta : IsBytes a.0.1 = IsBytes-after bytes (counted_part (meta_layout a.0.0)) a.0.1 m.text is in
     let s = streams_taken Pfd3 a.0.1 b.0.0 b.0.1 refl after_meta b.1 in
-    let said : Said = record { meta = a.0.0; form = Short; kind = b.0.0.0; streams = b.0.0.1; details = none } in
-    let made : (Said × List ℕ) = (said, b.0.1) in
+    let said : PacketFields = record { meta = a.0.0; form = Short; kind = b.0.0.0; streams = b.0.0.1; details = none } in
+    let made : (PacketFields × List ℕ) = (said, b.0.1) in
     let taken : KindTaken bytes said b.0.1 = record {
       form_is = refl;
       is_packed = record { meta = m.fits; range = m.range; short = s.short; details = (omega arith, tt); details_short = none_short };
       none = refl;
       text = m.text ∙ ap (λ (x : List ℕ). counted_part (meta_layout a.0.0) ++ x) s.text;
     } in
-    subst (λ (y : Said × List ℕ). KindTaken bytes y.0 y.1) (same_ok made (p, rest) b.2) taken
+    subst (λ (y : PacketFields × List ℕ). KindTaken bytes y.0 y.1) (same_ok made (p, rest) b.2) taken
 
-record NoKindTaken (bytes : List ℕ) (p : Said) (rest : List ℕ) : Type 0 where
+record NoKindTaken (bytes : List ℕ) (p : PacketFields) (rest : List ℕ) : Type 0 where
   is_packed : IsPacked p
   form_is : p.form ≡ Short
   zstd : p.kind ≡ Zstd
   none : p.details ≡ []
   text : bytes ≡ counted_part (meta_layout p.meta) ++ (little_bytes 4 (length p.streams) ++ (p.streams ++ rest))
 
-without_kind_taken : (bytes : List ℕ) (p : Said) (rest : List ℕ) → IsBytes bytes → packet_at Pfd2 bytes ≡ Ok (p, rest) → NoKindTaken bytes p rest
+without_kind_taken : (bytes : List ℕ) (p : PacketFields) (rest : List ℕ) → IsBytes bytes → packet_at Pfd2 bytes ≡ Ok (p, rest) → NoKindTaken bytes p rest
 without_kind_taken bytes p rest is e =
     let none : List Details = [] in
     let a = bind_ok (meta_part_at bytes) (λ meta. streams_part_at Pfd2 meta.1 >>= λ streams. Ok (record { meta = meta.0; form = Short; kind = streams.0.0; streams = streams.0.1; details = none }, streams.1)) (p, rest) e in
@@ -140,8 +140,8 @@ without_kind_taken bytes p rest is e =
     let m = meta_taken bytes a.0.0 a.0.1 is a.1 in
     let after_meta : IsBytes a.0.1 = IsBytes-after bytes (counted_part (meta_layout a.0.0)) a.0.1 m.text is in
     let s = plain_taken a.0.1 b.0.0 b.0.1 after_meta b.1 in
-    let said : Said = record { meta = a.0.0; form = Short; kind = b.0.0.0; streams = b.0.0.1; details = none } in
-    let made : (Said × List ℕ) = (said, b.0.1) in
+    let said : PacketFields = record { meta = a.0.0; form = Short; kind = b.0.0.0; streams = b.0.0.1; details = none } in
+    let made : (PacketFields × List ℕ) = (said, b.0.1) in
     let taken : NoKindTaken bytes said b.0.1 = record {
       form_is = refl;
       is_packed = record { meta = m.fits; range = m.range; short = s.short; details = (omega arith, tt); details_short = none_short };
@@ -149,7 +149,7 @@ without_kind_taken bytes p rest is e =
       none = refl;
       text = m.text ∙ ap (λ (x : List ℕ). counted_part (meta_layout a.0.0) ++ x) s.text;
     } in
-    subst (λ (y : Said × List ℕ). NoKindTaken bytes y.0 y.1) (same_ok made (p, rest) b.2) taken
+    subst (λ (y : PacketFields × List ℕ). NoKindTaken bytes y.0 y.1) (same_ok made (p, rest) b.2) taken
 
 -- ---- the letters
 
@@ -157,7 +157,7 @@ without_kind_taken bytes p rest is e =
 StoredFrom : List ℕ → Stored → List ℕ → Type 0
 StoredFrom bytes s rest = (front : List ℕ) × Stores front s × (bytes ≡ front ++ rest)
 
-full_from : (form : Form) (bytes xs : List ℕ) (p : Said) (rest : List ℕ) → bytes ≡ 80 ∷ 70 ∷ 68 ∷ last_letter (for_form form) ∷ xs → FullTaken form xs p rest → StoredFrom bytes (packed p) rest
+full_from : (form : Form) (bytes xs : List ℕ) (p : PacketFields) (rest : List ℕ) → bytes ≡ 80 ∷ 70 ∷ 68 ∷ last_letter (for_form form) ∷ xs → FullTaken form xs p rest → StoredFrom bytes (packed p) rest
 unfolding packet_head StoredFrom
 full_from form bytes xs p rest e t =
     let m = counted_part (meta_layout p.meta) in
@@ -165,14 +165,14 @@ full_from form bytes xs p rest e t =
     let d = counted_part (details_layout p.details) in
     (packet p, (t.is_packed, inl refl), e ∙ (ap (λ (x : List ℕ). 80 ∷ 70 ∷ 68 ∷ last_letter (for_form form) ∷ x) t.text ∙ (ap (λ (f : Form). 80 ∷ 70 ∷ 68 ∷ last_letter (for_form f) ∷ (m ++ (l ++ (to_byte p.kind ∷ (p.streams ++ (d ++ rest)))))) (sym t.form_is) ∙ sym (in_a_row m l p.streams d rest (last_letter (for_form p.form)) (to_byte p.kind)))))
 
-without_details_from : (bytes xs : List ℕ) (p : Said) (rest : List ℕ) → bytes ≡ 80 ∷ 70 ∷ 68 ∷ 51 ∷ xs → KindTaken xs p rest → StoredFrom bytes (packed p) rest
+without_details_from : (bytes xs : List ℕ) (p : PacketFields) (rest : List ℕ) → bytes ≡ 80 ∷ 70 ∷ 68 ∷ 51 ∷ xs → KindTaken xs p rest → StoredFrom bytes (packed p) rest
 unfolding StoredFrom
 without_details_from bytes xs p rest e t =
     let m = counted_part (meta_layout p.meta) in
     let l = little_bytes 4 (length p.streams) in
     (packet_without_details p, (t.is_packed, inr (inl (refl, t.form_is, t.none))), e ∙ (ap (λ (x : List ℕ). 80 ∷ 70 ∷ 68 ∷ 51 ∷ x) t.text ∙ sym (row_pfd3 m l p.streams rest (to_byte p.kind))))
 
-without_kind_from : (bytes xs : List ℕ) (p : Said) (rest : List ℕ) → bytes ≡ 80 ∷ 70 ∷ 68 ∷ 50 ∷ xs → NoKindTaken xs p rest → StoredFrom bytes (packed p) rest
+without_kind_from : (bytes xs : List ℕ) (p : PacketFields) (rest : List ℕ) → bytes ≡ 80 ∷ 70 ∷ 68 ∷ 50 ∷ xs → NoKindTaken xs p rest → StoredFrom bytes (packed p) rest
 unfolding StoredFrom
 without_kind_from bytes xs p rest e t =
     let m = counted_part (meta_layout p.meta) in
@@ -186,18 +186,18 @@ chosen false x y z e = inr (refl, e)
 no_fault : {A : Type 0} (fault : FileError) (x : A) → ◌≡◌ {A = Result A FileError} (Err fault) (Ok x) → ⊥
 no_fault fault x e = absurd cc
 
-record VersionTaken (letter : ℕ) (xs : List ℕ) (p : Said) (rest : List ℕ) : Type 0 where
+record VersionTaken (letter : ℕ) (xs : List ℕ) (p : PacketFields) (rest : List ℕ) : Type 0 where
   version : Version
   known : from_letter letter ≡ Some version
   read : packet_at version xs ≡ Ok (p, rest)
 
-version_taken : (letter : ℕ) (xs : List ℕ) (p : Said) (rest : List ℕ) → version_at letter xs ≡ Ok (p, rest) → VersionTaken letter xs p rest
+version_taken : (letter : ℕ) (xs : List ℕ) (p : PacketFields) (rest : List ℕ) → version_at letter xs ≡ Ok (p, rest) → VersionTaken letter xs p rest
 version_taken letter xs p rest e = by_version (from_letter letter) refl e
   where
     by_version : (o : Option Version) → from_letter letter ≡ o → packet_if_read letter o xs ≡ Ok (p, rest) → VersionTaken letter xs p rest
     by_version (Some version) is e = record { version = version; known = is; read = e }
     by_version None is e =
-        let out : Result (Said × List ℕ) FileError = Ok (p, rest) in
+        let out : Result (PacketFields × List ℕ) FileError = Ok (p, rest) in
         elim (chosen (eqb letter 48 || eqb letter 49) (Err file.Legacy) (Err file.Newer) out e) [
           | inl h ↦ absurd (no_fault file.Legacy (p, rest) h.1)
           | inr h ↦ absurd (no_fault file.Newer (p, rest) h.1)
@@ -215,7 +215,7 @@ letter_is letter version e =
     by_test false false false true is_2 is_3 is_4 is_l e = is_l refl ∙ ap last_letter (same_Some PfdL version e)
     by_test false false false false is_2 is_3 is_4 is_l e = absurd cc
 
-packed_from : (letter : ℕ) (bytes xs : List ℕ) (p : Said) (rest : List ℕ) → IsBytes xs → bytes ≡ 80 ∷ 70 ∷ 68 ∷ letter ∷ xs → VersionTaken letter xs p rest → StoredFrom bytes (packed p) rest
+packed_from : (letter : ℕ) (bytes xs : List ℕ) (p : PacketFields) (rest : List ℕ) → IsBytes xs → bytes ≡ 80 ∷ 70 ∷ 68 ∷ letter ∷ xs → VersionTaken letter xs p rest → StoredFrom bytes (packed p) rest
 packed_from letter bytes xs p rest is text t =
     by_version t.version (text ∙ ap (λ (x : ℕ). 80 ∷ 70 ∷ 68 ∷ x ∷ xs) (letter_is letter t.version t.known)) t.read
   where

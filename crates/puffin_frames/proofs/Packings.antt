@@ -7,7 +7,7 @@ use Rattle.std.proofs.lemmas.Option.{same_Some}
 use Rattle.puffin_data.specs.declared.file_error.FileError.{FileError}
 use Rattle.puffin_data.specs.declared.file_error.FileError.TheVariants as file
 use Rattle.puffin_data.specs.declared.data.form.Form.{Form}
-use Rattle.puffin_data.specs.Honesty.{Recorded}
+use Rattle.puffin_data.specs.Honesty.{StreamFacts}
 use Rattle.puffin_data.specs.Value.Layout.{IsBytes}
 use Rattle.puffin_data.specs.Value.Decoding.{whole}
 use Rattle.puffin_data.proofs.lemmas.Readers.{whole_taken}
@@ -20,10 +20,10 @@ use Rattle.puffin_frames.specs.declared.frame_data.meta.FrameMeta.{FrameMeta}
 use Rattle.puffin_threads.specs.Details.{Details}
 use Rattle.puffin_frames.specs.Packet.Kinds.{to_byte, is_uncompressed}
 use Rattle.puffin_frames.specs.Packet.Tries.{DecidedInMemory}
-use Rattle.puffin_threads.specs.Thread.Info.{Info, info_cmp}
+use Rattle.puffin_threads.specs.Thread.ThreadKey.{ThreadKey, key_cmp}
 use Rattle.puffin_frames.specs.Frame.Streams.{Streams}
 use Rattle.puffin_frames.specs.Packet.Structs.{form_of_all, AreStreams, streams_layout, streams_at}
-use Rattle.puffin_frames.specs.Frame.Holding.{Packing, HoldsStreams, AreReadAgain, or_bad, unpacking, unpacked_from, Holding, streams_in, if_packed, either_content, held_contents, Agree, IsHolding, packing, plainly_packed, as_packed, as_unpacked}
+use Rattle.puffin_frames.specs.Frame.Holding.{Packing, HoldsStreams, AreReadAgain, or_bad, unpacking, unpacked_from, Holding, streams_in, if_packed, either_content, holding_streams, Agree, IsHolding, packing, plainly_packed, as_packed, as_unpacked}
 use Rattle.puffin_frames.proofs.Structs.{streams_reader}
 use Rattle.puffin_frames.proofs.Listed.{holds}
 use Rattle.puffin_frames.proofs.PackedAgain.{packed_again}
@@ -40,7 +40,7 @@ packing-keeps (Some p) None h = refl
 packing-keeps None (Some m) h = h
 packing-keeps (Some p) (Some m) h = h
 
-pub pack-keeps : (h : Holding) → IsHolding h → held_contents (as_packed h) ≡ held_contents h
+pub pack-keeps : (h : Holding) → IsHolding h → holding_streams (as_packed h) ≡ holding_streams h
 pack-keeps h agree = packing-keeps h.packed h.unpacked agree
 
 unpacking-keeps : (p : Option Packing) (u : Option Streams) → either_content p (either_content p u) ≡ either_content p u
@@ -52,12 +52,12 @@ unpacking-keeps (Some p) None = kept (Some p) (streams_in p) refl
     kept q None e = e
     kept q (Some m) e = refl
 
-pub unpack-keeps : (h : Holding) → held_contents (as_unpacked h) ≡ held_contents h
+pub unpack-keeps : (h : Holding) → holding_streams (as_unpacked h) ≡ holding_streams h
 unpack-keeps h = unpacking-keeps h.packed h.unpacked
 
 -- ---- packed bytes and the streams whose layout they are
 
-streams_from : (o : Option (List (Info × Recorded))) (streams : Streams) → option_map from_sorted o ≡ Some streams → (es : List (Info × Recorded)) × (o ≡ Some es) × (from_sorted es ≡ streams)
+streams_from : (o : Option (List (ThreadKey × StreamFacts))) (streams : Streams) → option_map from_sorted o ≡ Some streams → (es : List (ThreadKey × StreamFacts)) × (o ≡ Some es) × (from_sorted es ≡ streams)
 streams_from None streams e = absurd cc
 streams_from (Some es) streams e = (es, refl, same_Some (from_sorted es) streams e)
 
@@ -71,8 +71,8 @@ streams_taken p streams is e =
     let g = cond_option (is_uncompressed p.kind) (option_map from_sorted (whole (streams_at p.form) p.bytes)) streams e in
     let o = streams_from (whole (streams_at p.form) p.bytes) streams g.1 in
     let w = whole_taken (AreStreams p.form) (streams_layout p.form) (streams_at p.form) (streams_reader p.form) p.bytes o.0 is o.1 in
-    let back : entries streams ≡ o.0 = ap entries (sym o.2) ∙ entries-from_sorted info_cmp o.0 (holds _ (sorted_in p.form o.0 w.0.1)) in
-    (uncompressed p.kind g.0, subst (λ (es : List (Info × Recorded)). AreStreams p.form es) (sym back) w.0, w.1 ∙ ap (streams_layout p.form) (sym back))
+    let back : entries streams ≡ o.0 = ap entries (sym o.2) ∙ entries-from_sorted key_cmp o.0 (holds _ (sorted_in p.form o.0 w.0.1)) in
+    (uncompressed p.kind g.0, subst (λ (es : List (ThreadKey × StreamFacts)). AreStreams p.form es) (sym back) w.0, w.1 ∙ ap (streams_layout p.form) (sym back))
   where
     cond_option : (b : Bool) (o : Option Streams) (streams : Streams) → cond b o None ≡ Some streams → (b ≡ true) × (o ≡ Some streams)
     cond_option true o streams e = (refl, e)

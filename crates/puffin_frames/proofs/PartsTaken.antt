@@ -16,7 +16,7 @@ use Rattle.puffin_frames.specs.declared.frame_data.kind.Kind.TheVariants.{Uncomp
 use Rattle.puffin_frames.specs.declared.frame_data.meta.FrameMeta.{FrameMeta}
 use Rattle.puffin_threads.specs.Details.{Details}
 use Rattle.puffin_frames.specs.Packet.Structs.{IsMeta, meta_layout, meta_at, AreDetails, details_layout, details_at, Legacy, IsLegacy, legacy_layout, legacy_at}
-use Rattle.puffin_data.specs.Range.{is_range_at}
+use Rattle.puffin_data.specs.Range.{is_valid_range_at}
 use Rattle.puffin_frames.specs.Packet.Kinds.{to_byte}
 use Rattle.puffin_frames.specs.Packet.Parts.{meta_with_range, meta_from, meta_part_at, known_kind, kind_from, given_kind_at, details_from, given_details_at, legacy_with_range, legacy_from, legacy_part_at}
 use Rattle.puffin_frames.specs.Packet.Grammar.{counted_part}
@@ -76,15 +76,15 @@ counted_taken bytes t rest is e =
 
 -- ---- meta
 
-ranged : (o : Option FrameMeta) (m : FrameMeta) → meta_with_range o ≡ Ok m → (o ≡ Some m) × (is_range_at m.range_ns.0 m.range_ns.1 ≡ true)
+ranged : (o : Option FrameMeta) (m : FrameMeta) → meta_with_range o ≡ Ok m → (o ≡ Some m) × (is_valid_range_at m.range_ns.0 m.range_ns.1 ≡ true)
 ranged None m e = absurd cc
 ranged (Some x) m e =
-    let g = only_if (is_range_at x.range_ns.0 x.range_ns.1) file.BadRange x m e in
-    (ap Some g.1, subst (λ (y : FrameMeta). is_range_at y.range_ns.0 y.range_ns.1 ≡ true) g.1 g.0)
+    let g = only_if (is_valid_range_at x.range_ns.0 x.range_ns.1) file.BadRange x m e in
+    (ap Some g.1, subst (λ (y : FrameMeta). is_valid_range_at y.range_ns.0 y.range_ns.1 ≡ true) g.1 g.0)
 
 pub record MetaTaken (bytes : List ℕ) (m : FrameMeta) (rest : List ℕ) : Type 0 where
   pub fits : IsMeta m
-  pub range : is_range_at m.range_ns.0 m.range_ns.1 ≡ true
+  pub range : is_valid_range_at m.range_ns.0 m.range_ns.1 ≡ true
   pub text : bytes ≡ counted_part (meta_layout m) ++ rest
 
 pub meta_taken : (bytes : List ℕ) (m : FrameMeta) (rest : List ℕ) → IsBytes bytes → meta_part_at bytes ≡ Ok (m, rest) → MetaTaken bytes m rest
@@ -157,15 +157,15 @@ details_taken bytes ds rest is e =
 
 -- ---- a frame as it was written at first
 
-legacy_ranged : (o : Option Legacy) (l : Legacy) → legacy_with_range o ≡ Ok l → (o ≡ Some l) × (is_range_at l.meta.range_ns.0 l.meta.range_ns.1 ≡ true)
+legacy_ranged : (o : Option Legacy) (l : Legacy) → legacy_with_range o ≡ Ok l → (o ≡ Some l) × (is_valid_range_at l.meta.range_ns.0 l.meta.range_ns.1 ≡ true)
 legacy_ranged None l e = absurd cc
 legacy_ranged (Some x) l e =
-    let g = only_if (is_range_at x.meta.range_ns.0 x.meta.range_ns.1) file.BadRange x l e in
-    (ap Some g.1, subst (λ (y : Legacy). is_range_at y.meta.range_ns.0 y.meta.range_ns.1 ≡ true) g.1 g.0)
+    let g = only_if (is_valid_range_at x.meta.range_ns.0 x.meta.range_ns.1) file.BadRange x l e in
+    (ap Some g.1, subst (λ (y : Legacy). is_valid_range_at y.meta.range_ns.0 y.meta.range_ns.1 ≡ true) g.1 g.0)
 
 pub record LegacyTaken (n : ℕ) (bytes : List ℕ) (l : Legacy) (rest : List ℕ) : Type 0 where
   pub fits : IsLegacy l
-  pub range : is_range_at l.meta.range_ns.0 l.meta.range_ns.1 ≡ true
+  pub range : is_valid_range_at l.meta.range_ns.0 l.meta.range_ns.1 ≡ true
   pub size : length (legacy_layout l) ≡ n
   pub text : bytes ≡ legacy_layout l ++ rest
 

@@ -14,13 +14,13 @@ use Rattle.std.proofs.lemmas.Map.Keys.{sorted_head, sorted_tail}
 use Rattle.puffin_data.specs.declared.data.info.StreamInfo.{StreamInfo}
 use Rattle.puffin_threads.specs.declared.thread_profiler.thread_info.ThreadInfo.{ThreadInfo}
 use Rattle.puffin_frames.specs.Frame.Contents.{without_sharing}
-use Rattle.puffin_threads.specs.Thread.Info.{Info, info_of, thread_cmp}
-use Rattle.puffin_data.specs.Honesty.{Recorded, record_of}
-use Rattle.puffin_frames.specs.Packet.Structs.{IsInfo, AreCounts}
+use Rattle.puffin_threads.specs.Thread.ThreadKey.{ThreadKey, key_of, thread_cmp}
+use Rattle.puffin_data.specs.Honesty.{StreamFacts, facts_of}
+use Rattle.puffin_frames.specs.Packet.Structs.{IsThreadKey, AreCounts}
 use Rattle.puffin_frames.specs.inner.Pairs.{pairs_of}
 use Rattle.puffin_frames.proofs.Appending.{all_one}
 use Rattle.puffin_frames.proofs.Listed.{listed-push}
-use Rattle.puffin_threads.proofs.lemmas.Infos.{thread_cmp_total}
+use Rattle.puffin_threads.proofs.lemmas.ThreadKeys.{thread_cmp_total}
 
 at_middle : {K : Type 0} (P : K → Type 0) (xs : List K) (k : K) (rest : List K) → AllByRecursion P (xs ++ k ∷ rest) → P k
 at_middle P [] k rest all = all.0
@@ -46,9 +46,9 @@ unshared-last (e ∷ es) k arc rest = ap (λ l. (e.0, arc_value e.1) ∷ l) (uns
 pub record SharesInOrder {A : Type 0} (es : List (ThreadInfo × Arc StreamInfo A)) (rest all : List (ThreadInfo × StreamInfo)) : Type 0 where
   pub whole : without_sharing es ++ rest ≡ all
   pub sorted : IsStrictlySortedBy thread_cmp (keys_of all)
-  pub fit : AllByRecursion (λ (e : Info × Recorded). IsInfo e.0 × AreCounts e.1) (pairs_of es)
+  pub fit : AllByRecursion (λ (e : ThreadKey × StreamFacts). IsThreadKey e.0 × AreCounts e.1) (pairs_of es)
 
-pub one_more : {A : Type 0} (es fs : List (ThreadInfo × Arc StreamInfo A)) (k : ThreadInfo) (info : StreamInfo) (arc : Arc StreamInfo A) (left rest all : List (ThreadInfo × StreamInfo)) → SharesInOrder es left all → left ≡ (k, info) ∷ rest → arc_value arc ≡ info → fs ≡ insert_entry thread_cmp es k arc → IsInfo (info_of k) → AreCounts (record_of info) → SharesInOrder fs rest all
+pub one_more : {A : Type 0} (es fs : List (ThreadInfo × Arc StreamInfo A)) (k : ThreadInfo) (info : StreamInfo) (arc : Arc StreamInfo A) (left rest all : List (ThreadInfo × StreamInfo)) → SharesInOrder es left all → left ≡ (k, info) ∷ rest → arc_value arc ≡ info → fs ≡ insert_entry thread_cmp es k arc → IsThreadKey (key_of k) → AreCounts (facts_of info) → SharesInOrder fs rest all
 one_more es fs k info arc left rest all h next same put thread counts =
     let whole : without_sharing es ++ (k, info) ∷ rest ≡ all = ap (λ l. without_sharing es ++ l) (sym next) ∙ h.whole in
     let sorted = subst (λ (ks : List ThreadInfo). IsStrictlySortedBy thread_cmp ks) (ap keys_of (sym whole) ∙ keys_of-unshared es k info rest) h.sorted in
@@ -56,9 +56,9 @@ one_more es fs k info arc left rest all h next same put thread counts =
     record {
       whole = ap (λ l. without_sharing l ++ rest) (put ∙ last) ∙ unshared-last es k arc rest ∙ ap (λ x. without_sharing es ++ (k, x) ∷ rest) same ∙ whole;
       sorted = h.sorted;
-      fit = subst (λ (xs : List (Info × Recorded)). AllByRecursion Fits xs) (sym (ap pairs_of (put ∙ last) ∙ listed-push es k arc))
-          (all_one Fits (pairs_of es) (info_of k, record_of (arc_value arc)) h.fit (thread, subst (λ (x : StreamInfo). AreCounts (record_of x)) (sym same) counts));
+      fit = subst (λ (xs : List (ThreadKey × StreamFacts)). AllByRecursion Fits xs) (sym (ap pairs_of (put ∙ last) ∙ listed-push es k arc))
+          (all_one Fits (pairs_of es) (key_of k, facts_of (arc_value arc)) h.fit (thread, subst (λ (x : StreamInfo). AreCounts (facts_of x)) (sym same) counts));
     }
   where
-    Fits : Info × Recorded → Type 0
-    Fits e = IsInfo e.0 × AreCounts e.1
+    Fits : ThreadKey × StreamFacts → Type 0
+    Fits e = IsThreadKey e.0 × AreCounts e.1

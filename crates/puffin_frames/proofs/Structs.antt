@@ -8,7 +8,7 @@ use Rattle.std.specs.Prelude.{nat_lt}
 use Rattle.puffin_data.specs.Value.Layout.{number}
 use Rattle.puffin_data.proofs.lemmas.Readers.{IsReader, pair_reader, form_reader, checked_reader, optional_reader, items_reader}
 use Rattle.puffin_data.proofs.lemmas.ValueReaders.{number_reader, word_reader, signed_reader, flag_reader, bytes_reader, text_reader}
-use Rattle.puffin_frames.specs.Packet.Structs.{meta_layout, IsMeta, made_meta, meta_at, info_layout, IsInfo, made_info, info_at, form_layout, IsFormIn, form_in_at, recorded_layout, IsRecorded, made_recorded, recorded_at, are_ordered, streams_layout, AreStreams, streams_at, IsId, id_at, detail_layout, IsDetail, made_detail, detail_at, details_layout, AreDetails, details_at, legacy_layout, IsLegacy, made_legacy, legacy_at}
+use Rattle.puffin_frames.specs.Packet.Structs.{meta_layout, IsMeta, made_meta, meta_at, key_layout, IsThreadKey, made_key, key_at, form_layout, IsFormIn, form_in_at, facts_layout, AreStreamFacts, made_facts, facts_at, are_ordered, streams_layout, AreStreams, streams_at, IsId, id_at, detail_layout, IsDetail, made_detail, detail_at, details_layout, AreDetails, details_at, legacy_layout, IsLegacy, made_legacy, legacy_at}
 
 pub meta_reader : IsReader IsMeta meta_layout meta_at
 unfolding meta_at
@@ -16,11 +16,11 @@ meta_reader =
     let p = pair_reader _ _ _ _ _ _ number_reader (pair_reader _ _ _ _ _ _ signed_reader (pair_reader _ _ _ _ _ _ signed_reader (pair_reader _ _ _ _ _ _ number_reader number_reader))) in
     form_reader _ _ _ made_meta (λ m. (m.frame_index, (m.range_ns.0, (m.range_ns.1, (m.num_bytes, m.num_scopes))))) (λ _. refl) (λ _. refl) p
 
-pub thread_reader : IsReader IsInfo info_layout info_at
-unfolding info_at
+pub thread_reader : IsReader IsThreadKey key_layout key_at
+unfolding key_at
 thread_reader =
     let p = pair_reader _ _ _ _ _ _ (optional_reader _ _ _ signed_reader) text_reader in
-    form_reader _ _ _ made_info (λ t. (t.start, t.name)) (λ _. refl) (λ _. refl) p
+    form_reader _ _ _ made_key (λ t. (t.start, t.name)) (λ _. refl) (λ _. refl) p
 
 -- ---- forms
 
@@ -40,16 +40,16 @@ form_reader_in Short = record {
 }
 form_reader_in Long = form_reader _ _ _ form_of_flag is_long flag_back flag_of_form flag_reader
 
-pub recorded_reader : (packed : Form) → IsReader (IsRecorded packed) (recorded_layout packed) (recorded_at packed)
-unfolding recorded_at
-recorded_reader packed =
+pub facts_reader : (packed : Form) → IsReader (AreStreamFacts packed) (facts_layout packed) (facts_at packed)
+unfolding facts_at
+facts_reader packed =
     let p = pair_reader _ _ _ _ _ _ (form_reader_in packed) (pair_reader _ _ _ _ _ _ bytes_reader (pair_reader _ _ _ _ _ _ number_reader (pair_reader _ _ _ _ _ _ number_reader (pair_reader _ _ _ _ _ _ signed_reader signed_reader)))) in
-    form_reader _ _ _ made_recorded (λ r. (r.form, (r.bytes, (r.num_scopes, (r.depth, r.range_ns))))) (λ _. refl) (λ _. refl) p
+    form_reader _ _ _ made_facts (λ r. (r.form, (r.bytes, (r.num_scopes, (r.depth, r.range_ns))))) (λ _. refl) (λ _. refl) p
 
 pub streams_reader : (packed : Form) → IsReader (AreStreams packed) (streams_layout packed) (streams_at packed)
 unfolding streams_at
 streams_reader packed =
-    checked_reader _ _ _ (are_ordered packed) (items_reader _ _ _ _ number_reader (pair_reader _ _ _ _ _ _ thread_reader (recorded_reader packed)))
+    checked_reader _ _ _ (are_ordered packed) (items_reader _ _ _ _ number_reader (pair_reader _ _ _ _ _ _ thread_reader (facts_reader packed)))
 
 id_reader : IsReader IsId number id_at
 id_reader = checked_reader _ _ _ (λ n. nat_lt 0 n) word_reader

@@ -9,58 +9,58 @@ ghost use Rattle.std.specs.FinMap as map;
 ghost use Rattle.std.specs.Int.{int_min, int_max};
 ghost use Rattle.puffin_data.specs.declared.data.info.StreamInfo.{StreamInfo};
 ghost use Rattle.puffin_threads.specs.declared.thread_profiler.thread_info.ThreadInfo.{ThreadInfo};
-ghost use Rattle.puffin_threads.specs.Thread.Info.{Info, info_of, info_cmp, thread_cmp, info_entries};
-ghost use Rattle.puffin_frames.specs.Frame.Contents.{Streams, streams_of, records, all_recorded, stream_under, reported_to, AreHonest};
+ghost use Rattle.puffin_threads.specs.Thread.ThreadKey.{ThreadKey, key_of, key_cmp, thread_cmp, key_entries};
+ghost use Rattle.puffin_frames.specs.Frame.Contents.{Streams, streams_of, records, all_facts, stream_under, reported_to, AreHonest};
 ghost use Rattle.puffin_data.specs.Forest.{Forest};
-ghost use Rattle.puffin_data.specs.Honesty.{Recorded, record_of, IsHonestRecord, AreUnlike};
+ghost use Rattle.puffin_data.specs.Honesty.{StreamFacts, facts_of, AreHonestFacts, AreUnlike};
 ghost use Rattle.puffin_frames.specs.Frame.Sums.{total_bytes, total_scopes, joined_start, joined_stop, joined_range, IsOrdered};
 
 use puffin_threads::thread_profiler::ThreadInfo;
 
 /// A map from threads to streams, as a sorted list of entries, and the map from infos that contracts see of it have the same
 /// entries and values. Inserting into the list inserts into the map.
-pub fn streams_by_info()
+pub fn streams_by_key()
     ensures entries { (entries : List (ThreadInfo × StreamInfo)) →
         IsStrictlySortedBy thread_cmp (keys_of entries) →
-        map.entries (streams_of entries) ≡ info_entries (records entries) }
+        map.entries (streams_of entries) ≡ key_entries (records entries) }
     ensures values { (streams : BTreeMap ThreadInfo StreamInfo) →
         IsStrictlySortedBy thread_cmp (keys_of streams.entries) →
-        map.values (streams_of streams.entries) ≡ all_recorded streams }
+        map.values (streams_of streams.entries) ≡ all_facts streams }
     ensures inserted { (entries : List (ThreadInfo × StreamInfo)) (thread : ThreadInfo) (
         info : StreamInfo) →
         streams_of (insert_entry thread_cmp entries thread info)
-        ≡ map.insert (streams_of entries) (info_of thread) (record_of info) }
+        ≡ map.insert (streams_of entries) (key_of thread) (facts_of info) }
 {}
 
 /// The joined range of infos: how one more info changes it, and how those of two lists are joined.
 pub fn joined_ranges()
-    ensures start_of_one_more { (info : Recorded) (infos : List Recorded) →
+    ensures start_of_one_more { (info : StreamFacts) (infos : List StreamFacts) →
         joined_start (info ∷ infos) ≡ int_min info.range_ns.0 (joined_start infos) }
-    ensures stop_of_one_more { (info : Recorded) (infos : List Recorded) →
+    ensures stop_of_one_more { (info : StreamFacts) (infos : List StreamFacts) →
         joined_stop (info ∷ infos) ≡ int_max info.range_ns.1 (joined_stop infos) }
-    ensures start { (xs ys : List Recorded) →
+    ensures start { (xs ys : List StreamFacts) →
         joined_start (xs ++ ys) ≡ int_min (joined_start xs) (joined_start ys) }
-    ensures stop { (xs ys : List Recorded) →
+    ensures stop { (xs ys : List StreamFacts) →
         joined_stop (xs ++ ys) ≡ int_max (joined_stop xs) (joined_stop ys) }
 {}
 
 /// How a report changes the totals of all streams.
 pub fn reported_streams()
-    ensures bytes { (streams : Streams) (i : Info) (r : Recorded) →
+    ensures bytes { (streams : Streams) (i : ThreadKey) (r : StreamFacts) →
         total_bytes (map.values (reported_to streams i r))
         ≡ total_bytes (map.values streams) + length r.bytes }
-    ensures scopes { (streams : Streams) (i : Info) (r : Recorded) →
+    ensures scopes { (streams : Streams) (i : ThreadKey) (r : StreamFacts) →
         total_scopes (map.values (reported_to streams i r))
         ≡ total_scopes (map.values streams) + r.num_scopes }
-    ensures start { (streams : Streams) (i : Info) (r : Recorded) →
+    ensures start { (streams : Streams) (i : ThreadKey) (r : StreamFacts) →
         joined_start (map.values (reported_to streams i r))
         ≡ int_min (joined_start (map.values streams)) r.range_ns.0 }
-    ensures stop { (streams : Streams) (i : Info) (r : Recorded) →
+    ensures stop { (streams : Streams) (i : ThreadKey) (r : StreamFacts) →
         joined_stop (map.values (reported_to streams i r))
         ≡ int_max (joined_stop (map.values streams)) r.range_ns.1 }
-    ensures none { map.values {X = Recorded} {R = info_cmp} map.empty ≡ [] }
+    ensures none { map.values {X = StreamFacts} {R = key_cmp} map.empty ≡ [] }
     // The scopes under one info are part of the total.
-    ensures under_one { (streams : Streams) (i : Info) →
+    ensures under_one { (streams : Streams) (i : ThreadKey) →
         (stream_under streams i).num_scopes ≤ total_scopes (map.values streams) }
 {}
 
@@ -68,12 +68,12 @@ pub fn reported_streams()
 /// honest streams have a scope, their joined range isn't reversed; if their total is 0, no stream has a scope.
 pub fn honest_streams()
     ensures none { AreHonest map.empty }
-    ensures report { (streams : Streams) (i : Info) (r : Recorded) (f : Forest) →
-        ¬ AreUnlike (stream_under streams i) r → AreHonest streams → IsHonestRecord r f →
+    ensures report { (streams : Streams) (i : ThreadKey) (r : StreamFacts) (f : Forest) →
+        ¬ AreUnlike (stream_under streams i) r → AreHonest streams → AreHonestFacts r f →
         AreHonest (reported_to streams i r) }
     ensures ordered { (streams : Streams) → AreHonest streams →
         0 < total_scopes (map.values streams) → IsOrdered (joined_range (map.values streams)) }
-    ensures no_scopes { (streams : Streams) (i : Info) (r : Recorded) →
+    ensures no_scopes { (streams : Streams) (i : ThreadKey) (r : StreamFacts) →
         total_scopes (map.values streams) ≡ 0 → map.get streams i ≡ Some r → r.num_scopes ≡ 0 }
 {
     // The laws that the proof cites.

@@ -6,7 +6,7 @@ use Rattle.puffin_data.specs.declared.error.Error.{Error}
 use Rattle.puffin_data.specs.declared.error.Error.TheVariants.{Memory, TooLarge}
 use Rattle.puffin_data.specs.Forest.{Forest}
 use Rattle.puffin_data.specs.Forest.Spelling.{Spells}
-use Rattle.puffin_data.specs.Walk.Sights.{Nested, nested_in, scopes_of, before}
+use Rattle.puffin_data.specs.Walk.Sights.{ScopeInContext, nested_in, scopes_of, before}
 use Rattle.puffin_data.specs.Walk.Visitor.{TakesAll, StopsEarly}
 use Rattle.puffin_merge.specs.declared.merge.table.Table.{Table}
 use Rattle.puffin_merge.specs.declared.merge.stream.Merging.{Merging}
@@ -90,7 +90,7 @@ read_refused frames i f v w tried made e split origin r (inr s) =
     (refused_from s.to.origin v.origin (f.start -ℤ start_of frames) done (scopes_of s.earlier) s.sight.scope e same origin (s.refused (done ++ occurrences_in v.origin (scopes_of s.earlier)) (later.table done r.table)))
     s.first))
   where
-    refused_from : (a b o : ℤ) (done : List Occurrence) (scopes : List Nested) (n : Nested) (e : Error) → a ≡ o → b ≡ o → IsRefusedFor (done ++ occurrences_in b scopes) (occurrence_of a n) e → IsRefusedFor (done ++ occurrences_in o scopes) (occurrence_of o n) e
+    refused_from : (a b o : ℤ) (done : List Occurrence) (scopes : List ScopeInContext) (n : ScopeInContext) (e : Error) → a ≡ o → b ≡ o → IsRefusedFor (done ++ occurrences_in b scopes) (occurrence_of a n) e → IsRefusedFor (done ++ occurrences_in o scopes) (occurrence_of o n) e
     refused_from a b o done scopes n e ea eb h =
         subst (λ (x : ℤ). IsRefusedFor (done ++ occurrences_in o scopes) (occurrence_of x n) e) ea (subst (λ (x : ℤ). IsRefusedFor (done ++ occurrences_in x scopes) (occurrence_of a n) e) eb h)
 

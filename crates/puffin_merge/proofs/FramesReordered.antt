@@ -6,7 +6,7 @@ use Rattle.std.specs.declared.alloc.Global.{Global}
 use Rattle.std.proofs.lemmas.List.Sums.{sum_by-append}
 use Rattle.std.proofs.lemmas.List.Sorted.{IsPermutation-map}
 use Rattle.puffin_frames.specs.declared.frame_data.unpacked.UnpackedFrameData.{UnpackedFrameData}
-use Rattle.puffin_threads.specs.Thread.Info.{Info}
+use Rattle.puffin_threads.specs.Thread.ThreadKey.{ThreadKey}
 use Rattle.puffin_merge.specs.Merge.Occurrences.{Path, Occurrence, FrameScopes, is_path, occurrences_of, occurrences}
 use Rattle.puffin_merge.specs.Merge.Pieces.{Merged, pieces_at, merged_of, merged_at}
 use Rattle.puffin_merge.specs.Merge.Tree.{MergedForest}
@@ -121,7 +121,7 @@ again_merged first others again f (s ∷ scopes) r have accepted merge ends =
     }
 
 -- the code's frames, the first still the first
-pub merged-any_order : (info : Info) (first : Arc UnpackedFrameData Global) (others again : List (Arc UnpackedFrameData Global)) → IsPermutation others again → (f : MergedForest)
+pub merged-any_order : (info : ThreadKey) (first : Arc UnpackedFrameData Global) (others again : List (Arc UnpackedFrameData Global)) → IsPermutation others again → (f : MergedForest)
     → AreMerged (frames_bytes info (first ∷ others)) f → AreMerged (frames_bytes info (first ∷ again)) f
 merged-any_order info first others again p f m =
     let r = from_permutation (frames_bytes info others) (frames_bytes info again) (IsPermutation-map (λ held. frame_bytes info (arc_value held)) others again p) in

@@ -6,7 +6,7 @@ use Rattle.puffin_data.specs.declared.error.Error.{Error}
 use Rattle.puffin_data.specs.Forest.{Forest, IsForest}
 use Rattle.puffin_data.specs.Forest.Spelling.{spelling, Spells}
 use Rattle.puffin_data.specs.Walk.{IsFault}
-use Rattle.puffin_data.specs.Walk.Sights.{Nested, nested_in, Sight, Sees, scopes_of}
+use Rattle.puffin_data.specs.Walk.Sights.{ScopeInContext, nested_in, PlacedScope, Sees, scopes_of}
 use Rattle.puffin_merge.specs.Merge.Occurrences.{Occurrence, FrameScopes, occurrence_of, occurrences_in, occurrences_of, occurrences_from, occurrences}
 use Rattle.puffin_merge.specs.Merge.Tree.{MergedForest}
 use Rattle.puffin_merge.specs.Merge.{IsMerge}
@@ -20,7 +20,7 @@ use Rattle.puffin_merge.proofs.OneMerge.{one_merge}
 pub record Walks : Type 0 where
   pub one_forest : (form : Form) (f g : Forest) → IsForest form f → IsForest form g → length (spelling form f) < 2 ^ 63 → spelling form f ≡ spelling form g → f ≡ g
   pub no_fault : (form : Form) (bytes : List ℕ) (f : Forest) (fault : Error) → length bytes < 2 ^ 64 → Spells form bytes f → IsFault form bytes fault → ⊥
-  pub sees : (form : Form) (bytes : List ℕ) (f : Forest) (sights : List Sight) → length bytes < 2 ^ 64 → Spells form bytes f → Sees form bytes [] 0 (length bytes) sights → scopes_of sights ≡ nested_in [] f
+  pub sees : (form : Form) (bytes : List ℕ) (f : Forest) (sights : List PlacedScope) → length bytes < 2 ^ 64 → Spells form bytes f → Sees form bytes [] 0 (length bytes) sights → scopes_of sights ≡ nested_in [] f
 
 -- ---- frames have one list of scopes
 
@@ -83,9 +83,9 @@ frame_fine w frame this done more origin refusal tries has a (faulty {place = pl
 frame_fine w frame this done more origin refusal tries has a (refused earlier later s {refusal = cause} sees accepted is_refused first) =
     let short = has.short in
     let scopes : nested_in [] this.forest ≡ scopes_of earlier ++ (s.scope ∷ scopes_of later) =
-    sym (w.sees (form_of frame) (bytes_of frame) this.forest (earlier ++ (s ∷ later)) (omega arith) has.spells sees) ∙ map-append (λ (x : Sight). x.scope) earlier (s ∷ later) in
+    sym (w.sees (form_of frame) (bytes_of frame) this.forest (earlier ++ (s ∷ later)) (omega arith) has.spells sees) ∙ map-append (λ (x : PlacedScope). x.scope) earlier (s ∷ later) in
     let split : occurrences_in origin (nested_in [] this.forest) ++ more ≡ occurrences_in origin (scopes_of earlier) ++ (occurrence_of origin s.scope ∷ (occurrences_in origin (scopes_of later) ++ more)) =
-    ap (λ (xs : List Nested). occurrences_in origin xs ++ more) scopes
+    ap (λ (xs : List ScopeInContext). occurrences_in origin xs ++ more) scopes
     ∙ ap (λ (xs : List Occurrence). xs ++ more) (map-append (occurrence_of origin) (scopes_of earlier) (s.scope ∷ scopes_of later))
     ∙ append_assoc (occurrences_in origin (scopes_of earlier)) (occurrence_of origin s.scope ∷ occurrences_in origin (scopes_of later)) more in
     not_refused (done ++ occurrences_in origin (scopes_of earlier)) _ (occurrence_of origin s.scope) cause

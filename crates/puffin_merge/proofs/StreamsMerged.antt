@@ -15,11 +15,11 @@ use Rattle.puffin_data.specs.declared.error.Error.{Error}
 use Rattle.puffin_data.specs.declared.error.Error.TheVariants.{Memory}
 use Rattle.puffin_data.specs.declared.data.info.StreamInfo.{StreamInfo}
 use Rattle.puffin_data.specs.Forest.{empty}
-use Rattle.puffin_data.specs.Honesty.{Recorded, record_of}
+use Rattle.puffin_data.specs.Honesty.{StreamFacts, facts_of}
 use Rattle.puffin_data.specs.Walk.Visitor.{TakesAll, StopsEarly}
 use Rattle.puffin_threads.specs.declared.thread_profiler.thread_info.ThreadInfo.{ThreadInfo}
 use Rattle.puffin_frames.specs.declared.frame_data.unpacked.UnpackedFrameData.{UnpackedFrameData}
-use Rattle.puffin_threads.specs.Thread.Info.{info_of, info_cmp, thread_cmp, info_entries}
+use Rattle.puffin_threads.specs.Thread.ThreadKey.{key_of, key_cmp, thread_cmp, key_entries}
 use Rattle.puffin_frames.specs.Frame.Contents.{records, without_sharing}
 use Rattle.puffin_merge.specs.declared.merge.table.Table.{Table}
 use Rattle.puffin_merge.specs.declared.merge.stream.Merging.{Merging}
@@ -30,39 +30,39 @@ use Rattle.puffin_merge.specs.inner.Merging.{TakesScopes, RefusesScope, takes_no
 abbrev Shared : Type 0
 Shared = Arc StreamInfo Global
 
-abbrev held : Shared → Recorded
-held x = record_of (arc_value x)
+abbrev held : Shared → StreamFacts
+held x = facts_of (arc_value x)
 
 abbrev stream_held : Shared → StreamBytes
 stream_held x = record { form = (arc_value x).stream.form; bytes = (arc_value x).stream.bytes }
 
-at_test : (b : Bool) (x : Shared) (f : Option Recorded) (l : Option Shared) → f ≡ option_map held l → cond b (Some (held x)) f ≡ option_map held (cond b (Some x) l)
+at_test : (b : Bool) (x : Shared) (f : Option StreamFacts) (l : Option Shared) → f ≡ option_map held l → cond b (Some (held x)) f ≡ option_map held (cond b (Some x) l)
 at_test true x f l e = refl
 at_test false x f l e = e
 
-find_is : (info : ThreadInfo) (entries : List (ThreadInfo × Shared)) → find info_cmp (info_of info) (info_entries (records (without_sharing entries))) ≡ option_map held (lookup (is_at (thread_cmp info)) entries)
+find_is : (info : ThreadInfo) (entries : List (ThreadInfo × Shared)) → find key_cmp (key_of info) (key_entries (records (without_sharing entries))) ≡ option_map held (lookup (is_at (thread_cmp info)) entries)
 find_is info [] = refl
 find_is info (e ∷ entries) = at_test (is_at (thread_cmp info) e.0) e.1 _ (lookup (is_at (thread_cmp info)) entries) (find_is info entries)
 
-stream_is : IsTotalOrder info_cmp → (info : ThreadInfo) (frame : UnpackedFrameData) (r : Option Shared) → r ≡ lookup (is_at (thread_cmp info)) frame.thread_streams.entries
-    → (frame_bytes (info_of info) frame).stream ≡ option_map stream_held r
+stream_is : IsTotalOrder key_cmp → (info : ThreadInfo) (frame : UnpackedFrameData) (r : Option Shared) → r ≡ lookup (is_at (thread_cmp info)) frame.thread_streams.entries
+    → (frame_bytes (key_of info) frame).stream ≡ option_map stream_held r
 stream_is total info frame r e =
-    ap (option_map stream_in) (tree.get-from_entries total (info_entries (records (without_sharing frame.thread_streams.entries))) (info_of info) ∙ find_is info frame.thread_streams.entries ∙ ap (option_map held) (sym e)) ∙ twice r
+    ap (option_map stream_in) (tree.get-from_entries total (key_entries (records (without_sharing frame.thread_streams.entries))) (key_of info) ∙ find_is info frame.thread_streams.entries ∙ ap (option_map held) (sym e)) ∙ twice r
   where
     twice : (r : Option Shared) → option_map stream_in (option_map held r) ≡ option_map stream_held r
     twice None = refl
     twice (Some x) = refl
 
-pub no_bytes : IsTotalOrder info_cmp → (info : ThreadInfo) (frame : UnpackedFrameData) → ◌≡◌ {A = Option Shared} None (lookup (is_at (thread_cmp info)) frame.thread_streams.entries) → bytes_of (frame_bytes (info_of info) frame) ≡ []
+pub no_bytes : IsTotalOrder key_cmp → (info : ThreadInfo) (frame : UnpackedFrameData) → ◌≡◌ {A = Option Shared} None (lookup (is_at (thread_cmp info)) frame.thread_streams.entries) → bytes_of (frame_bytes (key_of info) frame) ≡ []
 no_bytes total info frame e = ap (λ (s : Option StreamBytes). bytes_of (record { start = frame.meta.range_ns.0; stream = s })) (stream_is total info frame None e)
 
-pub some_bytes : IsTotalOrder info_cmp → (info : ThreadInfo) (frame : UnpackedFrameData) (x : Shared) → Some x ≡ lookup (is_at (thread_cmp info)) frame.thread_streams.entries → bytes_of (frame_bytes (info_of info) frame) ≡ (arc_value x).stream.bytes
+pub some_bytes : IsTotalOrder key_cmp → (info : ThreadInfo) (frame : UnpackedFrameData) (x : Shared) → Some x ≡ lookup (is_at (thread_cmp info)) frame.thread_streams.entries → bytes_of (frame_bytes (key_of info) frame) ≡ (arc_value x).stream.bytes
 some_bytes total info frame x e = ap (λ (s : Option StreamBytes). bytes_of (record { start = frame.meta.range_ns.0; stream = s })) (stream_is total info frame (Some x) e)
 
-pub some_form : IsTotalOrder info_cmp → (info : ThreadInfo) (frame : UnpackedFrameData) (x : Shared) → Some x ≡ lookup (is_at (thread_cmp info)) frame.thread_streams.entries → form_of (frame_bytes (info_of info) frame) ≡ (arc_value x).stream.form
+pub some_form : IsTotalOrder key_cmp → (info : ThreadInfo) (frame : UnpackedFrameData) (x : Shared) → Some x ≡ lookup (is_at (thread_cmp info)) frame.thread_streams.entries → form_of (frame_bytes (key_of info) frame) ≡ (arc_value x).stream.form
 some_form total info frame x e = ap (λ (s : Option StreamBytes). form_of (record { start = frame.meta.range_ns.0; stream = s })) (stream_is total info frame (Some x) e)
 
-pub some_tries : IsTotalOrder info_cmp → (info : ThreadInfo) (frame : UnpackedFrameData) (x : Shared) (made : ℕ) → Some x ≡ lookup (is_at (thread_cmp info)) frame.thread_streams.entries → 31 * made ≤ length (arc_value x).stream.bytes + 31 → made ≤ most_tries_of (frame_bytes (info_of info) frame)
+pub some_tries : IsTotalOrder key_cmp → (info : ThreadInfo) (frame : UnpackedFrameData) (x : Shared) (made : ℕ) → Some x ≡ lookup (is_at (thread_cmp info)) frame.thread_streams.entries → 31 * made ≤ length (arc_value x).stream.bytes + 31 → made ≤ most_tries_of (frame_bytes (key_of info) frame)
 some_tries total info frame x made e h =
     subst (λ (n : ℕ). made ≤ n) (sym (ap (λ (s : Option StreamBytes). most_tries_of (record { start = frame.meta.range_ns.0; stream = s })) (stream_is total info frame (Some x) e)))
     (few made (length (arc_value x).stream.bytes) h)

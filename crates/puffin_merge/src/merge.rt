@@ -1,7 +1,7 @@
 //! Merging the scopes of many frames by their paths of ids and texts.
 
 ghost use Rattle.std.specs.Prelude.{◌≡◌, ◌≤◌, ◌⊎◌, length, IfOk, IfErr};
-ghost use Rattle.puffin_threads.specs.Thread.Info.{info_of};
+ghost use Rattle.puffin_threads.specs.Thread.ThreadKey.{key_of};
 ghost use Rattle.puffin_merge.specs.Merge.Occurrences.{occurrences};
 ghost use Rattle.puffin_merge.specs.Merge.FrameBytes.{most_tries};
 ghost use Rattle.puffin_merge.specs.Merge.Refusals.{IsMergeRefusal, IsRefusalAfter, AreMerged, ReadsFew};
@@ -48,10 +48,10 @@ pub fn merge_scopes_for_thread<'s>(
 ) -> Result<Vec<MergeScope<'s>>>
     // What it returns is the frames' merge.
     ensures merged { IfOk result (λ merged.
-        AreMerged (frames_bytes (info_of info.now) frames.now) (forest_in merged.items)) }
+        AreMerged (frames_bytes (key_of info.now) frames.now) (forest_in merged.items)) }
     // Unless memory runs out, its error is the frames' refusal.
     ensures refused { IfErr result (λ e.
-        (e ≡ Error.Memory) ⊎ IsMergeRefusal (frames_bytes (info_of info.now) frames.now) e) }
+        (e ≡ Error.Memory) ⊎ IsMergeRefusal (frames_bytes (key_of info.now) frames.now) e) }
 {
     let mut tries = 0;
     merge_scopes_counted(alloc, collection, frames, info, &mut tries)
@@ -68,14 +68,14 @@ pub fn merge_scopes_counted<'s>(
 ) -> Result<Vec<MergeScope<'s>>>
     // What it returns is the frames' merge, with one try for each scope.
     ensures merged { IfOk result (λ merged.
-        (m : AreMerged (frames_bytes (info_of info.now) frames.now) (forest_in merged.items))
+        (m : AreMerged (frames_bytes (key_of info.now) frames.now) (forest_in merged.items))
         × (tries.new ≡ length (occurrences m.scopes))) }
     // Unless memory runs out, its error is the frames' refusal, after exactly these tries.
     ensures refused { IfErr result (λ e. (e ≡ Error.Memory)
-        ⊎ IsRefusalAfter (frames_bytes (info_of info.now) frames.now) tries.new e) }
+        ⊎ IsRefusalAfter (frames_bytes (key_of info.now) frames.now) tries.new e) }
     // No frame is read after one that is refused.
-    ensures read { ReadsFew (frames_bytes (info_of info.now) frames.now) tries.new }
-    ensures few { tries.new ≤ most_tries (frames_bytes (info_of info.now) frames.now) }
+    ensures read { ReadsFew (frames_bytes (key_of info.now) frames.now) tries.new }
+    ensures few { tries.new ≤ most_tries (frames_bytes (key_of info.now) frames.now) }
 {
     *tries = 0;
     let mut merger = Merger::new(alloc, info);

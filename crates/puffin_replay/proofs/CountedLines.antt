@@ -8,7 +8,7 @@ use Rattle.std.specs.declared.sync.Arc.{Arc}
 use Rattle.puffin_data.specs.declared.data.info.StreamInfo.{StreamInfo}
 use Rattle.puffin_threads.specs.declared.thread_profiler.thread_info.ThreadInfo.{ThreadInfo}
 use Rattle.puffin_frames.specs.Frame.Contents.{without_sharing, records, shared_streams}
-use Rattle.puffin_threads.specs.Thread.Info.{thread_cmp}
+use Rattle.puffin_threads.specs.Thread.ThreadKey.{thread_cmp}
 use Rattle.puffin_frames.proofs.lemmas.Keyed.{entries-streams_of}
 
 same_keys : {A : Type 0} (es : List (ThreadInfo × Arc StreamInfo A)) → keys_of (without_sharing es) ≡ keys_of es

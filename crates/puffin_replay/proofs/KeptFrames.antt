@@ -8,11 +8,11 @@ use Rattle.std.specs.Cmp.{nat_cmp_total}
 use Rattle.std.specs.FinMap as fin
 use Rattle.std.specs.FinMap.Entries.{below_all, is_sorted, same_entries}
 use Rattle.std.proofs.lemmas.List.{map-append}
-use Rattle.puffin_frames.specs.Packet.Stored.{Said}
+use Rattle.puffin_frames.specs.Packet.Stored.{PacketFields}
 use Rattle.puffin_view.specs.View.Ranking.{place_first, in_order, last_of, last_in, has}
-use Rattle.puffin_view.specs.View.ViewedFrames.{Frame, contents_of, index_of, frame_index, is_slower, slowest, rising_end, is_rising, rises_above, frames_by_index}
+use Rattle.puffin_view.specs.View.ViewedFrames.{Frame, fields_of, index_of, frame_index, is_slower, slowest, rising_end, is_rising, rises_above, frames_by_index}
 use Rattle.puffin_view.specs.View.{View, Took, without_frames, with_packed, with_newest_packed, is_past, after_taking, after_all}
-use Rattle.puffin_view.specs.View.File.{contents_in}
+use Rattle.puffin_view.specs.View.File.{fields_in}
 use Rattle.puffin_replay.specs.Promise.{kept_frames}
 
 -- ---- tests
@@ -66,24 +66,24 @@ all_map P Q (x ∷ xs) f h = (f x h.0, all_map P Q xs f h.1)
 
 -- ---- frames that rise
 
-rise_below : (i j : ℕ) (cs : List Said) → nat_lt i j ≡ true → rises_above j cs ≡ true → rises_above i cs ≡ true
+rise_below : (i j : ℕ) (cs : List PacketFields) → nat_lt i j ≡ true → rises_above j cs ≡ true → rises_above i cs ≡ true
 rise_below i j [] lt h = refl
 rise_below i j (c ∷ cs) lt h = rw (lower (first (nat_lt j (frame_index c)) _ h)) (second (nat_lt j (frame_index c)) (rises_above (frame_index c) cs) h)
   where
     lower : nat_lt j (frame_index c) ≡ true → nat_lt i (frame_index c) ≡ true
     lower k = grind arith
 
-rising_rest : (i : ℕ) (cs : List Said) → rises_above i cs ≡ true → is_rising cs ≡ true
+rising_rest : (i : ℕ) (cs : List PacketFields) → rises_above i cs ≡ true → is_rising cs ≡ true
 rising_rest i [] h = refl
 rising_rest i (c ∷ cs) h = second (nat_lt i (frame_index c)) (rises_above (frame_index c) cs) h
 
-all_above : (i : ℕ) (cs : List Said) → rises_above i cs ≡ true → AllByRecursion (λ c. nat_lt i (frame_index c) ≡ true) cs
+all_above : (i : ℕ) (cs : List PacketFields) → rises_above i cs ≡ true → AllByRecursion (λ c. nat_lt i (frame_index c) ≡ true) cs
 all_above i [] h = tt
 all_above i (c ∷ cs) h =
     let lt = first (nat_lt i (frame_index c)) (rises_above (frame_index c) cs) h in
     (lt, all_above i cs (rise_below i (frame_index c) cs lt (second (nat_lt i (frame_index c)) (rises_above (frame_index c) cs) h)))
 
-rises-filter : (p : Said → Bool) (i : ℕ) (cs : List Said) → rises_above i cs ≡ true → rises_above i (filter p cs) ≡ true
+rises-filter : (p : PacketFields → Bool) (i : ℕ) (cs : List PacketFields) → rises_above i cs ≡ true → rises_above i (filter p cs) ≡ true
 rises-filter p i [] h = refl
 rises-filter p i (c ∷ cs) h = at (p c) (rises-filter p (frame_index c) cs later) (rises-filter p i cs (rise_below i (frame_index c) cs lt later)) where
   lt : nat_lt i (frame_index c) ≡ true
@@ -96,48 +96,48 @@ rises-filter p i (c ∷ cs) h = at (p c) (rises-filter p (frame_index c) cs late
   at true above below = rw lt above
   at false above below = below
 
-rising-filter : (p : Said → Bool) (cs : List Said) → is_rising cs ≡ true → is_rising (filter p cs) ≡ true
+rising-filter : (p : PacketFields → Bool) (cs : List PacketFields) → is_rising cs ≡ true → is_rising (filter p cs) ≡ true
 rising-filter p [] h = refl
 rising-filter p (c ∷ cs) h = at (p c) (rises-filter p (frame_index c) cs h) (rising-filter p cs (rising_rest (frame_index c) cs h)) where
   at : (b : Bool) → rises_above (frame_index c) (filter p cs) ≡ true → is_rising (filter p cs) ≡ true → is_rising (cond b (c ∷ filter p cs) (filter p cs)) ≡ true
   at true above later = above
   at false above later = later
 
-all_taken : (cs : List Said) → is_rising cs ≡ true → rising_end cs ≡ cs
+all_taken : (cs : List PacketFields) → is_rising cs ≡ true → rising_end cs ≡ cs
 all_taken [] h = refl
 all_taken (c ∷ cs) h = ap (λ (b : Bool). cond b (c ∷ cs) (rising_end cs)) h
 
 -- ---- frames under their indices
 
-abbrev own : Said → ℕ × Said
+abbrev own : PacketFields → ℕ × PacketFields
 own c = (frame_index c, c)
 
-abbrev found : ℕ → List Said → Option Said
+abbrev found : ℕ → List PacketFields → Option PacketFields
 found q cs = fin.find nat_cmp q (map own cs)
 
 below_is : (i k : ℕ) → nat_lt i k ≡ true → is_lt (nat_cmp i k) ≡ true
 below_is i k h = grind arith
 
-all_below : (i : ℕ) (cs : List Said) → rises_above i cs ≡ true → below_all nat_cmp i (map own cs) ≡ true
+all_below : (i : ℕ) (cs : List PacketFields) → rises_above i cs ≡ true → below_all nat_cmp i (map own cs) ≡ true
 all_below i [] h = refl
 all_below i (c ∷ cs) h =
     let lt = first (nat_lt i (frame_index c)) (rises_above (frame_index c) cs) h in
     rw (below_is i (frame_index c) lt) (all_below i cs (rise_below i (frame_index c) cs lt (second (nat_lt i (frame_index c)) (rises_above (frame_index c) cs) h)))
 
-sorted_if_rising : (cs : List Said) → is_rising cs ≡ true → T (is_sorted nat_cmp (map own cs))
+sorted_if_rising : (cs : List PacketFields) → is_rising cs ≡ true → T (is_sorted nat_cmp (map own cs))
 sorted_if_rising [] h = tt
 sorted_if_rising (c ∷ cs) h = rw (all_below (frame_index c) cs h) (sorted_if_rising cs (rising_rest (frame_index c) cs h))
 
-own_back : (cs : List Said) → map (λ (e : ℕ × Said). e.1) (map own cs) ≡ cs
+own_back : (cs : List PacketFields) → map (λ (e : ℕ × PacketFields). e.1) (map own cs) ≡ cs
 own_back [] = refl
-own_back (c ∷ cs) = ap (λ (ds : List Said). c ∷ ds) (own_back cs)
+own_back (c ∷ cs) = ap (λ (ds : List PacketFields). c ∷ ds) (own_back cs)
 
-none_found : (q : ℕ) (cs : List Said) → has q (map frame_index cs) ≡ false → found q cs ≡ None
+none_found : (q : ℕ) (cs : List PacketFields) → has q (map frame_index cs) ≡ false → found q cs ≡ None
 none_found q [] h = refl
 none_found q (c ∷ cs) h = let both = neither (nat_eq q (frame_index c)) (has q (map frame_index cs)) h in rw (is_at q (frame_index c), both.0) (none_found q cs both.1)
 
 -- a frame of a list is the one that is found under its index
-abbrev IsFound : List Said → Said → Type 0
+abbrev IsFound : List PacketFields → PacketFields → Type 0
 IsFound cs c = found (frame_index c) cs ≡ Some c
 
 itself : (i : ℕ) → nat_eq i i ≡ true
@@ -146,21 +146,21 @@ itself i = grind arith
 apart : (i j : ℕ) → nat_lt i j ≡ true → nat_eq j i ≡ false
 apart i j h = grind arith
 
-all_found : (cs : List Said) → is_rising cs ≡ true → AllByRecursion (IsFound cs) cs
+all_found : (cs : List PacketFields) → is_rising cs ≡ true → AllByRecursion (IsFound cs) cs
 all_found [] h = tt
 all_found (c ∷ cs) h = (here, both cs (all_above (frame_index c) cs h) (all_found cs (rising_rest (frame_index c) cs h))) where
   here : IsFound (c ∷ cs) c
   here = rw (is_at (frame_index c) (frame_index c), itself (frame_index c)) refl
 
-  later : (d : Said) → nat_lt (frame_index c) (frame_index d) ≡ true → IsFound cs d → IsFound (c ∷ cs) d
+  later : (d : PacketFields) → nat_lt (frame_index c) (frame_index d) ≡ true → IsFound cs d → IsFound (c ∷ cs) d
   later d lt is = rw (is_at (frame_index d) (frame_index c), apart (frame_index c) (frame_index d) lt) is
 
-  both : (ds : List Said) → AllByRecursion (λ d. nat_lt (frame_index c) (frame_index d) ≡ true) ds → AllByRecursion (IsFound cs) ds → AllByRecursion (IsFound (c ∷ cs)) ds
+  both : (ds : List PacketFields) → AllByRecursion (λ d. nat_lt (frame_index c) (frame_index d) ≡ true) ds → AllByRecursion (IsFound cs) ds → AllByRecursion (IsFound (c ∷ cs)) ds
   both [] lt is = tt
   both (d ∷ ds) lt is = (later d lt.0 is.0, both ds lt.1 is.1)
 
 -- some of a list's frames give what the list gives, under their own indices
-found_among : (q : ℕ) (cs xs : List Said) → AllByRecursion (IsFound cs) xs → has q (map frame_index xs) ≡ true → found q xs ≡ found q cs
+found_among : (q : ℕ) (cs xs : List PacketFields) → AllByRecursion (IsFound cs) xs → has q (map frame_index xs) ≡ true → found q xs ≡ found q cs
 found_among q cs [] all h = cc
 found_among q cs (x ∷ xs) all h = rw (is_at q (frame_index x)) (at (nat_eq q (frame_index x)) refl h (λ k. found_among q cs xs all.1 k)) where
   equal : nat_eq q (frame_index x) ≡ true → frame_index x ≡ q
@@ -173,7 +173,7 @@ found_among q cs (x ∷ xs) all h = rw (is_at q (frame_index x)) (at (nat_eq q (
 -- ---- the frames whose indices are in a list
 
 module _ (is : List ℕ) where
-  abbrev chosen : List Said → List Said
+  abbrev chosen : List PacketFields → List PacketFields
   chosen cs = filter (λ c. has (frame_index c) is) cs
 
   -- an index that is in the list, and one that isn't
@@ -186,14 +186,14 @@ module _ (is : List ℕ) where
     at true e = absurd (unlike (ap (λ (j : ℕ). has j is) (equal e)))
     at false e = refl
 
-  found_chosen : (q : ℕ) (cs : List Said) → has q is ≡ true → found q (chosen cs) ≡ found q cs
+  found_chosen : (q : ℕ) (cs : List PacketFields) → has q is ≡ true → found q (chosen cs) ≡ found q cs
   found_chosen q [] h = refl
   found_chosen q (c ∷ cs) h = at (has (frame_index c) is) refl (found_chosen q cs h) where
     at : (b : Bool) → has (frame_index c) is ≡ b → found q (chosen cs) ≡ found q cs → found q (cond b (c ∷ chosen cs) (chosen cs)) ≡ found q (c ∷ cs)
-    at true e later = ap (λ (o : Option Said). cond (eq_by_cmp nat_cmp q (frame_index c)) (Some c) o) later
+    at true e later = ap (λ (o : Option PacketFields). cond (eq_by_cmp nat_cmp q (frame_index c)) (Some c) o) later
     at false e later = rw (is_at q (frame_index c), differ q (frame_index c) (λ same. cc)) later
 
-  none_chosen : (q : ℕ) (cs : List Said) → has q is ≡ false → found q (chosen cs) ≡ None
+  none_chosen : (q : ℕ) (cs : List PacketFields) → has q is ≡ false → found q (chosen cs) ≡ None
   none_chosen q [] h = refl
   none_chosen q (c ∷ cs) h = at (has (frame_index c) is) refl (none_chosen q cs h) where
     at : (b : Bool) → has (frame_index c) is ≡ b → found q (chosen cs) ≡ None → found q (cond b (c ∷ chosen cs) (chosen cs)) ≡ None
@@ -202,8 +202,8 @@ module _ (is : List ℕ) where
 
 -- ---- frames of a view, as they say
 
-abbrev said : List (ℕ × Frame) → List (ℕ × Said)
-said es = map (λ e. (e.0, contents_of e.1)) es
+abbrev said : List (ℕ × Frame) → List (ℕ × PacketFields)
+said es = map (λ e. (e.0, fields_of e.1)) es
 
 below_said : (k : ℕ) (es : List (ℕ × Frame)) → below_all nat_cmp k (said es) ≡ below_all nat_cmp k es
 below_said k [] = refl
@@ -213,43 +213,43 @@ sorted_said : (es : List (ℕ × Frame)) → is_sorted nat_cmp (said es) ≡ is_
 sorted_said [] = refl
 sorted_said (e ∷ es) = rw (below_said e.0 es, sorted_said es) refl
 
-map_cond : (b : Bool) (f : Frame) (o : Option Frame) → cond b (Some (contents_of f)) (option_map contents_of o) ≡ option_map contents_of (cond b (Some f) o)
+map_cond : (b : Bool) (f : Frame) (o : Option Frame) → cond b (Some (fields_of f)) (option_map fields_of o) ≡ option_map fields_of (cond b (Some f) o)
 map_cond true f o = refl
 map_cond false f o = refl
 
-find_said : (q : ℕ) (es : List (ℕ × Frame)) → fin.find nat_cmp q (said es) ≡ option_map contents_of (fin.find nat_cmp q es)
+find_said : (q : ℕ) (es : List (ℕ × Frame)) → fin.find nat_cmp q (said es) ≡ option_map fields_of (fin.find nat_cmp q es)
 find_said q [] = refl
-find_said q (e ∷ es) = ap (λ (o : Option Said). cond (eq_by_cmp nat_cmp q e.0) (Some (contents_of e.1)) o) (find_said q es) ∙ map_cond (eq_by_cmp nat_cmp q e.0) e.1 (fin.find nat_cmp q es)
+find_said q (e ∷ es) = ap (λ (o : Option PacketFields). cond (eq_by_cmp nat_cmp q e.0) (Some (fields_of e.1)) o) (find_said q es) ∙ map_cond (eq_by_cmp nat_cmp q e.0) e.1 (fin.find nat_cmp q es)
 
-said_own : (fs : List Frame) → said (map (λ f. (index_of f, f)) fs) ≡ map own (map contents_of fs)
+said_own : (fs : List Frame) → said (map (λ f. (index_of f, f)) fs) ≡ map own (map fields_of fs)
 said_own [] = refl
-said_own (f ∷ fs) = ap (λ es. own (contents_of f) ∷ es) (said_own fs)
+said_own (f ∷ fs) = ap (λ es. own (fields_of f) ∷ es) (said_own fs)
 
-said_values : (es : List (ℕ × Frame)) → map (λ (e : ℕ × Said). e.1) (said es) ≡ map contents_of (map (λ (e : ℕ × Frame). e.1) es)
+said_values : (es : List (ℕ × Frame)) → map (λ (e : ℕ × PacketFields). e.1) (said es) ≡ map fields_of (map (λ (e : ℕ × Frame). e.1) es)
 said_values [] = refl
-said_values (e ∷ es) = ap (λ (cs : List Said). contents_of e.1 ∷ cs) (said_values es)
+said_values (e ∷ es) = ap (λ (cs : List PacketFields). fields_of e.1 ∷ cs) (said_values es)
 
 -- under an index stands what is first there
-find_held : (q : ℕ) (fs : List Frame) → fin.find nat_cmp q (said (fin.entries (frames_by_index fs))) ≡ found q (map contents_of fs)
+find_held : (q : ℕ) (fs : List Frame) → fin.find nat_cmp q (said (fin.entries (frames_by_index fs))) ≡ found q (map fields_of fs)
 find_held q fs =
     find_said q (fin.entries (frames_by_index fs))
-    ∙ (ap (option_map contents_of) (sym (fin.get-entries (frames_by_index fs) q) ∙ fin.get-from_entries nat_cmp_total (map (λ f. (index_of f, f)) fs) q)
+    ∙ (ap (option_map fields_of) (sym (fin.get-entries (frames_by_index fs) q) ∙ fin.get-from_entries nat_cmp_total (map (λ f. (index_of f, f)) fs) q)
     ∙ (sym (find_said q (map (λ f. (index_of f, f)) fs)) ∙ ap (fin.find nat_cmp q) (said_own fs)))
 
 -- frames that say some of a list's, each of them itself, are those of the list whose indices they have
-chosen_frames : (cs : List Said) (fs : List Frame) → is_rising cs ≡ true → AllByRecursion (IsFound cs) (map contents_of fs)
-    → map contents_of (map (λ (e : ℕ × Frame). e.1) (fin.entries (frames_by_index fs))) ≡ chosen (map frame_index (map contents_of fs)) cs
-chosen_frames cs fs rising all = sym (said_values es) ∙ (ap (map (λ (e : ℕ × Said). e.1)) alike ∙ own_back (chosen is cs))
+chosen_frames : (cs : List PacketFields) (fs : List Frame) → is_rising cs ≡ true → AllByRecursion (IsFound cs) (map fields_of fs)
+    → map fields_of (map (λ (e : ℕ × Frame). e.1) (fin.entries (frames_by_index fs))) ≡ chosen (map frame_index (map fields_of fs)) cs
+chosen_frames cs fs rising all = sym (said_values es) ∙ (ap (map (λ (e : ℕ × PacketFields). e.1)) alike ∙ own_back (chosen is cs))
   where
     es : List (ℕ × Frame)
     es = fin.entries (frames_by_index fs)
 
     is : List ℕ
-    is = map frame_index (map contents_of fs)
+    is = map frame_index (map fields_of fs)
 
     at : (q : ℕ) (b : Bool) → has q is ≡ b → fin.find nat_cmp q (said es) ≡ found q (chosen is cs)
-    at q true h = find_held q fs ∙ (found_among q cs (map contents_of fs) all h ∙ sym (found_chosen is q cs h))
-    at q false h = find_held q fs ∙ (none_found q (map contents_of fs) h ∙ sym (none_chosen is q cs h))
+    at q true h = find_held q fs ∙ (found_among q cs (map fields_of fs) all h ∙ sym (found_chosen is q cs h))
+    at q false h = find_held q fs ∙ (none_found q (map fields_of fs) h ∙ sym (none_chosen is q cs h))
 
     alike : said es ≡ map own (chosen is cs)
     alike =
@@ -258,17 +258,17 @@ chosen_frames cs fs rising all = sym (said_values es) ∙ (ap (map (λ (e : ℕ 
 
 -- ---- a view that took frames
 
-taken_kept : (v : View) (cs : List Said) → is_rising cs ≡ true → Took cs v → contents_in v ≡ kept_frames v.max_recent v.max_slow cs
+taken_kept : (v : View) (cs : List PacketFields) → is_rising cs ≡ true → Took cs v → fields_in v ≡ kept_frames v.max_recent v.max_slow cs
 taken_kept v cs rising took =
     let all = all_taken cs rising in
-    let recent : map contents_of v.recent ≡ last_of v.max_recent cs = took.holds.recent ∙ ap (last_of v.max_recent) all in
-    let slow : map contents_of v.slow ≡ slowest v.max_slow cs = took.holds.slow ∙ ap (slowest v.max_slow) all in
-    let said : map contents_of (v.recent ++ v.slow) ≡ last_of v.max_recent cs ++ slowest v.max_slow cs =
-    map-append contents_of v.recent v.slow ∙ (ap (λ (ds : List Said). ds ++ map contents_of v.slow) recent ∙ ap (λ (ds : List Said). last_of v.max_recent cs ++ ds) slow) in
+    let recent : map fields_of v.recent ≡ last_of v.max_recent cs = took.holds.recent ∙ ap (last_of v.max_recent) all in
+    let slow : map fields_of v.slow ≡ slowest v.max_slow cs = took.holds.slow ∙ ap (slowest v.max_slow) all in
+    let said : map fields_of (v.recent ++ v.slow) ≡ last_of v.max_recent cs ++ slowest v.max_slow cs =
+    map-append fields_of v.recent v.slow ∙ (ap (λ (ds : List PacketFields). ds ++ map fields_of v.slow) recent ∙ ap (λ (ds : List PacketFields). last_of v.max_recent cs ++ ds) slow) in
     let each = all_found cs rising in
     let these : AllByRecursion (IsFound cs) (last_of v.max_recent cs ++ slowest v.max_slow cs) =
     all_append (IsFound cs) (last_of v.max_recent cs) (slowest v.max_slow cs) (all_drop (IsFound cs) (length cs - v.max_recent) cs each) (all_take (IsFound cs) v.max_slow (in_order is_slower cs) (all_in_order (IsFound cs) is_slower cs each)) in
-    chosen_frames cs (v.recent ++ v.slow) rising (subst (AllByRecursion (IsFound cs)) (sym said) these) ∙ ap (λ (ds : List Said). chosen (map frame_index ds) cs) said
+    chosen_frames cs (v.recent ++ v.slow) rising (subst (AllByRecursion (IsFound cs)) (sym said) these) ∙ ap (λ (ds : List PacketFields). chosen (map frame_index ds) cs) said
 
 -- ---- the limits of a view
 
@@ -294,7 +294,7 @@ same_limits v (f ∷ fs) =
     (later.0 ∙ now.recent, later.1 ∙ now.slow, later.2 ∙ now.packs)
 
 -- what a view with these limits has that took these frames
-pub kept_by : (old : View) (fs : List Frame) (new : View) (max_recent max_slow : ℕ) (cs : List Said) → old.max_recent ≡ max_recent → old.max_slow ≡ max_slow → new ≡ after_all old fs → is_rising cs ≡ true → Took cs new → contents_in new ≡ kept_frames max_recent max_slow cs
+pub kept_by : (old : View) (fs : List Frame) (new : View) (max_recent max_slow : ℕ) (cs : List PacketFields) → old.max_recent ≡ max_recent → old.max_slow ≡ max_slow → new ≡ after_all old fs → is_rising cs ≡ true → Took cs new → fields_in new ≡ kept_frames max_recent max_slow cs
 kept_by old fs new max_recent max_slow cs recent slow taken rising took =
     let same = same_limits old fs in
     let most : new.max_recent ≡ max_recent = ap (λ (v : View). v.max_recent) taken ∙ same.0 ∙ recent in

@@ -17,16 +17,16 @@ use Rattle.puffin_frames.specs.Packet.Grammar.{IsPacked}
 use Rattle.puffin_frames.specs.Packet.Writing.{HasLongPart}
 use Rattle.puffin_threads.specs.Details.{Details, lacks_id, AllHaveIds}
 use Rattle.puffin_threads.specs.Details.Collection.{Collection, with_details, with_all_details, LearnsSome}
-use Rattle.puffin_frames.specs.Packet.Stored.{Said}
+use Rattle.puffin_frames.specs.Packet.Stored.{PacketFields}
 use Rattle.puffin_view.specs.declared.profile_view.frame_view.FrameView.{FrameView}
-use Rattle.puffin_view.specs.View.ViewedFrames.{Frame, contents_of, index_of}
+use Rattle.puffin_view.specs.View.ViewedFrames.{Frame, fields_of, index_of}
 use Rattle.puffin_view.specs.View.FrameOf.{shared_frame, details_of_frame}
 use Rattle.puffin_frames.specs.declared.frame_data.frame.FrameData.{FrameData}
 use Rattle.std.specs.declared.sync.Arc.{Arc}
 use Rattle.std.specs.declared.alloc.Global.{Global}
 use Rattle.puffin_view.specs.View.{View, Took, after_taking, after_all, KeepsFrames}
 use Rattle.puffin_view.specs.View.Known.{view_of, collection_of, lacks_ids}
-use Rattle.puffin_view.specs.View.File.{file_of, contents_held, contents_in}
+use Rattle.puffin_view.specs.View.File.{file_of, fields_held, fields_in}
 use Rattle.puffin_session.specs.declared.command.Command.{Command}
 use Rattle.puffin_replay.specs.declared.replay.script.Script.{Script}
 use Rattle.puffin_session.specs.declared.command.Reply.{Reply}
@@ -36,7 +36,7 @@ use Rattle.puffin_replay.specs.Script.{threads_said}
 use Rattle.puffin_session.specs.Session.Runs.{HasIds, AreReplies, details_told, details_of_reply}
 use Rattle.puffin_report.specs.Summary.{NoneLacksIds}
 use Rattle.puffin_replay.specs.Program.Recording.{frame_in, emitted_by, frames_emitted, Takes, TakesSome, TookAlso, file_of_view, IsBroken}
-use Rattle.puffin_replay.specs.Promise.{EmitsDue, IsNotRun, IsNotTaken, frames_said}
+use Rattle.puffin_replay.specs.Promise.{EmitsDue, IsNotRun, IsNotTaken, emitted_fields}
 use Rattle.puffin_replay.proofs.KeptFrames.{kept_by}
 use Rattle.puffin_replay.specs.Program.ScriptRun.{AreAnswers, loose_view, view_after, IsReplayed, IsUnfinished}
 use Rattle.puffin_replay.specs.Program.ReplyLines.{reply_lines}
@@ -73,7 +73,7 @@ none_lack : (ds : List Details) → AllByRecursion (λ (d : Details). IsSome d.i
 none_lack [] all = refl
 none_lack (d ∷ ds) all = rw (has_id d.id all.0) (none_lack ds all.1)
 
-both_none : (cs ds : List Said) → NoneLacksIds cs → NoneLacksIds ds → NoneLacksIds (cs ++ ds)
+both_none : (cs ds : List PacketFields) → NoneLacksIds cs → NoneLacksIds ds → NoneLacksIds (cs ++ ds)
 both_none cs ds p q = list_any-append lacks_ids cs ds ∙ rw (p, q) refl
 
 all_first : {X : Type 0} (P : X → Type 0) (xs ys : List X) → AllByRecursion P (xs ++ ys) → AllByRecursion P xs
@@ -84,7 +84,7 @@ all_rest : {X : Type 0} (P : X → Type 0) (xs ys : List X) → AllByRecursion P
 all_rest P [] ys all = all
 all_rest P (x ∷ xs) ys all = all_rest P xs ys all.1
 
-frames_lack_none : (fs : List Frame) → AllByRecursion (λ (d : Details). IsSome d.id) (flat_map details_of_frame fs) → NoneLacksIds (map contents_of fs)
+frames_lack_none : (fs : List Frame) → AllByRecursion (λ (d : Details). IsSome d.id) (flat_map details_of_frame fs) → NoneLacksIds (map fields_of fs)
 frames_lack_none [] all = refl
 frames_lack_none (f ∷ fs) all =
     rw (none_lack (details_of_frame f) (all_first (λ d. IsSome d.id) (details_of_frame f) (flat_map details_of_frame fs) all)) (frames_lack_none fs (all_rest (λ d. IsSome d.id) (details_of_frame f) (flat_map details_of_frame fs) all))
@@ -97,18 +97,18 @@ same_details (reply.Frame emitted) = in_frame emitted.frame where
   in_frame (Some f) = sym (append-nil (details_of_frame (shared_frame f)))
 same_details r = refl
 
-replies_lack_none : (rs : List Reply) → AllByRecursion HasIds rs → NoneLacksIds (map contents_of (frames_emitted rs))
+replies_lack_none : (rs : List Reply) → AllByRecursion HasIds rs → NoneLacksIds (map fields_of (frames_emitted rs))
 replies_lack_none [] all = refl
 replies_lack_none (r ∷ rs) all =
     let told = subst AllHaveIds (same_details r) all.0 in
     let one = frames_lack_none (emitted_by r) (recursion_from_All (λ (d : Details). IsSome d.id) (flat_map details_of_frame (emitted_by r)) told) in
-    subst NoneLacksIds (sym (map-append contents_of (emitted_by r) (frames_emitted rs))) (both_none (map contents_of (emitted_by r)) (map contents_of (frames_emitted rs)) one (replies_lack_none rs all.1))
+    subst NoneLacksIds (sym (map-append fields_of (emitted_by r) (frames_emitted rs))) (both_none (map fields_of (emitted_by r)) (map fields_of (frames_emitted rs)) one (replies_lack_none rs all.1))
 
 -- what a view holds after it took the frames of these replies
-pub ids_kept : ((p : Said → Bool) (v : View) (fs : List Frame) → list_any p (contents_held v) ≡ false → list_any p (map contents_of fs) ≡ false → list_any p (contents_held (after_all v fs)) ≡ false)
-    → (rs : List Reply) (old new : FrameView) → All HasIds rs → Takes (frames_emitted rs) old new → NoneLacksIds (contents_held (view_of old)) → NoneLacksIds (contents_held (view_of new))
+pub ids_kept : ((p : PacketFields → Bool) (v : View) (fs : List Frame) → list_any p (fields_held v) ≡ false → list_any p (map fields_of fs) ≡ false → list_any p (fields_held (after_all v fs)) ≡ false)
+    → (rs : List Reply) (old new : FrameView) → All HasIds rs → Takes (frames_emitted rs) old new → NoneLacksIds (fields_held (view_of old)) → NoneLacksIds (fields_held (view_of new))
 ids_kept held rs old new ids takes before =
-    subst (λ (v : View). NoneLacksIds (contents_held v)) (sym takes.taken) (held lacks_ids (view_of old) (frames_emitted rs) before (replies_lack_none rs (recursion_from_All HasIds rs ids)))
+    subst (λ (v : View). NoneLacksIds (fields_held v)) (sym takes.taken) (held lacks_ids (view_of old) (frames_emitted rs) before (replies_lack_none rs (recursion_from_All HasIds rs ids)))
 
 abbrev pub TakesAll : List Frame → FrameView → FrameView → Type 0
 TakesAll fs old new = Takes fs old new × TookAlso fs (view_of old) (view_of new)
@@ -152,10 +152,10 @@ module _ (rs : List Reply) (i : ℕ) (r : Reply) (h : i < length rs) (is : r ≡
     Took-more : (old now new : View) → TookAlso (frames_emitted (take i rs)) old now → TookAlso (f ∷ []) now new → TookAlso (frames_emitted (take (i + 1) rs)) old new
     Took-more old now new before step cs took =
         let fs = frames_emitted (take i rs) in
-        let joined : cs ++ map contents_of (frames_emitted (take (i + 1) rs)) ≡ (cs ++ map contents_of fs) ++ (contents_of f ∷ []) =
-        ap (λ (gs : List Frame). cs ++ map contents_of gs) one_more ∙ ap (λ (ds : List Said). cs ++ ds) (map-append contents_of fs (f ∷ []))
-        ∙ sym (append_assoc cs (map contents_of fs) (contents_of f ∷ [])) in
-        subst (λ (ds : List Said). Took ds new) (sym joined) (step (cs ++ map contents_of fs) (before cs took))
+        let joined : cs ++ map fields_of (frames_emitted (take (i + 1) rs)) ≡ (cs ++ map fields_of fs) ++ (fields_of f ∷ []) =
+        ap (λ (gs : List Frame). cs ++ map fields_of gs) one_more ∙ ap (λ (ds : List PacketFields). cs ++ ds) (map-append fields_of fs (f ∷ []))
+        ∙ sym (append_assoc cs (map fields_of fs) (fields_of f ∷ [])) in
+        subst (λ (ds : List PacketFields). Took ds new) (sym joined) (step (cs ++ map fields_of fs) (before cs took))
 
     pub TakesAll-more : (old now new : FrameView) → TakesAll (frames_emitted (take i rs)) old now → view_of new ≡ after_taking (view_of now) f → collection_of new ≡ with_all_details (collection_of now) (details_of_frame f)
         → TookAlso (f ∷ []) (view_of now) (view_of new) → TakesAll (frames_emitted (take (i + 1) rs)) old new
@@ -169,7 +169,7 @@ module _ (rs : List Reply) (i : ℕ) (r : Reply) (h : i < length rs) (is : r ≡
     have_ids : HasIds r → AllHaveIds (details_of_frame f)
     have_ids ids = subst AllHaveIds (same_details r ∙ ap (flat_map details_of_frame) some ∙ append-nil (details_of_frame f)) ids
 
-    pub refused_for_memory : {T : Type 0} (answer : Result T Error) (e : Error) → All HasIds rs → answer ≡ Err e → ((answer ≡ Err MissingId) ↔ (lacks_ids (contents_of f) ≡ true)) → (e ≡ MissingId) ⊎ (e ≡ Memory) → e ≡ Memory
+    pub refused_for_memory : {T : Type 0} (answer : Result T Error) (e : Error) → All HasIds rs → answer ≡ Err e → ((answer ≡ Err MissingId) ↔ (lacks_ids (fields_of f) ≡ true)) → (e ≡ MissingId) ⊎ (e ≡ Memory) → e ≡ Memory
     refused_for_memory answer e ids was missing cause = memory_alone answer e (details_of_frame f) (have_ids (subst HasIds (sym is) (All-get_or HasIds rs i r h ids))) was missing cause
 
     pub TakesSome-refused : (old now new : FrameView) → Takes (frames_emitted (take i rs)) old now → KeepsFrames (view_of now) (index_of f) (view_of new)
@@ -207,7 +207,7 @@ module _ (script : Script) (names : List (List ℕ × Form)) (commands : List Co
     view-after replies takes = takes.taken ∙ ap (λ (v : View). after_all v (frames_emitted replies)) empty
 
     -- the file wasn't written whole
-    pub unfinished : (fault : FileError) (file_before file_after lines : Option (List ℕ)) → (end : SessionState) × IsBroken (new_session names) end commands old new file_before file_after fault → (fault ≡ file.PartTooLong → Any HasLongPart (contents_in (view_of new)))
+    pub unfinished : (fault : FileError) (file_before file_after lines : Option (List ℕ)) → (end : SessionState) × IsBroken (new_session names) end commands old new file_before file_after fault → (fault ≡ file.PartTooLong → Any HasLongPart (fields_in (view_of new)))
         → IsUnfinished script fault file_before file_after lines lines
     unfinished fault file_before file_after lines (end, inl none) long = inl (none.0, none.3, nothing_written lines)
     unfinished fault file_before file_after lines (end, inr (inl some)) long = inl (some.3, some.4, nothing_written lines)
@@ -217,19 +217,19 @@ module _ (script : Script) (names : List (List ℕ × Form)) (commands : List Co
           all.0,
           end,
           answers all.0 end all.1,
-          subst (λ (v : View). WritesBeginning file_before file_after (file_of (contents_in v))) same all.3,
+          subst (λ (v : View). WritesBeginning file_before file_after (file_of (fields_in v))) same all.3,
           nothing_written lines,
           all.4,
-          λ e. subst (λ (v : View). Any HasLongPart (contents_in v)) same (long e),
+          λ e. subst (λ (v : View). Any HasLongPart (fields_in v)) same (long e),
         ))
 
     -- the file was written
-    module _ (replies : List Reply) (run : (end : SessionState) × EmitsDue (new_session names) end commands replies) (takes : Takes (frames_emitted replies) old new) (file_before file_after : Option (List ℕ)) (written : Appends file_before file_after (file_of_view new)) (ids : NoneLacksIds (contents_in (view_of new))) where
-      written-after : Appends file_before file_after (file_of (contents_in (view_after replies)))
-      written-after = subst (λ (v : View). Appends file_before file_after (file_of (contents_in v))) (view-after replies takes) written
+    module _ (replies : List Reply) (run : (end : SessionState) × EmitsDue (new_session names) end commands replies) (takes : Takes (frames_emitted replies) old new) (file_before file_after : Option (List ℕ)) (written : Appends file_before file_after (file_of_view new)) (ids : NoneLacksIds (fields_in (view_of new))) where
+      written-after : Appends file_before file_after (file_of (fields_in (view_after replies)))
+      written-after = subst (λ (v : View). Appends file_before file_after (file_of (fields_in v))) (view-after replies takes) written
 
-      ids-after : NoneLacksIds (contents_in (view_after replies))
-      ids-after = subst (λ (v : View). NoneLacksIds (contents_in v)) (view-after replies takes) ids
+      ids-after : NoneLacksIds (fields_in (view_after replies))
+      ids-after = subst (λ (v : View). NoneLacksIds (fields_in v)) (view-after replies takes) ids
 
       -- and a beginning of the lines
       pub cut_lines : (fault : FileError) (bytes : List ℕ) (lines_before lines_after : Option (List ℕ)) → bytes ≡ reply_lines script.lines.items replies → WritesBeginning lines_before lines_after bytes → IsOutside fault
@@ -242,19 +242,19 @@ module _ (script : Script) (names : List (List ℕ × Form)) (commands : List Co
       no_lines fault lines memory = cut_lines fault (reply_lines script.lines.items replies) lines lines refl ([], reply_lines script.lines.items replies, refl, nothing_written lines) (inr memory)
 
       -- and the lines
-      pub replayed : (bytes : List ℕ) (lines_before lines_after : Option (List ℕ)) → TookAlso (frames_emitted replies) (view_of old) (view_of new) → Took [] (view_of old) → bytes ≡ reply_lines script.lines.items replies → AllByRecursion IsPacked (contents_in (view_of new)) → Appends lines_before lines_after bytes
+      pub replayed : (bytes : List ℕ) (lines_before lines_after : Option (List ℕ)) → TookAlso (frames_emitted replies) (view_of old) (view_of new) → Took [] (view_of old) → bytes ≡ reply_lines script.lines.items replies → AllByRecursion IsPacked (fields_in (view_of new)) → Appends lines_before lines_after bytes
           → IsReplayed script file_before file_after lines_before lines_after
       replayed bytes lines_before lines_after took none same packed printed = record {
         replies = replies;
         end = run.0;
         emits = subst (λ (ns : List (List ℕ × Form)). EmitsDue (new_session ns) run.0 script.commands.items replies) same_names (subst (λ (cs : List Command). EmitsDue (new_session names) run.0 cs replies) same_commands run.1);
-        kept = kept_by loose_view (frames_emitted replies) (view_after replies) 1000 256 (frames_said replies) refl refl refl run.1.rising took-after;
+        kept = kept_by loose_view (frames_emitted replies) (view_after replies) 1000 256 (emitted_fields replies) refl refl refl run.1.rising took-after;
         took = took-after;
         written = written-after;
-        packed = subst (λ (v : View). AllByRecursion IsPacked (contents_in v)) (view-after replies takes) packed;
+        packed = subst (λ (v : View). AllByRecursion IsPacked (fields_in v)) (view-after replies takes) packed;
         ids = ids-after;
         told = subst (λ (bs : List ℕ). Appends lines_before lines_after bs) same printed;
       }
         where
-          took-after : Took (frames_said replies) (view_after replies)
-          took-after = subst (λ (v : View). Took (frames_said replies) v) (view-after replies takes) (took [] none)
+          took-after : Took (emitted_fields replies) (view_after replies)
+          took-after = subst (λ (v : View). Took (emitted_fields replies) v) (view-after replies takes) (took [] none)

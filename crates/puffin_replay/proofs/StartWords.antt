@@ -7,7 +7,7 @@ use Rattle.std.specs.Str.{all_ascii_digits}
 use Rattle.std.specs.Str.Parse.{ParsesSigned, digits_value}
 use Rattle.std.proofs.lemmas.Str.Parse.{parse_signed_minus, parse_signed_plain}
 use Rattle.std.proofs.lemmas.Bool.Decides.{nat_tests}
-use Rattle.puffin_threads.specs.Thread.Info.{Info}
+use Rattle.puffin_threads.specs.Thread.ThreadKey.{ThreadKey}
 use Rattle.puffin_replay.specs.Script.Statements.{number_of, moment_in}
 use Rattle.puffin_replay.specs.Program.Arguments.{signed_moment_in, is_colon, start_in, thread_of_word}
 use Rattle.puffin_replay.proofs.Statements.{own, number_given, number_refused}
@@ -52,7 +52,7 @@ no_colon (b ∷ bs) h =
       | false ↦ λ e. no_colon bs (omega arith)
     ] h
 
-abbrev named : List ℕ → Option ℤ → Info
+abbrev named : List ℕ → Option ℤ → ThreadKey
 named name start = record { start = start; name = name }
 
 -- a word without a colon names no thread

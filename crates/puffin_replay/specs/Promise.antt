@@ -6,7 +6,7 @@ use Rattle.puffin_data.specs.declared.data.form.Form.{Form}
 use Rattle.puffin_data.specs.declared.error.Error.TheVariants.{MissingId}
 use Rattle.puffin_data.specs.declared.file_error.FileError.{FileError}
 use Rattle.puffin_data.specs.declared.file_error.FileError.TheVariants as file
-use Rattle.puffin_frames.specs.Packet.Stored.{Said, packed}
+use Rattle.puffin_frames.specs.Packet.Stored.{PacketFields, packed}
 use Rattle.puffin_frames.specs.Packet.Writing.{HasLongPart}
 use Rattle.puffin_frames.specs.Frame.Sums.{meta_of}
 use Rattle.puffin_frames.specs.Frame.Streams.{Streams}
@@ -16,9 +16,9 @@ use Rattle.puffin_threads.specs.Details.Collection.{no_details, with_all_details
 use Rattle.puffin_view.specs.declared.profile_view.frame_view.FrameView.{FrameView}
 use Rattle.puffin_view.specs.View.{last_index, after_all}
 use Rattle.puffin_view.specs.View.Known.{view_of, collection_of, lacks_ids}
-use Rattle.puffin_view.specs.View.File.{contents_held, contents_in, frame_stored, read_view}
+use Rattle.puffin_view.specs.View.File.{fields_held, fields_in, frame_stored, read_view}
 use Rattle.puffin_view.specs.View.Ranking.{last_of, has}
-use Rattle.puffin_view.specs.View.ViewedFrames.{contents_of, frame_index, slowest, is_rising}
+use Rattle.puffin_view.specs.View.ViewedFrames.{fields_of, frame_index, slowest, is_rising}
 use Rattle.puffin_session.specs.declared.command.Command.{Command}
 use Rattle.puffin_session.specs.declared.command.Reply.{Reply}
 use Rattle.puffin_session.specs.Session.History.{Opening, Action, frames}
@@ -43,7 +43,7 @@ before_frames done (a ∷ later) =
     (if is_emitted a then done ∷ [] else []) ++ before_frames (done ++ (a ∷ [])) later
 
 -- What a frame says that was emitted after these actions. It has a stream exactly under those starts and names of threads under which scopes were reported since the frame before, and each spells exactly these scopes, in order, with their true count, depth and range. Its meta is that of all of them, with the next index, and it lists the scope details that were due.
-pub record SaysDue (o : Opening) (done : List Action) (frame : Said) : Type 0 where
+pub record SaysDue (o : Opening) (done : List Action) (frame : PacketFields) : Type 0 where
   pub streams : Streams
   pub unpacked : streams_in (
       record { form = frame.form; kind = frame.kind; bytes = frame.streams }) ≡ Some streams
@@ -53,11 +53,11 @@ pub record SaysDue (o : Opening) (done : List Action) (frame : Said) : Type 0 wh
       ≡ delta_of (known_after o done) (due_details o done) (is_wanted o done)
 
 -- what the emitted frames say, in order
-abbrev pub frames_said : List Reply → List Said
-frames_said replies = map contents_of (frames_emitted replies)
+abbrev pub emitted_fields : List Reply → List PacketFields
+emitted_fields replies = map fields_of (frames_emitted replies)
 
 -- the last n frames of a list with rising indices, and its k slowest: each once, in the list's order
-abbrev pub kept_frames : ℕ → ℕ → List Said → List Said
+abbrev pub kept_frames : ℕ → ℕ → List PacketFields → List PacketFields
 kept_frames n k cs =
     filter (λ c. has (frame_index c) (map frame_index (last_of n cs ++ slowest k cs))) cs
 
@@ -70,15 +70,15 @@ pub record EmitsDue (start end : SessionState) (commands : List Command) (replie
   pub run : Records start end commands replies
   -- each action that emitted a frame has its own frame, in order, which says what was due by the session's state before and by what was done since then
   pub due : AllZip (SaysDue (opening_of start))
-      (before_frames [] (actions_of commands replies run.learnt)) (frames_said replies)
-  pub rising : is_rising (frames_said replies) ≡ true
+      (before_frames [] (actions_of commands replies run.learnt)) (emitted_fields replies)
+  pub rising : is_rising (emitted_fields replies) ≡ true
 
 -- ---- what is read
 
 -- A view read from the file of these frames has exactly them, with the limits of a view that is read, and knows exactly the details that they list.
-pub record IsReadOf (cs : List Said) (read : FrameView) : Type 0 where
-  pub recent : map contents_of (view_of read).recent ≡ cs
-  pub slow : map contents_of (view_of read).slow ≡ slowest 256 cs
+pub record IsReadOf (cs : List PacketFields) (read : FrameView) : Type 0 where
+  pub recent : map fields_of (view_of read).recent ≡ cs
+  pub slow : map fields_of (view_of read).slow ≡ slowest 256 cs
   pub last : (view_of read).last ≡ last_index cs
   pub max_recent : (view_of read).max_recent ≡ 2 ^ 64 - 1
   pub max_slow : (view_of read).max_slow ≡ 256
@@ -86,7 +86,7 @@ pub record IsReadOf (cs : List Said) (read : FrameView) : Type 0 where
   -- all of it at once, and how each frame is held: a view that is read took each frame from its packet
   pub frames : view_of read ≡ after_all read_view (map frame_stored (map packed cs))
   pub known : collection_of read
-      ≡ with_all_details no_details (flat_map (λ (c : Said). c.details) cs)
+      ≡ with_all_details no_details (flat_map (λ (c : PacketFields). c.details) cs)
 
 -- ---- the promise
 
@@ -97,14 +97,14 @@ pub record KeepsRun (start end : SessionState) (commands : List Command) (old ne
   pub taken : Takes (frames_emitted replies) old new
   pub took : TookAlso (frames_emitted replies) (view_of old) (view_of new)
   -- exactly the frames of the view are read
-  pub again : IsReadOf (contents_in (view_of new)) read
+  pub again : IsReadOf (fields_in (view_of new)) read
 
 -- The same for a new session of threads with these names and forms, and a new view with these limits: exactly the last and the slowest of the emitted frames are read.
 pub record KeepsPromise (threads : List (List ℕ × Form)) (commands : List Command)
     (max_recent max_slow : ℕ) (replies : List Reply) (read : FrameView) : Type 0 where
   pub end : SessionState
   pub emits : EmitsDue (new_session threads) end commands replies
-  pub again : IsReadOf (kept_frames max_recent max_slow (frames_said replies)) read
+  pub again : IsReadOf (kept_frames max_recent max_slow (emitted_fields replies)) read
 
 -- ---- why nothing is read
 
@@ -112,9 +112,9 @@ pub record KeepsPromise (threads : List (List ℕ × Form)) (commands : List Com
 abbrev pub IsFileFault : FrameView → FrameView → FileError → Type 0
 IsFileFault old new fault =
     (fault ≡ file.Memory)
-    ⊎ ((fault ≡ file.PartTooLong) × Any HasLongPart (contents_in (view_of new)))
+    ⊎ ((fault ≡ file.PartTooLong) × Any HasLongPart (fields_in (view_of new)))
     ⊎ ((fault ≡ file.Refused MissingId)
-    × (list_any lacks_ids (contents_held (view_of old)) ≡ true))
+    × (list_any lacks_ids (fields_held (view_of old)) ≡ true))
 
 -- A session went from start to end, and a view from old to new. `told` are the replies of the run that was made.
 module _ (start end : SessionState) (commands : List Command) (old new : FrameView) where
@@ -151,4 +151,4 @@ IsTooLong threads commands max_recent max_slow told =
     × (told ≡ Some replies)
     × (end : SessionState)
     × EmitsDue (new_session threads) end commands replies
-    × Any HasLongPart (kept_frames max_recent max_slow (frames_said replies))
+    × Any HasLongPart (kept_frames max_recent max_slow (emitted_fields replies))

@@ -4,7 +4,7 @@ use Rattle.std.specs.Io.KnownBytes.{Appends}
 use Rattle.puffin_data.specs.declared.file_error.FileError.{FileError}
 use Rattle.puffin_data.specs.declared.file_error.FileError.TheVariants.{Io}
 use Rattle.puffin_data.specs.Device.{WritesBeginning}
-use Rattle.puffin_threads.specs.Thread.Info.{Info}
+use Rattle.puffin_threads.specs.Thread.ThreadKey.{ThreadKey}
 use Rattle.puffin_frames.specs.Packet.Stored.{Stored}
 use Rattle.puffin_view.specs.View.File.{file_at, TookFrames}
 use Rattle.puffin_report.specs.declared.summary.Summary.{Summary}
@@ -12,13 +12,13 @@ use Rattle.puffin_report.specs.Summary.{IsSummary, FailsToSumUp}
 use Rattle.puffin_report.specs.ReportLines.{report_lines}
 
 -- A reader went from unread to left: the file that was read has this summary under an info.
-pub record HasSummary (info : Info) (unread left : Option (List ℕ)) (summary : Summary) :
+pub record HasSummary (info : ThreadKey) (unread left : Option (List ℕ)) (summary : Summary) :
     Type 0 where
   pub stored : List Stored
   pub took : TookFrames file_at unread left stored
   pub sums : IsSummary info stored summary
 
-module _ (info : Info) (unread left before after : Option (List ℕ)) where
+module _ (info : ThreadKey) (unread left before after : Option (List ℕ)) where
   -- the lines of the file's summary were written
   abbrev pub IsReported : Type 0
   IsReported =

@@ -7,13 +7,13 @@ use Rattle.puffin_data.specs.declared.error.Error.{Error}
 use Rattle.puffin_data.specs.declared.error.Error.TheVariants.{Memory}
 use Rattle.puffin_data.specs.declared.file_error.FileError.{FileError}
 use Rattle.puffin_data.specs.declared.file_error.FileError.TheVariants.{Refused}
-use Rattle.puffin_threads.specs.Thread.Info.{Info}
+use Rattle.puffin_threads.specs.Thread.ThreadKey.{ThreadKey}
 use Rattle.puffin_frames.specs.Frame.Streams.{Streams}
 use Rattle.puffin_threads.specs.Details.{Details}
 use Rattle.puffin_threads.specs.Details.Collection.{no_details, with_all_details}
 use Rattle.puffin_frames.specs.Frame.Holding.{unpacking}
-use Rattle.puffin_frames.specs.Packet.Stored.{Said, Stored}
-use Rattle.puffin_view.specs.View.File.{contents_in, frame_stored, details_stored, file_at, read_view, TookFrames, FailsToRead}
+use Rattle.puffin_frames.specs.Packet.Stored.{PacketFields, Stored}
+use Rattle.puffin_view.specs.View.File.{fields_in, frame_stored, details_stored, file_at, read_view, TookFrames, FailsToRead}
 use Rattle.puffin_merge.specs.Merge.FrameBytes.{FrameBytes}
 use Rattle.puffin_merge.specs.Merge.Refusals.{IsMergeRefusal, AreMerged}
 use Rattle.puffin_merge.specs.Merge.Scopes.{stream_in, forest_in}
@@ -22,7 +22,7 @@ use Rattle.puffin_view.specs.View.{after_all}
 use Rattle.puffin_report.specs.declared.summary.Summary.{Summary}
 
 -- what merging reads of a frame with these streams: the start of its range, and the bytes under an info
-abbrev pub bytes_under : Info → Said → Result Streams FileError → Result FrameBytes FileError
+abbrev pub bytes_under : ThreadKey → PacketFields → Result Streams FileError → Result FrameBytes FileError
 bytes_under info c (Ok streams) =
     Ok (
     record {
@@ -32,12 +32,12 @@ bytes_under info c (Ok streams) =
 bytes_under info c (Err cause) = Err cause
 
 -- the streams in a frame's packed bytes, or why they can't be unpacked
-abbrev pub streams_said : Said → Result Streams FileError
-streams_said c = unpacking (record { form = c.form; kind = c.kind; bytes = c.streams })
+abbrev pub streams_in_fields : PacketFields → Result Streams FileError
+streams_in_fields c = unpacking (record { form = c.form; kind = c.kind; bytes = c.streams })
 
 -- what merging reads of a frame that is packed, or why it can't be unpacked
-abbrev pub bytes_in : Info → Said → Result FrameBytes FileError
-bytes_in info c = bytes_under info c (streams_said c)
+abbrev pub bytes_in : ThreadKey → PacketFields → Result FrameBytes FileError
+bytes_in info c = bytes_under info c (streams_in_fields c)
 
 abbrev pub followed_by : Result FrameBytes FileError → Result (List FrameBytes) FileError →
     Result (List FrameBytes) FileError
@@ -46,16 +46,16 @@ followed_by (Ok frame) (Err cause) = Err cause
 followed_by (Ok frame) (Ok frames) = Ok (frame ∷ frames)
 
 -- what merging reads of each frame, or why the first that can't be unpacked can't
-abbrev pub all_bytes_in : Info → List Said → Result (List FrameBytes) FileError
+abbrev pub all_bytes_in : ThreadKey → List PacketFields → Result (List FrameBytes) FileError
 all_bytes_in info [] = Ok []
 all_bytes_in info (c ∷ cs) = followed_by (bytes_in info c) (all_bytes_in info cs)
 
 -- the contents of the frames of a view that reads these
-abbrev pub contents_read : List Stored → List Said
-contents_read stored = contents_in (after_all read_view (map frame_stored stored))
+abbrev pub fields_read : List Stored → List PacketFields
+fields_read stored = fields_in (after_all read_view (map frame_stored stored))
 
 -- The summary has the number of frames, their merge under an info, and these details, added in order.
-pub record SumsUp (info : Info) (cs : List Said) (told : List Details) (summary : Summary) :
+pub record SumsUp (info : ThreadKey) (cs : List PacketFields) (told : List Details) (summary : Summary) :
     Type 0 where
   pub frames : summary.frames ≡ length cs
   pub streams : List FrameBytes
@@ -64,20 +64,20 @@ pub record SumsUp (info : Info) (cs : List Said) (told : List Details) (summary 
   pub scopes : summary.scopes ≡ with_all_details no_details told
 
 -- the summary is that of the frames in a view that reads the file, with the details of all frames of the file
-abbrev pub IsSummary : Info → List Stored → Summary → Type 0
+abbrev pub IsSummary : ThreadKey → List Stored → Summary → Type 0
 IsSummary info stored summary =
-    SumsUp info (contents_read stored) (flat_map details_stored stored) summary
+    SumsUp info (fields_read stored) (flat_map details_stored stored) summary
 
 -- the details of all frames, in order
-abbrev pub details_said : List Said → List Details
+abbrev pub details_said : List PacketFields → List Details
 details_said cs = flat_map (λ c. c.details) cs
 
 -- all details of all frames have ids
-abbrev pub NoneLacksIds : List Said → Type 0
+abbrev pub NoneLacksIds : List PacketFields → Type 0
 NoneLacksIds cs = list_any lacks_ids cs ≡ false
 
 -- why frames can't be summed up: the fault of the first that can't be unpacked, or what refuses their merge, other than memory
-abbrev pub IsHindered : Info → List Said → FileError → Type 0
+abbrev pub IsHindered : ThreadKey → List PacketFields → FileError → Type 0
 IsHindered info cs fault =
     (all_bytes_in info cs ≡ Err fault)
     ⊎ ((streams : List FrameBytes)
@@ -89,9 +89,9 @@ IsHindered info cs fault =
 
 -- A call read a device and failed: the device or memory failed, or the bytes taken have this fault, or they are frames that
 -- have it.
-abbrev pub FailsToSumUp : Info → Option (List ℕ) → Option (List ℕ) → FileError → Type 0
+abbrev pub FailsToSumUp : ThreadKey → Option (List ℕ) → Option (List ℕ) → FileError → Type 0
 FailsToSumUp info old new fault =
     FailsToRead file_at old new fault
     ⊎ ((stored : List Stored)
     × TookFrames file_at old new stored
-    × IsHindered info (contents_read stored) fault)
+    × IsHindered info (fields_read stored) fault)

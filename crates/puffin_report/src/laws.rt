@@ -6,15 +6,15 @@ ghost use Rattle.std.specs.List.{AllByRecursion};
 ghost use Rattle.puffin_data.specs.declared.file_error.FileError.{FileError};
 ghost use Rattle.puffin_data.specs.Device.{IsOutside};
 ghost use Rattle.puffin_frames.specs.declared.frame_data.frame.FrameData.{FrameData};
-ghost use Rattle.puffin_threads.specs.Thread.Info.{Info};
-ghost use Rattle.puffin_frames.specs.Frame.Contents.{Streams, holding_of, frame_contents, frame_says};
+ghost use Rattle.puffin_threads.specs.Thread.ThreadKey.{ThreadKey};
+ghost use Rattle.puffin_frames.specs.Frame.Contents.{Streams, holding_of, frame_streams, packet_fields};
 ghost use Rattle.puffin_frames.specs.Frame.Holding.{as_packed};
 ghost use Rattle.puffin_frames.specs.Packet.Stored.{Stored};
 ghost use Rattle.puffin_frames.specs.Packet.Grammar.{IsPacked};
 ghost use Rattle.puffin_view.specs.View.{View};
-ghost use Rattle.puffin_view.specs.View.File.{file_of, contents_in, file_at, TookFrames};
+ghost use Rattle.puffin_view.specs.View.File.{file_of, fields_in, file_at, TookFrames};
 ghost use Rattle.puffin_report.specs.declared.summary.Summary.{Summary};
-ghost use Rattle.puffin_report.specs.Summary.{NoneLacksIds, streams_said, details_said, SumsUp, IsSummary, IsHindered, FailsToSumUp};
+ghost use Rattle.puffin_report.specs.Summary.{NoneLacksIds, streams_in_fields, details_said, SumsUp, IsSummary, IsHindered, FailsToSumUp};
 ghost use Rattle.puffin_report.specs.ReportLines.{report_lines};
 
 use puffin_frames::frame_data::laws::each_frame_is_read_again;
@@ -25,22 +25,22 @@ use puffin_view::profile_view::laws::what_was_written_is_read;
 /// with the details that they list. If all these details have ids, the reader doesn't fail and memory doesn't run out, the
 /// summary is refused only because a frame can't be unpacked or the frames can't be merged.
 pub fn what_was_recorded_is_summed_up()
-    ensures summary { (info : Info) (v : View) (new : Option (List ℕ)) (stored : List Stored)
+    ensures summary { (info : ThreadKey) (v : View) (new : Option (List ℕ)) (stored : List Stored)
         (summary : Summary) →
-        AllByRecursion IsPacked (contents_in v) → length (contents_in v) < 2 ^ 64 - 1 →
-        TookFrames file_at (Some (file_of (contents_in v))) new stored →
+        AllByRecursion IsPacked (fields_in v) → length (fields_in v) < 2 ^ 64 - 1 →
+        TookFrames file_at (Some (file_of (fields_in v))) new stored →
         IsSummary info stored summary →
-        SumsUp info (contents_in v) (details_said (contents_in v)) summary }
-    ensures fault { (info : Info) (v : View) (new : Option (List ℕ)) (e : FileError) →
-        AllByRecursion IsPacked (contents_in v) → length (contents_in v) < 2 ^ 64 - 1 →
-        NoneLacksIds (contents_in v) → FailsToSumUp info (Some (file_of (contents_in v))) new e →
-        ¬ IsOutside e → IsHindered info (contents_in v) e }
+        SumsUp info (fields_in v) (details_said (fields_in v)) summary }
+    ensures fault { (info : ThreadKey) (v : View) (new : Option (List ℕ)) (e : FileError) →
+        AllByRecursion IsPacked (fields_in v) → length (fields_in v) < 2 ^ 64 - 1 →
+        NoneLacksIds (fields_in v) → FailsToSumUp info (Some (file_of (fields_in v))) new e →
+        ¬ IsOutside e → IsHindered info (fields_in v) e }
     // A packed copy of a frame is unpacked to what it holds, and that is what the frame holds.
     ensures copied { (frame copy : FrameData) (streams : Streams) →
-        holding_of copy ≡ as_packed (holding_of frame) → frame_contents copy ≡ Some streams →
-        streams_said (frame_says frame) ≡ Ok streams }
+        holding_of copy ≡ as_packed (holding_of frame) → frame_streams copy ≡ Some streams →
+        streams_in_fields (packet_fields frame) ≡ Ok streams }
     ensures unpacked { (frame : FrameData) (streams : Streams) →
-        frame_contents frame ≡ Some streams → streams_said (frame_says frame) ≡ Ok streams }
+        frame_streams frame ≡ Some streams → streams_in_fields (packet_fields frame) ≡ Ok streams }
 {
     // For the proof alone, as the whole call: the laws that this one follows from.
     what_was_written_is_read();
@@ -49,7 +49,7 @@ pub fn what_was_recorded_is_summed_up()
 
 /// For one info, all summaries of the same frames are printed as the same lines.
 pub fn one_report()
-    ensures { (info : Info) (stored : List Stored) (one another : Summary) →
+    ensures { (info : ThreadKey) (stored : List Stored) (one another : Summary) →
         IsSummary info stored one → IsSummary info stored another →
         report_lines one ≡ report_lines another }
 {

@@ -3,7 +3,7 @@
 ghost use Rattle.std.specs.Prelude.{◌≡◌, ◌++◌, ◌+◌, ◌-◌, ◌^◌, ◌<◌, ◌⊎◌, [], ◌∷◌, OnOk, IfOk, IfErr};
 ghost use Rattle.std.specs.String.{string_bytes};
 ghost use Rattle.puffin_data.specs.Device.{TookNothing};
-ghost use Rattle.puffin_threads.specs.Thread.Info.{info_of};
+ghost use Rattle.puffin_threads.specs.Thread.ThreadKey.{key_of};
 ghost use Rattle.puffin_merge.specs.Merge.Scopes.{forest_in};
 ghost use Rattle.puffin_report.specs.ReportLines.{indent, scope_name, text_part, pieces_text, greatest_text, scope_lines, frames_line, report_lines};
 ghost use Rattle.puffin_report.specs.Report.{IsReported, IsUnreported};
@@ -153,10 +153,10 @@ pub fn print_report<S: Source, D: Drain>(
     requires source { S.failures source.old < 2 ^ 64 - 1 }
     requires drain { D.failures drain.old < 2 ^ 64 - 1 }
     ensures ok { OnOk result (
-        IsReported (info_of thread.now) (S.remaining source.old) (S.remaining source.new)
+        IsReported (key_of thread.now) (S.remaining source.old) (S.remaining source.new)
         (D.contents drain.old) (D.contents drain.new)) }
     ensures err { IfErr result (λ e.
-        IsUnreported (info_of thread.now) (S.remaining source.old) (S.remaining source.new)
+        IsUnreported (key_of thread.now) (S.remaining source.old) (S.remaining source.new)
         (D.contents drain.old) (D.contents drain.new) e) }
     // `Io` means that the reader or the writer failed in this call, or that the writer took no bytes.
     ensures io { (result ≡ Err FileError.Io) → (S.failures source.new ≡ S.failures source.old + 1)

@@ -1,6 +1,6 @@
 ghost use Rattle.std.specs.Prelude.{◌<◌, ◌-◌, ◌^◌, List, IfOk, IfErr, ◌≡◌};
 ghost use Rattle.puffin_data.specs.Device.{failures_after};
-ghost use Rattle.puffin_threads.specs.Thread.Info.{info_of};
+ghost use Rattle.puffin_threads.specs.Thread.ThreadKey.{key_of};
 ghost use Rattle.puffin_frames.specs.Packet.Stored.{Stored};
 ghost use Rattle.puffin_view.specs.View.File.{file_at, TookFrames};
 ghost use Rattle.puffin_report.specs.Summary.{IsSummary, FailsToSumUp};
@@ -42,9 +42,9 @@ pub fn summarize<S: Source>(
     ensures summary { IfOk result (λ summary.
         (stored : List Stored)
         × TookFrames file_at (S.remaining source.old) (S.remaining source.new) stored
-        × IsSummary (info_of thread.now) stored summary) }
+        × IsSummary (key_of thread.now) stored summary) }
     ensures err { IfErr result (λ e.
-        FailsToSumUp (info_of thread.now) (S.remaining source.old) (S.remaining source.new) e) }
+        FailsToSumUp (key_of thread.now) (S.remaining source.old) (S.remaining source.new) e) }
     ensures failures { S.failures source.new ≡ failures_after (S.failures source.old) result }
 {
     read_magic(source)?;

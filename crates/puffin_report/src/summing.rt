@@ -3,16 +3,16 @@
 ghost use Rattle.std.specs.Prelude.{◌≡◌, ◌≢◌, ◌⊎◌, ◌<◌, ◌-◌, ◌^◌, [], ◌∷◌, ◌++◌, List, Ok, Err, IfOk, IfErr, OnOk, length, nat_lt, true};
 ghost use Rattle.std.specs.Option.{option_map_or};
 ghost use Rattle.std.specs.Arc.{arc_value};
-ghost use Rattle.puffin_threads.specs.Thread.Info.{Info, info_of};
+ghost use Rattle.puffin_threads.specs.Thread.ThreadKey.{ThreadKey, key_of};
 ghost use Rattle.puffin_threads.specs.Details.Collection.{with_all_details};
-ghost use Rattle.puffin_frames.specs.Packet.Stored.{Said, Stored};
-ghost use Rattle.puffin_frames.specs.Frame.Contents.{frame_says, frame_details};
+ghost use Rattle.puffin_frames.specs.Packet.Stored.{PacketFields, Stored};
+ghost use Rattle.puffin_frames.specs.Frame.Contents.{packet_fields, frame_details};
 ghost use Rattle.puffin_view.specs.View.{last_index};
 ghost use Rattle.puffin_view.specs.View.ViewedFrames.{frame_index, rising_end};
 ghost use Rattle.puffin_view.specs.View.FrameOf.{frame_of};
 ghost use Rattle.puffin_view.specs.View.File.{frame_stored};
 ghost use Rattle.puffin_merge.specs.Merge.Scopes.{frame_bytes};
-ghost use Rattle.puffin_report.specs.Summary.{bytes_in, contents_read, IsSummary, IsHindered};
+ghost use Rattle.puffin_report.specs.Summary.{bytes_in, fields_read, IsSummary, IsHindered};
 ghost use Rattle.puffin_report.specs.inner.Summing.{IsProgress, CanGoOn, IsKeptWith, HasSummed, CanTake};
 
 use crate::summary::Summary;
@@ -50,11 +50,11 @@ pub(crate) struct Summing<'i> {
 /// Returns the unpacked data of a frame. Packed bytes are decoded where they are, and not copied.
 fn unpacked(frame: &mut FrameData) -> Result<Arc<UnpackedFrameData>, FileError>
     ensures ok { IfOk result (λ unpacked.
-        (info : Info) →
-        bytes_in info (frame_says frame.old) ≡ Ok (frame_bytes info (arc_value unpacked))) }
+        (info : ThreadKey) →
+        bytes_in info (packet_fields frame.old) ≡ Ok (frame_bytes info (arc_value unpacked))) }
     ensures err { IfErr result (λ e.
         (e ≡ FileError.Memory)
-        ⊎ ((info : Info) → bytes_in info (frame_says frame.old) ≡ Err e)) }
+        ⊎ ((info : ThreadKey) → bytes_in info (packet_fields frame.old) ≡ Err e)) }
 {
     // For the proof alone: a law about frames.
     each_frame_is_read_again();
@@ -105,8 +105,8 @@ impl<'i> Progress<'i> {
     fn with(self, frame: &mut FrameData) -> Result<Progress<'i>, FileError>
         requires { CanGoOn self }
         ensures ok { IfOk result (λ progress.
-            (info : Info) (kept : List Said) → IsProgress info kept self.entry →
-            IsProgress info (kept ++ frame_says frame.old ∷ []) progress) }
+            (info : ThreadKey) (kept : List PacketFields) → IsProgress info kept self.entry →
+            IsProgress info (kept ++ packet_fields frame.old ∷ []) progress) }
         ensures memory { IfErr result (λ e. e ≡ FileError.Memory) }
     {
         if let Progress::NotUnpacked(fault) = self {
@@ -122,7 +122,8 @@ impl<'i> Progress<'i> {
     fn with_unpacked(self, frame: &UnpackedFrameData) -> Result<Progress<'i>, FileError>
         requires { CanGoOn self }
         ensures ok { IfOk result (λ progress.
-            (info : Info) (kept : List Said) (c : Said) → IsProgress info kept self.entry →
+            (info : ThreadKey) (kept : List PacketFields) (c : PacketFields) →
+            IsProgress info kept self.entry →
             bytes_in info c ≡ Ok (frame_bytes info frame.now) →
             IsProgress info (kept ++ c ∷ []) progress) }
         ensures memory { IfErr result (λ e. e ≡ FileError.Memory) }
@@ -168,7 +169,7 @@ fn kept_before<'i>(
     index: FrameIndex,
     none: Progress<'i>,
 ) -> Progress<'i>
-    ensures { (info : Info) (cs : List Said) (c : Said) →
+    ensures { (info : ThreadKey) (cs : List PacketFields) (c : PacketFields) →
         last ≡ last_index cs → index ≡ frame_index c →
         IsProgress info (rising_end cs) progress.entry → IsProgress info [] none.entry →
         IsKeptWith info cs c result }
@@ -181,7 +182,7 @@ fn kept_before<'i>(
 impl<'i> Summing<'i> {
     /// Makes the sum of no frame. Takes no memory.
     pub(crate) fn new(alloc: Global, thread: &'i ThreadInfo) -> Summing<'i>
-        ensures { HasSummed (info_of thread.now) [] result }
+        ensures { HasSummed (key_of thread.now) [] result }
     {
         Summing {
             alloc,
@@ -198,7 +199,7 @@ impl<'i> Summing<'i> {
     /// Refused only with `Memory`.
     pub(crate) fn take(self, frame: FrameData) -> Result<Summing<'i>, FileError>
         requires { CanTake self }
-        ensures ok { IfOk result (λ sum. (info : Info) (stored : List Stored) (s : Stored) →
+        ensures ok { IfOk result (λ sum. (info : ThreadKey) (stored : List Stored) (s : Stored) →
             frame_of frame ≡ frame_stored s → HasSummed info stored self.entry →
             HasSummed info (stored ++ s ∷ []) sum) }
         ensures memory { IfErr result (λ e. e ≡ FileError.Memory) }
@@ -230,12 +231,12 @@ impl<'i> Summing<'i> {
     /// merge, and anywhere with `Memory`.
     pub(crate) fn finish(self) -> Result<Summary, FileError>
         requires { CanTake self }
-        ensures ok { IfOk result (λ summary. (info : Info) (stored : List Stored) →
+        ensures ok { IfOk result (λ summary. (info : ThreadKey) (stored : List Stored) →
             HasSummed info stored self.entry → length stored < 2 ^ 64 - 1 →
             IsSummary info stored summary) }
-        ensures err { IfErr result (λ e. (info : Info) (stored : List Stored) →
+        ensures err { IfErr result (λ e. (info : ThreadKey) (stored : List Stored) →
             HasSummed info stored self.entry → length stored < 2 ^ 64 - 1 →
-            (e ≡ FileError.Memory) ⊎ IsHindered info (contents_read stored) e) }
+            (e ≡ FileError.Memory) ⊎ IsHindered info (fields_read stored) e) }
         ensures cause { IfErr result (λ e. e ≢ FileError.Io) }
     {
         // For the proof alone: a law about views.

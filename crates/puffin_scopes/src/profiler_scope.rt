@@ -6,7 +6,7 @@ use puffin_frames::thread_profiler::{Closed, NsSource, Reporter, ThreadProfiler}
 
 /// What a guard stands for.
 #[derive(Clone, Copy, Debug, PartialEq, Eq)]
-enum Standing {
+enum GuardState {
     /// A scope, whose size is at this offset.
     On(usize),
     /// No scope.
@@ -26,7 +26,7 @@ enum Standing {
 /// ```
 pub struct ProfilerScope<'p, C: NsSource> {
     profiler: &'p mut ThreadProfiler<C>,
-    standing: Standing,
+    standing: GuardState,
 }
 
 impl<'p, C: NsSource> ProfilerScope<'p, C> {
@@ -54,7 +54,7 @@ impl<'p, C: NsSource> ProfilerScope<'p, C> {
             IsOn C.answers profiler.old id text.now scope) }
         ensures memory { IfErr result (λ e. e ≡ Error.Memory) }
     {
-        let standing = Standing::On(profiler.begin_scope(id, text)?);
+        let standing = GuardState::On(profiler.begin_scope(id, text)?);
         Ok(ProfilerScope { profiler, standing })
     }
 
@@ -64,7 +64,7 @@ impl<'p, C: NsSource> ProfilerScope<'p, C> {
         ensures same_reference { lender_of result ≡ profiler.entry.ghost_name }
         ensures off { IsOff profiler.old None result }
     {
-        let standing = Standing::Off;
+        let standing = GuardState::Off;
         ProfilerScope { profiler, standing }
     }
 
@@ -84,10 +84,10 @@ impl<'p, C: NsSource> ProfilerScope<'p, C> {
     {
         let standing = match id {
             Ok(id) => match profiler.begin_scope(id, text) {
-                Ok(offset) => Standing::On(offset),
-                Err(e) => Standing::Refused(e),
+                Ok(offset) => GuardState::On(offset),
+                Err(e) => GuardState::Refused(e),
             },
-            Err(e) => Standing::Refused(e),
+            Err(e) => GuardState::Refused(e),
         };
         ProfilerScope { profiler, standing }
     }
@@ -105,8 +105,8 @@ impl<'p, C: NsSource> ProfilerScope<'p, C> {
         ensures { result ≡ offset_of self.now }
     {
         match self.standing {
-            Standing::On(offset) => Some(offset),
-            Standing::Off | Standing::Refused(_) => None,
+            GuardState::On(offset) => Some(offset),
+            GuardState::Off | GuardState::Refused(_) => None,
         }
     }
 
@@ -115,8 +115,8 @@ impl<'p, C: NsSource> ProfilerScope<'p, C> {
         ensures { result ≡ guard_refusal self.now }
     {
         match self.standing {
-            Standing::Refused(e) => Some(e),
-            Standing::On(_) | Standing::Off => None,
+            GuardState::Refused(e) => Some(e),
+            GuardState::On(_) | GuardState::Off => None,
         }
     }
 
@@ -131,8 +131,8 @@ impl<'p, C: NsSource> ProfilerScope<'p, C> {
     {
         let ProfilerScope { profiler, standing } = self;
         match standing {
-            Standing::On(offset) => Ok(Some(profiler.end_scope(offset, reporter)?)),
-            Standing::Off | Standing::Refused(_) => Ok(None),
+            GuardState::On(offset) => Ok(Some(profiler.end_scope(offset, reporter)?)),
+            GuardState::Off | GuardState::Refused(_) => Ok(None),
         }
     }
 }
@@ -148,7 +148,7 @@ impl<C: NsSource> Drop for ProfilerScope<'_, C> {
             (profiler_of self.entry) self.exit.0.now }
     {
         let ProfilerScope { profiler, standing } = self;
-        if let Standing::On(offset) = standing {
+        if let GuardState::On(offset) = standing {
             let _ = profiler.close_scope(offset);
         }
     }

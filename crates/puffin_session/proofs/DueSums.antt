@@ -15,11 +15,11 @@ use Rattle.std.proofs.lemmas.Grind.{not_there}
 use mathlib.Core.Logic.{∥∥₁_map}
 use Rattle.puffin_data.specs.declared.error.Error.{Error}
 use Rattle.puffin_data.specs.Forest.{Forest}
-use Rattle.puffin_data.specs.Honesty.{Recorded, IsHonestRecord}
+use Rattle.puffin_data.specs.Honesty.{StreamFacts, AreHonestFacts}
 use Rattle.puffin_data.specs.Forest.Tour.{Event}
 use Rattle.puffin_data.specs.Forest.Words.{word_size, num_begun, least_open, greatest_close}
 use Rattle.puffin_threads.specs.Thread.Events.{events_in}
-use Rattle.puffin_threads.specs.Thread.Info.{Info, info_cmp, same_info}
+use Rattle.puffin_threads.specs.Thread.ThreadKey.{ThreadKey, key_cmp, has_same_key}
 use Rattle.puffin_threads.specs.Details.{Details, AllHaveIds}
 use Rattle.puffin_frames.specs.Frame.Contents.{Streams, AreHonest, reported_to}
 use Rattle.puffin_frames.specs.Frame.Sums.{total_bytes, total_scopes, joined_start, joined_stop}
@@ -30,27 +30,27 @@ use Rattle.puffin_session.specs.Session.Due.{due, total_under, IsUnlikeDue, even
 use Rattle.puffin_session.specs.Session.{SessionState, opening_of, StandsAfter, SpellsWord}
 use Rattle.puffin_session.specs.Session.Replies.{DueFits, MayReport, IsDueRefusal}
 use Rattle.puffin_session.specs.inner.Serving.{SumsTo}
-use Rattle.puffin_session.proofs.Laws.{least_open-append, greatest_close-append, num_begun-tour, least_open-tour, greatest_close-tour, same_info-one, same_info-itself, events_in-spelling, after_report, bytes_measure, scopes_measure, starts_measure, stops_measure, total_bytes-one, total_scopes-one, least_start-one, greatest_stop-one}
-use Rattle.puffin_session.proofs.Openings.{word_of_record, due_of, due-opening}
+use Rattle.puffin_session.proofs.Laws.{least_open-append, greatest_close-append, num_begun-tour, least_open-tour, greatest_close-tour, has_same_key-one, has_same_key-itself, events_in-spelling, after_report, bytes_measure, scopes_measure, starts_measure, stops_measure, total_bytes-one, total_scopes-one, least_start-one, greatest_stop-one}
+use Rattle.puffin_session.proofs.Openings.{word_of_facts, due_of, due-opening}
 use Rattle.puffin_session.proofs.SpelledWords.{size_of, unlike_due, unlike_pending}
 
 -- ---- one stream
 
-pub scopes_of : (r : Recorded) (word : Word) → SpellsWord r word → r.num_scopes ≡ num_begun word.events
+pub scopes_of : (r : StreamFacts) (word : Word) → SpellsWord r word → r.num_scopes ≡ num_begun word.events
 scopes_of r word h = h.honest.counts.num_scopes ∙ sym (num_begun-tour h.forest) ∙ ap num_begun h.toured
 
-start_of : (r : Recorded) (word : Word) → SpellsWord r word → r.range_ns.0 ≡ least_open word.events
+start_of : (r : StreamFacts) (word : Word) → SpellsWord r word → r.range_ns.0 ≡ least_open word.events
 start_of r word h = h.honest.counts.least_start ∙ sym (least_open-tour h.forest) ∙ ap least_open h.toured
 
-stop_of : (r : Recorded) (word : Word) → SpellsWord r word → r.range_ns.1 ≡ greatest_close word.events
+stop_of : (r : StreamFacts) (word : Word) → SpellsWord r word → r.range_ns.1 ≡ greatest_close word.events
 stop_of r word h = h.honest.counts.greatest_stop ∙ sym (greatest_close-tour h.forest) ∙ ap greatest_close h.toured
 
 -- ---- one more report
 
-events_with : (ds : List Delivery) (i : Info) (word : Word) → flat_map events_of (ds ++ (under i word ∷ [])) ≡ flat_map events_of ds ++ word.events
+events_with : (ds : List Delivery) (i : ThreadKey) (word : Word) → flat_map events_of (ds ++ (under i word ∷ [])) ≡ flat_map events_of ds ++ word.events
 events_with ds i word = flat_map-append events_of ds (under i word ∷ []) ∙ ap (λ (w : List Event). flat_map events_of ds ++ w) (append-nil word.events)
 
-pub SumsTo-reported : (streams : Streams) (ds : List Delivery) (i : Info) (r : Recorded) (word : Word) → SumsTo streams ds → SpellsWord r word → SumsTo (reported_to streams i r) (ds ++ (under i word ∷ []))
+pub SumsTo-reported : (streams : Streams) (ds : List Delivery) (i : ThreadKey) (r : StreamFacts) (word : Word) → SumsTo streams ds → SpellsWord r word → SumsTo (reported_to streams i r) (ds ++ (under i word ∷ []))
 SumsTo-reported streams ds i r word before spells =
     let events = flat_map events_of ds in
     record {
@@ -62,12 +62,12 @@ SumsTo-reported streams ds i r word before spells =
 
 -- ---- before any report
 
-no_length : (es : List (Info × Recorded)) → length es ≡ 0 → es ≡ []
+no_length : (es : List (ThreadKey × StreamFacts)) → length es ≡ 0 → es ≡ []
 no_length [] e = refl
 no_length (x ∷ es) e = absurd (omega arith)
 
-values_none : values (empty {X = Recorded} {R = info_cmp}) ≡ []
-values_none = ap (map (λ e. e.1)) (no_length _ (sym (len-entries (empty {X = Recorded} {R = info_cmp})) ∙ len-empty info_cmp Recorded))
+values_none : values (empty {X = StreamFacts} {R = key_cmp}) ≡ []
+values_none = ap (map (λ e. e.1)) (no_length _ (sym (len-entries (empty {X = StreamFacts} {R = key_cmp})) ∙ len-empty key_cmp StreamFacts))
 
 pub SumsTo-none : SumsTo empty []
 SumsTo-none = record { bytes = ap total_bytes values_none; scopes = ap total_scopes values_none; start = ap joined_start values_none; stop = ap joined_stop values_none }
@@ -88,9 +88,9 @@ same_time_there : {P : Type 0} (a b : ℤ) → ∥ P ∥₁ → (P → a ≡ b) 
 same_time_there a b there same =
     between a b (λ lt. not_there there (λ p. let e = same p in omega (arith, ints, lt, e))) (λ gt. not_there there (λ p. let e = same p in omega (arith, ints, gt, e)))
 
-EachHonest : List (Info × Recorded) → Type 0
+EachHonest : List (ThreadKey × StreamFacts) → Type 0
 EachHonest [] = Unit {0}
-EachHonest (e ∷ es) = ∥ ((f : Forest) × IsHonestRecord e.1 f) ∥₁ × EachHonest es
+EachHonest (e ∷ es) = ∥ ((f : Forest) × AreHonestFacts e.1 f) ∥₁ × EachHonest es
 
 first : (a b : Bool) → T (a && b) → T a
 first true b p = tt
@@ -105,57 +105,57 @@ less Less p = refl
 less Equal p = absurd p
 less Greater p = absurd p
 
-find_below : (k : Info) (es : List (Info × Recorded)) → T (below_all info_cmp k es) → find info_cmp k es ≡ None
+find_below : (k : ThreadKey) (es : List (ThreadKey × StreamFacts)) → T (below_all key_cmp k es) → find key_cmp k es ≡ None
 find_below k [] h = refl
 find_below k (e ∷ es) h =
-    ap (λ r. cond (is_eq r) (Some e.1) (find info_cmp k es)) (less (info_cmp k e.0) (first (is_lt (info_cmp k e.0)) (below_all info_cmp k es) h)) ∙ find_below k es (second (is_lt (info_cmp k e.0)) (below_all info_cmp k es) h)
+    ap (λ r. cond (is_eq r) (Some e.1) (find key_cmp k es)) (less (key_cmp k e.0) (first (is_lt (key_cmp k e.0)) (below_all key_cmp k es) h)) ∙ find_below k es (second (is_lt (key_cmp k e.0)) (below_all key_cmp k es) h)
 
-abbrev AllFound : List (Info × Recorded) → Type 0
-AllFound es = (i : Info) (r : Recorded) → find info_cmp i es ≡ Some r → ∥ ((f : Forest) × IsHonestRecord r f) ∥₁
+abbrev AllFound : List (ThreadKey × StreamFacts) → Type 0
+AllFound es = (i : ThreadKey) (r : StreamFacts) → find key_cmp i es ≡ Some r → ∥ ((f : Forest) × AreHonestFacts r f) ∥₁
 
-found_later : (e : Info × Recorded) (es : List (Info × Recorded)) → T (below_all info_cmp e.0 es) → AllFound (e ∷ es) → AllFound es
-found_later e es below all i r found = at_test (same_info i e.0) refl
+found_later : (e : ThreadKey × StreamFacts) (es : List (ThreadKey × StreamFacts)) → T (below_all key_cmp e.0 es) → AllFound (e ∷ es) → AllFound es
+found_later e es below all i r found = at_test (has_same_key i e.0) refl
   where
-    none_some : (r : Recorded) → ◌≡◌ {A = Option Recorded} None (Some r) → ⊥
+    none_some : (r : StreamFacts) → ◌≡◌ {A = Option StreamFacts} None (Some r) → ⊥
     none_some r e = cc
 
-    at_test : (b : Bool) → same_info i e.0 ≡ b → ∥ ((f : Forest) × IsHonestRecord r f) ∥₁
+    at_test : (b : Bool) → has_same_key i e.0 ≡ b → ∥ ((f : Forest) × AreHonestFacts r f) ∥₁
     at_test true same =
-        let gone : find info_cmp i es ≡ None = subst (λ k. find info_cmp k es ≡ None) (sym (same_info-one i e.0 same)) (find_below e.0 es below) in
+        let gone : find key_cmp i es ≡ None = subst (λ k. find key_cmp k es ≡ None) (sym (has_same_key-one i e.0 same)) (find_below e.0 es below) in
         absurd (none_some r (sym gone ∙ found))
-    at_test false other = all i r (ap (λ (b : Bool). cond b (Some e.1) (find info_cmp i es)) other ∙ found)
+    at_test false other = all i r (ap (λ (b : Bool). cond b (Some e.1) (find key_cmp i es)) other ∙ found)
 
-each_honest : (es : List (Info × Recorded)) → T (is_sorted info_cmp es) → AllFound es → EachHonest es
+each_honest : (es : List (ThreadKey × StreamFacts)) → T (is_sorted key_cmp es) → AllFound es → EachHonest es
 unfolding EachHonest
 each_honest [] h all = tt
 each_honest (e ∷ es) h all =
-    let below = first (below_all info_cmp e.0 es) (is_sorted info_cmp es) h in (
-      all e.0 e.1 (ap (λ (b : Bool). cond b (Some e.1) (find info_cmp e.0 es)) (same_info-itself e.0)),
-      each_honest es (second (below_all info_cmp e.0 es) (is_sorted info_cmp es) h) (found_later e es below all),
+    let below = first (below_all key_cmp e.0 es) (is_sorted key_cmp es) h in (
+      all e.0 e.1 (ap (λ (b : Bool). cond b (Some e.1) (find key_cmp e.0 es)) (has_same_key-itself e.0)),
+      each_honest es (second (below_all key_cmp e.0 es) (is_sorted key_cmp es) h) (found_later e es below all),
     )
 
-abbrev events_at : List (Info × Recorded) → List Event
+abbrev events_at : List (ThreadKey × StreamFacts) → List Event
 events_at es = flat_map events_of (due_of es)
 
-spells_itself : (r : Recorded) → ∥ ((f : Forest) × IsHonestRecord r f) ∥₁ → ∥ SpellsWord r (word_of_record r) ∥₁
+spells_itself : (r : StreamFacts) → ∥ ((f : Forest) × AreHonestFacts r f) ∥₁ → ∥ SpellsWord r (word_of_facts r) ∥₁
 spells_itself r somehow = ∥∥₁_map somehow (λ it. record { forest = it.0; honest = it.1; form = refl; toured = sym (ap (events_in r.form) it.1.stream.whole ∙ events_in-spelling r.form it.0 it.1.stream.fits) })
 
-abbrev records_of : List (Info × Recorded) → List Recorded
+abbrev records_of : List (ThreadKey × StreamFacts) → List StreamFacts
 records_of es = map (λ e. e.1) es
 
 -- the sums over entries, each by itself
-record EntriesSum (es : List (Info × Recorded)) : Type 0 where
+record EntriesSum (es : List (ThreadKey × StreamFacts)) : Type 0 where
   bytes : total_bytes (records_of es) ≡ sum_by bytes_delivered (due_of es)
   scopes : total_scopes (records_of es) ≡ sum_by scopes_delivered (due_of es)
   start : joined_start (records_of es) ≡ least_open (events_at es)
   stop : joined_stop (records_of es) ≡ greatest_close (events_at es)
 
-entries_sum : (es : List (Info × Recorded)) → EachHonest es → EntriesSum es
+entries_sum : (es : List (ThreadKey × StreamFacts)) → EachHonest es → EntriesSum es
 unfolding EachHonest
 entries_sum [] h = record { bytes = refl; scopes = refl; start = refl; stop = refl }
 entries_sum (e ∷ es) h =
     let later = entries_sum es h.1 in
-    let word = word_of_record e.1 in
+    let word = word_of_facts e.1 in
     let spells = spells_itself e.1 h.0 in
     let size = same_there (length e.1.bytes) (word_size word.form word.events) spells (size_of e.1 word) in
     let scopes = same_there e.1.num_scopes (num_begun word.events) spells (scopes_of e.1 word) in
@@ -184,7 +184,7 @@ min_comm x y = omega (arith, ints, clamps)
 max_comm : (x y : ℤ) → int_max x y ≡ int_max y x
 max_comm x y = omega (arith, ints, clamps)
 
-module _ (o : Opening) (done : List Action) (now : SessionState) (i : Info) (r : Recorded) (word : Word) (stands : StandsAfter o done now) (sums : SumsTo now.collected.streams (due o done)) (spells : SpellsWord r word) where
+module _ (o : Opening) (done : List Action) (now : SessionState) (i : ThreadKey) (r : StreamFacts) (word : Word) (stands : StandsAfter o done now) (sums : SumsTo now.collected.streams (due o done)) (spells : SpellsWord r word) where
   abbrev events : List Event
   events = flat_map events_of (due o done)
 

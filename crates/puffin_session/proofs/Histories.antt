@@ -10,7 +10,7 @@ use Rattle.std.proofs.lemmas.List.Folds.{list_any-append}
 use Rattle.puffin_data.specs.declared.data.form.Form.{Form}
 use Rattle.puffin_data.specs.Text.{cut_text}
 use Rattle.puffin_data.specs.Forest.Tour.{Event, Open, Close}
-use Rattle.puffin_threads.specs.Thread.Info.{Info, same_info}
+use Rattle.puffin_threads.specs.Thread.ThreadKey.{ThreadKey, has_same_key}
 use Rattle.puffin_session.specs.Session.History.{Word, Opening, begun, ended, Call, Action, since_last, thread_at, call_of, calls_of, greatest, latest_of}
 use Rattle.puffin_session.specs.Session.Deliveries.{Marked, marked_call, marked_calls, first_open, word_of, unreported, first_start_of, Delivery, under, all_taken, deliveries_at, deliveries_after}
 use Rattle.puffin_session.specs.Session.Due.{is_taken, due, no_word, joined_word, with_delivery, total_under}
@@ -158,7 +158,7 @@ module _ (o : Opening) (done : List Action) (a : Action) where
   pub due-same : deliveries_at o done a ≡ [] → due o (done ++ (a ∷ [])) ≡ due o done
   due-same e = ap (since_last is_taken) (all_more ∙ ap (λ d. (map (λ d. under d.0 d.1) o.due ++ deliveries_after o [] done) ++ d) e ∙ append-nil (map (λ d. under d.0 d.1) o.due ++ deliveries_after o [] done))
 
-  pub due-more : (i : Info) (word : Word) → deliveries_at o done a ≡ under i word ∷ [] → due o (done ++ (a ∷ [])) ≡ due o done ++ (under i word ∷ [])
+  pub due-more : (i : ThreadKey) (word : Word) → deliveries_at o done a ≡ under i word ∷ [] → due o (done ++ (a ∷ [])) ≡ due o done ++ (under i word ∷ [])
   due-more i word e = ap (since_last is_taken) (all_more ∙ ap (λ d. (map (λ d. under d.0 d.1) o.due ++ deliveries_after o [] done) ++ d) e)
       ∙ since_last-no is_taken (map (λ d. under d.0 d.1) o.due ++ deliveries_after o [] done) (under i word) refl
 
@@ -168,10 +168,10 @@ module _ (o : Opening) (done : List Action) (a : Action) where
 
 -- ---- what is delivered under an info, after one more handed_at
 
-pub total_under-itself : (ds : List Delivery) (i j : Info) (word : Word) → same_info j i ≡ true → total_under (ds ++ (under i word ∷ [])) j ≡ Some (joined_word (unwrap_or (total_under ds j) no_word) word)
+pub total_under-itself : (ds : List Delivery) (i j : ThreadKey) (word : Word) → has_same_key j i ≡ true → total_under (ds ++ (under i word ∷ [])) j ≡ Some (joined_word (unwrap_or (total_under ds j) no_word) word)
 total_under-itself ds i j word e =
     fold-append (with_delivery j) None ds (under i word ∷ []) ∙ ap (λ b. cond b (Some (joined_word (unwrap_or (total_under ds j) no_word) word)) (total_under ds j)) e
 
-pub total_under-other : (ds : List Delivery) (i j : Info) (word : Word) → same_info j i ≡ false → total_under (ds ++ (under i word ∷ [])) j ≡ total_under ds j
+pub total_under-other : (ds : List Delivery) (i j : ThreadKey) (word : Word) → has_same_key j i ≡ false → total_under (ds ++ (under i word ∷ [])) j ≡ total_under ds j
 total_under-other ds i j word e =
     fold-append (with_delivery j) None ds (under i word ∷ []) ∙ ap (λ b. cond b (Some (joined_word (unwrap_or (total_under ds j) no_word) word)) (total_under ds j)) e

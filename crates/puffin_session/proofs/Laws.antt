@@ -9,7 +9,7 @@ use Rattle.puffin_threads.proofs.lemmas.Events.{events_open}
 pub use Rattle.puffin_data.proofs.lemmas.Tours.{tour-append}
 pub use Rattle.puffin_data.proofs.lemmas.Extended.{honest_joined}
 pub use Rattle.puffin_data.proofs.lemmas.WordMeasures.{least_open-append, greatest_close-append, word_size-tour, num_begun-tour, least_open-tour, greatest_close-tour}
-pub use Rattle.puffin_threads.proofs.lemmas.Infos.{info_cmp_total, same_info-one, same_info-itself}
+pub use Rattle.puffin_threads.proofs.lemmas.ThreadKeys.{key_cmp_total, has_same_key-one, has_same_key-itself}
 pub use Rattle.puffin_frames.proofs.lemmas.Measured.{after_report, bytes_measure, scopes_measure, starts_measure, stops_measure, total_bytes-one, total_scopes-one}
 pub use Rattle.puffin_frames.proofs.lemmas.Ranges.{least_start-one, greatest_stop-one}
 

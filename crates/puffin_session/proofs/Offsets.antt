@@ -9,11 +9,11 @@ use Rattle.puffin_data.specs.declared.data.form.Form.{Form}
 use Rattle.puffin_data.specs.Forest.Tour.{Event, Open, Close}
 use Rattle.puffin_data.specs.Forest.Words.{word_size, open_after}
 use Rattle.puffin_data.specs.declared.error.Error.{Error}
-use Rattle.puffin_data.specs.Honesty.{Recorded}
+use Rattle.puffin_data.specs.Honesty.{StreamFacts}
 use Rattle.puffin_threads.specs.declared.thread_profiler.reporter.Closed.{Closed}
 use Rattle.puffin_threads.specs.declared.thread_profiler.reporter.Closed.TheVariants.{Inner, Reported, Kept}
 use Rattle.puffin_threads.specs.Thread.Closing.{Closes}
-use Rattle.puffin_threads.specs.Thread.Info.{Info}
+use Rattle.puffin_threads.specs.Thread.ThreadKey.{ThreadKey}
 use Rattle.puffin_threads.specs.Details.{Details}
 use Rattle.puffin_threads.specs.Thread.Calls.{Thread, after_begin, after_end, opened_after, open_offsets, offsets_of}
 
@@ -64,7 +64,7 @@ popped items less old new t was ended is =
     is ∙ ap (λ (xs : List ℕ). take (length xs - 1) xs) was ∙ popped_list (offsets_of old) ∙ sym (ap (λ (th : Thread). reverse (offsets_of th)) ended ∙ ap reverse (offsets-close old.form old.word _))
 
 -- the innermost scope's place goes where it ends, and all go where all was handed over
-pub closed_places : {R : Type 0} (accepts : R → Info → List Details → Recorded → R → Type 0) (refuses : R → Info → List Details → Recorded → Error → R → Type 0) (items less : List ℕ) (old new : Thread) (t : ℤ) (before after : R) (closed : Closed) → items ≡ reverse (offsets_of old) → less ≡ take (length items - 1) items
+pub closed_places : {R : Type 0} (accepts : R → ThreadKey → List Details → StreamFacts → R → Type 0) (refuses : R → ThreadKey → List Details → StreamFacts → Error → R → Type 0) (items less : List ℕ) (old new : Thread) (t : ℤ) (before after : R) (closed : Closed) → items ≡ reverse (offsets_of old) → less ≡ take (length items - 1) items
     → Closes accepts refuses old new t before after closed → less ≡ reverse (offsets_of new)
 closed_places accepts refuses items less old new t before after Inner was is closes = popped items less old new t was closes.1 is
 closed_places accepts refuses items less old new t before after Reported was is closes =

@@ -13,14 +13,14 @@ use Rattle.puffin_data.specs.Forest.Spelling.{Spells}
 use Rattle.puffin_data.specs.declared.error.Error.{Error}
 use Rattle.puffin_data.specs.declared.error.Error.TheVariants.{NoThread, MismatchedEnd, IdsExhausted, IndexExhausted, Memory}
 use Rattle.puffin_data.specs.Forest.{Forest}
-use Rattle.puffin_data.specs.Honesty.{Recorded, IsHonestRecord}
+use Rattle.puffin_data.specs.Honesty.{StreamFacts, AreHonestFacts}
 use Rattle.puffin_data.specs.Stream.{StreamState}
 use Rattle.puffin_data.specs.Text.{cut_text}
 use Rattle.puffin_data.specs.Forest.Tour.{Event, tour}
 use Rattle.puffin_data.specs.Walk.{IsFault}
 use Rattle.puffin_data.specs.Forest.Words.{num_begun, open_after}
-use Rattle.puffin_threads.specs.Thread.Info.{Info, info_of}
-use Rattle.puffin_threads.specs.Thread.Calls.{Thread, after_begin, after_end, after_handing, after_registering, info_of_thread}
+use Rattle.puffin_threads.specs.Thread.ThreadKey.{ThreadKey, key_of}
+use Rattle.puffin_threads.specs.Thread.Calls.{Thread, after_begin, after_end, after_handing, after_registering, key_of_thread}
 use Rattle.puffin_threads.specs.Details.{Details, with_id, AllHaveIds, shared_details}
 use Rattle.puffin_threads.specs.Details.Collection.{Collection, with_all_details, Begins}
 use Rattle.puffin_frames.specs.Frame.Contents.{Streams}
@@ -44,7 +44,7 @@ use Rattle.puffin_session.specs.Session.Due.{due, index_after, is_numbered}
 use Rattle.puffin_session.specs.Session.Notes.{notes_at, due_notes_at, details_learnt_at, due_details, known_after, is_wanted, wanted_at}
 use Rattle.puffin_session.specs.Session.{SessionState, word_in, thread_after, word_of_thread, begun_place, SpellsWord, TellsAfter}
 use Rattle.puffin_session.specs.Session.Actions.{action_of, details_given, user_details}
-use Rattle.puffin_session.specs.Session.Replies.{MayReply, TellsScopes, ending_info, ending_word}
+use Rattle.puffin_session.specs.Session.Replies.{MayReply, TellsScopes, ending_key, ending_word}
 use Rattle.puffin_session.specs.inner.Serving.{clock_time, session_thread, session_with_thread, session_with_collected, EndsInnermost, SumsTo, Continued, ContinuesBy, Continues}
 use Rattle.puffin_session.proofs.Histories.{due-same, due-more, due-anew}
 use Rattle.puffin_session.proofs.SessionCollects.{SpellsFrame-taken, NoneDue-untaken}
@@ -59,7 +59,7 @@ module _ (o : Opening) (done : List Action) (a : Action) (old new : Streams) (be
   sums_same : deliveries_at o done a ≡ [] → new ≡ old → SumsTo new (due o (done ++ (a ∷ [])))
   sums_same none same = rw (same, due-same o done a none) before
 
-  sums_more : (i : Info) (r : Recorded) (word : Word) → deliveries_at o done a ≡ under i word ∷ [] → new ≡ reported_to old i r → SpellsWord r word → SumsTo new (due o (done ++ (a ∷ [])))
+  sums_more : (i : ThreadKey) (r : StreamFacts) (word : Word) → deliveries_at o done a ≡ under i word ∷ [] → new ≡ reported_to old i r → SpellsWord r word → SumsTo new (due o (done ++ (a ∷ [])))
   sums_more i r word one same spells =
       subst (λ (s : Streams). SumsTo s (due o (done ++ (a ∷ [])))) (sym same)
       (subst (λ (ds : List Delivery). SumsTo (reported_to old i r) ds) (sym (due-more o done a i word one)) (SumsTo-reported old (due o done) i r word before spells))
@@ -133,7 +133,7 @@ Continues-registered now t name function file line id there = (
 
 -- ---- ends
 
-reported_word : {thread : Thread} (r : Recorded) → IsReportOf thread r → SpellsWord r (word_of_thread thread)
+reported_word : {thread : Thread} (r : StreamFacts) → IsReportOf thread r → SpellsWord r (word_of_thread thread)
 reported_word r h = record { forest = h.forest; honest = h.honest; form = h.form; toured = sym h.word }
 
 module _ (now : SessionState) (t : ℕ) (at : ℤ) (there : t < length now.threads) where
@@ -153,8 +153,8 @@ module _ (now : SessionState) (t : ℕ) (at : ℤ) (there : t < length now.threa
       )
 
   -- the last open scope, and its report was accepted
-  ended_reported : (new : SessionState) (r : Recorded) → open_after 0 (session_thread now t).word ≡ 1 → new.threads ≡ set now.threads t (after_handing (after_end (session_thread now t) (clock_time at)))
-      → SpellsWord r (handed_at_end (session_thread now t) at) → AcceptsReport now.collected (info_of_thread (session_thread now t)) (session_thread now t).details r new.collected → ContinuesBy now new (End t at 0) (reply.Ended Reported) []
+  ended_reported : (new : SessionState) (r : StreamFacts) → open_after 0 (session_thread now t).word ≡ 1 → new.threads ≡ set now.threads t (after_handing (after_end (session_thread now t) (clock_time at)))
+      → SpellsWord r (handed_at_end (session_thread now t) at) → AcceptsReport now.collected (key_of_thread (session_thread now t)) (session_thread now t).details r new.collected → ContinuesBy now new (End t at 0) (reply.Ended Reported) []
   ended_reported new r last same spells accepts o done before =
       let within : t < length o.threads = omega (arith, before.stands.num_threads) in
       let th = before.stands.threads t within in
@@ -166,20 +166,20 @@ module _ (now : SessionState) (t : ℕ) (at : ℤ) (there : t < length now.threa
       let index = ap (λ (c : Collected). c.index) accepts.0 in
       let reported = ap (λ (c : Collected). c.reported) accepts.0 ∙ ap (λ (n : ℕ). now.collected.reported + n) scopes in
       let here : SpellsWord r (handed_at_end (thread_after o done t) at) = subst (λ (v : Thread). SpellsWord r (handed_at_end v at)) th spells in
-      let like = subst (λ (v : Thread). ¬ IsUnlike now.collected (info_of_thread v) r) th accepts.2 in
-      let due_there : new.collected.streams ≡ reported_to now.collected.streams (info_of_thread (thread_after o done t)) r = streams ∙ ap (λ (v : Thread). reported_to now.collected.streams (info_of_thread v) r) th in
+      let like = subst (λ (v : Thread). ¬ IsUnlike now.collected (key_of_thread v) r) th accepts.2 in
+      let due_there : new.collected.streams ≡ reported_to now.collected.streams (key_of_thread (thread_after o done t)) r = streams ∙ ap (λ (v : Thread). reported_to now.collected.streams (key_of_thread v) r) th in
       let details = ap (λ (c : Collected). c.new_details) accepts.0 ∙ ap (λ (v : Thread). now.collected.new_details ++ v.details) th ∙ sym (waiting-noted now.collected.new_details (thread_after o done t).details) in (
         record {
           stands = StandsAfter-reported o done now new before.stands t at r within (changes now new t handing (num_begun (handed_at_end (session_thread now t) at).events) there same index reported) spells accepts.2 streams
               (TellsAfter-more o done a now.collected new.collected before.stands.tells (ap (λ (c : Collected). c.collection) accepts.0) details (ap (λ (c : Collected). c.wants_all) accepts.0));
-          sums = sums_more o done a now.collected.streams new.collected.streams before.sums (info_of_thread (thread_after o done t)) r (handed_at_end (thread_after o done t) at) (handed_at-reported o t done at) due_there here;
+          sums = sums_more o done a now.collected.streams new.collected.streams before.sums (key_of_thread (thread_after o done t)) r (handed_at_end (thread_after o done t) at) (handed_at-reported o t done at) due_there here;
         },
-        (within, refl, (sym word ∙ last, MayReport-from o done now (ending_info o done t) r (ending_word o done t at) before.stands before.sums here like accepts.3 accepts.4)),
+        (within, refl, (sym word ∙ last, MayReport-from o done now (ending_key o done t) r (ending_word o done t at) before.stands before.sums here like accepts.3 accepts.4)),
       )
 
   -- the last open scope, and its report was refused
-  ended_kept : (new : SessionState) (r : Recorded) (e : Error) → open_after 0 (session_thread now t).word ≡ 1 → new.threads ≡ set now.threads t (after_end (session_thread now t) (clock_time at))
-      → SpellsWord r (handed_at_end (session_thread now t) at) → new.collected ≡ now.collected → AllHaveIds (session_thread now t).details → IsReportRefusal now.collected (info_of_thread (session_thread now t)) (session_thread now t).details r e → ContinuesBy now new (End t at 0) (reply.Ended (Kept e)) []
+  ended_kept : (new : SessionState) (r : StreamFacts) (e : Error) → open_after 0 (session_thread now t).word ≡ 1 → new.threads ≡ set now.threads t (after_end (session_thread now t) (clock_time at))
+      → SpellsWord r (handed_at_end (session_thread now t) at) → new.collected ≡ now.collected → AllHaveIds (session_thread now t).details → IsReportRefusal now.collected (key_of_thread (session_thread now t)) (session_thread now t).details r e → ContinuesBy now new (End t at 0) (reply.Ended (Kept e)) []
   ended_kept new r e last same spells kept ids refusal o done before =
       let within : t < length o.threads = omega (arith, before.stands.num_threads) in
       let th = before.stands.threads t within in
@@ -192,7 +192,7 @@ module _ (now : SessionState) (t : ℕ) (at : ℤ) (there : t < length now.threa
               (tells_same o done a now.collected new.collected before.stands.tells refl refl (λ w. refl) (same_told now.collected new.collected kept));
           sums = sums_same o done a now.collected.streams new.collected.streams before.sums refl streams;
         },
-        (within, refl, (sym word ∙ last, IsRefusal-from o done now (ending_info o done t) r (ending_word o done t at) before.stands before.sums here (session_thread now t).details e ids (subst (λ (v : Thread). IsReportRefusal now.collected (info_of_thread v) (session_thread now t).details r e) th refusal))),
+        (within, refl, (sym word ∙ last, IsRefusal-from o done now (ending_key o done t) r (ending_word o done t at) before.stands before.sums here (session_thread now t).details e ids (subst (λ (v : Thread). IsReportRefusal now.collected (key_of_thread v) (session_thread now t).details r e) th refusal))),
       )
 
   pub Continues-ended : (thread : Thread) (collected : Collected) (closed : Closed) → AllHaveIds (session_thread now t).details → EndsInnermost (session_thread now t) thread (clock_time at) now.collected collected closed
@@ -208,11 +208,11 @@ module _ (now : SessionState) (t : ℕ) (at : ℤ) (there : t < length now.threa
 -- ---- a user's report
 
 -- what was parsed of a stream says that it spells
-spelled_in : (r : Recorded) (f : Forest) (stream : StreamState) → r.form ≡ stream.form → r.bytes ≡ stream.bytes → IsHonestRecord r f → Spells stream.form stream.bytes f
+spelled_in : (r : StreamFacts) (f : Forest) (stream : StreamState) → r.form ≡ stream.form → r.bytes ≡ stream.bytes → AreHonestFacts r f → Spells stream.form stream.bytes f
 spelled_in r f stream form same honest = subst (λ (form : Form). Spells form stream.bytes f) form (record { whole = sym same ∙ honest.stream.whole; fits = honest.stream.fits })
 
-pub Continues-handed : (now : SessionState) (collected : Collected) (info : ThreadInfo) (stream : StreamState) (r : Recorded) (f : Forest) → IsHonestRecord r f → r.form ≡ stream.form → r.bytes ≡ stream.bytes
-    → AcceptsReport now.collected (info_of info) [] r collected → Continues now (session_with_collected now collected) (ReportUser info stream) reply.Reported
+pub Continues-handed : (now : SessionState) (collected : Collected) (info : ThreadInfo) (stream : StreamState) (r : StreamFacts) (f : Forest) → AreHonestFacts r f → r.form ≡ stream.form → r.bytes ≡ stream.bytes
+    → AcceptsReport now.collected (key_of info) [] r collected → Continues now (session_with_collected now collected) (ReportUser info stream) reply.Reported
 Continues-handed now collected info stream r f honest form same accepts = (
   [],
   λ o done before.
@@ -221,7 +221,7 @@ Continues-handed now collected info stream r f honest form same accepts = (
       let toured : tour f ≡ word.events = sym (ap (events_in stream.form) whole.whole ∙ events_in-spelling stream.form f whole.fits) in
       let spells : SpellsWord r word = record { forest = f; honest = honest; form = form; toured = toured } in
       let new = session_with_collected now collected in
-      let a : Action = hands (info_of info) word in
+      let a : Action = hands (key_of info) word in
       let streams = ap (λ (c : Collected). c.streams) accepts.0 in
       let told : TellsSame now.collected collected = record {
         collection = ap (λ (c : Collected). c.collection) accepts.0;
@@ -231,12 +231,12 @@ Continues-handed now collected info stream r f honest form same accepts = (
       let toured_word : Word = record { form = stream.form; events = tour f } in
       let itself : SpellsWord r toured_word = record { forest = f; honest = honest; form = form; toured = refl } in (
         record {
-          stands = StandsAfter-handed o done now new before.stands (info_of info) r word
+          stands = StandsAfter-handed o done now new before.stands (key_of info) r word
               (record { threads = refl; raised = ap (λ (c : Collected). c.index) accepts.0; reported = ap (λ (c : Collected). c.reported) accepts.0 ∙ ap (λ (n : ℕ). now.collected.reported + n) (scopes_of r word spells) }) spells accepts.2 streams
               (tells_same o done a now.collected collected before.stands.tells refl refl (λ w. refl) told);
-          sums = sums_more o done a now.collected.streams collected.streams before.sums (info_of info) r word refl streams spells;
+          sums = sums_more o done a now.collected.streams collected.streams before.sums (key_of info) r word refl streams spells;
         },
-        (f, whole, sym toured, MayReport-from o done now (info_of info) r toured_word before.stands before.sums itself accepts.2 accepts.3 accepts.4),
+        (f, whole, sym toured, MayReport-from o done now (key_of info) r toured_word before.stands before.sums itself accepts.2 accepts.3 accepts.4),
       ),
 )
 
@@ -311,7 +311,7 @@ Continues-framed now f more holds some = (
 )
 
 -- no scope was collected
-pub Continues-unframed : (now : SessionState) → now.collected.index ≢ 2 ^ 64 - 1 → ((i : Info) (r : Recorded) → get now.collected.streams i ≡ Some r → r.num_scopes ≡ 0)
+pub Continues-unframed : (now : SessionState) → now.collected.index ≢ 2 ^ 64 - 1 → ((i : ThreadKey) (r : StreamFacts) → get now.collected.streams i ≡ Some r → r.num_scopes ≡ 0)
     → Continues now (session_with_collected now (after_no_frame now.collected)) NewFrame (reply.Frame (record { frame = None; refused = 0 }))
 Continues-unframed now more none = (
   [],
@@ -394,13 +394,13 @@ Continues-not_ended now t at back e why = Continues-refused now (End t at back) 
       )
 ])
 
-pub Continues-not_reported : (now : SessionState) (info : ThreadInfo) (stream : StreamState) (e : Error) → (e ≡ Memory) ⊎ IsFault stream.form stream.bytes e ⊎ ((r : Recorded) × (f : Forest) × IsHonestRecord r f × (r.form ≡ stream.form) × (r.bytes ≡ stream.bytes) × IsReportRefusal now.collected (info_of info) [] r e)
+pub Continues-not_reported : (now : SessionState) (info : ThreadInfo) (stream : StreamState) (e : Error) → (e ≡ Memory) ⊎ IsFault stream.form stream.bytes e ⊎ ((r : StreamFacts) × (f : Forest) × AreHonestFacts r f × (r.form ≡ stream.form) × (r.bytes ≡ stream.bytes) × IsReportRefusal now.collected (key_of info) [] r e)
     → Continues now now (ReportUser info stream) (reply.Refused e)
 Continues-not_reported now info stream e (inl memory) = Continues-refused now (ReportUser info stream) e refl (λ o done before. inl memory)
 Continues-not_reported now info stream e (inr (inl fault)) = Continues-refused now (ReportUser info stream) e refl (λ o done before. inr (inl fault))
 Continues-not_reported now info stream e (inr (inr (r, f, honest, form, same, refusal))) =
     Continues-refused now (ReportUser info stream) e refl (λ o done before.
-    inr (inr (f, spelled_in r f stream form same honest, IsRefusal-from o done now (info_of info) r (record { form = stream.form; events = tour f }) before.stands before.sums (record { forest = f; honest = honest; form = form; toured = refl }) [] e (λ k d lt. absurd (omega arith)) refusal)))
+    inr (inr (f, spelled_in r f stream form same honest, IsRefusal-from o done now (key_of info) r (record { form = stream.form; events = tour f }) before.stands before.sums (record { forest = f; honest = honest; form = form; toured = refl }) [] e (λ k d lt. absurd (omega arith)) refusal)))
 
 -- the same of a session and a command that are equal to these
 pub same : (old new other : SessionState) (c d : Command) (r : Reply) → c ≡ d → new ≡ other → Continues old other d r → Continues old new c r

@@ -7,11 +7,11 @@ use Rattle.puffin_data.specs.declared.data.form.Form.{Form}
 use Rattle.puffin_data.specs.declared.error.Error.{Error}
 use Rattle.puffin_data.specs.declared.error.Error.TheVariants.{IndexExhausted, Memory}
 use Rattle.puffin_data.specs.Forest.{Forest}
-use Rattle.puffin_data.specs.Honesty.{Recorded, IsHonestRecord}
+use Rattle.puffin_data.specs.Honesty.{StreamFacts, AreHonestFacts}
 use Rattle.puffin_data.specs.Walk.{IsFault}
 use Rattle.std.proofs.lemmas.List.{get_or-set_same}
 use Rattle.puffin_session.specs.Session.History.{nobody}
-use Rattle.puffin_threads.specs.Thread.Info.{Info}
+use Rattle.puffin_threads.specs.Thread.ThreadKey.{ThreadKey}
 use Rattle.puffin_threads.specs.Details.{Details, AllHaveIds}
 use Rattle.puffin_threads.specs.Thread.Calls.{Thread}
 use Rattle.puffin_threads.specs.Thread.Closing.{Closes}
@@ -37,7 +37,7 @@ no_details_lack : AllHaveIds []
 no_details_lack k d lt = absurd (omega arith)
 
 -- a thread's registered details have their ids after an end too
-pub kept_ids : {R : Type 0} (accepts : R → Info → List Details → Recorded → R → Type 0) (refuses : R → Info → List Details → Recorded → Error → R → Type 0) (old new : Thread) (t : ℤ) (before after : R) (closed : Closed)
+pub kept_ids : {R : Type 0} (accepts : R → ThreadKey → List Details → StreamFacts → R → Type 0) (refuses : R → ThreadKey → List Details → StreamFacts → Error → R → Type 0) (old new : Thread) (t : ℤ) (before after : R) (closed : Closed)
     → Closes accepts refuses old new t before after closed → AllHaveIds old.details → AllHaveIds new.details
 kept_ids accepts refuses old new t before after Inner closes ids = subst (λ (th : Thread). AllHaveIds th.details) (sym closes.1) ids
 kept_ids accepts refuses old new t before after Reported closes ids = subst (λ (th : Thread). AllHaveIds th.details) (sym closes.1) no_details_lack
@@ -85,19 +85,19 @@ Ends-there now threads collected after t thread new at back (Ok closed) same lt 
     )
 
 -- what an accepted report of a user's scopes gives, and a refused one
-pub Accepts-from : (now seen : SessionState) (after : Collected) (i given : Info) (r lent : Recorded) (f : Forest) (form : Form) (bytes : List ℕ) (result : Result (Unit {0}) Error) → seen ≡ now → IsHonestRecord r f → r.form ≡ form → r.bytes ≡ bytes → lent ≡ r → given ≡ i
+pub Accepts-from : (now seen : SessionState) (after : Collected) (i given : ThreadKey) (r lent : StreamFacts) (f : Forest) (form : Form) (bytes : List ℕ) (result : Result (Unit {0}) Error) → seen ≡ now → AreHonestFacts r f → r.form ≡ form → r.bytes ≡ bytes → lent ≡ r → given ≡ i
     → OnOk result (AcceptsReport seen.collected given [] lent after)
-    → OnOk result ((r : Recorded) × (f : Forest) × IsHonestRecord r f × (r.form ≡ form) × (r.bytes ≡ bytes) × AcceptsReport now.collected i [] r after × (session_with_collected seen after ≡ session_with_collected now after))
+    → OnOk result ((r : StreamFacts) × (f : Forest) × AreHonestFacts r f × (r.form ≡ form) × (r.bytes ≡ bytes) × AcceptsReport now.collected i [] r after × (session_with_collected seen after ≡ session_with_collected now after))
 Accepts-from now seen after i given r lent f form bytes (Err e) same honest in_form read lends names took = tt
 Accepts-from now seen after i given r lent f form bytes (Ok x) same honest in_form read lends names took =
-    let here : AcceptsReport seen.collected i [] r after = subst (λ (q : Recorded). AcceptsReport seen.collected i [] q after) lends (subst (λ (j : Info). AcceptsReport seen.collected j [] lent after) names took) in
+    let here : AcceptsReport seen.collected i [] r after = subst (λ (q : StreamFacts). AcceptsReport seen.collected i [] q after) lends (subst (λ (j : ThreadKey). AcceptsReport seen.collected j [] lent after) names took) in
     (r, f, honest, in_form, read, subst (λ (s : SessionState). AcceptsReport s.collected i [] r after) same here, ap (λ (s : SessionState). session_with_collected s after) same)
 
-pub Refuses-from : (now seen : SessionState) (after : Collected) (i given : Info) (r lent : Recorded) (f : Forest) (form : Form) (bytes : List ℕ) (result : Result (Unit {0}) Error) → seen ≡ now → IsHonestRecord r f → r.form ≡ form → r.bytes ≡ bytes → lent ≡ r → given ≡ i
-    → IfErr result (λ e. RefusesReport seen.collected given [] lent e after) → IfErr result (λ e. (e ≡ Memory) ⊎ IsFault form bytes e ⊎ ((r : Recorded) × (f : Forest) × IsHonestRecord r f × (r.form ≡ form) × (r.bytes ≡ bytes) × IsReportRefusal now.collected i [] r e))
+pub Refuses-from : (now seen : SessionState) (after : Collected) (i given : ThreadKey) (r lent : StreamFacts) (f : Forest) (form : Form) (bytes : List ℕ) (result : Result (Unit {0}) Error) → seen ≡ now → AreHonestFacts r f → r.form ≡ form → r.bytes ≡ bytes → lent ≡ r → given ≡ i
+    → IfErr result (λ e. RefusesReport seen.collected given [] lent e after) → IfErr result (λ e. (e ≡ Memory) ⊎ IsFault form bytes e ⊎ ((r : StreamFacts) × (f : Forest) × AreHonestFacts r f × (r.form ≡ form) × (r.bytes ≡ bytes) × IsReportRefusal now.collected i [] r e))
 Refuses-from now seen after i given r lent f form bytes (Ok x) same honest in_form read lends names refused = tt
 Refuses-from now seen after i given r lent f form bytes (Err e) same honest in_form read lends names refused =
-    inr (inr (r, f, honest, in_form, read, subst (λ (s : SessionState). IsReportRefusal s.collected i [] r e) same (subst (λ (q : Recorded). IsReportRefusal seen.collected i [] q e) lends (subst (λ (j : Info). IsReportRefusal seen.collected j [] lent e) names refused.0))))
+    inr (inr (r, f, honest, in_form, read, subst (λ (s : SessionState). IsReportRefusal s.collected i [] r e) same (subst (λ (q : StreamFacts). IsReportRefusal seen.collected i [] q e) lends (subst (λ (j : ThreadKey). IsReportRefusal seen.collected j [] lent e) names refused.0))))
 
 -- what a wanted snapshot gives
 pub wanted-from : (now seen : SessionState) (new : Collected) → seen ≡ now → new ≡ after_wanting seen.collected → session_with_collected seen new ≡ session_with_collected now (after_wanting now.collected)

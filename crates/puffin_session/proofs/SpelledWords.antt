@@ -6,14 +6,14 @@ use Rattle.puffin_data.specs.declared.data.form.Form.{Form}
 use Rattle.puffin_data.specs.Forest.{Forest, append}
 use Rattle.puffin_data.specs.Forest.Tour.{Event, Open, Close, tour}
 use Rattle.puffin_data.specs.Forest.Words.{word_size}
-use Rattle.puffin_data.specs.Honesty.{Recorded, AreUnlike, joined_record}
+use Rattle.puffin_data.specs.Honesty.{StreamFacts, AreUnlike, joined_facts}
 use Rattle.puffin_frames.specs.Frame.Contents.{no_scopes}
 use Rattle.puffin_session.specs.Session.History.{Word}
 use Rattle.puffin_session.specs.Session.Due.{no_word, joined_word, AreUnlikeWords}
 use Rattle.puffin_session.specs.Session.{SpellsWord, SpellsIfAny}
 use Rattle.puffin_session.proofs.Laws.{tour-append, honest_joined, word_size-tour}
 
-pub size_of : (r : Recorded) (word : Word) → SpellsWord r word → length r.bytes ≡ word_size word.form word.events
+pub size_of : (r : StreamFacts) (word : Word) → SpellsWord r word → length r.bytes ≡ word_size word.form word.events
 size_of r word h =
     ap length h.honest.stream.whole ∙ sym (word_size-tour r.form h.forest) ∙ ap (word_size r.form) h.toured ∙ ap (λ (form : Form). word_size form word.events) h.form
 
@@ -26,14 +26,14 @@ some_events : (form : Form) (word : List Event) → 0 < word_size form word → 
 some_events form [] some = absurd (omega arith)
 some_events form (e ∷ word) some = omega arith
 
-bytes_some : (r : Recorded) (word : Word) → SpellsWord r word → 0 < length word.events → 0 < length r.bytes
+bytes_some : (r : StreamFacts) (word : Word) → SpellsWord r word → 0 < length word.events → 0 < length r.bytes
 bytes_some r word h some = subst (λ (n : ℕ). 0 < n) (sym (size_of r word h)) (some_size word.form word.events some)
 
-events_some : (r : Recorded) (word : Word) → SpellsWord r word → 0 < length r.bytes → 0 < length word.events
+events_some : (r : StreamFacts) (word : Word) → SpellsWord r word → 0 < length r.bytes → 0 < length word.events
 events_some r word h some = some_events word.form word.events (subst (λ (n : ℕ). 0 < n) (size_of r word h) some)
 
 -- a record is empty where its word is
-same_none : (r : Recorded) (word : Word) → SpellsWord r word → eqb (length r.bytes) 0 ≡ eqb (length word.events) 0
+same_none : (r : StreamFacts) (word : Word) → SpellsWord r word → eqb (length r.bytes) 0 ≡ eqb (length word.events) 0
 same_none r word h = elim (cases_eq (length word.events) 0) [
   | inl none ↦
       let bytes : length r.bytes ≡ 0 = elim (cases_eq (length r.bytes) 0) [
@@ -51,7 +51,7 @@ same_none r word h = elim (cases_eq (length word.events) 0) [
 
 -- ---- one after another
 
-pub joined_spells : (a s : Recorded) (old word : Word) → (AreUnlike a s → ⊥) → SpellsWord a old → SpellsWord s word → SpellsWord (joined_record a s) (joined_word old word)
+pub joined_spells : (a s : StreamFacts) (old word : Word) → (AreUnlike a s → ⊥) → SpellsWord a old → SpellsWord s word → SpellsWord (joined_facts a s) (joined_word old word)
 joined_spells a s old word like h k = record {
   forest = append h.forest k.forest;
   honest = honest_joined a s h.forest k.forest like h.honest k.honest;
@@ -68,21 +68,21 @@ some_there n there some = elim (cases_eq n 0) [
   | inr more ↦ omega (arith, more)
 ]
 
-unlike_words : (a s : Recorded) (old word : Word) → SpellsWord a old → SpellsWord s word → AreUnlike a s → AreUnlikeWords old word
+unlike_words : (a s : StreamFacts) (old word : Word) → SpellsWord a old → SpellsWord s word → AreUnlike a s → AreUnlikeWords old word
 unlike_words a s old word h k apart = (
   events_some a old h apart.0,
   events_some s word k apart.1,
   λ same. apart.2 (h.form ∙ same ∙ sym k.form),
 )
 
-unlike_records : (a s : Recorded) (old word : Word) → SpellsWord a old → SpellsWord s word → AreUnlikeWords old word → AreUnlike a s
+unlike_records : (a s : StreamFacts) (old word : Word) → SpellsWord a old → SpellsWord s word → AreUnlikeWords old word → AreUnlike a s
 unlike_records a s old word h k apart = (
   bytes_some a old h apart.0,
   bytes_some s word k apart.1,
   λ same. apart.2 (sym h.form ∙ same ∙ k.form),
 )
 
-pub unlike_due : (a : Option Recorded) (old : Option Word) (s : Recorded) (word : Word) → SpellsIfAny a old → SpellsWord s word → AreUnlike (unwrap_or a no_scopes) s → AreUnlikeWords (unwrap_or old no_word) word
+pub unlike_due : (a : Option StreamFacts) (old : Option Word) (s : StreamFacts) (word : Word) → SpellsIfAny a old → SpellsWord s word → AreUnlike (unwrap_or a no_scopes) s → AreUnlikeWords (unwrap_or old no_word) word
 unlike_due None None s word there k apart = absurd (omega (arith, apart.0))
 unlike_due None (Some old) s word there k apart = absurd there
 unlike_due (Some a) None s word there k apart = absurd there
@@ -92,7 +92,7 @@ unlike_due (Some a) (Some old) s word there k apart = (
   λ same. not_there there (λ h. (unlike_words a s old word h k apart).2 same),
 )
 
-pub unlike_pending : (a : Option Recorded) (old : Option Word) (s : Recorded) (word : Word) → SpellsIfAny a old → SpellsWord s word → AreUnlikeWords (unwrap_or old no_word) word → AreUnlike (unwrap_or a no_scopes) s
+pub unlike_pending : (a : Option StreamFacts) (old : Option Word) (s : StreamFacts) (word : Word) → SpellsIfAny a old → SpellsWord s word → AreUnlikeWords (unwrap_or old no_word) word → AreUnlike (unwrap_or a no_scopes) s
 unlike_pending None None s word there k apart = absurd (omega (arith, apart.0))
 unlike_pending None (Some old) s word there k apart = absurd there
 unlike_pending (Some a) None s word there k apart = absurd there

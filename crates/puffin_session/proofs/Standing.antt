@@ -6,17 +6,17 @@ use Rattle.std.specs.Int.{int_max}
 use Rattle.std.specs.List.{slice_index_or, sum_by}
 use Rattle.std.specs.FinMap.{empty}
 use Rattle.puffin_data.specs.declared.data.form.Form.{Form}
-use Rattle.puffin_data.specs.Honesty.{Recorded, AreUnlike}
+use Rattle.puffin_data.specs.Honesty.{StreamFacts, AreUnlike}
 use Rattle.puffin_data.specs.Text.{cut_text}
 use Rattle.puffin_data.specs.Forest.Tour.{Event, Close}
 use Rattle.puffin_data.specs.Forest.Words.{num_begun}
-use Rattle.puffin_threads.specs.Thread.Info.{Info}
-use Rattle.puffin_threads.specs.Thread.Calls.{Thread, after_begin, after_end, after_handing, after_registering, info_of_thread}
+use Rattle.puffin_threads.specs.Thread.ThreadKey.{ThreadKey}
+use Rattle.puffin_threads.specs.Thread.Calls.{Thread, after_begin, after_end, after_handing, after_registering, key_of_thread}
 use Rattle.puffin_threads.specs.Details.{Details}
 use Rattle.puffin_collector.specs.Collector.State.{reported_to}
 use Rattle.puffin_frames.specs.Frame.Contents.{stream_under}
 use Rattle.puffin_session.specs.Session.History.{Word, Opening, Mark, begun, ended, Call, Action, calls, hands, frames, registers, nobody, thread_at, call_of}
-use Rattle.puffin_session.specs.Session.Deliveries.{under, unreported, word_with, info_under, deliveries_at, deliveries_after}
+use Rattle.puffin_session.specs.Session.Deliveries.{under, unreported, word_with, key_under, deliveries_at, deliveries_after}
 use Rattle.puffin_session.specs.Session.Due.{due, scopes_delivered, is_numbered, index_after, reported_after}
 use Rattle.puffin_session.specs.Session.Notes.{Note, noted, sent, notes_at, details_registered}
 use Rattle.puffin_session.specs.Session.{SessionState, word_of_thread, opening_of, SpellsWord, SpellsDue, StandsAfter, TellsAfter, thread_after}
@@ -89,8 +89,8 @@ module _ (o : Opening) (t : ℕ) (done : List Action) where
       same_thread refl (first_start_of-ended o t done a (int_max (pos 0) at) true e) (latest_of-more o t done a (record { at = int_max (pos 0) at; mark = ended true }) e) (unreported-reported o t done a (int_max (pos 0) at) e) (notes_with a (sent ∷ []) (rw (itself t) refl))
 
   -- what an accepted report delivers
-  pub handed_at-reported : (at : ℤ) → deliveries_at o done (calls t (record { at = at; mark = ended true })) ≡ under (info_of_thread (thread_after o done t)) (handed_at_end (thread_after o done t) at) ∷ []
-  handed_at-reported at = ap (λ time. under (info_under o t done) (word_with o t done (Close time ∷ [])) ∷ [])
+  pub handed_at-reported : (at : ℤ) → deliveries_at o done (calls t (record { at = at; mark = ended true })) ≡ under (key_of_thread (thread_after o done t)) (handed_at_end (thread_after o done t) at) ∷ []
+  handed_at-reported at = ap (λ time. under (key_under o t done) (word_with o t done (Close time ∷ [])) ∷ [])
       (latest_of-more o t done (calls t (record { at = at; mark = ended true })) (record { at = int_max (pos 0) at; mark = ended true }) (own_call t (record { at = at; mark = ended true })))
 
 -- ---- a session
@@ -163,16 +163,16 @@ module _ (o : Opening) (done : List Action) (now new : SessionState) (before : S
   scopes_reported t at th =
       ap (λ v. num_begun (handed_at_end v at).events) th ∙ sym (zero-add (num_begun (handed_at_end (thread_after o done t) at).events)) ∙ ap (λ ds. sum_by scopes_delivered ds) (sym (handed_at-reported o t done at))
 
-  pub StandsAfter-reported : (t : ℕ) (at : ℤ) (s : Recorded) → t < length o.threads → ChangesThread now new t (after_call (thread_at (opening_of now) t) at (ended true)) (num_begun (handed_at_end (thread_at (opening_of now) t) at).events)
-      → SpellsWord s (handed_at_end (thread_at (opening_of now) t) at) → (AreUnlike (stream_under now.collected.streams (info_of_thread (thread_at (opening_of now) t))) s → ⊥) → new.collected.streams ≡ reported_to now.collected.streams (info_of_thread (thread_at (opening_of now) t)) s
+  pub StandsAfter-reported : (t : ℕ) (at : ℤ) (s : StreamFacts) → t < length o.threads → ChangesThread now new t (after_call (thread_at (opening_of now) t) at (ended true)) (num_begun (handed_at_end (thread_at (opening_of now) t) at).events)
+      → SpellsWord s (handed_at_end (thread_at (opening_of now) t) at) → (AreUnlike (stream_under now.collected.streams (key_of_thread (thread_at (opening_of now) t))) s → ⊥) → new.collected.streams ≡ reported_to now.collected.streams (key_of_thread (thread_at (opening_of now) t)) s
       → TellsAfter o (done ++ (calls t (record { at = at; mark = ended true }) ∷ [])) new.collected → StandsAfter o (done ++ (calls t (record { at = at; mark = ended true }) ∷ [])) new
   StandsAfter-reported t at s within change spells like same tells =
       let a : Action = calls t (record { at = at; mark = ended true }) in
       let th = before.threads t within in
-      let more = due-more o done a (info_of_thread (thread_after o done t)) (handed_at_end (thread_after o done t) at) (handed_at-reported o t done at) in
-      let ready = SpellsDue-report now.collected.streams (due o done) (info_of_thread (thread_after o done t)) s (handed_at_end (thread_after o done t) at) (subst (λ v. AreUnlike (stream_under now.collected.streams (info_of_thread v)) s → ⊥) th like) before.collected (subst (λ v. SpellsWord s (handed_at_end v at)) th spells) in
+      let more = due-more o done a (key_of_thread (thread_after o done t)) (handed_at_end (thread_after o done t) at) (handed_at-reported o t done at) in
+      let ready = SpellsDue-report now.collected.streams (due o done) (key_of_thread (thread_after o done t)) s (handed_at_end (thread_after o done t) at) (subst (λ v. AreUnlike (stream_under now.collected.streams (key_of_thread v)) s → ⊥) th like) before.collected (subst (λ v. SpellsWord s (handed_at_end v at)) th spells) in
       called t at (ended true) within (record { num_threads = change.num_threads; there = change.there; others = change.others; index = change.index; reported = change.reported ∙ ap (λ n. now.collected.reported + n) (scopes_reported t at th) })
-      (subst (λ ds. SpellsDue new.collected.streams ds) (sym more) (subst (λ ss. SpellsDue ss (due o done ++ (under (info_of_thread (thread_after o done t)) (handed_at_end (thread_after o done t) at) ∷ []))) (sym (same ∙ ap (λ v. reported_to now.collected.streams (info_of_thread v) s) th)) ready)) tells
+      (subst (λ ds. SpellsDue new.collected.streams ds) (sym more) (subst (λ ss. SpellsDue ss (due o done ++ (under (key_of_thread (thread_after o done t)) (handed_at_end (thread_after o done t) at) ∷ []))) (sym (same ∙ ap (λ v. reported_to now.collected.streams (key_of_thread v) s) th)) ready)) tells
 
   -- an action that is no thread's
   unthreaded : (a : Action) → ((t : ℕ) → (call_of t a ≡ None) × (notes_at t a ≡ [])) → ChangesPending now new (now.collected.index + cond (is_numbered a) 1 0) (sum_by scopes_delivered (deliveries_at o done a)) → SpellsDue new.collected.streams (due o (done ++ (a ∷ []))) → TellsAfter o (done ++ (a ∷ [])) new.collected
@@ -186,7 +186,7 @@ module _ (o : Opening) (done : List Action) (now new : SessionState) (before : S
     tells = tells;
   }
 
-  pub StandsAfter-handed : (i : Info) (s : Recorded) (word : Word) → ChangesPending now new now.collected.index (num_begun word.events) → SpellsWord s word → (AreUnlike (stream_under now.collected.streams i) s → ⊥) → new.collected.streams ≡ reported_to now.collected.streams i s
+  pub StandsAfter-handed : (i : ThreadKey) (s : StreamFacts) (word : Word) → ChangesPending now new now.collected.index (num_begun word.events) → SpellsWord s word → (AreUnlike (stream_under now.collected.streams i) s → ⊥) → new.collected.streams ≡ reported_to now.collected.streams i s
       → TellsAfter o (done ++ (hands i word ∷ [])) new.collected → StandsAfter o (done ++ (hands i word ∷ [])) new
   StandsAfter-handed i s word change spells like same tells =
       unthreaded (hands i word) (λ t. (refl, refl)) (record { threads = change.threads; raised = omega (arith, change.raised); reported = change.reported ∙ ap (λ n. now.collected.reported + n) (sym (zero-add (num_begun word.events))) })

@@ -15,8 +15,8 @@ use Rattle.puffin_data.specs.Forest.Tour.{tour}
 use Rattle.puffin_data.specs.Forest.Spelling.{size_offset}
 use Rattle.puffin_data.specs.Forest.Words.{word_size}
 use Rattle.puffin_data.specs.Text.{cut_text}
-use Rattle.puffin_data.specs.Honesty.{Recorded, IsHonestRecord}
-use Rattle.puffin_threads.specs.Thread.Info.{Info}
+use Rattle.puffin_data.specs.Honesty.{StreamFacts, AreHonestFacts}
+use Rattle.puffin_threads.specs.Thread.ThreadKey.{ThreadKey}
 use Rattle.puffin_threads.specs.Thread.Calls.{Thread, new_thread}
 use Rattle.puffin_frames.specs.Frame.Contents.{Streams}
 use Rattle.puffin_collector.specs.Collector.State.{Collected, nothing_collected}
@@ -55,13 +55,13 @@ opening_of s = record {
 }
 
 -- an honest info of the scopes of this word, in its form
-pub record SpellsWord (r : Recorded) (word : Word) : Type 0 where
+pub record SpellsWord (r : StreamFacts) (word : Word) : Type 0 where
   pub forest : Forest
-  pub honest : IsHonestRecord r forest
+  pub honest : AreHonestFacts r forest
   pub form : r.form ≡ word.form
   pub toured : tour forest ≡ word.events
 
-abbrev pub SpellsIfAny : Option Recorded → Option Word → Type 0
+abbrev pub SpellsIfAny : Option StreamFacts → Option Word → Type 0
 SpellsIfAny None None = Unit {0}
 SpellsIfAny (Some r) (Some word) = ∥ SpellsWord r word ∥₁
 SpellsIfAny None (Some word) = ⊥
@@ -69,7 +69,7 @@ SpellsIfAny (Some r) None = ⊥
 
 -- there is a stream exactly under each info under which something was handed over, and it spells exactly that
 abbrev pub SpellsDue : Streams → List Delivery → Type 0
-SpellsDue streams ds = (i : Info) → SpellsIfAny (get streams i) (total_under ds i)
+SpellsDue streams ds = (i : ThreadKey) → SpellsIfAny (get streams i) (total_under ds i)
 
 -- a thread after these actions
 abbrev pub thread_after : Opening → List Action → ℕ → Thread

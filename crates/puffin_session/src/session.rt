@@ -2,11 +2,11 @@ ghost use Rattle.std.specs.Prelude.{◌≡◌, ◌≢◌, ◌+◌, ◌-◌, ◌^
 ghost use Rattle.std.specs.String.{string_bytes};
 ghost use Rattle.puffin_data.specs.declared.data.form.Form.TheVariants.{Short};
 ghost use Rattle.puffin_data.specs.Forest.{Forest};
-ghost use Rattle.puffin_data.specs.Honesty.{Recorded, IsHonestRecord};
+ghost use Rattle.puffin_data.specs.Honesty.{StreamFacts, AreHonestFacts};
 ghost use Rattle.puffin_data.specs.Text.{cut_text};
 ghost use Rattle.puffin_data.specs.Walk.{IsFault};
 ghost use Rattle.puffin_data.specs.Forest.Words.{open_after};
-ghost use Rattle.puffin_threads.specs.Thread.Info.{info_of};
+ghost use Rattle.puffin_threads.specs.Thread.ThreadKey.{key_of};
 ghost use Rattle.puffin_threads.specs.Details.{with_id, AllHaveIds, details_seen};
 ghost use Rattle.puffin_threads.specs.Thread.Calls.{after_begin, after_registering};
 ghost use Rattle.puffin_collector.specs.Collector.State.{AcceptsReport, IsReportRefusal, nothing_collected, after_wanting};
@@ -259,23 +259,23 @@ impl Session {
 
     fn report_user(&mut self, info: &ThreadInfo, stream: &Stream) -> Result<()>
         ensures ok { OnOk result (
-            (r : Recorded)
+            (r : StreamFacts)
             × (f : Forest)
-            × IsHonestRecord r f
+            × AreHonestFacts r f
             × (r.form ≡ stream.now.form)
             × (r.bytes ≡ stream.now.bytes)
-            × AcceptsReport self.old.collected (info_of info.now) [] r self.new.collected
+            × AcceptsReport self.old.collected (key_of info.now) [] r self.new.collected
             × (self.new ≡ session_with_collected self.old self.new.collected)) }
         ensures err { OnErr result (self.new ≡ self.old) }
         ensures cause { IfErr result (λ e.
             (e ≡ Error.Memory)
             ⊎ IsFault stream.now.form stream.now.bytes e
-            ⊎ ((r : Recorded)
+            ⊎ ((r : StreamFacts)
             × (f : Forest)
-            × IsHonestRecord r f
+            × AreHonestFacts r f
             × (r.form ≡ stream.now.form)
             × (r.bytes ≡ stream.now.bytes)
-            × IsReportRefusal self.old.collected (info_of info.now) [] r e)) }
+            × IsReportRefusal self.old.collected (key_of info.now) [] r e)) }
     {
         let times = StreamInfo::parse(self.alloc, stream.clone()?)?;
         let info = info.clone()?;

@@ -4,8 +4,8 @@ use crate::equal::equal;
 use puffin::data::Counted;
 use puffin::global_profiler::{GlobalProfiler, Settled};
 use puffin::light::{
-    Frames, Outcome, Place, Program, Records, Rounds, Standing, StatefulRounds, Thread, in_rounds,
-    profiled, save,
+    Frames, GuardState, Outcome, Place, Program, Records, Rounds, StatefulRounds, Thread,
+    in_rounds, profiled, save,
 };
 use puffin::profile_view::FrameView;
 use puffin::{FileError, place, profile};
@@ -65,7 +65,7 @@ fn scopes_that_are_off_are_not_begun(rt: HostRuntime) -> Tested {
     thread.scopes().set_on(false);
     {
         let guard = thread.scope(&places.whole);
-        equal(&rt, guard.standing(), Standing::Off);
+        equal(&rt, guard.standing(), GuardState::Off);
     }
     both(&mut thread, &places);
     equal(&rt, thread.reporter().totals().reported, 0);

@@ -11,7 +11,7 @@ use Rattle.std.specs.Cmp.Lexicographic.{slice_cmp, options_total, nat_list_cmp_t
 use Rattle.std.specs.FinMap.{IsAntisymmetric, nat_cmp-IsAntisymmetric, slice_cmp-IsAntisymmetric}
 use Rattle.puffin_threads.specs.declared.scope_details.details.ScopeDetails.{ScopeDetails}
 use Rattle.puffin_threads.specs.Details.{Details, details_of, details_cmp, texts_cmp, same_details}
-use Rattle.puffin_threads.proofs.lemmas.Infos.{ties, both}
+use Rattle.puffin_threads.proofs.lemmas.ThreadKeys.{ties, both}
 
 bytes_one : IsAntisymmetric (slice_cmp nat_cmp)
 bytes_one = slice_cmp-IsAntisymmetric nat_cmp-IsAntisymmetric

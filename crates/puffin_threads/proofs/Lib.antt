@@ -1,6 +1,6 @@
 pub mod lemmas
 mod RecordedScopes
-mod Recordings
+mod ThreadStates
 mod Inserting
 mod InsertingAll
 mod Comparing

@@ -15,7 +15,7 @@ use Rattle.puffin_data.specs.Forest.Words.{word_size, open_after}
 use Rattle.puffin_data.specs.Forest.Open.{Opened, IsOpened, open_spelling, open_word, size_place, ended_bytes, with_ended}
 use Rattle.puffin_data.proofs.lemmas.Opening.{begins, begins-word, finishes, finishes-word, ended-written, open_size, size_within}
 use Rattle.puffin_threads.specs.Thread.Events.{events_in}
-use Rattle.puffin_threads.specs.inner.ThreadRecording.{scopes_closed, scopes_with, scopes_in, size_places, StartedBy, HoldsScopes}
+use Rattle.puffin_threads.specs.inner.StoredThread.{scopes_closed, scopes_with, scopes_in, size_places, StartedBy, HoldsScopes}
 use Rattle.puffin_threads.specs.Thread.Calls.{opened_after, open_offsets}
 use Rattle.puffin_threads.proofs.lemmas.Events.{events_open, events_of_none}
 

@@ -1,5 +1,5 @@
 -- Lemmas about definitions alone, which the crates above cite too. Nothing else of these proofs is seen from there.
-pub mod Infos
+pub mod ThreadKeys
 pub mod Events
 pub mod EntriesSeen
 pub mod Ids

@@ -4,4 +4,4 @@ pub mod ThreadProfiler
 pub mod Closing
 pub mod Events
 pub mod Clock
-pub mod Info
+pub mod ThreadKey

@@ -1,3 +1,3 @@
 -- What only private functions and proofs cite.
-pub mod ThreadRecording
+pub mod StoredThread
 pub mod HeldCollection

@@ -4,9 +4,9 @@ mod any_thread;
 mod clock;
 pub mod laws;
 mod profiler;
-mod recording;
 mod reporter;
 mod thread_info;
+mod thread_state;
 
 pub use any_thread::AnyThread;
 pub use clock::{NsSource, ScriptClock, SystemClock};

@@ -1,6 +1,6 @@
 //! Three threads that work in rounds, for a run in which one allocation or the start of one thread is refused.
 
-use puffin::light::{Outcome, Place, Records, Rounds, Standing, in_rounds};
+use puffin::light::{GuardState, Outcome, Place, Records, Rounds, in_rounds};
 use puffin::place;
 use std::rt::Clock;
 use std::sync::Wait;
@@ -29,8 +29,8 @@ impl Parts {
     }
 
     /// Counts a scope that began.
-    fn count(&self, standing: Standing) {
-        if let Standing::On(_) = standing {
+    fn count(&self, standing: GuardState) {
+        if let GuardState::On(_) = standing {
             self.begun.fetch_add(1, Ordering::SeqCst);
         }
     }

@@ -24,7 +24,7 @@ use Rattle.puffin_frames.specs.Packet.Stored.{Stored}
 use Rattle.puffin_frames.specs.Packet.Front.{next_at}
 use Rattle.puffin_frames.specs.Packet.Next.{stored_of, IsFresh}
 use Rattle.puffin_view.specs.declared.profile_view.frame_view.FrameView.{FrameView}
-use Rattle.puffin_view.specs.View.ViewedFrames.{Frame, contents_of}
+use Rattle.puffin_view.specs.View.ViewedFrames.{Frame, fields_of}
 use Rattle.puffin_view.specs.View.FrameOf.{frame_of, details_of_frame}
 use Rattle.puffin_view.specs.View.{View, after_taking, after_all, Took}
 use Rattle.puffin_view.specs.View.Known.{view_of, collection_of, lacks_ids}
@@ -36,7 +36,7 @@ use Rattle.puffin_view.proofs.FilesRead.{checked, refused, given_more, fault_giv
 -- ---- a frame that was read, as a view sees it
 
 abbrev frame_said : FrameMeta → Form → List ℕ → List Details → Frame
-frame_said m form streams ds = record { contents = record { meta = m; form = form; kind = Uncompressed; streams = streams; details = ds }; is_unpacked = true; is_packed = false }
+frame_said m form streams ds = record { fields = record { meta = m; form = form; kind = Uncompressed; streams = streams; details = ds }; is_unpacked = true; is_packed = false }
 
 true_is_not_false : true ≡ false → ⊥
 true_is_not_false e = cc
@@ -59,13 +59,13 @@ pub after_last : (v : View) (fs : List Frame) (f : Frame) → after_all v (fs ++
 after_last v [] f = refl
 after_last v (g ∷ fs) f = after_last (after_taking v g) fs f
 
-pub took_all : (fs : List Frame) → Took (map contents_of fs) (after_all read_view fs)
+pub took_all : (fs : List Frame) → Took (map fields_of fs) (after_all read_view fs)
 took_all fs = Took-all read_view [] fs tt (Took-none read_view refl refl refl)
 
 pub view_of_frames : (stored : List Stored) (v : FrameView) → view_of v ≡ after_all read_view (map frame_stored stored) → collection_of v ≡ with_all_details no_details (flat_map details_stored stored) → IsViewOf stored v
 view_of_frames stored v frames details = record {
   frames = frames;
-  took = subst (λ (w : View). Took (map contents_of (map frame_stored stored)) w) (sym frames) (took_all (map frame_stored stored));
+  took = subst (λ (w : View). Took (map fields_of (map frame_stored stored)) w) (sym frames) (took_all (map frame_stored stored));
   details = details;
 }
 
@@ -82,18 +82,18 @@ view_of_more stored s f v w is h taken learnt =
 
 -- some of its details have no id, or there was no memory
 pub refused_frame : (old mid new : Option (List ℕ)) (frames : List Stored) (e : FileError) (frame : FrameData) → HasGiven old mid frames → length frames < 2 ^ 64 - 1 → IsFresh frame
-    → FromDevice {X = FrameData} (λ f. Some (stored_of f)) mid new (Ok frame) next_at → (e ≡ file.Refused MissingId → lacks_ids (contents_of (frame_of frame)) ≡ true) → (e ≡ file.Refused MissingId) ⊎ (e ≡ file.Memory)
+    → FromDevice {X = FrameData} (λ f. Some (stored_of f)) mid new (Ok frame) next_at → (e ≡ file.Refused MissingId → lacks_ids (fields_of (frame_of frame)) ≡ true) → (e ≡ file.Refused MissingId) ⊎ (e ≡ file.Memory)
     → FailsToRead file_at old new e
 refused_frame old mid new frames e frame given few fresh next lacks (inl missing) =
-    let without = refused mid new frame next (ap (λ (f : Frame). lacks_ids (contents_of f)) (sym (fresh_frame frame fresh)) ∙ lacks missing) in
+    let without = refused mid new frame next (ap (λ (f : Frame). lacks_ids (fields_of f)) (sym (fresh_frame frame fresh)) ∙ lacks missing) in
     subst (λ (f : FileError). FailsToRead file_at old new f) (sym missing) (fault_given mid new (Err (file.Refused MissingId)) without old frames given few)
 refused_frame old mid new frames e frame given few fresh next lacks (inr memory) = subst (λ (f : FileError). FailsToRead file_at old new f) (sym memory) tt
 
 -- one that a view took is given with its ids
 pub given_frame : (old mid new : Option (List ℕ)) (frames : List Stored) (frame : FrameData) → HasGiven old mid frames → IsFresh frame → FromDevice {X = FrameData} (λ f. Some (stored_of f)) mid new (Ok frame) next_at
-    → lacks_ids (contents_of (frame_of frame)) ≡ false → HasGiven old new (frames ++ stored_of frame ∷ [])
+    → lacks_ids (fields_of (frame_of frame)) ≡ false → HasGiven old new (frames ++ stored_of frame ∷ [])
 given_frame old mid new frames frame given fresh next ids =
-    let with_ids = checked mid new frame next (ap (λ (f : Frame). lacks_ids (contents_of f)) (sym (fresh_frame frame fresh)) ∙ ids) in
+    let with_ids = checked mid new frame next (ap (λ (f : Frame). lacks_ids (fields_of f)) (sym (fresh_frame frame fresh)) ∙ ids) in
     given_more mid new (Ok (Some frame)) with_ids old frames given
 
 -- ---- the test of ids

@@ -13,10 +13,10 @@ use Rattle.puffin_data.proofs.lemmas.Readers.{IsBytes-after}
 use Rattle.puffin_frames.specs.Packet.Stored.{Stored}
 use Rattle.puffin_frames.specs.Packet.Front.{is_end, next_at}
 use Rattle.puffin_frames.specs.Packet.Grammar.{Stores}
-use Rattle.puffin_view.specs.View.ViewedFrames.{contents_of}
+use Rattle.puffin_view.specs.View.ViewedFrames.{fields_of}
 use Rattle.puffin_view.specs.View.Known.{lacks_ids}
 use Rattle.puffin_view.specs.View.File.{magic, frame_stored, with_ids, frames_from, frames_at, most_packets, begins_file, file_at}
-use Rattle.puffin_view.specs.View.Grammar.{ArePackets, IsEnd, IsFile, contents_stored}
+use Rattle.puffin_view.specs.View.Grammar.{ArePackets, IsEnd, IsFile, fields_stored}
 use Rattle.puffin_view.proofs.FilesRead.{is_at_end, most_is}
 use Rattle.puffin_view.proofs.FilesWritten.{Answer, unless_missing, one_before, room}
 
@@ -92,7 +92,7 @@ end_found (a ∷ b ∷ d ∷ f ∷ xs) h = zeros_found a b d f xs h
 -- ---- from the format to the reading
 
 packets_read : (read : PacketsRead) (k : ℕ) (frames : List Stored) (packets rest after : List ℕ) → IsBytes (packets ++ rest) → next_at rest ≡ Ok (None, after) → ArePackets packets frames
-    → frames_at (suc k + length frames) (packets ++ rest) ≡ unless_missing (list_any lacks_ids (contents_stored frames)) frames after
+    → frames_at (suc k + length frames) (packets ++ rest) ≡ unless_missing (list_any lacks_ids (fields_stored frames)) frames after
 packets_read read k [] packets rest after is stops none =
     let one : suc k + 0 ≡ suc k = omega arith in
     ap (λ (n : ℕ). frames_at n (packets ++ rest)) one ∙ (ap (λ (t : List ℕ). frames_at (suc k) (t ++ rest)) none ∙ rw stops refl)
@@ -105,10 +105,10 @@ packets_read read k (s ∷ frames) packets rest after is stops h =
     ap (λ (m : ℕ). frames_at m (packets ++ rest)) one
     ∙ (ap (λ (r : Result (Option Stored × List ℕ) FileError). r >>= λ next. frames_from (frames_at n) next.0 next.1) next
     ∙ (ap (λ (r : Answer). with_ids s >>= λ first. r >>= λ o. Ok (first ∷ o.0, o.1)) others
-    ∙ one_before (lacks_ids (contents_of (frame_stored s))) (list_any lacks_ids (contents_stored frames)) s frames after))
+    ∙ one_before (lacks_ids (fields_of (frame_stored s))) (list_any lacks_ids (fields_stored frames)) s frames after))
 
 pub file_read : (read : PacketsRead) (bytes : List ℕ) (frames : List Stored) (after : List ℕ) → IsBytes bytes → IsFile bytes frames after → length frames < 2 ^ 64 - 1
-    → file_at bytes ≡ unless_missing (list_any lacks_ids (contents_stored frames)) frames after
+    → file_at bytes ≡ unless_missing (list_any lacks_ids (fields_stored frames)) frames after
 file_read read bytes frames after is h few =
     let rest = h.end ++ after in
     let behind = IsBytes-after bytes magic (h.packets ++ rest) h.in_order is in
@@ -126,7 +126,7 @@ record Found (n : ℕ) (bytes : List ℕ) (frames : List Stored) (after : List �
   stored : ArePackets packets frames
   ends : IsEnd end after
   few : length frames < n
-  ids : list_any lacks_ids (contents_stored frames) ≡ false
+  ids : list_any lacks_ids (fields_stored frames) ≡ false
 
 none_found : (n : ℕ) (bytes after : List ℕ) → next_at bytes ≡ Ok (None, after) → Found (suc n) bytes [] after
 unfolding next_at Ending
@@ -136,7 +136,7 @@ none_found n bytes after e =
     let found = subst (λ (t : List ℕ). Ending bytes t) same (end_found bytes stops) in
     record { packets = []; end = found.0; in_order = found.2; stored = refl; ends = found.1; few = omega arith; ids = refl }
 
-one_found : (n : ℕ) (bytes rest : List ℕ) (s : Stored) (frames : List Stored) (after front : List ℕ) → Stores front s → bytes ≡ front ++ rest → lacks_ids (contents_of (frame_stored s)) ≡ false
+one_found : (n : ℕ) (bytes rest : List ℕ) (s : Stored) (frames : List Stored) (after front : List ℕ) → Stores front s → bytes ≡ front ++ rest → lacks_ids (fields_of (frame_stored s)) ≡ false
     → Found n rest frames after → Found (suc n) bytes (s ∷ frames) after
 one_found n bytes rest s frames after front stores text ids f = record {
   packets = front ++ f.packets;
@@ -164,7 +164,7 @@ more_found read n find bytes None rest frames after is next e = same_found (suc 
 more_found read n find bytes (Some s) rest frames after is next e =
     let a = bind_ok (with_ids s) (λ first. frames_at n rest >>= λ o. Ok (first ∷ o.0, o.1)) (frames, after) e in
     let b = bind_ok (frames_at n rest) (λ o. Ok (a.0 ∷ o.0, o.1)) (frames, after) a.2 in
-    let ids = ids_told (lacks_ids (contents_of (frame_stored s))) s a.0 a.1 in
+    let ids = ids_told (lacks_ids (fields_of (frame_stored s))) s a.0 a.1 in
     let front = (read bytes rest s is).0 next in
     let others = find rest b.0.0 b.0.1 (IsBytes-after bytes front.0 rest front.2 is) b.1 in
     let one = one_found n bytes rest s b.0.0 b.0.1 front.0 front.1 front.2 ids.0 others in
@@ -196,7 +196,7 @@ begun true r o e = (refl, e)
 begun false r o e = absurd cc
 
 pub file_found : (read : PacketsRead) (bytes : List ℕ) (frames : List Stored) (after : List ℕ) → IsBytes bytes → file_at bytes ≡ Ok (frames, after)
-    → IsFile bytes frames after × (length frames < 2 ^ 64 - 1) × (list_any lacks_ids (contents_stored frames) ≡ false)
+    → IsFile bytes frames after × (length frames < 2 ^ 64 - 1) × (list_any lacks_ids (fields_stored frames) ≡ false)
 file_found read bytes frames after is e =
     let b = begun (begins_file bytes) (frames_at most_packets (drop 4 bytes)) (frames, after) e in
     let f = frames_found read most_packets (drop 4 bytes) frames after (IsBytes-drop 4 bytes is) b.1 in (
@@ -208,10 +208,10 @@ file_found read bytes frames after is e =
 -- ---- both
 
 pub file_by_format : (read : PacketsRead) (bytes : List ℕ) (frames : List Stored) (after : List ℕ) → IsBytes bytes
-    → (file_at bytes ≡ Ok (frames, after)) ↔ (IsFile bytes frames after × (length frames < 2 ^ 64 - 1) × (list_any lacks_ids (contents_stored frames) ≡ false))
+    → (file_at bytes ≡ Ok (frames, after)) ↔ (IsFile bytes frames after × (length frames < 2 ^ 64 - 1) × (list_any lacks_ids (fields_stored frames) ≡ false))
 file_by_format read bytes frames after is =
     (file_found read bytes frames after is, λ h. file_read read bytes frames after is h.0 h.1 ∙ ap (λ (b : Bool). unless_missing b frames after) h.2)
 
 pub file_refused : (read : PacketsRead) (bytes : List ℕ) (frames : List Stored) (after : List ℕ) → IsBytes bytes → IsFile bytes frames after → length frames < 2 ^ 64 - 1
-    → list_any lacks_ids (contents_stored frames) ≡ true → file_at bytes ≡ Err (file.Refused MissingId)
+    → list_any lacks_ids (fields_stored frames) ≡ true → file_at bytes ≡ Err (file.Refused MissingId)
 file_refused read bytes frames after is h few missing = file_read read bytes frames after is h few ∙ ap (λ (b : Bool). unless_missing b frames after) missing

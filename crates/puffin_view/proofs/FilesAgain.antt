@@ -13,14 +13,14 @@ use Rattle.puffin_data.specs.declared.error.Error.TheVariants.{MissingId}
 use Rattle.puffin_data.specs.declared.file_error.FileError.{FileError}
 use Rattle.puffin_data.specs.declared.file_error.FileError.TheVariants as file
 use Rattle.puffin_data.specs.Device.{IsOutside}
-use Rattle.puffin_frames.specs.Packet.Stored.{Said, Stored, packed}
+use Rattle.puffin_frames.specs.Packet.Stored.{PacketFields, Stored, packed}
 use Rattle.puffin_frames.specs.Packet.Grammar.{IsPacked}
 use Rattle.puffin_view.specs.declared.profile_view.frame_view.FrameView.{FrameView}
 use Rattle.puffin_view.specs.View.Ranking.{last_of, last_in}
-use Rattle.puffin_view.specs.View.ViewedFrames.{Frame, contents_of, index_of, rising_end, is_rising, rises_above, frames_by_index}
+use Rattle.puffin_view.specs.View.ViewedFrames.{Frame, fields_of, index_of, rising_end, is_rising, rises_above, frames_by_index}
 use Rattle.puffin_view.specs.View.{View, without_frames, with_packed, with_newest_packed, is_past, after_taking, after_all}
 use Rattle.puffin_view.specs.View.Known.{view_of, lacks_ids}
-use Rattle.puffin_view.specs.View.File.{file_of, contents_in, frame_stored, file_at, read_view, FramesReading, TookFrames, TookFault, FailsToRead, ReadsView, IsViewOf}
+use Rattle.puffin_view.specs.View.File.{file_of, fields_in, frame_stored, file_at, read_view, FramesReading, TookFrames, TookFault, FailsToRead, ReadsView, IsViewOf}
 use Rattle.puffin_view.proofs.Chronology.{AreKeyed, keyed}
 use Rattle.puffin_view.proofs.FilesWritten.{Again, Answer, unless_missing, file_again}
 
@@ -72,15 +72,15 @@ fault_given : (b : Bool) (frames : List Stored) (rest : List ℕ) (e : FileError
 fault_given true frames rest e h = (sym (ap fault_of h), refl)
 fault_given false frames rest e h = absurd (differ (ap is_ok h))
 
-whole_again : (cs : List Said) → Again → AllByRecursion IsPacked cs → length cs < 2 ^ 64 - 1 → file_at (file_of cs) ≡ unless_missing (list_any lacks_ids cs) (map packed cs) (drop 4 [])
+whole_again : (cs : List PacketFields) → Again → AllByRecursion IsPacked cs → length cs < 2 ^ 64 - 1 → file_at (file_of cs) ≡ unless_missing (list_any lacks_ids cs) (map packed cs) (drop 4 [])
 whole_again cs again all few = ap file_at (sym (append-nil (file_of cs))) ∙ file_again cs [] again all few refl
 
-pub frames_again : (cs : List Said) (new : Option (List ℕ)) (frames : List Stored) → Again → AllByRecursion IsPacked cs → length cs < 2 ^ 64 - 1 → TookFrames file_at (Some (file_of cs)) new frames → frames ≡ map packed cs
+pub frames_again : (cs : List PacketFields) (new : Option (List ℕ)) (frames : List Stored) → Again → AllByRecursion IsPacked cs → length cs < 2 ^ 64 - 1 → TookFrames file_at (Some (file_of cs)) new frames → frames ≡ map packed cs
 frames_again cs new frames again all few h =
     let k = known_frames file_at (file_of cs) new frames h in
     frames_given (list_any lacks_ids cs) (map packed cs) frames (drop 4 []) k.0 (sym (whole_again cs again all few) ∙ k.1)
 
-pub fault_again : (cs : List Said) (new : Option (List ℕ)) (e : FileError) → Again → AllByRecursion IsPacked cs → length cs < 2 ^ 64 - 1 → FailsToRead file_at (Some (file_of cs)) new e → (IsOutside e → ⊥)
+pub fault_again : (cs : List PacketFields) (new : Option (List ℕ)) (e : FileError) → Again → AllByRecursion IsPacked cs → length cs < 2 ^ 64 - 1 → FailsToRead file_at (Some (file_of cs)) new e → (IsOutside e → ⊥)
     → (e ≡ file.Refused MissingId) × (list_any lacks_ids cs ≡ true)
 fault_again cs new e again all few h not_it =
     fault_given (list_any lacks_ids cs) (map packed cs) (drop 4 []) e (sym (whole_again cs again all few) ∙ fails_known file_at (file_of cs) new e h not_it)
@@ -103,8 +103,8 @@ second false b h = absurd h
 both : (a b : Bool) → a ≡ true → b ≡ true → (a && b) ≡ true
 both a b p q = rw (p, q) refl
 
-abbrev says : List (ℕ × Frame) → List Said
-says es = map contents_of (map (λ e. e.1) es)
+abbrev says : List (ℕ × Frame) → List PacketFields
+says es = map fields_of (map (λ e. e.1) es)
 
 rises_by : (k : ℕ) (es : List (ℕ × Frame)) → AreKeyed es → T (below_all nat_cmp k es) → T (is_sorted nat_cmp es) → rises_above k (says es) ≡ true
 rises_by k [] keys below sorted = refl
@@ -118,10 +118,10 @@ rising_by [] keys sorted = refl
 rising_by (e ∷ es) keys sorted =
     rises_by (index_of e.1) es keys.1 (subst (λ (i : ℕ). T (below_all nat_cmp i es)) (sym keys.0) (first (below_all nat_cmp e.0 es) (is_sorted nat_cmp es) sorted)) (second (below_all nat_cmp e.0 es) (is_sorted nat_cmp es) sorted)
 
-pub contents_rise : (v : View) → is_rising (contents_in v) ≡ true
-contents_rise v = let fs = v.recent ++ v.slow in rising_by (fin.entries (frames_by_index fs)) (keyed fs) (fin.entries_sorted (frames_by_index fs))
+pub fields_rise : (v : View) → is_rising (fields_in v) ≡ true
+fields_rise v = let fs = v.recent ++ v.slow in rising_by (fin.entries (frames_by_index fs)) (keyed fs) (fin.entries_sorted (frames_by_index fs))
 
-pub all_taken : (cs : List Said) → is_rising cs ≡ true → rising_end cs ≡ cs
+pub all_taken : (cs : List PacketFields) → is_rising cs ≡ true → rising_end cs ≡ cs
 all_taken [] h = refl
 all_taken (c ∷ cs) h = ap (λ (b : Bool). cond b (c ∷ cs) (rising_end cs)) h
 
@@ -143,21 +143,21 @@ pub all_keep : (v : View) (fs : List Frame) → (after_all v fs).max_recent ≡ 
 all_keep v [] = refl
 all_keep v (f ∷ fs) = all_keep (after_taking v f) fs ∙ taking_keeps v f
 
-pub last_of_all : (n : ℕ) (cs : List Said) → length cs ≤ n → last_of n cs ≡ cs
+pub last_of_all : (n : ℕ) (cs : List PacketFields) → length cs ≤ n → last_of n cs ≡ cs
 last_of_all n cs h = let none : length cs - n ≡ 0 = omega arith in ap (λ (k : ℕ). drop k cs) none
 
-pub said_again : (cs : List Said) → map contents_of (map frame_stored (map packed cs)) ≡ cs
+pub said_again : (cs : List PacketFields) → map fields_of (map frame_stored (map packed cs)) ≡ cs
 said_again [] = refl
-said_again (c ∷ cs) = ap (λ (ds : List Said). c ∷ ds) (said_again cs)
+said_again (c ∷ cs) = ap (λ (ds : List PacketFields). c ∷ ds) (said_again cs)
 
-view_by : (cs : List Said) (frames : List Stored) (view : FrameView) → is_rising cs ≡ true → length cs < 2 ^ 64 - 1 → frames ≡ map packed cs → IsViewOf frames view → map contents_of (view_of view).recent ≡ cs
+view_by : (cs : List PacketFields) (frames : List Stored) (view : FrameView) → is_rising cs ≡ true → length cs < 2 ^ 64 - 1 → frames ≡ map packed cs → IsViewOf frames view → map fields_of (view_of view).recent ≡ cs
 view_by cs frames view rising few is h =
-    let said : map contents_of (map frame_stored frames) ≡ cs = ap (λ (fs : List Stored). map contents_of (map frame_stored fs)) is ∙ said_again cs in
+    let said : map fields_of (map frame_stored frames) ≡ cs = ap (λ (fs : List Stored). map fields_of (map frame_stored fs)) is ∙ said_again cs in
     let most : (view_of view).max_recent ≡ 2 ^ 64 - 1 = ap (λ (v : View). v.max_recent) h.frames ∙ all_keep read_view (map frame_stored frames) in
-    h.took.holds.recent ∙ (ap (λ (n : ℕ). last_of n (rising_end (map contents_of (map frame_stored frames)))) most ∙ (ap (λ (ds : List Said). last_of (2 ^ 64 - 1) (rising_end ds)) said
+    h.took.holds.recent ∙ (ap (λ (n : ℕ). last_of n (rising_end (map fields_of (map frame_stored frames)))) most ∙ (ap (λ (ds : List PacketFields). last_of (2 ^ 64 - 1) (rising_end ds)) said
     ∙ (ap (last_of (2 ^ 64 - 1)) (all_taken cs rising) ∙ last_of_all (2 ^ 64 - 1) cs (omega (arith, few)))))
 
-pub view_again : (v : View) (new : Option (List ℕ)) (view : FrameView) → Again → AllByRecursion IsPacked (contents_in v) → length (contents_in v) < 2 ^ 64 - 1 → ReadsView file_at (Some (file_of (contents_in v))) new (Ok view)
-    → map contents_of (view_of view).recent ≡ contents_in v
+pub view_again : (v : View) (new : Option (List ℕ)) (view : FrameView) → Again → AllByRecursion IsPacked (fields_in v) → length (fields_in v) < 2 ^ 64 - 1 → ReadsView file_at (Some (file_of (fields_in v))) new (Ok view)
+    → map fields_of (view_of view).recent ≡ fields_in v
 view_again v new view again all few h =
-    view_by (contents_in v) h.0 view (contents_rise v) few (frames_again (contents_in v) new h.0 again all few h.1) h.2
+    view_by (fields_in v) h.0 view (fields_rise v) few (frames_again (fields_in v) new h.0 again all few h.1) h.2

@@ -17,7 +17,7 @@ use Rattle.puffin_frames.specs.Packet.Versions.{as_stored, stored_after}
 use Rattle.puffin_frames.specs.Packet.Front.{is_end, next_at, AtEnd}
 use Rattle.puffin_frames.specs.Packet.Next.{stored_of}
 use Rattle.puffin_frames.specs.declared.frame_data.frame.FrameData.{FrameData}
-use Rattle.puffin_view.specs.View.ViewedFrames.{contents_of}
+use Rattle.puffin_view.specs.View.ViewedFrames.{fields_of}
 use Rattle.puffin_view.specs.View.Known.{lacks_ids}
 use Rattle.puffin_view.specs.View.File.{magic, frame_stored, with_ids, frames_from, frames_at, most_packets, begins_file, file_at, FramesReading, TookFrames, TookFault, FailsToRead}
 use Rattle.puffin_view.specs.View.FrameFile.{frame_with_ids, frame_at, GivesNext, AreGiven, HasGiven}
@@ -254,16 +254,16 @@ most_frames n e = subst (λ (m : ℕ). n ≡ m) (sym most_is) e
 -- ---- one call
 
 -- a frame that was read, by its ids
-with_its_ids : (s : Stored) (bytes rest : List ℕ) → next_at bytes ≡ Ok (Some s, rest) → lacks_ids (contents_of (frame_stored s)) ≡ false → frame_at bytes ≡ Ok (Some s, rest)
+with_its_ids : (s : Stored) (bytes rest : List ℕ) → next_at bytes ≡ Ok (Some s, rest) → lacks_ids (fields_of (frame_stored s)) ≡ false → frame_at bytes ≡ Ok (Some s, rest)
 with_its_ids s bytes rest is ids = rw (is, ids) refl
 
-without_ids : (s : Stored) (bytes rest : List ℕ) → next_at bytes ≡ Ok (Some s, rest) → lacks_ids (contents_of (frame_stored s)) ≡ true → frame_at bytes ≡ Err (file.Refused MissingId)
+without_ids : (s : Stored) (bytes rest : List ℕ) → next_at bytes ≡ Ok (Some s, rest) → lacks_ids (fields_of (frame_stored s)) ≡ true → frame_at bytes ≡ Err (file.Refused MissingId)
 without_ids s bytes rest is lacks = rw (is, lacks) refl
 
-pub checked : (old new : Option (List ℕ)) (frame : FrameData) → FromDevice {X = FrameData} (λ f. Some (stored_of f)) old new (Ok frame) next_at → lacks_ids (contents_of (frame_stored (stored_of frame))) ≡ false → GivesNext old new (Ok (Some frame))
+pub checked : (old new : Option (List ℕ)) (frame : FrameData) → FromDevice {X = FrameData} (λ f. Some (stored_of f)) old new (Ok frame) next_at → lacks_ids (fields_of (frame_stored (stored_of frame))) ≡ false → GivesNext old new (Ok (Some frame))
 checked old new frame h ids = (h.0, h.1, λ rest. with_its_ids (stored_of frame) (h.0 ++ rest) rest (h.2 rest) ids, h.3)
 
-pub refused : (old new : Option (List ℕ)) (frame : FrameData) → FromDevice {X = FrameData} (λ f. Some (stored_of f)) old new (Ok frame) next_at → lacks_ids (contents_of (frame_stored (stored_of frame))) ≡ true → GivesNext old new (Err (file.Refused MissingId))
+pub refused : (old new : Option (List ℕ)) (frame : FrameData) → FromDevice {X = FrameData} (λ f. Some (stored_of f)) old new (Ok frame) next_at → lacks_ids (fields_of (frame_stored (stored_of frame))) ≡ true → GivesNext old new (Err (file.Refused MissingId))
 refused old new frame h lacks = (h.0, h.1, λ rest. without_ids (stored_of frame) (h.0 ++ rest) rest (h.2 rest) lacks)
 
 pub failed : (old new : Option (List ℕ)) (e : FileError) → FailsAt e old new next_at → GivesNext old new (Err e)

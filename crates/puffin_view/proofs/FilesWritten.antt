@@ -12,39 +12,39 @@ use Rattle.puffin_data.specs.Part.{◌>>=◌}
 use Rattle.puffin_data.specs.Value.Layout.{NoneBeginsAnother}
 use Rattle.puffin_data.specs.Device.{WritesBeginning, is_io}
 use Rattle.puffin_data.specs.declared.error.Error.TheVariants.{MissingId}
-use Rattle.puffin_frames.specs.Packet.Stored.{Said, Stored, packed}
+use Rattle.puffin_frames.specs.Packet.Stored.{PacketFields, Stored, packed}
 use Rattle.puffin_frames.specs.Packet.Front.{next_at, is_end}
 use Rattle.puffin_frames.specs.Packet.Grammar.{packet_head, packet, IsPacked}
 use Rattle.puffin_frames.specs.Packet.Writing.{HasLongPart}
 use Rattle.std.proofs.Props.{props}
 use Rattle.puffin_view.specs.declared.profile_view.frame_file.FrameWriter.{FrameWriter}
-use Rattle.puffin_view.specs.View.ViewedFrames.{Frame, contents_of}
+use Rattle.puffin_view.specs.View.ViewedFrames.{Frame, fields_of}
 use Rattle.puffin_view.specs.View.Known.{lacks_ids}
 use Rattle.puffin_view.specs.View.File.{magic, file_of, with_ids, frames_from, frames_at, most_packets, file_at}
 use Rattle.puffin_view.specs.View.FrameFile.{HoldsFile, HoldsBegun, HoldsSoFar, written_after}
 
 -- ---- a file grows
 
-pub file_more : (done : List Said) (c : Said) → file_of done ++ packet c ≡ file_of (done ++ c ∷ [])
+pub file_more : (done : List PacketFields) (c : PacketFields) → file_of done ++ packet c ≡ file_of (done ++ c ∷ [])
 file_more done c = flat_map_more packet magic done c
 
-file_with : (done left : List Said) → file_of (done ++ left) ≡ file_of done ++ flat_map packet left
+file_with : (done left : List PacketFields) → file_of (done ++ left) ≡ file_of done ++ flat_map packet left
 file_with done left = ap (λ (t : List ℕ). magic ++ t) (flat_map-append packet done left) ∙ sym (append_assoc magic (flat_map packet done) (flat_map packet left))
 
-pub all_more : (done : List Said) (c : Said) → AllByRecursion IsPacked done → IsPacked c → AllByRecursion IsPacked (done ++ c ∷ [])
+pub all_more : (done : List PacketFields) (c : PacketFields) → AllByRecursion IsPacked done → IsPacked c → AllByRecursion IsPacked (done ++ c ∷ [])
 all_more [] c h p = (p, tt)
 all_more (d ∷ done) c h p = (h.0, all_more done c h.1 p)
 
 -- the frames that are left begin with one
-pub one_left : (done : List Said) (c : Said) (f : Frame) (now next : List Frame) (cs : List Said) → cs ≡ done ++ map contents_of now → now ≡ f ∷ next → c ≡ contents_of f → cs ≡ done ++ c ∷ map contents_of next
+pub one_left : (done : List PacketFields) (c : PacketFields) (f : Frame) (now next : List Frame) (cs : List PacketFields) → cs ≡ done ++ map fields_of now → now ≡ f ∷ next → c ≡ fields_of f → cs ≡ done ++ c ∷ map fields_of next
 one_left done c f now next cs is left same =
-    is ∙ (ap (λ (fs : List Frame). done ++ map contents_of fs) left ∙ ap (λ (d : Said). done ++ d ∷ map contents_of next) (sym same))
+    is ∙ (ap (λ (fs : List Frame). done ++ map fields_of fs) left ∙ ap (λ (d : PacketFields). done ++ d ∷ map fields_of next) (sym same))
 
-pub magic_begins : (old new : Option (List ℕ)) (cs : List Said) → WritesBeginning old new magic → WritesBeginning old new (file_of cs)
+pub magic_begins : (old new : Option (List ℕ)) (cs : List PacketFields) → WritesBeginning old new magic → WritesBeginning old new (file_of cs)
 magic_begins old new cs h = (h.0, h.1 ++ flat_map packet cs, ap (λ (t : List ℕ). t ++ flat_map packet cs) h.2 ∙ append_assoc h.0 h.1 (flat_map packet cs), h.3)
 
 -- of a packet, a beginning was written
-begun_in : (old mid new : Option (List ℕ)) (done : List Said) (c : Said) (left : List Said) → Appends old mid (file_of done) → WritesBeginning mid new (packet c) → WritesBeginning old new (file_of (done ++ c ∷ left))
+begun_in : (old mid new : Option (List ℕ)) (done : List PacketFields) (c : PacketFields) (left : List PacketFields) → Appends old mid (file_of done) → WritesBeginning mid new (packet c) → WritesBeginning old new (file_of (done ++ c ∷ left))
 begun_in old mid new done c left first h =
     let rest = flat_map packet left in (
       file_of done ++ h.0,
@@ -54,7 +54,7 @@ begun_in old mid new done c left first h =
     )
 
 -- of a packet, nothing was written
-begun_before : (old new : Option (List ℕ)) (done left : List Said) → Appends old new (file_of done) → WritesBeginning old new (file_of (done ++ left))
+begun_before : (old new : Option (List ℕ)) (done left : List PacketFields) → Appends old new (file_of done) → WritesBeginning old new (file_of (done ++ left))
 begun_before old new done left first = (file_of done, flat_map packet left, file_with done left, first)
 
 abbrev Cause : FileError → Type 0
@@ -67,22 +67,22 @@ not_io_memory : file.Memory ≡ file.Io → ⊥
 not_io_memory e = cc
 
 -- nothing at all, of one more
-nothing_begun : (old mid new : Option (List ℕ)) (cs : List Said) (c : Said) → HoldsFile old mid cs → new ≡ mid → HoldsBegun old new cs c
+nothing_begun : (old mid new : Option (List ℕ)) (cs : List PacketFields) (c : PacketFields) → HoldsFile old mid cs → new ≡ mid → HoldsBegun old new cs c
 nothing_begun old mid new cs c h same = ([], packet c, refl, subst (λ (bytes : List ℕ). Appends old new bytes) (sym (append-nil (file_of cs))) (subst (λ (m : Option (List ℕ)). Appends old m (file_of cs)) (sym same) h))
 
-pub begun : (old mid new : Option (List ℕ)) (done : List Said) (c : Said) (left cs : List Said) (e : FileError) → cs ≡ done ++ c ∷ left → Appends old mid (file_of done)
+pub begun : (old mid new : Option (List ℕ)) (done : List PacketFields) (c : PacketFields) (left cs : List PacketFields) (e : FileError) → cs ≡ done ++ c ∷ left → Appends old mid (file_of done)
     → (e ≡ file.Io → WritesBeginning mid new (packet c)) → ((e ≡ file.Io → ⊥) → new ≡ mid) → Cause e → WritesBeginning old new (file_of cs)
 begun old mid new done c left cs e is first io other (inl long) =
-    subst (λ (ds : List Said). WritesBeginning old new (file_of ds)) (sym is)
+    subst (λ (ds : List PacketFields). WritesBeginning old new (file_of ds)) (sym is)
     (begun_before old new done (c ∷ left) (subst (λ (d : Option (List ℕ)). Appends old d (file_of done)) (sym (other (λ at. not_io_long (sym long ∙ at)))) first))
 begun old mid new done c left cs e is first io other (inr (inl memory)) =
-    subst (λ (ds : List Said). WritesBeginning old new (file_of ds)) (sym is)
+    subst (λ (ds : List PacketFields). WritesBeginning old new (file_of ds)) (sym is)
     (begun_before old new done (c ∷ left) (subst (λ (d : Option (List ℕ)). Appends old d (file_of done)) (sym (other (λ at. not_io_memory (sym memory ∙ at)))) first))
 begun old mid new done c left cs e is first io other (inr (inr at)) =
-    subst (λ (ds : List Said). WritesBeginning old new (file_of ds)) (sym is) (begun_in old mid new done c left first (io at))
+    subst (λ (ds : List PacketFields). WritesBeginning old new (file_of ds)) (sym is) (begun_in old mid new done c left first (io at))
 
 -- behind a file, a beginning of one more packet
-more_begun : (old mid new : Option (List ℕ)) (cs : List Said) (c : Said) (e : FileError) → HoldsFile old mid cs → (e ≡ file.Io → WritesBeginning mid new (packet c)) → ((e ≡ file.Io → ⊥) → new ≡ mid) → Cause e → HoldsBegun old new cs c
+more_begun : (old mid new : Option (List ℕ)) (cs : List PacketFields) (c : PacketFields) (e : FileError) → HoldsFile old mid cs → (e ≡ file.Io → WritesBeginning mid new (packet c)) → ((e ≡ file.Io → ⊥) → new ≡ mid) → Cause e → HoldsBegun old new cs c
 more_begun old mid new cs c e h io other (inl long) = nothing_begun old mid new cs c h (other (λ at. not_io_long (sym long ∙ at)))
 more_begun old mid new cs c e h io other (inr (inl memory)) = nothing_begun old mid new cs c h (other (λ at. not_io_memory (sym memory ∙ at)))
 more_begun old mid new cs c e h io other (inr (inr at)) = let w = io at in (w.0, w.1, w.2, Appends-trans old mid new (file_of cs) w.0 h w.3)
@@ -107,21 +107,21 @@ unchanged_writer w v (Err e) now sound other (inr (inl memory)) = λ no. same_wr
 unchanged_writer w v (Err e) now sound other (inr (inr at)) = λ no. absurd (no at)
 
 -- a call that didn't touch the device, whose fault isn't `Io`, leaves what it held
-kept : {D : Type 0} (contents : D → Option (List ℕ)) (before after : D) (c : Said) (was is : Bool) (e fault : FileError) → was ≡ false → is ≡ failed e → e ≡ fault → failed fault ≡ false → after ≡ before
-    → (old : Option (List ℕ)) (cs : List Said) → HoldsSoFar was old (contents before) cs → HoldsSoFar is old (contents after) cs
+kept : {D : Type 0} (contents : D → Option (List ℕ)) (before after : D) (c : PacketFields) (was is : Bool) (e fault : FileError) → was ≡ false → is ≡ failed e → e ≡ fault → failed fault ≡ false → after ≡ before
+    → (old : Option (List ℕ)) (cs : List PacketFields) → HoldsSoFar was old (contents before) cs → HoldsSoFar is old (contents after) cs
 kept contents before after c was is e fault sound now this not same old cs h =
     subst (λ (b : Bool). HoldsSoFar b old (contents after) cs) (sym (now ∙ (ap failed this ∙ not)))
     (subst (λ (m : Option (List ℕ)). HoldsFile old m cs) (sym (ap contents same)) (subst (λ (b : Bool). HoldsSoFar b old (contents before) cs) sound h))
 
-pub packet_begun : {D : Type 0} (contents : D → Option (List ℕ)) (before after : D) (c : Said) (r : Result (Unit {0}) FileError) → IfErr r (λ e. e ≡ file.Io → WritesBeginning (contents before) (contents after) (packet c))
-    → IfErr r (λ e. (e ≡ file.Io → ⊥) → after ≡ before) → IfErr r Cause → IfErr r (λ e. (old : Option (List ℕ)) (cs : List Said) → HoldsFile old (contents before) cs → HoldsBegun old (contents after) cs c)
+pub packet_begun : {D : Type 0} (contents : D → Option (List ℕ)) (before after : D) (c : PacketFields) (r : Result (Unit {0}) FileError) → IfErr r (λ e. e ≡ file.Io → WritesBeginning (contents before) (contents after) (packet c))
+    → IfErr r (λ e. (e ≡ file.Io → ⊥) → after ≡ before) → IfErr r Cause → IfErr r (λ e. (old : Option (List ℕ)) (cs : List PacketFields) → HoldsFile old (contents before) cs → HoldsBegun old (contents after) cs c)
 packet_begun contents before after c (Ok x) io other cause = tt
 packet_begun contents before after c (Err e) io other cause = λ old cs h. more_begun old (contents before) (contents after) cs c e h io (λ no. ap contents (other no)) cause
 
 -- what the device holds after a call: one frame more, or a beginning of it behind which nothing comes, or what it held
-pub packet_so_far : {D : Type 0} (contents : D → Option (List ℕ)) (before after : D) (c : Said) (was is : Bool) (r : Result (Unit {0}) FileError) → was ≡ false → is ≡ is_io r
+pub packet_so_far : {D : Type 0} (contents : D → Option (List ℕ)) (before after : D) (c : PacketFields) (was is : Bool) (r : Result (Unit {0}) FileError) → was ≡ false → is ≡ is_io r
     → OnOk r (Appends (contents before) (contents after) (packet c)) → IfErr r (λ e. e ≡ file.Io → WritesBeginning (contents before) (contents after) (packet c))
-    → IfErr r (λ e. (e ≡ file.Io → ⊥) → after ≡ before) → IfErr r Cause → (old : Option (List ℕ)) (cs : List Said) → HoldsSoFar was old (contents before) cs → HoldsSoFar is old (contents after) (written_after r cs c)
+    → IfErr r (λ e. (e ≡ file.Io → ⊥) → after ≡ before) → IfErr r Cause → (old : Option (List ℕ)) (cs : List PacketFields) → HoldsSoFar was old (contents before) cs → HoldsSoFar is old (contents after) (written_after r cs c)
 packet_so_far contents before after c was is (Ok x) sound now ok io other cause old cs h =
     subst (λ (b : Bool). HoldsSoFar b old (contents after) (cs ++ c ∷ [])) (sym now)
     (subst (λ (bytes : List ℕ). Appends old (contents after) bytes) (file_more cs c) (Appends-trans old (contents before) (contents after) (file_of cs) (packet c) (subst (λ (b : Bool). HoldsSoFar b old (contents before) cs) sound h) ok))
@@ -135,17 +135,17 @@ packet_so_far contents before after c was is (Err e) sound now ok io other (inr 
     subst (λ (b : Bool). HoldsSoFar b old (contents after) cs) (sym (now ∙ ap failed at)) (c, (w.0, w.1, w.2, Appends-trans old (contents before) (contents after) (file_of cs) w.0 first w.3))
 
 -- a frame among others
-pub any_of : (done : List Said) (c : Said) (left cs : List Said) → cs ≡ done ++ c ∷ left → HasLongPart c → Any HasLongPart cs
-any_of done c left cs is long = subst (λ (ds : List Said). Any HasLongPart ds) (sym is) (among done c left long)
+pub any_of : (done : List PacketFields) (c : PacketFields) (left cs : List PacketFields) → cs ≡ done ++ c ∷ left → HasLongPart c → Any HasLongPart cs
+any_of done c left cs is long = subst (λ (ds : List PacketFields). Any HasLongPart ds) (sym is) (among done c left long)
   where
-    among : (done : List Said) (c : Said) (left : List Said) → HasLongPart c → Any HasLongPart (done ++ c ∷ left)
+    among : (done : List PacketFields) (c : PacketFields) (left : List PacketFields) → HasLongPart c → Any HasLongPart (done ++ c ∷ left)
     among [] c left long = (0, c, omega arith, refl, long)
     among (d ∷ done) c left long = let h = among done c left long in (suc h.0, h.1, omega (arith, h.2), h.3, h.4)
 
 -- ---- and is read again
 
 abbrev pub Again : Type 0
-Again = (p : Said) (rest : List ℕ) → IsPacked p → next_at (packet p ++ rest) ≡ Ok (Some (packed p), rest)
+Again = (p : PacketFields) (rest : List ℕ) → IsPacked p → next_at (packet p ++ rest) ≡ Ok (Some (packed p), rest)
 
 abbrev pub Answer : Type 0
 Answer = Result (List Stored × List ℕ) FileError
@@ -163,7 +163,7 @@ end_again : (end : List ℕ) → is_end end ≡ true → next_at end ≡ Ok (Non
 unfolding next_at
 end_again end stops = rw stops refl
 
-packets_again : (k : ℕ) (cs : List Said) (end : List ℕ) → Again → AllByRecursion IsPacked cs → is_end end ≡ true
+packets_again : (k : ℕ) (cs : List PacketFields) (end : List ℕ) → Again → AllByRecursion IsPacked cs → is_end end ≡ true
     → frames_at (suc k + length cs) (flat_map packet cs ++ end) ≡ unless_missing (list_any lacks_ids cs) (map packed cs) (drop 4 end)
 packets_again k [] end again all stops =
     let one : suc k + 0 ≡ suc k = omega arith in
@@ -182,23 +182,23 @@ pub room : (n : ℕ) → n < 2 ^ 64 - 1 → suc (most_packets - suc n) + n ≡ m
 unfolding most_packets
 room n lt = omega arith
 
-pub file_again : (cs : List Said) (end : List ℕ) → Again → AllByRecursion IsPacked cs → length cs < 2 ^ 64 - 1 → is_end end ≡ true → file_at (file_of cs ++ end) ≡ unless_missing (list_any lacks_ids cs) (map packed cs) (drop 4 end)
+pub file_again : (cs : List PacketFields) (end : List ℕ) → Again → AllByRecursion IsPacked cs → length cs < 2 ^ 64 - 1 → is_end end ≡ true → file_at (file_of cs ++ end) ≡ unless_missing (list_any lacks_ids cs) (map packed cs) (drop 4 end)
 file_again cs end again all few stops =
     ap (λ (n : ℕ). frames_at n (flat_map packet cs ++ end)) (sym (room (length cs) few)) ∙ packets_again (most_packets - suc (length cs)) cs end again all stops
 
 -- ---- one list of frames
 
-some_bytes : (d : Said) (x : List ℕ) → [] ≡ packet d ++ x → ⊥
+some_bytes : (d : PacketFields) (x : List ℕ) → [] ≡ packet d ++ x → ⊥
 unfolding packet_head
 some_bytes d x e = absurd (omega (arith, ap length e))
 
-packets_apart : (cs ds : List Said) → NoneBeginsAnother IsPacked packet → AllByRecursion IsPacked cs → AllByRecursion IsPacked ds → flat_map packet cs ≡ flat_map packet ds → cs ≡ ds
+packets_apart : (cs ds : List PacketFields) → NoneBeginsAnother IsPacked packet → AllByRecursion IsPacked cs → AllByRecursion IsPacked ds → flat_map packet cs ≡ flat_map packet ds → cs ≡ ds
 packets_apart [] [] alone p q e = refl
 packets_apart [] (d ∷ ds) alone p q e = absurd (some_bytes d (flat_map packet ds) e)
 packets_apart (c ∷ cs) [] alone p q e = absurd (some_bytes c (flat_map packet cs) (sym e))
 packets_apart (c ∷ cs) (d ∷ ds) alone p q e =
     let h = alone c d (flat_map packet cs) (flat_map packet ds) p.0 q.0 e in
-    ap (λ (x : Said). x ∷ cs) h.0 ∙ ap (λ (xs : List Said). d ∷ xs) (packets_apart cs ds alone p.1 q.1 h.1)
+    ap (λ (x : PacketFields). x ∷ cs) h.0 ∙ ap (λ (xs : List PacketFields). d ∷ xs) (packets_apart cs ds alone p.1 q.1 h.1)
 
-pub files_apart : (cs ds : List Said) → NoneBeginsAnother IsPacked packet → AllByRecursion IsPacked cs → AllByRecursion IsPacked ds → file_of cs ≡ file_of ds → cs ≡ ds
+pub files_apart : (cs ds : List PacketFields) → NoneBeginsAnother IsPacked packet → AllByRecursion IsPacked cs → AllByRecursion IsPacked ds → file_of cs ≡ file_of ds → cs ≡ ds
 files_apart cs ds alone p q e = packets_apart cs ds alone p q (append_cancel_left magic (flat_map packet cs) (flat_map packet ds) e)

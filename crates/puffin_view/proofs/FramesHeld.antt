@@ -9,18 +9,18 @@ use Rattle.std.specs.declared.cmp.Ordering.{Ordering}
 use Rattle.std.specs.declared.cmp.Ordering.TheVariants.{Less, Equal, Greater}
 use Rattle.std.specs.FinMap as fin
 use Rattle.std.specs.FinMap.Entries.{by_order, below_all, is_sorted, same_entries}
-use Rattle.puffin_frames.specs.Packet.Stored.{Said, packed}
+use Rattle.puffin_frames.specs.Packet.Stored.{PacketFields, packed}
 use Rattle.puffin_view.specs.View.Ranking.{last_of, last_in, has}
-use Rattle.puffin_view.specs.View.ViewedFrames.{Frame, contents_of, index_of, frame_index, packed_under, rising_end, is_rising, rises_above, frames_by_index, chronological}
+use Rattle.puffin_view.specs.View.ViewedFrames.{Frame, fields_of, index_of, frame_index, packed_under, rising_end, is_rising, rises_above, frames_by_index, chronological}
 use Rattle.puffin_view.specs.View.{View, without_frames, with_packed, with_newest_packed, is_past, joined_by, after_taking, after_all, Took}
-use Rattle.puffin_view.specs.View.File.{contents_held, contents_in, frame_stored, read_view}
+use Rattle.puffin_view.specs.View.File.{fields_held, fields_in, frame_stored, read_view}
 use Rattle.puffin_view.specs.inner.Store.{has_index}
 use Rattle.puffin_view.proofs.Taking.{enters}
 use Rattle.puffin_view.proofs.Keeping.{all_map, all_choice, all_drop, all_more, all_packed, index_packed_at}
 use Rattle.puffin_view.proofs.Orders.{map-length}
 use Rattle.puffin_view.proofs.Storing.{all_first, all_rest, has_all, has-index_of, is_at}
 use Rattle.puffin_view.proofs.FileFrames.{took_all}
-use Rattle.puffin_view.proofs.FilesAgain.{contents_rise, said_again, all_taken, all_keep, last_of_all}
+use Rattle.puffin_view.proofs.FilesAgain.{fields_rise, said_again, all_taken, all_keep, last_of_all}
 
 -- ---- what is true of all frames that a view holds
 
@@ -51,18 +51,18 @@ module _ (P : Frame → Type 0) (keeps : (i : ℕ) (f : Frame) → P f → P (pa
 
 -- ---- tests of what frames say
 
-abbrev Fails : (Said → Bool) → Frame → Type 0
-Fails p f = p (contents_of f) ≡ false
+abbrev Fails : (PacketFields → Bool) → Frame → Type 0
+Fails p f = p (fields_of f) ≡ false
 
 neither : (a b : Bool) → (a || b) ≡ false → (a ≡ false) × (b ≡ false)
 neither true b h = cc
 neither false b h = (refl, h)
 
-fail_all : (p : Said → Bool) (fs : List Frame) → list_any p (map contents_of fs) ≡ false → AllByRecursion (Fails p) fs
+fail_all : (p : PacketFields → Bool) (fs : List Frame) → list_any p (map fields_of fs) ≡ false → AllByRecursion (Fails p) fs
 fail_all p [] h = tt
-fail_all p (f ∷ fs) h = let both = neither (p (contents_of f)) (list_any p (map contents_of fs)) h in (both.0, fail_all p fs both.1)
+fail_all p (f ∷ fs) h = let both = neither (p (fields_of f)) (list_any p (map fields_of fs)) h in (both.0, fail_all p fs both.1)
 
-none_passes : (p : Said → Bool) (fs : List Frame) → AllByRecursion (Fails p) fs → list_any p (map contents_of fs) ≡ false
+none_passes : (p : PacketFields → Bool) (fs : List Frame) → AllByRecursion (Fails p) fs → list_any p (map fields_of fs) ≡ false
 none_passes p [] h = refl
 none_passes p (f ∷ fs) h = rw h.0 (none_passes p fs h.1)
 
@@ -70,13 +70,13 @@ all_append : (P : Frame → Type 0) (fs gs : List Frame) → AllByRecursion P fs
 all_append P [] gs h k = k
 all_append P (f ∷ fs) gs h k = (h.0, all_append P fs gs h.1 k)
 
-says_same : (i : ℕ) (f : Frame) → contents_of (packed_under i f) ≡ contents_of f
+says_same : (i : ℕ) (f : Frame) → fields_of (packed_under i f) ≡ fields_of f
 says_same i f = at (nat_eq (index_of f) i) where
-  at : (b : Bool) → contents_of (cond b (record { contents = f.contents; is_unpacked = false; is_packed = true }) f) ≡ contents_of f
+  at : (b : Bool) → fields_of (cond b (record { fields = f.fields; is_unpacked = false; is_packed = true }) f) ≡ fields_of f
   at true = refl
   at false = refl
 
-pub held_or_taken : (p : Said → Bool) (v : View) (fs : List Frame) → list_any p (contents_held v) ≡ false → list_any p (map contents_of fs) ≡ false → list_any p (contents_held (after_all v fs)) ≡ false
+pub held_or_taken : (p : PacketFields → Bool) (v : View) (fs : List Frame) → list_any p (fields_held v) ≡ false → list_any p (map fields_of fs) ≡ false → list_any p (fields_held (after_all v fs)) ≡ false
 held_or_taken p v fs held none =
     let before = fail_all p (v.recent ++ v.slow) held in
     let after = all_held (Fails p) (λ i f h. ap p (says_same i f) ∙ h) v fs (fail_all p fs none) (record { recent = all_first (Fails p) v.recent v.slow before; slow = all_rest (Fails p) v.recent v.slow before }) in
@@ -109,7 +109,7 @@ values_all : (P : Frame → Type 0) (es : List (ℕ × Frame)) → AllByRecursio
 values_all P [] h = tt
 values_all P (e ∷ es) h = (h.0, values_all P es h.1)
 
-pub listed_is_held : (p : Said → Bool) (v : View) → list_any p (contents_held v) ≡ false → list_any p (contents_in v) ≡ false
+pub listed_is_held : (p : PacketFields → Bool) (v : View) → list_any p (fields_held v) ≡ false → list_any p (fields_in v) ≡ false
 listed_is_held p v held =
     let fs = v.recent ++ v.slow in
     none_passes p (chronological fs) (values_all (Fails p) (fin.entries (frames_by_index fs)) (entries_all (Fails p) fs (fail_all p fs held)))
@@ -130,26 +130,26 @@ second false b h = cc
 below_is : (i k : ℕ) → nat_lt i k ≡ true → is_lt (nat_cmp i k) ≡ true
 below_is i k h = grind arith
 
-rise_below : (i j : ℕ) (fs : List Frame) → nat_lt i j ≡ true → rises_above j (map contents_of fs) ≡ true → rises_above i (map contents_of fs) ≡ true
+rise_below : (i j : ℕ) (fs : List Frame) → nat_lt i j ≡ true → rises_above j (map fields_of fs) ≡ true → rises_above i (map fields_of fs) ≡ true
 rise_below i j [] lt h = refl
-rise_below i j (f ∷ fs) lt h = rw (lower (first (nat_lt j (index_of f)) _ h)) (second (nat_lt j (index_of f)) (rises_above (index_of f) (map contents_of fs)) h)
+rise_below i j (f ∷ fs) lt h = rw (lower (first (nat_lt j (index_of f)) _ h)) (second (nat_lt j (index_of f)) (rises_above (index_of f) (map fields_of fs)) h)
   where
     lower : nat_lt j (index_of f) ≡ true → nat_lt i (index_of f) ≡ true
     lower k = grind arith
 
-all_below : (i : ℕ) (fs : List Frame) → rises_above i (map contents_of fs) ≡ true → below_all nat_cmp i (map by_own_index fs) ≡ true
+all_below : (i : ℕ) (fs : List Frame) → rises_above i (map fields_of fs) ≡ true → below_all nat_cmp i (map by_own_index fs) ≡ true
 all_below i [] h = refl
 all_below i (f ∷ fs) h =
-    let lt = first (nat_lt i (index_of f)) (rises_above (index_of f) (map contents_of fs)) h in
-    rw (below_is i (index_of f) lt) (all_below i fs (rise_below i (index_of f) fs lt (second (nat_lt i (index_of f)) (rises_above (index_of f) (map contents_of fs)) h)))
+    let lt = first (nat_lt i (index_of f)) (rises_above (index_of f) (map fields_of fs)) h in
+    rw (below_is i (index_of f) lt) (all_below i fs (rise_below i (index_of f) fs lt (second (nat_lt i (index_of f)) (rises_above (index_of f) (map fields_of fs)) h)))
 
-sorted_from : (i : ℕ) (fs : List Frame) → rises_above i (map contents_of fs) ≡ true → T (is_sorted nat_cmp (map by_own_index fs))
+sorted_from : (i : ℕ) (fs : List Frame) → rises_above i (map fields_of fs) ≡ true → T (is_sorted nat_cmp (map by_own_index fs))
 sorted_from i [] h = tt
 sorted_from i (f ∷ fs) h =
-    let later = second (nat_lt i (index_of f)) (rises_above (index_of f) (map contents_of fs)) h in
+    let later = second (nat_lt i (index_of f)) (rises_above (index_of f) (map fields_of fs)) h in
     rw (all_below (index_of f) fs later) (sorted_from (index_of f) fs later)
 
-sorted_if_rising : (fs : List Frame) → is_rising (map contents_of fs) ≡ true → T (is_sorted nat_cmp (map by_own_index fs))
+sorted_if_rising : (fs : List Frame) → is_rising (map fields_of fs) ≡ true → T (is_sorted nat_cmp (map by_own_index fs))
 sorted_if_rising [] h = tt
 sorted_if_rising (f ∷ fs) h = rw (all_below (index_of f) fs h) (sorted_from (index_of f) fs h)
 
@@ -192,26 +192,26 @@ own_frames [] = refl
 own_frames (f ∷ fs) = ap (λ gs. f ∷ gs) (own_frames fs)
 
 -- frames that rise stand as they are, whatever frames of their indices come behind them
-in_place : (fs gs : List Frame) → is_rising (map contents_of fs) ≡ true → AllByRecursion (λ g. has_index (index_of g) fs ≡ true) gs → chronological (fs ++ gs) ≡ fs
+in_place : (fs gs : List Frame) → is_rising (map fields_of fs) ≡ true → AllByRecursion (λ g. has_index (index_of g) fs ≡ true) gs → chronological (fs ++ gs) ≡ fs
 in_place fs gs rising all =
     ap (map (λ (e : ℕ × Frame). e.1))
     (same_entries nat_cmp nat_cmp_total fin.nat_cmp-IsAntisymmetric (fin.entries (frames_by_index (fs ++ gs))) (map by_own_index fs) (fin.entries_sorted (frames_by_index (fs ++ gs))) (sorted_if_rising fs rising)
     (λ q. sym (fin.get-entries (frames_by_index (fs ++ gs)) q) ∙ fin.get-from_entries nat_cmp_total (map by_own_index (fs ++ gs)) q ∙ found_alike q fs gs all))
     ∙ own_frames fs
 
-indices_said : (fs : List Frame) → map index_of fs ≡ map frame_index (map contents_of fs)
+indices_said : (fs : List Frame) → map index_of fs ≡ map frame_index (map fields_of fs)
 indices_said [] = refl
 indices_said (f ∷ fs) = ap (λ is. index_of f ∷ is) (indices_said fs)
 
 -- frames whose indices rise are the recent ones of the view that takes them
-pub rising_are_recent : (fs : List Frame) → is_rising (map contents_of fs) ≡ true → length fs < 2 ^ 64 - 1 → map contents_of (after_all read_view fs).recent ≡ map contents_of fs
+pub rising_are_recent : (fs : List Frame) → is_rising (map fields_of fs) ≡ true → length fs < 2 ^ 64 - 1 → map fields_of (after_all read_view fs).recent ≡ map fields_of fs
 rising_are_recent fs rising few =
-    let took : Took (map contents_of fs) (after_all read_view fs) = took_all fs in
-    took.holds.recent ∙ (ap (λ (n : ℕ). last_of n (rising_end (map contents_of fs))) (all_keep read_view fs)
-    ∙ (ap (last_of (2 ^ 64 - 1)) (all_taken (map contents_of fs) rising) ∙ last_of_all (2 ^ 64 - 1) (map contents_of fs) (omega (arith, few, map-length contents_of fs))))
+    let took : Took (map fields_of fs) (after_all read_view fs) = took_all fs in
+    took.holds.recent ∙ (ap (λ (n : ℕ). last_of n (rising_end (map fields_of fs))) (all_keep read_view fs)
+    ∙ (ap (last_of (2 ^ 64 - 1)) (all_taken (map fields_of fs) rising) ∙ last_of_all (2 ^ 64 - 1) (map fields_of fs) (omega (arith, few, map-length fields_of fs))))
 
 -- and that view has no others
-pub rising_in_place : (fs : List Frame) → is_rising (map contents_of fs) ≡ true → length fs < 2 ^ 64 - 1 → contents_in (after_all read_view fs) ≡ map contents_of (after_all read_view fs).recent
+pub rising_in_place : (fs : List Frame) → is_rising (map fields_of fs) ≡ true → length fs < 2 ^ 64 - 1 → fields_in (after_all read_view fs) ≡ map fields_of (after_all read_view fs).recent
 rising_in_place fs rising few =
     let v = after_all read_view fs in
     let recent = rising_are_recent fs rising few in
@@ -220,16 +220,16 @@ rising_in_place fs rising few =
     let alike : (q : ℕ) → has_index q fs ≡ has_index q v.recent = λ q.
     sym (has-index_of q fs) ∙ (ap (has q) (indices_said fs ∙ (ap (map frame_index) (sym recent) ∙ sym (indices_said v.recent))) ∙ has-index_of q v.recent) in
     let slow_again : AllByRecursion (λ g. has_index (index_of g) v.recent ≡ true) v.slow = all_map (λ g. has_index (index_of g) fs ≡ true) (λ g. has_index (index_of g) v.recent ≡ true) (λ g h. sym (alike (index_of g)) ∙ h) v.slow slow in
-    ap (map contents_of) (in_place v.recent v.slow (ap is_rising recent ∙ rising) slow_again)
+    ap (map fields_of) (in_place v.recent v.slow (ap is_rising recent ∙ rising) slow_again)
 
 -- the frames of a file whose indices rise are just those of the view that reads it
-pub read_in_place : (cs : List Said) → is_rising cs ≡ true → length cs < 2 ^ 64 - 1 → contents_in (after_all read_view (map frame_stored (map packed cs))) ≡ cs
+pub read_in_place : (cs : List PacketFields) → is_rising cs ≡ true → length cs < 2 ^ 64 - 1 → fields_in (after_all read_view (map frame_stored (map packed cs))) ≡ cs
 read_in_place cs rising few =
     let fs = map frame_stored (map packed cs) in
-    let said : map contents_of fs ≡ cs = said_again cs in
-    let rises : is_rising (map contents_of fs) ≡ true = ap is_rising said ∙ rising in
-    let short : length fs < 2 ^ 64 - 1 = omega (arith, few, map-length contents_of fs, ap length said) in
+    let said : map fields_of fs ≡ cs = said_again cs in
+    let rises : is_rising (map fields_of fs) ≡ true = ap is_rising said ∙ rising in
+    let short : length fs < 2 ^ 64 - 1 = omega (arith, few, map-length fields_of fs, ap length said) in
     rising_in_place fs rises short ∙ (rising_are_recent fs rises short ∙ said)
 
-pub read_again : (v : View) → length (contents_in v) < 2 ^ 64 - 1 → contents_in (after_all read_view (map frame_stored (map packed (contents_in v)))) ≡ contents_in v
-read_again v few = read_in_place (contents_in v) (contents_rise v) few
+pub read_again : (v : View) → length (fields_in v) < 2 ^ 64 - 1 → fields_in (after_all read_view (map frame_stored (map packed (fields_in v)))) ≡ fields_in v
+read_again v few = read_in_place (fields_in v) (fields_rise v) few

@@ -18,13 +18,13 @@ use Rattle.std.proofs.lemmas.List.Sums.{sum_by-cons}
 use Rattle.puffin_frames.specs.declared.frame_data.frame.FrameData.{FrameData}
 use Rattle.puffin_frames.specs.declared.frame_data.held.Held.{Held}
 use Rattle.puffin_frames.specs.declared.frame_data.held.Held.TheVariants.{Own, Shared, Packed, Both}
-use Rattle.puffin_frames.specs.Frame.Contents.{Streams, holding_of, held_as, frame_meta, frame_says}
+use Rattle.puffin_frames.specs.Frame.Contents.{Streams, holding_of, held_as, frame_meta, packet_fields}
 use Rattle.puffin_frames.specs.Frame.Holding.{Packing, packing, as_packed}
 use Rattle.puffin_view.specs.View.ViewedFrames.{Frame, packed_alone, ram_of}
 use Rattle.std.specs.Arc.{arc_value}
 use Rattle.puffin_view.specs.View.FrameOf.{frame_of, shared_frame}
 use Rattle.std.specs.Option.{option_copied}
-use Rattle.puffin_view.specs.declared.profile_view.sums.Sums.{Sums}
+use Rattle.puffin_view.specs.declared.profile_view.sums.RunningStats.{RunningStats}
 use Rattle.puffin_view.specs.View.Stats.{stats_of, cut}
 use Rattle.puffin_view.specs.declared.profile_view.stats.FrameStats.{FrameStats}
 use Rattle.puffin_view.specs.inner.Held.{IsSummed, frames_seen, held_of, number_if, unpacked_number, ram_taken}
@@ -83,7 +83,7 @@ module _ {A : Type 0} where
     at None h = h
     at (Some a) h = refl
 
-  pub none_summed : (es : List (ℕ × Arc FrameData A)) (sums : Sums) → es ≡ [] → sums ≡ record { frames = 0; unpacked_frames = 0; bytes_of_ram_used = 0 } → IsSummed es sums
+  pub none_summed : (es : List (ℕ × Arc FrameData A)) (sums : RunningStats) → es ≡ [] → sums ≡ record { frames = 0; unpacked_frames = 0; bytes_of_ram_used = 0 } → IsSummed es sums
   unfolding IsStrictlySortedBy
   none_summed [] sums e s = record { ordered = tt; few = omega arith; frames = ap (λ t. t.frames) s; unpacked_frames = ap (λ t. t.unpacked_frames) s; bytes = ap (λ t. t.bytes_of_ram_used) s }
   none_summed (x ∷ es) sums e s = cc
@@ -175,7 +175,7 @@ module _ {A : Type 0} where
     same (Some a) = refl
 
   -- what the sums say is what the frames say
-  pub stats_summed : (es : List (ℕ × Arc FrameData A)) (sums : Sums) → IsSummed es sums → record { frames = cut sums.frames; unpacked_frames = cut sums.unpacked_frames; bytes_of_ram_used = cut sums.bytes_of_ram_used } ≡ stats_of (fin.values (held_of es))
+  pub stats_summed : (es : List (ℕ × Arc FrameData A)) (sums : RunningStats) → IsSummed es sums → record { frames = cut sums.frames; unpacked_frames = cut sums.unpacked_frames; bytes_of_ram_used = cut sums.bytes_of_ram_used } ≡ stats_of (fin.values (held_of es))
   stats_summed es sums h =
       let fs : List Frame = map shared_frame (values_of es) in
       let made : List Frame → FrameStats = stats_of in
@@ -211,7 +211,7 @@ module _ {A : Type 0} where
   same_length (e ∷ es) [] h = absurd h
   same_length (e ∷ es) (f ∷ fs) h = ap suc (same_length es fs h.1)
 
-  pub summed_cloned : (es fs : List (ℕ × Arc FrameData A)) (sums : Sums) → AllZip (λ p q. (q.0 ≡ p.0) × (arc_value q.1 ≡ arc_value p.1)) es fs → IsSummed es sums → IsSummed fs sums
+  pub summed_cloned : (es fs : List (ℕ × Arc FrameData A)) (sums : RunningStats) → AllZip (λ p q. (q.0 ≡ p.0) × (arc_value q.1 ≡ arc_value p.1)) es fs → IsSummed es sums → IsSummed fs sums
   summed_cloned es fs sums h s = record {
     ordered = subst (λ ks. IsStrictlySortedBy nat_cmp ks) (sym (keys_cloned es fs h)) s.ordered;
     few = subst (λ n. n < 2 ^ 64) (same_length es fs h) s.few;
@@ -231,8 +231,8 @@ pub ram_says : (f : FrameData) → min (unwrap_or (option_map (λ _. (frame_meta
 ram_says f = ram_at (holding_of f).packed (holding_of f).unpacked (frame_meta f).num_bytes
 
 -- a packed copy
-pub packed_copied : (f g : FrameData) → holding_of g ≡ as_packed (holding_of f) → frame_says g ≡ frame_says f → frame_of g ≡ packed_alone (frame_of f)
-packed_copied f g held says = λ i. record { contents = says i; is_unpacked = is_some (held i).unpacked; is_packed = is_some (held i).packed }
+pub packed_copied : (f g : FrameData) → holding_of g ≡ as_packed (holding_of f) → packet_fields g ≡ packet_fields f → frame_of g ≡ packed_alone (frame_of f)
+packed_copied f g held says = λ i. record { fields = says i; is_unpacked = is_some (held i).unpacked; is_packed = is_some (held i).packed }
 
 held_packed : (h : Held) → is_some (held_as h).unpacked ≡ false → is_some (held_as h).packed ≡ true
 held_packed (Own u) e = absurd cc
@@ -242,4 +242,4 @@ held_packed (Both b) e = refl
 
 -- a frame that isn't held unpacked
 pub packed_already : (f : FrameData) → is_some (holding_of f).unpacked ≡ false → frame_of f ≡ packed_alone (frame_of f)
-packed_already f e = λ j. record { contents = frame_says f; is_unpacked = e j; is_packed = held_packed f.held e j }
+packed_already f e = λ j. record { fields = packet_fields f; is_unpacked = e j; is_packed = held_packed f.held e j }

@@ -6,9 +6,9 @@ use Rattle.std.specs.declared.cmp.Ordering.TheVariants.{Equal}
 use Rattle.std.proofs.lemmas.Int.{ints}
 use Rattle.std.proofs.lemmas.List.Sorted.{ranks_by}
 use Rattle.puffin_view.specs.View.Ranking.{place, last_from}
-use Rattle.puffin_frames.specs.Packet.Stored.{Said}
+use Rattle.puffin_frames.specs.Packet.Stored.{PacketFields}
 use Rattle.puffin_view.specs.View.Selection.{Rank, older_cmp}
-use Rattle.puffin_view.specs.View.ViewedFrames.{Frame, frame_index, duration, by_duration, is_slower, contents_of, index_of, packed_under, packed_alone}
+use Rattle.puffin_view.specs.View.ViewedFrames.{Frame, frame_index, duration, by_duration, is_slower, fields_of, index_of, packed_under, packed_alone}
 
 pub by_duration_total : IsTotalOrder by_duration
 by_duration_total = then_total (on_total duration (back_total int_cmp_total)) (on_total frame_index nat_cmp_total)
@@ -17,23 +17,23 @@ pub older_total : IsTotalOrder older_cmp
 older_total = then_total (on_total (λ (r : Rank). r.index) nat_cmp_total) (then_total (on_total (λ (r : Rank). r.place) nat_cmp_total) (on_total (λ (r : Rank). r.duration) int_cmp_total))
 
 pub slower_order : IsStrictWeakOrder is_slower
-slower_order = ranks_by by_duration_total (λ (c : Said). c)
+slower_order = ranks_by by_duration_total (λ (c : PacketFields). c)
 
 -- a frame no longer than another, with an index above it, doesn't come before it
-pub later_behind : (c d : Said) → int_lt (duration d) (duration c) ≡ false → frame_index d < frame_index c → is_slower c d ≡ false
+pub later_behind : (c d : PacketFields) → int_lt (duration d) (duration c) ≡ false → frame_index d < frame_index c → is_slower c d ≡ false
 later_behind c d short late = grind arith
 
 -- what ties by duration
-same_duration : (c d : Said) → by_duration c d ≡ Equal → duration c ≡ duration d
+same_duration : (c d : PacketFields) → by_duration c d ≡ Equal → duration c ≡ duration d
 same_duration c d e = grind (arith, ints)
 
-same_index : (c d : Said) → by_duration c d ≡ Equal → frame_index c ≡ frame_index d
+same_index : (c d : PacketFields) → by_duration c d ≡ Equal → frame_index c ≡ frame_index d
 same_index c d e = grind (arith, ints)
 
-tied : (c d : Said) → duration c ≡ duration d → frame_index c ≡ frame_index d → by_duration c d ≡ Equal
+tied : (c d : PacketFields) → duration c ≡ duration d → frame_index c ≡ frame_index d → by_duration c d ≡ Equal
 tied c d long at = grind (arith, ints)
 
-pub by_duration_ties : (c d : Said) → by_duration c d ≡ Equal ↔ ((duration c ≡ duration d) × (frame_index c ≡ frame_index d))
+pub by_duration_ties : (c d : PacketFields) → by_duration c d ≡ Equal ↔ ((duration c ≡ duration d) × (frame_index c ≡ frame_index d))
 by_duration_ties c d = (λ e. (same_duration c d e, same_index c d e), λ h. tied c d h.0 h.1)
 
 module _ {F G : Type 0} (g : F → G) (before : G → G → Bool) where
@@ -69,13 +69,13 @@ map-last_from g x [] = refl
 map-last_from g x (y ∷ ys) = map-last_from g y ys
 
 -- packing changes nothing of what frames say
-packed_says : (f : Frame) (b : Bool) → contents_of (cond b (packed_alone f) f) ≡ contents_of f
+packed_says : (f : Frame) (b : Bool) → fields_of (cond b (packed_alone f) f) ≡ fields_of f
 packed_says f true = refl
 packed_says f false = refl
 
 cons : {X : Type 0} {x y : X} {xs ys : List X} → x ≡ y → xs ≡ ys → x ∷ xs ≡ y ∷ ys
 cons p q i = p i ∷ q i
 
-pub packed_at_says : (i : ℕ) (fs : List Frame) → map contents_of (map (packed_under i) fs) ≡ map contents_of fs
+pub packed_at_says : (i : ℕ) (fs : List Frame) → map fields_of (map (packed_under i) fs) ≡ map fields_of fs
 packed_at_says i [] = refl
 packed_at_says i (f ∷ fs) = cons (packed_says f (nat_eq (index_of f) i)) (packed_at_says i fs)

@@ -19,7 +19,7 @@ use Rattle.puffin_frames.specs.Packet.Parts.{meta_from, meta_part_at, kind_from,
 use Rattle.puffin_frames.specs.Packet.Versions.{packet_at, as_stored}
 use Rattle.puffin_frames.specs.Packet.Front.{next_at}
 use Rattle.puffin_frames.specs.Packet.Grammar.{packet, packet_head}
-use Rattle.puffin_frames.specs.Packet.Stored.{Said, Stored, packed}
+use Rattle.puffin_frames.specs.Packet.Stored.{PacketFields, Stored, packed}
 
 abbrev Reading : Type 0 → Type 0
 Reading A = List ℕ → Result (A × List ℕ) FileError
@@ -119,14 +119,14 @@ details_cut form =
     (both counted_part_at (λ part rest. details_from (whole details_at part) >>= λ ds. Ok (ds, rest)) counted_cut (λ part. decided (details_from (whole details_at part)) (λ ds. ds)))
     (valued [])
 
-abbrev said_of : Form → FrameMeta → Kind × List ℕ → List Details → Said
-said_of form meta streams details = record { meta = meta; form = text_form (for_form form); kind = streams.0; streams = streams.1; details = details }
+abbrev fields_made : Form → FrameMeta → Kind × List ℕ → List Details → PacketFields
+fields_made form meta streams details = record { meta = meta; form = text_form (for_form form); kind = streams.0; streams = streams.1; details = details }
 
 packet_cut : (form : Form) → IsCuttable (packet_at (for_form form))
 packet_cut form =
-    both meta_part_at (λ meta rest. streams_part_at (for_form form) rest >>= λ streams. details_part_at (for_form form) streams.1 >>= λ details. Ok (said_of form meta streams.0 details.0, details.1)) meta_cut
-    (λ meta. both (streams_part_at (for_form form)) (λ streams rest. details_part_at (for_form form) rest >>= λ details. Ok (said_of form meta streams details.0, details.1)) (streams_cut form)
-    (λ streams. both (details_part_at (for_form form)) (λ details rest. Ok (said_of form meta streams details, rest)) (details_cut form) (λ details. valued (said_of form meta streams details))))
+    both meta_part_at (λ meta rest. streams_part_at (for_form form) rest >>= λ streams. details_part_at (for_form form) streams.1 >>= λ details. Ok (fields_made form meta streams.0 details.0, details.1)) meta_cut
+    (λ meta. both (streams_part_at (for_form form)) (λ streams rest. details_part_at (for_form form) rest >>= λ details. Ok (fields_made form meta streams details.0, details.1)) (streams_cut form)
+    (λ streams. both (details_part_at (for_form form)) (λ details rest. Ok (fields_made form meta streams details, rest)) (details_cut form) (λ details. valued (fields_made form meta streams details))))
 
 -- ---- packets
 
@@ -134,7 +134,7 @@ apart : (x y : List ℕ) → 0 < length y → [] ≡ x ++ y → ⊥
 apart x y some e = omega (arith, some, ap length e, length-append x y)
 
 -- a packet that is cut short behind its letters
-letters_stay : (form : Form) (l more : List ℕ) (p : Said) → 0 < length more → packet_at (for_form form) (l ++ more) ≡ Ok (p, []) → packet_at (for_form form) l ≡ Err file.Truncated
+letters_stay : (form : Form) (l more : List ℕ) (p : PacketFields) → 0 < length more → packet_at (for_form form) (l ++ more) ≡ Ok (p, []) → packet_at (for_form form) l ≡ Err file.Truncated
 letters_stay form l more p some is = by_cut (packet_cut form l more p [] is)
   where
     by_cut : (packet_at (for_form form) l ≡ Err file.Truncated) ⊎ ((rest : List ℕ) × (packet_at (for_form form) l ≡ Ok (p, rest)) × ([] ≡ rest ++ more)) → packet_at (for_form form) l ≡ Err file.Truncated
@@ -145,7 +145,7 @@ abbrev rest_in : Result (Option Stored × List ℕ) FileError → List ℕ
 rest_in (Ok o) = o.1
 rest_in (Err e) = []
 
-told : (r : Result (Said × List ℕ) FileError) (s : Option Stored) → as_stored packed r ≡ Ok (s, []) → (p : Said) × (r ≡ Ok (p, []))
+told : (r : Result (PacketFields × List ℕ) FileError) (s : Option Stored) → as_stored packed r ≡ Ok (s, []) → (p : PacketFields) × (r ≡ Ok (p, []))
 told (Err e) s is = absurd cc
 told (Ok p) s is = (p.0, ap (λ rest. Ok (p.0, rest)) (ap rest_in is))
 
@@ -170,7 +170,7 @@ letter_in : Form → ℕ
 letter_in Short = 52
 letter_in Long = 76
 
-letters_of_packet : (c : Said) → (t : List ℕ) × (packet c ≡ 80 ∷ 70 ∷ 68 ∷ letter_in c.form ∷ t)
+letters_of_packet : (c : PacketFields) → (t : List ℕ) × (packet c ≡ 80 ∷ 70 ∷ 68 ∷ letter_in c.form ∷ t)
 unfolding packet_head letter_in
 letters_of_packet c = by_form c.form c.meta c.kind c.streams c.details
   where
@@ -187,7 +187,7 @@ form_cut Long l more s some is = long_cut l more s some is
 four_same : (a b d f x y z w : ℕ) (l t : List ℕ) → a ∷ b ∷ d ∷ f ∷ l ≡ x ∷ y ∷ z ∷ w ∷ t → (a ≡ x) × (b ≡ y) × (d ≡ z) × (f ≡ w)
 four_same a b d f x y z w l t e = (cc, cc, cc, cc)
 
-pub packet_truncated : (c : Said) (left more : List ℕ) (s : Option Stored) → packet c ≡ left ++ more → 0 < length more → 4 ≤ length left → next_at (packet c ++ []) ≡ Ok (s, []) → next_at left ≡ Err file.Truncated
+pub packet_truncated : (c : PacketFields) (left more : List ℕ) (s : Option Stored) → packet c ≡ left ++ more → 0 < length more → 4 ≤ length left → next_at (packet c ++ []) ≡ Ok (s, []) → next_at left ≡ Err file.Truncated
 packet_truncated c [] more s text some long again = absurd (omega (arith, long))
 packet_truncated c (a ∷ []) more s text some long again = absurd (omega (arith, long))
 packet_truncated c (a ∷ b ∷ []) more s text some long again = absurd (omega (arith, long))

@@ -15,8 +15,8 @@ pub mod Listings
 use Rattle.std.specs.Prelude.{ℕ, Bool, true, false, cond, List, [], ◌∷◌, ◌++◌, Option, Some, None, nat_lt, nat_le, int_lt, ◌||◌, ◌≡◌, ◌⊎◌, map, length, take}
 use Rattle.std.specs.Option.{option_map_or, option_map}
 use Rattle.puffin_view.specs.View.Ranking.{place, last_of, last_in}
-use Rattle.puffin_frames.specs.Packet.Stored.{Said}
-use Rattle.puffin_view.specs.View.ViewedFrames.{Frame, is_slower_frame, slowest, contents_of, frame_index, index_of, duration_of, packed_under, rising_end, chronological}
+use Rattle.puffin_frames.specs.Packet.Stored.{PacketFields}
+use Rattle.puffin_view.specs.View.ViewedFrames.{Frame, is_slower_frame, slowest, fields_of, frame_index, index_of, duration_of, packed_under, rising_end, chronological}
 
 -- ---- the frames that a view holds
 
@@ -38,20 +38,20 @@ empty_view =
     record { recent = []; slow = []; last = None; max_recent = 1000; max_slow = 256; packs = true }
 
 -- the contents of the view's frames are the last of cs and the slowest of ds
-pub record Holds (cs ds : List Said) (v : View) : Type 0 where
-  pub recent : map contents_of v.recent ≡ last_of v.max_recent cs
-  pub slow : map contents_of v.slow ≡ slowest v.max_slow ds
+pub record Holds (cs ds : List PacketFields) (v : View) : Type 0 where
+  pub recent : map fields_of v.recent ≡ last_of v.max_recent cs
+  pub slow : map fields_of v.slow ≡ slowest v.max_slow ds
 
 -- the index of the last of a list
-abbrev pub last_index : List Said → Option ℕ
+abbrev pub last_index : List PacketFields → Option ℕ
 last_index cs = option_map frame_index (last_in cs)
 
 -- whether a frame's index is above the last one, if there is one
-abbrev pub rises_behind : Option ℕ → Said → Bool
+abbrev pub rises_behind : Option ℕ → PacketFields → Bool
 rises_behind last c = option_map_or (λ i. nat_lt i (frame_index c)) last true
 
 -- the view took frames with the contents cs, and its limits didn't change after the first of them
-pub record Took (cs : List Said) (v : View) : Type 0 where
+pub record Took (cs : List PacketFields) (v : View) : Type 0 where
   pub holds : Holds (rising_end cs) (rising_end cs) v
   pub last : v.last ≡ last_index cs
 

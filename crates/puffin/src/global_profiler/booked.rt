@@ -4,8 +4,8 @@ ghost use Rattle.std.specs.FinMap as map;
 ghost use Rattle.std.specs.List.{list_any};
 ghost use Rattle.std.specs.Arc.{arc_value};
 ghost use Rattle.puffin_data.specs.Forest.{Forest};
-ghost use Rattle.puffin_data.specs.Honesty.{IsHonestRef, record_of_ref};
-ghost use Rattle.puffin_threads.specs.Thread.Info.{info_of};
+ghost use Rattle.puffin_data.specs.Honesty.{IsHonestRef, facts_of_ref};
+ghost use Rattle.puffin_threads.specs.Thread.ThreadKey.{key_of};
 ghost use Rattle.puffin_threads.specs.Details.{details_seen, lacks_id};
 ghost use Rattle.puffin_frames.specs.Frame.Contents.{AreHonest, frame_details};
 ghost use Rattle.puffin_frames.specs.Frame.Sums.{total_scopes};
@@ -100,14 +100,14 @@ impl<L: Ledger, M: Ledger> Booked<L, M> {
     ) -> Result<()>
         requires { (f : Forest) × IsHonestRef times.now f }
         ensures ok { OnOk result (
-            AcceptsReport (collected_of self.old.profiler) (info_of info)
-            (details_seen details.now) (record_of_ref times.now)
+            AcceptsReport (collected_of self.old.profiler) (key_of info)
+            (details_seen details.now) (facts_of_ref times.now)
             (collected_of self.new.profiler)) }
         ensures counted { OnOk result (
             share.new ≡ with_reported share.old times.now.num_scopes) }
         ensures err { IfErr result (λ e.
-            RefusesReport (collected_of self.old.profiler) (info_of info)
-            (details_seen details.now) (record_of_ref times.now) e
+            RefusesReport (collected_of self.old.profiler) (key_of info)
+            (details_seen details.now) (facts_of_ref times.now) e
             (collected_of self.new.profiler)) }
         ensures uncounted { OnErr result (share.new ≡ share.old) }
         ensures sinks { self.new.profiler.sinks ≡ self.old.profiler.sinks }
@@ -128,13 +128,13 @@ impl<L: Ledger, M: Ledger> Booked<L, M> {
     ) -> Result<()>
         requires { (f : Forest) × IsHonestRef times.now f }
         ensures ok { OnOk result (
-            AcceptsReport (collected_of self.old.profiler) (info_of info) []
-            (record_of_ref times.now) (collected_of self.new.profiler)) }
+            AcceptsReport (collected_of self.old.profiler) (key_of info) []
+            (facts_of_ref times.now) (collected_of self.new.profiler)) }
         ensures counted { OnOk result (
             share.new ≡ with_reported share.old times.now.num_scopes) }
         ensures err { IfErr result (λ e.
-            RefusesReport (collected_of self.old.profiler) (info_of info) []
-            (record_of_ref times.now) e (collected_of self.new.profiler)) }
+            RefusesReport (collected_of self.old.profiler) (key_of info) []
+            (facts_of_ref times.now) e (collected_of self.new.profiler)) }
         ensures uncounted { OnErr result (share.new ≡ share.old) }
         ensures sinks { self.new.profiler.sinks ≡ self.old.profiler.sinks }
     {

@@ -4,8 +4,8 @@ ghost use Rattle.std.specs.FinMap as map;
 ghost use Rattle.std.specs.List.{list_any};
 ghost use Rattle.std.specs.Arc.{arc_value};
 ghost use Rattle.puffin_data.specs.Forest.{Forest};
-ghost use Rattle.puffin_data.specs.Honesty.{IsHonestRef, record_of_ref};
-ghost use Rattle.puffin_threads.specs.Thread.Info.{info_of};
+ghost use Rattle.puffin_data.specs.Honesty.{IsHonestRef, facts_of_ref};
+ghost use Rattle.puffin_threads.specs.Thread.ThreadKey.{key_of};
 ghost use Rattle.puffin_threads.specs.Details.{details_seen, lacks_id};
 ghost use Rattle.puffin_frames.specs.Frame.Contents.{AreHonest, frame_details};
 ghost use Rattle.puffin_frames.specs.Frame.Sums.{total_scopes};
@@ -82,11 +82,11 @@ impl GlobalProfiler {
     ) -> Result<()>
         requires { (f : Forest) × IsHonestRef times.now f }
         ensures ok { OnOk result (
-            AcceptsReport (collected_of self.old) (info_of info) (details_seen details.now)
-            (record_of_ref times.now) (collected_of self.new)) }
+            AcceptsReport (collected_of self.old) (key_of info) (details_seen details.now)
+            (facts_of_ref times.now) (collected_of self.new)) }
         ensures err { IfErr result (λ e.
-            RefusesReport (collected_of self.old) (info_of info) (details_seen details.now)
-            (record_of_ref times.now) e (collected_of self.new)) }
+            RefusesReport (collected_of self.old) (key_of info) (details_seen details.now)
+            (facts_of_ref times.now) e (collected_of self.new)) }
         ensures sinks { self.new.sinks ≡ self.old.sinks }
     {
         self.collector.report(info, details, times)
@@ -97,10 +97,10 @@ impl GlobalProfiler {
     pub fn report_user_scopes(&mut self, info: ThreadInfo, times: &StreamInfoRef) -> Result<()>
         requires { (f : Forest) × IsHonestRef times.now f }
         ensures ok { OnOk result (
-            AcceptsReport (collected_of self.old) (info_of info) [] (record_of_ref times.now)
+            AcceptsReport (collected_of self.old) (key_of info) [] (facts_of_ref times.now)
             (collected_of self.new)) }
         ensures err { IfErr result (λ e.
-            RefusesReport (collected_of self.old) (info_of info) [] (record_of_ref times.now) e
+            RefusesReport (collected_of self.old) (key_of info) [] (facts_of_ref times.now) e
             (collected_of self.new)) }
         ensures sinks { self.new.sinks ≡ self.old.sinks }
     {

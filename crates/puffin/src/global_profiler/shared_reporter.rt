@@ -69,18 +69,18 @@ impl<L: Ledger, M: Ledger, R: Wait> SharedReporter<L, M, R> {
     pub fn end_scope<T: AnyThread>(&mut self, thread: &mut T, offset: usize) -> Result<Closed>
         requires boxed_sinks { ⊤ }
         ensures innermost { OnOk result (
-            slice_get (offsets_of (T.recorded thread.old)) 0 ≡ Some offset) }
+            slice_get (offsets_of (T.state thread.old)) 0 ≡ Some offset) }
         ensures mismatched { IfErr result (λ e.
             (e ≡ Error.MismatchedEnd)
-            × (slice_get (offsets_of (T.recorded thread.old)) 0 ≢ Some offset)) }
+            × (slice_get (offsets_of (T.state thread.old)) 0 ≢ Some offset)) }
         ensures unchanged { OnErr result ((thread.new ≡ thread.old) × (self.new ≡ self.old)) }
         ensures closed { IfOk result (λ closed.
             (at : ℤ)
             × T.answers thread.old at thread.new
             × (pos 0 ≤ℤ at)
             × Closes ⟦<SharedReporter<L, M, R> as Reporter>⟧.accepts
-            ⟦<SharedReporter<L, M, R> as Reporter>⟧.refuses (T.recorded thread.old)
-            (T.recorded thread.new) at self.old self.new closed) }
+            ⟦<SharedReporter<L, M, R> as Reporter>⟧.refuses (T.state thread.old)
+            (T.state thread.new) at self.old self.new closed) }
     {
         thread.end_scope(offset, self)
     }
@@ -92,8 +92,8 @@ impl<L: Ledger, M: Ledger, R: Wait> SharedReporter<L, M, R> {
     pub fn report_closed<T: AnyThread>(&mut self, thread: &mut T) -> Result<bool>
         requires boxed_sinks { ⊤ }
         ensures { Reports ⟦<SharedReporter<L, M, R> as Reporter>⟧.accepts
-            ⟦<SharedReporter<L, M, R> as Reporter>⟧.refuses (T.recorded thread.old)
-            (T.recorded thread.new) self.old self.new result }
+            ⟦<SharedReporter<L, M, R> as Reporter>⟧.refuses (T.state thread.old)
+            (T.state thread.new) self.old self.new result }
     {
         thread.report_closed(self)
     }

@@ -8,7 +8,7 @@ use puffin_data::Error;
 
 /// Whether a guard's scope began.
 #[derive(Clone, Copy, Debug, PartialEq, Eq)]
-pub enum Standing {
+pub enum GuardState {
     /// It began. The size of its children is written at this offset when it ends.
     On(usize),
     /// It didn't, because scopes are off.
@@ -21,10 +21,10 @@ pub enum Standing {
 pub trait Records {
     ghost use Rattle.std.specs.Prelude.{ℕ, List, []};
     ghost use Rattle.puffin.specs.declared.light.place.Place.{Place};
-    ghost use Rattle.puffin.specs.declared.light.guard.Standing.{Standing};
+    ghost use Rattle.puffin.specs.declared.light.guard.GuardState.{GuardState};
 
     /// What `begin` may do: a state, a place, a text, the outcome and the state after it.
-    ghost begins: { Self → Place → List ℕ → Standing → Self → Type 0 };
+    ghost begins: { Self → Place → List ℕ → GuardState → Self → Type 0 };
 
     /// What `end` may do: a state, the scope's offset and the state after it.
     ghost ends: { Self → ℕ → Self → Type 0 };
@@ -33,7 +33,7 @@ pub trait Records {
     fn scopes(&self) -> &Scopes;
 
     /// Begins a scope at a place, with a text, if scopes are on.
-    fn begin(&mut self, place: &Place, text: &str) -> Standing
+    fn begin(&mut self, place: &Place, text: &str) -> GuardState
         ensures { begins self.old place.now text.now result self.new };
 
     /// Ends the scope at this offset if it is the innermost open one; otherwise does nothing. If no other scope is open then,
@@ -62,7 +62,7 @@ pub trait Records {
 /// is reported.
 pub struct Guard<'t, T: Records> {
     thread: &'t mut T,
-    standing: Standing,
+    standing: GuardState,
 }
 
 impl<'t, T: Records> Guard<'t, T> {
@@ -103,7 +103,7 @@ impl<'t, T: Records> Guard<'t, T> {
     }
 
     /// Returns whether the scope began.
-    pub fn standing(&self) -> Standing
+    pub fn standing(&self) -> GuardState
         ensures { result ≡ self.now.standing }
     {
         self.standing
@@ -119,7 +119,7 @@ impl<T: Records> Drop for Guard<'_, T> {
             self.exit.0.now }
     {
         let Guard { thread, standing } = self;
-        if let Standing::On(offset) = standing {
+        if let GuardState::On(offset) = standing {
             thread.end(offset);
         }
     }

@@ -9,7 +9,7 @@ ghost use Rattle.puffin.specs.Profiler.{collected_of};
 
 use crate::frame_data::FrameData;
 use crate::global_profiler::GlobalProfiler;
-use crate::light::guard::{Records, Standing};
+use crate::light::guard::{GuardState, Records};
 use crate::light::place::Place;
 use crate::light::scopes::Scopes;
 use crate::thread_profiler::{NsSource, Reporter, SystemClock, ThreadProfiler};
@@ -124,16 +124,16 @@ impl<C: NsSource, P: Reporter> Records for Thread<C, P> {
     }
 
     #[inline(always)]
-    fn begin(&mut self, place: &Place, text: &str) -> Standing {
+    fn begin(&mut self, place: &Place, text: &str) -> GuardState {
         if !self.scopes.are_on() {
-            return Standing::Off;
+            return GuardState::Off;
         }
         match place.id(&mut self.profiler, self.scopes.ids()) {
             Ok(id) => match self.profiler.begin_scope(id, text) {
-                Ok(offset) => Standing::On(offset),
-                Err(e) => Standing::Refused(e),
+                Ok(offset) => GuardState::On(offset),
+                Err(e) => GuardState::Refused(e),
             },
-            Err(e) => Standing::Refused(e),
+            Err(e) => GuardState::Refused(e),
         }
     }
 

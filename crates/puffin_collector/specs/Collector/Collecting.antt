@@ -5,8 +5,8 @@ use Rattle.std.specs.Arc.{arc_value}
 use Rattle.std.specs.declared.sync.Arc.{Arc}
 use Rattle.puffin_data.specs.declared.error.Error.{Error}
 use Rattle.puffin_data.specs.declared.error.Error.TheVariants.{IndexExhausted, Memory}
-use Rattle.puffin_data.specs.Honesty.{Recorded}
-use Rattle.puffin_threads.specs.Thread.Info.{Info}
+use Rattle.puffin_data.specs.Honesty.{StreamFacts}
+use Rattle.puffin_threads.specs.Thread.ThreadKey.{ThreadKey}
 use Rattle.puffin_threads.specs.Details.{Details, shared_details, AllHaveIds}
 use Rattle.puffin_threads.specs.Details.Collection.{Begins}
 use Rattle.puffin_frames.specs.declared.frame_data.frame.FrameData.{FrameData}
@@ -26,7 +26,7 @@ pub record HoldsAll (c : Collected) (frame : FrameData) : Type 0 where
 
 -- no stream has a scope
 abbrev pub HaveNoScopes : Streams → Type 0
-HaveNoScopes streams = (i : Info) (r : Recorded) → map.get streams i ≡ Some r → r.num_scopes ≡ 0
+HaveNoScopes streams = (i : ThreadKey) (r : StreamFacts) → map.get streams i ≡ Some r → r.num_scopes ≡ 0
 
 -- a frame is handed out exactly when a scope is pending; without one only the index rises
 abbrev pub Collects : {A : Type 0} → Collected → Option (Arc FrameData A) → Collected → Type 0

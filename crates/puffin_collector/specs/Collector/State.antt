@@ -5,8 +5,8 @@ use Rattle.std.specs.FinMap as map
 use Rattle.std.specs.Coded.{Coded, code_by, coded×, coded_ℕ, coded_list, coded_bool}
 use Rattle.puffin_data.specs.declared.error.Error.{Error}
 use Rattle.puffin_data.specs.declared.error.Error.TheVariants.{MissingId, UnlikeForms, TooLarge, RangeTooLong, Memory}
-use Rattle.puffin_data.specs.Honesty.{Recorded, AreUnlike}
-use Rattle.puffin_threads.specs.Thread.Info.{Info}
+use Rattle.puffin_data.specs.Honesty.{StreamFacts, AreUnlike}
+use Rattle.puffin_threads.specs.Thread.ThreadKey.{ThreadKey}
 use Rattle.puffin_threads.specs.Details.{Details, details_code, AllHaveIds}
 use Rattle.puffin_threads.specs.Details.Collection.{Collection, collection_code, no_details, with_all_details}
 use Rattle.puffin_frames.specs.Frame.Contents.{Streams, streams_code, stream_under}
@@ -55,7 +55,7 @@ nothing_collected index = record {
 
 -- ---- reports
 
-abbrev pub after_report : Collected → Info → List Details → Recorded → Collected
+abbrev pub after_report : Collected → ThreadKey → List Details → StreamFacts → Collected
 after_report c i ds r = record c {
   reported = c.reported + r.num_scopes;
   streams = reported_to c.streams i r;
@@ -63,13 +63,13 @@ after_report c i ds r = record c {
 }
 
 -- with one info more, what is pending has sums that fit 64 bits
-pub record PendingFits (c : Collected) (r : Recorded) : Type 0 where
+pub record PendingFits (c : Collected) (r : StreamFacts) : Type 0 where
   pub bytes : total_bytes (map.values c.streams) + length r.bytes < 2 ^ 64
   pub scopes : total_scopes (map.values c.streams) + r.num_scopes < 2 ^ 64
   pub reported : c.reported + r.num_scopes < 2 ^ 64
 
 -- the joined range of all that is pending and one info more
-abbrev pub range_with : Collected → Recorded → ℤ × ℤ
+abbrev pub range_with : Collected → StreamFacts → ℤ × ℤ
 range_with c r = joined_range (r ∷ map.values c.streams)
 
 -- the range is too long: it isn't reversed, and its duration doesn't fit i64
@@ -77,25 +77,25 @@ abbrev pub IsTooLong : ℤ × ℤ → Type 0
 IsTooLong range = IsOrdered range × ¬ DurationFits range
 
 -- what is pending under an info, and one more under it, have bytes in unlike forms
-abbrev pub IsUnlike : Collected → Info → Recorded → Type 0
+abbrev pub IsUnlike : Collected → ThreadKey → StreamFacts → Type 0
 IsUnlike c i r = AreUnlike (stream_under c.streams i) r
 
 -- why a report is refused whose details have ids and whose form is that of what is pending: the first cause that applies
-abbrev pub IsSumRefusal : Collected → Recorded → Error → Type 0
+abbrev pub IsSumRefusal : Collected → StreamFacts → Error → Type 0
 IsSumRefusal c r e =
     ((e ≡ TooLarge) × ¬ PendingFits c r)
     ⊎ ((e ≡ RangeTooLong) × PendingFits c r × IsTooLong (range_with c r))
     ⊎ ((e ≡ Memory) × PendingFits c r × ¬ IsTooLong (range_with c r))
 
 -- Why a report is refused: the first cause that applies.
-abbrev pub IsReportRefusal : Collected → Info → List Details → Recorded → Error → Type 0
+abbrev pub IsReportRefusal : Collected → ThreadKey → List Details → StreamFacts → Error → Type 0
 IsReportRefusal c i ds r e =
     ((e ≡ MissingId) × ¬ AllHaveIds ds)
     ⊎ ((e ≡ UnlikeForms) × AllHaveIds ds × IsUnlike c i r)
     ⊎ (AllHaveIds ds × (¬ IsUnlike c i r) × IsSumRefusal c r e)
 
 -- the outcome of an accepted report, and of a refused one
-abbrev pub AcceptsReport : Collected → Info → List Details → Recorded → Collected → Type 0
+abbrev pub AcceptsReport : Collected → ThreadKey → List Details → StreamFacts → Collected → Type 0
 AcceptsReport old i ds r new =
     (new ≡ after_report old i ds r)
     × AllHaveIds ds
@@ -103,7 +103,7 @@ AcceptsReport old i ds r new =
     × PendingFits old r
     × ¬ IsTooLong (range_with old r)
 
-abbrev pub RefusesReport : Collected → Info → List Details → Recorded → Error → Collected → Type 0
+abbrev pub RefusesReport : Collected → ThreadKey → List Details → StreamFacts → Error → Collected → Type 0
 RefusesReport old i ds r e new = IsReportRefusal old i ds r e × (new ≡ old)
 
 -- ---- frames

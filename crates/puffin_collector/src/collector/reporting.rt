@@ -3,8 +3,8 @@
 ghost use Rattle.std.specs.Prelude.{◌≡◌, List, ◌+◌, [], OnOk, IfOk, IfErr};
 ghost use Rattle.std.specs.Bool.{MatchBool};
 ghost use Rattle.puffin_data.specs.Forest.{Forest};
-ghost use Rattle.puffin_data.specs.Honesty.{IsHonestRef, record_of_ref};
-ghost use Rattle.puffin_threads.specs.Thread.Info.{info_of};
+ghost use Rattle.puffin_data.specs.Honesty.{IsHonestRef, facts_of_ref};
+ghost use Rattle.puffin_threads.specs.Thread.ThreadKey.{key_of};
 ghost use Rattle.puffin_threads.specs.Details.{Details, details_seen, AllHaveIds};
 ghost use Rattle.puffin_frames.specs.Frame.Sums.{IsOrdered, DurationFits};
 ghost use Rattle.puffin_collector.specs.Collector.State.{IsReportRefusal, AcceptsReport, RefusesReport, PendingFits, range_with, IsTooLong, IsSumRefusal};
@@ -12,7 +12,7 @@ ghost use Rattle.puffin_collector.specs.inner.ReportSums.{IsFirstCause, AddsUp};
 
 use crate::collector::Collector;
 use crate::delta::{all_have_ids, copies};
-use puffin_data::data::{StreamInfoRef, is_range};
+use puffin_data::data::{StreamInfoRef, is_valid_range};
 use puffin_data::{Error, NanoSecond, Result};
 use puffin_frames::frame_data::{FrameMeta, are_unlike, report_to};
 use puffin_frames::laws;
@@ -36,11 +36,11 @@ impl Collector {
     ) -> Result<()>
         requires { (f : Forest) × IsHonestRef times.now f }
         ensures ok { OnOk result (
-            AcceptsReport self.old (info_of info) (details_seen details.now)
-            (record_of_ref times.now) self.new) }
+            AcceptsReport self.old (key_of info) (details_seen details.now)
+            (facts_of_ref times.now) self.new) }
         ensures err { IfErr result (λ e.
-            RefusesReport self.old (info_of info) (details_seen details.now)
-            (record_of_ref times.now) e self.new) }
+            RefusesReport self.old (key_of info) (details_seen details.now)
+            (facts_of_ref times.now) e self.new) }
     {
         if details.is_empty() {
             self.append(info, times)
@@ -54,9 +54,9 @@ impl Collector {
     pub fn report_user_scopes(&mut self, info: ThreadInfo, times: &StreamInfoRef) -> Result<()>
         requires { (f : Forest) × IsHonestRef times.now f }
         ensures ok { OnOk result (
-            AcceptsReport self.old (info_of info) [] (record_of_ref times.now) self.new) }
+            AcceptsReport self.old (key_of info) [] (facts_of_ref times.now) self.new) }
         ensures err { IfErr result (λ e.
-            RefusesReport self.old (info_of info) [] (record_of_ref times.now) e self.new) }
+            RefusesReport self.old (key_of info) [] (facts_of_ref times.now) e self.new) }
     {
         self.append(info, times)
     }
@@ -72,11 +72,11 @@ impl Collector {
     ) -> Result<()>
         requires { (f : Forest) × IsHonestRef times.now f }
         ensures ok { OnOk result (
-            AcceptsReport self.old (info_of info) (details_seen details.now)
-            (record_of_ref times.now) self.new) }
+            AcceptsReport self.old (key_of info) (details_seen details.now)
+            (facts_of_ref times.now) self.new) }
         ensures err { IfErr result (λ e.
-            RefusesReport self.old (info_of info) (details_seen details.now)
-            (record_of_ref times.now) e self.new) }
+            RefusesReport self.old (key_of info) (details_seen details.now)
+            (facts_of_ref times.now) e self.new) }
     {
         if !all_have_ids(details) {
             return Err(Error::MissingId);
@@ -105,9 +105,9 @@ impl Collector {
     fn append(&mut self, info: ThreadInfo, times: &StreamInfoRef) -> Result<()>
         requires { (f : Forest) × IsHonestRef times.now f }
         ensures ok { OnOk result (
-            AcceptsReport self.old (info_of info) [] (record_of_ref times.now) self.new) }
+            AcceptsReport self.old (key_of info) [] (facts_of_ref times.now) self.new) }
         ensures err { IfErr result (λ e.
-            RefusesReport self.old (info_of info) [] (record_of_ref times.now) e self.new) }
+            RefusesReport self.old (key_of info) [] (facts_of_ref times.now) e self.new) }
     {
         // Laws for the proof of the invariant.
         laws::joined_ranges();
@@ -126,7 +126,7 @@ impl Collector {
     /// Returns the error of a report for which there is no memory: the first cause that applies.
     fn cause_without_memory(&self, info: &ThreadInfo, times: &StreamInfoRef) -> Error
         ensures { (ds : List Details) → AllHaveIds ds →
-            IsReportRefusal self.now (info_of info.now) ds (record_of_ref times.now) result }
+            IsReportRefusal self.now (key_of info.now) ds (facts_of_ref times.now) result }
     {
         match self.sums_with(times) {
             Ok(_) => self.first_cause(info, times, Error::Memory),
@@ -137,7 +137,7 @@ impl Collector {
     /// Returns the error of a report that already has this cause: `UnlikeForms` if that applies, as it comes first, else this
     /// cause.
     fn first_cause(&self, info: &ThreadInfo, times: &StreamInfoRef, cause: Error) -> Error
-        ensures { IsFirstCause self.now (info_of info.now) (record_of_ref times.now) cause result }
+        ensures { IsFirstCause self.now (key_of info.now) (facts_of_ref times.now) cause result }
     {
         if are_unlike(&self.pending, info, times) {
             Error::UnlikeForms
@@ -150,12 +150,12 @@ impl Collector {
     /// first cause that applies, memory aside.
     fn sums_with(&self, times: &StreamInfoRef) -> Result<(FrameMeta, u64)>
         ensures sums { IfOk result (λ sums.
-            AddsUp self.now sums.0 (record_of_ref times.now)
+            AddsUp self.now sums.0 (facts_of_ref times.now)
             × (sums.1 ≡ self.now.reported + times.now.num_scopes)) }
         ensures fits { OnOk result (
-            PendingFits self.now (record_of_ref times.now)
-            × ¬ IsTooLong (range_with self.now (record_of_ref times.now))) }
-        ensures refusal { IfErr result (IsSumRefusal self.now (record_of_ref times.now)) }
+            PendingFits self.now (facts_of_ref times.now)
+            × ¬ IsTooLong (range_with self.now (facts_of_ref times.now))) }
+        ensures refusal { IfErr result (IsSumRefusal self.now (facts_of_ref times.now)) }
     {
         // For the proof: the joined range with one stream more.
         laws::joined_ranges();
@@ -194,5 +194,5 @@ impl Reporter for Collector {
 fn is_too_long(range: (NanoSecond, NanoSecond)) -> bool
     ensures { MatchBool result (IsTooLong range) (IsOrdered range → DurationFits range) }
 {
-    range.0 <= range.1 && !is_range(range)
+    range.0 <= range.1 && !is_valid_range(range)
 }

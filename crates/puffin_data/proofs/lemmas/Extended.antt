@@ -8,7 +8,7 @@ use Rattle.puffin_data.specs.declared.data.form.Form.TheVariants.{Short, Long}
 use Rattle.puffin_data.specs.Forest.{Forest, IsForest, empty, node, append}
 use Rattle.puffin_data.specs.Forest.Measures.{scope_count, height, least_start, greatest_stop}
 use Rattle.puffin_data.specs.Forest.Spelling.{spelling, Spells}
-use Rattle.puffin_data.specs.Honesty.{Recorded, IsHonestRecord, AreUnlike, joined_form, joined_record}
+use Rattle.puffin_data.specs.Honesty.{StreamFacts, AreHonestFacts, AreUnlike, joined_form, joined_facts}
 use Rattle.puffin_data.proofs.lemmas.Unique.{spelling-append, long}
 use Rattle.puffin_data.proofs.RangesTold.{least_in_range, greatest_in_range, from_most, from_least}
 
@@ -49,7 +49,7 @@ same_form Short Long h = absurd (h (λ e. cc))
 same_form Long Short h = absurd (h (λ e. cc))
 same_form Long Long h = refl
 
-on_one_form : (a b : Recorded) (f g : Forest) (none : Bool) → eqb (length a.bytes) 0 ≡ none → (AreUnlike a b → ⊥) → Spells a.form a.bytes f → Spells b.form b.bytes g → Spells (cond none b.form a.form) a.bytes f × Spells (cond none b.form a.form) b.bytes g
+on_one_form : (a b : StreamFacts) (f g : Forest) (none : Bool) → eqb (length a.bytes) 0 ≡ none → (AreUnlike a b → ⊥) → Spells a.form a.bytes f → Spells b.form b.bytes g → Spells (cond none b.form a.form) a.bytes f × Spells (cond none b.form a.form) b.bytes g
 on_one_form a b f g true e may x y = (respelled a.form b.form f a.bytes (eqb-true _ _ e) x, y)
 on_one_form a b f g false e may x y = (
   x,
@@ -59,7 +59,7 @@ on_one_form a b f g false e may x y = (
   ],
 )
 
-pub honest_joined : (a b : Recorded) (f g : Forest) → (AreUnlike a b → ⊥) → IsHonestRecord a f → IsHonestRecord b g → IsHonestRecord (joined_record a b) (append f g)
+pub honest_joined : (a b : StreamFacts) (f g : Forest) → (AreUnlike a b → ⊥) → AreHonestFacts a f → AreHonestFacts b g → AreHonestFacts (joined_facts a b) (append f g)
 honest_joined a b f g may x y =
     let form = joined_form a b in
     let both = on_one_form a b f g (eqb (length a.bytes) 0) refl may x.stream y.stream in
@@ -77,8 +77,8 @@ honest_joined a b f g may x y =
     }
 
 -- an info that was extended field by field
-pub extended : (n a b : Recorded) (f g : Forest) → n.form ≡ joined_form a b → (AreUnlike a b → ⊥) → n.bytes ≡ a.bytes ++ b.bytes → n.num_scopes ≡ a.num_scopes + b.num_scopes → n.depth ≡ max a.depth b.depth → n.range_ns.0 ≡ int_min a.range_ns.0 b.range_ns.0 → n.range_ns.1 ≡ int_max a.range_ns.1 b.range_ns.1
-    → IsHonestRecord a f → IsHonestRecord b g → IsHonestRecord n (append f g)
+pub extended : (n a b : StreamFacts) (f g : Forest) → n.form ≡ joined_form a b → (AreUnlike a b → ⊥) → n.bytes ≡ a.bytes ++ b.bytes → n.num_scopes ≡ a.num_scopes + b.num_scopes → n.depth ≡ max a.depth b.depth → n.range_ns.0 ≡ int_min a.range_ns.0 b.range_ns.0 → n.range_ns.1 ≡ int_max a.range_ns.1 b.range_ns.1
+    → AreHonestFacts a f → AreHonestFacts b g → AreHonestFacts n (append f g)
 extended n a b f g en may e1 e2 e3 e4 e5 x y =
     let h = honest_joined a b f g may x y in
     record {

@@ -8,7 +8,7 @@ use Rattle.puffin_data.specs.declared.data.form.Form.{Form}
 use Rattle.puffin_data.specs.declared.error.Error.{Error}
 use Rattle.puffin_data.specs.Forest.{Span, Forest, empty, node, append, IsForest}
 use Rattle.puffin_data.specs.Forest.Spelling.{spelling, begin_bytes, end_bytes, head_size}
-use Rattle.puffin_data.specs.Walk.Reading.{Found, reading}
+use Rattle.puffin_data.specs.Walk.Reading.{FoundScope, reading}
 use Rattle.puffin_data.specs.Walk.{region, IsFaultAt, Reaches, here, child, sibling}
 use Rattle.puffin_data.proofs.Again.{found_at, reads_again}
 use Rattle.puffin_data.proofs.Regions.{length-region, part_of_region, rest_of_region, sound_is_no_fault, nothing_is_no_fault, nothing_is_not_sound, one_sound}
@@ -59,14 +59,14 @@ faultless form (node s c o) bytes p e q g fault fits h k small is (child {s = t}
     let size : x.child_end - x.child_begin ≡ length (spelling form c) = omega arith in
     let inner : region bytes (p + x.child_begin) (p + x.child_end) ≡ spelling form c =
     part_of_region bytes p e x.child_begin x.child_end place.inside (omega (arith, place)) ∙ ap (λ (n : ℕ). take n (drop x.child_begin (region bytes p e))) size ∙ ap (λ (y : List ℕ). take (length (spelling form c)) (drop x.child_begin y)) is ∙ children_at form s (spelling form c) (spelling form o) in
-    faultless form c bytes (p + x.child_begin) (p + x.child_end) q g fault fits.1 (omega arith) (omega (arith, place)) small inner (subst (λ (y : Found). Reaches form bytes (p + y.child_begin) (p + y.child_end) q g) (one_sound form (region bytes p e) t x sound found) r) at
+    faultless form c bytes (p + x.child_begin) (p + x.child_end) q g fault fits.1 (omega arith) (omega (arith, place)) small inner (subst (λ (y : FoundScope). Reaches form bytes (p + y.child_begin) (p + y.child_end) q g) (one_sound form (region bytes p e) t x sound found) r) at
 faultless form (node s c o) bytes p e q g fault fits h k small is (sibling {s = t} sound r) at =
     let found = ap (reading form) is ∙ reads_again form s (spelling form c) (spelling form o) fits.0 (omega (arith, long form s (spelling form c) (spelling form o), ap length is, length-region bytes p e k)) in
     let x = found_at form s (length (spelling form c)) in
     let place = found_places form bytes p e x found h k in
     let later : region bytes (p + x.next_sibling) e ≡ spelling form o =
     rest_of_region bytes p e x.next_sibling (omega (arith, place)) ∙ ap (drop x.next_sibling) is ∙ rest_at form s (spelling form c) (spelling form o) in
-    faultless form o bytes (p + x.next_sibling) e q g fault fits.2 (omega (arith, place)) k small later (subst (λ (y : Found). Reaches form bytes (p + y.next_sibling) e q g) (one_sound form (region bytes p e) t x sound found) r) at
+    faultless form o bytes (p + x.next_sibling) e q g fault fits.2 (omega (arith, place)) k small later (subst (λ (y : FoundScope). Reaches form bytes (p + y.next_sibling) e q g) (one_sound form (region bytes p e) t x sound found) r) at
 
 same_node : (s t : Span) (c d o u : Forest) → s ≡ t → c ≡ d → o ≡ u → node s c o ≡ node t d u
 same_node s t c d o u es ec eo = cc
@@ -82,9 +82,9 @@ same_forest form (node s c o) (node t d u) x y small e =
     let first = reads_again form s (spelling form c) (spelling form o) x.0 (omega (arith, size_f)) in
     let second = ap (reading form) e ∙ reads_again form t (spelling form d) (spelling form u) y.0 (omega (arith, size_g, ap length e)) in
     let one : found_at form s (length (spelling form c)) ≡ found_at form t (length (spelling form d)) = one_sound form (spelling form (node s c o)) _ _ first second in
-    let same : s ≡ t = ap (λ (z : Found). z.span) one in
-    let begin : head_size form s.text ≡ head_size form t.text = ap (λ (z : Found). z.child_begin) one in
-    let end : head_size form s.text + length (spelling form c) ≡ head_size form t.text + length (spelling form d) = ap (λ (z : Found). z.child_end) one in
+    let same : s ≡ t = ap (λ (z : FoundScope). z.span) one in
+    let begin : head_size form s.text ≡ head_size form t.text = ap (λ (z : FoundScope). z.child_begin) one in
+    let end : head_size form s.text + length (spelling form c) ≡ head_size form t.text + length (spelling form d) = ap (λ (z : FoundScope). z.child_end) one in
     let size : length (spelling form c) ≡ length (spelling form d) = omega (arith, begin, end) in
     let inner : spelling form c ≡ spelling form d =
     sym (children_at form s (spelling form c) (spelling form o)) ∙ ap (λ (n : ℕ). take n (drop (head_size form s.text) (spelling form (node s c o)))) size ∙ ap (λ (n : ℕ). take (length (spelling form d)) (drop n (spelling form (node s c o)))) begin ∙ ap (λ (z : List ℕ). take (length (spelling form d)) (drop (head_size form t.text) z)) e ∙ children_at form t (spelling form d) (spelling form u) in

@@ -8,8 +8,8 @@ use Rattle.std.proofs.lemmas.Nat.{le_bytes_2}
 use Rattle.std.proofs.lemmas.Option.{same_Some, some_pair_parts}
 use Rattle.byteorder.specs.Endian.{little_bytes, little_number}
 use Rattle.byteorder.specs.Numbers.{little_from-lt, little_from-take, length-bytes_low_first, little_number-reads_back}
-use Rattle.puffin_data.specs.Value.Layout.{IsBytes, byte, number, signed, zigzag, flag, block, IsByte, IsWord, IsLong, IsSigned, IsBlock, IsText, IsAny}
-use Rattle.puffin_data.specs.Value.Decoding.{byte_at, wide_at, number_after, number_at, word_at, unzigzag, signed_at, flag_at, split_after, bytes_at, text_at}
+use Rattle.puffin_data.specs.Value.Layout.{IsBytes, byte, number, signed, zigzag, flag, block, IsByte, IsU32, IsLong, IsSigned, IsBlock, IsText, IsAny}
+use Rattle.puffin_data.specs.Value.Decoding.{byte_at, wide_at, number_after, number_at, u32_at, unzigzag, signed_at, flag_at, split_after, bytes_at, text_at}
 use Rattle.puffin_data.proofs.lemmas.Numbers.{IsBytes-take, bytes_4, bytes_8}
 use Rattle.puffin_data.proofs.lemmas.Readers.{IsReader, IsBytes-rest, IsBytes-after, bind_some, checked_reader, form_reader}
 
@@ -170,7 +170,7 @@ number_reader = record { again = number-again; taken = number-taken }
 
 -- ---- numbers of 32 bits
 
-pub word_reader : IsReader IsWord number word_at
+pub word_reader : IsReader IsU32 number u32_at
 word_reader =
     let p = checked_reader IsLong number number_at (λ n. ltb n (2 ^ 32)) number_reader in
     record {

@@ -3,7 +3,7 @@ use Rattle.std.specs.Prelude.{◌≡◌, ℕ, ℤ, List, [], ◌∷◌, ◌++◌
 use Rattle.puffin_data.specs.declared.error.Error.{Error}
 use Rattle.puffin_data.specs.declared.data.record.Scope.{Scope}
 use Rattle.puffin_data.specs.declared.data.record.ScopeRecord.{ScopeRecord}
-use Rattle.puffin_data.specs.Reader.{ReadScope, Place, next_read, ReaderGives}
+use Rattle.puffin_data.specs.Reader.{ReadScope, ReaderState, next_read, ReaderGives}
 
 -- a record, apart from the place of its text in memory
 pub record SeenRecord : Type 0 where
@@ -36,19 +36,19 @@ item_seen (Some (Ok s)) = Some (Ok (scope_seen s))
 item_seen (Some (Err fault)) = Some (Err fault)
 
 -- one step of a reader, from one place to the next
-pub record IsNextRead (from : Place) (item : Option (Result Scope Error)) (to : Place) :
+pub record IsNextRead (from : ReaderState) (item : Option (Result Scope Error)) (to : ReaderState) :
     Type 0 where
   pub same_form : to.form ≡ from.form
   pub same_bytes : to.bytes ≡ from.bytes
   pub next : (item_seen item, to.at) ≡ next_read from
 
 -- a reader at this place returns exactly these scopes
-abbrev pub ReadsScopes : Place → List Scope → Type 0
+abbrev pub ReadsScopes : ReaderState → List Scope → Type 0
 ReadsScopes from scopes =
     ReaderGives from.form from.bytes from.at (map (λ s. Ok s) (map scope_seen scopes))
 
 -- a reader at this place returns some scopes, and then this fault
-abbrev pub ReadsFault : Place → Error → Type 0
+abbrev pub ReadsFault : ReaderState → Error → Type 0
 ReadsFault from fault =
     (scopes : List ReadScope)
     × ReaderGives from.form from.bytes from.at (map (λ s. Ok s) scopes ++ (Err fault ∷ []))

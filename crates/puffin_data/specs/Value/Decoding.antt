@@ -46,8 +46,8 @@ abbrev pub number_at : List ℕ → Option (ℕ × List ℕ)
 number_at [] = None
 number_at (b ∷ rest) = number_after b rest
 
-abbrev pub word_at : List ℕ → Option (ℕ × List ℕ)
-word_at = with_test (λ n. nat_lt n (2 ^ 32)) number_at
+abbrev pub u32_at : List ℕ → Option (ℕ × List ℕ)
+u32_at = with_test (λ n. nat_lt n (2 ^ 32)) number_at
 
 abbrev pub unzigzag : ℕ → ℤ
 unzigzag n = if n % 2 == 0 then pos (n / 2) else negsuc (n / 2)

@@ -65,8 +65,8 @@ items layout xs = number (length xs) ++ flat_map layout xs
 abbrev pub IsByte : ℕ → Type 0
 IsByte n = n < 256
 
-abbrev pub IsWord : ℕ → Type 0
-IsWord n = n < 2 ^ 32
+abbrev pub IsU32 : ℕ → Type 0
+IsU32 n = n < 2 ^ 32
 
 abbrev pub IsLong : ℕ → Type 0
 IsLong n = n < 2 ^ 64

@@ -1,8 +1,8 @@
 -- What a read scope shows, without the address of its text.
-use Rattle.puffin_data.specs.declared.data.scope.Sighting.{Sighting}
-use Rattle.puffin_data.specs.Walk.Reading.{Found}
+use Rattle.puffin_data.specs.declared.data.scope.RawScope.{RawScope}
+use Rattle.puffin_data.specs.Walk.Reading.{FoundScope}
 
-abbrev pub found_of : Sighting → Found
+abbrev pub found_of : RawScope → FoundScope
 found_of s = record {
   span = record { id = s.id; start = s.start; stop = s.stop; text = s.text.now };
   child_begin = s.child_begin;

@@ -5,19 +5,19 @@ use Rattle.puffin_data.specs.declared.error.Error.{Error}
 use Rattle.puffin_data.specs.Forest.{Span, Forest}
 use Rattle.puffin_data.specs.Forest.Spelling.{begin_mark, Spells}
 use Rattle.puffin_data.specs.Walk.{Reaches, IsFaultAt, IsFirstFault}
-use Rattle.puffin_data.specs.Walk.Sights.{Nested, nested_in, Sight, Sees, scopes_of, before}
+use Rattle.puffin_data.specs.Walk.Sights.{ScopeInContext, nested_in, PlacedScope, Sees, scopes_of, before}
 
 -- ---- one scope
 
 -- A visitor that keeps w for the parent takes a scope, and keeps x for it.
-abbrev pub Entering : {V W : Type 0} → (V → List Nested → V → Type 0) →
+abbrev pub Entering : {V W : Type 0} → (V → List ScopeInContext → V → Type 0) →
     (V → W → List Span → Type 0) → V → W → Span → W → V → Type 0
 Entering takes stands_for v w span x u =
     (around : List Span) → stands_for v w around →
     takes v (record { around = around; span = span } ∷ []) u
     × stands_for u x (around ++ (span ∷ []))
 
-abbrev pub Refusing : {V W : Type 0} → (V → Nested → Error → Type 0) →
+abbrev pub Refusing : {V W : Type 0} → (V → ScopeInContext → Error → Type 0) →
     (V → W → List Span → Type 0) → V → W → Span → Error → Type 0
 Refusing refuses stands_for v w span cause =
     (around : List Span) → stands_for v w around →
@@ -26,7 +26,7 @@ Refusing refuses stands_for v w span cause =
 -- ---- all of the bytes
 
 -- the bytes spell a forest, and the visitor has taken all of its scopes, with one try for each
-pub record TakesAll (form : Form) {V : Type 0} (takes : V → List Nested → V → Type 0)
+pub record TakesAll (form : Form) {V : Type 0} (takes : V → List ScopeInContext → V → Type 0)
     (from to : V) (bytes : List ℕ) (tried : ℕ) : Type 0 where
   pub forest : Forest
   pub spells : Spells form bytes forest
@@ -34,23 +34,23 @@ pub record TakesAll (form : Form) {V : Type 0} (takes : V → List Nested → V 
   pub tries : tried ≡ length (nested_in [] forest)
 
 -- The walk met the first fault, and the visitor has taken the sound scopes before it. These are the tries, and one more if a `(` is at the fault.
-pub record StopsAtFault (form : Form) {V : Type 0} (takes : V → List Nested → V → Type 0)
+pub record StopsAtFault (form : Form) {V : Type 0} (takes : V → List ScopeInContext → V → Type 0)
     (from to : V) (bytes : List ℕ) (tried : ℕ) (fault : Error) : Type 0 where
   pub place : ℕ
   pub first : IsFirstFault form bytes place fault
-  pub sights : List Sight
+  pub sights : List PlacedScope
   pub sees : Sees form bytes [] 0 (length bytes) sights
   pub taken : takes from (scopes_of (before place sights)) to
   pub tries : tried
       ≡ length (before place sights) + (if slice_index bytes place == begin_mark then 1 else 0)
 
 -- The visitor has taken the sound scopes before one that it refuses, and no fault comes before that. The tries are these and the refused one.
-pub record StopsAtRefusal (form : Form) {V : Type 0} (takes : V → List Nested → V → Type 0)
-    (refuses : V → Nested → Error → Type 0) (from : V) (bytes : List ℕ) (tried : ℕ)
+pub record StopsAtRefusal (form : Form) {V : Type 0} (takes : V → List ScopeInContext → V → Type 0)
+    (refuses : V → ScopeInContext → Error → Type 0) (from : V) (bytes : List ℕ) (tried : ℕ)
     (cause : Error) : Type 0 where
-  pub earlier : List Sight
-  pub sight : Sight
-  pub later : List Sight
+  pub earlier : List PlacedScope
+  pub sight : PlacedScope
+  pub later : List PlacedScope
   pub sees : Sees form bytes [] 0 (length bytes) (earlier ++ (sight ∷ later))
   pub to : V
   pub taken : takes from (scopes_of earlier) to
@@ -59,8 +59,8 @@ pub record StopsAtRefusal (form : Form) {V : Type 0} (takes : V → List Nested 
       IsFaultAt form bytes p e fault → sight.place ≤ p
   pub tries : tried ≡ length earlier + 1
 
-abbrev pub StopsEarly : (form : Form) → {V : Type 0} → (V → List Nested → V → Type 0) →
-    (V → Nested → Error → Type 0) → V → V → List ℕ → ℕ → Error → Type 0
+abbrev pub StopsEarly : (form : Form) → {V : Type 0} → (V → List ScopeInContext → V → Type 0) →
+    (V → ScopeInContext → Error → Type 0) → V → V → List ℕ → ℕ → Error → Type 0
 StopsEarly form takes refuses from to bytes tries cause =
     StopsAtFault form takes from to bytes tries cause
     ⊎ StopsAtRefusal form takes refuses from bytes tries cause

@@ -5,11 +5,11 @@ use Rattle.puffin_data.specs.declared.data.form.Form.{Form}
 use Rattle.puffin_data.specs.declared.error.Error.{Error}
 use Rattle.puffin_data.specs.declared.error.Error.TheVariants.{Memory}
 use Rattle.puffin_data.specs.declared.data.walk.Walk.{Walk}
-use Rattle.puffin_data.specs.declared.data.scope.Sighting.{Sighting}
+use Rattle.puffin_data.specs.declared.data.scope.RawScope.{RawScope}
 use Rattle.puffin_data.specs.Forest.{Span}
 use Rattle.puffin_data.specs.Forest.Spelling.{begin_mark}
 use Rattle.puffin_data.specs.Walk.Sightings.{found_of}
-use Rattle.puffin_data.specs.Walk.Reading.{Found}
+use Rattle.puffin_data.specs.Walk.Reading.{FoundScope}
 use Rattle.puffin_data.specs.Walk.{region, IsSoundAt, IsFaultAt}
 
 -- one try if a `(` is at the front of a region, else none
@@ -17,7 +17,7 @@ abbrev pub tries_in : List ℕ → ℕ
 tries_in part = if slice_index part 0 == begin_mark then 1 else 0
 
 -- what the code's reading of a scope shows
-abbrev pub reading_of : Result (Option Sighting) Error → Result (Option Found) Error
+abbrev pub reading_of : Result (Option RawScope) Error → Result (Option FoundScope) Error
 reading_of (Ok None) = Ok None
 reading_of (Ok (Some s)) = Ok (Some (found_of s))
 reading_of (Err e) = Err e
@@ -52,12 +52,12 @@ pub data WalksTo (form : Form) (bytes : List ℕ) : ℕ → Walk → ℕ → ℕ
         fault = fault;
         tries = w.num_scopes + tries_in (region bytes p e);
       }))
-  stops_within : {level : ℕ} {w : Walk} {p e : ℕ} {s : Found} {stop : Stop} →
+  stops_within : {level : ℕ} {w : Walk} {p e : ℕ} {s : FoundScope} {stop : Stop} →
       IsSoundAt form bytes p e s →
       WalksTo form bytes (suc level) (with_scope w (suc level) s.span) (p + s.child_begin)
       (p + s.child_end) (Err stop) →
       WalksTo form bytes level w p e (Err stop)
-  goes_on : {level : ℕ} {w v : Walk} {p e : ℕ} {s : Found} {out : Result Walk Stop} →
+  goes_on : {level : ℕ} {w v : Walk} {p e : ℕ} {s : FoundScope} {out : Result Walk Stop} →
       IsSoundAt form bytes p e s →
       WalksTo form bytes (suc level) (with_scope w (suc level) s.span) (p + s.child_begin)
       (p + s.child_end) (Ok v) →

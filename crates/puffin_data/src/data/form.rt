@@ -6,7 +6,7 @@ ghost use Rattle.puffin_data.specs.Text.Lengths.{length_at, length_layout, text_
 ghost use Rattle.puffin_data.specs.inner.Groups.{second_byte};
 ghost use Rattle.puffin_data.specs.Forest.Spelling.{head_size};
 
-use crate::data::scope::{BEGIN_LIMIT, FRONT_SIZE, WORD_SIZE};
+use crate::data::scope::{BEGIN_LIMIT, FRONT_SIZE, SIZE_FIELD};
 use crate::error::{Error, Result};
 
 /// The greatest length that both forms encode in one byte.
@@ -72,7 +72,7 @@ impl Form {
         }
         match self {
             Form::Short => BEGIN_LIMIT,
-            Form::Long => FRONT_SIZE + 2 + text.len().min(TWO_GROUPS) + WORD_SIZE,
+            Form::Long => FRONT_SIZE + 2 + text.len().min(TWO_GROUPS) + SIZE_FIELD,
         }
     }
 
@@ -82,7 +82,7 @@ impl Form {
         ensures { result ≡ head_size self (cut_text self text.now) }
     {
         if text.len() <= ONE_GROUP {
-            return FRONT_SIZE + 1 + text.len() + WORD_SIZE;
+            return FRONT_SIZE + 1 + text.len() + SIZE_FIELD;
         }
         self.longer_begin_size(text)
     }
@@ -95,7 +95,7 @@ impl Form {
     {
         let stored = self.cut(text);
         let (_, second) = groups(self, stored.len());
-        FRONT_SIZE + 1 + usize::from(second.is_some()) + stored.len() + WORD_SIZE
+        FRONT_SIZE + 1 + usize::from(second.is_some()) + stored.len() + SIZE_FIELD
     }
 }
 

@@ -3,7 +3,7 @@ ghost use Rattle.std.specs.Int.{int_min, int_max};
 ghost use Rattle.puffin_data.specs.Forest.{Forest, empty, append};
 ghost use Rattle.puffin_data.specs.Forest.Spelling.{Spells};
 ghost use Rattle.puffin_data.specs.Walk.{IsFault};
-ghost use Rattle.puffin_data.specs.Honesty.{IsHonest, IsHonestRef, record_of, record_of_ref, joined_record, joined_form, AreUnlike};
+ghost use Rattle.puffin_data.specs.Honesty.{IsHonest, IsHonestRef, facts_of, facts_of_ref, joined_facts, joined_form, AreUnlike};
 
 use crate::data::form::Form;
 use crate::data::reader::Reader;
@@ -116,14 +116,14 @@ impl StreamInfo {
 
     /// Returns whether both infos have bytes and their forms differ. Such infos can't be joined.
     pub fn is_unlike(&self, other: &StreamInfoRef) -> bool
-        ensures { (result ≡ true) ↔ AreUnlike (record_of self.now) (record_of_ref other.now) }
+        ensures { (result ≡ true) ↔ AreUnlike (facts_of self.now) (facts_of_ref other.now) }
     {
         !self.stream.is_empty() && !other.stream.is_empty() && self.stream.form() != other.form
     }
 
     /// Returns the form that both have when joined: the other's if this info has no bytes, else its own.
     fn form_with(&self, other: &StreamInfoRef) -> Form
-        ensures { result ≡ joined_form (record_of self.now) (record_of_ref other.now) }
+        ensures { result ≡ joined_form (facts_of self.now) (facts_of_ref other.now) }
     {
         if self.stream.is_empty() {
             other.form
@@ -140,21 +140,21 @@ impl StreamInfo {
     #[inline(always)]
     pub fn extend(&mut self, other: &StreamInfoRef) -> Result<()>
         ensures ok { OnOk result (
-            record_of self.new ≡ joined_record (record_of self.old) (record_of_ref other.now)) }
+            facts_of self.new ≡ joined_facts (facts_of self.old) (facts_of_ref other.now)) }
         // An honest info extended by an honest info is honest.
         ensures honest { OnOk result (
             (f g : Forest) → IsHonest self.old f → IsHonestRef other.now g →
             IsHonest self.new (append f g)) }
         ensures unlike { (result ≡ Err Error.UnlikeForms)
-            ↔ AreUnlike (record_of self.old) (record_of_ref other.now) }
+            ↔ AreUnlike (facts_of self.old) (facts_of_ref other.now) }
         ensures too_large { (result ≡ Err Error.TooLarge)
-            ↔ ((¬ AreUnlike (record_of self.old) (record_of_ref other.now))
+            ↔ ((¬ AreUnlike (facts_of self.old) (facts_of_ref other.now))
             × (2 ^ 64 ≤ self.old.num_scopes + other.now.num_scopes)) }
-        ensures err { OnErr result (record_of self.new ≡ record_of self.old) }
+        ensures err { OnErr result (facts_of self.new ≡ facts_of self.old) }
         ensures cause { IfErr result (λ e.
             (e ≡ Error.UnlikeForms) ⊎ (e ≡ Error.TooLarge) ⊎ (e ≡ Error.Memory)) }
         // Bytes that fit the room are appended without an allocation.
-        ensures succeeds { ¬ AreUnlike (record_of self.old) (record_of_ref other.now) →
+        ensures succeeds { ¬ AreUnlike (facts_of self.old) (facts_of_ref other.now) →
             self.old.num_scopes + other.now.num_scopes < 2 ^ 64 →
             length other.now.stream.now ≤ self.old.stream.room → IsOk result }
         ensures room { self.old.stream.room ≤ self.new.stream.room + length other.now.stream.now }
@@ -176,7 +176,7 @@ impl StreamInfo {
 
     /// Copies the info. Fails only with `Memory`.
     pub fn clone(&self) -> Result<StreamInfo>
-        ensures ok { IfOk result (λ info. record_of info ≡ record_of self.now) }
+        ensures ok { IfOk result (λ info. facts_of info ≡ facts_of self.now) }
         ensures err { IfErr result (λ e. e ≡ Error.Memory) }
     {
         Ok(StreamInfo {
@@ -189,7 +189,7 @@ impl StreamInfo {
 
     /// Borrows the info.
     pub fn as_stream_into_ref(&self) -> StreamInfoRef<'_>
-        ensures { record_of_ref result ≡ record_of self.now }
+        ensures { facts_of_ref result ≡ facts_of self.now }
     {
         StreamInfoRef {
             form: self.stream.form(),

@@ -1,13 +1,13 @@
 ghost use Rattle.std.specs.Prelude.{◌≡◌, ◌-ℤ◌, ◌≤ℤ◌, FitsSigned, true, false};
 ghost use Rattle.std.specs.Int.{w64};
-ghost use Rattle.puffin_data.specs.Range.{is_range_at};
+ghost use Rattle.puffin_data.specs.Range.{is_valid_range_at};
 
 use crate::error::NanoSecond;
 
 /// Returns whether a range isn't reversed and its duration fits `i64`.
 #[inline]
-pub fn is_range(range: (NanoSecond, NanoSecond)) -> bool
-    ensures test { result ≡ is_range_at range.0 range.1 }
+pub fn is_valid_range(range: (NanoSecond, NanoSecond)) -> bool
+    ensures test { result ≡ is_valid_range_at range.0 range.1 }
     ensures ordered { result ≡ true → range.0 ≤ℤ range.1 }
     ensures duration_fits { result ≡ true → FitsSigned w64 (range.1 -ℤ range.0) }
     // A range that isn't reversed is refused only if it is too long.

@@ -8,12 +8,12 @@ ghost use Rattle.puffin_data.specs.Honesty.{Counts};
 ghost use Rattle.puffin_data.specs.Walk.{IsFault, Refuses};
 ghost use Rattle.puffin_data.specs.Text.{text_in};
 ghost use Rattle.puffin_data.specs.Walk.Sightings.{found_of};
-ghost use Rattle.puffin_data.specs.Reader.{Place, read_scope, scope_read};
+ghost use Rattle.puffin_data.specs.Reader.{ReaderState, read_scope, scope_read};
 ghost use Rattle.puffin_data.specs.Reader.ReadScopes.{scope_seen, scope_answer, IsNextRead, ReadsScopes, ReadsFault};
 
 use crate::data::form::Form;
 use crate::data::record::{Scope, ScopeRecord};
-use crate::data::scope::{Sighting, scope_in};
+use crate::data::scope::{RawScope, scope_in};
 use crate::data::scope_id::ScopeId;
 use crate::data::stream::Stream;
 use crate::data::walk::{Walk, walk_forest};
@@ -32,7 +32,7 @@ pub fn text_of(stored: &[u8]) -> &str
 }
 
 /// Converts a scope found at offset `at` into a `Scope`, whose positions are offsets into the stream.
-fn told<'s>(at: usize, found: &Sighting<'s>) -> Scope<'s>
+fn to_scope<'s>(at: usize, found: &RawScope<'s>) -> Scope<'s>
     requires id { 0 < found.now.id }
     requires fits { FitsSigned w64 (found.now.stop -ℤ found.now.start) }
     requires begins { found.now.child_begin ≤ found.now.child_end }
@@ -61,7 +61,7 @@ fn read_at(form: Form, bytes: &[u8], at: usize, end: usize) -> Result<Option<Sco
 {
     match scope_in(form, &bytes[at..end])? {
         None => Ok(None),
-        Some(found) => Ok(Some(told(at, &found))),
+        Some(found) => Ok(Some(to_scope(at, &found))),
     }
 }
 
@@ -82,7 +82,7 @@ pub struct Reader<'s> {
 }
 
 impl<'s> Model for Reader<'s> {
-    ghost Value = { Place };
+    ghost Value = { ReaderState };
 
     ghost view = { λ r. record { form = r.form; bytes = r.bytes.now; at = r.at } };
 

@@ -6,7 +6,7 @@ ghost use Rattle.puffin_data.specs.Walk.Reading.{reading, sized_reading, unless_
 ghost use Rattle.puffin_data.specs.inner.Walking.{reading_of};
 
 use crate::data::form::{Form, length_in};
-use crate::data::range::is_range;
+use crate::data::range::is_valid_range;
 use crate::error::{Error, NanoSecond, Result};
 use byteorder::{ByteOrder, LittleEndian};
 
@@ -17,7 +17,7 @@ pub(crate) const SCOPE_END: u8 = b')';
 /// The size of a scope's beginning up to its text's length: the first byte, the id and the start.
 pub(crate) const FRONT_SIZE: usize = 13;
 /// The size of the number that gives the size of a scope's children.
-pub(crate) const WORD_SIZE: usize = 8;
+pub(crate) const SIZE_FIELD: usize = 8;
 /// The greatest size of a scope's beginning in the short form: all bytes before its children.
 pub const BEGIN_LIMIT: usize = 149;
 /// The size of a scope's end: the byte after its children, and the stop.
@@ -25,7 +25,7 @@ pub const END_SIZE: usize = 9;
 
 /// A sound scope at the front of a region. Its positions count from the scope's first byte.
 #[derive(Clone, Copy, Debug)]
-pub struct Sighting<'s> {
+pub struct RawScope<'s> {
     /// Identifies the scope's details. Never 0.
     pub id: u32,
     /// When the scope began, in nanoseconds.
@@ -76,14 +76,14 @@ fn scope_around(
     region: &[u8],
     text_begin: usize,
     text_end: usize,
-) -> Result<Option<Sighting<'_>>>
+) -> Result<Option<RawScope<'_>>>
     requires begin { text_begin ≡ text_begin_in form region.now }
     requires end { text_end ≡ text_begin_in form region.now + text_size_in form region.now }
     requires front { FRONT_SIZE ≤ text_begin }
-    requires fits { text_end + WORD_SIZE < 2 ^ 64 }
+    requires fits { text_end + SIZE_FIELD < 2 ^ 64 }
     ensures { reading_of result ≡ sized_reading form region.now }
 {
-    let child_begin = text_end + WORD_SIZE;
+    let child_begin = text_end + SIZE_FIELD;
     if region.len() < child_begin {
         return Err(Error::PrematureEnd);
     }
@@ -104,10 +104,10 @@ fn scope_around(
     }
     let start = time_at(region, 5);
     let stop = time_at(region, child_end + 1);
-    if !is_range((start, stop)) {
+    if !is_valid_range((start, stop)) {
         return Err(Error::InvalidStream);
     }
-    Ok(Some(Sighting {
+    Ok(Some(RawScope {
         id: id_of(region),
         start,
         stop,
@@ -120,7 +120,7 @@ fn scope_around(
 
 /// Reads the scope at the front of a region that has at least its id, its start and the first byte of its text's length.
 #[inline(always)]
-fn scope_after(form: Form, region: &[u8]) -> Result<Option<Sighting<'_>>>
+fn scope_after(form: Form, region: &[u8]) -> Result<Option<RawScope<'_>>>
     requires { FRONT_SIZE + 1 ≤ length region.now }
     ensures { reading_of result
         ≡ unless_fault (text_length_in form region.now) (sized_reading form region.now) }
@@ -133,7 +133,7 @@ fn scope_after(form: Form, region: &[u8]) -> Result<Option<Sighting<'_>>>
 /// Reads the scope at the front of a region. Returns `None` if the region is empty or begins with another byte than `(`.
 #[inline(always)]
 #[tactic(auto, unfolding(crate::specs::Walk::Reading::reading))]
-pub(crate) fn scope_in(form: Form, region: &[u8]) -> Result<Option<Sighting<'_>>>
+pub(crate) fn scope_in(form: Form, region: &[u8]) -> Result<Option<RawScope<'_>>>
     ensures { reading_of result ≡ reading form region.now }
 {
     if region.is_empty() || region[0] != SCOPE_BEGIN {

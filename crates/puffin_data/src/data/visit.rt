@@ -3,11 +3,11 @@
 ghost use Rattle.std.specs.Prelude.{◌≡◌, ℕ, ◌+◌, ◌*◌, ◌≤◌, List, [], ◌∷◌, ◌++◌, length, IfOk, IfErr, ◌⊎◌};
 ghost use Rattle.puffin_data.specs.Forest.{Span, IsSpan};
 ghost use Rattle.puffin_data.specs.Walk.Sightings.{found_of};
-ghost use Rattle.puffin_data.specs.Walk.Sights.{Nested};
+ghost use Rattle.puffin_data.specs.Walk.Sights.{ScopeInContext};
 ghost use Rattle.puffin_data.specs.Walk.Visitor.{Entering, Refusing, TakesAll, StopsEarly};
 
 use crate::data::form::Form;
-use crate::data::scope::{END_SIZE, Sighting};
+use crate::data::scope::{END_SIZE, RawScope};
 use crate::data::walk::next_scope;
 use crate::error::{Error, Result};
 use std::alloc::Global;
@@ -21,17 +21,17 @@ pub trait Visitor<'s> {
     type Within: Copy;
 
     /// Whether the visitor may take these scopes, in order, from the first state to the second.
-    ghost takes: { Self → List Nested → Self → Type 0 };
+    ghost takes: { Self → List ScopeInContext → Self → Type 0 };
 
     /// Whether the visitor may refuse this scope with this error in this state.
-    ghost refuses: { Self → Nested → Error → Type 0 };
+    ghost refuses: { Self → ScopeInContext → Error → Type 0 };
 
     /// Whether, in this state, a kept value stands for these open scopes, the outermost first.
     ghost stands_for: { Self → Self.Within → List Span → Type 0 };
 
     /// Takes a scope whose parent `within` stands for, and returns what to keep for the scope while the walk is within it. An
     /// error ends the walk.
-    fn enter(&mut self, within: Self::Within, scope: &Sighting<'s>) -> Result<Self::Within>
+    fn enter(&mut self, within: Self::Within, scope: &RawScope<'s>) -> Result<Self::Within>
         requires stands { (around : List Span) × stands_for self.old within around }
         requires span { (form : Form) × IsSpan form (found_of scope.now).span }
         ensures ok { IfOk result (λ inner.
@@ -45,11 +45,12 @@ pub trait Visitor<'s> {
     ghost takes_none: { (v : Self) → takes v [] v };
 
     /// Taking one list of scopes and then another is taking both, joined.
-    ghost takes_more: { (u v w : Self) (xs ys : List Nested) → takes u xs v → takes v ys w →
+    ghost takes_more: { (u v w : Self) (xs ys : List ScopeInContext) → takes u xs v → takes v ys w →
         takes u (xs ++ ys) w };
 
     /// A kept value still stands for the same scopes after more were taken.
-    ghost still_stands: { (u v : Self) (xs : List Nested) (w : Self.Within) (around : List Span) →
+    ghost still_stands: { (u v : Self) (xs : List ScopeInContext) (w : Self.Within)
+        (around : List Span) →
         takes u xs v → stands_for u w around → stands_for v w around };
 }
 

@@ -11,7 +11,7 @@ ghost use Rattle.puffin_data.specs.Walk.Sightings.{found_of};
 ghost use Rattle.puffin_data.specs.inner.Walking.{no_scope_counted, with_scope, Walked, Stopped};
 
 use crate::data::form::Form;
-use crate::data::scope::{END_SIZE, SCOPE_BEGIN, Sighting, scope_in};
+use crate::data::scope::{END_SIZE, RawScope, SCOPE_BEGIN, scope_in};
 use crate::error::{Error, NanoSecond, Result};
 use std::alloc::Global;
 
@@ -39,7 +39,7 @@ impl Walk {
     }
 
     /// Counts one more scope, at this depth.
-    fn counted(self, depth: usize, scope: &Sighting) -> Walk
+    fn counted(self, depth: usize, scope: &RawScope) -> Walk
         requires { self.num_scopes + 1 < 2 ^ 64 }
         ensures { result ≡ with_scope self depth (found_of scope.now).span }
     {
@@ -55,7 +55,7 @@ impl Walk {
 /// Reads the scope that has to be at the front of a region. If the region begins with `(`, adds one to `tries`. Fails with
 /// `InvalidStream` if it begins with another byte, else with the scope's fault.
 #[inline(always)]
-pub(crate) fn next_scope<'s>(form: Form, region: &'s [u8], tries: &mut u64) -> Result<Sighting<'s>>
+pub(crate) fn next_scope<'s>(form: Form, region: &'s [u8], tries: &mut u64) -> Result<RawScope<'s>>
     requires not_empty { 0 < length region.now }
     requires few { tries.old + 1 < 2 ^ 64 }
     ensures sound { IfOk result (λ s. reading form region.now ≡ Ok (Some (found_of s))) }

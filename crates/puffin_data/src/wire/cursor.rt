@@ -1,8 +1,8 @@
 //! Reading values one after the other.
 
 ghost use Rattle.std.specs.Prelude.{◌≡◌, List, ℕ, length};
-ghost use Rattle.puffin_data.specs.Value.Layout.{number, signed, byte, block, flag, IsAny, IsByte, IsWord, IsLong, IsSigned, IsBlock, IsText};
-ghost use Rattle.puffin_data.specs.Value.Decoding.{byte_at, number_at, word_at, signed_at, flag_at, bytes_at, text_at};
+ghost use Rattle.puffin_data.specs.Value.Layout.{number, signed, byte, block, flag, IsAny, IsByte, IsU32, IsLong, IsSigned, IsBlock, IsText};
+ghost use Rattle.puffin_data.specs.Value.Decoding.{byte_at, number_at, u32_at, signed_at, flag_at, bytes_at, text_at};
 ghost use Rattle.puffin_data.specs.Value.Outcomes.{Reads, Gives};
 
 use crate::wire::front::{byte_in, bytes_in, flag_in, number_in, signed_in, text_in, word_in};
@@ -64,8 +64,8 @@ impl<'s> Cursor<'s> {
 
     /// Reads a number of 32 bits.
     pub fn u32(&mut self) -> Option<u32>
-        ensures reads { Reads (λ x. x) IsWord number self.old result self.new }
-        ensures exact { Gives (λ x. x) self.old result self.new (word_at self.old) }
+        ensures reads { Reads (λ x. x) IsU32 number self.old result self.new }
+        ensures exact { Gives (λ x. x) self.old result self.new (u32_at self.old) }
     {
         let (value, rest) = word_in(self.bytes)?;
         self.bytes = rest;

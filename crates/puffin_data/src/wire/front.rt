@@ -3,8 +3,8 @@
 
 ghost use Rattle.std.specs.Prelude.{◌≡◌, ◌^◌, true, false, MatchOption};
 ghost use Rattle.std.specs.Str.{is_utf8};
-ghost use Rattle.puffin_data.specs.Value.Layout.{two_bytes_mark, number, signed, byte, block, flag, IsAny, IsByte, IsWord, IsLong, IsSigned, IsBlock, IsText};
-ghost use Rattle.puffin_data.specs.Value.Decoding.{byte_at, wide_at, number_at, word_at, signed_at, unzigzag, flag_at, bytes_at, text_at};
+ghost use Rattle.puffin_data.specs.Value.Layout.{two_bytes_mark, number, signed, byte, block, flag, IsAny, IsByte, IsU32, IsLong, IsSigned, IsBlock, IsText};
+ghost use Rattle.puffin_data.specs.Value.Decoding.{byte_at, wide_at, number_at, u32_at, signed_at, unzigzag, flag_at, bytes_at, text_at};
 ghost use Rattle.puffin_data.specs.inner.Fronts.{ReadsWithRest, GivesWithRest};
 
 use crate::wire::{EIGHT_BYTES_MARK, FOUR_BYTES_MARK, TWO_BYTES_MARK};
@@ -82,8 +82,8 @@ pub(super) fn number_in(bytes: &[u8]) -> Option<(u64, &[u8])>
 
 /// Reads a number that fits 32 bits, in its shortest layout.
 pub(super) fn word_in(bytes: &[u8]) -> Option<(u32, &[u8])>
-    ensures reads { ReadsWithRest (λ x. (x.0, x.1.now)) IsWord number bytes.now result }
-    ensures exact { GivesWithRest (λ x. (x.0, x.1.now)) result (word_at bytes.now) }
+    ensures reads { ReadsWithRest (λ x. (x.0, x.1.now)) IsU32 number bytes.now result }
+    ensures exact { GivesWithRest (λ x. (x.0, x.1.now)) result (u32_at bytes.now) }
 {
     let (n, rest) = number_in(bytes)?;
     if n < 4294967296 {

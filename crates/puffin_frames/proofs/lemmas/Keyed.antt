@@ -9,36 +9,36 @@ use Rattle.std.specs.BTreeMap.{insert_entry}
 use Rattle.std.specs.FinMap.{insert, entries, values}
 use Rattle.puffin_threads.specs.declared.thread_profiler.thread_info.ThreadInfo.{ThreadInfo}
 use Rattle.std.proofs.lemmas.Map.Made.{keys_of-map_values}
-use Rattle.puffin_data.specs.Honesty.{record_of}
+use Rattle.puffin_data.specs.Honesty.{facts_of}
 use Rattle.puffin_data.specs.declared.data.info.StreamInfo.{StreamInfo}
 use Rattle.puffin_frames.specs.Frame.Contents.{records, streams_of}
-use Rattle.puffin_threads.specs.Thread.Info.{info_cmp, info_of, thread_cmp, info_entries, by_info}
-use Rattle.puffin_threads.proofs.lemmas.Infos.{info_cmp_total, info_cmp-one}
+use Rattle.puffin_threads.specs.Thread.ThreadKey.{key_cmp, key_of, thread_cmp, key_entries, by_key}
+use Rattle.puffin_threads.proofs.lemmas.ThreadKeys.{key_cmp_total, key_cmp-one}
 use Rattle.puffin_threads.proofs.lemmas.EntriesSeen.{insert-seen, entries-seen}
 
 module _ {X : Type 0} where
   -- an insertion into the map is one by infos
-  pub by_info-insert : (es : List (ThreadInfo × X)) (k : ThreadInfo) (v : X) → by_info (insert_entry thread_cmp es k v) ≡ insert (by_info es) (info_of k) v
-  by_info-insert es k v = insert-seen info_of (λ x. x) info_cmp info_cmp_total info_cmp-one es k v
+  pub by_key-insert : (es : List (ThreadInfo × X)) (k : ThreadInfo) (v : X) → by_key (insert_entry thread_cmp es k v) ≡ insert (by_key es) (key_of k) v
+  by_key-insert es k v = insert-seen key_of (λ x. x) key_cmp key_cmp_total key_cmp-one es k v
 
   -- what is in order stays so
-  pub entries-by_info : (es : List (ThreadInfo × X)) → IsStrictlySortedBy thread_cmp (keys_of es) → entries (by_info es) ≡ info_entries es
-  entries-by_info es sorted = entries-seen info_of (λ x. x) info_cmp info_cmp_total es sorted
+  pub entries-by_key : (es : List (ThreadInfo × X)) → IsStrictlySortedBy thread_cmp (keys_of es) → entries (by_key es) ≡ key_entries es
+  entries-by_key es sorted = entries-seen key_of (λ x. x) key_cmp key_cmp_total es sorted
 
-  values-info_entries : (es : List (ThreadInfo × X)) → map (λ e. e.1) (info_entries es) ≡ values_of es
-  values-info_entries [] = refl
-  values-info_entries (e ∷ es) = ap (λ xs. e.1 ∷ xs) (values-info_entries es)
+  values-key_entries : (es : List (ThreadInfo × X)) → map (λ e. e.1) (key_entries es) ≡ values_of es
+  values-key_entries [] = refl
+  values-key_entries (e ∷ es) = ap (λ xs. e.1 ∷ xs) (values-key_entries es)
 
-  pub values-by_info : (es : List (ThreadInfo × X)) → IsStrictlySortedBy thread_cmp (keys_of es) → values (by_info es) ≡ values_of es
-  values-by_info es sorted = ap (map (λ e. e.1)) (entries-by_info es sorted) ∙ values-info_entries es
+  pub values-by_key : (es : List (ThreadInfo × X)) → IsStrictlySortedBy thread_cmp (keys_of es) → values (by_key es) ≡ values_of es
+  values-by_key es sorted = ap (map (λ e. e.1)) (entries-by_key es sorted) ∙ values-key_entries es
 
 -- what is recorded, in place of the streams themselves
 sorted-records : (es : List (ThreadInfo × StreamInfo)) → IsStrictlySortedBy thread_cmp (keys_of es) → IsStrictlySortedBy thread_cmp (keys_of (records es))
-sorted-records es sorted = subst (λ (ks : List ThreadInfo). IsStrictlySortedBy thread_cmp ks) (sym (keys_of-map_values record_of es)) sorted
+sorted-records es sorted = subst (λ (ks : List ThreadInfo). IsStrictlySortedBy thread_cmp ks) (sym (keys_of-map_values facts_of es)) sorted
 
-values-records : (es : List (ThreadInfo × StreamInfo)) → values_of (records es) ≡ map record_of (values_of es)
+values-records : (es : List (ThreadInfo × StreamInfo)) → values_of (records es) ≡ map facts_of (values_of es)
 values-records [] = refl
-values-records (e ∷ es) = ap (λ rs. record_of e.1 ∷ rs) (values-records es)
+values-records (e ∷ es) = ap (λ rs. facts_of e.1 ∷ rs) (values-records es)
 
 -- an insertion among entries whose values are read by g
 module _ {X Y : Type 0} (g : X → Y) where
@@ -52,11 +52,11 @@ module _ {X Y : Type 0} (g : X → Y) where
   read-insert [] k v = refl
   read-insert (e ∷ es) k v = read_at_order (thread_cmp k e.0) k v e es (read-insert es k v)
 
-pub entries-streams_of : (es : List (ThreadInfo × StreamInfo)) → IsStrictlySortedBy thread_cmp (keys_of es) → entries (streams_of es) ≡ info_entries (records es)
-entries-streams_of es sorted = entries-by_info (records es) (sorted-records es sorted)
+pub entries-streams_of : (es : List (ThreadInfo × StreamInfo)) → IsStrictlySortedBy thread_cmp (keys_of es) → entries (streams_of es) ≡ key_entries (records es)
+entries-streams_of es sorted = entries-by_key (records es) (sorted-records es sorted)
 
-pub values-streams_of : (es : List (ThreadInfo × StreamInfo)) → IsStrictlySortedBy thread_cmp (keys_of es) → values (streams_of es) ≡ map record_of (values_of es)
-values-streams_of es sorted = values-by_info (records es) (sorted-records es sorted) ∙ values-records es
+pub values-streams_of : (es : List (ThreadInfo × StreamInfo)) → IsStrictlySortedBy thread_cmp (keys_of es) → values (streams_of es) ≡ map facts_of (values_of es)
+values-streams_of es sorted = values-by_key (records es) (sorted-records es sorted) ∙ values-records es
 
-pub streams_of-insert : (es : List (ThreadInfo × StreamInfo)) (k : ThreadInfo) (v : StreamInfo) → streams_of (insert_entry thread_cmp es k v) ≡ insert (streams_of es) (info_of k) (record_of v)
-streams_of-insert es k v = ap by_info (read-insert record_of es k v) ∙ by_info-insert (records es) k (record_of v)
+pub streams_of-insert : (es : List (ThreadInfo × StreamInfo)) (k : ThreadInfo) (v : StreamInfo) → streams_of (insert_entry thread_cmp es k v) ≡ insert (streams_of es) (key_of k) (facts_of v)
+streams_of-insert es k v = ap by_key (read-insert facts_of es k v) ∙ by_key-insert (records es) k (facts_of v)

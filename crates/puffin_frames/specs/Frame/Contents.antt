@@ -7,20 +7,20 @@ use Rattle.puffin_frames.specs.declared.frame_data.held.Held.{Held}
 use Rattle.puffin_frames.specs.declared.frame_data.held.Held.TheVariants.{Own, Shared, Packed, Both}
 use Rattle.puffin_frames.specs.declared.frame_data.meta.FrameMeta.{FrameMeta}
 use Rattle.puffin_threads.specs.Details.{Details, shared_details}
-use Rattle.puffin_frames.specs.Frame.Holding.{Packing, Holding, packing_of, held_contents}
-use Rattle.puffin_frames.specs.Packet.Stored.{Said}
-pub use Rattle.puffin_frames.specs.Frame.Streams.{Streams, recorded_code, streams_code, records, all_recorded, streams_of, without_sharing, shared_streams, no_scopes, stream_under, reported_to, AreHonest}
-pub use Rattle.puffin_frames.specs.Frame.Unpacked.{contents}
+use Rattle.puffin_frames.specs.Frame.Holding.{Packing, Holding, packing_of, holding_streams}
+use Rattle.puffin_frames.specs.Packet.Stored.{PacketFields}
+pub use Rattle.puffin_frames.specs.Frame.Streams.{Streams, facts_code, streams_code, records, all_facts, streams_of, without_sharing, shared_streams, no_scopes, stream_under, reported_to, AreHonest}
+pub use Rattle.puffin_frames.specs.Frame.Unpacked.{streams_held}
 
 abbrev pub packed_as : PackedStreams → Packing
 packed_as p = record { form = p.form; kind = p.kind; bytes = p.bytes.items }
 
 abbrev pub held_as : Held → Holding
-held_as (Own u) = record { packed = None; unpacked = Some (contents u) }
-held_as (Shared u) = record { packed = None; unpacked = Some (contents (arc_value u)) }
+held_as (Own u) = record { packed = None; unpacked = Some (streams_held u) }
+held_as (Shared u) = record { packed = None; unpacked = Some (streams_held (arc_value u)) }
 held_as (Packed p) = record { packed = Some (packed_as p.streams); unpacked = None }
 held_as (Both b) =
-    record { packed = Some (packed_as b.packed); unpacked = Some (contents (arc_value b.unpacked)) }
+    record { packed = Some (packed_as b.packed); unpacked = Some (streams_held (arc_value b.unpacked)) }
 
 abbrev pub held_meta : Held → FrameMeta
 held_meta (Own u) = u.meta
@@ -37,8 +37,8 @@ abbrev pub holding_of : FrameData → Holding
 holding_of frame = held_as frame.held
 
 -- the streams of a frame, however they are held; none if they are packed with a kind that isn't unpacked here, or the packed bytes aren't streams
-abbrev pub frame_contents : FrameData → Option Streams
-frame_contents frame = held_contents (holding_of frame)
+abbrev pub frame_streams : FrameData → Option Streams
+frame_streams frame = holding_streams (holding_of frame)
 
 -- the index and the totals of a frame
 abbrev pub frame_meta : FrameData → FrameMeta
@@ -47,13 +47,13 @@ frame_meta frame = held_meta frame.held
 abbrev pub frame_details : FrameData → List Details
 frame_details frame = shared_details frame.scope_delta.items
 
-abbrev pub said_of : FrameMeta → Packing → List Details → Said
+abbrev pub said_of : FrameMeta → Packing → List Details → PacketFields
 said_of meta p details =
     record { meta = meta; form = p.form; kind = p.kind; streams = p.bytes; details = details }
 
 -- what a frame says, however it is held
-abbrev pub frame_says : FrameData → Said
-frame_says frame = said_of (frame_meta frame) (packing_of (holding_of frame)) (frame_details frame)
+abbrev pub packet_fields : FrameData → PacketFields
+packet_fields frame = said_of (frame_meta frame) (packing_of (holding_of frame)) (frame_details frame)
 
 -- whether a frame is held unpacked, and shares its data with no other
 abbrev pub is_alone : FrameData → Bool

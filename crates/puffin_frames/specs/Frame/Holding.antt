@@ -6,15 +6,15 @@ use Rattle.puffin_data.specs.declared.data.form.Form.{Form}
 use Rattle.puffin_data.specs.declared.data.form.Form.TheVariants.{Short}
 use Rattle.puffin_data.specs.declared.file_error.FileError.{FileError}
 use Rattle.puffin_data.specs.declared.file_error.FileError.TheVariants as file
-use Rattle.puffin_data.specs.Honesty.{Recorded}
+use Rattle.puffin_data.specs.Honesty.{StreamFacts}
 use Rattle.puffin_data.specs.Value.Layout.{AreItems}
 use Rattle.puffin_data.specs.Value.Decoding.{whole}
-use Rattle.puffin_threads.specs.Thread.Info.{Info}
+use Rattle.puffin_threads.specs.Thread.ThreadKey.{ThreadKey}
 use Rattle.puffin_frames.specs.declared.frame_data.kind.Kind.{Kind}
 use Rattle.puffin_frames.specs.declared.frame_data.kind.Kind.TheVariants.{Uncompressed}
 use Rattle.puffin_frames.specs.Frame.Streams.{Streams}
 use Rattle.puffin_frames.specs.Packet.Kinds.{to_byte, is_uncompressed}
-use Rattle.puffin_frames.specs.Packet.Structs.{IsInfo, AreCounts, form_of_all, streams_layout, streams_at, AreStreams}
+use Rattle.puffin_frames.specs.Packet.Structs.{IsThreadKey, AreCounts, form_of_all, streams_layout, streams_at, AreStreams}
 
 -- packed streams: the form of their packet, the kind, and the bytes
 pub record Packing : Type 0 where
@@ -49,7 +49,7 @@ plainly_packed streams = record {
 
 -- they have a layout: their number and the numbers of each fit, names are UTF-8, and streams are bytes
 abbrev pub HaveLayout : Streams → Type 0
-HaveLayout streams = AreItems (λ (e : Info × Recorded). IsInfo e.0 × AreCounts e.1) (entries streams)
+HaveLayout streams = AreItems (λ (e : ThreadKey × StreamFacts). IsThreadKey e.0 × AreCounts e.1) (entries streams)
 
 -- packed, they are read as the same streams
 abbrev pub AreReadAgain : Streams → Type 0
@@ -64,8 +64,8 @@ either_content p None = if_packed p
 either_content p (Some streams) = Some streams
 
 -- the one content
-abbrev pub held_contents : Holding → Option Streams
-held_contents h = either_content h.packed h.unpacked
+abbrev pub holding_streams : Holding → Option Streams
+holding_streams h = either_content h.packed h.unpacked
 
 -- a frame is held in some way, and its unpacked streams, if any, are those that its packing is read as
 abbrev pub Agree : Option Packing → Option Streams → Type 0
@@ -92,7 +92,7 @@ as_packed h = record { packed = Some (packing_of h); unpacked = None }
 
 -- also held unpacked, if there are contents
 abbrev pub as_unpacked : Holding → Holding
-as_unpacked h = record { packed = h.packed; unpacked = held_contents h }
+as_unpacked h = record { packed = h.packed; unpacked = holding_streams h }
 
 -- the result of unpacking: the streams, or why there are none
 abbrev pub or_bad : Option Streams → Result Streams FileError

@@ -8,19 +8,19 @@ use Rattle.std.specs.declared.sync.Arc.{Arc}
 use Rattle.puffin_data.specs.declared.data.form.Form.{Form}
 use Rattle.puffin_data.specs.declared.data.form.Form.TheVariants.{Short}
 use Rattle.puffin_data.specs.Text.Flags.{form_code}
-use Rattle.puffin_data.specs.Honesty.{Recorded, record_of, joined_record, IsHonestRecord}
+use Rattle.puffin_data.specs.Honesty.{StreamFacts, facts_of, joined_facts, AreHonestFacts}
 use Rattle.puffin_data.specs.Forest.{Forest}
 use Rattle.puffin_data.specs.declared.data.info.StreamInfo.{StreamInfo}
 use Rattle.puffin_threads.specs.declared.thread_profiler.thread_info.ThreadInfo.{ThreadInfo}
-use Rattle.puffin_threads.specs.Thread.Info.{Info, info_cmp, info_code, by_info}
+use Rattle.puffin_threads.specs.Thread.ThreadKey.{ThreadKey, key_cmp, key_code, by_key}
 
 -- what threads recorded, by their infos
 abbrev pub Streams : Type 0
-Streams = map.FinMap info_cmp Recorded
+Streams = map.FinMap key_cmp StreamFacts
 
 -- the encoding of an info's fields for contracts: their tuple
-abbrev pub recorded_code : Coded Recorded
-recorded_code =
+abbrev pub facts_code : Coded StreamFacts
+facts_code =
     code_by (Form × (List ℕ × (ℕ × (ℕ × (ℤ × ℤ)))))
     (coded× form_code (
     coded× (coded_list coded_ℕ) (coded× coded_ℕ (coded× coded_ℕ (coded× coded_ℤ coded_ℤ)))))
@@ -35,18 +35,18 @@ recorded_code =
     (λ _. refl)
 
 abbrev pub streams_code : Coded Streams
-streams_code = map.code info_code recorded_code
+streams_code = map.code key_code facts_code
 
 -- the infos of a map's entries, each with its thread, and without the threads
-abbrev pub records : List (ThreadInfo × StreamInfo) → List (ThreadInfo × Recorded)
-records entries = map (λ e. (e.0, record_of e.1)) entries
+abbrev pub records : List (ThreadInfo × StreamInfo) → List (ThreadInfo × StreamFacts)
+records entries = map (λ e. (e.0, facts_of e.1)) entries
 
-abbrev pub all_recorded : BTreeMap ThreadInfo StreamInfo → List Recorded
-all_recorded streams = map record_of (values streams)
+abbrev pub all_facts : BTreeMap ThreadInfo StreamInfo → List StreamFacts
+all_facts streams = map facts_of (values streams)
 
 -- the streams of a map's entries
 abbrev pub streams_of : List (ThreadInfo × StreamInfo) → Streams
-streams_of entries = by_info (records entries)
+streams_of entries = by_key (records entries)
 
 -- the entries of a map of shared streams, without the sharing
 abbrev pub without_sharing : {A : Type 0} → List (ThreadInfo × Arc StreamInfo A) →
@@ -57,7 +57,7 @@ abbrev pub shared_streams : {A : Type 0} → List (ThreadInfo × Arc StreamInfo 
 shared_streams entries = streams_of (without_sharing entries)
 
 -- the info of no scope
-abbrev pub no_scopes : Recorded
+abbrev pub no_scopes : StreamFacts
 no_scopes = record {
   form = Short;
   bytes = [];
@@ -67,15 +67,15 @@ no_scopes = record {
 }
 
 -- the info under a thread, or that of no scope
-abbrev pub stream_under : Streams → Info → Recorded
+abbrev pub stream_under : Streams → ThreadKey → StreamFacts
 stream_under streams i = unwrap_or (map.get streams i) no_scopes
 
 -- appends what is reported to what is under its thread
-abbrev pub reported_to : Streams → Info → Recorded → Streams
-reported_to streams i r = map.insert streams i (joined_record (stream_under streams i) r)
+abbrev pub reported_to : Streams → ThreadKey → StreamFacts → Streams
+reported_to streams i r = map.insert streams i (joined_facts (stream_under streams i) r)
 
 -- each stream spells a forest, and its counts are that forest's measures
 abbrev pub AreHonest : Streams → Type 0
 AreHonest streams =
-    (i : Info) (r : Recorded) → map.get streams i ≡ Some r →
-    ∥ ((f : Forest) × IsHonestRecord r f) ∥₁
+    (i : ThreadKey) (r : StreamFacts) → map.get streams i ≡ Some r →
+    ∥ ((f : Forest) × AreHonestFacts r f) ∥₁

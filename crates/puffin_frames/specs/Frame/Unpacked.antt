@@ -3,5 +3,5 @@ use Rattle.puffin_frames.specs.declared.frame_data.unpacked.UnpackedFrameData.{U
 use Rattle.puffin_frames.specs.Frame.Streams.{Streams, shared_streams}
 
 -- its streams
-abbrev pub contents : UnpackedFrameData → Streams
-contents frame = shared_streams frame.thread_streams.entries
+abbrev pub streams_held : UnpackedFrameData → Streams
+streams_held frame = shared_streams frame.thread_streams.entries

@@ -1,18 +1,18 @@
 -- What reading the next frame returns.
 use Rattle.std.specs.Prelude.{◌≡◌, ℕ, false, not, List, [], is_some, Option, Some, None, Result, Ok, Err}
 use Rattle.std.specs.FinMap.{entries}
-use Rattle.puffin_data.specs.Honesty.{Recorded}
+use Rattle.puffin_data.specs.Honesty.{StreamFacts}
 use Rattle.puffin_data.specs.Device.{FromDevice, FailsAt}
 use Rattle.puffin_data.specs.declared.file_error.FileError.{FileError}
 use Rattle.puffin_frames.specs.declared.frame_data.frame.FrameData.{FrameData}
-use Rattle.puffin_threads.specs.Thread.Info.{Info}
+use Rattle.puffin_threads.specs.Thread.ThreadKey.{ThreadKey}
 use Rattle.puffin_frames.specs.Packet.Structs.{Legacy}
 use Rattle.puffin_frames.specs.Frame.Holding.{Packing}
 use Rattle.puffin_frames.specs.Packet.Stored.{Stored, packed, legacy}
-use Rattle.puffin_frames.specs.Frame.Contents.{Streams, holding_of, frame_meta, frame_details, frame_says}
+use Rattle.puffin_frames.specs.Frame.Contents.{Streams, holding_of, frame_meta, frame_details, packet_fields}
 use Rattle.puffin_frames.specs.Packet.Front.{next_at, AtEnd}
 
-abbrev pub entries_if_any : Option Streams → List (Info × Recorded)
+abbrev pub entries_if_any : Option Streams → List (ThreadKey × StreamFacts)
 entries_if_any None = []
 entries_if_any (Some streams) = entries streams
 
@@ -22,7 +22,7 @@ legacy_of frame =
     record { meta = frame_meta frame; streams = entries_if_any (holding_of frame).unpacked }
 
 abbrev pub stored_as : FrameData → Option Packing → Stored
-stored_as frame (Some p) = packed (frame_says frame)
+stored_as frame (Some p) = packed (packet_fields frame)
 stored_as frame None = legacy (legacy_of frame)
 
 -- a frame as it is stored

@@ -2,7 +2,7 @@
 use Rattle.std.specs.Prelude.{ℕ, List, [], Option, Some, None, Result, Ok, Err, if◌then◌else◌}
 use Rattle.puffin_data.specs.declared.file_error.FileError.{FileError}
 use Rattle.puffin_data.specs.declared.file_error.FileError.TheVariants as file
-use Rattle.puffin_data.specs.Range.{is_range_at}
+use Rattle.puffin_data.specs.Range.{is_valid_range_at}
 use Rattle.puffin_data.specs.Value.Decoding.{whole}
 use Rattle.puffin_data.specs.Part.{◌>>=◌, part_of, first_at, part_length_at, counted_part_at}
 use Rattle.puffin_frames.specs.declared.frame_data.kind.Kind.{Kind}
@@ -16,7 +16,7 @@ use Rattle.puffin_frames.specs.Packet.Structs.{meta_at, details_at, Legacy, lega
 
 abbrev pub meta_with_range : Option FrameMeta → Result FrameMeta FileError
 meta_with_range None = Err file.BadMeta
-meta_with_range (Some m) = if is_range_at m.range_ns.0 m.range_ns.1 then Ok m else Err file.BadRange
+meta_with_range (Some m) = if is_valid_range_at m.range_ns.0 m.range_ns.1 then Ok m else Err file.BadRange
 
 -- all of the bytes are a meta, whose range isn't reversed or too long
 abbrev pub meta_from : List ℕ → Result FrameMeta FileError
@@ -72,7 +72,7 @@ streams_part_at version bytes = do
 abbrev pub legacy_with_range : Option Legacy → Result Legacy FileError
 legacy_with_range None = Err file.BadStreams
 legacy_with_range (Some l) =
-    if is_range_at l.meta.range_ns.0 l.meta.range_ns.1 then Ok l else Err file.BadRange
+    if is_valid_range_at l.meta.range_ns.0 l.meta.range_ns.1 then Ok l else Err file.BadRange
 
 abbrev pub legacy_from : List ℕ → Result Legacy FileError
 legacy_from part = legacy_with_range (whole legacy_at part)

@@ -1,4 +1,4 @@
--- What a packet stores of a frame (`Said`), and legacy frames.
+-- What a packet stores of a frame (`PacketFields`), and legacy frames.
 use Rattle.std.specs.Prelude.{ℕ, List}
 use Rattle.puffin_data.specs.declared.data.form.Form.{Form}
 use Rattle.puffin_frames.specs.declared.frame_data.kind.Kind.{Kind}
@@ -7,7 +7,7 @@ use Rattle.puffin_threads.specs.Details.{Details}
 use Rattle.puffin_frames.specs.Packet.Structs.{Legacy}
 
 -- what a frame says, however it is held: its meta, its packed streams with the form of their packet, and its details
-pub record Said : Type 0 where
+pub record PacketFields : Type 0 where
   pub meta : FrameMeta
   pub form : Form
   pub kind : Kind
@@ -16,5 +16,5 @@ pub record Said : Type 0 where
 
 -- a frame whose streams are packed, or a legacy one
 pub data Stored : Type 0 where
-  packed : Said → Stored
+  packed : PacketFields → Stored
   legacy : Legacy → Stored

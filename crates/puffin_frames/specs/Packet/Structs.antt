@@ -5,11 +5,11 @@ use Rattle.std.specs.FinMap.{is_sorted}
 use Rattle.puffin_data.specs.declared.data.form.Form.{Form}
 use Rattle.puffin_data.specs.declared.data.form.Form.TheVariants.{Short, Long}
 use Rattle.puffin_data.specs.Text.Flags.{is_long, form_of_flag}
-use Rattle.puffin_data.specs.Honesty.{Recorded}
-use Rattle.puffin_data.specs.Value.Layout.{number, signed, optional, flag, block, pair, items, IsWord, IsLong, IsSigned, IsBlock, IsText, IfAny, AreItems}
-use Rattle.puffin_data.specs.Value.Decoding.{with_test, seen_as, number_at, word_at, signed_at, flag_at, bytes_at, text_at, optional_at, pair_at, items_at}
+use Rattle.puffin_data.specs.Honesty.{StreamFacts}
+use Rattle.puffin_data.specs.Value.Layout.{number, signed, optional, flag, block, pair, items, IsU32, IsLong, IsSigned, IsBlock, IsText, IfAny, AreItems}
+use Rattle.puffin_data.specs.Value.Decoding.{with_test, seen_as, number_at, u32_at, signed_at, flag_at, bytes_at, text_at, optional_at, pair_at, items_at}
 use Rattle.puffin_frames.specs.declared.frame_data.meta.FrameMeta.{FrameMeta}
-use Rattle.puffin_threads.specs.Thread.Info.{Info, info_cmp}
+use Rattle.puffin_threads.specs.Thread.ThreadKey.{ThreadKey, key_cmp}
 use Rattle.puffin_threads.specs.Details.{Details}
 
 -- ---- meta
@@ -39,17 +39,17 @@ meta_at =
 
 -- ---- a thread's info
 
-abbrev pub info_layout : Info → List ℕ
-info_layout t = optional signed t.start ++ block t.name
+abbrev pub key_layout : ThreadKey → List ℕ
+key_layout t = optional signed t.start ++ block t.name
 
-abbrev pub IsInfo : Info → Type 0
-IsInfo t = IfAny IsSigned t.start × IsText t.name
+abbrev pub IsThreadKey : ThreadKey → Type 0
+IsThreadKey t = IfAny IsSigned t.start × IsText t.name
 
-abbrev pub made_info : Option ℤ × List ℕ → Info
-made_info p = record { start = p.0; name = p.1 }
+abbrev pub made_key : Option ℤ × List ℕ → ThreadKey
+made_key p = record { start = p.0; name = p.1 }
 
-unfoldable pub info_at : List ℕ → Option (Info × List ℕ)
-info_at = seen_as made_info (pair_at (optional_at signed_at) text_at)
+unfoldable pub key_at : List ℕ → Option (ThreadKey × List ℕ)
+key_at = seen_as made_key (pair_at (optional_at signed_at) text_at)
 
 -- ---- the form of a stream: one byte in packets of the long form, nothing in those of the short form, as all streams are short there
 
@@ -67,23 +67,23 @@ form_in_at Long bytes = seen_as form_of_flag flag_at bytes
 
 -- ---- the info of a thread's scopes, in packets of a form
 
-abbrev pub recorded_layout : Form → Recorded → List ℕ
-recorded_layout packed r =
+abbrev pub facts_layout : Form → StreamFacts → List ℕ
+facts_layout packed r =
     form_layout packed r.form
     ++ (block r.bytes
     ++ (number r.num_scopes ++ (number r.depth ++ (signed r.range_ns.0 ++ signed r.range_ns.1))))
 
 -- its counts and its bytes
-abbrev pub AreCounts : Recorded → Type 0
+abbrev pub AreCounts : StreamFacts → Type 0
 AreCounts r =
     IsBlock r.bytes
     × (IsLong r.num_scopes × (IsLong r.depth × (IsSigned r.range_ns.0 × IsSigned r.range_ns.1)))
 
-abbrev pub IsRecorded : Form → Recorded → Type 0
-IsRecorded packed r = IsFormIn packed r.form × AreCounts r
+abbrev pub AreStreamFacts : Form → StreamFacts → Type 0
+AreStreamFacts packed r = IsFormIn packed r.form × AreCounts r
 
-abbrev pub made_recorded : Form × (List ℕ × (ℕ × (ℕ × (ℤ × ℤ)))) → Recorded
-made_recorded p = record {
+abbrev pub made_facts : Form × (List ℕ × (ℕ × (ℕ × (ℤ × ℤ)))) → StreamFacts
+made_facts p = record {
   form = p.0;
   bytes = p.1.0;
   num_scopes = p.1.1.0;
@@ -91,47 +91,47 @@ made_recorded p = record {
   range_ns = p.1.1.1.1;
 }
 
-unfoldable pub recorded_at : Form → List ℕ → Option (Recorded × List ℕ)
-recorded_at packed =
-    seen_as made_recorded (
+unfoldable pub facts_at : Form → List ℕ → Option (StreamFacts × List ℕ)
+facts_at packed =
+    seen_as made_facts (
     pair_at (form_in_at packed) (
     pair_at bytes_at (pair_at number_at (pair_at number_at (pair_at signed_at signed_at)))))
 
 -- ---- the streams of a frame: a map, as the list of its pairs by rising keys
 
 -- whether some stream is long, and the form of packets that store all of them
-abbrev pub some_long : List (Info × Recorded) → Bool
-some_long es = list_any (λ (e : Info × Recorded). is_long e.1.form) es
+abbrev pub some_long : List (ThreadKey × StreamFacts) → Bool
+some_long es = list_any (λ (e : ThreadKey × StreamFacts). is_long e.1.form) es
 
-abbrev pub form_of_all : List (Info × Recorded) → Form
+abbrev pub form_of_all : List (ThreadKey × StreamFacts) → Form
 form_of_all es = form_of_flag (some_long es)
 
 -- sorted, and in packets of the long form some are long
-abbrev pub are_ordered : Form → List (Info × Recorded) → Bool
-are_ordered Short es = is_sorted info_cmp es
-are_ordered Long es = is_sorted info_cmp es && some_long es
+abbrev pub are_ordered : Form → List (ThreadKey × StreamFacts) → Bool
+are_ordered Short es = is_sorted key_cmp es
+are_ordered Long es = is_sorted key_cmp es && some_long es
 
-abbrev pub streams_layout : Form → List (Info × Recorded) → List ℕ
-streams_layout packed = items (pair info_layout (recorded_layout packed))
+abbrev pub streams_layout : Form → List (ThreadKey × StreamFacts) → List ℕ
+streams_layout packed = items (pair key_layout (facts_layout packed))
 
-abbrev pub AreStreams : Form → List (Info × Recorded) → Type 0
+abbrev pub AreStreams : Form → List (ThreadKey × StreamFacts) → Type 0
 AreStreams packed es =
-    AreItems (λ (e : Info × Recorded). IsInfo e.0 × IsRecorded packed e.1) es
+    AreItems (λ (e : ThreadKey × StreamFacts). IsThreadKey e.0 × AreStreamFacts packed e.1) es
     × (are_ordered packed es ≡ true)
 
-abbrev pub stream_at : Form → List ℕ → Option ((Info × Recorded) × List ℕ)
-stream_at packed = pair_at info_at (recorded_at packed)
+abbrev pub stream_at : Form → List ℕ → Option ((ThreadKey × StreamFacts) × List ℕ)
+stream_at packed = pair_at key_at (facts_at packed)
 
-unfoldable pub streams_at : Form → List ℕ → Option (List (Info × Recorded) × List ℕ)
+unfoldable pub streams_at : Form → List ℕ → Option (List (ThreadKey × StreamFacts) × List ℕ)
 streams_at packed = with_test (are_ordered packed) (items_at (stream_at packed))
 
 -- ---- scope details
 
 abbrev pub IsId : ℕ → Type 0
-IsId n = IsWord n × (nat_lt 0 n ≡ true)
+IsId n = IsU32 n × (nat_lt 0 n ≡ true)
 
 abbrev pub id_at : List ℕ → Option (ℕ × List ℕ)
-id_at = with_test (λ n. nat_lt 0 n) word_at
+id_at = with_test (λ n. nat_lt 0 n) u32_at
 
 abbrev pub detail_layout : Details → List ℕ
 detail_layout d =
@@ -142,7 +142,7 @@ abbrev pub IsDetail : Details → Type 0
 IsDetail d =
     IfAny IsId d.id
     × (IfAny IsText d.scope_name
-    × (IsText d.function_name × (IsText d.file_path × IsWord d.line_nr)))
+    × (IsText d.function_name × (IsText d.file_path × IsU32 d.line_nr)))
 
 abbrev pub made_detail : Option ℕ × (Option (List ℕ) × (List ℕ × (List ℕ × ℕ))) → Details
 made_detail p = record {
@@ -157,7 +157,7 @@ unfoldable pub detail_at : List ℕ → Option (Details × List ℕ)
 detail_at =
     seen_as made_detail (
     pair_at (optional_at id_at) (
-    pair_at (optional_at text_at) (pair_at text_at (pair_at text_at word_at))))
+    pair_at (optional_at text_at) (pair_at text_at (pair_at text_at u32_at))))
 
 abbrev pub details_layout : List Details → List ℕ
 details_layout = items detail_layout
@@ -172,7 +172,7 @@ details_at = items_at detail_at
 
 pub record Legacy : Type 0 where
   pub meta : FrameMeta
-  pub streams : List (Info × Recorded)
+  pub streams : List (ThreadKey × StreamFacts)
 
 abbrev pub legacy_layout : Legacy → List ℕ
 legacy_layout l =
@@ -187,7 +187,7 @@ IsLegacy l =
     × (IsSigned l.meta.range_ns.0
     × (IsSigned l.meta.range_ns.1 × (IsLong l.meta.num_bytes × IsLong l.meta.num_scopes))))
 
-abbrev pub made_legacy : ℕ × (List (Info × Recorded) × (ℤ × (ℤ × (ℕ × ℕ)))) → Legacy
+abbrev pub made_legacy : ℕ × (List (ThreadKey × StreamFacts) × (ℤ × (ℤ × (ℕ × ℕ)))) → Legacy
 made_legacy p = record {
   meta = record {
     frame_index = p.0;

@@ -5,11 +5,11 @@ use Rattle.puffin_data.specs.declared.file_error.FileError.{FileError}
 use Rattle.puffin_data.specs.declared.file_error.FileError.TheVariants as file
 use Rattle.puffin_data.specs.Part.{◌>>=◌}
 use Rattle.puffin_frames.specs.declared.frame_data.version.Version.{Version}
-use Rattle.puffin_frames.specs.Packet.Stored.{Said, Stored, packed, legacy}
+use Rattle.puffin_frames.specs.Packet.Stored.{PacketFields, Stored, packed, legacy}
 use Rattle.puffin_frames.specs.Packet.Letters.{digit_0, digit_1, from_letter, text_form, is_packet}
 use Rattle.puffin_frames.specs.Packet.Parts.{meta_part_at, streams_part_at, details_part_at, legacy_part_at}
 
-abbrev pub packet_at : Version → List ℕ → Result (Said × List ℕ) FileError
+abbrev pub packet_at : Version → List ℕ → Result (PacketFields × List ℕ) FileError
 packet_at version bytes = do
   meta ← meta_part_at bytes
   streams ← streams_part_at version meta.1
@@ -26,13 +26,13 @@ packet_at version bytes = do
   )
 
 -- a packet of this version, or why there is none with this letter
-abbrev pub packet_if_read : ℕ → Option Version → List ℕ → Result (Said × List ℕ) FileError
+abbrev pub packet_if_read : ℕ → Option Version → List ℕ → Result (PacketFields × List ℕ) FileError
 packet_if_read letter (Some version) bytes = packet_at version bytes
 packet_if_read letter None bytes =
     if (letter == digit_0) || (letter == digit_1) then Err file.Legacy else Err file.Newer
 
 -- the frame that follows the four letters, the last of which is `letter`
-abbrev pub version_at : ℕ → List ℕ → Result (Said × List ℕ) FileError
+abbrev pub version_at : ℕ → List ℕ → Result (PacketFields × List ℕ) FileError
 version_at letter bytes = packet_if_read letter (from_letter letter) bytes
 
 abbrev pub as_stored : {A : Type 0} → (A → Stored) → Result (A × List ℕ) FileError →

@@ -8,8 +8,8 @@ use Rattle.puffin_data.specs.Device.{TookNothing, WritesBeginning}
 use Rattle.puffin_frames.specs.declared.frame_data.frame.FrameData.{FrameData}
 use Rattle.puffin_threads.specs.Details.{Details}
 use Rattle.puffin_threads.specs.Details.Collection.{Collection}
-use Rattle.puffin_frames.specs.Frame.Contents.{frame_says, frame_details}
-use Rattle.puffin_frames.specs.Packet.Stored.{Said}
+use Rattle.puffin_frames.specs.Frame.Contents.{packet_fields, frame_details}
+use Rattle.puffin_frames.specs.Packet.Stored.{PacketFields}
 use Rattle.puffin_frames.specs.Packet.Structs.{details_layout}
 
 -- the details of a collection, or else the frame's own
@@ -18,12 +18,12 @@ details_or ds None = ds
 details_or ds (Some collection) = values collection.by_id
 
 -- what a frame says, with the details of a collection in place of its own, if there is one
-abbrev pub says_with : FrameData → Option Collection → Said
+abbrev pub says_with : FrameData → Option Collection → PacketFields
 says_with frame collection =
-    record (frame_says frame) { details = details_or (frame_details frame) collection }
+    record (packet_fields frame) { details = details_or (frame_details frame) collection }
 
 -- a part whose length can't be written
-abbrev pub HasLongPart : Said → Type 0
+abbrev pub HasLongPart : PacketFields → Type 0
 HasLongPart p = (2 ^ 32 ≤ length p.streams) ⊎ (2 ^ 32 ≤ length (details_layout p.details))
 
 -- The promise of a call that writes these bytes to a device. It wrote them all; or the device failed, and a beginning of them is written; or a part is too long or memory ran out, and nothing is written.

@@ -4,14 +4,14 @@ ghost use Rattle.std.specs.Prelude.{◌≡◌, ◌-◌, ℕ, ◌∷◌, ◌++◌
 ghost use Rattle.std.specs.Option.{option_map};
 ghost use Rattle.std.specs.Cow.{cow_str_bytes};
 ghost use Rattle.std.specs.FinMap.{is_sorted};
-ghost use Rattle.puffin_data.specs.Honesty.{Recorded, record_of};
+ghost use Rattle.puffin_data.specs.Honesty.{StreamFacts, facts_of};
 ghost use Rattle.puffin_data.specs.Value.Decoding.{whole, optional_at, signed_at, text_at, times_at};
 ghost use Rattle.puffin_frames.specs.inner.Stopping.{IfSomeGives, Passes, SeenAs, TriesToGive, Tries};
 ghost use Rattle.puffin_frames.specs.declared.frame_data.decode.Stop.TheVariants.{Memory};
-ghost use Rattle.puffin_threads.specs.Thread.Info.{Info, info_of, info_cmp};
+ghost use Rattle.puffin_threads.specs.Thread.ThreadKey.{ThreadKey, key_of, key_cmp};
 ghost use Rattle.puffin_threads.specs.Details.{details_of, shared_details};
 ghost use Rattle.puffin_frames.specs.inner.Pairs.{pairs_of, rising};
-ghost use Rattle.puffin_frames.specs.Packet.Structs.{meta_at, info_at, form_in_at, recorded_at, stream_at, streams_at, id_at, detail_at, details_at, legacy_at, Legacy};
+ghost use Rattle.puffin_frames.specs.Packet.Structs.{meta_at, key_at, form_in_at, facts_at, stream_at, streams_at, id_at, detail_at, details_at, legacy_at, Legacy};
 
 use crate::frame_data::encode::packed_form;
 use crate::frame_data::meta::FrameMeta;
@@ -95,9 +95,9 @@ fn read_start(cursor: &mut Cursor) -> Result<Option<NanoSecond>, Stop>
     Ok(Some(start))
 }
 
-#[tactic(auto, unfolding(crate::specs::Packet::Structs::info_at))]
+#[tactic(auto, unfolding(crate::specs::Packet::Structs::key_at))]
 fn read_thread(alloc: Global, cursor: &mut Cursor) -> Result<ThreadInfo, Stop>
-    ensures { TriesToGive info_of result cursor.new (info_at cursor.old) }
+    ensures { TriesToGive key_of result cursor.new (key_at cursor.old) }
 {
     let start_time_ns = read_start(cursor)?;
     let name = read_string(alloc, cursor)?;
@@ -121,9 +121,9 @@ fn read_form(cursor: &mut Cursor, packed: Form) -> Option<Form>
 }
 
 /// Reads the info of a thread's scopes. Copies the stream as one block.
-#[tactic(auto, unfolding(crate::specs::Packet::Structs::recorded_at))]
-fn read_recorded(alloc: Global, cursor: &mut Cursor, packed: Form) -> Result<StreamInfo, Stop>
-    ensures { TriesToGive record_of result cursor.new (recorded_at packed cursor.old) }
+#[tactic(auto, unfolding(crate::specs::Packet::Structs::facts_at))]
+fn read_facts(alloc: Global, cursor: &mut Cursor, packed: Form) -> Result<StreamInfo, Stop>
+    ensures { TriesToGive facts_of result cursor.new (facts_at packed cursor.old) }
 {
     let form = read_form(cursor, packed).ok_or(Stop::NoLayout)?;
     let bytes = cursor.bytes().ok_or(Stop::NoLayout)?;
@@ -141,11 +141,11 @@ fn read_recorded(alloc: Global, cursor: &mut Cursor, packed: Form) -> Result<Str
 
 /// Returns whether a thread is ordered after all those of a map.
 fn comes_last(streams: &ThreadStreams, thread: &ThreadInfo) -> bool
-    ensures yes { (r : Recorded) → is_sorted info_cmp (pairs_of streams.now.entries) ≡ true →
+    ensures yes { (r : StreamFacts) → is_sorted key_cmp (pairs_of streams.now.entries) ≡ true →
         result ≡ true →
-        is_sorted info_cmp (pairs_of streams.now.entries ++ (info_of thread.now, r) ∷ []) ≡ true }
-    ensures no { (r : Recorded) (rest : List (Info × Recorded)) → result ≡ false →
-        is_sorted info_cmp (pairs_of streams.now.entries ++ (info_of thread.now, r) ∷ rest)
+        is_sorted key_cmp (pairs_of streams.now.entries ++ (key_of thread.now, r) ∷ []) ≡ true }
+    ensures no { (r : StreamFacts) (rest : List (ThreadKey × StreamFacts)) → result ≡ false →
+        is_sorted key_cmp (pairs_of streams.now.entries ++ (key_of thread.now, r) ∷ rest)
         ≡ false }
 {
     match streams.last_key_value() {
@@ -159,11 +159,11 @@ fn read_stream(
     cursor: &mut Cursor,
     packed: Form,
 ) -> Result<(ThreadInfo, StreamInfo), Stop>
-    ensures { TriesToGive (λ p. (info_of p.0, record_of p.1)) result cursor.new (
+    ensures { TriesToGive (λ p. (key_of p.0, facts_of p.1)) result cursor.new (
         stream_at packed cursor.old) }
 {
     let thread = read_thread(alloc, cursor)?;
-    let info = read_recorded(alloc, cursor, packed)?;
+    let info = read_facts(alloc, cursor, packed)?;
     Ok((thread, info))
 }
 
@@ -175,7 +175,7 @@ fn read_streams_times(
 ) -> Result<ThreadStreams, Stop>
     ensures given { TriesToGive (λ m. pairs_of m.entries) result cursor.new (
         rising (times_at (stream_at packed) count cursor.old)) }
-    ensures sorted { IfOk result (λ m. is_sorted info_cmp (pairs_of m.entries) ≡ true) }
+    ensures sorted { IfOk result (λ m. is_sorted key_cmp (pairs_of m.entries) ≡ true) }
 {
     let mut streams = BTreeMap::new(alloc);
     'streams: for _ in 0..count {
@@ -193,7 +193,7 @@ fn read_streams_times(
 fn read_streams(alloc: Global, cursor: &mut Cursor, packed: Form) -> Result<ThreadStreams, Stop>
     ensures given { TriesToGive (λ m. pairs_of m.entries) result cursor.new (
         streams_at packed cursor.old) }
-    ensures sorted { IfOk result (λ m. is_sorted info_cmp (pairs_of m.entries) ≡ true) }
+    ensures sorted { IfOk result (λ m. is_sorted key_cmp (pairs_of m.entries) ≡ true) }
 {
     let count = cursor.u64().ok_or(Stop::NoLayout)?;
     let streams = read_streams_times(alloc, cursor, packed, count)?;
@@ -209,7 +209,7 @@ fn read_streams(alloc: Global, cursor: &mut Cursor, packed: Form) -> Result<Thre
 /// Decodes streams of a packet of form `packed`. All of the bytes have to be their layout.
 pub(crate) fn streams_in(alloc: Global, packed: Form, bytes: &[u8]) -> Result<ThreadStreams, Stop>
     ensures given { Tries (λ m. pairs_of m.entries) result (whole (streams_at packed) bytes.now) }
-    ensures sorted { IfOk result (λ m. is_sorted info_cmp (pairs_of m.entries) ≡ true) }
+    ensures sorted { IfOk result (λ m. is_sorted key_cmp (pairs_of m.entries) ≡ true) }
 {
     let mut cursor = Cursor::new(bytes);
     let streams = read_streams(alloc, &mut cursor, packed)?;
@@ -350,7 +350,7 @@ pub(crate) fn details_in(alloc: Global, bytes: &[u8]) -> Result<Vec<Arc<ScopeDet
 fn read_legacy(alloc: Global, cursor: &mut Cursor) -> Result<(FrameMeta, ThreadStreams), Stop>
     ensures given { TriesToGive (λ p. record { meta = p.0; streams = pairs_of p.1.entries }) result
         cursor.new (legacy_at cursor.old) }
-    ensures sorted { IfOk result (λ p. is_sorted info_cmp (pairs_of p.1.entries) ≡ true) }
+    ensures sorted { IfOk result (λ p. is_sorted key_cmp (pairs_of p.1.entries) ≡ true) }
 {
     let frame_index = cursor.u64().ok_or(Stop::NoLayout)?;
     let streams = read_streams(alloc, cursor, Form::Short)?;
@@ -371,7 +371,7 @@ fn read_legacy(alloc: Global, cursor: &mut Cursor) -> Result<(FrameMeta, ThreadS
 pub(crate) fn legacy_in(alloc: Global, bytes: &[u8]) -> Result<(FrameMeta, ThreadStreams), Stop>
     ensures given { Tries (λ p. record { meta = p.0; streams = pairs_of p.1.entries }) result
         (whole legacy_at bytes.now) }
-    ensures sorted { IfOk result (λ p. is_sorted info_cmp (pairs_of p.1.entries) ≡ true) }
+    ensures sorted { IfOk result (λ p. is_sorted key_cmp (pairs_of p.1.entries) ≡ true) }
 {
     let mut cursor = Cursor::new(bytes);
     let frame = read_legacy(alloc, &mut cursor)?;

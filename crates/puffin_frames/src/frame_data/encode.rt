@@ -8,12 +8,12 @@ ghost use Rattle.std.specs.Arc.{arc_value};
 ghost use Rattle.std.specs.Option.{option_map};
 ghost use Rattle.std.specs.Cow.{cow_str_bytes};
 ghost use Rattle.puffin_data.specs.declared.error.Error.{Error};
-ghost use Rattle.puffin_data.specs.Honesty.{record_of};
+ghost use Rattle.puffin_data.specs.Honesty.{facts_of};
 ghost use Rattle.puffin_data.specs.Value.Layout.{optional, number, block, signed, IsBlock, IsText, IfAny};
-ghost use Rattle.puffin_threads.specs.Thread.Info.{info_of, thread_cmp};
+ghost use Rattle.puffin_threads.specs.Thread.ThreadKey.{key_of, thread_cmp};
 ghost use Rattle.puffin_threads.specs.Details.{details_of, shared_details};
 ghost use Rattle.puffin_frames.specs.inner.Pairs.{pairs_of};
-ghost use Rattle.puffin_frames.specs.Packet.Structs.{meta_layout, IsMeta, info_layout, IsInfo, form_layout, form_of_all, recorded_layout, AreCounts, streams_layout, AreStreams, detail_layout, IsDetail, details_layout, AreDetails, IsId};
+ghost use Rattle.puffin_frames.specs.Packet.Structs.{meta_layout, IsMeta, key_layout, IsThreadKey, form_layout, form_of_all, facts_layout, AreCounts, streams_layout, AreStreams, detail_layout, IsDetail, details_layout, AreDetails, IsId};
 
 use crate::frame_data::meta::FrameMeta;
 use crate::frame_data::thread_streams::ThreadStreams;
@@ -66,8 +66,8 @@ fn block_of(bytes: &[u8]) -> &[u8]
 
 /// Appends a thread's info.
 fn put_thread(out: &mut Vec<u8>, thread: &ThreadInfo) -> Result<()>
-    ensures ok { OnOk result (out.new.items ≡ out.old.items ++ info_layout (info_of thread.now)) }
-    ensures fits { IsInfo (info_of thread.now) }
+    ensures ok { OnOk result (out.new.items ≡ out.old.items ++ key_layout (key_of thread.now)) }
+    ensures fits { IsThreadKey (key_of thread.now) }
     ensures memory { IfErr result (λ e. e ≡ Error.Memory) }
 {
     let name = text_of(&thread.name);
@@ -96,10 +96,10 @@ fn put_form(out: &mut Vec<u8>, packed: Form, form: Form) -> Result<()>
 }
 
 /// Appends the info of a thread's scopes in a packet of form `packed`, its stream as one block.
-fn put_recorded(out: &mut Vec<u8>, packed: Form, info: &StreamInfo) -> Result<()>
+fn put_facts(out: &mut Vec<u8>, packed: Form, info: &StreamInfo) -> Result<()>
     ensures ok { OnOk result (
-        out.new.items ≡ out.old.items ++ recorded_layout packed (record_of info.now)) }
-    ensures fits { AreCounts (record_of info.now) }
+        out.new.items ≡ out.old.items ++ facts_layout packed (facts_of info.now)) }
+    ensures fits { AreCounts (facts_of info.now) }
     ensures memory { IfErr result (λ e. e ≡ Error.Memory) }
 {
     // All is read before anything is written, for the proof: so the ranges of the numbers are known.
@@ -151,14 +151,14 @@ pub(crate) fn put_streams(out: &mut Vec<u8>, packed: Form, streams: &ThreadStrea
     put_u64(out, streams.len() as u64)?;
     'streams: for (thread, info) in streams {
         put_thread(out, thread)?;
-        put_recorded(out, packed, info)?;
+        put_facts(out, packed, info)?;
     }
     Ok(())
 }
 
 /// Does nothing. For the proof alone: the numbers of a thread's info are in range.
 pub(crate) fn thread_fits(thread: &ThreadInfo)
-    ensures { IsInfo (info_of thread.now) }
+    ensures { IsThreadKey (key_of thread.now) }
 {
     let _name = text_of(&thread.name);
     match thread.start_time_ns {
@@ -171,7 +171,7 @@ pub(crate) fn thread_fits(thread: &ThreadInfo)
 
 /// Does nothing. For the proof alone: the counts of an info are in range.
 pub(crate) fn counts_fit(info: &StreamInfo)
-    ensures { AreCounts (record_of info.now) }
+    ensures { AreCounts (facts_of info.now) }
 {
     let _stream = block_of(info.stream.bytes());
     let _num_scopes = info.num_scopes;

@@ -3,7 +3,7 @@ ghost use Rattle.std.specs.Option.{option_map, unwrap_or};
 ghost use Rattle.std.specs.FinMap as map;
 ghost use Rattle.puffin_data.specs.declared.error.Error.{Error};
 ghost use Rattle.puffin_frames.specs.Frame.Sums.{MakeFrame, meta_of, RefusesFrame};
-ghost use Rattle.puffin_frames.specs.Frame.Contents.{streams_of, all_recorded, contents, holding_of, frame_contents, frame_meta, is_alone, Streams, frame_says};
+ghost use Rattle.puffin_frames.specs.Frame.Contents.{streams_of, all_facts, streams_held, holding_of, frame_streams, frame_meta, is_alone, Streams, packet_fields};
 ghost use Rattle.std.specs.Arc.{arc_value};
 ghost use Rattle.puffin_data.specs.declared.file_error.FileError.{FileError};
 ghost use Rattle.puffin_frames.specs.Frame.Holding.{as_packed, as_unpacked, unpacked_from, HoldsStreams};
@@ -74,8 +74,8 @@ impl FrameData {
         ensures meta { IfOk result (λ frame.
             frame_meta frame
             ≡ meta_of frame_index (map.values (streams_of thread_streams.entries))) }
-        ensures makes { OnOk result (MakeFrame (all_recorded thread_streams)) }
-        ensures refusal { IfErr result (λ e. RefusesFrame (all_recorded thread_streams) e) }
+        ensures makes { OnOk result (MakeFrame (all_facts thread_streams)) }
+        ensures refusal { IfErr result (λ e. RefusesFrame (all_facts thread_streams) e) }
     {
         let unpacked = UnpackedFrameData::new(alloc, frame_index, thread_streams)?;
         Ok(FrameData::of_unpacked(unpacked, scope_delta, full_delta))
@@ -89,7 +89,7 @@ impl FrameData {
     ) -> FrameData
         ensures delta { (result.scope_delta ≡ scope_delta) × (result.full_delta ≡ full_delta) }
         ensures held { holding_of result
-            ≡ record { packed = None; unpacked = Some (contents unpacked) } }
+            ≡ record { packed = None; unpacked = Some (streams_held unpacked) } }
         ensures alone { is_alone result ≡ true }
         ensures meta { frame_meta result ≡ unpacked.meta }
     {
@@ -104,7 +104,7 @@ impl FrameData {
     /// details. Allocates nothing.
     pub fn into_unpacked(self) -> UnpackedFrameData
         requires { is_alone self ≡ true }
-        ensures contents { Some (contents result) ≡ frame_contents self }
+        ensures contents { Some (streams_held result) ≡ frame_streams self }
         ensures meta { result.meta ≡ frame_meta self }
     {
         let FrameData { held, .. } = self;
@@ -116,7 +116,7 @@ impl FrameData {
 
     /// Returns the unpacked data, or `None` if the frame is only held packed.
     pub fn as_unpacked(&self) -> Option<&UnpackedFrameData>
-        ensures contents { option_map (λ unpacked. contents unpacked.now) result
+        ensures contents { option_map (λ unpacked. streams_held unpacked.now) result
             ≡ (holding_of self.now).unpacked }
         ensures meta { IfSome result (λ unpacked. unpacked.now.meta ≡ frame_meta self.now) }
     {
@@ -176,7 +176,7 @@ impl FrameData {
     /// with `Memory`.
     pub fn clone(&self) -> Result<FrameData>
         ensures held { IfOk result (λ copy. holding_of copy ≡ holding_of self.now) }
-        ensures says { IfOk result (λ copy. frame_says copy ≡ frame_says self.now) }
+        ensures says { IfOk result (λ copy. packet_fields copy ≡ packet_fields self.now) }
         ensures full_delta { IfOk result (λ copy. copy.full_delta ≡ self.now.full_delta) }
         ensures memory { IfErr result (λ e. e ≡ Error.Memory) }
     {
@@ -193,8 +193,8 @@ impl FrameData {
     /// Fails only with `Memory`; nothing changes then.
     pub fn pack(&mut self) -> Result<()>
         ensures ok { OnOk result (holding_of self.new ≡ as_packed (holding_of self.old)) }
-        ensures contents { frame_contents self.new ≡ frame_contents self.old }
-        ensures says { frame_says self.new ≡ frame_says self.old }
+        ensures contents { frame_streams self.new ≡ frame_streams self.old }
+        ensures says { packet_fields self.new ≡ packet_fields self.old }
         ensures full_delta { self.new.full_delta ≡ self.old.full_delta }
         ensures err { OnErr result (self.new ≡ self.old) }
         ensures memory { IfErr result (λ e. e ≡ Error.Memory) }
@@ -209,8 +209,8 @@ impl FrameData {
     /// Copies the frame, held packed only. Fails only with `Memory`.
     pub fn packed_copy(&self) -> Result<FrameData>
         ensures held { IfOk result (λ copy. holding_of copy ≡ as_packed (holding_of self.now)) }
-        ensures contents { IfOk result (λ copy. frame_contents copy ≡ frame_contents self.now) }
-        ensures says { IfOk result (λ copy. frame_says copy ≡ frame_says self.now) }
+        ensures contents { IfOk result (λ copy. frame_streams copy ≡ frame_streams self.now) }
+        ensures says { IfOk result (λ copy. packet_fields copy ≡ packet_fields self.now) }
         ensures full_delta { IfOk result (λ copy. copy.full_delta ≡ self.now.full_delta) }
         ensures memory { IfErr result (λ e. e ≡ Error.Memory) }
     {
@@ -227,19 +227,19 @@ impl FrameData {
     /// Fails with `Compressed` if the packed streams are of another kind than 0, with `BadStreams` if their bytes aren't a
     /// layout of streams, and with `Memory`; the frame is then held as before.
     pub fn unpacked(&mut self) -> std::result::Result<Arc<UnpackedFrameData>, FileError>
-        ensures unpacked { DecidedInMemory (λ frame. contents (arc_value frame)) result (
+        ensures unpacked { DecidedInMemory (λ frame. streams_held (arc_value frame)) result (
             unpacked_from (holding_of self.old)) }
         // Packed streams give the streams whose layout the bytes are.
         ensures layout { IfOk result (λ frame.
             IfSome (holding_of self.old).packed (λ p.
-            HoldsStreams p (contents (arc_value frame)))) }
+            HoldsStreams p (streams_held (arc_value frame)))) }
         ensures no_layout { result ≡ Err FileError.BadStreams →
             IfSome (holding_of self.old).packed (λ p.
             (streams : Streams) → HoldsStreams p streams → ⊥) }
         ensures meta { IfOk result (λ frame. (arc_value frame).meta ≡ frame_meta self.old) }
         ensures ok { OnOk result (holding_of self.new ≡ as_unpacked (holding_of self.old)) }
-        ensures contents { frame_contents self.new ≡ frame_contents self.old }
-        ensures says { frame_says self.new ≡ frame_says self.old }
+        ensures contents { frame_streams self.new ≡ frame_streams self.old }
+        ensures says { packet_fields self.new ≡ packet_fields self.old }
         ensures full_delta { self.new.full_delta ≡ self.old.full_delta }
         ensures err { OnErr result (holding_of self.new ≡ holding_of self.old) }
     {

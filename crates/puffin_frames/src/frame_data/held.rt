@@ -6,7 +6,7 @@ ghost use Rattle.std.specs.Arc.{arc_value};
 ghost use Rattle.std.specs.Coded.{Coded-set, coded_option};
 ghost use Rattle.puffin_data.specs.Value.Layout.{IsBytes};
 ghost use Rattle.puffin_frames.specs.Frame.Streams.{streams_code};
-ghost use Rattle.puffin_frames.specs.Frame.Unpacked.{contents};
+ghost use Rattle.puffin_frames.specs.Frame.Unpacked.{streams_held};
 ghost use Rattle.puffin_frames.specs.Frame.Holding.{streams_in};
 
 use crate::frame_data::decode::{self, Stop};
@@ -43,7 +43,7 @@ pub(crate) struct PackedFrame {
 
 /// A frame that was packed and is held unpacked too.
 #[derive(Drop)]
-pub(crate) struct UnpackedToo {
+pub(crate) struct BothWays {
     pub(crate) unpacked: Arc<UnpackedFrameData>,
     pub(crate) packed: PackedStreams,
     ghost same: { streams_in (record {
@@ -51,7 +51,7 @@ pub(crate) struct UnpackedToo {
       kind = packed.kind;
       bytes = packed.bytes.items;
     })
-        ≡ Some (contents (arc_value unpacked)) } by { Coded-set (coded_option streams_code) _ _ },
+        ≡ Some (streams_held (arc_value unpacked)) } by { Coded-set (coded_option streams_code) _ _ },
 }
 
 /// The ways to hold a frame.
@@ -64,7 +64,7 @@ pub(crate) enum Held {
     /// Packed only.
     Packed(PackedFrame),
     /// Packed and unpacked.
-    Both(UnpackedToo),
+    Both(BothWays),
 }
 
 impl PackedStreams {
@@ -145,9 +145,9 @@ impl PackedFrame {
     /// Packs a frame. Fails only with `Memory`.
     fn of(alloc: Global, frame: &UnpackedFrameData) -> Result<PackedFrame>
         ensures ok { IfOk result (λ packed.
-            packed_as packed.streams ≡ plainly_packed (contents frame.now)) }
+            packed_as packed.streams ≡ plainly_packed (streams_held frame.now)) }
         ensures content { IfOk result (λ packed.
-            streams_in (packed_as packed.streams) ≡ Some (contents frame.now)) }
+            streams_in (packed_as packed.streams) ≡ Some (streams_held frame.now)) }
         ensures meta { IfOk result (λ packed. packed.meta ≡ frame.now.meta) }
         ensures memory { IfErr result (λ e. e ≡ Error.Memory) }
     {
@@ -160,7 +160,7 @@ impl PackedFrame {
 
     /// Unpacks the frame. Fails as [`PackedStreams::unpack`] does, and with `Memory`.
     fn unpack(&self, alloc: Global) -> std::result::Result<Arc<UnpackedFrameData>, FileError>
-        ensures ok { DecidedInMemory (λ frame. contents (arc_value frame)) result (
+        ensures ok { DecidedInMemory (λ frame. streams_held (arc_value frame)) result (
             unpacking (packed_as self.now.streams)) }
         ensures meta { IfOk result (λ frame. (arc_value frame).meta ≡ self.now.meta) }
     {
@@ -187,7 +187,7 @@ impl PackedFrame {
 
 impl Held {
     ghost use Rattle.std.specs.Prelude.{None, IfOk, IfErr, OnOk, OnErr};
-    ghost use Rattle.puffin_frames.specs.Frame.Holding.{unpacking, unpacked_from, packing_of, held_contents, as_packed, as_unpacked};
+    ghost use Rattle.puffin_frames.specs.Frame.Holding.{unpacking, unpacked_from, packing_of, holding_streams, as_packed, as_unpacked};
     ghost use Rattle.puffin_data.specs.declared.error.Error.{Error};
     ghost use Rattle.puffin_data.specs.declared.file_error.FileError.{FileError};
     ghost use Rattle.puffin_frames.specs.Frame.Contents.{packed_as, held_as, held_meta};
@@ -202,7 +202,7 @@ impl Held {
     pub(crate) fn pack(self, alloc: Global) -> (Held, Result<()>)
         ensures ok { OnOk result.1 (held_as result.0 ≡ as_packed (held_as self)) }
         ensures packing { packing_of (held_as result.0) ≡ packing_of (held_as self) }
-        ensures contents { held_contents (held_as result.0) ≡ held_contents (held_as self) }
+        ensures contents { holding_streams (held_as result.0) ≡ holding_streams (held_as self) }
         ensures err { OnErr result.1 (result.0 ≡ self) }
         ensures meta { held_meta result.0 ≡ held_meta self }
         ensures memory { IfErr result.1 (λ e. e ≡ Error.Memory) }
@@ -229,10 +229,10 @@ impl Held {
     ) -> (Held, std::result::Result<Arc<UnpackedFrameData>, FileError>)
         ensures ok { OnOk result.1 (held_as result.0 ≡ as_unpacked (held_as self)) }
         ensures packing { packing_of (held_as result.0) ≡ packing_of (held_as self) }
-        ensures contents { held_contents (held_as result.0) ≡ held_contents (held_as self) }
+        ensures contents { holding_streams (held_as result.0) ≡ holding_streams (held_as self) }
         ensures err { OnErr result.1 (held_as result.0 ≡ held_as self) }
         ensures meta { held_meta result.0 ≡ held_meta self }
-        ensures unpacked { DecidedInMemory (λ frame. contents (arc_value frame)) result.1
+        ensures unpacked { DecidedInMemory (λ frame. streams_held (arc_value frame)) result.1
             (unpacked_from (held_as self)) }
         ensures unpacked_meta { IfOk result.1 (λ frame. (arc_value frame).meta ≡ held_meta self) }
     {
@@ -254,7 +254,7 @@ impl Held {
     pub(crate) fn packed_copy(&self, alloc: Global) -> Result<Held>
         ensures ok { IfOk result (λ copy. held_as copy ≡ as_packed (held_as self.now)) }
         ensures contents { IfOk result (λ copy.
-            held_contents (held_as copy) ≡ held_contents (held_as self.now)) }
+            holding_streams (held_as copy) ≡ holding_streams (held_as self.now)) }
         ensures meta { IfOk result (λ copy. held_meta copy ≡ held_meta self.now) }
         ensures memory { IfErr result (λ e. e ≡ Error.Memory) }
     {
@@ -298,7 +298,7 @@ impl Held {
         frame: UnpackedFrameData,
     ) -> (Held, std::result::Result<Arc<UnpackedFrameData>, FileError>)
         ensures held { held_as result.0
-            ≡ record { packed = None; unpacked = Some (contents frame) } }
+            ≡ record { packed = None; unpacked = Some (streams_held frame) } }
         ensures meta { held_meta result.0 ≡ frame.meta }
         ensures ok { IfOk result.1 (λ same. arc_value same ≡ frame) }
         ensures memory { IfErr result.1 (λ e. e ≡ FileError.Memory) }
@@ -321,13 +321,13 @@ impl Held {
         ensures ok { IfOk result.1 (λ frame.
             held_as result.0 ≡ record {
               packed = Some (packed_as packed.streams);
-              unpacked = Some (contents (arc_value frame));
+              unpacked = Some (streams_held (arc_value frame));
             }) }
         ensures err { OnErr result.1 (
             held_as result.0
             ≡ record { packed = Some (packed_as packed.streams); unpacked = None }) }
         ensures meta { held_meta result.0 ≡ packed.meta }
-        ensures unpacked { DecidedInMemory (λ frame. contents (arc_value frame)) result.1 (
+        ensures unpacked { DecidedInMemory (λ frame. streams_held (arc_value frame)) result.1 (
             unpacking (packed_as packed.streams)) }
         ensures unpacked_meta { IfOk result.1 (λ frame. (arc_value frame).meta ≡ packed.meta) }
     {
@@ -337,7 +337,7 @@ impl Held {
         };
         match Held::lent(&unpacked) {
             Ok(same) => {
-                let both = UnpackedToo {
+                let both = BothWays {
                     unpacked,
                     packed: packed.streams,
                 };
@@ -348,7 +348,7 @@ impl Held {
     }
 }
 
-impl UnpackedToo {
+impl BothWays {
     ghost use Rattle.std.specs.Prelude.{IfOk, IfErr};
     ghost use Rattle.puffin_data.specs.declared.error.Error.{Error};
     ghost use Rattle.puffin_frames.specs.Frame.Contents.{packed_as};
@@ -357,7 +357,7 @@ impl UnpackedToo {
     fn into_packed(self) -> PackedFrame
         ensures streams { packed_as result.streams ≡ packed_as self.packed }
         ensures content { streams_in (packed_as result.streams)
-            ≡ Some (contents (arc_value self.unpacked)) }
+            ≡ Some (streams_held (arc_value self.unpacked)) }
         ensures meta { result.meta ≡ (arc_value self.unpacked).meta }
     {
         PackedFrame {
@@ -371,7 +371,7 @@ impl UnpackedToo {
         ensures ok { IfOk result (λ copy. packed_as copy.streams ≡ packed_as self.now.packed) }
         ensures content { IfOk result (λ copy.
             streams_in (packed_as copy.streams)
-            ≡ Some (contents (arc_value self.now.unpacked))) }
+            ≡ Some (streams_held (arc_value self.now.unpacked))) }
         ensures meta { IfOk result (λ copy. copy.meta ≡ (arc_value self.now.unpacked).meta) }
         ensures memory { IfErr result (λ e. e ≡ Error.Memory) }
     {
@@ -382,7 +382,7 @@ impl UnpackedToo {
     }
 
     /// Copies the frame; the copy shares the unpacked data. Fails only with `Memory`.
-    fn clone(&self) -> Result<UnpackedToo>
+    fn clone(&self) -> Result<BothWays>
         ensures packed { IfOk result (λ copy. packed_as copy.packed ≡ packed_as self.now.packed) }
         ensures unpacked { IfOk result (λ copy.
             arc_value copy.unpacked ≡ arc_value self.now.unpacked) }
@@ -390,6 +390,6 @@ impl UnpackedToo {
     {
         let packed = self.packed.clone()?;
         let unpacked = Arc::try_clone(&self.unpacked)?;
-        Ok(UnpackedToo { unpacked, packed })
+        Ok(BothWays { unpacked, packed })
     }
 }

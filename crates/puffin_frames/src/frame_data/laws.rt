@@ -5,21 +5,21 @@ ghost use Rattle.std.specs.Prelude.{List, ℕ, ◌≡◌, ◌↔◌, ◌++◌, S
 ghost use Rattle.std.specs.FinMap as map;
 ghost use Rattle.puffin_data.specs.declared.data.form.Form.{Form};
 ghost use Rattle.puffin_data.specs.Value.Layout.{IsBytes, NoneBeginsAnother, ReadsLayouts};
-ghost use Rattle.puffin_frames.specs.Packet.Structs.{meta_layout, IsMeta, meta_at, info_layout, IsInfo, info_at, recorded_layout, IsRecorded, recorded_at, streams_layout, AreStreams, streams_at, details_layout, AreDetails, details_at, legacy_layout, IsLegacy, legacy_at};
+ghost use Rattle.puffin_frames.specs.Packet.Structs.{meta_layout, IsMeta, meta_at, key_layout, IsThreadKey, key_at, facts_layout, AreStreamFacts, facts_at, streams_layout, AreStreams, streams_at, details_layout, AreDetails, details_at, legacy_layout, IsLegacy, legacy_at};
 ghost use Rattle.puffin_frames.specs.Frame.Streams.{Streams};
 ghost use Rattle.puffin_frames.specs.declared.frame_data.frame.FrameData.{FrameData};
-ghost use Rattle.puffin_frames.specs.Frame.Contents.{holding_of, frame_contents};
-ghost use Rattle.puffin_frames.specs.Frame.Holding.{HaveLayout, AreReadAgain, Packing, HoldsStreams, streams_in, Holding, IsHolding, held_contents, packing_of, as_packed, as_unpacked};
-ghost use Rattle.puffin_frames.specs.Packet.Stored.{Said, Stored, packed};
+ghost use Rattle.puffin_frames.specs.Frame.Contents.{holding_of, frame_streams};
+ghost use Rattle.puffin_frames.specs.Frame.Holding.{HaveLayout, AreReadAgain, Packing, HoldsStreams, streams_in, Holding, IsHolding, holding_streams, packing_of, as_packed, as_unpacked};
+ghost use Rattle.puffin_frames.specs.Packet.Stored.{PacketFields, Stored, packed};
 ghost use Rattle.puffin_frames.specs.Packet.Front.{next_at};
 ghost use Rattle.puffin_frames.specs.Packet.Grammar.{packet, IsPacked, Stores};
 
 /// No layout of a value begins that of another of its type.
 pub fn no_layout_begins_another()
     ensures metas { NoneBeginsAnother IsMeta meta_layout }
-    ensures threads { NoneBeginsAnother IsInfo info_layout }
+    ensures threads { NoneBeginsAnother IsThreadKey key_layout }
     ensures infos { (packed : Form) →
-        NoneBeginsAnother (IsRecorded packed) (recorded_layout packed) }
+        NoneBeginsAnother (AreStreamFacts packed) (facts_layout packed) }
     ensures streams { (packed : Form) →
         NoneBeginsAnother (AreStreams packed) (streams_layout packed) }
     ensures details { NoneBeginsAnother AreDetails details_layout }
@@ -29,9 +29,9 @@ pub fn no_layout_begins_another()
 /// A value is read from the front of bytes exactly when its layout is there.
 pub fn only_layouts_are_read()
     ensures metas { ReadsLayouts IsMeta meta_layout meta_at }
-    ensures threads { ReadsLayouts IsInfo info_layout info_at }
+    ensures threads { ReadsLayouts IsThreadKey key_layout key_at }
     ensures infos { (packed : Form) →
-        ReadsLayouts (IsRecorded packed) (recorded_layout packed) (recorded_at packed) }
+        ReadsLayouts (AreStreamFacts packed) (facts_layout packed) (facts_at packed) }
     ensures streams { (packed : Form) →
         ReadsLayouts (AreStreams packed) (streams_layout packed) (streams_at packed) }
     ensures details { ReadsLayouts AreDetails details_layout details_at }
@@ -54,7 +54,7 @@ pub fn packed_contents()
 
 /// A packet that was written is read as what it stores, whatever follows it. No packet begins another, in either version.
 pub fn written_is_read()
-    ensures again { (p : Said) (rest : List ℕ) → IsPacked p →
+    ensures again { (p : PacketFields) (rest : List ℕ) → IsPacked p →
         next_at (packet p ++ rest) ≡ Ok (Some (packed p), rest) }
     ensures alone { NoneBeginsAnother IsPacked packet }
 {}
@@ -69,12 +69,13 @@ pub fn streams_with_a_layout()
 pub fn each_frame_is_read_again()
     ensures holds { (frame : FrameData) → IsHolding (holding_of frame) }
     ensures again { (frame : FrameData) →
-        streams_in (packing_of (holding_of frame)) ≡ frame_contents frame }
+        streams_in (packing_of (holding_of frame)) ≡ frame_streams frame }
 {}
 
 /// Packing and unpacking don't change what a frame holds. Packing a second time changes nothing.
 pub fn packing_keeps()
-    ensures packs { (h : Holding) → IsHolding h → held_contents (as_packed h) ≡ held_contents h }
-    ensures unpacks { (h : Holding) → held_contents (as_unpacked h) ≡ held_contents h }
+    ensures packs { (h : Holding) → IsHolding h →
+        holding_streams (as_packed h) ≡ holding_streams h }
+    ensures unpacks { (h : Holding) → holding_streams (as_unpacked h) ≡ holding_streams h }
     ensures twice { (h : Holding) → as_packed (as_packed h) ≡ as_packed h }
 {}

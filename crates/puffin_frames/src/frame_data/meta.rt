@@ -3,10 +3,10 @@ ghost use Rattle.std.specs.Int.{int_min, int_max};
 ghost use Rattle.puffin_data.specs.declared.error.Error.{Error};
 ghost use Rattle.std.specs.Map.{keys_of};
 ghost use Rattle.std.specs.List.Sorted.{IsStrictlySortedBy};
-ghost use Rattle.puffin_threads.specs.Thread.Info.{thread_cmp};
-ghost use Rattle.puffin_frames.specs.Frame.Contents.{all_recorded};
+ghost use Rattle.puffin_threads.specs.Thread.ThreadKey.{thread_cmp};
+ghost use Rattle.puffin_frames.specs.Frame.Contents.{all_facts};
 ghost use Rattle.puffin_frames.specs.Frame.Sums.{meta_of, TotalsFit};
-ghost use Rattle.puffin_data.specs.Honesty.{record_of_ref};
+ghost use Rattle.puffin_data.specs.Honesty.{facts_of_ref};
 
 use puffin_data::data::{StreamInfo, StreamInfoRef};
 use puffin_data::{Error, FrameIndex, NanoSecond, Result};
@@ -43,7 +43,7 @@ impl FrameMeta {
     pub fn joined(self, info: &StreamInfoRef) -> Option<FrameMeta>
         ensures frame_index { IfSome result (λ meta. meta.frame_index ≡ self.frame_index) }
         ensures num_bytes { IfSome result (λ meta.
-            meta.num_bytes ≡ self.num_bytes + length (record_of_ref info.now).bytes) }
+            meta.num_bytes ≡ self.num_bytes + length (facts_of_ref info.now).bytes) }
         ensures num_scopes { IfSome result (λ meta.
             meta.num_scopes ≡ self.num_scopes + info.now.num_scopes) }
         ensures start { IfSome result (λ meta.
@@ -53,7 +53,7 @@ impl FrameMeta {
         ensures fit { IfSome result (λ meta.
             (meta.num_bytes < 2 ^ 64) × (meta.num_scopes < 2 ^ 64)) }
         ensures none { IfNone result (
-            (2 ^ 64 ≤ self.num_bytes + length (record_of_ref info.now).bytes)
+            (2 ^ 64 ≤ self.num_bytes + length (facts_of_ref info.now).bytes)
             ⊎ (2 ^ 64 ≤ self.num_scopes + info.now.num_scopes)) }
     {
         let num_bytes = self.num_bytes.checked_add(info.stream.len())?;
@@ -72,11 +72,11 @@ impl FrameMeta {
         frame_index: FrameIndex,
         streams: &BTreeMap<ThreadInfo, StreamInfo>,
     ) -> Result<FrameMeta>
-        ensures ok { IfOk result (λ meta. meta ≡ meta_of frame_index (all_recorded streams.now)) }
+        ensures ok { IfOk result (λ meta. meta ≡ meta_of frame_index (all_facts streams.now)) }
         ensures sorted { IsStrictlySortedBy thread_cmp (keys_of streams.now.entries) }
-        ensures totals { IfOk result (λ _. TotalsFit (all_recorded streams.now)) }
+        ensures totals { IfOk result (λ _. TotalsFit (all_facts streams.now)) }
         ensures err { IfErr result (λ e.
-            (e ≡ Error.TooLarge) × ¬ TotalsFit (all_recorded streams.now)) }
+            (e ≡ Error.TooLarge) × ¬ TotalsFit (all_facts streams.now)) }
     {
         let mut meta = FrameMeta::of_none(frame_index);
         for info in streams.values() {

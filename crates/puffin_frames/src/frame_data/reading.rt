@@ -7,7 +7,7 @@ ghost use Rattle.puffin_data.specs.Device.{FromDevice, failures_after};
 ghost use Rattle.puffin_data.specs.Value.Decoding.{whole};
 ghost use Rattle.puffin_frames.specs.Packet.Structs.{details_at};
 ghost use Rattle.puffin_threads.specs.Details.{shared_details};
-ghost use Rattle.puffin_frames.specs.Frame.Contents.{holding_of, frame_says};
+ghost use Rattle.puffin_frames.specs.Frame.Contents.{holding_of, packet_fields};
 ghost use Rattle.puffin_frames.specs.Packet.Tries.{DecidedInMemory};
 ghost use Rattle.puffin_frames.specs.inner.Stopping.{Decided, HeaderFrom};
 ghost use Rattle.puffin_frames.specs.Packet.Letters.{is_packet};
@@ -26,7 +26,7 @@ use crate::frame_data::version::Version;
 use byteorder::{ByteOrder, LittleEndian};
 use puffin_data::FileError;
 use puffin_data::data::{
-    Source, is_range, read_byte, read_counted_part, read_length, read_part, read_up_to,
+    Source, is_valid_range, read_byte, read_counted_part, read_length, read_part, read_up_to,
 };
 use puffin_threads::scope_details::ScopeDetails;
 use std::alloc::Global;
@@ -40,7 +40,7 @@ fn parsed_meta(bytes: &[u8]) -> Result<FrameMeta, FileError>
     match meta_in(bytes) {
         None => Err(FileError::BadMeta),
         Some(meta) => {
-            if is_range(meta.range_ns) {
+            if is_valid_range(meta.range_ns) {
                 Ok(meta)
             } else {
                 Err(FileError::BadRange)
@@ -139,7 +139,7 @@ fn read_packed<S: Source>(
     version: Version,
 ) -> Result<FrameData, FileError>
     requires { S.failures source.old < 2 ^ 64 - 1 }
-    ensures part { FromDevice frame_says (S.remaining source.old) (S.remaining source.new) result
+    ensures part { FromDevice packet_fields (S.remaining source.old) (S.remaining source.new) result
         (packet_at version) }
     ensures packed { IfOk result (λ frame. is_some (holding_of frame).packed ≡ true) }
     ensures fresh { IfOk result IsFresh }
@@ -166,7 +166,7 @@ fn read_version<S: Source>(
     letter: u8,
 ) -> Result<FrameData, FileError>
     requires { S.failures source.old < 2 ^ 64 - 1 }
-    ensures part { FromDevice frame_says (S.remaining source.old) (S.remaining source.new) result
+    ensures part { FromDevice packet_fields (S.remaining source.old) (S.remaining source.new) result
         (version_at letter) }
     ensures packed { IfOk result (λ frame. is_some (holding_of frame).packed ≡ true) }
     ensures fresh { IfOk result IsFresh }
@@ -194,7 +194,7 @@ fn parsed_legacy(alloc: Global, bytes: &[u8]) -> Result<FrameData, FileError>
         Err(Stop::Memory) => return Err(FileError::Memory),
         Err(Stop::NoLayout) => return Err(FileError::BadStreams),
     };
-    if !is_range(meta.range_ns) {
+    if !is_valid_range(meta.range_ns) {
         return Err(FileError::BadRange);
     }
     let unpacked = UnpackedFrameData {

@@ -4,14 +4,14 @@ ghost use Rattle.std.specs.BTreeMap.{insert_entry};
 ghost use Rattle.std.specs.Map.{keys_of};
 ghost use Rattle.std.specs.List.Sorted.{IsStrictlySortedBy};
 ghost use Rattle.puffin_data.specs.Forest.{empty};
-ghost use Rattle.puffin_data.specs.Honesty.{IsHonest, record_of, record_of_ref, joined_record, AreUnlike};
+ghost use Rattle.puffin_data.specs.Honesty.{IsHonest, facts_of, facts_of_ref, joined_facts, AreUnlike};
 ghost use Rattle.puffin_data.specs.declared.data.form.Form.{Form};
 ghost use Rattle.puffin_data.specs.declared.error.Error.{Error};
 ghost use Rattle.puffin_frames.specs.Frame.Contents.{without_sharing, shared_streams, stream_under, no_scopes, reported_to};
 ghost use Rattle.puffin_frames.specs.Frame.Holding.{HaveLayout, AreReadAgain};
-ghost use Rattle.puffin_frames.specs.Packet.Structs.{IsInfo, AreCounts};
+ghost use Rattle.puffin_frames.specs.Packet.Structs.{IsThreadKey, AreCounts};
 ghost use Rattle.puffin_frames.specs.inner.Pairs.{pairs_of};
-ghost use Rattle.puffin_threads.specs.Thread.Info.{info_of, thread_cmp};
+ghost use Rattle.puffin_threads.specs.Thread.ThreadKey.{key_of, thread_cmp};
 
 use crate::frame_data::encode::{counts_fit, thread_fits};
 use puffin_data::data::{StreamInfo, StreamInfoRef};
@@ -65,16 +65,16 @@ pub(crate) fn streams_copy(alloc: Global, streams: &ThreadStreams) -> Result<Thr
 /// `usize`, else only with `Memory`; the info is then as before.
 fn extend_shared(alloc: Global, shared: &mut Arc<StreamInfo>, times: &StreamInfoRef) -> Result<()>
     ensures ok { OnOk result (
-        record_of (arc_value shared.new)
-        ≡ joined_record (record_of (arc_value shared.old)) (record_of_ref times.now)) }
-    ensures counts { OnOk result (AreCounts (record_of (arc_value shared.new))) }
+        facts_of (arc_value shared.new)
+        ≡ joined_facts (facts_of (arc_value shared.old)) (facts_of_ref times.now)) }
+    ensures counts { OnOk result (AreCounts (facts_of (arc_value shared.new))) }
     ensures unlike { (result ≡ Err Error.UnlikeForms)
-        ↔ AreUnlike (record_of (arc_value shared.old)) (record_of_ref times.now) }
+        ↔ AreUnlike (facts_of (arc_value shared.old)) (facts_of_ref times.now) }
     ensures too_large { (result ≡ Err Error.TooLarge)
-        ↔ ((¬ AreUnlike (record_of (arc_value shared.old)) (record_of_ref times.now))
+        ↔ ((¬ AreUnlike (facts_of (arc_value shared.old)) (facts_of_ref times.now))
         × (2 ^ 64 ≤ (arc_value shared.old).num_scopes + times.now.num_scopes)) }
     ensures err { OnErr result (
-        record_of (arc_value shared.new) ≡ record_of (arc_value shared.old)) }
+        facts_of (arc_value shared.new) ≡ facts_of (arc_value shared.old)) }
     ensures cause { IfErr result (λ e.
         (e ≡ Error.UnlikeForms) ⊎ (e ≡ Error.TooLarge) ⊎ (e ≡ Error.Memory)) }
 {
@@ -92,13 +92,13 @@ fn extend_shared(alloc: Global, shared: &mut Arc<StreamInfo>, times: &StreamInfo
 #[inline(never)]
 fn extended(alloc: Global, info: &StreamInfo, times: &StreamInfoRef) -> Result<Arc<StreamInfo>>
     ensures ok { IfOk result (λ copy.
-        record_of (arc_value copy)
-        ≡ joined_record (record_of info.now) (record_of_ref times.now)) }
-    ensures counts { IfOk result (λ copy. AreCounts (record_of (arc_value copy))) }
+        facts_of (arc_value copy)
+        ≡ joined_facts (facts_of info.now) (facts_of_ref times.now)) }
+    ensures counts { IfOk result (λ copy. AreCounts (facts_of (arc_value copy))) }
     ensures unlike { (result ≡ Err Error.UnlikeForms)
-        ↔ AreUnlike (record_of info.now) (record_of_ref times.now) }
+        ↔ AreUnlike (facts_of info.now) (facts_of_ref times.now) }
     ensures too_large { (result ≡ Err Error.TooLarge)
-        ↔ ((¬ AreUnlike (record_of info.now) (record_of_ref times.now))
+        ↔ ((¬ AreUnlike (facts_of info.now) (facts_of_ref times.now))
         × (2 ^ 64 ≤ info.now.num_scopes + times.now.num_scopes)) }
     ensures cause { IfErr result (λ e.
         (e ≡ Error.UnlikeForms) ⊎ (e ≡ Error.TooLarge) ⊎ (e ≡ Error.Memory)) }
@@ -119,8 +119,8 @@ fn extended(alloc: Global, info: &StreamInfo, times: &StreamInfoRef) -> Result<A
 /// nothing.
 pub fn are_unlike(streams: &ThreadStreams, info: &ThreadInfo, times: &StreamInfoRef) -> bool
     ensures { (result ≡ true)
-        ↔ AreUnlike (stream_under (shared_streams streams.now.entries) (info_of info.now))
-        (record_of_ref times.now) }
+        ↔ AreUnlike (stream_under (shared_streams streams.now.entries) (key_of info.now))
+        (facts_of_ref times.now) }
 {
     match streams.get(info) {
         Some(shared) => shared.is_unlike(times),
@@ -151,8 +151,8 @@ fn fits(number: usize)
 #[inline(never)]
 fn first_info(alloc: Global, times: &StreamInfoRef) -> Result<Arc<StreamInfo>>
     ensures ok { IfOk result (λ info.
-        record_of (arc_value info) ≡ joined_record no_scopes (record_of_ref times.now)) }
-    ensures counts { IfOk result (λ info. AreCounts (record_of (arc_value info))) }
+        facts_of (arc_value info) ≡ joined_facts no_scopes (facts_of_ref times.now)) }
+    ensures counts { IfOk result (λ info. AreCounts (facts_of (arc_value info))) }
     ensures err { IfErr result (λ e. e ≡ Error.Memory) }
     ensures fits { times.now.num_scopes < 2 ^ 64 }
 {
@@ -169,7 +169,7 @@ fn first_info(alloc: Global, times: &StreamInfoRef) -> Result<Arc<StreamInfo>>
 fn insert_first(streams: &mut ThreadStreams, info: ThreadInfo, first: Arc<StreamInfo>) -> Result<()>
     ensures ok { OnOk result (
         streams.new.entries ≡ insert_entry thread_cmp streams.old.entries info first) }
-    ensures thread { IsInfo (info_of info) }
+    ensures thread { IsThreadKey (key_of info) }
     ensures count { OnOk result (length streams.new.entries < 2 ^ 64) }
     ensures sorted { IsStrictlySortedBy thread_cmp (keys_of streams.new.entries) }
     ensures err { OnErr result (streams.new.entries ≡ streams.old.entries) }
@@ -200,18 +200,18 @@ pub fn report_to(
 ) -> Result<()>
     ensures ok { OnOk result (
         shared_streams streams.new.entries
-        ≡ reported_to (shared_streams streams.old.entries) (info_of info) (
-        record_of_ref times.now)) }
+        ≡ reported_to (shared_streams streams.old.entries) (key_of info) (
+        facts_of_ref times.now)) }
     ensures layout { OnOk result (
         HaveLayout (shared_streams streams.old.entries) →
         HaveLayout (shared_streams streams.new.entries)) }
     ensures unlike { (result ≡ Err Error.UnlikeForms)
-        ↔ AreUnlike (stream_under (shared_streams streams.old.entries) (info_of info))
-        (record_of_ref times.now) }
+        ↔ AreUnlike (stream_under (shared_streams streams.old.entries) (key_of info))
+        (facts_of_ref times.now) }
     ensures too_large { (result ≡ Err Error.TooLarge)
-        ↔ ((¬ AreUnlike (stream_under (shared_streams streams.old.entries) (info_of info))
-        (record_of_ref times.now))
-        × (2 ^ 64 ≤ (stream_under (shared_streams streams.old.entries) (info_of info)).num_scopes
+        ↔ ((¬ AreUnlike (stream_under (shared_streams streams.old.entries) (key_of info))
+        (facts_of_ref times.now))
+        × (2 ^ 64 ≤ (stream_under (shared_streams streams.old.entries) (key_of info)).num_scopes
         + times.now.num_scopes)) }
     ensures err { OnErr result (
         shared_streams streams.new.entries ≡ shared_streams streams.old.entries) }

@@ -6,7 +6,7 @@ ghost use Rattle.puffin_frames.specs.Frame.Holding.{AreReadAgain};
 
 use crate::frame_data::meta::FrameMeta;
 use crate::frame_data::thread_streams::{ThreadStreams, shared, streams_copy};
-use puffin_data::data::{StreamInfo, is_range};
+use puffin_data::data::{StreamInfo, is_valid_range};
 use puffin_data::{Error, FrameIndex, NanoSecond, Result};
 use puffin_threads::thread_profiler::ThreadInfo;
 use std::alloc::Global;
@@ -30,7 +30,7 @@ impl UnpackedFrameData {
     ghost use Rattle.std.specs.Prelude.{IfOk, IfErr, OnOk};
     ghost use Rattle.std.specs.FinMap as map;
     ghost use Rattle.puffin_frames.specs.Frame.Sums.{MakeFrame, RefusesFrame, meta_of};
-    ghost use Rattle.puffin_frames.specs.Frame.Contents.{without_sharing, streams_of, all_recorded, contents};
+    ghost use Rattle.puffin_frames.specs.Frame.Contents.{without_sharing, streams_of, all_facts, streams_held};
 
     /// Makes frame `frame_index` from these streams. Moves each stream into an `Arc`.
     ///
@@ -43,25 +43,25 @@ impl UnpackedFrameData {
         thread_streams: BTreeMap<ThreadInfo, StreamInfo>,
     ) -> Result<UnpackedFrameData>
         ensures meta { IfOk result (λ frame.
-            frame.meta ≡ meta_of frame_index (all_recorded thread_streams)) }
+            frame.meta ≡ meta_of frame_index (all_facts thread_streams)) }
         ensures streams { IfOk result (λ frame.
             without_sharing frame.thread_streams.entries ≡ thread_streams.entries) }
 
         // The same by infos: the frame holds the given streams, and its meta is theirs.
         ensures contents { IfOk result (λ frame.
-            contents frame ≡ streams_of thread_streams.entries) }
+            streams_held frame ≡ streams_of thread_streams.entries) }
         ensures own_meta { IfOk result (λ frame.
-            frame.meta ≡ meta_of frame_index (map.values (contents frame))) }
+            frame.meta ≡ meta_of frame_index (map.values (streams_held frame))) }
 
-        ensures makes { OnOk result (MakeFrame (all_recorded thread_streams)) }
-        ensures refusal { IfErr result (λ e. RefusesFrame (all_recorded thread_streams) e) }
+        ensures makes { OnOk result (MakeFrame (all_facts thread_streams)) }
+        ensures refusal { IfErr result (λ e. RefusesFrame (all_facts thread_streams) e) }
     {
         let meta = FrameMeta::of_streams(frame_index, &thread_streams)?;
         let (start, stop) = meta.range_ns;
         if stop < start {
             return Err(Error::Empty);
         }
-        if !is_range(meta.range_ns) {
+        if !is_valid_range(meta.range_ns) {
             return Err(Error::RangeTooLong);
         }
         Ok(UnpackedFrameData {
@@ -95,7 +95,7 @@ impl UnpackedFrameData {
 
     /// Copies the frame; the copy shares the streams. Fails only with `Memory`.
     pub fn clone(&self, alloc: Global) -> Result<UnpackedFrameData>
-        ensures contents { IfOk result (λ copy. contents copy ≡ contents self.now) }
+        ensures contents { IfOk result (λ copy. streams_held copy ≡ streams_held self.now) }
         ensures meta { IfOk result (λ copy. copy.meta ≡ self.now.meta) }
         ensures memory { IfErr result (λ e. e ≡ Error.Memory) }
     {

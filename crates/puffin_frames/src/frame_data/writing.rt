@@ -8,7 +8,7 @@ ghost use Rattle.std.specs.FinMap.{values};
 ghost use Rattle.puffin_threads.specs.Details.{shared_details};
 ghost use Rattle.puffin_frames.specs.declared.frame_data.kind.Kind.{Kind};
 ghost use Rattle.puffin_frames.specs.Packet.Structs.{meta_layout, IsMeta, details_layout, AreDetails};
-ghost use Rattle.puffin_frames.specs.Frame.Contents.{frame_details, contents};
+ghost use Rattle.puffin_frames.specs.Frame.Contents.{frame_details, streams_held};
 ghost use Rattle.puffin_frames.specs.Frame.Holding.{plainly_packed};
 ghost use Rattle.puffin_frames.specs.Packet.Grammar.{packet_head, packet_with, packet, IsPacked};
 ghost use Rattle.puffin_frames.specs.Packet.Writing.{details_or, says_with, HasLongPart, WritesPacket};
@@ -121,12 +121,12 @@ fn write_unpacked<D: Drain>(
 ) -> Result<(), FileError>
     requires { D.failures drain.old < 2 ^ 64 - 1 }
     ensures written { WritesPacket D.contents D.failures D.takes drain.old drain.new
-        (packet_with (plainly_packed (contents frame.now)).form frame.now.meta Kind.Uncompressed
-        (plainly_packed (contents frame.now)).bytes details.now)
-        ((2 ^ 32 ≤ length (plainly_packed (contents frame.now)).bytes)
+        (packet_with (plainly_packed (streams_held frame.now)).form frame.now.meta Kind.Uncompressed
+        (plainly_packed (streams_held frame.now)).bytes details.now)
+        ((2 ^ 32 ≤ length (plainly_packed (streams_held frame.now)).bytes)
         ⊎ (2 ^ 32 ≤ length details.now)) result }
     ensures short { OnOk result (
-        (length (plainly_packed (contents frame.now)).bytes < 2 ^ 32)
+        (length (plainly_packed (streams_held frame.now)).bytes < 2 ^ 32)
         × (length details.now < 2 ^ 32)) }
     ensures fits { OnOk result (IsMeta frame.now.meta) }
 {

@@ -1,6 +1,6 @@
 -- What contracts see of a merger: the frames that were added to it.
 use Rattle.std.specs.Prelude.{◌≡◌, ℕ, ◌-◌, ◌^◌, ◌<◌, List, [], length}
-use Rattle.puffin_threads.specs.Thread.Info.{Info, info_of}
+use Rattle.puffin_threads.specs.Thread.ThreadKey.{ThreadKey, key_of}
 use Rattle.puffin_merge.specs.declared.merge.merger.Merger.{Merger}
 use Rattle.puffin_merge.specs.Merge.Occurrences.{FrameScopes, occurrences}
 use Rattle.puffin_merge.specs.Merge.FrameBytes.{FrameBytes, HaveScopes, start_of}
@@ -8,8 +8,8 @@ use Rattle.puffin_merge.specs.Merge.Refusals.{AreAccepted}
 use Rattle.puffin_merge.specs.inner.Tables.{IsTableOf}
 
 -- the info whose scopes are merged
-abbrev pub merged_info : Merger → Info
-merged_info m = info_of m.info.now
+abbrev pub merged_info : Merger → ThreadKey
+merged_info m = key_of m.info.now
 
 -- These frames were added, in order; their scopes were accepted and are in the table.
 pub record HasAdded (added : List FrameBytes) (m : Merger) : Type 0 where

@@ -4,7 +4,7 @@ use Rattle.std.specs.declared.cmp.Ordering.{Ordering}
 use Rattle.std.specs.Ordering.{nat_cmp, on, then_cmp, eq_by_cmp}
 use Rattle.std.specs.Cmp.Lexicographic.{slice_cmp}
 use Rattle.puffin_data.specs.Forest.{Span, Forest}
-use Rattle.puffin_data.specs.Walk.Sights.{Nested, nested_in}
+use Rattle.puffin_data.specs.Walk.Sights.{ScopeInContext, nested_in}
 use Rattle.puffin_data.specs.Text.{text_in}
 
 -- identifies a scope among its siblings: its id and its text's bytes
@@ -41,14 +41,14 @@ origin_in origin [] = origin
 origin_in origin (s ∷ around) = origin_in s.start around
 
 -- a scope of a forest whose top-level scopes' starts are measured from an origin
-abbrev pub occurrence_of : ℤ → Nested → Occurrence
+abbrev pub occurrence_of : ℤ → ScopeInContext → Occurrence
 occurrence_of origin scope = record {
   path = path_of scope.around ++ (label_of scope.span ∷ []);
   own_start = scope.span.start -ℤ origin_in origin scope.around;
   duration = nat_abs (scope.span.stop -ℤ scope.span.start);
 }
 
-abbrev pub occurrences_in : ℤ → List Nested → List Occurrence
+abbrev pub occurrences_in : ℤ → List ScopeInContext → List Occurrence
 occurrences_in origin scopes = map (occurrence_of origin) scopes
 
 -- what merging reads of a frame: the start of its range, and the scopes under the info, none without a stream

@@ -5,25 +5,25 @@ use Rattle.std.specs.Arc.{arc_value}
 use Rattle.std.specs.Cow.{cow_str_bytes}
 use Rattle.std.specs.declared.sync.Arc.{Arc}
 use Rattle.std.specs.declared.alloc.Global.{Global}
-use Rattle.puffin_data.specs.Honesty.{Recorded}
+use Rattle.puffin_data.specs.Honesty.{StreamFacts}
 use Rattle.puffin_frames.specs.declared.frame_data.unpacked.UnpackedFrameData.{UnpackedFrameData}
-use Rattle.puffin_threads.specs.Thread.Info.{Info}
-use Rattle.puffin_frames.specs.Frame.Contents.{contents}
+use Rattle.puffin_threads.specs.Thread.ThreadKey.{ThreadKey}
+use Rattle.puffin_frames.specs.Frame.Contents.{streams_held}
 use Rattle.puffin_merge.specs.declared.merge.scope.MergeScope.{MergeScope, MergeScope', Row_of-MergeScope, end_of-MergeScope, more_of-MergeScope}
 use Rattle.puffin_merge.specs.Merge.FrameBytes.{StreamBytes, FrameBytes}
 use Rattle.puffin_merge.specs.Merge.Tree.{MergedForest, no_node, merged}
 
-abbrev pub stream_in : Recorded → StreamBytes
+abbrev pub stream_in : StreamFacts → StreamBytes
 stream_in r = record { form = r.form; bytes = r.bytes }
 
 -- the start of a frame's range, and its stream under an info
-abbrev pub frame_bytes : Info → UnpackedFrameData → FrameBytes
+abbrev pub frame_bytes : ThreadKey → UnpackedFrameData → FrameBytes
 frame_bytes info frame = record {
   start = frame.meta.range_ns.0;
-  stream = option_map stream_in (tree.get (contents frame) info);
+  stream = option_map stream_in (tree.get (streams_held frame) info);
 }
 
-abbrev pub frames_bytes : Info → List (Arc UnpackedFrameData Global) → List FrameBytes
+abbrev pub frames_bytes : ThreadKey → List (Arc UnpackedFrameData Global) → List FrameBytes
 frames_bytes info frames = map (λ held. frame_bytes info (arc_value held)) frames
 
 -- merged scopes as a forest

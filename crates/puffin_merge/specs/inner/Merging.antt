@@ -4,7 +4,7 @@ use Rattle.std.proofs.Common.{refl, sym, ap, subst, ◌∙◌, append_assoc, ari
 use Rattle.std.proofs.lemmas.List.{map-append}
 use Rattle.puffin_data.specs.declared.error.Error.{Error}
 use Rattle.puffin_data.specs.Forest.{Span}
-use Rattle.puffin_data.specs.Walk.Sights.{Nested}
+use Rattle.puffin_data.specs.Walk.Sights.{ScopeInContext}
 use Rattle.puffin_merge.specs.declared.merge.stream.Merging.{Merging}
 use Rattle.puffin_merge.specs.declared.merge.stream.Open.{Open}
 use Rattle.puffin_merge.specs.Merge.Occurrences.{Occurrence, path_of, origin_in, occurrence_of, occurrences_in}
@@ -13,7 +13,7 @@ use Rattle.puffin_merge.specs.Merge.Refusals.{IsRefusedFor, AreAccepted}
 use Rattle.puffin_merge.specs.inner.Tables.{path_at, IsTableOf, Extends}
 
 -- the scopes' occurrences are accepted, and were added to the table
-pub record TakesScopes (v : Merging) (scopes : List Nested) (w : Merging) : Type 0 where
+pub record TakesScopes (v : Merging) (scopes : List ScopeInContext) (w : Merging) : Type 0 where
   pub origin : w.origin ≡ v.origin
   pub extends : Extends v.table w.table
   pub accepted : (all : List Occurrence) → IsTableOf all v.table →
@@ -21,7 +21,7 @@ pub record TakesScopes (v : Merging) (scopes : List Nested) (w : Merging) : Type
   pub table : (all : List Occurrence) → IsTableOf all v.table →
       IsTableOf (all ++ occurrences_in v.origin scopes) w.table
 
-abbrev pub RefusesScope : Merging → Nested → Error → Type 0
+abbrev pub RefusesScope : Merging → ScopeInContext → Error → Type 0
 RefusesScope v scope e =
     (all : List Occurrence) → IsTableOf all v.table →
     IsRefusedFor all (occurrence_of v.origin scope) e
@@ -62,7 +62,7 @@ takes_none v = record {
   table = λ all t. subst (λ (xs : List Occurrence). IsTableOf xs v.table) (sym (append-nil all)) t;
 }
 
-pub takes_more : (u v w : Merging) (xs ys : List Nested) → TakesScopes u xs v → TakesScopes v ys w →
+pub takes_more : (u v w : Merging) (xs ys : List ScopeInContext) → TakesScopes u xs v → TakesScopes v ys w →
     TakesScopes u (xs ++ ys) w
 takes_more u v w xs ys a b =
     let split : occurrences_in u.origin (xs ++ ys)
@@ -88,7 +88,7 @@ takes_more u v w xs ys a b =
           b.table (all ++ occurrences_in u.origin xs) (a.table all t));
     }
 
-pub still_stands : (u v : Merging) (xs : List Nested) (w : Open) (around : List Span) →
+pub still_stands : (u v : Merging) (xs : List ScopeInContext) (w : Open) (around : List Span) →
     TakesScopes u xs v → StandsFor u w around → StandsFor v w around
 still_stands u v xs w around t s =
     let wide = t.extends in

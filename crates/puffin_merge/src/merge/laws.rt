@@ -6,7 +6,7 @@ ghost use Rattle.std.specs.declared.sync.Arc.{Arc};
 ghost use Rattle.std.specs.declared.alloc.Global.{Global};
 ghost use Rattle.puffin_data.specs.declared.error.Error.{Error};
 ghost use Rattle.puffin_frames.specs.declared.frame_data.unpacked.UnpackedFrameData.{UnpackedFrameData};
-ghost use Rattle.puffin_threads.specs.Thread.Info.{Info};
+ghost use Rattle.puffin_threads.specs.Thread.ThreadKey.{ThreadKey};
 ghost use Rattle.puffin_merge.specs.Merge.Occurrences.{FrameScopes, occurrences};
 ghost use Rattle.puffin_merge.specs.Merge.Tree.{MergedForest};
 ghost use Rattle.puffin_merge.specs.Merge.Starts.{Sibling, IsLeastFeasible, earliest_starts};
@@ -27,7 +27,7 @@ pub fn earliest_starts()
 /// A merge doesn't depend on the order of the frames after the first. So frames that have a merge have it in any order that
 /// keeps the first one first, and merging them in that order gives it, or fails with `Memory`.
 pub fn frames_in_any_order()
-    ensures frames { (info : Info) (first : Arc UnpackedFrameData Global)
+    ensures frames { (info : ThreadKey) (first : Arc UnpackedFrameData Global)
         (others again : List (Arc UnpackedFrameData Global)) → IsPermutation others again →
         (f : MergedForest) → AreMerged (frames_bytes info (first ∷ others)) f
         → AreMerged (frames_bytes info (first ∷ again)) f }

@@ -2,7 +2,7 @@
 
 ghost use Rattle.std.specs.Prelude.{◌≡◌, ◌<◌, ◌≤◌, ◌^◌, ◌⊎◌, ◌-ℤ◌, List, [], length, if◌then◌else◌, Ok, Err, IfOk, IfErr};
 ghost use Rattle.puffin_data.specs.Walk.Visitor.{TakesAll, StopsEarly};
-ghost use Rattle.puffin_threads.specs.Thread.Info.{info_of};
+ghost use Rattle.puffin_threads.specs.Thread.ThreadKey.{key_of};
 ghost use Rattle.puffin_merge.specs.Merge.Occurrences.{Occurrence};
 ghost use Rattle.puffin_merge.specs.Merge.FrameBytes.{form_of, bytes_of, most_tries_of};
 ghost use Rattle.puffin_merge.specs.Merge.Scopes.{frame_bytes};
@@ -11,7 +11,7 @@ ghost use Rattle.puffin_merge.specs.inner.Tables.{IsTableOf};
 ghost use Rattle.puffin_merge.specs.inner.Origins.{IsOrigin, fits_i64};
 
 use crate::merge::table::{Asked, NodeNumber, Table};
-use puffin_data::data::{Sighting, Visitor, text_of, walk_with};
+use puffin_data::data::{RawScope, Visitor, text_of, walk_with};
 use puffin_data::{Error, NanoSecond, Result};
 use puffin_frames::frame_data::UnpackedFrameData;
 use puffin_frames::thread_profiler::ThreadInfo;
@@ -93,7 +93,7 @@ impl<'s> Visitor<'s> for Merging {
 
     ghost still_stands = { steps.still_stands };
 
-    fn enter(&mut self, within: Open, scope: &Sighting<'s>) -> Result<Open> {
+    fn enter(&mut self, within: Open, scope: &RawScope<'s>) -> Result<Open> {
         if within.depth >= GREATEST_DEPTH {
             return Err(Error::TooDeep);
         }
@@ -134,20 +134,20 @@ pub(crate) fn read_frame(
 ) -> Result<()>
     requires { (all : List Occurrence) × IsTableOf all merging.old.table }
     ensures ok { IfOk result (λ _.
-        TakesAll (form_of (frame_bytes (info_of info.now) frame.now)) TakesScopes
+        TakesAll (form_of (frame_bytes (key_of info.now) frame.now)) TakesScopes
         (record merging.old { origin = frame.now.meta.range_ns.0 -ℤ first })
-        merging.new (bytes_of (frame_bytes (info_of info.now) frame.now)) tries.new) }
+        merging.new (bytes_of (frame_bytes (key_of info.now) frame.now)) tries.new) }
     ensures err { IfErr result (λ e.
         (e ≡ Error.Memory)
-        ⊎ StopsEarly (form_of (frame_bytes (info_of info.now) frame.now)) TakesScopes
+        ⊎ StopsEarly (form_of (frame_bytes (key_of info.now) frame.now)) TakesScopes
         RefusesScope
         (record merging.old { origin = frame.now.meta.range_ns.0 -ℤ first })
-        merging.new (bytes_of (frame_bytes (info_of info.now) frame.now)) tries.new e) }
-    ensures few { tries.new ≤ most_tries_of (frame_bytes (info_of info.now) frame.now) }
-    ensures short { length (bytes_of (frame_bytes (info_of info.now) frame.now)) < 2 ^ 63 }
+        merging.new (bytes_of (frame_bytes (key_of info.now) frame.now)) tries.new e) }
+    ensures few { tries.new ≤ most_tries_of (frame_bytes (key_of info.now) frame.now) }
+    ensures short { length (bytes_of (frame_bytes (key_of info.now) frame.now)) < 2 ^ 63 }
 {
     // A law for the proof: threads are ordered by their infos.
-    puffin_threads::laws::order_of_infos();
+    puffin_threads::laws::order_of_keys();
     *tries = 0;
     merging.origin = origin_of(frame, first);
     let outside = Open::outside(merging.origin);

@@ -3,7 +3,7 @@ use Rattle.std.specs.Prelude.{ℕ, ◌+◌, ◌^◌, ◌==◌, ℤ, pos, neg_ℤ
 use Rattle.std.specs.List.{list_any, before_first, after_first}
 use Rattle.std.specs.Str.{bytes_eq}
 use Rattle.std.specs.String.{string_bytes}
-use Rattle.puffin_threads.specs.Thread.Info.{Info, info_of}
+use Rattle.puffin_threads.specs.Thread.ThreadKey.{ThreadKey, key_of}
 use Rattle.puffin_replay.specs.declared.replay.task.Task.{Task}
 use Rattle.puffin_replay.specs.declared.replay.task.Task.TheVariants as task
 use Rattle.puffin_replay.specs.Script.Statements.{number_of, moment_in}
@@ -27,7 +27,7 @@ abbrev pub is_colon : ℕ → Bool
 is_colon byte = byte == 58
 
 -- `START:NAME`; the name is all that follows the first colon
-abbrev pub thread_of_word : List ℕ → Option Info
+abbrev pub thread_of_word : List ℕ → Option ThreadKey
 thread_of_word word =
     if list_any is_colon word
     then option_map (λ start. record { start = start; name = after_first is_colon word }) (
@@ -40,7 +40,7 @@ thread_of_word word =
 pub data Request : Type 0 where
   count : Request
   replay : List ℕ → List ℕ → Request
-  report : List ℕ → Info → Request
+  report : List ℕ → ThreadKey → Request
 
 abbrev pub report_by : List ℕ → List ℕ → Option Request
 report_by file thread = option_map (report file) (thread_of_word thread)
@@ -56,7 +56,7 @@ request_in _ = None
 abbrev pub request_of : Task → Request
 request_of task.Count = count
 request_of (task.Replay script out) = replay (string_bytes script) (string_bytes out)
-request_of (task.Report file thread) = report (string_bytes file) (info_of thread)
+request_of (task.Report file thread) = report (string_bytes file) (key_of thread)
 
 -- the request has paths
 abbrev pub HasPaths : Option Request → Type 0

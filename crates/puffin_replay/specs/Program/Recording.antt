@@ -10,12 +10,12 @@ use Rattle.puffin_data.specs.Device.{WritesBeginning}
 use Rattle.puffin_frames.specs.declared.frame_data.frame.FrameData.{FrameData}
 use Rattle.puffin_threads.specs.Details.Collection.{with_all_details, LearnsSome}
 use Rattle.puffin_view.specs.declared.profile_view.frame_view.FrameView.{FrameView}
-use Rattle.puffin_frames.specs.Packet.Stored.{Said}
-use Rattle.puffin_view.specs.View.ViewedFrames.{Frame, contents_of, index_of}
+use Rattle.puffin_frames.specs.Packet.Stored.{PacketFields}
+use Rattle.puffin_view.specs.View.ViewedFrames.{Frame, fields_of, index_of}
 use Rattle.puffin_view.specs.View.FrameOf.{shared_frame, details_of_frame}
 use Rattle.puffin_view.specs.View.{View, Took, after_all, KeepsFrames}
 use Rattle.puffin_view.specs.View.Known.{view_of, collection_of}
-use Rattle.puffin_view.specs.View.File.{file_of, contents_held, contents_in}
+use Rattle.puffin_view.specs.View.File.{file_of, fields_held, fields_in}
 use Rattle.puffin_session.specs.declared.command.Command.{Command}
 use Rattle.puffin_session.specs.declared.command.Reply.{Reply}
 use Rattle.puffin_session.specs.declared.command.Reply.TheVariants as reply
@@ -59,20 +59,20 @@ pub record TakesSome (frames : List Frame) (old new : FrameView) : Type 0 where
 -- a view that took a list of frames took these besides
 abbrev pub TookAlso : List Frame → View → View → Type 0
 TookAlso frames old new =
-    (cs : List Said) → Took cs old → Took (cs ++ map contents_of frames) new
+    (cs : List PacketFields) → Took cs old → Took (cs ++ map fields_of frames) new
 
 -- if all details that a view held had ids, so have those that it holds now, and those that its file lists
 abbrev pub HoldsIds : View → View → Type 0
-HoldsIds old new = NoneLacksIds (contents_held old) → NoneLacksIds (contents_held new)
+HoldsIds old new = NoneLacksIds (fields_held old) → NoneLacksIds (fields_held new)
 
 abbrev pub ListsIds : View → View → Type 0
-ListsIds old new = NoneLacksIds (contents_held old) → NoneLacksIds (contents_in new)
+ListsIds old new = NoneLacksIds (fields_held old) → NoneLacksIds (fields_in new)
 
 -- ---- recording
 
 -- the file of a view
 abbrev pub file_of_view : FrameView → List ℕ
-file_of_view view = file_of (contents_in (view_of view))
+file_of_view view = file_of (fields_in (view_of view))
 
 -- why a file can't be written: a part is too long, memory runs out, or the writer fails
 abbrev pub IsWriteFault : FileError → Type 0

@@ -7,9 +7,9 @@ use Rattle.puffin_data.specs.declared.file_error.FileError.TheVariants as file
 use Rattle.puffin_data.specs.Device.{IsOutside, WritesBeginning}
 use Rattle.puffin_frames.specs.Packet.Grammar.{IsPacked}
 use Rattle.puffin_frames.specs.Packet.Writing.{HasLongPart}
-use Rattle.puffin_view.specs.View.ViewedFrames.{contents_of}
+use Rattle.puffin_view.specs.View.ViewedFrames.{fields_of}
 use Rattle.puffin_view.specs.View.{View, Took, empty_view, after_all}
-use Rattle.puffin_view.specs.View.File.{file_of, contents_in}
+use Rattle.puffin_view.specs.View.File.{file_of, fields_in}
 use Rattle.puffin_session.specs.declared.command.Reply.{Reply}
 use Rattle.puffin_replay.specs.declared.replay.script.Script.{Script}
 use Rattle.puffin_replay.specs.Script.{threads_said}
@@ -17,7 +17,7 @@ use Rattle.puffin_replay.specs.Program.ReplyLines.{reply_lines}
 use Rattle.puffin_session.specs.Session.{SessionState, new_session}
 use Rattle.puffin_session.specs.Session.Runs.{AreReplies}
 use Rattle.puffin_replay.specs.Program.Recording.{frames_emitted, IsWriteFault}
-use Rattle.puffin_replay.specs.Promise.{EmitsDue, frames_said, kept_frames}
+use Rattle.puffin_replay.specs.Promise.{EmitsDue, emitted_fields, kept_frames}
 use Rattle.puffin_report.specs.Summary.{NoneLacksIds}
 
 abbrev pub AreAnswers : Script → List Reply → SessionState → Type 0
@@ -38,11 +38,11 @@ pub record IsReplayed (script : Script)
   pub replies : List Reply
   pub end : SessionState
   pub emits : EmitsDue (new_session (threads_said script)) end script.commands.items replies
-  pub kept : contents_in (view_after replies) ≡ kept_frames 1000 256 (frames_said replies)
-  pub took : Took (map contents_of (frames_emitted replies)) (view_after replies)
-  pub written : Appends file_before file_after (file_of (contents_in (view_after replies)))
-  pub packed : AllByRecursion IsPacked (contents_in (view_after replies))
-  pub ids : NoneLacksIds (contents_in (view_after replies))
+  pub kept : fields_in (view_after replies) ≡ kept_frames 1000 256 (emitted_fields replies)
+  pub took : Took (map fields_of (frames_emitted replies)) (view_after replies)
+  pub written : Appends file_before file_after (file_of (fields_in (view_after replies)))
+  pub packed : AllByRecursion IsPacked (fields_in (view_after replies))
+  pub ids : NoneLacksIds (fields_in (view_after replies))
   pub told : Appends lines_before lines_after (reply_lines script.lines.items replies)
 
 -- Why a script's run failed, and what it wrote: memory ran out, and nothing is written; or a beginning of the file, and no line; or the file, and a beginning of the lines.
@@ -55,14 +55,14 @@ IsUnfinished script fault file_before file_after lines_before lines_after =
     ⊎ ((replies : List Reply)
     × (end : SessionState)
     × AreAnswers script replies end
-    × WritesBeginning file_before file_after (file_of (contents_in (view_after replies)))
+    × WritesBeginning file_before file_after (file_of (fields_in (view_after replies)))
     × Appends lines_before lines_after []
     × IsWriteFault fault
-    × (fault ≡ file.PartTooLong → Any HasLongPart (contents_in (view_after replies))))
+    × (fault ≡ file.PartTooLong → Any HasLongPart (fields_in (view_after replies))))
     ⊎ ((replies : List Reply)
     × (end : SessionState)
     × AreAnswers script replies end
-    × Appends file_before file_after (file_of (contents_in (view_after replies)))
-    × NoneLacksIds (contents_in (view_after replies))
+    × Appends file_before file_after (file_of (fields_in (view_after replies)))
+    × NoneLacksIds (fields_in (view_after replies))
     × WritesBeginning lines_before lines_after (reply_lines script.lines.items replies)
     × IsOutside fault)

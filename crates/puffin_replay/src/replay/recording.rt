@@ -10,7 +10,7 @@ ghost use Rattle.puffin_frames.specs.Packet.Grammar.{IsPacked};
 ghost use Rattle.puffin_frames.specs.Packet.Writing.{HasLongPart};
 ghost use Rattle.puffin_view.specs.View.{Took};
 ghost use Rattle.puffin_view.specs.View.Known.{view_of};
-ghost use Rattle.puffin_view.specs.View.File.{contents_in};
+ghost use Rattle.puffin_view.specs.View.File.{fields_in};
 ghost use Rattle.puffin_session.specs.Session.{SessionState, new_session};
 ghost use Rattle.puffin_session.specs.Session.Runs.{HasIds};
 ghost use Rattle.puffin_replay.specs.Script.{threads_said};
@@ -135,7 +135,7 @@ pub fn record_session<D: Drain>(
         TookAlso (frames_emitted replies.items) (view_of view.old) (view_of view.new)) }
     ensures written { OnOk result (
         Appends (D.contents drain.old) (D.contents drain.new) (file_of_view view.new)) }
-    ensures packed { OnOk result (AllByRecursion IsPacked (contents_in (view_of view.new))) }
+    ensures packed { OnOk result (AllByRecursion IsPacked (fields_in (view_of view.new))) }
     ensures held_ids { OnOk result (HoldsIds (view_of view.old) (view_of view.new)) }
     ensures ids { OnOk result (ListsIds (view_of view.old) (view_of view.new)) }
     ensures failures { OnOk result (D.failures drain.new ≡ D.failures drain.old) }
@@ -146,7 +146,7 @@ pub fn record_session<D: Drain>(
     ensures io { (result ≡ Err FileError.Io) →
         (D.failures drain.new ≡ D.failures drain.old + 1) ⊎ TookNothing D.takes drain.new }
     ensures too_long { (result ≡ Err FileError.PartTooLong) →
-        Any HasLongPart (contents_in (view_of view.new)) }
+        Any HasLongPart (fields_in (view_of view.new)) }
 {
     let replies = match run_into(session, commands, view) {
         Ok(replies) => replies,
@@ -185,7 +185,7 @@ pub fn record<D: Drain>(
     ensures written { OnOk result (
         Appends (D.contents drain.old) (D.contents drain.new) (file_of_view view.new)) }
     // What is written can be read: it consists of packets, and if all details of the view's frames had ids, so have the file's.
-    ensures packed { OnOk result (AllByRecursion IsPacked (contents_in (view_of view.new))) }
+    ensures packed { OnOk result (AllByRecursion IsPacked (fields_in (view_of view.new))) }
     ensures held_ids { OnOk result (HoldsIds (view_of view.old) (view_of view.new)) }
     ensures ids { OnOk result (ListsIds (view_of view.old) (view_of view.new)) }
     ensures failures { OnOk result (D.failures drain.new ≡ D.failures drain.old) }
@@ -198,7 +198,7 @@ pub fn record<D: Drain>(
     ensures io { (result ≡ Err FileError.Io) →
         (D.failures drain.new ≡ D.failures drain.old + 1) ⊎ TookNothing D.takes drain.new }
     ensures too_long { (result ≡ Err FileError.PartTooLong) →
-        Any HasLongPart (contents_in (view_of view.new)) }
+        Any HasLongPart (fields_in (view_of view.new)) }
 {
     match Session::new(alloc, names) {
         Ok(mut session) => record_session(&mut session, commands, view, drain),

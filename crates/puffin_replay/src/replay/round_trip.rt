@@ -8,7 +8,7 @@ ghost use Rattle.puffin_data.specs.declared.file_error.FileError.{FileError};
 ghost use Rattle.puffin_frames.specs.Packet.Writing.{HasLongPart};
 ghost use Rattle.puffin_view.specs.View.{View, empty_view};
 ghost use Rattle.puffin_view.specs.View.Known.{view_of, lacks_ids};
-ghost use Rattle.puffin_view.specs.View.File.{contents_in};
+ghost use Rattle.puffin_view.specs.View.File.{fields_in};
 ghost use Rattle.puffin_replay.specs.Promise.{IsReadOf, KeepsRun, KeepsPromise, IsUnread, IsTooLong};
 ghost use Rattle.puffin_replay.specs.inner.InMemory.{IsFileOf, IsReadFault};
 
@@ -96,9 +96,9 @@ fn limited_view(alloc: Global, limits: Limits) -> FrameView
 /// Reads the file of a view. Fails with `Memory`, or with `Refused(MissingId)` if details have no id.
 fn read_file(alloc: Global, bytes: &[u8]) -> Result<FrameView, FileError>
     ensures ok { IfOk result (λ read.
-        (v : View) → IsFileOf bytes.now v → IsReadOf (contents_in v) read) }
+        (v : View) → IsFileOf bytes.now v → IsReadOf (fields_in v) read) }
     ensures fault { IfErr result (λ e.
-        (v : View) → IsFileOf bytes.now v → IsReadFault (contents_in v) e) }
+        (v : View) → IsFileOf bytes.now v → IsReadFault (fields_in v) e) }
 {
     // For the proof alone: a law about views and their files.
     what_was_written_is_read();
@@ -110,10 +110,10 @@ fn read_file(alloc: Global, bytes: &[u8]) -> Result<FrameView, FileError>
 
 /// Writes the file of a view into memory, and reads it into another view.
 fn written_and_read(alloc: Global, view: &FrameView) -> Result<FrameView, FileError>
-    ensures ok { IfOk result (λ read. IsReadOf (contents_in (view_of view.now)) read) }
+    ensures ok { IfOk result (λ read. IsReadOf (fields_in (view_of view.now)) read) }
     ensures fault { IfErr result (λ e.
-        IsReadFault (contents_in (view_of view.now)) e
-        ⊎ ((e ≡ FileError.PartTooLong) × Any HasLongPart (contents_in (view_of view.now)))) }
+        IsReadFault (fields_in (view_of view.now)) e
+        ⊎ ((e ≡ FileError.PartTooLong) × Any HasLongPart (fields_in (view_of view.now)))) }
 {
     let mut file = MemoryFile {
         bytes: Vec::new(alloc),

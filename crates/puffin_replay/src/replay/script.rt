@@ -135,7 +135,8 @@ impl<'s> Threads<'s> {
         ensures { IfOk result (λ command.
             IsNumbered self.old →
             Follows self.old self.new (Some command)
-            (registers thread.now (option_map (λ n. n.now) name.entry) function.now file.now line)) }
+            (registers thread.now (option_map (λ n. n.now) name.entry)
+            function.now file.now line)) }
     {
         let alloc = self.alloc;
         Ok(Command::Register {
@@ -204,7 +205,7 @@ fn is_skipped(line: &[u8]) -> bool
 }
 
 /// Parses a line. Returns `None` if it is skipped, and its number as the fault if it is invalid.
-fn told(number: u64, line: &[u8]) -> Result<Option<Statement<'_>>, ToolFault>
+fn parse_line(number: u64, line: &[u8]) -> Result<Option<Statement<'_>>, ToolFault>
     ensures { MatchResult result
         (λ statement. told_by number line.now ≡ Ok (option_map meaning_of statement))
         (λ fault. (fault ≡ ToolFault.Line number) × (told_by number line.now ≡ Err number)) }
@@ -285,7 +286,7 @@ fn script_of(alloc: Global, bytes: &[u8]) -> Result<Script, ToolFault>
     let mut lines = Lines { left: Some(bytes) };
     'lines: while let Some(line) = lines.next() {
         number += 1;
-        let statement = match told(number, line) {
+        let statement = match parse_line(number, line) {
             Ok(statement) => statement,
             Err(fault) => return Err(fault),
         };

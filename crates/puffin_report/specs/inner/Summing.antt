@@ -3,11 +3,11 @@ use Rattle.std.specs.Prelude.{◌≡◌, ◌<◌, ◌≤◌, ◌-◌, ◌^◌, L
 use Rattle.std.specs.List.{flat_map}
 use Rattle.puffin_data.specs.declared.error.Error.{Error}
 use Rattle.puffin_data.specs.declared.error.Error.TheVariants.{Memory}
-use Rattle.puffin_threads.specs.Thread.Info.{Info, info_of}
+use Rattle.puffin_threads.specs.Thread.ThreadKey.{ThreadKey, key_of}
 use Rattle.puffin_threads.specs.Details.Collection.{no_details, with_all_details}
-use Rattle.puffin_frames.specs.Packet.Stored.{Said, Stored}
+use Rattle.puffin_frames.specs.Packet.Stored.{PacketFields, Stored}
 use Rattle.puffin_view.specs.View.{last_index}
-use Rattle.puffin_view.specs.View.ViewedFrames.{contents_of, rising_end}
+use Rattle.puffin_view.specs.View.ViewedFrames.{fields_of, rising_end}
 use Rattle.puffin_view.specs.View.File.{frame_stored, details_stored}
 use Rattle.puffin_merge.specs.declared.merge.merger.Merger.{Merger}
 use Rattle.puffin_merge.specs.Merge.FrameBytes.{FrameBytes}
@@ -19,17 +19,17 @@ use Rattle.puffin_report.specs.declared.summing.Summing.{Summing}
 use Rattle.puffin_report.specs.Summary.{all_bytes_in}
 
 -- what frames say that were read
-abbrev pub said_by : List Stored → List Said
-said_by stored = map contents_of (map frame_stored stored)
+abbrev pub said_by : List Stored → List PacketFields
+said_by stored = map fields_of (map frame_stored stored)
 
 -- those since the last one whose index isn't above that of the frame before it
-abbrev pub kept_of : List Stored → List Said
+abbrev pub kept_of : List Stored → List PacketFields
 kept_of stored = rising_end (said_by stored)
 
 -- ---- how far merging came with the frames that are kept
 
 -- all of them were unpacked and added
-abbrev pub AreAdded : Info → List Said → Merger → Type 0
+abbrev pub AreAdded : ThreadKey → List PacketFields → Merger → Type 0
 AreAdded info kept m =
     (streams : List FrameBytes)
     × (all_bytes_in info kept ≡ Ok streams)
@@ -37,7 +37,7 @@ AreAdded info kept m =
     × (merged_info m ≡ info)
 
 -- all of them were unpacked, and merging them is refused so, whatever frames follow
-abbrev pub AreRefused : Info → List Said → Error → Type 0
+abbrev pub AreRefused : ThreadKey → List PacketFields → Error → Type 0
 AreRefused info kept cause =
     (streams : List FrameBytes)
     × (all_bytes_in info kept ≡ Ok streams)
@@ -45,26 +45,26 @@ AreRefused info kept cause =
     × ((later : List FrameBytes) → IsMergeRefusal (streams ++ later) cause)
 
 -- by which of the two it came, or the fault of the first that isn't unpacked
-abbrev pub IsProgress : Info → List Said → Progress → Type 0
+abbrev pub IsProgress : ThreadKey → List PacketFields → Progress → Type 0
 IsProgress info kept (progress.Merged m) = AreAdded info kept m
 IsProgress info kept (progress.Refused cause) = AreRefused info kept cause
 IsProgress info kept (progress.NotUnpacked fault) = all_bytes_in info kept ≡ Err fault
 
 -- that of some frames, and one more can be added
 abbrev pub CanGoOn : Progress → Type 0
-CanGoOn p = (info : Info) × (kept : List Said) × IsProgress info kept p × (length kept < 2 ^ 64 - 1)
+CanGoOn p = (info : ThreadKey) × (kept : List PacketFields) × IsProgress info kept p × (length kept < 2 ^ 64 - 1)
 
 -- that of the frames which, with one frame more, are those that are kept of all
-pub record IsKeptWith (info : Info) (cs : List Said) (c : Said) (p : Progress) : Type 0 where
-  pub before : List Said
+pub record IsKeptWith (info : ThreadKey) (cs : List PacketFields) (c : PacketFields) (p : Progress) : Type 0 where
+  pub before : List PacketFields
   pub fewer : length before ≤ length cs
   pub progress : IsProgress info before p
   pub kept : rising_end (cs ++ c ∷ []) ≡ before ++ c ∷ []
 
 -- ---- how far summing up came with the frames that were read
 
-pub record HasSummed (info : Info) (stored : List Stored) (s : Summing) : Type 0 where
-  pub thread : info_of s.thread.now ≡ info
+pub record HasSummed (info : ThreadKey) (stored : List Stored) (s : Summing) : Type 0 where
+  pub thread : key_of s.thread.now ≡ info
   pub last : s.last_index ≡ last_index (said_by stored)
   pub scopes : s.scopes ≡ with_all_details no_details (flat_map details_stored stored)
   pub progress : IsProgress info (kept_of stored) s.progress
@@ -72,4 +72,4 @@ pub record HasSummed (info : Info) (stored : List Stored) (s : Summing) : Type 0
 -- Some frames were read, and one more can be.
 abbrev pub CanTake : Summing → Type 0
 CanTake s =
-    (info : Info) × (stored : List Stored) × HasSummed info stored s × (length stored < 2 ^ 64 - 1)
+    (info : ThreadKey) × (stored : List Stored) × HasSummed info stored s × (length stored < 2 ^ 64 - 1)

@@ -2,13 +2,13 @@
 use Rattle.std.specs.Prelude.{ℕ, ◌≡◌, ◌≢◌, ℤ, pos, ◌≤ℤ◌, List, Option, Some, None, Result, Ok, Err, slice_get}
 use Rattle.puffin_data.specs.declared.error.Error.{Error}
 use Rattle.puffin_data.specs.declared.error.Error.TheVariants.{MismatchedEnd}
-use Rattle.puffin_data.specs.Honesty.{Recorded}
+use Rattle.puffin_data.specs.Honesty.{StreamFacts}
 use Rattle.puffin_threads.specs.declared.thread_profiler.profiler.ThreadProfiler.{ThreadProfiler}
 use Rattle.puffin_threads.specs.declared.thread_profiler.reporter.Closed.{Closed}
 use Rattle.puffin_threads.specs.Thread.ThreadProfiler.{thread_of, clock_of}
 use Rattle.puffin_threads.specs.Thread.Calls.{after_end, offsets_of}
 use Rattle.puffin_threads.specs.Thread.Closing.{Closes}
-use Rattle.puffin_threads.specs.Thread.Info.{Info}
+use Rattle.puffin_threads.specs.Thread.ThreadKey.{ThreadKey}
 use Rattle.puffin_threads.specs.Details.{Details}
 
 -- the offset of the innermost open scope's size
@@ -17,8 +17,8 @@ innermost_of profiler = slice_get (offsets_of (thread_of profiler)) 0
 
 -- the scope at this offset was ended, as the profiler's own call does
 pub record IsEnded {C R : Type 0} (answers : C → ℤ → C → Type 0)
-    (accepts : R → Info → List Details → Recorded → R → Type 0)
-    (refuses : R → Info → List Details → Recorded → Error → R → Type 0)
+    (accepts : R → ThreadKey → List Details → StreamFacts → R → Type 0)
+    (refuses : R → ThreadKey → List Details → StreamFacts → Error → R → Type 0)
     (offset : ℕ) (old new : ThreadProfiler C) (before after : R) (closed : Closed) : Type 0 where
   pub innermost : innermost_of old ≡ Some offset
   pub at : ℤ
@@ -36,8 +36,8 @@ pub record IsMismatched {C R : Type 0} (offset : ℕ) (old new : ThreadProfiler 
 
 -- What `end` leaves, if the guard has a scope at this offset or none.
 abbrev pub Ends : {C R : Type 0} → (C → ℤ → C → Type 0) →
-    (R → Info → List Details → Recorded → R → Type 0) →
-    (R → Info → List Details → Recorded → Error → R → Type 0) → Option ℕ → ThreadProfiler C →
+    (R → ThreadKey → List Details → StreamFacts → R → Type 0) →
+    (R → ThreadKey → List Details → StreamFacts → Error → R → Type 0) → Option ℕ → ThreadProfiler C →
     ThreadProfiler C → R → R → Result (Option Closed) Error → Type 0
 Ends answers accepts refuses None old new before after result =
     (result ≡ Ok None) × (new ≡ old) × (after ≡ before)

@@ -3,8 +3,8 @@ use Rattle.std.specs.Prelude.{ℕ, Option, Some, None}
 use Rattle.std.specs.Borrow.{GName}
 use Rattle.puffin_data.specs.declared.error.Error.{Error}
 use Rattle.puffin_threads.specs.declared.thread_profiler.profiler.ThreadProfiler.{ThreadProfiler}
-use Rattle.puffin_scopes.specs.declared.profiler_scope.Standing.{Standing}
-use Rattle.puffin_scopes.specs.declared.profiler_scope.Standing.TheVariants.{On, Off, Refused}
+use Rattle.puffin_scopes.specs.declared.profiler_scope.GuardState.{GuardState}
+use Rattle.puffin_scopes.specs.declared.profiler_scope.GuardState.TheVariants.{On, Off, Refused}
 use Rattle.puffin_scopes.specs.declared.profiler_scope.ProfilerScope.{ProfilerScope}
 
 -- the borrowed profiler, as it is now
@@ -15,12 +15,12 @@ profiler_of scope = scope.profiler.now
 abbrev pub lender_of : {C : Type 0} → ProfilerScope C → GName
 lender_of scope = scope.profiler.ghost_name
 
-abbrev pub offset_in : Standing → Option ℕ
+abbrev pub offset_in : GuardState → Option ℕ
 offset_in (On offset) = Some offset
 offset_in Off = None
 offset_in (Refused e) = None
 
-abbrev pub refusal_in : Standing → Option Error
+abbrev pub refusal_in : GuardState → Option Error
 refusal_in (On offset) = None
 refusal_in Off = None
 refusal_in (Refused e) = Some e

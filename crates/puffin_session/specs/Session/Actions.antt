@@ -3,7 +3,7 @@ use Rattle.std.specs.Prelude.{ℕ, List, [], ◌∷◌, map, Option, Some, is_so
 use Rattle.std.specs.String.{string_bytes}
 use Rattle.std.specs.Option.{option_map}
 use Rattle.std.specs.declared.string.String.{String}
-use Rattle.puffin_threads.specs.Thread.Info.{info_of}
+use Rattle.puffin_threads.specs.Thread.ThreadKey.{key_of}
 use Rattle.puffin_threads.specs.declared.thread_profiler.reporter.Closed.{Closed}
 use Rattle.puffin_threads.specs.declared.thread_profiler.reporter.Closed.TheVariants as closed
 use Rattle.puffin_threads.specs.Details.{Details, default_details, with_id}
@@ -46,7 +46,7 @@ action_of (Register thread name function file line) (reply.Registered id) learnt
 action_of (RegisterUser names) (reply.RegisteredUser ids) learnt = adds learnt
 action_of (RegisterUser names) (reply.Refused e) learnt = adds learnt
 action_of (ReportUser info stream) reply.Reported learnt =
-    hands (info_of info) (word_in stream.form stream.bytes)
+    hands (key_of info) (word_in stream.form stream.bytes)
 action_of Snapshot reply.Snapshot learnt = wants
 action_of NewFrame (reply.Frame emitted) learnt = frames (is_some emitted.frame)
 action_of NewFrame (reply.Refused e) learnt = learns learnt

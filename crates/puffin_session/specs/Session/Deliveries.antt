@@ -4,7 +4,7 @@ use Rattle.std.specs.Option.{option_or}
 use Rattle.puffin_data.specs.declared.data.form.Form.{Form}
 use Rattle.puffin_data.specs.Text.{cut_text}
 use Rattle.puffin_data.specs.Forest.Tour.{Event, Open, Close}
-use Rattle.puffin_threads.specs.Thread.Info.{Info}
+use Rattle.puffin_threads.specs.Thread.ThreadKey.{ThreadKey}
 use Rattle.puffin_session.specs.Session.History.{Word, Opening, Mark, begun, ended, Call, Action, calls, hands, frames, thread_at, calls_of, greatest, latest_of, since_last}
 
 -- an event, and whether a report was accepted after it
@@ -52,12 +52,12 @@ module _ (o : Opening) where
   word_with t done more =
       record { form = (thread_at o t).form; events = unreported t done ++ more }
 
-  abbrev pub info_under : ℕ → List Action → Info
-  info_under t done = record { start = first_start_of t done; name = (thread_at o t).name }
+  abbrev pub key_under : ℕ → List Action → ThreadKey
+  key_under t done = record { start = first_start_of t done; name = (thread_at o t).name }
 
 -- a word handed over under an info, or a frame that took all words handed over before it
 pub data Delivery : Type 0 where
-  under : Info → Word → Delivery
+  under : ThreadKey → Word → Delivery
   all_taken : Delivery
 
 module _ (o : Opening) where
@@ -67,7 +67,7 @@ module _ (o : Opening) where
     | begun id text ↦ []
     | ended reported ↦
         if reported
-        then under (info_under o t done) (
+        then under (key_under o t done) (
         word_with o t done (Close (latest_of o t (done ++ (calls t c ∷ []))) ∷ [])) ∷ []
         else []
   ]

@@ -5,7 +5,7 @@ use Rattle.std.specs.List.{count_by, sum_by}
 use Rattle.puffin_data.specs.declared.data.form.Form.TheVariants.{Short}
 use Rattle.puffin_data.specs.Forest.Tour.{Event}
 use Rattle.puffin_data.specs.Forest.Words.{word_size, num_begun}
-use Rattle.puffin_threads.specs.Thread.Info.{Info, same_info}
+use Rattle.puffin_threads.specs.Thread.ThreadKey.{ThreadKey, has_same_key}
 use Rattle.puffin_session.specs.Session.History.{Word, Opening, Action, frames, since_last}
 use Rattle.puffin_session.specs.Session.Deliveries.{Delivery, under, all_taken, deliveries}
 
@@ -34,22 +34,22 @@ abbrev pub AreUnlikeWords : Word → Word → Type 0
 AreUnlikeWords a b = (0 < length a.events) × (0 < length b.events) × (a.form ≢ b.form)
 
 -- what was handed over under an info, with one delivery more
-abbrev pub with_delivery : Info → Option Word → Delivery → Option Word
+abbrev pub with_delivery : ThreadKey → Option Word → Delivery → Option Word
 with_delivery i sofar (under j word) =
-    if same_info i j then Some (joined_word (unwrap_or sofar no_word) word) else sofar
+    if has_same_key i j then Some (joined_word (unwrap_or sofar no_word) word) else sofar
 with_delivery i sofar all_taken = sofar
 
 -- what was handed over under an info: nothing, or these words joined
-abbrev pub total_under : List Delivery → Info → Option Word
+abbrev pub total_under : List Delivery → ThreadKey → Option Word
 total_under ds i = fold (with_delivery i) None ds
 
 -- what was handed over under an info, and this word, have events in unlike forms
-abbrev pub IsUnlikeDue : List Delivery → Info → Word → Type 0
+abbrev pub IsUnlikeDue : List Delivery → ThreadKey → Word → Type 0
 IsUnlikeDue ds i word = AreUnlikeWords (unwrap_or (total_under ds i) no_word) word
 
 -- no scope is due, though there may be infos
 abbrev pub NoneDue : List Delivery → Type 0
-NoneDue ds = (i : Info) (word : Word) → total_under ds i ≡ Some word → word.events ≡ []
+NoneDue ds = (i : ThreadKey) (word : Word) → total_under ds i ≡ Some word → word.events ≡ []
 
 -- ---- in all
 

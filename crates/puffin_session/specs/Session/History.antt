@@ -5,7 +5,7 @@ use Rattle.std.specs.Int.{int_max}
 use Rattle.puffin_data.specs.declared.data.form.Form.{Form}
 use Rattle.puffin_data.specs.declared.data.form.Form.TheVariants.{Short}
 use Rattle.puffin_data.specs.Forest.Tour.{Event}
-use Rattle.puffin_threads.specs.Thread.Info.{Info}
+use Rattle.puffin_threads.specs.Thread.ThreadKey.{ThreadKey}
 use Rattle.puffin_threads.specs.Thread.Calls.{Thread, new_thread}
 use Rattle.puffin_threads.specs.Details.{Details}
 use Rattle.puffin_threads.specs.Details.Collection.{Collection}
@@ -18,7 +18,7 @@ pub record Word : Type 0 where
 -- The state before: the threads; what is due, words under an info in the order in which they were handed over; the next frame's index; the number of scopes ever reported; the known details, those new in the next frame, in order, and whether the next frame is to list all.
 pub record Opening : Type 0 where
   pub threads : List Thread
-  pub due : List (Info × Word)
+  pub due : List (ThreadKey × Word)
   pub index : ℕ
   pub reported : ℕ
   pub collection : Collection
@@ -38,7 +38,7 @@ pub record Call : Type 0 where
 -- What a command with its reply did. A refused one did nothing, but some details may have become known.
 pub data Action : Type 0 where
   calls : (thread : ℕ) → Call → Action
-  hands : Info → Word → Action
+  hands : ThreadKey → Word → Action
   -- the frame index rose, with a frame or without
   frames : (emitted : Bool) → Action
   -- a thread registered details

@@ -12,8 +12,8 @@ use Rattle.puffin_data.specs.Forest.Tour.{Event, tour}
 use Rattle.puffin_data.specs.Walk.{IsFault}
 use Rattle.puffin_data.specs.Forest.Words.{word_size, num_begun, open_after, least_open, greatest_close}
 use Rattle.std.specs.Int.{int_max}
-use Rattle.puffin_threads.specs.Thread.Calls.{after_end, info_of_thread}
-use Rattle.puffin_threads.specs.Thread.Info.{Info, info_of}
+use Rattle.puffin_threads.specs.Thread.Calls.{after_end, key_of_thread}
+use Rattle.puffin_threads.specs.Thread.ThreadKey.{ThreadKey, key_of}
 use Rattle.puffin_frames.specs.Frame.Sums.{meta_of}
 use Rattle.puffin_frames.specs.Frame.Contents.{Streams, holding_of, frame_meta}
 use Rattle.puffin_frames.specs.declared.frame_data.frame.FrameData.{FrameData}
@@ -61,8 +61,8 @@ module _ (o : Opening) (done : List Action) where
   num_open t = open_after 0 (unreported o t done)
 
   -- the info and the word of a thread's report, if its last open scope ends at this time
-  abbrev pub ending_info : ℕ → Info
-  ending_info t = info_of_thread (thread_after o done t)
+  abbrev pub ending_key : ℕ → ThreadKey
+  ending_key t = key_of_thread (thread_after o done t)
 
   abbrev pub ending_word : ℕ → ℤ → Word
   ending_word t at = word_of_thread (after_end (thread_after o done t) (int_max (pos 0) at))
@@ -82,11 +82,11 @@ module _ (o : Opening) (done : List Action) where
   DueIsTooLong word = IsTooLong (least_open (due_with word), greatest_close (due_with word))
 
   -- a report of this word under this info may be accepted
-  abbrev pub MayReport : Info → Word → Type 0
+  abbrev pub MayReport : ThreadKey → Word → Type 0
   MayReport i word = (¬ IsUnlikeDue (due o done) i word) × DueFits word × ¬ DueIsTooLong word
 
   -- why a report of this word under this info is refused: the first cause that applies
-  abbrev pub IsDueRefusal : Info → Word → Error → Type 0
+  abbrev pub IsDueRefusal : ThreadKey → Word → Error → Type 0
   IsDueRefusal i word e =
       ((e ≡ UnlikeForms) × IsUnlikeDue (due o done) i word)
       ⊎ ((e ≡ TooLarge) × (¬ IsUnlikeDue (due o done) i word) × ¬ DueFits word)
@@ -97,7 +97,7 @@ module _ (o : Opening) (done : List Action) where
       ⊎ ((e ≡ Memory) × MayReport i word)
 
   -- what ending the innermost of `depth` open scopes leads to, with the report that it may make
-  abbrev pub MayClose : ℕ → Info → Word → Closed → Type 0
+  abbrev pub MayClose : ℕ → ThreadKey → Word → Closed → Type 0
   MayClose depth i word closed.Inner = 1 < depth
   MayClose depth i word closed.Reported = (depth ≡ 1) × MayReport i word
   MayClose depth i word (closed.Kept e) = (depth ≡ 1) × IsDueRefusal i word e
@@ -117,7 +117,7 @@ module _ (o : Opening) (done : List Action) where
   MayReply (Begin t at id text) (reply.Refused e) learnt =
       IsNoThread t e ⊎ ((e ≡ Memory) × HasThread t)
   MayReply (End t at back) (reply.Ended closed) learnt =
-      HasThread t × (back ≡ 0) × MayClose (num_open t) (ending_info t) (ending_word t at) closed
+      HasThread t × (back ≡ 0) × MayClose (num_open t) (ending_key t) (ending_word t at) closed
   MayReply (End t at back) (reply.Refused e) learnt =
       IsNoThread t e ⊎ ((e ≡ MismatchedEnd) × HasThread t × ((0 < back) ⊎ (num_open t ≡ 0)))
   MayReply (Register t name function file line) (reply.Registered id) learnt = HasThread t
@@ -131,12 +131,12 @@ module _ (o : Opening) (done : List Action) where
       (f : Forest)
       × Spells stream.form stream.bytes f
       × (events_in stream.form stream.bytes ≡ tour f)
-      × MayReport (info_of info) (record { form = stream.form; events = tour f })
+      × MayReport (key_of info) (record { form = stream.form; events = tour f })
   MayReply (ReportUser info stream) (reply.Refused e) learnt =
       (e ≡ Memory)
       ⊎ IsFault stream.form stream.bytes e
       ⊎ ((f : Forest) × Spells stream.form stream.bytes f
-      × IsDueRefusal (info_of info) (record { form = stream.form; events = tour f }) e)
+      × IsDueRefusal (key_of info) (record { form = stream.form; events = tour f }) e)
   MayReply Snapshot reply.Snapshot learnt = Unit {0}
   MayReply NewFrame (reply.Frame emitted) learnt =
       (emitted.refused ≡ 0) × (index_after o done ≢ 2 ^ 64 - 1) × FrameIsDue emitted

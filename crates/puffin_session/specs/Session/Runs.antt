@@ -5,7 +5,7 @@ use Rattle.std.specs.declared.sync.Arc.{Arc}
 use Rattle.std.specs.declared.alloc.Global.{Global}
 use Rattle.puffin_data.specs.declared.data.form.Form.{Form}
 use Rattle.puffin_frames.specs.declared.frame_data.frame.FrameData.{FrameData}
-use Rattle.puffin_frames.specs.Frame.Contents.{frame_says}
+use Rattle.puffin_frames.specs.Frame.Contents.{packet_fields}
 use Rattle.puffin_threads.specs.Details.{Details, AllHaveIds}
 use Rattle.puffin_session.specs.declared.command.Command.{Command}
 use Rattle.puffin_session.specs.declared.command.Reply.{Reply}
@@ -40,7 +40,7 @@ AreReplies threads commands replies end = Records (new_session threads) end comm
 -- the details that a frame lists, if there is one
 abbrev pub details_told : Option (Arc FrameData Global) → List Details
 details_told None = []
-details_told (Some frame) = (frame_says (arc_value frame)).details
+details_told (Some frame) = (packet_fields (arc_value frame)).details
 
 abbrev pub details_of_reply : Reply → List Details
 details_of_reply (reply.Frame emitted) = details_told emitted.frame

@@ -18,7 +18,7 @@ use Rattle.puffin_data.proofs.lemmas.Opening.{open_size}
 use Rattle.puffin_data.proofs.lemmas.Lengths.{length_again}
 use Rattle.puffin_data.specs.declared.error.Error.{Error}
 use Rattle.puffin_threads.specs.Thread.Events.{open_in, events_from, events_in}
-use Rattle.puffin_threads.specs.inner.ThreadRecording.{StartedBy}
+use Rattle.puffin_threads.specs.inner.StoredThread.{StartedBy}
 
 test_eq : (a b : ℕ) → a ≡ b → eqb a b ≡ true
 test_eq a b h = grind arith

@@ -7,7 +7,7 @@ use Rattle.puffin_data.specs.declared.error.Error.TheVariants.{IdsExhausted, Mem
 use Rattle.puffin_data.specs.declared.data.form.Form.{Form}
 use Rattle.puffin_data.specs.Forest.Spelling.{size_offset, head_size, end_size}
 use Rattle.puffin_data.specs.Forest.Tour.{Event, Open, Close}
-use Rattle.puffin_threads.specs.Thread.Info.{Info}
+use Rattle.puffin_threads.specs.Thread.ThreadKey.{ThreadKey}
 use Rattle.puffin_threads.specs.Details.{Details, with_id}
 
 -- a thread: its name and form, the start of its first scope, its greatest time so far, and its events and registered details that no accepted report has handed over
@@ -63,8 +63,8 @@ abbrev pub after_handing : Thread → Thread
 after_handing thread = record thread { word = []; details = [] }
 
 -- the info under which a report hands scopes over
-abbrev pub info_of_thread : Thread → Info
-info_of_thread thread = record { start = thread.first_start; name = thread.name }
+abbrev pub key_of_thread : Thread → ThreadKey
+key_of_thread thread = record { start = thread.first_start; name = thread.name }
 
 -- the number of bytes so far, and the offsets of the open scopes' sizes, the innermost first
 abbrev pub opened_after : Form → ℕ × List ℕ → Event → ℕ × List ℕ

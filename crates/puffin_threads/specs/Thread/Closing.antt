@@ -4,32 +4,32 @@ use Rattle.puffin_data.specs.declared.error.Error.{Error}
 use Rattle.puffin_data.specs.declared.error.Error.TheVariants.{Memory, ScopesOpen}
 use Rattle.puffin_data.specs.Forest.{Forest}
 use Rattle.puffin_data.specs.Forest.Tour.{tour}
-use Rattle.puffin_data.specs.Honesty.{Recorded, IsHonestRecord}
+use Rattle.puffin_data.specs.Honesty.{StreamFacts, AreHonestFacts}
 use Rattle.puffin_data.specs.Forest.Words.{open_after}
 use Rattle.puffin_threads.specs.declared.thread_profiler.reporter.Closed.{Closed}
 use Rattle.puffin_threads.specs.declared.thread_profiler.reporter.Closed.TheVariants.{Inner, Reported, Kept}
-use Rattle.puffin_threads.specs.Thread.Info.{Info}
+use Rattle.puffin_threads.specs.Thread.ThreadKey.{ThreadKey}
 use Rattle.puffin_threads.specs.Details.{Details}
-use Rattle.puffin_threads.specs.Thread.Calls.{Thread, after_end, after_handing, info_of_thread}
+use Rattle.puffin_threads.specs.Thread.Calls.{Thread, after_end, after_handing, key_of_thread}
 
 -- an honest record, in the thread's form, of scopes whose events are all that the thread has to report
-pub record IsReportOf (thread : Thread) (r : Recorded) : Type 0 where
+pub record IsReportOf (thread : Thread) (r : StreamFacts) : Type 0 where
   pub forest : Forest
   pub form : r.form ≡ thread.form
   pub word : thread.word ≡ tour forest
-  pub honest : IsHonestRecord r forest
+  pub honest : AreHonestFacts r forest
 
 -- such a record went to the reporter, under the thread's info and with its details, with this outcome
-abbrev pub GoesTo : {R : Type 0} → (R → Info → List Details → Recorded → R → Type 0) → Thread → R →
+abbrev pub GoesTo : {R : Type 0} → (R → ThreadKey → List Details → StreamFacts → R → Type 0) → Thread → R →
     R → Type 0
 GoesTo answered thread before after =
-    (r : Recorded)
+    (r : StreamFacts)
     × IsReportOf thread r
-    × answered before (info_of_thread thread) thread.details r after
+    × answered before (key_of_thread thread) thread.details r after
 
 -- Ends the innermost scope at a time. While others are open, the reporter doesn't change. After the last one, all events go to the reporter, and stay with the thread if it refuses them.
-abbrev pub Closes : {R : Type 0} → (R → Info → List Details → Recorded → R → Type 0) →
-    (R → Info → List Details → Recorded → Error → R → Type 0) → Thread → Thread → ℤ → R → R →
+abbrev pub Closes : {R : Type 0} → (R → ThreadKey → List Details → StreamFacts → R → Type 0) →
+    (R → ThreadKey → List Details → StreamFacts → Error → R → Type 0) → Thread → Thread → ℤ → R → R →
     Closed → Type 0
 Closes accepts refuses old new at before after Inner =
     (1 < open_after 0 old.word) × (new ≡ after_end old at) × (after ≡ before)
@@ -48,8 +48,8 @@ pub record Waits (thread : Thread) : Type 0 where
   pub some : thread.word ≢ []
 
 -- Reports what waits. A refusal doesn't change the thread: a scope is open, the name couldn't be copied, or the reporter refused.
-abbrev pub Reports : {R : Type 0} → (R → Info → List Details → Recorded → R → Type 0) →
-    (R → Info → List Details → Recorded → Error → R → Type 0) → Thread → Thread → R → R →
+abbrev pub Reports : {R : Type 0} → (R → ThreadKey → List Details → StreamFacts → R → Type 0) →
+    (R → ThreadKey → List Details → StreamFacts → Error → R → Type 0) → Thread → Thread → R → R →
     Result Bool Error → Type 0
 Reports accepts refuses old new before after (Ok false) =
     (old.word ≡ []) × (new ≡ old) × (after ≡ before)

@@ -5,7 +5,7 @@ use Rattle.puffin_threads.specs.Thread.Calls.{Thread}
 
 -- what its thread has recorded
 abbrev pub thread_of : {C : Type 0} → ThreadProfiler C → Thread
-thread_of profiler = profiler.recording
+thread_of profiler = profiler.state
 
 -- its clock
 abbrev pub clock_of : {C : Type 0} → ThreadProfiler C → C

@@ -16,7 +16,7 @@ pub trait AnyThread {
     ghost use Rattle.puffin_threads.specs.Thread.Calls.{Thread};
 
     /// What the thread has recorded.
-    ghost recorded: { Self → Thread };
+    ghost state: { Self → Thread };
 
     /// Whether the thread's clock, read in the first state, may return this time and end in the second state.
     ghost answers: { Self → ℤ → Self → Type 0 };
@@ -24,28 +24,28 @@ pub trait AnyThread {
     /// Ends the innermost open scope, as [`ThreadProfiler::end_scope`] does.
     fn end_scope<R: Reporter>(&mut self, offset: usize, reporter: &mut R) -> Result<Closed>
         ensures innermost { OnOk result (
-            slice_get (offsets_of (recorded self.old)) 0 ≡ Some offset) }
+            slice_get (offsets_of (state self.old)) 0 ≡ Some offset) }
         ensures mismatched { IfErr result (λ e.
             (e ≡ Error.MismatchedEnd)
-            × (slice_get (offsets_of (recorded self.old)) 0 ≢ Some offset)) }
+            × (slice_get (offsets_of (state self.old)) 0 ≢ Some offset)) }
         ensures unchanged { OnErr result ((self.new ≡ self.old) × (reporter.new ≡ reporter.old)) }
         ensures closed { IfOk result (λ closed.
             (at : ℤ)
             × answers self.old at self.new
             × (pos 0 ≤ℤ at)
-            × Closes R.accepts R.refuses (recorded self.old) (recorded self.new) at reporter.old
+            × Closes R.accepts R.refuses (state self.old) (state self.new) at reporter.old
             reporter.new closed) };
 
     /// Reports the closed scopes that wait, as [`ThreadProfiler::report_closed`] does.
     fn report_closed<R: Reporter>(&mut self, reporter: &mut R) -> Result<bool>
-        ensures reports { Reports R.accepts R.refuses (recorded self.old) (recorded self.new)
+        ensures reports { Reports R.accepts R.refuses (state self.old) (state self.new)
             reporter.old reporter.new result };
 }
 
 impl<C: NsSource> AnyThread for ThreadProfiler<C> {
     ghost use Rattle.puffin_threads.specs.Thread.ThreadProfiler.{thread_of, clock_of};
 
-    ghost recorded = { λ profiler. thread_of profiler };
+    ghost state = { λ profiler. thread_of profiler };
 
     ghost answers = { λ old at new. C.answers (clock_of old) at (clock_of new) };
 

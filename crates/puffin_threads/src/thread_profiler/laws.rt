@@ -5,7 +5,7 @@ ghost use Rattle.std.specs.Prelude.{ℕ, ℤ, List, ◌≡◌, ◌+◌, ◌<◌,
 ghost use Rattle.puffin_data.specs.declared.data.form.Form.{Form};
 ghost use Rattle.puffin_data.specs.Forest.Spelling.{size_offset};
 ghost use Rattle.puffin_data.specs.Forest.{Forest};
-ghost use Rattle.puffin_data.specs.Honesty.{Recorded, IsHonestRecord};
+ghost use Rattle.puffin_data.specs.Honesty.{StreamFacts, AreHonestFacts};
 ghost use Rattle.puffin_data.specs.Forest.Tour.{Event, Open, Close};
 ghost use Rattle.puffin_data.specs.Forest.Words.{word_size, open_after};
 ghost use Rattle.puffin_threads.specs.Thread.Calls.{open_offsets};
@@ -13,7 +13,7 @@ ghost use Rattle.puffin_threads.specs.Thread.Calls.{open_offsets};
 /// Honest infos of the same bytes in the same form are equal. So what a thread reports is what a successful
 /// [`puffin_data::data::StreamInfo::parse`] of the bytes returns.
 pub fn one_record()
-    ensures { (a b : Recorded) (f g : Forest) → IsHonestRecord a f → IsHonestRecord b g →
+    ensures { (a b : StreamFacts) (f g : Forest) → AreHonestFacts a f → AreHonestFacts b g →
         length a.bytes < 2 ^ 63 → a.form ≡ b.form → a.bytes ≡ b.bytes → a ≡ b }
 {}
 

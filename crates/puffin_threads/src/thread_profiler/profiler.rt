@@ -1,7 +1,7 @@
 use crate::scope_details::{ScopeDetails, ScopeIds};
 use crate::thread_profiler::clock::NsSource;
-use crate::thread_profiler::recording::Recording;
 use crate::thread_profiler::reporter::{Closed, Reporter};
+use crate::thread_profiler::thread_state::ThreadState;
 use puffin_data::data::{Form, ScopeId};
 use puffin_data::{Error, NanoSecond, Result};
 use std::alloc::Global;
@@ -13,7 +13,7 @@ use std::borrow::CowStr;
 /// Its times never go back: a call uses the greatest time that the clock has returned so far.
 #[derive(Drop)]
 pub struct ThreadProfiler<C> {
-    recording: Recording,
+    state: ThreadState,
     clock: C,
     alloc: Global,
 }
@@ -53,7 +53,7 @@ impl<C: NsSource> ThreadProfiler<C> {
         ensures allocator { allocator_of result ≡ alloc }
     {
         ThreadProfiler {
-            recording: Recording::new(alloc, name, form),
+            state: ThreadState::new(alloc, name, form),
             clock,
             alloc,
         }
@@ -79,7 +79,7 @@ impl<C: NsSource> ThreadProfiler<C> {
     pub fn depth(&self) -> usize
         ensures { result ≡ open_after 0 (thread_of self.now).word }
     {
-        self.recording.depth()
+        self.state.depth()
     }
 
     /// Begins a scope and returns its offset, which [`ThreadProfiler::end_scope`] takes. The text is cut to what the form
@@ -104,7 +104,7 @@ impl<C: NsSource> ThreadProfiler<C> {
         ensures unchanged { OnErr result (self.new ≡ self.old) }
         ensures memory { IfErr result (λ e. e ≡ Error.Memory) }
     {
-        self.recording.begin_scope(&mut self.clock, id, text)
+        self.state.begin_scope(&mut self.clock, id, text)
     }
 
     /// Ends the innermost open scope, which has to have this offset. If it was the last open one, hands all scopes that have
@@ -132,10 +132,10 @@ impl<C: NsSource> ThreadProfiler<C> {
             reporter.old reporter.new closed) }
     {
         let now_ns = self.time_of_end(offset)?;
-        let Some(name) = self.recording.close(now_ns) else {
+        let Some(name) = self.state.close(now_ns) else {
             return Ok(Closed::Inner);
         };
-        match self.recording.hand_over(name, reporter) {
+        match self.state.hand_over(name, reporter) {
             Ok(()) => Ok(Closed::Reported),
             Err(e) => Ok(Closed::Kept(e)),
         }
@@ -161,7 +161,7 @@ impl<C: NsSource> ThreadProfiler<C> {
             × (thread_of self.new ≡ after_end (thread_of self.old) at)) }
     {
         let now_ns = self.time_of_end(offset)?;
-        self.recording.finish(now_ns);
+        self.state.finish(now_ns);
         Ok(())
     }
 
@@ -179,7 +179,7 @@ impl<C: NsSource> ThreadProfiler<C> {
             C.answers (clock_of self.old) now_ns (clock_of self.new) × (pos 0 ≤ℤ now_ns)) }
         ensures thread { thread_of self.new ≡ thread_of self.old }
     {
-        if self.recording.innermost() != Some(offset) {
+        if self.state.innermost() != Some(offset) {
             return Err(Error::MismatchedEnd);
         }
         Ok(self.clock.now_ns())
@@ -214,7 +214,7 @@ impl<C: NsSource> ThreadProfiler<C> {
             .with_function_name(function_name)
             .with_file(file_path)
             .with_line_nr(line_nr);
-        self.recording.register(ids, details)
+        self.state.register(ids, details)
     }
 
     /// Registers a scope with a name of its own in a function, as [`ThreadProfiler::register_function_scope`] does.
@@ -240,7 +240,7 @@ impl<C: NsSource> ThreadProfiler<C> {
             .with_function_name(function_name)
             .with_file(file_path)
             .with_line_nr(line_nr);
-        self.recording.register(ids, details)
+        self.state.register(ids, details)
     }
 
     /// Reports the closed scopes that wait: those of [`ThreadProfiler::close_scope`] and of refused reports. Returns
@@ -253,14 +253,14 @@ impl<C: NsSource> ThreadProfiler<C> {
             reporter.old reporter.new result }
         ensures clock { clock_of self.new ≡ clock_of self.old }
     {
-        if self.recording.depth() != 0 {
+        if self.state.depth() != 0 {
             return Err(Error::ScopesOpen);
         }
-        if self.recording.is_empty() {
+        if self.state.is_empty() {
             return Ok(false);
         }
-        let name = self.recording.name_for_report()?;
-        self.recording.hand_over(name, reporter)?;
+        let name = self.state.name_for_report()?;
+        self.state.hand_over(name, reporter)?;
         Ok(true)
     }
 }

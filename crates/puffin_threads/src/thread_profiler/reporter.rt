@@ -2,9 +2,9 @@
 
 ghost use Rattle.std.specs.Prelude.{OnOk, IfErr};
 ghost use Rattle.puffin_data.specs.Forest.{Forest};
-ghost use Rattle.puffin_data.specs.Honesty.{IsHonestRef, record_of_ref};
+ghost use Rattle.puffin_data.specs.Honesty.{IsHonestRef, facts_of_ref};
 ghost use Rattle.puffin_threads.specs.Details.{details_seen};
-ghost use Rattle.puffin_threads.specs.Thread.Info.{info_of};
+ghost use Rattle.puffin_threads.specs.Thread.ThreadKey.{key_of};
 
 use crate::scope_details::ScopeDetails;
 use crate::thread_profiler::thread_info::ThreadInfo;
@@ -14,16 +14,16 @@ use puffin_data::{Error, Result};
 /// Receives the scopes that threads have closed.
 pub trait Reporter {
     ghost use Rattle.puffin_data.specs.declared.error.Error.{Error};
-    ghost use Rattle.puffin_data.specs.Honesty.{Recorded};
-    ghost use Rattle.puffin_threads.specs.Thread.Info.{Info};
+    ghost use Rattle.puffin_data.specs.Honesty.{StreamFacts};
+    ghost use Rattle.puffin_threads.specs.Thread.ThreadKey.{ThreadKey};
     ghost use Rattle.puffin_threads.specs.Details.{Details};
     ghost use Rattle.std.specs.Prelude.{List};
 
     /// Whether a report under this info, of these details and scopes, may be accepted in the first state and end in the second.
-    ghost accepts: { Self → Info → List Details → Recorded → Self → Type 0 };
+    ghost accepts: { Self → ThreadKey → List Details → StreamFacts → Self → Type 0 };
 
     /// Whether such a report may be refused with this error.
-    ghost refuses: { Self → Info → List Details → Recorded → Error → Self → Type 0 };
+    ghost refuses: { Self → ThreadKey → List Details → StreamFacts → Error → Self → Type 0 };
 
     /// Receives a thread's closed scopes, and the details that were registered for them. The scopes have to be honest. If it
     /// returns an error, the thread keeps both for its next report.
@@ -35,10 +35,10 @@ pub trait Reporter {
     ) -> Result<()>
         requires { (f : Forest) × IsHonestRef times.now f }
         ensures ok { OnOk result (
-            accepts self.old (info_of info) (details_seen details.now) (record_of_ref times.now)
+            accepts self.old (key_of info) (details_seen details.now) (facts_of_ref times.now)
             self.new) }
         ensures err { IfErr result (λ e.
-            refuses self.old (info_of info) (details_seen details.now) (record_of_ref times.now)
+            refuses self.old (key_of info) (details_seen details.now) (facts_of_ref times.now)
             e self.new) };
 }
 

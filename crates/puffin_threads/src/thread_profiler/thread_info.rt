@@ -1,6 +1,6 @@
 ghost use Rattle.std.specs.Prelude.{◌≡◌, IfOk, IfErr};
 ghost use Rattle.puffin_data.specs.declared.error.Error.{Error};
-ghost use Rattle.puffin_threads.specs.Thread.Info.{info_of};
+ghost use Rattle.puffin_threads.specs.Thread.ThreadKey.{key_of};
 
 use puffin_data::{Error, NanoSecond, Result};
 
@@ -17,7 +17,7 @@ pub struct ThreadInfo {
 impl ThreadInfo {
     /// Copies the info. Fails only with `Memory`.
     pub fn clone(&self) -> Result<ThreadInfo>
-        ensures ok { IfOk result (λ info. info_of info ≡ info_of self.now) }
+        ensures ok { IfOk result (λ info. key_of info ≡ key_of self.now) }
         ensures err { IfErr result (λ e. e ≡ Error.Memory) }
     {
         Ok(ThreadInfo {

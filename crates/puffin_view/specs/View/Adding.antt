@@ -1,8 +1,8 @@
 -- What adding a frame does to a view.
 use Rattle.std.specs.Prelude.{true, false, List, [], ◌∷◌, ◌++◌, ◌≡◌}
 use Rattle.puffin_threads.specs.Details.Collection.{with_all_details, LearnsSome}
-use Rattle.puffin_frames.specs.Packet.Stored.{Said}
-use Rattle.puffin_view.specs.View.ViewedFrames.{Frame, contents_of, index_of}
+use Rattle.puffin_frames.specs.Packet.Stored.{PacketFields}
+use Rattle.puffin_view.specs.View.ViewedFrames.{Frame, fields_of, index_of}
 use Rattle.puffin_view.specs.View.FrameOf.{details_of_frame}
 use Rattle.puffin_view.specs.View.{View, Holds, Took, is_past, after_taking, KeepsFrames}
 use Rattle.puffin_view.specs.View.Known.{KnownView, view_of, collection_of, lacks_ids}
@@ -10,20 +10,20 @@ use Rattle.puffin_view.specs.View.Known.{KnownView, view_of, collection_of, lack
 -- The view holds the last and the slowest of the frames that it held those of before, and of this one.
 pub record HoldsAlso (frame : Frame) (old new : View) : Type 0 where
   -- of the frames that it took
-  pub took : (cs : List Said) → Took cs old → Took (cs ++ contents_of frame ∷ []) new
+  pub took : (cs : List PacketFields) → Took cs old → Took (cs ++ fields_of frame ∷ []) new
   -- of any two lists of frames, each extended by this one
-  pub more : (cs ds : List Said) → is_past old (index_of frame) ≡ false → Holds cs ds old →
-      Holds (cs ++ contents_of frame ∷ []) (ds ++ contents_of frame ∷ []) new
+  pub more : (cs ds : List PacketFields) → is_past old (index_of frame) ≡ false → Holds cs ds old →
+      Holds (cs ++ fields_of frame ∷ []) (ds ++ fields_of frame ∷ []) new
   -- of this frame alone, after a reset
   pub anew : is_past old (index_of frame) ≡ true →
-      Holds (contents_of frame ∷ []) (contents_of frame ∷ []) new
+      Holds (fields_of frame ∷ []) (fields_of frame ∷ []) new
 
 -- The view took a frame, all of whose details have ids, and knows these.
 pub record Adds (frame : Frame) (old new : KnownView) : Type 0 where
   pub frames : view_of new ≡ after_taking (view_of old) frame
   pub learnt : collection_of new
       ≡ with_all_details (collection_of old) (details_of_frame frame)
-  pub ids : lacks_ids (contents_of frame) ≡ false
+  pub ids : lacks_ids (fields_of frame) ≡ false
 
 -- The view didn't take a frame: it knows a beginning of its details, and its newest frame may be packed.
 pub record FailsToAdd (frame : Frame) (old new : KnownView) : Type 0 where

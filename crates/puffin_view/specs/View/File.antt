@@ -10,11 +10,11 @@ use Rattle.puffin_threads.specs.Details.{Details}
 use Rattle.puffin_threads.specs.Details.Collection.{no_details, with_all_details}
 use Rattle.puffin_frames.specs.declared.frame_data.kind.Kind.TheVariants.{Uncompressed}
 use Rattle.puffin_frames.specs.Packet.Structs.{Legacy, form_of_all, streams_layout}
-use Rattle.puffin_frames.specs.Packet.Stored.{Said, Stored, packed, legacy}
+use Rattle.puffin_frames.specs.Packet.Stored.{PacketFields, Stored, packed, legacy}
 use Rattle.puffin_frames.specs.Packet.Front.{next_at}
 use Rattle.puffin_frames.specs.Packet.Grammar.{packet}
 use Rattle.puffin_view.specs.declared.profile_view.frame_view.FrameView.{FrameView}
-use Rattle.puffin_view.specs.View.ViewedFrames.{Frame, contents_of}
+use Rattle.puffin_view.specs.View.ViewedFrames.{Frame, fields_of}
 use Rattle.puffin_view.specs.View.FrameOf.{details_of_frame}
 use Rattle.puffin_view.specs.View.{View, empty_view, after_all, all_uniq, Took}
 use Rattle.puffin_view.specs.View.Known.{view_of, collection_of, lacks_ids}
@@ -26,22 +26,22 @@ abbrev pub magic : List ℕ
 magic = 80 ∷ 85 ∷ 70 ∷ 48 ∷ []
 
 -- the letters, and then a packet for each frame
-abbrev pub file_of : List Said → List ℕ
+abbrev pub file_of : List PacketFields → List ℕ
 file_of cs = magic ++ flat_map packet cs
 
 -- the contents of the frames in both lists of a view
-abbrev pub contents_held : View → List Said
-contents_held v = map contents_of (v.recent ++ v.slow)
+abbrev pub fields_held : View → List PacketFields
+fields_held v = map fields_of (v.recent ++ v.slow)
 
 -- the contents of a view's frames, each once, by rising index
-abbrev pub contents_in : View → List Said
-contents_in v = map contents_of (all_uniq v)
+abbrev pub fields_in : View → List PacketFields
+fields_in v = map fields_of (all_uniq v)
 
 -- ---- frames that are read
 
 -- the contents of a legacy frame, which has no details
-abbrev pub said_at_first : Legacy → Said
-said_at_first l = record {
+abbrev pub legacy_fields : Legacy → PacketFields
+legacy_fields l = record {
   meta = l.meta;
   form = form_of_all l.streams;
   kind = Uncompressed;
@@ -51,9 +51,9 @@ said_at_first l = record {
 
 -- a frame that was read, as a view sees it
 abbrev pub frame_stored : Stored → Frame
-frame_stored (packed p) = record { contents = p; is_unpacked = false; is_packed = true }
+frame_stored (packed p) = record { fields = p; is_unpacked = false; is_packed = true }
 frame_stored (legacy l) =
-    record { contents = said_at_first l; is_unpacked = true; is_packed = false }
+    record { fields = legacy_fields l; is_unpacked = true; is_packed = false }
 
 -- the details of a frame that was read
 abbrev pub details_stored : Stored → List Details
@@ -61,7 +61,7 @@ details_stored s = details_of_frame (frame_stored s)
 
 -- the frame, or a refusal if some of its details have no id
 abbrev pub with_ids : Stored → Result Stored FileError
-with_ids s = if lacks_ids (contents_of (frame_stored s)) then Err (file.Refused MissingId) else Ok s
+with_ids s = if lacks_ids (fields_of (frame_stored s)) then Err (file.Refused MissingId) else Ok s
 
 -- this frame, if there is one, and those that are read after it
 abbrev pub frames_from : (List ℕ → Result (List Stored × List ℕ) FileError) → Option Stored →
@@ -129,7 +129,7 @@ read_view = record empty_view { max_recent = 2 ^ 64 - 1 }
 
 -- The view took exactly these frames, in order, and knows their details.
 pub record IsViewOf (stored : List Stored) (v : FrameView) : Type 0 where
-  pub took : Took (map contents_of (map frame_stored stored)) (view_of v)
+  pub took : Took (map fields_of (map frame_stored stored)) (view_of v)
   pub frames : view_of v ≡ after_all read_view (map frame_stored stored)
   pub details : collection_of v ≡ with_all_details no_details (flat_map details_stored stored)
 

@@ -5,7 +5,7 @@ use Rattle.puffin_data.specs.declared.file_error.FileError.{FileError}
 use Rattle.puffin_data.specs.Device.{FromDevice, FailsAt}
 use Rattle.puffin_data.specs.Part.{◌>>=◌}
 use Rattle.puffin_frames.specs.declared.frame_data.frame.FrameData.{FrameData}
-use Rattle.puffin_frames.specs.Packet.Stored.{Said, Stored}
+use Rattle.puffin_frames.specs.Packet.Stored.{PacketFields, Stored}
 use Rattle.puffin_frames.specs.Packet.Front.{next_at, AtEnd}
 use Rattle.puffin_frames.specs.Packet.Next.{stored_of}
 use Rattle.puffin_frames.specs.Packet.Grammar.{packet}
@@ -52,35 +52,35 @@ pub record HasGiven (old new : Option (List ℕ)) (frames : List Stored) : Type 
 -- ---- writing
 
 -- the device got the file of these frames
-abbrev pub HoldsFile : Option (List ℕ) → Option (List ℕ) → List Said → Type 0
+abbrev pub HoldsFile : Option (List ℕ) → Option (List ℕ) → List PacketFields → Type 0
 HoldsFile old new cs = Appends old new (file_of cs)
 
 -- the device got the file of these frames, and a beginning of one more packet
-abbrev pub HoldsBegun : Option (List ℕ) → Option (List ℕ) → List Said → Said → Type 0
+abbrev pub HoldsBegun : Option (List ℕ) → Option (List ℕ) → List PacketFields → PacketFields → Type 0
 HoldsBegun old new cs c =
     (front : List ℕ) × (rest : List ℕ) × (packet c ≡ front ++ rest)
     × Appends old new (file_of cs ++ front)
 
 -- What a device holds of the frames written so far: their file, and where a write broke off a beginning of one packet more.
-abbrev pub HoldsSoFar : Bool → Option (List ℕ) → Option (List ℕ) → List Said → Type 0
+abbrev pub HoldsSoFar : Bool → Option (List ℕ) → Option (List ℕ) → List PacketFields → Type 0
 HoldsSoFar false old new cs = HoldsFile old new cs
-HoldsSoFar true old new cs = (c : Said) × HoldsBegun old new cs c
+HoldsSoFar true old new cs = (c : PacketFields) × HoldsBegun old new cs c
 
 -- the frames written so far, after a call that wrote one more or was refused
-abbrev pub written_after : Result (Unit {0}) FileError → List Said → Said → List Said
+abbrev pub written_after : Result (Unit {0}) FileError → List PacketFields → PacketFields → List PacketFields
 written_after (Ok done) cs c = cs ++ c ∷ []
 written_after (Err e) cs c = cs
 
 -- ---- files that were cut
 
 -- What is left of a packet that was cut: some of its bytes, and not all. Of no packet nothing is left.
-abbrev pub IsLeftOf : List ℕ → List Said → Type 0
+abbrev pub IsLeftOf : List ℕ → List PacketFields → Type 0
 IsLeftOf left [] = left ≡ []
 IsLeftOf left (c ∷ cs) = (lost : List ℕ) × (packet c ≡ left ++ lost) × (0 < length lost)
 
 -- A file of frames was cut: the file of those that are whole is left, and what is left of the packet of the next one.
-pub record IsCut (cs : List Said) (bytes : List ℕ) (whole : List Said) : Type 0 where
-  pub lost : List Said
+pub record IsCut (cs : List PacketFields) (bytes : List ℕ) (whole : List PacketFields) : Type 0 where
+  pub lost : List PacketFields
   pub in_order : cs ≡ whole ++ lost
   pub left : List ℕ
   pub split : bytes ≡ file_of whole ++ left

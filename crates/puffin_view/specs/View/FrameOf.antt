@@ -4,13 +4,13 @@ use denote.Ref.{Bor}
 use Rattle.std.specs.Arc.{arc_value}
 use Rattle.std.specs.declared.sync.Arc.{Arc}
 use Rattle.puffin_frames.specs.declared.frame_data.frame.FrameData.{FrameData}
-use Rattle.puffin_frames.specs.Frame.Contents.{frame_says, holding_of}
+use Rattle.puffin_frames.specs.Frame.Contents.{packet_fields, holding_of}
 use Rattle.puffin_threads.specs.Details.{Details}
 use Rattle.puffin_view.specs.View.ViewedFrames.{Frame}
 
 abbrev pub frame_of : FrameData → Frame
 frame_of f = record {
-  contents = frame_says f;
+  fields = packet_fields f;
   is_unpacked = is_some (holding_of f).unpacked;
   is_packed = is_some (holding_of f).packed;
 }
@@ -23,7 +23,7 @@ frames_of arcs = map shared_frame arcs
 
 -- the details of a frame
 abbrev pub details_of_frame : Frame → List Details
-details_of_frame f = f.contents.details
+details_of_frame f = f.fields.details
 
 -- borrowed frames, as a view sees them
 abbrev pub lent_frames : {A : Type 0} → List (Bor (Arc FrameData A)) → List Frame

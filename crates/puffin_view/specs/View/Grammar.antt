@@ -1,8 +1,8 @@
 -- The format of files: letters, packets, the end, and what may follow it.
 use Rattle.std.specs.Prelude.{◌≡◌, ◌⊎◌, ◌<◌, ℕ, List, [], ◌∷◌, ◌++◌, length, map}
-use Rattle.puffin_frames.specs.Packet.Stored.{Said, Stored}
+use Rattle.puffin_frames.specs.Packet.Stored.{PacketFields, Stored}
 use Rattle.puffin_frames.specs.Packet.Grammar.{Stores}
-use Rattle.puffin_view.specs.View.ViewedFrames.{contents_of}
+use Rattle.puffin_view.specs.View.ViewedFrames.{fields_of}
 use Rattle.puffin_view.specs.View.File.{magic, frame_stored}
 
 -- one packet for each frame, in order and with nothing between, of any version that is read; older and legacy ones too
@@ -25,5 +25,5 @@ pub record IsFile (bytes : List ℕ) (frames : List Stored) (after : List ℕ) :
   pub ends : IsEnd end after
 
 -- the contents of its frames
-abbrev pub contents_stored : List Stored → List Said
-contents_stored frames = map contents_of (map frame_stored frames)
+abbrev pub fields_stored : List Stored → List PacketFields
+fields_stored frames = map fields_of (map frame_stored frames)

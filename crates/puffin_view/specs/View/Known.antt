@@ -2,7 +2,7 @@
 use Rattle.std.specs.Prelude.{Bool}
 use Rattle.std.specs.List.{list_any}
 use Rattle.puffin_threads.specs.Details.{lacks_id}
-use Rattle.puffin_frames.specs.Packet.Stored.{Said}
+use Rattle.puffin_frames.specs.Packet.Stored.{PacketFields}
 use Rattle.puffin_threads.specs.Details.Collection.{Collection}
 use Rattle.puffin_view.specs.View.{View}
 
@@ -22,5 +22,5 @@ abbrev pub with_frames : KnownView → View → KnownView
 with_frames view frames = record view { frames = frames }
 
 -- whether some of a frame's details have no id
-abbrev pub lacks_ids : Said → Bool
+abbrev pub lacks_ids : PacketFields → Bool
 lacks_ids c = list_any lacks_id c.details

@@ -3,7 +3,7 @@ use Rattle.std.specs.Prelude.{ℕ, ℤ, suc, Bool, List, [], ◌∷◌, ◌≡�
 use Rattle.std.specs.List.Sorted.{IsSortedBy}
 use Rattle.std.specs.declared.cmp.Ordering.{Ordering}
 use Rattle.std.specs.Ordering.{nat_cmp, int_cmp, is_lt, ordering_then, on, then_cmp}
-use Rattle.puffin_view.specs.declared.profile_view.select.OldPlace.{OldPlace}
+use Rattle.puffin_view.specs.declared.profile_view.select.ByIndex.{ByIndex}
 use Rattle.puffin_view.specs.View.ViewedFrames.{Frame, index_of, duration_of}
 
 -- a frame's duration, its index and its place in a list
@@ -37,7 +37,7 @@ abbrev pub older_rank : Rank → Rank → Bool
 older_rank a b = is_lt (older_cmp a b)
 
 -- a place of the code, as a rank
-abbrev pub old_place : OldPlace → Rank
+abbrev pub old_place : ByIndex → Rank
 old_place r = record { duration = r.duration_ns; index = r.frame_index; place = r.place }
 
 -- out is the first max frames by falling duration, then rising index, then place, ordered by rising index, then place

@@ -8,7 +8,7 @@ use Rattle.puffin_frames.specs.declared.frame_data.meta.FrameMeta.{FrameMeta}
 use Rattle.puffin_threads.specs.Details.{Details, details_code}
 use Rattle.puffin_frames.specs.Packet.Kinds.{kind_code}
 use Rattle.puffin_threads.specs.Details.Collection.{Collection, collection_code}
-use Rattle.puffin_frames.specs.Packet.Stored.{Said}
+use Rattle.puffin_frames.specs.Packet.Stored.{PacketFields}
 use Rattle.puffin_view.specs.View.ViewedFrames.{Frame}
 use Rattle.puffin_view.specs.View.{View}
 use Rattle.puffin_view.specs.View.Known.{KnownView}
@@ -21,8 +21,8 @@ meta_code =
     (λ p. record { frame_index = p.0; range_ns = p.1.0; num_bytes = p.1.1.0; num_scopes = p.1.1.1 })
     (λ _. refl)
 
-abbrev pub said_code : Coded Said
-said_code =
+abbrev pub fields_code : Coded PacketFields
+fields_code =
     code_by (FrameMeta × (Form × (Kind × (List ℕ × List Details)))) (
     coded× meta_code (
     coded× form_code (coded× kind_code (coded× (coded_list coded_ℕ) (coded_list details_code)))))
@@ -37,9 +37,9 @@ said_code =
     (λ _. refl)
 
 abbrev pub frame_code : Coded Frame
-frame_code = code_by (Said × (Bool × Bool)) (coded× said_code (coded× coded_bool coded_bool))
-    (λ f. (f.contents, (f.is_unpacked, f.is_packed)))
-    (λ p. record { contents = p.0; is_unpacked = p.1.0; is_packed = p.1.1 })
+frame_code = code_by (PacketFields × (Bool × Bool)) (coded× fields_code (coded× coded_bool coded_bool))
+    (λ f. (f.fields, (f.is_unpacked, f.is_packed)))
+    (λ p. record { fields = p.0; is_unpacked = p.1.0; is_packed = p.1.1 })
     (λ _. refl)
 
 abbrev pub view_code : Coded View

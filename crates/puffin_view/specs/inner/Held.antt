@@ -9,7 +9,7 @@ use Rattle.std.specs.FinMap as map
 use Rattle.std.specs.Coded.{Coded, coded_ℕ}
 use Rattle.std.specs.declared.sync.Arc.{Arc}
 use Rattle.puffin_frames.specs.declared.frame_data.frame.FrameData.{FrameData}
-use Rattle.puffin_view.specs.declared.profile_view.sums.Sums.{Sums}
+use Rattle.puffin_view.specs.declared.profile_view.sums.RunningStats.{RunningStats}
 use Rattle.puffin_view.specs.View.ViewedFrames.{Frame, ram_of}
 use Rattle.puffin_view.specs.View.FrameOf.{shared_frame}
 use Rattle.puffin_view.specs.inner.Codes.{frame_code}
@@ -44,7 +44,7 @@ abbrev pub ram_if : {A : Type 0} → Option (Arc FrameData A) → ℕ
 ram_if o = unwrap_or (option_map ram_taken o) 0
 
 -- the sums are those of the frames
-pub record IsSummed {A : Type 0} (es : List (ℕ × Arc FrameData A)) (sums : Sums) : Type 0 where
+pub record IsSummed {A : Type 0} (es : List (ℕ × Arc FrameData A)) (sums : RunningStats) : Type 0 where
   pub ordered : IsStrictlySortedBy nat_cmp (keys_of es)
   pub few : length es < 2 ^ 64
   pub frames : sums.frames ≡ length es

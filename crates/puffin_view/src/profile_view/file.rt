@@ -8,11 +8,11 @@ ghost use Rattle.puffin_data.specs.declared.file_error.FileError.{FileError};
 ghost use Rattle.puffin_data.specs.Device.{TookNothing, WritesBeginning, failures_after};
 ghost use Rattle.puffin_frames.specs.Packet.Grammar.{IsPacked};
 ghost use Rattle.puffin_frames.specs.Packet.Writing.{HasLongPart};
-ghost use Rattle.puffin_view.specs.View.ViewedFrames.{contents_of};
+ghost use Rattle.puffin_view.specs.View.ViewedFrames.{fields_of};
 ghost use Rattle.puffin_view.specs.View.FrameOf.{frame_of};
 ghost use Rattle.puffin_view.specs.View.Known.{view_of, lacks_ids};
 ghost use Rattle.puffin_view.specs.View.Adding.{Adds};
-ghost use Rattle.puffin_view.specs.View.File.{file_of, contents_in, file_at, ReadsView};
+ghost use Rattle.puffin_view.specs.View.File.{file_of, fields_in, file_at, ReadsView};
 
 use crate::profile_view::frame_file::{read_magic, write_magic};
 use crate::profile_view::frame_view::FrameView;
@@ -27,7 +27,7 @@ fn add_read(alloc: Global, view: &mut FrameView, frame: FrameData) -> Result<(),
     ensures ok { OnOk result (Adds (frame_of frame) view.old view.new) }
     ensures missing { IfErr result (λ e.
         e ≡ FileError.Refused Error.MissingId →
-        lacks_ids (contents_of (frame_of frame)) ≡ true) }
+        lacks_ids (fields_of (frame_of frame)) ≡ true) }
     ensures cause { IfErr result (λ e.
         (e ≡ FileError.Refused Error.MissingId) ⊎ (e ≡ FileError.Memory)) }
 {
@@ -53,17 +53,17 @@ impl FrameView {
         requires { D.failures drain.old < 2 ^ 64 - 1 }
         ensures ok { OnOk result (
             Appends (D.contents drain.old) (D.contents drain.new) (
-            file_of (contents_in (view_of self.now)))) }
+            file_of (fields_in (view_of self.now)))) }
         // What is written is read again.
-        ensures packed { OnOk result (AllByRecursion IsPacked (contents_in (view_of self.now))) }
+        ensures packed { OnOk result (AllByRecursion IsPacked (fields_in (view_of self.now))) }
         ensures begun { IfErr result (λ e.
             WritesBeginning (D.contents drain.old) (D.contents drain.new) (
-            file_of (contents_in (view_of self.now)))) }
+            file_of (fields_in (view_of self.now)))) }
         ensures io { IfErr result (λ e.
             e ≡ FileError.Io →
             (D.failures drain.new ≡ D.failures drain.old + 1) ⊎ TookNothing D.takes drain.new) }
         ensures too_long { IfErr result (λ e.
-            e ≡ FileError.PartTooLong → Any HasLongPart (contents_in (view_of self.now))) }
+            e ≡ FileError.PartTooLong → Any HasLongPart (fields_in (view_of self.now))) }
         ensures cause { IfErr result (λ e.
             (e ≡ FileError.PartTooLong) ⊎ (e ≡ FileError.Memory) ⊎ (e ≡ FileError.Io)) }
         ensures failures { OnOk result (D.failures drain.new ≡ D.failures drain.old) }

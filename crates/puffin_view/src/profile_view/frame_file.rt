@@ -4,11 +4,11 @@ ghost use Rattle.std.specs.Prelude.{◌≡◌, ◌≢◌, ◌⊎◌, ◌+◌, �
 ghost use Rattle.std.specs.Io.KnownBytes.{Appends, Consumes};
 ghost use Rattle.puffin_data.specs.declared.file_error.FileError.{FileError};
 ghost use Rattle.puffin_data.specs.Device.{TookNothing, WritesBeginning, failures_after, is_io};
-ghost use Rattle.puffin_frames.specs.Packet.Stored.{Said, Stored};
+ghost use Rattle.puffin_frames.specs.Packet.Stored.{PacketFields, Stored};
 ghost use Rattle.puffin_frames.specs.Packet.Next.{stored_of, IsFresh};
 ghost use Rattle.puffin_frames.specs.Packet.Grammar.{IsPacked, packet};
 ghost use Rattle.puffin_frames.specs.Packet.Writing.{HasLongPart, WritesPacket};
-ghost use Rattle.puffin_frames.specs.Frame.Contents.{frame_says};
+ghost use Rattle.puffin_frames.specs.Frame.Contents.{packet_fields};
 ghost use Rattle.puffin_view.specs.View.Known.{lacks_ids};
 ghost use Rattle.puffin_view.specs.View.File.{magic, begins_file, file_at, TookFrames, FailsToRead};
 ghost use Rattle.puffin_view.specs.View.FrameFile.{GivesNext, HasGiven, HoldsFile, HoldsBegun, HoldsSoFar, written_after};
@@ -52,7 +52,7 @@ fn checked_frame<S: Source>(alloc: Global, source: &mut S) -> Result<Option<Fram
     requires { S.failures source.old < 2 ^ 64 - 1 }
     ensures next { GivesNext (S.remaining source.old) (S.remaining source.new) result }
     ensures ids { IfOk result (λ next. IfSome next (λ frame.
-        lacks_ids (frame_says frame) ≡ false)) }
+        lacks_ids (packet_fields frame) ≡ false)) }
     ensures fresh { IfOk result (λ next. IfSome next IsFresh) }
     ensures failures { S.failures source.new ≡ failures_after (S.failures source.old) result }
 {
@@ -82,7 +82,7 @@ pub fn next_frame<S: Source>(alloc: Global, source: &mut S) -> Result<Option<Fra
     // The same of this call alone.
     ensures next { GivesNext (S.remaining source.old) (S.remaining source.new) result }
     ensures ids { IfOk result (λ next. IfSome next (λ frame.
-        lacks_ids (frame_says frame) ≡ false)) }
+        lacks_ids (packet_fields frame) ≡ false)) }
     ensures fresh { IfOk result (λ next. IfSome next IsFresh) }
     ensures failures { S.failures source.new ≡ failures_after (S.failures source.old) result }
 {
@@ -182,7 +182,7 @@ impl<S: Source> FrameReader<S> {
         ensures next { is_done_of self.old ≡ false → GivesNext
             (S.remaining (source_of self.old)) (S.remaining (source_of self.new)) result }
         ensures ids { IfOk result (λ next. IfSome next (λ frame.
-            lacks_ids (frame_says frame) ≡ false)) }
+            lacks_ids (packet_fields frame) ≡ false)) }
         ensures fresh { IfOk result (λ next. IfSome next IsFresh) }
         ensures failures { S.failures (source_of self.new)
             ≡ failures_after (S.failures (source_of self.old)) result }
@@ -256,27 +256,27 @@ impl<D: Drain> FrameWriter<D> {
     pub fn write(&mut self, frame: &FrameData) -> Result<(), FileError>
         // After each call the device holds the frames written so far, and nothing behind them but
         // a beginning of one packet where the writer is broken.
-        ensures so_far { (old : Option (List ℕ)) (cs : List Said) →
+        ensures so_far { (old : Option (List ℕ)) (cs : List PacketFields) →
             HoldsSoFar (is_broken_of self.old) old (D.contents (drain_of self.old)) cs →
             HoldsSoFar (is_broken_of self.new) old (D.contents (drain_of self.new))
-            (written_after result cs (frame_says frame.now)) }
+            (written_after result cs (packet_fields frame.now)) }
         ensures breaks { is_broken_of self.new ≡ is_io result }
         ensures broken { is_broken_of self.old ≡ true →
             (result ≡ Err FileError.Io) × (self.new ≡ self.old) }
-        ensures written { OnOk result ((old : Option (List ℕ)) (cs : List Said) →
+        ensures written { OnOk result ((old : Option (List ℕ)) (cs : List PacketFields) →
             HoldsFile old (D.contents (drain_of self.old)) cs →
-            HoldsFile old (D.contents (drain_of self.new)) (cs ++ frame_says frame.now ∷ [])) }
-        ensures begun { IfErr result (λ e. (old : Option (List ℕ)) (cs : List Said) →
+            HoldsFile old (D.contents (drain_of self.new)) (cs ++ packet_fields frame.now ∷ [])) }
+        ensures begun { IfErr result (λ e. (old : Option (List ℕ)) (cs : List PacketFields) →
             HoldsFile old (D.contents (drain_of self.old)) cs →
-            HoldsBegun old (D.contents (drain_of self.new)) cs (frame_says frame.now)) }
+            HoldsBegun old (D.contents (drain_of self.new)) cs (packet_fields frame.now)) }
         ensures unchanged { IfErr result (λ e. e ≢ FileError.Io → self.new ≡ self.old) }
         // What is written is read again.
-        ensures packed { OnOk result (IsPacked (frame_says frame.now)) }
+        ensures packed { OnOk result (IsPacked (packet_fields frame.now)) }
 
         // The same of this call alone.
         ensures packet { is_broken_of self.old ≡ false → WritesPacket D.contents D.failures D.takes
             (drain_of self.old) (drain_of self.new)
-            (packet (frame_says frame.now)) (HasLongPart (frame_says frame.now)) result }
+            (packet (packet_fields frame.now)) (HasLongPart (packet_fields frame.now)) result }
     {
         if self.is_broken {
             return Err(FileError::Io);

@@ -10,7 +10,7 @@ ghost use Rattle.puffin_view.specs.View.Stats.{stats_of};
 
 use crate::profile_view::frame_rows::{FrameRows, FrameRowsIter};
 use crate::profile_view::stats::FrameStats;
-use crate::profile_view::sums::Sums;
+use crate::profile_view::sums::RunningStats;
 use puffin_data::Result;
 use puffin_frames::frame_data::{FrameData, FrameIndex};
 use std::alloc::Global;
@@ -21,7 +21,7 @@ use std::sync::Arc;
 #[derive(Drop)]
 pub(crate) struct HeldFrames {
     frames: FrameRows,
-    sums: Sums,
+    sums: RunningStats,
 }
 
 impl Model for HeldFrames {
@@ -46,7 +46,7 @@ impl HeldFrames {
     {
         HeldFrames {
             frames: FrameRows::new(alloc),
-            sums: Sums::new(),
+            sums: RunningStats::new(),
         }
     }
 

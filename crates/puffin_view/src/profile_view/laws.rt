@@ -6,12 +6,12 @@ ghost use Rattle.std.specs.List.{AllPairs, AllByRecursion, list_any};
 ghost use Rattle.std.specs.declared.cmp.Ordering.TheVariants.{Less, Equal};
 ghost use Rattle.std.specs.Ordering.{eq_by_cmp};
 ghost use Rattle.std.specs.Cmp.{IsTotalOrder};
-ghost use Rattle.puffin_frames.specs.Packet.Stored.{Said, Stored, packed};
+ghost use Rattle.puffin_frames.specs.Packet.Stored.{PacketFields, Stored, packed};
 ghost use Rattle.puffin_view.specs.declared.profile_view.slow_rank.SlowRank.{SlowRank};
 ghost use Rattle.puffin_view.specs.View.Ranking.{AreFirst};
-ghost use Rattle.puffin_view.specs.View.ViewedFrames.{Frame, contents_of, duration, frame_index, by_duration, is_slower, slowest, rising_end};
+ghost use Rattle.puffin_view.specs.View.ViewedFrames.{Frame, fields_of, duration, frame_index, by_duration, is_slower, slowest, rising_end};
 ghost use Rattle.puffin_view.specs.View.FrameRanks.{rank_of, rank_cmp};
-ghost use Rattle.puffin_view.specs.declared.profile_view.select.OldPlace.{OldPlace};
+ghost use Rattle.puffin_view.specs.declared.profile_view.select.ByIndex.{ByIndex};
 ghost use Rattle.puffin_view.specs.View.Selection.{Rank, older_cmp, old_place};
 ghost use Rattle.puffin_data.specs.declared.error.Error.{Error};
 ghost use Rattle.puffin_data.specs.declared.file_error.FileError.{FileError};
@@ -22,45 +22,47 @@ ghost use Rattle.puffin_frames.specs.Packet.Grammar.{IsPacked};
 ghost use Rattle.puffin_view.specs.declared.profile_view.frame_view.FrameView.{FrameView};
 ghost use Rattle.puffin_view.specs.View.{View, after_all, last_index, rises_behind};
 ghost use Rattle.puffin_view.specs.View.Known.{view_of, lacks_ids};
-ghost use Rattle.puffin_view.specs.View.Grammar.{contents_stored, IsFile};
+ghost use Rattle.puffin_view.specs.View.Grammar.{fields_stored, IsFile};
 ghost use Rattle.puffin_view.specs.View.FrameFile.{GivesNext, HasGiven, IsCut};
-ghost use Rattle.puffin_view.specs.View.File.{file_of, contents_held, contents_in, frame_stored, read_view, file_at, TookFrames, FailsToRead, ReadsView};
+ghost use Rattle.puffin_view.specs.View.File.{file_of, fields_held, fields_in, frame_stored, read_view, file_at, TookFrames, FailsToRead, ReadsView};
 
-use crate::profile_view::select::OldPlace;
+use crate::profile_view::select::ByIndex;
 use crate::profile_view::slow_rank::SlowRank;
 use puffin_frames::frame_data::laws::{only_packets_are_read, written_is_read};
 
 /// The `k` slowest frames of a list are its first `k` in the order by falling duration, then rising index. They are returned in
 /// that order.
 pub fn slowest_first()
-    ensures first { (k : ℕ) (cs : List Said) → AreFirst is_slower k cs (slowest k cs) }
-    ensures in_order { (k : ℕ) (cs : List Said) →
+    ensures first { (k : ℕ) (cs : List PacketFields) → AreFirst is_slower k cs (slowest k cs) }
+    ensures in_order { (k : ℕ) (cs : List PacketFields) →
         AllPairs (λ c d. is_slower d c ≡ false) (slowest k cs) }
 {}
 
 /// Frames are ordered by falling duration, then rising index. The order is total, and two frames tie exactly when both are
 /// the same.
 pub fn order_by_duration()
-    ensures longer_first { (c d : Said) → duration d <ℤ duration c → by_duration c d ≡ Less }
-    ensures then_by_index { (c d : Said) → duration c ≡ duration d → frame_index c < frame_index d →
+    ensures longer_first { (c d : PacketFields) → duration d <ℤ duration c →
         by_duration c d ≡ Less }
-    ensures ties { (c d : Said) →
+    ensures then_by_index { (c d : PacketFields) → duration c ≡ duration d →
+        frame_index c < frame_index d →
+        by_duration c d ≡ Less }
+    ensures ties { (c d : PacketFields) →
         by_duration c d ≡ Equal ↔ ((duration c ≡ duration d) × (frame_index c ≡ frame_index d)) }
     ensures total { IsTotalOrder by_duration }
 {}
 
 /// A selection orders frames by rising index, then position in the list. The order is total, and equality and order of
-/// `OldPlace`, by which a selection is sorted, agree with it.
+/// `ByIndex`, by which a selection is sorted, agree with it.
 pub fn order_by_index()
     ensures lower_first { (r s : Rank) → r.index < s.index → older_cmp r s ≡ Less }
     ensures then_by_place { (r s : Rank) → r.index ≡ s.index → r.place < s.place
         → older_cmp r s ≡ Less }
     ensures total { IsTotalOrder older_cmp }
-    ensures order { (p q : OldPlace) → ⟦<OldPlace as Ord>⟧.cmp p q
+    ensures order { (p q : ByIndex) → ⟦<ByIndex as Ord>⟧.cmp p q
         ≡ older_cmp (old_place p) (old_place q) }
-    ensures equality { (p q : OldPlace) → ⟦<OldPlace as PartialEq>⟧.eq p q
+    ensures equality { (p q : ByIndex) → ⟦<ByIndex as PartialEq>⟧.eq p q
         ≡ eq_by_cmp older_cmp (old_place p) (old_place q) }
-    ensures one { (p q : OldPlace) → older_cmp (old_place p) (old_place q) ≡ Equal → p ≡ q }
+    ensures one { (p q : ByIndex) → older_cmp (old_place p) (old_place q) ≡ Equal → p ≡ q }
 {}
 
 /// A view compares frames by their ranks. Ranks are ordered as their frames are by duration, and two ranks compare as equal
@@ -68,7 +70,7 @@ pub fn order_by_index()
 pub fn ranks_by_duration()
     ensures order { (f g : Frame) →
         ⟦<SlowRank as Ord>⟧.cmp (rank_of f) (rank_of g)
-        ≡ by_duration (contents_of f) (contents_of g) }
+        ≡ by_duration (fields_of f) (fields_of g) }
     ensures equality { (r s : SlowRank) →
         ⟦<SlowRank as PartialEq>⟧.eq r s ≡ eq_by_cmp rank_cmp r s }
     ensures one { (r s : SlowRank) → rank_cmp r s ≡ Equal → r ≡ s }
@@ -77,23 +79,23 @@ pub fn ranks_by_duration()
 /// After taking frames, a view holds only frames that it held before or took, and its file has only frames that it holds. This
 /// is stated by any test `p`: if none of the former passes it, none of the latter does.
 pub fn views_hold_what_they_took()
-    ensures held { (p : Said → Bool) (v : View) (fs : List Frame) →
-        list_any p (contents_held v) ≡ false → list_any p (map contents_of fs) ≡ false →
-        list_any p (contents_held (after_all v fs)) ≡ false }
-    ensures listed { (p : Said → Bool) (v : View) → list_any p (contents_held v) ≡ false →
-        list_any p (contents_in v) ≡ false }
+    ensures held { (p : PacketFields → Bool) (v : View) (fs : List Frame) →
+        list_any p (fields_held v) ≡ false → list_any p (map fields_of fs) ≡ false →
+        list_any p (fields_held (after_all v fs)) ≡ false }
+    ensures listed { (p : PacketFields → Bool) (v : View) → list_any p (fields_held v) ≡ false →
+        list_any p (fields_in v) ≡ false }
 {}
 
 /// If the end follows a file that was written, it is read as exactly its frames, or refused with `MissingId` if some of their
 /// details have no id. Only one list of frames is written as these bytes.
 pub fn written_files_are_read()
-    ensures again { (cs : List Said) (end : List ℕ) → AllByRecursion IsPacked cs →
+    ensures again { (cs : List PacketFields) (end : List ℕ) → AllByRecursion IsPacked cs →
         length cs < 2 ^ 64 - 1 → is_end end ≡ true → list_any lacks_ids cs ≡ false →
         file_at (file_of cs ++ end) ≡ Ok (map packed cs, drop 4 end) }
-    ensures missing { (cs : List Said) (end : List ℕ) → AllByRecursion IsPacked cs →
+    ensures missing { (cs : List PacketFields) (end : List ℕ) → AllByRecursion IsPacked cs →
         length cs < 2 ^ 64 - 1 → is_end end ≡ true → list_any lacks_ids cs ≡ true →
         file_at (file_of cs ++ end) ≡ Err (FileError.Refused Error.MissingId) }
-    ensures one_list { (cs ds : List Said) → AllByRecursion IsPacked cs →
+    ensures one_list { (cs ds : List PacketFields) → AllByRecursion IsPacked cs →
         AllByRecursion IsPacked ds → file_of cs ≡ file_of ds → cs ≡ ds }
 {
     // For the proof alone: a law of packets.
@@ -107,10 +109,10 @@ pub fn only_files_are_read()
     ensures read { (bytes : List ℕ) (frames : List Stored) (after : List ℕ) → IsBytes bytes →
         (file_at bytes ≡ Ok (frames, after))
         ↔ (IsFile bytes frames after × (length frames < 2 ^ 64 - 1)
-        × (list_any lacks_ids (contents_stored frames) ≡ false)) }
+        × (list_any lacks_ids (fields_stored frames) ≡ false)) }
     ensures missing { (bytes : List ℕ) (frames : List Stored) (after : List ℕ) → IsBytes bytes →
         IsFile bytes frames after → length frames < 2 ^ 64 - 1 →
-        list_any lacks_ids (contents_stored frames) ≡ true →
+        list_any lacks_ids (fields_stored frames) ≡ true →
         file_at bytes ≡ Err (FileError.Refused Error.MissingId) }
 {
     // For the proof alone: a law of packets.
@@ -128,21 +130,21 @@ pub fn files_have_an_end()
 /// frames of the view that was read, in order. If neither the reader fails nor memory runs out, reading is refused only if some
 /// of their details have no id.
 pub fn what_was_written_is_read()
-    ensures frames { (cs : List Said) (new : Option (List ℕ)) (frames : List Stored) →
+    ensures frames { (cs : List PacketFields) (new : Option (List ℕ)) (frames : List Stored) →
         AllByRecursion IsPacked cs → length cs < 2 ^ 64 - 1 →
         TookFrames file_at (Some (file_of cs)) new frames → frames ≡ map packed cs }
-    ensures fault { (cs : List Said) (new : Option (List ℕ)) (e : FileError) →
+    ensures fault { (cs : List PacketFields) (new : Option (List ℕ)) (e : FileError) →
         AllByRecursion IsPacked cs → length cs < 2 ^ 64 - 1 →
         FailsToRead file_at (Some (file_of cs)) new e → ¬ IsOutside e →
         (e ≡ FileError.Refused Error.MissingId) × (list_any lacks_ids cs ≡ true) }
     ensures view { (v : View) (new : Option (List ℕ)) (view : FrameView) →
-        AllByRecursion IsPacked (contents_in v) → length (contents_in v) < 2 ^ 64 - 1 →
-        ReadsView file_at (Some (file_of (contents_in v))) new (Ok view) →
-        map contents_of (view_of view).recent ≡ contents_in v }
+        AllByRecursion IsPacked (fields_in v) → length (fields_in v) < 2 ^ 64 - 1 →
+        ReadsView file_at (Some (file_of (fields_in v))) new (Ok view) →
+        map fields_of (view_of view).recent ≡ fields_in v }
     // The view that takes these frames has no others.
-    ensures all { (v : View) → length (contents_in v) < 2 ^ 64 - 1 →
-        contents_in (after_all read_view (map frame_stored (map packed (contents_in v))))
-        ≡ contents_in v }
+    ensures all { (v : View) → length (fields_in v) < 2 ^ 64 - 1 →
+        fields_in (after_all read_view (map frame_stored (map packed (fields_in v))))
+        ≡ fields_in v }
 {
     // For the proof alone: a law of packets.
     written_is_read();
@@ -152,10 +154,12 @@ pub fn what_was_written_is_read()
 /// the frame before it. With one more frame these are the frames that were kept and that one, or that one alone.
 pub fn reading_keeps_what_rises()
     ensures kept { (fs : List Frame) → length fs < 2 ^ 64 - 1 →
-        contents_in (after_all read_view fs) ≡ rising_end (map contents_of fs) }
-    ensures goes_on { (cs : List Said) (c : Said) → rises_behind (last_index cs) c ≡ true →
+        fields_in (after_all read_view fs) ≡ rising_end (map fields_of fs) }
+    ensures goes_on { (cs : List PacketFields) (c : PacketFields) →
+        rises_behind (last_index cs) c ≡ true →
         rising_end (cs ++ c ∷ []) ≡ rising_end cs ++ c ∷ [] }
-    ensures begins_anew { (cs : List Said) (c : Said) → rises_behind (last_index cs) c ≡ false →
+    ensures begins_anew { (cs : List PacketFields) (c : PacketFields) →
+        rises_behind (last_index cs) c ≡ false →
         rising_end (cs ++ c ∷ []) ≡ c ∷ [] }
 {}
 
@@ -164,26 +168,26 @@ pub fn reading_keeps_what_rises()
 /// four bytes of the next packet are left, or else `Truncated`. No frame is changed, and none comes that wasn't written.
 pub fn cut_files_give_whole_frames()
     // what is left of a file
-    ensures cut { (cs : List Said) (bytes lost : List ℕ) → file_of cs ≡ bytes ++ lost →
-        4 ≤ length bytes → (whole : List Said) × IsCut cs bytes whole }
+    ensures cut { (cs : List PacketFields) (bytes lost : List ℕ) → file_of cs ≡ bytes ++ lost →
+        4 ≤ length bytes → (whole : List PacketFields) × IsCut cs bytes whole }
     // what a call gives that reads it at once
-    ensures file { (cs : List Said) (bytes : List ℕ) (whole : List Said)
+    ensures file { (cs : List PacketFields) (bytes : List ℕ) (whole : List PacketFields)
         (h : IsCut cs bytes whole) → AllByRecursion IsPacked cs → length cs < 2 ^ 64 - 1 →
         list_any lacks_ids cs ≡ false →
         file_at bytes
         ≡ (if nat_lt (length h.left) 4 then Ok (map packed whole, [])
         else Err FileError.Truncated) }
     // what a reader has given of it: the first of these frames
-    ensures given { (cs : List Said) (bytes : List ℕ) (whole : List Said) →
+    ensures given { (cs : List PacketFields) (bytes : List ℕ) (whole : List PacketFields) →
         IsCut cs bytes whole → AllByRecursion IsPacked cs → list_any lacks_ids cs ≡ false →
         (new : Option (List ℕ)) (frames : List Stored) → HasGiven (Some bytes) new frames →
-        (given more : List Said) × (whole ≡ given ++ more) × (frames ≡ map packed given) }
+        (given more : List PacketFields) × (whole ≡ given ++ more) × (frames ≡ map packed given) }
     // and all of them, once it is at the end or refuses
-    ensures end { (cs : List Said) (bytes : List ℕ) (whole : List Said) →
+    ensures end { (cs : List PacketFields) (bytes : List ℕ) (whole : List PacketFields) →
         IsCut cs bytes whole → AllByRecursion IsPacked cs → list_any lacks_ids cs ≡ false →
         (mid new : Option (List ℕ)) (frames : List Stored) → HasGiven (Some bytes) mid frames →
         GivesNext mid new (Ok None) → frames ≡ map packed whole }
-    ensures fault { (cs : List Said) (bytes : List ℕ) (whole : List Said) →
+    ensures fault { (cs : List PacketFields) (bytes : List ℕ) (whole : List PacketFields) →
         IsCut cs bytes whole → AllByRecursion IsPacked cs → list_any lacks_ids cs ≡ false →
         (mid new : Option (List ℕ)) (frames : List Stored) (e : FileError) →
         HasGiven (Some bytes) mid frames → GivesNext mid new (Err e) → ¬ IsOutside e →

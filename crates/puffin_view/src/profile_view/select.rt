@@ -16,18 +16,18 @@ use std::sync::Arc;
 
 /// A place in a list of frames, ordered by the falling duration of its frame, then by the rising index, then by the place.
 #[derive(Clone, Copy, Debug, PartialEq, Eq, PartialOrd, Ord)]
-struct SlowPlace {
+struct ByDuration {
     duration_ns: Reverse<NanoSecond>,
     frame_index: FrameIndex,
     place: usize,
 }
 
-impl SlowPlace {
+impl ByDuration {
     /// Makes the place of a frame.
-    fn of(frame: &FrameData, place: usize) -> SlowPlace
+    fn of(frame: &FrameData, place: usize) -> ByDuration
         ensures { slow_place result ≡ rank_at place (frame_of frame.now) }
     {
-        SlowPlace {
+        ByDuration {
             duration_ns: Reverse(frame.duration_ns()),
             frame_index: frame.frame_index(),
             place,
@@ -38,33 +38,33 @@ impl SlowPlace {
 /// A place in a list of frames, ordered by the rising index of its frame, then by the place. No two places are equal, so the
 /// duration never decides.
 #[derive(Clone, Copy, Debug, PartialEq, Eq, PartialOrd, Ord)]
-pub(super) struct OldPlace {
+pub(super) struct ByIndex {
     frame_index: FrameIndex,
     place: usize,
     duration_ns: NanoSecond,
 }
 
 /// Returns the places of all frames of a list. Fails only with `Memory`.
-fn slow_places(alloc: Global, frames: &[Arc<FrameData>]) -> Result<Vec<SlowPlace>>
+fn slow_places(alloc: Global, frames: &[Arc<FrameData>]) -> Result<Vec<ByDuration>>
     ensures ok { IfOk result (λ v. map slow_place v.items ≡ ranks_from 0 (frames_of frames.now)) }
     ensures cause { IfErr result (λ e. e ≡ Error.Memory) }
 {
     let mut places = Vec::with_capacity(alloc, frames.len())?;
     for place in 0..frames.len() {
-        places.push(SlowPlace::of(&frames[place], place))?;
+        places.push(ByDuration::of(&frames[place], place))?;
     }
     Ok(places)
 }
 
 /// Converts places into the form that has the other order. Fails only with `Memory`.
-fn old_places(alloc: Global, slow: &[SlowPlace]) -> Result<Vec<OldPlace>>
+fn old_places(alloc: Global, slow: &[ByDuration]) -> Result<Vec<ByIndex>>
     ensures ok { IfOk result (λ v. map old_place v.items ≡ map slow_place slow.now) }
     ensures cause { IfErr result (λ e. e ≡ Error.Memory) }
 {
     let mut places = Vec::with_capacity(alloc, slow.len())?;
     for k in 0..slow.len() {
         let at = slow[k];
-        places.push(OldPlace {
+        places.push(ByIndex {
             frame_index: at.frame_index,
             place: at.place,
             duration_ns: at.duration_ns.0,
@@ -93,7 +93,7 @@ fn push_at(all: &mut Vec<Arc<FrameData>>, frames: &[Arc<FrameData>], place: usiz
 fn frames_at(
     alloc: Global,
     frames: &[Arc<FrameData>],
-    places: &[OldPlace],
+    places: &[ByIndex],
 ) -> Result<Vec<Arc<FrameData>>>
     ensures ok { IfOk result (λ v.
         frames_of v.items ≡ filter_map (λ r. slice_get (frames_of frames.now) r.place) (
@@ -122,8 +122,8 @@ pub fn select_slowest(
     ensures cause { IfErr result (λ e. e ≡ Error.Memory) }
 {
     let places = slow_places(alloc, frames)?;
-    let ranked: Vec<SlowPlace> = places.into_iter().sorted(alloc)?.take(max).collect(alloc)?;
+    let ranked: Vec<ByDuration> = places.into_iter().sorted(alloc)?.take(max).collect(alloc)?;
     let old = old_places(alloc, &ranked)?;
-    let chosen: Vec<OldPlace> = old.into_iter().sorted(alloc)?.collect(alloc)?;
+    let chosen: Vec<ByIndex> = old.into_iter().sorted(alloc)?.collect(alloc)?;
     frames_at(alloc, frames, &chosen)
 }

@@ -9,18 +9,18 @@ use std::sync::Arc;
 
 /// Running sums over frames. They are exact even while they exceed `usize`.
 #[derive(Clone, Copy, Debug)]
-pub(crate) struct Sums {
+pub(crate) struct RunningStats {
     pub frames: u128,
     pub unpacked_frames: u128,
     pub bytes_of_ram_used: u128,
 }
 
-impl Sums {
+impl RunningStats {
     /// Makes the sums over no frames.
-    pub fn new() -> Sums
+    pub fn new() -> RunningStats
         ensures { result ≡ record { frames = 0; unpacked_frames = 0; bytes_of_ram_used = 0 } }
     {
-        Sums {
+        RunningStats {
             frames: 0,
             unpacked_frames: 0,
             bytes_of_ram_used: 0,

@@ -1,5 +1,5 @@
-use Rattle.puffin_data.specs.Value.Layout.{byte, number, signed, flag, block, IsByte, IsWord, IsLong, IsSigned, IsAny, IsBlock, IsText}
-use Rattle.puffin_data.specs.Value.Decoding.{byte_at, number_at, word_at, signed_at, flag_at, bytes_at, text_at}
+use Rattle.puffin_data.specs.Value.Layout.{byte, number, signed, flag, block, IsByte, IsU32, IsLong, IsSigned, IsAny, IsBlock, IsText}
+use Rattle.puffin_data.specs.Value.Decoding.{byte_at, number_at, u32_at, signed_at, flag_at, bytes_at, text_at}
 use Rattle.puffin_data.proofs.lemmas.Readers.{reads_layouts}
 use Rattle.puffin_data.proofs.lemmas.ValueReaders.{byte_reader, number_reader, word_reader, signed_reader, flag_reader, bytes_reader, text_reader}
 use Rattle.puffin_data.proofs.laws.only_layouts_are_read.Goals as goal
@@ -11,7 +11,7 @@ pub returns-clause-numbers : goal.returns-clause-numbers
 returns-clause-numbers c b x r = reads_layouts IsLong number number_at number_reader b x r
 
 pub returns-clause-words : goal.returns-clause-words
-returns-clause-words c b x r = reads_layouts IsWord number word_at word_reader b x r
+returns-clause-words c b x r = reads_layouts IsU32 number u32_at word_reader b x r
 
 pub returns-clause-signed : goal.returns-clause-signed
 returns-clause-signed c b x r = reads_layouts IsSigned signed signed_at signed_reader b x r

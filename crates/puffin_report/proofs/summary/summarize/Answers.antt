@@ -1,7 +1,7 @@
 -- What was given is summed up.
 use Rattle.std.proofs.Common.{List, [], ◌∷◌, ◌++◌, ◌∙◌, inl, arith, length-append}
 use Rattle.std.proofs.lemmas.Result.{err_from_is_err_and}
-use Rattle.puffin_threads.specs.Thread.Info.{info_of}
+use Rattle.puffin_threads.specs.Thread.ThreadKey.{key_of}
 use Rattle.puffin_frames.specs.Packet.Stored.{Stored}
 use Rattle.puffin_frames.specs.Packet.Next.{stored_of}
 use Rattle.puffin_report.proofs.Stepping.{fresh_frame, room_left, none_left, ends_so, if_ok_so, if_err_so}
@@ -18,14 +18,14 @@ returns-in_default-clause-summary g c =
     let before = c.frames.invariant in
     let few = room_left before.0 c.frames.counter before.3 c.frames-test.true in
     let took = (rw c.in_default.is at c.in_ok-frame.ensures.end) _ before.0 before.1 few in
-    if_ok_so c.finish.result (λ summary sums. (before.0, took, sums (info_of c.args.thread.now) before.0 before.2 few)) c.finish.ensures.ok
+    if_ok_so c.finish.result (λ summary sums. (before.0, took, sums (key_of c.args.thread.now) before.0 before.2 few)) c.finish.ensures.ok
 
 pub returns-in_default-clause-err : goal.returns-in_default-clause-err
 returns-in_default-clause-err g c =
     let before = c.frames.invariant in
     let few = room_left before.0 c.frames.counter before.3 c.frames-test.true in
     let took = (rw c.in_default.is at c.in_ok-frame.ensures.end) _ before.0 before.1 few in
-    if_err_so c.finish.result (λ fault ends. ends_so (info_of c.args.thread.now) _ _ before.0 fault took (ends (info_of c.args.thread.now) before.0 before.2 few)) c.finish.ensures.err
+    if_err_so c.finish.result (λ fault ends. ends_so (key_of c.args.thread.now) _ _ before.0 fault took (ends (key_of c.args.thread.now) before.0 before.2 few)) c.finish.ensures.err
 
 pub frames-preserved : goal.frames-preserved
 frames-preserved g c =
@@ -34,7 +34,7 @@ frames-preserved g c =
     let one : List Stored = stored_of frame ∷ [] in (
       before.0 ++ one,
       (rw c.in-Some.is at c.in_ok-frame.ensures.given) _ before.0 before.1,
-      c.in_ok-sum.ensures.ok (info_of c.args.thread.now) before.0 (stored_of frame) (fresh_frame frame (rw c.in-Some.is at c.in_ok-frame.ensures.fresh)) before.2,
+      c.in_ok-sum.ensures.ok (key_of c.args.thread.now) before.0 (stored_of frame) (fresh_frame frame (rw c.in-Some.is at c.in_ok-frame.ensures.fresh)) before.2,
       omega (arith, length-append before.0 one, before.3),
       c.in_ok-frame.ensures.failures ∙ before.4,
     )

@@ -2,7 +2,7 @@
 ghost use Rattle.std.specs.Prelude.{◌≡◌, ◌⊎◌, ◌↔◌, true, false, OnOk, OnErr, IfErr};
 ghost use Rattle.puffin_data.specs.declared.error.Error.{Error};
 ghost use Rattle.puffin_threads.specs.Details.Collection.{no_details};
-ghost use Rattle.puffin_view.specs.View.ViewedFrames.{contents_of, index_of};
+ghost use Rattle.puffin_view.specs.View.ViewedFrames.{fields_of, index_of};
 ghost use Rattle.puffin_view.specs.View.FrameOf.{shared_frame};
 ghost use Rattle.puffin_view.specs.View.{without_frames, with_newest_packed, is_past, joined_by, after_taking, KeepsFrames};
 ghost use Rattle.puffin_view.specs.inner.Kept.{IsSteady};
@@ -42,7 +42,7 @@ impl FrameView {
             HoldsAlso (shared_frame frame) (view_of self.old) (view_of self.new)) }
         ensures ok { OnOk result (Adds (shared_frame frame) self.old self.new) }
         ensures missing { (result ≡ Err Error.MissingId)
-            ↔ (lacks_ids (contents_of (shared_frame frame)) ≡ true) }
+            ↔ (lacks_ids (fields_of (shared_frame frame)) ≡ true) }
         ensures unchanged { (result ≡ Err Error.MissingId) → self.new ≡ self.old }
         ensures cause { IfErr result (λ e. (e ≡ Error.MissingId) ⊎ (e ≡ Error.Memory)) }
         // What may have changed if it fails.

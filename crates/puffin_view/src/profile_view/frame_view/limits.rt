@@ -1,6 +1,6 @@
 //! The limits of a view, and whether it packs.
 ghost use Rattle.std.specs.Prelude.{◌≡◌, List, []};
-ghost use Rattle.puffin_frames.specs.Packet.Stored.{Said};
+ghost use Rattle.puffin_frames.specs.Packet.Stored.{PacketFields};
 ghost use Rattle.puffin_view.specs.View.{Holds};
 ghost use Rattle.puffin_view.specs.View.Known.{view_of, with_frames};
 
@@ -12,7 +12,7 @@ impl FrameView {
     pub fn clear_slowest(&mut self)
         ensures frames { self.new
             ≡ with_frames self.old (record (view_of self.old) { slow = [] }) }
-        ensures holds { (cs ds : List Said) → Holds cs ds (view_of self.old) →
+        ensures holds { (cs ds : List PacketFields) → Holds cs ds (view_of self.old) →
             Holds cs [] (view_of self.new) }
     {
         cut_slow(&mut self.held, &self.recent, &mut self.slow, 0);

@@ -5,8 +5,8 @@ use Rattle.std.proofs.lemmas.List.{append-nil}
 use Rattle.std.proofs.lemmas.List.Elements.{All-nil}
 use Rattle.std.specs.Prelude.{IsSome}
 use Rattle.std.specs.FinMap as map
-use Rattle.puffin_data.specs.Honesty.{AreUnlike, record_of_ref}
-use Rattle.puffin_threads.specs.Thread.Info.{info_of}
+use Rattle.puffin_data.specs.Honesty.{AreUnlike, facts_of_ref}
+use Rattle.puffin_threads.specs.Thread.ThreadKey.{key_of}
 use Rattle.puffin_frames.specs.Frame.Contents.{Streams, shared_streams, stream_under, reported_to}
 use Rattle.puffin_frames.specs.Frame.Holding.{HaveLayout}
 use Rattle.puffin_threads.specs.Details.{shared_details, AllHaveIds}
@@ -32,8 +32,8 @@ invariant_of-self-2 c =
       new_details = shared_details inside.new_details.items;
       wants_all = inside.wants_all;
     } in
-    let i = info_of c.args.info in
-    let r = record_of_ref c.args.times.now in
+    let i = key_of c.args.info in
+    let r = facts_of_ref c.args.times.now in
     let like : ¬ AreUnlike (stream_under seen.streams i) r = (λ apart. let refused = c.in_ok-report_to.ensures.unlike.1 apart in absurd cc) in
     let laws : Laws seen.streams i r c.requires.0 = record {
       bytes = c.reported_streams.ensures.bytes _ i r;
@@ -53,14 +53,14 @@ invariant_of-self-2 c =
 
 pub returns-in-Err-clause-err : goal.returns-in-Err-clause-err
 returns-in-Err-clause-err c =
-    (first_of_sums c.args.self.now (info_of c.args.info) [] (record_of_ref c.args.times.now) no_ids _ _ c.first_cause.ensures c.in-Err.ensures.refusal, refl)
+    (first_of_sums c.args.self.now (key_of c.args.info) [] (facts_of_ref c.args.times.now) no_ids _ _ c.first_cause.ensures c.in-Err.ensures.refusal, refl)
 
 pub returns-in_err-report_to-clause-err : goal.returns-in_err-report_to-clause-err
 returns-in_err-report_to-clause-err c =
     let p = err_from_is_err_and c.from_residual.result c.from_residual.ensures.1 in
     let inside = c.self.inside in
-    let i = info_of c.args.info in
-    let r = record_of_ref c.args.times.now in
+    let i = key_of c.args.info in
+    let r = facts_of_ref c.args.times.now in
     let with : Streams → Collected = (λ (streams : Streams). record {
       index = inside.meta.frame_index;
       reported = inside.reported;
@@ -81,8 +81,8 @@ returns-in_err-report_to-clause-err c =
 pub returns-clause-ok : goal.returns-clause-ok
 returns-clause-ok c =
     let inside = c.self.inside in
-    let i = info_of c.args.info in
-    let r = record_of_ref c.args.times.now in
+    let i = key_of c.args.info in
+    let r = facts_of_ref c.args.times.now in
     let seen : Collected = record {
       index = inside.meta.frame_index;
       reported = inside.reported;

@@ -2,8 +2,8 @@
 use Rattle.std.proofs.Common.{◌≡◌, ◌++◌, List, refl, sym, subst, ◌∙◌, ap, inl}
 use Rattle.std.specs.Arc.{arc_value}
 use Rattle.std.proofs.lemmas.List.{map-append}
-use Rattle.puffin_data.specs.Honesty.{record_of_ref}
-use Rattle.puffin_threads.specs.Thread.Info.{info_of}
+use Rattle.puffin_data.specs.Honesty.{facts_of_ref}
+use Rattle.puffin_threads.specs.Thread.ThreadKey.{key_of}
 use Rattle.puffin_frames.specs.Frame.Contents.{shared_streams}
 use Rattle.puffin_threads.specs.Details.{Details, details_of, details_seen, shared_details, AllHaveIds}
 use Rattle.puffin_collector.specs.Collector.State.{Collected, PendingFits, range_with, IsTooLong, IsUnlike, IsReportRefusal, after_report}
@@ -35,7 +35,7 @@ returns-in-Err-append-clause-err c =
     }) in
     let same = ap with (ap shared_details c.in-Err-append.ensures.items) ∙ c.self.view_is in
     let first = c.cause_without_memory-in-Err-append.ensures (details_seen c.args.details.now) ids in
-    (subst (λ (v : Collected). IsReportRefusal v (info_of c.args.info) (details_seen c.args.details.now) (record_of_ref c.args.times.now) c.cause_without_memory-in-Err-append.result) same first, same)
+    (subst (λ (v : Collected). IsReportRefusal v (key_of c.args.info) (details_seen c.args.details.now) (facts_of_ref c.args.times.now) c.cause_without_memory-in-Err-append.result) same first, same)
 
 pub invariant_of-self-2 : goal.invariant_of-self-2
 invariant_of-self-2 c =
@@ -45,9 +45,9 @@ invariant_of-self-2 c =
 pub returns-in-Ok-append-2-clause-ok : goal.returns-in-Ok-append-2-clause-ok
 returns-in-Ok-append-2-clause-ok c =
     let inside = c.self.inside in
-    let i = info_of c.args.info in
+    let i = key_of c.args.info in
     let ds = details_seen c.args.details.now in
-    let r = record_of_ref c.args.times.now in
+    let r = facts_of_ref c.args.times.now in
     let ids = all_ids _ c.args.details.now c.all_have_ids.ensures c.if-not-all_have_ids.false in
     let seen : Collected = record {
       index = inside.meta.frame_index;
@@ -78,9 +78,9 @@ invariant_of-self-in-Err-append-2 c =
 pub returns-clause-err : goal.returns-clause-err
 returns-clause-err c =
     let inside = c.self.inside in
-    let i = info_of c.args.info in
+    let i = key_of c.args.info in
     let ds = details_seen c.args.details.now in
-    let r = record_of_ref c.args.times.now in
+    let r = facts_of_ref c.args.times.now in
     let ids = all_ids _ c.args.details.now c.all_have_ids.ensures c.if-not-all_have_ids.false in
     let with : List Details → Collected = (λ (ds : List Details). record {
       index = inside.meta.frame_index;

@@ -1,14 +1,14 @@
 -- What the sums so far come to with one report more.
 use Rattle.std.proofs.Common.{◌≡◌, ◌+◌, ◌^◌, ◌<◌, arith, refl, sym, subst, inl, inr}
 use Rattle.std.specs.FinMap as map
-use Rattle.puffin_data.specs.Honesty.{record_of_ref}
+use Rattle.puffin_data.specs.Honesty.{facts_of_ref}
 use Rattle.puffin_frames.specs.Frame.Sums.{meta_of}
 use Rattle.puffin_collector.specs.Collector.State.{Collected, PendingFits}
 use Rattle.puffin_collector.proofs.Reporting.{Joins, sums_fit, range_is, adds_up, too_large, too_long, not_too_long, duration_fits}
 use Rattle.puffin_collector.proofs.collector.Collector.sums_with.Goals as goal
 
 -- how it adds up, where the range is too long and where it isn't
-at_test : (c : goal.Then-is_too_long) → Joins c.args.self.now c.self.inside.meta c.in-Some.meta (record_of_ref c.args.times.now)
+at_test : (c : goal.Then-is_too_long) → Joins c.args.self.now c.self.inside.meta c.in-Some.meta (facts_of_ref c.args.times.now)
 at_test c = record {
   sums = subst (λ (v : Collected). c.self.inside.meta ≡ meta_of v.index (map.values v.streams)) c.self.view_is c.self.invariant.0.sums;
   frame_index = c.in-Some.ensures.frame_index;
@@ -20,7 +20,7 @@ at_test c = record {
   reported = subst (λ (v : Collected). v.reported + c.args.times.now.num_scopes < 2 ^ 64) c.self.view_is (omega arith);
 }
 
-after : (c : goal.Else-is_too_long) → Joins c.args.self.now c.self.inside.meta c.in-Some.meta (record_of_ref c.args.times.now)
+after : (c : goal.Else-is_too_long) → Joins c.args.self.now c.self.inside.meta c.in-Some.meta (facts_of_ref c.args.times.now)
 after c = record {
   sums = subst (λ (v : Collected). c.self.inside.meta ≡ meta_of v.index (map.values v.streams)) c.self.view_is c.self.invariant.0.sums;
   frame_index = c.in-Some.ensures.frame_index;
@@ -41,7 +41,7 @@ pub returns-in_default-checked_add-clause-refusal : goal.returns-in_default-chec
 returns-in_default-checked_add-clause-refusal c =
     inl (
       refl,
-      λ (fits : PendingFits c.args.self.now (record_of_ref c.args.times.now)). c.in_default-checked_add.ensures (subst (λ (v : Collected). v.reported + c.args.times.now.num_scopes < 2 ^ 64) (sym c.self.view_is) fits.reported),
+      λ (fits : PendingFits c.args.self.now (facts_of_ref c.args.times.now)). c.in_default-checked_add.ensures (subst (λ (v : Collected). v.reported + c.args.times.now.num_scopes < 2 ^ 64) (sym c.self.view_is) fits.reported),
     )
 
 pub returns-then-is_too_long-clause-refusal : goal.returns-then-is_too_long-clause-refusal

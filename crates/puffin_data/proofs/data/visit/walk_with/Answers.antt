@@ -9,7 +9,7 @@ use Rattle.puffin_data.specs.inner.Walking.{tries_in}
 use Rattle.puffin_data.specs.Walk.Sightings.{found_of}
 use Rattle.puffin_data.specs.Walk.Visitor.{StopsAtFault, StopsAtRefusal}
 use Rattle.puffin_data.proofs.lemmas.Numbers.{IsBytes, IsBytes-drop, IsBytes-take}
-use Rattle.puffin_data.proofs.Found.{passes}
+use Rattle.puffin_data.proofs.FoundScope.{passes}
 use Rattle.puffin_data.proofs.Resuming.{found_places, IsNested}
 use Rattle.puffin_data.proofs.Spelled.{spelt}
 use Rattle.puffin_data.proofs.Going.{nested_low_regions, regions_push, regions_pop, ends_of, enters_region, leaves_region, ended, fails, refusing, all_of_it}

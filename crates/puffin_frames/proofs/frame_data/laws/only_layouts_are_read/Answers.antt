@@ -1,16 +1,16 @@
 use Rattle.puffin_data.proofs.lemmas.Readers.{reads_layouts}
-use Rattle.puffin_frames.specs.Packet.Structs.{meta_layout, IsMeta, meta_at, info_layout, IsInfo, info_at, recorded_layout, IsRecorded, recorded_at, streams_layout, AreStreams, streams_at, details_layout, AreDetails, details_at, legacy_layout, IsLegacy, legacy_at}
-use Rattle.puffin_frames.proofs.Structs.{meta_reader, thread_reader, recorded_reader, streams_reader, details_reader, legacy_reader}
+use Rattle.puffin_frames.specs.Packet.Structs.{meta_layout, IsMeta, meta_at, key_layout, IsThreadKey, key_at, facts_layout, AreStreamFacts, facts_at, streams_layout, AreStreams, streams_at, details_layout, AreDetails, details_at, legacy_layout, IsLegacy, legacy_at}
+use Rattle.puffin_frames.proofs.Structs.{meta_reader, thread_reader, facts_reader, streams_reader, details_reader, legacy_reader}
 use Rattle.puffin_frames.proofs.frame_data.laws.only_layouts_are_read.Goals as goal
 
 pub returns-clause-metas : goal.returns-clause-metas
 returns-clause-metas c b x r = reads_layouts IsMeta meta_layout meta_at meta_reader b x r
 
 pub returns-clause-threads : goal.returns-clause-threads
-returns-clause-threads c b x r = reads_layouts IsInfo info_layout info_at thread_reader b x r
+returns-clause-threads c b x r = reads_layouts IsThreadKey key_layout key_at thread_reader b x r
 
 pub returns-clause-infos : goal.returns-clause-infos
-returns-clause-infos c packed b x r = reads_layouts (IsRecorded packed) (recorded_layout packed) (recorded_at packed) (recorded_reader packed) b x r
+returns-clause-infos c packed b x r = reads_layouts (AreStreamFacts packed) (facts_layout packed) (facts_at packed) (facts_reader packed) b x r
 
 pub returns-clause-streams : goal.returns-clause-streams
 returns-clause-streams c packed b x r = reads_layouts (AreStreams packed) (streams_layout packed) (streams_at packed) (streams_reader packed) b x r

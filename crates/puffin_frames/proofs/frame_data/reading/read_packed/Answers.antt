@@ -5,7 +5,7 @@ use Rattle.puffin_frames.specs.declared.frame_data.version.Version.{Version}
 use Rattle.puffin_threads.specs.Details.{Details}
 use Rattle.puffin_frames.specs.declared.frame_data.kind.Kind.{Kind}
 use Rattle.puffin_frames.specs.declared.frame_data.meta.FrameMeta.{FrameMeta}
-use Rattle.puffin_frames.specs.Packet.Stored.{Said}
+use Rattle.puffin_frames.specs.Packet.Stored.{PacketFields}
 use Rattle.puffin_threads.specs.Details.{shared_details}
 use Rattle.puffin_data.specs.Device.{FromDevice}
 use Rattle.puffin_frames.specs.Frame.Holding.{Packing}
@@ -18,15 +18,15 @@ use Rattle.puffin_data.specs.declared.data.form.Form.{Form}
 use Rattle.puffin_data.proofs.lemmas.Devices.{fails_on, gives_on, stops, given}
 use Rattle.puffin_frames.proofs.frame_data.reading.read_packed.Goals as goal
 
-made : Version → FrameMeta → Kind × List ℕ → List Details → Said
+made : Version → FrameMeta → Kind × List ℕ → List Details → PacketFields
 made version m s ds = record { meta = m; form = text_form version; kind = s.0; streams = s.1; details = ds }
 
 -- what follows the meta, and what follows the streams
-after_meta : Version → FrameMeta → List ℕ → Result (Said × List ℕ) FileError
+after_meta : Version → FrameMeta → List ℕ → Result (PacketFields × List ℕ) FileError
 unfolding made
 after_meta version m bytes = streams_part_at version bytes >>= λ s. details_part_at version s.1 >>= λ d. Ok (made version m s.0 d.0, d.1)
 
-after_streams : Version → FrameMeta → Kind × List ℕ → List ℕ → Result (Said × List ℕ) FileError
+after_streams : Version → FrameMeta → Kind × List ℕ → List ℕ → Result (PacketFields × List ℕ) FileError
 after_streams version m s bytes = details_part_at version bytes >>= λ d. Ok (made version m s d.0, d.1)
 
 pub returns-in_err-kind-clause-part : goal.returns-in_err-kind-clause-part
@@ -58,12 +58,12 @@ returns-clause-part g c =
     let m = c.in_ok-meta.meta in
     let s : (Kind × List ℕ) = (c.in_ok-kind.kind, c.in_ok-kind.bytes.items) in
     let d = shared_details c.in_ok-scope_delta.scope_delta.items in
-    let out : Said = made version m s d in
-    let says : Packing → Said = λ (p : Packing). record { meta = m; form = p.form; kind = p.kind; streams = p.bytes; details = d } in
+    let out : PacketFields = made version m s d in
+    let says : Packing → PacketFields = λ (p : Packing). record { meta = m; form = p.form; kind = p.kind; streams = p.bytes; details = d } in
     let same : says (packed_as c.new.result) ≡ out = ap says c.new.ensures ∙ ap (λ (form : Form). record { meta = m; form = form; kind = s.0; streams = s.1; details = d }) c.text_form.ensures in
     let old = g.S.Source.remaining c.args.source.now in
     let now = g.S.Source.remaining c.read_details_part.new.source in
-    subst (λ (said : Said). FromDevice (λ (x : Said). x) old now (Ok said) (packet_at version)) (sym same)
+    subst (λ (said : PacketFields). FromDevice (λ (x : PacketFields). x) old now (Ok said) (packet_at version)) (sym same)
     (gives_on m out _ _ _ meta_part_at (after_meta version) c.in_ok-meta.ensures.part
     (gives_on s out _ _ _ (streams_part_at version) (after_streams version m) c.in_ok-kind.ensures.part
     (gives_on d out _ _ _ (details_part_at version) (λ x bytes. Ok (made version m s x, bytes)) c.in_ok-scope_delta.ensures.part

@@ -4,7 +4,7 @@ use Rattle.std.specs.Map.{keys_of}
 use Rattle.std.specs.List.Sorted.{IsStrictlySortedBy}
 use Rattle.std.proofs.lemmas.List.{length-map}
 use Rattle.std.proofs.lemmas.Map.Iter.{rest_more}
-use Rattle.puffin_threads.specs.Thread.Info.{thread_cmp}
+use Rattle.puffin_threads.specs.Thread.ThreadKey.{thread_cmp}
 use Rattle.puffin_frames.specs.Frame.Contents.{shared_streams}
 use Rattle.puffin_frames.specs.inner.Pairs.{pairs_of}
 use Rattle.puffin_frames.proofs.Layouts.{all_laid_out}

@@ -3,7 +3,7 @@ use Rattle.std.specs.Map.{keys_of}
 use Rattle.std.specs.Map.Iter.{deref_pair}
 use Rattle.std.specs.List.Sorted.{IsStrictlySortedBy}
 use Rattle.std.proofs.lemmas.Map.Iter.{rest_more}
-use Rattle.puffin_threads.specs.Thread.Info.{thread_cmp}
+use Rattle.puffin_threads.specs.Thread.ThreadKey.{thread_cmp}
 use Rattle.puffin_frames.proofs.Listed.{copy_more}
 use Rattle.puffin_frames.proofs.frame_data.thread_streams.streams_copy.Goals as goal
 

@@ -6,7 +6,7 @@ use Rattle.puffin_session.specs.Session.{SessionState, new_session}
 use Rattle.puffin_replay.specs.Program.Recording.{IsBroken}
 use Rattle.puffin_replay.specs.Promise.{EmitsDue}
 use Rattle.puffin_view.specs.View.{View}
-use Rattle.puffin_view.specs.View.File.{contents_held}
+use Rattle.puffin_view.specs.View.File.{fields_held}
 use Rattle.puffin_replay.specs.Program.ReplyLines.{reply_lines}
 use Rattle.puffin_report.specs.Summary.{NoneLacksIds}
 use Rattle.puffin_report.proofs.lemmas.WrittenLines.{told-cut}
@@ -28,7 +28,7 @@ returns-in_err-text-clause-fails g c =
     let recorded = c.in_ok-replies.ensures in
     let end = c.record_session.new.session in
     let run : (last : SessionState) × EmitsDue (new_session (map (λ t. (string_bytes t.0, t.1)) c.in_ok-threads.threads.items)) last c.deref.result.now c.in_ok-replies.replies.items = (end, subst (λ (s : SessionState). EmitsDue s end c.deref.result.now c.in_ok-replies.replies.items) c.in-Ok.ensures.new recorded.run) in
-    let ids = recorded.ids (subst (λ (v : View). NoneLacksIds (contents_held v)) (sym c.loose_view-view.ensures.frames) refl) in
+    let ids = recorded.ids (subst (λ (v : View). NoneLacksIds (fields_held v)) (sym c.loose_view-view.ensures.frames) refl) in
     rw p.1
     (no_lines script (map (λ t. (string_bytes t.0, t.1)) c.in_ok-threads.threads.items) c.deref.result.now c.in_ok-threads.ensures c.deref.ensures.value c.loose_view-view.result c.record_session.new.view c.loose_view-view.ensures.frames c.in_ok-replies.replies.items run recorded.view
     (g.D.Drain.contents c.args.out.now) (g.D.Drain.contents c.record_session.new.drain) recorded.written ids p.0 (g.E.Drain.contents c.args.lines.now) p.2)
@@ -39,7 +39,7 @@ returns-clause-ok g c =
     let recorded = c.in_ok-replies.ensures in
     let end = c.record_session.new.session in
     let run : (last : SessionState) × EmitsDue (new_session (map (λ t. (string_bytes t.0, t.1)) c.in_ok-threads.threads.items)) last c.deref.result.now c.in_ok-replies.replies.items = (end, subst (λ (s : SessionState). EmitsDue s end c.deref.result.now c.in_ok-replies.replies.items) c.in-Ok.ensures.new recorded.run) in
-    let ids = recorded.ids (subst (λ (v : View). NoneLacksIds (contents_held v)) (sym c.loose_view-view.ensures.frames) refl) in
+    let ids = recorded.ids (subst (λ (v : View). NoneLacksIds (fields_held v)) (sym c.loose_view-view.ensures.frames) refl) in
     let lines = c.as_bytes.ensures.value ∙ c.in_ok-text.ensures ∙ ap (λ (ns : List ℕ). reply_lines ns c.deref-3.result.now) c.deref-2.ensures.value ∙ ap (λ (rs : List Reply). reply_lines script.lines.items rs) c.deref-3.ensures.value in
     on_ok_weaker c.write_all.result
     (replayed script (map (λ t. (string_bytes t.0, t.1)) c.in_ok-threads.threads.items) c.deref.result.now c.in_ok-threads.ensures c.deref.ensures.value c.loose_view-view.result c.record_session.new.view c.loose_view-view.ensures.frames c.in_ok-replies.replies.items run recorded.view
@@ -52,7 +52,7 @@ returns-clause-fails g c =
     let recorded = c.in_ok-replies.ensures in
     let end = c.record_session.new.session in
     let run : (last : SessionState) × EmitsDue (new_session (map (λ t. (string_bytes t.0, t.1)) c.in_ok-threads.threads.items)) last c.deref.result.now c.in_ok-replies.replies.items = (end, subst (λ (s : SessionState). EmitsDue s end c.deref.result.now c.in_ok-replies.replies.items) c.in-Ok.ensures.new recorded.run) in
-    let ids = recorded.ids (subst (λ (v : View). NoneLacksIds (contents_held v)) (sym c.loose_view-view.ensures.frames) refl) in
+    let ids = recorded.ids (subst (λ (v : View). NoneLacksIds (fields_held v)) (sym c.loose_view-view.ensures.frames) refl) in
     let lines = c.as_bytes.ensures.value ∙ c.in_ok-text.ensures ∙ ap (λ (ns : List ℕ). reply_lines ns c.deref-3.result.now) c.deref-2.ensures.value ∙ ap (λ (rs : List Reply). reply_lines script.lines.items rs) c.deref-3.ensures.value in
     told-cut _ _ c.write_all.result
     (λ e io part.

@@ -1,7 +1,7 @@
 -- What was parsed is honest for the forest that the stream spells.
 use Rattle.std.proofs.Common.{◌∙◌, ap}
 use Rattle.puffin_data.specs.Stream.{StreamState}
-use Rattle.puffin_threads.specs.Thread.Info.{info_of}
+use Rattle.puffin_threads.specs.Thread.ThreadKey.{key_of}
 use Rattle.puffin_session.proofs.SessionCloses.{Accepts-from, Refuses-from}
 use Rattle.puffin_session.proofs.session.Session.report_user.Goals as goal
 
@@ -13,4 +13,4 @@ returns-clause-ok c =
 pub returns-clause-cause : goal.returns-clause-cause
 returns-clause-cause c =
     let parsed = c.in_ok-times.ensures in
-    Refuses-from _ _ _ _ (info_of c.in_ok-info.info) _ _ parsed.honest.0 _ _ _ c.self.view_is parsed.honest.1 (ap (λ (s : StreamState). s.form) parsed.same ∙ c.in_ok-clone.ensures.form) (ap (λ (s : StreamState). s.bytes) parsed.same ∙ c.in_ok-clone.ensures.ok) c.as_stream_into_ref.ensures c.in_ok-info.ensures.ok c.report_user_scopes.ensures.err
+    Refuses-from _ _ _ _ (key_of c.in_ok-info.info) _ _ parsed.honest.0 _ _ _ c.self.view_is parsed.honest.1 (ap (λ (s : StreamState). s.form) parsed.same ∙ c.in_ok-clone.ensures.form) (ap (λ (s : StreamState). s.bytes) parsed.same ∙ c.in_ok-clone.ensures.ok) c.as_stream_into_ref.ensures c.in_ok-info.ensures.ok c.report_user_scopes.ensures.err

@@ -1,17 +1,17 @@
 use Rattle.std.proofs.Common.{ap, ◌∙◌}
 use Rattle.std.specs.Arc.{arc_value}
-use Rattle.puffin_frames.specs.Frame.Contents.{contents, held_as, held_meta, frame_details}
+use Rattle.puffin_frames.specs.Frame.Contents.{streams_held, held_as, held_meta, frame_details}
 use Rattle.puffin_frames.proofs.Packings.{said_same, unpacked_layout, unpacked_no_layout}
 use Rattle.puffin_frames.specs.Frame.Holding.{packing_of}
 use Rattle.puffin_frames.proofs.frame_data.frame.FrameData.unpacked.Goals as goal
 
 pub returns-clause-layout : goal.returns-clause-layout
 returns-clause-layout c =
-    unpacked_layout (λ frame. contents (arc_value frame)) c.args.self.now.held c.unpack-held.result.1 (rw c.replace-held.ensures.value at c.unpack-held.ensures.unpacked)
+    unpacked_layout (λ frame. streams_held (arc_value frame)) c.args.self.now.held c.unpack-held.result.1 (rw c.replace-held.ensures.value at c.unpack-held.ensures.unpacked)
 
 pub returns-clause-no_layout : goal.returns-clause-no_layout
 returns-clause-no_layout c =
-    unpacked_no_layout (λ frame. contents (arc_value frame)) c.args.self.now.held c.unpack-held.result.1 (rw c.replace-held.ensures.value at c.unpack-held.ensures.unpacked)
+    unpacked_no_layout (λ frame. streams_held (arc_value frame)) c.args.self.now.held c.unpack-held.result.1 (rw c.replace-held.ensures.value at c.unpack-held.ensures.unpacked)
 
 pub returns-clause-says : goal.returns-clause-says
 returns-clause-says c =

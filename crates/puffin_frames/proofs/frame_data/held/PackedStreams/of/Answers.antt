@@ -1,8 +1,8 @@
 use Rattle.std.proofs.Common.{◌≡◌, Some, List, ap, sym, ◌∙◌}
 use Rattle.puffin_data.specs.declared.data.form.Form.{Form}
 use Rattle.puffin_frames.specs.declared.frame_data.kind.Kind.TheVariants.{Uncompressed}
-use Rattle.puffin_data.specs.Honesty.{Recorded}
-use Rattle.puffin_threads.specs.Thread.Info.{Info}
+use Rattle.puffin_data.specs.Honesty.{StreamFacts}
+use Rattle.puffin_threads.specs.Thread.ThreadKey.{ThreadKey}
 use Rattle.puffin_frames.proofs.FormsOfAll.{sorted_in}
 use Rattle.std.specs.Option.{option_map}
 use Rattle.std.specs.FinMap.{from_sorted}
@@ -23,7 +23,7 @@ returns-clause-ok c =
     let listed = entries-listed es (sorted_in form (pairs_of es) c.in_ok-put_streams.ensures.fit.1) in
     c.new.ensures ∙ ap (λ bytes. record { form = form; kind = Uncompressed; bytes = bytes }) put
     ∙ ap (λ (f : Form). record { form = f; kind = Uncompressed; bytes = streams_layout f (pairs_of es) }) c.packed_form-form.ensures
-    ∙ ap (λ (xs : List (Info × Recorded)). record { form = form_of_all xs; kind = Uncompressed; bytes = streams_layout (form_of_all xs) xs }) (sym listed)
+    ∙ ap (λ (xs : List (ThreadKey × StreamFacts)). record { form = form_of_all xs; kind = Uncompressed; bytes = streams_layout (form_of_all xs) xs }) (sym listed)
 
 pub returns-clause-content : goal.returns-clause-content
 returns-clause-content c =

@@ -1,0 +1,56 @@
+use Rattle.std.proofs.Common.{◌≡◌, List, ◌∙◌, ap, sym, subst, refl, string_bytes}
+use Rattle.std.proofs.lemmas.Result.{err_from_is_err_and}
+use Rattle.puffin_data.specs.Honesty.{StreamFacts, AreHonestFacts, facts_of}
+use Rattle.puffin_data.specs.Forest.Words.{open_after}
+use Rattle.puffin_threads.specs.Thread.Closing.{IsReportOf}
+use Rattle.puffin_threads.specs.Details.{Details, details_seen}
+use Rattle.puffin_threads.specs.Thread.ThreadKey.{ThreadKey}
+use Rattle.puffin_threads.specs.Thread.Calls.{Thread, key_of_thread}
+use Rattle.puffin_threads.proofs.ThreadStates.{report_in, cleared_in, none_in, none_open_in, same_thread}
+use Rattle.puffin_threads.proofs.thread_profiler.thread_state.ThreadState.hand_over.Goals as goal
+
+-- what was answered to a report is the same of equal parts
+told_so : {i j : ThreadKey} {ds es : List Details} {r s : StreamFacts} (P : ThreadKey → List Details → StreamFacts → Type 0) → i ≡ j → ds ≡ es → r ≡ s → P i ds r → P j es s
+told_so P has_same_key same_details same_facts p = subst (λ (t : ThreadKey × (List Details × StreamFacts)). P t.0 t.1.0 t.1.1) (λ k. (has_same_key k, (same_details k, same_facts k))) p
+
+pub report-requires : goal.report-requires
+report-requires g c =
+    let none = ap (λ (t : Thread). open_after 0 t.word) c.self.view_is ∙ c.requires.none_open in
+    let r = report_in c.self.inside c.self.invariant none in
+    (r.forest, subst (λ (x : StreamFacts). AreHonestFacts x r.forest) (sym c.as_stream_into_ref.ensures) r.honest)
+
+pub returns-in_err-report-clause-err : goal.returns-in_err-report-clause-err
+returns-in_err-report-clause-err g c =
+    let none = ap (λ (t : Thread). open_after 0 t.word) c.self.view_is ∙ c.requires.none_open in
+    let told = subst (λ (t : Thread). IsReportOf t (facts_of c.self.inside.info)) c.self.view_is (report_in c.self.inside c.self.invariant none) in
+    let p = err_from_is_err_and c.from_residual.result c.from_residual.ensures.1 in
+    let same : (record { start = c.self.inside.first_start; name = string_bytes c.args.name }) ≡ key_of_thread c.args.self.now = λ i. record { start = (c.self.view_is i).first_start; name = c.requires.name i } in
+    rw (p.1, p.2) (
+      refl,
+      (
+        facts_of c.self.inside.info,
+        told,
+        told_so (λ i d x. g.R.Reporter.refuses c.args.reporter.now i d x c.in_err-report.field-0.0 c.report.new.self) same
+            (ap details_seen c.deref.ensures.value ∙ ap (λ (t : Thread). t.details) c.self.view_is) c.as_stream_into_ref.ensures c.in_err-report.ensures.err,
+      ),
+    )
+
+pub invariant_of-self : goal.invariant_of-self
+invariant_of-self g c =
+    let h = c.self.invariant in
+    let none = ap (λ (t : Thread). open_after 0 t.word) c.self.view_is ∙ c.requires.none_open in
+    cleared_in _ h.latest c.clear.ensures.honest (none_open_in c.self.inside h none) h.spare
+
+pub returns-clause-ok : goal.returns-clause-ok
+returns-clause-ok g c =
+    let none = ap (λ (t : Thread). open_after 0 t.word) c.self.view_is ∙ c.requires.none_open in
+    let told = subst (λ (t : Thread). IsReportOf t (facts_of c.self.inside.info)) c.self.view_is (report_in c.self.inside c.self.invariant none) in
+    let same : (record { start = c.self.inside.first_start; name = string_bytes c.args.name }) ≡ key_of_thread c.args.self.now = λ i. record { start = (c.self.view_is i).first_start; name = c.requires.name i } in (
+      same_thread _ _ (ap (λ (t : Thread). t.name) c.self.view_is) (c.clear.ensures.form ∙ ap (λ (t : Thread). t.form) c.self.view_is) (ap (λ (t : Thread). t.first_start) c.self.view_is) (ap (λ (t : Thread). t.latest) c.self.view_is) (none_in c.clear.new.self c.clear.ensures.honest) (ap details_seen c.clear-2.ensures.items),
+      (
+        facts_of c.self.inside.info,
+        told,
+        told_so (λ i d x. g.R.Reporter.accepts c.args.reporter.now i d x c.report.new.self) same
+            (ap details_seen c.deref.ensures.value ∙ ap (λ (t : Thread). t.details) c.self.view_is) c.as_stream_into_ref.ensures c.in_ok-report.ensures.ok,
+      ),
+    )

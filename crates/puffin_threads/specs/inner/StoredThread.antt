@@ -1,0 +1,82 @@
+-- How a thread stores its scopes, and the invariant of that.
+use Rattle.std.specs.Prelude.{◌≡◌, ℕ, ◌*◌, ◌≤◌, ℤ, pos, ◌≤ℤ◌, List, [], ◌∷◌, length, reverse, fold, Option, Some, None, string_bytes}
+use Rattle.std.specs.Option.{option_map}
+use Rattle.puffin_data.specs.declared.data.form.Form.{Form}
+use Rattle.puffin_data.specs.Forest.Spelling.{end_size}
+use Rattle.puffin_data.specs.declared.data.info.StreamInfo.{StreamInfo}
+use Rattle.puffin_data.specs.Forest.{Forest, IsForest, empty}
+use Rattle.puffin_data.specs.Forest.Tour.{Event, Open, Close}
+use Rattle.puffin_data.specs.Forest.Open.{Opened, IsOpened, open_spelling, size_place, with_ended}
+use Rattle.puffin_data.specs.Forest.Words.{num_begun, most_open, least_open, greatest_close}
+use Rattle.puffin_threads.specs.declared.thread_profiler.thread_state.ThreadState.TheInside.{Inside}
+use Rattle.puffin_threads.specs.Details.{details_seen}
+use Rattle.puffin_threads.specs.Thread.Events.{events_in}
+use Rattle.puffin_threads.specs.Thread.Calls.{Thread, open_offsets}
+
+-- the open scopes of a word, the innermost first, and the closed ones beside the next
+abbrev pub scopes_closed : List Opened → Forest → ℤ → List Opened × Forest
+scopes_closed [] closed stop = ([], closed)
+scopes_closed (o ∷ outer) closed stop = (outer, with_ended o closed stop)
+
+abbrev pub scopes_with : List Opened × Forest → Event → List Opened × Forest
+scopes_with sofar (Open id text start) =
+    (record { before = sofar.1; id = id; start = start; text = text } ∷ sofar.0, empty)
+scopes_with sofar (Close stop) = scopes_closed sofar.0 sofar.1 stop
+
+unfoldable pub scopes_in : List Event → List Opened × Forest
+scopes_in word = fold scopes_with ([], empty) word
+
+-- the offsets of the open scopes' sizes
+abbrev pub size_places : Form → List Opened → List ℕ
+size_places form [] = []
+size_places form (o ∷ outer) = size_place form o outer ∷ size_places form outer
+
+-- open scopes that can be written, with starts from 0 up to this time
+abbrev pub StartedBy : Form → ℤ → List Opened → Type 0
+StartedBy form latest [] = Unit {0}
+StartedBy form latest (o ∷ outer) =
+    IsOpened form o × (pos 0 ≤ℤ o.start) × (o.start ≤ℤ latest) × StartedBy form latest outer
+
+-- the bytes are those of a stream with the scopes of their word, which can be written
+pub record HoldsScopes (form : Form) (bytes : List ℕ) (latest : ℤ) : Type 0 where
+  pub whole : bytes ≡ open_spelling form (scopes_in (events_in form bytes)).0
+      (scopes_in (events_in form bytes)).1
+  pub opened : StartedBy form latest (scopes_in (events_in form bytes)).0
+  pub closed : IsForest form (scopes_in (events_in form bytes)).1
+  pub places : open_offsets form (events_in form bytes)
+      ≡ size_places form (scopes_in (events_in form bytes)).0
+
+-- the counts of a stream's scopes, open ones included
+pub record Counted (info : StreamInfo) (word : List Event) : Type 0 where
+  pub num_scopes : info.num_scopes ≡ num_begun word
+  pub depth : info.depth ≡ most_open 0 word
+  pub least : info.range_ns.0 ≡ least_open word
+  pub greatest : info.range_ns.1 ≡ greatest_close word
+
+abbrev pub thread_in : Inside → Thread
+thread_in r = record {
+  name = string_bytes r.name;
+  form = r.info.stream.form;
+  first_start = r.first_start;
+  latest = r.latest;
+  word = events_in r.info.stream.form r.info.stream.bytes;
+  details = details_seen r.details.items;
+}
+
+-- the copy of the name, if there is one
+abbrev pub spare_name : Inside → Option (List ℕ)
+spare_name r = option_map (λ s. string_bytes s) r.spare
+
+-- the invariant of a recording in this form
+pub record IsRecordingIn (form : Form) (r : Inside) : Type 0 where
+  pub latest : pos 0 ≤ℤ r.latest
+  pub scopes : ∥ HoldsScopes form r.info.stream.bytes r.latest ∥₁
+  pub counted : Counted r.info (events_in form r.info.stream.bytes)
+  pub offsets : reverse r.offsets.items ≡ open_offsets form (events_in form r.info.stream.bytes)
+  -- each open scope can end without an allocation, and while one is open a copy of the name is ready for the report
+  pub room : end_size * length r.offsets.items ≤ r.info.stream.room
+  pub has_spare : spare_name r ≡ None → r.offsets.items ≡ []
+  pub spare : (name : List ℕ) → spare_name r ≡ Some name → name ≡ string_bytes r.name
+
+abbrev pub IsThreadState : Inside → Type 0
+IsThreadState r = IsRecordingIn r.info.stream.form r

@@ -1,0 +1,293 @@
+//! The records of one thread, apart from its clock.
+
+ghost use Rattle.std.specs.Prelude.{◌≡◌, ◌+◌, ◌-◌, ◌*◌, ◌^◌, ◌<◌, ◌≤◌, ◌++◌, ℤ, pos, ◌≤ℤ◌, ◌==◌, length, max, OnOk, OnErr, IfOk, IfErr, IfSome, IfNone, string_bytes, slice_get, unwrap_or, option_map};
+ghost use Rattle.std.specs.Int.{int_min};
+ghost use Rattle.std.specs.Option.{option_or};
+ghost use Rattle.puffin_data.specs.declared.error.Error.{Error};
+ghost use Rattle.puffin_data.specs.Forest.Spelling.{begin_bytes, size_offset, head_size};
+ghost use Rattle.puffin_data.specs.Text.{cut_text};
+ghost use Rattle.puffin_data.specs.Forest.Words.{word_size, open_after};
+ghost use Rattle.puffin_threads.specs.Thread.Calls.{new_thread, after_begin, after_end, after_handing, RegistersScope, offsets_of};
+ghost use Rattle.puffin_threads.specs.Thread.Closing.{GoesTo};
+ghost use Rattle.puffin_threads.specs.Details.{details_of};
+
+use crate::scope_details::{ScopeDetails, ScopeIds};
+use crate::thread_profiler::clock::NsSource;
+use crate::thread_profiler::reporter::Reporter;
+use crate::thread_profiler::thread_info::ThreadInfo;
+use puffin_data::data::{END_SIZE, Form, ScopeId, Stream, StreamInfo};
+use puffin_data::{Error, NanoSecond, Result};
+use std::alloc::Global;
+use std::marker::Model;
+
+/// What one thread has recorded and not yet reported. Contracts see it as a `Thread`.
+#[derive(Drop)]
+pub struct ThreadState {
+    name: String,
+    // A copy of the name for the next report. It is made when a scope begins, so that ending one allocates nothing.
+    spare: Option<String>,
+    info: StreamInfo,
+    first_start: Option<NanoSecond>,
+    latest: NanoSecond,
+    // The offsets of the open scopes' sizes, the innermost last.
+    offsets: Vec<usize>,
+    // The details registered since the last accepted report.
+    details: Vec<ScopeDetails>,
+}
+
+impl Model for ThreadState {
+    ghost use Rattle.puffin_threads.specs.Thread.Calls.{Thread};
+
+    ghost Value = { Thread };
+
+    ghost use Rattle.puffin_threads.specs.inner.StoredThread.{thread_in, IsThreadState};
+
+    ghost view = { thread_in };
+
+    ghost invariant = { IsThreadState };
+}
+
+/// Copies a name. Fails only with `Memory`.
+#[inline(never)]
+fn copy_of(name: &String) -> Result<String>
+    ensures ok { IfOk result (λ s. string_bytes s ≡ string_bytes name.now) }
+    ensures memory { IfErr result (λ e. e ≡ Error.Memory) }
+{
+    Ok(name.clone()?)
+}
+
+/// Sets a missing spare to a copy of the name. Fails only with `Memory`.
+#[cold]
+#[inline(never)]
+fn fill(spare: &mut Option<String>, name: &String) -> Result<()>
+    requires { spare.old ≡ None }
+    ensures ok { OnOk result (
+        option_map (λ s. string_bytes s) spare.new ≡ Some (string_bytes name.now)) }
+    ensures err { OnErr result (spare.new ≡ spare.old) }
+    ensures memory { IfErr result (λ e. e ≡ Error.Memory) }
+{
+    *spare = Some(copy_of(name)?);
+    Ok(())
+}
+
+/// Sets the spare to a copy of the name if it is missing. Fails only with `Memory`.
+#[inline(always)]
+fn keep_copy(spare: &mut Option<String>, name: &String) -> Result<()>
+    ensures ok { OnOk result (
+        option_map (λ s. string_bytes s) spare.new ≡ Some (
+        unwrap_or (option_map (λ s. string_bytes s) spare.old) (
+        string_bytes name.now))) }
+    ensures err { OnErr result (spare.new ≡ spare.old) }
+    ensures memory { IfErr result (λ e. e ≡ Error.Memory) }
+{
+    if spare.is_none() {
+        return fill(spare, name);
+    }
+    Ok(())
+}
+
+/// Sets the first start if it is missing. An existing one isn't written.
+#[inline(always)]
+fn keep_first(first: &mut Option<NanoSecond>, at: NanoSecond)
+    ensures { first.new ≡ option_or first.old (Some at) }
+{
+    if first.is_none() {
+        *first = Some(at);
+    }
+}
+
+/// Raises a number to this one. Always writes it, so that there is no jump.
+#[inline(always)]
+fn raise(number: &mut usize, to: usize)
+    ensures { number.new ≡ max number.old to }
+{
+    *number = (*number).max(to);
+}
+
+/// Lowers a time to this one. Always writes it, so that there is no jump.
+#[inline(always)]
+fn lower(time: &mut NanoSecond, to: NanoSecond)
+    ensures { time.new ≡ int_min time.old to }
+{
+    *time = (*time).min(to);
+}
+
+/// Returns how many bytes the ends of the open scopes and of one more take.
+fn size_of_ends(offsets: &[usize]) -> usize
+    ensures size { result ≡ END_SIZE * (length offsets.now + 1) }
+    ensures small { result + 2 ^ 15 < 2 ^ 64 }
+{
+    END_SIZE * (offsets.len() + 1)
+}
+
+/// Appends a scope's beginning with this start, which fits the room, and returns the offset of its size.
+#[inline(always)]
+fn write_begin(stream: &mut Stream, at: NanoSecond, id: ScopeId, text: &str) -> usize
+    requires { head_size stream.old.form (cut_text stream.old.form text.now) ≤ stream.old.room }
+    ensures bytes { stream.new.bytes
+        ≡ stream.old.bytes
+        ++ begin_bytes stream.old.form id at (cut_text stream.old.form text.now)
+        (2 ^ 64 - 1) }
+    ensures offset { result + 8 ≡ length stream.new.bytes }
+    ensures form { stream.new.form ≡ stream.old.form }
+    ensures room { stream.old.room
+        ≤ stream.new.room + head_size stream.old.form (cut_text stream.old.form text.now) }
+    ensures id { (0 < id) × (id < 2 ^ 32) }
+{
+    // Shows the contract's last clause: the range of an id's number.
+    let _number = id.get();
+    stream.begin_within(at, id, text)
+}
+
+impl ThreadState {
+    /// Makes a recording without scopes, in this form.
+    pub(crate) fn new(alloc: Global, name: String, form: Form) -> ThreadState
+        ensures { result ≡ new_thread (string_bytes name) form }
+    {
+        ThreadState {
+            name,
+            spare: None,
+            info: StreamInfo::with_form(alloc, form),
+            first_start: None,
+            latest: 0,
+            offsets: Vec::new(alloc),
+            details: Vec::new(alloc),
+        }
+    }
+
+    /// Returns the number of open scopes.
+    pub(crate) fn depth(&self) -> usize
+        ensures { result ≡ open_after 0 self.now.word }
+    {
+        self.offsets.len()
+    }
+
+    /// Returns whether no scope is open and none waits for a report.
+    pub(crate) fn is_empty(&self) -> bool
+        ensures { result ≡ (length self.now.word == 0) }
+    {
+        self.info.stream.is_empty()
+    }
+
+    /// Returns the offset of the innermost open scope's size.
+    pub(crate) fn innermost(&self) -> Option<usize>
+        ensures { result ≡ slice_get (offsets_of self.now) 0 }
+    {
+        self.offsets.last().copied()
+    }
+
+    /// Begins a scope, and returns the offset of its size. First allocates for its end and its report, then reads the clock.
+    /// Fails only with `Memory`; nothing changes then.
+    #[inline(always)]
+    pub(crate) fn begin_scope<C: NsSource>(
+        &mut self,
+        clock: &mut C,
+        id: ScopeId,
+        text: &str,
+    ) -> Result<usize>
+        ensures begun { OnOk result (
+            (at : ℤ)
+            × C.answers clock.old at clock.new
+            × (pos 0 ≤ℤ at)
+            × (self.new ≡ after_begin self.old id (cut_text self.old.form text.now) at)) }
+        ensures offset { IfOk result (λ offset.
+            offset
+            ≡ word_size self.old.form self.old.word
+            + size_offset self.old.form (cut_text self.old.form text.now)) }
+        ensures unchanged { OnErr result ((self.new ≡ self.old) × (clock.new ≡ clock.old)) }
+        ensures memory { IfErr result (λ e. e ≡ Error.Memory) }
+    {
+        keep_copy(&mut self.spare, &self.name)?;
+        self.offsets.reserve(1)?;
+        let ends = size_of_ends(&self.offsets);
+        let begin = self.info.stream.form().begin_limit(text);
+        self.info.stream.reserve(begin + ends)?;
+        let at = self.latest.max(clock.now_ns());
+        let offset = write_begin(&mut self.info.stream, at, id, text);
+        self.offsets.push_reserved(offset);
+        keep_first(&mut self.first_start, at);
+        self.latest = at;
+        self.info.num_scopes += 1;
+        raise(&mut self.info.depth, self.offsets.len());
+        lower(&mut self.info.range_ns.0, at);
+        Ok(offset)
+    }
+
+    /// Ends the innermost scope, without an allocation. If it was the last open one, returns a copy of the name for the report.
+    pub(crate) fn close(&mut self, now_ns: NanoSecond) -> Option<String>
+        requires { 0 < open_after 0 self.old.word }
+        ensures closed { self.new ≡ after_end self.old now_ns }
+        ensures inner { IfNone result (1 < open_after 0 self.old.word) }
+        ensures last { IfSome result (λ name.
+            (open_after 0 self.old.word ≡ 1) × (string_bytes name ≡ self.old.name)) }
+    {
+        let offset = self.offsets.pop().unwrap();
+        let at = self.latest.max(now_ns);
+        self.info.stream.end_within(offset, at);
+        self.latest = at;
+        self.info.range_ns.1 = self.info.range_ns.1.max(at);
+        if self.offsets.is_empty() {
+            self.spare.take()
+        } else {
+            None
+        }
+    }
+
+    /// Ends the innermost scope, without an allocation. Keeps the copy of the name.
+    pub(crate) fn finish(&mut self, now_ns: NanoSecond)
+        requires { 0 < open_after 0 self.old.word }
+        ensures { self.new ≡ after_end self.old now_ns }
+    {
+        let offset = self.offsets.pop().unwrap();
+        let stop = self.latest.max(now_ns);
+        self.info.stream.end_within(offset, stop);
+        self.latest = stop;
+        self.info.range_ns.1 = self.info.range_ns.1.max(stop);
+    }
+
+    /// Returns a copy of the name for a report. Fails only with `Memory`.
+    pub(crate) fn name_for_report(&mut self) -> Result<String>
+        requires { open_after 0 self.old.word ≡ 0 }
+        ensures name { IfOk result (λ name. string_bytes name ≡ self.old.name) }
+        ensures unchanged { self.new ≡ self.old }
+        ensures memory { IfErr result (λ e. e ≡ Error.Memory) }
+    {
+        match self.spare.take() {
+            Some(name) => Ok(name),
+            None => Ok(self.name.clone()?),
+        }
+    }
+
+    /// Registers details under a newly drawn id for the next accepted report, and returns the id.
+    ///
+    /// Fails with `IdsExhausted` or `Memory`; nothing changes then. Allocates before it draws the id.
+    pub(crate) fn register(&mut self, ids: &ScopeIds, details: ScopeDetails) -> Result<ScopeId>
+        ensures { RegistersScope self.old (details_of details) result self.new }
+    {
+        self.details.reserve(1)?;
+        let id = ids.draw()?;
+        self.details.push_reserved(details.with_scope_id(id));
+        Ok(id)
+    }
+
+    /// Hands all scopes and details to the reporter, under this name. If the reporter refuses them, they stay.
+    pub(crate) fn hand_over<R: Reporter>(&mut self, name: String, reporter: &mut R) -> Result<()>
+        requires none_open { open_after 0 self.old.word ≡ 0 }
+        requires name { string_bytes name ≡ self.old.name }
+        ensures ok { OnOk result (
+            (self.new ≡ after_handing self.old)
+            × GoesTo R.accepts self.old reporter.old reporter.new) }
+        ensures err { IfErr result (λ e.
+            (self.new ≡ self.old)
+            × GoesTo (λ b i d r a. R.refuses b i d r e a) self.old reporter.old reporter.new) }
+    {
+        let info = ThreadInfo {
+            start_time_ns: self.first_start,
+            name,
+        };
+        reporter.report(info, &self.details, &self.info.as_stream_into_ref())?;
+        self.info.clear();
+        self.details.clear();
+        Ok(())
+    }
+}
