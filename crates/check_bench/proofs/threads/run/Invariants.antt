@@ -1,0 +1,7 @@
+use Rattle.check_bench.proofs.threads.run.Given as goal
+
+abbrev pub ghosts-round-L-Ledger : goal.ghosts-round-L-Ledger
+ghosts-round-L-Ledger g a = record { name = a.reported.name; parts = a.reported.parts }
+
+abbrev pub ghosts-round-M-Ledger : goal.ghosts-round-M-Ledger
+ghosts-round-M-Ledger g a = record { name = a.handed.name; parts = a.handed.parts }

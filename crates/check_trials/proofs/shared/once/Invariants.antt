@@ -1,0 +1,8 @@
+-- The two ledgers of the run, told apart by the blanks.
+use Rattle.check_trials.proofs.shared.once.Given as goal
+
+abbrev pub ghosts-opened-L-Ledger : goal.ghosts-opened-L-Ledger
+ghosts-opened-L-Ledger g a = record { name = a.reported.name; parts = a.reported.parts }
+
+abbrev pub ghosts-opened-M-Ledger : goal.ghosts-opened-M-Ledger
+ghosts-opened-M-Ledger g a = record { name = a.handed.name; parts = a.handed.parts }

@@ -1,4 +1,0 @@
-use Rattle.puffin_bench.proofs.guards.+functions.Given as goal
-
-abbrev pub decreases-functions : goal.decreases-functions
-decreases-functions l = l.depth

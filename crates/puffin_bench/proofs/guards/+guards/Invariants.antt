@@ -1,4 +1,0 @@
-use Rattle.puffin_bench.proofs.guards.+guards.Given as goal
-
-abbrev pub decreases-guards : goal.decreases-guards
-decreases-guards l = l.depth

@@ -1,4 +1,0 @@
-use Rattle.puffin_bench.proofs.light.+nest.Given as goal
-
-abbrev pub decreases-nest : goal.decreases-nest
-decreases-nest l = l.depth

@@ -1,4 +1,0 @@
-use Rattle.puffin_bench.proofs.light.+nest_with_text.Given as goal
-
-abbrev pub decreases-nest_with_text : goal.decreases-nest_with_text
-decreases-nest_with_text l = l.depth

@@ -1,7 +1,0 @@
-use Rattle.puffin_bench.proofs.threads.run.Given as goal
-
-abbrev pub ghosts-round-L-Ledger : goal.ghosts-round-L-Ledger
-ghosts-round-L-Ledger g a = record { name = a.reported.name; parts = a.reported.parts }
-
-abbrev pub ghosts-round-M-Ledger : goal.ghosts-round-M-Ledger
-ghosts-round-M-Ledger g a = record { name = a.handed.name; parts = a.handed.parts }

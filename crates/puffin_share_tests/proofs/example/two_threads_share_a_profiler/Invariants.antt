@@ -1,8 +1,0 @@
--- The two ledgers of the run, told apart by the blanks.
-use Rattle.puffin_share_tests.proofs.example.two_threads_share_a_profiler.Given as goal
-
-abbrev pub ghosts-loaded-L-Ledger : goal.ghosts-loaded-L-Ledger
-ghosts-loaded-L-Ledger g a = record { name = a.reported.name; parts = a.reported.parts }
-
-abbrev pub ghosts-loaded-M-Ledger : goal.ghosts-loaded-M-Ledger
-ghosts-loaded-M-Ledger g a = record { name = a.handed.name; parts = a.handed.parts }

@@ -1,0 +1,8 @@
+-- The two ledgers of the run, told apart by the blanks.
+use Rattle.tests_puffin_shares.proofs.few_workers.three_shares_of_two_workers_and_a_taker_of_frames.Given as goal
+
+abbrev pub ghosts-run-L-Ledger : goal.ghosts-run-L-Ledger
+ghosts-run-L-Ledger g a = record { name = a.reported.name; parts = a.reported.parts }
+
+abbrev pub ghosts-run-M-Ledger : goal.ghosts-run-M-Ledger
+ghosts-run-M-Ledger g a = record { name = a.handed.name; parts = a.handed.parts }
