@@ -12,7 +12,7 @@ pub returns-clause-back : goal.returns-clause-back
 returns-clause-back c =
     let items = c.self.inside.offsets.items in
     let depth : c.len-depth.result ≡ length items = search rules in
-    innermost_last items c.self.inside.profiler.recording.form c.self.inside.profiler.recording.word c.args.back c.index-offset.result.now
+    innermost_last items c.self.inside.profiler.state.form c.self.inside.profiler.state.word c.args.back c.index-offset.result.now
     c.self.invariant.0
     (omega (arith, depth, c.if-depth-back.false))
     (c.index-offset.ensures ∙ ap (λ (n : ℕ). get_or items (n - 1 - c.args.back) c.index-offset.result.now) depth)
@@ -36,7 +36,7 @@ returns-in_err-closed-clause-cause c =
     let items = c.self.inside.offsets.items in
     let depth : c.len-depth.result ≡ length items = search rules in
     let refused = c.in_err-closed.ensures.mismatched in
-    let outer = outer_or_none items c.self.inside.profiler.recording.form c.self.inside.profiler.recording.word c.args.back c.index-offset.result.now
+    let outer = outer_or_none items c.self.inside.profiler.state.form c.self.inside.profiler.state.word c.args.back c.index-offset.result.now
     c.self.invariant.0
     (omega (arith, depth, c.if-depth-back.false))
     (c.index-offset.ensures ∙ ap (λ (n : ℕ). get_or items (n - 1 - c.args.back) c.index-offset.result.now) depth)
@@ -49,8 +49,8 @@ invariant_of-self-2 c =
     let items = c.self.inside.offsets.items in
     let closed = c.in_ok-closed.ensures.closed in
     let size : vec_len c.self.inside.offsets ≡ length items = search rules in (
-      closed_places AcceptsReport RefusesReport items c.pop.new.self.items c.self.inside.profiler.recording _ _ _ _ _
+      closed_places AcceptsReport RefusesReport items c.pop.new.self.items c.self.inside.profiler.state _ _ _ _ _
           c.self.invariant.0
           (c.pop.ensures.rest ∙ ap (λ (n : ℕ). take (n - 1) items) size) closed.3,
-      kept_ids AcceptsReport RefusesReport c.self.inside.profiler.recording _ _ _ _ _ closed.3 c.self.invariant.1,
+      kept_ids AcceptsReport RefusesReport c.self.inside.profiler.state _ _ _ _ _ closed.3 c.self.invariant.1,
     )
