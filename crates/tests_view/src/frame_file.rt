@@ -58,30 +58,22 @@ fn are_given(
     }
 }
 
-/// Four bytes are left behind those that a reader read, and they begin this piece.
-fn has_left(rt: &HostRuntime, reader: FrameReader<Counted<&[u8]>>, piece: &[u8; 6]) -> Outcome {
-    let mut source = reader.into_source();
-    let mut left = [0; 6];
-    let count = source.read(&mut left)?;
-    if (count, left) == (4, *piece) {
-        Ok(())
-    } else {
-        Err(Fail::new("another piece is left"))
-    }
-}
-
 #[test]
 fn a_file_is_read_one_frame_at_a_time(rt: HostRuntime) -> Outcome {
     let bytes = bytes_of(&rt, &[&FILE[..ONE_FRAME], &[0, 0, 0, 0], b"more"])?;
     let mut reader = FrameReader::new(rt.alloc(), Counted::new(bytes.as_slice()))?;
-    let first = next_index(&mut reader)?;
-    assert!(rt; first == Some(0));
-    let end = next_index(&mut reader)?;
+    let first = reader.next()?;
+    assert!(rt; index_of(&first) == Some(0));
+    let end = reader.next()?;
     assert!(rt; end.is_none());
-    let behind = next_index(&mut reader)?;
+    let behind = reader.next()?;
     assert!(rt; behind.is_none());
     // What stands behind the end is left.
-    has_left(&rt, reader, b"more\0\0")
+    let mut source = reader.into_source();
+    let mut left = [0; 6];
+    let count = source.read(&mut left)?;
+    assert!(rt; (count, left) == (4, *b"more\0\0"));
+    Ok(())
 }
 
 #[test]
