@@ -135,6 +135,11 @@ uint32_t puffin_profiler_close(PuffinProfiler *profiler);
 /* Reports a thread's closed scopes to a profiler. If it fails, they keep waiting. */
 uint32_t puffin_report(PuffinThread *thread, PuffinProfiler *profiler);
 
+/* Appends the scopes of a stream to those that wait for the next frame, under the thread of this name and, if has_start is
+ * set, this start. No such thread is needed. puffin_count describes the bytes; fails with their first fault. */
+uint32_t puffin_user_scopes(PuffinProfiler *profiler, bool has_start, int64_t start_ns, const uint8_t *name,
+                            size_t name_size, const uint8_t *bytes, size_t size, bool long_texts);
+
 /* Makes a frame of everything that was reported since the last one. If it fails, nothing is lost: if the view has no memory
  * for the frame, the frame waits, and the next call adds it. */
 uint32_t puffin_new_frame(PuffinProfiler *profiler, PuffinFrame *frame);

@@ -149,6 +149,16 @@ static void counting(void) {
     is("what a refusal leaves", count.scopes, 1);
 }
 
+/* Scopes of the program's own, under a name that no thread has. */
+static void user_scopes(void) {
+    PuffinProfiler nothing = {0};
+    is("user scopes", puffin_user_scopes(&nothing, false, 0, TEXT("\xff"), one_scope, 30, false), PUFFIN_NOT_OPEN);
+    REFUSED("no text", puffin_user_scopes(&profiler, false, 0, TEXT("\xff"), one_scope, 30, false), PUFFIN_NOT_TEXT);
+    REFUSED("cut bytes", puffin_user_scopes(&profiler, true, 5, TEXT("gpu"), one_scope, 30, false), PUFFIN_PREMATURE_END);
+    CALL(puffin_user_scopes(&profiler, true, 5, TEXT("gpu"), one_scope, 31, false));
+    REFUSED("long texts", puffin_user_scopes(&profiler, true, 5, TEXT("gpu"), one_scope, 31, true), PUFFIN_UNLIKE_FORMS);
+}
+
 static size_t read_file(uint8_t *file, uint64_t size) {
     uint64_t got = 1, all = 0;
     while (got) {
@@ -173,6 +183,8 @@ static void reading(const char *path) {
     is("no file", puffin_check_file(TEXT("XUF0"), &frames), PUFFIN_FILE_NO_MAGIC);
     CALL(puffin_report_file(file, size, true, 1000, TEXT("main"), out, sizeof out, &lines));
     fwrite(out, 1, lines, stdout);
+    CALL(puffin_report_file(file, size, true, 5, TEXT("gpu"), out, sizeof out, &lines));
+    is("a report of the program's own scopes", lines > 9 && memcmp(out + 9, TEXT("record pieces 1 total 4 ")) == 0, true);
     uint8_t few[3] = {0};
     CALL(puffin_report_file(file, size, true, 1000, TEXT("main"), few, 2, &lines));
     is("a report's beginning", few[0] == 'f' && few[1] == 'r' && few[2] == 0, true);
@@ -202,12 +214,13 @@ int main(int argc, char **argv) {
     for (int i = 0; at_once && i < 2; i++) {
         pthread_join(threads[i], NULL);
     }
+    user_scopes();
     CALL(puffin_snapshot(&profiler));
     CALL(puffin_new_frame(&profiler, &frame));
     is("frame", frame.is_some, true);
     is("index", frame.index, 0);
-    is("scopes", frame.scopes, 12);
-    is("start", (uint64_t)frame.start_ns, 1000);
+    is("scopes", frame.scopes, 13);
+    is("start", (uint64_t)frame.start_ns, 5);
     is("stop", (uint64_t)frame.stop_ns, 2300);
     CALL(puffin_new_frame(&profiler, &frame));
     is("a frame of nothing", frame.is_some, false);

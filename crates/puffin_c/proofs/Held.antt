@@ -1,12 +1,15 @@
 -- What handles hold, and calls on it that are refused.
-use Rattle.std.proofs.Common.{◌≡◌, ◌⊎◌, refl, sym, ap, ◌∙◌, subst, inl, inr}
-use mathlib.Core.Bool.{Bool, false, true≢false}
+use Rattle.std.proofs.Common.{◌≡◌, ◌⊎◌, ℕ, List, [], ◌∷◌, refl, sym, ap, ◌∙◌, subst, inl, inr}
+use mathlib.Core.Bool.{Bool, true, false, true≢false}
 use Rattle.std.specs.Prelude.{Option, Some, None, is_some, Result, Ok, Err, OnErr}
 use Rattle.std.specs.List.{Any}
 use Rattle.puffin_data.specs.declared.error.Error.{Error}
 use Rattle.puffin_data.specs.declared.error.Error.TheVariants as error
+use Rattle.puffin_data.specs.declared.data.form.Form.{Form}
 use Rattle.puffin_data.specs.declared.file_error.FileError.{FileError}
 use Rattle.puffin_data.specs.declared.file_error.FileError.TheVariants as file
+use Rattle.puffin_data.specs.Walk.{IsFault}
+use Rattle.puffin_threads.specs.Thread.ThreadKey.{ThreadKey}
 use Rattle.puffin_threads.specs.Thread.Calls.{Thread}
 use Rattle.puffin_threads.specs.Thread.Closing.{Reports}
 use Rattle.puffin_frames.specs.Packet.Writing.{HasLongPart}
@@ -17,10 +20,16 @@ use Rattle.puffin_c.specs.declared.fault.Fault.{Fault}
 use Rattle.puffin_c.specs.declared.fault.Fault.TheVariants as fault
 use Rattle.puffin_c.specs.declared.profiler.Profiler.{Profiler}
 use Rattle.puffin_c.specs.Faults.{file_fault}
+use Rattle.puffin_c.specs.Recording.{AreNoTexts}
+use Rattle.puffin_c.specs.Profiling.{TakesOwn}
 
 pub nothing_held : {X : Type 0} (o : Option X) (is_open : Bool) → is_open ≡ is_some o → is_open ≡ false → o ≡ None
 nothing_held None is_open e f = refl
 nothing_held (Some x) is_open e f = absurd (true≢false (sym e ∙ f))
+
+pub something_held : {X : Type 0} (o : Option X) (is_open : Bool) → is_open ≡ is_some o → is_open ≡ true → (x : X) × (o ≡ Some x)
+something_held None is_open e t = absurd (true≢false (sym t ∙ e))
+something_held (Some x) is_open e t = (x, refl)
 
 pub on_err : {X : Type 0} (r : Result X Error) (P : Type 0) → P → OnErr r P
 on_err (Ok x) P h = tt
@@ -58,3 +67,14 @@ file_refusal here q e f same is (inl (long, any)) =
     inr (is ∙ ap file_fault long, subst (λ (p : Profiler). Any HasLongPart (fields_in (view_of p.view))) same any)
 file_refusal here q e f same is (inr (inl memory)) = inl (is ∙ ap file_fault memory)
 file_refusal here q e f same is (inr (inr io)) = inl (is ∙ ap file_fault io)
+
+-- scopes of the program's own whose name is refused, and whose bytes are
+pub name_refused : (p : Option Profiler) (held : (q : Profiler) × (p ≡ Some q)) (key : ThreadKey) (form : Form) (bytes : List ℕ) (f e : Fault) →
+    f ≡ e → AreNoTexts (key.name ∷ []) e → TakesOwn p key form bytes p (Err f)
+name_refused p held key form bytes f e same why =
+    (refl, inr (held.0, held.1, inl (subst (AreNoTexts (key.name ∷ [])) (sym same) why)))
+
+pub bytes_refused : (p : Option Profiler) (held : (q : Profiler) × (p ≡ Some q)) (key : ThreadKey) (form : Form) (bytes : List ℕ) (f : Fault)
+    (e : Error) → f ≡ fault.Refused e → (e ≡ error.Memory) ⊎ IsFault form bytes e → TakesOwn p key form bytes p (Err f)
+bytes_refused p held key form bytes f e same (inl memory) = (refl, inr (held.0, held.1, inl (inr (same ∙ ap fault.Refused memory))))
+bytes_refused p held key form bytes f e same (inr first) = (refl, inr (held.0, held.1, inr (e, same, inl first)))

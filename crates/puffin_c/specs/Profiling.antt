@@ -1,5 +1,5 @@
 -- What the calls on a profiler's handle do to what it holds.
-use Rattle.std.specs.Prelude.{◌≡◌, ◌⊎◌, ◌<◌, ℕ, List, [], Bool, true, false, Option, Some, None, Result, Ok, Err, is_some, length, drop, min}
+use Rattle.std.specs.Prelude.{◌≡◌, ◌⊎◌, ◌<◌, ℕ, List, [], ◌∷◌, Bool, true, false, Option, Some, None, Result, Ok, Err, is_some, length, drop, min}
 use Rattle.std.specs.List.{Any}
 use Rattle.std.specs.Arc.{arc_value}
 use Rattle.std.specs.Option.{option_map}
@@ -7,6 +7,11 @@ use Rattle.std.specs.FinMap.{values}
 use Rattle.puffin_data.specs.declared.error.Error.{Error}
 use Rattle.puffin_data.specs.declared.error.Error.TheVariants as error
 use Rattle.puffin_data.specs.declared.file_error.FileError.TheVariants as file
+use Rattle.puffin_data.specs.declared.data.form.Form.{Form}
+use Rattle.puffin_data.specs.Forest.{Forest}
+use Rattle.puffin_data.specs.Honesty.{StreamFacts, AreHonestFacts}
+use Rattle.puffin_data.specs.Walk.{IsFault}
+use Rattle.puffin_threads.specs.Thread.ThreadKey.{ThreadKey}
 use Rattle.puffin_threads.specs.Thread.Calls.{Thread}
 use Rattle.puffin_threads.specs.Thread.Closing.{Reports}
 use Rattle.puffin_frames.specs.declared.frame_data.frame.FrameData.{FrameData}
@@ -14,7 +19,7 @@ use Rattle.puffin_frames.specs.declared.frame_data.meta.FrameMeta.{FrameMeta}
 use Rattle.puffin_frames.specs.Frame.Contents.{frame_meta}
 use Rattle.puffin_frames.specs.Frame.Sums.{total_scopes}
 use Rattle.puffin_frames.specs.Packet.Writing.{HasLongPart}
-use Rattle.puffin_collector.specs.Collector.State.{Collected, nothing_collected, AcceptsReport, RefusesReport, after_frame, after_no_frame, after_wanting}
+use Rattle.puffin_collector.specs.Collector.State.{Collected, nothing_collected, AcceptsReport, RefusesReport, IsReportRefusal, after_frame, after_no_frame, after_wanting}
 use Rattle.puffin_collector.specs.Collector.Collecting.{HoldsAll, HaveNoScopes, KeepsPending}
 use Rattle.puffin_view.specs.View.{empty_view, after_taking, KeepsFrames}
 use Rattle.puffin_view.specs.View.ViewedFrames.{index_of}
@@ -25,6 +30,7 @@ use Rattle.puffin_c.specs.declared.fault.Fault.{Fault}
 use Rattle.puffin_c.specs.declared.fault.Fault.TheVariants as fault
 use Rattle.puffin_c.specs.declared.frame.PuffinFrame.{PuffinFrame}
 use Rattle.puffin_c.specs.declared.profiler.Profiler.{Profiler}
+use Rattle.puffin_c.specs.Recording.{AreNoTexts}
 use Rattle.puffin_c.specs.Reporting.{laid_over}
 
 -- ---- a profiler
@@ -83,6 +89,33 @@ Hands t p t' p' (Err f) =
     × (t ≡ Some old)
     × (p ≡ Some q)
     × Reports AcceptsReport RefusesReport old old q.collector q.collector (Err e)))
+
+-- the facts of a stream of these bytes, which spell a forest
+abbrev pub IsStream : Form → List ℕ → StreamFacts → Type 0
+IsStream form bytes r =
+    (r.form ≡ form) × (r.bytes ≡ bytes) × (f : Forest) × AreHonestFacts r f
+
+-- The scopes of a stream are appended under this key. Or nothing is changed: the name or the bytes are refused, or the scopes are.
+abbrev pub TakesOwn : Option Profiler → ThreadKey → Form → List ℕ → Option Profiler →
+    Result (Unit {0}) Fault → Type 0
+TakesOwn p key form bytes p' (Ok _) =
+    (q : Profiler)
+    × (after : Collected)
+    × (r : StreamFacts)
+    × (p ≡ Some q)
+    × (p' ≡ Some (with_collected q after))
+    × IsStream form bytes r
+    × AcceptsReport q.collector key [] r after
+TakesOwn p key form bytes p' (Err f) =
+    (p' ≡ p)
+    × (((f ≡ fault.NotOpen) × (p ≡ None))
+    ⊎ ((q : Profiler)
+    × (p ≡ Some q)
+    × (AreNoTexts (key.name ∷ []) f
+    ⊎ ((e : Error)
+    × (f ≡ fault.Refused e)
+    × (IsFault form bytes e
+    ⊎ ((r : StreamFacts) × IsStream form bytes r × IsReportRefusal q.collector key [] r e))))))
 
 -- ---- frames
 

@@ -24,4 +24,5 @@ mod texts;
 pub mod thread;
 pub mod thread_slot;
 mod unread;
+pub mod user_scopes;
 pub mod view_file;

@@ -1,0 +1,91 @@
+//! Scopes of the program's own, under the name of any thread.
+
+ghost use Rattle.std.specs.Prelude.{◌≡◌, ◌⊎◌, Result, IfOk, IfErr};
+ghost use Rattle.puffin_data.specs.declared.error.Error.TheVariants as error;
+ghost use Rattle.puffin_data.specs.Forest.{Forest};
+ghost use Rattle.puffin_data.specs.Honesty.{IsHonestRef};
+ghost use Rattle.puffin_data.specs.Walk.{IsFault};
+ghost use Rattle.puffin_c.specs.declared.fault.Fault.{Fault};
+ghost use Rattle.puffin_c.specs.Faults.{answer_code};
+ghost use Rattle.puffin_c.specs.Counting.{form_given};
+ghost use Rattle.puffin_c.specs.Reporting.{key_given};
+ghost use Rattle.puffin_c.specs.Profiling.{TakesOwn};
+
+use crate::fault::{Fault, answer_code};
+use crate::file::named_thread;
+use crate::profiling::PuffinProfiler;
+use crate::stream::form_of;
+use puffin_data::data::{Form, StreamInfoRef, walk_forest};
+use std::alloc::Global;
+
+/// Counts the scopes of a stream of any origin. Fails with the first fault of the bytes, or with `Memory`.
+fn counted(alloc: Global, form: Form, bytes: &[u8]) -> puffin_data::Result<StreamInfoRef<'_>>
+    ensures form { IfOk result (λ times. times.form ≡ form) }
+    ensures bytes { IfOk result (λ times. times.stream.now ≡ bytes.now) }
+    ensures honest { IfOk result (λ times. (f : Forest) × IsHonestRef times f) }
+    ensures fault { IfErr result (λ e. (e ≡ error.Memory) ⊎ IsFault form bytes.now e) }
+{
+    let mut tries = 0;
+    let walk = walk_forest(alloc, form, bytes, &mut tries)?;
+    Ok(StreamInfoRef {
+        form,
+        stream: bytes,
+        num_scopes: walk.num_scopes,
+        depth: walk.depth,
+        range_ns: walk.range_ns,
+    })
+}
+
+fn taken(
+    alloc: Global,
+    profiler: &mut PuffinProfiler,
+    has_start: bool,
+    start_ns: i64,
+    name: &[u8],
+    bytes: &[u8],
+    form: Form,
+) -> Result<(), Fault>
+    ensures { TakesOwn profiler.old.slot.held (key_given has_start start_ns name.now) form
+        bytes.now profiler.new.slot.held result }
+{
+    if !profiler.is_open {
+        return Err(Fault::NotOpen);
+    }
+    let info = named_thread(alloc, has_start, start_ns, name)?;
+    let times = counted(alloc, form, bytes)?;
+    let mut whole = profiler.take(alloc);
+    let answer = whole.collector.report_user_scopes(info, &times);
+    profiler.put(whole);
+    match answer {
+        Ok(()) => Ok(()),
+        Err(cause) => Err(Fault::Refused(cause)),
+    }
+}
+
+/// Appends the scopes of a stream of any origin to those that wait for the next frame, under the thread of this name
+/// and, if `has_start` is set, this start. [`puffin_count`] describes the bytes.
+///
+/// Fails with the first that applies: `NotOpen`; `NotText` of the name; the first fault of the bytes; `UnlikeForms`,
+/// `TooLarge` or `RangeTooLong` as [`puffin_report`]. Or fails with `Memory`. Nothing changes then.
+///
+/// [`puffin_count`]: crate::stream::puffin_count
+/// [`puffin_report`]: crate::profiling::puffin_report
+#[unsafe(no_mangle)]
+pub extern "C" fn puffin_user_scopes(
+    alloc: Global,
+    profiler: &mut PuffinProfiler,
+    has_start: bool,
+    start_ns: i64,
+    name: &[u8],
+    bytes: &[u8],
+    long_texts: bool,
+) -> u32
+    ensures { (answer : Result (Unit {0}) Fault)
+        × (result ≡ answer_code answer)
+        × TakesOwn profiler.old.slot.held (key_given has_start start_ns name.now)
+        (form_given long_texts) bytes.now profiler.new.slot.held answer }
+{
+    let form = form_of(long_texts);
+    let answer = taken(alloc, profiler, has_start, start_ns, name, bytes, form);
+    answer_code(answer)
+}
