@@ -70,7 +70,8 @@ typedef struct PuffinCount {
  * count->tries is set. */
 uint32_t puffin_count(const uint8_t *bytes, size_t size, bool long_texts, PuffinCount *count);
 
-/* Reads a file, and sets *frames to the number of its frames. Fails with the file's first fault. */
+/* Reads a file, and sets *frames to the number of its frames. Fails with the file's first fault; then *frames is the number
+ * of frames before the fault, or those read until memory ran out. */
 uint32_t puffin_check_file(const uint8_t *file, size_t size, uint64_t *frames);
 
 /* Reports on a file for the thread of this name and, if has_start is set, this start. Copies as much of the lines as fits to

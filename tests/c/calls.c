@@ -179,8 +179,14 @@ static void reading(const char *path) {
     fclose(written);
     CALL(puffin_check_file(file, size, &frames));
     is("frames", frames, 1);
-    is("a cut file", puffin_check_file(file, size - 1, &frames), PUFFIN_FILE_TRUNCATED);
+    /* the same packet once more, which is then cut */
+    memcpy(file + size, file + 4, size - 4);
+    CALL(puffin_check_file(file, 2 * size - 4, &frames));
+    is("frames", frames, 2);
+    is("a cut file", puffin_check_file(file, 2 * size - 5, &frames), PUFFIN_FILE_TRUNCATED);
+    is("frames before the cut", frames, 1);
     is("no file", puffin_check_file(TEXT("XUF0"), &frames), PUFFIN_FILE_NO_MAGIC);
+    is("frames of no file", frames, 0);
     CALL(puffin_report_file(file, size, true, 1000, TEXT("main"), out, sizeof out, &lines));
     fwrite(out, 1, lines, stdout);
     CALL(puffin_report_file(file, size, true, 5, TEXT("gpu"), out, sizeof out, &lines));

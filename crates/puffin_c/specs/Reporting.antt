@@ -1,12 +1,12 @@
 -- What a file's check and its report say.
-use Rattle.std.specs.Prelude.{◌≡◌, ◌⊎◌, ℕ, ℤ, Bool, true, false, List, [], ◌∷◌, ◌++◌, length, take, drop, map, min, Option, Some, None, Result, Ok, Err}
+use Rattle.std.specs.Prelude.{◌≡◌, ◌⊎◌, ℕ, ℤ, Bool, true, false, List, [], ◌∷◌, ◌++◌, ◌-◌, ◌^◌, length, take, drop, min, Option, Some, None, Result, Ok, Err}
 use Rattle.puffin_data.specs.declared.file_error.FileError.{FileError}
 use Rattle.puffin_data.specs.declared.file_error.FileError.TheVariants as file
+use Rattle.puffin_data.specs.Device.{FailsAt}
 use Rattle.puffin_threads.specs.Thread.ThreadKey.{ThreadKey}
 use Rattle.puffin_frames.specs.Packet.Stored.{Stored}
-use Rattle.puffin_view.specs.View.{after_all, all_uniq}
-use Rattle.puffin_view.specs.View.Stats.{stats_of}
-use Rattle.puffin_view.specs.View.File.{file_at, read_view, frame_stored, TookFrames, FailsToRead}
+use Rattle.puffin_view.specs.View.File.{file_at, TookFrames, FailsToRead}
+use Rattle.puffin_view.specs.View.FrameFile.{HasGiven, frame_at}
 use Rattle.puffin_report.specs.declared.summary.Summary.{Summary}
 use Rattle.puffin_report.specs.Summary.{FailsToSumUp}
 use Rattle.puffin_report.specs.Report.{HasSummary}
@@ -15,19 +15,29 @@ use Rattle.puffin_c.specs.declared.fault.Fault.{Fault}
 use Rattle.puffin_c.specs.Faults.{file_fault}
 use Rattle.puffin_c.specs.Recording.{AreNoTexts}
 
--- The bytes begin with a file, of which a view keeps so many frames; or they have this fault, and nothing is told.
-abbrev pub IsChecked : List ℕ → ℕ → ℕ → Result (Unit {0}) Fault → Type 0
-IsChecked bytes before n (Ok _) =
+-- So many frames stand before a fault: none if the letters that begin a file have it, else those that were read until it.
+abbrev pub StandBefore : List ℕ → Option (List ℕ) → FileError → ℕ → Type 0
+StandBefore bytes left e n =
+    ((n ≡ 0) × ((e ≡ file.NoMagic) ⊎ (e ≡ file.Io)))
+    ⊎ ((given : Option (List ℕ))
+    × (stored : List Stored)
+    × HasGiven (Some bytes) given stored
+    × (n ≡ length stored)
+    × (FailsAt e given left frame_at ⊎ ((e ≡ file.Truncated) × (n ≡ 2 ^ 64 - 1))))
+
+-- The bytes begin with a file of so many frames; or they have this fault, behind so many frames.
+abbrev pub IsChecked : List ℕ → ℕ → Result (Unit {0}) Fault → Type 0
+IsChecked bytes n (Ok _) =
     (left : Option (List ℕ))
     × (stored : List Stored)
     × TookFrames file_at (Some bytes) left stored
-    × (n ≡ (stats_of (all_uniq (after_all read_view (map frame_stored stored)))).frames)
-IsChecked bytes before n (Err f) =
-    (n ≡ before)
-    × (left : Option (List ℕ))
+    × (n ≡ length stored)
+IsChecked bytes n (Err f) =
+    (left : Option (List ℕ))
     × (e : FileError)
     × (f ≡ file_fault e)
     × FailsToRead file_at (Some bytes) left e
+    × StandBefore bytes left e n
 
 -- whose scopes are meant
 abbrev pub key_given : Bool → ℤ → List ℕ → ThreadKey

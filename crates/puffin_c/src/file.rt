@@ -15,26 +15,37 @@ use puffin_data::FileError;
 use puffin_data::data::Counted;
 use puffin_frames::thread_profiler::ThreadInfo;
 use puffin_report::print_report;
-use puffin_view::profile_view::FrameView;
+use puffin_view::profile_view::laws::files_have_an_end;
+use puffin_view::profile_view::{next_frame, read_magic};
 use std::alloc::Global;
 
-/// Reads a file, and counts the frames that a view of it keeps.
+/// Reads a file frame by frame, and counts the frames.
 fn checked(alloc: Global, file: &[u8], frames: &mut u64) -> Result<(), Fault>
-    ensures { IsChecked file.now frames.old frames.new result }
+    ensures { IsChecked file.now frames.new result }
 {
-    let view = FrameView::read(alloc, &mut Counted::new(file))?;
-    *frames = view.stats().frames() as u64;
-    Ok(())
+    *frames = 0;
+    let mut source = Counted::new(file);
+    read_magic(&mut source)?;
+    'frames: for _ in 0..u64::MAX {
+        let Some(_frame) = next_frame(alloc, &mut source)? else {
+            return Ok(());
+        };
+        *frames += 1;
+    }
+    // For the proof alone: a law about files.
+    files_have_an_end();
+    Err(Fault::from(FileError::Truncated))
 }
 
-/// Reads a file of any origin, and sets `frames` to the number of its frames.
+/// Reads a file of any origin frame by frame, and sets `frames` to the number of its frames.
 ///
-/// Fails with the first fault of the file, or with `Memory`. Then `frames` doesn't change.
+/// Fails with the first fault of the file, or with `Memory`. Then `frames` is the number of frames before the fault, or
+/// of those that were read until memory ran out.
 #[unsafe(no_mangle)]
 pub extern "C" fn puffin_check_file(alloc: Global, file: &[u8], frames: &mut u64) -> u32
     ensures { (answer : Result (Unit {0}) Fault)
         × (result ≡ answer_code answer)
-        × IsChecked file.now frames.old frames.new answer }
+        × IsChecked file.now frames.new answer }
 {
     let answer = checked(alloc, file, frames);
     answer_code(answer)
