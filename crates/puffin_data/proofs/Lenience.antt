@@ -10,7 +10,7 @@ use Rattle.puffin_data.specs.Text.{text_in}
 use Rattle.puffin_data.specs.Walk.Reading.{FoundScope, reading, found_in}
 use Rattle.puffin_data.specs.Walk.{region, IsSoundAt}
 use Rattle.puffin_data.specs.declared.data.scope.RawScope.{RawScope}
-use Rattle.puffin_data.specs.Walk.Sightings.{found_of}
+use Rattle.puffin_data.specs.Walk.FoundScopes.{found_of}
 use Rattle.puffin_data.specs.inner.Walking.{reading_of}
 use Rattle.puffin_data.specs.Reader.{ReadScope, read_scope, read_from, scope_read}
 use Rattle.puffin_data.proofs.FoundScope.{passes}

@@ -15,10 +15,10 @@ mod Lenience
 mod AllRead
 mod OneReading
 mod TopScopes
-mod SightsSeen
+mod ScopesSeen
 mod Going
 mod Visited
-mod SpelledSights
+mod SpelledScopes
 mod Causes
 mod Filled
 mod Blocks

@@ -8,7 +8,7 @@ use Rattle.puffin_data.specs.Forest.Spelling.{spelling}
 use Rattle.puffin_data.specs.Walk.Reading.{FoundScope}
 use Rattle.puffin_data.specs.Walk.{region, IsFaultAt, Reaches, here, child, sibling}
 use Rattle.puffin_data.specs.inner.Walking.{tries_in}
-use Rattle.puffin_data.specs.Walk.Sights.{ScopeInContext, nested_in, PlacedScope, Sees, no_sight, one_sight, scopes_of, before}
+use Rattle.puffin_data.specs.Walk.PlacedScopes.{ScopeInContext, nested_in, PlacedScope, Sees, no_scope, one_scope, scopes_of, before}
 use Rattle.puffin_data.specs.Walk.Visitor.{Entering, Refusing, TakesAll, StopsAtFault, StopsAtRefusal}
 use Rattle.puffin_data.proofs.lemmas.Numbers.{IsBytes, IsBytes-drop, IsBytes-take}
 use Rattle.puffin_data.proofs.Spelled.{spelt}
@@ -16,7 +16,7 @@ use Rattle.puffin_data.proofs.Resuming.{found_places}
 use Rattle.puffin_data.proofs.Regions.{length-region, part_of_region, rest_of_region, empty_region, whole_region, sound_is_no_fault, nothing_is_not_sound, between}
 use Rattle.puffin_data.proofs.Completes.{nothing_reached, after_sound, joined}
 use Rattle.puffin_data.proofs.FirstFaults.{by_parts}
-use Rattle.puffin_data.proofs.SightsSeen.{sights_in, before-first, all_before, none_before}
+use Rattle.puffin_data.proofs.ScopesSeen.{placed_in, before-first, all_before, none_before}
 use Rattle.puffin_data.proofs.RangesTold.{fault_inside}
 use Rattle.puffin_data.proofs.Going.{over_all, at_fault, at_refusal, Goes, ends, meets_fault, is_refused, stops_within, goes_on}
 
@@ -28,10 +28,10 @@ pub record VisitorLaws {V W : Type 0} (takes : V → List ScopeInContext → V �
   pub still : (u v : V) (xs : List ScopeInContext) (w : W) (around : List Span) → takes u xs v →
       stands_for u w around → stands_for v w around
 
-abbrev sight_at : ℕ → List Span → FoundScope → PlacedScope
-sight_at p around s = record { place = p; scope = record { around = around; span = s.span } }
+abbrev placed_at : ℕ → List Span → FoundScope → PlacedScope
+placed_at p around s = record { place = p; scope = record { around = around; span = s.span } }
 
--- the scopes of a sight, of those in it and of those after it
+-- the scopes of a placed one, of those in it and of those after it
 scopes_split : (s : PlacedScope) (inner later : List PlacedScope) → scopes_of (s ∷ (inner ++ later)) ≡ (s.scope ∷ []) ++ (scopes_of inner ++ scopes_of later)
 scopes_split s inner later = ap (λ (xs : List ScopeInContext). s.scope ∷ xs) (map-append (λ (x : PlacedScope). x.scope) inner later)
 
@@ -41,11 +41,11 @@ pub record Done (form : Form) {V : Type 0} (takes : V → List ScopeInContext �
   pub forest : Forest
   pub fits : IsForest form forest
   pub spelled : region bytes p e ≡ spelling form forest
-  pub sights : List PlacedScope
-  pub sees : Sees form bytes around p e sights
-  pub same : scopes_of sights ≡ nested_in around forest
-  pub taken : takes v (scopes_of sights) u
-  pub tries : m ≡ n + length sights
+  pub placed : List PlacedScope
+  pub sees : Sees form bytes around p e placed
+  pub same : scopes_of placed ≡ nested_in around forest
+  pub taken : takes v (scopes_of placed) u
+  pub tries : m ≡ n + length placed
   pub faultless : (q f : ℕ) (fault : Error) → Reaches form bytes p e q f → IsFaultAt form bytes q f fault → ⊥
 
 pub same_scopes : (s : PlacedScope) (inner later : List PlacedScope) (a b : List ScopeInContext) → scopes_of inner ≡ a → scopes_of later ≡ b → scopes_of (s ∷ (inner ++ later)) ≡ s.scope ∷ (a ++ b)
@@ -70,8 +70,8 @@ done form refuses laws bytes around w v u n m p e fits h k stands ends =
       forest = empty;
       fits = tt;
       spelled = empty_region bytes p;
-      sights = [];
-      sees = no_sight (λ s sound. nothing_is_not_sound form (region bytes p p) s (empty_region bytes p) sound);
+      placed = [];
+      sees = no_scope (λ s sound. nothing_is_not_sound form (region bytes p p) s (empty_region bytes p) sound);
       same = refl;
       taken = laws.none v;
       tries = omega arith;
@@ -92,11 +92,11 @@ done form refuses laws bytes around w v z n o p e fits h k stands (goes_on {x = 
       forest = node s.span a.forest b.forest;
       fits = (spell.fits, a.fits, b.fits);
       spelled = joined form part _ _ s.span (s.child_end - s.child_begin) a.forest b.forest spell.whole size (inner_is ∙ a.spelled) (rest_is ∙ b.spelled);
-      sights = sight_at p around s ∷ (a.sights ++ b.sights);
-      sees = one_sight sound a.sees b.sees;
-      same = same_scopes (sight_at p around s) a.sights b.sights _ _ a.same b.same;
-      taken = taken_more laws v u t z (sight_at p around s) a.sights b.sights first.0 a.taken b.taken;
-      tries = omega (arith, length-append a.sights b.sights, a.tries, b.tries);
+      placed = placed_at p around s ∷ (a.placed ++ b.placed);
+      sees = one_scope sound a.sees b.sees;
+      same = same_scopes (placed_at p around s) a.placed b.placed _ _ a.same b.same;
+      taken = taken_more laws v u t z (placed_at p around s) a.placed b.placed first.0 a.taken b.taken;
+      tries = omega (arith, length-append a.placed b.placed, a.tries, b.tries);
       faultless = λ q f fault r y. after_sound form bytes p e q f s fault sound (λ c. a.faultless q f fault c y) (λ c. b.faultless q f fault c y) r y;
     }
 
@@ -107,10 +107,10 @@ pub record Meets (form : Form) {V : Type 0} (takes : V → List ScopeInContext �
   pub reached : Reaches form bytes p e place end
   pub stands : IsFaultAt form bytes place end fault
   pub least : (q f : ℕ) (other : Error) → Reaches form bytes p e q f → IsFaultAt form bytes q f other → place ≤ q
-  pub sights : List PlacedScope
-  pub sees : Sees form bytes around p e sights
-  pub taken : takes v (scopes_of (before place sights)) u
-  pub tries : m ≡ n + length (before place sights) + tries_in (region bytes place end)
+  pub placed : List PlacedScope
+  pub sees : Sees form bytes around p e placed
+  pub taken : takes v (scopes_of (before place placed)) u
+  pub tries : m ≡ n + length (before place placed) + tries_in (region bytes place end)
 
 pub meets : (form : Form) → {V W : Type 0} {takes : V → List ScopeInContext → V → Type 0} (refuses : V → ScopeInContext → Error → Type 0) {stands_for : V → W → List Span → Type 0} (laws : VisitorLaws takes stands_for) (bytes : List ℕ) (around : List Span) (w : W) (v u : V) (n m p e place : ℕ) (fault : Error)
     → IsBytes bytes → p ≤ e → e ≤ length bytes → stands_for v w around → Goes form (Entering takes stands_for) (Refusing refuses stands_for) bytes w v n p e (at_fault u place fault m) → Meets form takes bytes around v u n m p e place fault
@@ -120,8 +120,8 @@ meets form refuses laws bytes around w v u n m p e place fault fits h k stands (
       reached = here;
       stands = at;
       least = λ q f other r x. (between form bytes p e q f h k r).low;
-      sights = [];
-      sees = no_sight (λ s sound. sound_is_no_fault form (region bytes p e) s fault sound at);
+      placed = [];
+      sees = no_scope (λ s sound. sound_is_no_fault form (region bytes p e) s fault sound at);
       taken = laws.none v;
       tries = omega arith;
     }
@@ -130,18 +130,18 @@ meets form {takes = takes} refuses laws bytes around w v z n m p e place fault f
     let first = enter around stands in
     let a = meets form refuses laws bytes (around ++ (s.span ∷ [])) x u z (n + 1) m (p + s.child_begin) (p + s.child_end) place fault fits (omega (arith, at)) (omega (arith, at)) first.1 inner in
     let inside = between form bytes (p + s.child_begin) (p + s.child_end) place a.end (omega (arith, at)) (omega (arith, at)) a.reached in
-    let b = sights_in form bytes around (p + s.next_sibling) e (omega (arith, at)) k in
+    let b = placed_in form bytes around (p + s.next_sibling) e (omega (arith, at)) k in
     let none = none_before form bytes around (p + s.next_sibling) e place b.0 (omega (arith, at)) k (omega (arith, at, inside)) b.1 in
-    let split = before-first place (sight_at p around s) a.sights b.0 (omega (arith, at, inside)) ∙ ap (λ (xs : List PlacedScope). sight_at p around s ∷ (before place a.sights ++ xs)) none in
+    let split = before-first place (placed_at p around s) a.placed b.0 (omega (arith, at, inside)) ∙ ap (λ (xs : List PlacedScope). placed_at p around s ∷ (before place a.placed ++ xs)) none in
     record {
       end = a.end;
       reached = child sound a.reached;
       stands = a.stands;
       least = λ q f other r y. by_parts form bytes p e q f place s other sound (λ c. a.least q f other c y) (λ c. let d = between form bytes (p + s.next_sibling) e q f (omega (arith, at)) k c in omega (arith, at, inside, d)) r y;
-      sights = sight_at p around s ∷ (a.sights ++ b.0);
-      sees = one_sight sound a.sees b.1;
-      taken = subst (λ (xs : List PlacedScope). takes v (scopes_of xs) z) (sym split) (taken_more laws v u z z (sight_at p around s) (before place a.sights) [] first.0 a.taken (laws.none z));
-      tries = omega (arith, a.tries, ap length split, length-append (before place a.sights) []);
+      placed = placed_at p around s ∷ (a.placed ++ b.0);
+      sees = one_scope sound a.sees b.1;
+      taken = subst (λ (xs : List PlacedScope). takes v (scopes_of xs) z) (sym split) (taken_more laws v u z z (placed_at p around s) (before place a.placed) [] first.0 a.taken (laws.none z));
+      tries = omega (arith, a.tries, ap length split, length-append (before place a.placed) []);
     }
 meets form {takes = takes} refuses laws bytes around w v z n o p e place fault fits h k stands (goes_on {x = x} {u = u} {t = t} {m = m} {s = s} sound enter inner later) =
     let at = found_places form bytes p e s sound h k in
@@ -149,32 +149,32 @@ meets form {takes = takes} refuses laws bytes around w v z n o p e place fault f
     let a = done form refuses laws bytes (around ++ (s.span ∷ [])) x u t (n + 1) m (p + s.child_begin) (p + s.child_end) fits (omega (arith, at)) (omega (arith, at)) first.1 inner in
     let b = meets form refuses laws bytes around w t z m o (p + s.next_sibling) e place fault fits (omega (arith, at)) k (still_after laws v u t _ _ w around first.0 a.taken stands) later in
     let after = between form bytes (p + s.next_sibling) e place b.end (omega (arith, at)) k b.reached in
-    let all = all_before form bytes (around ++ (s.span ∷ [])) (p + s.child_begin) (p + s.child_end) place a.sights (omega (arith, at)) (omega (arith, at)) (omega (arith, at, after)) a.sees in
-    let split = before-first place (sight_at p around s) a.sights b.sights (omega (arith, at, after)) ∙ ap (λ (xs : List PlacedScope). sight_at p around s ∷ (xs ++ before place b.sights)) all in
+    let all = all_before form bytes (around ++ (s.span ∷ [])) (p + s.child_begin) (p + s.child_end) place a.placed (omega (arith, at)) (omega (arith, at)) (omega (arith, at, after)) a.sees in
+    let split = before-first place (placed_at p around s) a.placed b.placed (omega (arith, at, after)) ∙ ap (λ (xs : List PlacedScope). placed_at p around s ∷ (xs ++ before place b.placed)) all in
     record {
       end = b.end;
       reached = sibling sound b.reached;
       stands = b.stands;
       least = λ q f other r y. by_parts form bytes p e q f place s other sound (λ c. absurd (a.faultless q f other c y)) (λ c. b.least q f other c y) r y;
-      sights = sight_at p around s ∷ (a.sights ++ b.sights);
-      sees = one_sight sound a.sees b.sees;
-      taken = subst (λ (xs : List PlacedScope). takes v (scopes_of xs) z) (sym split) (taken_more laws v u t z (sight_at p around s) a.sights (before place b.sights) first.0 a.taken b.taken);
-      tries = omega (arith, a.tries, b.tries, ap length split, length-append a.sights (before place b.sights));
+      placed = placed_at p around s ∷ (a.placed ++ b.placed);
+      sees = one_scope sound a.sees b.sees;
+      taken = subst (λ (xs : List PlacedScope). takes v (scopes_of xs) z) (sym split) (taken_more laws v u t z (placed_at p around s) a.placed (before place b.placed) first.0 a.taken b.taken);
+      tries = omega (arith, a.tries, b.tries, ap length split, length-append a.placed (before place b.placed));
     }
 
 -- ---- a walk that is refused
 
 pub record Refused (form : Form) {V : Type 0} (takes : V → List ScopeInContext → V → Type 0) (refuses : V → ScopeInContext → Error → Type 0) (bytes : List ℕ) (around : List Span) (v : V) (n m p e : ℕ) (cause : Error) : Type 0 where
   pub earlier : List PlacedScope
-  pub sight : PlacedScope
+  pub met : PlacedScope
   pub later : List PlacedScope
-  pub sees : Sees form bytes around p e (earlier ++ (sight ∷ later))
+  pub sees : Sees form bytes around p e (earlier ++ (met ∷ later))
   pub to : V
   pub taken : takes v (scopes_of earlier) to
-  pub refused : refuses to sight.scope cause
-  pub first : (q f : ℕ) (fault : Error) → Reaches form bytes p e q f → IsFaultAt form bytes q f fault → sight.place ≤ q
-  pub low : p ≤ sight.place
-  pub high : sight.place ≤ e
+  pub refused : refuses to met.scope cause
+  pub first : (q f : ℕ) (fault : Error) → Reaches form bytes p e q f → IsFaultAt form bytes q f fault → met.place ≤ q
+  pub low : p ≤ met.place
+  pub high : met.place ≤ e
   pub tries : m ≡ n + (length earlier + 1)
 
 regroup_inner : (s t : PlacedScope) (earlier later rest : List PlacedScope) → s ∷ ((earlier ++ (t ∷ later)) ++ rest) ≡ (s ∷ earlier) ++ (t ∷ (later ++ rest))
@@ -187,13 +187,13 @@ pub refused_at : (form : Form) → {V W : Type 0} {takes : V → List ScopeInCon
     → IsBytes bytes → p ≤ e → e ≤ length bytes → stands_for v w around → Goes form (Entering takes stands_for) (Refusing refuses stands_for) bytes w v n p e (at_refusal place cause m) → Refused form takes refuses bytes around v n m p e cause
 refused_at form refuses laws bytes around w v n m p e place cause fits h k stands (is_refused {s = s} sound refused) =
     let at = found_places form bytes p e s sound h k in
-    let a = sights_in form bytes (around ++ (s.span ∷ [])) (p + s.child_begin) (p + s.child_end) (omega (arith, at)) (omega (arith, at)) in
-    let b = sights_in form bytes around (p + s.next_sibling) e (omega (arith, at)) k in
+    let a = placed_in form bytes (around ++ (s.span ∷ [])) (p + s.child_begin) (p + s.child_end) (omega (arith, at)) (omega (arith, at)) in
+    let b = placed_in form bytes around (p + s.next_sibling) e (omega (arith, at)) k in
     record {
       earlier = [];
-      sight = sight_at p around s;
+      met = placed_at p around s;
       later = a.0 ++ b.0;
-      sees = one_sight sound a.1 b.1;
+      sees = one_scope sound a.1 b.1;
       to = v;
       taken = laws.none v;
       refused = refused around stands;
@@ -206,18 +206,18 @@ refused_at form {takes = takes} refuses laws bytes around w v n m p e place caus
     let at = found_places form bytes p e s sound h k in
     let first = enter around stands in
     let a = refused_at form refuses laws bytes (around ++ (s.span ∷ [])) x u (n + 1) m (p + s.child_begin) (p + s.child_end) place cause fits (omega (arith, at)) (omega (arith, at)) first.1 inner in
-    let b = sights_in form bytes around (p + s.next_sibling) e (omega (arith, at)) k in
+    let b = placed_in form bytes around (p + s.next_sibling) e (omega (arith, at)) k in
     let a-low = a.low in
     let a-high = a.high in
     record {
-      earlier = sight_at p around s ∷ a.earlier;
-      sight = a.sight;
+      earlier = placed_at p around s ∷ a.earlier;
+      met = a.met;
       later = a.later ++ b.0;
-      sees = subst (λ (xs : List PlacedScope). Sees form bytes around p e xs) (regroup_inner (sight_at p around s) a.sight a.earlier a.later b.0) (one_sight sound a.sees b.1);
+      sees = subst (λ (xs : List PlacedScope). Sees form bytes around p e xs) (regroup_inner (placed_at p around s) a.met a.earlier a.later b.0) (one_scope sound a.sees b.1);
       to = a.to;
       taken = laws.more v u a.to (record { around = around; span = s.span } ∷ []) (scopes_of a.earlier) first.0 a.taken;
       refused = a.refused;
-      first = λ q f fault r y. by_parts form bytes p e q f a.sight.place s fault sound (λ c. a.first q f fault c y) (λ c. let d = between form bytes (p + s.next_sibling) e q f (omega (arith, at)) k c in omega (arith, at, a-high, d)) r y;
+      first = λ q f fault r y. by_parts form bytes p e q f a.met.place s fault sound (λ c. a.first q f fault c y) (λ c. let d = between form bytes (p + s.next_sibling) e q f (omega (arith, at)) k c in omega (arith, at, a-high, d)) r y;
       low = omega (arith, at, a-low);
       high = omega (arith, at, a-high);
       tries = omega (arith, a.tries);
@@ -230,17 +230,17 @@ refused_at form {takes = takes} refuses laws bytes around w v n o p e place caus
     let b-low = b.low in
     let b-high = b.high in
     record {
-      earlier = sight_at p around s ∷ (a.sights ++ b.earlier);
-      sight = b.sight;
+      earlier = placed_at p around s ∷ (a.placed ++ b.earlier);
+      met = b.met;
       later = b.later;
-      sees = subst (λ (xs : List PlacedScope). Sees form bytes around p e xs) (regroup_later (sight_at p around s) b.sight a.sights b.earlier b.later) (one_sight sound a.sees b.sees);
+      sees = subst (λ (xs : List PlacedScope). Sees form bytes around p e xs) (regroup_later (placed_at p around s) b.met a.placed b.earlier b.later) (one_scope sound a.sees b.sees);
       to = b.to;
-      taken = taken_more laws v u t b.to (sight_at p around s) a.sights b.earlier first.0 a.taken b.taken;
+      taken = taken_more laws v u t b.to (placed_at p around s) a.placed b.earlier first.0 a.taken b.taken;
       refused = b.refused;
-      first = λ q f fault r y. by_parts form bytes p e q f b.sight.place s fault sound (λ c. absurd (a.faultless q f fault c y)) (λ c. b.first q f fault c y) r y;
+      first = λ q f fault r y. by_parts form bytes p e q f b.met.place s fault sound (λ c. absurd (a.faultless q f fault c y)) (λ c. b.first q f fault c y) r y;
       low = omega (arith, at, b-low);
       high = omega (arith, b-high);
-      tries = omega (arith, a.tries, b.tries, length-append a.sights b.earlier);
+      tries = omega (arith, a.tries, b.tries, length-append a.placed b.earlier);
     }
 
 -- ---- told of the whole bytes
@@ -253,7 +253,7 @@ all_taken form {takes = takes} refuses laws bytes w v u m fits stands g =
       forest = d.forest;
       spells = record { whole = sym (whole_region bytes) ∙ d.spelled; fits = d.fits };
       taken = subst (λ (xs : List ScopeInContext). takes v xs u) d.same d.taken;
-      tries = omega (arith, d.tries, ap length d.same, map_length (λ (x : PlacedScope). x.scope) d.sights);
+      tries = omega (arith, d.tries, ap length d.same, map_length (λ (x : PlacedScope). x.scope) d.placed);
     }
   where
     map_length : {A B : Type 0} (f : A → B) (xs : List A) → length (map f xs) ≡ length xs
@@ -271,7 +271,7 @@ stops_at_fault form refuses laws bytes w v u m place fault fits stands g =
     record {
       place = place;
       first = record { end = s.end; reached = s.reached; stands = s.stands; least = s.least };
-      sights = s.sights;
+      placed = s.placed;
       sees = s.sees;
       taken = s.taken;
       tries = omega (arith, s.tries, last);
@@ -283,7 +283,7 @@ stops_at_refusal form refuses laws bytes w v m place cause fits stands g =
     let s = refused_at form refuses laws bytes [] w v 0 m 0 (length bytes) place cause fits (omega arith) (omega arith) stands g in
     record {
       earlier = s.earlier;
-      sight = s.sight;
+      met = s.met;
       later = s.later;
       sees = s.sees;
       to = s.to;

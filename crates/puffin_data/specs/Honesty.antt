@@ -1,4 +1,4 @@
--- Records of a stream's form, bytes and numbers, when they are honest, and how two are joined.
+-- A stream's form, bytes and numbers (`StreamFacts`), when the numbers agree with the bytes, and how two streams are joined.
 use Rattle.std.specs.Prelude.{◌≡◌, ◌≢◌, ℕ, ◌+◌, ◌<◌, ◌==◌, if◌then◌else◌, max, ℤ, List, ◌++◌, length}
 use Rattle.std.specs.Int.{int_min, int_max}
 use Rattle.puffin_data.specs.declared.data.walk.Walk.{Walk}

@@ -1,7 +1,7 @@
 -- The places that a walk reaches, the first fault, and the number of scopes that it tries to read.
 pub mod Reading
-pub mod Sightings
-pub mod Sights
+pub mod FoundScopes
+pub mod PlacedScopes
 pub mod Visitor
 use Rattle.std.specs.Prelude.{◌≡◌, ℕ, ◌+◌, ◌-◌, ◌≤◌, List, [], ◌∷◌, ◌++◌, length, take, drop, slice_index, nat_lt, ◌==◌, if◌then◌else◌, Some, Ok}
 use Rattle.std.specs.List.{count_by}

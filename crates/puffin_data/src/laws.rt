@@ -11,7 +11,7 @@ ghost use Rattle.puffin_data.specs.Forest.Measures.{scope_count, height, least_s
 ghost use Rattle.puffin_data.specs.Forest.Spelling.{spelling, Spells, begin_bytes, end_size, head_size};
 ghost use Rattle.puffin_data.specs.Honesty.{StreamFacts, AreHonestFacts, joined_facts, AreUnlike};
 ghost use Rattle.puffin_data.specs.Walk.{IsFault, IsFirstFault, Sounds};
-ghost use Rattle.puffin_data.specs.Walk.Sights.{nested_in, PlacedScope, Sees, scopes_of};
+ghost use Rattle.puffin_data.specs.Walk.PlacedScopes.{nested_in, PlacedScope, Sees, scopes_of};
 ghost use Rattle.puffin_data.specs.Forest.Tour.{Event, Open, Close, tour, IsBalanced};
 ghost use Rattle.puffin_data.specs.Forest.Words.{word_size, num_begun, open_after, most_open, least_open, greatest_close};
 ghost use Rattle.puffin_data.specs.declared.data.form.Form.{Form};
@@ -92,16 +92,16 @@ pub fn sounds_rise()
 
 /// For any bytes there is exactly one list of the scopes that a walk meets. If the bytes spell a forest, these are the forest's
 /// scopes.
-pub fn sights_of_a_walk()
+pub fn scopes_of_a_walk()
     ensures has { (form : Form) (bytes : List ℕ) →
-        (sights : List PlacedScope) × Sees form bytes [] 0 (length bytes) sights }
-    ensures one { (form : Form) (bytes : List ℕ) (sights others : List PlacedScope) →
-        Sees form bytes [] 0 (length bytes) sights → Sees form bytes [] 0 (length bytes) others →
-        sights ≡ others }
-    ensures spelled { (form : Form) (bytes : List ℕ) (f : Forest) (sights : List PlacedScope) →
+        (placed : List PlacedScope) × Sees form bytes [] 0 (length bytes) placed }
+    ensures one { (form : Form) (bytes : List ℕ) (placed others : List PlacedScope) →
+        Sees form bytes [] 0 (length bytes) placed → Sees form bytes [] 0 (length bytes) others →
+        placed ≡ others }
+    ensures spelled { (form : Form) (bytes : List ℕ) (f : Forest) (placed : List PlacedScope) →
         length bytes < 2 ^ 64 →
-        Spells form bytes f → Sees form bytes [] 0 (length bytes) sights →
-        scopes_of sights ≡ nested_in [] f }
+        Spells form bytes f → Sees form bytes [] 0 (length bytes) placed →
+        scopes_of placed ≡ nested_in [] f }
 {}
 
 /// The fault of a walk is `PrematureEnd`, `InvalidStream` or `ScopeNeverEnded`.

@@ -13,7 +13,7 @@ use Rattle.puffin_data.specs.Value.Decoding.{whole}
 use Rattle.puffin_data.proofs.lemmas.Readers.{whole_taken}
 use Rattle.puffin_frames.specs.declared.frame_data.held.Held.{Held}
 use Rattle.puffin_frames.specs.declared.frame_data.held.Held.TheVariants.{Own, Shared, Packed, Both}
-use Rattle.puffin_frames.specs.Frame.Contents.{packed_as, held_as, said_of}
+use Rattle.puffin_frames.specs.Frame.Contents.{packed_as, held_as, fields_from}
 use Rattle.puffin_frames.specs.declared.frame_data.kind.Kind.{Kind}
 use Rattle.puffin_frames.specs.declared.frame_data.kind.Kind.TheVariants.{Uncompressed, Lz4, Zstd}
 use Rattle.puffin_frames.specs.declared.frame_data.meta.FrameMeta.{FrameMeta}
@@ -31,8 +31,8 @@ use Rattle.puffin_frames.proofs.PartsTaken.{same_ok}
 use Rattle.puffin_frames.proofs.FormsOfAll.{sorted_in, form_stored}
 
 -- what a frame says goes by its meta and its packing
-pub said_same : (m n : FrameMeta) (p q : Packing) (ds : List Details) → m ≡ n → p ≡ q → said_of m p ds ≡ said_of n q ds
-said_same m n p q ds metas packings = ap (λ x. said_of x p ds) metas ∙ ap (λ x. said_of n x ds) packings
+pub fields_same : (m n : FrameMeta) (p q : Packing) (ds : List Details) → m ≡ n → p ≡ q → fields_from m p ds ≡ fields_from n q ds
+fields_same m n p q ds metas packings = ap (λ x. fields_from x p ds) metas ∙ ap (λ x. fields_from n x ds) packings
 
 packing-keeps : (p : Option Packing) (u : Option Streams) → Agree p u → streams_in (packing p u) ≡ either_content p u
 packing-keeps None None h = absurd h

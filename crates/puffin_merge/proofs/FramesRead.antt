@@ -6,7 +6,7 @@ use Rattle.puffin_data.specs.declared.error.Error.{Error}
 use Rattle.puffin_data.specs.declared.error.Error.TheVariants.{Memory, TooLarge}
 use Rattle.puffin_data.specs.Forest.{Forest}
 use Rattle.puffin_data.specs.Forest.Spelling.{Spells}
-use Rattle.puffin_data.specs.Walk.Sights.{ScopeInContext, nested_in, scopes_of, before}
+use Rattle.puffin_data.specs.Walk.PlacedScopes.{ScopeInContext, nested_in, scopes_of, before}
 use Rattle.puffin_data.specs.Walk.Visitor.{TakesAll, StopsEarly}
 use Rattle.puffin_merge.specs.declared.merge.table.Table.{Table}
 use Rattle.puffin_merge.specs.declared.merge.stream.Merging.{Merging}
@@ -78,16 +78,16 @@ read_refused frames i f v w tried made e split origin r (inl s) =
     let done = occurrences_from (start_of frames) r.scopes in
     subst (λ (n : ℕ). IsRefusalAfter frames n e) (sym (both_counted r.tries s.tries))
     (in_frame (take i frames) (drop (i + 1) frames) f r.scopes split r.have r.accepted
-    (faulty s.first s.sees (subst (λ (o : ℤ). AreAccepted done (occurrences_in o (scopes_of (before s.place s.sights)))) origin (s.taken.accepted done r.table))))
+    (faulty s.first s.sees (subst (λ (o : ℤ). AreAccepted done (occurrences_in o (scopes_of (before s.place s.placed)))) origin (s.taken.accepted done r.table))))
 read_refused frames i f v w tried made e split origin r (inr s) =
     let done = occurrences_from (start_of frames) r.scopes in
     let later = s.taken in
     let same : s.to.origin ≡ f.start -ℤ start_of frames = later.origin ∙ origin in
     subst (λ (n : ℕ). IsRefusalAfter frames n e) (sym (both_counted r.tries s.tries))
     (in_frame (take i frames) (drop (i + 1) frames) f r.scopes split r.have r.accepted
-    (refused s.earlier s.later s.sight s.sees
+    (refused s.earlier s.later s.met s.sees
     (subst (λ (o : ℤ). AreAccepted done (occurrences_in o (scopes_of s.earlier))) origin (later.accepted done r.table))
-    (refused_from s.to.origin v.origin (f.start -ℤ start_of frames) done (scopes_of s.earlier) s.sight.scope e same origin (s.refused (done ++ occurrences_in v.origin (scopes_of s.earlier)) (later.table done r.table)))
+    (refused_from s.to.origin v.origin (f.start -ℤ start_of frames) done (scopes_of s.earlier) s.met.scope e same origin (s.refused (done ++ occurrences_in v.origin (scopes_of s.earlier)) (later.table done r.table)))
     s.first))
   where
     refused_from : (a b o : ℤ) (done : List Occurrence) (scopes : List ScopeInContext) (n : ScopeInContext) (e : Error) → a ≡ o → b ≡ o → IsRefusedFor (done ++ occurrences_in b scopes) (occurrence_of a n) e → IsRefusedFor (done ++ occurrences_in o scopes) (occurrence_of o n) e

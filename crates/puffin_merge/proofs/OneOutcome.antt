@@ -6,7 +6,7 @@ use Rattle.puffin_data.specs.declared.error.Error.{Error}
 use Rattle.puffin_data.specs.Forest.{Forest, IsForest}
 use Rattle.puffin_data.specs.Forest.Spelling.{spelling, Spells}
 use Rattle.puffin_data.specs.Walk.{IsFault}
-use Rattle.puffin_data.specs.Walk.Sights.{ScopeInContext, nested_in, PlacedScope, Sees, scopes_of}
+use Rattle.puffin_data.specs.Walk.PlacedScopes.{ScopeInContext, nested_in, PlacedScope, Sees, scopes_of}
 use Rattle.puffin_merge.specs.Merge.Occurrences.{Occurrence, FrameScopes, occurrence_of, occurrences_in, occurrences_of, occurrences_from, occurrences}
 use Rattle.puffin_merge.specs.Merge.Tree.{MergedForest}
 use Rattle.puffin_merge.specs.Merge.{IsMerge}
@@ -20,7 +20,7 @@ use Rattle.puffin_merge.proofs.OneMerge.{one_merge}
 pub record Walks : Type 0 where
   pub one_forest : (form : Form) (f g : Forest) → IsForest form f → IsForest form g → length (spelling form f) < 2 ^ 63 → spelling form f ≡ spelling form g → f ≡ g
   pub no_fault : (form : Form) (bytes : List ℕ) (f : Forest) (fault : Error) → length bytes < 2 ^ 64 → Spells form bytes f → IsFault form bytes fault → ⊥
-  pub sees : (form : Form) (bytes : List ℕ) (f : Forest) (sights : List PlacedScope) → length bytes < 2 ^ 64 → Spells form bytes f → Sees form bytes [] 0 (length bytes) sights → scopes_of sights ≡ nested_in [] f
+  pub sees : (form : Form) (bytes : List ℕ) (f : Forest) (placed : List PlacedScope) → length bytes < 2 ^ 64 → Spells form bytes f → Sees form bytes [] 0 (length bytes) placed → scopes_of placed ≡ nested_in [] f
 
 -- ---- frames have one list of scopes
 

@@ -5,7 +5,7 @@ use Rattle.puffin_data.specs.declared.error.Error.{Error}
 use Rattle.puffin_data.specs.Forest.{Span, Forest}
 use Rattle.puffin_data.specs.Forest.Spelling.{begin_mark, Spells}
 use Rattle.puffin_data.specs.Walk.{Reaches, IsFaultAt, IsFirstFault}
-use Rattle.puffin_data.specs.Walk.Sights.{ScopeInContext, nested_in, PlacedScope, Sees, scopes_of, before}
+use Rattle.puffin_data.specs.Walk.PlacedScopes.{ScopeInContext, nested_in, PlacedScope, Sees, scopes_of, before}
 
 -- ---- one scope
 
@@ -38,25 +38,25 @@ pub record StopsAtFault (form : Form) {V : Type 0} (takes : V → List ScopeInCo
     (from to : V) (bytes : List ℕ) (tried : ℕ) (fault : Error) : Type 0 where
   pub place : ℕ
   pub first : IsFirstFault form bytes place fault
-  pub sights : List PlacedScope
-  pub sees : Sees form bytes [] 0 (length bytes) sights
-  pub taken : takes from (scopes_of (before place sights)) to
+  pub placed : List PlacedScope
+  pub sees : Sees form bytes [] 0 (length bytes) placed
+  pub taken : takes from (scopes_of (before place placed)) to
   pub tries : tried
-      ≡ length (before place sights) + (if slice_index bytes place == begin_mark then 1 else 0)
+      ≡ length (before place placed) + (if slice_index bytes place == begin_mark then 1 else 0)
 
 -- The visitor has taken the sound scopes before one that it refuses, and no fault comes before that. The tries are these and the refused one.
 pub record StopsAtRefusal (form : Form) {V : Type 0} (takes : V → List ScopeInContext → V → Type 0)
     (refuses : V → ScopeInContext → Error → Type 0) (from : V) (bytes : List ℕ) (tried : ℕ)
     (cause : Error) : Type 0 where
   pub earlier : List PlacedScope
-  pub sight : PlacedScope
+  pub met : PlacedScope
   pub later : List PlacedScope
-  pub sees : Sees form bytes [] 0 (length bytes) (earlier ++ (sight ∷ later))
+  pub sees : Sees form bytes [] 0 (length bytes) (earlier ++ (met ∷ later))
   pub to : V
   pub taken : takes from (scopes_of earlier) to
-  pub refused : refuses to sight.scope cause
+  pub refused : refuses to met.scope cause
   pub first : (p e : ℕ) (fault : Error) → Reaches form bytes 0 (length bytes) p e →
-      IsFaultAt form bytes p e fault → sight.place ≤ p
+      IsFaultAt form bytes p e fault → met.place ≤ p
   pub tries : tried ≡ length earlier + 1
 
 abbrev pub StopsEarly : (form : Form) → {V : Type 0} → (V → List ScopeInContext → V → Type 0) →

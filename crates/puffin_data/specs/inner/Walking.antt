@@ -8,7 +8,7 @@ use Rattle.puffin_data.specs.declared.data.walk.Walk.{Walk}
 use Rattle.puffin_data.specs.declared.data.scope.RawScope.{RawScope}
 use Rattle.puffin_data.specs.Forest.{Span}
 use Rattle.puffin_data.specs.Forest.Spelling.{begin_mark}
-use Rattle.puffin_data.specs.Walk.Sightings.{found_of}
+use Rattle.puffin_data.specs.Walk.FoundScopes.{found_of}
 use Rattle.puffin_data.specs.Walk.Reading.{FoundScope}
 use Rattle.puffin_data.specs.Walk.{region, IsSoundAt, IsFaultAt}
 

@@ -31,7 +31,7 @@ impl Form {
         ensures { result ≡ text_limit self }
     {
         match self {
-            Form::Short => 127,
+            Form::Short => ONE_GROUP,
             Form::Long => TWO_GROUPS,
         }
     }

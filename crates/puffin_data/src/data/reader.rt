@@ -7,7 +7,7 @@ ghost use Rattle.puffin_data.specs.Forest.Spelling.{Spells};
 ghost use Rattle.puffin_data.specs.Honesty.{Counts};
 ghost use Rattle.puffin_data.specs.Walk.{IsFault, Refuses};
 ghost use Rattle.puffin_data.specs.Text.{text_in};
-ghost use Rattle.puffin_data.specs.Walk.Sightings.{found_of};
+ghost use Rattle.puffin_data.specs.Walk.FoundScopes.{found_of};
 ghost use Rattle.puffin_data.specs.Reader.{ReaderState, read_scope, scope_read};
 ghost use Rattle.puffin_data.specs.Reader.ReadScopes.{scope_seen, scope_answer, IsNextRead, ReadsScopes, ReadsFault};
 

@@ -2,8 +2,8 @@
 
 ghost use Rattle.std.specs.Prelude.{◌≡◌, ℕ, ◌+◌, ◌*◌, ◌≤◌, List, [], ◌∷◌, ◌++◌, length, IfOk, IfErr, ◌⊎◌};
 ghost use Rattle.puffin_data.specs.Forest.{Span, IsSpan};
-ghost use Rattle.puffin_data.specs.Walk.Sightings.{found_of};
-ghost use Rattle.puffin_data.specs.Walk.Sights.{ScopeInContext};
+ghost use Rattle.puffin_data.specs.Walk.FoundScopes.{found_of};
+ghost use Rattle.puffin_data.specs.Walk.PlacedScopes.{ScopeInContext};
 ghost use Rattle.puffin_data.specs.Walk.Visitor.{Entering, Refusing, TakesAll, StopsEarly};
 
 use crate::data::form::Form;

@@ -7,7 +7,7 @@ ghost use Rattle.puffin_data.specs.Forest.Spelling.{begin_mark, Spells};
 ghost use Rattle.puffin_data.specs.Honesty.{Counts};
 ghost use Rattle.puffin_data.specs.Walk.{Refuses};
 ghost use Rattle.puffin_data.specs.Walk.Reading.{reading, IsFaultIn};
-ghost use Rattle.puffin_data.specs.Walk.Sightings.{found_of};
+ghost use Rattle.puffin_data.specs.Walk.FoundScopes.{found_of};
 ghost use Rattle.puffin_data.specs.inner.Walking.{no_scope_counted, with_scope, Walked, Stopped};
 
 use crate::data::form::Form;

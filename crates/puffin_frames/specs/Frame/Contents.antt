@@ -1,4 +1,4 @@
--- A frame's meta, details, holding and contents, and what it says however it is held.
+-- A frame's number, details and streams, which are the same whether it is packed or not.
 use Rattle.std.specs.Prelude.{Bool, true, false, List, Option, Some, None}
 use Rattle.std.specs.Arc.{arc_value}
 use Rattle.puffin_frames.specs.declared.frame_data.frame.FrameData.{FrameData}
@@ -47,13 +47,13 @@ frame_meta frame = held_meta frame.held
 abbrev pub frame_details : FrameData → List Details
 frame_details frame = shared_details frame.scope_delta.items
 
-abbrev pub said_of : FrameMeta → Packing → List Details → PacketFields
-said_of meta p details =
+abbrev pub fields_from : FrameMeta → Packing → List Details → PacketFields
+fields_from meta p details =
     record { meta = meta; form = p.form; kind = p.kind; streams = p.bytes; details = details }
 
--- what a frame says, however it is held
+-- the fields of a frame's packet, however it is held
 abbrev pub packet_fields : FrameData → PacketFields
-packet_fields frame = said_of (frame_meta frame) (packing_of (holding_of frame)) (frame_details frame)
+packet_fields frame = fields_from (frame_meta frame) (packing_of (holding_of frame)) (frame_details frame)
 
 -- whether a frame is held unpacked, and shares its data with no other
 abbrev pub is_alone : FrameData → Bool

@@ -1,4 +1,4 @@
--- The two ways of holding a frame's streams, packed and unpacked, and the one content of both.
+-- How a frame holds its streams: packed, unpacked or both, always with the same contents.
 use Rattle.std.specs.Prelude.{◌≡◌, ℕ, List, [], Option, Some, None, Result, Ok, Err, if◌then◌else◌}
 use Rattle.std.specs.FinMap.{entries, from_sorted}
 use Rattle.std.specs.Option.{option_map}

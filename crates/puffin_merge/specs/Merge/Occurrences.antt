@@ -4,7 +4,7 @@ use Rattle.std.specs.declared.cmp.Ordering.{Ordering}
 use Rattle.std.specs.Ordering.{nat_cmp, on, then_cmp, eq_by_cmp}
 use Rattle.std.specs.Cmp.Lexicographic.{slice_cmp}
 use Rattle.puffin_data.specs.Forest.{Span, Forest}
-use Rattle.puffin_data.specs.Walk.Sights.{ScopeInContext, nested_in}
+use Rattle.puffin_data.specs.Walk.PlacedScopes.{ScopeInContext, nested_in}
 use Rattle.puffin_data.specs.Text.{text_in}
 
 -- identifies a scope among its siblings: its id and its text's bytes

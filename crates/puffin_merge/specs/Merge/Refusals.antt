@@ -5,7 +5,7 @@ use Rattle.puffin_data.specs.declared.data.form.Form.{Form}
 use Rattle.puffin_data.specs.declared.error.Error.{Error}
 use Rattle.puffin_data.specs.declared.error.Error.TheVariants.{TooDeep, TooLarge}
 use Rattle.puffin_data.specs.Walk.{Reaches, IsFaultAt, IsFirstFault}
-use Rattle.puffin_data.specs.Walk.Sights.{PlacedScope, Sees, scopes_of, before}
+use Rattle.puffin_data.specs.Walk.PlacedScopes.{PlacedScope, Sees, scopes_of, before}
 use Rattle.puffin_merge.specs.Merge.Occurrences.{Occurrence, FrameScopes, occurrence_of, occurrences_in, occurrences_from, occurrences}
 use Rattle.puffin_merge.specs.Merge.Pieces.{merged_at}
 use Rattle.puffin_merge.specs.Merge.Tree.{MergedForest, no_node, merged}
@@ -40,12 +40,12 @@ AreAccepted done (o ∷ more) = IsShallow o × Fits done o × AreAccepted (done 
 pub data IsFrameRefusal (done : List Occurrence) (origin : ℤ) (form : Form) (bytes : List ℕ) :
     ℕ → Error → Type 0 where
   -- the first fault of the bytes, if all sound scopes before it are accepted: one try for each of these, and one more if a `(` is at the fault
-  faulty : {place : ℕ} {fault : Error} {sights : List PlacedScope} →
+  faulty : {place : ℕ} {fault : Error} {placed : List PlacedScope} →
       IsFirstFault form bytes place fault →
-      Sees form bytes [] 0 (length bytes) sights →
-      AreAccepted done (occurrences_in origin (scopes_of (before place sights))) →
+      Sees form bytes [] 0 (length bytes) placed →
+      AreAccepted done (occurrences_in origin (scopes_of (before place placed))) →
       IsFrameRefusal done origin form bytes
-      (length (before place sights) + (if slice_index bytes place == 40 then 1 else 0)) fault
+      (length (before place placed) + (if slice_index bytes place == 40 then 1 else 0)) fault
   -- the first sound scope that isn't accepted, before any fault: one try for each before it, and one for it
   refused : (earlier later : List PlacedScope) (s : PlacedScope) {refusal : Error} →
       Sees form bytes [] 0 (length bytes) (earlier ++ (s ∷ later)) →

@@ -4,7 +4,7 @@ use Rattle.std.proofs.Common.{refl, sym, ap, subst, ◌∙◌, append_assoc, ari
 use Rattle.std.proofs.lemmas.List.{map-append}
 use Rattle.puffin_data.specs.declared.error.Error.{Error}
 use Rattle.puffin_data.specs.Forest.{Span}
-use Rattle.puffin_data.specs.Walk.Sights.{ScopeInContext}
+use Rattle.puffin_data.specs.Walk.PlacedScopes.{ScopeInContext}
 use Rattle.puffin_merge.specs.declared.merge.stream.Merging.{Merging}
 use Rattle.puffin_merge.specs.declared.merge.stream.Open.{Open}
 use Rattle.puffin_merge.specs.Merge.Occurrences.{Occurrence, path_of, origin_in, occurrence_of, occurrences_in}

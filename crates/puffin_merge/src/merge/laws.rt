@@ -47,7 +47,7 @@ pub fn one_outcome()
     // For the proof alone: laws of spellings and of walks.
     puffin_data::laws::one_forest();
     puffin_data::laws::no_fault_in_a_spelling();
-    puffin_data::laws::sights_of_a_walk();
+    puffin_data::laws::scopes_of_a_walk();
 }
 
 /// A merged scope among others can be replaced by one that contracts see as the same.

@@ -6,7 +6,7 @@ use Rattle.puffin_data.specs.declared.data.visit.Region.{Region}
 use Rattle.puffin_data.specs.Forest.{Span}
 use Rattle.puffin_data.specs.Walk.{region}
 use Rattle.puffin_data.specs.inner.Walking.{tries_in}
-use Rattle.puffin_data.specs.Walk.Sightings.{found_of}
+use Rattle.puffin_data.specs.Walk.FoundScopes.{found_of}
 use Rattle.puffin_data.specs.Walk.Visitor.{StopsAtFault, StopsAtRefusal}
 use Rattle.puffin_data.proofs.lemmas.Numbers.{IsBytes, IsBytes-drop, IsBytes-take}
 use Rattle.puffin_data.proofs.FoundScope.{passes}

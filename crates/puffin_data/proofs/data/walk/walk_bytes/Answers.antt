@@ -5,7 +5,7 @@ use Rattle.puffin_data.specs.declared.data.walk.Walk.{Walk}
 use Rattle.puffin_data.specs.Walk.{region}
 use Rattle.puffin_data.specs.inner.Walking.{tries_in, no_scope_counted}
 use Rattle.puffin_data.proofs.FoundScope.{passes}
-use Rattle.puffin_data.specs.Walk.Sightings.{found_of}
+use Rattle.puffin_data.specs.Walk.FoundScopes.{found_of}
 use Rattle.puffin_data.proofs.Resuming.{nested_low, nested_push, nested_pop, found_places, enters, exits, done, stops_at, whole, IsNested}
 use Rattle.puffin_data.proofs.data.walk.walk_bytes.Goals as goal
 

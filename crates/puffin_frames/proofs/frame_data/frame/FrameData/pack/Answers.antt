@@ -2,7 +2,7 @@ use Rattle.std.proofs.Common.{ap, ◌∙◌}
 use Rattle.std.proofs.lemmas.Result.{on_err_weaker}
 use Rattle.puffin_frames.specs.Frame.Holding.{packing_of}
 use Rattle.puffin_frames.specs.Frame.Contents.{held_as, held_meta, frame_details}
-use Rattle.puffin_frames.proofs.Packings.{said_same}
+use Rattle.puffin_frames.proofs.Packings.{fields_same}
 use Rattle.puffin_frames.proofs.frame_data.frame.FrameData.pack.Goals as goal
 
 pub returns-clause-err : goal.returns-clause-err
@@ -11,5 +11,5 @@ returns-clause-err c =
 
 pub returns-clause-says : goal.returns-clause-says
 returns-clause-says c =
-    said_same _ _ _ _ (frame_details c.args.self.now) (c.pack-held.ensures.meta ∙ ap held_meta c.replace-held.ensures.value)
+    fields_same _ _ _ _ (frame_details c.args.self.now) (c.pack-held.ensures.meta ∙ ap held_meta c.replace-held.ensures.value)
     (c.pack-held.ensures.packing ∙ ap (λ held. packing_of (held_as held)) c.replace-held.ensures.value)

@@ -3,7 +3,7 @@ use Rattle.std.proofs.Common.{◌≡◌, ◌∙◌, ◌-ℤ◌, nat_abs, ℤ, re
 use Rattle.std.proofs.lemmas.Result.{err_from_is_err_and}
 use mir.Syntax.{w128}
 use mir.Val.{to_z, of_z}
-use Rattle.puffin_data.specs.Walk.Sightings.{found_of}
+use Rattle.puffin_data.specs.Walk.FoundScopes.{found_of}
 use Rattle.puffin_merge.specs.Merge.Occurrences.{Label}
 use Rattle.puffin_merge.proofs.Entering.{ok_start, start_refused, sums_refused, scope_taken, origin_fits, time_fits, passed_64, passed_128}
 use Rattle.puffin_merge.proofs.merge.stream.MergingVisitor.enter.Goals as goal

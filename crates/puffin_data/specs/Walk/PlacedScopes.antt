@@ -24,9 +24,9 @@ pub record PlacedScope : Type 0 where
 
 -- The sound scopes of a region that is nested in others, from p on: if one is at p, then that one, those of its children, and those from its next sibling on.
 pub data Sees (form : Form) (bytes : List ℕ) : List Span → ℕ → ℕ → List PlacedScope → Type 0 where
-  no_sight : {around : List Span} {p e : ℕ} → ((s : FoundScope) → IsSoundAt form bytes p e s → ⊥) →
+  no_scope : {around : List Span} {p e : ℕ} → ((s : FoundScope) → IsSoundAt form bytes p e s → ⊥) →
       Sees form bytes around p e []
-  one_sight : {around : List Span} {p e : ℕ} {s : FoundScope} {inner later : List PlacedScope} →
+  one_scope : {around : List Span} {p e : ℕ} {s : FoundScope} {inner later : List PlacedScope} →
       IsSoundAt form bytes p e s →
       Sees form bytes (around ++ (s.span ∷ [])) (p + s.child_begin) (p + s.child_end) inner →
       Sees form bytes around (p + s.next_sibling) e later →
@@ -35,8 +35,8 @@ pub data Sees (form : Form) (bytes : List ℕ) : List Span → ℕ → ℕ → L
       ∷ (inner ++ later))
 
 abbrev pub scopes_of : List PlacedScope → List ScopeInContext
-scopes_of sights = map (λ s. s.scope) sights
+scopes_of placed = map (λ s. s.scope) placed
 
 -- those before a place
 abbrev pub before : ℕ → List PlacedScope → List PlacedScope
-before place sights = filter (λ s. nat_lt s.place place) sights
+before place placed = filter (λ s. nat_lt s.place place) placed

@@ -1,4 +1,4 @@
--- What a read scope shows, without the address of its text.
+-- A scope as it is read, without the address of its text.
 use Rattle.puffin_data.specs.declared.data.scope.RawScope.{RawScope}
 use Rattle.puffin_data.specs.Walk.Reading.{FoundScope}
 

@@ -1,4 +1,4 @@
--- Each region has one list of sights, which lie in it in order.
+-- Each region has one list of placed scopes, which lie in it in order.
 use Rattle.std.proofs.Common.{◌≡◌, ℕ, zero, suc, ◌+◌, ◌-◌, ◌<◌, ◌≤◌, List, [], ◌∷◌, ◌++◌, length, refl, sym, ap, subst, ◌∙◌, arith, Some, None, Ok, Err, ltb, cond, Bool, true, false}
 use Rattle.std.specs.Prelude.{nat_lt}
 use Rattle.std.proofs.lemmas.List.Elements.{filter-append}
@@ -6,31 +6,31 @@ use Rattle.puffin_data.specs.declared.data.form.Form.{Form}
 use Rattle.puffin_data.specs.Forest.{Span}
 use Rattle.puffin_data.specs.Walk.Reading.{FoundScope, reading}
 use Rattle.puffin_data.specs.Walk.{region}
-use Rattle.puffin_data.specs.Walk.Sights.{PlacedScope, Sees, no_sight, one_sight, before}
+use Rattle.puffin_data.specs.Walk.PlacedScopes.{PlacedScope, Sees, no_scope, one_scope, before}
 use Rattle.puffin_data.proofs.Resuming.{found_places}
 use Rattle.puffin_data.proofs.Regions.{one_sound, ok_is_not_err, none_is_not_some, Answer}
 
 -- ---- each has a list
 
-abbrev pub HasSights : (form : Form) → List ℕ → ℕ → Type 0
-HasSights form bytes n = (around : List Span) (p e : ℕ) → e - p < n → p ≤ e → e ≤ length bytes → (sights : List PlacedScope) × Sees form bytes around p e sights
+abbrev pub HasScopes : (form : Form) → List ℕ → ℕ → Type 0
+HasScopes form bytes n = (around : List Span) (p e : ℕ) → e - p < n → p ≤ e → e ≤ length bytes → (placed : List PlacedScope) × Sees form bytes around p e placed
 
-by_reading : (form : Form) (bytes : List ℕ) (n : ℕ) (around : List Span) (p e : ℕ) → HasSights form bytes n → e - p < suc n → p ≤ e → e ≤ length bytes → (r : Answer) → reading form (region bytes p e) ≡ r → (sights : List PlacedScope) × Sees form bytes around p e sights
+by_reading : (form : Form) (bytes : List ℕ) (n : ℕ) (around : List Span) (p e : ℕ) → HasScopes form bytes n → e - p < suc n → p ≤ e → e ≤ length bytes → (r : Answer) → reading form (region bytes p e) ≡ r → (placed : List PlacedScope) × Sees form bytes around p e placed
 by_reading form bytes n around p e shorter lt h k (Ok (Some s)) is =
     let at = found_places form bytes p e s is h k in
     let inner = shorter (around ++ (s.span ∷ [])) (p + s.child_begin) (p + s.child_end) (omega (arith, at)) (omega (arith, at)) (omega (arith, at)) in
     let later = shorter around (p + s.next_sibling) e (omega (arith, at)) (omega (arith, at)) k in
-    (record { place = p; scope = record { around = around; span = s.span } } ∷ (inner.0 ++ later.0), one_sight is inner.1 later.1)
-by_reading form bytes n around p e shorter lt h k (Ok None) is = ([], no_sight (λ s sound. none_is_not_some s (sym is ∙ sound)))
-by_reading form bytes n around p e shorter lt h k (Err d) is = ([], no_sight (λ s sound. ok_is_not_err (Some s) d (sym sound ∙ is)))
+    (record { place = p; scope = record { around = around; span = s.span } } ∷ (inner.0 ++ later.0), one_scope is inner.1 later.1)
+by_reading form bytes n around p e shorter lt h k (Ok None) is = ([], no_scope (λ s sound. none_is_not_some s (sym is ∙ sound)))
+by_reading form bytes n around p e shorter lt h k (Err d) is = ([], no_scope (λ s sound. ok_is_not_err (Some s) d (sym sound ∙ is)))
 
-pub has_sights : (form : Form) (bytes : List ℕ) (n : ℕ) → HasSights form bytes n
-has_sights form bytes zero around p e lt h k = absurd (omega arith)
-has_sights form bytes (suc n) around p e lt h k = by_reading form bytes n around p e (has_sights form bytes n) lt h k (reading form (region bytes p e)) refl
+pub has_scopes : (form : Form) (bytes : List ℕ) (n : ℕ) → HasScopes form bytes n
+has_scopes form bytes zero around p e lt h k = absurd (omega arith)
+has_scopes form bytes (suc n) around p e lt h k = by_reading form bytes n around p e (has_scopes form bytes n) lt h k (reading form (region bytes p e)) refl
 
 -- those of a region
-pub sights_in : (form : Form) (bytes : List ℕ) (around : List Span) (p e : ℕ) → p ≤ e → e ≤ length bytes → (sights : List PlacedScope) × Sees form bytes around p e sights
-sights_in form bytes around p e h k = has_sights form bytes (suc e) around p e (omega arith) h k
+pub placed_in : (form : Form) (bytes : List ℕ) (around : List Span) (p e : ℕ) → p ≤ e → e ≤ length bytes → (placed : List PlacedScope) × Sees form bytes around p e placed
+placed_in form bytes around p e h k = has_scopes form bytes (suc e) around p e (omega arith) h k
 
 -- ---- no region has two
 
@@ -40,14 +40,14 @@ both_parts s a b c d x y = ap (λ (t : List PlacedScope). s ∷ (t ++ c)) x ∙ 
 first_is : (p : ℕ) (around : List Span) (s t : FoundScope) (a : List PlacedScope) → s ≡ t → record { place = p; scope = record { around = around; span = s.span } } ∷ a ≡ record { place = p; scope = record { around = around; span = t.span } } ∷ a
 first_is p around s t a e = ap (λ (x : FoundScope). record { place = p; scope = record { around = around; span = x.span } } ∷ a) e
 
-pub one_list_of_sights : (form : Form) (bytes : List ℕ) (around : List Span) (p e : ℕ) (sights others : List PlacedScope) → Sees form bytes around p e sights → Sees form bytes around p e others → sights ≡ others
-one_list_of_sights form bytes around p e sights others (no_sight none) (no_sight no_other) = refl
-one_list_of_sights form bytes around p e sights others (no_sight none) (one_sight {s = t} other c d) = absurd (none t other)
-one_list_of_sights form bytes around p e sights others (one_sight {s = s} sound a b) (no_sight none) = absurd (none s sound)
-one_list_of_sights form bytes around p e sights others (one_sight {s = s} {inner = i} {later = l} sound a b) (one_sight {s = t} {inner = j} {later = m} other c d) =
+pub one_list_of_scopes : (form : Form) (bytes : List ℕ) (around : List Span) (p e : ℕ) (placed others : List PlacedScope) → Sees form bytes around p e placed → Sees form bytes around p e others → placed ≡ others
+one_list_of_scopes form bytes around p e placed others (no_scope none) (no_scope no_other) = refl
+one_list_of_scopes form bytes around p e placed others (no_scope none) (one_scope {s = t} other c d) = absurd (none t other)
+one_list_of_scopes form bytes around p e placed others (one_scope {s = s} sound a b) (no_scope none) = absurd (none s sound)
+one_list_of_scopes form bytes around p e placed others (one_scope {s = s} {inner = i} {later = l} sound a b) (one_scope {s = t} {inner = j} {later = m} other c d) =
     let same : t ≡ s = one_sound form (region bytes p e) t s other sound in
-    let inner : i ≡ j = one_list_of_sights form bytes (around ++ (s.span ∷ [])) (p + s.child_begin) (p + s.child_end) i j a (subst (λ (x : FoundScope). Sees form bytes (around ++ (x.span ∷ [])) (p + x.child_begin) (p + x.child_end) j) same c) in
-    let later : l ≡ m = one_list_of_sights form bytes around (p + s.next_sibling) e l m b (subst (λ (x : FoundScope). Sees form bytes around (p + x.next_sibling) e m) same d) in
+    let inner : i ≡ j = one_list_of_scopes form bytes (around ++ (s.span ∷ [])) (p + s.child_begin) (p + s.child_end) i j a (subst (λ (x : FoundScope). Sees form bytes (around ++ (x.span ∷ [])) (p + x.child_begin) (p + x.child_end) j) same c) in
+    let later : l ≡ m = one_list_of_scopes form bytes around (p + s.next_sibling) e l m b (subst (λ (x : FoundScope). Sees form bytes around (p + x.next_sibling) e m) same d) in
     both_parts _ i j l m inner later ∙ first_is p around s t (j ++ m) (sym same)
 
 -- ---- those before a place
@@ -64,7 +64,7 @@ kept b s rest e = ap (λ (x : Bool). cond x (s ∷ rest) rest) e
 dropped : (b : Bool) (s : PlacedScope) (rest : List PlacedScope) → b ≡ false → cond b (s ∷ rest) rest ≡ rest
 dropped b s rest e = ap (λ (x : Bool). cond x (s ∷ rest) rest) e
 
--- a sight that stands before the place, with those in it and those after it
+-- a scope before the place, with those in it and those after it
 pub before-first : (place : ℕ) (s : PlacedScope) (inner later : List PlacedScope) → s.place < place → before place (s ∷ (inner ++ later)) ≡ s ∷ (before place inner ++ before place later)
 before-first place s inner later lt =
     kept (nat_lt s.place place) s (before place (inner ++ later)) (lt_test s.place place lt) ∙ ap (λ (xs : List PlacedScope). s ∷ xs) (filter-append (λ (x : PlacedScope). nat_lt x.place place) inner later)
@@ -76,10 +76,10 @@ before-not_first place s inner later le =
 both_equal : (a b c d : List PlacedScope) → a ≡ b → c ≡ d → a ++ c ≡ b ++ d
 both_equal a b c d x y = ap (λ (t : List PlacedScope). t ++ c) x ∙ ap (λ (t : List PlacedScope). b ++ t) y
 
--- the sights of a region lie in it: so all of them, or none, stand before a place after it, or before it
+-- the placed scopes of a region lie in it: all of them are before a place after it, and none before a place before it
 pub all_before : (form : Form) (bytes : List ℕ) (around : List Span) (p e place : ℕ) (xs : List PlacedScope) → p ≤ e → e ≤ length bytes → e ≤ place → Sees form bytes around p e xs → before place xs ≡ xs
-all_before form bytes around p e place xs h k le (no_sight none) = refl
-all_before form bytes around p e place xs h k le (one_sight {s = s} {inner = inner} {later = later} sound a b) =
+all_before form bytes around p e place xs h k le (no_scope none) = refl
+all_before form bytes around p e place xs h k le (one_scope {s = s} {inner = inner} {later = later} sound a b) =
     let at = found_places form bytes p e s sound h k in
     let ia = all_before form bytes (around ++ (s.span ∷ [])) (p + s.child_begin) (p + s.child_end) place inner (omega (arith, at)) (omega (arith, at)) (omega (arith, at)) a in
     let ib = all_before form bytes around (p + s.next_sibling) e place later (omega (arith, at)) k le b in
@@ -87,8 +87,8 @@ all_before form bytes around p e place xs h k le (one_sight {s = s} {inner = inn
     before-first place first inner later (omega (arith, at)) ∙ ap (λ (t : List PlacedScope). first ∷ t) (both_equal (before place inner) inner (before place later) later ia ib)
 
 pub none_before : (form : Form) (bytes : List ℕ) (around : List Span) (p e place : ℕ) (xs : List PlacedScope) → p ≤ e → e ≤ length bytes → place ≤ p → Sees form bytes around p e xs → before place xs ≡ []
-none_before form bytes around p e place xs h k le (no_sight none) = refl
-none_before form bytes around p e place xs h k le (one_sight {s = s} {inner = inner} {later = later} sound a b) =
+none_before form bytes around p e place xs h k le (no_scope none) = refl
+none_before form bytes around p e place xs h k le (one_scope {s = s} {inner = inner} {later = later} sound a b) =
     let at = found_places form bytes p e s sound h k in
     let ia = none_before form bytes (around ++ (s.span ∷ [])) (p + s.child_begin) (p + s.child_end) place inner (omega (arith, at)) (omega (arith, at)) (omega (arith, at)) a in
     let ib = none_before form bytes around (p + s.next_sibling) e place later (omega (arith, at)) k (omega (arith, at)) b in
