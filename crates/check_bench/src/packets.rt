@@ -65,6 +65,8 @@ pub enum FileWork {
     Write,
     /// Writes packed frames.
     WritePacked,
+    /// Copies the bytes of a file and nothing else, which bounds the writing of packed frames.
+    Copy,
     /// Reads frames.
     Read,
     /// Reads frames and unpacks them.
@@ -77,9 +79,10 @@ pub enum FileWork {
 
 impl FileWork {
     /// Every kind of work.
-    pub const ALL: [FileWork; 6] = [
+    pub const ALL: [FileWork; 7] = [
         FileWork::Write,
         FileWork::WritePacked,
+        FileWork::Copy,
         FileWork::Read,
         FileWork::ReadUnpacked,
         FileWork::ViewWrite,
@@ -91,6 +94,7 @@ impl FileWork {
         match self {
             FileWork::Write => "write",
             FileWork::WritePacked => "write_packed",
+            FileWork::Copy => "copy",
             FileWork::Read => "read",
             FileWork::ReadUnpacked => "read_unpacked",
             FileWork::ViewWrite => "view_write",
@@ -99,13 +103,14 @@ impl FileWork {
     }
 }
 
-/// Frames, packed copies of them, a view, and the bytes of their files.
+/// Frames, packed copies of them, a view, the bytes of their files, and room for a copy of a file.
 #[derive(Drop)]
 pub struct Files {
     frames: Vec<FrameData>,
     packed: Vec<FrameData>,
     /// The packets that were written last.
     pub file: Vec<u8>,
+    copy: Vec<u8>,
     view: FrameView,
     view_file: Vec<u8>,
 }
@@ -127,6 +132,7 @@ impl Files {
             frames,
             packed,
             file,
+            copy: Vec::new(alloc),
             view,
             view_file,
         })
@@ -137,6 +143,10 @@ impl Files {
         match work {
             FileWork::Write => written(&self.frames, &mut self.file),
             FileWork::WritePacked => written(&self.packed, &mut self.file),
+            FileWork::Copy => {
+                copied(&self.file, &mut self.copy)?;
+                Ok(self.frames.len())
+            }
             FileWork::Read => Ok(read(alloc, &self.file)?.len()),
             FileWork::ReadUnpacked => read_unpacked(alloc, &self.file),
             FileWork::ViewWrite => view_written(&self.view, &mut self.view_file),
@@ -156,6 +166,16 @@ fn written(frames: &[FrameData], file: &mut Vec<u8>) -> std::result::Result<usiz
         }
     }
     Ok(frames.len())
+}
+
+/// Copies a file of as many frames as there may be into memory that is reused, as many bytes at a time as a packet has.
+#[inline(never)]
+fn copied(file: &[u8], copy: &mut Vec<u8>) -> std::result::Result<(), FileError> {
+    copy.clear();
+    for piece in file.chunks(file.len() / FRAMES as usize + 1) {
+        copy.extend_from_slice(piece)?;
+    }
+    Ok(())
 }
 
 /// Reads the frames of a file.

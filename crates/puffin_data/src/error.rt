@@ -19,8 +19,8 @@ pub type Result<T> = std::result::Result<T, Error>;
 pub enum Error {
     /// The bytes end within a scope, or a scope's id is 0.
     PrematureEnd,
-    /// Another byte is where a scope or its end has to be, a scope stops before it starts, its duration doesn't fit `i64`, or
-    /// the second byte of a long text's length is 0 or says that a third follows.
+    /// A scope or its end doesn't begin with `(` or `)`, a scope stops before it starts, its duration doesn't fit `i64`, or the
+    /// second byte of a long text's length is 0 or says that a third follows.
     InvalidStream,
     /// A scope was begun and not ended.
     ScopeNeverEnded,
@@ -42,7 +42,7 @@ pub enum Error {
     IdsExhausted,
     /// The frame index can't rise any further.
     IndexExhausted,
-    /// There is no further number for a sink.
+    /// No id is left for a new sink.
     SinkIdsExhausted,
     /// A merge met a scope that is nested in 1,024 others.
     TooDeep,
@@ -50,12 +50,12 @@ pub enum Error {
     NoThread,
     /// An allocation, or a clone of an `Arc`, failed.
     Memory,
-    /// Scopes of one form were to be joined to scopes of the other.
+    /// Streams of different forms can't be joined.
     UnlikeForms,
 }
 
 impl Error {
-    /// Returns the error's place in the list of causes, counted from 1.
+    /// Returns the error's number: 1 for the first variant, and so on.
     pub fn number(self) -> u8
         ensures { result ≡ error_number self }
     {

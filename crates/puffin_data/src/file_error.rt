@@ -41,7 +41,7 @@ pub enum FileError {
 }
 
 impl FileError {
-    /// Returns the error's place in the list of causes, counted from 1.
+    /// Returns the error's number: 1 for the first variant, and so on.
     pub fn number(self) -> u8
         ensures { result ≡ file_error_number self }
     {

@@ -38,7 +38,7 @@ pub fn one_forest()
         spelling form (append f g) ≡ spelling form f ++ spelling form g }
 {}
 
-/// The measures of two forests, one after the other, from those of each. Together they can be written if each of them can.
+/// The measures of two joined forests follow from those of each. If both can be written, so can the two joined.
 pub fn joined_measures()
     ensures scope_count { (f g : Forest) →
         scope_count (append f g) ≡ scope_count f + scope_count g }
@@ -165,8 +165,8 @@ pub fn closing_measures()
         greatest_close (word ++ (Close stop ∷ [])) ≡ int_max (greatest_close word) stop }
 {}
 
-/// The cut of a text is its longest beginning within the form's limit that ends at a character boundary; only that is its cut.
-/// Read as text, the cut is itself. If the text's elements are bytes, so are the cut's.
+/// A text has exactly one cut: its longest prefix within the form's limit that ends at a character boundary. A cut is UTF-8, so
+/// it is read back unchanged. The cut of a list of bytes is a list of bytes.
 pub fn cut_texts()
     ensures is_cut { (form : Form) (text : List ℕ) → IsUtf8 text →
         IsCut form text (cut_text form text) }
@@ -217,8 +217,8 @@ pub fn open_streams()
         open_after 0 (open_word opened closed) ≡ length opened }
 {}
 
-/// From each offset of a stream a reader returns exactly one list of scopes and faults. At the stream's end, where it is after
-/// a fault, it returns nothing. In a forest's spelling it returns the scopes that aren't in another.
+/// From each offset of a stream a reader returns exactly one list of scopes and faults. A fault moves it to the stream's end,
+/// where it returns nothing. In a forest's spelling it returns the top-level scopes.
 pub fn one_reading()
     ensures read { (form : Form) (bytes : List ℕ) (p : ℕ) → p ≤ length bytes →
         (items : List (Result ReadScope Error)) × ReaderGives form bytes p items }
@@ -239,7 +239,7 @@ pub fn scopes_by_fields()
         IsTrue (⟦<Scope<'static> as PartialEq>⟧.eq a b) ↔ (scope_seen a ≡ scope_seen b) }
 {}
 
-/// No layout of a value begins another of its kind. Numbers of 32 bits are laid out as those of 64, and texts as blocks of
+/// No layout of a value is a prefix of another of its kind. Numbers of 32 bits are laid out as those of 64, and texts as blocks of
 /// bytes.
 pub fn no_layout_begins_another()
     ensures bytes { NoneBeginsAnother IsByte byte }

@@ -1,5 +1,5 @@
-//! Frames: what threads recorded between two moments, with each thread's scopes under the thread. The modules
-//! [`thread_profiler`] and [`scope_details`] are those of `puffin_threads`.
+//! Frames: what threads recorded between two moments, by thread. The modules [`thread_profiler`] and [`scope_details`] are those
+//! of `puffin_threads`.
 //!
 //! | to | call |
 //! |---|---|

@@ -1,4 +1,4 @@
-//! A reader that lends its buffer, so that bytes are copied once and into no room of zeros.
+//! A reader that lends its buffer, so that bytes are copied once, and memory isn't filled with zeros first.
 
 ghost use Rattle.std.specs.Prelude.{◌≡◌, ◌++◌, ◌<◌, ◌≤◌, ℕ, List, IfOk, IfErr, OnOk, length};
 ghost use Rattle.std.specs.Io.KnownBytes.{Consumes, IsAtEnd};

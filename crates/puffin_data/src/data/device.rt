@@ -9,8 +9,8 @@ use crate::file_error::FileError;
 use std::io;
 use std::io::{Read, Write};
 
-/// A reader that counts its failed calls, so that a caller can tell a failure of the reader from one of its own. Wrap any
-/// reader of std in [`Counted`] to get one, or in [`Buffered`](super::Buffered) if it lends its buffer.
+/// A reader that counts its failed calls. The count shows whether a call failed because the reader did. Wrap any reader of std
+/// in [`Counted`] to get one, or in [`Buffered`](super::Buffered) if it lends its buffer.
 pub trait Source {
     /// The bytes still to be read, if they are known.
     ghost remaining: { Self → Option (List ℕ) } = { λ _. None };

@@ -36,7 +36,7 @@ impl Form {
         }
     }
 
-    /// Returns the part of a text that is stored: its longest beginning within the limit that ends at a character boundary.
+    /// Returns the part of a text that is stored: its longest prefix within the limit that ends at a character boundary.
     #[inline]
     pub(crate) fn cut(self, text: &str) -> &str
         ensures cut { result.now ≡ cut_text self text.now }
@@ -87,8 +87,8 @@ impl Form {
         self.longer_begin_size(text)
     }
 
-    /// Does the same with a text that may have to be cut, and whose length may take two bytes. It is out of line, as such texts
-    /// are rare.
+    /// Returns the size of the beginning of a scope whose text may have to be cut, and whose length may take two bytes. It is
+    /// out of line, as such texts are rare.
     #[inline(never)]
     fn longer_begin_size(self, text: &str) -> usize
         ensures { result ≡ head_size self (cut_text self text.now) }

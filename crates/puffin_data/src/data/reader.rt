@@ -21,7 +21,7 @@ use crate::error::{Error, Result};
 use std::alloc::Global;
 use std::marker::Model;
 
-/// Returns the text in stored bytes: their longest beginning that is UTF-8.
+/// Returns the text in stored bytes: their longest prefix that is UTF-8.
 pub fn text_of(stored: &[u8]) -> &str
     ensures { result.now ≡ text_in stored.now }
 {

@@ -31,7 +31,7 @@ pub fn read_to_end<S: Source>(alloc: Global, source: &mut S) -> Result<Vec<u8>, 
 }
 
 /// Writes all of the bytes, in as many writes as the writer needs. Fails only with `Io`, if a write fails or takes none of the
-/// bytes that are left; a beginning of the bytes is then written.
+/// bytes that are left; a prefix of the bytes has then been written.
 pub fn write_all<D: Drain>(drain: &mut D, bytes: &[u8]) -> Result<(), FileError>
     requires { D.failures drain.old < 2 ^ 64 - 1 }
     ensures ok { OnOk result (Appends (D.contents drain.old) (D.contents drain.new) bytes.now) }

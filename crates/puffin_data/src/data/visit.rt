@@ -17,7 +17,7 @@ pub trait Visitor<'s> {
     ghost use Rattle.puffin_data.specs.declared.error.Error.{Error};
     ghost use Rattle.puffin_data.specs.declared.data.form.Form.{Form};
 
-    /// What the visitor keeps for an open scope while the walk is within it.
+    /// The value that the visitor returns for a scope and is given back for each of its children.
     type Within: Copy;
 
     /// Whether the visitor may take these scopes, in order, from the first state to the second.
@@ -29,8 +29,8 @@ pub trait Visitor<'s> {
     /// Whether, in this state, a kept value stands for these open scopes, the outermost first.
     ghost stands_for: { Self → Self.Within → List Span → Type 0 };
 
-    /// Takes a scope whose parent `within` stands for, and returns what to keep for the scope while the walk is within it. An
-    /// error ends the walk.
+    /// Receives a scope. `within` is the value that was returned for its parent, or the walk's `outside` for a top-level scope.
+    /// Returns the value for the scope's children. An error ends the walk.
     fn enter(&mut self, within: Self::Within, scope: &RawScope<'s>) -> Result<Self::Within>
         requires stands { (around : List Span) × stands_for self.old within around }
         requires span { (form : Form) × IsSpan form (found_of scope.now).span }
@@ -63,7 +63,7 @@ struct Region<W> {
 }
 
 /// Walks all of the bytes, which have to be a forest of scopes in this form, in one pass and without recursion, and hands each
-/// scope to the visitor. Scopes that aren't in another are entered with `outside` as `within`.
+/// scope to the visitor. Top-level scopes are entered with `outside`.
 ///
 /// Sets `tries` to the number of readings made at a byte `(`, even if the walk fails. Fails with the visitor's first error or
 /// the first fault (`PrematureEnd`, `InvalidStream` or `ScopeNeverEnded`), whichever comes first, or with `Memory` if the

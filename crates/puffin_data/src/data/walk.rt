@@ -20,7 +20,7 @@ use std::alloc::Global;
 pub struct Walk {
     /// The number of scopes.
     pub num_scopes: usize,
-    /// The greatest nesting depth; a scope that isn't in another has depth 1.
+    /// The greatest nesting depth; a top-level scope has depth 1.
     pub depth: usize,
     /// The least start and the greatest stop of all scopes, in nanoseconds, or `(i64::MAX, i64::MIN)` if there are none.
     pub range_ns: (NanoSecond, NanoSecond),

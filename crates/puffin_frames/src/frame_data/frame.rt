@@ -100,8 +100,8 @@ impl FrameData {
         }
     }
 
-    /// Returns the unpacked data of a frame that holds it alone and unpacked, as [`FrameData::of_unpacked`] makes it. Drops its
-    /// details. Allocates nothing.
+    /// Returns the unpacked data, and drops the details. The frame has to hold its data unpacked and share it with no other
+    /// frame, as one made by [`FrameData::of_unpacked`] does. Allocates nothing.
     pub fn into_unpacked(self) -> UnpackedFrameData
         requires { is_alone self ≡ true }
         ensures contents { Some (streams_held result) ≡ frame_streams self }
@@ -269,7 +269,8 @@ impl FrameData {
         Some(self.as_unpacked()?.meta.num_bytes)
     }
 
-    /// Returns the sum of both sizes, or `usize::MAX` if the sum is greater.
+    /// Returns how many bytes the streams take: the sum of [`FrameData::packed_size`] and [`FrameData::unpacked_size`], each 0
+    /// if it is `None`, or `usize::MAX` if the sum is greater.
     pub fn bytes_of_ram_used(&self) -> usize
         ensures { result ≡ min
             (unwrap_or
@@ -283,7 +284,7 @@ impl FrameData {
         unpacked_size.saturating_add(self.packed_size().unwrap_or(0))
     }
 
-    /// Returns both sizes.
+    /// Returns the unpacked and the packed size.
     pub fn packing_info(&self) -> PackingInfo
         ensures unpacked_size { result.unpacked_size
             ≡ option_map (λ _. (frame_meta self.now).num_bytes) (holding_of self.now).unpacked }

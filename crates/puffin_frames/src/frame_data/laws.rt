@@ -14,7 +14,7 @@ ghost use Rattle.puffin_frames.specs.Packet.Stored.{PacketFields, Stored, packed
 ghost use Rattle.puffin_frames.specs.Packet.Front.{next_at};
 ghost use Rattle.puffin_frames.specs.Packet.Grammar.{packet, IsPacked, Stores};
 
-/// No layout of a value begins that of another of its type.
+/// No layout of a value is a prefix of that of another of its type.
 pub fn no_layout_begins_another()
     ensures metas { NoneBeginsAnother IsMeta meta_layout }
     ensures threads { NoneBeginsAnother IsThreadKey key_layout }
@@ -52,7 +52,8 @@ pub fn packed_contents()
         (streams_in p ≡ Some streams) ↔ HoldsStreams p streams }
 {}
 
-/// A packet that was written is read as what it stores, whatever follows it. No packet begins another, in either version.
+/// Reading a written packet returns what was stored, whatever bytes follow it. No packet is a prefix of another, in either
+/// version.
 pub fn written_is_read()
     ensures again { (p : PacketFields) (rest : List ℕ) → IsPacked p →
         next_at (packet p ++ rest) ≡ Ok (Some (packed p), rest) }
@@ -65,7 +66,7 @@ pub fn streams_with_a_layout()
     ensures none { HaveLayout map.empty }
 {}
 
-/// Each frame's streams are read again as what the frame holds: they have a layout, or are packed already.
+/// The streams of any frame can be written and are read back unchanged: they have a layout, or are packed already.
 pub fn each_frame_is_read_again()
     ensures holds { (frame : FrameData) → IsHolding (holding_of frame) }
     ensures again { (frame : FrameData) →

@@ -270,13 +270,15 @@ impl FrameData {
     /// Reads the next frame, in any version that is still read; `docs/FORMAT.md` lists them. Returns `None` at the end: if fewer
     /// than four bytes are left, or the next four are zeros.
     ///
-    /// A packet's frame is held packed only. A legacy frame, which comes without letters behind its length, is held unpacked
-    /// only. The frame's range isn't reversed, and its duration fits `i64`; `full_delta` is false.
+    /// The frame of a packet is held packed only. A legacy frame, which has a length but no `PFD`, is held unpacked only. The
+    /// frame's range isn't reversed, and its duration fits `i64`; `full_delta` is false.
     ///
     /// Fails with the first cause that applies: `Io` if a read fails; `Legacy` or `Newer` if packets of this version aren't read;
-    /// `Truncated` if the bytes end within the frame; `BadMeta`, `BadRange`, `UnknownKind` or `BadScopes`, or `BadStreams` of a
-    /// legacy frame, if that part isn't valid; and `Memory`. How far it read is then unspecified.
-    /// Scope details are checked before any of them is made, so bytes that aren't details take no memory but their own.
+    /// `Truncated` if the bytes end within the frame; `BadMeta`, `BadRange`, `UnknownKind` or `BadScopes` if that part isn't
+    /// valid; `BadStreams` if the streams of a legacy frame aren't (those of a packet are checked when they are unpacked); or
+    /// `Memory`. How far the source was read is then unspecified.
+    ///
+    /// Scope details are checked before memory for them is allocated, so invalid ones take no memory beyond their bytes.
     ///
     /// ```
     /// let mut source = Counted::new(bytes);

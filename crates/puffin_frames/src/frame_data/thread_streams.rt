@@ -59,7 +59,7 @@ pub(crate) fn streams_copy(alloc: Global, streams: &ThreadStreams) -> Result<Thr
     Ok(copy)
 }
 
-/// Appends an info's scopes to a shared one. Any other owner of that keeps the scopes it had.
+/// Appends an info's scopes to a shared info. Other owners of that info don't see the change.
 ///
 /// Fails with `UnlikeForms` if both have bytes and their forms differ, else with `TooLarge` if the number of scopes doesn't fit
 /// `usize`, else only with `Memory`; the info is then as before.

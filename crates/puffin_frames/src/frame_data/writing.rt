@@ -186,7 +186,7 @@ impl FrameData {
     /// packed are written as they are.
     ///
     /// Fails with `PartTooLong` if a part has `2^32` bytes or more, with `Memory`, or with `Io` if a write fails or takes none
-    /// of the bytes that are left. Only in case of `Io` is anything written: a beginning of the packet.
+    /// of the bytes that are left. Nothing is written then, except after `Io`: a prefix of the packet.
     ///
     /// ```
     /// let mut drain = Counted::new(Vec::new(alloc));

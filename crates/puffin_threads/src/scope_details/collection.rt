@@ -14,7 +14,8 @@ use std::collections::BTreeMap;
 use std::marker::Model;
 use std::sync::Arc;
 
-/// The details of scopes by id, and the ids by name. An id keeps the first details inserted under it, and a name the last id.
+/// The details of scopes by id, and the ids by name. Of details inserted under the same id the first are kept; of ids inserted
+/// under the same name, the last.
 #[derive(Drop)]
 pub struct ScopeCollection {
     by_id: BTreeMap<ScopeId, Arc<ScopeDetails>>,
@@ -121,8 +122,8 @@ impl ScopeCollection {
 
     /// Inserts details one after the other, as [`ScopeCollection::insert`] does.
     ///
-    /// Fails with `MissingId` exactly when some of them have no id; nothing changes then. Else fails only with `Memory`; a
-    /// beginning of them is then inserted.
+    /// Fails with `MissingId` exactly when some of them have no id; nothing changes then. Else fails only with `Memory`; the
+    /// first few may then be inserted.
     pub fn insert_all(&mut self, details: &[Arc<ScopeDetails>]) -> Result<()>
         ensures ok { OnOk result (
             self.new ≡ with_all_details self.old (shared_details details.now)) }

@@ -28,7 +28,7 @@ pub struct ScopeDetails {
 }
 
 impl ScopeDetails {
-    /// Makes the details of a named scope. All else is as in the default.
+    /// Makes details with this scope name. The other fields are those of the default.
     ///
     /// ```
     /// let details = ScopeDetails::from_scope_name(CowStr::Borrowed("part")).with_line_nr(7);

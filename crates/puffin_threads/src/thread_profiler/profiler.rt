@@ -110,8 +110,9 @@ impl<C: NsSource> ThreadProfiler<C> {
     /// Ends the innermost open scope, which has to have this offset. If it was the last open one, hands all scopes that have
     /// closed since the last accepted report to the reporter, under the thread's name and the start of its first scope.
     ///
-    /// Fails only with `MismatchedEnd`, if the offset isn't the innermost open scope's; then the clock isn't read and nothing
-    /// changes. The thread allocates nothing.
+    /// A refused report is no error: the call returns [`Closed::Kept`], and the scopes wait for the next report. Fails only with
+    /// `MismatchedEnd`, if the offset isn't the innermost open scope's; then the clock isn't read and nothing changes. The
+    /// thread allocates nothing.
     ///
     /// ```
     /// let scope = thread.begin_scope(id, "image-12.png")?;
@@ -243,11 +244,11 @@ impl<C: NsSource> ThreadProfiler<C> {
         self.state.register(ids, details)
     }
 
-    /// Reports the closed scopes that wait: those of [`ThreadProfiler::close_scope`] and of refused reports. Returns
-    /// `Ok(false)` if none waits.
+    /// Reports all closed scopes that haven't been reported yet: those ended by [`ThreadProfiler::close_scope`], and those of
+    /// refused reports. Returns `Ok(false)` if there are none.
     ///
-    /// Fails with `ScopesOpen` while a scope is open, with the reporter's error, or with `Memory` if the name can't be copied,
-    /// before it calls the reporter. The thread doesn't change then.
+    /// Fails with `ScopesOpen` while a scope is open; with `Memory` if the name can't be copied, before the reporter is called;
+    /// or with the reporter's error. The thread doesn't change then.
     pub fn report_closed<R: Reporter>(&mut self, reporter: &mut R) -> Result<bool>
         ensures reports { Reports R.accepts R.refuses (thread_of self.old) (thread_of self.new)
             reporter.old reporter.new result }

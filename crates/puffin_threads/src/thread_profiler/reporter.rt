@@ -25,8 +25,8 @@ pub trait Reporter {
     /// Whether such a report may be refused with this error.
     ghost refuses: { Self → ThreadKey → List Details → StreamFacts → Error → Self → Type 0 };
 
-    /// Receives a thread's closed scopes, and the details that were registered for them. The scopes have to be honest. If it
-    /// returns an error, the thread keeps both for its next report.
+    /// Receives a thread's closed scopes, and the details registered since its last accepted report. `times` has to be honest:
+    /// its counts are those of its bytes. After an error the thread keeps scopes and details for its next report.
     fn report(
         &mut self,
         info: ThreadInfo,

@@ -140,7 +140,7 @@ fn write_begin(stream: &mut Stream, at: NanoSecond, id: ScopeId, text: &str) -> 
 }
 
 impl ThreadState {
-    /// Makes a recording without scopes, in this form.
+    /// Makes the state of a thread without scopes, in this form.
     pub(crate) fn new(alloc: Global, name: String, form: Form) -> ThreadState
         ensures { result ≡ new_thread (string_bytes name) form }
     {

@@ -123,8 +123,8 @@ impl Stream {
         self.longer_within(start, id, text)
     }
 
-    /// Does the same with a text that may have to be cut, and whose length may take two bytes. It is out of line, so that a
-    /// scope with a short text needs few registers.
+    /// Appends the beginning of a scope whose text may have to be cut, and whose length may take two bytes. It is out of line,
+    /// so that a scope with a short text needs few registers.
     #[inline(never)]
     fn longer_within(&mut self, start: NanoSecond, id: ScopeId, text: &str) -> usize
         requires { head_size self.old.form (cut_text self.old.form text.now) ≤ self.old.room }
@@ -135,7 +135,7 @@ impl Stream {
         self.write_begin(start, id, kept, group, second)
     }
 
-    /// Does the same with a text that isn't cut, and whose length has this encoding.
+    /// Appends the beginning of a scope whose text isn't cut, and whose length has this encoding.
     #[inline(always)]
     fn write_begin(
         &mut self,
