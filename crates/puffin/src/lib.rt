@@ -11,7 +11,7 @@
 //! | share a profiler among threads | [`global_profiler::SharedProfiler::open`]; a [`global_profiler::SharedReporter`] for each thread |
 //! | keep a view of a shared profiler's frames | [`global_profiler::GlobalFrameView::attach`] |
 //! | check that no scope is missing, over all threads | [`global_profiler::SharedProfiler::settle`] |
-//! | register and report scopes of another origin | [`global_profiler::GlobalProfiler::register_user_scopes`], `report_user_scopes` |
+//! | register and report the caller's own scopes | [`global_profiler::GlobalProfiler::register_user_scopes`], `report_user_scopes` |
 //! | make the next frame list every known scope | [`global_profiler::GlobalProfiler::emit_scope_snapshot`] |
 //! | check that no scope is missing | [`global_profiler::GlobalProfiler::totals`] |
 //! | keep the last and the slowest frames | [`profile_view::FrameView::add_frame`]; its listings and `stats` |

@@ -95,10 +95,10 @@ impl Collector {
         }
     }
 
-    /// Registers scopes of the caller's own by their names, and returns an id for each. A known name returns its id. Other
-    /// details become known at once and are new in the next frame, under a newly drawn id that replaces theirs.
+    /// Registers the caller's own scopes by name, and returns an id for each. For a known name this is the known id. Details with
+    /// a new name get a newly drawn id, which replaces any id in them; they are known at once, and the next frame lists them.
     ///
-    /// Fails with `IdsExhausted` or `Memory`; a beginning of the list is then registered, and an id may be used up.
+    /// Fails with `IdsExhausted` or `Memory`; the first few may then be registered, and an id may be used up.
     pub fn register_user_scopes(
         &mut self,
         ids: &ScopeIds,
@@ -148,10 +148,10 @@ impl Collector {
         self.wants_all = true;
     }
 
-    /// Adds details from another source, as a frame that was made elsewhere.
+    /// Adds details from another source, such as a frame that was made elsewhere.
     ///
     /// Fails with `MissingId` exactly when some of them have no id, and then changes nothing; else only with `Memory`, after
-    /// which a beginning of them may be known.
+    /// which the first few may be known.
     pub fn learn(&mut self, details: &[Arc<ScopeDetails>]) -> Result<()>
         ensures ok { OnOk result (
             self.new ≡ after_learning self.old (shared_details details.now)) }
@@ -165,12 +165,14 @@ impl Collector {
         self.collection.insert_all(details)
     }
 
-    /// Hands out all that is pending in one frame, if it has a scope, and raises the index. The frame lists the new scopes in
-    /// order, and then, if a snapshot was requested, all scopes known before. After that the new ones are known. If there is no
-    /// scope, returns `None`, and keeps the new scopes and the request for a snapshot.
+    /// Moves everything that is pending into one frame and returns it. Returns `None` if no scope is pending. Raises the index in
+    /// both cases.
     ///
-    /// Fails with `IndexExhausted` if the index is the last one, else only with `Memory`. Nothing changes then, but after
-    /// `Memory` a beginning of the new scopes may be known.
+    /// The frame lists the details registered since the last frame, in order, and then, if a snapshot was requested, all details
+    /// known before. With `None`, the new details and the request are kept for the next frame.
+    ///
+    /// Fails with `IndexExhausted` if the index can't rise, even if no scope is pending; else only with `Memory`. Nothing changes
+    /// then, but after `Memory` the first few of the new details may be known.
     pub fn collect_frame(&mut self) -> Result<Option<Arc<FrameData>>>
         ensures ok { IfOk result (λ frame. Collects self.old frame self.new) }
         // All details that a frame lists have ids.
@@ -182,7 +184,7 @@ impl Collector {
         ensures exhausted { (result ≡ Err Error.IndexExhausted) ↔ (self.old.index ≡ 2 ^ 64 - 1) }
         ensures err { IfErr result (λ e. KeepsPending self.old e self.new) }
     {
-        // For the proof: laws of no streams, of honest ones, and of those that have a layout.
+        // The laws give the proof what holds of no streams, of honest ones, and of those that have a layout.
         laws::reported_streams();
         laws::honest_streams();
         streams_with_a_layout();
@@ -218,7 +220,7 @@ impl Collector {
         ensures err { OnErr result (self.new ≡ self.old) }
         ensures memory { IfErr result (λ e. e ≡ Error.Memory) }
     {
-        // For the proof: laws of no streams, of honest ones, and of those that have a layout.
+        // The laws give the proof what holds of no streams, of honest ones, and of those that have a layout.
         laws::reported_streams();
         laws::honest_streams();
         streams_with_a_layout();

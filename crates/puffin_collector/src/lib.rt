@@ -4,7 +4,7 @@
 //! |---|---|
 //! | collect what threads report | [`Collector::new`]; it is the `Reporter` of each `end_scope` |
 //! | take a frame | [`Collector::collect_frame`] |
-//! | register and report scopes of another origin | [`Collector::register_user_scopes`], [`Collector::report_user_scopes`] |
+//! | register and report the caller's own scopes | [`Collector::register_user_scopes`], [`Collector::report_user_scopes`] |
 //! | make the next frame list every known scope | [`Collector::emit_scope_snapshot`] |
 //! | check that no scope is missing | [`Collector::totals`] |
 #![tactic(auto)]

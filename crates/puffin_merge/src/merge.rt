@@ -27,13 +27,13 @@ use std::sync::Arc;
 /// Merges the scopes under an info in all frames, by their paths of ids and texts. Returns no scopes if there are no frames.
 ///
 /// A nested scope's start is measured from its parent's start, and a top-level scope's as if every frame began when the first
-/// did. Siblings are ordered by the least start of their pieces, then by id, then by the bytes of their texts. Each starts as
-/// early as it can: not before that least start, not before 0, and not before the sibling before it has ended.
+/// did. Siblings are ordered by the least start of their pieces, then by id, then by the bytes of their texts. Each starts at
+/// the greatest of three times: that least start, 0, and the end of the sibling before it.
 ///
 /// Fails with the first of these, in the order of the frames and of the scopes in their streams: a fault of a stream
 /// (`PrematureEnd`, `InvalidStream` or `ScopeNeverEnded`); `TooDeep` at a scope nested in 1,024 others; `TooLarge` if the
-/// measured start, the number of scopes of a path or their total doesn't fit. After all frames it fails with `TooLarge` if an
-/// end doesn't fit, and anywhere with `Memory`.
+/// measured start, the number of scopes of a path or their total doesn't fit. Once all frames are merged, it fails with
+/// `TooLarge` if an end doesn't fit `i64`. It may fail with `Memory` at any step.
 ///
 /// The collection isn't read: a scope's details change neither the merge nor its order. The merged scopes own their texts.
 ///

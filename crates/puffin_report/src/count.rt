@@ -117,14 +117,14 @@ fn frame_line(alloc: Global, info: StreamInfo) -> Result<(String, Option<Error>)
 }
 
 /// Reads a stream of the short form to its end, and writes two lines, as `docs/FORMAT.md` lists them: the counts of its scopes
-/// with their range in nanoseconds, and the counts of frame 0, which has the stream alone, under a thread `stdin` without a
+/// with their range in nanoseconds, and the counts of frame 0, whose only stream is this one, of a thread `stdin` without a
 /// start.
 ///
-/// Returns `None` if the frame is made or has no scope, else the cause that refuses it; both lines are written either way. If
-/// the bytes aren't scopes, returns their fault and writes nothing.
+/// Returns `None` on success, even if there is no scope and so no frame. Returns a cause in two cases: if the frame is refused,
+/// with both lines written; and if the bytes aren't scopes, with nothing written.
 ///
 /// Fails with `Memory`, and then writes nothing; or with `Io` if the reader or the writer fails. The lines are made before any
-/// of them is written; if the writer fails, a beginning of them may be written. If the call fails, how far it read is
+/// of them is written; if the writer fails, a prefix of them may be written. If the call fails, how far it read is
 /// unspecified.
 ///
 /// ```

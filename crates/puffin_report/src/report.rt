@@ -136,7 +136,7 @@ fn report_lines(alloc: Global, summary: &Summary) -> Result<String, AllocError>
 /// blanks. Times are in nanoseconds.
 ///
 /// Fails as [`summarize`] does, or with `Memory`, and then writes nothing; or with `Io` if the writer fails. The lines are made
-/// before any of them is written; if the writer fails, a beginning of them may be written. If the call fails, how far it read
+/// before any of them is written; if the writer fails, a prefix of them may be written. If the call fails, how far it read
 /// is unspecified.
 ///
 /// ```

@@ -26,13 +26,13 @@ pub struct Summary {
     pub merged: Vec<MergeScope<'static>>,
 }
 
-/// Reads a file one frame at a time, and merges the scopes of a thread over the frames that a view keeps when it reads the file:
-/// those since the last frame whose index isn't above the index of the frame before it. Besides one frame, this takes memory for
-/// the merge and for the details of all frames.
+/// Reads a file one frame at a time, and merges the scopes of a thread. Like a view that reads the file, it starts over at each
+/// frame whose index isn't greater than that of the frame before it, so only the last run of rising indices counts. Besides one
+/// frame, this takes memory for the merge and for the details of all frames.
 ///
-/// Fails with the first cause that applies: as [`FrameView::read`](puffin_view::profile_view::FrameView::read); with `Compressed`
-/// or `BadStreams` of the first of these frames that can't be unpacked; with `Refused` if the merge is refused. It may fail with
-/// `Memory` at any step. How far it read is then unspecified.
+/// Fails with the first cause that applies: an error of [`FrameView::read`](puffin_view::profile_view::FrameView::read);
+/// `Compressed` or `BadStreams` if a frame that counts can't be unpacked, for the first such frame; `Refused` if the frames can't
+/// be merged. It may fail with `Memory` at any step. How far the source was read is then unspecified.
 pub fn summarize<S: Source>(
     alloc: Global,
     source: &mut S,

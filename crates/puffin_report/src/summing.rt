@@ -1,4 +1,4 @@
-//! What a file comes to so far, while it is read one frame at a time.
+//! Sums up a file while it is read one frame at a time.
 
 ghost use Rattle.std.specs.Prelude.{◌≡◌, ◌≢◌, ◌⊎◌, ◌<◌, ◌-◌, ◌^◌, [], ◌∷◌, ◌++◌, List, Ok, Err, IfOk, IfErr, OnOk, length, nat_lt, true};
 ghost use Rattle.std.specs.Option.{option_map_or};
@@ -26,18 +26,18 @@ use puffin_view::profile_view::laws::reading_keeps_what_rises;
 use std::alloc::Global;
 use std::sync::Arc;
 
-/// How far merging came with the frames that are kept.
+/// The merge of the kept frames so far, or what stopped it.
 #[derive(Drop)]
 pub(crate) enum Progress<'i> {
-    /// All of them were unpacked and added.
+    /// All kept frames were unpacked and merged.
     Merged(Merger<'i>),
-    /// All of them were unpacked, and merging was refused, whatever frames follow.
+    /// All kept frames were unpacked, but merging them fails with this error, whatever frames follow.
     Refused(Error),
-    /// The first of them that isn't unpacked has this fault.
+    /// A kept frame can't be unpacked. This is the fault of the first such frame.
     NotUnpacked(FileError),
 }
 
-/// What a file comes to so far.
+/// The summary of the frames read so far.
 #[derive(Drop)]
 pub(crate) struct Summing<'i> {
     alloc: Global,
@@ -56,13 +56,13 @@ fn unpacked(frame: &mut FrameData) -> Result<Arc<UnpackedFrameData>, FileError>
         (e ≡ FileError.Memory)
         ⊎ ((info : ThreadKey) → bytes_in info (packet_fields frame.old) ≡ Err e)) }
 {
-    // For the proof alone: a law about frames.
+    // The law gives the proof that packed bytes are those of the frame's streams.
     each_frame_is_read_again();
     frame.unpacked()
 }
 
-/// Keeps the fault of the first frame that isn't unpacked, until the file ends. Want of memory is no fault of a frame, and is
-/// returned at once.
+/// Stores the fault of the first frame that can't be unpacked, which is returned at the file's end. `Memory` isn't a fault of the
+/// frame, and is returned at once.
 fn not_unpacked<'i>(fault: FileError) -> Result<Progress<'i>, FileError>
     ensures ok { IfOk result (λ progress.
         (progress ≡ Progress.NotUnpacked fault) × (fault ≢ FileError.Memory)) }
@@ -74,7 +74,7 @@ fn not_unpacked<'i>(fault: FileError) -> Result<Progress<'i>, FileError>
     }
 }
 
-/// Keeps what refuses the merge, until the file ends. Want of memory is returned at once.
+/// Stores the error of the merge, which is returned at the file's end. `Memory` is returned at once.
 fn refused<'i>(cause: Error) -> Result<Progress<'i>, FileError>
     ensures ok { IfOk result (λ progress.
         (progress ≡ Progress.Refused cause) × (cause ≢ Error.Memory)) }
@@ -86,7 +86,7 @@ fn refused<'i>(cause: Error) -> Result<Progress<'i>, FileError>
     }
 }
 
-/// Returns the same cause, as one of files.
+/// Converts an `Error` to a `FileError`.
 fn as_file_error(cause: Error) -> FileError
     ensures memory { cause ≡ Error.Memory → result ≡ FileError.Memory }
     ensures other { cause ≢ Error.Memory → result ≡ FileError.Refused cause }
@@ -98,10 +98,10 @@ fn as_file_error(cause: Error) -> FileError
 }
 
 impl<'i> Progress<'i> {
-    /// Unpacks one frame more and merges it with those before. After a frame that isn't unpacked none is. After a refusal of
-    /// the merge frames are still unpacked, since the fault of one that isn't is returned before that refusal.
+    /// Unpacks the next frame and merges it with those before. Once a frame couldn't be unpacked, no further frame is. If the
+    /// merge failed, further frames are still unpacked, because the fault of a frame takes precedence over the merge's error.
     ///
-    /// Refused only with `Memory`.
+    /// Fails only with `Memory`.
     fn with(self, frame: &mut FrameData) -> Result<Progress<'i>, FileError>
         requires { CanGoOn self }
         ensures ok { IfOk result (λ progress.
@@ -118,7 +118,7 @@ impl<'i> Progress<'i> {
         }
     }
 
-    /// The same of a frame that is unpacked.
+    /// Merges an unpacked frame with those before, as [`Progress::with`] does.
     fn with_unpacked(self, frame: &UnpackedFrameData) -> Result<Progress<'i>, FileError>
         requires { CanGoOn self }
         ensures ok { IfOk result (λ progress.
@@ -139,8 +139,8 @@ impl<'i> Progress<'i> {
     }
 }
 
-/// Learns the details that a frame tells. All of them have ids, so it is refused only with `Memory`.
-fn learn(scopes: &mut ScopeCollection, frame: &FrameData) -> Result<(), FileError>
+/// Inserts the details that a frame lists. All of them have ids, so this fails only with `Memory`.
+fn insert_details(scopes: &mut ScopeCollection, frame: &FrameData) -> Result<(), FileError>
     ensures ok { OnOk result (
         scopes.new ≡ with_all_details scopes.old (frame_details frame.now)) }
     ensures memory { IfErr result (λ e. e ≡ FileError.Memory) }
@@ -151,7 +151,7 @@ fn learn(scopes: &mut ScopeCollection, frame: &FrameData) -> Result<(), FileErro
     }
 }
 
-/// Returns whether an index is above the last one, if there is one.
+/// Returns whether an index is greater than the last one, if there is one.
 fn rises(last: Option<FrameIndex>, index: FrameIndex) -> bool
     ensures { result ≡ option_map_or (λ i. nat_lt i index) last true }
 {
@@ -161,8 +161,8 @@ fn rises(last: Option<FrameIndex>, index: FrameIndex) -> bool
     }
 }
 
-/// Returns how far merging came with the frames that stay when one of this index comes: all that were kept, if it is above the
-/// last index, and else none.
+/// Returns the progress to which a frame with this index is added: `progress` if the index is greater than the last one, else
+/// `none`.
 fn kept_before<'i>(
     progress: Progress<'i>,
     last: Option<FrameIndex>,
@@ -174,13 +174,13 @@ fn kept_before<'i>(
         IsProgress info (rising_end cs) progress.entry → IsProgress info [] none.entry →
         IsKeptWith info cs c result }
 {
-    // For the proof alone: a law about views.
+    // The law gives the proof that a view keeps the same frames.
     reading_keeps_what_rises();
     if rises(last, index) { progress } else { none }
 }
 
 impl<'i> Summing<'i> {
-    /// Makes the sum of no frame. Takes no memory.
+    /// Makes the summary of no frames. Allocates nothing.
     pub(crate) fn new(alloc: Global, thread: &'i ThreadInfo) -> Summing<'i>
         ensures { HasSummed (key_of thread.now) [] result }
     {
@@ -193,10 +193,10 @@ impl<'i> Summing<'i> {
         }
     }
 
-    /// Learns the details of the next frame, and merges the frame with those that are kept. If its index isn't above that of
-    /// the frame before it, those are forgotten first, with their faults.
+    /// Inserts the details of the next frame, and merges the frame with the kept ones. If its index isn't greater than that of
+    /// the frame before it, first discards the kept frames and their faults.
     ///
-    /// Refused only with `Memory`.
+    /// Fails only with `Memory`.
     pub(crate) fn take(self, frame: FrameData) -> Result<Summing<'i>, FileError>
         requires { CanTake self }
         ensures ok { IfOk result (λ sum. (info : ThreadKey) (stored : List Stored) (s : Stored) →
@@ -212,7 +212,7 @@ impl<'i> Summing<'i> {
             last_index,
             progress,
         } = self;
-        learn(&mut scopes, &frame)?;
+        insert_details(&mut scopes, &frame)?;
         let index = frame.frame_index();
         let none = Progress::Merged(Merger::new(alloc, thread));
         let progress = kept_before(progress, last_index, index, none).with(&mut frame)?;
@@ -227,8 +227,8 @@ impl<'i> Summing<'i> {
 
     /// Returns the summary of the frames that were taken.
     ///
-    /// Refused with the fault of the first of those kept that isn't unpacked, or else with `Refused` of what refuses their
-    /// merge, and anywhere with `Memory`.
+    /// Fails with the fault of the first kept frame that can't be unpacked; else with `Refused` if the frames can't be merged.
+    /// May fail with `Memory` at any step.
     pub(crate) fn finish(self) -> Result<Summary, FileError>
         requires { CanTake self }
         ensures ok { IfOk result (λ summary. (info : ThreadKey) (stored : List Stored) →
@@ -239,7 +239,7 @@ impl<'i> Summing<'i> {
             (e ≡ FileError.Memory) ⊎ IsHindered info (fields_read stored) e) }
         ensures cause { IfErr result (λ e. e ≢ FileError.Io) }
     {
-        // For the proof alone: a law about views.
+        // The law gives the proof that the kept frames are those of a view.
         reading_keeps_what_rises();
         let Summing {
             scopes,

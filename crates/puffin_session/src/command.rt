@@ -39,12 +39,12 @@ pub enum Command {
         /// The line in the file, counted from 1, or 0 if it is unknown.
         line: u32,
     },
-    /// Registers scopes of another origin.
+    /// Registers the caller's own scopes by their names.
     RegisterUser {
         /// The scopes' names.
         names: Vec<String>,
     },
-    /// Reports scopes of another origin.
+    /// Reports the caller's own scopes.
     ReportUser {
         /// The thread whose scopes they are.
         info: ThreadInfo,
@@ -74,7 +74,7 @@ pub enum Reply {
     Snapshot,
     /// What was due was taken as a frame, if there was a scope.
     Frame(Emitted),
-    /// The command failed and changed nothing, with two exceptions: `RegisterUser` may have registered a beginning of its
-    /// scopes, and `NewFrame` may have made a beginning of the new details known.
+    /// The command failed and changed nothing, with two exceptions: `RegisterUser` may have registered the first few of its
+    /// scopes, and `NewFrame` may have made the first few of the new details known.
     Refused(Error),
 }

@@ -21,7 +21,7 @@ use puffin_frames::thread_profiler::{Reporter, ThreadInfo};
 
 impl Collector {
     /// Appends a thread's scopes to those that are pending under its info, and adds the details to the next frame's new ones.
-    /// The scopes have to be honest.
+    /// `times` has to be honest: its counts are those of its bytes.
     ///
     /// Fails with the first cause that applies, and then changes nothing: `MissingId` if some details have no id; `UnlikeForms`
     /// if these scopes and those pending under the info have bytes in unlike forms; `TooLarge` if the pending bytes or scopes,
@@ -49,7 +49,7 @@ impl Collector {
         }
     }
 
-    /// Appends scopes of the caller's own, as [`Collector::report`] does without details. Fails in the same cases.
+    /// Appends the caller's own scopes, as [`Collector::report`] does without details. Fails in the same cases.
     #[inline(always)]
     pub fn report_user_scopes(&mut self, info: ThreadInfo, times: &StreamInfoRef) -> Result<()>
         requires { (f : Forest) × IsHonestRef times.now f }
@@ -109,7 +109,7 @@ impl Collector {
         ensures err { IfErr result (λ e.
             RefusesReport self.old (key_of info) [] (facts_of_ref times.now) e self.new) }
     {
-        // Laws for the proof of the invariant.
+        // The laws give the proof of the invariant what holds of joined ranges and of streams.
         laws::joined_ranges();
         laws::reported_streams();
         laws::honest_streams();
@@ -157,7 +157,7 @@ impl Collector {
             × ¬ IsTooLong (range_with self.now (facts_of_ref times.now))) }
         ensures refusal { IfErr result (IsSumRefusal self.now (facts_of_ref times.now)) }
     {
-        // For the proof: the joined range with one stream more.
+        // The law gives the proof the joined range with one more stream.
         laws::joined_ranges();
         let Some(meta) = self.meta.joined(times) else {
             return Err(Error::TooLarge);

@@ -58,10 +58,11 @@ impl<'i> Merger<'i> {
         self.frames
     }
 
-    /// Adds a frame after those added before. These have to be fewer than `2^64 - 1`.
+    /// Adds the next frame. Fewer than `2^64 - 1` frames may have been added before.
     ///
-    /// Fails with the refusal that merging these frames has, whatever frames follow, or with `Memory`. After that the merger
-    /// takes no more frames and can't be finished.
+    /// Fails if the frames so far can't be merged, whatever frames follow, with the error of
+    /// [`merge_scopes_for_thread`](crate::merge::merge_scopes_for_thread); or with `Memory`. After an error neither
+    /// [`Merger::add`] nor [`Merger::finish`] may be called.
     pub fn add(&mut self, frame: &UnpackedFrameData) -> Result<()>
         requires { CanAdd self.old }
         ensures info { self.new.info ≡ self.old.info }
