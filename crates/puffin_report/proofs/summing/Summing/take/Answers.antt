@@ -15,4 +15,4 @@ pub returns-clause-ok : goal.returns-clause-ok
 returns-clause-ok c = λ info stored s is h.
     let none = none_added info c.new.result c.new.ensures.none (ap key_of c.new.ensures.info ∙ h.thread) in
     let kept = c.kept_before.ensures info (said_by stored) (packet_fields c.args.frame) h.last c.frame_index-index.ensures h.progress none in
-    one_taken info stored s c.args.self _ c.args.frame is h refl (ap (λ (i : ℕ). Some i) c.frame_index-index.ensures) c.in_ok-learn.ensures.ok c.kept_before.result kept (c.in_ok-progress.ensures.ok info kept.before kept.progress)
+    one_taken info stored s c.args.self _ c.args.frame is h refl (ap (λ (i : ℕ). Some i) c.frame_index-index.ensures) c.in_ok-insert_details.ensures.ok c.kept_before.result kept (c.in_ok-progress.ensures.ok info kept.before kept.progress)
