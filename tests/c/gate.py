@@ -14,37 +14,20 @@ import subprocess
 import sys
 
 HERE = pathlib.Path(__file__).resolve().parent
-CRATES = HERE.parents[1] / "crates"
+ROOT = HERE.parents[1]
+sys.path.append(str(ROOT / "tests"))
+from libraries import kit_folder, words_over  # noqa: E402
+
+CRATES = ROOT / "crates"
 CRATE = CRATES / "puffin_c"
 ARCHIVE = CRATE / "out" / "libpuffin_c.a"
 TOOL = CRATES / "puffin_tool" / "out" / "puffin_tool"
 
 
-def kit_folder():
-    """The kit's folder: `rt doc` prints a path in it."""
-    said = subprocess.run(["rt", "doc"], capture_output=True, text=True, check=True)
-    return pathlib.Path(said.stdout.strip()).parent
-
-
-def libraries():
-    """What crates.txt says that puffin_c uses."""
-    for line in (CRATES.parent / "crates.txt").read_text().splitlines():
-        name, _, used = line.partition(":")
-        if name.split()[:1] == ["puffin_c"]:
-            return used.split()
-    sys.exit("crates.txt has no line for puffin_c")
-
-
 def building(kit):
     """The command that makes the archive over what `rt ci` left."""
-    words = [kit / "bin" / "rattle", "build", "--crate-name", "puffin_c", "src/lib.rt", "--crate-type", "staticlib"]
-    for name in ["std", *libraries()]:
-        above = CRATES / name / "out" / "rlib" if (CRATES / name).is_dir() else kit / "rlibs"
-        words += ["--extern", f"{name}={above / name}.rlib"]
-    for folder in [kit / "rlibs", *sorted(CRATES.glob("*/out/rlib"))]:
-        words += ["-L", f"dependency={folder}"]
-    words += ["--antt-project", kit / "rattle" / "logic" / "antt-project.json", "--logic-built", kit / "logic_built"]
-    return [*words, "--toolchain", kit / "toolchain", "--jobs", os.environ.get("RT_JOBS", "2"), "-o", ARCHIVE]
+    made = ["--toolchain", kit / "toolchain", "--jobs", os.environ.get("RT_JOBS", "2"), "-o", ARCHIVE]
+    return [kit / "bin" / "rattle", "build", *words_over("puffin_c", ROOT, kit), *made]
 
 
 def main():

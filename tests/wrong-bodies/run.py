@@ -23,6 +23,9 @@ from dataclasses import dataclass
 
 HERE = pathlib.Path(__file__).resolve().parent
 ROOT = HERE.parent.parent
+sys.path.append(str(ROOT / "tests"))
+from libraries import kit_folder, line_of, words_over  # noqa: E402
+
 LANES = min(4, os.cpu_count() or 1)
 # How many wrong functions stand in one check.
 TOGETHER = 12
@@ -72,17 +75,24 @@ def parsed(path):
     return WrongBody(path.stem, tuple(functions), tuple(changes), ends)
 
 
-class Copy:
-    """A copy of what a check of one crate reads, in which wrong bodies are put and tried."""
+def copied(folder):
+    """Copies what `rt ci` reads to a folder, without wrong bodies."""
+    for name in ("crates.txt", "HANDLES"):
+        shutil.copy(ROOT / name, folder)
+    shutil.copytree(ROOT / "crates", folder / "crates", ignore=shutil.ignore_patterns("out", "must-fail", "wrong"))
 
-    def __init__(self, crate, folder):
+
+class Copy:
+    """A copy of a crate, in which wrong bodies are put and tried over the libraries in `below`."""
+
+    def __init__(self, crate, folder, below):
         self.crate = crate
-        self.top = pathlib.Path(folder)
-        self.folder = self.top / "crates" / crate
-        for name in ("crates.txt", "HANDLES"):
-            shutil.copy(ROOT / name, folder)
-        left_out = shutil.ignore_patterns("out", "must-fail", "wrong")
-        shutil.copytree(ROOT / "crates", self.top / "crates", ignore=left_out)
+        self.folder = pathlib.Path(folder, crate)
+        kit = kit_folder()
+        self.command = [kit / "bin" / "rattle", "check", *words_over(crate, below, kit)]
+        self.command += ["--incremental", "out/incremental", "--jobs", "1"]
+        shutil.copytree(below / "crates" / crate, self.folder, ignore=shutil.ignore_patterns("out"))
+        (self.folder / "out").mkdir()
 
     def text_of(self, file):
         return (ROOT / "crates" / self.crate / file).read_text()
@@ -106,7 +116,7 @@ class Copy:
         try:
             only = [word for body in bodies for it in body.functions for word in ("--only", it)]
             ran = subprocess.run(
-                ["rt", "check", "--jobs", "1", *only],
+                [*self.command, *only],
                 cwd=self.folder,
                 stdin=subprocess.DEVNULL,
                 capture_output=True,
@@ -242,32 +252,23 @@ class Tries:
         return self.ended
 
 
-def libraries_of(crate):
-    """The libraries of the repository that a crate uses, each after those that it uses itself."""
-    lines = dict(re.findall(r"^(\w+)[^:\n]*:(.*)$", (ROOT / "crates.txt").read_text(), re.M))
-    found = []
-    for name in lines[crate].split():
-        if name in lines:
-            found += [it for it in [*libraries_of(name), name] if it not in found]
-    return found
+def has_libraries(crates, folder):
+    """Copies the crates to a folder, and has `rt ci` prove the libraries below these or put back what it has kept of them."""
+    copied(folder)
+    below = {it for crate in crates for it in line_of(crate, ROOT)[1] if (ROOT / "crates" / it).is_dir()}
+    if not below:
+        return True
+    ran = subprocess.run(["rt", "ci", *sorted(below)], cwd=folder, capture_output=True, text=True, errors="replace")
+    if ran.returncode:
+        print(ran.stdout[-2000:] + ran.stderr[-2000:])
+    return not ran.returncode
 
 
-def built(crates):
-    """Builds the libraries below these crates where they aren't; a copy takes them from here."""
-    needed = [it for crate in crates for it in libraries_of(crate)]
-    for name in dict.fromkeys(needed):
-        ran = subprocess.run(["rt", "lib"], cwd=ROOT / "crates" / name, capture_output=True, text=True)
-        if ran.returncode:
-            print(ran.stdout[-2000:] + ran.stderr[-2000:])
-            return False
-    return True
-
-
-def tried(crate, bodies):
+def tried(crate, bodies, below):
     """The lines on a crate's wrong bodies, and how many failed."""
     begun = time.monotonic()
     with tempfile.TemporaryDirectory() as folder:
-        ended = Tries(Copy(crate, folder), bodies).run()
+        ended = Tries(Copy(crate, folder, below), bodies).run()
     lines = [f"{crate}/{body.name}: {verdict}{': ' if why else ''}{why}" for body, (verdict, why) in ended.items()]
     failed = sum(verdict != body.ends for body, (verdict, _) in ended.items())
     took = time.monotonic() - begun
@@ -292,12 +293,15 @@ def main():
     if not tasks or not all(bodies for _, bodies in tasks):
         print(f"no wrong bodies: {' '.join(crate for crate, bodies in tasks if not bodies)}")
         return 2
-    passed, failed = 0, 0 if built([crate for crate, _ in tasks]) else 1
-    if not failed:
-        with concurrent.futures.ThreadPoolExecutor(LANES) as lanes:
-            for lines, well, badly in lanes.map(lambda it: tried(*it), tasks):
-                print("\n".join(lines), flush=True)
-                passed, failed = passed + well, failed + badly
+    passed, failed = 0, 0
+    with tempfile.TemporaryDirectory() as folder, concurrent.futures.ThreadPoolExecutor(LANES) as lanes:
+        below = pathlib.Path(folder)
+        if not has_libraries([crate for crate, _ in tasks], below):
+            print("0 passed, 1 failed")
+            return 1
+        for lines, well, badly in lanes.map(lambda it: tried(*it, below), tasks):
+            print("\n".join(lines), flush=True)
+            passed, failed = passed + well, failed + badly
     used = resource.getrusage(resource.RUSAGE_CHILDREN)
     print(f"wrong bodies: {(used.ru_utime + used.ru_stime) / 60:.1f} processor minutes")
     print(f"{passed} passed, {failed} failed")
