@@ -1,4 +1,4 @@
--- What counting a stream comes to.
+-- The counts of a stream, as `puffin_count` returns them.
 use Rattle.std.specs.Prelude.{◌≡◌, ◌⊎◌, ℕ, Bool, true, false, List, Result, Ok, Err}
 use Rattle.puffin_data.specs.declared.error.Error.{Error}
 use Rattle.puffin_data.specs.declared.error.Error.TheVariants as error

@@ -1,4 +1,4 @@
--- What summing up a file has of the frames so far, in the memory of one frame.
+-- The summary of the frames read so far, kept in the memory of one frame.
 use Rattle.std.specs.Prelude.{◌≡◌, ◌<◌, ◌≤◌, ◌-◌, ◌^◌, List, [], ◌∷◌, ◌++◌, Ok, Err, map, length}
 use Rattle.std.specs.List.{flat_map}
 use Rattle.puffin_data.specs.declared.error.Error.{Error}
