@@ -29,8 +29,8 @@ impl Parts {
     }
 
     /// Counts a scope that began.
-    fn count(&self, standing: GuardState) {
-        if let GuardState::On(_) = standing {
+    fn count(&self, state: GuardState) {
+        if let GuardState::On(_) = state {
             self.begun.fetch_add(1, Ordering::SeqCst);
         }
     }
@@ -48,9 +48,9 @@ impl Rounds for Parts {
     fn part<T: Records>(&self, _number: usize, thread: &mut T) {
         self.done.fetch_add(1, Ordering::SeqCst);
         let mut outer = thread.scope(&self.outer);
-        self.count(outer.standing());
+        self.count(outer.state());
         let inner = outer.scope_with(&self.inner, "text");
-        self.count(inner.standing());
+        self.count(inner.state());
     }
 }
 

@@ -16,15 +16,9 @@ use Rattle.puffin_threads.specs.Details.{Details}
 use Rattle.puffin_scopes.specs.declared.site.Site.{Site}
 use Rattle.puffin_scopes.specs.Guards.Ending.{innermost_of}
 use Rattle.puffin_scopes.specs.Sites.{IsKnownOrNew, function_details, named_details}
-use Rattle.puffin.specs.declared.light.guard.GuardState.{GuardState}
-use Rattle.puffin.specs.declared.light.guard.GuardState.TheVariants.{On, Off, Refused}
+use Rattle.puffin_scopes.specs.declared.guard_state.GuardState.{GuardState}
+use Rattle.puffin_scopes.specs.declared.guard_state.GuardState.TheVariants.{On, Off, Refused}
 use Rattle.puffin.specs.declared.light.place.Place.{Place}
-
--- the offset of a guard's scope, if it has one
-abbrev pub offset_in : GuardState → Option ℕ
-offset_in (On offset) = Some offset
-offset_in Off = None
-offset_in (Refused e) = None
 
 -- the details of a function, or of a scope in it with this name
 abbrev pub details_at : Site → List ℕ → Option (Bor (List ℕ)) → Details

@@ -6,19 +6,19 @@
 //! | name a place in the code | the macro `place`; a struct of [`Place`]s is a program's list of them |
 //! | profile one thread | [`Thread::start`], then [`Records::scope`] or the macro `profile` |
 //! | open a scope within another | [`Guard::scope`] |
+//! | see whether a scope began | [`Guard::state`] |
 //! | give a scope a text | [`Records::scope_with`], [`Guard::scope_with`] |
 //! | turn all scopes off and on | [`Scopes::set_on`] |
 //! | take a frame of one thread | [`Thread::new_frame`] |
 //! | write frames to a file | [`save`] |
-//! | profile several threads that work in rounds, a frame a round | [`Rounds`], [`in_rounds`] |
+//! | profile several threads that work in rounds, with a frame for each round | [`Rounds`], [`in_rounds`] |
 //! | the same, if each thread keeps a state from round to round | [`StatefulRounds`] |
-//! | profile several threads that decide themselves when frames are taken | [`Program`], [`profiled`] |
+//! | profile several threads, and take frames when you choose | [`Program`], [`profiled`] |
 
 mod counted;
 pub mod files;
 mod gate;
 pub mod guard;
-pub mod laws;
 mod macros;
 pub mod place;
 pub mod program;
@@ -33,6 +33,7 @@ pub use files::save;
 pub use guard::{Guard, GuardState, Records};
 pub use place::Place;
 pub use program::{Frames, Outcome, Program, profiled};
+pub use puffin_scopes::laws;
 pub use rounds::{Rounds, StatefulRounds, in_rounds};
 pub use scopes::Scopes;
 pub use thread::Thread;

@@ -15,7 +15,7 @@
 //! If the switch is off or the condition is false, the guard has no scope. If registering or beginning the scope fails, it has
 //! none either, and its `refusal` returns the error.
 
-/// Binds a guard as [`profile_function`](crate::profile_function) does. The guard has a scope only if the condition holds.
+/// Begins a scope as [`profile_function`](crate::profile_function) does, if the condition holds, and binds its guard.
 #[macro_export]
 macro_rules! profile_function_if {
     ($guard:ident, $condition:expr, $profiler:expr, $switch:expr, $ids:expr, $site:expr, $function:expr $(,)?) => {
@@ -39,7 +39,7 @@ macro_rules! profile_function_if {
     };
 }
 
-/// Binds a guard of the whole function.
+/// Begins a scope of the whole function, and binds its guard to a variable.
 ///
 /// ```
 /// profile_function!(whole, thread, switch, ids, places.draw, "draw");
@@ -51,8 +51,7 @@ macro_rules! profile_function {
     };
 }
 
-/// Makes a guard as [`profile_scope_custom`](crate::profile_scope_custom) does. The guard has a scope only if the condition
-/// holds.
+/// Begins a scope as [`profile_scope_custom`](crate::profile_scope_custom) does, if the condition holds, and returns its guard.
 #[macro_export]
 macro_rules! profile_scope_custom_if {
     ($condition:expr, $profiler:expr, $switch:expr, $ids:expr, $site:expr, $function:expr, $name:expr $(,)?) => {
@@ -77,7 +76,7 @@ macro_rules! profile_scope_custom_if {
     }};
 }
 
-/// Makes a guard of a scope with a name. It is an expression, so the caller binds the guard.
+/// Begins a scope with a name, and returns its guard. Bind it to a variable: a guard that isn't bound ends its scope at once.
 #[macro_export]
 macro_rules! profile_scope_custom {
     ($($rest:tt)*) => {
@@ -85,7 +84,7 @@ macro_rules! profile_scope_custom {
     };
 }
 
-/// Binds a guard of a scope with a name.
+/// Begins a scope with a name, and binds its guard to a variable.
 ///
 /// ```
 /// let profiler = whole.profiler();
@@ -98,7 +97,7 @@ macro_rules! profile_scope {
     };
 }
 
-/// Binds a guard as [`profile_scope`](crate::profile_scope) does. The guard has a scope only if the condition holds.
+/// Begins a scope as [`profile_scope`](crate::profile_scope) does, if the condition holds, and binds its guard.
 #[macro_export]
 macro_rules! profile_scope_if {
     ($guard:ident, $($rest:tt)*) => {

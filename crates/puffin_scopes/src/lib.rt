@@ -8,14 +8,18 @@
 //! | make a guard by hand | [`ProfilerScope::open`], [`ProfilerScope::new`] |
 //! | use the thread's profiler while a guard borrows it | [`ProfilerScope::profiler`] |
 //! | end a guard's scope and see whether it was reported | [`ProfilerScope::end`] |
+//! | cite a law about guards in a proof | [`laws`] |
 //! | shorten a name | [`utils::clean_function_name`], [`utils::short_file_name`] |
 #![tactic(auto)]
 
+pub mod guard_state;
+pub mod laws;
 pub mod profiler_scope;
 pub mod site;
 pub mod switch;
 pub mod utils;
 
+pub use guard_state::GuardState;
 pub use profiler_scope::ProfilerScope;
 pub use site::Site;
 pub use switch::Switch;

@@ -1,24 +1,14 @@
 //! Guards of scopes.
 
+use crate::guard_state::GuardState;
 use puffin_data::data::ScopeId;
 use puffin_data::{Error, Result};
 use puffin_frames::thread_profiler::{Closed, NsSource, Reporter, ThreadProfiler};
 
-/// What a guard stands for.
-#[derive(Clone, Copy, Debug, PartialEq, Eq)]
-enum GuardState {
-    /// A scope, whose size is at this offset.
-    On(usize),
-    /// No scope.
-    Off,
-    /// No scope, as its id or its beginning was refused with this error.
-    Refused(Error),
-}
-
 /// A guard of a thread's scope: dropping it ends the scope.
 ///
-/// It borrows the thread's profiler, which [`ProfilerScope::profiler`] lends meanwhile. Its scope is the one open there at the
-/// guard's offset.
+/// It borrows the thread's profiler; until it is dropped, use the profiler through [`ProfilerScope::profiler`]. Its scope is
+/// the profiler's open scope at the guard's offset.
 ///
 /// ```
 /// let mut whole = ProfilerScope::new(&mut thread, id, "all bodies")?;
@@ -26,7 +16,7 @@ enum GuardState {
 /// ```
 pub struct ProfilerScope<'p, C: NsSource> {
     profiler: &'p mut ThreadProfiler<C>,
-    standing: GuardState,
+    state: GuardState,
 }
 
 impl<'p, C: NsSource> ProfilerScope<'p, C> {
@@ -54,8 +44,8 @@ impl<'p, C: NsSource> ProfilerScope<'p, C> {
             IsOn C.answers profiler.old id text.now scope) }
         ensures memory { IfErr result (λ e. e ≡ Error.Memory) }
     {
-        let standing = GuardState::On(profiler.begin_scope(id, text)?);
-        Ok(ProfilerScope { profiler, standing })
+        let state = GuardState::On(profiler.begin_scope(id, text)?);
+        Ok(ProfilerScope { profiler, state })
     }
 
     /// Makes a guard without a scope.
@@ -64,8 +54,8 @@ impl<'p, C: NsSource> ProfilerScope<'p, C> {
         ensures same_reference { lender_of result ≡ profiler.entry.ghost_name }
         ensures off { IsOff profiler.old None result }
     {
-        let standing = GuardState::Off;
-        ProfilerScope { profiler, standing }
+        let state = GuardState::Off;
+        ProfilerScope { profiler, state }
     }
 
     /// Begins a scope under an id that may have been refused. If it was, or if beginning the scope fails with `Memory`, the
@@ -82,18 +72,18 @@ impl<'p, C: NsSource> ProfilerScope<'p, C> {
             ⊎ IsOff profiler.old (Some Error.Memory) result) }
         ensures refused { IfErr id (λ e. IsOff profiler.old (Some e) result) }
     {
-        let standing = match id {
+        let state = match id {
             Ok(id) => match profiler.begin_scope(id, text) {
                 Ok(offset) => GuardState::On(offset),
                 Err(e) => GuardState::Refused(e),
             },
             Err(e) => GuardState::Refused(e),
         };
-        ProfilerScope { profiler, standing }
+        ProfilerScope { profiler, state }
     }
 
-    /// Lends the thread's profiler, for scopes within this one. If this guard's scope is ended through it, the guard ends
-    /// nothing.
+    /// Borrows the thread's profiler, for scopes within this one. If this guard's scope is ended through that borrow, the guard
+    /// ends nothing.
     pub fn profiler(&mut self) -> &mut ThreadProfiler<C>
         ensures { result.now ≡ profiler_of self.old }
     {
@@ -104,17 +94,17 @@ impl<'p, C: NsSource> ProfilerScope<'p, C> {
     pub fn offset(&self) -> Option<usize>
         ensures { result ≡ offset_of self.now }
     {
-        match self.standing {
+        match self.state {
             GuardState::On(offset) => Some(offset),
             GuardState::Off | GuardState::Refused(_) => None,
         }
     }
 
-    /// Returns the error if the scope was refused.
+    /// Returns the error if the scope was refused, or `None` if it began or the guard is off.
     pub fn refusal(&self) -> Option<Error>
         ensures { result ≡ guard_refusal self.now }
     {
-        match self.standing {
+        match self.state {
             GuardState::Refused(e) => Some(e),
             GuardState::On(_) | GuardState::Off => None,
         }
@@ -122,15 +112,15 @@ impl<'p, C: NsSource> ProfilerScope<'p, C> {
 
     /// Ends the scope, as [`ThreadProfiler::end_scope`] does. Returns `Ok(None)` if the guard has no scope.
     ///
-    /// Fails only with `MismatchedEnd`, if the scope isn't the innermost open one. Then no scope is ended, and the guard is
-    /// gone.
+    /// Fails only with `MismatchedEnd`, if the scope isn't the innermost open one. No scope is ended then, and the guard is
+    /// consumed.
     #[inline]
     pub fn end<R: Reporter>(self, reporter: &mut R) -> Result<Option<Closed>>
         ensures { Ends C.answers R.accepts R.refuses (offset_of self.entry)
             (profiler_of self.entry) self.exit.0.now reporter.old reporter.new result }
     {
-        let ProfilerScope { profiler, standing } = self;
-        match standing {
+        let ProfilerScope { profiler, state } = self;
+        match state {
             GuardState::On(offset) => Ok(Some(profiler.end_scope(offset, reporter)?)),
             GuardState::Off | GuardState::Refused(_) => Ok(None),
         }
@@ -147,8 +137,8 @@ impl<C: NsSource> Drop for ProfilerScope<'_, C> {
         ensures left { IsLeft C.answers (offset_of self.entry)
             (profiler_of self.entry) self.exit.0.now }
     {
-        let ProfilerScope { profiler, standing } = self;
-        if let GuardState::On(offset) = standing {
+        let ProfilerScope { profiler, state } = self;
+        if let GuardState::On(offset) = state {
             let _ = profiler.close_scope(offset);
         }
     }

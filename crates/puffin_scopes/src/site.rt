@@ -55,16 +55,16 @@ impl Site {
         }
     }
 
-    /// Returns the id of the place, if it was used, with one load.
+    /// Returns the id of the place, or `None` if none was drawn yet. Takes one atomic load.
     #[inline]
     pub fn id(&self) -> Option<ScopeId> {
         let word = self.id.load(Ordering::SeqCst);
         ScopeId::new(word as u32)
     }
 
-    /// Returns the id of the place as that of a function. The first use draws an id and registers the function with the thread,
-    /// under the short names of function and file. If another thread was first, returns its id; what was registered here stays,
-    /// unused.
+    /// Returns the id of this place, whose scope is a whole function. The first call draws the id and registers the function
+    /// with the thread, under the short names of function and file. If two threads call it first at once, both register an id,
+    /// and both calls return the one that was kept first; the other id stays unused.
     ///
     /// Fails with `IdsExhausted` or `Memory`; then nothing is registered, but an id may be used up.
     #[inline]
@@ -88,7 +88,8 @@ impl Site {
         Ok(self.keep(id))
     }
 
-    /// Returns the id of the place as that of a scope with a name of its own. Otherwise as [`Site::function_id`].
+    /// Returns the id of this place, whose scope is a part of a function and has a name of its own. The first call registers
+    /// that name too. Otherwise the same as [`Site::function_id`].
     #[inline]
     pub fn named_id<C: NsSource>(
         &self,

@@ -21,12 +21,12 @@ impl Switch {
         }
     }
 
-    /// Turns scopes on or off, with one store.
+    /// Turns scopes on or off. Takes one atomic store.
     pub fn set_scopes_on(&self, on: bool) {
         self.on.store(on, Ordering::SeqCst);
     }
 
-    /// Returns whether scopes are on, with one load.
+    /// Returns whether scopes are on. Takes one atomic load.
     #[inline]
     pub fn are_scopes_on(&self) -> bool {
         self.on.load(Ordering::SeqCst)

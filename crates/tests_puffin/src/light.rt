@@ -65,7 +65,7 @@ fn scopes_that_are_off_are_not_begun(rt: HostRuntime) -> Tested {
     thread.scopes().set_on(false);
     {
         let guard = thread.scope(&places.whole);
-        equal(&rt, guard.standing(), GuardState::Off);
+        equal(&rt, guard.state(), GuardState::Off);
     }
     both(&mut thread, &places);
     equal(&rt, thread.reporter().totals().reported, 0);

@@ -55,8 +55,8 @@ impl GlobalProfiler {
         GlobalProfiler::with_sinks(alloc, frame_index, Vec::new(alloc))
     }
 
-    /// Makes the same profiler out of an empty list of sinks. It is for callers in other crates that keep the profiler in a
-    /// type of their own, and so make the list themselves.
+    /// Makes the profiler that [`GlobalProfiler::with_frame_index`] makes, with an empty list of sinks from the caller. A crate
+    /// that keeps a profiler in a type of its own has to make that list itself.
     pub fn with_sinks(
         alloc: Global,
         frame_index: FrameIndex,

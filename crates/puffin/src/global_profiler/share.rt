@@ -52,7 +52,7 @@ impl<L: Ledger, M: Ledger> Share<L, M> {
         Ok(shares)
     }
 
-    /// Merges this share and others into one of each ledger.
+    /// Merges this share and others into one share of each ledger.
     pub(crate) fn merge(self, others: Vec<Share<L, M>>) -> (ledger::Share<L>, ledger::Share<M>)
         ensures parts { (result.0.parts ≡ vec_len others + 1)
             × (result.1.parts ≡ vec_len others + 1) }
@@ -93,7 +93,7 @@ impl<L: Ledger, M: Ledger> Model for Parts<L, M> {
 }
 
 impl<L: Ledger, M: Ledger> Parts<L, M> {
-    /// Keeps the number of parts, which both ledgers have to have.
+    /// Keeps this number of parts, which must be that of both ledgers.
     pub(crate) fn new(n: u64) -> Parts<L, M>
         requires { (0 < n) × (n ≡ L.parts) × (n ≡ M.parts) }
         ensures { result ≡ n }

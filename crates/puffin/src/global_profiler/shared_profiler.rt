@@ -33,8 +33,8 @@ const FIRST_PAUSES: u32 = 64;
 /// How many pauses are twice as long as the one before. Those after them have one length, and let other threads run.
 const GROWING: u32 = 4;
 
-/// Pauses before the lock is tried again, after so many earlier pauses. The first ones are each twice as long as the one
-/// before, so that a thread waits at most about twice as long as it has to.
+/// Pauses before the lock is tried again. `looks` is the number of earlier pauses. The first few are each twice as long as the
+/// one before, so that a thread waits at most about twice as long as it has to.
 fn pause(looks: u32) {
     for _ in 0..FIRST_PAUSES << looks.min(GROWING) {
         spin_loop();
@@ -56,8 +56,8 @@ pub struct SharedProfiler<L: Ledger, M: Ledger> {
 }
 
 impl<L: Ledger, M: Ledger> SharedProfiler<L, M> {
-    /// Puts a profiler behind a lock, and makes `n` shares of its counts. No scopes may have been reported to it, and both
-    /// blanks have to have `n` parts.
+    /// Puts a profiler behind a lock, and makes `n` shares of its counts. No scopes may have been reported to the profiler yet,
+    /// and both blanks must have `n` parts.
     ///
     /// Fails with `Memory`, and then returns the profiler.
     ///
@@ -124,7 +124,7 @@ impl<L: Ledger, M: Ledger> SharedProfiler<L, M> {
         }
     }
 
-    /// Tries the lock again, with pauses between, and sleeps at last until it is free.
+    /// Tries the lock several times, with pauses between, and then sleeps until it is free.
     #[cold]
     #[inline(never)]
     fn lock_later(&self, rt: &impl Wait) -> MutexGuard<'_, Booked<L, M>>

@@ -15,7 +15,7 @@ fn write_to(rt: &impl Files, path: &str, view: &FrameView) -> result::Result<(),
     view.write(&mut Counted::new(file))
 }
 
-/// Returns whether something other than a plain file has this name, for example a device or a link.
+/// Returns whether this name is taken by something other than a plain file, for example a device or a link.
 fn is_no_file(rt: &impl Files, path: &str) -> bool {
     match fs::symlink_metadata(rt, path) {
         Ok(found) => !found.is_file(),
@@ -23,13 +23,13 @@ fn is_no_file(rt: &impl Files, path: &str) -> bool {
     }
 }
 
-/// Writes the frames of a view to a file with this name. The frames are first written beside it, to a file with `.part` added to
-/// the name, which then replaces the old file. A device, a pipe or a link is written to directly.
+/// Writes the frames of a view to a file with this name. They are written to a second file first, with `.part` added to the
+/// name, which then replaces the old file. A device, a pipe or a link is written to directly.
 ///
-/// Fails with `Io` if a file can't be made, written or moved, with `Memory`, or as [`FrameView::write`] does. If it fails, an old
-/// plain file is unchanged.
+/// Fails with `Io` if a file can't be created, written or renamed, with `Memory`, or as [`FrameView::write`] does. If it fails,
+/// an old plain file is unchanged.
 ///
-/// No contract states what the file then holds, since the kit has no word for it; tests read it again.
+/// No contract states what the file holds afterwards, since the kit can't express that; tests read the file again.
 ///
 /// ```
 /// save(&rt, "frames.puffin", &view)?;

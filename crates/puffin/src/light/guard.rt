@@ -4,35 +4,24 @@ ghost use Rattle.std.specs.Prelude.{◌≡◌, Some, None, []};
 
 use crate::light::place::Place;
 use crate::light::scopes::Scopes;
-use puffin_data::Error;
-
-/// Whether a guard's scope began.
-#[derive(Clone, Copy, Debug, PartialEq, Eq)]
-pub enum GuardState {
-    /// It began. The size of its children is written at this offset when it ends.
-    On(usize),
-    /// It didn't, because scopes are off.
-    Off,
-    /// It didn't, because drawing its id or beginning it failed with this cause.
-    Refused(Error),
-}
+pub use puffin_scopes::GuardState;
 
 /// A thread that records scopes. Functions that open scopes are generic over it.
 pub trait Records {
     ghost use Rattle.std.specs.Prelude.{ℕ, List, []};
     ghost use Rattle.puffin.specs.declared.light.place.Place.{Place};
-    ghost use Rattle.puffin.specs.declared.light.guard.GuardState.{GuardState};
+    ghost use Rattle.puffin_scopes.specs.declared.guard_state.GuardState.{GuardState};
 
-    /// What `begin` may do: a state, a place, a text, the outcome and the state after it.
+    /// What `begin` may do: the thread, a place, a text, the guard's state and the thread afterwards.
     ghost begins: { Self → Place → List ℕ → GuardState → Self → Type 0 };
 
-    /// What `end` may do: a state, the scope's offset and the state after it.
+    /// What `end` may do: the thread, the scope's offset and the thread afterwards.
     ghost ends: { Self → ℕ → Self → Type 0 };
 
-    /// Returns the switch of all scopes and the source of their ids, which all threads of a program share.
+    /// Returns the switch of scopes and the source of their ids, which all threads of a program share.
     fn scopes(&self) -> &Scopes;
 
-    /// Begins a scope at a place, with a text, if scopes are on.
+    /// Begins a scope at a place, with a text, if scopes are on. Returns whether it began.
     fn begin(&mut self, place: &Place, text: &str) -> GuardState
         ensures { begins self.old place.now text.now result self.new };
 
@@ -44,7 +33,7 @@ pub trait Records {
     /// Begins a scope at a place, without a text, if scopes are on. It ends when the guard is dropped.
     #[inline(always)]
     final fn scope(&mut self, place: &Place) -> Guard<'_, Self>
-        ensures { begins self.old place.now [] result.standing result.thread.now }
+        ensures { begins self.old place.now [] result.state result.thread.now }
     {
         Guard::open(self, place, "")
     }
@@ -52,7 +41,7 @@ pub trait Records {
     /// Begins a scope at a place, with a text, if scopes are on. It ends when the guard is dropped.
     #[inline(always)]
     final fn scope_with(&mut self, place: &Place, text: &str) -> Guard<'_, Self>
-        ensures { begins self.old place.now text.now result.standing result.thread.now }
+        ensures { begins self.old place.now text.now result.state result.thread.now }
     {
         Guard::open(self, place, text)
     }
@@ -62,39 +51,37 @@ pub trait Records {
 /// is reported.
 pub struct Guard<'t, T: Records> {
     thread: &'t mut T,
-    standing: GuardState,
+    state: GuardState,
 }
 
 impl<'t, T: Records> Guard<'t, T> {
-    /// Begins a scope at a place, with a text, if scopes are on.
+    /// Begins a scope at a place, with a text, if scopes are on. It ends when the guard is dropped.
     #[inline(always)]
     pub fn open(thread: &'t mut T, place: &Place, text: &str) -> Guard<'t, T>
         ensures same_reference { result.thread.ghost_name ≡ thread.entry.ghost_name }
-        ensures begun { T.begins thread.old place.now text.now result.standing
-            result.thread.now }
+        ensures begun { T.begins thread.old place.now text.now result.state result.thread.now }
     {
-        let standing = thread.begin(place, text);
-        Guard { thread, standing }
+        let state = thread.begin(place, text);
+        Guard { thread, state }
     }
 
-    /// Begins a scope within this one, without a text.
+    /// Begins a scope within this one, without a text. It ends when its own guard is dropped.
     #[inline(always)]
     pub fn scope(&mut self, place: &Place) -> Guard<'_, T>
-        ensures { T.begins self.old.thread.now place.now [] result.standing result.thread.now }
+        ensures { T.begins self.old.thread.now place.now [] result.state result.thread.now }
     {
         Guard::open(&mut *self.thread, place, "")
     }
 
-    /// Begins a scope within this one, with a text.
+    /// Begins a scope within this one, with a text. It ends when its own guard is dropped.
     #[inline(always)]
     pub fn scope_with(&mut self, place: &Place, text: &str) -> Guard<'_, T>
-        ensures { T.begins self.old.thread.now place.now text.now result.standing
-            result.thread.now }
+        ensures { T.begins self.old.thread.now place.now text.now result.state result.thread.now }
     {
         Guard::open(&mut *self.thread, place, text)
     }
 
-    /// Lends the thread, for calls of functions that open scopes within this one.
+    /// Borrows the thread, to be passed to a function that opens scopes within this one.
     #[inline(always)]
     pub fn thread(&mut self) -> &mut T
         ensures { result.now ≡ self.old.thread.now }
@@ -102,24 +89,25 @@ impl<'t, T: Records> Guard<'t, T> {
         &mut *self.thread
     }
 
-    /// Returns whether the scope began.
-    pub fn standing(&self) -> GuardState
-        ensures { result ≡ self.now.standing }
+    /// Returns whether the scope began, and why not if it didn't.
+    pub fn state(&self) -> GuardState
+        ensures { result ≡ self.now.state }
     {
-        self.standing
+        self.state
     }
 }
 
 impl<T: Records> Drop for Guard<'_, T> {
-    ghost use Rattle.puffin.specs.Guards.{offset_in, Leaves};
+    ghost use Rattle.puffin_scopes.specs.Guards.Guard.{offset_in};
+    ghost use Rattle.puffin.specs.Guards.{Leaves};
 
+    /// Ends the scope if it began, as [`Records::end`] does.
     #[inline(always)]
     fn drop(self)
-        ensures { Leaves T.ends (offset_in self.entry.standing) self.entry.thread.now
-            self.exit.0.now }
+        ensures { Leaves T.ends (offset_in self.entry.state) self.entry.thread.now self.exit.0.now }
     {
-        let Guard { thread, standing } = self;
-        if let GuardState::On(offset) = standing {
+        let Guard { thread, state } = self;
+        if let GuardState::On(offset) = state {
             thread.end(offset);
         }
     }

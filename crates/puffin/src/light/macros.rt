@@ -1,7 +1,7 @@
 //! Macros that name places and bind guards.
 
-/// Makes the [`Place`](crate::light::Place) of a function, or of a part of it with a name of its own. Its file is the module that
-/// the macro is in.
+/// Makes the [`Place`](crate::light::Place) of a function, or of a part of it with a name of its own. Its file is the module
+/// that the macro is in.
 ///
 /// ```
 /// let (update, physics) = (place!("update"), place!("update", "physics"));
@@ -16,9 +16,9 @@ macro_rules! place {
     };
 }
 
-/// Begins a scope at a place and binds its guard to a variable: `profile!(guard, outer, place, text)`. `outer` is the thread, or
-/// the guard of the scope around it; it is borrowed until the new guard is dropped, which ends the scope. The text is a `&str`,
-/// which may be left out; braces in it aren't filled in.
+/// Begins a scope at a place and binds its guard to a variable: `profile!(guard, outer, place, text)`. `outer` is the thread,
+/// or the guard of the scope around it; it is borrowed until the new guard is dropped, which ends the scope. The text is a
+/// `&str` and may be left out; braces in it aren't filled in.
 ///
 /// ```
 /// profile!(whole, thread, update);

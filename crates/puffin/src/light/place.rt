@@ -10,8 +10,8 @@ use puffin_data::Result;
 use puffin_data::data::ScopeId;
 use std::borrow::CowStr;
 
-/// A place in the code where scopes begin, with its names. Keeps the id that is drawn at its first use. Any number of threads may
-/// share a place.
+/// A place in the code where scopes begin, with its names. It keeps the id that is drawn at its first use. Any number of
+/// threads may share it.
 #[derive(Drop)]
 pub struct Place {
     site: Site,
@@ -52,9 +52,9 @@ impl Place {
         }
     }
 
-    /// Returns the id of the place. The first call draws it, and registers the names with the thread.
+    /// Returns the id of the place. The first call draws it and registers the names with the thread.
     ///
-    /// Fails with `IdsExhausted` or `Memory`, and then registers nothing.
+    /// Fails with `IdsExhausted` or `Memory`; nothing is registered then.
     #[inline(always)]
     pub fn id<C: NsSource>(
         &self,

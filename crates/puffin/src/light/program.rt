@@ -19,15 +19,14 @@ use std::thread::Threads;
 
 /// Takes frames of what all threads of a program report.
 pub trait Frames {
-    /// Hands out everything that was reported since the frame before, if anything was. The view takes the frame too.
+    /// Hands out everything that was reported since the last frame, if anything was, and adds the frame to the view.
     ///
     /// Fails with `IndexExhausted` or `Memory`; what was reported then waits for the next frame.
     fn new_frame(&mut self) -> Result<Emitted>
         ensures spells { IfOk result (λ emitted. SpellsItsScopes emitted.frame) };
 }
 
-/// A program whose threads are profiled. All threads share it by `&`; what one thread alone changes is a local variable of its
-/// `work`.
+/// A program whose threads are profiled. All threads share it by `&`; state of one thread alone is a local variable in `work`.
 ///
 /// ```
 /// impl Program for Game {
@@ -50,7 +49,7 @@ pub trait Frames {
 /// Here `done` is a `Barrier` of all threads and the leader. What is reported after the last frame is in no frame;
 /// `Outcome::settled` counts it as pending.
 pub trait Program {
-    /// Does the work of the thread with this number. Numbers count from 0, in the order of the threads' names.
+    /// Does the work of one thread. Threads are numbered from 0, in the order of their names.
     fn work<R: Wait, T: Records>(&self, rt: &R, number: usize, thread: &mut T);
 
     /// Takes frames while the threads work. It runs on the thread that called [`profiled`].
@@ -64,11 +63,11 @@ pub struct Outcome {
     pub view: GlobalFrameView,
     /// The number of scopes that each thread reported, in the order of the threads' names.
     pub reported: Vec<u64>,
-    /// The number of scopes that all threads reported, that frames handed out, and that are left.
+    /// How many scopes all threads reported, how many of these the frames handed out, and how many are pending.
     pub settled: Settled,
-    /// The number of frames that were handed out. Each has at least one scope.
+    /// The number of frames that were handed out. Each of them has at least one scope.
     pub frames: u64,
-    /// The number of these frames that the view didn't take, for want of memory.
+    /// The number of these frames that the view refused because memory ran out.
     pub missed: u64,
 }
 
@@ -89,7 +88,7 @@ fn ready<R: AllocGlobal + Clock + Copy>(
     Ok(threads)
 }
 
-/// Runs a program: starts a thread under each of these names, runs the program's leader on the calling thread, joins all threads
+/// Runs a program: starts a thread for each of these names, runs the program's leader on the calling thread, joins all threads
 /// and adds up what they reported. No thread begins its work before all of them are started.
 ///
 /// Fails if a clock can't be read, a thread can't be started, or memory runs out. Threads that were already started then end

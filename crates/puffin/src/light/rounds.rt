@@ -11,19 +11,19 @@ use std::thread::Threads;
 
 /// A program whose threads each do a part of every round. All threads share it by `&`.
 pub trait Rounds {
-    /// Does one thread's part of a round. Numbers count from 0, in the order of the threads' names. A thread that is done before
-    /// the others does nothing in the remaining rounds.
+    /// Does one thread's part of a round. Threads are numbered from 0, in the order of their names. A thread that has finished
+    /// early does nothing in the remaining rounds.
     fn part<T: Records>(&self, number: usize, thread: &mut T);
 }
 
 /// A program in rounds whose threads each keep a state of their own from round to round. Every [`Rounds`] is one with the state
 /// `()`.
 pub trait StatefulRounds {
-    /// The state that one thread alone reads and changes. It never leaves its thread, but the proof of [`in_rounds`] requires that
-    /// it may.
+    /// The state that only its own thread reads and changes. It never leaves that thread, but the proof of [`in_rounds`] needs
+    /// it to be `Send`.
     type State: Drop + Send;
 
-    /// Makes the state of the thread with this number. This is called once on that thread, before the first round.
+    /// Makes the state of one thread. It is called once, on that thread, before the first round.
     fn state(&self, number: usize) -> Self::State;
 
     /// Does one thread's part of a round, as [`Rounds::part`] does.
@@ -66,9 +66,9 @@ impl<W: StatefulRounds> Program for InRounds<'_, W> {
     }
 }
 
-/// Runs a number of rounds of a program ([`Rounds`], or [`StatefulRounds`] if each thread has a state), on a thread for each of
-/// these names, and takes a frame after each round. If a frame is refused, its scopes are in the next one; after the last round
-/// they are counted as pending.
+/// Runs a program ([`Rounds`], or [`StatefulRounds`] if each thread has a state) for a number of rounds, on a thread for each
+/// of these names, and takes a frame after each round. If a frame is refused, its scopes are in the next one; after the last
+/// round they are counted as pending.
 ///
 /// Fails as [`profiled`] does; no round has begun then.
 ///

@@ -1,4 +1,4 @@
-//! Threads with all that their scopes need.
+//! Threads that are profiled, each with its clock and its reporter.
 ghost use Rattle.std.specs.Prelude.{◌≡◌, IfOk, IfErr};
 ghost use Rattle.puffin_data.specs.declared.data.form.Form.{Form};
 ghost use Rattle.puffin_threads.specs.Thread.Calls.{new_thread};
@@ -49,8 +49,8 @@ impl<R: Clock + AllocGlobal + Copy, P: Reporter + Drop> Thread<SystemClock<R>, P
 }
 
 impl<C> Thread<C, GlobalProfiler> {
-    /// Hands out everything that was reported since the frame before, to the caller and to the profiler's sinks. Returns `None` if
-    /// nothing was reported.
+    /// Hands out everything that was reported since the last frame, to the caller and to the profiler's sinks. Returns `None`
+    /// if nothing was reported.
     ///
     /// Fails with `IndexExhausted` or `Memory`; what was reported then waits for the next frame.
     pub fn new_frame(&mut self, rt: &impl Wait) -> Result<Option<Arc<FrameData>>>
@@ -68,7 +68,7 @@ impl<C> Thread<C, GlobalProfiler> {
 impl<C: NsSource, P: Reporter> Thread<C, P> {
     ghost use Rattle.puffin.specs.Guards.{EndsAt};
 
-    /// Makes a thread that reports to this reporter.
+    /// Makes a thread from its profiler and the reporter that it reports to. All threads of a program share the scopes.
     pub fn new(profiler: ThreadProfiler<C>, reporter: P, scopes: Arc<Scopes>) -> Thread<C, P>
         ensures { (result.profiler ≡ profiler) × (result.reporter ≡ reporter) }
     {
@@ -111,8 +111,8 @@ impl<C: NsSource, P: Reporter> Records for Thread<C, P> {
     ghost use Rattle.std.specs.Prelude.{◌≡◌};
     ghost use Rattle.puffin.specs.Guards.{names_of, Begins, EndsAt};
 
-    ghost begins = { λ old place text standing new.
-        Begins C.answers (names_of place) old.profiler text standing new.profiler
+    ghost begins = { λ old place text state new.
+        Begins C.answers (names_of place) old.profiler text state new.profiler
         × (new.reporter ≡ old.reporter) };
 
     ghost ends = { λ old offset new.
@@ -148,7 +148,7 @@ impl<C: NsSource, P: Reporter> Records for Thread<C, P> {
 }
 
 impl<C: Drop, P> Thread<C, P> {
-    /// Returns the reporter.
+    /// Consumes the thread and returns its reporter. Closed scopes that weren't reported are lost.
     pub fn into_reporter(self) -> P
         ensures { result ≡ self.reporter }
     {

@@ -3,8 +3,8 @@ use Rattle.std.specs.Prelude.{ℕ, Option, Some, None}
 use Rattle.std.specs.Borrow.{GName}
 use Rattle.puffin_data.specs.declared.error.Error.{Error}
 use Rattle.puffin_threads.specs.declared.thread_profiler.profiler.ThreadProfiler.{ThreadProfiler}
-use Rattle.puffin_scopes.specs.declared.profiler_scope.GuardState.{GuardState}
-use Rattle.puffin_scopes.specs.declared.profiler_scope.GuardState.TheVariants.{On, Off, Refused}
+use Rattle.puffin_scopes.specs.declared.guard_state.GuardState.{GuardState}
+use Rattle.puffin_scopes.specs.declared.guard_state.GuardState.TheVariants.{On, Off, Refused}
 use Rattle.puffin_scopes.specs.declared.profiler_scope.ProfilerScope.{ProfilerScope}
 
 -- the borrowed profiler, as it is now
@@ -27,8 +27,8 @@ refusal_in (Refused e) = Some e
 
 -- the offset of its scope's size
 abbrev pub offset_of : {C : Type 0} → ProfilerScope C → Option ℕ
-offset_of scope = offset_in scope.standing
+offset_of scope = offset_in scope.state
 
 -- why it has no scope
 abbrev pub guard_refusal : {C : Type 0} → ProfilerScope C → Option Error
-guard_refusal scope = refusal_in scope.standing
+guard_refusal scope = refusal_in scope.state

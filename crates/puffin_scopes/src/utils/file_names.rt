@@ -8,8 +8,8 @@ ghost use Rattle.puffin_scopes.specs.Names.Files.{with_slashes, short_file, kept
 use puffin_data::{Error, Result};
 use std::alloc::Global;
 
-/// Shortens a path to the folder named for its crate, and the file: `crates/name/src/module/file.rs` becomes `name/…/file.rs`.
-/// A backslash counts as a slash. Fails only with `Memory`.
+/// Shortens a path to the folder of its crate and the file: `crates/name/src/module/file.rs` becomes `name/…/file.rs`.
+/// Backslashes count as slashes. Fails only with `Memory`.
 pub fn short_file_name(alloc: Global, path: &str) -> Result<String>
     ensures ok { IfOk result (λ name. string_bytes name ≡ short_file path.now) }
     ensures err { IfErr result (λ e. e ≡ Error.Memory) }
@@ -43,7 +43,7 @@ fn parts(alloc: Global, path: &str) -> Result<Vec<&str>>
     Ok(path.split('/').collect(alloc)?)
 }
 
-/// Returns the place of the last part that is `src`.
+/// Returns the position of the last part that is `src`.
 fn last_src(parts: &[&str]) -> Option<usize>
     ensures place { result ≡ last_src (map (λ part. part.now) parts.now) }
     ensures below { IfSome result (λ place. place < length parts.now) }
@@ -57,7 +57,7 @@ fn last_src(parts: &[&str]) -> Option<usize>
     last
 }
 
-/// Joins the parts that are kept, of three or more.
+/// Joins the parts to be kept, of a path with three parts or more.
 fn kept(alloc: Global, parts: &[&str]) -> Result<String>
     requires { 2 < length parts.now }
     ensures ok { IfOk result (λ name. string_bytes name

@@ -7,8 +7,8 @@ ghost use Rattle.puffin_scopes.specs.Names.Functions.{clean, shorten, last_segme
 use puffin_data::{Error, Result};
 use std::alloc::Global;
 
-/// Shortens a name that ends in `::f`, as that of a function nested in the one whose name is wanted: returns the outer name,
-/// shortened and without closures. Returns any other name unchanged. Fails only with `Memory`.
+/// Returns the short name of a function, given the name of a function `f` nested in it: removes the `::f` and closures before
+/// it, and shortens the rest. Returns a name that doesn't end in `::f` unchanged. Fails only with `Memory`.
 pub fn clean_function_name(alloc: Global, name: &str) -> Result<String>
     ensures ok { IfOk result (λ short. string_bytes short ≡ clean name.now) }
     ensures err { IfErr result (λ e. e ≡ Error.Memory) }

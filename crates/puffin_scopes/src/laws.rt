@@ -1,16 +1,16 @@
-//! Laws of scopes at places, as contracts of functions that do nothing. A proof of another crate cites them by calling the
+//! Laws of guards. Each is the contract of a function that does nothing; a proof of another crate cites it by calling the
 //! function.
 
 ghost use Rattle.std.specs.Prelude.{◌≡◌, ◌==◌, ℕ, true, false};
 ghost use Rattle.puffin_data.specs.declared.error.Error.{Error};
-ghost use Rattle.puffin.specs.declared.light.guard.GuardState.{GuardState};
-ghost use Rattle.puffin.specs.declared.light.guard.GuardState.TheVariants.{On, Off, Refused};
+ghost use Rattle.puffin_scopes.specs.declared.guard_state.GuardState.{GuardState};
+ghost use Rattle.puffin_scopes.specs.declared.guard_state.GuardState.TheVariants.{On, Off, Refused};
 
-use crate::light::guard::GuardState;
+use crate::guard_state::GuardState;
 use puffin_data::Error;
 
-/// What became of two begins is equal where both began at the same offset, both were off, or both were refused with the
-/// same error.
+/// Two states are equal exactly if both scopes began at the same offset, both are off, or both were refused with the same
+/// error.
 pub fn guard_states()
     ensures begun { (a b : ℕ) → ⟦<GuardState as PartialEq>⟧.eq (On a) (On b) ≡ (a == b) }
     ensures off { ⟦<GuardState as PartialEq>⟧.eq Off Off ≡ true }
