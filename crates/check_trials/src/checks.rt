@@ -1,7 +1,7 @@
 //! Checks that have to hold for any bytes.
 
 use crate::devices::OneByte;
-use puffin_data::data::{Counted, Reader, Stream};
+use puffin_data::data::{Buffered, Counted, Reader, Stream};
 use puffin_data::{Error, FileError};
 use puffin_frames::thread_profiler::ThreadInfo;
 use puffin_report::{count_stream, print_report};
@@ -44,7 +44,7 @@ fn counted(alloc: Global, bytes: &[u8], slowly: bool) -> Printed {
         let mut source = Counted::new(OneByte { left: bytes });
         count_stream(alloc, &mut source, &mut drain)
     } else {
-        count_stream(alloc, &mut Counted::new(bytes), &mut drain)
+        count_stream(alloc, &mut Buffered::new(bytes), &mut drain)
     };
     let fault = match answer {
         Ok(cause) => cause.map(FileError::Refused),
@@ -85,7 +85,7 @@ fn reported(alloc: Global, bytes: &[u8], thread: &ThreadInfo, slowly: bool) -> P
         let mut source = Counted::new(OneByte { left: bytes });
         print_report(alloc, &mut source, thread, &mut drain)
     } else {
-        print_report(alloc, &mut Counted::new(bytes), thread, &mut drain)
+        print_report(alloc, &mut Buffered::new(bytes), thread, &mut drain)
     };
     Printed {
         lines,
@@ -105,7 +105,7 @@ fn check_again(alloc: Global, view: &FrameView) -> Result<(), Broken> {
     let Ok(first) = written(alloc, view) else {
         return Err(Broken::Again);
     };
-    let Ok(again) = FrameView::read(alloc, &mut Counted::new(first.as_slice())) else {
+    let Ok(again) = FrameView::read(alloc, &mut Buffered::new(first.as_slice())) else {
         return Err(Broken::Again);
     };
     match written(alloc, &again) {
@@ -122,7 +122,7 @@ pub(crate) fn check_file(alloc: Global, bytes: &[u8], thread: &ThreadInfo) -> Re
         return Err(Broken::OneByteACall);
     }
     let slowly = FrameView::read(alloc, &mut Counted::new(OneByte { left: bytes })).err();
-    match FrameView::read(alloc, &mut Counted::new(bytes)) {
+    match FrameView::read(alloc, &mut Buffered::new(bytes)) {
         Ok(_) if slowly.is_some() => Err(Broken::OneByteACall),
         Ok(view) => {
             check_again(alloc, &view)?;

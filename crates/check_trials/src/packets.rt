@@ -3,7 +3,7 @@
 use crate::again;
 use crate::refusal::only;
 use puffin_data::FileError;
-use puffin_data::data::{Counted, ScopeId, Stream, StreamInfo};
+use puffin_data::data::{Buffered, Counted, ScopeId, Stream, StreamInfo};
 use puffin_frames::frame_data::FrameData;
 use puffin_frames::scope_details::ScopeDetails;
 use puffin_frames::thread_profiler::ThreadInfo;
@@ -86,7 +86,7 @@ fn packet(alloc: Global, frame: &FrameData) -> Result<Vec<u8>, FileError> {
 
 /// Reads the first frame of some bytes.
 fn read(alloc: Global, bytes: &[u8]) -> Result<Option<FrameData>, FileError> {
-    let mut source = Counted::new(bytes);
+    let mut source = Buffered::new(bytes);
     FrameData::read_next(alloc, &mut source)
 }
 

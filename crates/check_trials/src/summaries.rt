@@ -5,7 +5,7 @@ use crate::packets::{frame, thread};
 use puffin::merge::MergeScope;
 use puffin::profile_view::FrameView;
 use puffin_data::FileError;
-use puffin_data::data::Counted;
+use puffin_data::data::{Buffered, Counted};
 use puffin_frames::frame_data::FrameData;
 use puffin_frames::thread_profiler::ThreadInfo;
 use puffin_replay::replay::{Summary, summarize};
@@ -58,7 +58,7 @@ fn file(alloc: Global, view: &FrameView) -> Result<Vec<u8>, FileError> {
 
 /// Sums up a file for a thread.
 fn summary(alloc: Global, file: &[u8], thread: &ThreadInfo) -> Result<Summary, FileError> {
-    let mut source = Counted::new(file);
+    let mut source = Buffered::new(file);
     summarize(alloc, &mut source, thread)
 }
 

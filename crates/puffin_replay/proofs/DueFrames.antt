@@ -26,7 +26,7 @@ use Rattle.puffin_session.specs.Session.Actions.{action_of, actions_of}
 use Rattle.puffin_session.specs.Session.Replies.{MayReply, SpellsFrame, TellsScopes}
 use Rattle.puffin_session.specs.Session.{SessionState, opening_of}
 use Rattle.puffin_session.specs.Session.Runs.{Records, EachReply}
-use Rattle.puffin_replay.specs.Program.Recording.{frame_in, emitted_by, frames_emitted}
+use Rattle.puffin_replay.specs.Program.EmittedFrames.{frame_in, emitted_by, frames_emitted}
 use Rattle.puffin_replay.specs.Promise.{is_emitted, before_frames, SaysDue, EmitsDue, emitted_fields}
 
 pairs-append : {A B : Type 0} (R : A → B → Type 0) (these bs : List A) (xs ys : List B) → AllZip R these xs → AllZip R bs ys → AllZip R (these ++ bs) (xs ++ ys)

@@ -22,7 +22,7 @@ use Rattle.puffin_report.specs.Summary.{NoneLacksIds}
 use Rattle.puffin_session.specs.declared.command.Command.{Command}
 use Rattle.puffin_session.specs.declared.command.Reply.{Reply}
 use Rattle.puffin_session.specs.Session.{SessionState, new_session}
-use Rattle.puffin_replay.specs.Program.Recording.{frames_emitted, Takes, TookAlso, ListsIds}
+use Rattle.puffin_replay.specs.Program.EmittedFrames.{frames_emitted, Takes, TookAlso, ListsIds}
 use Rattle.puffin_replay.specs.Promise.{EmitsDue, emitted_fields, kept_frames, IsReadOf, KeepsRun, KeepsPromise, IsFileFault, IsUnread, IsTooLong}
 use Rattle.puffin_replay.specs.inner.InMemory.{IsFileOf, IsReadFault}
 use Rattle.puffin_replay.proofs.KeptFrames.{same_limits, kept_by}

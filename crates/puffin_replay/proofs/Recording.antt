@@ -35,7 +35,8 @@ use Rattle.puffin_data.specs.declared.data.form.Form.{Form}
 use Rattle.puffin_replay.specs.Script.{threads_said}
 use Rattle.puffin_session.specs.Session.Runs.{HasIds, AreReplies, details_told, details_of_reply}
 use Rattle.puffin_report.specs.Summary.{NoneLacksIds}
-use Rattle.puffin_replay.specs.Program.Recording.{frame_in, emitted_by, frames_emitted, Takes, TakesSome, TookAlso, file_of_view, IsBroken}
+use Rattle.puffin_replay.specs.Program.EmittedFrames.{frame_in, emitted_by, frames_emitted, Takes, TakesSome, TookAlso}
+use Rattle.puffin_replay.specs.Program.Recording.{file_of_view, IsBroken}
 use Rattle.puffin_replay.specs.Promise.{EmitsDue, IsNotRun, IsNotTaken, emitted_fields}
 use Rattle.puffin_replay.proofs.KeptFrames.{kept_by}
 use Rattle.puffin_replay.specs.Program.ScriptRun.{AreAnswers, loose_view, view_after, IsReplayed, IsUnfinished}

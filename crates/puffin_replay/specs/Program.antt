@@ -1,4 +1,5 @@
 -- What the program reads, writes and prints.
+pub mod EmittedFrames
 pub mod Recording
 pub mod ScriptRun
 pub mod Arguments

@@ -27,7 +27,7 @@ use Rattle.puffin_session.specs.Session.Notes.{known_after, due_details, is_want
 use Rattle.puffin_session.specs.Session.Actions.{actions_of}
 use Rattle.puffin_session.specs.Session.Runs.{Records}
 use Rattle.puffin_session.specs.Session.{SessionState, new_session, opening_of, SpellsDue}
-use Rattle.puffin_replay.specs.Program.Recording.{frames_emitted, Takes, TakesSome, TookAlso}
+use Rattle.puffin_replay.specs.Program.EmittedFrames.{frames_emitted, Takes, TakesSome, TookAlso}
 
 -- ---- the frames of a run
 

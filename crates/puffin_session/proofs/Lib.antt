@@ -8,5 +8,6 @@ mod Running
 mod Openings
 mod DueSums
 mod Serving
+mod Refusals
 mod Offsets
 mod SessionCloses

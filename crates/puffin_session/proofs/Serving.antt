@@ -1,5 +1,5 @@
 -- What single commands do to a session continues its history.
-use Rattle.std.proofs.Common.{◌≡◌, ◌≢◌, ℕ, ◌+◌, ◌-◌, ◌^◌, ◌<◌, ◌≤◌, ◌⊎◌, inl, inr, ℤ, Bool, true, false, fold, List, [], ◌∷◌, ◌++◌, length, set, Option, Some, None, String, Global, refl, sym, ap, ◌∙◌, subst, arith, append-nil}
+use Rattle.std.proofs.Common.{◌≡◌, ◌≢◌, ℕ, ◌+◌, ◌-◌, ◌^◌, ◌<◌, inl, inr, ℤ, Bool, true, false, fold, List, [], ◌∷◌, ◌++◌, length, set, Option, Some, None, String, Global, refl, sym, ap, ◌∙◌, subst, arith, append-nil}
 use Rattle.std.specs.String.{string_bytes}
 use Rattle.std.specs.List.{slice_index_or}
 use Rattle.std.specs.FinMap.{get, values, empty}
@@ -11,13 +11,12 @@ use Rattle.std.proofs.lemmas.List.{length-set, get_or-set_same, get_or-set_other
 use Rattle.puffin_data.specs.declared.data.form.Form.{Form}
 use Rattle.puffin_data.specs.Forest.Spelling.{Spells}
 use Rattle.puffin_data.specs.declared.error.Error.{Error}
-use Rattle.puffin_data.specs.declared.error.Error.TheVariants.{NoThread, MismatchedEnd, IdsExhausted, IndexExhausted, Memory}
+use Rattle.puffin_data.specs.declared.error.Error.TheVariants.{IndexExhausted}
 use Rattle.puffin_data.specs.Forest.{Forest}
 use Rattle.puffin_data.specs.Honesty.{StreamFacts, AreHonestFacts}
 use Rattle.puffin_data.specs.Stream.{StreamState}
 use Rattle.puffin_data.specs.Text.{cut_text}
-use Rattle.puffin_data.specs.Forest.Tour.{Event, tour}
-use Rattle.puffin_data.specs.Walk.{IsFault}
+use Rattle.puffin_data.specs.Forest.Tour.{tour}
 use Rattle.puffin_data.specs.Forest.Words.{num_begun, open_after}
 use Rattle.puffin_threads.specs.Thread.ThreadKey.{ThreadKey, key_of}
 use Rattle.puffin_threads.specs.Thread.Calls.{Thread, after_begin, after_end, after_handing, after_registering, key_of_thread}
@@ -43,8 +42,8 @@ use Rattle.puffin_session.specs.Session.Deliveries.{Delivery, under, all_taken, 
 use Rattle.puffin_session.specs.Session.Due.{due, index_after, is_numbered}
 use Rattle.puffin_session.specs.Session.Notes.{notes_at, due_notes_at, details_learnt_at, due_details, known_after, is_wanted, wanted_at}
 use Rattle.puffin_session.specs.Session.{SessionState, word_in, thread_after, word_of_thread, begun_place, SpellsWord, TellsAfter}
-use Rattle.puffin_session.specs.Session.Actions.{action_of, details_given, user_details}
-use Rattle.puffin_session.specs.Session.Replies.{MayReply, TellsScopes, ending_key, ending_word}
+use Rattle.puffin_session.specs.Session.Actions.{details_given, user_details}
+use Rattle.puffin_session.specs.Session.Replies.{TellsScopes, ending_key, ending_word}
 use Rattle.puffin_session.specs.inner.Serving.{clock_time, session_thread, session_with_thread, session_with_collected, EndsInnermost, SumsTo, Continued, ContinuesBy, Continues}
 use Rattle.puffin_session.proofs.Histories.{due-same, due-more, due-anew}
 use Rattle.puffin_session.proofs.SessionCollects.{SpellsFrame-taken, NoneDue-untaken}
@@ -208,7 +207,7 @@ module _ (now : SessionState) (t : ℕ) (at : ℤ) (there : t < length now.threa
 -- ---- a user's report
 
 -- what was parsed of a stream says that it spells
-spelled_in : (r : StreamFacts) (f : Forest) (stream : StreamState) → r.form ≡ stream.form → r.bytes ≡ stream.bytes → AreHonestFacts r f → Spells stream.form stream.bytes f
+pub spelled_in : (r : StreamFacts) (f : Forest) (stream : StreamState) → r.form ≡ stream.form → r.bytes ≡ stream.bytes → AreHonestFacts r f → Spells stream.form stream.bytes f
 spelled_in r f stream form same honest = subst (λ (form : Form). Spells form stream.bytes f) form (record { whole = sym same ∙ honest.stream.whole; fits = honest.stream.fits })
 
 pub Continues-handed : (now : SessionState) (collected : Collected) (info : ThreadInfo) (stream : StreamState) (r : StreamFacts) (f : Forest) → AreHonestFacts r f → r.form ≡ stream.form → r.bytes ≡ stream.bytes
@@ -243,7 +242,7 @@ Continues-handed now collected info stream r f honest form same accepts = (
 -- ---- calls that hand over no scopes
 
 -- an action of no thread that hands over no scopes and raises no index, where what is pending stayed
-quiet : (now : SessionState) (c : Collected) (o : Opening) (done : List Action) (a : Action) → Continued o done now → ((t : ℕ) → (call_of t a ≡ None) × (notes_at t a ≡ [])) → is_numbered a ≡ false → deliveries_at o done a ≡ []
+pub quiet : (now : SessionState) (c : Collected) (o : Opening) (done : List Action) (a : Action) → Continued o done now → ((t : ℕ) → (call_of t a ≡ None) × (notes_at t a ≡ [])) → is_numbered a ≡ false → deliveries_at o done a ≡ []
     → c.index ≡ now.collected.index → c.reported ≡ now.collected.reported → c.streams ≡ now.collected.streams → TellsAfter o (done ++ (a ∷ [])) c → Continued o (done ++ (a ∷ [])) (session_with_collected now c)
 quiet now c o done a before none numbered silent index reported streams tells = record {
   stands = StandsAfter-quiet o done now (session_with_collected now c) before.stands a none numbered silent (record { threads = refl; raised = index; reported = reported ∙ omega arith }) streams tells;
@@ -351,56 +350,6 @@ Continues-not_framed now collected e last (inr (memory, (some, begins, is))) =
         inr (memory, subst (Begins some) before.stands.tells.new_details begins),
       ),
     )
-
--- ---- refusals
-
--- a refusal that changed nothing goes on
-pub Continues-refused : (now : SessionState) (c : Command) (e : Error) → action_of c (reply.Refused e) [] ≡ nothing → ((o : Opening) (done : List Action) → Continued o done now → MayReply o done c (reply.Refused e) []) → Continues now now c (reply.Refused e)
-Continues-refused now c e idle may = (
-  [],
-  λ o done before. (
-    subst (λ (a : Action). Continued o (done ++ (a ∷ [])) now) (sym idle)
-        (quiet now now.collected o done nothing before (λ t. (refl, refl)) refl refl refl refl refl (TellsAfter-more o done nothing now.collected now.collected before.stands.tells refl refl refl)),
-    may o done before,
-  ),
-)
-
-pub Continues-not_begun : (now : SessionState) (t : ℕ) (at : ℤ) (id : ℕ) (text : String Global) (e : Error) → ((e ≡ NoThread) × (length now.threads ≤ t)) ⊎ ((e ≡ Memory) × (t < length now.threads)) → Continues now now (Begin t at id text) (reply.Refused e)
-Continues-not_begun now t at id text e why = Continues-refused now (Begin t at id text) e refl (λ o done before. elim why [
-  | inl none ↦ inl (none.0, omega (arith, none.1, before.stands.num_threads))
-  | inr memory ↦ inr (memory.0, omega (arith, memory.1, before.stands.num_threads))
-])
-
-pub Continues-not_registered : (now : SessionState) (t : ℕ) (name : Option (String Global)) (function file : String Global) (line : ℕ) (e : Error) → ((e ≡ NoThread) × (length now.threads ≤ t)) ⊎ (((e ≡ IdsExhausted) ⊎ (e ≡ Memory)) × (t < length now.threads))
-    → Continues now now (Register t name function file line) (reply.Refused e)
-Continues-not_registered now t name function file line e why = Continues-refused now (Register t name function file line) e refl (λ o done before. elim why [
-  | inl none ↦ inl (none.0, omega (arith, none.1, before.stands.num_threads))
-  | inr other ↦ inr (other.0, omega (arith, other.1, before.stands.num_threads))
-])
-
-pub Continues-not_ended : (now : SessionState) (t : ℕ) (at : ℤ) (back : ℕ) (e : Error)
-    → ((e ≡ NoThread) × (length now.threads ≤ t)) ⊎ ((e ≡ MismatchedEnd) × (t < length now.threads) × ((0 < back) ⊎ (open_after 0 (session_thread now t).word ≡ 0))) → Continues now now (End t at back) (reply.Refused e)
-Continues-not_ended now t at back e why = Continues-refused now (End t at back) e refl (λ o done before. elim why [
-  | inl none ↦ inl (none.0, omega (arith, none.1, before.stands.num_threads))
-  | inr other ↦
-      let within : t < length o.threads = omega (arith, before.stands.num_threads, other.1) in
-      inr (
-        other.0,
-        within,
-        elim other.2 [
-          | inl outer ↦ inl outer
-          | inr none ↦ inr (ap (λ (th : Thread). open_after 0 th.word) (sym (before.stands.threads t within)) ∙ none)
-        ],
-      )
-])
-
-pub Continues-not_reported : (now : SessionState) (info : ThreadInfo) (stream : StreamState) (e : Error) → (e ≡ Memory) ⊎ IsFault stream.form stream.bytes e ⊎ ((r : StreamFacts) × (f : Forest) × AreHonestFacts r f × (r.form ≡ stream.form) × (r.bytes ≡ stream.bytes) × IsReportRefusal now.collected (key_of info) [] r e)
-    → Continues now now (ReportUser info stream) (reply.Refused e)
-Continues-not_reported now info stream e (inl memory) = Continues-refused now (ReportUser info stream) e refl (λ o done before. inl memory)
-Continues-not_reported now info stream e (inr (inl fault)) = Continues-refused now (ReportUser info stream) e refl (λ o done before. inr (inl fault))
-Continues-not_reported now info stream e (inr (inr (r, f, honest, form, same, refusal))) =
-    Continues-refused now (ReportUser info stream) e refl (λ o done before.
-    inr (inr (f, spelled_in r f stream form same honest, IsRefusal-from o done now (key_of info) r (record { form = stream.form; events = tour f }) before.stands before.sums (record { forest = f; honest = honest; form = form; toured = refl }) [] e (λ k d lt. absurd (omega arith)) refusal)))
 
 -- the same of a session and a command that are equal to these
 pub same : (old new other : SessionState) (c d : Command) (r : Reply) → c ≡ d → new ≡ other → Continues old other d r → Continues old new c r

@@ -116,7 +116,7 @@ impl Session {
         ensures err { OnErr result (self.new ≡ self.old) }
         ensures memory { IfErr result (λ e. e ≡ Error.Memory) }
     {
-        // For the proof alone: what the collector holds is honest.
+        // By the contract of `totals`, what the collector holds is honest before the first command.
         let _ = self.collector.totals();
         let mut replies = Vec::with_capacity(self.alloc, commands.len())?;
         for command in commands {

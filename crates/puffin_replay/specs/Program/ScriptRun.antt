@@ -16,7 +16,8 @@ use Rattle.puffin_replay.specs.Script.{threads_said}
 use Rattle.puffin_replay.specs.Program.ReplyLines.{reply_lines}
 use Rattle.puffin_session.specs.Session.{SessionState, new_session}
 use Rattle.puffin_session.specs.Session.Runs.{AreReplies}
-use Rattle.puffin_replay.specs.Program.Recording.{frames_emitted, IsWriteFault}
+use Rattle.puffin_replay.specs.Program.EmittedFrames.{frames_emitted}
+use Rattle.puffin_replay.specs.Program.Recording.{IsWriteFault}
 use Rattle.puffin_replay.specs.Promise.{EmitsDue, emitted_fields, kept_frames}
 use Rattle.puffin_report.specs.Summary.{NoneLacksIds}
 

@@ -1,12 +1,10 @@
 //! Recording the frames that a session emits.
 
-ghost use Rattle.std.specs.Prelude.{◌≡◌, ◌⊎◌, ◌+◌, ◌-◌, ◌^◌, ◌<◌, ◌++◌, [], List, All, map, option_map, IfOk, IfErr, OnOk, get_or};
-ghost use Rattle.std.specs.List.{AllByRecursion, Any};
+ghost use Rattle.std.specs.Prelude.{◌≡◌, ◌⊎◌, ◌+◌, ◌-◌, ◌^◌, ◌<◌, [], All, map, option_map, IfOk, IfErr, OnOk, get_or};
+ghost use Rattle.std.specs.List.{Any};
 ghost use Rattle.std.specs.String.{string_bytes};
-ghost use Rattle.std.specs.Io.KnownBytes.{Appends};
 ghost use Rattle.puffin_data.specs.declared.data.form.Form.TheVariants.{Short};
 ghost use Rattle.puffin_data.specs.Device.{TookNothing};
-ghost use Rattle.puffin_frames.specs.Packet.Grammar.{IsPacked};
 ghost use Rattle.puffin_frames.specs.Packet.Writing.{HasLongPart};
 ghost use Rattle.puffin_view.specs.View.{Took};
 ghost use Rattle.puffin_view.specs.View.Known.{view_of};
@@ -14,9 +12,10 @@ ghost use Rattle.puffin_view.specs.View.File.{fields_in};
 ghost use Rattle.puffin_session.specs.Session.{SessionState, new_session};
 ghost use Rattle.puffin_session.specs.Session.Runs.{HasIds};
 ghost use Rattle.puffin_replay.specs.Script.{threads_said};
-ghost use Rattle.puffin_replay.specs.Program.Recording.{frame_in, emitted_by, frames_emitted, file_of_view, Takes, TakesSome, TookAlso, HoldsIds, ListsIds, IsBroken};
+ghost use Rattle.puffin_replay.specs.Program.EmittedFrames.{frame_in, emitted_by, frames_emitted, Takes, TakesSome, TookAlso};
+ghost use Rattle.puffin_replay.specs.Program.Recording.{IsTaken, IsRecorded, IsBroken};
 ghost use Rattle.puffin_replay.specs.Program.ScriptRun.{loose_view, IsReplayed, IsUnfinished};
-ghost use Rattle.puffin_replay.specs.Promise.{EmitsDue, IsNotRun, IsNotTaken};
+ghost use Rattle.puffin_replay.specs.Promise.{IsNotRun, IsNotTaken};
 
 use crate::replay::reply_line::reply_lines;
 use crate::replay::script::Script;
@@ -75,13 +74,8 @@ pub(crate) fn run_into(
     commands: &[Command],
     view: &mut FrameView,
 ) -> Result<Vec<Reply>, Unread>
-    ensures run { IfOk result (λ replies.
-        EmitsDue session.old session.new commands.now replies.items) }
-    ensures view { IfOk result (λ replies. Takes (frames_emitted replies.items) view.old view.new) }
-    ensures took { IfOk result (λ replies.
-        TookAlso (frames_emitted replies.items) (view_of view.old) (view_of view.new)) }
-    ensures held_ids { OnOk result (HoldsIds (view_of view.old) (view_of view.new)) }
-    ensures ids { OnOk result (ListsIds (view_of view.old) (view_of view.new)) }
+    ensures taken { IfOk result (λ replies.
+        IsTaken session.old session.new commands.now replies.items view.old view.new) }
     ensures refusal { IfErr result (λ e.
         IsNotRun session.old session.new commands.now view.old view.new e.fault
         (option_map (λ rs. rs.items) e.replies)
@@ -89,7 +83,8 @@ pub(crate) fn run_into(
         (option_map (λ rs. rs.items) e.replies)) }
     ensures memory { IfErr result (λ e. e.fault ≡ FileError.Memory) }
 {
-    // For the proof alone: laws about frames and views.
+    // By these laws, a frame's streams are read as the frame holds them, and a view and its file have only frames that the view
+    // held before or took.
     each_frame_is_read_again();
     views_hold_what_they_took();
     let replies = match session.run(commands) {
@@ -128,16 +123,10 @@ pub fn record_session<D: Drain>(
     drain: &mut D,
 ) -> Result<Vec<Reply>, FileError>
     requires { D.failures drain.old < 2 ^ 64 - 1 }
-    ensures run { IfOk result (λ replies.
-        EmitsDue session.old session.new commands.now replies.items) }
-    ensures view { IfOk result (λ replies. Takes (frames_emitted replies.items) view.old view.new) }
-    ensures took { IfOk result (λ replies.
-        TookAlso (frames_emitted replies.items) (view_of view.old) (view_of view.new)) }
-    ensures written { OnOk result (
-        Appends (D.contents drain.old) (D.contents drain.new) (file_of_view view.new)) }
-    ensures packed { OnOk result (AllByRecursion IsPacked (fields_in (view_of view.new))) }
-    ensures held_ids { OnOk result (HoldsIds (view_of view.old) (view_of view.new)) }
-    ensures ids { OnOk result (ListsIds (view_of view.old) (view_of view.new)) }
+    // The commands were run, each emitted frame has what was due, the view took these frames, and its file was written.
+    ensures recorded { IfOk result (λ replies.
+        IsRecorded session.old session.new commands.now replies.items view.old view.new
+        (D.contents drain.old) (D.contents drain.new)) }
     ensures failures { OnOk result (D.failures drain.new ≡ D.failures drain.old) }
 
     ensures broken { IfErr result (λ e.
@@ -174,20 +163,11 @@ pub fn record<D: Drain>(
     drain: &mut D,
 ) -> Result<Vec<Reply>, FileError>
     requires { D.failures drain.old < 2 ^ 64 - 1 }
-    // The commands were run, each emitted frame has what was due, and the view took the frames of that run.
-    ensures run { IfOk result (λ replies.
+    ensures recorded { IfOk result (λ replies.
         (end : SessionState)
-        × EmitsDue (new_session (map (λ name. (string_bytes name, Short)) names.items)) end
-        commands.now replies.items) }
-    ensures view { IfOk result (λ replies. Takes (frames_emitted replies.items) view.old view.new) }
-    ensures took { IfOk result (λ replies.
-        TookAlso (frames_emitted replies.items) (view_of view.old) (view_of view.new)) }
-    ensures written { OnOk result (
-        Appends (D.contents drain.old) (D.contents drain.new) (file_of_view view.new)) }
-    // What is written can be read: it consists of packets, and if all details of the view's frames had ids, so have the file's.
-    ensures packed { OnOk result (AllByRecursion IsPacked (fields_in (view_of view.new))) }
-    ensures held_ids { OnOk result (HoldsIds (view_of view.old) (view_of view.new)) }
-    ensures ids { OnOk result (ListsIds (view_of view.old) (view_of view.new)) }
+        × IsRecorded (new_session (map (λ name. (string_bytes name, Short)) names.items)) end
+        commands.now replies.items view.old view.new (D.contents drain.old)
+        (D.contents drain.new)) }
     ensures failures { OnOk result (D.failures drain.new ≡ D.failures drain.old) }
 
     ensures broken { IfErr result (λ e.

@@ -14,7 +14,7 @@ ghost use Rattle.puffin_replay.specs.inner.InMemory.{IsFileOf, IsReadFault};
 
 use crate::replay::recording::{Unread, run_into};
 use puffin_data::FileError;
-use puffin_data::data::{Counted, Drain, Form};
+use puffin_data::data::{Buffered, Drain, Form};
 use puffin_session::{Command, Reply, Session};
 use puffin_view::profile_view::FrameView;
 use puffin_view::profile_view::laws::what_was_written_is_read;
@@ -100,9 +100,9 @@ fn read_file(alloc: Global, bytes: &[u8]) -> Result<FrameView, FileError>
     ensures fault { IfErr result (λ e.
         (v : View) → IsFileOf bytes.now v → IsReadFault (fields_in v) e) }
 {
-    // For the proof alone: a law about views and their files.
+    // By this law, the file of a view is read as exactly the view's frames, or refused if some of their details have no id.
     what_was_written_is_read();
-    match FrameView::read(alloc, &mut Counted::new(bytes)) {
+    match FrameView::read(alloc, &mut Buffered::new(bytes)) {
         Ok(view) => Ok(view),
         Err(fault) => Err(in_memory(fault)),
     }

@@ -3,14 +3,14 @@
 ghost use Rattle.std.specs.Prelude.{◌≡◌, ◌+◌, ◌-◌, ◌^◌, ◌<◌, ◌⊎◌, List, ℕ, [], ◌∷◌, ◌++◌, Ok, Some, option_map, length, map, position, MatchOption, MatchResult, IfOk, IfErr, OnOk, slice_get};
 ghost use Rattle.std.specs.String.{string_bytes};
 ghost use Rattle.puffin_report.specs.Count.{ReadsAll};
-ghost use Rattle.puffin_replay.specs.Script.Statements.{Meaning, registers, registers_user};
+ghost use Rattle.puffin_replay.specs.Script.Statements.{Meaning, begins, ends, registers, registers_user};
 ghost use Rattle.puffin_replay.specs.inner.ScriptReading.{meaning_of, lines_left, names_in, IsNumbered, Follows, IsReading};
 ghost use Rattle.puffin_replay.specs.Script.{is_line_feed, is_skipped, told_by, with_name, with_form, is_late, command_said, IsScript, IsLineFault};
 
 use crate::replay::fault::ToolFault;
 use crate::replay::statement::{Statement, read_statement};
-use puffin_data::FileError;
-use puffin_data::data::{Form, Source, read_to_end};
+use puffin_data::data::{Form, ScopeId, Source, read_to_end};
+use puffin_data::{FileError, NanoSecond};
 use puffin_session::Command;
 use std::alloc::{AllocError, Global};
 use std::collections::BTreeMap;
@@ -88,7 +88,6 @@ impl<'s> Threads<'s> {
             IsNumbered self.old →
             Follows self.old self.new command (meaning_of statement.now)) }
     {
-        let alloc = self.alloc;
         Ok(Some(match statement {
             Statement::Long { thread } => {
                 let _number = self.number(*thread, Form::Long)?;
@@ -99,17 +98,8 @@ impl<'s> Threads<'s> {
                 at,
                 id,
                 text,
-            } => Command::Begin {
-                thread: self.number(*thread, Form::Short)?,
-                at: *at,
-                id: *id,
-                text: String::from_str(alloc, *text)?,
-            },
-            Statement::End { thread, at } => Command::End {
-                thread: self.number(*thread, Form::Short)?,
-                at: *at,
-                back: 0,
-            },
+            } => self.begin(*thread, *at, *id, *text)?,
+            Statement::End { thread, at } => self.end(*thread, *at)?,
             Statement::Register {
                 thread,
                 name,
@@ -117,10 +107,43 @@ impl<'s> Threads<'s> {
                 file,
                 line,
             } => self.register(*thread, *name, *function, *file, *line)?,
-            Statement::RegisterUser { name } => register_user(alloc, *name)?,
+            Statement::RegisterUser { name } => register_user(self.alloc, *name)?,
             Statement::Snapshot => Command::Snapshot,
             Statement::NewFrame => Command::NewFrame,
         }))
+    }
+
+    /// Makes the command that begins a scope.
+    fn begin(
+        &mut self,
+        thread: &'s str,
+        at: NanoSecond,
+        id: ScopeId,
+        text: &'s str,
+    ) -> Result<Command, AllocError>
+        ensures { IfOk result (λ command.
+            IsNumbered self.old →
+            Follows self.old self.new (Some command) (begins thread.now at id text.now)) }
+    {
+        Ok(Command::Begin {
+            thread: self.number(thread, Form::Short)?,
+            at,
+            id,
+            text: String::from_str(self.alloc, text)?,
+        })
+    }
+
+    /// Makes the command that ends the innermost open scope of a thread.
+    fn end(&mut self, thread: &'s str, at: NanoSecond) -> Result<Command, AllocError>
+        ensures { IfOk result (λ command.
+            IsNumbered self.old →
+            Follows self.old self.new (Some command) (ends thread.now at)) }
+    {
+        Ok(Command::End {
+            thread: self.number(thread, Form::Short)?,
+            at,
+            back: 0,
+        })
     }
 
     /// Makes the command that registers a scope's details with a thread.

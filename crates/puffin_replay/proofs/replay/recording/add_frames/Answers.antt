@@ -3,7 +3,7 @@ use Rattle.std.proofs.Common.{◌+◌, [], ◌∷◌, take, sym, ap, ◌∙◌, 
 use Rattle.std.proofs.lemmas.Result.{err_from_is_err_and}
 use Rattle.puffin_view.specs.declared.profile_view.frame_view.FrameView.{FrameView}
 use Rattle.puffin_view.specs.View.FrameOf.{frame_of, shared_frame}
-use Rattle.puffin_replay.specs.Program.Recording.{frame_in, frames_emitted}
+use Rattle.puffin_replay.specs.Program.EmittedFrames.{frame_in, frames_emitted}
 use Rattle.puffin_replay.proofs.Recording.{TakesAll, TakesAll-same, TakesAll-more, refused_for_memory, TakesSome-refused, TakesSome-memory}
 use Rattle.puffin_replay.proofs.replay.recording.add_frames.Goals.{in-Some+in_ok-clone+in_ok-add_frame, in_default}
 use Rattle.puffin_replay.proofs.replay.recording.add_frames.Goals as goal

@@ -4,7 +4,7 @@ use Rattle.puffin_frames.specs.Packet.Stored.{PacketFields}
 use Rattle.puffin_view.specs.View.ViewedFrames.{fields_of}
 use Rattle.puffin_view.specs.View.{Took}
 use Rattle.puffin_view.specs.View.Known.{view_of}
-use Rattle.puffin_replay.specs.Program.Recording.{frames_emitted, Takes}
+use Rattle.puffin_replay.specs.Program.EmittedFrames.{frames_emitted, Takes}
 use Rattle.puffin_replay.proofs.replay.recording.add_frames.Given as goal
 
 abbrev pub invariant-loop-reply : goal.invariant-loop-reply

@@ -2,16 +2,18 @@
 use Rattle.std.proofs.Common.{refl, subst, inl, map, string_bytes}
 use Rattle.std.proofs.lemmas.Result.{IfOk-weaker, IfErr-weaker}
 use Rattle.puffin_data.specs.declared.data.form.Form.TheVariants.{Short}
-use Rattle.puffin_replay.specs.Program.Recording.{IsBroken}
-use Rattle.puffin_replay.specs.Promise.{EmitsDue}
+use Rattle.puffin_replay.specs.Program.Recording.{IsRecorded, IsBroken}
 use Rattle.puffin_session.specs.Session.{SessionState, new_session}
 use Rattle.puffin_report.proofs.lemmas.WrittenLines.{nothing_written}
 use Rattle.puffin_replay.proofs.replay.recording.record.Goals as goal
 
-pub returns-in-Ok-clause-run : goal.returns-in-Ok-clause-run
-returns-in-Ok-clause-run g c =
+pub returns-in-Ok-clause-recorded : goal.returns-in-Ok-clause-recorded
+returns-in-Ok-clause-recorded g c =
     let end = c.record_session.new.session in
-    IfOk-weaker c.record_session.result _ _ (λ replies run. (end, subst (λ (s : SessionState). EmitsDue s end c.args.commands.now replies.items) c.in-Ok.ensures.new run)) c.record_session.ensures.run
+    IfOk-weaker c.record_session.result _ _
+    (λ replies recorded.
+    (end, subst (λ (s : SessionState). IsRecorded s end c.args.commands.now replies.items c.args.view.now c.record_session.new.view (g.D.Drain.contents c.args.drain.now) (g.D.Drain.contents c.record_session.new.drain)) c.in-Ok.ensures.new recorded))
+    c.record_session.ensures.recorded
 
 pub returns-in-Ok-clause-broken : goal.returns-in-Ok-clause-broken
 returns-in-Ok-clause-broken g c =

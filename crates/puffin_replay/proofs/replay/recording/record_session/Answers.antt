@@ -11,5 +11,5 @@ returns-in-Err-clause-broken g c =
 pub returns-in_err-write-clause-broken : goal.returns-in_err-write-clause-broken
 returns-in_err-write-clause-broken g c =
     let p = err_from_is_err_and c.from_residual.result c.from_residual.ensures.1 in
-    let ran = c.in-Ok.ensures in
+    let ran = c.in-Ok.ensures.taken in
     rw (p.1, p.2) (inr (inr (c.in-Ok.replies.items, ran.run.run, ran.view, c.in_err-write.ensures.begun, c.in_err-write.ensures.cause, ran.took)))

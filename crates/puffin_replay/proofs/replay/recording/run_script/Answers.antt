@@ -25,37 +25,40 @@ pub returns-in_err-text-clause-fails : goal.returns-in_err-text-clause-fails
 returns-in_err-text-clause-fails g c =
     let p = err_from_is_err_and c.from_residual-in_err-text.result c.from_residual-in_err-text.ensures.1 in
     let script = c.args.script.now in
-    let recorded = c.in_ok-replies.ensures in
+    let recorded = c.in_ok-replies.ensures.recorded in
+    let ran = recorded.taken in
     let end = c.record_session.new.session in
-    let run : (last : SessionState) × EmitsDue (new_session (map (λ t. (string_bytes t.0, t.1)) c.in_ok-threads.threads.items)) last c.deref.result.now c.in_ok-replies.replies.items = (end, subst (λ (s : SessionState). EmitsDue s end c.deref.result.now c.in_ok-replies.replies.items) c.in-Ok.ensures.new recorded.run) in
-    let ids = recorded.ids (subst (λ (v : View). NoneLacksIds (fields_held v)) (sym c.loose_view-view.ensures.frames) refl) in
+    let run : (last : SessionState) × EmitsDue (new_session (map (λ t. (string_bytes t.0, t.1)) c.in_ok-threads.threads.items)) last c.deref.result.now c.in_ok-replies.replies.items = (end, subst (λ (s : SessionState). EmitsDue s end c.deref.result.now c.in_ok-replies.replies.items) c.in-Ok.ensures.new ran.run) in
+    let ids = ran.ids (subst (λ (v : View). NoneLacksIds (fields_held v)) (sym c.loose_view-view.ensures.frames) refl) in
     rw p.1
-    (no_lines script (map (λ t. (string_bytes t.0, t.1)) c.in_ok-threads.threads.items) c.deref.result.now c.in_ok-threads.ensures c.deref.ensures.value c.loose_view-view.result c.record_session.new.view c.loose_view-view.ensures.frames c.in_ok-replies.replies.items run recorded.view
+    (no_lines script (map (λ t. (string_bytes t.0, t.1)) c.in_ok-threads.threads.items) c.deref.result.now c.in_ok-threads.ensures c.deref.ensures.value c.loose_view-view.result c.record_session.new.view c.loose_view-view.ensures.frames c.in_ok-replies.replies.items run ran.view
     (g.D.Drain.contents c.args.out.now) (g.D.Drain.contents c.record_session.new.drain) recorded.written ids p.0 (g.E.Drain.contents c.args.lines.now) p.2)
 
 pub returns-clause-ok : goal.returns-clause-ok
 returns-clause-ok g c =
     let script = c.args.script.now in
-    let recorded = c.in_ok-replies.ensures in
+    let recorded = c.in_ok-replies.ensures.recorded in
+    let ran = recorded.taken in
     let end = c.record_session.new.session in
-    let run : (last : SessionState) × EmitsDue (new_session (map (λ t. (string_bytes t.0, t.1)) c.in_ok-threads.threads.items)) last c.deref.result.now c.in_ok-replies.replies.items = (end, subst (λ (s : SessionState). EmitsDue s end c.deref.result.now c.in_ok-replies.replies.items) c.in-Ok.ensures.new recorded.run) in
-    let ids = recorded.ids (subst (λ (v : View). NoneLacksIds (fields_held v)) (sym c.loose_view-view.ensures.frames) refl) in
+    let run : (last : SessionState) × EmitsDue (new_session (map (λ t. (string_bytes t.0, t.1)) c.in_ok-threads.threads.items)) last c.deref.result.now c.in_ok-replies.replies.items = (end, subst (λ (s : SessionState). EmitsDue s end c.deref.result.now c.in_ok-replies.replies.items) c.in-Ok.ensures.new ran.run) in
+    let ids = ran.ids (subst (λ (v : View). NoneLacksIds (fields_held v)) (sym c.loose_view-view.ensures.frames) refl) in
     let lines = c.as_bytes.ensures.value ∙ c.in_ok-text.ensures ∙ ap (λ (ns : List ℕ). reply_lines ns c.deref-3.result.now) c.deref-2.ensures.value ∙ ap (λ (rs : List Reply). reply_lines script.lines.items rs) c.deref-3.ensures.value in
     on_ok_weaker c.write_all.result
-    (replayed script (map (λ t. (string_bytes t.0, t.1)) c.in_ok-threads.threads.items) c.deref.result.now c.in_ok-threads.ensures c.deref.ensures.value c.loose_view-view.result c.record_session.new.view c.loose_view-view.ensures.frames c.in_ok-replies.replies.items run recorded.view
-    (g.D.Drain.contents c.args.out.now) (g.D.Drain.contents c.record_session.new.drain) recorded.written ids c.as_bytes.result.now (g.E.Drain.contents c.args.lines.now) (g.E.Drain.contents c.write_all.new.drain) recorded.took c.loose_view-view.ensures.took lines recorded.packed)
+    (replayed script (map (λ t. (string_bytes t.0, t.1)) c.in_ok-threads.threads.items) c.deref.result.now c.in_ok-threads.ensures c.deref.ensures.value c.loose_view-view.result c.record_session.new.view c.loose_view-view.ensures.frames c.in_ok-replies.replies.items run ran.view
+    (g.D.Drain.contents c.args.out.now) (g.D.Drain.contents c.record_session.new.drain) recorded.written ids c.as_bytes.result.now (g.E.Drain.contents c.args.lines.now) (g.E.Drain.contents c.write_all.new.drain) ran.took c.loose_view-view.ensures.took lines recorded.packed)
     c.write_all.ensures.ok
 
 pub returns-clause-fails : goal.returns-clause-fails
 returns-clause-fails g c =
     let script = c.args.script.now in
-    let recorded = c.in_ok-replies.ensures in
+    let recorded = c.in_ok-replies.ensures.recorded in
+    let ran = recorded.taken in
     let end = c.record_session.new.session in
-    let run : (last : SessionState) × EmitsDue (new_session (map (λ t. (string_bytes t.0, t.1)) c.in_ok-threads.threads.items)) last c.deref.result.now c.in_ok-replies.replies.items = (end, subst (λ (s : SessionState). EmitsDue s end c.deref.result.now c.in_ok-replies.replies.items) c.in-Ok.ensures.new recorded.run) in
-    let ids = recorded.ids (subst (λ (v : View). NoneLacksIds (fields_held v)) (sym c.loose_view-view.ensures.frames) refl) in
+    let run : (last : SessionState) × EmitsDue (new_session (map (λ t. (string_bytes t.0, t.1)) c.in_ok-threads.threads.items)) last c.deref.result.now c.in_ok-replies.replies.items = (end, subst (λ (s : SessionState). EmitsDue s end c.deref.result.now c.in_ok-replies.replies.items) c.in-Ok.ensures.new ran.run) in
+    let ids = ran.ids (subst (λ (v : View). NoneLacksIds (fields_held v)) (sym c.loose_view-view.ensures.frames) refl) in
     let lines = c.as_bytes.ensures.value ∙ c.in_ok-text.ensures ∙ ap (λ (ns : List ℕ). reply_lines ns c.deref-3.result.now) c.deref-2.ensures.value ∙ ap (λ (rs : List Reply). reply_lines script.lines.items rs) c.deref-3.ensures.value in
     told-cut _ _ c.write_all.result
     (λ e io part.
-    cut_lines script (map (λ t. (string_bytes t.0, t.1)) c.in_ok-threads.threads.items) c.deref.result.now c.in_ok-threads.ensures c.deref.ensures.value c.loose_view-view.result c.record_session.new.view c.loose_view-view.ensures.frames c.in_ok-replies.replies.items run recorded.view
+    cut_lines script (map (λ t. (string_bytes t.0, t.1)) c.in_ok-threads.threads.items) c.deref.result.now c.in_ok-threads.ensures c.deref.ensures.value c.loose_view-view.result c.record_session.new.view c.loose_view-view.ensures.frames c.in_ok-replies.replies.items run ran.view
     (g.D.Drain.contents c.args.out.now) (g.D.Drain.contents c.record_session.new.drain) recorded.written ids e c.as_bytes.result.now (g.E.Drain.contents c.args.lines.now) (g.E.Drain.contents c.write_all.new.drain) lines part (inl io))
     c.write_all.ensures.err c.write_all.ensures.io

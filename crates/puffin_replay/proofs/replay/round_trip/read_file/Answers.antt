@@ -7,7 +7,7 @@ use Rattle.puffin_replay.proofs.replay.round_trip.read_file.Goals as goal
 pub returns-in-Ok-clause-ok : goal.returns-in-Ok-clause-ok
 returns-in-Ok-clause-ok c = λ v of.
     let law = c.what_was_written_is_read.ensures in
-    let bytes = c.new.result.device.now in
+    let bytes = c.new.result.reader.now in
     let same : bytes ≡ c.args.bytes.now = search rules in
     let short : length c.args.bytes.now < 2 ^ 64 = omega arith in
     read_again law.frames law.view v bytes _ c.in-Ok.view (subst (λ (bs : List ℕ). IsFileOf bs v) (sym same) of) (subst (λ (bs : List ℕ). length bs < 2 ^ 64) (sym same) short) c.in-Ok.ensures.file
@@ -15,7 +15,7 @@ returns-in-Ok-clause-ok c = λ v of.
 pub returns-in-Err-clause-fault : goal.returns-in-Err-clause-fault
 returns-in-Err-clause-fault c = λ v of.
     let law = c.what_was_written_is_read.ensures in
-    let bytes = c.new.result.device.now in
+    let bytes = c.new.result.reader.now in
     let same : bytes ≡ c.args.bytes.now = search rules in
     let short : length c.args.bytes.now < 2 ^ 64 = omega arith in
     read_fault law.fault v bytes _ c.in-Err.fault c.in_memory.result c.in_memory.ensures.io c.in_memory.ensures.other (subst (λ (bs : List ℕ). IsFileOf bs v) (sym same) of) (subst (λ (bs : List ℕ). length bs < 2 ^ 64) (sym same) short) c.in-Err.ensures.file
