@@ -42,7 +42,7 @@ pub fn what_was_recorded_is_summed_up()
     ensures unpacked { (frame : FrameData) (streams : Streams) →
         frame_streams frame ≡ Some streams → streams_in_fields (packet_fields frame) ≡ Ok streams }
 {
-    // For the proof alone, as the whole call: the laws that this one follows from.
+    // This law follows from these two.
     what_was_written_is_read();
     each_frame_is_read_again();
 }
@@ -53,6 +53,6 @@ pub fn one_report()
         IsSummary info stored one → IsSummary info stored another →
         report_lines one ≡ report_lines another }
 {
-    // For the proof alone: a law about merges.
+    // This law follows from the one that frames have one merge.
     one_outcome();
 }

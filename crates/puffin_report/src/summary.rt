@@ -55,7 +55,7 @@ pub fn summarize<S: Source>(
         };
         sum = sum.take(frame)?;
     }
-    // For the proof alone: a law about files.
+    // By this law, the loop has returned before: a file has fewer frames.
     files_have_an_end();
     Err(FileError::Truncated)
 }

@@ -208,7 +208,7 @@ impl<L: Ledger, M: Ledger> Booked<L, M> {
         })
     }
 
-    /// Hands a frame of another origin to the sinks, as [`GlobalProfiler::add_frame`] does. No share counts it.
+    /// Hands a frame that was made elsewhere to the sinks, as [`GlobalProfiler::add_frame`] does. No share counts it.
     pub fn add_frame<R: Wait>(&mut self, rt: &R, frame: Arc<FrameData>) -> Result<usize>
         requires boxed_sinks { ⊤ }
         ensures learnt { OnOk result (

@@ -200,11 +200,11 @@ impl GlobalProfiler {
         })
     }
 
-    /// Adds the details of a frame of another origin to the known ones, and hands the frame to each sink. Returns how many
+    /// Adds the details of a frame that was made elsewhere to the known ones, and hands the frame to each sink. Returns how many
     /// sinks didn't take it, counted as by [`GlobalProfiler::new_frame`]. The totals don't count the frame's scopes.
     ///
     /// Fails with `MissingId` exactly when some of its details have no id, and then changes nothing; else only with `Memory`,
-    /// after which a beginning of its details may be known. If it fails, no sink is called.
+    /// after which the first few of its details may be known. If it fails, no sink is called.
     pub fn add_frame<R: Wait>(&mut self, rt: &R, frame: Arc<FrameData>) -> Result<usize>
         requires boxed_sinks { ⊤ }
         ensures learnt { OnOk result (

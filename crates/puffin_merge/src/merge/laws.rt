@@ -44,7 +44,7 @@ pub fn one_outcome()
     ensures refused { (frames : List FrameBytes) (f : MergedForest) (refusal : Error) →
         AreMerged frames f → IsMergeRefusal frames refusal → ⊥ }
 {
-    // For the proof alone: laws of spellings and of walks.
+    // This law follows from these of spellings and of walks.
     puffin_data::laws::one_forest();
     puffin_data::laws::no_fault_in_a_spelling();
     puffin_data::laws::scopes_of_a_walk();

@@ -86,7 +86,7 @@ fn line_of(fault: ToolFault) -> Line
 }
 
 /// Writes the line that reports a fault, if there is one. Returns the program's status: 0 without a fault, 2 for wrong
-/// arguments, else 1. If the writer fails, the status is the same, and a beginning of the line has been written.
+/// arguments, else 1. If the writer fails, the status is the same, and a prefix of the line has been written.
 pub fn finish<D: Drain>(fault: Option<ToolFault>, drain: &mut D) -> u8
     requires { D.failures drain.old < 2 ^ 64 - 1 }
     ensures status { result ≡ status_of fault }

@@ -109,7 +109,7 @@ pub(crate) fn run_into(
 /// each command.
 ///
 /// Fails with `Memory`, and as [`FrameView::write`] does with `PartTooLong` and `Io`. The session may then have run the
-/// commands or none of them, and the view may have taken a beginning of the frames. Nothing is written before the view has
+/// commands or none of them, and the view may have taken the first few of the frames. Nothing is written before the view has
 /// taken all of them.
 ///
 /// ```

@@ -175,7 +175,7 @@ impl<'s> Threads<'s> {
     }
 }
 
-/// Makes the command that registers a scope of another origin.
+/// Makes the command that registers a scope of the caller's own by its name.
 fn register_user(alloc: Global, name: &str) -> Result<Command, AllocError>
     ensures { IfOk result (λ command. (names : List (List ℕ)) →
         command_said names command ≡ Some (registers_user name.now)) }

@@ -34,7 +34,7 @@ pub(crate) enum Statement<'l> {
         file: &'l str,
         line: u32,
     },
-    /// Registers a scope of another origin.
+    /// Registers a scope of the caller's own by its name.
     RegisterUser {
         name: &'l str,
     },
