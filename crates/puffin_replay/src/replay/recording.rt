@@ -148,8 +148,8 @@ pub fn record_session<D: Drain>(
 /// Runs commands in a new session of threads with these names, in the short form. Adds each emitted frame to a view, in order,
 /// and writes the view's file, as [`record_session`] does. Returns one reply for each command.
 ///
-/// Fails with `Memory`, and as [`FrameView::write`] does with `PartTooLong` and `Io`. The view may then have taken a beginning
-/// of the frames. Nothing is written before the view has taken all of them.
+/// Fails with `Memory`, and as [`FrameView::write`] does with `PartTooLong` and `Io`. The view may then have taken the first
+/// few of the frames. Nothing is written before the view has taken all of them.
 ///
 /// ```
 /// let mut drain = Counted::new(file);
