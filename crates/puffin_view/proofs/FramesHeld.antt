@@ -18,7 +18,7 @@ use Rattle.puffin_view.specs.inner.Store.{has_index}
 use Rattle.puffin_view.proofs.Taking.{enters}
 use Rattle.puffin_view.proofs.Keeping.{all_map, all_choice, all_drop, all_more, all_packed, index_packed_at}
 use Rattle.puffin_view.proofs.Orders.{map-length}
-use Rattle.puffin_view.proofs.Storing.{all_first, all_rest, has_all, has-index_of, is_at}
+use Rattle.puffin_view.proofs.Members.{all_first, all_rest, has_all, has-index_of, is_at}
 use Rattle.puffin_view.proofs.FileFrames.{took_all}
 use Rattle.puffin_view.proofs.FilesAgain.{fields_rise, said_again, all_taken, all_keep, last_of_all}
 

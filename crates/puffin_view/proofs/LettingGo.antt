@@ -11,7 +11,7 @@ use Rattle.puffin_view.specs.View.Ranking.{rank_index, has}
 use Rattle.puffin_view.specs.inner.Held.{HeldFrames}
 use Rattle.puffin_view.specs.inner.Ranks.{LetsGo}
 use Rattle.puffin_view.proofs.Orders.{map-more}
-use Rattle.puffin_view.proofs.Storing.{LetsGo-kept, LetsGo-more, any_has}
+use Rattle.puffin_view.proofs.Cutting.{LetsGo-kept, LetsGo-more, any_has}
 
 -- of the ranks of a list, all before those left are gone
 pub record LetsGoSome (old : HeldFrames) (recent : List ℕ) (whole : List SlowRank) (new : HeldFrames) (left : List SlowRank) : Type 0 where

@@ -21,7 +21,7 @@ use Rattle.puffin_view.specs.View.Ranking.{rank_index, has, last_from, last_in}
 use Rattle.puffin_view.specs.inner.Kept.{AreRising}
 use Rattle.puffin_view.specs.inner.Store.{AreHeld, AreStored}
 use Rattle.puffin_view.proofs.Placing.{rank_cmp_total}
-use Rattle.puffin_view.proofs.Storing.{all_last_from}
+use Rattle.puffin_view.proofs.Members.{all_last_from}
 
 true≢false : true ≡ false → ⊥
 true≢false e = cc
