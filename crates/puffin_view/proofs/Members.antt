@@ -57,9 +57,6 @@ equals a b e = grind arith
 pub apart_to : (a b : ℕ) → a ≢ b → nat_eq a b ≡ false
 apart_to a b h = grind arith
 
-apart_from : (a b : ℕ) → nat_eq a b ≡ false → a ≢ b
-apart_from a b h = grind arith
-
 pub is_at : (q i : ℕ) → eq_by_cmp nat_cmp q i ≡ nat_eq q i
 is_at q i = grind arith
 
@@ -80,6 +77,16 @@ all_first P (x ∷ xs) ys h = (h.0, all_first P xs ys h.1)
 pub all_rest : {A : Type 0} (P : A → Type 0) (xs ys : List A) → AllByRecursion P (xs ++ ys) → AllByRecursion P ys
 all_rest P [] ys h = h
 all_rest P (x ∷ xs) ys h = all_rest P xs ys h.1
+
+pub all_take : (P : Frame → Type 0) (k : ℕ) (xs : List Frame) → AllByRecursion P xs → AllByRecursion P (take k xs)
+all_take P zero xs h = tt
+all_take P (suc k) [] h = tt
+all_take P (suc k) (x ∷ xs) h = (h.0, all_take P k xs h.1)
+
+pub all_drop : (P : Frame → Type 0) (k : ℕ) (xs : List Frame) → AllByRecursion P xs → AllByRecursion P (drop k xs)
+all_drop P zero xs h = h
+all_drop P (suc k) [] h = tt
+all_drop P (suc k) (x ∷ xs) h = all_drop P k xs h.1
 
 pub all_more : (P : Frame → Type 0) (xs : List Frame) (f : Frame) → AllByRecursion P xs → P f → AllByRecursion P (xs ++ f ∷ [])
 all_more P [] f h p = (p, tt)

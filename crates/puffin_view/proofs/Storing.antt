@@ -18,7 +18,7 @@ use Rattle.puffin_view.specs.View.FrameRanks.{rank_of, rank_cmp}
 use Rattle.puffin_view.specs.inner.Kept.{AreRising, HaveOwnIndices}
 use Rattle.puffin_view.specs.View.{View, enters_among}
 use Rattle.puffin_view.specs.inner.Store.{frames_under, AreHeld, has_index, AreStored}
-use Rattle.puffin_view.proofs.Keeping.{IsKept-packed}
+use Rattle.puffin_view.proofs.Keeping.{IsKept-packed, index_packed_at}
 use Rattle.puffin_view.proofs.Placing.{rank_cmp_total}
 use Rattle.puffin_view.proofs.Members.{neither, has_index-append, equal_to, equals, apart_to, is_at, all_map, all_both, all_more, all_place, held_back, one_some, map-last_from, last_map, all_last_from, all_last}
 
@@ -35,9 +35,6 @@ got_itself held f = fin.get-insert nat_cmp_total held (index_of f) f (index_of f
 
 got_less : (held : HeldFrames) (f : Frame) (q : ℕ) → nat_eq q (index_of f) ≡ false → fin.get held q ≡ None → fin.get (fin.insert held (index_of f) f) q ≡ None
 got_less held f q out is = fin.get-insert nat_cmp_total held (index_of f) f q ∙ ap (λ b. cond b (Some f) (fin.get held q)) (is_at q (index_of f) ∙ out) ∙ is
-
-AreBefore : Frame → List Frame → Type 0
-AreBefore f fs = AllByRecursion (λ g. index_of g < index_of f) fs
 
 held_more : (held : HeldFrames) (f : Frame) (fs : List Frame) → AllByRecursion (λ g. index_of g < index_of f) fs → AreHeld (fin.get held) fs → AreHeld (fin.get (fin.insert held (index_of f) f)) fs
 held_more held f fs before is = all_both (λ g. index_of g < index_of f) (λ g. fin.get held (index_of g) ≡ Some g) (λ g. fin.get (fin.insert held (index_of f) f) (index_of g) ≡ Some g) (λ g low there. got_more held f g (below_apart (index_of g) (index_of f) low) there) fs before is
@@ -226,12 +223,6 @@ newest_held held recent slow last R S i h newest =
 pub newest_there : (held : HeldFrames) (recent : List ℕ) (slow : List SlowRank) (last : Option ℕ) (R S : List Frame) (f : Frame) (i : ℕ) → AreStored held recent slow last R S → last_in R ≡ Some f → i ≡ index_of f → IsSome (fin.get held i)
 newest_there held recent slow last R S f i h newest e = subst IsSome (sym (ap (fin.get held) e ∙ all_last (λ g. fin.get held (index_of g) ≡ Some g) R f h.recent_held newest)) refl
 
-pub none_newest : (recent : List ℕ) (R : List Frame) → recent ≡ map index_of R → length recent ≡ 0 → None ≡ last_in R
-none_newest recent [] e n = refl
-none_newest recent (f ∷ R) e n = absurd (some (ap length (sym e) ∙ n)) where
-  some : suc (length (map index_of R)) ≡ 0 → ⊥
-  some e = omega arith
-
 -- packing
 
 packed_held : (held : HeldFrames) (f : Frame) (fs : List Frame) → fin.get held (index_of f) ≡ Some f → AreHeld (fin.get held) fs → AreHeld (fin.get (fin.insert held (index_of f) (packed_alone f))) (map (packed_under (index_of f)) fs)
@@ -247,12 +238,6 @@ packed_held held f (g ∷ fs) is h = (at (nat_eq (index_of g) (index_of f)) refl
   at true e = rw e (got (index_of g) true e ∙ ap (λ h. Some (packed_alone h)) (sym (same e)))
   at false e = rw e (got (index_of g) false e ∙ h.0)
 
-index-packed_at : (i : ℕ) (f : Frame) → index_of (packed_under i f) ≡ index_of f
-index-packed_at i f = at (nat_eq (index_of f) i) where
-  at : (b : Bool) → index_of (cond b (packed_alone f) f) ≡ index_of f
-  at true = refl
-  at false = refl
-
 rank-packed_at : (i : ℕ) (f : Frame) → rank_of (packed_under i f) ≡ rank_of f
 rank-packed_at i f = at (nat_eq (index_of f) i) where
   at : (b : Bool) → rank_of (cond b (packed_alone f) f) ≡ rank_of f
@@ -261,7 +246,7 @@ rank-packed_at i f = at (nat_eq (index_of f) i) where
 
 indices-packed : (i : ℕ) (fs : List Frame) → map index_of (map (packed_under i) fs) ≡ map index_of fs
 indices-packed i [] = refl
-indices-packed i (f ∷ fs) = λ j. index-packed_at i f j ∷ indices-packed i fs j
+indices-packed i (f ∷ fs) = λ j. index_packed_at i f j ∷ indices-packed i fs j
 
 ranks-packed : (i : ℕ) (fs : List Frame) → map rank_of (map (packed_under i) fs) ≡ map rank_of fs
 ranks-packed i [] = refl
@@ -269,7 +254,7 @@ ranks-packed i (f ∷ fs) = λ j. rank-packed_at i f j ∷ ranks-packed i fs j
 
 has_index-packed : (q i : ℕ) (fs : List Frame) → has_index q (map (packed_under i) fs) ≡ has_index q fs
 has_index-packed q i [] = refl
-has_index-packed q i (f ∷ fs) = λ j. nat_eq q (index-packed_at i f j) || has_index-packed q i fs j
+has_index-packed q i (f ∷ fs) = λ j. nat_eq q (index_packed_at i f j) || has_index-packed q i fs j
 
 pub stored-packed : (held : HeldFrames) (recent : List ℕ) (slow : List SlowRank) (last : Option ℕ) (R S : List Frame) (f : Frame) → AreStored held recent slow last R S → last_in R ≡ Some f
     → AreStored (fin.insert held (index_of f) (packed_alone f)) recent slow last (map (packed_under (index_of f)) R) (map (packed_under (index_of f)) S)
