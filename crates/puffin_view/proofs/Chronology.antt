@@ -12,7 +12,8 @@ use Rattle.puffin_view.specs.View.ViewedFrames.{Frame, index_of, frames_by_index
 use Rattle.puffin_view.specs.inner.Held.{HeldFrames}
 use Rattle.puffin_view.specs.View.Ranking.{rank_index, has}
 use Rattle.puffin_view.specs.inner.Store.{AreStored}
-use Rattle.puffin_view.proofs.Storing.{held_whole, find_held, has-index_of, index-rank_of}
+use Rattle.puffin_view.proofs.Members.{has-index_of}
+use Rattle.puffin_view.proofs.Storing.{held_whole, find_held, index-rank_of}
 
 -- each frame stands under its index
 abbrev pub AreKeyed : List (ℕ × Frame) → Type 0

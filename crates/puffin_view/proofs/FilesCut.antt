@@ -1,5 +1,5 @@
 -- Files of frames that were cut: the frames that are whole are read, and no others.
-use Rattle.std.proofs.Common.{◌≡◌, ℕ, suc, ◌-◌, ◌^◌, ◌<◌, ◌≤◌, Bool, true, false, cond, ltb, ◌||◌, List, [], ◌∷◌, ◌++◌, length, map, Option, Some, None, Result, Ok, Err, ◌⊎◌, inl, inr, refl, sym, ap, subst, ◌∙◌, append_assoc, arith, length-append}
+use Rattle.std.proofs.Common.{◌≡◌, ℕ, suc, ◌-◌, ◌^◌, ◌<◌, ◌≤◌, Bool, true, false, cond, ltb, List, [], ◌∷◌, ◌++◌, length, map, Option, Some, None, Result, Ok, Err, ◌⊎◌, inl, inr, refl, sym, ap, subst, ◌∙◌, append_assoc, arith, length-append}
 use Rattle.std.specs.List.{flat_map, AllByRecursion, list_any}
 use Rattle.std.specs.Io.KnownBytes.{Consumes, IsAtEnd}
 use Rattle.std.proofs.lemmas.Bool.{ltb-true, ltb-false}
@@ -14,6 +14,7 @@ use Rattle.puffin_frames.specs.Packet.Grammar.{packet, IsPacked}
 use Rattle.puffin_view.specs.View.Known.{lacks_ids}
 use Rattle.puffin_view.specs.View.File.{magic, file_of, frames_at, most_packets, file_at}
 use Rattle.puffin_view.specs.View.FrameFile.{frame_at, AreGiven, HasGiven, IsLeftOf, IsCut}
+use Rattle.puffin_view.proofs.Members.{neither}
 use Rattle.puffin_view.proofs.FilesRead.{goes_on, behind, end_stays, is_at_end}
 use Rattle.puffin_view.proofs.FilesWritten.{Again, Answer, room}
 use Rattle.puffin_view.proofs.FileGrammar.{end_read}
@@ -93,10 +94,6 @@ all_front (c ∷ cs) ds h = (h.0, all_front cs ds h.1)
 all_back : (cs ds : List PacketFields) → AllByRecursion IsPacked (cs ++ ds) → AllByRecursion IsPacked ds
 all_back [] ds h = h
 all_back (c ∷ cs) ds h = all_back cs ds h.1
-
-neither : (a b : Bool) → (a || b) ≡ false → (a ≡ false) × (b ≡ false)
-neither true b e = absurd cc
-neither false b e = (refl, e)
 
 ids_front : (cs ds : List PacketFields) → list_any lacks_ids (cs ++ ds) ≡ false → list_any lacks_ids cs ≡ false
 ids_front [] ds h = refl

@@ -1,5 +1,5 @@
 -- A view holds what it held before or took; and one that keeps all recent frames has no others.
-use Rattle.std.proofs.Common.{◌≡◌, ℕ, ◌-◌, ◌^◌, ◌<◌, Bool, true, false, cond, ◌&&◌, ◌||◌, List, [], ◌∷◌, ◌++◌, length, map, Option, None, Some, refl, sym, ap, subst, ◌∙◌, arith}
+use Rattle.std.proofs.Common.{◌≡◌, ℕ, ◌-◌, ◌^◌, ◌<◌, Bool, true, false, cond, ◌&&◌, ◌||◌, List, [], ◌∷◌, ◌++◌, length, take, map, Option, None, Some, refl, sym, ap, subst, ◌∙◌, arith}
 use Rattle.std.specs.Prelude.{nat_lt, nat_eq, T}
 use Rattle.std.specs.List.{AllByRecursion, list_any}
 use Rattle.std.specs.Option.{option_map_or}
@@ -10,15 +10,15 @@ use Rattle.std.specs.declared.cmp.Ordering.TheVariants.{Less, Equal, Greater}
 use Rattle.std.specs.FinMap as fin
 use Rattle.std.specs.FinMap.Entries.{by_order, below_all, is_sorted, same_entries}
 use Rattle.puffin_frames.specs.Packet.Stored.{PacketFields, packed}
-use Rattle.puffin_view.specs.View.Ranking.{last_of, last_in, has}
-use Rattle.puffin_view.specs.View.ViewedFrames.{Frame, fields_of, index_of, frame_index, packed_under, rising_end, is_rising, rises_above, frames_by_index, chronological}
+use Rattle.puffin_view.specs.View.Ranking.{place, last_of, last_in, has}
+use Rattle.puffin_view.specs.View.ViewedFrames.{Frame, fields_of, index_of, frame_index, is_slower_frame, packed_under, rising_end, is_rising, rises_above, frames_by_index, chronological}
 use Rattle.puffin_view.specs.View.{View, without_frames, with_packed, with_newest_packed, is_past, joined_by, after_taking, after_all, Took}
 use Rattle.puffin_view.specs.View.File.{fields_held, fields_in, frame_stored, read_view}
 use Rattle.puffin_view.specs.inner.Store.{has_index}
 use Rattle.puffin_view.proofs.Taking.{enters}
-use Rattle.puffin_view.proofs.Keeping.{all_map, all_choice, all_drop, all_more, all_packed, index_packed_at}
+use Rattle.puffin_view.proofs.Keeping.{all_packed, index_packed_at}
 use Rattle.puffin_view.proofs.Orders.{map-length}
-use Rattle.puffin_view.proofs.Storing.{all_first, all_rest, has_all, has-index_of, is_at}
+use Rattle.puffin_view.proofs.Members.{neither, all_map, all_take, all_drop, all_more, all_place, all_first, all_rest, has_all, has-index_of, is_at}
 use Rattle.puffin_view.proofs.FileFrames.{took_all}
 use Rattle.puffin_view.proofs.FilesAgain.{fields_rise, said_again, all_taken, all_keep, last_of_all}
 
@@ -27,6 +27,10 @@ use Rattle.puffin_view.proofs.FilesAgain.{fields_rise, said_again, all_taken, al
 record AllHeld (P : Frame → Type 0) (v : View) : Type 0 where
   recent : AllByRecursion P v.recent
   slow : AllByRecursion P v.slow
+
+all_choice : (P : Frame → Type 0) (k : ℕ) (f : Frame) (slow : List Frame) (b : Bool) → P f → AllByRecursion P slow → AllByRecursion P (cond b (take k (place is_slower_frame f slow)) slow)
+all_choice P k f slow true p h = all_take P k (place is_slower_frame f slow) (all_place P f slow p h)
+all_choice P k f slow false p h = h
 
 -- a fact that packing keeps
 module _ (P : Frame → Type 0) (keeps : (i : ℕ) (f : Frame) → P f → P (packed_under i f)) where
@@ -53,10 +57,6 @@ module _ (P : Frame → Type 0) (keeps : (i : ℕ) (f : Frame) → P f → P (pa
 
 abbrev Fails : (PacketFields → Bool) → Frame → Type 0
 Fails p f = p (fields_of f) ≡ false
-
-neither : (a b : Bool) → (a || b) ≡ false → (a ≡ false) × (b ≡ false)
-neither true b h = cc
-neither false b h = (refl, h)
 
 fail_all : (p : PacketFields → Bool) (fs : List Frame) → list_any p (map fields_of fs) ≡ false → AllByRecursion (Fails p) fs
 fail_all p [] h = tt

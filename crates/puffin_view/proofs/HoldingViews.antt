@@ -12,6 +12,7 @@ use Rattle.std.specs.List.Sorted.{IsStrictlySortedBy}
 use Rattle.std.specs.BTreeMap.{insert_entry, is_at}
 use Rattle.std.specs.FinMap as fin
 use Rattle.std.specs.FinMap.Entries.{by_order}
+use Rattle.std.proofs.Math.Nat.{mod-add-mod, mod-eq_of_lt}
 use Rattle.std.proofs.lemmas.Map.Keys.{sorted_head, sorted_tail}
 use Rattle.std.proofs.lemmas.Map.Entries.{length-values_of, sum_by-insert_entry, sum_by-remove_entry}
 use Rattle.std.proofs.lemmas.List.Sums.{sum_by-cons}
@@ -27,7 +28,7 @@ use Rattle.std.specs.Option.{option_copied}
 use Rattle.puffin_view.specs.declared.profile_view.sums.RunningStats.{RunningStats}
 use Rattle.puffin_view.specs.View.Stats.{stats_of, cut}
 use Rattle.puffin_view.specs.declared.profile_view.stats.FrameStats.{FrameStats}
-use Rattle.puffin_view.specs.inner.Held.{IsSummed, frames_seen, held_of, number_if, unpacked_number, ram_taken}
+use Rattle.puffin_view.specs.inner.Held.{IsSummed, frames_seen, held_of, number_if, unpacked_number, ram_taken, wrapped}
 
 turned : (k q : ℕ) → is_at (nat_cmp k) q ≡ eq_by_cmp nat_cmp q k
 turned k q = grind arith
@@ -83,9 +84,9 @@ module _ {A : Type 0} where
     at None h = h
     at (Some a) h = refl
 
-  pub none_summed : (es : List (ℕ × Arc FrameData A)) (sums : RunningStats) → es ≡ [] → sums ≡ record { frames = 0; unpacked_frames = 0; bytes_of_ram_used = 0 } → IsSummed es sums
+  pub none_summed : (es : List (ℕ × Arc FrameData A)) (sums : RunningStats) → es ≡ [] → sums ≡ record { unpacked_frames = 0; bytes_of_ram_used = 0 } → IsSummed es sums
   unfolding IsStrictlySortedBy
-  none_summed [] sums e s = record { ordered = tt; few = omega arith; frames = ap (λ t. t.frames) s; unpacked_frames = ap (λ t. t.unpacked_frames) s; bytes = ap (λ t. t.bytes_of_ram_used) s }
+  none_summed [] sums e s = record { ordered = tt; unpacked_frames = ap (λ t. t.unpacked_frames) s; bytes = ap (λ t. t.bytes_of_ram_used) s }
   none_summed (x ∷ es) sums e s = cc
 
   -- the frames, in the order of their indices
@@ -123,6 +124,9 @@ sum_by-below f n h (x ∷ xs) =
     let more : suc (length xs) * n ≡ length xs * n + n = suc-mul (length xs) n in
     omega arith
 
+fits : (n : ℕ) → n < 2 ^ 128 → wrapped n ≡ n
+fits n low = mod-eq_of_lt low
+
 module _ {A : Type 0} where
   pub number_small : (a : Arc FrameData A) → unpacked_number a ≤ 1
   number_small a = at (shared_frame a).is_unpacked where
@@ -145,28 +149,25 @@ module _ {A : Type 0} where
       let s = sum_by-below ram_taken (2 ^ 64 - 1) ram_small (values_of es) in
       omega arith
 
+  -- the frames without one, and that one
+  without : (f : Arc FrameData A → ℕ) (es : List (ℕ × Arc FrameData A)) (k : ℕ) (before : Option (Arc FrameData A)) → before ≡ lookup (is_at (nat_cmp k)) es
+      → sum_by f (values_of (remove_entry (is_at (nat_cmp k)) es)) + unwrap_or (option_map f before) 0 ≡ sum_by f (values_of es)
+  without f es k before found = ap (λ o. sum_by f (values_of (remove_entry (is_at (nat_cmp k)) es)) + unwrap_or (option_map f o) 0) found ∙ sum_by-remove_entry f (is_at (nat_cmp k)) es
+
   -- one more, in the place of what was there
   pub sum_inserted : (f : Arc FrameData A → ℕ) (es fs : List (ℕ × Arc FrameData A)) (k : ℕ) (a : Arc FrameData A) (before : Option (Arc FrameData A)) (u v w : ℕ) → fs ≡ insert_entry nat_cmp es k a → before ≡ lookup (is_at (nat_cmp k)) es
-      → IsStrictlySortedBy nat_cmp (keys_of es) → u ≡ sum_by f (values_of es) → v + unwrap_or (option_map f before) 0 ≡ u → w ≡ v + f a → w ≡ sum_by f (values_of fs)
+      → IsStrictlySortedBy nat_cmp (keys_of es) → u ≡ wrapped (sum_by f (values_of es)) → ((rest : ℕ) → u ≡ wrapped (rest + unwrap_or (option_map f before) 0) → v ≡ wrapped rest) → w ≡ wrapped (v + f a) → w ≡ wrapped (sum_by f (values_of fs))
   sum_inserted f es fs k a before u v w put found sorted was lowered raised =
-      let after = sum_by-insert_entry f nat_cmp_total es k a sorted in
-      let old : unwrap_or (option_map f before) 0 ≡ unwrap_or (option_map f (lookup (is_at (nat_cmp k)) es)) 0 = ap (λ o. unwrap_or (option_map f o) 0) found in
-      let same : sum_by f (values_of fs) ≡ sum_by f (values_of (insert_entry nat_cmp es k a)) = ap (λ l. sum_by f (values_of l)) put in
-      omega arith
+      let rest : ℕ = sum_by f (values_of (remove_entry (is_at (nat_cmp k)) es)) in
+      let removed = sum_by-remove_entry f (is_at (nat_cmp k)) es in
+      let inserted = sum_by-insert_entry f nat_cmp_total es k a sorted in
+      let more : rest + f a ≡ sum_by f (values_of (insert_entry nat_cmp es k a)) = omega arith in
+      raised ∙ ap (λ n. wrapped (n + f a)) (lowered rest (was ∙ ap wrapped (sym (without f es k before found)))) ∙ mod-add-mod rest (2 ^ 128) (f a) ∙ ap wrapped more ∙ ap (λ l. wrapped (sum_by f (values_of l))) (sym put)
 
   pub sum_removed : (f : Arc FrameData A → ℕ) (es fs : List (ℕ × Arc FrameData A)) (k : ℕ) (before : Option (Arc FrameData A)) (u v : ℕ) → fs ≡ remove_entry (is_at (nat_cmp k)) es → before ≡ lookup (is_at (nat_cmp k)) es
-      → u ≡ sum_by f (values_of es) → v + unwrap_or (option_map f before) 0 ≡ u → v ≡ sum_by f (values_of fs)
+      → u ≡ wrapped (sum_by f (values_of es)) → ((rest : ℕ) → u ≡ wrapped (rest + unwrap_or (option_map f before) 0) → v ≡ wrapped rest) → v ≡ wrapped (sum_by f (values_of fs))
   sum_removed f es fs k before u v cut found was lowered =
-      let after = sum_by-remove_entry f (is_at (nat_cmp k)) es in
-      let old : unwrap_or (option_map f before) 0 ≡ unwrap_or (option_map f (lookup (is_at (nat_cmp k)) es)) 0 = ap (λ o. unwrap_or (option_map f o) 0) found in
-      let same : sum_by f (values_of fs) ≡ sum_by f (values_of (remove_entry (is_at (nat_cmp k)) es)) = ap (λ l. sum_by f (values_of l)) cut in
-      omega arith
-
-  pub one_of_sum : (f : Arc FrameData A → ℕ) (es : List (ℕ × Arc FrameData A)) (k : ℕ) (before : Option (Arc FrameData A)) (u : ℕ) → before ≡ lookup (is_at (nat_cmp k)) es → u ≡ sum_by f (values_of es) → unwrap_or (option_map f before) 0 ≤ u
-  one_of_sum f es k before u found was =
-      let after = sum_by-remove_entry f (is_at (nat_cmp k)) es in
-      let old : unwrap_or (option_map f before) 0 ≡ unwrap_or (option_map f (lookup (is_at (nat_cmp k)) es)) 0 = ap (λ o. unwrap_or (option_map f o) 0) found in
-      omega arith
+      lowered (sum_by f (values_of (remove_entry (is_at (nat_cmp k)) es))) (was ∙ ap wrapped (sym (without f es k before found))) ∙ ap (λ l. wrapped (sum_by f (values_of l))) (sym cut)
 
   pub seen_copied : (o : Option (Bor (Arc FrameData A))) (p : Option (Arc FrameData A)) → option_copied o ≡ p → option_map (λ a. shared_frame a.now) o ≡ option_map shared_frame p
   seen_copied o p e = same o ∙ ap (option_map shared_frame) e where
@@ -175,14 +176,18 @@ module _ {A : Type 0} where
     same (Some a) = refl
 
   -- what the sums say is what the frames say
-  pub stats_summed : (es : List (ℕ × Arc FrameData A)) (sums : RunningStats) → IsSummed es sums → record { frames = cut sums.frames; unpacked_frames = cut sums.unpacked_frames; bytes_of_ram_used = cut sums.bytes_of_ram_used } ≡ stats_of (fin.values (held_of es))
-  stats_summed es sums h =
+  pub stats_summed : (es : List (ℕ × Arc FrameData A)) (n : ℕ) (sums : RunningStats) → n ≡ length es → n < 2 ^ 64 → IsSummed es sums → record { frames = n; unpacked_frames = cut sums.unpacked_frames; bytes_of_ram_used = cut sums.bytes_of_ram_used } ≡ stats_of (fin.values (held_of es))
+  stats_summed es n sums many few h =
       let fs : List Frame = map shared_frame (values_of es) in
       let made : List Frame → FrameStats = stats_of in
-      let count : sums.frames ≡ length fs = h.frames ∙ sym (length-values_of es) ∙ sym (length-map shared_frame (values_of es)) in
-      let unpacked = h.unpacked_frames ∙ sym (sum_by-map shared_frame (λ (f : Frame). number_if f.is_unpacked) (values_of es)) in
-      let bytes = h.bytes ∙ sym (sum_by-map shared_frame ram_of (values_of es)) in
-      let same : record { frames = cut sums.frames; unpacked_frames = cut sums.unpacked_frames; bytes_of_ram_used = cut sums.bytes_of_ram_used } ≡ made fs = λ i. record { frames = cut (count i); unpacked_frames = cut (unpacked i); bytes_of_ram_used = cut (bytes i) } in
+      let low : length es < 2 ^ 64 = subst (λ m. m < 2 ^ 64) many few in
+      let numbers = numbers_below es low in
+      let ram = ram_below es low in
+      let long : length es ≡ length fs = sym (length-values_of es) ∙ sym (length-map shared_frame (values_of es)) in
+      let count : n ≡ cut (length fs) = omega arith in
+      let unpacked = h.unpacked_frames ∙ fits (sum_by unpacked_number (values_of es)) (omega arith) ∙ sym (sum_by-map shared_frame (λ (f : Frame). number_if f.is_unpacked) (values_of es)) in
+      let bytes = h.bytes ∙ fits (sum_by ram_taken (values_of es)) (omega arith) ∙ sym (sum_by-map shared_frame ram_of (values_of es)) in
+      let same : record { frames = n; unpacked_frames = cut sums.unpacked_frames; bytes_of_ram_used = cut sums.bytes_of_ram_used } ≡ made fs = λ i. record { frames = count i; unpacked_frames = cut (unpacked i); bytes_of_ram_used = cut (bytes i) } in
       same ∙ ap made (sym (values-held_of es h.ordered))
 
 -- a clone has the same keys and the same frames
@@ -205,19 +210,11 @@ module _ {A : Type 0} where
   sum_cloned : (w : Frame → ℕ) (es fs : List (ℕ × Arc FrameData A)) → AllZip (λ p q. (q.0 ≡ p.0) × (arc_value q.1 ≡ arc_value p.1)) es fs → sum_by (λ a. w (shared_frame a)) (values_of es) ≡ sum_by (λ a. w (shared_frame a)) (values_of fs)
   sum_cloned w es fs h = sym (sum_by-map shared_frame w (values_of es)) ∙ ap (sum_by w) (sym (frames_cloned es fs h)) ∙ sum_by-map shared_frame w (values_of fs)
 
-  same_length : (es fs : List (ℕ × Arc FrameData A)) → AllZip (λ p q. (q.0 ≡ p.0) × (arc_value q.1 ≡ arc_value p.1)) es fs → length es ≡ length fs
-  same_length [] [] h = refl
-  same_length [] (f ∷ fs) h = absurd h
-  same_length (e ∷ es) [] h = absurd h
-  same_length (e ∷ es) (f ∷ fs) h = ap suc (same_length es fs h.1)
-
   pub summed_cloned : (es fs : List (ℕ × Arc FrameData A)) (sums : RunningStats) → AllZip (λ p q. (q.0 ≡ p.0) × (arc_value q.1 ≡ arc_value p.1)) es fs → IsSummed es sums → IsSummed fs sums
   summed_cloned es fs sums h s = record {
     ordered = subst (λ ks. IsStrictlySortedBy nat_cmp ks) (sym (keys_cloned es fs h)) s.ordered;
-    few = subst (λ n. n < 2 ^ 64) (same_length es fs h) s.few;
-    frames = s.frames ∙ sym (length-values_of es) ∙ sym (length-map shared_frame (values_of es)) ∙ ap length (sym (frames_cloned es fs h)) ∙ length-map shared_frame (values_of fs) ∙ length-values_of fs;
-    unpacked_frames = s.unpacked_frames ∙ sum_cloned (λ f. number_if f.is_unpacked) es fs h;
-    bytes = s.bytes ∙ sum_cloned ram_of es fs h;
+    unpacked_frames = s.unpacked_frames ∙ ap wrapped (sum_cloned (λ f. number_if f.is_unpacked) es fs h);
+    bytes = s.bytes ∙ ap wrapped (sum_cloned ram_of es fs h);
   }
 
 -- the bytes that a frame takes, as its sizes say it

@@ -1,29 +1,22 @@
 -- Letting go of the frames of ranks, one after another.
-use Rattle.std.proofs.Common.{◌≡◌, ℕ, zero, suc, Bool, true, false, cond, List, [], ◌∷◌, ◌++◌, ◌-◌, length, take, drop, map, Option, refl, sym, ap, subst, ◌∙◌, arith, append_assoc, append-nil}
+use Rattle.std.proofs.Common.{◌≡◌, ℕ, zero, suc, Bool, true, false, List, [], ◌∷◌, ◌++◌, ◌-◌, length, take, drop, map, refl, sym, ap, subst, ◌∙◌, arith, append_assoc, append-nil}
 use Rattle.std.proofs.Math.Seq.{drop-nil}
 use Rattle.std.proofs.lemmas.List.{take_all, length-drop}
 use Rattle.std.specs.Prelude.{nat_eq, min}
 use Rattle.std.specs.List.{list_any}
 use Rattle.std.specs.FinMap as fin
 use Rattle.puffin_view.specs.declared.profile_view.slow_rank.SlowRank.{SlowRank}
-use Rattle.puffin_view.specs.View.ViewedFrames.{Frame}
-use Rattle.puffin_view.specs.View.Ranking.{rank_index, has}
+use Rattle.puffin_view.specs.View.Ranking.{rank_index}
 use Rattle.puffin_view.specs.inner.Held.{HeldFrames}
 use Rattle.puffin_view.specs.inner.Ranks.{LetsGo}
 use Rattle.puffin_view.proofs.Orders.{map-more}
-use Rattle.puffin_view.proofs.Storing.{LetsGo-kept, LetsGo-more, any_has}
+use Rattle.puffin_view.proofs.Cutting.{LetsGo-kept, LetsGo-more, any_has}
 
 -- of the ranks of a list, all before those left are gone
 pub record LetsGoSome (old : HeldFrames) (recent : List ℕ) (whole : List SlowRank) (new : HeldFrames) (left : List SlowRank) : Type 0 where
   pub gone : List SlowRank
   pub parts : gone ++ left ≡ whole
   pub lets : LetsGo old recent (map rank_index gone) new
-
-pub none_gone : (held : HeldFrames) (recent : List ℕ) (whole : List SlowRank) → LetsGoSome held recent whole held whole
-none_gone held recent whole = record { gone = []; parts = refl; lets = λ q. same (has q recent) (fin.get held q) } where
-  same : (b : Bool) (o : Option Frame) → o ≡ cond b o o
-  same true o = refl
-  same false o = refl
 
 -- one more rank, whose frame is let go where it isn't recent
 slow_step : (old mid new : HeldFrames) (recent : List ℕ) (gone : List SlowRank) (r : SlowRank) (b : Bool) → LetsGo old recent (map rank_index gone) mid → b ≡ list_any (λ y. nat_eq y (rank_index r)) recent → (b ≡ false → new ≡ fin.remove mid (rank_index r)) → (b ≡ true → new ≡ mid)

@@ -6,6 +6,8 @@ mod Taking
 mod Keeping
 mod HoldingViews
 mod Placing
+mod Members
+mod Cutting
 mod Storing
 mod LettingGo
 mod JoiningPending

@@ -7,7 +7,7 @@ use Rattle.std.specs.Iterator.{MakesProgress, item_count}
 use Rattle.puffin_view.specs.declared.profile_view.slow_rank.SlowRank.{SlowRank}
 use Rattle.puffin_view.specs.View.ViewedFrames.{Frame, index_of}
 use Rattle.puffin_view.specs.View.Ranking.{rank_index, has}
-use Rattle.puffin_view.proofs.Storing.{any_ranks}
+use Rattle.puffin_view.proofs.Cutting.{any_ranks}
 
 pub given : {A B : Type 0} (h : A → Option B) (rest rest' : List A) (all : List B) (a : A) (b : B) → filter_map h rest ≡ all → rest ≡ a ∷ rest' → h a ≡ Some b → all ≡ b ∷ filter_map h rest'
 given h rest rest' all a b e step got = sym e ∙ ap (filter_map h) step ∙ ap (λ o. cons_option o (filter_map h rest')) got

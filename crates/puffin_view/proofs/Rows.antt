@@ -1,5 +1,5 @@
 -- Frames in rows: entries by rising keys, and behind them others whose keys are above.
-use Rattle.std.proofs.Common.{◌≡◌, ℕ, zero, suc, ◌<◌, ◌≤◌, Bool, true, false, cond, List, [], ◌∷◌, ◌++◌, length, take, drop, map, get_or, Option, Some, None, refl, sym, ap, subst, ◌∙◌, arith, append_assoc}
+use Rattle.std.proofs.Common.{◌≡◌, ℕ, ◌≤◌, Bool, true, false, cond, List, [], ◌∷◌, ◌++◌, Option, Some, None, refl, sym, ap, ◌∙◌, arith}
 use Rattle.std.specs.Prelude.{IsSome, nat_lt}
 use Rattle.std.specs.List.{AllByRecursion}
 use Rattle.std.specs.List.Sorted.{IsStrictlySortedBy}
@@ -119,14 +119,6 @@ module _ {X : Type 0} where
   rest_sorted [] ms s = s
   rest_sorted (e ∷ es) ms s = rest_sorted es ms s.1
 
-  pub first_sorted : (es ms : List (ℕ × X)) → IsStrictlySortedBy nat_cmp (keys_of (es ++ ms)) → IsStrictlySortedBy nat_cmp (keys_of es)
-  unfolding IsStrictlySortedBy
-  first_sorted [] ms s = tt
-  first_sorted (e ∷ es) ms s = (some es s.0, first_sorted es ms s.1) where
-    some : (fs : List (ℕ × X)) → AllByRecursion (λ y. nat_cmp e.0 y ≡ Less) (keys_of (fs ++ ms)) → AllByRecursion (λ y. nat_cmp e.0 y ≡ Less) (keys_of fs)
-    some [] h = tt
-    some (f ∷ fs) h = (h.0, some fs h.1)
-
   all_inserted : (P : ℕ → Type 0) (k : ℕ) (a : X) (es : List (ℕ × X)) → P k → AllByRecursion P (keys_of es) → AllByRecursion P (keys_of (insert_entry nat_cmp es k a))
   all_inserted P k a [] p h = (p, tt)
   all_inserted P k a (e ∷ es) p h = by (nat_cmp k e.0) (all_inserted P k a es p h.1) where
@@ -134,10 +126,6 @@ module _ {X : Type 0} where
     by Less later = (p, h)
     by Equal later = h
     by Greater later = (h.0, later)
-
-  below_all : (k : ℕ) (es : List (ℕ × X)) → AllByRecursion (λ y. nat_cmp k y ≡ Less) (keys_of es) → lookup (at k) es ≡ None
-  below_all k [] h = refl
-  below_all k (e ∷ es) h = rw h.0 (below_all k es h.1)
 
   all_further : (k j : ℕ) (es : List (ℕ × X)) → nat_cmp k j ≡ Less → AllByRecursion (λ y. nat_cmp j y ≡ Less) (keys_of es) → AllByRecursion (λ y. nat_cmp k y ≡ Less) (keys_of es)
   all_further k j [] e h = tt
@@ -166,17 +154,6 @@ module _ {X : Type 0} where
     by : (b : Bool) → IsStrictlySortedBy nat_cmp (keys_of (remove_entry t es)) → IsStrictlySortedBy nat_cmp (keys_of (cond b es (e ∷ remove_entry t es)))
     by true later = s.1
     by false later = (all_removed (λ y. nat_cmp e.0 y ≡ Less) t es s.0, later)
-
-  -- where the key is there, as many stay
-  pub length-insert-there : (k : ℕ) (a : X) (es : List (ℕ × X)) → IsStrictlySortedBy nat_cmp (keys_of es) → IsSome (lookup (at k) es) → length (insert_entry nat_cmp es k a) ≡ length es
-  unfolding IsStrictlySortedBy
-  length-insert-there k a [] s h = let none : Option X = None in absurd (no_some none refl h)
-  length-insert-there k a (e ∷ es) s h = by (nat_cmp k e.0) refl h (length-insert-there k a es s.1) where
-    by : (o : Ordering) → nat_cmp k e.0 ≡ o → IsSome (cond (is_eq o) (Some e.1) (lookup (at k) es)) → (IsSome (lookup (at k) es) → length (insert_entry nat_cmp es k a) ≡ length es)
-        → length (match_ordering o ((k, a) ∷ e ∷ es) ((e.0, a) ∷ es) (e ∷ insert_entry nat_cmp es k a)) ≡ length (e ∷ es)
-    by Less p h later = absurd (no_some (lookup (at k) es) (below_all k es (all_further k e.0 es p s.0)) h)
-    by Equal p h later = refl
-    by Greater p h later = ap suc (later h)
 
   -- keys that a look-up from k on doesn't find are below k
   pub below_none : (k : ℕ) (es : List (ℕ × X)) → ((q : ℕ) → k ≤ q → lookup (at q) es ≡ None) → AreBelow k es

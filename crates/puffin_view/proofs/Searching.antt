@@ -21,7 +21,7 @@ use Rattle.puffin_view.specs.View.Ranking.{rank_index, has, last_from, last_in}
 use Rattle.puffin_view.specs.inner.Kept.{AreRising}
 use Rattle.puffin_view.specs.inner.Store.{AreHeld, AreStored}
 use Rattle.puffin_view.proofs.Placing.{rank_cmp_total}
-use Rattle.puffin_view.proofs.Storing.{all_last_from}
+use Rattle.puffin_view.proofs.Members.{equal_to, one_some, all_last_from}
 
 true≢false : true ≡ false → ⊥
 true≢false e = cc
@@ -84,9 +84,6 @@ searched_index is i n r as_many sorted range found = searched nat_cmp nat_cmp_to
 pub searched_rank : (slow : List SlowRank) (x : SlowRank) (n : ℕ) (r : Result ℕ ℕ) → n ≡ length slow → IsStrictlySortedBy rank_cmp slow → IsSearchInRange r n → IsBinarySearchResult (λ y. rank_cmp y x) slow r → is_ok r ≡ list_any (λ y. is_eq (rank_cmp y x)) slow
 searched_rank slow x n r as_many sorted range found = searched rank_cmp rank_cmp_total slow x r sorted (subst (IsSearchInRange r) as_many range) found
 
-one_some : {A : Type 0} (a b : A) → Some a ≡ Some b → a ≡ b
-one_some a b e = cc
-
 -- behind the last of a list in order, a rank is none of it
 less_than : (x l : SlowRank) → is_le (rank_cmp x l) ≡ false → rank_cmp l x ≡ Less
 less_than x l p = at (rank_cmp x l) refl where
@@ -106,9 +103,6 @@ pub none_behind : (slow : List SlowRank) (x l : SlowRank) → IsStrictlySortedBy
 none_behind slow x l sorted e p = behind slow x l sorted e (less_than x l p)
 
 -- a rank of the frame that is held under an index
-equal_to : (a b : ℕ) → nat_eq a b ≡ true → a ≡ b
-equal_to a b e = grind arith
-
 other_index : (a b : ℤ) (i j : ℕ) → nat_eq i j ≡ false → is_eq (ordering_then (int_cmp b a) (nat_cmp i j)) ≡ false
 other_index a b i j e = at (int_cmp b a) where
   at : (o : Ordering) → is_eq (ordering_then o (nat_cmp i j)) ≡ false

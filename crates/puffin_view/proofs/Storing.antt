@@ -1,246 +1,26 @@
--- How a view's frames are kept, and what its steps do to that.
-use Rattle.std.proofs.Common.{◌≡◌, ℕ, zero, suc, ◌+◌, ◌<◌, ◌≤◌, Bool, true, false, cond, ◌||◌, List, [], ◌∷◌, ◌++◌, length, take, drop, map, Option, Some, None, get_or, refl, sym, ap, subst, ◌∙◌, arith}
+-- How a view's frames are kept, as one more is added and the newest is packed.
+use Rattle.std.proofs.Common.{◌≡◌, ℕ, suc, ◌<◌, ◌≤◌, Bool, true, false, cond, ◌||◌, List, [], ◌∷◌, ◌++◌, length, map, Option, Some, None, refl, sym, ap, subst, ◌∙◌, arith}
 use Rattle.std.specs.Prelude.{nat_eq, nat_lt, int_lt, ◌≢◌, IsSome}
-use Rattle.std.specs.List.{AllByRecursion, filter_map, list_any}
+use Rattle.std.specs.List.{AllByRecursion}
 use Rattle.std.specs.List.Sorted.{IsStrictlySortedBy}
 use Rattle.std.specs.declared.cmp.Ordering.{Ordering}
 use Rattle.std.specs.declared.cmp.Ordering.TheVariants.{Less, Equal, Greater}
 use Rattle.std.specs.Option.{option_map_or}
-use Rattle.std.specs.Ordering.{nat_cmp, int_cmp, is_lt, ordering_then, ordering_reverse, eq_by_cmp}
+use Rattle.std.specs.Ordering.{nat_cmp, int_cmp, is_lt, ordering_then, ordering_reverse}
 use Rattle.std.specs.Cmp.{nat_cmp_total}
 use Rattle.std.specs.FinMap as fin
-use Rattle.std.proofs.lemmas.List.{drop-drop, length-drop}
 use Rattle.puffin_view.specs.declared.profile_view.slow_rank.SlowRank.{SlowRank}
-use Rattle.puffin_view.specs.View.Ranking.{place, last_from, last_in, rank_index, has}
+use Rattle.puffin_view.specs.View.Ranking.{place, last_from, last_in, rank_index}
 use Rattle.puffin_view.specs.View.ViewedFrames.{Frame, index_of, duration_of, is_slower_frame, packed_alone, packed_under, frames_by_index}
 use Rattle.puffin_view.specs.inner.Held.{HeldFrames}
-use Rattle.puffin_view.specs.inner.Ranks.{is_before, rank_enters, LetsGo}
+use Rattle.puffin_view.specs.inner.Ranks.{is_before, rank_enters}
 use Rattle.puffin_view.specs.View.FrameRanks.{rank_of, rank_cmp}
-use Rattle.puffin_view.specs.inner.Kept.{AreRising, HaveOwnIndices, IsUpTo}
+use Rattle.puffin_view.specs.inner.Kept.{AreRising, HaveOwnIndices}
 use Rattle.puffin_view.specs.View.{View, enters_among}
 use Rattle.puffin_view.specs.inner.Store.{frames_under, AreHeld, has_index, AreStored}
-use Rattle.puffin_view.proofs.Keeping.{IsKept-packed}
+use Rattle.puffin_view.proofs.Keeping.{IsKept-packed, index_packed_at}
 use Rattle.puffin_view.proofs.Placing.{rank_cmp_total}
-
-true≢false : true ≡ false → ⊥
-true≢false e = cc
-
-neither : (a b : Bool) → (a || b) ≡ false → (a ≡ false) × (b ≡ false)
-neither true b h = absurd (true≢false h)
-neither false b h = (refl, h)
-
--- members by index
-
-pub has-append : (q : ℕ) (xs ys : List ℕ) → has q (xs ++ ys) ≡ (has q xs || has q ys)
-has-append q [] ys = refl
-has-append q (x ∷ xs) ys = at (nat_eq q x) (has-append q xs ys) where
-  at : (b : Bool) → has q (xs ++ ys) ≡ (has q xs || has q ys) → (b || has q (xs ++ ys)) ≡ ((b || has q xs) || has q ys)
-  at true e = refl
-  at false e = e
-
-pub has_index-append : (q : ℕ) (fs gs : List Frame) → has_index q (fs ++ gs) ≡ (has_index q fs || has_index q gs)
-has_index-append q [] gs = refl
-has_index-append q (f ∷ fs) gs = at (nat_eq q (index_of f)) (has_index-append q fs gs) where
-  at : (b : Bool) → has_index q (fs ++ gs) ≡ (has_index q fs || has_index q gs) → (b || has_index q (fs ++ gs)) ≡ ((b || has_index q fs) || has_index q gs)
-  at true e = refl
-  at false e = e
-
-pub has-index_of : (q : ℕ) (fs : List Frame) → has q (map index_of fs) ≡ has_index q fs
-has-index_of q [] = refl
-has-index_of q (f ∷ fs) = ap (λ b. nat_eq q (index_of f) || b) (has-index_of q fs)
-
-pub has_all : (P : Frame → Type 0) (fs : List Frame) → ((g : Frame) → has_index (index_of g) fs ≡ true → P g) → AllByRecursion P fs
-has_all P [] h = tt
-has_all P (f ∷ fs) h = (h f (ap (λ b. b || has_index (index_of f) fs) (same (index_of f) (index_of f) refl)), has_all P fs (λ g e. h g (later (nat_eq (index_of g) (index_of f)) (has_index (index_of g) fs) e))) where
-  same : (a b : ℕ) → a ≡ b → nat_eq a b ≡ true
-  same a b e = grind arith
-
-  later : (a b : Bool) → b ≡ true → (a || b) ≡ true
-  later true b e = refl
-  later false b e = e
-
-equal_to : (a b : ℕ) → nat_eq a b ≡ true → a ≡ b
-equal_to a b e = grind arith
-
-equals : (a b : ℕ) → a ≡ b → nat_eq a b ≡ true
-equals a b e = grind arith
-
-apart_to : (a b : ℕ) → a ≢ b → nat_eq a b ≡ false
-apart_to a b h = grind arith
-
-apart_from : (a b : ℕ) → nat_eq a b ≡ false → a ≢ b
-apart_from a b h = grind arith
-
--- all of a list
-
-all_map : (P Q : Frame → Type 0) → ((f : Frame) → P f → Q f) → (fs : List Frame) → AllByRecursion P fs → AllByRecursion Q fs
-all_map P Q k [] h = tt
-all_map P Q k (f ∷ fs) h = (k f h.0, all_map P Q k fs h.1)
-
-all_both : (P Q R : Frame → Type 0) → ((f : Frame) → P f → Q f → R f) → (fs : List Frame) → AllByRecursion P fs → AllByRecursion Q fs → AllByRecursion R fs
-all_both P Q R k [] h m = tt
-all_both P Q R k (f ∷ fs) h m = (k f h.0 m.0, all_both P Q R k fs h.1 m.1)
-
-pub all_first : {A : Type 0} (P : A → Type 0) (xs ys : List A) → AllByRecursion P (xs ++ ys) → AllByRecursion P xs
-all_first P [] ys h = tt
-all_first P (x ∷ xs) ys h = (h.0, all_first P xs ys h.1)
-
-pub all_rest : {A : Type 0} (P : A → Type 0) (xs ys : List A) → AllByRecursion P (xs ++ ys) → AllByRecursion P ys
-all_rest P [] ys h = h
-all_rest P (x ∷ xs) ys h = all_rest P xs ys h.1
-
-all_more : (P : Frame → Type 0) (xs : List Frame) (f : Frame) → AllByRecursion P xs → P f → AllByRecursion P (xs ++ f ∷ [])
-all_more P [] f h p = (p, tt)
-all_more P (x ∷ xs) f h p = (h.0, all_more P xs f h.1 p)
-
-all_place : (P : Frame → Type 0) (f : Frame) (fs : List Frame) → P f → AllByRecursion P fs → AllByRecursion P (place is_slower_frame f fs)
-all_place P f [] p h = (p, tt)
-all_place P f (x ∷ xs) p h = at (is_slower_frame f x) (all_place P f xs p h.1) where
-  at : (b : Bool) → AllByRecursion P (place is_slower_frame f xs) → AllByRecursion P (cond b (f ∷ (x ∷ xs)) (x ∷ place is_slower_frame f xs))
-  at true later = (p, h)
-  at false later = (h.0, later)
-
-apart_first : (xs ys : List Frame) → HaveOwnIndices (xs ++ ys) → HaveOwnIndices xs
-apart_first [] ys h = tt
-apart_first (x ∷ xs) ys h = (all_first (λ g. index_of g ≢ index_of x) xs ys h.0, apart_first xs ys h.1)
-
-rising_rest : (xs ys : List Frame) → AreRising (xs ++ ys) → AreRising ys
-rising_rest [] ys h = h
-rising_rest (x ∷ xs) ys h = rising_rest xs ys h.1
-
-pub sorted_first : {K : Type 0} (cmp : K → K → Ordering) (xs ys : List K) → IsStrictlySortedBy cmp (xs ++ ys) → IsStrictlySortedBy cmp xs
-unfolding IsStrictlySortedBy
-sorted_first cmp [] ys h = tt
-sorted_first cmp (x ∷ xs) ys h = (all_first (λ y. cmp x y ≡ Less) xs ys h.0, sorted_first cmp xs ys h.1)
-
--- none of a list's frames has an index
-pub none_has : (q : ℕ) (fs : List Frame) → AllByRecursion (λ g. index_of g ≢ q) fs → has_index q fs ≡ false
-none_has q [] h = refl
-none_has q (f ∷ fs) h = rw (apart_to q (index_of f) (λ e. h.0 (sym e))) (none_has q fs h.1)
-
--- what is held under the frames' own indices is the frames
-
-pub held_back : (h : ℕ → Option Frame) (fs : List Frame) → AreHeld h fs → filter_map h (map index_of fs) ≡ fs
-held_back h [] held = refl
-held_back h (f ∷ fs) held = rw held.0 (ap (λ gs. f ∷ gs) (held_back h fs held.1))
-
--- letting go
-
-pub is_at : (q i : ℕ) → eq_by_cmp nat_cmp q i ≡ nat_eq q i
-is_at q i = grind arith
-
-either_last : (a b : Bool) → (a || (b || false)) ≡ (a || b)
-either_last true b = refl
-either_last false true = refl
-either_last false false = refl
-
-pub LetsGo-more : (old mid new : HeldFrames) (stays gone : List ℕ) (i : ℕ) → LetsGo old stays gone mid → new ≡ fin.remove mid i → has i stays ≡ false → LetsGo old stays (gone ++ i ∷ []) new
-LetsGo-more old mid new stays gone i h is out q =
-    ap (λ m. fin.get m q) is ∙ fin.get-remove nat_cmp_total mid i q ∙ ap (λ b. cond b None (fin.get mid q)) (is_at q i)
-    ∙ at (nat_eq q i) (has q stays) (has q gone) (h q) (λ e. ap (λ k. has k stays) (equal_to q i e) ∙ out)
-    ∙ ap (λ b. cond (has q stays) (fin.get old q) (cond b None (fin.get old q))) (sym (has-append q gone (i ∷ []) ∙ either_last (has q gone) (nat_eq q i))) where
-      at : (b s g : Bool) → fin.get mid q ≡ cond s (fin.get old q) (cond g None (fin.get old q)) → (b ≡ true → s ≡ false) → cond b None (fin.get mid q) ≡ cond s (fin.get old q) (cond (g || b) None (fin.get old q))
-      at true true g e out = absurd (true≢false (out refl))
-      at true false true e out = refl
-      at true false false e out = refl
-      at false true g e out = e
-      at false false true e out = e
-      at false false false e out = e
-
-pub LetsGo-kept : (old mid : HeldFrames) (stays gone : List ℕ) (i : ℕ) → LetsGo old stays gone mid → has i stays ≡ true → LetsGo old stays (gone ++ i ∷ []) mid
-LetsGo-kept old mid stays gone i h among q =
-    at (nat_eq q i) (has q stays) (has q gone) (h q) (λ e. ap (λ k. has k stays) (equal_to q i e) ∙ among)
-    ∙ ap (λ b. cond (has q stays) (fin.get old q) (cond b None (fin.get old q))) (sym (has-append q gone (i ∷ []) ∙ either_last (has q gone) (nat_eq q i))) where
-      at : (b s g : Bool) → fin.get mid q ≡ cond s (fin.get old q) (cond g None (fin.get old q)) → (b ≡ true → s ≡ true) → fin.get mid q ≡ cond s (fin.get old q) (cond (g || b) None (fin.get old q))
-      at true true g e among = e
-      at true false g e among = absurd (true≢false (sym (among refl)))
-      at false true g e among = e
-      at false false true e among = e
-      at false false false e among = e
-
-let_stay : (h k : ℕ → Option Frame) (stays gone : ℕ → Bool) → ((q : ℕ) → k q ≡ cond (stays q) (h q) (cond (gone q) None (h q))) → (f : Frame) → stays (index_of f) ≡ true → h (index_of f) ≡ Some f → k (index_of f) ≡ Some f
-let_stay h k stays gone is f among held = is (index_of f) ∙ ap (λ b. cond b (h (index_of f)) (cond (gone (index_of f)) None (h (index_of f)))) among ∙ held
-
-not_gone : (h k : ℕ → Option Frame) (stays gone : ℕ → Bool) → ((q : ℕ) → k q ≡ cond (stays q) (h q) (cond (gone q) None (h q))) → (f : Frame) → gone (index_of f) ≡ false → h (index_of f) ≡ Some f → k (index_of f) ≡ Some f
-not_gone h k stays gone is f out held = is (index_of f) ∙ ap (λ b. cond (stays (index_of f)) (h (index_of f)) (cond b None (h (index_of f)))) out ∙ at (stays (index_of f)) ∙ held where
-  at : (b : Bool) → cond b (h (index_of f)) (h (index_of f)) ≡ h (index_of f)
-  at true = refl
-  at false = refl
-
-gone_for_all : (s g : Bool) (o : Option Frame) → s ≡ false → (g ≡ false → o ≡ None) → cond s o (cond g None o) ≡ None
-gone_for_all true g o out none = absurd (true≢false out)
-gone_for_all false true o out none = refl
-gone_for_all false false o out none = none refl
-
--- of the slow frames, the first ones stay
-pub stored-cut_slow : (held new : HeldFrames) (recent : List ℕ) (slow : List SlowRank) (last : Option ℕ) (R S gone : List Frame) → AreStored held recent slow last R (S ++ gone) → LetsGo held (map index_of R) (map index_of gone) new → AreStored new recent (map rank_of S) last R S
-stored-cut_slow held new recent slow last R S gone h go =
-    let stays : ℕ → Bool = λ q. has q (map index_of R) in
-    let away : ℕ → Bool = λ q. has q (map index_of gone) in
-    record {
-      recent_at = h.recent_at;
-      slow_at = refl;
-      recent_held = all_both (λ f. has_index (index_of f) R ≡ true) (λ f. fin.get held (index_of f) ≡ Some f) (λ f. fin.get new (index_of f) ≡ Some f)
-          (λ f among is. let_stay (fin.get held) (fin.get new) stays away go f (has-index_of (index_of f) R ∙ among) is) R (has_all (λ f. has_index (index_of f) R ≡ true) R (λ g e. e)) h.recent_held;
-      slow_held = all_both (λ f. has_index (index_of f) gone ≡ false) (λ f. fin.get held (index_of f) ≡ Some f) (λ f. fin.get new (index_of f) ≡ Some f)
-          (λ f out is. not_gone (fin.get held) (fin.get new) stays away go f (has-index_of (index_of f) gone ∙ out) is) S (others S h.kept.apart) (all_first (λ f. fin.get held (index_of f) ≡ Some f) S gone h.slow_held);
-      only = λ q out. let both = neither (has_index q R) (has_index q S) (sym (has_index-append q R S) ∙ out) in
-          go q ∙ gone_for_all (stays q) (away q) (fin.get held q) (has-index_of q R ∙ both.0)
-          (λ none. h.only q (has_index-append q R (S ++ gone) ∙ rw both.0 (has_index-append q S gone ∙ rw both.1 (sym (has-index_of q gone) ∙ none))));
-      kept = record {
-        recent_taken = h.kept.recent_taken;
-        slow_taken = all_first (λ f. IsUpTo last (index_of f)) S gone h.kept.slow_taken;
-        rising = h.kept.rising;
-        apart = apart_first S gone h.kept.apart;
-      };
-      in_order = ordered;
-    } where
-      others : (S : List Frame) → HaveOwnIndices (S ++ gone) → AllByRecursion (λ f. has_index (index_of f) gone ≡ false) S
-      others [] apart = tt
-      others (f ∷ S) apart = (none_has (index_of f) gone (all_rest (λ g. index_of g ≢ index_of f) S gone apart.0), others S apart.1)
-
-      ranks-append : (S : List Frame) → map rank_of (S ++ gone) ≡ map rank_of S ++ map rank_of gone
-      ranks-append [] = refl
-      ranks-append (f ∷ S) = ap (λ rs. rank_of f ∷ rs) (ranks-append S)
-
-      ordered : IsStrictlySortedBy rank_cmp (map rank_of S)
-      ordered = sorted_first rank_cmp (map rank_of S) (map rank_of gone) (subst (λ rs. IsStrictlySortedBy rank_cmp rs) (h.slow_at ∙ ranks-append S) h.in_order)
-
--- of the recent frames, the last ones stay
-pub stored-cut_recent : (held new : HeldFrames) (recent : List ℕ) (slow : List SlowRank) (last : Option ℕ) (gone R S : List Frame) → AreStored held recent slow last (gone ++ R) S → LetsGo held (map index_of S) (map index_of gone) new → AreStored new (map index_of R) slow last R S
-stored-cut_recent held new recent slow last gone R S h go =
-    let stays : ℕ → Bool = λ q. has q (map index_of S) in
-    let away : ℕ → Bool = λ q. has q (map index_of gone) in
-    record {
-      recent_at = refl;
-      slow_at = h.slow_at;
-      recent_held = all_both (λ f. has_index (index_of f) gone ≡ false) (λ f. fin.get held (index_of f) ≡ Some f) (λ f. fin.get new (index_of f) ≡ Some f)
-          (λ f out is. not_gone (fin.get held) (fin.get new) stays away go f (has-index_of (index_of f) gone ∙ out) is) R (others gone h.kept.rising) (all_rest (λ f. fin.get held (index_of f) ≡ Some f) gone R h.recent_held);
-      slow_held = all_both (λ f. has_index (index_of f) S ≡ true) (λ f. fin.get held (index_of f) ≡ Some f) (λ f. fin.get new (index_of f) ≡ Some f)
-          (λ f among is. let_stay (fin.get held) (fin.get new) stays away go f (has-index_of (index_of f) S ∙ among) is) S (has_all (λ f. has_index (index_of f) S ≡ true) S (λ g e. e)) h.slow_held;
-      only = λ q out. let both = neither (has_index q R) (has_index q S) (sym (has_index-append q R S) ∙ out) in
-          go q ∙ gone_for_all (stays q) (away q) (fin.get held q) (has-index_of q S ∙ both.1)
-          (λ none. h.only q (has_index-append q (gone ++ R) S ∙ rw both.1 (none_left (has_index-append q gone R ∙ rw both.0 (ap (λ b. b || false) (sym (has-index_of q gone) ∙ none))))));
-      kept = record {
-        recent_taken = all_rest (λ f. IsUpTo last (index_of f)) gone R h.kept.recent_taken;
-        slow_taken = h.kept.slow_taken;
-        rising = rising_rest gone R h.kept.rising;
-        apart = h.kept.apart;
-      };
-      in_order = h.in_order;
-    } where
-      none_left : {b : Bool} → b ≡ false → (b || false) ≡ false
-      none_left e = rw e refl
-
-      more_gone : (f : Frame) (gone R : List Frame) → AllByRecursion (λ g. index_of f < index_of g) R → AllByRecursion (λ g. has_index (index_of g) gone ≡ false) R → AllByRecursion (λ g. has_index (index_of g) (f ∷ gone) ≡ false) R
-      more_gone f gone [] above out = tt
-      more_gone f gone (g ∷ R) above out = (rw (apart_to (index_of g) (index_of f) (λ e. above_apart (index_of f) (index_of g) above.0 e)) out.0, more_gone f gone R above.1 out.1) where
-        above_apart : (a b : ℕ) → a < b → b ≡ a → ⊥
-        above_apart a b low e = omega arith
-
-      others : (gone : List Frame) → AreRising (gone ++ R) → AllByRecursion (λ f. has_index (index_of f) gone ≡ false) R
-      others [] rising = has_all (λ f. has_index (index_of f) [] ≡ false) R (λ g e. refl)
-      others (f ∷ gone) rising = more_gone f gone R (all_rest (λ g. index_of f < index_of g) gone R rising.0) (others gone rising.1)
+use Rattle.puffin_view.proofs.Members.{neither, has_index-append, equal_to, equals, apart_to, is_at, all_map, all_both, all_more, all_place, held_back, one_some, map-last_from, last_map, all_last_from, all_last}
 
 -- one frame more
 
@@ -255,9 +35,6 @@ got_itself held f = fin.get-insert nat_cmp_total held (index_of f) f (index_of f
 
 got_less : (held : HeldFrames) (f : Frame) (q : ℕ) → nat_eq q (index_of f) ≡ false → fin.get held q ≡ None → fin.get (fin.insert held (index_of f) f) q ≡ None
 got_less held f q out is = fin.get-insert nat_cmp_total held (index_of f) f q ∙ ap (λ b. cond b (Some f) (fin.get held q)) (is_at q (index_of f) ∙ out) ∙ is
-
-AreBefore : Frame → List Frame → Type 0
-AreBefore f fs = AllByRecursion (λ g. index_of g < index_of f) fs
 
 held_more : (held : HeldFrames) (f : Frame) (fs : List Frame) → AllByRecursion (λ g. index_of g < index_of f) fs → AreHeld (fin.get held) fs → AreHeld (fin.get (fin.insert held (index_of f) f)) fs
 held_more held f fs before is = all_both (λ g. index_of g < index_of f) (λ g. fin.get held (index_of g) ≡ Some g) (λ g. fin.get (fin.insert held (index_of f) f) (index_of g) ≡ Some g) (λ g low there. got_more held f g (below_apart (index_of g) (index_of f) low) there) fs before is
@@ -438,25 +215,6 @@ held_whole held recent slow last R S h =
 
 -- the newest frame
 
-one_some : {A : Type 0} (a b : A) → Some a ≡ Some b → a ≡ b
-one_some a b e = cc
-
-map-last_from : {A B : Type 0} (g : A → B) (x : A) (xs : List A) → g (last_from x xs) ≡ last_from (g x) (map g xs)
-map-last_from g x [] = refl
-map-last_from g x (y ∷ ys) = map-last_from g y ys
-
-last_map : {A B : Type 0} (g : A → B) (xs : List A) (b : B) → last_in (map g xs) ≡ Some b → (a : A) × (last_in xs ≡ Some a) × (g a ≡ b)
-last_map g [] b e = cc
-last_map g (x ∷ xs) b e = (last_from x xs, refl, map-last_from g x xs ∙ one_some (last_from (g x) (map g xs)) b e)
-
-pub all_last_from : {A : Type 0} (P : A → Type 0) (x : A) (xs : List A) → AllByRecursion P (x ∷ xs) → P (last_from x xs)
-all_last_from P x [] h = h.0
-all_last_from P x (y ∷ ys) h = all_last_from P y ys h.1
-
-all_last : {A : Type 0} (P : A → Type 0) (xs : List A) (a : A) → AllByRecursion P xs → last_in xs ≡ Some a → P a
-all_last P [] a h e = cc
-all_last P (x ∷ xs) a h e = subst P (one_some (last_from x xs) a e) (all_last_from P x xs h)
-
 pub newest_held : (held : HeldFrames) (recent : List ℕ) (slow : List SlowRank) (last : Option ℕ) (R S : List Frame) (i : ℕ) → AreStored held recent slow last R S → last_in recent ≡ Some i → fin.get held i ≡ last_in R
 newest_held held recent slow last R S i h newest =
     let found = last_map index_of R i (ap last_in (sym h.recent_at) ∙ newest) in
@@ -464,12 +222,6 @@ newest_held held recent slow last R S i h newest =
 
 pub newest_there : (held : HeldFrames) (recent : List ℕ) (slow : List SlowRank) (last : Option ℕ) (R S : List Frame) (f : Frame) (i : ℕ) → AreStored held recent slow last R S → last_in R ≡ Some f → i ≡ index_of f → IsSome (fin.get held i)
 newest_there held recent slow last R S f i h newest e = subst IsSome (sym (ap (fin.get held) e ∙ all_last (λ g. fin.get held (index_of g) ≡ Some g) R f h.recent_held newest)) refl
-
-pub none_newest : (recent : List ℕ) (R : List Frame) → recent ≡ map index_of R → length recent ≡ 0 → None ≡ last_in R
-none_newest recent [] e n = refl
-none_newest recent (f ∷ R) e n = absurd (some (ap length (sym e) ∙ n)) where
-  some : suc (length (map index_of R)) ≡ 0 → ⊥
-  some e = omega arith
 
 -- packing
 
@@ -486,12 +238,6 @@ packed_held held f (g ∷ fs) is h = (at (nat_eq (index_of g) (index_of f)) refl
   at true e = rw e (got (index_of g) true e ∙ ap (λ h. Some (packed_alone h)) (sym (same e)))
   at false e = rw e (got (index_of g) false e ∙ h.0)
 
-index-packed_at : (i : ℕ) (f : Frame) → index_of (packed_under i f) ≡ index_of f
-index-packed_at i f = at (nat_eq (index_of f) i) where
-  at : (b : Bool) → index_of (cond b (packed_alone f) f) ≡ index_of f
-  at true = refl
-  at false = refl
-
 rank-packed_at : (i : ℕ) (f : Frame) → rank_of (packed_under i f) ≡ rank_of f
 rank-packed_at i f = at (nat_eq (index_of f) i) where
   at : (b : Bool) → rank_of (cond b (packed_alone f) f) ≡ rank_of f
@@ -500,7 +246,7 @@ rank-packed_at i f = at (nat_eq (index_of f) i) where
 
 indices-packed : (i : ℕ) (fs : List Frame) → map index_of (map (packed_under i) fs) ≡ map index_of fs
 indices-packed i [] = refl
-indices-packed i (f ∷ fs) = λ j. index-packed_at i f j ∷ indices-packed i fs j
+indices-packed i (f ∷ fs) = λ j. index_packed_at i f j ∷ indices-packed i fs j
 
 ranks-packed : (i : ℕ) (fs : List Frame) → map rank_of (map (packed_under i) fs) ≡ map rank_of fs
 ranks-packed i [] = refl
@@ -508,7 +254,7 @@ ranks-packed i (f ∷ fs) = λ j. rank-packed_at i f j ∷ ranks-packed i fs j
 
 has_index-packed : (q i : ℕ) (fs : List Frame) → has_index q (map (packed_under i) fs) ≡ has_index q fs
 has_index-packed q i [] = refl
-has_index-packed q i (f ∷ fs) = λ j. nat_eq q (index-packed_at i f j) || has_index-packed q i fs j
+has_index-packed q i (f ∷ fs) = λ j. nat_eq q (index_packed_at i f j) || has_index-packed q i fs j
 
 pub stored-packed : (held : HeldFrames) (recent : List ℕ) (slow : List SlowRank) (last : Option ℕ) (R S : List Frame) (f : Frame) → AreStored held recent slow last R S → last_in R ≡ Some f
     → AreStored (fin.insert held (index_of f) (packed_alone f)) recent slow last (map (packed_under (index_of f)) R) (map (packed_under (index_of f)) S)
@@ -566,60 +312,3 @@ enters_same max f slow S e before = ap (λ rs. rank_enters max rs (rank_of f)) e
   late : (S : List Frame) → AllByRecursion (λ g. index_of g < index_of f) S → option_map_or (λ s. is_before (rank_of f) s) (last_in (map rank_of S)) false ≡ option_map_or (λ g. int_lt (duration_of g) (duration_of f)) (last_in S) false
   late [] before = refl
   late (g ∷ S) before = ap (λ s. is_before (rank_of f) s) (sym (map-last_from rank_of g S)) ∙ longer_before (rank_of f) (rank_of (last_from g S)) (all_last_from (λ h. index_of h < index_of f) g S before)
-
--- steps of the loops that cut
-
-no_less : (k : ℕ) → k < 0 → ⊥
-no_less k h = omega arith
-
-take_next : {A : Type 0} (xs : List A) (k : ℕ) (d : A) → k < length xs → take (suc k) xs ≡ take k xs ++ get_or xs k d ∷ []
-take_next [] k d h = absurd (no_less k h)
-take_next (x ∷ xs) zero d h = refl
-take_next (x ∷ xs) (suc k) d h = ap (λ ys. x ∷ ys) (take_next xs k d (omega arith))
-
-pub any_has : (i : ℕ) (is : List ℕ) → list_any (λ y. nat_eq y i) is ≡ has i is
-any_has i [] = refl
-any_has i (x ∷ is) = λ j. flips x i j || any_has i is j where
-  flips : (a b : ℕ) → nat_eq a b ≡ nat_eq b a
-  flips a b = grind arith
-
-pub unlike : {A : Type 0} {b : Bool} → b ≡ true → b ≡ false → A
-unlike e p = absurd (true≢false (sym e ∙ p))
-
-pub any_ranks : (i : ℕ) (rs : List SlowRank) → list_any (λ r. nat_eq r.frame_index i) rs ≡ has i (map rank_index rs)
-any_ranks i [] = refl
-any_ranks i (r ∷ rs) = λ j. flips r.frame_index i j || any_ranks i rs j where
-  flips : (a b : ℕ) → nat_eq a b ≡ nat_eq b a
-  flips a b = grind arith
-
-indices_next : (is : List ℕ) (k i : ℕ) → k < length is → i ≡ get_or is k i → take k is ++ i ∷ [] ≡ take (k + 1) is
-indices_next is k i h e = ap (λ j. take k is ++ j ∷ []) e ∙ sym (take_next is k i h) ∙ ap (λ n. take n is) (sym (more k)) where
-  more : (k : ℕ) → k + 1 ≡ suc k
-  more k = omega arith
-
-pub recent_step : (old mid new : HeldFrames) (slow : List SlowRank) (is : List ℕ) (k i : ℕ) (b : Bool) → k < length is → i ≡ get_or is k i → LetsGo old (map rank_index slow) (take k is) mid → b ≡ list_any (λ r. nat_eq r.frame_index i) slow
-    → (b ≡ false → new ≡ fin.remove mid i) → (b ≡ true → new ≡ mid) → LetsGo old (map rank_index slow) (take (k + 1) is) new
-recent_step old mid new slow is k i b h e go ensured off on =
-    let P : List ℕ → Type 0 = λ gone. LetsGo old (map rank_index slow) gone new in
-    subst P (indices_next is k i h e) (at b ensured off on) where
-      at : (b : Bool) → b ≡ list_any (λ r. nat_eq r.frame_index i) slow → (b ≡ false → new ≡ fin.remove mid i) → (b ≡ true → new ≡ mid) → LetsGo old (map rank_index slow) (take k is ++ i ∷ []) new
-      at true ensured off on = let Q : HeldFrames → Type 0 = λ m. LetsGo old (map rank_index slow) (take k is ++ i ∷ []) m in subst Q (sym (on refl)) (LetsGo-kept old mid (map rank_index slow) (take k is) i go (sym (any_ranks i slow) ∙ sym ensured))
-      at false ensured off on = LetsGo-more old mid new (map rank_index slow) (take k is) i go (off refl) (sym (any_ranks i slow) ∙ sym ensured)
-
-drop_next : {A : Type 0} (xs : List A) (k : ℕ) → drop 1 (drop k xs) ≡ drop (k + 1) xs
-drop_next xs k = drop-drop 1 k xs
-
-pub dropped_next : {A : Type 0} (is xs : List A) (k : ℕ) → is ≡ drop k xs → drop 1 is ≡ drop (k + 1) xs
-dropped_next is xs k e = ap (drop 1) e ∙ drop_next xs k
-
-first_of_drop : {A : Type 0} (xs : List A) (k : ℕ) (d : A) → get_or (drop k xs) 0 d ≡ get_or xs k d
-first_of_drop [] zero d = refl
-first_of_drop [] (suc k) d = refl
-first_of_drop (x ∷ xs) zero d = refl
-first_of_drop (x ∷ xs) (suc k) d = first_of_drop xs k d
-
-pub first_dropped : (is xs : List ℕ) (k i : ℕ) → is ≡ drop k xs → i ≡ get_or is 0 i → i ≡ get_or xs k i
-first_dropped is xs k i e p = p ∙ ap (λ l. get_or l 0 i) e ∙ first_of_drop xs k i
-
-pub some_dropped : (is xs : List ℕ) (k : ℕ) → is ≡ drop k xs → k < length xs → 0 < length is
-some_dropped is xs k e h = let n = ap length e ∙ length-drop k xs in omega arith

@@ -1,5 +1,5 @@
 -- A view, and one frame more.
-use Rattle.std.proofs.Common.{◌≡◌, ℕ, zero, suc, ◌-◌, ◌<◌, ◌≤◌, Bool, true, false, cond, List, [], ◌∷◌, ◌++◌, length, take, drop, map, refl, sym, ap, ◌∙◌, subst, arith, Option, Some, None, ◌||◌, ◌&&◌, append_assoc, append-nil}
+use Rattle.std.proofs.Common.{◌≡◌, ℕ, zero, suc, ◌-◌, ◌<◌, ◌≤◌, Bool, true, false, cond, List, [], ◌∷◌, ◌++◌, length, take, drop, map, refl, sym, ap, ◌∙◌, subst, arith, Option, Some, None, ◌&&◌, append_assoc, append-nil}
 use Rattle.std.specs.Prelude.{nat_lt, nat_le, nat_eq, int_lt}
 use Rattle.std.specs.List.{AllByRecursion}
 use Rattle.std.specs.Option.{IfSome, option_map_or}
@@ -10,6 +10,7 @@ use Rattle.puffin_view.specs.View.ViewedFrames.{Frame, frame_index, fields_of, i
 use Rattle.puffin_view.specs.View.{View, without_frames, with_packed, with_newest_packed, is_past, enters_among, joined_by, after_taking, after_all, Holds, Took}
 use Rattle.puffin_view.specs.View.Adding.{HoldsAlso}
 use Rattle.puffin_view.specs.inner.Kept.{IsUpTo, IsSteady}
+use Rattle.puffin_view.proofs.Members.{neither, all_take, all_place}
 use Rattle.puffin_view.proofs.Rankings.{last_of-more, first_in_order-more, first_in_order-same}
 use Rattle.puffin_view.proofs.Orders.{slower_order, later_behind, map-place, map-take, map-drop, map-more, map-length, map-last_from, packed_at_says}
 
@@ -37,10 +38,6 @@ late_last f [] h p = tt
 late_last f (x ∷ xs) h p =
     let P : PacketFields → Type 0 = λ d. is_slower (fields_of f) d ≡ false in
     subst P (map-last_from fields_of x xs) (later_behind (fields_of f) (fields_of (last_from x xs)) p (before_last (index_of f) x xs h))
-
-neither : (a b : Bool) → (a || b) ≡ false → (a ≡ false) × (b ≡ false)
-neither true b h = cc
-neither false b h = (refl, h)
 
 slow_at : (v : View) (f : Frame) (ds : List PacketFields) (b : Bool) → enters v f ≡ b → AreBefore (index_of f) v.slow → map fields_of v.slow ≡ slowest v.max_slow ds
     → map fields_of (cond b (take v.max_slow (place is_slower_frame f v.slow)) v.slow) ≡ slowest v.max_slow (ds ++ fields_of f ∷ [])
@@ -125,18 +122,6 @@ pub Holds-anew : (v : View) (f : Frame) → is_past v (index_of f) ≡ true → 
 Holds-anew v f p = anew_at v f (is_past v (index_of f)) p
 
 -- steadiness
-all_place : (P : Frame → Type 0) (f : Frame) (fs : List Frame) → P f → AllByRecursion P fs → AllByRecursion P (place is_slower_frame f fs)
-all_place P f [] p h = (p, tt)
-all_place P f (x ∷ xs) p h = at (is_slower_frame f x) (all_place P f xs p h.1) where
-  at : (b : Bool) → AllByRecursion P (place is_slower_frame f xs) → AllByRecursion P (cond b (f ∷ (x ∷ xs)) (x ∷ place is_slower_frame f xs))
-  at true later = (p, h)
-  at false later = (h.0, later)
-
-all_take : (P : Frame → Type 0) (k : ℕ) (xs : List Frame) → AllByRecursion P xs → AllByRecursion P (take k xs)
-all_take P zero xs h = tt
-all_take P (suc k) [] h = tt
-all_take P (suc k) (x ∷ xs) h = (h.0, all_take P k xs h.1)
-
 steady_slow : (v : View) (f : Frame) (b : Bool) → AreBefore (index_of f) v.slow → AllByRecursion (λ g. index_of g ≤ index_of f) (cond b (take v.max_slow (place is_slower_frame f v.slow)) v.slow)
 steady_slow v f true h = all_take (λ g. index_of g ≤ index_of f) v.max_slow (place is_slower_frame f v.slow) (all_place (λ g. index_of g ≤ index_of f) f v.slow (omega arith) (weaker v.slow h)) where
   weaker : (fs : List Frame) → AreBefore (index_of f) fs → AllByRecursion (λ g. index_of g ≤ index_of f) fs

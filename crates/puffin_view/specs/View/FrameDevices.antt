@@ -1,24 +1,24 @@
--- What a reader and a writer of frames stand on, and whether they have come to an end.
+-- The source of a reader of frames and the drain of a writer, and whether the reader is done or the writer broken.
 use Rattle.std.specs.Prelude.{Bool, true, false, Option, Some, None, Result, Ok, Err}
 use Rattle.puffin_data.specs.declared.file_error.FileError.{FileError}
 use Rattle.puffin_view.specs.declared.profile_view.frame_file.FrameReader.{FrameReader}
 use Rattle.puffin_view.specs.declared.profile_view.frame_file.FrameWriter.{FrameWriter}
 
--- the reader that frames are read of
+-- the source that frames are read from
 abbrev pub source_of : {S : Type 0} {s : _} → FrameReader S s → S
 source_of reader = reader.source
 
--- whether the end or a fault was told
+-- whether the end or a fault was returned
 abbrev pub is_done_of : {S : Type 0} {s : _} → FrameReader S s → Bool
 is_done_of reader = reader.is_done
 
--- whether a call told the end or a fault, and gave no frame
+-- whether a call returned the end or a fault, and no frame
 abbrev pub ends_reading : {X : Type 0} → Result (Option X) FileError → Bool
 ends_reading (Ok (Some x)) = false
 ends_reading (Ok None) = true
 ends_reading (Err e) = true
 
--- the writer that frames are written to
+-- the drain that frames are written to
 abbrev pub drain_of : {D : Type 0} {d : _} → FrameWriter D d → D
 drain_of writer = writer.drain
 

@@ -1,5 +1,5 @@
 -- Frames that are held, each under its index, with running sums.
-use Rattle.std.specs.Prelude.{ℕ, Bool, cond, List, Option, length, map, unwrap_or, ◌≡◌, ◌<◌, ◌^◌}
+use Rattle.std.specs.Prelude.{ℕ, Bool, cond, List, Option, map, unwrap_or, ◌≡◌, ◌%◌, ◌^◌}
 use Rattle.std.specs.Option.{option_map}
 use Rattle.std.specs.List.{sum_by}
 use Rattle.std.specs.List.Sorted.{IsStrictlySortedBy}
@@ -43,10 +43,12 @@ unpacked_if o = unwrap_or (option_map unpacked_number o) 0
 abbrev pub ram_if : {A : Type 0} → Option (Arc FrameData A) → ℕ
 ram_if o = unwrap_or (option_map ram_taken o) 0
 
+-- a sum as it wraps around in a u128
+abbrev pub wrapped : ℕ → ℕ
+wrapped n = n % 2 ^ 128
+
 -- the sums are those of the frames
 pub record IsSummed {A : Type 0} (es : List (ℕ × Arc FrameData A)) (sums : RunningStats) : Type 0 where
   pub ordered : IsStrictlySortedBy nat_cmp (keys_of es)
-  pub few : length es < 2 ^ 64
-  pub frames : sums.frames ≡ length es
-  pub unpacked_frames : sums.unpacked_frames ≡ sum_by unpacked_number (values_of es)
-  pub bytes : sums.bytes_of_ram_used ≡ sum_by ram_taken (values_of es)
+  pub unpacked_frames : sums.unpacked_frames ≡ wrapped (sum_by unpacked_number (values_of es))
+  pub bytes : sums.bytes_of_ram_used ≡ wrapped (sum_by ram_taken (values_of es))

@@ -1,4 +1,4 @@
--- The positions that a selection sorts, as ranks.
+-- The places that a selection sorts, as ranks.
 use Rattle.puffin_view.specs.declared.profile_view.select.ByDuration.{ByDuration}
 use Rattle.puffin_view.specs.View.Selection.{Rank}
 

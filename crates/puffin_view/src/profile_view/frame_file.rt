@@ -19,14 +19,14 @@ use puffin_frames::frame_data::FrameData;
 use puffin_threads::scope_details::any_lacks_id;
 use std::alloc::Global;
 
-/// Whether these letters begin a file.
+/// Returns whether these letters begin a file.
 fn is_magic(letters: [u8; 4]) -> bool
     ensures { result ≡ begins_file letters }
 {
     letters[0] == b'P' && letters[1] == b'U' && letters[2] == b'F' && letters[3] == b'0'
 }
 
-/// Reads the four letters that a file begins with, as [`FrameReader::new`] does, of a borrowed reader.
+/// Reads the four letters that a file begins with, as [`FrameReader::new`] does, from a borrowed source.
 pub fn read_magic<S: Source>(source: &mut S) -> Result<(), FileError>
     requires { S.failures source.old < 2 ^ 64 - 1 }
     ensures begun { OnOk result (
@@ -65,7 +65,7 @@ fn checked_frame<S: Source>(alloc: Global, source: &mut S) -> Result<Option<Fram
     Ok(Some(frame))
 }
 
-/// Reads the next frame of a borrowed reader, behind [`read_magic`]. Returns and refuses as [`FrameReader::next`].
+/// Reads the next frame from a borrowed source, after [`read_magic`]. Returns and fails as [`FrameReader::next`] does.
 pub fn next_frame<S: Source>(alloc: Global, source: &mut S) -> Result<Option<FrameData>, FileError>
     requires { S.failures source.old < 2 ^ 64 - 1 }
     ensures given { IfOk result (λ next. IfSome next (λ frame.
@@ -124,15 +124,15 @@ impl<S: Source> FrameReader<S> {
 
     /// Reads the four letters that a file begins with.
     ///
-    /// Fails with `NoMagic` if there are fewer than four bytes, or others than `PUF0`, and with `Io` if a read fails. The
-    /// reader is then dropped; how far it was read is unspecified.
+    /// Fails with `NoMagic` if there are fewer than four bytes, or others than `PUF0`, and with `Io` if a read fails. Then
+    /// `source` is dropped; how far it was read is unspecified.
     pub fn new(alloc: Global, source: S) -> Result<FrameReader<S>, FileError>
     where
         S: Drop,
         requires { S.failures source < 2 ^ 64 - 1 }
         ensures begun { IfOk result (λ reader.
             HasGiven (S.remaining source) (S.remaining (source_of reader)) []) }
-        // what a failure left of the reader that was dropped
+        // what a failure left of the source that was dropped
         ensures err { IfErr result (λ e.
             (dropped : S)
             × FailsToRead file_at (S.remaining source) (S.remaining dropped) e
@@ -195,7 +195,7 @@ impl<S: Source> FrameReader<S> {
         next
     }
 
-    /// Returns the reader, which stands behind what was read of it.
+    /// Returns the source, which stands behind what was read of it.
     pub fn into_source(self) -> S
         ensures { result ≡ source_of self }
     {
@@ -222,15 +222,15 @@ impl<D: Drain> FrameWriter<D> {
 
     /// Writes the four letters that a file begins with.
     ///
-    /// Fails only with `Io`, if a write fails or takes nothing of a piece that isn't empty. The writer, to which a beginning
-    /// of the letters is written, is then dropped.
+    /// Fails only with `Io`, if a write fails or takes nothing of a piece that isn't empty. Then `drain` is dropped, with a
+    /// beginning of the letters written to it.
     pub fn new(drain: D) -> Result<FrameWriter<D>, FileError>
     where
         D: Drop,
         requires { D.failures drain < 2 ^ 64 - 1 }
         ensures begun { IfOk result (λ writer.
             HoldsFile (D.contents drain) (D.contents (drain_of writer)) []) }
-        // what a failure left of the writer that was dropped
+        // what a failure left of the drain that was dropped
         ensures err { IfErr result (λ e.
             (dropped : D)
             × WritesBeginning (D.contents drain) (D.contents dropped) magic
@@ -286,7 +286,7 @@ impl<D: Drain> FrameWriter<D> {
         written
     }
 
-    /// Returns the writer.
+    /// Returns the drain, to which the letters and the packets were written.
     pub fn into_drain(self) -> D
         ensures { result ≡ drain_of self }
     {

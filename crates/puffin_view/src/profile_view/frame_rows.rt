@@ -1,5 +1,5 @@
 //! Frames by rising index: the newest in a row, older ones in a map.
-ghost use Rattle.std.specs.Prelude.{◌≡◌, ◌<◌, ◌^◌, ◌∷◌, ◌++◌, [], None, length, IfNone, IfOk, IfErr, IfSome, IsSome, OnErr, OnOk, nat_eq, false};
+ghost use Rattle.std.specs.Prelude.{◌≡◌, ◌<◌, ◌∷◌, ◌++◌, [], None, length, IfNone, IfOk, IfErr, IfSome, IsSome, OnErr, OnOk, nat_eq, false};
 ghost use Rattle.std.specs.BTreeMap.{insert_entry, is_at};
 ghost use Rattle.std.specs.Iterator.{YieldsFirstBy, item_count};
 ghost use Rattle.std.specs.List.{AllZip, HoldsAt};
@@ -40,11 +40,10 @@ impl FrameRows {
     }
 
     /// Returns the number of frames.
-    pub fn len(&self) -> u128
-        ensures len { result ≡ length (rows_of self.now) }
-        ensures small { result < 2 ^ 64 }
+    pub fn len(&self) -> usize
+        ensures { result ≡ length (rows_of self.now) }
     {
-        self.older.len() as u128 + self.newest.len() as u128
+        self.older.len() + self.newest.len()
     }
 
     /// Returns the frame with this index.
@@ -142,8 +141,8 @@ impl FrameRows {
     }
 }
 
-/// Returns the position of the frame with this index in a row. Tries two positions before it searches: the one that the frame has
-/// if no index before it was left out, and the last.
+/// Returns the place of the frame with this index in a row. Tries two places before it searches: the one that the frame has if
+/// no index before it was left out, and the last.
 fn place_in(row: &VecDeque<Arc<FrameData>>, index: FrameIndex) -> Option<usize>
     requires { IsStrictlySortedBy nat_cmp (keys_of (keyed row.now.items)) }
     ensures found { IfSome result (λ at.

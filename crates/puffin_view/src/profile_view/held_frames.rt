@@ -69,7 +69,6 @@ impl HeldFrames {
         let is_unpacked = frame.has_unpacked();
         let bytes = frame.bytes_of_ram_used();
         self.frames.push(frame)?;
-        self.sums.frames = self.frames.len();
         self.sums.raise(is_unpacked, bytes);
         Ok(())
     }
@@ -92,7 +91,6 @@ impl HeldFrames {
         ensures { self.new ≡ map.remove self.old index }
     {
         let before = self.frames.remove(index);
-        self.sums.frames = self.frames.len();
         self.sums.lower(before);
     }
 
@@ -121,10 +119,10 @@ impl HeldFrames {
         })
     }
 
-    /// Returns the sums over all frames. One that doesn't fit is `usize::MAX`.
+    /// Returns the number of frames and the sums over them. A sum that doesn't fit is `usize::MAX`.
     pub fn stats(&self) -> FrameStats
         ensures { result ≡ stats_of (map.values self.now) }
     {
-        self.sums.stats()
+        self.sums.stats(self.frames.len())
     }
 }

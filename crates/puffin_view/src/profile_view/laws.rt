@@ -51,7 +51,7 @@ pub fn order_by_duration()
     ensures total { IsTotalOrder by_duration }
 {}
 
-/// A selection orders frames by rising index, then position in the list. The order is total, and equality and order of
+/// A selection orders frames by rising index, then place in the list. The order is total, and equality and order of
 /// `ByIndex`, by which a selection is sorted, agree with it.
 pub fn order_by_index()
     ensures lower_first { (r s : Rank) → r.index < s.index → older_cmp r s ≡ Less }

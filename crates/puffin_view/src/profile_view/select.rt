@@ -3,9 +3,8 @@ ghost use Rattle.std.specs.Prelude.{◌≡◌, ◌++◌, IfOk, IfErr, OnOk, map,
 ghost use Rattle.std.specs.Option.{option_to_list};
 ghost use Rattle.puffin_data.specs.declared.error.Error.{Error};
 ghost use Rattle.puffin_view.specs.View.FrameOf.{frame_of, frames_of};
-ghost use Rattle.puffin_view.specs.View.Selection.{rank_at, ranks_from, IsSelection};
+ghost use Rattle.puffin_view.specs.View.Selection.{rank_at, ranks_from, old_place, IsSelection};
 ghost use Rattle.puffin_view.specs.inner.Selections.{slow_place};
-ghost use Rattle.puffin_view.specs.View.Selection.{old_place};
 
 use itertools::Itertools;
 use puffin_data::{NanoSecond, Result};
@@ -56,7 +55,7 @@ fn slow_places(alloc: Global, frames: &[Arc<FrameData>]) -> Result<Vec<ByDuratio
     Ok(places)
 }
 
-/// Converts places into the form that has the other order. Fails only with `Memory`.
+/// Converts places to `ByIndex`, in the same order. Fails only with `Memory`.
 fn old_places(alloc: Global, slow: &[ByDuration]) -> Result<Vec<ByIndex>>
     ensures ok { IfOk result (λ v. map old_place v.items ≡ map slow_place slow.now) }
     ensures cause { IfErr result (λ e. e ≡ Error.Memory) }

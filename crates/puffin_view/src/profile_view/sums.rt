@@ -1,71 +1,70 @@
 //! Running sums over the frames of a view.
-ghost use Rattle.std.specs.Prelude.{◌≡◌, ◌+◌, ◌^◌, ◌<◌, ◌≤◌};
+ghost use Rattle.std.specs.Prelude.{◌≡◌, ◌+◌, ℕ};
 ghost use Rattle.puffin_view.specs.View.Stats.{cut};
-ghost use Rattle.puffin_view.specs.inner.Held.{number_if, ram_if, unpacked_if};
+ghost use Rattle.puffin_view.specs.inner.Held.{number_if, ram_if, unpacked_if, wrapped};
 
 use crate::profile_view::stats::FrameStats;
 use puffin_frames::frame_data::FrameData;
 use std::sync::Arc;
 
-/// Running sums over frames. They are exact even while they exceed `usize`.
+/// Running sums over frames. They wrap around at `2 ^ 128`, which no sum over fewer than `2 ^ 64` frames reaches.
 #[derive(Clone, Copy, Debug)]
 pub(crate) struct RunningStats {
-    pub frames: u128,
-    pub unpacked_frames: u128,
-    pub bytes_of_ram_used: u128,
+    unpacked_frames: u128,
+    bytes_of_ram_used: u128,
 }
 
 impl RunningStats {
     /// Makes the sums over no frames.
     pub fn new() -> RunningStats
-        ensures { result ≡ record { frames = 0; unpacked_frames = 0; bytes_of_ram_used = 0 } }
+        ensures { result ≡ record { unpacked_frames = 0; bytes_of_ram_used = 0 } }
     {
         RunningStats {
-            frames: 0,
             unpacked_frames: 0,
             bytes_of_ram_used: 0,
         }
     }
 
-    /// Adds one frame to the sums, except to the number of frames.
+    /// Adds one frame to the sums.
     pub fn raise(&mut self, is_unpacked: bool, bytes: usize)
-        requires unpacked_frames { self.old.unpacked_frames + 1 < 2 ^ 128 }
-        requires bytes { self.old.bytes_of_ram_used + bytes < 2 ^ 128 }
         ensures { self.new ≡ record {
-          frames = self.old.frames;
-          unpacked_frames = self.old.unpacked_frames + number_if is_unpacked;
-          bytes_of_ram_used = self.old.bytes_of_ram_used + bytes;
+          unpacked_frames = wrapped (self.old.unpacked_frames + number_if is_unpacked);
+          bytes_of_ram_used = wrapped (self.old.bytes_of_ram_used + bytes);
         } }
     {
-        self.unpacked_frames += is_unpacked as u128;
-        self.bytes_of_ram_used += bytes as u128;
+        self.unpacked_frames = self.unpacked_frames.wrapping_add(is_unpacked as u128);
+        self.bytes_of_ram_used = self.bytes_of_ram_used.wrapping_add(bytes as u128);
     }
 
-    /// Subtracts one frame, if there is one, from the sums, except from the number of frames.
+    /// Subtracts one frame, if there is one, from the sums.
     pub fn lower(&mut self, frame: Option<Arc<FrameData>>)
-        requires unpacked_frames { unpacked_if frame ≤ self.old.unpacked_frames }
-        requires bytes { ram_if frame ≤ self.old.bytes_of_ram_used }
-        ensures frames { self.new.frames ≡ self.old.frames }
-        ensures unpacked_frames { self.new.unpacked_frames + unpacked_if frame
-            ≡ self.old.unpacked_frames }
-        ensures bytes { self.new.bytes_of_ram_used + ram_if frame ≡ self.old.bytes_of_ram_used }
+        ensures unpacked_frames { (rest : ℕ)
+            → self.old.unpacked_frames ≡ wrapped (rest + unpacked_if frame)
+            → self.new.unpacked_frames ≡ wrapped rest }
+        ensures bytes { (rest : ℕ)
+            → self.old.bytes_of_ram_used ≡ wrapped (rest + ram_if frame)
+            → self.new.bytes_of_ram_used ≡ wrapped rest }
     {
         if let Some(frame) = frame {
-            self.unpacked_frames -= frame.has_unpacked() as u128;
-            self.bytes_of_ram_used -= frame.bytes_of_ram_used() as u128;
+            self.unpacked_frames = self
+                .unpacked_frames
+                .wrapping_sub(frame.has_unpacked() as u128);
+            self.bytes_of_ram_used = self
+                .bytes_of_ram_used
+                .wrapping_sub(frame.bytes_of_ram_used() as u128);
         }
     }
 
-    /// Returns the sums. One that doesn't fit is `usize::MAX`.
-    pub fn stats(&self) -> FrameStats
+    /// Returns the statistics of this many frames. A sum that doesn't fit is `usize::MAX`.
+    pub fn stats(&self, frames: usize) -> FrameStats
         ensures { result ≡ record {
-          frames = cut self.now.frames;
+          frames = frames;
           unpacked_frames = cut self.now.unpacked_frames;
           bytes_of_ram_used = cut self.now.bytes_of_ram_used;
         } }
     {
         FrameStats {
-            frames: cut(self.frames),
+            frames,
             unpacked_frames: cut(self.unpacked_frames),
             bytes_of_ram_used: cut(self.bytes_of_ram_used),
         }

@@ -1,6 +1,6 @@
 use Rattle.std.proofs.Common.{◌<◌, ◌∙◌, arith, length, refl}
 use Rattle.puffin_view.proofs.Searching.{still_ranked}
-use Rattle.puffin_view.proofs.Storing.{recent_step, unlike, dropped_next, first_dropped, some_dropped}
+use Rattle.puffin_view.proofs.Cutting.{recent_step, unlike, dropped_next, first_dropped, some_dropped}
 use Rattle.puffin_view.proofs.profile_view.cutting.cut_recent.Goals as goal
 use Rattle.puffin_view.proofs.profile_view.cutting.cut_recent.Goals.{in-Some+else-is_slow, in-Some+then-is_slow, in_default}
 

@@ -3,7 +3,7 @@ use Rattle.std.specs.Prelude.{min}
 use Rattle.std.specs.VecDeque.{deque_len}
 use Rattle.std.specs.VecDeque.Iter.{deque_iter_rest}
 use Rattle.puffin_view.proofs.LettingGo.{one_more_gone, all_gone, from_place}
-use Rattle.puffin_view.proofs.Storing.{unlike}
+use Rattle.puffin_view.proofs.Cutting.{unlike}
 use Rattle.puffin_view.proofs.profile_view.cutting.cut_slow.Goals as goal
 
 pub loop-rank-preserved-then-not-is_recent : goal.loop-rank-preserved-then-not-is_recent

@@ -1,4 +1,4 @@
-use Rattle.std.proofs.Common.{◌≡◌, ℕ, ◌≤◌, sym, ap, subst, ◌∙◌, ◌<◌, ◌+◌, ◌^◌, length, arith, None, refl}
+use Rattle.std.proofs.Common.{◌≡◌, ℕ, ◌≤◌, sym, ap, subst, ◌∙◌, ◌+◌, arith, None, refl}
 use Rattle.std.specs.FinMap as fin
 use Rattle.std.specs.List.Sorted.{IsStrictlySortedBy}
 use Rattle.std.specs.Map.{keys_of, lookup}
@@ -6,24 +6,11 @@ use Rattle.std.specs.Ordering.{nat_cmp}
 use Rattle.std.specs.BTreeMap.{insert_entry}
 use Rattle.puffin_view.specs.View.ViewedFrames.{index_of, ram_of}
 use Rattle.puffin_view.specs.View.FrameOf.{frame_of, shared_frame}
-use Rattle.puffin_view.specs.inner.Held.{unpacked_number, ram_taken, number_if}
+use Rattle.puffin_view.specs.inner.Held.{unpacked_number, ram_taken, number_if, wrapped}
 use Rattle.puffin_view.specs.inner.Rows.{rows_of}
 use Rattle.puffin_view.proofs.Rows.{at, below_none, insert-last, sorted-insert, lookup-insert}
-use Rattle.puffin_view.proofs.HoldingViews.{numbers_below, ram_below, sum_inserted, held_of-inserted, ram_says, not_seen, plus_none}
+use Rattle.puffin_view.proofs.HoldingViews.{sum_inserted, held_of-inserted, ram_says, not_seen, plus_none}
 use Rattle.puffin_view.proofs.profile_view.held_frames.HeldFrames.push.Goals as goal
-
-pub raise-requires-clause-unpacked_frames : goal.raise-requires-clause-unpacked_frames
-raise-requires-clause-unpacked_frames c =
-    let below = numbers_below (rows_of c.self.inside.frames) c.self.invariant.few in
-    let was = c.self.invariant.unpacked_frames in
-    omega arith
-
-pub raise-requires-clause-bytes : goal.raise-requires-clause-bytes
-raise-requires-clause-bytes c =
-    let below = ram_below (rows_of c.self.inside.frames) c.self.invariant.few in
-    let was = c.self.invariant.bytes in
-    let taken : c.bytes_of_ram_used-bytes.result < 2 ^ 64 = c.bytes_of_ram_used-bytes.type_inv in
-    omega arith
 
 unpacked_is : (c : goal.After-raise) → c.has_unpacked-is_unpacked.result ≡ (shared_frame c.args.frame).is_unpacked
 unpacked_is c = c.has_unpacked-is_unpacked.ensures ∙ ap (λ f. (frame_of f).is_unpacked) c.deref.ensures
@@ -43,15 +30,13 @@ invariant_of-self-2 c =
     let none : None ≡ lookup (at k) es = sym (none_from c k (omega arith)) in
     record {
       ordered = subst (λ l. IsStrictlySortedBy nat_cmp (keys_of l)) (sym (put c)) (sorted-insert k c.args.frame es c.self.invariant.ordered);
-      few = subst (λ n. n < 2 ^ 64) c.len-self-inside.ensures.len c.len-self-inside.ensures.small;
-      frames = ap (λ s. s.frames) c.raise.ensures ∙ c.len-self-inside.ensures.len;
       unpacked_frames = sum_inserted unpacked_number es (rows_of c.push.new.self) k c.args.frame None
           c.self.inside.sums.unpacked_frames c.self.inside.sums.unpacked_frames c.raise.new.self.unpacked_frames (put c) none c.self.invariant.ordered c.self.invariant.unpacked_frames
-          (plus_none c.self.inside.sums.unpacked_frames) (ap (λ s. s.unpacked_frames) c.raise.ensures ∙ ap (λ b. c.self.inside.sums.unpacked_frames + number_if b) (unpacked_is c));
+          (λ rest e. e ∙ ap wrapped (plus_none rest)) (ap (λ s. s.unpacked_frames) c.raise.ensures ∙ ap (λ b. wrapped (c.self.inside.sums.unpacked_frames + number_if b)) (unpacked_is c));
       bytes = sum_inserted ram_taken es (rows_of c.push.new.self) k c.args.frame None
           c.self.inside.sums.bytes_of_ram_used c.self.inside.sums.bytes_of_ram_used c.raise.new.self.bytes_of_ram_used (put c) none c.self.invariant.ordered c.self.invariant.bytes
-          (plus_none c.self.inside.sums.bytes_of_ram_used)
-          (ap (λ s. s.bytes_of_ram_used) c.raise.ensures ∙ ap (λ n. c.self.inside.sums.bytes_of_ram_used + n) (c.bytes_of_ram_used-bytes.ensures ∙ ram_says c.deref-2.result.now ∙ ap (λ f. ram_of (frame_of f)) c.deref-2.ensures));
+          (λ rest e. e ∙ ap wrapped (plus_none rest))
+          (ap (λ s. s.bytes_of_ram_used) c.raise.ensures ∙ ap (λ n. wrapped (c.self.inside.sums.bytes_of_ram_used + n)) (c.bytes_of_ram_used-bytes.ensures ∙ ram_says c.deref-2.result.now ∙ ap (λ f. ram_of (frame_of f)) c.deref-2.ensures));
     }
 
 pub returns-clause-ok : goal.returns-clause-ok

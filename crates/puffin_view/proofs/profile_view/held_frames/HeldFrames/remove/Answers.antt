@@ -1,4 +1,4 @@
-use Rattle.std.proofs.Common.{◌≡◌, ◌<◌, ◌^◌, length, sym, ap, subst, ◌∙◌, arith}
+use Rattle.std.proofs.Common.{◌≡◌, sym, ap, subst, ◌∙◌}
 use Rattle.std.specs.FinMap as fin
 use Rattle.std.specs.List.Sorted.{IsStrictlySortedBy}
 use Rattle.std.specs.Map.{keys_of, lookup}
@@ -9,20 +9,12 @@ use Rattle.std.proofs.lemmas.Map.Keys.{IsDistinct-from_sorted}
 use Rattle.puffin_view.specs.inner.Held.{unpacked_number, ram_taken}
 use Rattle.puffin_view.specs.inner.Rows.{rows_of}
 use Rattle.puffin_view.proofs.Rows.{at, sorted-remove}
-use Rattle.puffin_view.proofs.HoldingViews.{one_of_sum, sum_removed, held_of-removed}
+use Rattle.puffin_view.proofs.HoldingViews.{sum_removed, held_of-removed}
 use Rattle.puffin_view.proofs.profile_view.held_frames.HeldFrames.remove.Goals as goal
-
-pub lower-requires-clause-unpacked_frames : goal.lower-requires-clause-unpacked_frames
-lower-requires-clause-unpacked_frames c = one_of_sum unpacked_number (rows_of c.self.inside.frames) c.args.index c.remove-before.result c.self.inside.sums.unpacked_frames c.remove-before.ensures.value c.self.invariant.unpacked_frames
-
-pub lower-requires-clause-bytes : goal.lower-requires-clause-bytes
-lower-requires-clause-bytes c = one_of_sum ram_taken (rows_of c.self.inside.frames) c.args.index c.remove-before.result c.self.inside.sums.bytes_of_ram_used c.remove-before.ensures.value c.self.invariant.bytes
 
 pub invariant_of-self : goal.invariant_of-self
 invariant_of-self c = record {
   ordered = subst (λ es. IsStrictlySortedBy nat_cmp (keys_of es)) (sym c.remove-before.ensures.entries) (sorted-remove (at c.args.index) (rows_of c.self.inside.frames) c.self.invariant.ordered);
-  few = subst (λ n. n < 2 ^ 64) c.len-self-inside.ensures.len c.len-self-inside.ensures.small;
-  frames = c.lower.ensures.frames ∙ c.len-self-inside.ensures.len;
   unpacked_frames = sum_removed unpacked_number (rows_of c.self.inside.frames) (rows_of c.remove-before.new.self) c.args.index c.remove-before.result
       c.self.inside.sums.unpacked_frames c.lower.new.self.unpacked_frames c.remove-before.ensures.entries c.remove-before.ensures.value c.self.invariant.unpacked_frames c.lower.ensures.unpacked_frames;
   bytes = sum_removed ram_taken (rows_of c.self.inside.frames) (rows_of c.remove-before.new.self) c.args.index c.remove-before.result
