@@ -35,7 +35,8 @@ pub fn thread_info(
 
 /// Makes a profiler of the thread `main`, in the short form, with a clock that is set to `at`. Fails only with `Memory`.
 pub fn main_thread(alloc: Global, at: NanoSecond) -> Result<ThreadProfiler<ScriptClock>>
-    ensures thread { IfOk result (λ thread. thread_of thread ≡ new_thread (codes "main") Form.Short) }
+    ensures thread { IfOk result (λ thread.
+        thread_of thread ≡ new_thread (codes "main") Form.Short) }
     ensures clock { IfOk result (λ thread. clock_of thread ≡ at) }
     ensures allocator { IfOk result (λ thread. allocator_of thread ≡ alloc) }
     ensures memory { IfErr result (λ e. e ≡ Error.Memory) }
