@@ -3,7 +3,7 @@ use puffin_data::{Error, FileError};
 use puffin_frames::frame_data::FrameIndex;
 use puffin_view::profile_view::FrameView;
 use std::test::Fail;
-use tests_support::samples::{FILE, ONE_FRAME};
+use tests_support::samples::FILE;
 use tests_support::streams::bytes_of;
 
 pub(crate) type Outcome = std::result::Result<(), Fail>;
