@@ -1,12 +1,13 @@
 //! Calls that the crates above make, each by itself.
 
 use crate::equal::equal;
-use crate::samples::{NONE, ONE, THREE, stream_of};
+use crate::samples::{NONE, stream_of};
 use puffin_data::data::{Counted, Form, Stream, StreamInfo, read_to_end, text_of, write_all};
 use puffin_data::{Error, FileError};
 use std::alloc::Global;
 use std::process::Abort;
 use std::test::Fail;
+use tests_support::samples::{ONE_SCOPE, THREE_SCOPES};
 
 type Outcome = std::result::Result<(), Fail>;
 
@@ -74,8 +75,8 @@ fn unlike(rt: &impl Abort, first: &StreamInfo, second: &StreamInfo, expected: bo
 #[test]
 fn only_infos_with_bytes_are_unlike(rt: HostRuntime) -> Outcome {
     let alloc = rt.alloc();
-    let short = StreamInfo::parse(alloc, stream_of(alloc, &ONE)?)?;
-    let bytes = Vec::from_slice(alloc, THREE)?;
+    let short = StreamInfo::parse(alloc, stream_of(alloc, &ONE_SCOPE)?)?;
+    let bytes = Vec::from_slice(alloc, &THREE_SCOPES)?;
     let long = StreamInfo::parse(alloc, Stream::from_bytes(bytes, Form::Long))?;
     unlike(&rt, &short, &long, true);
     unlike(&rt, &long, &long, false);
@@ -91,9 +92,17 @@ fn only_infos_with_bytes_are_unlike(rt: HostRuntime) -> Outcome {
 #[test]
 fn all_bytes_are_written_and_read(rt: HostRuntime) -> Outcome {
     let mut bytes = Vec::new(rt.alloc());
-    equal(&rt, write_all(&mut Counted::new(&mut bytes), THREE), Ok(()));
-    equal(&rt, bytes.as_slice(), THREE.as_slice());
+    equal(
+        &rt,
+        write_all(&mut Counted::new(&mut bytes), &THREE_SCOPES),
+        Ok(()),
+    );
+    equal(&rt, bytes.as_slice(), THREE_SCOPES.as_slice());
     let read = read_to_end(rt.alloc(), &mut Counted::new(bytes.as_slice())).ok();
-    equal(&rt, read.ok_or("no fault")?.as_slice(), THREE.as_slice());
+    equal(
+        &rt,
+        read.ok_or("no fault")?.as_slice(),
+        THREE_SCOPES.as_slice(),
+    );
     Ok(())
 }

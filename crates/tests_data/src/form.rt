@@ -1,9 +1,9 @@
 use crate::equal::equal;
-use crate::samples::{end, id};
 use puffin_data::data::{Form, Reader, Stream};
 use puffin_data::{Error, Result};
 use std::alloc::Global;
 use std::test::Fail;
+use tests_support::streams::{end, id};
 
 /// A scope of id 1 from 100 to 300 whose text is so many letters and then one character, and its offset.
 fn lettered(

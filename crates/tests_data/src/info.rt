@@ -1,10 +1,11 @@
 use crate::equal::equal;
-use crate::samples::{NONE, ONE, THREE, stream_of};
+use crate::samples::{NONE, stream_of};
 use puffin_data::data::{Form, Stream, StreamInfo};
 use puffin_data::{Error, NanoSecond, Result};
 use std::alloc::Global;
 use std::process::Abort;
 use std::test::Fail;
+use tests_support::samples::{ONE_SCOPE, THREE_SCOPES};
 
 /// The size of an info's bytes, its counts and its range.
 fn is_info(
@@ -19,8 +20,8 @@ fn is_info(
 
 /// The info of one scope, extended by that of three.
 fn extended(alloc: Global) -> Result<StreamInfo> {
-    let mut info = StreamInfo::parse(alloc, stream_of(alloc, &ONE)?)?;
-    let other = StreamInfo::parse(alloc, stream_of(alloc, THREE)?)?;
+    let mut info = StreamInfo::parse(alloc, stream_of(alloc, &ONE_SCOPE)?)?;
+    let other = StreamInfo::parse(alloc, stream_of(alloc, &THREE_SCOPES)?)?;
     info.extend(&other.as_stream_into_ref())?;
     Ok(info)
 }
@@ -32,9 +33,9 @@ fn a_new_info_is_empty(rt: HostRuntime) {
 
 #[test]
 fn a_borrowed_info_says_the_same(rt: HostRuntime) -> std::result::Result<(), Fail> {
-    let other = StreamInfo::parse(rt.alloc(), stream_of(rt.alloc(), THREE)?)?;
+    let other = StreamInfo::parse(rt.alloc(), stream_of(rt.alloc(), &THREE_SCOPES)?)?;
     let borrowed = other.as_stream_into_ref();
-    assert!(rt; borrowed.stream == THREE.as_slice());
+    assert!(rt; borrowed.stream == THREE_SCOPES.as_slice());
     assert!(rt; (borrowed.num_scopes, borrowed.depth) == (3, 2));
     assert!(rt; borrowed.range_ns == (100, 400));
     Ok(())
@@ -54,21 +55,21 @@ fn a_copy_stays_when_an_info_is_cleared(rt: HostRuntime) -> std::result::Result<
     info.clear();
     is_info(&rt, &info, (0, 0, 0), NONE);
     is_info(&rt, &copy, (162, 4, 2), (100, 400));
-    let mut both = Vec::from_slice(rt.alloc(), &ONE)?;
-    both.extend_from_slice(THREE)?;
+    let mut both = Vec::from_slice(rt.alloc(), &ONE_SCOPE)?;
+    both.extend_from_slice(&THREE_SCOPES)?;
     assert!(rt; copy.stream.bytes() == both.as_slice());
     Ok(())
 }
 
 /// The info of one scope in the long form. Its text is short, so its bytes are those of the short form.
 fn long_one(alloc: Global) -> Result<StreamInfo> {
-    let bytes = Vec::from_slice(alloc, &ONE)?;
+    let bytes = Vec::from_slice(alloc, &ONE_SCOPE)?;
     StreamInfo::parse(alloc, Stream::from_bytes(bytes, Form::Long))
 }
 
 #[test]
 fn unlike_forms_are_not_joined(rt: HostRuntime) -> std::result::Result<(), Fail> {
-    let mut info = StreamInfo::parse(rt.alloc(), stream_of(rt.alloc(), THREE)?)?;
+    let mut info = StreamInfo::parse(rt.alloc(), stream_of(rt.alloc(), &THREE_SCOPES)?)?;
     let long = long_one(rt.alloc())?;
     equal(
         &rt,

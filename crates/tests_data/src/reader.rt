@@ -1,9 +1,11 @@
 use crate::equal::equal;
-use crate::samples::{ONE, THREE, end, id, stream_of};
+use crate::samples::stream_of;
 use puffin_data::data::{Reader, Scope, Stream};
 use puffin_data::{Error, Result};
 use std::alloc::Global;
 use std::test::Fail;
+use tests_support::samples::{ONE_SCOPE, THREE_SCOPES};
+use tests_support::streams::{end, id};
 
 /// What stands at a place of a region, where there is such a region.
 pub(crate) fn scope_at(stream: &Stream, at: usize, end: usize) -> Result<Option<Scope<'_>>> {
@@ -59,13 +61,13 @@ fn write_child(
     number: u32,
     (start, stop): (i64, i64),
     text: &str,
-) -> std::result::Result<(), Fail> {
+) -> Result<()> {
     let offset = stream.begin_scope_at(start, id(number)?, text)?;
     end(stream, offset, stop)
 }
 
 /// Writes a scope with two children.
-fn write_two_children(stream: &mut Stream) -> std::result::Result<(), Fail> {
+fn write_two_children(stream: &mut Stream) -> Result<()> {
     let top = stream.begin_scope_at(100, id(1)?, "data_top")?;
     write_child(stream, 2, (200, 300), "data_middle_0")?;
     write_child(stream, 3, (300, 400), "data_middle_1")?;
@@ -87,7 +89,7 @@ fn places(scope: &Scope<'_>) -> (i64, i64, u64, u64, u64) {
 fn the_positions_of_a_scope_with_two_children(rt: HostRuntime) -> std::result::Result<(), Fail> {
     let mut stream = Stream::new(rt.alloc());
     write_two_children(&mut stream)?;
-    equal(&rt, stream.bytes(), THREE.as_slice());
+    equal(&rt, stream.bytes(), THREE_SCOPES.as_slice());
     let scopes = Reader::from_start(&stream).read_top_scopes(rt.alloc())?;
     equal(&rt, scopes.len(), 1);
     equal(
@@ -100,7 +102,7 @@ fn the_positions_of_a_scope_with_two_children(rt: HostRuntime) -> std::result::R
 
 #[test]
 fn the_times_of_two_children(rt: HostRuntime) -> std::result::Result<(), Fail> {
-    let stream = stream_of(rt.alloc(), THREE)?;
+    let stream = stream_of(rt.alloc(), &THREE_SCOPES)?;
     let (inner, fault) = top_scopes(&rt, Reader::with_offset(&stream, 30)?)?;
     equal(&rt, fault, None);
     equal(&rt, inner.len(), 2);
@@ -116,7 +118,7 @@ fn the_times_of_two_children(rt: HostRuntime) -> std::result::Result<(), Fail> {
 
 #[test]
 fn the_regions_of_two_children(rt: HostRuntime) -> std::result::Result<(), Fail> {
-    let stream = stream_of(rt.alloc(), THREE)?;
+    let stream = stream_of(rt.alloc(), &THREE_SCOPES)?;
     equal(&rt, next_of(&stream, 30, 118), Some(74));
     equal(&rt, next_of(&stream, 118, 118), None);
     equal(&rt, fault_at(&stream, 118, 118), None);
@@ -139,7 +141,7 @@ fn offsets_of_an_empty_stream(rt: HostRuntime) -> std::result::Result<(), Fail> 
 
 #[test]
 fn a_byte_left_over_ends_the_reader(rt: HostRuntime) -> std::result::Result<(), Fail> {
-    let mut bytes = Vec::from_slice(rt.alloc(), &ONE)?;
+    let mut bytes = Vec::from_slice(rt.alloc(), &ONE_SCOPE)?;
     bytes.push(0)?;
     let stream = Stream::from(bytes);
     let scopes = Reader::from_start(&stream).read_top_scopes(rt.alloc())?;
@@ -165,7 +167,7 @@ fn gives_fault(rt: &HostRuntime, stream: &Stream, want: Error) -> std::result::R
 #[test]
 fn a_fault_is_given_once(rt: HostRuntime) -> std::result::Result<(), Fail> {
     let open = b"(\x01\0\0\0\x64\0\0\0\0\0\0\0\0\xff\xff\xff\xff\xff\xff\xff\xff";
-    let mut without_id = ONE;
+    let mut without_id = ONE_SCOPE;
     let (mut other_end, mut early) = (without_id, without_id);
     without_id[1] = 0;
     other_end[26] = 0x28;
@@ -174,12 +176,12 @@ fn a_fault_is_given_once(rt: HostRuntime) -> std::result::Result<(), Fail> {
     let cases: [(&[u8], Error); 5] = [
         (open, Error::ScopeNeverEnded),
         (&without_id, Error::PrematureEnd),
-        (&ONE[..34], Error::PrematureEnd),
+        (&ONE_SCOPE[..34], Error::PrematureEnd),
         (&other_end, Error::InvalidStream),
         (&early, Error::InvalidStream),
     ];
     for (faulty, want) in cases {
-        let mut bytes = Vec::from_slice(rt.alloc(), &ONE)?;
+        let mut bytes = Vec::from_slice(rt.alloc(), &ONE_SCOPE)?;
         bytes.extend_from_slice(faulty)?;
         gives_fault(&rt, &Stream::from(bytes), want)?;
     }

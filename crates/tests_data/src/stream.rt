@@ -1,20 +1,22 @@
 use crate::equal::equal;
 use crate::reader::{scope_at, top_scopes};
-use crate::samples::{ONE, end, id, stream_of};
+use crate::samples::stream_of;
 use puffin_data::Error;
 use puffin_data::data::{END_SIZE, Reader, Scope, Stream};
 use std::test::Fail;
+use tests_support::samples::ONE_SCOPE;
+use tests_support::streams::{end, id};
 
 #[test]
 fn a_copy_stays_when_a_stream_is_cleared(rt: HostRuntime) -> std::result::Result<(), Fail> {
     let alloc = rt.alloc();
     assert!(rt; Stream::new(alloc).is_empty());
-    let mut stream = stream_of(alloc, &ONE)?;
+    let mut stream = stream_of(alloc, &ONE_SCOPE)?;
     equal(&rt, (stream.is_empty(), stream.len()), (false, 35));
     let copy = stream.clone()?;
     stream.clear();
     equal(&rt, (stream.is_empty(), stream.len()), (true, 0));
-    equal(&rt, copy.bytes(), ONE.as_slice());
+    equal(&rt, copy.bytes(), ONE_SCOPE.as_slice());
     Ok(())
 }
 
@@ -24,7 +26,7 @@ fn one_scope_takes_35_bytes(rt: HostRuntime) -> std::result::Result<(), Fail> {
     let (offset, start) = stream.begin_scope(|| 100, id(1)?, "data")?;
     equal(&rt, (offset, start), (18, 100));
     end(&mut stream, offset, 300)?;
-    equal(&rt, stream.bytes(), ONE.as_slice());
+    equal(&rt, stream.bytes(), ONE_SCOPE.as_slice());
     equal(&rt, stream.len(), 35);
     Ok(())
 }
@@ -37,7 +39,7 @@ fn one_scope_is_written_within_the_room(rt: HostRuntime) -> std::result::Result<
     let offset = stream.begin_within(100, id(1)?, "data");
     stream.end_within(offset, 300);
     equal(&rt, offset, 18);
-    equal(&rt, stream.bytes(), ONE.as_slice());
+    equal(&rt, stream.bytes(), ONE_SCOPE.as_slice());
     Ok(())
 }
 
@@ -55,7 +57,7 @@ fn read_of<'s>(scope: &Scope<'s>) -> (u32, i64, i64, i64, &'s str) {
 
 #[test]
 fn one_scope_is_read_as_it_was_written(rt: HostRuntime) -> std::result::Result<(), Fail> {
-    let stream = stream_of(rt.alloc(), &ONE)?;
+    let stream = stream_of(rt.alloc(), &ONE_SCOPE)?;
     let (scopes, fault) = top_scopes(&rt, Reader::from_start(&stream))?;
     equal(&rt, (scopes.len(), fault), (1, None));
     let read = scopes.first().map(|scope| read_of(scope));

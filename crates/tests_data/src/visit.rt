@@ -1,9 +1,9 @@
 //! A walk with a visitor of the test's own.
 
-use crate::samples::THREE;
 use puffin_data::data::{Form, RawScope, Visitor, walk_with};
 use puffin_data::{Error, Result};
 use std::test::Fail;
+use tests_support::samples::THREE_SCOPES;
 
 /// The id of each scope that was taken, and how many scopes are around it. Its contract says nothing of them.
 #[derive(Drop)]
@@ -40,7 +40,14 @@ fn a_visitor_takes_each_scope_in_order(rt: HostRuntime) -> std::result::Result<(
         scopes: Vec::new(rt.alloc()),
     };
     let mut tries = 99;
-    walk_with(rt.alloc(), Form::Short, THREE, &mut taken, 0, &mut tries)?;
+    walk_with(
+        rt.alloc(),
+        Form::Short,
+        &THREE_SCOPES,
+        &mut taken,
+        0,
+        &mut tries,
+    )?;
     assert!(rt; taken.scopes.as_slice() == [(1, 0), (2, 1), (3, 1)].as_slice());
     assert!(rt; tries == 3);
     Ok(())

@@ -5,6 +5,7 @@ use puffin_data::{Error, NanoSecond, Result};
 use std::alloc::Global;
 use std::process::Abort;
 use std::test::Fail;
+use tests_support::samples::{ONE_SCOPE, THREE_SCOPES};
 
 type Outcome = std::result::Result<(), Fail>;
 
@@ -75,19 +76,8 @@ fn refuses(
 /// Forests with their counts.
 const FORESTS: [(&str, &[u8], Counts); 7] = [
     ("no scope", b"", (0, 0, NONE)),
-    (
-        "one scope",
-        b"(\x01\0\0\0\x64\0\0\0\0\0\0\0\x04data\0\0\0\0\0\0\0\0)\x2c\x01\0\0\0\0\0\0",
-        (1, 1, (100, 300)),
-    ),
-    (
-        "three scopes",
-        b"(\x01\0\0\0\x64\0\0\0\0\0\0\0\x08data_top\x58\0\0\0\0\0\0\0\
-(\x02\0\0\0\xc8\0\0\0\0\0\0\0\x0ddata_middle_0\0\0\0\0\0\0\0\0)\x2c\x01\0\0\0\0\0\0\
-(\x03\0\0\0\x2c\x01\0\0\0\0\0\0\x0ddata_middle_1\0\0\0\0\0\0\0\0)\x90\x01\0\0\0\0\0\0\
-)\x90\x01\0\0\0\0\0\0",
-        (3, 2, (100, 400)),
-    ),
+    ("one scope", &ONE_SCOPE, (1, 1, (100, 300))),
+    ("three scopes", &THREE_SCOPES, (3, 2, (100, 400))),
     (
         "the least time",
         b"(\x01\0\0\0\0\0\0\0\0\0\0\x80\0\0\0\0\0\0\0\0\0)\0\0\0\0\0\0\0\x80",

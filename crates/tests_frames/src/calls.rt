@@ -1,21 +1,17 @@
 //! Calls that the crates above make, each by itself.
 
 use crate::equal::equal;
-use crate::packets::{Outcome, PACKET, main_thread};
-use puffin_data::data::{Form, Stream, StreamInfo};
-use puffin_data::{NanoSecond, Result};
+use crate::packets::Outcome;
+use puffin_data::NanoSecond;
+use puffin_data::data::Form;
 use puffin_frames::frame_data::{FrameMeta, ThreadStreams, UnpackedFrameData, are_unlike};
 use std::alloc::Global;
 use std::collections::BTreeMap;
 use std::process::Abort;
 use std::sync::Arc;
 use std::test::Fail;
-
-/// The packet's stream: one scope of 35 bytes from 100 to 300, told to be of this form.
-fn info(alloc: Global, form: Form) -> Result<StreamInfo> {
-    let bytes = Vec::from_slice(alloc, &PACKET[29..64])?;
-    StreamInfo::parse(alloc, Stream::from_bytes(bytes, form))
-}
+use tests_support::frames::{one_stream, packet_info, packet_thread};
+use tests_support::samples::ONE_SCOPE;
 
 /// Returns a frame's index, its range, and its numbers of bytes and scopes.
 fn facts(meta: FrameMeta) -> (u64, (NanoSecond, NanoSecond), (usize, usize)) {
@@ -28,7 +24,7 @@ fn a_stream_is_joined_to_none(rt: HostRuntime) -> Outcome {
     let none = FrameMeta::of_none(7);
     let empty = (NanoSecond::MAX, NanoSecond::MIN);
     equal(&rt, facts(none), (7, empty, (0, 0)));
-    let info = info(rt.alloc(), Form::Short)?;
+    let info = packet_info(rt.alloc(), Form::Short)?;
     let one = none.joined(&info.as_stream_into_ref()).ok_or("it fits")?;
     equal(&rt, facts(one), (7, (100, 300), (35, 1)));
     let two = one.joined(&info.as_stream_into_ref()).map(facts);
@@ -39,21 +35,21 @@ fn a_stream_is_joined_to_none(rt: HostRuntime) -> Outcome {
 /// The packet's streams.
 fn streams(alloc: Global) -> std::result::Result<ThreadStreams, Fail> {
     let mut streams = BTreeMap::new(alloc);
-    let info = Arc::new(alloc, info(alloc, Form::Short)?)?;
-    let _none = streams.insert(main_thread(alloc)?, info)?;
+    let info = Arc::new(alloc, packet_info(alloc, Form::Short)?)?;
+    let _none = streams.insert(packet_thread(alloc)?, info)?;
     Ok(streams)
 }
 
 /// Streams are unlike a long one under the packet's thread, and under no other.
 fn is_unlike_long(rt: &impl Abort, alloc: Global, streams: &ThreadStreams) -> Outcome {
-    let mut thread = main_thread(alloc)?;
+    let mut thread = packet_thread(alloc)?;
     for (form, expected) in [(Form::Short, false), (Form::Long, true)] {
-        let info = info(alloc, form)?;
+        let info = packet_info(alloc, form)?;
         let times = info.as_stream_into_ref();
         equal(rt, are_unlike(streams, &thread, &times), expected);
     }
     thread.start_time_ns = None;
-    let long = info(alloc, Form::Long)?;
+    let long = packet_info(alloc, Form::Long)?;
     equal(
         rt,
         are_unlike(streams, &thread, &long.as_stream_into_ref()),
@@ -76,14 +72,17 @@ fn said(frame: &UnpackedFrameData) -> (u64, usize, Option<&[u8]>) {
 
 /// A frame of the packet's stream.
 fn frame(alloc: Global) -> std::result::Result<UnpackedFrameData, Fail> {
-    let mut streams = BTreeMap::new(alloc);
-    let _none = streams.insert(main_thread(alloc)?, info(alloc, Form::Short)?)?;
+    let streams = one_stream(
+        alloc,
+        packet_thread(alloc)?,
+        packet_info(alloc, Form::Short)?,
+    )?;
     Ok(UnpackedFrameData::new(alloc, 7, streams)?)
 }
 
 #[test]
 fn a_copy_of_an_unpacked_frame(rt: HostRuntime) -> Outcome {
     let copy = frame(rt.alloc())?.clone(rt.alloc())?;
-    equal(&rt, said(&copy), (7, 1, Some(&PACKET[29..64])));
+    equal(&rt, said(&copy), (7, 1, Some(ONE_SCOPE.as_slice())));
     Ok(())
 }

@@ -1,24 +1,17 @@
 use crate::equal::equal;
 use puffin_data::data::{Stream, StreamInfo};
-use puffin_data::{Error, NanoSecond};
+use puffin_data::{Error, NanoSecond, Result};
 use puffin_frames::frame_data::{FrameData, ThreadStreams, UnpackedFrameData, report_to};
 use puffin_frames::thread_profiler::ThreadInfo;
 use std::alloc::Global;
 use std::collections::BTreeMap;
 use std::test::Fail;
+use tests_support::frames::{one_stream, packet_thread};
+use tests_support::samples::THREE_SCOPES;
+use tests_support::streams::stream_of;
+use tests_support::threads::thread_info;
 
 type Outcome = std::result::Result<(), Fail>;
-
-fn thread(
-    alloc: Global,
-    start_time_ns: Option<NanoSecond>,
-    name: &str,
-) -> std::result::Result<ThreadInfo, Fail> {
-    Ok(ThreadInfo {
-        start_time_ns,
-        name: String::from_str(alloc, name)?,
-    })
-}
 
 /// An info that says what it is told to, of a stream without bytes.
 fn told(alloc: Global, num_scopes: usize, range_ns: (NanoSecond, NanoSecond)) -> StreamInfo {
@@ -30,18 +23,9 @@ fn told(alloc: Global, num_scopes: usize, range_ns: (NanoSecond, NanoSecond)) ->
     }
 }
 
-/// A scope of 127 bytes with two others in it, from 100 to 400.
-fn three_scopes(alloc: Global) -> std::result::Result<StreamInfo, Fail> {
-    let mut bytes = Vec::new(alloc);
-    bytes.extend_from_slice(b"(\x01\0\0\0\x64\0\0\0\0\0\0\0\x08data_top\x58\0\0\0\0\0\0\0")?;
-    bytes.extend_from_slice(
-        b"(\x02\0\0\0\xc8\0\0\0\0\0\0\0\x0ddata_middle_0\0\0\0\0\0\0\0\0)\x2c\x01\0\0\0\0\0\0",
-    )?;
-    bytes.extend_from_slice(
-        b"(\x03\0\0\0\x2c\x01\0\0\0\0\0\0\x0ddata_middle_1\0\0\0\0\0\0\0\0)\x90\x01\0\0\0\0\0\0",
-    )?;
-    bytes.extend_from_slice(b")\x90\x01\0\0\0\0\0\0")?;
-    Ok(StreamInfo::parse(alloc, Stream::from(bytes))?)
+/// The info of the three scopes.
+fn three_scopes(alloc: Global) -> Result<StreamInfo> {
+    StreamInfo::parse(alloc, stream_of(alloc, &THREE_SCOPES)?)
 }
 
 /// Streams by their threads.
@@ -49,9 +33,7 @@ type Streams = BTreeMap<ThreadInfo, StreamInfo>;
 
 /// The three scopes of the thread `main`, which began at 100.
 fn main_stream(alloc: Global) -> std::result::Result<Streams, Fail> {
-    let mut streams = BTreeMap::new(alloc);
-    let _ = streams.insert(thread(alloc, Some(100), "main")?, three_scopes(alloc)?)?;
-    Ok(streams)
+    Ok(one_stream(alloc, packet_thread(alloc)?, three_scopes(alloc)?)?)
 }
 
 /// The streams of two threads without a start.
@@ -61,8 +43,8 @@ fn two_streams(
     second: StreamInfo,
 ) -> std::result::Result<Streams, Fail> {
     let mut streams = BTreeMap::new(alloc);
-    let _ = streams.insert(thread(alloc, None, "first")?, first)?;
-    let _ = streams.insert(thread(alloc, None, "second")?, second)?;
+    let _ = streams.insert(thread_info(alloc, None, "first")?, first)?;
+    let _ = streams.insert(thread_info(alloc, None, "second")?, second)?;
     Ok(streams)
 }
 
@@ -87,9 +69,7 @@ fn counts_of_main(
     alloc: Global,
     streams: &ThreadStreams,
 ) -> std::result::Result<(usize, usize), Fail> {
-    let info = streams
-        .get(&thread(alloc, Some(100), "main")?)
-        .ok_or("a stream")?;
+    let info = streams.get(&packet_thread(alloc)?).ok_or("a stream")?;
     Ok((info.stream.len(), info.num_scopes))
 }
 
@@ -114,7 +94,7 @@ fn one_stream_makes_a_frame(rt: HostRuntime) -> Outcome {
 #[test]
 fn two_streams_are_summed_and_joined(rt: HostRuntime) -> Outcome {
     let mut streams = main_stream(rt.alloc())?;
-    let other = thread(rt.alloc(), None, "other")?;
+    let other = thread_info(rt.alloc(), None, "other")?;
     let _ = streams.insert(other, told(rt.alloc(), 2, (-5, 250)))?;
     let frame = UnpackedFrameData::new(rt.alloc(), 0, streams)?;
     equal(&rt, facts(&frame), (0, (-5, 400), 405, (127, 5)));
@@ -158,7 +138,7 @@ fn a_frame_made_again_of_its_streams(rt: HostRuntime) -> Outcome {
 
 /// Reports the three scopes of the thread `main`.
 fn report_main(alloc: Global, streams: &mut ThreadStreams) -> Outcome {
-    let main = thread(alloc, Some(100), "main")?;
+    let main = packet_thread(alloc)?;
     Ok(report_to(
         alloc,
         streams,
@@ -209,10 +189,10 @@ fn a_sum_that_does_not_fit(rt: HostRuntime) -> Outcome {
 
 #[test]
 fn threads_in_order(rt: HostRuntime) -> Outcome {
-    let unknown = thread(rt.alloc(), None, "z")?;
-    let early = thread(rt.alloc(), Some(-1), "z")?;
-    let main = thread(rt.alloc(), Some(100), "main")?;
-    let longer = thread(rt.alloc(), Some(100), "main 2")?;
+    let unknown = thread_info(rt.alloc(), None, "z")?;
+    let early = thread_info(rt.alloc(), Some(-1), "z")?;
+    let main = packet_thread(rt.alloc())?;
+    let longer = thread_info(rt.alloc(), Some(100), "main 2")?;
     assert!(rt; unknown < early && early < main && main < longer);
     assert!(rt; main == main.clone()?);
     assert!(rt; main != longer);

@@ -1,11 +1,14 @@
 use crate::equal::equal;
-use crate::packets::{Outcome, PACKET, bytes_of, facts, is_written, main_thread, read_one};
-use puffin_data::data::{Form, Stream, StreamInfo};
+use crate::packets::{Outcome, facts, is_written, read_one};
+use puffin_data::data::Form;
 use puffin_frames::frame_data::FrameData;
-use puffin_frames::thread_profiler::ThreadInfo;
 use std::alloc::Global;
 use std::collections::BTreeMap;
 use std::test::Fail;
+use tests_support::frames::{one_stream, packet_info, packet_thread};
+use tests_support::samples::ONE_SCOPE;
+use tests_support::streams::bytes_of;
+use tests_support::threads::thread_info;
 
 /// The frame of [`PACKET`], whose stream is of the long form.
 static LONG_PACKET: [u8; 76] = [
@@ -16,10 +19,11 @@ static LONG_PACKET: [u8; 76] = [
 
 /// The frame of [`LONG_PACKET`].
 fn long_frame(alloc: Global) -> std::result::Result<FrameData, Fail> {
-    let bytes = Vec::from_slice(alloc, &PACKET[29..64])?;
-    let info = StreamInfo::parse(alloc, Stream::from_bytes(bytes, Form::Long))?;
-    let mut streams = BTreeMap::new(alloc);
-    let _ = streams.insert(main_thread(alloc)?, info)?;
+    let streams = one_stream(
+        alloc,
+        packet_thread(alloc)?,
+        packet_info(alloc, Form::Long)?,
+    )?;
     Ok(FrameData::new(alloc, 0, streams, Vec::new(alloc), false)?)
 }
 
@@ -38,39 +42,33 @@ fn a_packet_of_a_long_stream_is_read_and_written_back(rt: HostRuntime) -> Outcom
     let unpacked = frame.unpacked()?;
     let (_, info) = unpacked.thread_streams.first_key_value().ok_or("a stream")?;
     equal(&rt, (info.stream.form(), info.depth), (Form::Long, 1));
-    equal(&rt, info.stream.bytes(), &PACKET[29..64]);
+    equal(&rt, info.stream.bytes(), &ONE_SCOPE);
     Ok(())
 }
 
 /// The packet of a frame with the stream of [`PACKET`] under two names, in the short form and in the long one.
 fn mixed_packet(alloc: Global) -> std::result::Result<Vec<u8>, Fail> {
-    let stream = &PACKET[29..64];
     let measures: &[u8] = &[1, 1, 200, 251, 88, 2];
     let pieces: [&[u8]; 9] = [
         b"PFDL\x07\0\0\0",
         &[0, 200, 251, 88, 2, 70, 2, 101, 0, 0, 0, 0, 2],
         b"\x01\xc8\x04main\x00\x23",
-        stream,
+        &ONE_SCOPE,
         measures,
         b"\x01\xc8\x04next\x01\x23",
-        stream,
+        &ONE_SCOPE,
         measures,
         &[1, 0, 0, 0, 0],
     ];
-    bytes_of(alloc, &pieces)
+    Ok(bytes_of(alloc, &pieces)?)
 }
 
 /// The frame of [`mixed_packet`].
 fn mixed_frame(alloc: Global) -> std::result::Result<FrameData, Fail> {
     let mut streams = BTreeMap::new(alloc);
     for (name, form) in [("main", Form::Short), ("next", Form::Long)] {
-        let bytes = Vec::from_slice(alloc, &PACKET[29..64])?;
-        let info = StreamInfo::parse(alloc, Stream::from_bytes(bytes, form))?;
-        let thread = ThreadInfo {
-            start_time_ns: Some(100),
-            name: String::from_str(alloc, name)?,
-        };
-        let _ = streams.insert(thread, info)?;
+        let thread = thread_info(alloc, Some(100), name)?;
+        let _ = streams.insert(thread, packet_info(alloc, form)?)?;
     }
     Ok(FrameData::new(alloc, 0, streams, Vec::new(alloc), false)?)
 }

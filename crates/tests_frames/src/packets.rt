@@ -1,24 +1,18 @@
 use crate::equal::equal;
-use puffin_data::FileError;
-use puffin_data::data::{Counted, ScopeId, Stream, StreamInfo};
+use puffin_data::data::Counted;
+use puffin_data::{FileError, Result};
 use puffin_frames::frame_data::{FrameData, UnpackedFrameData};
 use puffin_frames::scope_details::{ScopeCollection, ScopeDetails};
-use puffin_frames::thread_profiler::ThreadInfo;
 use std::alloc::Global;
 use std::borrow::CowStr;
-use std::collections::BTreeMap;
 use std::process::Abort;
 use std::sync::Arc;
 use std::test::Fail;
+use tests_support::frames::packet_frame;
+use tests_support::samples::{ONE_SCOPE, PACKET};
+use tests_support::streams::{bytes_of, id};
 
 pub(crate) type Outcome = std::result::Result<(), Fail>;
-
-/// Frame 0 with one scope `data` of id 1 on the thread `main`, from 100 to 300.
-pub(crate) static PACKET: [u8; 75] = [
-    80, 70, 68, 52, 7, 0, 0, 0, 0, 200, 251, 88, 2, 35, 1, 50, 0, 0, 0, 0, 1, 1, 200, 4, 109, 97,
-    105, 110, 35, 40, 1, 0, 0, 0, 100, 0, 0, 0, 0, 0, 0, 0, 4, 100, 97, 116, 97, 0, 0, 0, 0, 0, 0,
-    0, 0, 41, 44, 1, 0, 0, 0, 0, 0, 0, 1, 1, 200, 251, 88, 2, 1, 0, 0, 0, 0,
-];
 
 /// The two packets that the Rust crate writes, at kind 0, of these scopes: `t1` from 374487 to 375371, and then `t0`
 /// with one scope in another from 378236 to 378240 and `t1` from 378300 to 70000000000; each frame with the details of
@@ -38,15 +32,6 @@ static RUST_PACKETS: [u8; 314] = [
     11, 0, 26, 0, 0, 0, 1, 1, 2, 1, 6, 112, 97, 114, 116, 45, 55, 3, 102, 50, 48, 5, 109, 51, 46,
     114, 115, 252, 250, 45, 238, 255,
 ];
-
-/// Pieces, one after the other.
-pub(crate) fn bytes_of(alloc: Global, pieces: &[&[u8]]) -> std::result::Result<Vec<u8>, Fail> {
-    let mut bytes = Vec::new(alloc);
-    for piece in pieces {
-        bytes.extend_from_slice(piece)?;
-    }
-    Ok(bytes)
-}
 
 /// Reads a frame.
 pub(crate) fn read(
@@ -82,36 +67,15 @@ pub(crate) fn is_written(
     Ok(())
 }
 
-/// The stream of [`PACKET`].
-fn info(alloc: Global) -> std::result::Result<StreamInfo, Fail> {
-    let stream = Stream::from(Vec::from_slice(alloc, &PACKET[29..64])?);
-    Ok(StreamInfo::parse(alloc, stream)?)
-}
-
-pub(crate) fn main_thread(alloc: Global) -> std::result::Result<ThreadInfo, Fail> {
-    Ok(ThreadInfo {
-        start_time_ns: Some(100),
-        name: String::from_str(alloc, "main")?,
-    })
-}
-
-/// The frame of [`PACKET`].
-fn frame(alloc: Global) -> std::result::Result<FrameData, Fail> {
-    let mut streams = BTreeMap::new(alloc);
-    let _ = streams.insert(main_thread(alloc)?, info(alloc)?)?;
-    Ok(FrameData::new(alloc, 0, streams, Vec::new(alloc), false)?)
-}
-
 /// Details with an id, of a part of the function `a`.
 fn details(
     alloc: Global,
-    id: u32,
+    number: u32,
     name: &'static str,
 ) -> std::result::Result<Arc<ScopeDetails>, Fail> {
-    let id = ScopeId::new(id).ok_or("not 0")?;
     let function = ScopeDetails::from_scope_name(CowStr::Borrowed(name))
         .with_function_name(CowStr::Borrowed("a"))
-        .with_scope_id(id);
+        .with_scope_id(id(number)?);
     Ok(Arc::new(alloc, in_file(function))?)
 }
 
@@ -174,7 +138,7 @@ fn only_name<'f>(frame: &'f FrameData) -> std::result::Result<&'f str, Fail> {
 
 #[test]
 fn a_frame_is_written_byte_for_byte(rt: HostRuntime) -> Outcome {
-    let frame = frame(rt.alloc())?;
+    let frame = packet_frame(rt.alloc(), 0)?;
     is_written(&rt, rt.alloc(), &frame, &PACKET)?;
     let packed = frame.packed_copy()?;
     is_written(&rt, rt.alloc(), &packed, &PACKET)?;
@@ -201,7 +165,7 @@ fn is_stream_of_packet(rt: &impl Abort, frame: &UnpackedFrameData) -> Outcome {
         (thread.name.as_str(), thread.start_time_ns),
         ("main", Some(100)),
     );
-    equal(rt, info.stream.bytes(), &PACKET[29..64]);
+    equal(rt, info.stream.bytes(), &ONE_SCOPE);
     equal(rt, info.depth, 1);
     Ok(())
 }
@@ -263,7 +227,7 @@ fn the_second_form_is_kept_compressed(rt: HostRuntime) -> Outcome {
 }
 
 /// The packet's frame as a legacy one, with what stands after its streams.
-fn legacy_frame(alloc: Global, end: &[u8]) -> std::result::Result<Vec<u8>, Fail> {
+fn legacy_frame(alloc: Global, end: &[u8]) -> Result<Vec<u8>> {
     bytes_of(alloc, &[&[57, 0, 0, 0, 0], &PACKET[20..70], end])
 }
 
@@ -292,14 +256,18 @@ fn details_without_an_id(rt: HostRuntime) -> Outcome {
 
 /// The frame of [`PACKET`], packed.
 fn packed_frame(alloc: Global) -> std::result::Result<FrameData, Fail> {
-    let mut frame = frame(alloc)?;
+    let mut frame = packet_frame(alloc, 0)?;
     frame.pack()?;
     Ok(frame)
 }
 
 #[test]
 fn sizes_of_a_frame_before_and_after_packing(rt: HostRuntime) -> Outcome {
-    equal(&rt, sizes(&frame(rt.alloc())?), (None, Some(35), 35));
+    equal(
+        &rt,
+        sizes(&packet_frame(rt.alloc(), 0)?),
+        (None, Some(35), 35),
+    );
     equal(&rt, sizes(&packed_frame(rt.alloc())?), (Some(50), None, 50));
     Ok(())
 }
@@ -323,7 +291,7 @@ fn sizes_of_a_frame_that_is_held_both_ways(rt: HostRuntime) -> Outcome {
 
 /// The frame of [`PACKET`], with one scope's details.
 fn frame_with_details(alloc: Global) -> std::result::Result<FrameData, Fail> {
-    let mut frame = frame(alloc)?;
+    let mut frame = packet_frame(alloc, 0)?;
     frame.scope_delta.push(details(alloc, 1, "my-scope")?)?;
     Ok(frame)
 }
@@ -356,7 +324,7 @@ fn two_scopes(alloc: Global) -> std::result::Result<ScopeCollection, Fail> {
 
 /// The packet of a frame, with a collection's details.
 fn packet_with(alloc: Global, scopes: &ScopeCollection) -> std::result::Result<Vec<u8>, Fail> {
-    written(alloc, &frame(alloc)?, Some(scopes))
+    written(alloc, &packet_frame(alloc, 0)?, Some(scopes))
 }
 
 /// The names of a frame's two details.

@@ -1,7 +1,8 @@
 use crate::equal::equal;
-use crate::packets::{PACKET, read};
+use crate::packets::read;
 use puffin_data::FileError;
 use std::alloc::Global;
+use tests_support::samples::PACKET;
 
 /// Why bytes aren't read.
 fn refusal(alloc: Global, bytes: &[u8]) -> Option<FileError> {

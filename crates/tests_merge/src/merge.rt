@@ -1,15 +1,17 @@
 use crate::equal::equal;
-use puffin_data::data::{Counted, ScopeId, Stream, StreamInfo};
-use puffin_data::{Error, FileError, NanoSecond, Result};
+use puffin_data::data::{Counted, Stream, StreamInfo};
+use puffin_data::{FileError, NanoSecond, Result};
 use puffin_frames::frame_data::UnpackedFrameData;
 use puffin_frames::scope_details::ScopeCollection;
 use puffin_frames::thread_profiler::ThreadInfo;
 use puffin_merge::merge::{MergeScope, merge_scopes_counted, merge_scopes_for_thread};
 use puffin_view::profile_view::FrameView;
 use std::alloc::Global;
-use std::collections::BTreeMap;
 use std::sync::Arc;
 use std::test::Fail;
+use tests_support::frames::{one_stream, packet_thread};
+use tests_support::streams::{end, id};
+use tests_support::threads::thread_info;
 
 pub(crate) type Outcome = std::result::Result<(), Fail>;
 
@@ -19,19 +21,13 @@ pub(crate) type Frames = Vec<Arc<UnpackedFrameData>>;
 pub(crate) type Numbers = (u32, NanoSecond, NanoSecond, NanoSecond, NanoSecond, usize);
 
 /// Begins a scope, and returns where its size stands.
-pub(crate) fn begin(stream: &mut Stream, id: u32, start: NanoSecond, text: &str) -> Result<usize> {
-    match ScopeId::new(id) {
-        None => Err(Error::PrematureEnd),
-        Some(id) => stream.begin_scope_at(start, id, text),
-    }
-}
-
-pub(crate) fn end(stream: &mut Stream, offset: usize, stop: NanoSecond) -> Result<()> {
-    if offset <= stream.len() && 8 <= stream.len() - offset {
-        stream.end_scope(offset, stop)
-    } else {
-        Err(Error::ScopeNeverEnded)
-    }
+pub(crate) fn begin(
+    stream: &mut Stream,
+    number: u32,
+    start: NanoSecond,
+    text: &str,
+) -> Result<usize> {
+    stream.begin_scope_at(start, id(number)?, text)
 }
 
 pub(crate) fn leaf(
@@ -45,16 +41,12 @@ pub(crate) fn leaf(
 }
 
 pub(crate) fn thread(alloc: Global) -> Result<ThreadInfo> {
-    Ok(ThreadInfo {
-        start_time_ns: Some(0),
-        name: String::from_str(alloc, "main")?,
-    })
+    thread_info(alloc, Some(0), "main")
 }
 
 /// A frame of one thread.
 fn frame_of(alloc: Global, thread: ThreadInfo, stream: Stream) -> Result<Arc<UnpackedFrameData>> {
-    let mut streams = BTreeMap::new(alloc);
-    let _none = streams.insert(thread, StreamInfo::parse(alloc, stream)?)?;
+    let streams = one_stream(alloc, thread, StreamInfo::parse(alloc, stream)?)?;
     Ok(Arc::new(alloc, UnpackedFrameData::new(alloc, 0, streams)?)?)
 }
 
@@ -219,10 +211,7 @@ fn a_frame_without_the_thread_counts(rt: HostRuntime) -> Outcome {
     let alloc = rt.alloc();
     let mut frames = Vec::new(alloc);
     frames.push(one_scope(alloc, 1, 10, 15)?)?;
-    let other = ThreadInfo {
-        start_time_ns: None,
-        name: String::from_str(alloc, "main")?,
-    };
+    let other = thread_info(alloc, None, "main")?;
     let mut stream = Stream::new(alloc);
     leaf(&mut stream, 1, 100, 101)?;
     frames.push(frame_of(alloc, other, stream)?)?;
@@ -242,10 +231,7 @@ fn no_frames_and_no_stream(rt: HostRuntime) -> Outcome {
     equal(&rt, merged(alloc, &none)?.len(), 0);
     let mut frames = Vec::new(alloc);
     frames.push(one_scope(alloc, 1, 10, 15)?)?;
-    let other = ThreadInfo {
-        start_time_ns: None,
-        name: String::from_str(alloc, "main")?,
-    };
+    let other = thread_info(alloc, None, "main")?;
     let collection = ScopeCollection::new(alloc);
     let mut tries = 7;
     equal(
@@ -359,10 +345,7 @@ fn frames_of_file(alloc: Global) -> std::result::Result<Frames, FileError> {
 #[test]
 fn a_file_of_the_rust_crate(rt: HostRuntime) -> Outcome {
     let alloc = rt.alloc();
-    let info = ThreadInfo {
-        start_time_ns: Some(100),
-        name: String::from_str(alloc, "main")?,
-    };
+    let info = packet_thread(alloc)?;
     let frames = frames_of_file(alloc).ok().ok_or("no fault")?;
     let collection = ScopeCollection::new(alloc);
     let merged = merge_scopes_for_thread(alloc, &collection, frames.as_slice(), &info)?;

@@ -4,13 +4,13 @@ use crate::details::named;
 use crate::equal::equal;
 use crate::global_profiler::{borrowed, report, scope, thread};
 use crate::sinks::added;
-use puffin::data::ScopeId;
 use puffin::global_profiler::{Collector, FrameSinkId, GlobalProfiler, Sink};
 use puffin::profile_view::FrameView;
 use puffin::{Error, Result};
 use std::process::Abort;
 use std::sync::{Arc, Mutex, Wait};
 use std::test::Fail;
+use tests_support::streams::id;
 
 type Outcome = std::result::Result<(), Fail>;
 
@@ -46,7 +46,7 @@ fn details_alone_without_an_id_are_refused(rt: HostRuntime) -> Outcome {
 
 /// Adds the details of a scope to those that are known. Checks that a snapshot lists them.
 fn learns(rt: &(impl AllocGlobal + Abort), collector: &mut Collector) -> Outcome {
-    let id = ScopeId::new(7).ok_or("an id")?;
+    let id = id(7)?;
     let mut details = Vec::new(rt.alloc());
     details.push(Arc::new(rt.alloc(), named("t").with_scope_id(id))?)?;
     collector.learn(&details)?;

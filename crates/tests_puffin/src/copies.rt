@@ -9,54 +9,26 @@ use puffin::frame_data::FrameData;
 use puffin::global_profiler::{GlobalProfiler, SharedProfiler};
 use puffin::profile_view::FrameView;
 use puffin::scope_details::{ScopeCollection, ScopeDetails};
-use puffin::thread_profiler::ThreadInfo;
 use std::alloc::Global;
 use std::borrow::CowStr;
-use std::collections::BTreeMap;
 use std::marker::Brand;
 use std::process::Abort;
 use std::sync::ledger::{Blank, Ledger};
 use std::sync::{Arc, Wait};
 use std::test::Fail;
+use tests_support::frames::{packet_frame, packet_thread};
+use tests_support::samples::{ONE_SCOPE, PACKET};
+use tests_support::streams::stream_of;
+use tests_support::threads::named;
 
 type Outcome = std::result::Result<(), Fail>;
-
-/// The packet of frame 0: the thread `main` with one scope `data` of id 1, from 100 to 300.
-const PACKET: [u8; 75] = [
-    80, 70, 68, 52, 7, 0, 0, 0, 0, 200, 251, 88, 2, 35, 1, 50, 0, 0, 0, 0, 1, 1, 200, 4, 109, 97,
-    105, 110, 35, 40, 1, 0, 0, 0, 100, 0, 0, 0, 0, 0, 0, 0, 4, 100, 97, 116, 97, 0, 0, 0, 0, 0, 0,
-    0, 0, 41, 44, 1, 0, 0, 0, 0, 0, 0, 1, 1, 200, 251, 88, 2, 1, 0, 0, 0, 0,
-];
-
-/// The packet's scope.
-fn stream(alloc: Global) -> Result<Stream> {
-    Ok(Stream::from(Vec::from_slice(alloc, &PACKET[29..64])?))
-}
-
-/// The packet's thread.
-fn thread(alloc: Global) -> Result<ThreadInfo> {
-    Ok(ThreadInfo {
-        start_time_ns: Some(100),
-        name: String::from_str(alloc, "main")?,
-    })
-}
-
-/// The packet's frame.
-fn frame(alloc: Global) -> Result<FrameData> {
-    let info = StreamInfo::parse(alloc, stream(alloc)?)?;
-    let mut streams = BTreeMap::new(alloc);
-    let _none = streams.insert(thread(alloc)?, info)?;
-    FrameData::new(alloc, 0, streams, Vec::new(alloc), false)
-}
 
 /// Makes a collection with two ids. Both have details named `a`; of those named `b`, whose id is taken, only the name
 /// is kept.
 fn collection(alloc: Global) -> std::result::Result<ScopeCollection, Fail> {
     let mut collection = ScopeCollection::new(alloc);
     for (number, name) in [(1, "a"), (1, "b"), (2, "a")] {
-        let id = ScopeId::new(number).ok_or("an id")?;
-        let details = ScopeDetails::from_scope_name(CowStr::Borrowed(name)).with_scope_id(id);
-        let _kept = collection.insert(Arc::new(alloc, details)?)?;
+        let _kept = collection.insert(named(alloc, number, name)?)?;
     }
     Ok(collection)
 }
@@ -111,7 +83,7 @@ fn copies_are_written<R: Abort>(
 #[test]
 fn a_frame_and_its_copies_are_written(rt: HostRuntime) -> Outcome {
     let alloc = rt.alloc();
-    let frame = frame(alloc)?;
+    let frame = packet_frame(alloc, 0)?;
     let scopes = collection(alloc)?;
     is_written(&rt, alloc, &frame, &scopes)?;
     copies_are_written(&rt, alloc, &frame, &scopes)
@@ -160,7 +132,7 @@ fn added_where_shared<L: Ledger, M: Ledger, R: Wait + Abort>(
 #[test]
 fn a_frame_is_refused_by_no_sink(rt: HostRuntime) -> Outcome {
     let alloc = rt.alloc();
-    let frame = Arc::new(alloc, frame(alloc)?)?;
+    let frame = Arc::new(alloc, packet_frame(alloc, 0)?)?;
     let mut profiler = GlobalProfiler::new(alloc);
     equal(&rt, profiler.add_frame(&rt, Arc::try_clone(&frame)?)?, 0);
     added_where_shared::<Brand, Brand, HostRuntime>(&rt, alloc, frame, Blank::new(1), Blank::new(1))
@@ -168,7 +140,7 @@ fn a_frame_is_refused_by_no_sink(rt: HostRuntime) -> Outcome {
 
 #[test]
 fn copies_of_threads(rt: HostRuntime) -> Outcome {
-    let info = thread(rt.alloc())?;
+    let info = packet_thread(rt.alloc())?;
     equal(&rt, info.clone()?, info);
     Ok(())
 }
@@ -182,13 +154,13 @@ fn copies_of_details(rt: HostRuntime) -> Outcome {
 
 /// Copies the packet's stream, and then the info of that copy.
 fn copied_info(alloc: Global) -> Result<StreamInfo> {
-    StreamInfo::parse(alloc, stream(alloc)?.clone()?)?.clone()
+    StreamInfo::parse(alloc, stream_of(alloc, &ONE_SCOPE)?.clone()?)?.clone()
 }
 
 #[test]
 fn copies_of_streams(rt: HostRuntime) -> Outcome {
     let copy = copied_info(rt.alloc())?.stream;
-    equal(&rt, copy.bytes(), &PACKET[29..64]);
+    equal(&rt, copy.bytes(), &ONE_SCOPE);
     equal(
         &rt,
         Reader::count_scope_and_depth(rt.alloc(), &copy)?,
@@ -200,7 +172,7 @@ fn copies_of_streams(rt: HostRuntime) -> Outcome {
 /// Makes a view of one frame.
 fn viewed(alloc: Global) -> std::result::Result<FrameView, Fail> {
     let mut view = FrameView::new(alloc);
-    view.add_frame(Arc::new(alloc, frame(alloc)?)?)?;
+    view.add_frame(Arc::new(alloc, packet_frame(alloc, 0)?)?)?;
     Ok(view)
 }
 

@@ -2,7 +2,6 @@
 
 use crate::equal::equal;
 use crate::global_profiler::{borrowed, emitted, holds, report, scope, thread};
-use puffin::data::ScopeId;
 use puffin::frame_data::FrameData;
 use puffin::global_profiler::GlobalProfiler;
 use puffin::scope_details::{ScopeDetails, ScopeIds};
@@ -11,15 +10,12 @@ use std::borrow::CowStr;
 use std::process::Abort;
 use std::sync::Wait;
 use std::test::Fail;
+use tests_support::streams::id;
 
 type Outcome = std::result::Result<(), Fail>;
 
 pub(crate) fn named(name: &'static str) -> ScopeDetails {
     ScopeDetails::from_scope_name(CowStr::Borrowed(name))
-}
-
-fn id(number: u32) -> Result<ScopeId> {
-    ScopeId::new(number).ok_or(Error::MissingId)
 }
 
 /// Returns whether a frame lists the details of exactly these scopes, given by id and name, in this order.

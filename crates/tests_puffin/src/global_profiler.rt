@@ -11,15 +11,13 @@ use puffin::{Error, NanoSecond, Result};
 use std::process::Abort;
 use std::sync::{Arc, Wait};
 use std::test::Fail;
+use tests_support::threads::thread_info;
 
 type Outcome = std::result::Result<(), Fail>;
 
 /// A thread with this name, whose start isn't known.
 pub(crate) fn thread(rt: &impl AllocGlobal, name: &str) -> Result<ThreadInfo> {
-    Ok(ThreadInfo {
-        start_time_ns: None,
-        name: String::from_str(rt.alloc(), name)?,
-    })
+    thread_info(rt.alloc(), None, name)
 }
 
 /// One scope with this id, no text and no children.

@@ -10,13 +10,14 @@ use crate::shares::{next_frame, opened};
 use puffin::data::{Form, Reader, Scope, ScopeId, Stream, StreamInfo};
 use puffin::frame_data::FrameData;
 use puffin::global_profiler::{GlobalProfiler, Share, SharedProfiler};
-use puffin::thread_profiler::ThreadInfo;
 use std::alloc::Global;
 use std::marker::Brand;
 use std::process::Abort;
 use std::sync::Wait;
 use std::sync::ledger::{Blank, Ledger};
 use std::test::Fail;
+use tests_support::streams::id;
+use tests_support::threads::thread_info;
 
 type Outcome = std::result::Result<(), Fail>;
 
@@ -66,11 +67,8 @@ fn user_scope<L: Ledger, M: Ledger, R: Wait>(
     profiler: &SharedProfiler<L, M>,
     share: &mut Share<L, M>,
 ) -> Outcome {
-    let own = own_scope(alloc, ScopeId::new(1).ok_or("an id")?)?;
-    let user = ThreadInfo {
-        start_time_ns: None,
-        name: String::from_str(alloc, "user")?,
-    };
+    let own = own_scope(alloc, id(1)?)?;
+    let user = thread_info(alloc, None, "user")?;
     profiler.report_user_scopes(rt, share, user, &own.as_stream_into_ref())?;
     Ok(())
 }
@@ -90,7 +88,7 @@ fn in_one_frame<L: Ledger, M: Ledger, R: Wait + Abort + Copy + Drop>(
     profiler: &SharedProfiler<L, M>,
     share: Share<L, M>,
 ) -> Outcome {
-    let id = ScopeId::new(1).ok_or("an id")?;
+    let id = id(1)?;
     let texts = ["load", TEXT];
     let mut share = shares::reported(rt, alloc, profiler, share, Form::Long, id, &texts)?;
     user_scope(&rt, alloc, profiler, &mut share)?;

@@ -6,14 +6,14 @@ ghost use Rattle.std.specs.Prelude.{◌≡◌};
 use crate::equal::equal;
 use crate::shares;
 use crate::shares::{next_frame, opened};
-use puffin::data::{Counted, Form, ScopeId};
+use puffin::data::{Counted, Form};
 use puffin::frame_data::FrameData;
 use puffin::global_profiler::{
     GlobalFrameView, GlobalProfiler, Share, SharedProfiler, SharedReporter,
 };
 use puffin::scope_details::{ScopeDetails, ScopeIds};
 use puffin::thread_profiler::{ScriptClock, ThreadProfiler};
-use puffin::{Error, ProfilerScope, Result};
+use puffin::{ProfilerScope, Result};
 use std::alloc::Global;
 use std::borrow::CowStr;
 use std::marker::Brand;
@@ -21,6 +21,9 @@ use std::process::Abort;
 use std::sync::ledger::{Blank, Ledger};
 use std::sync::{Arc, Wait};
 use std::test::Fail;
+use tests_support::samples::PACKET;
+use tests_support::streams::{bytes_of, id};
+use tests_support::threads::main_thread;
 
 type Outcome = std::result::Result<(), Fail>;
 
@@ -35,10 +38,6 @@ enum Call {
     Snapshot,
     /// A frame is added for a view.
     AddFrame,
-}
-
-fn id(number: u32) -> Result<ScopeId> {
-    ScopeId::new(number).ok_or(Error::MissingId)
 }
 
 /// Checks that a frame lists exactly these scopes, given by id and name, in this order.
@@ -64,8 +63,7 @@ fn is_reported_once<L: Ledger, M: Ledger, R: Wait + Abort>(
     alloc: Global,
     reporter: &mut SharedReporter<L, M, R>,
 ) -> Outcome {
-    let name = String::from_str(alloc, "main")?;
-    let mut thread = ThreadProfiler::new(alloc, name, ScriptClock::new(5));
+    let mut thread = main_thread(alloc, 5)?;
     function_waits(&mut thread)?;
     for waits in [true, false] {
         equal(rt, reporter.report_closed(&mut thread), Ok(waits));
@@ -111,15 +109,11 @@ fn snapshot_tells_all<L: Ledger, M: Ledger, R: Wait + Abort + Copy + Drop>(
     Ok(())
 }
 
-/// A packet of frame 0: the thread `main` with one scope `data` of id 1, from 100 to 300, and the details of this id.
-const PACKET: &[u8] =
-    b"PFD4\x07\0\0\0\0\xc8\xfb\x58\x02\x23\x01\x32\0\0\0\0\x01\x01\xc8\x04main\x23\
-    (\x01\0\0\0\x64\0\0\0\0\0\0\0\x04data\0\0\0\0\0\0\0\0)\x2c\x01\0\0\0\0\0\0\x01\x01\xc8\xfb\x58\x02\
-    \x15\0\0\0\x01\x01\x01\x01\x08my-scope\x01\x61\x04b.rs\x07";
-
-/// The packet's frame.
+/// The frame of [`PACKET`], with the details of its scope.
 fn packed(alloc: Global) -> std::result::Result<FrameData, Fail> {
-    let read = FrameData::read_next(alloc, &mut Counted::new(PACKET)).ok();
+    let details = b"\x15\0\0\0\x01\x01\x01\x01\x08my-scope\x01\x61\x04b.rs\x07";
+    let packet = bytes_of(alloc, &[&PACKET[..70], details])?;
+    let read = FrameData::read_next(alloc, &mut Counted::new(packet.as_slice())).ok();
     Ok(read.ok_or("no fault")?.ok_or("a frame")?)
 }
 

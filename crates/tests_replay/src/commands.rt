@@ -1,9 +1,9 @@
 use puffin_data::NanoSecond;
-use puffin_data::data::{ScopeId, Stream};
-use puffin_frames::thread_profiler::ThreadInfo;
 use puffin_replay::replay::Command;
 use std::alloc::AllocGlobal;
 use std::test::Fail;
+use tests_support::streams::{id, stream_of};
+use tests_support::threads::thread_info;
 
 pub(crate) type Outcome<T> = Result<T, Fail>;
 
@@ -23,10 +23,10 @@ pub(crate) enum Step<'a> {
 /// Makes the command of a step.
 fn command(rt: &impl AllocGlobal, step: &Step<'_>) -> Outcome<Command> {
     match step {
-        Step::Begin(at, id, text) => Ok(Command::Begin {
+        Step::Begin(at, number, text) => Ok(Command::Begin {
             thread: 0,
             at: *at,
-            id: ScopeId::new(*id).ok_or("an id of 0")?,
+            id: id(*number)?,
             text: String::from_str(rt.alloc(), text)?,
         }),
         Step::End(at) => Ok(Command::End {
@@ -41,11 +41,8 @@ fn command(rt: &impl AllocGlobal, step: &Step<'_>) -> Outcome<Command> {
 
 /// The command that reports these scopes of a thread with this name.
 fn report(rt: &impl AllocGlobal, name: &str, bytes: &[u8]) -> Outcome<Command> {
-    let info = ThreadInfo {
-        start_time_ns: None,
-        name: String::from_str(rt.alloc(), name)?,
-    };
-    let stream = Stream::from(Vec::from_slice(rt.alloc(), bytes)?);
+    let info = thread_info(rt.alloc(), None, name)?;
+    let stream = stream_of(rt.alloc(), bytes)?;
     Ok(Command::ReportUser { info, stream })
 }
 

@@ -8,11 +8,9 @@ use puffin_replay::replay::*;
 use std::alloc::AllocGlobal;
 use std::io;
 use std::process::Abort;
+use tests_support::samples::ONE_SCOPE;
 
-/// One scope, `data` from 100 to 300.
-const ONE: &[u8] = b"(\x01\0\0\0\x64\0\0\0\0\0\0\0\x04data\0\0\0\0\0\0\0\0)\x2c\x01\0\0\0\0\0\0";
-
-/// What is written of it.
+/// What is written of the stream of one scope.
 const ONE_LINES: &[u8] =
     b"scopes 1 depth 1 range 100 300\nframe 0 bytes 35 scopes 1 range 100 300 duration 200\n";
 
@@ -105,7 +103,7 @@ fn std_readers_and_writers_are_counted(rt: HostRuntime) -> Outcome<()> {
     let mut written = Vec::new(rt.alloc());
     let answer = count_stream(
         rt.alloc(),
-        &mut Counted::new(ONE),
+        &mut Counted::new(ONE_SCOPE.as_slice()),
         &mut Counted::new(&mut written),
     );
     equal(&rt, answer, Ok(None));
@@ -117,7 +115,7 @@ fn std_readers_and_writers_are_counted(rt: HostRuntime) -> Outcome<()> {
 fn each_read_fails_in_turn(rt: HostRuntime) {
     // 35 bytes in pieces of 10 are read by five calls, the last of which gives none
     for call in 0..5 {
-        let mut source = device(&rt, ONE, 10, call);
+        let mut source = device(&rt, &ONE_SCOPE, 10, call);
         let mut drain = device(&rt, b"", 100, NEVER);
         let answer = count_stream(rt.alloc(), &mut source, &mut drain);
         equal(&rt, (call, answer), (call, Err(FileError::Io)));
@@ -130,7 +128,11 @@ fn each_read_fails_in_turn(rt: HostRuntime) {
 #[test]
 fn small_pieces_are_counted(rt: HostRuntime) {
     let mut drain = device(&rt, b"", 1, NEVER);
-    let answer = count_stream(rt.alloc(), &mut device(&rt, ONE, 3, NEVER), &mut drain);
+    let answer = count_stream(
+        rt.alloc(),
+        &mut device(&rt, &ONE_SCOPE, 3, NEVER),
+        &mut drain,
+    );
     equal(&rt, answer, Ok(None));
     equal(&rt, drain.written.as_slice(), ONE_LINES);
 }
@@ -139,7 +141,7 @@ fn small_pieces_are_counted(rt: HostRuntime) {
 fn each_write_fails_in_turn(rt: HostRuntime) {
     // 84 bytes in pieces of 10 are written by nine calls
     for call in 0..9u64 {
-        let mut source = device(&rt, ONE, 100, NEVER);
+        let mut source = device(&rt, &ONE_SCOPE, 100, NEVER);
         let mut drain = device(&rt, b"", 10, call);
         let answer = count_stream(rt.alloc(), &mut source, &mut drain);
         equal(&rt, (call, answer), (call, Err(FileError::Io)));
@@ -153,7 +155,11 @@ fn each_write_fails_in_turn(rt: HostRuntime) {
 #[test]
 fn a_writer_that_takes_nothing_has_failed(rt: HostRuntime) {
     let mut drain = device(&rt, b"", 0, NEVER);
-    let answer = count_stream(rt.alloc(), &mut device(&rt, ONE, 100, NEVER), &mut drain);
+    let answer = count_stream(
+        rt.alloc(),
+        &mut device(&rt, &ONE_SCOPE, 100, NEVER),
+        &mut drain,
+    );
     equal(&rt, answer, Err(FileError::Io));
     equal(&rt, drain.faults, 0);
 }

@@ -7,13 +7,10 @@ use puffin_replay::replay::{Reply, Script, record};
 use puffin_view::profile_view::FrameView;
 use std::alloc::AllocGlobal;
 use std::process::Abort;
+use tests_support::samples::{FILE, ONE_FRAME};
 
 /// A scope of the thread and a frame of it.
 const ONE: &[Step<'static>] = &[Step::Begin(100, 1, "data"), Step::End(300), Step::Frame];
-
-/// The file of one frame: the thread `main`, which started at 100, with the scope `data` from 100 to 300.
-const ONE_FRAME: &[u8] =
-    b"PUF0PFD4\x07\0\0\0\0\xc8\xfb\x58\x02\x23\x01\x32\0\0\0\0\x01\x01\xc8\x04main\x23(\x01\0\0\0\x64\0\0\0\0\0\0\0\x04data\0\0\0\0\0\0\0\0)\x2c\x01\0\0\0\0\0\0\x01\x01\xc8\xfb\x58\x02\x01\0\0\0\0";
 
 /// One scope with the id 1 and no text, from the least time to the least time.
 const EARLIEST: &[u8] = b"(\x01\0\0\0\0\0\0\0\0\0\0\x80\0\0\0\0\0\0\0\0\0)\0\0\0\0\0\0\0\x80";
@@ -54,8 +51,7 @@ fn writes(
 #[test]
 fn a_script_makes_a_file_and_lines(rt: HostRuntime) -> Outcome<()> {
     let line = b"frame 0 threads 1 scopes 1 bytes 35 duration 200\n";
-    equal(&rt, ONE_FRAME.len(), 79);
-    writes(&rt, "main", ONE, ONE_FRAME, line)
+    writes(&rt, "main", ONE, &FILE[..ONE_FRAME], line)
 }
 
 #[test]
@@ -88,7 +84,7 @@ fn recorded(
 
 /// Records one frame into a view, which has no other frame then.
 fn takes_one_frame(rt: &(impl AllocGlobal + Abort), view: &mut FrameView) -> Outcome<()> {
-    let replies = recorded(rt, view, "main", ONE, ONE_FRAME, 1000)?;
+    let replies = recorded(rt, view, "main", ONE, &FILE[..ONE_FRAME], 1000)?;
     equal(rt, replies.len(), 3);
     equal(rt, view.stats().frames(), 1);
     Ok(())
@@ -111,8 +107,9 @@ fn is_whole(rt: &(impl AllocGlobal + Abort), script: &Script, call: u64) -> bool
         equal(rt, run.answer, Err(FileError::Io));
         assert!(rt; run.lines.is_empty());
     }
-    equal(rt, run.file.as_slice() == ONE_FRAME, whole);
-    assert!(rt; ONE_FRAME.starts_with(run.file.as_slice()));
+    let file = &FILE[..ONE_FRAME];
+    equal(rt, run.file.as_slice() == file, whole);
+    assert!(rt; file.starts_with(run.file.as_slice()));
     whole
 }
 
@@ -132,7 +129,7 @@ fn lines_that_are_not_written_are_told(rt: HostRuntime) -> Outcome<()> {
     let script = script(&rt, "main", ONE)?;
     let run = run(&rt, &script, (1000, NEVER), (5, 1));
     equal(&rt, run.answer, Err(FileError::Io));
-    equal(&rt, run.file.as_slice(), ONE_FRAME);
+    equal(&rt, run.file.as_slice(), &FILE[..ONE_FRAME]);
     equal(&rt, run.lines.as_slice(), b"frame".as_slice());
     Ok(())
 }

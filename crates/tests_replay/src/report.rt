@@ -8,6 +8,8 @@ use puffin_frames::thread_profiler::ThreadInfo;
 use puffin_replay::replay::print_report;
 use std::alloc::AllocGlobal;
 use std::process::Abort;
+use tests_support::frames::packet_thread;
+use tests_support::threads::thread_info;
 
 /// One scope, `data` from 100 to 300.
 const ONE: &[u8] = b"begin main 100 1 data\nend main 300\nframe\n";
@@ -25,13 +27,6 @@ const MAIN: Named<'static> = (Some(100), "main");
 /// The run of the script with this text.
 fn run(rt: &(impl AllocGlobal + Abort), text: &[u8]) -> Outcome<Written> {
     run_of_text(rt, text, 1000)
-}
-
-fn thread(rt: &impl AllocGlobal, (start, name): Named<'_>) -> Outcome<ThreadInfo> {
-    Ok(ThreadInfo {
-        start_time_ns: start,
-        name: String::from_str(rt.alloc(), name)?,
-    })
 }
 
 /// What reporting a file for a thread returns, and what it writes, where this call of the
@@ -54,11 +49,11 @@ fn reports(
     rt: &(impl AllocGlobal + Abort),
     file: &[u8],
     fails_at: u64,
-    named: Named<'_>,
+    (start, name): Named<'_>,
     returned: Result<(), FileError>,
     lines: &[u8],
 ) -> Outcome<()> {
-    let thread = thread(rt, named)?;
+    let thread = thread_info(rt.alloc(), start, name)?;
     let (answer, written) = reported(rt, file, fails_at, &thread);
     equal(rt, answer, returned);
     equal(rt, written.as_slice(), lines);
@@ -88,7 +83,7 @@ fn is_whole(rt: &(impl AllocGlobal + Abort), file: &[u8], thread: &ThreadInfo, c
 #[test]
 fn a_report_that_is_not_written_whole_is_told(rt: HostRuntime) -> Outcome<()> {
     let file = run(&rt, ONE)?.file;
-    let main = thread(&rt, MAIN)?;
+    let main = packet_thread(rt.alloc())?;
     let mut whole = false;
     for call in 0..60u64 {
         whole = is_whole(&rt, &file, &main, call);

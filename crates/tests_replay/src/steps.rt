@@ -1,11 +1,12 @@
 //! What is done with a session, as plain values: tests list it, and compare the replies.
 
 use puffin_data::NanoSecond;
-use puffin_data::data::{Form, ScopeId, Stream};
-use puffin_frames::thread_profiler::ThreadInfo;
+use puffin_data::data::Form;
 use puffin_replay::replay::{Command, Reply, Session};
 use std::alloc::Global;
 use std::test::Fail;
+use tests_support::streams::{id, stream_of};
+use tests_support::threads::thread_info;
 
 pub(crate) type Outcome<T> = Result<T, Fail>;
 
@@ -40,8 +41,14 @@ fn texts(alloc: Global, texts: &[&str]) -> Outcome<Vec<String>> {
     Ok(owned)
 }
 
-fn begin(alloc: Global, thread: usize, at: NanoSecond, id: u32, name: &str) -> Outcome<Command> {
-    let id = ScopeId::new(id).ok_or("an id of 0")?;
+fn begin(
+    alloc: Global,
+    thread: usize,
+    at: NanoSecond,
+    number: u32,
+    name: &str,
+) -> Outcome<Command> {
+    let id = id(number)?;
     let text = text(alloc, name)?;
     Ok(Command::Begin {
         thread,
@@ -66,11 +73,8 @@ fn register(alloc: Global, thread: usize, name: Option<&str>, function: &str) ->
 }
 
 fn report(alloc: Global, name: &str, bytes: &[u8]) -> Outcome<Command> {
-    let info = ThreadInfo {
-        start_time_ns: None,
-        name: text(alloc, name)?,
-    };
-    let stream = Stream::from(Vec::from_slice(alloc, bytes)?);
+    let info = thread_info(alloc, None, name)?;
+    let stream = stream_of(alloc, bytes)?;
     Ok(Command::ReportUser { info, stream })
 }
 

@@ -2,17 +2,11 @@ use crate::commands::Outcome;
 use crate::equal::equal;
 use puffin_data::data::Counted;
 use puffin_data::{Error, FileError, NanoSecond};
-use puffin_frames::thread_profiler::ThreadInfo;
 use puffin_replay::replay::{Summary, summarize};
 use std::alloc::AllocGlobal;
 use std::process::Abort;
-
-/// The file that the Rust crate writes of one frame of the thread `main`: one scope `data` of id 1 from 100 to 300.
-const FILE: [u8; 79] = [
-    80, 85, 70, 48, 80, 70, 68, 52, 7, 0, 0, 0, 0, 200, 251, 88, 2, 35, 1, 50, 0, 0, 0, 0, 1, 1,
-    200, 4, 109, 97, 105, 110, 35, 40, 1, 0, 0, 0, 100, 0, 0, 0, 0, 0, 0, 0, 4, 100, 97, 116, 97,
-    0, 0, 0, 0, 0, 0, 0, 0, 41, 44, 1, 0, 0, 0, 0, 0, 0, 1, 1, 200, 251, 88, 2, 1, 0, 0, 0, 0,
-];
+use tests_support::samples::{FILE, ONE_FRAME};
+use tests_support::threads::thread_info;
 
 /// A file summed up for the thread `main` that started then.
 fn summed(
@@ -20,10 +14,7 @@ fn summed(
     file: &[u8],
     start: Option<NanoSecond>,
 ) -> Outcome<Result<Summary, FileError>> {
-    let thread = ThreadInfo {
-        start_time_ns: start,
-        name: String::from_str(rt.alloc(), "main")?,
-    };
+    let thread = thread_info(rt.alloc(), start, "main")?;
     Ok(summarize(rt.alloc(), &mut Counted::new(file), &thread))
 }
 
@@ -46,13 +37,13 @@ fn has_data_alone(rt: &impl Abort, summary: &Summary) {
 
 #[test]
 fn a_thread_s_scopes_are_merged(rt: HostRuntime) -> Outcome<()> {
-    has_data_alone(&rt, &summed(&rt, &FILE, Some(100))??);
+    has_data_alone(&rt, &summed(&rt, &FILE[..ONE_FRAME], Some(100))??);
     Ok(())
 }
 
 #[test]
 fn another_thread_has_no_scopes(rt: HostRuntime) -> Outcome<()> {
-    let summary = summed(&rt, &FILE, None)??;
+    let summary = summed(&rt, &FILE[..ONE_FRAME], None)??;
     equal(&rt, summary.frames, 1);
     assert!(rt; summary.merged.is_empty());
     Ok(())
@@ -64,9 +55,10 @@ fn refuses(rt: &(impl AllocGlobal + Abort), file: &[u8], cause: FileError) -> Ou
     Ok(())
 }
 
-/// The file with these bytes at these places.
-fn changed(changes: &[(usize, u8)]) -> [u8; 79] {
-    let mut file = FILE;
+/// The file of one frame with these bytes at these places.
+fn changed(changes: &[(usize, u8)]) -> [u8; ONE_FRAME] {
+    let mut file = [0; ONE_FRAME];
+    file.copy_from_slice(&FILE[..ONE_FRAME]);
     for &(place, byte) in changes {
         if let Some(changed) = file.get_mut(place) {
             *changed = byte;
@@ -94,7 +86,7 @@ fn what_is_not_unpacked_or_merged_is_refused(rt: HostRuntime) -> Outcome<()> {
     refuses(&rt, &FILE[..78], FileError::Truncated)
 }
 
-/// The frame's index is 1, so it comes after that of [`FILE`].
+/// The frame's index is 1, so it comes after the first of [`FILE`].
 const LATER: (usize, u8) = (12, 1);
 
 /// The frame's streams are packed by zstd, which isn't unpacked here.
@@ -103,7 +95,7 @@ const ZSTD: (usize, u8) = (23, 2);
 /// The frame's stream doesn't begin with a scope.
 const NO_SCOPE: (usize, u8) = (33, 0);
 
-/// The file of two frames, each that of [`FILE`] with some bytes changed, without so many of the last bytes.
+/// The file of two frames, each the first of [`FILE`] with some bytes changed, without so many of the last bytes.
 fn two_frames(
     rt: &impl AllocGlobal,
     first: &[(usize, u8)],

@@ -5,12 +5,13 @@ ghost use Rattle.puffin_threads.specs.Thread.ThreadProfiler.{thread_of};
 ghost use Rattle.tests_scopes.specs.Callers.{IsOneScope, IsEndedScope};
 
 use crate::equal::equal;
-use crate::program::{Outcome, id, main_thread};
+use crate::program::{Outcome, main_thread};
 use puffin::data::ScopeId;
 use puffin::global_profiler::GlobalProfiler;
 use puffin::thread_profiler::laws::open_scopes;
 use puffin::thread_profiler::{Closed, NsSource, Reporter, ThreadProfiler};
 use puffin::{Error, ProfilerScope, Result};
+use tests_support::streams::id;
 
 /// A scope that lasts until this function returns, and whether there was memory for it.
 fn one_scope<C: NsSource>(profiler: &mut ThreadProfiler<C>, id: ScopeId) -> bool

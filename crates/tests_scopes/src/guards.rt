@@ -1,9 +1,10 @@
 use crate::equal::equal;
-use crate::program::{Outcome, counts, id, main_thread, next_frame};
+use crate::program::{Outcome, counts, main_thread, next_frame};
 use puffin::global_profiler::GlobalProfiler;
 use puffin::thread_profiler::{Closed, ScriptClock, ThreadProfiler};
 use puffin::{Error, ProfilerScope};
 use std::process::Abort;
+use tests_support::streams::id;
 
 type Thread = ThreadProfiler<ScriptClock>;
 

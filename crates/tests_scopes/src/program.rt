@@ -1,26 +1,21 @@
 //! What the tests share.
 
-use puffin::data::ScopeId;
 use puffin::frame_data::FrameData;
 use puffin::global_profiler::GlobalProfiler;
 use puffin::scope_details::ScopeIds;
 use puffin::thread_profiler::{ScriptClock, ThreadProfiler};
-use puffin::{Error, Result, Site, Switch};
+use puffin::{Result, Site, Switch};
 use std::alloc::Global;
 use std::cell::Cell;
 use std::sync::Arc;
 use std::test::Fail;
+use tests_support::threads;
 
 pub type Outcome = std::result::Result<(), Fail>;
 
-pub fn id(number: u32) -> Result<ScopeId> {
-    ScopeId::new(number).ok_or(Error::MissingId)
-}
-
 /// A thread called `main` whose clock stands at 100.
 pub fn main_thread(alloc: Global) -> Result<ThreadProfiler<ScriptClock>> {
-    let name = String::from_str(alloc, "main")?;
-    Ok(ThreadProfiler::new(alloc, name, ScriptClock::new(100)))
+    threads::main_thread(alloc, 100)
 }
 
 /// The frame that is handed out now.

@@ -3,13 +3,12 @@
 use crate::equal::equal;
 use crate::rig::{Outcome, Rig};
 use puffin_data::{Error, NanoSecond, Result};
-use puffin_threads::thread_profiler::{ScriptClock, ThreadProfiler};
 use std::process::Abort;
+use tests_support::threads::main_thread;
 
 #[test]
 fn a_thread_says_what_it_takes_memory_from(rt: HostRuntime) -> Outcome {
-    let name = String::from_str(rt.alloc(), "main")?;
-    let thread = ThreadProfiler::new(rt.alloc(), name, ScriptClock::new(0));
+    let thread = main_thread(rt.alloc(), 0)?;
     let text = String::from_str(thread.allocator(), "text")?;
     equal(&rt, text.as_str(), "text");
     Ok(())

@@ -1,7 +1,7 @@
 //! A thread's profiler and a recorder that it reports to.
 
 use crate::equal::equal;
-use puffin_data::data::{ScopeId, Stream, StreamInfo, StreamInfoRef};
+use puffin_data::data::{Stream, StreamInfo, StreamInfoRef};
 use puffin_data::{Error, NanoSecond, Result};
 use puffin_threads::scope_details::ScopeDetails;
 use puffin_threads::thread_profiler::{
@@ -10,6 +10,8 @@ use puffin_threads::thread_profiler::{
 use std::alloc::Global;
 use std::process::Abort;
 use std::test::Fail;
+use tests_support::streams::id;
+use tests_support::threads::main_thread;
 
 pub(crate) type Outcome = std::result::Result<(), Fail>;
 
@@ -66,15 +68,6 @@ impl Reporter for Recorder {
         self.reports.push((info, kept))?;
         Ok(())
     }
-}
-
-pub(crate) fn id(number: u32) -> Result<ScopeId> {
-    ScopeId::new(number).ok_or(Error::MissingId)
-}
-
-fn main_thread(alloc: Global, at: NanoSecond) -> Result<ThreadProfiler<ScriptClock>> {
-    let name = String::from_str(alloc, "main")?;
-    Ok(ThreadProfiler::new(alloc, name, ScriptClock::new(at)))
 }
 
 /// A thread's profiler, and the recorder that it reports to.

@@ -1,5 +1,5 @@
 use crate::equal::equal;
-use crate::rig::{Outcome, id};
+use crate::rig::Outcome;
 use puffin_data::data::ScopeId;
 use puffin_data::{Error, Result};
 use puffin_threads::scope_details::{ScopeCollection, ScopeDetails, ScopeIds, ScopeType};
@@ -9,12 +9,8 @@ use std::process::Abort;
 use std::sync::Arc;
 use std::test::Fail;
 use std::thread;
-
-/// A named scope with an id.
-fn named(alloc: Global, number: u32, name: &'static str) -> Result<Arc<ScopeDetails>> {
-    let details = ScopeDetails::from_scope_name(CowStr::Borrowed(name));
-    Ok(Arc::new(alloc, details.with_scope_id(id(number)?))?)
-}
+use tests_support::streams::id;
+use tests_support::threads::named;
 
 /// A function at a line of `b.rs`.
 fn function(line_nr: u32) -> ScopeDetails {

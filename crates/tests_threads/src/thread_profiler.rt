@@ -1,11 +1,13 @@
 use crate::equal::equal;
-use crate::rig::{Outcome, Recorder, Rig, id};
+use crate::rig::{Outcome, Recorder, Rig};
 use puffin_data::data::{Reader, StreamInfo};
 use puffin_data::{Error, NanoSecond, Result};
 use puffin_threads::thread_profiler::{Closed, NsSource, SystemClock, ThreadProfiler};
 use std::alloc::Global;
 use std::process::Abort;
 use std::test::Fail;
+use tests_support::samples::ONE_SCOPE;
+use tests_support::streams::id;
 
 /// How many scopes, how deep, and their range.
 type Counts = (usize, usize, (NanoSecond, NanoSecond));
@@ -67,11 +69,7 @@ fn one_scope(rt: &impl Abort, rig: &mut Rig) {
 fn one_scope_is_reported(rt: HostRuntime) -> Outcome {
     let mut rig = Rig::new(rt.alloc(), 100, 0)?;
     one_scope(&rt, &mut rig);
-    equal(
-        &rt,
-        rig.bytes(0)?,
-        b"(\x01\0\0\0\x64\0\0\0\0\0\0\0\x04data\0\0\0\0\0\0\0\0)\x2c\x01\0\0\0\0\0\0".as_slice(),
-    );
+    equal(&rt, rig.bytes(0)?, ONE_SCOPE.as_slice());
     is_report(&rt, &rig.recorder, 0, 100, (1, 1, (100, 300)))
 }
 

@@ -1,12 +1,13 @@
 //! Files that are cut short, and readers and writers that fail.
 
 use crate::devices::{Full, Tired};
-use crate::files::{FILE, ONE_FRAME, Outcome, are_recent, has_fault, is_written, view};
+use crate::files::{Outcome, are_recent, has_fault, is_written, view};
 use puffin_data::FileError;
 use puffin_data::data::{Counted, Drain, Source};
 use puffin_view::profile_view::FrameView;
 use std::io::ErrorKind;
 use std::test::Fail;
+use tests_support::samples::{FILE, ONE_FRAME};
 
 /// A reader of one frame's file that gives its bytes one by one takes a call for each, and one more at their end.
 const CALLS: usize = ONE_FRAME + 1;

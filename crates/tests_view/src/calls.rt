@@ -1,28 +1,13 @@
 //! Statistics of frames that are packed or not, and writers that take one byte a call.
 
 use crate::devices::Full;
-use crate::files::{FILE, ONE_FRAME, Outcome, has_fault, view};
-use puffin_data::data::{Counted, Stream, StreamInfo};
-use puffin_data::{Error, FileError, Result};
-use puffin_frames::frame_data::{FrameData, FrameIndex};
-use puffin_frames::thread_profiler::ThreadInfo;
+use crate::files::{Outcome, has_fault, view};
+use puffin_data::data::Counted;
+use puffin_data::{Error, FileError};
 use puffin_view::profile_view::{FrameStats, FrameView};
-use std::alloc::Global;
-use std::collections::BTreeMap;
 use std::sync::Arc;
-
-/// A frame with this index of the file's first scope, which has 35 bytes.
-fn frame(alloc: Global, index: FrameIndex) -> Result<Arc<FrameData>> {
-    let stream = Stream::from(Vec::from_slice(alloc, &FILE[33..68])?);
-    let thread = ThreadInfo {
-        start_time_ns: Some(100),
-        name: String::from_str(alloc, "main")?,
-    };
-    let mut streams = BTreeMap::new(alloc);
-    let _none = streams.insert(thread, StreamInfo::parse(alloc, stream)?)?;
-    let frame = FrameData::new(alloc, index, streams, Vec::new(alloc), false)?;
-    Ok(Arc::new(alloc, frame)?)
-}
+use tests_support::frames::packet_frame;
+use tests_support::samples::{FILE, ONE_FRAME};
 
 /// How many frames there are, and how many of them are unpacked.
 fn counts(stats: FrameStats) -> (usize, usize) {
@@ -37,7 +22,8 @@ fn the_newest_frame_is_packed_where_packing_is_on(rt: HostRuntime) -> Outcome {
         if index == 2 {
             view.set_pack_frames(true);
         }
-        view.add_frame(frame(rt.alloc(), index)?)?;
+        let frame = packet_frame(rt.alloc(), index)?;
+        view.add_frame(Arc::new(rt.alloc(), frame)?)?;
         assert!(rt; counts(view.stats()) == expected);
         assert!(rt; counts(FrameStats::from_frames(view.all_uniq())) == expected);
     }

@@ -3,30 +3,10 @@ use puffin_data::{Error, FileError};
 use puffin_frames::frame_data::FrameIndex;
 use puffin_view::profile_view::FrameView;
 use std::test::Fail;
+use tests_support::samples::FILE;
+use tests_support::streams::bytes_of;
 
 pub(crate) type Outcome = std::result::Result<(), Fail>;
-
-/// The file that the Rust crate writes of two frames of the thread `main`: one scope `data` of id 1 from 100 to 300,
-/// which takes 79 bytes, and then one scope `a` from 400 to 401.
-pub(crate) const FILE: [u8; 155] = [
-    80, 85, 70, 48, 80, 70, 68, 52, 7, 0, 0, 0, 0, 200, 251, 88, 2, 35, 1, 50, 0, 0, 0, 0, 1, 1,
-    200, 4, 109, 97, 105, 110, 35, 40, 1, 0, 0, 0, 100, 0, 0, 0, 0, 0, 0, 0, 4, 100, 97, 116, 97,
-    0, 0, 0, 0, 0, 0, 0, 0, 41, 44, 1, 0, 0, 0, 0, 0, 0, 1, 1, 200, 251, 88, 2, 1, 0, 0, 0, 0, 80,
-    70, 68, 52, 9, 0, 0, 0, 1, 251, 32, 3, 251, 34, 3, 32, 1, 49, 0, 0, 0, 0, 1, 1, 200, 4, 109,
-    97, 105, 110, 32, 40, 1, 0, 0, 0, 144, 1, 0, 0, 0, 0, 0, 0, 1, 97, 0, 0, 0, 0, 0, 0, 0, 0, 41,
-    145, 1, 0, 0, 0, 0, 0, 0, 1, 1, 251, 32, 3, 251, 34, 3, 1, 0, 0, 0, 0,
-];
-
-/// How many bytes the first frame takes in [`FILE`], with the letters of the file.
-pub(crate) const ONE_FRAME: usize = 79;
-
-pub(crate) fn bytes_of(rt: &HostRuntime, pieces: &[&[u8]]) -> std::result::Result<Vec<u8>, Fail> {
-    let mut bytes = Vec::new(rt.alloc());
-    for piece in pieces {
-        bytes.extend_from_slice(piece)?;
-    }
-    Ok(bytes)
-}
 
 pub(crate) fn read(rt: &HostRuntime, bytes: &[u8]) -> std::result::Result<FrameView, FileError> {
     FrameView::read(rt.alloc(), &mut Counted::new(bytes))
@@ -34,7 +14,7 @@ pub(crate) fn read(rt: &HostRuntime, bytes: &[u8]) -> std::result::Result<FrameV
 
 /// Why a file isn't read.
 fn fault(rt: &HostRuntime, pieces: &[&[u8]]) -> std::result::Result<Option<FileError>, Fail> {
-    let bytes = bytes_of(rt, pieces)?;
+    let bytes = bytes_of(rt.alloc(), pieces)?;
     Ok(read(rt, &bytes).err())
 }
 
@@ -156,7 +136,7 @@ fn a_frame_that_is_slow_alone_is_written(rt: HostRuntime) -> Outcome {
 fn a_frame_that_is_held_no_more_is_not_written(rt: HostRuntime) -> Outcome {
     let mut view = limited(&rt, &FILE, 1, 1)?;
     view.clear_slowest();
-    let bytes = bytes_of(&rt, &[b"PUF0", &FILE[79..]])?;
+    let bytes = bytes_of(rt.alloc(), &[b"PUF0", &FILE[79..]])?;
     is_written(&rt, &view, bytes.as_slice())
 }
 
@@ -170,9 +150,9 @@ fn frames_that_are_recent_and_slow_are_written_once(rt: HostRuntime) -> Outcome 
 fn files_end_at_few_bytes_or_four_zeros(rt: HostRuntime) -> Outcome {
     let ends: [&[u8]; 4] = [b"", b"PFD", &[0, 0, 0, 0], &[0, 0, 0, 0, 80, 70, 68, 57]];
     for end in ends {
-        let none = view(&rt, &bytes_of(&rt, &[b"PUF0", end])?)?;
+        let none = view(&rt, &bytes_of(rt.alloc(), &[b"PUF0", end])?)?;
         assert!(rt; none.is_empty());
-        let one = view(&rt, &bytes_of(&rt, &[&FILE[..79], end])?)?;
+        let one = view(&rt, &bytes_of(rt.alloc(), &[&FILE[..79], end])?)?;
         are_recent(&rt, &one, &[0])?;
     }
     Ok(())
@@ -181,7 +161,7 @@ fn files_end_at_few_bytes_or_four_zeros(rt: HostRuntime) -> Outcome {
 #[test]
 fn legacy_frames_are_held_unpacked(rt: HostRuntime) -> Outcome {
     let bytes = bytes_of(
-        &rt,
+        rt.alloc(),
         &[
             b"PUF0",
             &[57, 0, 0, 0, 0],
@@ -196,14 +176,17 @@ fn legacy_frames_are_held_unpacked(rt: HostRuntime) -> Outcome {
 
 #[test]
 fn an_index_that_does_not_rise_empties_the_view(rt: HostRuntime) -> Outcome {
-    let bytes = bytes_of(&rt, &[b"PUF0", &FILE[79..], &FILE[4..79]])?;
+    let bytes = bytes_of(rt.alloc(), &[b"PUF0", &FILE[79..], &FILE[4..79]])?;
     let view = view(&rt, &bytes)?;
     are_recent(&rt, &view, &[0])
 }
 
 #[test]
 fn details_are_learnt(rt: HostRuntime) -> Outcome {
-    let bytes = bytes_of(&rt, &[&FILE[..74], b"\x08\0\0\0\x01\x01\x07\0\x01f\0\0"])?;
+    let bytes = bytes_of(
+        rt.alloc(),
+        &[&FILE[..74], b"\x08\0\0\0\x01\x01\x07\0\x01f\0\0"],
+    )?;
     let known = view(&rt, &bytes)?;
     assert!(rt; known.scope_collection().scopes_by_id().len() == 1);
     is_written(&rt, &known, bytes.as_slice())
@@ -211,7 +194,7 @@ fn details_are_learnt(rt: HostRuntime) -> Outcome {
 
 #[test]
 fn details_without_an_id_are_refused_behind_their_packet(rt: HostRuntime) -> Outcome {
-    let front = bytes_of(&rt, &[&FILE[..74], b"\x07\0\0\0\x01\0\0\x01f\0\0"])?;
+    let front = bytes_of(rt.alloc(), &[&FILE[..74], b"\x07\0\0\0\x01\0\0\x01f\0\0"])?;
     let missing = Some(FileError::Refused(Error::MissingId));
     has_fault(&rt, &[&front], missing)?;
     has_fault(&rt, &[&front, b"PFD9"], missing)?;

@@ -3,7 +3,7 @@
 ghost use Rattle.std.specs.Prelude.{◌≡◌};
 
 use crate::devices::Full;
-use crate::files::{FILE, ONE_FRAME, Outcome, bytes_of, view};
+use crate::files::{Outcome, view};
 use puffin_data::data::{Counted, Drain, Source};
 use puffin_data::{Error, FileError};
 use puffin_frames::frame_data::{FrameData, FrameIndex};
@@ -12,6 +12,8 @@ use std::alloc::Global;
 use std::io;
 use std::io::{ErrorKind, Write};
 use std::test::Fail;
+use tests_support::samples::{FILE, ONE_FRAME};
+use tests_support::streams::bytes_of;
 
 /// The index of a frame, where there is one.
 fn index_of(next: &Option<FrameData>) -> Option<FrameIndex> {
@@ -60,7 +62,7 @@ fn are_given(
 
 #[test]
 fn a_file_is_read_one_frame_at_a_time(rt: HostRuntime) -> Outcome {
-    let bytes = bytes_of(&rt, &[&FILE[..ONE_FRAME], &[0, 0, 0, 0], b"more"])?;
+    let bytes = bytes_of(rt.alloc(), &[&FILE[..ONE_FRAME], &[0, 0, 0, 0], b"more"])?;
     let mut reader = FrameReader::new(rt.alloc(), Counted::new(bytes.as_slice()))?;
     let first = reader.next()?;
     assert!(rt; index_of(&first) == Some(0));
@@ -131,17 +133,17 @@ fn a_file_that_is_cut_gives_its_whole_frames(rt: HostRuntime) -> Outcome {
 
 #[test]
 fn a_fault_comes_behind_the_frames_before_it(rt: HostRuntime) -> Outcome {
-    let newer = bytes_of(&rt, &[&FILE[..ONE_FRAME], b"PFD9", &FILE[83..]])?;
+    let newer = bytes_of(rt.alloc(), &[&FILE[..ONE_FRAME], b"PFD9", &FILE[83..]])?;
     are_given(&rt, &newer, &[0], Some(FileError::Newer))?;
     let no_id = b"\x07\0\0\0\x01\0\0\x01f\0\0";
-    let missing = bytes_of(&rt, &[&FILE, &FILE[4..74], no_id, &FILE[4..]])?;
+    let missing = bytes_of(rt.alloc(), &[&FILE, &FILE[4..74], no_id, &FILE[4..]])?;
     let refused = Some(FileError::Refused(Error::MissingId));
     are_given(&rt, &missing, &[0, 1], refused)
 }
 
 #[test]
 fn a_reader_stops_at_a_fault(rt: HostRuntime) -> Outcome {
-    let bytes = bytes_of(&rt, &[b"PUF0PFD9", &FILE[4..]])?;
+    let bytes = bytes_of(rt.alloc(), &[b"PUF0PFD9", &FILE[4..]])?;
     let mut reader = FrameReader::new(rt.alloc(), Counted::new(bytes.as_slice()))?;
     let fault = next_index(&mut reader).err();
     assert!(rt; fault == Some(FileError::Newer));

@@ -1,45 +1,18 @@
-use puffin_data::data::{ScopeId, Stream, StreamInfo};
+use puffin_data::data::{Stream, StreamInfo};
 use puffin_data::{Error, NanoSecond, Result};
 use puffin_frames::frame_data::{FrameData, FrameIndex};
 use puffin_frames::scope_details::ScopeDetails;
-use puffin_frames::thread_profiler::ThreadInfo;
 use puffin_view::profile_view::{FrameStats, FrameView, select_slowest};
-use std::alloc::Global;
 use std::borrow::CowStr;
-use std::collections::BTreeMap;
 use std::sync::Arc;
 use std::test::Fail;
+use tests_support::frames::{one_stream, packet_frame};
+use tests_support::streams::bytes_of;
+use tests_support::threads::{named, thread_info};
 
 type Outcome = std::result::Result<(), Fail>;
 
-/// Parses the stream of these pieces.
-fn info(alloc: Global, bytes: &[&[u8]]) -> Result<StreamInfo> {
-    let mut all = Vec::new(alloc);
-    for piece in bytes {
-        all.extend_from_slice(piece)?;
-    }
-    StreamInfo::parse(alloc, Stream::from(all))
-}
-
-/// The frame with this index of one stream of the thread `main`, whose first scope started then.
-fn frame_of(
-    alloc: Global,
-    index: FrameIndex,
-    start_time_ns: Option<NanoSecond>,
-    info: StreamInfo,
-    details: Vec<Arc<ScopeDetails>>,
-) -> Result<Arc<FrameData>> {
-    let thread = ThreadInfo {
-        start_time_ns,
-        name: String::from_str(alloc, "main")?,
-    };
-    let mut streams = BTreeMap::new(alloc);
-    let _none = streams.insert(thread, info)?;
-    let frame = FrameData::new(alloc, index, streams, details, false)?;
-    Ok(Arc::new(alloc, frame)?)
-}
-
-/// One scope without a text, as long as is asked, in the stream of a thread.
+/// One scope without a text, as long as is asked, in the stream of the thread `main`, whose start isn't known.
 fn frame(rt: &HostRuntime, index: FrameIndex, duration: NanoSecond) -> Result<Arc<FrameData>> {
     telling_frame(rt, index, duration, Vec::new(rt.alloc()))
 }
@@ -51,9 +24,13 @@ fn telling_frame(
     duration: NanoSecond,
     details: Vec<Arc<ScopeDetails>>,
 ) -> Result<Arc<FrameData>> {
+    let alloc = rt.alloc();
     let front = b"(\x01\0\0\0\0\0\0\0\0\0\0\0\0\0\0\0\0\0\0\0\0)";
-    let info = info(rt.alloc(), &[front, &duration.to_le_bytes()])?;
-    frame_of(rt.alloc(), index, None, info, details)
+    let bytes = bytes_of(alloc, &[front, &duration.to_le_bytes()])?;
+    let info = StreamInfo::parse(alloc, Stream::from(bytes))?;
+    let streams = one_stream(alloc, thread_info(alloc, None, "main")?, info)?;
+    let frame = FrameData::new(alloc, index, streams, details, false)?;
+    Ok(Arc::new(alloc, frame)?)
 }
 
 /// Adds a frame of one scope without a text to a view.
@@ -68,10 +45,7 @@ fn add(
 
 /// One scope of 35 bytes with a text, of a thread whose start is known. Packed, its stream has 50 bytes.
 fn known_frame(rt: &HostRuntime, index: FrameIndex) -> Result<Arc<FrameData>> {
-    let front = b"(\x01\0\0\0d\0\0\0\0\0\0\0\x04data";
-    let back = b"\0\0\0\0\0\0\0\0)\x2c\x01\0\0\0\0\0\0";
-    let info = info(rt.alloc(), &[front, back])?;
-    frame_of(rt.alloc(), index, Some(100), info, Vec::new(rt.alloc()))
+    Ok(Arc::new(rt.alloc(), packet_frame(rt.alloc(), index)?)?)
 }
 
 /// The indices of the recent frames.
@@ -315,9 +289,7 @@ fn selections_are_by_index(rt: HostRuntime) -> Outcome {
 fn two_details(rt: &HostRuntime) -> Result<Vec<Arc<ScopeDetails>>> {
     let alloc = rt.alloc();
     let mut details = Vec::new(alloc);
-    let id = ScopeId::new(7).ok_or(Error::MissingId)?;
-    let known = ScopeDetails::from_scope_name(CowStr::Borrowed("a")).with_scope_id(id);
-    details.push(Arc::new(alloc, known)?)?;
+    details.push(named(alloc, 7, "a")?)?;
     let no_id = ScopeDetails::from_scope_name(CowStr::Borrowed("b"));
     details.push(Arc::new(alloc, no_id)?)?;
     Ok(details)
