@@ -75,7 +75,8 @@ uint32_t puffin_count(const uint8_t *bytes, size_t size, bool long_texts, Puffin
 uint32_t puffin_check_file(const uint8_t *file, size_t size, uint64_t *frames);
 
 /* Reports on a file for the thread of this name and, if has_start is set, this start. Copies as much of the lines as fits to
- * the front of out, and sets *size to the number of bytes of all lines. */
+ * the front of out, and sets *size to the number of bytes of all lines. A name that isn't UTF-8 is refused before any fault of
+ * the file. */
 uint32_t puffin_report_file(const uint8_t *file, size_t file_size, bool has_start, int64_t start_ns, const uint8_t *name,
                             size_t name_size, uint8_t *out, size_t room, uint64_t *size);
 

@@ -1,5 +1,6 @@
 pub mod Codes
 pub mod Frames
+pub mod GivenFrames
 pub mod Held
 pub mod IdsSlots
 pub mod Named

@@ -1,11 +1,39 @@
--- The name of an info that a caller gives.
-use Rattle.std.proofs.Common.{ℕ, List, [], ◌∷◌}
-use Rattle.std.specs.Prelude.{Bool, true, false, ℤ}
+-- The name of a thread that a caller gives.
+use Rattle.std.proofs.Common.{◌≡◌, ◌⊎◌, ℕ, List, [], ◌∷◌, refl, ◌∙◌, inl, inr}
+use Rattle.std.specs.Prelude.{Bool, true, false, ℤ, None, Err}
+use Rattle.std.specs.Str.{IsUtf8}
+use Rattle.puffin_data.specs.declared.error.Error.TheVariants as error
+use Rattle.puffin_data.specs.declared.file_error.FileError.{FileError}
+use Rattle.puffin_data.specs.declared.file_error.FileError.TheVariants as file
+use Rattle.puffin_threads.specs.Thread.ThreadKey.{ThreadKey}
 use Rattle.puffin_c.specs.declared.fault.Fault.{Fault}
+use Rattle.puffin_c.specs.declared.fault.Fault.TheVariants as fault
+use Rattle.puffin_c.specs.Faults.{file_fault}
 use Rattle.puffin_c.specs.Recording.{AreNoTexts}
-use Rattle.puffin_c.specs.Reporting.{key_given}
+use Rattle.puffin_c.specs.Reporting.{key_given, LacksLines, IsPrinted}
 
 pub name_given : (has_start : Bool) (start : ℤ) (name : List ℕ) (f : Fault) → AreNoTexts (name ∷ []) f →
     AreNoTexts ((key_given has_start start name).name ∷ []) f
 name_given true start name f h = h
 name_given false start name f h = h
+
+pub text_given : (has_start : Bool) (start : ℤ) (name : List ℕ) → IsUtf8 name → IsUtf8 (key_given has_start start name).name
+text_given true start name h = h
+text_given false start name h = h
+
+-- a name that is refused is no text, or memory ran out
+refused_name : (bytes : List ℕ) (info : ThreadKey) (f : Fault) → AreNoTexts (info.name ∷ []) f →
+    (f ≡ fault.Refused error.Memory → IsUtf8 info.name) →
+    ((f ≡ fault.NotText) × ¬ (IsUtf8 info.name))
+    ⊎ (IsUtf8 info.name × (e : FileError) × (f ≡ file_fault e) × LacksLines bytes info e)
+refused_name bytes info f (inl (is, inl other)) text = inl (is, other)
+refused_name bytes info f (inl (is, inr none)) text = absurd none
+refused_name bytes info f (inr memory) text = inr (text memory, file.Memory, memory, (None, inl tt))
+
+pub name_not_printed : (has_start : Bool) (start : ℤ) (name bytes old : List ℕ) (size : ℕ) (f e : Fault) → f ≡ e →
+    AreNoTexts (name ∷ []) e → (e ≡ fault.Refused error.Memory → IsUtf8 name) →
+    IsPrinted bytes (key_given has_start start name) old old size size (Err f)
+name_not_printed true start name bytes old size f e is why text =
+    rw is (refl, refl, refused_name bytes (key_given true start name) e why text)
+name_not_printed false start name bytes old size f e is why text =
+    rw is (refl, refl, refused_name bytes (key_given false start name) e why text)

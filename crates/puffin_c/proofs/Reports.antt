@@ -15,5 +15,5 @@ reported info file dev e left before after b r =
 
 pub unreported : (info : ThreadKey) (file dev : List ℕ) → dev ≡ file → (left : Option (List ℕ)) (before after : List ℕ) (fault : FileError) →
     IsUnreported info (Some dev) left (Some before) (Some after) fault → LacksLines file info fault
-unreported info file dev e left before after fault (inl f) = inl (left, subst (λ (bs : List ℕ). FailsToSumUp info (Some bs) left fault) e f.0)
-unreported info file dev e left before after fault (inr g) = inr g.0
+unreported info file dev e left before after fault (inl f) = (left, subst (λ (bs : List ℕ). FailsToSumUp info (Some bs) left fault) e f.0)
+unreported info file dev e left before after fault (inr g) = (left, rw g.0 (inl tt))

@@ -30,9 +30,6 @@ rank_send = search (maps.crosses, crosses, sendable) depth 60 fits 100000
 pub held_send : IsSend Held.the_row
 held_send = search (frame_send, frame_sync, maps.crosses, crosses, sendable) depth 60 fits 100000
 
-pub view_send : IsSend View.the_row
-view_send = search (held_send, rank_send, collection_send, maps.crosses, crosses, sendable) depth 60 fits 100000
-
 pub collector_send : IsSend Collector.the_row
 collector_send = search (maps.crosses, crosses, sendable) depth 60 fits 100000
 

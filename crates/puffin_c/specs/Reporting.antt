@@ -1,5 +1,6 @@
 -- What a file's check and its report say.
-use Rattle.std.specs.Prelude.{◌≡◌, ◌⊎◌, ℕ, ℤ, Bool, true, false, List, [], ◌∷◌, ◌++◌, ◌-◌, ◌^◌, length, take, drop, min, Option, Some, None, Result, Ok, Err}
+use Rattle.std.specs.Prelude.{◌≡◌, ◌≢◌, ◌⊎◌, ℕ, ℤ, Bool, true, false, List, [], ◌∷◌, ◌++◌, length, take, drop, min, Option, Some, None, Result, Ok, Err}
+use Rattle.std.specs.Str.{IsUtf8}
 use Rattle.puffin_data.specs.declared.file_error.FileError.{FileError}
 use Rattle.puffin_data.specs.declared.file_error.FileError.TheVariants as file
 use Rattle.puffin_data.specs.Device.{FailsAt}
@@ -12,20 +13,20 @@ use Rattle.puffin_report.specs.Summary.{FailsToSumUp}
 use Rattle.puffin_report.specs.Report.{HasSummary}
 use Rattle.puffin_report.specs.ReportLines.{report_lines}
 use Rattle.puffin_c.specs.declared.fault.Fault.{Fault}
+use Rattle.puffin_c.specs.declared.fault.Fault.TheVariants as fault
 use Rattle.puffin_c.specs.Faults.{file_fault}
-use Rattle.puffin_c.specs.Recording.{AreNoTexts}
 
--- So many frames stand before a fault: none if the letters that begin a file have it, else those that were read until it.
+-- So many frames stand before a fault: none if the letters that begin a file are missing, else those that were read until it.
 abbrev pub StandBefore : List ℕ → Option (List ℕ) → FileError → ℕ → Type 0
 StandBefore bytes left e n =
-    ((n ≡ 0) × ((e ≡ file.NoMagic) ⊎ (e ≡ file.Io)))
+    ((n ≡ 0) × (e ≡ file.NoMagic))
     ⊎ ((given : Option (List ℕ))
     × (stored : List Stored)
     × HasGiven (Some bytes) given stored
     × (n ≡ length stored)
-    × (FailsAt e given left frame_at ⊎ ((e ≡ file.Truncated) × (n ≡ 2 ^ 64 - 1))))
+    × FailsAt e given left frame_at)
 
--- The bytes begin with a file of so many frames; or they have this fault, behind so many frames.
+-- The bytes begin with a file of so many frames; or they have this fault, behind so many frames, or memory ran out there.
 abbrev pub IsChecked : List ℕ → ℕ → Result (Unit {0}) Fault → Type 0
 IsChecked bytes n (Ok _) =
     (left : Option (List ℕ))
@@ -36,6 +37,7 @@ IsChecked bytes n (Err f) =
     (left : Option (List ℕ))
     × (e : FileError)
     × (f ≡ file_fault e)
+    × (e ≢ file.Io)
     × FailsToRead file_at (Some bytes) left e
     × StandBefore bytes left e n
 
@@ -54,20 +56,24 @@ HasLines bytes info lines =
 
 -- why there is no report: what the file is refused for, or want of memory
 abbrev pub LacksLines : List ℕ → ThreadKey → FileError → Type 0
-LacksLines bytes info e =
-    ((left : Option (List ℕ)) × FailsToSumUp info (Some bytes) left e) ⊎ (e ≡ file.Io)
+LacksLines bytes info e = (left : Option (List ℕ)) × FailsToSumUp info (Some bytes) left e
 
 -- bytes over the beginning of others
 abbrev pub laid_over : List ℕ → List ℕ → List ℕ
 laid_over old bytes =
     take (min (length bytes) (length old)) bytes ++ drop (min (length bytes) (length old)) old
 
--- The report is laid over what was there, and is so long; or nothing is changed.
+-- The name is a text, and the report is laid over what was there, and is so long; or nothing is changed. A name that isn't a
+-- text is told before any fault of the file.
 abbrev pub IsPrinted : List ℕ → ThreadKey → List ℕ → List ℕ → ℕ → ℕ → Result (Unit {0}) Fault → Type 0
 IsPrinted bytes info old new before size (Ok _) =
-    (lines : List ℕ) × HasLines bytes info lines × (new ≡ laid_over old lines) × (size ≡ length lines)
+    IsUtf8 info.name
+    × (lines : List ℕ)
+    × HasLines bytes info lines
+    × (new ≡ laid_over old lines)
+    × (size ≡ length lines)
 IsPrinted bytes info old new before size (Err f) =
     (new ≡ old)
     × (size ≡ before)
-    × (AreNoTexts (info.name ∷ []) f
-    ⊎ ((e : FileError) × (f ≡ file_fault e) × LacksLines bytes info e))
+    × (((f ≡ fault.NotText) × ¬ (IsUtf8 info.name))
+    ⊎ (IsUtf8 info.name × (e : FileError) × (f ≡ file_fault e) × LacksLines bytes info e))

@@ -12,6 +12,7 @@ pub mod ids;
 pub mod ids_slot;
 pub mod layout;
 mod memory_file;
+mod memory_source;
 pub mod naming;
 mod profiler;
 pub mod profiler_slot;

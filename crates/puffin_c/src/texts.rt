@@ -1,7 +1,8 @@
 //! Texts that programs pass as bytes.
 
-ghost use Rattle.std.specs.Prelude.{◌≡◌, [], ◌∷◌, IfOk, IfErr, MatchResult, string_bytes};
+ghost use Rattle.std.specs.Prelude.{◌≡◌, [], ◌∷◌, OnOk, IfOk, IfErr, MatchResult, string_bytes};
 ghost use Rattle.std.specs.Str.{IsUtf8};
+ghost use Rattle.puffin_data.specs.declared.error.Error.TheVariants as error;
 ghost use Rattle.puffin_c.specs.declared.fault.Fault.TheVariants as fault;
 ghost use Rattle.puffin_c.specs.Recording.{IsNoText, AreNoTexts};
 
@@ -39,6 +40,8 @@ fn other_text(bytes: &[u8]) -> Result<&str, Fault>
 pub(crate) fn owned_text(alloc: Global, bytes: &[u8]) -> Result<String, Fault>
     ensures ok { IfOk result (λ s. string_bytes s ≡ bytes.now) }
     ensures err { IfErr result (IsNoText bytes.now) }
+    ensures text { OnOk result (IsUtf8 bytes.now) }
+    ensures memory { IfErr result (λ f. f ≡ fault.Refused error.Memory → IsUtf8 bytes.now) }
 {
     let text = text(bytes)?;
     match String::from_str(alloc, text) {

@@ -1,6 +1,5 @@
 use Rattle.std.proofs.Common.{◌≡◌, List, length}
 use Rattle.std.specs.Prelude.{Some}
-use Rattle.puffin_data.specs.Device.Counting.{counted_device, failed_calls}
 use Rattle.puffin_frames.specs.Packet.Stored.{Stored}
 use Rattle.puffin_view.specs.View.FrameFile.{HasGiven}
 use Rattle.puffin_c.proofs.file.checked.Given as goal
@@ -8,5 +7,5 @@ use Rattle.puffin_c.proofs.file.checked.Given as goal
 -- the frames so far were given, and are counted
 abbrev pub invariant-frames : goal.invariant-frames
 invariant-frames l =
-    (stored : List Stored) × HasGiven (Some l.fn.file) (Some (counted_device l.source).now) stored × (length stored ≡ l.counter)
-    × (l.frames ≡ l.counter) × (failed_calls l.source ≡ 0)
+    (stored : List Stored) × HasGiven (Some l.fn.file) (Some l.source.unread.now) stored × (length stored ≡ l.counter)
+    × (l.frames ≡ l.counter)

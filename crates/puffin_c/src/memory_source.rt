@@ -1,0 +1,41 @@
+ghost use Rattle.std.specs.Prelude.{◌≡◌, Some};
+
+use puffin_data::FileError;
+use puffin_data::data::Source;
+use std::io;
+use std::io::Read;
+
+/// Bytes in memory, read from the front. No read fails.
+#[derive(Drop)]
+pub(crate) struct MemorySource<'a> {
+    unread: &'a [u8],
+}
+
+impl<'a> MemorySource<'a> {
+    pub(crate) fn new(bytes: &'a [u8]) -> MemorySource<'a>
+        ensures { result.unread.now ≡ bytes.now }
+    {
+        MemorySource { unread: bytes }
+    }
+}
+
+impl<'a> Source for MemorySource<'a> {
+    ghost remaining = { λ source. Some source.unread.now };
+
+    ghost failures = { λ _. 0 };
+
+    fn read(&mut self, buf: &mut [u8]) -> io::Result<usize> {
+        self.unread.read(buf)
+    }
+
+    fn read_to_len(&mut self, bytes: &mut Vec<u8>, len: usize) -> Result<(), FileError> {
+        let count = self.unread.len().min(len - bytes.len());
+        bytes.extend_from_slice(&self.unread[..count])?;
+        self.unread = &self.unread[count..];
+        Ok(())
+    }
+
+    fn faults(&self) -> u64 {
+        0
+    }
+}
