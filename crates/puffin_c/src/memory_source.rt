@@ -1,3 +1,5 @@
+//! A reader of bytes in memory.
+
 ghost use Rattle.std.specs.Prelude.{◌≡◌, Some};
 
 use puffin_data::FileError;
@@ -12,6 +14,7 @@ pub(crate) struct MemorySource<'a> {
 }
 
 impl<'a> MemorySource<'a> {
+    /// Reads these bytes from the front.
     pub(crate) fn new(bytes: &'a [u8]) -> MemorySource<'a>
         ensures { result.unread.now ≡ bytes.now }
     {
