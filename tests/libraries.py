@@ -23,13 +23,15 @@ def line_of(crate, root):
     raise ValueError(f"crates.txt has no line for {crate}")
 
 
-def words_over(crate, root, kit):
-    """How the crate and its libraries are named to `rattle check` and `rattle build`; root has crates.txt and crates."""
+def words_over(crate, root, kit, below=None):
+    """How the crate and its libraries are named to `rattle check` and `rattle build`. The libraries are those that `rt ci` left
+    in the folder `below`, or in the repository itself."""
+    below = below or root
     kinds, used = line_of(crate, root)
     words = ["--crate-name", crate, "src/lib.rt", *(["--crate-type", "staticlib"] if "staticlib" in kinds else [])]
     for name in ["std", *used]:
-        folder = root / "crates" / name / "out" / "rlib" if (root / "crates" / name).is_dir() else kit / "rlibs"
+        folder = below / "crates" / name / "out" / "rlib" if (root / "crates" / name).is_dir() else kit / "rlibs"
         words += ["--extern", f"{name}={folder / name}.rlib"]
-    for folder in [kit / "rlibs", *sorted(root.glob("crates/*/out/rlib"))]:
+    for folder in [kit / "rlibs", *sorted(below.glob("crates/*/out/rlib"))]:
         words += ["-L", f"dependency={folder}"]
     return [*words, "--antt-project", kit / "rattle" / "logic" / "antt-project.json", "--logic-built", kit / "logic_built"]

@@ -29,6 +29,8 @@ from libraries import kit_folder, line_of, words_over  # noqa: E402
 LANES = min(4, os.cpu_count() or 1)
 # How many wrong functions stand in one check.
 TOGETHER = 12
+# What a check of a crate as it stands doesn't read.
+NOT_READ = shutil.ignore_patterns("out", "must-fail", "wrong")
 
 REFUSED = "REFUSED"
 NOT_REFUSED = "NOT REFUSED"
@@ -75,13 +77,6 @@ def parsed(path):
     return WrongBody(path.stem, tuple(functions), tuple(changes), ends)
 
 
-def copied(folder):
-    """Copies what `rt ci` reads to a folder, without wrong bodies."""
-    for name in ("crates.txt", "HANDLES"):
-        shutil.copy(ROOT / name, folder)
-    shutil.copytree(ROOT / "crates", folder / "crates", ignore=shutil.ignore_patterns("out", "must-fail", "wrong"))
-
-
 class Copy:
     """A copy of a crate, in which wrong bodies are put and tried over the libraries in `below`."""
 
@@ -89,9 +84,9 @@ class Copy:
         self.crate = crate
         self.folder = pathlib.Path(folder, crate)
         kit = kit_folder()
-        self.command = [kit / "bin" / "rattle", "check", *words_over(crate, below, kit)]
+        self.command = [kit / "bin" / "rattle", "check", *words_over(crate, ROOT, kit, below)]
         self.command += ["--incremental", "out/incremental", "--jobs", "1"]
-        shutil.copytree(below / "crates" / crate, self.folder, ignore=shutil.ignore_patterns("out"))
+        shutil.copytree(ROOT / "crates" / crate, self.folder, ignore=NOT_READ)
         (self.folder / "out").mkdir()
 
     def text_of(self, file):
@@ -252,13 +247,23 @@ class Tries:
         return self.ended
 
 
+def libraries_of(crate):
+    """The libraries of the repository that a crate uses, and those that they use."""
+    used = [it for it in line_of(crate, ROOT)[1] if (ROOT / "crates" / it).is_dir()]
+    return set(used).union(*map(libraries_of, used))
+
+
 def has_libraries(crates, folder):
-    """Copies the crates to a folder, and has `rt ci` prove the libraries below these or put back what it has kept of them."""
-    copied(folder)
-    below = {it for crate in crates for it in line_of(crate, ROOT)[1] if (ROOT / "crates" / it).is_dir()}
+    """Copies the libraries below these crates to a folder, and has `rt ci` prove them there or put back what it has kept."""
+    below = set().union(*map(libraries_of, crates))
     if not below:
         return True
-    ran = subprocess.run(["rt", "ci", *sorted(below)], cwd=folder, capture_output=True, text=True, errors="replace")
+    shutil.copy(ROOT / "HANDLES", folder)
+    for name in below:
+        shutil.copytree(ROOT / "crates" / name, folder / "crates" / name, ignore=NOT_READ)
+    lines = [f"{name}: {' '.join(line_of(name, ROOT)[1])}\n" for name in sorted(below)]
+    (folder / "crates.txt").write_text("".join(lines))
+    ran = subprocess.run(["rt", "ci"], cwd=folder, capture_output=True, text=True, errors="replace")
     if ran.returncode:
         print(ran.stdout[-2000:] + ran.stderr[-2000:])
     return not ran.returncode
