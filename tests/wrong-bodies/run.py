@@ -304,7 +304,9 @@ def main():
         if not has_libraries([crate for crate, _ in tasks], below):
             print("0 passed, 1 failed")
             return 1
-        for lines, well, badly in lanes.map(lambda it: tried(*it, below), tasks):
+        begun = [lanes.submit(tried, crate, bodies, below) for crate, bodies in tasks]
+        for ended in concurrent.futures.as_completed(begun):
+            lines, well, badly = ended.result()
             print("\n".join(lines), flush=True)
             passed, failed = passed + well, failed + badly
     used = resource.getrusage(resource.RUSAGE_CHILDREN)
