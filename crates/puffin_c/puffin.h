@@ -3,18 +3,18 @@
  * Each call but puffin_sizes returns 0, or the number of a fault (below). A call that fails changes nothing, unless its
  * comment says otherwise.
  *
- * A program has to keep to these rules. Nothing checks them, neither here nor in the library:
+ * A program has to follow these rules. Nothing checks them, either here or in the library:
  *
- * - Pass no NULL, not even with length 0. A pointer points to as many bytes as its length says. While a call runs, no other
- *   thread writes bytes that it reads, or reads or writes bytes that it may write. No two parameters of a call overlap,
- *   unless both are only read.
+ * - Pass no NULL, not even with length 0. A pointer must point to as many bytes as its length says. While a call runs, no
+ *   other thread may write bytes that the call reads, or read or write bytes that the call may write. No two parameters of a
+ *   call may overlap, unless both are only read.
  * - Fill a handle (PuffinIds, PuffinThread, PuffinProfiler) with zeros ({0}) before its first call. It isn't open then:
- *   every call on it fails with PUFFIN_NOT_OPEN, but for the call that opens it. Don't read or write its fields, and don't
- *   copy it. Close an open handle before its storage goes; otherwise its memory leaks.
+ *   every call on it except the one that opens it fails with PUFFIN_NOT_OPEN. Don't read or write its fields, and don't copy
+ *   it. Close an open handle before its storage goes away; otherwise its memory leaks.
  * - Pass a handle to one call at a time. It may go to another thread between two calls if a lock, the start of a thread or a
  *   join orders them.
  * - Make no call from a signal handler, or in a forked child of a process with threads.
- * - malloc, realloc and free belong together, and align as the C standard demands.
+ * - malloc, realloc and free must belong together, and must align memory as the C standard demands.
  */
 #ifndef PUFFIN_H
 #define PUFFIN_H
@@ -42,7 +42,7 @@ enum {
     PUFFIN_NO_ID = 33,            /* the id is 0 */
     PUFFIN_NOT_OPEN = 34,         /* a handle isn't open */
     PUFFIN_IS_OPEN = 35,          /* the handle is open already */
-    /* Faults of a file. Three of them hold a number, which is added 256 times. */
+    /* Faults of a file. Three of them hold a number, which is multiplied by 256 and added. */
     PUFFIN_FILE_NO_MAGIC = 66,     /* the first four bytes aren't PUF0 */
     PUFFIN_FILE_TRUNCATED = 67,    /* the file ends within a packet */
     PUFFIN_FILE_LEGACY = 68,       /* a version that is no longer read */
@@ -66,17 +66,17 @@ typedef struct PuffinCount {
     uint64_t tries;            /* the number of attempts to read a scope */
 } PuffinCount;
 
-/* Counts the scopes of a stream, with long texts if long_texts is set. Fails with the first fault of the bytes; then only
- * count->tries is set. */
+/* Counts the scopes of a stream, which has long texts if long_texts is set. Fails with the first fault in the bytes, or with
+ * PUFFIN_MEMORY; only count->tries is set then. */
 uint32_t puffin_count(const uint8_t *bytes, size_t size, bool long_texts, PuffinCount *count);
 
-/* Reads a file, and sets *frames to the number of its frames. Fails with the file's first fault; then *frames is the number
- * of frames before the fault, or those read until memory ran out. */
+/* Reads a file, and sets *frames to the number of its frames. Fails with the first fault in the file; *frames is then the
+ * number of frames that were read before the fault, or before memory ran out. */
 uint32_t puffin_check_file(const uint8_t *file, size_t size, uint64_t *frames);
 
-/* Reports on a file for the thread of this name and, if has_start is set, this start. Copies as much of the lines as fits to
- * the front of out, and sets *size to the number of bytes of all lines. A name that isn't UTF-8 is refused before any fault of
- * the file. */
+/* Reports on a file for the thread with this name and this start, or with no start if has_start isn't set. Copies the report
+ * to the front of out, as much of it as fits, and sets *size to the size of the whole report in bytes. Fails with
+ * PUFFIN_NOT_TEXT if the name isn't UTF-8, whatever the file contains. Otherwise fails with the first fault in the file. */
 uint32_t puffin_report_file(const uint8_t *file, size_t file_size, bool has_start, int64_t start_ns, const uint8_t *name,
                             size_t name_size, uint8_t *out, size_t room, uint64_t *size);
 
@@ -103,27 +103,28 @@ uint32_t puffin_thread_open(PuffinThread *thread, PuffinIds *ids, const uint8_t 
 /* Drops the scopes that weren't reported. */
 uint32_t puffin_thread_close(PuffinThread *thread);
 
-/* Register a function, or a scope with a name of its own in a function, and set *id. Pass 0 if the line is unknown. */
+/* Register a function, or a scope within a function under a name of its own, and set *id. Pass 0 if the line is unknown. If
+ * the call fails, an id may be used up. */
 uint32_t puffin_register_function(PuffinThread *thread, const uint8_t *function, size_t function_size,
                                   const uint8_t *file, size_t file_size, uint32_t line, uint32_t *id);
 uint32_t puffin_register_scope(PuffinThread *thread, const uint8_t *name, size_t name_size, const uint8_t *function,
                                size_t function_size, const uint8_t *file, size_t file_size, uint32_t line, uint32_t *id);
 
 /* Begins a scope, and sets *scope to its offset, which puffin_end takes. A negative time counts as 0, and a time before the
- * thread's last one counts as that. */
+ * thread's last one counts as the last one. */
 uint32_t puffin_begin(PuffinThread *thread, int64_t now_ns, uint32_t id, const uint8_t *text, size_t text_size,
                       uint64_t *scope);
-/* Ends the innermost open scope, which has to be this one. */
+/* Ends this scope, which must be the innermost open one. */
 uint32_t puffin_end(PuffinThread *thread, int64_t now_ns, uint64_t scope);
 
-/* ---- collecting what threads report, in frames, and a view of the frames */
+/* ---- collecting what threads report into frames, and a view of the frames */
 
 typedef struct PuffinProfiler {
     void *at_;
     bool is_open_;
 } PuffinProfiler;
 
-/* The numbers of a frame. */
+/* Describes a frame. */
 typedef struct PuffinFrame {
     uint64_t index, scopes, bytes;
     int64_t start_ns, stop_ns;
@@ -137,20 +138,21 @@ uint32_t puffin_profiler_close(PuffinProfiler *profiler);
 /* Reports a thread's closed scopes to a profiler. If it fails, they keep waiting. */
 uint32_t puffin_report(PuffinThread *thread, PuffinProfiler *profiler);
 
-/* Appends the scopes of a stream to those that wait for the next frame, under the thread of this name and, if has_start is
- * set, this start. No such thread is needed. puffin_count describes the bytes; fails with their first fault. */
+/* Appends the scopes of a stream to those that wait for the next frame. They are added under the thread with this name and
+ * this start, or with no start if has_start isn't set. There needn't be such a thread. See puffin_count for bytes and
+ * long_texts. Fails with the first fault in the bytes. */
 uint32_t puffin_user_scopes(PuffinProfiler *profiler, bool has_start, int64_t start_ns, const uint8_t *name,
                             size_t name_size, const uint8_t *bytes, size_t size, bool long_texts);
 
-/* Makes a frame of everything that was reported since the last one. If it fails, nothing is lost: if the view has no memory
- * for the frame, the frame waits, and the next call adds it. */
+/* Makes a frame of everything that was reported since the last one, adds it to the view, and fills in *frame. If the call
+ * fails, nothing is lost: if the view has no memory for the frame, the frame waits, and the next call adds it. */
 uint32_t puffin_new_frame(PuffinProfiler *profiler, PuffinFrame *frame);
-/* Makes the next frame list every known scope. */
+/* Makes the next frame list every known scope, not only the new ones. */
 uint32_t puffin_snapshot(PuffinProfiler *profiler);
 
-/* Makes the .puffin file of the view's frames, and sets *size to the number of its bytes. */
+/* Makes the .puffin file of the view's frames, and sets *size to its size in bytes. */
 uint32_t puffin_file_begin(PuffinProfiler *profiler, uint64_t *size);
-/* Copies as many of that file's next bytes as fit to the front of out, and sets *size to how many: 0 at the end. */
+/* Copies that file's next bytes to the front of out, as many as fit, and sets *size to how many were copied: 0 at the end. */
 uint32_t puffin_file_next(PuffinProfiler *profiler, uint8_t *out, size_t room, uint64_t *size);
 
 /* ---- sizes in bytes of these structs, for a program that compares its header with the library */

@@ -31,7 +31,7 @@ int main(int argc, char **argv) {
     puffin_begin(&thread, now_ns(), id, TEXT("image-12.png"), &scope);
     puffin_end(&thread, now_ns(), scope);
     puffin_report(&thread, &profiler);   /* the closed scopes go to the profiler */
-    puffin_new_frame(&profiler, &frame); /* everything reported is a frame, and its view keeps it */
+    puffin_new_frame(&profiler, &frame); /* everything reported becomes a frame, which the profiler's view keeps */
     puffin_file_begin(&profiler, &size); /* the size of the view's .puffin file */
     while (puffin_file_next(&profiler, buffer, sizeof buffer, &size) == PUFFIN_OK && size > 0) {
         fwrite(buffer, 1, size, file);

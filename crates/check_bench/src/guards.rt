@@ -1,5 +1,5 @@
-//! Scopes with guards and macros, on a thread whose reports nobody keeps. Its clock stays at one time, except where a
-//! work uses the system's clock.
+//! Scopes with guards and macros, on a thread whose reports aren't kept. Its clock stays at one time, except in work that uses
+//! the system's clock.
 
 use crate::reports::Ignored;
 use crate::scopes::{DEPTH, NESTS, SCOPES, TEXT};
@@ -112,7 +112,7 @@ fn guards(thread: &mut Thread, id: ScopeId, depth: usize) {
     }
 }
 
-/// Makes the nests of [`GuardWork::Named`] by any clock, and reports each at its end. Returns the number of reports.
+/// Makes the nests of [`GuardWork::Named`] with any clock, and reports each at its end. Returns the number of reports.
 #[inline(never)]
 pub fn named_nests<C: NsSource>(thread: &mut ThreadProfiler<C>, scopes: &Scopes) -> Result<usize> {
     let mut reports: usize = 0;

@@ -1,5 +1,5 @@
-//! Counts and times scopes at places by [`puffin::light`], on a thread whose reports nobody keeps. Its clock stays at
-//! one time.
+//! Counts and times scopes at places, made with [`puffin::light`] on a thread whose reports aren't kept. Its clock stays at one
+//! time.
 
 use crate::scopes::{DEPTH, NESTS, SCOPES, TEXT};
 use crate::{print, print_counts, thread};
@@ -12,7 +12,7 @@ use puffin_data::data::StreamInfoRef;
 use std::sync::Arc;
 use std::time::Instant;
 
-/// How often each work is run; the fastest run counts.
+/// How often each kind of work is run; the fastest run counts.
 const ROUNDS: u32 = 4_000;
 
 /// A reporter that accepts everything and counts the reports.

@@ -4,8 +4,8 @@
 //! |---|---|
 //! | none | runs each kind of work once, and prints its counts |
 //! | `time` | prints the nanoseconds that each kind of work takes |
-//! | `time threads_` | prints those of threads that share a profiler |
-//! | `frames` | prints those of merging and of views |
+//! | `time threads_` | prints the same for threads that share a profiler |
+//! | `frames` | prints the same for merging and for views |
 #![tactic(auto)]
 
 mod guards;
@@ -38,7 +38,7 @@ use views::{ViewWork, added};
 
 /// How often each kind of work is run; the fastest run counts.
 const ROUNDS: u32 = 4_000;
-/// How often work by the system's clock is run.
+/// How often work with the system's clock is run.
 const REAL_ROUNDS: u32 = 1_000;
 /// How often names are shortened.
 const NAME_ROUNDS: u32 = 1_000;
@@ -59,7 +59,7 @@ fn clocked_thread(rt: HostRuntime) -> Result<ThreadProfiler<SystemClock<HostRunt
     Ok(ThreadProfiler::new(rt.alloc(), name, SystemClock::new(rt)?))
 }
 
-/// Prints a line: a name, and then each count after its word.
+/// Prints a line: a name, and then each word followed by its count.
 fn print_counts(rt: &impl Print, name: &str, counts: &[(&str, usize)]) -> Result<()> {
     print!(rt; "{name}")?;
     for (word, number) in counts {
@@ -69,7 +69,7 @@ fn print_counts(rt: &impl Print, name: &str, counts: &[(&str, usize)]) -> Result
     Ok(())
 }
 
-/// Writes and counts the scopes of each work, and prints the numbers of scopes and bytes.
+/// Writes and counts the scopes of each kind of work, and prints the numbers of scopes and bytes.
 fn count_streams(rt: &HostRuntime) -> Result<()> {
     for work in Work::ALL {
         let stream = stream_of(rt.alloc(), &work)?;
@@ -151,7 +151,7 @@ fn count_views(rt: &HostRuntime) -> Result<()> {
     print_counts(rt, "view", &[("frames", frames), ("held", held)])
 }
 
-/// Does a work on files, and returns with how many frames.
+/// Does one kind of work on files, and returns the number of frames it was done on.
 fn worked(rt: &HostRuntime, files: &mut Files, work: FileWork) -> Result<usize> {
     files.work(rt.alloc(), work).ok().context("a file")
 }
@@ -194,7 +194,7 @@ fn time_scopes(rt: &HostRuntime, work: &Work) -> Result<()> {
     print(rt, work.name, best, scopes)
 }
 
-/// Times a walk that counts the scopes of a work.
+/// Times a walk that counts the scopes of one kind of work.
 fn time_walk(rt: &HostRuntime, work: &Work) -> Result<()> {
     let stream = stream_of(rt.alloc(), work)?;
     let mut best = u128::MAX;
@@ -253,7 +253,7 @@ fn time_guards(rt: &HostRuntime, work: GuardWork) -> Result<()> {
     print(rt, work.name(), best, scopes::SCOPES)
 }
 
-/// Times scopes by the system's clock: those of a thread profiler, and those of macros.
+/// Times scopes with the system's clock: those of a thread profiler, and those of macros.
 fn time_real_scopes(rt: HostRuntime) -> Result<()> {
     let mut thread = clocked_thread(rt)?;
     time_thread(&rt, "real_empty", &mut thread, ("", REAL_ROUNDS))?;
@@ -278,7 +278,7 @@ fn time_names(rt: &HostRuntime, work: NameWork) -> Result<()> {
     print(rt, work.name(), best, work.units())
 }
 
-/// Times a work on a file; the unit is a frame.
+/// Times one kind of work on a file; the unit is a frame.
 fn time_file(rt: &HostRuntime, files: &mut Files, work: FileWork) -> Result<()> {
     let mut best = u128::MAX;
     let mut frames = 0;
@@ -290,7 +290,7 @@ fn time_file(rt: &HostRuntime, files: &mut Files, work: FileWork) -> Result<()> 
     print(rt, work.name(), best, frames)
 }
 
-/// Times each work on a file.
+/// Times each kind of work on a file.
 fn time_packets(rt: &HostRuntime) -> Result<()> {
     let mut files = Files::new(rt.alloc(), packets::FRAMES)
         .ok()

@@ -14,7 +14,7 @@ use std::sync::Arc;
 /// How many top-level scopes a frame has.
 const TOPS: u32 = 10;
 
-/// A work on frames of one thread, with ten top-level scopes each.
+/// A kind of work on frames of one thread, with ten top-level scopes each.
 #[derive(Clone, Copy)]
 pub struct MergeWork {
     /// The name under which the time is printed.

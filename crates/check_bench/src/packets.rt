@@ -65,7 +65,7 @@ pub enum FileWork {
     Write,
     /// Writes packed frames.
     WritePacked,
-    /// Copies the bytes of a file and nothing else, which bounds the writing of packed frames.
+    /// Only copies the bytes of a file: a lower bound for writing packed frames.
     Copy,
     /// Reads frames.
     Read,
@@ -138,7 +138,7 @@ impl Files {
         })
     }
 
-    /// Does one kind of work, and returns with how many frames.
+    /// Does one kind of work, and returns the number of frames it was done on.
     pub fn work(&mut self, alloc: Global, work: FileWork) -> std::result::Result<usize, FileError> {
         match work {
             FileWork::Write => written(&self.frames, &mut self.file),
@@ -168,7 +168,7 @@ fn written(frames: &[FrameData], file: &mut Vec<u8>) -> std::result::Result<usiz
     Ok(frames.len())
 }
 
-/// Copies a file of as many frames as there may be into memory that is reused, as many bytes at a time as a packet has.
+/// Copies a file into memory that is reused, in pieces of about one packet each if the file has [`FRAMES`] frames.
 #[inline(never)]
 fn copied(file: &[u8], copy: &mut Vec<u8>) -> std::result::Result<(), FileError> {
     copy.clear();

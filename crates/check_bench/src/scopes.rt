@@ -117,7 +117,7 @@ fn row(stream: &mut Stream, id: ScopeId, text: &str, mut now: i64) -> Result<i64
     Ok(now)
 }
 
-/// Writes the scopes of a work into a stream, and returns their number.
+/// Writes the scopes of one kind of work into a stream, and returns their number.
 #[inline(never)]
 pub fn written(stream: &mut Stream, work: &Work) -> Result<usize> {
     let mut now = 0;
@@ -133,7 +133,7 @@ pub fn written(stream: &mut Stream, work: &Work) -> Result<usize> {
     Ok(SCOPES)
 }
 
-/// Makes the stream of a work.
+/// Makes the stream of one kind of work.
 pub fn stream_of(alloc: Global, work: &Work) -> Result<Stream> {
     let mut stream = Stream::with_form(alloc, work.form);
     let _scopes = written(&mut stream, work)?;

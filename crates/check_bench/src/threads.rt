@@ -24,9 +24,9 @@ pub const REPORTS: usize = 10_000;
 const SCOPES: usize = 2;
 /// The time from one frame to the next, in microseconds.
 const PAUSE: u64 = 100;
-/// The time that the threads get to begin, in microseconds.
+/// The time that the threads are given to begin, in microseconds.
 const GATHERING: u64 = 2_000;
-/// The greatest number of frames taken, in case a thread ends without its reports.
+/// The maximum number of frames taken, in case a thread ends without making its reports.
 const MOST_FRAMES: u32 = 1_000_000;
 /// The names of the threads.
 const NAMES: [&str; 8] = [
@@ -127,7 +127,7 @@ fn take_frames<L: Ledger, M: Ledger, R: Wait + Clock>(
     Ok(())
 }
 
-/// Returns the nanoseconds from the first begin of the laps to their last end.
+/// Returns the nanoseconds from the earliest beginning of the laps to their latest end.
 fn whole(laps: &[Lap]) -> u128 {
     let mut begun = Duration::MAX;
     let mut ended = Duration::ZERO;
@@ -158,7 +158,7 @@ fn start_all<
     Ok(workers)
 }
 
-/// Waits for all workers to end, and returns the nanoseconds from the first begin to the last end.
+/// Waits for all workers to end, and returns the nanoseconds from the earliest beginning to the latest end.
 fn joined<R: Threads + Wait>(
     rt: &R,
     alloc: Global,
@@ -199,7 +199,7 @@ fn round<
     joined(&rt, alloc, workers)
 }
 
-/// Lets `threads` threads report while one more takes frames. Returns the nanoseconds from the first begin to the last
+/// Lets `threads` threads report while one more takes frames. Returns the nanoseconds from the earliest beginning to the latest
 /// end.
 pub fn run<R: Threads + Wait + Clock + Copy + Send + Sync + 'static>(
     rt: R,

@@ -13,7 +13,7 @@ use std::sync::Arc;
 /// How many frames are added to a full view.
 const FRAMES: u32 = 1_000;
 
-/// A work on a full view to which frames are added.
+/// A kind of work that adds frames to a full view.
 #[derive(Clone, Copy)]
 pub struct ViewWork {
     /// The name under which the time is printed.
@@ -24,12 +24,12 @@ pub struct ViewWork {
     pub max_slow: u32,
     /// Whether the view packs the newest frame.
     pub packs: bool,
-    /// Whether each frame takes longer than those before it, and so is among the slowest. Else each is shorter.
+    /// Whether each frame takes longer than those before it, and so is among the slowest. Otherwise each is shorter.
     pub rises: bool,
 }
 
 impl ViewWork {
-    /// Makes a work on a view with the limits of a new one.
+    /// Makes a kind of work on a view with the limits of a new view.
     fn usual(name: &'static str, packs: bool, rises: bool) -> ViewWork {
         ViewWork {
             name,
@@ -40,7 +40,7 @@ impl ViewWork {
         }
     }
 
-    /// Makes a work on a view with ten times these limits.
+    /// Makes a kind of work on a view with ten times the limits of a new view.
     fn large(name: &'static str, packs: bool, rises: bool) -> ViewWork {
         ViewWork {
             name,

@@ -1,4 +1,4 @@
-//! Checks that have to hold for any bytes.
+//! Checks that must pass for any bytes.
 
 use crate::devices::OneByte;
 use puffin_data::data::{Buffered, Counted, Reader, Stream};
@@ -13,13 +13,13 @@ use std::alloc::{AllocError, Global};
 pub(crate) enum Broken {
     /// Memory ran out, so nothing was checked.
     Memory,
-    /// A walk made more readings than one for each 31 bytes and one more.
+    /// A walk made more attempts to read a scope than one for every 31 bytes, plus one.
     Tries,
-    /// Counting, reporting or reading differs if each call of the reader gives one byte.
+    /// Counting, reporting or reading differs if each call of the reader returns one byte.
     OneByteACall,
     /// The stream is counted but not walked, or walked but not counted.
     Counting,
-    /// A view that was read can't be written, or what it writes can't be read and written again with the same bytes.
+    /// A view that was read can't be written, or its file can't be read and written again with the same bytes.
     Again,
 }
 
@@ -36,7 +36,7 @@ struct Printed {
     fault: Option<FileError>,
 }
 
-/// Counts a stream. If `slowly`, each call of the reader gives one byte.
+/// Counts a stream. If `slowly` is set, each call of the reader returns one byte.
 fn counted(alloc: Global, bytes: &[u8], slowly: bool) -> Printed {
     let mut lines = Vec::new(alloc);
     let mut drain = Counted::new(&mut lines);
@@ -77,7 +77,7 @@ pub(crate) fn check_stream(alloc: Global, bytes: &[u8]) -> Result<bool, Broken> 
     }
 }
 
-/// Reports on a file. If `slowly`, each call of the reader gives one byte.
+/// Reports on a file. If `slowly` is set, each call of the reader returns one byte.
 fn reported(alloc: Global, bytes: &[u8], thread: &ThreadInfo, slowly: bool) -> Printed {
     let mut lines = Vec::new(alloc);
     let mut drain = Counted::new(&mut lines);
@@ -100,7 +100,7 @@ fn written(alloc: Global, view: &FrameView) -> Result<Vec<u8>, FileError> {
     Ok(bytes)
 }
 
-/// Writes a view that was read, reads that file and writes it again. The bytes have to be the same.
+/// Writes a view that was read, reads that file and writes it again. The bytes must be the same.
 fn check_again(alloc: Global, view: &FrameView) -> Result<(), Broken> {
     let Ok(first) = written(alloc, view) else {
         return Err(Broken::Again);

@@ -3,10 +3,10 @@
 use crate::random::Random;
 use std::alloc::AllocError;
 
-/// Bytes that begin or end something, that make a number longer, or that make a length great.
+/// Bytes that begin or end something, that make a number longer, or that make a length large.
 const BYTES: [u8; 10] = [0, 1, 0x28, 0x29, 0x30, 0x34, 0x7f, 0x80, 0xfb, 0xff];
 
-/// Overwrites bytes from a place on.
+/// Overwrites the bytes from index `at` on.
 fn overwrite(bytes: &mut [u8], at: usize, with: &[u8]) {
     for (number, byte) in with.iter().enumerate() {
         if let Some(place) = bytes.get_mut(at.saturating_add(number)) {

@@ -1,9 +1,9 @@
-//! A reader that gives one byte a call.
+//! A reader that returns one byte per call.
 
 use std::io;
 use std::io::Read;
 
-/// Gives the bytes that are left, one a call.
+/// Returns the bytes that are left, one per call.
 #[derive(Drop)]
 pub(crate) struct OneByte<'a> {
     /// The bytes that are left.

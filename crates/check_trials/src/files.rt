@@ -16,7 +16,7 @@ use std::sync::Arc;
 /// The names of threads.
 const NAMES: [&str; 3] = ["main", "größe", ""];
 
-/// Makes the info of a thread that random files may have.
+/// Makes the info of a thread that may be in random files.
 pub(crate) fn thread(alloc: Global, name: &str) -> Result<ThreadInfo> {
     Ok(ThreadInfo {
         start_time_ns: Some(5),

@@ -15,7 +15,7 @@ use std::time::Instant;
 const CASES: u64 = 1_000;
 /// How many levels the deep and the crafted stream have without an argument.
 const LEVELS: u64 = 2_000;
-/// How often two times are measured at most, until they are in proportion.
+/// The maximum number of times that two walks are measured, until their times are in proportion.
 const ROUNDS: u32 = 100;
 
 /// How many cases were accepted, and how many refused.

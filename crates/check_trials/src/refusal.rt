@@ -27,7 +27,7 @@ impl Refusal for FileError {
     }
 }
 
-/// Returns the value of a call, `Some(None)` if it failed for another cause than memory, or `None` if it is to be made
+/// Returns the value of a call, `Some(None)` if it failed for a reason other than memory, or `None` if the call is to be made
 /// again.
 pub(crate) fn settled<T, E: Refusal>(first: Result<T, E>) -> Option<Option<T>> {
     match first {
@@ -36,8 +36,8 @@ pub(crate) fn settled<T, E: Refusal>(first: Result<T, E>) -> Option<Option<T>> {
     }
 }
 
-/// Evaluates a call, and evaluates it once more if memory was refused. Gives its value, or `None` if it failed again or
-/// for another cause.
+/// Evaluates a call, and evaluates it once more if memory was refused. The result is its value, or `None` if it failed again or
+/// for another reason.
 #[macro_export]
 macro_rules! again {
     ($call:expr) => {

@@ -198,7 +198,7 @@ fn threads<R: Print + AllocGlobal + Wait>(rt: &R, profiler: &mut GlobalProfiler)
     steps(rt, profiler, &mut main, &mut other)
 }
 
-/// Registers scopes of the caller's own, again if memory was refused. Returns the error.
+/// Registers scopes of the caller's own, and tries again if memory was refused. Returns the error.
 fn refusal(
     profiler: &mut GlobalProfiler,
     ids: &ScopeIds,
@@ -210,7 +210,7 @@ fn refusal(
     }
 }
 
-/// Registers scopes until no id is left, and prints that the last one was refused for that.
+/// Registers scopes until no id is left, and prints that the last one was refused for that reason.
 fn run_out<R: Print + AllocGlobal>(rt: &R, profiler: &mut GlobalProfiler) -> Option<()> {
     let ids = ScopeIds::starting_at(u64::from(u32::MAX) - 1);
     let mut last = None;

@@ -275,7 +275,7 @@ fn report_to(alloc: Global, profiler: &mut GlobalProfiler) -> Option<()> {
         .ok()
 }
 
-/// Returns whether a frame has the index 0 and one scope, and lists the scope `early` alone.
+/// Returns whether a frame has the index 0 and one scope, and lists only the scope `early`.
 fn is_first(frame: &FrameData) -> bool {
     let (index, scopes) = (frame.meta().frame_index, frame.meta().num_scopes);
     let told = match frame.scope_delta.first() {
@@ -285,13 +285,14 @@ fn is_first(frame: &FrameData) -> bool {
     (index, scopes, frame.scope_delta.len()) == (0, 1, 1) && told
 }
 
-/// Returns whether a profiler knows the one scope and has taken no frame: frame 0 lists it.
+/// Returns whether a profiler knows the one scope and has taken no frame. Takes a frame for this: it must be frame 0 and list
+/// the scope.
 fn is_as_prepared<R: AllocGlobal + Wait>(rt: &R, profiler: &mut GlobalProfiler) -> Option<bool> {
     report_to(rt.alloc(), profiler)?;
     Some(is_first(&*profiler.new_frame(rt).ok()?.frame?))
 }
 
-/// Shares another profiler, which has to be opened.
+/// Shares another profiler. Returns `None` if it can't be opened.
 fn another<R: Print + AllocGlobal + Wait>(rt: &R) -> Option<()> {
     match once(rt, GlobalProfiler::new(rt.alloc()))? {
         None => Some(()),

@@ -44,7 +44,7 @@ impl Parts {
 }
 
 impl Rounds for Parts {
-    /// A scope in another.
+    /// Makes a scope within another.
     fn part<T: Records>(&self, _number: usize, thread: &mut T) {
         self.done.fetch_add(1, Ordering::SeqCst);
         let mut outer = thread.scope(&self.outer);
@@ -54,7 +54,7 @@ impl Rounds for Parts {
     }
 }
 
-/// Prints what came of the threads.
+/// Prints the outcome of the threads.
 fn print_outcome<R: Print + Wait>(rt: &R, outcome: &Outcome) -> Option<()> {
     let (settled, frames, missed) = (outcome.settled, outcome.frames, outcome.missed);
     let (reported, handed) = (settled.reported, settled.handed);
@@ -67,7 +67,7 @@ fn print_outcome<R: Print + Wait>(rt: &R, outcome: &Outcome) -> Option<()> {
     println!(rt; " frames {frames} held {held} missed {missed}").ok()
 }
 
-/// Runs the threads, and prints what came of them, or that they were refused.
+/// Runs the threads, and prints their outcome, or that they were refused.
 pub(crate) fn run<R: AllocGlobal + Clock + Print + Threads + Wait + Copy + Send + Sync>(
     rt: R,
 ) -> Option<()> {

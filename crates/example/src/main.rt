@@ -1,5 +1,5 @@
-//! Four threads draw a picture in scopes. A frame is taken after each round, and written to a file at once, so that the file
-//! outlives a program that is ended in the middle. The first argument names the file.
+//! Four threads draw a picture, and record their work in scopes. A frame is taken after each round and written to a file at
+//! once, so the recording survives if the program is stopped in the middle. The first argument names the file.
 #![tactic(auto)]
 
 mod picture;
@@ -16,7 +16,7 @@ use std::sync::{Barrier, Mutex, Wait};
 
 const ROUNDS: usize = 12;
 
-/// The picture, where its threads meet twice in each round, and what writes its frames.
+/// The picture, the barrier where its threads meet twice in each round, and the writer of its frames.
 #[derive(Drop)]
 struct Studio {
     picture: Picture,
@@ -33,7 +33,7 @@ impl Program for Studio {
         }
     }
 
-    /// Writes each frame as it comes. One that can't be written is missing in the file, and still in the view.
+    /// Writes each frame as it comes. A frame that can't be written is missing from the file, but is still in the view.
     fn lead<R: Wait, F: Frames>(&self, rt: &R, frames: &mut F) {
         for _ in 0..ROUNDS {
             self.meeting.wait(rt);
@@ -47,7 +47,7 @@ impl Program for Studio {
     }
 }
 
-/// Prints what a view's frames hold, and on standard error how each thread is reported.
+/// Prints the counts of a view's frames and, on standard error, the command that reports on each thread.
 fn print(rt: &HostRuntime, out: &str, view: &FrameView, handed: u64) -> Result<()> {
     let (mut frames, mut scopes) = (0_usize, 0_usize);
     for frame in view.recent_frames() {

@@ -1,10 +1,10 @@
-//! A picture in rows: how many steps each point of a plane makes until it is far from 0.
+//! A picture in rows: the number of steps that each point of a plane takes until it is far from 0.
 
 use puffin::light::{Place, Records};
 use puffin::{place, profile};
 use std::sync::atomic::{AtomicU64, Ordering};
 
-/// What all threads share: the steps so far, and the places of the scopes.
+/// Shared by all threads: the steps so far, and the places of the scopes.
 #[derive(Drop)]
 pub struct Picture {
     pub steps: AtomicU64,
@@ -13,7 +13,7 @@ pub struct Picture {
 }
 
 impl Picture {
-    /// A picture that isn't begun.
+    /// Makes a picture that isn't begun yet.
     pub fn new() -> Picture {
         Picture {
             steps: AtomicU64::new(0),
@@ -22,7 +22,7 @@ impl Picture {
         }
     }
 
-    /// Draws four rows, the same in each round. The number is that of the thread.
+    /// Draws the four rows of thread `number`, which are the same in each round.
     pub fn draw<T: Records>(&self, number: usize, thread: &mut T) {
         profile!(whole, thread, self.draw);
         let first = u32::try_from(number).unwrap_or(0).saturating_mul(4);
@@ -37,7 +37,7 @@ impl Picture {
     }
 }
 
-/// How many steps a point makes, 500 at most. A length of 1 has 4,096 parts.
+/// Returns how many steps a point takes, at most 500. The coordinates are in units of 1/4,096.
 fn steps(x: i64, y: i64) -> u64 {
     let (mut a, mut b) = (0_i64, 0_i64);
     for step in 0..500 {

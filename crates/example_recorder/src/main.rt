@@ -1,6 +1,6 @@
-//! Writes each frame to a file as it comes, so that the recording outlives a program that is ended in the middle.
+//! Writes each frame to a file as it comes, so the recording survives if the program is stopped in the middle.
 //!
-//! `record FILE FRAMES` writes so many frames, and `read FILE` counts those of such a file up to its last whole one.
+//! `record FILE FRAMES` writes that many frames, and `read FILE` counts the frames of such a file, up to the last complete one.
 #![tactic(auto)]
 
 use anyhow::{Context, Result};
@@ -12,7 +12,7 @@ use puffin::{FileError, place, profile};
 use std::env;
 use std::fs::File;
 
-/// Counts the frames of a file, and their scopes, up to its end or the beginning of a packet that was cut.
+/// Counts the frames of a file and their scopes, up to the end of the file or the beginning of a truncated packet.
 fn read(rt: &HostRuntime, path: &str) -> Result<()> {
     let mut reader = FrameReader::new(rt.alloc(), Counted::new(File::open(rt, path)?))?;
     let (mut frames, mut scopes) = (0_usize, 0_usize);

@@ -1,4 +1,4 @@
-//! Four threads work in rounds; a frame is taken after each.
+//! Four threads work in rounds; a frame is taken after each round.
 #![tactic(auto)]
 
 use puffin::light::{Place, Records, Rounds, in_rounds, save};

@@ -5,7 +5,7 @@ use Rattle.std.specs.List.Sorted.{IsStrictlyIncreasing}
 use Rattle.std.proofs.lemmas.List.{map-append, append_assoc}
 use Rattle.std.proofs.lemmas.Option.{get_or_from_slice_get}
 use Rattle.puffin.specs.declared.global_profiler.sink.Sink.{Sink}
-use Rattle.puffin.specs.declared.global_profiler.sinks.Entry.{Entry}
+use Rattle.puffin.specs.declared.global_profiler.sinks.SinkEntry.{SinkEntry}
 use Rattle.puffin.specs.Sinks.{TakesOut}
 use Rattle.puffin.specs.inner.Numbers.{AreNumbered}
 
@@ -59,33 +59,33 @@ around (y ∷ ys) (suc i) x at = ap (λ zs. y ∷ zs) (around ys i x at)
 
 module _ {I : Type 0} {F : I → Type 0} where
   -- one more behind the others, under the next number
-  pub numbered-more : (es : List (Entry I F)) (next : ℕ) (s : Sink I F) → AreNumbered es next → AreNumbered (es ++ record { id = next; sink = s } ∷ []) (next + 1)
+  pub numbered-more : (es : List (SinkEntry I F)) (next : ℕ) (s : Sink I F) → AreNumbered es next → AreNumbered (es ++ record { id = next; sink = s } ∷ []) (next + 1)
   numbered-more es next s numbered =
       let P : List ℕ → Type 0 = λ xs. Rises 0 (xs ++ (next + 1) ∷ []) in
-      increasing 0 _ (subst P (sym (map-append (λ (entry : Entry I F). entry.id) es _)) (rises_behind 0 (map (λ (entry : Entry I F). entry.id) es) next (next + 1) (omega arith) (rises 0 _ numbered)))
+      increasing 0 _ (subst P (sym (map-append (λ (entry : SinkEntry I F). entry.id) es _)) (rises_behind 0 (map (λ (entry : SinkEntry I F). entry.id) es) next (next + 1) (omega arith) (rises 0 _ numbered)))
 
   -- one taken out
-  pub numbered-fewer : (before after : List (Entry I F)) (e : Entry I F) (next : ℕ) → AreNumbered (before ++ e ∷ after) next → AreNumbered (before ++ after) next
+  pub numbered-fewer : (before after : List (SinkEntry I F)) (e : SinkEntry I F) (next : ℕ) → AreNumbered (before ++ e ∷ after) next → AreNumbered (before ++ after) next
   numbered-fewer before after e next numbered =
-      let number : Entry I F → ℕ = λ entry. entry.id in
+      let number : SinkEntry I F → ℕ = λ entry. entry.id in
       let P : List ℕ → Type 0 = λ xs. Rises 0 xs in
       let all = ap (λ (xs : List ℕ). xs ++ next ∷ []) (map-append number before (e ∷ after)) ∙ append_assoc (map number before) (map number (e ∷ after)) (next ∷ []) in
       let rest = ap (λ (xs : List ℕ). xs ++ next ∷ []) (map-append number before after) ∙ append_assoc (map number before) (map number after) (next ∷ []) in
       increasing 0 _ (subst P (sym rest) (rises_without 0 (map number before) e.id (map number after ++ next ∷ []) (subst P all (rises 0 _ numbered))))
 
   -- what is taken out, and what stays
-  pub taken_out : (xs ys new : List (Entry I F)) (i id : ℕ) (r : Entry I F) → ys ≡ xs → r ≡ get_or xs i r → new ≡ remove xs i
-      → (e : Entry I F) × (slice_get ys i ≡ Some e) × (e.id ≡ id) × (i < length ys) → TakesOut id r.sink xs new
+  pub taken_out : (xs ys new : List (SinkEntry I F)) (i id : ℕ) (r : SinkEntry I F) → ys ≡ xs → r ≡ get_or xs i r → new ≡ remove xs i
+      → (e : SinkEntry I F) × (slice_get ys i ≡ Some e) × (e.id ≡ id) × (i < length ys) → TakesOut id r.sink xs new
   taken_out xs ys new i id r seen is left (e, at, named, within) =
-      let there : slice_get xs i ≡ Some e = ap (λ (zs : List (Entry I F)). slice_get zs i) (sym seen) ∙ at in
+      let there : slice_get xs i ≡ Some e = ap (λ (zs : List (SinkEntry I F)). slice_get zs i) (sym seen) ∙ at in
       let same : r ≡ e = is ∙ get_or_from_slice_get xs i e r there in
-      let id_is : r.id ≡ id = ap (λ (x : Entry I F). x.id) same ∙ named in
+      let id_is : r.id ≡ id = ap (λ (x : SinkEntry I F). x.id) same ∙ named in
       let whole : r ≡ record { id = id; sink = r.sink } = λ j. record { id = id_is j; sink = r.sink } in
-      let around_it = around xs i e there ∙ ap (λ (x : Entry I F). take i xs ++ x ∷ drop (suc i) xs) (sym same ∙ whole) in
+      let around_it = around xs i e there ∙ ap (λ (x : SinkEntry I F). take i xs ++ x ∷ drop (suc i) xs) (sym same ∙ whole) in
       (take i xs, drop (suc i) xs, around_it, left)
 
   -- sinks that are numbered stay so when one is taken out
-  pub numbered-taken : (id : ℕ) (s : Sink I F) (old new : List (Entry I F)) (next : ℕ) → TakesOut id s old new → AreNumbered old next → AreNumbered new next
+  pub numbered-taken : (id : ℕ) (s : Sink I F) (old new : List (SinkEntry I F)) (next : ℕ) → TakesOut id s old new → AreNumbered old next → AreNumbered new next
   numbered-taken id s old new next (before, after, old_is, new_is) numbered =
-      let P : List (Entry I F) → Type 0 = λ es. AreNumbered es next in
+      let P : List (SinkEntry I F) → Type 0 = λ es. AreNumbered es next in
       subst P (sym new_is) (numbered-fewer before after _ next (subst P old_is numbered))

@@ -2,14 +2,14 @@
 use Rattle.std.specs.Prelude.{◌≡◌, ℕ, List, []}
 use Rattle.puffin_collector.specs.Collector.State.{Collected, nothing_collected}
 use Rattle.puffin.specs.declared.global_profiler.profiler.GlobalProfiler.{GlobalProfiler}
-use Rattle.puffin.specs.declared.global_profiler.sinks.Entry.{Entry}
+use Rattle.puffin.specs.declared.global_profiler.sinks.SinkEntry.{SinkEntry}
 
 module _ {I : Type 0} {F : I → Type 0} where
   abbrev pub collected_of : GlobalProfiler I F → Collected
   collected_of profiler = profiler.collector
 
-  -- its sinks by rising number, and the number of the next one
-  abbrev pub sinks_of : GlobalProfiler I F → List (Entry I F)
+  -- its sinks, sorted by number, and the number of the next one
+  abbrev pub sinks_of : GlobalProfiler I F → List (SinkEntry I F)
   sinks_of profiler = profiler.sinks.entries.items
 
   abbrev pub next_sink_of : GlobalProfiler I F → ℕ

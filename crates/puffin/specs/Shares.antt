@@ -30,7 +30,7 @@ all_reported shares = sum_by (λ c. c.reported) shares
 abbrev pub all_handed : List ShareCounts → ℕ
 all_handed shares = sum_by (λ c. c.handed) shares
 
--- a blank of the ledger with this name and this number of parts, for as many shares
+-- a blank of the ledger with this name and this number of parts, for the same number of shares
 abbrev pub IsBlankFor : ℕ → ℕ → ℕ → Blank → Type 0
 IsBlankFor name parts shares blank =
     (blank.name ≡ name) × (blank.parts ≡ parts) × (blank.parts ≡ shares)
@@ -42,7 +42,7 @@ CountsFrame old None new = new ≡ old
 CountsFrame old (Some frame) new =
     new ≡ with_handed old (frame_meta (arc_value frame)).num_scopes
 
--- A frame that is handed out holds honest streams, not packed. It has at least one scope, and as many as its meta says.
+-- A frame that is handed out holds honest streams that aren't packed. The scope count in its meta is right, and at least 1.
 abbrev pub SpellsItsScopes : {A : Type 0} → Option (Arc FrameData A) → Type 0
 SpellsItsScopes None = Unit {0}
 SpellsItsScopes (Some frame) = (streams : Streams)

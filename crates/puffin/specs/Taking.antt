@@ -7,7 +7,7 @@ use Rattle.puffin_frames.specs.declared.frame_data.frame.FrameData.{FrameData}
 abbrev pub one_more : ℕ → ℕ
 one_more n = min (n + 1) (2 ^ 64 - 1)
 
--- The numbers of frames and of missed frames, before and after: a frame counts if one was handed out, and as missed too
+-- The numbers of frames and of missed frames, before and after: a frame counts if it was handed out, and also counts as missed
 -- if a sink refused it.
 abbrev pub CountsTaken : {A : Type 0} → Option (Arc FrameData A) → ℕ → ℕ × ℕ → ℕ × ℕ → Type 0
 CountsTaken None refused old new = new ≡ old

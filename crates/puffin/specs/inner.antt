@@ -1,2 +1,2 @@
--- What only private types and functions cite.
+-- Definitions that only private types and functions cite.
 pub mod Numbers

@@ -1,5 +1,5 @@
-//! A profiler that collects what threads report, hands it out in frames and hands these to sinks; and the same profiler behind
-//! a lock, for several threads.
+//! A profiler that collects what threads report and hands it out in frames, to the caller and to sinks; and the same profiler
+//! behind a lock, for several threads.
 //!
 //! **The clause `requires boxed_sinks { ⊤ }`** always holds, so it asks nothing of a caller. It is there for the checker: if a
 //! function over a type with boxed sinks had no `requires`, calls from other crates would count as making a box and be
@@ -24,4 +24,4 @@ pub use share::Share;
 pub use shared_profiler::SharedProfiler;
 pub use shared_reporter::SharedReporter;
 pub use sink::{FrameSink, FrameSinkId, Sink};
-pub use sinks::Entry;
+pub use sinks::SinkEntry;

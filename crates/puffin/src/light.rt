@@ -1,9 +1,9 @@
-//! Profiling in few lines: a thread with its clock and reporter, places with their names, and programs whose threads are
-//! started, joined and settled for you.
+//! Profiling in a few lines: a thread with its clock and reporter, places with their names, and programs whose threads are
+//! started and joined for you, with their counts settled at the end.
 //!
 //! | to | call |
 //! |---|---|
-//! | name a place in the code | the macro `place`; a struct of [`Place`]s is a program's list of them |
+//! | name a place in the code | the macro `place`; a program keeps its [`Place`]s in a struct |
 //! | profile one thread | [`Thread::start`], then [`Records::scope`] or the macro `profile` |
 //! | open a scope within another | [`Guard::scope`] |
 //! | see whether a scope began | [`Guard::state`] |

@@ -4,12 +4,12 @@
 //! |---|---|
 //! | `guard` | the name of the guard, in the macros that bind one |
 //! | `condition` | in the `_if` forms, a `bool` that is evaluated only while the switch is on |
-//! | `profiler` | a `&mut` to the thread's profiler, or a call that returns one, as `outer.profiler()` |
+//! | `profiler` | a `&mut` to the thread's profiler, or a call that returns one, such as `outer.profiler()` |
 //! | `switch` | the [`crate::Switch`] |
 //! | `ids` | a `&` to the ids that all threads draw from |
 //! | `site` | the [`crate::Site`] of this place, and of no other |
 //! | `function` | the function's name |
-//! | `name` | the name of a scope within a function: a `&'static str`, a `String` or a `CowStr`, which is evaluated only until the place has an id |
+//! | `name` | the name of a scope within a function: a `&'static str`, a `String` or a `CowStr`; evaluated only until the place has an id |
 //! | `text` | a text for this one run of the scope; may be left out |
 //!
 //! If the switch is off or the condition is false, the guard has no scope. If registering or beginning the scope fails, it has

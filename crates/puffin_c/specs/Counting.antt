@@ -25,7 +25,8 @@ walk_in count = record {
   range_ns = (count.start_ns, count.stop_ns);
 }
 
--- The bytes spell a forest of scopes, and the numbers are its measures; or memory ran out, or they are refused with their first fault, and only the tries are told.
+-- Either the bytes spell a forest of scopes, and the numbers are its counts; or memory ran out or the bytes are refused with
+-- their first fault, and only the tries are set.
 abbrev pub IsCounted : Form → List ℕ → PuffinCount → PuffinCount → Result (Unit {0}) Fault → Type 0
 IsCounted form bytes old new (Ok _) =
     (f : Forest) × Spells form bytes f × Counts (walk_in new) f × (new.tries ≡ new.scopes)

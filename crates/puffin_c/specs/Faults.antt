@@ -7,13 +7,13 @@ use Rattle.puffin_data.specs.declared.file_error.FileError.TheVariants as file
 use Rattle.puffin_c.specs.declared.fault.Fault.{Fault}
 use Rattle.puffin_c.specs.declared.fault.Fault.TheVariants as fault
 
--- A file's fault. Files lie in memory here, so that one fails to be written only for want of memory.
+-- A file's fault. Files are in memory here, so writing one fails with `Io` only if memory runs out.
 abbrev pub file_fault : FileError → Fault
 file_fault file.Io = fault.Refused error.Memory
 file_fault file.Memory = fault.Refused error.Memory
 file_fault other = fault.File other
 
--- a file's fault: its number, and 256 times the number that it holds
+-- the number of a file's fault, plus 256 times the number that it holds, if any
 abbrev pub file_code : FileError → ℕ
 file_code (file.UnknownKind kind) = 6 + 256 * kind
 file_code (file.Compressed kind) = 7 + 256 * kind

@@ -1,4 +1,4 @@
--- What the calls on a profiler's handle do to what it holds.
+-- How the calls on a profiler's handle change what it holds.
 use Rattle.std.specs.Prelude.{◌≡◌, ◌⊎◌, ◌<◌, ℕ, List, [], ◌∷◌, Bool, true, false, Option, Some, None, Result, Ok, Err, is_some, length, drop, min}
 use Rattle.std.specs.List.{Any}
 use Rattle.std.specs.Arc.{arc_value}
@@ -35,7 +35,7 @@ use Rattle.puffin_c.specs.Reporting.{laid_over}
 
 -- ---- a profiler
 
--- the frame that was collected, and waits to be taken by the view
+-- the frame that was collected and waits to be added to the view
 abbrev pub waiting_frame : Profiler → Option FrameData
 waiting_frame p = option_map (λ w. arc_value w.frame) p.waiting
 
@@ -43,7 +43,7 @@ waiting_frame p = option_map (λ w. arc_value w.frame) p.waiting
 abbrev pub view_file : Profiler → List ℕ
 view_file p = file_of (fields_in (view_of p.view))
 
--- a new profiler: nothing was reported, the view is empty, no frame waits, and no file is read
+-- a new profiler: nothing was reported, the view is empty, no frame waits, and no bytes of a file are unread
 pub record IsNew (p : Profiler) : Type 0 where
   pub collected : p.collector ≡ nothing_collected 0
   pub view : view_of p.view ≡ empty_view
@@ -59,13 +59,13 @@ OpensProfiler old has_ids new (Err f) =
     ⊎ ((f ≡ fault.NotOpen) × (has_ids ≡ false))
     ⊎ (f ≡ fault.Refused error.Memory))
 
--- the profiler with something else collected
+-- the profiler with `c` as the state of its collector
 abbrev pub with_collected : Profiler → Collected → Profiler
 with_collected p c = record p { collector = c }
 
 -- ---- reports
 
--- A thread handed over what waits, if anything; or nothing is changed.
+-- The thread handed over its waiting scopes, if any; or nothing is changed.
 abbrev pub Hands : Option Thread → Option Profiler → Option Thread → Option Profiler →
     Result (Unit {0}) Fault → Type 0
 Hands t p t' p' (Ok _) =
@@ -95,7 +95,8 @@ abbrev pub IsStream : Form → List ℕ → StreamFacts → Type 0
 IsStream form bytes r =
     (r.form ≡ form) × (r.bytes ≡ bytes) × (f : Forest) × AreHonestFacts r f
 
--- The scopes of a stream are appended under this key. Or nothing is changed: the name or the bytes are refused, or the scopes are.
+-- Either the scopes of a stream are appended under this key; or the name, the bytes or the scopes are refused, and nothing is
+-- changed.
 abbrev pub TakesOwn : Option Profiler → ThreadKey → Form → List ℕ → Option Profiler →
     Result (Unit {0}) Fault → Type 0
 TakesOwn p key form bytes p' (Ok _) =
@@ -119,7 +120,7 @@ TakesOwn p key form bytes p' (Err f) =
 
 -- ---- frames
 
--- what is told of a frame
+-- the description of a frame that the program gets
 abbrev pub told_of : FrameMeta → PuffinFrame
 told_of meta = record {
   index = meta.frame_index;
@@ -130,7 +131,7 @@ told_of meta = record {
   is_some = true;
 }
 
--- The next frame of a profiler: the one that waits, or else one of all that is pending.
+-- The next frame of a profiler: the one that waits, or otherwise one made of everything pending.
 abbrev pub IsNext : Profiler → FrameData → Collected → Type 0
 IsNext old frame after =
     ((waiting_frame old ≡ Some frame) × (after ≡ old.collector))
@@ -139,7 +140,7 @@ IsNext old frame after =
     × (0 < total_scopes (values old.collector.streams))
     × (after ≡ after_frame old.collector))
 
--- no scope is pending, and the index alone has risen
+-- no frame waits, no scope is pending, and only the index has increased
 abbrev pub HasNone : Profiler → Profiler → Type 0
 HasNone old new =
     (waiting_frame old ≡ None)
@@ -155,7 +156,7 @@ IsCollected old new =
     × (HasNone old new
     ⊎ ((frame : FrameData) × IsNext old frame new.collector × (waiting_frame new ≡ Some frame)))
 
--- The next frame went to the view; or there is none, as no scope is pending.
+-- The next frame was added to the view; or there is none because no scope is pending.
 abbrev pub IsTaken : Profiler → Profiler → Option FrameMeta → Type 0
 IsTaken old new (Some meta) =
     (frame : FrameData)
@@ -166,7 +167,8 @@ IsTaken old new (Some meta) =
     × (new.unread ≡ old.unread)
 IsTaken old new None = HasNone old new × (new.view ≡ old.view) × (new.unread ≡ old.unread)
 
--- The call was refused. All that is pending is kept; or memory ran out after the next frame was collected, which waits for the next call.
+-- The call was refused. Either everything pending is kept; or memory ran out after the next frame was collected, and the frame
+-- waits for the next call.
 abbrev pub IsLeft : Profiler → Profiler → Error → Type 0
 IsLeft old new e =
     (new.unread ≡ old.unread)
@@ -180,7 +182,7 @@ IsLeft old new e =
     × (waiting_frame new ≡ Some frame)
     × KeepsFrames (view_of old.view) (index_of (frame_of frame)) (view_of new.view)))
 
--- what a program is told: the frame, or that there is none, and nothing where the call is refused
+-- what the program gets: the frame's description, or only that there is no frame
 abbrev pub IsTold : Option FrameMeta → PuffinFrame → PuffinFrame → Type 0
 IsTold (Some meta) before told = told ≡ told_of meta
 IsTold None before told = told ≡ record before { is_some = false }
@@ -204,7 +206,7 @@ TakesFrame p p' before told (Err f) =
     × (p' ≡ Some new)
     × IsLeft old new e))
 
--- the next frame is to tell of all scopes that are known
+-- the next frame is to list every known scope
 abbrev pub WantsAll : Option Profiler → Option Profiler → Result (Unit {0}) Fault → Type 0
 WantsAll p p' (Ok _) =
     (q : Profiler) × (p ≡ Some q) × (p' ≡ Some (with_collected q (after_wanting q.collector)))
@@ -212,7 +214,7 @@ WantsAll p p' (Err f) = (f ≡ fault.NotOpen) × (p ≡ None) × (p' ≡ None)
 
 -- ---- the view's file
 
--- The file of the view is made, and waits to be read in place of what waited; or nothing is changed.
+-- The view's file is made, and its bytes replace any unread ones of an earlier file; or nothing is changed.
 abbrev pub MakesFile : Option Profiler → Option Profiler → ℕ → ℕ → Result (Unit {0}) Fault → Type 0
 MakesFile p p' before size (Ok _) =
     (q : Profiler)
@@ -228,7 +230,7 @@ MakesFile p p' before size (Err f) =
     × ((f ≡ fault.Refused error.Memory)
     ⊎ ((f ≡ fault.File file.PartTooLong) × Any HasLongPart (fields_in (view_of q.view))))))
 
--- As many bytes of what waits to be read as there is room for are laid over the beginning of the caller's bytes, and wait no more.
+-- The unread bytes, as many as fit, are copied over the beginning of the caller's bytes, and then count as read.
 abbrev pub ReadsFile : Option Profiler → Option Profiler → List ℕ → List ℕ → ℕ → ℕ →
     Result (Unit {0}) Fault → Type 0
 ReadsFile p p' old new before size (Ok _) =

@@ -1,4 +1,4 @@
--- What the calls on a thread's handle do to what it holds.
+-- How the calls on the handles of ids and threads change what the handles hold.
 use Rattle.std.specs.Prelude.{◌≡◌, ◌≢◌, ◌⊎◌, ℕ, ◌<◌, ℤ, Bool, true, List, [], ◌∷◌, Option, Some, None, Result, Ok, Err, is_some, slice_get}
 use Rattle.std.specs.Str.{IsUtf8}
 use Rattle.puffin_data.specs.declared.data.form.Form.{Form}
@@ -10,7 +10,7 @@ use Rattle.puffin_c.specs.declared.fault.Fault.{Fault}
 use Rattle.puffin_c.specs.declared.fault.Fault.TheVariants as fault
 use Rattle.puffin_c.specs.Times.{clock_time, begun_place}
 
--- why a text isn't taken
+-- why a text is refused
 abbrev pub IsNoText : List ℕ → Fault → Type 0
 IsNoText text f = ((f ≡ fault.NotText) × ¬ (IsUtf8 text)) ⊎ (f ≡ fault.Refused error.Memory)
 
@@ -19,19 +19,19 @@ abbrev pub HasNoText : List (List ℕ) → Type 0
 HasNoText [] = ⊥
 HasNoText (text ∷ rest) = (¬ (IsUtf8 text)) ⊎ HasNoText rest
 
--- why some of these texts aren't taken
+-- why one of these texts is refused
 abbrev pub AreNoTexts : List (List ℕ) → Fault → Type 0
 AreNoTexts texts f =
     ((f ≡ fault.NotText) × HasNoText texts) ⊎ (f ≡ fault.Refused error.Memory)
 
--- a handle that held nothing holds ids; or nothing is changed
+-- a handle that held nothing now holds ids; or nothing is changed
 abbrev pub OpensIds : {X : Type 0} → Option X → Option X → Result (Unit {0}) Fault → Type 0
 OpensIds old new (Ok _) = (old ≡ None) × (is_some new ≡ true)
 OpensIds old new (Err f) =
     (new ≡ old)
     × (((f ≡ fault.IsOpen) × (is_some old ≡ true)) ⊎ (f ≡ fault.Refused error.Memory))
 
--- a handle that held nothing holds a new thread, where there are ids; or nothing is changed
+-- there are ids, and a handle that held nothing now holds a new thread; or nothing is changed
 abbrev pub Opens : Option Thread → Bool → List ℕ → Form → Option Thread →
     Result (Unit {0}) Fault → Type 0
 Opens old has_ids name form new (Ok _) =
@@ -42,12 +42,12 @@ Opens old has_ids name form new (Err f) =
     ⊎ ((f ≡ fault.NotOpen) × (has_ids ≢ true))
     ⊎ IsNoText name f)
 
--- a handle holds nothing, and held something unless it is refused
+-- a handle that held something now holds nothing; or it held nothing, and the call is refused
 abbrev pub Closes : {X : Type 0} → Option X → Option X → Result (Unit {0}) Fault → Type 0
 Closes old new (Ok _) = (is_some old ≡ true) × (new ≡ None)
 Closes old new (Err f) = (f ≡ fault.NotOpen) × (old ≡ None) × (new ≡ None)
 
--- a scope was begun in what it holds, at this place; or nothing is changed
+-- a scope was begun in the handle's thread, and this is its offset; or nothing is changed
 abbrev pub Begins : Option Thread → ℤ → ℕ → List ℕ → Option Thread → ℕ → ℕ →
     Result (Unit {0}) Fault → Type 0
 Begins old at id text new before place (Ok _) =
@@ -63,7 +63,7 @@ Begins old at id text new before place (Err f) =
     ⊎ ((f ≡ fault.NoId) × (id ≡ 0) × (is_some old ≡ true))
     ⊎ (IsNoText text f × (is_some old ≡ true)))
 
--- the innermost scope was ended, which begins at this place; or nothing is changed
+-- the innermost scope, which has this offset, was ended; or nothing is changed
 abbrev pub Ends : Option Thread → ℤ → ℕ → Option Thread → Result (Unit {0}) Fault → Type 0
 Ends old at place new (Ok _) =
     (t : Thread)
@@ -94,7 +94,8 @@ scope_details name function file line = record default_details {
   line_nr = line;
 }
 
--- A scope with these details was registered under this id, and goes with the thread's next report; or nothing is changed.
+-- Either a scope with these details was registered under this id, and the details go with the thread's next report; or nothing
+-- is changed.
 abbrev pub RegistersFor : Option Thread → List (List ℕ) → Details → Option Thread → ℕ → ℕ →
     Result (Unit {0}) Fault → Type 0
 RegistersFor old texts d new before id (Ok _) =

@@ -1,4 +1,4 @@
--- What a file's check and its report say.
+-- The results of checking a file and of reporting on it.
 use Rattle.std.specs.Prelude.{◌≡◌, ◌≢◌, ◌⊎◌, ℕ, ℤ, Bool, true, false, List, [], ◌∷◌, ◌++◌, length, take, drop, min, Option, Some, None, Result, Ok, Err}
 use Rattle.std.specs.Str.{IsUtf8}
 use Rattle.puffin_data.specs.declared.file_error.FileError.{FileError}
@@ -16,7 +16,7 @@ use Rattle.puffin_c.specs.declared.fault.Fault.{Fault}
 use Rattle.puffin_c.specs.declared.fault.Fault.TheVariants as fault
 use Rattle.puffin_c.specs.Faults.{file_fault}
 
--- So many frames stand before a fault: none if the letters that begin a file are missing, else those that were read until it.
+-- A fault comes after `n` frames: none if the magic bytes at the file's beginning are missing, otherwise those read before it.
 abbrev pub StandBefore : List ℕ → Option (List ℕ) → FileError → ℕ → Type 0
 StandBefore bytes left e n =
     ((n ≡ 0) × (e ≡ file.NoMagic))
@@ -26,7 +26,7 @@ StandBefore bytes left e n =
     × (n ≡ length stored)
     × FailsAt e given left frame_at)
 
--- The bytes begin with a file of so many frames; or they have this fault, behind so many frames, or memory ran out there.
+-- The bytes begin with a file of `n` frames; or, after `n` frames, there is this fault or memory ran out.
 abbrev pub IsChecked : List ℕ → ℕ → Result (Unit {0}) Fault → Type 0
 IsChecked bytes n (Ok _) =
     (left : Option (List ℕ))
@@ -41,7 +41,7 @@ IsChecked bytes n (Err f) =
     × FailsToRead file_at (Some bytes) left e
     × StandBefore bytes left e n
 
--- whose scopes are meant
+-- the key of the thread whose scopes are meant
 abbrev pub key_given : Bool → ℤ → List ℕ → ThreadKey
 key_given true start name = record { start = Some start; name = name }
 key_given false start name = record { start = None; name = name }
@@ -54,17 +54,17 @@ HasLines bytes info lines =
     × HasSummary info (Some bytes) left summary
     × (lines ≡ report_lines summary)
 
--- why there is no report: what the file is refused for, or want of memory
+-- why there is no report: the file's fault, or a lack of memory
 abbrev pub LacksLines : List ℕ → ThreadKey → FileError → Type 0
 LacksLines bytes info e = (left : Option (List ℕ)) × FailsToSumUp info (Some bytes) left e
 
--- bytes over the beginning of others
+-- `old` after as many of `bytes` as fit were copied over its beginning
 abbrev pub laid_over : List ℕ → List ℕ → List ℕ
 laid_over old bytes =
     take (min (length bytes) (length old)) bytes ++ drop (min (length bytes) (length old)) old
 
--- The name is a text, and the report is laid over what was there, and is so long; or nothing is changed. A name that isn't a
--- text is told before any fault of the file.
+-- Either the name is UTF-8, the report is copied over the beginning of `old`, and `size` is its length; or nothing is changed.
+-- A name that isn't UTF-8 is reported before any fault in the file.
 abbrev pub IsPrinted : List ℕ → ThreadKey → List ℕ → List ℕ → ℕ → ℕ → Result (Unit {0}) Fault → Type 0
 IsPrinted bytes info old new before size (Ok _) =
     IsUtf8 info.name

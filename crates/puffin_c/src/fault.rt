@@ -49,7 +49,7 @@ impl From<FileError> for Fault {
     }
 }
 
-/// Returns the number of a file's fault, plus 256 times the number that the fault holds.
+/// Returns the number of a file's fault, plus 256 times the number that the fault holds, if any.
 fn file_code(fault: FileError) -> u32
     ensures { result ≡ file_code fault }
 {

@@ -1,4 +1,4 @@
-//! Counts the frames of files, and reports on them.
+//! Counts the frames of a file, and reports on the file.
 
 ghost use Rattle.std.specs.Prelude.{◌≡◌, [], ◌∷◌, Result, OnOk, IfOk, IfErr};
 ghost use Rattle.std.specs.Str.{IsUtf8};
@@ -11,11 +11,11 @@ ghost use Rattle.puffin_c.specs.Recording.{AreNoTexts};
 ghost use Rattle.puffin_c.specs.Reporting.{IsChecked, HasLines, LacksLines, key_given, IsPrinted};
 
 use crate::fault::{Fault, answer_code};
-use crate::memory_file::MemoryFile;
 use crate::memory_source::MemorySource;
 use crate::texts::owned_text;
 use crate::unread::lay_over;
 use puffin_data::FileError;
+use puffin_data::data::MemoryFile;
 use puffin_frames::thread_profiler::ThreadInfo;
 use puffin_report::print_report;
 use puffin_view::profile_view::{next_frame, read_magic};
@@ -40,8 +40,8 @@ fn checked(alloc: Global, file: &[u8], frames: &mut u64) -> Result<(), Fault>
 
 /// Reads a file of any origin frame by frame, and sets `frames` to the number of its frames.
 ///
-/// Fails with the first fault of the file, or with `Memory`. Then `frames` is the number of frames before the fault, or
-/// of those that were read until memory ran out.
+/// Fails with the first fault in the file, or with `Memory`. `frames` is then the number of frames that were read before the
+/// fault, or before memory ran out.
 #[unsafe(no_mangle)]
 pub extern "C" fn puffin_check_file(alloc: Global, file: &[u8], frames: &mut u64) -> u32
     ensures { (answer : Result (Unit {0}) Fault)
@@ -52,7 +52,7 @@ pub extern "C" fn puffin_check_file(alloc: Global, file: &[u8], frames: &mut u64
     answer_code(answer)
 }
 
-/// Returns the info of a thread. Fails with `NotText` of its name, or with `Memory`.
+/// Returns the info of a thread. Fails with `NotText` if its name isn't UTF-8, or with `Memory`.
 pub(crate) fn named_thread(
     alloc: Global,
     has_start: bool,
@@ -83,7 +83,7 @@ fn lines_of(alloc: Global, file: &[u8], thread: &ThreadInfo) -> Result<MemoryFil
     }
 }
 
-/// Makes the report, and copies as much of it as fits to the front of `out`.
+/// Makes the report, and copies it to the front of `out`, as much of it as fits.
 fn printed(
     alloc: Global,
     file: &[u8],
@@ -104,11 +104,12 @@ fn printed(
     Ok(())
 }
 
-/// Reports on a file of any origin for one thread: the one of this name and, if `has_start` is set, this start. Copies
-/// as much of the lines as fits to the front of `out`, and sets `size` to the number of bytes of all lines.
+/// Reports on a file of any origin for one thread: the one with this name and this start, or with no start if `has_start` isn't
+/// set. Copies the report to the front of `out`, as much of it as fits, and sets `size` to the size of the whole report in
+/// bytes.
 ///
-/// Fails with `NotText` if the name isn't UTF-8, whatever the file is; else with the first fault of the file, or with
-/// `Memory`. Then `out` and `size` don't change.
+/// Fails with `NotText` if the name isn't UTF-8, whatever the file contains. Otherwise fails with the first fault in the file,
+/// or with `Memory`. `out` and `size` don't change then.
 #[unsafe(no_mangle)]
 pub extern "C" fn puffin_report_file(
     alloc: Global,

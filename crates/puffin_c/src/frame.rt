@@ -3,7 +3,7 @@ ghost use Rattle.puffin_c.specs.Profiling.{told_of};
 
 use puffin_frames::frame_data::FrameMeta;
 
-/// The numbers of a frame.
+/// Describes a frame.
 #[repr(C)]
 #[derive(Clone, Copy)]
 pub struct PuffinFrame {
@@ -22,7 +22,7 @@ pub struct PuffinFrame {
 }
 
 impl PuffinFrame {
-    /// Returns the numbers of this meta.
+    /// Returns the description of the frame with this meta.
     pub(crate) fn of(meta: FrameMeta) -> PuffinFrame
         ensures { result ≡ told_of meta }
     {

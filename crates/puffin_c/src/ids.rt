@@ -17,7 +17,7 @@ use std::alloc::Global;
 use std::mem;
 use std::sync::Arc;
 
-/// A handle of a set of ids. A C program fills it with zeros at first; it isn't open then.
+/// A handle to a set of ids. A C program initializes it with zeros, and it isn't open at that point.
 #[repr(C)]
 pub struct PuffinIds {
     pub(crate) slot: IdsSlot,

@@ -11,15 +11,15 @@ use std::mem::size_of;
 #[repr(C)]
 #[derive(Clone, Copy)]
 pub struct PuffinSizes {
-    /// Of a [`PuffinCount`].
+    /// The size of a [`PuffinCount`].
     pub count: u64,
-    /// Of a [`PuffinFrame`].
+    /// The size of a [`PuffinFrame`].
     pub frame: u64,
-    /// Of a [`PuffinIds`].
+    /// The size of a [`PuffinIds`].
     pub ids: u64,
-    /// Of a [`PuffinThread`].
+    /// The size of a [`PuffinThread`].
     pub thread: u64,
-    /// Of a [`PuffinProfiler`].
+    /// The size of a [`PuffinProfiler`].
     pub profiler: u64,
 }
 

@@ -11,7 +11,6 @@ pub mod frame;
 pub mod ids;
 pub mod ids_slot;
 pub mod layout;
-mod memory_file;
 mod memory_source;
 pub mod naming;
 mod profiler;

@@ -14,7 +14,7 @@ pub(crate) struct MemorySource<'a> {
 }
 
 impl<'a> MemorySource<'a> {
-    /// Reads these bytes from the front.
+    /// Makes a source that reads these bytes from the front.
     pub(crate) fn new(bytes: &'a [u8]) -> MemorySource<'a>
         ensures { result.unread.now ≡ bytes.now }
     {

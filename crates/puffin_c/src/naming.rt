@@ -1,4 +1,4 @@
-//! Registers the scopes of a thread, so that files have their names.
+//! Registers the scopes of a thread, so that files contain their names.
 
 ghost use Rattle.std.specs.Prelude.{◌≡◌, [], ◌∷◌, Some, Result};
 ghost use Rattle.puffin_c.specs.declared.fault.Fault.{Fault};
@@ -6,7 +6,7 @@ ghost use Rattle.puffin_c.specs.Faults.{answer_code};
 ghost use Rattle.puffin_c.specs.Recording.{RegistersFor, function_details, scope_details};
 
 use crate::fault::{Fault, answer_code};
-use crate::texts::{Place, owned_text};
+use crate::texts::{FunctionAndFile, owned_text};
 use crate::thread::PuffinThread;
 use std::alloc::Global;
 
@@ -24,7 +24,7 @@ fn function_registered(
     if !thread.is_open {
         return Err(Fault::NotOpen);
     }
-    let place = Place::of(alloc, function, file)?;
+    let place = FunctionAndFile::of(alloc, function, file)?;
     let mut recorder = thread.take(alloc);
     let answer = recorder.register_function(place.function, place.file, line);
     thread.put(recorder);
@@ -35,7 +35,7 @@ fn function_registered(
 /// Registers a function as a scope, and sets `id` to its id, which [`puffin_begin`] takes. Pass 0 if the line is
 /// unknown. The details go to the profiler with the thread's next report.
 ///
-/// Fails with `NotOpen`, `NotText`, `IdsExhausted` or `Memory`. Nothing changes then, but an id may be used up.
+/// Fails with `NotOpen`, `NotText`, `IdsExhausted` or `Memory`. Nothing changes then, except that an id may be used up.
 ///
 /// [`puffin_begin`]: crate::thread::puffin_begin
 #[unsafe(no_mangle)]
@@ -73,7 +73,7 @@ fn scope_registered(
         return Err(Fault::NotOpen);
     }
     let name = owned_text(alloc, name)?;
-    let place = Place::of(alloc, function, file)?;
+    let place = FunctionAndFile::of(alloc, function, file)?;
     let mut recorder = thread.take(alloc);
     let answer = recorder.register_scope(name, place.function, place.file, line);
     thread.put(recorder);
@@ -81,7 +81,7 @@ fn scope_registered(
     Ok(())
 }
 
-/// Registers a scope with a name of its own in a function, as [`puffin_register_function`] does.
+/// Registers a scope within a function, under a name of its own. Otherwise like [`puffin_register_function`].
 #[unsafe(no_mangle)]
 pub extern "C" fn puffin_register_scope(
     alloc: Global,

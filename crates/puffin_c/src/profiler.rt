@@ -13,17 +13,17 @@ ghost use Rattle.puffin_frames.specs.Packet.Writing.{HasLongPart};
 ghost use Rattle.puffin_view.specs.View.Known.{view_of};
 ghost use Rattle.puffin_view.specs.View.File.{fields_in};
 
-use crate::memory_file::MemoryFile;
 use crate::shared_ids::SharedIds;
 use crate::unread::Unread;
 use puffin_collector::Collector;
+use puffin_data::data::MemoryFile;
 use puffin_data::{FileError, Result as Answer};
 use puffin_frames::frame_data::{FrameData, FrameMeta};
 use puffin_view::profile_view::FrameView;
 use std::alloc::Global;
 use std::sync::Arc;
 
-/// A frame that waits for the view. All of its details have ids.
+/// A frame that waits to be added to the view. All of its details have ids.
 #[derive(Drop)]
 pub(crate) struct Waiting {
     pub(crate) frame: Arc<FrameData>,
@@ -44,7 +44,7 @@ pub(crate) struct Profiler {
 impl Profiler {
     ghost use Rattle.puffin_c.specs.Profiling.{waiting_frame, IsNew, IsCollected, IsTaken, IsLeft, view_file};
 
-    /// Makes a profiler without scopes and frames.
+    /// Makes a profiler without scopes or frames.
     pub(crate) fn new(alloc: Global, shared: SharedIds) -> Profiler
         ensures { IsNew result }
     {
@@ -57,7 +57,7 @@ impl Profiler {
         }
     }
 
-    /// Collects the next frame into `waiting`. Does nothing if a frame waits there already.
+    /// Collects the next frame into `waiting`. Does nothing if a frame is waiting there already.
     fn collect(&mut self) -> Answer<()>
         ensures ok { OnOk result (IsCollected self.old self.new) }
         ensures err { IfErr result (IsLeft self.old self.new) }
@@ -86,10 +86,10 @@ impl Profiler {
         }
     }
 
-    /// Adds the next frame to the view, and returns its meta: the waiting frame, or else one of everything pending.
-    /// Returns `None` if no scope is pending.
+    /// Adds the next frame to the view, and returns its meta. The next frame is the waiting one or, if none is waiting, one
+    /// made of everything pending. Returns `None` if no frame is waiting and no scope is pending.
     ///
-    /// Fails with `IndexExhausted` or `Memory`. Nothing is lost then: everything stays pending, or the frame waits.
+    /// Fails with `IndexExhausted` or `Memory`. Nothing is lost then: either everything stays pending, or the frame waits.
     pub(crate) fn take_frame(&mut self) -> Answer<Option<FrameMeta>>
         ensures ok { IfOk result (IsTaken self.old self.new) }
         ensures err { IfErr result (IsLeft self.old self.new) }
@@ -119,8 +119,8 @@ impl Profiler {
         }
     }
 
-    /// Makes the view's file, to be read from its beginning, and returns the number of its bytes. Fails as
-    /// [`Profiler::file`] does; nothing changes then.
+    /// Makes the view's file, to be read from its beginning, and returns its size in bytes. Fails like [`Profiler::file`];
+    /// nothing changes then.
     pub(crate) fn begin_file(&mut self, alloc: Global) -> Result<usize, FileError>
         ensures size { IfOk result (λ size. size ≡ length (view_file self.old)) }
         ensures made { OnOk result (

@@ -60,5 +60,5 @@ impl ProfilerSlot {
     }
 }
 
-// It may be sent to another thread, as what it owns may be.
+// It may be sent to another thread because the box that it owns may be.
 unsafe impl Send for ProfilerSlot {}

@@ -18,7 +18,7 @@ use puffin_frames::frame_data::FrameMeta;
 use std::alloc::Global;
 use std::mem;
 
-/// A handle of a profiler. A C program fills it with zeros at first; it isn't open then.
+/// A handle to a profiler. A C program initializes it with zeros, and it isn't open at that point.
 #[repr(C)]
 pub struct PuffinProfiler {
     pub(crate) slot: ProfilerSlot,
@@ -71,7 +71,7 @@ fn opened(alloc: Global, profiler: &mut PuffinProfiler, ids: &mut PuffinIds) -> 
 /// Opens a handle with a new profiler, which shares the ids of `ids`. Its view keeps the last 1,000 frames and the 256
 /// slowest ones.
 ///
-/// Fails with `IsOpen`, with `NotOpen` of `ids`, or with `Memory`. Nothing changes then.
+/// Fails with `IsOpen`, with `NotOpen` if `ids` isn't open, or with `Memory`. Nothing changes then.
 #[unsafe(no_mangle)]
 pub extern "C" fn puffin_profiler_open(
     alloc: Global,
@@ -98,7 +98,7 @@ fn closed(alloc: Global, profiler: &mut PuffinProfiler) -> Result<(), Fault>
     Ok(())
 }
 
-/// Closes a handle, and frees its profiler: the view, and the scopes that are in no frame yet.
+/// Closes a handle, and frees its profiler, including the view and the scopes that aren't in a frame yet.
 ///
 /// Fails with `NotOpen`.
 #[unsafe(no_mangle)]
@@ -133,8 +133,8 @@ fn reported(
     }
 }
 
-/// Reports a thread's waiting scopes to a profiler, with the details that were registered since the thread's last
-/// report. Does nothing if no scope waits.
+/// Reports a thread's waiting scopes to a profiler, with the details that were registered since the thread's last report. Does
+/// nothing if no scopes are waiting.
 ///
 /// Fails with `NotOpen`; with `ScopesOpen` while a scope is open; with `UnlikeForms`, `TooLarge` or `RangeTooLong` if
 /// the profiler refuses the scopes; or with `Memory`. The scopes keep waiting then.
@@ -153,7 +153,7 @@ pub extern "C" fn puffin_report(
     answer_code(answer)
 }
 
-/// Sets `frame` to the numbers of a frame, or to no frame.
+/// Fills in `frame` from a frame's meta. If there is none, only sets `frame.is_some` to `false`.
 fn tell(meta: Option<FrameMeta>, frame: &mut PuffinFrame)
     ensures { IsTold meta frame.old frame.new }
 {
@@ -181,8 +181,8 @@ fn taken(alloc: Global, profiler: &mut PuffinProfiler, frame: &mut PuffinFrame) 
     }
 }
 
-/// Makes a frame of everything that was reported since the last one, adds it to the view, and sets `frame` to its
-/// numbers. If no scope was reported, there is no frame, and only `frame.is_some` is set, to `false`.
+/// Makes a frame of everything that was reported since the last one, adds it to the view, and fills in `frame`. If no scope was
+/// reported, no frame is made, and only `frame.is_some` is set, to `false`.
 ///
 /// Fails with `NotOpen`, `IndexExhausted` or `Memory`; `frame` doesn't change then. Nothing that was reported is lost:
 /// if the view has no memory for the frame, the frame waits, and the next call adds it.
@@ -212,7 +212,7 @@ fn wanted(alloc: Global, profiler: &mut PuffinProfiler) -> Result<(), Fault>
     Ok(())
 }
 
-/// Makes the next frame list every known scope, besides the new ones.
+/// Makes the next frame list every known scope, not only the new ones.
 ///
 /// Fails with `NotOpen`.
 #[unsafe(no_mangle)]

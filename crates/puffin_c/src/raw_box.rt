@@ -1,4 +1,4 @@
-//! A box as its raw parts.
+//! A box that is split into its raw parts.
 
 ghost use Rattle.std.specs.Prelude.{◌≡◌};
 ghost use Rattle.std_alloc.specs.Box.Ownership.{box_owns};

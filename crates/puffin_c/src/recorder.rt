@@ -1,4 +1,4 @@
-//! A thread's profiler, whose times the caller passes.
+//! A thread's profiler that takes its times from the caller.
 
 ghost use Rattle.std.specs.Prelude.{◌≡◌, ◌≢◌, Some, OnOk, OnErr, IfOk, IfErr, string_bytes, slice_get};
 ghost use Rattle.puffin_data.specs.declared.error.Error.TheVariants.{Memory, MismatchedEnd};
@@ -36,7 +36,7 @@ impl Model for Recorder {
 }
 
 impl Recorder {
-    /// Makes a recorder of a thread with this name, without scopes.
+    /// Makes a recorder for a thread with this name. It has no scopes yet.
     pub(crate) fn new(alloc: Global, shared: SharedIds, name: String, form: Form) -> Recorder
         ensures { result ≡ new_thread (string_bytes name) form }
     {
@@ -59,7 +59,7 @@ impl Recorder {
         self.profiler.begin_scope(id, text)
     }
 
-    /// Ends the innermost open scope, which has to have this offset, at this time. It waits for the next report. Fails
+    /// Ends the innermost open scope at this time. The scope must have this offset. It then waits for the next report. Fails
     /// only with `MismatchedEnd`; nothing changes then.
     #[inline(always)]
     pub(crate) fn end(&mut self, at: NanoSecond, offset: usize) -> Result<()>
@@ -74,7 +74,7 @@ impl Recorder {
         self.profiler.close_scope(offset)
     }
 
-    /// Reports the closed scopes that wait. Returns whether there were any.
+    /// Reports the closed scopes that are waiting. Returns whether there were any.
     pub(crate) fn report(&mut self, collector: &mut Collector) -> Result<bool>
         ensures { Reports AcceptsReport RefusesReport self.old self.new collector.old collector.new
             result }

@@ -29,10 +29,10 @@ fn counted(alloc: Global, bytes: &[u8], form: Form, count: &mut PuffinCount) -> 
     Ok(())
 }
 
-/// Counts the scopes of a stream of any origin. The lengths of its texts take one byte, or up to two if `long_texts` is
+/// Counts the scopes of a stream of any origin. The length of each text takes one byte, or up to two bytes if `long_texts` is
 /// set.
 ///
-/// Fails with the first fault of the bytes, or with `Memory`. Then only `tries` is set.
+/// Fails with the first fault in the bytes, or with `Memory`. Only `tries` is set then.
 #[unsafe(no_mangle)]
 pub extern "C" fn puffin_count(
     alloc: Global,

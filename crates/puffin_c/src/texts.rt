@@ -52,19 +52,19 @@ pub(crate) fn owned_text(alloc: Global, bytes: &[u8]) -> Result<String, Fault>
 
 /// The function and the file that a scope is in.
 #[derive(Drop)]
-pub(crate) struct Place {
+pub(crate) struct FunctionAndFile {
     pub(crate) function: String,
     pub(crate) file: String,
 }
 
-impl Place {
+impl FunctionAndFile {
     /// Copies these texts. Fails with `NotText` or `Memory`.
-    pub(crate) fn of(alloc: Global, function: &[u8], file: &[u8]) -> Result<Place, Fault>
+    pub(crate) fn of(alloc: Global, function: &[u8], file: &[u8]) -> Result<FunctionAndFile, Fault>
         ensures function { IfOk result (λ place. string_bytes place.function ≡ function.now) }
         ensures file { IfOk result (λ place. string_bytes place.file ≡ file.now) }
         ensures err { IfErr result (AreNoTexts (function.now ∷ file.now ∷ [])) }
     {
-        Ok(Place {
+        Ok(FunctionAndFile {
             function: owned_text(alloc, function)?,
             file: owned_text(alloc, file)?,
         })

@@ -18,7 +18,7 @@ use puffin_data::data::{Form, ScopeId};
 use std::alloc::Global;
 use std::mem;
 
-/// A handle of a thread's profiler. A C program fills it with zeros at first; it isn't open then.
+/// A handle to a thread's profiler. A C program initializes it with zeros, and it isn't open at that point.
 #[repr(C)]
 pub struct PuffinThread {
     pub(crate) slot: ThreadSlot,
@@ -75,10 +75,11 @@ fn opened(
     }
 }
 
-/// Opens a handle with a profiler of a thread of this name. Its scopes are registered under ids of `ids`. Texts are cut
-/// to 127 bytes, or to 16,383 if `long_texts` is set, at a character boundary.
+/// Opens a handle with a profiler for a thread with this name. Its scopes are registered under ids from `ids`. Texts are cut at
+/// a character boundary, to 127 bytes, or to 16,383 if `long_texts` is set.
 ///
-/// Fails with `IsOpen`, with `NotOpen` of `ids`, with `NotText` of the name, or with `Memory`. Nothing changes then.
+/// Fails with `IsOpen`, with `NotOpen` if `ids` isn't open, with `NotText` if the name isn't UTF-8, or with `Memory`. Nothing
+/// changes then.
 #[unsafe(no_mangle)]
 pub extern "C" fn puffin_thread_open(
     alloc: Global,
@@ -146,8 +147,8 @@ fn begun(
     Ok(())
 }
 
-/// Begins a scope at this time, and sets `scope` to its offset, which [`puffin_end`] takes. A negative time counts as
-/// 0, and a time before the thread's last one counts as that.
+/// Begins a scope at this time, and sets `scope` to its offset, which [`puffin_end`] takes. A negative time counts as 0, and a
+/// time before the thread's last one counts as the last one.
 ///
 /// Fails with the first of `NotOpen`, `NoId` and `NotText` that applies, or with `Memory`. Nothing changes then.
 #[unsafe(no_mangle)]
@@ -181,7 +182,7 @@ fn ended(alloc: Global, thread: &mut PuffinThread, now_ns: i64, scope: u64) -> R
     Ok(answer?)
 }
 
-/// Ends the innermost open scope, which has to be this one, at this time. It waits for the next [`puffin_report`].
+/// Ends this scope, which must be the innermost open one, at this time. The scope then waits for the next [`puffin_report`].
 ///
 /// Fails with `NotOpen` or `MismatchedEnd`. Nothing changes then.
 ///

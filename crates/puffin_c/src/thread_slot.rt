@@ -59,5 +59,5 @@ impl ThreadSlot {
     }
 }
 
-// It may be sent to another thread, as what it owns may be.
+// It may be sent to another thread because the box that it owns may be.
 unsafe impl Send for ThreadSlot {}

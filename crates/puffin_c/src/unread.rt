@@ -7,7 +7,7 @@ use std::alloc::Global;
 use std::io::Read;
 use std::marker::Model;
 
-/// Copies as many bytes as fit to the front of `out`, and returns how many.
+/// Copies the bytes to the front of `out`, as many as fit, and returns how many were copied.
 pub(crate) fn lay_over(bytes: &[u8], out: &mut [u8]) -> usize
     ensures out { out.new ≡ laid_over out.old bytes.now }
     ensures number { result ≡ min (length bytes.now) (length out.old) }

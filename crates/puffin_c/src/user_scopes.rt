@@ -1,4 +1,4 @@
-//! Scopes of the program's own, under the name of any thread.
+//! Scopes that the program itself makes, under the name of any thread.
 
 ghost use Rattle.std.specs.Prelude.{◌≡◌, ◌⊎◌, Result, IfOk, IfErr};
 ghost use Rattle.puffin_data.specs.declared.error.Error.TheVariants as error;
@@ -18,7 +18,7 @@ use crate::stream::form_of;
 use puffin_data::data::{Form, StreamInfoRef, walk_forest};
 use std::alloc::Global;
 
-/// Counts the scopes of a stream of any origin. Fails with the first fault of the bytes, or with `Memory`.
+/// Counts the scopes of a stream of any origin. Fails with the first fault in the bytes, or with `Memory`.
 fn counted(alloc: Global, form: Form, bytes: &[u8]) -> puffin_data::Result<StreamInfoRef<'_>>
     ensures form { IfOk result (λ times. times.form ≡ form) }
     ensures bytes { IfOk result (λ times. times.stream.now ≡ bytes.now) }
@@ -62,11 +62,13 @@ fn taken(
     }
 }
 
-/// Appends the scopes of a stream of any origin to those that wait for the next frame, under the thread of this name
-/// and, if `has_start` is set, this start. [`puffin_count`] describes the bytes.
+/// Appends the scopes of a stream of any origin to those that wait for the next frame. They are added under the thread with
+/// this name and this start, or with no start if `has_start` isn't set. There needn't be such a thread. See [`puffin_count`]
+/// for `bytes` and `long_texts`.
 ///
-/// Fails with the first that applies: `NotOpen`; `NotText` of the name; the first fault of the bytes; `UnlikeForms`,
-/// `TooLarge` or `RangeTooLong` as [`puffin_report`]. Or fails with `Memory`. Nothing changes then.
+/// Fails with the first of these that applies: `NotOpen`; `NotText` if the name isn't UTF-8; the first fault in the bytes;
+/// `UnlikeForms`, `TooLarge` or `RangeTooLong`, like [`puffin_report`]. Can also fail with `Memory`. Nothing changes in either
+/// case.
 ///
 /// [`puffin_count`]: crate::stream::puffin_count
 /// [`puffin_report`]: crate::profiling::puffin_report

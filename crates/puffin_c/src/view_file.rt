@@ -27,8 +27,8 @@ fn begun(alloc: Global, profiler: &mut PuffinProfiler, size: &mut u64) -> Result
     }
 }
 
-/// Makes the `.puffin` file of the frames in the view, and sets `size` to the number of its bytes. [`puffin_file_next`]
-/// reads it from its beginning. A file that was made before is dropped.
+/// Makes the `.puffin` file of the frames in the view, and sets `size` to its size in bytes. [`puffin_file_next`] reads it from
+/// its beginning. A file that was made before is dropped.
 ///
 /// Fails with `NotOpen`; with `PartTooLong` if a part of a packet has `2^32` bytes or more; or with `Memory`. Nothing
 /// changes then.
@@ -64,8 +64,8 @@ fn read(
     Ok(())
 }
 
-/// Copies as many of the next bytes of the file that [`puffin_file_begin`] made as fit to the front of `out`, and sets
-/// `size` to how many. It is 0 at the file's end, and if no file was made.
+/// Copies the next bytes of the file that [`puffin_file_begin`] made to the front of `out`, as many as fit, and sets `size` to
+/// how many were copied. `size` is 0 at the file's end, or if no file was made.
 ///
 /// Fails with `NotOpen`; `out` and `size` don't change then. Allocates nothing.
 #[unsafe(no_mangle)]

@@ -95,10 +95,10 @@ impl Collector {
         }
     }
 
-    /// Registers the caller's own scopes by name, and returns an id for each. For a known name this is the known id. Details with
-    /// a new name get a newly drawn id, which replaces any id in them; they are known at once, and the next frame lists them.
+    /// Registers the caller's own scopes by name, and returns an id for each. A known name keeps its id. Details with a new
+    /// name get a newly drawn id, which replaces any id in them; they are known at once, and the next frame lists them.
     ///
-    /// Fails with `IdsExhausted` or `Memory`; the first few may then be registered, and an id may be used up.
+    /// Fails with `IdsExhausted` or `Memory`. The first few scopes may then be registered, and an id may be used up.
     pub fn register_user_scopes(
         &mut self,
         ids: &ScopeIds,
@@ -150,8 +150,8 @@ impl Collector {
 
     /// Adds details from another source, such as a frame that was made elsewhere.
     ///
-    /// Fails with `MissingId` exactly when some of them have no id, and then changes nothing; else only with `Memory`, after
-    /// which the first few may be known.
+    /// Fails with `MissingId` exactly when some of them have no id, and then changes nothing. Otherwise fails only with
+    /// `Memory`; the first few may be known afterwards.
     pub fn learn(&mut self, details: &[Arc<ScopeDetails>]) -> Result<()>
         ensures ok { OnOk result (
             self.new ≡ after_learning self.old (shared_details details.now)) }
@@ -171,20 +171,20 @@ impl Collector {
     /// The frame lists the details registered since the last frame, in order, and then, if a snapshot was requested, all details
     /// known before. With `None`, the new details and the request are kept for the next frame.
     ///
-    /// Fails with `IndexExhausted` if the index can't rise, even if no scope is pending; else only with `Memory`. Nothing changes
-    /// then, but after `Memory` the first few of the new details may be known.
+    /// Fails with `IndexExhausted` if the index can't rise, even if no scope is pending. Otherwise fails only with `Memory`.
+    /// A failure changes nothing, but after `Memory` the first few of the new details, or all of them, may be known.
     pub fn collect_frame(&mut self) -> Result<Option<Arc<FrameData>>>
         ensures ok { IfOk result (λ frame. Collects self.old frame self.new) }
         // All details that a frame lists have ids.
         ensures ids { IfOk result TellsIds }
         ensures honest { AreHonest self.old.streams }
-        // What was reported is pending or was handed out.
+        // Each reported scope is pending or was handed out.
         ensures sum { self.old.reported
             ≡ self.old.emitted + total_scopes (map.values self.old.streams) }
         ensures exhausted { (result ≡ Err Error.IndexExhausted) ↔ (self.old.index ≡ 2 ^ 64 - 1) }
         ensures err { IfErr result (λ e. KeepsPending self.old e self.new) }
     {
-        // The laws give the proof what holds of no streams, of honest ones, and of those that have a layout.
+        // The proof uses these laws about an empty map of streams, honest streams, and streams that have a layout.
         laws::reported_streams();
         laws::honest_streams();
         streams_with_a_layout();
@@ -206,8 +206,8 @@ impl Collector {
         Ok(Some(frame))
     }
 
-    /// Moves all that is pending, which is at least one scope, into a frame that lists these details. The next frame then has
-    /// the index `next`, no new details, and no request for a snapshot. Fails only with `Memory`; nothing changes then.
+    /// Moves all that is pending into a frame that lists these details. At least one scope must be pending. The next frame then
+    /// has the index `next`, no new details, and no request for a snapshot. Fails only with `Memory`; nothing changes then.
     fn hand_out(
         &mut self,
         next: FrameIndex,
@@ -220,7 +220,7 @@ impl Collector {
         ensures err { OnErr result (self.new ≡ self.old) }
         ensures memory { IfErr result (λ e. e ≡ Error.Memory) }
     {
-        // The laws give the proof what holds of no streams, of honest ones, and of those that have a layout.
+        // The proof uses these laws about an empty map of streams, honest streams, and streams that have a layout.
         laws::reported_streams();
         laws::honest_streams();
         streams_with_a_layout();

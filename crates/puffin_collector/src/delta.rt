@@ -27,8 +27,8 @@ pub(crate) fn copies(alloc: Global, details: &[ScopeDetails]) -> Result<Vec<Arc<
     Ok(copies)
 }
 
-/// Makes a frame's list of details: the new ones, and then, if a snapshot was requested, all of a collection. Fails only with
-/// `Memory`.
+/// Makes a frame's list of details: the new ones, and then, if a snapshot was requested, all details of a collection. Fails
+/// only with `Memory`.
 pub(crate) fn scope_delta(
     alloc: Global,
     new_details: &[Arc<ScopeDetails>],
@@ -52,7 +52,7 @@ pub(crate) fn scope_delta(
     Ok(delta)
 }
 
-/// Appends all details of a collection, by rising id. Fails only with `Memory`.
+/// Appends all details of a collection, sorted by id. Fails only with `Memory`.
 fn tell_of_all(delta: &mut Vec<Arc<ScopeDetails>>, collection: &ScopeCollection) -> Result<()>
     ensures ok { OnOk result (
         shared_details delta.new.items

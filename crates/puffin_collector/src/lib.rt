@@ -2,7 +2,7 @@
 //!
 //! | to | call |
 //! |---|---|
-//! | collect what threads report | [`Collector::new`]; it is the `Reporter` of each `end_scope` |
+//! | collect what threads report | [`Collector::new`]; pass it to each `end_scope` as the `Reporter` |
 //! | take a frame | [`Collector::collect_frame`] |
 //! | register and report the caller's own scopes | [`Collector::register_user_scopes`], [`Collector::report_user_scopes`] |
 //! | make the next frame list every known scope | [`Collector::emit_scope_snapshot`] |

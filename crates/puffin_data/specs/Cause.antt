@@ -1,4 +1,4 @@
--- The numbers and texts of the causes of a refusal.
+-- The numbers and texts of `Error` and `FileError`.
 use Rattle.std.specs.Prelude.{ℕ, List, [], ◌∷◌, ◌++◌, codes}
 use Rattle.std.specs.Fmt.{decimal}
 use Rattle.puffin_data.specs.declared.error.Error.{Error}
@@ -76,7 +76,7 @@ file_error_name file.PartTooLong = codes "PartTooLong"
 file_error_name (file.Refused cause) = codes "Refused"
 file_error_name file.Memory = codes "Memory"
 
--- a space, and the number or the error that it holds
+-- a space and the number or error that it holds, or nothing if it holds neither
 abbrev pub file_error_detail : FileError → List ℕ
 file_error_detail (file.UnknownKind kind) = 32 ∷ decimal kind
 file_error_detail (file.Compressed kind) = 32 ∷ decimal kind

@@ -16,7 +16,7 @@ is_io (Err _) = false
 abbrev pub failures_after : {X : Type 0} → ℕ → Result X FileError → ℕ
 failures_after n r = if is_io r then n + 1 else n
 
--- an error of the device or of memory, and not of what was read
+-- a failure of the device or of memory, not a fault in what was read
 abbrev pub IsOutside : FileError → Type 0
 IsOutside fault = (fault ≡ file.Io) ⊎ (fault ≡ file.Memory)
 
@@ -25,7 +25,7 @@ abbrev pub TookNothing : {D : Type 0} → (D → List ℕ → ℕ → D → Type
 TookNothing {D = D} takes now =
     (before : D) × (piece : List ℕ) × (0 < length piece) × takes before piece 0 now
 
--- a beginning of these bytes was written
+-- a prefix of these bytes was written
 abbrev pub WritesBeginning : Option (List ℕ) → Option (List ℕ) → List ℕ → Type 0
 WritesBeginning old new bytes =
     (front rest : List ℕ) × (bytes ≡ front ++ rest) × Appends old new front
@@ -37,19 +37,20 @@ pub record TookUpTo (old new : Option (List ℕ)) (n : ℕ) (taken : List ℕ) :
   pub most : length taken ≤ n
   pub fewer : length taken < n → IsAtEnd new
 
--- A call that read a device failed as the reading fails on the bytes that it took, unless the device or memory failed.
+-- A call that read a device failed: with `Io` or `Memory`, or with the fault that the reading gives on the bytes that it took.
 abbrev pub FailsAt : {A : Type 0} → FileError → Option (List ℕ) → Option (List ℕ) →
     (List ℕ → Result (A × List ℕ) FileError) → Type 0
 FailsAt file.Io old new read = Unit {0}
 FailsAt file.Memory old new read = Unit {0}
--- the bytes end too early: all that the device had are read as this fault
+-- the bytes end too early: the reading gives this fault on all that the device had
 FailsAt file.Truncated old new read =
     (taken : List ℕ) × Consumes old new taken × IsAtEnd new × (read taken ≡ Err file.Truncated)
 -- these bytes have this fault, whatever follows
 FailsAt e old new read =
     (taken : List ℕ) × Consumes old new taken × ((rest : List ℕ) → read (taken ++ rest) ≡ Err e)
 
--- A call took bytes from a device and returned, seen by view, what the reading gives on them, whatever follows. If the device's bytes aren't known, that holds of some bytes.
+-- A call took bytes from a device and returned, seen by view, what the reading gives on them, whatever follows. If the device's
+-- bytes aren't known, that holds for some bytes.
 abbrev pub FromDevice : {X A : Type 0} → (X → A) → Option (List ℕ) → Option (List ℕ) →
     Result X FileError → (List ℕ → Result (A × List ℕ) FileError) → Type 0
 FromDevice view old new (Ok x) read =

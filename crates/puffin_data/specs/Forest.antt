@@ -27,7 +27,7 @@ abbrev pub append : Forest → Forest → Forest
 append empty g = g
 append (node s children others) g = node s children (append others g)
 
--- A scope that can be written: its id is a u32 other than 0, its times and the time between them are i64, and the text fits its form.
+-- A scope that can be written: its id is a u32 other than 0, its times and its duration fit i64, and its text fits the form.
 pub record IsSpan (form : Form) (s : Span) : Type 0 where
   pub id_low : 0 < s.id
   pub id_high : s.id < 2 ^ 32

@@ -21,7 +21,7 @@ first_at bytes = do
   one ← part_of 1 bytes
   Ok (slice_index one.0 0, one.1)
 
--- four bytes, as a number with its lowest byte first
+-- four bytes, as a little-endian number
 abbrev pub part_length_at : List ℕ → Result (ℕ × List ℕ) FileError
 part_length_at bytes = do
   four ← part_of 4 bytes

@@ -9,7 +9,7 @@ use Rattle.puffin_data.specs.Text.{text_in}
 use Rattle.puffin_data.specs.Walk.Reading.{FoundScope, reading}
 use Rattle.puffin_data.specs.Walk.{region}
 
--- a scope as a reader returns it: with its stored bytes as text, and places counted from the stream's first byte
+-- a scope as a reader returns it: with the text of its stored bytes, and places as offsets from the stream's first byte
 pub record ReadScope : Type 0 where
   pub id : ℕ
   pub start : ℤ
@@ -46,7 +46,7 @@ pub record ReaderState : Type 0 where
   pub bytes : List ℕ
   pub at : ℕ
 
--- what a reader returns next, and its place then: after a fault, the end of all bytes
+-- what a reader returns next, and its place afterwards: after a fault, the end of all bytes
 abbrev pub next_after : ReaderState → Result (Option ReadScope) Error →
     Option (Result ReadScope Error) × ℕ
 next_after from (Ok None) = (None, from.at)

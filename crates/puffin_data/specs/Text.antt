@@ -14,7 +14,7 @@ cut_text form text =
     if nat_le (length text) (text_limit form) then text
     else take (floor_char_boundary text (text_limit form)) text
 
--- the longest beginning of a text that is within the limit and ends at a character boundary
+-- the longest prefix of a text that is within the limit and ends at a character boundary
 pub record IsCut (form : Form) (text cut : List ℕ) : Type 0 where
   pub size : ℕ
   pub is : cut ≡ take size text
@@ -22,6 +22,6 @@ pub record IsCut (form : Form) (text cut : List ℕ) : Type 0 where
   pub ends_character : IsCharBoundary text size
   pub longest : (n : ℕ) → n ≤ text_limit form → IsCharBoundary text n → n ≤ size
 
--- the text of stored bytes: their longest beginning that is UTF-8
+-- the text of stored bytes: their longest prefix that is UTF-8
 abbrev pub text_in : List ℕ → List ℕ
 text_in stored = take (utf8_valid_len stored) stored

@@ -18,7 +18,8 @@ region bytes p e = take (e - p) (drop p bytes)
 abbrev pub IsSoundAt : (form : Form) → List ℕ → ℕ → ℕ → FoundScope → Type 0
 IsSoundAt form bytes p e s = reading form (region bytes p e) ≡ Ok (Some s)
 
--- The places, each with the end of its region, that are reached from one: itself, and from a sound scope there, those reached from its children and from its next sibling.
+-- The places that are reached from one place, each with the end of its region: the place itself and, if a sound scope is there,
+-- those reached from its children and from its next sibling.
 pub data Reaches (form : Form) (bytes : List ℕ) : ℕ → ℕ → ℕ → ℕ → Type 0 where
   here : {p e : ℕ} → Reaches form bytes p e p e
   child : {p e q f : ℕ} {s : FoundScope} → IsSoundAt form bytes p e s →
@@ -30,7 +31,7 @@ pub data Reaches (form : Form) (bytes : List ℕ) : ℕ → ℕ → ℕ → ℕ 
 abbrev pub IsFaultAt : (form : Form) → List ℕ → ℕ → ℕ → Error → Type 0
 IsFaultAt form bytes p e fault = IsFaultIn form (region bytes p e) fault
 
--- the fault of all bytes: of those at places that are reached, the one at the least place
+-- the fault of all bytes: the one at the least place among the faults that are reached
 pub record IsFirstFault (form : Form) (bytes : List ℕ) (place : ℕ) (fault : Error) : Type 0 where
   pub end : ℕ
   pub reached : Reaches form bytes 0 (length bytes) place end
@@ -48,7 +49,8 @@ pub data Sounds (form : Form) (bytes : List ℕ) : ℕ → ℕ → List ℕ → 
       Sounds form bytes (p + s.child_begin) (p + s.child_end) inner →
       Sounds form bytes (p + s.next_sibling) e later → Sounds form bytes p e (p ∷ (inner ++ later))
 
--- The bytes are refused with their first fault. The tries are the sound scopes before it, and one more if a `(` is at the fault.
+-- The bytes are refused with their first fault. `tries` is the number of sound scopes before it, plus one if a `(` is at the
+-- fault.
 pub record Refuses (form : Form) (bytes : List ℕ) (fault : Error) (tries : ℕ) : Type 0 where
   pub place : ℕ
   pub first : IsFirstFault form bytes place fault

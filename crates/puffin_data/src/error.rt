@@ -11,7 +11,7 @@ pub type NanoSecond = i64;
 /// The number of a frame, counted from 0.
 pub type FrameIndex = u64;
 
-/// The result of the calls of this crate and of those above it.
+/// The result of the calls of this crate and of the crates above it.
 pub type Result<T> = std::result::Result<T, Error>;
 
 /// Why a call failed. It displays as its name.
@@ -19,14 +19,14 @@ pub type Result<T> = std::result::Result<T, Error>;
 pub enum Error {
     /// The bytes end within a scope, or a scope's id is 0.
     PrematureEnd,
-    /// A scope or its end doesn't begin with `(` or `)`, a scope stops before it starts, its duration doesn't fit `i64`, or the
-    /// second byte of a long text's length is 0 or says that a third follows.
+    /// A scope doesn't begin with `(` or its end with `)`, a scope stops before it starts, its duration doesn't fit `i64`, or
+    /// the second byte of a long text's length is 0 or indicates that a third follows.
     InvalidStream,
     /// A scope was begun and not ended.
     ScopeNeverEnded,
     /// A reader's offset is greater than the stream's length.
     InvalidOffset,
-    /// A frame's joined range is reversed, as it is if there are no scopes.
+    /// A frame's joined range is reversed, for example because there are no scopes.
     Empty,
     /// A sum, a count or a merged number doesn't fit its type.
     TooLarge,

@@ -6,8 +6,8 @@ use crate::error::Error;
 use std::alloc::{AllocError, AllocFailed};
 use std::fmt;
 
-/// Why a stream, a packet or a file couldn't be read or written. It displays as its name, with a space and the number or the
-/// error that it holds.
+/// Why a stream, a packet or a file couldn't be read or written. It displays as its name, followed by a space and the number or
+/// error that it holds, if any.
 #[derive(Clone, Copy, Debug, PartialEq, Eq)]
 pub enum FileError {
     /// The reader or writer failed, or the writer took no byte.
@@ -20,9 +20,9 @@ pub enum FileError {
     Legacy,
     /// The packet has an unknown version.
     Newer,
-    /// The streams are packed in an unknown way, with this kind.
+    /// The streams are packed in an unknown way, identified by this kind.
     UnknownKind(u8),
-    /// The streams are compressed by lz4 (kind 1) or zstd (kind 2), and can't be unpacked here.
+    /// The streams are compressed with lz4 (kind 1) or zstd (kind 2), and can't be unpacked here.
     Compressed(u8),
     /// The meta part isn't the layout of a meta.
     BadMeta,

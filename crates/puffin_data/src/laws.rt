@@ -28,8 +28,8 @@ ghost use Rattle.puffin_data.specs.Reader.ReadScopes.{record_seen, scope_seen};
 
 use crate::data::{Scope, ScopeRecord};
 
-/// A forest has one spelling, which is no other forest's. Two forests, one after the other, are spelled as the first and then
-/// the second.
+/// A forest has one spelling, and no other forest has that spelling. The spelling of two forests, one after the other, is that
+/// of the first and then that of the second.
 pub fn one_forest()
     ensures spelling { (form : Form) (f g : Forest) → IsForest form f → IsForest form g →
         length (spelling form f) < 2 ^ 63 →
@@ -38,7 +38,8 @@ pub fn one_forest()
         spelling form (append f g) ≡ spelling form f ++ spelling form g }
 {}
 
-/// The measures of two joined forests follow from those of each. If both can be written, so can the two joined.
+/// The scope count, height, least start and greatest stop of two joined forests follow from those of each. If both can be
+/// written, so can the two joined.
 pub fn joined_measures()
     ensures scope_count { (f g : Forest) →
         scope_count (append f g) ≡ scope_count f + scope_count g }
@@ -60,7 +61,7 @@ pub fn range_of_a_forest()
         least_start f ≤ℤ greatest_stop f }
 {}
 
-/// Two honest infos, joined, are an honest one, unless both have bytes and their forms differ.
+/// Joining two honest infos gives an honest one, unless both have bytes and their forms differ.
 pub fn joined_infos()
     ensures { (a b : StreamFacts) (f g : Forest) → ¬ AreUnlike a b → AreHonestFacts a f →
         AreHonestFacts b g → AreHonestFacts (joined_facts a b) (append f g) }
@@ -78,7 +79,7 @@ pub fn no_fault_in_a_spelling()
         Spells form bytes f → IsFault form bytes fault → ⊥ }
 {}
 
-/// Each stream has exactly one list of the offsets of its sound scopes. They rise strictly.
+/// Each stream has exactly one list of the offsets of its sound scopes. They are in strictly ascending order.
 pub fn sounds_rise()
     ensures has { (form : Form) (bytes : List ℕ) →
         (places : List ℕ) × Sounds form bytes 0 (length bytes) places }
@@ -120,7 +121,7 @@ pub fn one_tour()
     ensures joined { (f g : Forest) → tour (append f g) ≡ tour f ++ tour g }
 {}
 
-/// The measures of a forest are those of its tour, the size of its spelling included.
+/// The measures of a forest are those of its tour, including the size of its spelling.
 pub fn tour_measures()
     ensures size { (form : Form) (f : Forest) → word_size form (tour f) ≡ length (spelling form f) }
     ensures begun { (f : Forest) → num_begun (tour f) ≡ scope_count f }

@@ -1,8 +1,8 @@
 //! The bytes that a profiled thread writes: scopes as a stream, the strict walk over it, and the values of packets.
 //!
 //! A scope is written in two steps, when it begins and when it ends. A stream is a forest of scopes, and a forest has exactly
-//! one spelling; other bytes are refused with their first fault. Each promise is a clause of the call named here, and the
-//! definitions that clauses cite are in `specs/`.
+//! one spelling; other bytes are refused with their first fault. Each promise is a clause in the contract of a call listed
+//! here, and the definitions that the clauses cite are in `specs/`.
 //!
 //! | to | call |
 //! |---|---|
@@ -12,8 +12,8 @@
 //! | visit each scope of a stream | [`data::walk_with`] a [`data::Visitor`] |
 //! | iterate over the scopes of one level | [`data::Reader::from_start`] as an iterator, [`data::Reader::read_top_scopes`] |
 //! | join two streams with their counts | [`data::StreamInfo::extend`] |
-//! | read from and write to any device | [`data::Counted::new`] of a reader or writer of std, [`data::Buffered::new`] of a reader that lends its buffer; [`data::read_to_end`], [`data::write_all`] |
-//! | encode values as bytes, and decode them | [`wire`]: `put_u64` and its like, [`wire::Cursor`] |
+//! | read from and write to any device | [`data::Counted::new`] for a reader or writer of std, [`data::Buffered::new`] for a `BufRead`, [`data::MemoryFile::new`] for memory; [`data::read_to_end`], [`data::write_all`] |
+//! | encode values as bytes, and decode them | [`wire`]: `put_u64` and the like, [`wire::Cursor`] |
 //! | cite a law about definitions in a proof | [`laws`] |
 #![tactic(auto)]
 

@@ -1,12 +1,12 @@
 //! Encodes the values of a packet as bytes, and decodes them: values are appended to a vector, and read from the front of a
-//! slice. A number has one layout, the shortest, and no layout of a value begins that of another. `docs/FORMAT.md` lists the
+//! slice. A number has one layout, the shortest, and no value's layout is a prefix of another's. `docs/FORMAT.md` lists the
 //! layouts.
 
 mod cursor;
 mod front;
 mod put;
 
-/// The byte before a number of two bytes. Lesser numbers take one byte, themselves.
+/// The byte before a number of two bytes. Numbers less than this are themselves stored as one byte.
 const TWO_BYTES_MARK: u8 = 251;
 /// The byte before a number of four bytes.
 const FOUR_BYTES_MARK: u8 = 252;

@@ -1,4 +1,4 @@
-//! Frames: what threads reported since the frame before.
+//! Frames: what threads reported since the previous frame.
 
 mod decode;
 mod encode;

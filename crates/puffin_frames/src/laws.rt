@@ -17,8 +17,8 @@ ghost use Rattle.puffin_frames.specs.Frame.Sums.{total_bytes, total_scopes, join
 
 use puffin_threads::thread_profiler::ThreadInfo;
 
-/// A map from threads to streams, as a sorted list of entries, and the map from infos that contracts see of it have the same
-/// entries and values. Inserting into the list inserts into the map.
+/// A map from threads to streams is a sorted list of entries; contracts see it as a map from the threads' infos. Both have the
+/// same entries and values. Inserting into the list inserts into the map.
 pub fn streams_by_key()
     ensures entries { (entries : List (ThreadInfo × StreamInfo)) →
         IsStrictlySortedBy thread_cmp (keys_of entries) →
@@ -32,7 +32,7 @@ pub fn streams_by_key()
         ≡ map.insert (streams_of entries) (key_of thread) (facts_of info) }
 {}
 
-/// The joined range of infos: how one more info changes it, and how those of two lists are joined.
+/// The joined range of infos: how one more info changes it, and how the ranges of two lists are joined.
 pub fn joined_ranges()
     ensures start_of_one_more { (info : StreamFacts) (infos : List StreamFacts) →
         joined_start (info ∷ infos) ≡ int_min info.range_ns.0 (joined_start infos) }
@@ -64,8 +64,9 @@ pub fn reported_streams()
         (stream_under streams i).num_scopes ≤ total_scopes (map.values streams) }
 {}
 
-/// Honest streams stay honest after a report, unless it and the stream under its info both have bytes, in unlike forms. If
-/// honest streams have a scope, their joined range isn't reversed; if their total is 0, no stream has a scope.
+/// Honest streams stay honest after a report, unless the report and the stream under its thread's info both have bytes and
+/// their forms differ. If honest streams have a scope, their joined range isn't reversed. If the total number of scopes is 0,
+/// no stream has a scope.
 pub fn honest_streams()
     ensures none { AreHonest map.empty }
     ensures report { (streams : Streams) (i : ThreadKey) (r : StreamFacts) (f : Forest) →

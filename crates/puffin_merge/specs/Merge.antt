@@ -41,7 +41,8 @@ IsRising cmp (l ∷ m ∷ labels) = (cmp l m ≡ Less) × IsRising cmp (m ∷ la
 abbrev pub sibling_of : Merged → ℕ → Sibling
 sibling_of m frames = record { own_start = m.own_start; duration = m.total / frames }
 
--- The merged scopes directly below a path: each has the sums of its occurrences, each label that occurs there is among them, they are in order (so each is there once), and their starts are the least feasible ones.
+-- The merged scopes directly below a path. Each has the sums of its occurrences, and each label that occurs there is among
+-- them. They are in order (so each is there once), and their starts are the least feasible ones.
 pub record IsRow (all : List Occurrence) (frames : ℕ) (path : Path) (nodes : List Node) :
     Type 0 where
   pub tell : All (λ n. TellsOf (merged_at all (below path n.label)) frames n) nodes

@@ -3,7 +3,7 @@
 //! | to | call |
 //! |---|---|
 //! | merge one thread's scopes over frames | [`merge::merge_scopes_for_thread`] |
-//! | see how many scopes the walks tried to read, too | [`merge::merge_scopes_counted`] |
+//! | also get how many scopes the walks tried to read | [`merge::merge_scopes_counted`] |
 //! | add frames one at a time | [`merge::Merger`] |
 //! | get scopes that borrow nothing from the frames | [`merge::MergeScope::into_owned`] |
 //! | cite a law about definitions in a proof | [`merge::laws`] |

@@ -24,18 +24,19 @@ pub use scope::MergeScope;
 use std::alloc::Global;
 use std::sync::Arc;
 
-/// Merges the scopes under an info in all frames, by their paths of ids and texts. Returns no scopes if there are no frames.
+/// Merges the scopes of the thread `info` over all frames, by their paths of ids and texts. Returns no scopes if there are no
+/// frames.
 ///
-/// A nested scope's start is measured from its parent's start, and a top-level scope's as if every frame began when the first
-/// did. Siblings are ordered by the least start of their pieces, then by id, then by the bytes of their texts. Each starts at
-/// the greatest of three times: that least start, 0, and the end of the sibling before it.
+/// A nested scope's start is measured from its parent's start. A top-level scope's start is measured as if every frame began
+/// when the first frame did. Siblings are ordered by the least start of their pieces, then by id, then by the bytes of their
+/// texts. Each sibling starts at the greatest of three times: that least start, 0, and the end of the sibling before it.
 ///
 /// Fails with the first of these, in the order of the frames and of the scopes in their streams: a fault of a stream
-/// (`PrematureEnd`, `InvalidStream` or `ScopeNeverEnded`); `TooDeep` at a scope nested in 1,024 others; `TooLarge` if the
-/// measured start, the number of scopes of a path or their total doesn't fit. Once all frames are merged, it fails with
-/// `TooLarge` if an end doesn't fit `i64`. It may fail with `Memory` at any step.
+/// (`PrematureEnd`, `InvalidStream` or `ScopeNeverEnded`); `TooDeep` at a scope nested in 1,024 others; `TooLarge` if a
+/// measured start, the number of scopes with the same path, or their total duration doesn't fit. Once all frames are merged, it
+/// fails with `TooLarge` if an end doesn't fit `i64`. It may fail with `Memory` at any step.
 ///
-/// The collection isn't read: a scope's details change neither the merge nor its order. The merged scopes own their texts.
+/// The collection isn't read: a scope's details affect neither the merge nor its order. The merged scopes own their texts.
 ///
 /// ```
 /// let merged = merge_scopes_for_thread(alloc, view.scope_collection(), &frames, &info)?;
@@ -57,8 +58,8 @@ pub fn merge_scopes_for_thread<'s>(
     merge_scopes_counted(alloc, collection, frames, info, &mut tries)
 }
 
-/// Merges as [`merge_scopes_for_thread`] does. Sets `tries` to the number of readings made at a byte `(` in all frames. If it
-/// fails, these are the readings up to the refusal.
+/// Merges like [`merge_scopes_for_thread`]. Sets `tries` to how often it tried to read a scope, each time at a byte `(`, in all
+/// frames together. If it fails, `tries` counts the tries up to the refusal.
 pub fn merge_scopes_counted<'s>(
     alloc: Global,
     _collection: &ScopeCollection,

@@ -232,7 +232,7 @@ module _ (script : Script) (names : List (List ℕ × Form)) (commands : List Co
       ids-after : NoneLacksIds (fields_in (view_after replies))
       ids-after = subst (λ (v : View). NoneLacksIds (fields_in v)) (view-after replies takes) ids
 
-      -- and a beginning of the lines
+      -- and a prefix of the lines
       pub cut_lines : (fault : FileError) (bytes : List ℕ) (lines_before lines_after : Option (List ℕ)) → bytes ≡ reply_lines script.lines.items replies → WritesBeginning lines_before lines_after bytes → IsOutside fault
           → IsUnfinished script fault file_before file_after lines_before lines_after
       cut_lines fault bytes lines_before lines_after same part outside =

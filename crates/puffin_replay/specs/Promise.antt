@@ -1,4 +1,4 @@
--- The whole promise: each emitted frame spells what was due, and the file that is read again has the kept frames.
+-- The whole promise: each emitted frame spells what was due, and the file that is read back has the kept frames.
 use Rattle.std.specs.Prelude.{◌≡◌, ◌⊎◌, ℕ, ◌^◌, ◌-◌, Bool, true, false, if◌then◌else◌, List, [], ◌∷◌, ◌++◌, map, Option, Some, None}
 use Rattle.std.specs.List.{AllZip, Any, filter, flat_map, list_any}
 use Rattle.std.specs.FinMap.{values}
@@ -42,7 +42,9 @@ before_frames done [] = []
 before_frames done (a ∷ later) =
     (if is_emitted a then done ∷ [] else []) ++ before_frames (done ++ (a ∷ [])) later
 
--- What a frame says that was emitted after these actions. It has a stream exactly under those starts and names of threads under which scopes were reported since the frame before, and each spells exactly these scopes, in order, with their true count, depth and range. Its meta is that of all of them, with the next index, and it lists the scope details that were due.
+-- The contents of a frame that was emitted after these actions. It has a stream exactly under those starts and names of threads
+-- under which scopes were reported since the frame before, and each spells exactly these scopes, in order, with their true
+-- count, depth and range. Its meta is that of all of them, with the next index, and it lists the scope details that were due.
 pub record SaysDue (o : Opening) (done : List Action) (frame : PacketFields) : Type 0 where
   pub streams : Streams
   pub unpacked : streams_in (
@@ -52,7 +54,7 @@ pub record SaysDue (o : Opening) (done : List Action) (frame : PacketFields) : T
   pub details : frame.details
       ≡ delta_of (known_after o done) (due_details o done) (is_wanted o done)
 
--- what the emitted frames say, in order
+-- the contents of the emitted frames, in order
 abbrev pub emitted_fields : List Reply → List PacketFields
 emitted_fields replies = map fields_of (frames_emitted replies)
 
@@ -68,14 +70,16 @@ pub record EmitsDue (start end : SessionState) (commands : List Command) (replie
     Type 0 where
   -- each command got a reply that it may get after those before it, possibly a refusal
   pub run : Records start end commands replies
-  -- each action that emitted a frame has its own frame, in order, which says what was due by the session's state before and by what was done since then
+  -- each action that emitted a frame has its own frame, in order, which contains what was due, given the session's state before
+  -- and what was done since then
   pub due : AllZip (SaysDue (opening_of start))
       (before_frames [] (actions_of commands replies run.learnt)) (emitted_fields replies)
   pub rising : is_rising (emitted_fields replies) ≡ true
 
 -- ---- what is read
 
--- A view read from the file of these frames has exactly them, with the limits of a view that is read, and knows exactly the details that they list.
+-- A view read from the file of these frames has exactly these frames, with the limits of a view that is read, and knows exactly
+-- the details that they list.
 pub record IsReadOf (cs : List PacketFields) (read : FrameView) : Type 0 where
   pub recent : map fields_of (view_of read).recent ≡ cs
   pub slow : map fields_of (view_of read).slow ≡ slowest 256 cs
@@ -90,7 +94,8 @@ pub record IsReadOf (cs : List PacketFields) (read : FrameView) : Type 0 where
 
 -- ---- the promise
 
--- Commands were run in a session, with these replies; a view took the emitted frames after those that it held; and another view was read from its file.
+-- Commands were run in a session, with these replies; a view took the emitted frames after those that it held; and another view
+-- was read from the first one's file.
 pub record KeepsRun (start end : SessionState) (commands : List Command) (old new : FrameView)
     (replies : List Reply) (read : FrameView) : Type 0 where
   pub emits : EmitsDue start end commands replies
@@ -116,7 +121,7 @@ IsFileFault old new fault =
     ⊎ ((fault ≡ file.Refused MissingId)
     × (list_any lacks_ids (fields_held (view_of old)) ≡ true))
 
--- A session went from start to end, and a view from old to new. `told` are the replies of the run that was made.
+-- A session went from start to end, and a view from old to new. `told` has the replies if the commands were run.
 module _ (start end : SessionState) (commands : List Command) (old new : FrameView) where
   -- there was no memory to run the commands, and nothing changed
   abbrev pub IsNotRun : FileError → Option (List Reply) → Type 0

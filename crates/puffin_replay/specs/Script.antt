@@ -60,7 +60,7 @@ with_if_named names (Some name) = with_name names name
 abbrev pub with_thread_of : List (List ℕ) → Meaning → List (List ℕ)
 with_thread_of names s = with_if_named names (thread_named_by s)
 
--- the threads' names, in the order of their first lines, after those that were there
+-- the threads' names, in the order of their first lines, after the names that were already there
 abbrev pub threads_after : List (List ℕ) → List (ℕ × Meaning) → List (List ℕ)
 threads_after names [] = names
 threads_after names (s ∷ ss) = threads_after (with_thread_of names s.1) ss
@@ -87,7 +87,7 @@ forms_after names forms (s ∷ ss) =
 
 -- ---- statements
 
--- a line makes the form of a thread long that an earlier line has named
+-- a line makes long the form of a thread that an earlier line has named
 abbrev pub is_late : List (List ℕ) → Meaning → Bool
 is_late names (makes_long thread) = list_any (bytes_eq thread) names
 is_late names _ = false
@@ -101,7 +101,7 @@ abbrev pub onto : ℕ × Meaning → Result (List (ℕ × Meaning)) ℕ → Resu
 onto first (Ok later) = Ok (first ∷ later)
 onto first (Err wrong) = Err wrong
 
--- the meaning of a line, before those of the later lines, which come after its thread
+-- the meaning of a line, followed by those of the later lines, for which its thread is already named
 abbrev pub with_first : ℕ → List (List ℕ) → Result (Option Meaning) ℕ →
     (List (List ℕ) → Result (List (ℕ × Meaning)) ℕ) → Result (List (ℕ × Meaning)) ℕ
 with_first number names (Err wrong) later = Err wrong
@@ -138,7 +138,7 @@ command_said names (command.ReportUser info stream) = None
 command_said names command.Snapshot = Some tells_all
 command_said names command.NewFrame = Some takes_frame
 
--- a line that makes a thread's form long is no command
+-- a line that makes a thread's form long isn't a command
 abbrev pub is_command : Meaning → Bool
 is_command (makes_long thread) = false
 is_command _ = true

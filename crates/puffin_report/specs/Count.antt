@@ -23,7 +23,7 @@ IsCounted bytes old new answer =
     × (answer ≡ refusal_of (frame_of_forest Short f)))
     ⊎ ((cause : Error) × (answer ≡ Some cause) × IsFault Short bytes cause × Appends old new [])
 
--- A call that failed wrote nothing, or a beginning of the lines of the bytes that the reader gave.
+-- A call that failed wrote nothing, or a prefix of the lines of the bytes that the reader gave.
 abbrev pub IsCutShort : Option (List ℕ) → Option (List ℕ) → Option (List ℕ) → Option (List ℕ) →
     Type 0
 IsCutShort unread left old new =

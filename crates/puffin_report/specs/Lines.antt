@@ -65,7 +65,7 @@ abbrev pub outcome_line : Result FrameMeta Error → List ℕ
 outcome_line (Ok meta) = meta_line meta
 outcome_line (Err cause) = none_line cause
 
--- the cause that the program ends with, if any: `Empty` is none
+-- the cause that the program ends with, if any; `Empty` doesn't count
 abbrev pub refusal_of : Result FrameMeta Error → Option Error
 refusal_of (Ok meta) = None
 refusal_of (Err Empty) = None

@@ -26,8 +26,8 @@ module _ (info : ThreadKey) (unread left before after : Option (List ℕ)) where
       × HasSummary info unread left summary
       × Appends before after (report_lines summary)
 
-  -- the file couldn't be summed up, or memory ran out, and nothing was written; or the writer failed, after a beginning of the
-  -- lines may have been written
+  -- the file couldn't be summed up, or memory ran out, and nothing was written; or the writer failed, and a prefix of the lines
+  -- may have been written
   abbrev pub IsUnreported : FileError → Type 0
   IsUnreported fault =
       (FailsToSumUp info unread left fault × Appends before after [])

@@ -45,12 +45,12 @@ followed_by (Err cause) others = Err cause
 followed_by (Ok frame) (Err cause) = Err cause
 followed_by (Ok frame) (Ok frames) = Ok (frame ∷ frames)
 
--- what merging reads of each frame, or why the first that can't be unpacked can't
+-- what merging reads of each frame, or the fault of the first frame that can't be unpacked
 abbrev pub all_bytes_in : ThreadKey → List PacketFields → Result (List FrameBytes) FileError
 all_bytes_in info [] = Ok []
 all_bytes_in info (c ∷ cs) = followed_by (bytes_in info c) (all_bytes_in info cs)
 
--- the contents of the frames of a view that reads these
+-- the contents of the frames of a view that reads these frames
 abbrev pub fields_read : List Stored → List PacketFields
 fields_read stored = fields_in (after_all read_view (map frame_stored stored))
 
@@ -87,8 +87,7 @@ IsHindered info cs fault =
     × (cause ≡ Memory → ⊥)
     × IsMergeRefusal streams cause)
 
--- A call read a device and failed: the device or memory failed, or the bytes taken have this fault, or they are frames that
--- have it.
+-- A call read a device and failed: the device or memory failed, or the bytes taken have this fault, or the frames in them do.
 abbrev pub FailsToSumUp : ThreadKey → Option (List ℕ) → Option (List ℕ) → FileError → Type 0
 FailsToSumUp info old new fault =
     FailsToRead file_at old new fault

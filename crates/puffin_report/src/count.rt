@@ -100,7 +100,7 @@ fn frame_of(alloc: Global, info: StreamInfo) -> Result<UnpackedFrameData, Error>
     UnpackedFrameData::new(alloc, 0, streams)
 }
 
-/// Returns the line of the frame of an honest info, and the cause if the frame is refused, unless that is `Empty`.
+/// Returns the line of the frame of an honest info, and the cause if the frame is refused, unless the cause is `Empty`.
 fn frame_line(alloc: Global, info: StreamInfo) -> Result<(String, Option<Error>), FileError>
     ensures ok { IfOk result (λ it.
         (f : Forest) → IsHonest info f →
@@ -116,9 +116,9 @@ fn frame_line(alloc: Global, info: StreamInfo) -> Result<(String, Option<Error>)
     }
 }
 
-/// Reads a stream of the short form to its end, and writes two lines, as `docs/FORMAT.md` lists them: the counts of its scopes
-/// with their range in nanoseconds, and the counts of frame 0, whose only stream is this one, of a thread `stdin` without a
-/// start.
+/// Reads a stream of the short form to its end, and writes two lines, as `docs/FORMAT.md` lists them. The first has the number
+/// of its scopes, their depth, and their range in nanoseconds. The second has the counts and the range of frame 0, whose only
+/// stream is this one, from a thread `stdin` without a start; or the cause if there can't be such a frame.
 ///
 /// Returns `None` on success, even if there is no scope and so no frame. Returns a cause in two cases: if the frame is refused,
 /// with both lines written; and if the bytes aren't scopes, with nothing written.

@@ -1,5 +1,5 @@
-//! Laws of recordings and reports, as contracts of functions that do nothing. A proof of another crate cites them by calling
-//! the function.
+//! Laws of recordings and reports, as contracts of functions that do nothing. A proof in another crate cites a law by
+//! calling its function.
 
 ghost use Rattle.std.specs.Prelude.{ℕ, List, ◌≡◌, ◌<◌, ◌-◌, ◌^◌, Option, Some, Ok, length};
 ghost use Rattle.std.specs.List.{AllByRecursion};
@@ -21,8 +21,8 @@ use puffin_frames::frame_data::laws::each_frame_is_read_again;
 use puffin_merge::merge::laws::one_outcome;
 use puffin_view::profile_view::laws::what_was_written_is_read;
 
-/// The summary of a reader that has the file of a view, and nothing after it, is that of exactly the frames that were written,
-/// with the details that they list. If all these details have ids, the reader doesn't fail and memory doesn't run out, the
+/// If a reader has the file of a view and nothing after it, its summary is that of exactly the frames that were written, with
+/// the details that they list. If all these details have ids, and neither the reader fails nor memory runs out, then the
 /// summary is refused only because a frame can't be unpacked or the frames can't be merged.
 pub fn what_was_recorded_is_summed_up()
     ensures summary { (info : ThreadKey) (v : View) (new : Option (List ℕ)) (stored : List Stored)
@@ -35,7 +35,7 @@ pub fn what_was_recorded_is_summed_up()
         AllByRecursion IsPacked (fields_in v) → length (fields_in v) < 2 ^ 64 - 1 →
         NoneLacksIds (fields_in v) → FailsToSumUp info (Some (file_of (fields_in v))) new e →
         ¬ IsOutside e → IsHindered info (fields_in v) e }
-    // A packed copy of a frame is unpacked to what it holds, and that is what the frame holds.
+    // A packed copy of a frame is unpacked to what the copy holds, which is what the frame holds.
     ensures copied { (frame copy : FrameData) (streams : Streams) →
         holding_of copy ≡ as_packed (holding_of frame) → frame_streams copy ≡ Some streams →
         streams_in_fields (packet_fields frame) ≡ Ok streams }
@@ -53,6 +53,6 @@ pub fn one_report()
         IsSummary info stored one → IsSummary info stored another →
         report_lines one ≡ report_lines another }
 {
-    // This law follows from the one that frames have one merge.
+    // This law follows from the law that frames have only one merge.
     one_outcome();
 }

@@ -1,4 +1,4 @@
-//! Counts streams and reports on files of frames, in lines for people to read, over any reader and writer.
+//! Counts streams and reports on files of frames, in human-readable lines, over any reader and writer.
 //!
 //! | to | call |
 //! |---|---|

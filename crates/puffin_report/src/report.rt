@@ -131,9 +131,9 @@ fn report_lines(alloc: Global, summary: &Summary) -> Result<String, AllocError>
     Ok(lines)
 }
 
-/// Sums up a file as [`summarize`] does, and writes the summary in lines, as `docs/FORMAT.md` lists them: the number of its
-/// frames, and then a line for each merged scope of the thread. The children of a scope come after it, indented by two more
-/// blanks. Times are in nanoseconds.
+/// Sums up a file as [`summarize`] does, and writes the summary as the lines that `docs/FORMAT.md` lists: the number of frames,
+/// and then a line for each merged scope of the thread. The children of a scope come after it, indented by two more blanks.
+/// Times are in nanoseconds.
 ///
 /// Fails as [`summarize`] does, or with `Memory`, and then writes nothing; or with `Io` if the writer fails. The lines are made
 /// before any of them is written; if the writer fails, a prefix of them may be written. If the call fails, how far it read

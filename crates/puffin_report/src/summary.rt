@@ -31,8 +31,8 @@ pub struct Summary {
 /// frame, this takes memory for the merge and for the details of all frames.
 ///
 /// Fails with the first cause that applies: an error of [`FrameView::read`](puffin_view::profile_view::FrameView::read);
-/// `Compressed` or `BadStreams` if a frame that counts can't be unpacked, for the first such frame; `Refused` if the frames can't
-/// be merged. It may fail with `Memory` at any step. How far the source was read is then unspecified.
+/// `Compressed` or `BadStreams` for the first frame that counts but can't be unpacked; `Refused` if the frames can't be merged.
+/// It may fail with `Memory` at any step. How far the source was read is then unspecified.
 pub fn summarize<S: Source>(
     alloc: Global,
     source: &mut S,
@@ -55,7 +55,7 @@ pub fn summarize<S: Source>(
         };
         sum = sum.take(frame)?;
     }
-    // By this law, the loop has returned before: a file has fewer frames.
+    // By this law, the loop has already returned, because a file has fewer frames.
     files_have_an_end();
     Err(FileError::Truncated)
 }

@@ -56,13 +56,13 @@ fn unpacked(frame: &mut FrameData) -> Result<Arc<UnpackedFrameData>, FileError>
         (e ≡ FileError.Memory)
         ⊎ ((info : ThreadKey) → bytes_in info (packet_fields frame.old) ≡ Err e)) }
 {
-    // The law gives the proof that packed bytes are those of the frame's streams.
+    // The proof uses this law: packed bytes are those of the frame's streams.
     each_frame_is_read_again();
     frame.unpacked()
 }
 
-/// Stores the fault of the first frame that can't be unpacked, which is returned at the file's end. `Memory` isn't a fault of the
-/// frame, and is returned at once.
+/// Stores the fault of the first frame that can't be unpacked, to be returned at the end of the file. `Memory` isn't a fault of
+/// the frame, and is returned at once.
 fn not_unpacked<'i>(fault: FileError) -> Result<Progress<'i>, FileError>
     ensures ok { IfOk result (λ progress.
         (progress ≡ Progress.NotUnpacked fault) × (fault ≢ FileError.Memory)) }
@@ -74,7 +74,7 @@ fn not_unpacked<'i>(fault: FileError) -> Result<Progress<'i>, FileError>
     }
 }
 
-/// Stores the error of the merge, which is returned at the file's end. `Memory` is returned at once.
+/// Stores the error of the merge, to be returned at the end of the file. `Memory` is returned at once.
 fn refused<'i>(cause: Error) -> Result<Progress<'i>, FileError>
     ensures ok { IfOk result (λ progress.
         (progress ≡ Progress.Refused cause) × (cause ≢ Error.Memory)) }
@@ -98,8 +98,9 @@ fn as_file_error(cause: Error) -> FileError
 }
 
 impl<'i> Progress<'i> {
-    /// Unpacks the next frame and merges it with those before. Once a frame couldn't be unpacked, no further frame is. If the
-    /// merge failed, further frames are still unpacked, because the fault of a frame takes precedence over the merge's error.
+    /// Unpacks the next frame and merges it with those before. After a frame that can't be unpacked, no further frame is
+    /// unpacked. If the merge failed, further frames are still unpacked, because the fault of a frame takes precedence over the
+    /// merge's error.
     ///
     /// Fails only with `Memory`.
     fn with(self, frame: &mut FrameData) -> Result<Progress<'i>, FileError>
@@ -151,7 +152,7 @@ fn insert_details(scopes: &mut ScopeCollection, frame: &FrameData) -> Result<(),
     }
 }
 
-/// Returns whether an index is greater than the last one, if there is one.
+/// Returns whether an index is greater than the last one, or `true` if there is no last one.
 fn rises(last: Option<FrameIndex>, index: FrameIndex) -> bool
     ensures { result ≡ option_map_or (λ i. nat_lt i index) last true }
 {
@@ -174,7 +175,7 @@ fn kept_before<'i>(
         IsProgress info (rising_end cs) progress.entry → IsProgress info [] none.entry →
         IsKeptWith info cs c result }
 {
-    // The law gives the proof that a view keeps the same frames.
+    // The proof uses this law: a view keeps the same frames.
     reading_keeps_what_rises();
     if rises(last, index) { progress } else { none }
 }
@@ -227,8 +228,8 @@ impl<'i> Summing<'i> {
 
     /// Returns the summary of the frames that were taken.
     ///
-    /// Fails with the fault of the first kept frame that can't be unpacked; else with `Refused` if the frames can't be merged.
-    /// May fail with `Memory` at any step.
+    /// Fails with the fault of the first kept frame that can't be unpacked, or else with `Refused` if the frames can't be
+    /// merged. May fail with `Memory` at any step.
     pub(crate) fn finish(self) -> Result<Summary, FileError>
         requires { CanTake self }
         ensures ok { IfOk result (λ summary. (info : ThreadKey) (stored : List Stored) →
@@ -239,7 +240,7 @@ impl<'i> Summing<'i> {
             (e ≡ FileError.Memory) ⊎ IsHindered info (fields_read stored) e) }
         ensures cause { IfErr result (λ e. e ≢ FileError.Io) }
     {
-        // The law gives the proof that the kept frames are those of a view.
+        // The proof uses this law: the kept frames are those of a view.
         reading_keeps_what_rises();
         let Summing {
             scopes,

@@ -1,4 +1,4 @@
-//! Laws of guards. Each is the contract of a function that does nothing; a proof of another crate cites it by calling the
+//! Laws of guards. Each is the contract of a function that does nothing; a proof in another crate cites it by calling the
 //! function.
 
 ghost use Rattle.std.specs.Prelude.{◌≡◌, ◌==◌, ℕ, true, false};

@@ -1,5 +1,5 @@
-//! Scopes as a program's own code makes them: guards that end their scope when they are dropped, places in the code with an id
-//! each, the switch of all scopes, and short names of functions and files. The macros that use them are in `puffin`.
+//! Scopes as a program's own code makes them: guards that end their scope when they are dropped, places in the code that each
+//! keep an id, the switch of all scopes, and short names of functions and files. The macros that use them are in `puffin`.
 //!
 //! | to | call |
 //! |---|---|

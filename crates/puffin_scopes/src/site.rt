@@ -63,8 +63,8 @@ impl Site {
     }
 
     /// Returns the id of this place, whose scope is a whole function. The first call draws the id and registers the function
-    /// with the thread, under the short names of function and file. If two threads call it first at once, both register an id,
-    /// and both calls return the one that was kept first; the other id stays unused.
+    /// with the thread, under the short names of function and file. If two threads make the first call at the same time, both
+    /// register an id, and both calls return the one that was kept first; the other id stays unused.
     ///
     /// Fails with `IdsExhausted` or `Memory`; then nothing is registered, but an id may be used up.
     #[inline]

@@ -21,7 +21,7 @@ use Rattle.puffin_data.specs.Forest.Words.{num_begun, open_after}
 use Rattle.puffin_threads.specs.Thread.ThreadKey.{ThreadKey, key_of}
 use Rattle.puffin_threads.specs.Thread.Calls.{Thread, after_begin, after_end, after_handing, after_registering, key_of_thread}
 use Rattle.puffin_threads.specs.Details.{Details, with_id, AllHaveIds, shared_details}
-use Rattle.puffin_threads.specs.Details.Collection.{Collection, with_all_details, Begins}
+use Rattle.puffin_threads.specs.Details.Collection.{Collection, with_all_details, IsPrefix}
 use Rattle.puffin_frames.specs.Frame.Contents.{Streams}
 use Rattle.puffin_frames.specs.Frame.Sums.{total_scopes}
 use Rattle.puffin_frames.specs.declared.frame_data.frame.FrameData.{FrameData}
@@ -332,7 +332,7 @@ Continues-taken now new None more collects =
 Continues-taken now new (Some f) more collects =
     subst (λ (c : Collected). Continues now (session_with_collected now c) NewFrame (reply.Frame (record { frame = Some f; refused = 0 }))) (sym collects.2) (Continues-framed now f more collects.0 collects.1)
 
--- a refused frame: nothing is learnt, or a beginning of the new details
+-- a refused frame: nothing is learnt, or a prefix of the new details
 pub Continues-not_framed : (now : SessionState) (collected : Collected) (e : Error) → (e ≡ IndexExhausted → now.collected.index ≡ 2 ^ 64 - 1) → KeepsPending now.collected e collected → Continues now (session_with_collected now collected) NewFrame (reply.Refused e)
 Continues-not_framed now collected e last (inl exhausted) =
     subst (λ (c : Collected). Continues now (session_with_collected now c) NewFrame (reply.Refused e)) (sym exhausted.1) (
@@ -347,7 +347,7 @@ Continues-not_framed now collected e last (inr (memory, (some, begins, is))) =
       some,
       λ o done before. (
         quiet now (after_learning now.collected some) o done (learns some) before (λ t. (refl, refl)) refl refl refl refl refl (TellsAfter-more o done (learns some) now.collected (after_learning now.collected some) before.stands.tells refl refl refl),
-        inr (memory, subst (Begins some) before.stands.tells.new_details begins),
+        inr (memory, subst (IsPrefix some) before.stands.tells.new_details begins),
       ),
     )
 

@@ -91,7 +91,7 @@ abbrev pub begun_place : Thread → List ℕ → ℕ
 begun_place thread text =
     word_size thread.form thread.word + size_offset thread.form (cut_text thread.form text)
 
--- the known details, those new in the next frame, and whether that is to list all
+-- the known details, those new in the next frame, and whether that frame is to list all known ones
 pub record TellsAfter (o : Opening) (done : List Action) (now : Collected) : Type 0 where
   pub collection : now.collection ≡ known_after o done
   pub new_details : now.new_details ≡ due_details o done

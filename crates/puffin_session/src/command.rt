@@ -17,7 +17,7 @@ pub enum Command {
         /// The scope's text.
         text: String,
     },
-    /// Ends an open scope, which has to be the innermost one of its thread.
+    /// Ends an open scope, which must be the innermost one of its thread.
     End {
         /// The thread's number in the session, from 0.
         thread: usize,

@@ -3,7 +3,7 @@
 //!
 //! | to | call |
 //! |---|---|
-//! | drive threads and their profiler by commands | [`Session::new`], or [`Session::with_forms`] if some have long texts; [`Session::run`] |
+//! | drive threads and their profiler by commands | [`Session::new`], or [`Session::with_forms`] if some threads have long texts; [`Session::run`] |
 //! | state what a thread does | [`Command`] |
 //! | see the outcome | [`Reply`] |
 #![tactic(auto)]

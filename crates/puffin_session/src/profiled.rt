@@ -96,8 +96,8 @@ impl Profiled {
         }
     }
 
-    /// Ends the open scope that has `back` open scopes within it, at this time. Fails with `MismatchedEnd`, and changes nothing,
-    /// if no scope is open or `back` isn't 0; has no other error.
+    /// Ends, at this time, the open scope that has `back` open scopes within it. Fails with `MismatchedEnd`, and changes
+    /// nothing, if no scope is open or `back` isn't 0. There is no other error.
     pub(crate) fn end(
         &mut self,
         at: NanoSecond,

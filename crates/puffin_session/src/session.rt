@@ -77,7 +77,7 @@ impl Session {
         Ok(Session::of(alloc, profiled))
     }
 
-    /// Makes a session with a thread for each name, in the form beside the name and without scopes. Otherwise as
+    /// Makes a session with a thread for each name, in the form given with the name and without scopes. Otherwise like
     /// [`Session::new`].
     pub fn with_forms(alloc: Global, threads: Vec<(String, Form)>) -> Result<Session>
         ensures new { IfOk result (λ session.

@@ -10,7 +10,7 @@ use Rattle.puffin_data.specs.declared.error.Error.{Error}
 use Rattle.puffin_data.specs.declared.error.Error.TheVariants.{MissingId, Memory}
 use Rattle.puffin_threads.specs.declared.scope_details.details.ScopeDetails.{ScopeDetails}
 use Rattle.puffin_threads.specs.Details.{Details, details_of, shared_details, lacks_id, AllHaveIds}
-use Rattle.puffin_threads.specs.Details.Collection.{Collection, with_all_details, Begins, LearnsSome}
+use Rattle.puffin_threads.specs.Details.Collection.{Collection, with_all_details, IsPrefix, LearnsSome}
 use Rattle.puffin_threads.proofs.lemmas.Ids.{none_lacks}
 
 -- ---- ids
@@ -42,10 +42,10 @@ memory_alone r e d some is missing (inr memory) = memory
 
 -- ---- lists of details
 
-beginning : {A : Type 0} (ds : List (Arc ScopeDetails A)) (i : ℕ) → Begins (shared_details (take i ds)) (shared_details ds)
+beginning : {A : Type 0} (ds : List (Arc ScopeDetails A)) (i : ℕ) → IsPrefix (shared_details (take i ds)) (shared_details ds)
 beginning ds i = (shared_details (drop i ds), ap shared_details (sym (take-append-drop i ds)) ∙ map-append (λ d. details_of (arc_value d)) (take i ds) (drop i ds))
 
--- what is inserted so far is a beginning of all
+-- what is inserted so far is a prefix of all
 pub learnt_so_far : {A T E : Type 0} (r : Result T E) (ds : List (Arc ScopeDetails A)) (i : ℕ) (old new : Collection) → new ≡ with_all_details old (shared_details (take i ds)) → OnErr r (LearnsSome old (shared_details ds) new)
 learnt_so_far (Ok x) ds i old new is = tt
 learnt_so_far (Err e) ds i old new is = (shared_details (take i ds), beginning ds i, is)

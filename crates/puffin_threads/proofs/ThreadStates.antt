@@ -20,7 +20,7 @@ use Rattle.puffin_data.proofs.lemmas.WordMeasures.{num_begun-append, most_open-o
 use Rattle.puffin_threads.specs.declared.thread_profiler.thread_state.ThreadState.TheInside.{Inside}
 use Rattle.puffin_threads.specs.Thread.Closing.{IsReportOf}
 use Rattle.puffin_threads.specs.Thread.Events.{events_in}
-use Rattle.puffin_threads.specs.inner.StoredThread.{IsThreadState, IsRecordingIn, HoldsScopes, Counted, scopes_in, spare_name, thread_in}
+use Rattle.puffin_threads.specs.inner.StoredThread.{IsThreadState, IsThreadStateIn, HoldsScopes, Counted, scopes_in, spare_name, thread_in}
 use Rattle.puffin_threads.specs.Thread.Calls.{Thread, open_offsets}
 use Rattle.puffin_threads.proofs.lemmas.Events.{events_of_none}
 use Rattle.puffin_threads.proofs.RecordedScopes.{Goes, held, length-open_offsets, size_held, begins_held, ends_held, place_held, closed_held, nothing_held, offsets_opened, offsets_closed}
@@ -124,8 +124,8 @@ begun_goes r next id text at offset h b =
     begins_held r.info.stream.form r.info.stream.bytes next.info.stream.bytes r.latest at id text (holds_in r h) b.later (omega (arith, ints)) b.fits b.id_low b.id_high b.stored b.text_bytes b.bytes
 
 -- a recording in its own form
-in_own_form : (r next : Inside) → next.info.stream.form ≡ r.info.stream.form → IsRecordingIn r.info.stream.form next → IsThreadState next
-in_own_form r next same h = subst (λ (form : Form). IsRecordingIn form next) (sym same) h
+in_own_form : (r next : Inside) → next.info.stream.form ≡ r.info.stream.form → IsThreadStateIn r.info.stream.form next → IsThreadState next
+in_own_form r next same h = subst (λ (form : Form). IsThreadStateIn form next) (sym same) h
 
 pub begun_in : (r next : Inside) (id : ℕ) (text : List ℕ) (at : ℤ) (offset : ℕ) → IsThreadState r → Begins r next id text at offset → IsThreadState next
 begun_in r next id text at offset h b =

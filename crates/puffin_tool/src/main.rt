@@ -17,9 +17,9 @@ use std::{env, io};
 /// How many bytes of a file are read ahead.
 const READ_AHEAD: usize = 65_536;
 
-/// Opens three files, which take the places of standard input, output and error if those are closed. So no file that is opened
-/// later is taken for one of them: such an input is at its end, and nothing can be written to such an output. The files stay
-/// open until they are dropped.
+/// Opens three files, which take the places of standard input, output and error if those are closed, so that no file opened
+/// later is mistaken for one of them. A closed input is then at its end, and nothing can be written to a closed output. The
+/// files stay open until they are dropped.
 fn placeholders(rt: &HostRuntime) -> [io::Result<File>; 3] {
     [(); 3].map(|_| File::open(rt, "/dev/null"))
 }
@@ -42,7 +42,7 @@ fn words(rt: &HostRuntime) -> Result<Vec<String>, ToolFault> {
     Ok(words)
 }
 
-/// Returns the fault of a file that can't be opened or made.
+/// Returns the fault of a file that can't be opened or created.
 fn not_opened(error: &io::Error) -> ToolFault {
     match error.kind() {
         io::ErrorKind::OutOfMemory => ToolFault::File(FileError::Memory),
@@ -69,7 +69,7 @@ fn script_in(rt: &HostRuntime, path: &str) -> Result<Script, ToolFault> {
     }
 }
 
-/// Replays a script. Reads it before it makes the file.
+/// Replays a script. Reads the script before creating the file.
 fn replay(rt: &HostRuntime, script: &str, out: &str) -> Result<(), ToolFault> {
     let script = script_in(rt, script)?;
     let mut out = match File::create(rt, out) {
@@ -88,7 +88,7 @@ fn read_ahead(rt: &HostRuntime, path: &str) -> io::Result<BufReader<File>> {
     BufReader::with_capacity(rt.alloc(), READ_AHEAD, File::open(rt, path)?)
 }
 
-/// Prints the report of a file on one thread.
+/// Prints the report of a file for one thread.
 fn report(rt: &HostRuntime, path: &str, thread: &ThreadInfo) -> Result<(), ToolFault> {
     let mut file = match read_ahead(rt, path) {
         Ok(file) => Buffered::new(file),

@@ -81,7 +81,7 @@ begun old mid new done c left cs e is first io other (inr (inl memory)) =
 begun old mid new done c left cs e is first io other (inr (inr at)) =
     subst (λ (ds : List PacketFields). WritesBeginning old new (file_of ds)) (sym is) (begun_in old mid new done c left first (io at))
 
--- behind a file, a beginning of one more packet
+-- behind a file, a prefix of one more packet
 more_begun : (old mid new : Option (List ℕ)) (cs : List PacketFields) (c : PacketFields) (e : FileError) → HoldsFile old mid cs → (e ≡ file.Io → WritesBeginning mid new (packet c)) → ((e ≡ file.Io → ⊥) → new ≡ mid) → Cause e → HoldsBegun old new cs c
 more_begun old mid new cs c e h io other (inl long) = nothing_begun old mid new cs c h (other (λ at. not_io_long (sym long ∙ at)))
 more_begun old mid new cs c e h io other (inr (inl memory)) = nothing_begun old mid new cs c h (other (λ at. not_io_memory (sym memory ∙ at)))
@@ -118,7 +118,7 @@ pub packet_begun : {D : Type 0} (contents : D → Option (List ℕ)) (before aft
 packet_begun contents before after c (Ok x) io other cause = tt
 packet_begun contents before after c (Err e) io other cause = λ old cs h. more_begun old (contents before) (contents after) cs c e h io (λ no. ap contents (other no)) cause
 
--- what the device holds after a call: one frame more, or a beginning of it behind which nothing comes, or what it held
+-- what the device holds after a call: one frame more, or a prefix of it behind which nothing comes, or what it held
 pub packet_so_far : {D : Type 0} (contents : D → Option (List ℕ)) (before after : D) (c : PacketFields) (was is : Bool) (r : Result (Unit {0}) FileError) → was ≡ false → is ≡ is_io r
     → OnOk r (Appends (contents before) (contents after) (packet c)) → IfErr r (λ e. e ≡ file.Io → WritesBeginning (contents before) (contents after) (packet c))
     → IfErr r (λ e. (e ≡ file.Io → ⊥) → after ≡ before) → IfErr r Cause → (old : Option (List ℕ)) (cs : List PacketFields) → HoldsSoFar was old (contents before) cs → HoldsSoFar is old (contents after) (written_after r cs c)

@@ -25,7 +25,7 @@ use Rattle.puffin_view.specs.View.ViewedFrames.{Frame, packed_alone, ram_of}
 use Rattle.std.specs.Arc.{arc_value}
 use Rattle.puffin_view.specs.View.FrameOf.{frame_of, shared_frame}
 use Rattle.std.specs.Option.{option_copied}
-use Rattle.puffin_view.specs.declared.profile_view.sums.RunningStats.{RunningStats}
+use Rattle.puffin_view.specs.declared.profile_view.running_stats.RunningStats.{RunningStats}
 use Rattle.puffin_view.specs.View.Stats.{stats_of, cut}
 use Rattle.puffin_view.specs.declared.profile_view.stats.FrameStats.{FrameStats}
 use Rattle.puffin_view.specs.inner.Held.{IsSummed, frames_seen, held_of, number_if, unpacked_number, ram_taken, wrapped}

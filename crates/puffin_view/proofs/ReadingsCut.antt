@@ -24,7 +24,7 @@ use Rattle.puffin_frames.specs.Packet.Stored.{PacketFields, Stored, packed}
 abbrev Reading : Type 0 → Type 0
 Reading A = List ℕ → Result (A × List ℕ) FileError
 
--- what is read of all bytes is read of a beginning of them, or that is cut short
+-- what is read of all bytes is read of a prefix of them, or that is cut short
 abbrev IsCuttable : {A : Type 0} → Reading A → Type 0
 IsCuttable {A = A} read =
     (front more : List ℕ) (x : A) (after : List ℕ) → read (front ++ more) ≡ Ok (x, after) → (read front ≡ Err file.Truncated) ⊎ ((rest : List ℕ) × (read front ≡ Ok (x, rest)) × (after ≡ rest ++ more))

@@ -23,7 +23,7 @@ use Rattle.puffin_view.specs.View.ViewedFrames.{Frame, is_slower_frame, slowest,
 pub record View : Type 0 where
   -- the last frames, oldest first
   pub recent : List Frame
-  -- the slowest frames, by falling duration, then rising index
+  -- the slowest frames, by duration, longest first, then by index
   pub slow : List Frame
   -- the index of the last frame taken
   pub last : Option ℕ
@@ -32,7 +32,7 @@ pub record View : Type 0 where
   -- whether the newest frame is packed before another is taken
   pub packs : Bool
 
--- a view without frames, with the limits that it begins with
+-- a view without frames, with the limits that a new view has
 abbrev pub empty_view : View
 empty_view =
     record { recent = []; slow = []; last = None; max_recent = 1000; max_slow = 256; packs = true }
@@ -42,7 +42,7 @@ pub record Holds (cs ds : List PacketFields) (v : View) : Type 0 where
   pub recent : map fields_of v.recent ≡ last_of v.max_recent cs
   pub slow : map fields_of v.slow ≡ slowest v.max_slow ds
 
--- the index of the last of a list
+-- the index of the last frame of a list
 abbrev pub last_index : List PacketFields → Option ℕ
 last_index cs = option_map frame_index (last_in cs)
 
@@ -55,7 +55,7 @@ pub record Took (cs : List PacketFields) (v : View) : Type 0 where
   pub holds : Holds (rising_end cs) (rising_end cs) v
   pub last : v.last ≡ last_index cs
 
--- all frames of the view, each once, by rising index
+-- all frames of the view, each once, in ascending order of index
 abbrev pub all_uniq : View → List Frame
 all_uniq v = chronological (v.recent ++ v.slow)
 
@@ -91,18 +91,18 @@ with_newest_packed v = option_map_or (λ f. with_packed (index_of f) v) (last_in
 abbrev pub is_past : View → ℕ → Bool
 is_past v i = option_map_or (λ last. nat_le i last) v.last false
 
--- the view before it takes a frame with this index: empty if the index isn't above that of the last frame taken, else with its
--- newest frame packed if packing is on
+-- the view before it takes a frame with this index: empty if the index isn't above that of the last frame taken, otherwise with
+-- its newest frame packed if packing is on
 abbrev pub ready_for : View → ℕ → View
 ready_for v i = cond (is_past v i) (without_frames v) (cond v.packs (with_newest_packed v) v)
 
--- whether a frame belongs among the k slowest: if there is room, or if it is longer than the last of them
+-- whether a frame belongs among the k slowest, which it does if there is room, or if it is longer than the last of them
 abbrev pub enters_among : ℕ → List Frame → Frame → Bool
 enters_among k slow f =
     nat_lt (length slow) k || option_map_or (λ g. int_lt (duration_of g) (duration_of f))
     (last_in slow) false
 
--- the k slowest after one more frame: if it belongs among them, it is put in its place and they are cut
+-- the k slowest after one more frame: if it belongs among them, it is inserted in its place, and they are cut to k
 abbrev pub slow_after : ℕ → List Frame → Frame → List Frame
 slow_after k slow f = cond (enters_among k slow f) (take k (place is_slower_frame f slow)) slow
 
@@ -121,7 +121,7 @@ joined_by v f = record {
 abbrev pub after_taking : View → Frame → View
 after_taking v f = joined_by (ready_for v (index_of f)) f
 
--- the view after it failed to take a frame with this index: as it was, or, if packing is on and the index is above that of the
+-- the view after it failed to take a frame with this index: unchanged or, if packing is on and the index is above that of the
 -- last frame taken, with its newest frame packed
 abbrev pub KeepsFrames : View → ℕ → View → Type 0
 KeepsFrames old i new =

@@ -8,10 +8,10 @@ mod frame_view;
 mod held_frames;
 pub mod laws;
 mod listings;
+mod running_stats;
 mod select;
 mod slow_rank;
 mod stats;
-mod sums;
 
 pub use frame_file::{FrameReader, FrameWriter, next_frame, read_magic};
 pub use frame_view::FrameView;

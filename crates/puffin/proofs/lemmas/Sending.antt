@@ -13,7 +13,7 @@ use Rattle.std.specs.declared.sync.ledger.Ledger as led
 use Rattle.std.proofs.sync.ledger.Book.TheSendSync as ledger_book
 use Rattle.std.proofs.sync.ledger.Share.TheSendSync as ledger_share
 use Rattle.puffin.specs.contracts.global_profiler.sink.Sink as Sink
-use Rattle.puffin.specs.contracts.global_profiler.sinks.Entry as Entry
+use Rattle.puffin.specs.contracts.global_profiler.sinks.SinkEntry as SinkEntry
 use Rattle.puffin.specs.contracts.global_profiler.sinks.Sinks as Sinks
 use Rattle.puffin.specs.contracts.global_profiler.profiler.GlobalProfiler as Global
 use Rattle.puffin.specs.contracts.global_profiler.booked.Booked as Booked
@@ -52,7 +52,7 @@ module _ (D : RattleType) (g : Ghosts D.Denot) (s : Sends (table_of D.Denot g)) 
   pub sink_send : IsSend (Sink.the_field D g).row
   sink_send = enum_send (shape (Sink.the_type D g)) ((search (view_send, crosses, sendable) depth 30 fits 10000, tt), ((dyn_box_send D g s sd, tt), tt))
 
-  pub entry_send : IsSend (Entry.the_field D g).row
+  pub entry_send : IsSend (SinkEntry.the_field D g).row
   entry_send = search (sink_send, crosses, sendable) depth 30 fits 10000
 
   pub sinks_send : IsSend (Sinks.the_field D g).row

@@ -7,7 +7,7 @@ use Rattle.std.specs.Arc.{arc_value}
 use Rattle.std.specs.declared.sync.Arc.{Arc}
 use Rattle.puffin_data.specs.declared.error.Error.{Error}
 use Rattle.puffin_frames.specs.declared.frame_data.frame.FrameData.{FrameData}
-use Rattle.puffin.specs.declared.global_profiler.sinks.Entry.{Entry}
+use Rattle.puffin.specs.declared.global_profiler.sinks.SinkEntry.{SinkEntry}
 use Rattle.puffin.specs.declared.global_profiler.sink.Sink.{Sink}
 use Rattle.puffin.specs.declared.global_profiler.sink.Sink.TheVariants.{View, Boxed}
 use Rattle.puffin.specs.declared.global_profiler.handing.Outcome.{Outcome}
@@ -39,21 +39,21 @@ module _ {I : Type 0} {F : I → Type 0}
   HandedTo frame (Boxed b) NoCopy new = new ≡ Boxed b
 
   -- all sinks after their outcomes, one outcome for each sink, in order
-  abbrev pub Handed : FrameData → List (Entry I F) → List Outcome → List (Entry I F) → Type 0
+  abbrev pub Handed : FrameData → List (SinkEntry I F) → List Outcome → List (SinkEntry I F) → Type 0
   Handed frame [] [] [] = Unit {0}
   Handed frame (e ∷ es) (o ∷ os) (f ∷ fs) =
       (f.id ≡ e.id) × HandedTo frame e.sink o f.sink × Handed frame es os fs
   Handed frame _ _ _ = ⊥
 
   -- a frame is handed to all sinks, and this number of them didn't take it
-  abbrev pub HandsOn : FrameData → List (Entry I F) → ℕ → List (Entry I F) → Type 0
+  abbrev pub HandsOn : FrameData → List (SinkEntry I F) → ℕ → List (SinkEntry I F) → Type 0
   HandsOn frame old refused new =
       (outcomes : List Outcome)
       × Handed frame old outcomes new
       × (refused ≡ sum_by refusal outcomes)
 
-  -- the same if there is a frame; without one no sink changes, and none refuses
-  abbrev pub HandsOnAny : {A : Type 0} → Option (Arc FrameData A) → List (Entry I F) → ℕ →
-      List (Entry I F) → Type 0
+  -- the same if there is a frame; if there is none, no sink changes, and none refuses
+  abbrev pub HandsOnAny : {A : Type 0} → Option (Arc FrameData A) → List (SinkEntry I F) → ℕ →
+      List (SinkEntry I F) → Type 0
   HandsOnAny None old refused new = (new ≡ old) × (refused ≡ 0)
   HandsOnAny (Some frame) old refused new = HandsOn (arc_value frame) old refused new

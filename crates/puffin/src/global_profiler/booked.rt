@@ -29,8 +29,9 @@ use puffin_frames::thread_profiler::ThreadInfo;
 use std::sync::ledger::{Book, Ledger};
 use std::sync::{Arc, Wait};
 
-/// A profiler with the books of its shares: one of the scopes that they reported, and one of the scopes that were handed out to
-/// them. Each call makes the call of the same name of [`GlobalProfiler`]; a report and a new frame are also counted in a share.
+/// A profiler with two books, each for all its shares together: one for the scopes that they reported, and one for the scopes
+/// that were handed out to them. Each method except `settle` calls [`GlobalProfiler`]'s method of the same name; reports and
+/// new frames are also counted in a share.
 #[derive(Drop)]
 pub struct Booked<L: Ledger, M: Ledger> {
     /// Keeps the profiler off the cache line of the lock, which other threads read while one holds it.
@@ -46,16 +47,16 @@ pub struct Booked<L: Ledger, M: Ledger> {
 /// What all shares of a profiler count together, and what is left.
 #[derive(Clone, Copy, Debug, PartialEq, Eq)]
 pub struct Settled {
-    /// The scopes that were reported through all shares.
+    /// The number of scopes that were reported through all shares.
     pub reported: u64,
-    /// The scopes in the frames that were handed out to all shares.
+    /// The number of scopes in the frames that were handed out to all shares.
     pub handed: u64,
-    /// The scopes that the next frame will have.
+    /// The number of scopes that will be in the next frame.
     pub pending: u64,
 }
 
 impl<L: Ledger, M: Ledger> Booked<L, M> {
-    /// Puts a profiler beside its books. Their totals have to be the profiler's own.
+    /// Combines a profiler with its books. Their totals must be the profiler's own.
     pub(crate) fn new(
         profiler: GlobalProfiler,
         reported: Book<L>,
@@ -118,8 +119,8 @@ impl<L: Ledger, M: Ledger> Booked<L, M> {
         Ok(())
     }
 
-    /// Reports scopes of the caller's own as [`GlobalProfiler::report_user_scopes`] does. If that succeeds, the share counts
-    /// the scopes.
+    /// Reports the caller's own scopes, as [`GlobalProfiler::report_user_scopes`] does. If that succeeds, the share counts the
+    /// scopes.
     pub fn report_user_scopes(
         &mut self,
         share: &mut Share<L, M>,
@@ -141,7 +142,7 @@ impl<L: Ledger, M: Ledger> Booked<L, M> {
         self.report(share, info, &[], times)
     }
 
-    /// Registers scopes of the caller's own as [`GlobalProfiler::register_user_scopes`] does.
+    /// Registers the caller's own scopes, as [`GlobalProfiler::register_user_scopes`] does.
     pub fn register_user_scopes(
         &mut self,
         ids: &ScopeIds,
@@ -278,16 +279,16 @@ impl<L: Ledger, M: Ledger> Booked<L, M> {
             × (share.old.handed ≤ result.emitted) }
         ensures same { (self.new.profiler ≡ self.old.profiler) × (share.new ≡ share.old) }
     {
-        // Only for the proof: no share counts more than its book.
+        // Both calls do nothing; their contracts tell the prover that no share counts more than its book.
         self.reported.audit(&mut share.reported);
         self.handed.audit(&mut share.handed);
         self.profiler.totals()
     }
 
-    /// Adds up the counts of all shares, and returns them with the number of pending scopes. Every scope reported is then
-    /// handed out or pending. Allocates nothing.
+    /// Adds up the counts of all shares, and returns the sums with the number of pending scopes. Every reported scope was
+    /// handed out or is pending. Allocates nothing.
     ///
-    /// Fails if these aren't as many shares as were made, and returns them.
+    /// Fails if `shares` doesn't have as many shares as were made, and then returns them.
     pub fn settle(
         &mut self,
         shares: Vec<Share<L, M>>,
@@ -311,7 +312,7 @@ impl<L: Ledger, M: Ledger> Booked<L, M> {
             return Err(shares);
         };
         let (mut all_reported, mut all_handed) = last.merge(shares);
-        // Only for the proof: all shares together count what their books do.
+        // Both calls do nothing; their contracts tell the prover that all shares together count as much as their books.
         self.reported.audit(&mut all_reported);
         self.handed.audit(&mut all_handed);
         let totals = self.profiler.totals();

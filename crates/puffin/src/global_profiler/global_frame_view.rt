@@ -68,8 +68,8 @@ impl GlobalFrameView {
         self.sink_id
     }
 
-    /// Waits for the view's lock, and lends the view until the guard is dropped. Until then, a frame that is handed to the view
-    /// waits.
+    /// Waits for the view's lock, and lends the view until the guard is dropped. A new frame waits until then, and so does each
+    /// thread that reports to the profiler meanwhile: drop the guard before you call `new_frame`.
     pub fn lock(&self, rt: &impl Wait) -> MutexGuard<'_, FrameView> {
         self.view.lock(rt)
     }

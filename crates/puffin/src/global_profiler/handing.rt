@@ -4,7 +4,7 @@ ghost use Rattle.std.specs.Arc.{arc_value};
 ghost use Rattle.puffin.specs.Sinks.Handing.{Answers, HandedTo, HandsOn, refusal};
 
 use crate::global_profiler::sink::{FrameSink, Sink};
-use crate::global_profiler::sinks::Entry;
+use crate::global_profiler::sinks::SinkEntry;
 use puffin_data::Result;
 use puffin_frames::frame_data::FrameData;
 use puffin_view::profile_view::FrameView;
@@ -42,8 +42,8 @@ impl Outcome {
     }
 }
 
-/// Hands a frame to each sink by rising number. Returns how many sinks didn't take it.
-pub(crate) fn hand_all<R: Wait>(rt: &R, sinks: &mut Vec<Entry>, frame: &Arc<FrameData>) -> usize
+/// Hands a frame to each sink, in ascending order of number. Returns how many sinks didn't take it.
+pub(crate) fn hand_all<R: Wait>(rt: &R, sinks: &mut Vec<SinkEntry>, frame: &Arc<FrameData>) -> usize
     ensures { HandsOn (λ b. (FrameSink-box b).accepts) (arc_value frame.now) sinks.old.items result
         sinks.new.items }
 {
@@ -51,7 +51,7 @@ pub(crate) fn hand_all<R: Wait>(rt: &R, sinks: &mut Vec<Entry>, frame: &Arc<Fram
 }
 
 /// Hands a frame to each sink of a slice, in order. Returns how many sinks didn't take it.
-fn hand_each<R: Wait>(rt: &R, sinks: &mut [Entry], frame: &Arc<FrameData>) -> usize
+fn hand_each<R: Wait>(rt: &R, sinks: &mut [SinkEntry], frame: &Arc<FrameData>) -> usize
     ensures { HandsOn (λ b. (FrameSink-box b).accepts) (arc_value frame.now) sinks.old result
         sinks.new }
 {

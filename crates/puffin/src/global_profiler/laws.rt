@@ -1,4 +1,4 @@
-//! Laws of a profiler's sinks. Each is the contract of a function that does nothing; a proof of another crate cites it by
+//! Laws of a profiler's sinks. Each is the contract of a function that does nothing; a proof in another crate cites it by
 //! calling the function.
 
 ghost use Rattle.std.specs.Prelude.{◌≡◌, ◌==◌};
@@ -8,7 +8,7 @@ ghost use Rattle.puffin.specs.declared.global_profiler.sink.FrameSinkId.{FrameSi
 use crate::global_profiler::sink::FrameSinkId;
 use std::hash::Hash;
 
-/// Numbers of sinks are equal exactly when they are the same number, and hash as that number does.
+/// Two sink ids are equal exactly when their numbers are, and an id hashes as its number does.
 pub fn sink_ids()
     ensures equality { (a b : FrameSinkId) →
         ⟦<FrameSinkId as PartialEq>⟧.eq a b ≡ (a.0 == b.0) }

@@ -17,7 +17,7 @@ ghost use Rattle.puffin.specs.Sinks.{PutsIn, TakesOut, HasNone};
 ghost use Rattle.puffin.specs.Sinks.Handing.{HandsOn, HandsOnAny};
 
 use crate::global_profiler::sink::{FrameSink, FrameSinkId, Sink};
-use crate::global_profiler::sinks::{Entry, Sinks};
+use crate::global_profiler::sinks::{SinkEntry, Sinks};
 use puffin_collector::{Collector, Emitted, Totals};
 use puffin_data::data::{ScopeId, StreamInfoRef};
 use puffin_data::{Error, Result};
@@ -55,12 +55,12 @@ impl GlobalProfiler {
         GlobalProfiler::with_sinks(alloc, frame_index, Vec::new(alloc))
     }
 
-    /// Makes the profiler that [`GlobalProfiler::with_frame_index`] makes, with an empty list of sinks from the caller. A crate
-    /// that keeps a profiler in a type of its own has to make that list itself.
+    /// Like [`GlobalProfiler::with_frame_index`], but takes the empty list of sinks from the caller. A crate that keeps a
+    /// profiler in a type of its own has to make that list itself.
     pub fn with_sinks(
         alloc: Global,
         frame_index: FrameIndex,
-        no_sinks: Vec<Entry>,
+        no_sinks: Vec<SinkEntry>,
     ) -> GlobalProfiler
         requires { no_sinks.items ≡ [] }
         ensures { IsNewProfiler frame_index result }
@@ -92,8 +92,7 @@ impl GlobalProfiler {
         self.collector.report(info, details, times)
     }
 
-    /// Appends scopes of the caller's own to the pending ones, as [`Collector::report_user_scopes`] does. Fails in the
-    /// same cases.
+    /// Appends the caller's own scopes to the pending ones, as [`Collector::report_user_scopes`] does. Fails in the same cases.
     pub fn report_user_scopes(&mut self, info: ThreadInfo, times: &StreamInfoRef) -> Result<()>
         requires { (f : Forest) × IsHonestRef times.now f }
         ensures ok { OnOk result (
@@ -107,8 +106,8 @@ impl GlobalProfiler {
         self.collector.report_user_scopes(info, times)
     }
 
-    /// Registers scopes of the caller's own by their names, and returns an id for each, as [`Collector::register_user_scopes`]
-    /// does. Fails in the same cases.
+    /// Registers the caller's own scopes by name, and returns an id for each, as [`Collector::register_user_scopes`] does.
+    /// Fails in the same cases.
     pub fn register_user_scopes(
         &mut self,
         ids: &ScopeIds,
@@ -135,8 +134,8 @@ impl GlobalProfiler {
         self.collector.emit_scope_snapshot();
     }
 
-    /// Hands out all that is pending in one frame, as [`Collector::collect_frame`] does, and calls no sink. Fails in the
-    /// same cases.
+    /// Hands out one frame with everything that is pending, as [`Collector::collect_frame`] does, and calls no sink. Fails in
+    /// the same cases.
     ///
     /// ```
     /// if let Some(frame) = profiler.collect_frame()? {
@@ -162,8 +161,8 @@ impl GlobalProfiler {
         self.collector.collect_frame()
     }
 
-    /// Hands out a frame as [`GlobalProfiler::collect_frame`] does, and hands it to each sink too, by rising number. The caller
-    /// and the sinks share the frame. Waits for the lock of each view.
+    /// Hands out a frame as [`GlobalProfiler::collect_frame`] does, and also hands it to each sink, in ascending order of the
+    /// sinks' numbers. The caller and the sinks share the frame. Waits for the lock of each view.
     ///
     /// Fails as [`Collector::collect_frame`] does, before any sink is called. The result counts the sinks that refused the
     /// frame, and those for which its `Arc` couldn't be cloned.
@@ -200,11 +199,12 @@ impl GlobalProfiler {
         })
     }
 
-    /// Adds the details of a frame that was made elsewhere to the known ones, and hands the frame to each sink. Returns how many
-    /// sinks didn't take it, counted as by [`GlobalProfiler::new_frame`]. The totals don't count the frame's scopes.
+    /// Takes in a frame that was made elsewhere: adds its scope details to those already known, then hands the frame to each
+    /// sink. Returns how many sinks didn't take it, counted as [`GlobalProfiler::new_frame`] does. The totals don't count the
+    /// frame's scopes.
     ///
-    /// Fails with `MissingId` exactly when some of its details have no id, and then changes nothing; else only with `Memory`,
-    /// after which the first few of its details may be known. If it fails, no sink is called.
+    /// Fails with `MissingId` exactly when some of its details have no id, and then changes nothing. Otherwise fails only with
+    /// `Memory`, and then the first few of its details may have become known. If it fails, no sink is called.
     pub fn add_frame<R: Wait>(&mut self, rt: &R, frame: Arc<FrameData>) -> Result<usize>
         requires boxed_sinks { ⊤ }
         ensures learnt { OnOk result (
@@ -231,8 +231,8 @@ impl GlobalProfiler {
     /// Adds a sink, and returns its number. The sink gets the frames of all later calls of [`GlobalProfiler::new_frame`] and
     /// [`GlobalProfiler::add_frame`].
     ///
-    /// Fails with `SinkIdsExhausted` if no number is left, else only with `Memory`. Then the sink is returned with the error,
-    /// and nothing changes.
+    /// Fails with `SinkIdsExhausted` if no number is left, and otherwise only with `Memory`. If it fails, returns the sink with
+    /// the error, and changes nothing.
     ///
     /// ```
     /// let Ok(id) = profiler.add_sink(Sink::View(view)) else { return Err(Error::Memory) };
@@ -256,7 +256,7 @@ impl GlobalProfiler {
     }
 
     /// Removes the sink with this number and returns it, or returns `None` if there is none. The other sinks keep their
-    /// numbers, and this one isn't used again. Allocates nothing.
+    /// numbers, and the removed sink's number isn't used again. Allocates nothing.
     pub fn remove_sink(&mut self, id: FrameSinkId) -> Option<Sink>
         requires boxed_sinks { ⊤ }
         ensures some { IfSome result (λ sink.

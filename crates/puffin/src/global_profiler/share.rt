@@ -9,8 +9,8 @@ use std::marker::{Model, PhantomData};
 use std::sync::ledger;
 use std::sync::ledger::Ledger;
 
-/// One share of a shared profiler's counts: of the scopes reported through it, and of those in the frames handed out to it. The
-/// two ledgers rule out shares of another profiler.
+/// One share of a shared profiler's counts. It counts the scopes reported through it, and those in the frames handed out to it.
+/// The two ledgers rule out its use with another profiler.
 #[derive(Drop)]
 pub struct Share<L: Ledger, M: Ledger> {
     pub(crate) reported: ledger::Share<L>,

@@ -26,11 +26,12 @@ use std::sync::ledger::{Blank, Ledger};
 use std::sync::{Arc, Mutex, MutexGuard, Wait};
 use std::thread::yield_now;
 
-/// How often a thread tries the lock again before it sleeps.
+/// The number of times that a thread tries the lock again before it sleeps.
 const LOOKS: u32 = 20;
-/// How many spin-loop hints the first pause has.
+/// The number of spin-loop hints in the first pause.
 const FIRST_PAUSES: u32 = 64;
-/// How many pauses are twice as long as the one before. Those after them have one length, and let other threads run.
+/// The number of pauses that are each twice as long as the one before. Later ones all have the same length, and let other
+/// threads run.
 const GROWING: u32 = 4;
 
 /// Pauses before the lock is tried again. `looks` is the number of earlier pauses. The first few are each twice as long as the
@@ -44,8 +45,8 @@ fn pause(looks: u32) {
     }
 }
 
-/// A profiler behind a lock, for several threads. Each call but `clone` waits for the lock, and makes the call of the same name
-/// of [`Booked`] under it.
+/// A profiler behind a lock, for several threads. Each method except `clone` and `lock` waits for the lock and calls
+/// [`Booked`]'s method of the same name under it.
 ///
 /// A thread reports through its [`Share`], with a [`SharedReporter`](crate::global_profiler::SharedReporter). Whoever takes
 /// frames has a share too. `L` and `M` name two ledgers, one of the scopes reported and one of the scopes handed out. A
@@ -56,8 +57,9 @@ pub struct SharedProfiler<L: Ledger, M: Ledger> {
 }
 
 impl<L: Ledger, M: Ledger> SharedProfiler<L, M> {
-    /// Puts a profiler behind a lock, and makes `n` shares of its counts. No scopes may have been reported to the profiler yet,
-    /// and both blanks must have `n` parts.
+    /// Puts a profiler behind a lock, and makes `n` shares of its counts. The profiler must not have had any scopes reported
+    /// to it yet, and `n` must be at least 1. `reported` and `handed` are the blanks of the ledgers `L` and `M`, with `n` parts
+    /// each.
     ///
     /// Fails with `Memory`, and then returns the profiler.
     ///
@@ -110,9 +112,9 @@ impl<L: Ledger, M: Ledger> SharedProfiler<L, M> {
         })
     }
 
-    /// Waits for the lock, and lends the value that it protects until the guard is dropped.
+    /// Waits for the lock, and returns a guard that lends the protected value. The lock is held until the guard is dropped.
     ///
-    /// A thread tries the lock several times, with pauses between, before it sleeps: most calls hold the lock for less time
+    /// A thread tries the lock several times, with pauses in between, before it sleeps: most calls hold the lock for less time
     /// than waking a thread takes.
     #[inline]
     pub fn lock(&self, rt: &impl Wait) -> MutexGuard<'_, Booked<L, M>>
@@ -124,7 +126,7 @@ impl<L: Ledger, M: Ledger> SharedProfiler<L, M> {
         }
     }
 
-    /// Tries the lock several times, with pauses between, and then sleeps until it is free.
+    /// Tries the lock several times, with pauses in between, and then sleeps until it is free.
     #[cold]
     #[inline(never)]
     fn lock_later(&self, rt: &impl Wait) -> MutexGuard<'_, Booked<L, M>>
@@ -159,7 +161,8 @@ impl<L: Ledger, M: Ledger> SharedProfiler<L, M> {
         self.lock(rt).report(share, info, details, times)
     }
 
-    /// Calls [`Booked::report_user_scopes`] under the lock.
+    /// Under the lock, appends the caller's own scopes to those that wait for the next frame. If that succeeds, the share
+    /// counts them; otherwise nothing is appended or counted.
     pub fn report_user_scopes(
         &self,
         rt: &impl Wait,
@@ -196,8 +199,8 @@ impl<L: Ledger, M: Ledger> SharedProfiler<L, M> {
         self.lock(rt).emit_scope_snapshot();
     }
 
-    /// Calls [`Booked::new_frame`] under the lock, which it holds until all sinks were called. Fails only with `IndexExhausted`
-    /// or `Memory`.
+    /// Calls [`Booked::new_frame`] under the lock, which it holds until all sinks have been called. Fails only with
+    /// `IndexExhausted` or `Memory`.
     ///
     /// ```
     /// let emitted = profiler.new_frame(&rt, &mut share)?;
@@ -213,7 +216,7 @@ impl<L: Ledger, M: Ledger> SharedProfiler<L, M> {
         self.lock(rt).new_frame(rt, share)
     }
 
-    /// Calls [`Booked::add_frame`] under the lock, which it holds until all sinks were called.
+    /// Calls [`Booked::add_frame`] under the lock, which it holds until all sinks have been called.
     pub fn add_frame<R: Wait>(&self, rt: &R, frame: Arc<FrameData>) -> Result<usize>
         requires boxed_sinks { ⊤ }
         ensures missing { (result ≡ Err Error.MissingId)

@@ -1,4 +1,4 @@
-//! The reporter of a thread to a shared profiler.
+//! A thread's reporter to a shared profiler.
 ghost use Rattle.std.specs.Prelude.{◌≡◌, ◌≢◌, ◌+◌, ◌≤◌, ℤ, pos, ◌≤ℤ◌, Some, OnOk, OnErr, IfOk, IfErr, slice_get, ⊤};
 ghost use Rattle.puffin_data.specs.declared.error.Error.{Error};
 ghost use Rattle.puffin_data.specs.Forest.{Forest};
@@ -56,8 +56,8 @@ impl<L: Ledger, M: Ledger, R: Wait> SharedReporter<L, M, R> {
         self.profiler.totals(&self.rt, &mut self.share)
     }
 
-    /// Ends a thread's innermost open scope, which has to have this offset. If it was the last open one, reports all scopes
-    /// that have closed since the last accepted report, and the share counts them. Waits for the lock if it reports.
+    /// Ends a thread's innermost open scope, which must have this offset. If it was the last open one, reports all scopes that
+    /// have closed since the last accepted report, and the share counts them. Waits for the lock if it reports.
     ///
     /// Fails only with `MismatchedEnd`, as [`ThreadProfiler::end_scope`](crate::thread_profiler::ThreadProfiler::end_scope)
     /// does; nothing changes then.
@@ -85,8 +85,8 @@ impl<L: Ledger, M: Ledger, R: Wait> SharedReporter<L, M, R> {
         thread.end_scope(offset, self)
     }
 
-    /// Reports the closed scopes of a thread that wait, as those of dropped guards do. Returns `Ok(false)` if none waits. Waits
-    /// for the lock if it reports.
+    /// Reports the closed scopes of a thread that are still waiting, such as those of dropped guards. Returns `Ok(false)` if
+    /// there are none. Waits for the lock if it reports.
     ///
     /// Fails as [`ThreadProfiler::report_closed`](crate::thread_profiler::ThreadProfiler::report_closed) does.
     pub fn report_closed<T: AnyThread>(&mut self, thread: &mut T) -> Result<bool>

@@ -12,7 +12,7 @@ pub trait FrameSink: Drop {
     ghost use Rattle.puffin_data.specs.declared.error.Error.{Error};
     ghost use Rattle.puffin_frames.specs.declared.frame_data.frame.FrameData.{FrameData};
 
-    /// What `accept` may do: a state, a frame, a result and the state after it.
+    /// What `accept` may do, as a relation between a state, a frame, a result and the state afterwards.
     ghost accepts: { Self → FrameData → Result (Unit {0}) Error → Self → Type 0 };
 
     /// Takes a frame, which it shares with other sinks. May fail with any error; the profiler counts that, and goes on.

@@ -13,22 +13,22 @@ use std::sync::{Arc, Wait};
 
 /// A sink with its number.
 #[derive(Drop)]
-pub struct Entry {
+pub struct SinkEntry {
     pub(crate) id: u64,
     pub(crate) sink: Sink,
 }
 
-/// The sinks of a profiler by rising number, all below the next number.
+/// The sinks of a profiler, sorted by number. All their numbers are below the next one.
 #[derive(Drop)]
 pub(crate) struct Sinks {
-    pub(crate) entries: Vec<Entry>,
+    pub(crate) entries: Vec<SinkEntry>,
     pub(crate) next: u64,
     ghost rising: { AreNumbered entries.items next },
 }
 
 impl Sinks {
     /// Makes a list without sinks out of an empty vector. The first sink will have the number 1.
-    pub(crate) fn of_none(none: Vec<Entry>) -> Sinks
+    pub(crate) fn of_none(none: Vec<SinkEntry>) -> Sinks
         requires { none.items ≡ [] }
         ensures entries { result.entries.items ≡ [] }
         ensures next { result.next ≡ 1 }
@@ -39,8 +39,8 @@ impl Sinks {
         }
     }
 
-    /// Adds a sink under the next number, and returns that. Fails with `SinkIdsExhausted` or `Memory`; then the sink is
-    /// returned, and nothing changes.
+    /// Adds a sink under the next number, and returns that number. Fails with `SinkIdsExhausted` or `Memory`, and then returns
+    /// the sink and changes nothing.
     pub(crate) fn add(&mut self, sink: Sink) -> std::result::Result<FrameSinkId, (Error, Sink)>
         ensures ok { IfOk result (λ id.
             (id.0 ≡ self.old.next)
@@ -58,13 +58,13 @@ impl Sinks {
         let Some(next) = id.checked_add(1) else {
             return Err((Error::SinkIdsExhausted, sink));
         };
-        match self.entries.push(Entry { id, sink }) {
+        match self.entries.push(SinkEntry { id, sink }) {
             Ok(()) => {
                 self.next = next;
                 Ok(FrameSinkId(id))
             }
             Err(refused) => {
-                let Entry { id: _, sink } = refused.value;
+                let SinkEntry { id: _, sink } = refused.value;
                 Err((Error::Memory, sink))
             }
         }
@@ -82,11 +82,11 @@ impl Sinks {
         let Some(at) = place_of(&self.entries, id.0) else {
             return None;
         };
-        let Entry { id: _, sink } = self.entries.remove(at);
+        let SinkEntry { id: _, sink } = self.entries.remove(at);
         Some(sink)
     }
 
-    /// Hands a frame to each sink by rising number. Returns how many sinks didn't take it.
+    /// Hands a frame to each sink, in ascending order of number. Returns how many sinks didn't take it.
     pub(crate) fn hand_on<R: Wait>(&mut self, rt: &R, frame: &Arc<FrameData>) -> usize
         ensures handed { HandsOn (λ b. (FrameSink-box b).accepts) (arc_value frame.now)
             self.old.entries.items result self.new.entries.items }
@@ -97,7 +97,7 @@ impl Sinks {
 }
 
 /// Returns the position of the sink with this number.
-fn place_of(entries: &[Entry], id: u64) -> Option<usize>
+fn place_of(entries: &[SinkEntry], id: u64) -> Option<usize>
     ensures some { IfSome result (λ i.
         (e : _) × (slice_get entries.now i ≡ Some e) × (e.id ≡ id) × (i < length entries.now)) }
     ensures none { IfNone result (HasNone id entries.now) }

@@ -23,13 +23,13 @@ fn is_no_file(rt: &impl Files, path: &str) -> bool {
     }
 }
 
-/// Writes the frames of a view to a file with this name. They are written to a second file first, with `.part` added to the
-/// name, which then replaces the old file. A device, a pipe or a link is written to directly.
+/// Writes the frames of a view to a file with this name. They are first written to a second file, with `.part` added to the
+/// name; that file then replaces the old one. A device, a pipe or a link is written to directly.
 ///
-/// Fails with `Io` if a file can't be created, written or renamed, with `Memory`, or as [`FrameView::write`] does. If it fails,
-/// an old plain file is unchanged.
+/// Fails with `Io` if a file can't be created, written or renamed; with `Memory` if the second file's name can't be allocated;
+/// or as [`FrameView::write`] does. If it fails, an old plain file is unchanged.
 ///
-/// No contract states what the file holds afterwards, since the kit can't express that; tests read the file again.
+/// No contract states what the file holds afterwards, since contracts can't express that; tests read the file again.
 ///
 /// ```
 /// save(&rt, "frames.puffin", &view)?;

@@ -12,10 +12,10 @@ pub trait Records {
     ghost use Rattle.puffin.specs.declared.light.place.Place.{Place};
     ghost use Rattle.puffin_scopes.specs.declared.guard_state.GuardState.{GuardState};
 
-    /// What `begin` may do: the thread, a place, a text, the guard's state and the thread afterwards.
+    /// What `begin` may do, as a relation between the thread, a place, a text, the guard's state and the thread afterwards.
     ghost begins: { Self → Place → List ℕ → GuardState → Self → Type 0 };
 
-    /// What `end` may do: the thread, the scope's offset and the thread afterwards.
+    /// What `end` may do, as a relation between the thread, the scope's offset and the thread afterwards.
     ghost ends: { Self → ℕ → Self → Type 0 };
 
     /// Returns the switch of scopes and the source of their ids, which all threads of a program share.

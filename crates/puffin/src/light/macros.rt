@@ -1,7 +1,7 @@
 //! Macros that name places and bind guards.
 
-/// Makes the [`Place`](crate::light::Place) of a function, or of a part of it with a name of its own. Its file is the module
-/// that the macro is in.
+/// Makes the [`Place`](crate::light::Place) of a function, or of a part of it with a name of its own. Its file is the module in
+/// which the macro is called.
 ///
 /// ```
 /// let (update, physics) = (place!("update"), place!("update", "physics"));

@@ -26,7 +26,8 @@ pub trait Frames {
         ensures spells { IfOk result (λ emitted. SpellsItsScopes emitted.frame) };
 }
 
-/// A program whose threads are profiled. All threads share it by `&`; state of one thread alone is a local variable in `work`.
+/// A program whose threads are profiled. All threads share it by `&`; a thread's own state is kept in local variables of
+/// `work`.
 ///
 /// ```
 /// impl Program for Game {
@@ -49,7 +50,7 @@ pub trait Frames {
 /// Here `done` is a `Barrier` of all threads and the leader. What is reported after the last frame is in no frame;
 /// `Outcome::settled` counts it as pending.
 pub trait Program {
-    /// Does the work of one thread. Threads are numbered from 0, in the order of their names.
+    /// Does the work of one thread. Threads are numbered from 0, in the order of the names passed to [`profiled`].
     fn work<R: Wait, T: Records>(&self, rt: &R, number: usize, thread: &mut T);
 
     /// Takes frames while the threads work. It runs on the thread that called [`profiled`].
@@ -61,9 +62,9 @@ pub trait Program {
 pub struct Outcome {
     /// The last and the slowest frames.
     pub view: GlobalFrameView,
-    /// The number of scopes that each thread reported, in the order of the threads' names.
+    /// The number of scopes that each thread reported, in the order in which the threads' names were passed.
     pub reported: Vec<u64>,
-    /// How many scopes all threads reported, how many of these the frames handed out, and how many are pending.
+    /// How many scopes all threads reported, how many of these were handed out in frames, and how many are pending.
     pub settled: Settled,
     /// The number of frames that were handed out. Each of them has at least one scope.
     pub frames: u64,
@@ -71,7 +72,7 @@ pub struct Outcome {
     pub missed: u64,
 }
 
-/// Prepares a thread for each name, on the system's clock.
+/// Prepares a thread for each name, with the system's clock.
 fn ready<R: AllocGlobal + Clock + Copy>(
     rt: R,
     names: &[&str],
@@ -89,7 +90,7 @@ fn ready<R: AllocGlobal + Clock + Copy>(
 }
 
 /// Runs a program: starts a thread for each of these names, runs the program's leader on the calling thread, joins all threads
-/// and adds up what they reported. No thread begins its work before all of them are started.
+/// and adds up what they reported. No thread begins its work before all of them have been started.
 ///
 /// Fails if a clock can't be read, a thread can't be started, or memory runs out. Threads that were already started then end
 /// without having begun their work.

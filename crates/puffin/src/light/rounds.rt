@@ -11,16 +11,16 @@ use std::thread::Threads;
 
 /// A program whose threads each do a part of every round. All threads share it by `&`.
 pub trait Rounds {
-    /// Does one thread's part of a round. Threads are numbered from 0, in the order of their names. A thread that has finished
-    /// early does nothing in the remaining rounds.
+    /// Does one thread's part of a round. Threads are numbered from 0, in the order of the names passed to [`in_rounds`].
+    /// `part` is called for each thread in every round, so let it do nothing for a thread whose work is finished.
     fn part<T: Records>(&self, number: usize, thread: &mut T);
 }
 
-/// A program in rounds whose threads each keep a state of their own from round to round. Every [`Rounds`] is one with the state
-/// `()`.
+/// A program in rounds whose threads each keep a state of their own from round to round. Every [`Rounds`] is also a
+/// `StatefulRounds`, with the state `()`.
 pub trait StatefulRounds {
-    /// The state that only its own thread reads and changes. It never leaves that thread, but the proof of [`in_rounds`] needs
-    /// it to be `Send`.
+    /// A thread's state, which only that thread reads and changes. It never leaves that thread, but the proof of [`in_rounds`]
+    /// needs it to be `Send`.
     type State: Drop + Send;
 
     /// Makes the state of one thread. It is called once, on that thread, before the first round.
@@ -66,9 +66,9 @@ impl<W: StatefulRounds> Program for InRounds<'_, W> {
     }
 }
 
-/// Runs a program ([`Rounds`], or [`StatefulRounds`] if each thread has a state) for a number of rounds, on a thread for each
-/// of these names, and takes a frame after each round. If a frame is refused, its scopes are in the next one; after the last
-/// round they are counted as pending.
+/// Runs a program ([`Rounds`], or [`StatefulRounds`] if each thread has a state) for a number of rounds, with one thread for
+/// each of these names, and takes a frame after each round. If taking a frame fails, its scopes are in the next one; after the
+/// last round they are counted as pending.
 ///
 /// Fails as [`profiled`] does; no round has begun then.
 ///

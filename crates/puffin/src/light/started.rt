@@ -107,7 +107,7 @@ struct Room<L: Ledger, M: Ledger> {
 }
 
 impl<L: Ledger, M: Ledger> Room<L, M> {
-    /// Allocates for a number of threads and the leader.
+    /// Allocates room for this number of threads and the leader.
     fn new<R: AllocGlobal>(rt: &R, threads: usize) -> io::Result<Room<L, M>> {
         Ok(Room {
             shares: Vec::with_capacity(rt.alloc(), threads.saturating_add(1))?,
@@ -189,7 +189,7 @@ fn lead<L: Ledger, M: Ledger, R: Wait + Copy, W: Program>(
 
 /// Starts the program's threads, opens its gate, runs its leader, and returns all shares.
 ///
-/// Fails if a thread can't be started or memory runs out; the threads that were started then leave.
+/// Fails if a thread can't be started or memory runs out; the threads that were started then end without having begun.
 fn run_all<
     's,
     E,

@@ -1,4 +1,4 @@
-//! The frames that a program's leader takes, by a share of its own.
+//! The frames that a program's leader takes, through a share of its own.
 ghost use Rattle.std.specs.Prelude.{◌≡◌, ◌≤◌, ◌<◌, ◌^◌};
 ghost use Rattle.puffin.specs.Taking.{CountsTaken};
 

@@ -68,7 +68,7 @@ impl<C> Thread<C, GlobalProfiler> {
 impl<C: NsSource, P: Reporter> Thread<C, P> {
     ghost use Rattle.puffin.specs.Guards.{EndsAt};
 
-    /// Makes a thread from its profiler and the reporter that it reports to. All threads of a program share the scopes.
+    /// Makes a thread from its profiler and the reporter that it reports to. All threads of a program share `scopes`.
     pub fn new(profiler: ThreadProfiler<C>, reporter: P, scopes: Arc<Scopes>) -> Thread<C, P>
         ensures { (result.profiler ≡ profiler) × (result.reporter ≡ reporter) }
     {
@@ -86,7 +86,7 @@ impl<C: NsSource, P: Reporter> Thread<C, P> {
         &mut self.reporter
     }
 
-    /// Ends the scope at this offset by [`ThreadProfiler::end_scope`], which also reports if no other scope is open.
+    /// Ends the scope at this offset with [`ThreadProfiler::end_scope`], which also reports if no other scope is open.
     #[inline(never)]
     fn end_and_report(&mut self, offset: usize)
         ensures { EndsAt C.answers P.accepts P.refuses offset self.old.profiler
@@ -95,7 +95,8 @@ impl<C: NsSource, P: Reporter> Thread<C, P> {
         let _ = self.profiler.end_scope(offset, &mut self.reporter);
     }
 
-    /// Reports the closed scopes that wait because an earlier report was refused. Returns `Ok(false)` if none waits.
+    /// Reports the closed scopes that are still waiting because an earlier report was refused. Returns `Ok(false)` if there are
+    /// none.
     ///
     /// Fails as [`ThreadProfiler::report_closed`] does; the thread doesn't change then.
     pub fn report_closed(&mut self) -> Result<bool>

@@ -1,4 +1,4 @@
--- What a call that collects a frame hands out and what it leaves.
+-- What a call that collects a frame hands out, and what it leaves behind.
 use Rattle.std.specs.Prelude.{◌≡◌, ℕ, ◌+◌, ◌<◌, List, Option, Some, None, ◌⊎◌}
 use Rattle.std.specs.FinMap as map
 use Rattle.std.specs.Arc.{arc_value}
@@ -8,7 +8,7 @@ use Rattle.puffin_data.specs.declared.error.Error.TheVariants.{IndexExhausted, M
 use Rattle.puffin_data.specs.Honesty.{StreamFacts}
 use Rattle.puffin_threads.specs.Thread.ThreadKey.{ThreadKey}
 use Rattle.puffin_threads.specs.Details.{Details, shared_details, AllHaveIds}
-use Rattle.puffin_threads.specs.Details.Collection.{Begins}
+use Rattle.puffin_threads.specs.Details.Collection.{IsPrefix}
 use Rattle.puffin_frames.specs.declared.frame_data.frame.FrameData.{FrameData}
 use Rattle.puffin_frames.specs.declared.frame_data.meta.FrameMeta.{FrameMeta}
 use Rattle.puffin_frames.specs.Frame.Contents.{Streams, AreHonest, holding_of, frame_meta, frame_details}
@@ -28,7 +28,7 @@ pub record HoldsAll (c : Collected) (frame : FrameData) : Type 0 where
 abbrev pub HaveNoScopes : Streams → Type 0
 HaveNoScopes streams = (i : ThreadKey) (r : StreamFacts) → map.get streams i ≡ Some r → r.num_scopes ≡ 0
 
--- a frame is handed out exactly when a scope is pending; without one only the index rises
+-- a frame is handed out exactly when a scope is pending; otherwise only the index rises
 abbrev pub Collects : {A : Type 0} → Collected → Option (Arc FrameData A) → Collected → Type 0
 Collects old (Some frame) new =
     HoldsAll old (arc_value frame)
@@ -44,7 +44,7 @@ TellsIds (Some frame) = AllHaveIds (frame_details (arc_value frame))
 -- a prefix of the details is known
 abbrev pub KnowsSome : Collected → List Details → Collected → Type 0
 KnowsSome old ds new =
-    (learnt : List Details) × Begins learnt ds × (new ≡ after_learning old learnt)
+    (learnt : List Details) × IsPrefix learnt ds × (new ≡ after_learning old learnt)
 
 -- A refused call keeps all that is pending; a prefix of the new details may be known.
 abbrev pub KeepsPending : Collected → Error → Collected → Type 0

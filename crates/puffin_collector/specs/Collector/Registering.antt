@@ -11,7 +11,8 @@ use Rattle.puffin_collector.specs.Collector.State.{Collected, after_adding}
 abbrev pub known_id : Collection → Details → Option ℕ
 known_id collection d = map.get collection.by_name (name_of d)
 
--- The details that were asked for have these ids, and `new` are those registered, each with its id: a name that is already known has its known id.
+-- The details that were asked for have these ids. `new` are the newly registered details, each with its id; a name that is
+-- already known keeps its id.
 pub data Registers (collection : Collection) : List Details → List ℕ → List Details → Type 0 where
   none_asked : Registers collection [] [] []
   known_name : {asked : List Details} {ids : List ℕ} {new : List Details} (d : Details) (id : ℕ)

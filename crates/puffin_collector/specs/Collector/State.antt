@@ -12,7 +12,8 @@ use Rattle.puffin_threads.specs.Details.Collection.{Collection, collection_code,
 use Rattle.puffin_frames.specs.Frame.Contents.{Streams, streams_code, stream_under}
 use Rattle.puffin_frames.specs.Frame.Sums.{total_bytes, total_scopes, joined_range, IsOrdered, DurationFits}
 
--- The index of the next frame, the numbers of scopes ever reported and handed out in frames, and the streams of the next frame; the known details, those new in the next frame, in order, and whether the next frame is to list all.
+-- The index of the next frame, the numbers of scopes ever reported and handed out in frames, and the streams of the next frame;
+-- the known details, those new in the next frame, in order, and whether the next frame is to list all known ones.
 pub record Collected : Type 0 where
   pub index : ℕ
   pub reported : ℕ
@@ -62,13 +63,13 @@ after_report c i ds r = record c {
   new_details = c.new_details ++ ds;
 }
 
--- with one info more, what is pending has sums that fit 64 bits
+-- with one more info, what is pending has sums that fit 64 bits
 pub record PendingFits (c : Collected) (r : StreamFacts) : Type 0 where
   pub bytes : total_bytes (map.values c.streams) + length r.bytes < 2 ^ 64
   pub scopes : total_scopes (map.values c.streams) + r.num_scopes < 2 ^ 64
   pub reported : c.reported + r.num_scopes < 2 ^ 64
 
--- the joined range of all that is pending and one info more
+-- the joined range of all that is pending and one more info
 abbrev pub range_with : Collected → StreamFacts → ℤ × ℤ
 range_with c r = joined_range (r ∷ map.values c.streams)
 
@@ -76,11 +77,11 @@ range_with c r = joined_range (r ∷ map.values c.streams)
 abbrev pub IsTooLong : ℤ × ℤ → Type 0
 IsTooLong range = IsOrdered range × ¬ DurationFits range
 
--- what is pending under an info, and one more under it, have bytes in unlike forms
+-- what is pending under an info and what is added under it have bytes in unlike forms
 abbrev pub IsUnlike : Collected → ThreadKey → StreamFacts → Type 0
 IsUnlike c i r = AreUnlike (stream_under c.streams i) r
 
--- why a report is refused whose details have ids and whose form is that of what is pending: the first cause that applies
+-- why a report is refused although its details have ids and its form fits what is pending: the first cause that applies
 abbrev pub IsSumRefusal : Collected → StreamFacts → Error → Type 0
 IsSumRefusal c r e =
     ((e ≡ TooLarge) × ¬ PendingFits c r)
@@ -108,7 +109,7 @@ RefusesReport old i ds r e new = IsReportRefusal old i ds r e × (new ≡ old)
 
 -- ---- frames
 
--- all details of a collection, by rising id
+-- all details of a collection, sorted by id
 abbrev pub all_details : Collection → List Details
 all_details collection = map.values collection.by_id
 
@@ -137,7 +138,7 @@ after_learning c learnt = record c { collection = with_all_details c.collection 
 abbrev pub after_wanting : Collected → Collected
 after_wanting c = record c { wants_all = true }
 
--- ---- scopes of the caller's own
+-- ---- the caller's own scopes
 
 -- after these details became known, which are new in the next frame
 abbrev pub after_adding : Collected → List Details → Collected

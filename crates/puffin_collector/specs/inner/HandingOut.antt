@@ -7,7 +7,8 @@ use Rattle.puffin_frames.specs.Frame.Contents.{holding_of, frame_meta}
 use Rattle.puffin_frames.specs.Frame.Sums.{meta_of}
 use Rattle.puffin_collector.specs.Collector.State.{Collected}
 
--- the frame has all that is pending, unpacked, under the next index; it lists these details, all known ones among them if a snapshot was wanted
+-- the frame has all that is pending, unpacked, under the next index; it lists these details, which include all known ones if a
+-- snapshot was wanted
 pub record HoldsPending (c : Collected) (details : List Details) (frame : FrameData) : Type 0 where
   pub held : holding_of frame ≡ record { packed = None; unpacked = Some c.streams }
   pub meta : frame_meta frame ≡ meta_of c.index (map.values c.streams)

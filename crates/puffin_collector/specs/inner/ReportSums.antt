@@ -9,7 +9,7 @@ use Rattle.puffin_frames.specs.declared.frame_data.meta.FrameMeta.{FrameMeta}
 use Rattle.puffin_frames.specs.Frame.Sums.{total_bytes, total_scopes, IsOrdered, DurationFits}
 use Rattle.puffin_collector.specs.Collector.State.{Collected, range_with, IsUnlike}
 
--- the meta of a frame of all that is pending and one info more
+-- the meta of a frame of all that is pending and one more info
 pub record AddsUp (c : Collected) (more : FrameMeta) (r : StreamFacts) : Type 0 where
   pub frame_index : more.frame_index ≡ c.index
   pub num_bytes : more.num_bytes ≡ total_bytes (map.values c.streams) + length r.bytes

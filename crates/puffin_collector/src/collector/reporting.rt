@@ -49,7 +49,7 @@ impl Collector {
         }
     }
 
-    /// Appends the caller's own scopes, as [`Collector::report`] does without details. Fails in the same cases.
+    /// Appends the caller's own scopes. Does the same as [`Collector::report`] with no details, and fails in the same cases.
     #[inline(always)]
     pub fn report_user_scopes(&mut self, info: ThreadInfo, times: &StreamInfoRef) -> Result<()>
         requires { (f : Forest) × IsHonestRef times.now f }
@@ -99,8 +99,8 @@ impl Collector {
         }
     }
 
-    /// Appends scopes to those that are pending under their thread's info, without details. Fails as [`Collector::report`]
-    /// does.
+    /// Appends scopes without details to those that are pending under their thread's info. Fails in the same cases as
+    /// [`Collector::report`].
     #[inline(always)]
     fn append(&mut self, info: ThreadInfo, times: &StreamInfoRef) -> Result<()>
         requires { (f : Forest) × IsHonestRef times.now f }
@@ -109,7 +109,7 @@ impl Collector {
         ensures err { IfErr result (λ e.
             RefusesReport self.old (key_of info) [] (facts_of_ref times.now) e self.new) }
     {
-        // The laws give the proof of the invariant what holds of joined ranges and of streams.
+        // The proof of the invariant uses these laws about joined ranges and streams.
         laws::joined_ranges();
         laws::reported_streams();
         laws::honest_streams();
@@ -134,8 +134,8 @@ impl Collector {
         }
     }
 
-    /// Returns the error of a report that already has this cause: `UnlikeForms` if that applies, as it comes first, else this
-    /// cause.
+    /// Returns the error of a report that would fail with this cause: `UnlikeForms` if that applies, because it comes first,
+    /// else this cause.
     fn first_cause(&self, info: &ThreadInfo, times: &StreamInfoRef, cause: Error) -> Error
         ensures { IsFirstCause self.now (key_of info.now) (facts_of_ref times.now) cause result }
     {
@@ -146,8 +146,8 @@ impl Collector {
         }
     }
 
-    /// Returns the meta of all that is pending and this report, and the number of scopes reported including it. Fails with the
-    /// first cause that applies, memory aside.
+    /// Returns the meta of all pending scopes joined with this report, and the number of scopes ever reported, including this
+    /// report. Fails with `TooLarge` or `RangeTooLong`, whichever applies first.
     fn sums_with(&self, times: &StreamInfoRef) -> Result<(FrameMeta, u64)>
         ensures sums { IfOk result (λ sums.
             AddsUp self.now sums.0 (facts_of_ref times.now)
@@ -157,7 +157,7 @@ impl Collector {
             × ¬ IsTooLong (range_with self.now (facts_of_ref times.now))) }
         ensures refusal { IfErr result (IsSumRefusal self.now (facts_of_ref times.now)) }
     {
-        // The law gives the proof the joined range with one more stream.
+        // The proof uses this law about a range joined with one more stream.
         laws::joined_ranges();
         let Some(meta) = self.meta.joined(times) else {
             return Err(Error::TooLarge);

@@ -11,7 +11,7 @@ counted_device counted = counted.device
 abbrev pub failed_calls : {D : Type 0} → Counted D → ℕ
 failed_calls counted = counted.faults
 
--- the reader that lends its buffer
+-- the reader itself
 abbrev pub buffered_reader : {B : Type 0} → Buffered B → B
 buffered_reader buffered = buffered.reader
 

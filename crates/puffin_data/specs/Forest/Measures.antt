@@ -13,13 +13,13 @@ abbrev pub height : Forest → ℕ
 height empty = 0
 height (node s children others) = max (1 + height children) (height others)
 
--- the least start of all scopes, or i64's greatest number without scopes
+-- the least start of all scopes, or i64's greatest number if there are none
 abbrev pub least_start : Forest → ℤ
 least_start empty = pos (2 ^ 63 - 1)
 least_start (node s children others) =
     int_min s.start (int_min (least_start children) (least_start others))
 
--- the greatest stop of all scopes, or i64's least number without scopes
+-- the greatest stop of all scopes, or i64's least number if there are none
 abbrev pub greatest_stop : Forest → ℤ
 greatest_stop empty = negsuc (2 ^ 63 - 1)
 greatest_stop (node s children others) =

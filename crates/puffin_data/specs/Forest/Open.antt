@@ -1,4 +1,4 @@
--- Streams some of whose scopes are begun and not yet ended.
+-- Streams with scopes that are begun and not yet ended.
 use Rattle.std.specs.Prelude.{ℕ, ◌+◌, ◌-◌, ◌^◌, ◌<◌, ◌≤◌, ℤ, FitsSigned, List, [], ◌∷◌, ◌++◌, length, take, drop}
 use Rattle.byteorder.specs.Endian.{little_bytes}
 use Rattle.std.specs.List.{All}
@@ -9,7 +9,8 @@ use Rattle.puffin_data.specs.Forest.{Forest, IsForest, empty, node, append}
 use Rattle.puffin_data.specs.Forest.Spelling.{spelling, begin_bytes, end_bytes, size_offset}
 use Rattle.puffin_data.specs.Forest.Tour.{Event, Open, tour}
 
--- the bytes after ending the scope whose size is at this place: the number of bytes after the size overwrites it, and the end comes last
+-- the bytes after ending the scope whose size is at this place: the size is overwritten with the number of bytes after it, and
+-- the end is appended
 abbrev pub ended_bytes : (bytes : List ℕ) → (place : ℕ) → (stop : ℤ) → List ℕ
 ended_bytes bytes place stop =
     (take place bytes ++ (little_bytes 8 (length bytes - (place + 8)) ++ drop (place + 8) bytes))
@@ -38,7 +39,7 @@ abbrev pub size_place : Form → Opened → List Opened → ℕ
 size_place form o outer =
     length (opening_bytes form outer ++ spelling form o.before) + size_offset form o.text
 
--- the closed scopes beside an open scope once it ends, itself the last; `closed` are those within it
+-- once an open scope ends, the closed scopes before it and then the scope itself; `closed` are those within it
 abbrev pub with_ended : Opened → (closed : Forest) → (stop : ℤ) → Forest
 with_ended o closed stop =
     append o.before (

@@ -18,7 +18,7 @@ end_mark = 41
 abbrev pub front_size : ℕ
 front_size = 13
 
--- the number of bytes before the size of a scope's children, and with that size
+-- the number of a scope's bytes before the size of its children, and the number up to and including that size
 abbrev pub size_offset : Form → List ℕ → ℕ
 size_offset form text = front_size + text_room form text
 
@@ -40,7 +40,7 @@ begin_bytes form id start text size =
     begin_mark
     ∷ (little_bytes 4 id ++ (time_bytes start ++ (text_layout form text ++ little_bytes 8 size)))
 
--- the bytes after them: `)` and the stop
+-- the bytes after a scope's children: `)` and the stop
 unfoldable pub end_bytes : (stop : ℤ) → List ℕ
 end_bytes stop = end_mark ∷ time_bytes stop
 

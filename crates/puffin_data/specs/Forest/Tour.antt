@@ -13,6 +13,6 @@ tour empty = []
 tour (node s children others) =
     Open s.id s.text s.start ∷ (tour children ++ (Close s.stop ∷ tour others))
 
--- each scope that opens closes, an inner one before the outer: the word is a forest's tour
+-- each scope that opens also closes, inner scopes before outer ones: the word is a forest's tour
 abbrev pub IsBalanced : List Event → Type 0
 IsBalanced word = (f : Forest) × (word ≡ tour f)

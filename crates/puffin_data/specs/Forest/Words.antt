@@ -29,13 +29,13 @@ most_open n [] = n
 most_open n (Open id text start ∷ word) = max n (most_open (n + 1) word)
 most_open n (Close stop ∷ word) = max n (most_open (n - 1) word)
 
--- the least start of all scopes that open, or i64's greatest number without any
+-- the least start of all scopes that open, or i64's greatest number if there are none
 abbrev pub least_open : List Event → ℤ
 least_open [] = pos (2 ^ 63 - 1)
 least_open (Open id text start ∷ word) = int_min start (least_open word)
 least_open (Close stop ∷ word) = least_open word
 
--- the greatest stop of all scopes that close, or i64's least number without any
+-- the greatest stop of all scopes that close, or i64's least number if there are none
 abbrev pub greatest_close : List Event → ℤ
 greatest_close [] = negsuc (2 ^ 63 - 1)
 greatest_close (Open id text start ∷ word) = greatest_close word

@@ -5,20 +5,23 @@ use Rattle.puffin_data.specs.declared.error.Error.TheVariants.{PrematureEnd, Inv
 use Rattle.puffin_data.specs.declared.data.form.Form.{Form}
 use Rattle.puffin_data.specs.declared.data.form.Form.TheVariants.{Short, Long}
 
--- the greatest length that two groups of 7 bits encode
+-- the greatest lengths that one group of 7 bits and two groups encode
+abbrev pub one_group_limit : ℕ
+one_group_limit = 127
+
 abbrev pub two_groups_limit : ℕ
 two_groups_limit = 16383
 
--- the most bytes of a stored text that is read, and of a text that is written
+-- the maximum number of bytes of a stored text that is read, and of a text that is written
 abbrev pub stored_limit : Form → ℕ
 stored_limit Short = 255
 stored_limit Long = two_groups_limit
 
 abbrev pub text_limit : Form → ℕ
-text_limit Short = 127
+text_limit Short = one_group_limit
 text_limit Long = two_groups_limit
 
--- One byte; or 7 bits in each byte, the lowest first, with 128 added to a byte that another follows.
+-- One byte; or 7 bits in each byte, the lowest first, with 128 added to a byte that is followed by another.
 unfoldable pub length_layout : Form → ℕ → List ℕ
 length_layout Short n = n ∷ []
 length_layout Long n = if nat_lt n 128 then n ∷ [] else (128 + n % 128) ∷ (n / 128) ∷ []
@@ -27,7 +30,7 @@ length_layout Long n = if nat_lt n 128 then n ∷ [] else (128 + n % 128) ∷ (n
 abbrev pub text_layout : Form → List ℕ → List ℕ
 text_layout form text = length_layout form (length text) ++ text
 
--- a length with its second byte, which is neither 0 nor one that another follows
+-- a length with its second byte, which must not be 0 or indicate that a third follows
 abbrev pub with_second_group : ℕ → List ℕ → Result (ℕ × ℕ) Error
 with_second_group low [] = Err PrematureEnd
 with_second_group low (high ∷ rest) =

@@ -14,7 +14,7 @@ IsBytes bytes = (i : ℕ) → get_or bytes i 0 < 256
 abbrev pub byte : ℕ → List ℕ
 byte n = n ∷ []
 
--- the bytes before a number of two, four and eight bytes; a number below the first is itself one byte
+-- the bytes before a number of two, four and eight bytes; a number less than the first of these is itself stored as one byte
 abbrev pub two_bytes_mark : ℕ
 two_bytes_mark = 251
 
@@ -48,7 +48,7 @@ abbrev pub optional : {A : Type 0} → (A → List ℕ) → Option A → List �
 optional layout None = 0 ∷ []
 optional layout (Some a) = 1 ∷ layout a
 
--- the length of some bytes or of a text, and these
+-- the length of some bytes or of a text, followed by them
 abbrev pub block : List ℕ → List ℕ
 block bytes = number (length bytes) ++ bytes
 
@@ -91,12 +91,13 @@ AreItems fits xs = (length xs < 2 ^ 64) × AllByRecursion fits xs
 abbrev pub IsAny : {A : Type 0} → A → Type 0
 IsAny a = Unit {0}
 
--- of two different values with a layout, neither layout begins the other
+-- if two different values have a layout, neither layout is a prefix of the other
 abbrev pub NoneBeginsAnother : {A : Type 0} → (A → Type 0) → (A → List ℕ) → Type 0
 NoneBeginsAnother {A = A} fits layout =
     (a b : A) (x y : List ℕ) → fits a → fits b → layout a ++ x ≡ layout b ++ y → (a ≡ b) × (x ≡ y)
 
--- A reading reads exactly the layouts: it gives a value, and the bytes after it, if and only if the value's layout comes before these.
+-- A reading reads exactly the layouts: it gives a value and a rest if and only if the bytes are the value's layout followed by
+-- that rest.
 abbrev pub ReadsLayouts : {A : Type 0} → (A → Type 0) → (A → List ℕ) →
     (List ℕ → Option (A × List ℕ)) → Type 0
 ReadsLayouts {A = A} fits layout read =

@@ -1,4 +1,4 @@
--- The scopes that a walk meets, each with those around it, also where the bytes have a fault.
+-- The scopes that a walk meets, each with those around it, even if the bytes have a fault.
 use Rattle.std.specs.Prelude.{ℕ, ◌+◌, List, [], ◌∷◌, ◌++◌, map, filter, nat_lt}
 use Rattle.puffin_data.specs.declared.data.form.Form.{Form}
 use Rattle.puffin_data.specs.Forest.{Span, Forest, empty, node}
@@ -37,6 +37,6 @@ pub data Sees (form : Form) (bytes : List ℕ) : List Span → ℕ → ℕ → L
 abbrev pub scopes_of : List PlacedScope → List ScopeInContext
 scopes_of placed = map (λ s. s.scope) placed
 
--- those before a place
+-- the scopes before a place
 abbrev pub before : ℕ → List PlacedScope → List PlacedScope
 before place placed = filter (λ s. nat_lt s.place place) placed

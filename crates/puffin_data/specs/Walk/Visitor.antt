@@ -33,7 +33,8 @@ pub record TakesAll (form : Form) {V : Type 0} (takes : V → List ScopeInContex
   pub taken : takes from (nested_in [] forest) to
   pub tries : tried ≡ length (nested_in [] forest)
 
--- The walk met the first fault, and the visitor has taken the sound scopes before it. These are the tries, and one more if a `(` is at the fault.
+-- The walk met the first fault, and the visitor has taken the sound scopes before it. The tries are these scopes, and one more
+-- if a `(` is at the fault.
 pub record StopsAtFault (form : Form) {V : Type 0} (takes : V → List ScopeInContext → V → Type 0)
     (from to : V) (bytes : List ℕ) (tried : ℕ) (fault : Error) : Type 0 where
   pub place : ℕ
@@ -44,7 +45,8 @@ pub record StopsAtFault (form : Form) {V : Type 0} (takes : V → List ScopeInCo
   pub tries : tried
       ≡ length (before place placed) + (if slice_index bytes place == begin_mark then 1 else 0)
 
--- The visitor has taken the sound scopes before one that it refuses, and no fault comes before that. The tries are these and the refused one.
+-- The visitor has taken the sound scopes before one that it refuses, and there is no fault before that one. The tries are these
+-- scopes and the refused one.
 pub record StopsAtRefusal (form : Form) {V : Type 0} (takes : V → List ScopeInContext → V → Type 0)
     (refuses : V → ScopeInContext → Error → Type 0) (from : V) (bytes : List ℕ) (tried : ℕ)
     (cause : Error) : Type 0 where

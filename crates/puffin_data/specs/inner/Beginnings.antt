@@ -3,7 +3,7 @@ use Rattle.std.specs.Prelude.{◌≡◌, ℕ, ◌+◌, ◌-◌, ◌^◌, ◌≤�
 use Rattle.puffin_data.specs.Forest.Spelling.{begin_bytes, head_size}
 use Rattle.puffin_data.specs.Stream.{StreamState}
 
--- The beginning of a scope with this id, start and stored text was appended, and `offset` is that of its unfinished size.
+-- The beginning of a scope with this id, start and stored text was appended, and its unfinished size is at `offset`.
 pub record Begins (old new : StreamState) (id : ℕ) (start : ℤ) (text : List ℕ) (offset : ℕ) : Type 0 where
   pub begun : new.bytes ≡ old.bytes ++ begin_bytes old.form id start text (2 ^ 64 - 1)
   pub size : offset + 8 ≡ length new.bytes

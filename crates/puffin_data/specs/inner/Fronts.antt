@@ -9,7 +9,7 @@ ReadsWithRest view fits layout old (Some x) =
 ReadsWithRest {A = A} view fits layout old None =
     (a : A) (rest : List ℕ) → fits a → old ≡ layout a ++ rest → ⊥
 
--- a call returned what a reading gives, the value, seen by view, and the rest
+-- a call returned, seen by view, what a reading gives: the value and the rest
 abbrev pub GivesWithRest : {X A : Type 0} → (X → A × List ℕ) → Option X → Option (A × List ℕ) →
     Type 0
 GivesWithRest view (Some x) read = read ≡ Some (view x)

@@ -16,7 +16,7 @@ use Rattle.puffin_data.specs.Walk.{region, IsSoundAt, IsFaultAt}
 abbrev pub tries_in : List ℕ → ℕ
 tries_in part = if slice_index part 0 == begin_mark then 1 else 0
 
--- what the code's reading of a scope shows
+-- the code's reading of a scope, as contracts see it
 abbrev pub reading_of : Result (Option RawScope) Error → Result (Option FoundScope) Error
 reading_of (Ok None) = Ok None
 reading_of (Ok (Some s)) = Ok (Some (found_of s))
@@ -41,7 +41,7 @@ pub record Stop : Type 0 where
   pub fault : Error
   pub tries : ℕ
 
--- From place p, in the region that ends at e and is nested in `level` open scopes, a walk with the counts w so far has this result.
+-- A walk with the counts w so far, at place p in a region that ends at e and is nested in `level` open scopes, has this result.
 pub data WalksTo (form : Form) (bytes : List ℕ) : ℕ → Walk → ℕ → ℕ → Result Walk Stop → Type 0 where
   ends : {level : ℕ} {w : Walk} {p : ℕ} → WalksTo form bytes level w p p (Ok w)
   stops : {level : ℕ} {w : Walk} {p e : ℕ} {fault : Error} → IsFaultAt form bytes p e fault →

@@ -9,7 +9,7 @@ use crate::file_error::FileError;
 use std::io;
 use std::io::{BufRead, Read};
 
-/// Appends bytes that the reader lends, at most `most`, and returns how many. Fails with `Io` or `Memory`.
+/// Appends at most `most` bytes from the reader's buffer, and returns how many. Fails with `Io` or `Memory`.
 fn append_lent<B: BufRead>(
     reader: &mut B,
     bytes: &mut Vec<u8>,
@@ -33,7 +33,7 @@ fn append_lent<B: BufRead>(
     Ok(count)
 }
 
-/// Reads one byte and appends it. Returns how many came; 0 means the end. Fails with `Io` or `Memory`.
+/// Reads at most one byte and appends it. Returns the number of bytes read; 0 means the end. Fails with `Io` or `Memory`.
 fn append_byte<R: Read>(reader: &mut R, bytes: &mut Vec<u8>) -> Result<usize, FileError>
     ensures grown { IfOk result (λ n.
         (taken : List ℕ)
@@ -53,7 +53,7 @@ fn append_byte<R: Read>(reader: &mut R, bytes: &mut Vec<u8>) -> Result<usize, Fi
     Ok(count)
 }
 
-/// Appends what the reader lends until `bytes` has `len` bytes or the reader ends. A reader that lends nothing is asked for one
+/// Appends bytes from the reader's buffer until `bytes` has `len` bytes or the reader ends. If the buffer is empty, reads one
 /// byte, since only `read` promises that a reader without a byte is at its end. Fails with `Io` or `Memory`.
 fn append_to_len<B: BufRead>(
     reader: &mut B,
@@ -78,9 +78,8 @@ fn append_to_len<B: BufRead>(
     Ok(())
 }
 
-/// A reader of std that lends its buffer, such as a slice of bytes or a `BufReader`, with the number of its failures. It reads
-/// parts faster than [`Counted`](super::Counted) does: it copies them from the reader's buffer, and doesn't fill room with
-/// zeros first.
+/// A `BufRead` of std, such as a slice of bytes or a `BufReader`, with the number of its failures. It reads parts faster than
+/// [`Counted`](super::Counted) does, since it copies them from the reader's buffer and doesn't fill memory with zeros first.
 ///
 /// ```
 /// let mut source = Buffered::new(b"\x04\0\0\0data".as_slice());

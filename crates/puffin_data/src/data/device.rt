@@ -10,7 +10,7 @@ use std::io;
 use std::io::{Read, Write};
 
 /// A reader that counts its failed calls. The count shows whether a call failed because the reader did. Wrap any reader of std
-/// in [`Counted`] to get one, or in [`Buffered`](super::Buffered) if it lends its buffer.
+/// in [`Counted`] to get one, or in [`Buffered`](super::Buffered) if it is a `BufRead`.
 pub trait Source {
     /// The bytes still to be read, if they are known.
     ghost remaining: { Self → Option (List ℕ) } = { λ _. None };
@@ -27,8 +27,8 @@ pub trait Source {
         ensures failed { failures self.new
             ≡ (if is_err result then failures self.old + 1 else failures self.old) };
 
-    /// Reads until `bytes` has `len` bytes or the reader ends, and appends what came. Fails with `Io` if a read fails, or with
-    /// `Memory`; what `bytes` then holds and how far it read are unspecified.
+    /// Reads bytes and appends them until `bytes` has `len` bytes or the reader ends. Fails with `Io` if a read fails, or with
+    /// `Memory`; the contents of `bytes` and how far it read are then unspecified.
     fn read_to_len(&mut self, bytes: &mut Vec<u8>, len: usize) -> Result<(), FileError>
         requires failures { failures self.old < 2 ^ 64 - 1 }
         requires len { length bytes.old.items ≤ len }

@@ -17,15 +17,15 @@ const TWO_GROUPS: usize = 16_383;
 /// How a stream encodes the lengths of its texts: in one byte, or in one or two groups of 7 bits.
 #[derive(Clone, Copy, Debug, PartialEq, Eq)]
 pub enum Form {
-    /// One byte. A text is cut to 127 bytes when it is written; lengths of up to 255 are read.
+    /// One byte. A text is cut to 127 bytes when it is written; when it is read, its length may be up to 255.
     Short,
-    /// Groups of 7 bits, the lowest first, in the shortest encoding of at most two groups. A text is cut to 16,383 bytes when
-    /// it is written, which is also the greatest length that is read.
+    /// One or two groups of 7 bits, the lowest first, in the shortest encoding. A text is cut to 16,383 bytes when it is
+    /// written; this is also the greatest length that can be read.
     Long,
 }
 
 impl Form {
-    /// Returns the greatest number of a text's bytes that are stored.
+    /// Returns the maximum number of bytes of a text that are stored.
     #[inline]
     pub(crate) fn text_limit(self) -> usize
         ensures { result ≡ text_limit self }
@@ -59,8 +59,8 @@ impl Form {
         &text[..size]
     }
 
-    /// Returns an upper bound on the size of a scope's beginning with this text. It is [`BEGIN_LIMIT`] in the short form, and
-    /// in both forms for a text of up to 127 bytes.
+    /// Returns an upper bound on the size of the beginning of a scope with this text. It is always [`BEGIN_LIMIT`] in the short
+    /// form, and in the long form for a text of up to 127 bytes.
     #[inline]
     pub fn begin_limit(self, text: &str) -> usize
         ensures most { head_size self (cut_text self text.now) ≤ result }
@@ -76,7 +76,7 @@ impl Form {
         }
     }
 
-    /// Returns the size of a scope's beginning with this text.
+    /// Returns the size of the beginning of a scope with this text.
     #[inline(always)]
     pub(crate) fn begin_size(self, text: &str) -> usize
         ensures { result ≡ head_size self (cut_text self text.now) }
@@ -87,8 +87,8 @@ impl Form {
         self.longer_begin_size(text)
     }
 
-    /// Returns the size of the beginning of a scope whose text may have to be cut, and whose length may take two bytes. It is
-    /// out of line, as such texts are rare.
+    /// Like [`Form::begin_size`], for a text that may have to be cut and whose length may take two bytes. It is out of line, as
+    /// such texts are rare.
     #[inline(never)]
     fn longer_begin_size(self, text: &str) -> usize
         ensures { result ≡ head_size self (cut_text self text.now) }
@@ -119,8 +119,8 @@ pub(crate) fn groups(form: Form, text_size: usize) -> (u8, Option<u8>)
 
 /// Decodes the text length at the front of a region, and returns it with the number of bytes that it takes.
 ///
-/// Fails with `PrematureEnd` if the region ends within it, and with `InvalidStream` if its second group is 0 or says that a
-/// third follows.
+/// Fails with `PrematureEnd` if the region ends within the length, and with `InvalidStream` if the second group is 0 or
+/// indicates that a third follows.
 #[inline(always)]
 #[tactic(auto, unfolding(crate::specs::Text::Lengths::length_at))]
 pub(crate) fn length_in(form: Form, region: &[u8]) -> Result<(usize, usize)>

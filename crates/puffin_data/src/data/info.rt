@@ -58,7 +58,7 @@ pub fn joined_range(
 }
 
 impl StreamInfo {
-    /// Makes an info without scopes, in the short form.
+    /// Makes an info without scopes, in [`Form::Short`].
     pub fn new(alloc: Global) -> StreamInfo
         ensures honest { IsHonest result empty }
         ensures form { result.stream.form ≡ Form.Short }
@@ -134,9 +134,9 @@ impl StreamInfo {
 
     /// Appends the scopes of another info. An info without bytes takes the other's form.
     ///
-    /// Fails with `UnlikeForms` if both have bytes and their forms differ, else with `TooLarge` if the number of scopes doesn't
-    /// fit `usize`, else with `Memory`; nothing changes then. Never fails with `Memory` if the other's bytes fit the stream's
-    /// room, and then uses no more room than they take.
+    /// Fails with `UnlikeForms` if both have bytes and their forms differ, or else with `TooLarge` if the number of scopes
+    /// doesn't fit `usize`. Otherwise fails only with `Memory`, and never if the other's bytes fit the stream's room; the call
+    /// then uses no more of the room than they take. Changes nothing if it fails.
     #[inline(always)]
     pub fn extend(&mut self, other: &StreamInfoRef) -> Result<()>
         ensures ok { OnOk result (

@@ -11,7 +11,7 @@ use crate::file_error::FileError;
 use byteorder::{ByteOrder, LittleEndian};
 use std::alloc::Global;
 
-/// Reads once into `buf`, behind its first `at` bytes. Fails only with `Io`.
+/// Reads once into `buf`, after its first `at` bytes. Fails only with `Io`.
 fn read_behind<S: Source>(source: &mut S, buf: &mut [u8], at: usize) -> Result<usize, FileError>
     requires failures { S.failures source.old < 2 ^ 64 - 1 }
     requires at { at < length buf.old }
@@ -29,8 +29,8 @@ fn read_behind<S: Source>(source: &mut S, buf: &mut [u8], at: usize) -> Result<u
     }
 }
 
-/// Reads until `buf` is full or the reader ends, and returns how many bytes came. Fails with `Io` if a read fails; how far it
-/// read is then unspecified.
+/// Reads until `buf` is full or the reader ends, and returns the number of bytes read. Fails with `Io` if a read fails; how far
+/// it read is then unspecified.
 pub fn read_up_to<S: Source>(source: &mut S, buf: &mut [u8]) -> Result<usize, FileError>
     requires { S.failures source.old < 2 ^ 64 - 1 }
     ensures size { length buf.new ≡ length buf.old }
@@ -67,7 +67,7 @@ pub fn read_byte<S: Source>(source: &mut S) -> Result<u8, FileError>
     Ok(byte[0])
 }
 
-/// Reads a length: four bytes, the lowest first. Fails with `Truncated` if the reader ends before, and with `Io` if a read
+/// Reads a length: four bytes, the lowest first. Fails with `Truncated` if the reader ends too early, and with `Io` if a read
 /// fails.
 pub fn read_length<S: Source>(source: &mut S) -> Result<usize, FileError>
     requires { S.failures source.old < 2 ^ 64 - 1 }
@@ -84,9 +84,9 @@ pub fn read_length<S: Source>(source: &mut S) -> Result<usize, FileError>
     Ok(LittleEndian::read_u32(&four) as usize)
 }
 
-/// Reads exactly `len` bytes. Allocates as the bytes come, so a false length takes little memory.
+/// Reads exactly `len` bytes. Allocates as the bytes arrive, so a false length takes little memory.
 ///
-/// Fails with `Io` if a read fails, with `Truncated` if the reader ends before, and with `Memory`.
+/// Fails with `Io` if a read fails, with `Truncated` if the reader ends too early, or with `Memory`.
 pub fn read_part<S: Source>(alloc: Global, source: &mut S, len: usize) -> Result<Vec<u8>, FileError>
     requires { S.failures source.old < 2 ^ 64 - 1 }
     ensures part { FromDevice (λ v. v.items) (S.remaining source.old) (S.remaining source.new)

@@ -68,8 +68,8 @@ fn read_at(form: Form, bytes: &[u8], at: usize, end: usize) -> Result<Option<Sco
 /// Reads the scopes of a stream one after the other. Their texts are borrowed from it.
 ///
 /// As an iterator it returns the scope at its position and moves to that scope's next sibling, so it skips the children. It
-/// ends at the stream's end, and without an error at a byte that isn't `(`. A fault (`PrematureEnd`, `InvalidStream` or
-/// `ScopeNeverEnded`) is returned once, and ends it.
+/// ends at the stream's end, and also, without an error, at a byte that isn't `(`. A fault (`PrematureEnd`, `InvalidStream` or
+/// `ScopeNeverEnded`) is returned once and ends the iteration.
 ///
 /// ```
 /// let scopes = Reader::from_start(&stream).read_top_scopes(alloc)?;
@@ -119,8 +119,8 @@ impl<'s> Reader<'s> {
         })
     }
 
-    /// Reads the scope at offset `at` of the region that ends at offset `end`. Returns `None` if `at` is the end or no byte `(`
-    /// is there. Fails with `PrematureEnd`, `InvalidStream` or `ScopeNeverEnded` if no sound scope is there.
+    /// Reads the scope at offset `at` of the region that ends at offset `end`. Returns `None` if `at` is the end or the byte
+    /// there isn't `(`. Fails with `PrematureEnd`, `InvalidStream` or `ScopeNeverEnded` if the scope there isn't sound.
     pub fn scope_at(stream: &'s Stream, at: usize, end: usize) -> Result<Option<Scope<'s>>>
         requires ordered { at ≤ end }
         requires within { end ≤ length stream.now.bytes }
@@ -149,12 +149,11 @@ impl<'s> Reader<'s> {
         Ok(scopes)
     }
 
-    /// Walks the whole stream, which has to be a forest of scopes, in one pass and without recursion. The stream doesn't
-    /// change.
+    /// Walks the whole stream in one pass and without recursion. The stream has to be a forest of scopes; it doesn't change.
     ///
-    /// Sets `tries` to the number of readings made at a byte `(`, even if the walk fails. Fails with the fault at the least
-    /// offset that the walk reaches (`PrematureEnd`, `InvalidStream` or `ScopeNeverEnded`), or with `Memory` if the vector of
-    /// the open regions' ends can't grow.
+    /// Sets `tries` to the number of bytes `(` at which it tried to read a scope, even if the walk fails. Fails with the fault
+    /// at the least offset among those that the walk reaches (`PrematureEnd`, `InvalidStream` or `ScopeNeverEnded`), or with
+    /// `Memory` if the vector of the open regions' ends can't grow.
     ///
     /// ```
     /// let mut tries = 0;

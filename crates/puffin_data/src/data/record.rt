@@ -36,8 +36,8 @@ pub struct Scope<'s> {
     pub rec: ScopeRecord<'s>,
     /// Where the children begin.
     pub child_begin_position: u64,
-    /// Where the children end. If there are none, it is where they begin.
+    /// Where the children end. Equal to `child_begin_position` if there are none.
     pub child_end_position: u64,
-    /// Where the scope ends, and its next sibling begins if there is one.
+    /// Where the scope ends, and where its next sibling, if any, begins.
     pub next_sibling_position: u64,
 }

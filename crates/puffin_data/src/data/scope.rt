@@ -16,14 +16,14 @@ pub(crate) const SCOPE_BEGIN: u8 = b'(';
 pub(crate) const SCOPE_END: u8 = b')';
 /// The size of a scope's beginning up to its text's length: the first byte, the id and the start.
 pub(crate) const FRONT_SIZE: usize = 13;
-/// The size of the number that gives the size of a scope's children.
+/// The size of the field that holds the size of a scope's children.
 pub(crate) const SIZE_FIELD: usize = 8;
-/// The greatest size of a scope's beginning in the short form: all bytes before its children.
+/// The greatest size of a scope's beginning (all bytes before its children) that is written in the short form.
 pub const BEGIN_LIMIT: usize = 149;
 /// The size of a scope's end: the byte after its children, and the stop.
 pub const END_SIZE: usize = 9;
 
-/// A sound scope at the front of a region. Its positions count from the scope's first byte.
+/// A sound scope at the front of a region. Its positions are offsets from the scope's first byte.
 #[derive(Clone, Copy, Debug)]
 pub struct RawScope<'s> {
     /// Identifies the scope's details. Never 0.
@@ -36,9 +36,9 @@ pub struct RawScope<'s> {
     pub text: &'s [u8],
     /// Where the children begin.
     pub child_begin: usize,
-    /// Where the children end. If there are none, it is where they begin.
+    /// Where the children end. Equal to `child_begin` if there are none.
     pub child_end: usize,
-    /// Where the scope ends, and its next sibling begins if there is one.
+    /// Where the scope ends, and where its next sibling, if any, begins.
     pub next_sibling: usize,
 }
 
@@ -68,7 +68,7 @@ fn size_at(region: &[u8], place: usize) -> u64
     LittleEndian::read_u64(&region[place..])
 }
 
-/// Reads the scope at the front of a region whose text is at these offsets.
+/// Reads the scope at the front of a region. The scope's text must be at these offsets.
 #[inline(always)]
 #[tactic(auto, unfolding(crate::specs::Walk::Reading::sized_reading, crate::specs::Walk::Reading::found_in, crate::specs::Walk::Reading::size_in))]
 fn scope_around(
@@ -118,7 +118,8 @@ fn scope_around(
     }))
 }
 
-/// Reads the scope at the front of a region that has at least its id, its start and the first byte of its text's length.
+/// Reads the scope at the front of a region, which must contain at least the scope's id, its start and the first byte of its
+/// text's length.
 #[inline(always)]
 fn scope_after(form: Form, region: &[u8]) -> Result<Option<RawScope<'_>>>
     requires { FRONT_SIZE + 1 ≤ length region.now }
@@ -130,7 +131,7 @@ fn scope_after(form: Form, region: &[u8]) -> Result<Option<RawScope<'_>>>
     scope_around(form, region, text_begin, text_begin + text_size)
 }
 
-/// Reads the scope at the front of a region. Returns `None` if the region is empty or begins with another byte than `(`.
+/// Reads the scope at the front of a region. Returns `None` if the region is empty or begins with a byte other than `(`.
 #[inline(always)]
 #[tactic(auto, unfolding(crate::specs::Walk::Reading::reading))]
 pub(crate) fn scope_in(form: Form, region: &[u8]) -> Result<Option<RawScope<'_>>>

@@ -19,7 +19,7 @@ impl Model for ScopeId {
 }
 
 impl ScopeId {
-    /// Makes an id of a number. Returns `None` for 0.
+    /// Makes an id from a number. Returns `None` for 0.
     pub fn new(number: u32) -> Option<ScopeId>
         ensures { SomeIff result (0 < number) number }
     {

@@ -8,8 +8,8 @@ use crate::data::scope::{END_SIZE, FRONT_SIZE, SCOPE_BEGIN, SCOPE_END};
 use crate::error::NanoSecond;
 use byteorder::{ByteOrder, LittleEndian};
 
-/// Encodes a scope's beginning up to the first byte of its text's length: the first 14 of these 16 bytes. Two words are faster
-/// to write than four numbers.
+/// Encodes a scope's beginning up to and including the first byte of its text's length, in the first 14 of the 16 bytes
+/// returned. Two words are faster to write than four numbers.
 #[inline]
 pub(crate) fn front(id: u32, start: NanoSecond, group: u8) -> [u8; 16]
     ensures { take (FRONT_SIZE + 1) result
@@ -57,8 +57,8 @@ fn copy_eight(to: &mut [u8], from: &[u8])
     to[..8].copy_from_slice(&word);
 }
 
-/// Copies `from` to `to`, which has the same length. From 8 to 16 bytes are copied as two pieces of eight that may overlap,
-/// which needs no call.
+/// Copies `from` to `to`, which must have the same length. A text of 8 to 16 bytes is copied as two pieces of eight that may
+/// overlap, which needs no call.
 #[inline(always)]
 pub(crate) fn copy_text(to: &mut [u8], from: &[u8])
     requires { length to.old ≡ length from.now }

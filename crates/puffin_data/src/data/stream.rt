@@ -63,7 +63,7 @@ impl Stream {
         }
     }
 
-    /// Makes a stream of these bytes, in this form. Takes over the vector without copying it, and doesn't check the bytes.
+    /// Makes a stream from these bytes, in this form. Takes over the vector without copying it, and doesn't check the bytes.
     pub fn from_bytes(bytes: Vec<u8>, form: Form) -> Stream
         ensures bytes { result.bytes ≡ bytes.items }
         ensures form { result.form ≡ form }
@@ -84,7 +84,7 @@ impl Stream {
         self.form
     }
 
-    /// Changes the form, and no byte.
+    /// Changes the form, but not the bytes.
     #[inline]
     pub(crate) fn set_form(&mut self, form: Form)
         ensures form { self.new.form ≡ form }
@@ -132,8 +132,8 @@ impl Stream {
         self.block.len() - self.len
     }
 
-    /// Makes room for at least so many more bytes. Fails only with `Memory`, and never if the room is there already. The bytes
-    /// don't change, even if it fails.
+    /// Makes room for at least this many more bytes. Fails only with `Memory`, and never if there is enough room already. The
+    /// bytes don't change, even if it fails.
     #[inline]
     pub fn reserve(&mut self, bytes: usize) -> Result<()>
         ensures ok { OnOk result (bytes ≤ self.new.room) }
@@ -150,7 +150,7 @@ impl Stream {
         self.grow(bytes - room)
     }
 
-    /// Makes the room larger by at least so many bytes. Fails only with `Memory`.
+    /// Makes the room larger by at least this many bytes. Fails only with `Memory`.
     #[cold]
     #[inline(never)]
     fn grow(&mut self, more: usize) -> Result<()>
@@ -197,7 +197,7 @@ impl Stream {
         self.lengthen(bytes)
     }
 
-    /// Appends bytes that don't fit the room, and leaves no room behind them.
+    /// Appends bytes that don't fit the room, and leaves no room after them.
     #[inline]
     fn lengthen(&mut self, bytes: &[u8]) -> Result<()>
         requires { self.old.room < length bytes.now }
@@ -212,7 +212,7 @@ impl Stream {
         Ok(())
     }
 
-    /// Appends bytes that fit the room.
+    /// Appends bytes, which must fit the room.
     #[inline]
     pub(crate) fn put(&mut self, bytes: &[u8])
         requires { length bytes.now ≤ self.old.room }
@@ -228,7 +228,7 @@ impl Stream {
         self.len = end;
     }
 
-    /// Appends the first 14 of 16 bytes. Overwrites 16 bytes, which have to fit the room.
+    /// Appends the first 14 of 16 bytes. Overwrites 16 bytes, which must fit the room.
     #[inline(always)]
     fn put_front(&mut self, front: &[u8; 16])
         requires { 16 ≤ self.old.room }
@@ -241,7 +241,7 @@ impl Stream {
         self.len = place + (FRONT_SIZE + 1);
     }
 
-    /// Appends a text's bytes, which fit the room.
+    /// Appends a text's bytes, which must fit the room.
     #[inline(always)]
     fn put_text(&mut self, text: &[u8])
         requires { length text.now ≤ self.old.room }
@@ -257,7 +257,7 @@ impl Stream {
         self.len = end;
     }
 
-    /// Appends a byte, which fits the room, if there is one.
+    /// Appends the byte, if there is one. It must fit the room.
     #[inline]
     fn put_second(&mut self, byte: Option<u8>)
         requires { length (second_byte byte) ≤ self.old.room }

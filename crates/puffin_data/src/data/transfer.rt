@@ -8,7 +8,7 @@ use crate::data::device::{Drain, Source};
 use crate::file_error::FileError;
 use std::alloc::Global;
 
-/// How many bytes are read at once. A false length takes no more memory than that before bytes come.
+/// The number of bytes to read at once. Until bytes arrive, a false length takes no more memory than that.
 pub(super) const PIECE_SIZE: usize = 65536;
 
 /// Reads to the end. Fails with `Io` if a read fails, or with `Memory`; how far it read is then unspecified.

@@ -17,7 +17,7 @@ pub trait Visitor<'s> {
     ghost use Rattle.puffin_data.specs.declared.error.Error.{Error};
     ghost use Rattle.puffin_data.specs.declared.data.form.Form.{Form};
 
-    /// The value that the visitor returns for a scope and is given back for each of its children.
+    /// The value that the visitor returns for a scope and receives again for each of its children.
     type Within: Copy;
 
     /// Whether the visitor may take these scopes, in order, from the first state to the second.
@@ -44,7 +44,7 @@ pub trait Visitor<'s> {
     /// Taking no scope changes nothing.
     ghost takes_none: { (v : Self) → takes v [] v };
 
-    /// Taking one list of scopes and then another is taking both, joined.
+    /// Taking one list of scopes and then another counts as taking both, joined.
     ghost takes_more: { (u v w : Self) (xs ys : List ScopeInContext) → takes u xs v → takes v ys w →
         takes u (xs ++ ys) w };
 
@@ -54,20 +54,20 @@ pub trait Visitor<'s> {
         takes u xs v → stands_for u w around → stands_for v w around };
 }
 
-/// A region that is being read, or that waits while a region within it is read: its end, and what the visitor keeps for the
-/// scope whose children it holds.
+/// A region that is being read, or is waiting while a region within it is read: its end, and the visitor's value for the scope
+/// whose children it contains.
 #[derive(Clone, Copy)]
 struct Region<W> {
     end: usize,
     within: W,
 }
 
-/// Walks all of the bytes, which have to be a forest of scopes in this form, in one pass and without recursion, and hands each
-/// scope to the visitor. Top-level scopes are entered with `outside`.
+/// Walks all of the bytes in one pass and without recursion, and hands each scope to the visitor. The bytes have to be a forest
+/// of scopes in this form. Top-level scopes are entered with `outside`.
 ///
-/// Sets `tries` to the number of readings made at a byte `(`, even if the walk fails. Fails with the visitor's first error or
-/// the first fault (`PrematureEnd`, `InvalidStream` or `ScopeNeverEnded`), whichever comes first, or with `Memory` if the
-/// vector of the open regions can't grow.
+/// Sets `tries` to the number of bytes `(` at which it tried to read a scope, even if the walk fails. Fails with the visitor's
+/// first error or the first fault (`PrematureEnd`, `InvalidStream` or `ScopeNeverEnded`), whichever comes first, or with
+/// `Memory` if the vector of the open regions can't grow.
 ///
 /// ```
 /// let mut tries = 0;

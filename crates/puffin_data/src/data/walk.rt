@@ -53,7 +53,7 @@ impl Walk {
 }
 
 /// Reads the scope that has to be at the front of a region. If the region begins with `(`, adds one to `tries`. Fails with
-/// `InvalidStream` if it begins with another byte, else with the scope's fault.
+/// `InvalidStream` if it begins with another byte, and otherwise with the scope's fault, if there is one.
 #[inline(always)]
 pub(crate) fn next_scope<'s>(form: Form, region: &'s [u8], tries: &mut u64) -> Result<RawScope<'s>>
     requires not_empty { 0 < length region.now }
@@ -72,10 +72,10 @@ pub(crate) fn next_scope<'s>(form: Form, region: &'s [u8], tries: &mut u64) -> R
     }
 }
 
-/// Walks all of the bytes, which have to be a forest of scopes in this form, in one pass and without recursion. Reads the bytes
-/// where they are, without a copy into a [`Stream`](crate::data::Stream).
+/// Walks all of the bytes in one pass and without recursion. They have to be a forest of scopes in this form. Reads the bytes
+/// where they are, without copying them into a [`Stream`](crate::data::Stream).
 ///
-/// Sets `tries` to the number of readings made at a byte `(`, even if the walk fails. Fails as
+/// Sets `tries` to the number of bytes `(` at which it tried to read a scope, even if the walk fails. Fails as
 /// [`Reader::walk`](crate::data::Reader::walk) does.
 ///
 /// ```

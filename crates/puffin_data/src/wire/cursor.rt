@@ -5,11 +5,11 @@ ghost use Rattle.puffin_data.specs.Value.Layout.{number, signed, byte, block, fl
 ghost use Rattle.puffin_data.specs.Value.Decoding.{byte_at, number_at, u32_at, signed_at, flag_at, bytes_at, text_at};
 ghost use Rattle.puffin_data.specs.Value.Outcomes.{Reads, Gives};
 
-use crate::wire::front::{byte_in, bytes_in, flag_in, number_in, signed_in, text_in, word_in};
+use crate::wire::front::{byte_in, bytes_in, flag_in, number_in, signed_in, text_in, u32_in};
 use std::marker::Model;
 
-/// Reads values from the front of bytes. Each of its reading calls returns `None` exactly when no layout of its kind is at the
-/// front, and then doesn't move.
+/// Reads values from the front of bytes. Each reading call returns `None` exactly when no layout of its kind is at the front;
+/// the cursor doesn't move then.
 ///
 /// ```
 /// let mut cursor = Cursor::new(bytes);
@@ -67,7 +67,7 @@ impl<'s> Cursor<'s> {
         ensures reads { Reads (λ x. x) IsU32 number self.old result self.new }
         ensures exact { Gives (λ x. x) self.old result self.new (u32_at self.old) }
     {
-        let (value, rest) = word_in(self.bytes)?;
+        let (value, rest) = u32_in(self.bytes)?;
         self.bytes = rest;
         Some(value)
     }
@@ -102,7 +102,7 @@ impl<'s> Cursor<'s> {
         Some(value)
     }
 
-    /// Reads a flag, 0 or 1. As the first byte of an option it says whether a value follows.
+    /// Reads a flag, 0 or 1. As the first byte of an option, it shows whether a value follows.
     pub fn flag(&mut self) -> Option<bool>
         ensures reads { Reads (λ x. x) IsAny flag self.old result self.new }
         ensures exact { Gives (λ x. x) self.old result self.new (flag_at self.old) }

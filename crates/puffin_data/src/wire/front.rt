@@ -81,7 +81,7 @@ pub(super) fn number_in(bytes: &[u8]) -> Option<(u64, &[u8])>
 }
 
 /// Reads a number that fits 32 bits, in its shortest layout.
-pub(super) fn word_in(bytes: &[u8]) -> Option<(u32, &[u8])>
+pub(super) fn u32_in(bytes: &[u8]) -> Option<(u32, &[u8])>
     ensures reads { ReadsWithRest (λ x. (x.0, x.1.now)) IsU32 number bytes.now result }
     ensures exact { GivesWithRest (λ x. (x.0, x.1.now)) result (u32_at bytes.now) }
 {
@@ -113,7 +113,7 @@ pub(super) fn signed_in(bytes: &[u8]) -> Option<(i64, &[u8])>
     Some((zigzag_back(n), rest))
 }
 
-/// Reads a number and as many bytes after it.
+/// Reads a number and then that many bytes.
 pub(super) fn bytes_in(bytes: &[u8]) -> Option<(&[u8], &[u8])>
     ensures reads { ReadsWithRest (λ x. (x.0.now, x.1.now)) IsBlock block bytes.now result }
     ensures exact { GivesWithRest (λ x. (x.0.now, x.1.now)) result (bytes_at bytes.now) }
@@ -137,7 +137,7 @@ fn text_of(stored: &[u8]) -> Option<&str>
     }
 }
 
-/// Reads a text: a number and as many bytes after it, which have to be UTF-8.
+/// Reads a text: a number and then that many bytes, which must be UTF-8.
 pub(super) fn text_in(bytes: &[u8]) -> Option<(&str, &[u8])>
     ensures reads { ReadsWithRest (λ x. (x.0.now, x.1.now)) IsText block bytes.now result }
     ensures exact { GivesWithRest (λ x. (x.0.now, x.1.now)) result (text_at bytes.now) }

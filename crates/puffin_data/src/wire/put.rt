@@ -38,7 +38,7 @@ pub fn put_u8(out: &mut Vec<u8>, n: u8) -> Result<()>
     Ok(())
 }
 
-/// Appends a number of 32 bits, in the layout of one of 64. Fails as [`put_u64`] does.
+/// Appends a number of 32 bits, in the layout of a number of 64 bits. Fails as [`put_u64`] does.
 pub fn put_u32(out: &mut Vec<u8>, n: u32) -> Result<()>
     ensures ok { OnOk result (out.new.items ≡ out.old.items ++ number n) }
     ensures err { OnErr result (out.new.items ≡ out.old.items) }

@@ -36,7 +36,7 @@ is_own _ = false
 abbrev pub holding_of : FrameData → Holding
 holding_of frame = held_as frame.held
 
--- the streams of a frame, however they are held; none if they are packed with a kind that isn't unpacked here, or the packed bytes aren't streams
+-- a frame's streams, however held; none if they are of a kind that isn't unpacked here, or if the packed bytes aren't streams
 abbrev pub frame_streams : FrameData → Option Streams
 frame_streams frame = holding_streams (holding_of frame)
 

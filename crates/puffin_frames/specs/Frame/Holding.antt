@@ -47,11 +47,11 @@ plainly_packed streams = record {
   bytes = streams_layout (form_of_all (entries streams)) (entries streams);
 }
 
--- they have a layout: their number and the numbers of each fit, names are UTF-8, and streams are bytes
+-- streams that have a layout: their count and the numbers in each fit, names are UTF-8, and streams are bytes
 abbrev pub HaveLayout : Streams → Type 0
 HaveLayout streams = AreItems (λ (e : ThreadKey × StreamFacts). IsThreadKey e.0 × AreCounts e.1) (entries streams)
 
--- packed, they are read as the same streams
+-- when packed, they are read back as the same streams
 abbrev pub AreReadAgain : Streams → Type 0
 AreReadAgain streams = streams_in (plainly_packed streams) ≡ Some streams
 
@@ -63,11 +63,11 @@ abbrev pub either_content : Option Packing → Option Streams → Option Streams
 either_content p None = if_packed p
 either_content p (Some streams) = Some streams
 
--- the one content
+-- the streams, whichever way they are held
 abbrev pub holding_streams : Holding → Option Streams
 holding_streams h = either_content h.packed h.unpacked
 
--- a frame is held in some way, and its unpacked streams, if any, are those that its packing is read as
+-- a frame is held in some way, and reading its packing gives its unpacked streams, if it has any
 abbrev pub Agree : Option Packing → Option Streams → Type 0
 Agree None None = ⊥
 Agree (Some p) None = Unit {0}

@@ -37,7 +37,7 @@ facts_code =
 abbrev pub streams_code : Coded Streams
 streams_code = map.code key_code facts_code
 
--- the infos of a map's entries, each with its thread, and without the threads
+-- the infos of a map's entries: first each with its thread, then without the threads
 abbrev pub records : List (ThreadInfo × StreamInfo) → List (ThreadInfo × StreamFacts)
 records entries = map (λ e. (e.0, facts_of e.1)) entries
 
@@ -56,7 +56,7 @@ without_sharing entries = map (λ e. (e.0, arc_value e.1)) entries
 abbrev pub shared_streams : {A : Type 0} → List (ThreadInfo × Arc StreamInfo A) → Streams
 shared_streams entries = streams_of (without_sharing entries)
 
--- the info of no scope
+-- an info without scopes
 abbrev pub no_scopes : StreamFacts
 no_scopes = record {
   form = Short;
@@ -66,11 +66,11 @@ no_scopes = record {
   range_ns = (pos (2 ^ 63 - 1), negsuc (2 ^ 63 - 1));
 }
 
--- the info under a thread, or that of no scope
+-- the info under a thread, or one without scopes
 abbrev pub stream_under : Streams → ThreadKey → StreamFacts
 stream_under streams i = unwrap_or (map.get streams i) no_scopes
 
--- appends what is reported to what is under its thread
+-- appends a report to the stream under its thread
 abbrev pub reported_to : Streams → ThreadKey → StreamFacts → Streams
 reported_to streams i r = map.insert streams i (joined_facts (stream_under streams i) r)
 

@@ -1,4 +1,4 @@
--- The sums and the joined range of several streams, and when a frame can be made of them.
+-- The sums and the joined range of several streams, and when a frame can be made from them.
 use Rattle.std.specs.Prelude.{◌≡◌, ◌⊎◌, ℕ, ◌-◌, ◌<◌, ◌^◌, ℤ, pos, negsuc, ◌-ℤ◌, ◌≤ℤ◌, FitsSigned, List, length, fold}
 use Rattle.std.specs.List.{sum_by}
 use Rattle.std.specs.Int.{w64, int_min, int_max}
@@ -11,7 +11,7 @@ use Rattle.puffin_frames.specs.declared.frame_data.meta.FrameMeta.{FrameMeta}
 abbrev pub total_bytes : List StreamFacts → ℕ
 total_bytes infos = sum_by (λ info. length info.bytes) infos
 
--- the number of scopes of all streams
+-- the number of scopes in all streams
 abbrev pub total_scopes : List StreamFacts → ℕ
 total_scopes infos = sum_by (λ info. info.num_scopes) infos
 
@@ -46,7 +46,7 @@ pub record MakeFrame (infos : List StreamFacts) : Type 0 where
   pub ordered : IsOrdered (joined_range infos)
   pub duration : DurationFits (joined_range infos)
 
--- Why no frame can be made of these infos: the first cause that applies.
+-- Why no frame can be made from these infos: the first cause that applies.
 abbrev pub RefusesFrame : List StreamFacts → Error → Type 0
 RefusesFrame infos e =
     ((e ≡ TooLarge) × ¬ TotalsFit infos)
@@ -55,7 +55,7 @@ RefusesFrame infos e =
     × ¬ DurationFits (joined_range infos))
     ⊎ ((e ≡ Memory) × MakeFrame infos)
 
--- the meta of a frame of these infos, with this index
+-- the meta of a frame with this index, made from these infos
 abbrev pub meta_of : ℕ → List StreamFacts → FrameMeta
 meta_of index infos = record {
   frame_index = index;

@@ -16,7 +16,7 @@ next_at bytes =
     if is_end bytes then Ok (None, drop 4 bytes)
     else stored_after (take 4 bytes) (drop 4 bytes)
 
--- The reader is at its end: it took four bytes that are read as the end, whatever follows, or fewer that are the last.
+-- The reader is at its end: it took four bytes that are read as the end, whatever follows, or the last bytes, fewer than four.
 pub record AtEnd (old new : Option (List ℕ)) : Type 0 where
   pub taken : List ℕ
   pub consumed : Consumes old new taken

@@ -47,12 +47,12 @@ packet_without_details p =
     ++ (counted_part (meta_layout p.meta)
     ++ (little_bytes 4 (length p.streams) ++ (to_byte p.kind ∷ p.streams)))
 
--- the version before: `PFD2`, with neither details nor a kind, as its streams are of kind `Zstd`
+-- the version before that: `PFD2`, with neither details nor a kind; its streams are of kind `Zstd`
 abbrev pub packet_without_kind : PacketFields → List ℕ
 packet_without_kind p =
     letters Pfd2 ++ (counted_part (meta_layout p.meta) ++ counted_part p.streams)
 
--- a legacy frame: a length, and meta and streams in one
+-- a legacy frame: a length, followed by the meta and the streams in one part
 abbrev pub legacy_bytes : Legacy → List ℕ
 legacy_bytes l = counted_part (legacy_layout l)
 

@@ -72,7 +72,7 @@ text_form Pfd3 = Short
 text_form Pfd4 = Short
 text_form PfdL = Long
 
--- the version that is written of texts in this form
+-- the version that is written for texts in this form
 abbrev pub for_form : Form → Version
 for_form Short = Pfd4
 for_form Long = PfdL

@@ -16,7 +16,7 @@ abbrev pub entries_if_any : Option Streams → List (ThreadKey × StreamFacts)
 entries_if_any None = []
 entries_if_any (Some streams) = entries streams
 
--- an unpacked frame, as it is stored as a legacy one
+-- what a legacy frame stores of an unpacked frame
 abbrev pub legacy_of : FrameData → Legacy
 legacy_of frame =
     record { meta = frame_meta frame; streams = entries_if_any (holding_of frame).unpacked }

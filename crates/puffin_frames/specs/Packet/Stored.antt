@@ -6,7 +6,8 @@ use Rattle.puffin_frames.specs.declared.frame_data.meta.FrameMeta.{FrameMeta}
 use Rattle.puffin_threads.specs.Details.{Details}
 use Rattle.puffin_frames.specs.Packet.Structs.{Legacy}
 
--- what a frame says, however it is held: its meta, its packed streams with the form of their packet, and its details
+-- what a packet of a frame stores, however the frame is held: its meta, its packed streams with the form of their packet, and
+-- its details
 pub record PacketFields : Type 0 where
   pub meta : FrameMeta
   pub form : Form

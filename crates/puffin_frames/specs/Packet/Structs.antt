@@ -51,7 +51,7 @@ made_key p = record { start = p.0; name = p.1 }
 unfoldable pub key_at : List ℕ → Option (ThreadKey × List ℕ)
 key_at = seen_as made_key (pair_at (optional_at signed_at) text_at)
 
--- ---- the form of a stream: one byte in packets of the long form, nothing in those of the short form, as all streams are short there
+-- ---- a stream's form: one byte in packets of the long form, nothing in those of the short form, where all streams are short
 
 abbrev pub form_layout : Form → Form → List ℕ
 form_layout Short form = []
@@ -97,7 +97,7 @@ facts_at packed =
     pair_at (form_in_at packed) (
     pair_at bytes_at (pair_at number_at (pair_at number_at (pair_at signed_at signed_at)))))
 
--- ---- the streams of a frame: a map, as the list of its pairs by rising keys
+-- ---- the streams of a frame: a map, as the list of its pairs in ascending order of key
 
 -- whether some stream is long, and the form of packets that store all of them
 abbrev pub some_long : List (ThreadKey × StreamFacts) → Bool
@@ -106,7 +106,7 @@ some_long es = list_any (λ (e : ThreadKey × StreamFacts). is_long e.1.form) es
 abbrev pub form_of_all : List (ThreadKey × StreamFacts) → Form
 form_of_all es = form_of_flag (some_long es)
 
--- sorted, and in packets of the long form some are long
+-- sorted, and in packets of the long form at least one is long
 abbrev pub are_ordered : Form → List (ThreadKey × StreamFacts) → Bool
 are_ordered Short es = is_sorted key_cmp es
 are_ordered Long es = is_sorted key_cmp es && some_long es

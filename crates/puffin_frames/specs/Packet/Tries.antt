@@ -1,10 +1,10 @@
--- What a call that reads values returns where memory may run out.
+-- The result of a call that reads values and may run out of memory.
 use Rattle.std.specs.Prelude.{◌≡◌, Result, Ok, Err}
 use Rattle.puffin_data.specs.declared.file_error.FileError.{FileError}
 use Rattle.puffin_data.specs.declared.file_error.FileError.TheVariants as file
 use Rattle.puffin_frames.specs.declared.frame_data.decode.Stop.TheVariants as stops
 
--- the same, unless memory ran out
+-- a call has this result, seen by view, unless memory ran out
 abbrev pub DecidedInMemory : {X A : Type 0} → (X → A) → Result X FileError → Result A FileError →
     Type 0
 DecidedInMemory view (Ok x) answer = answer ≡ Ok (view x)

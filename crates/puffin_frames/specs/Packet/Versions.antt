@@ -1,4 +1,4 @@
--- Reading behind a header: a packet of some version, a legacy frame, or the first fault from the left.
+-- What follows the four letters of a version: a packet, a legacy frame, or the first fault from the left.
 use Rattle.std.specs.Prelude.{ℕ, ◌||◌, List, slice_index, Option, Some, None, Result, Ok, Err, ◌==◌, if◌then◌else◌}
 use Rattle.byteorder.specs.Endian.{little_number}
 use Rattle.puffin_data.specs.declared.file_error.FileError.{FileError}

@@ -17,16 +17,16 @@ abbrev pub details_or : List Details → Option Collection → List Details
 details_or ds None = ds
 details_or ds (Some collection) = values collection.by_id
 
--- what a frame says, with the details of a collection in place of its own, if there is one
-abbrev pub says_with : FrameData → Option Collection → PacketFields
-says_with frame collection =
+-- what a packet of a frame stores, with the details of a collection in place of its own, if there is one
+abbrev pub fields_with : FrameData → Option Collection → PacketFields
+fields_with frame collection =
     record (packet_fields frame) { details = details_or (frame_details frame) collection }
 
 -- a part whose length can't be written
 abbrev pub HasLongPart : PacketFields → Type 0
 HasLongPart p = (2 ^ 32 ≤ length p.streams) ⊎ (2 ^ 32 ≤ length (details_layout p.details))
 
--- The promise of a call that writes these bytes to a device. It wrote them all; or the device failed, and a beginning of them is written; or a part is too long or memory ran out, and nothing is written.
+-- The promise of a call that writes these bytes to a device. It wrote them all; or the device failed, and a prefix of them is written; or a part is too long or memory ran out, and nothing is written.
 pub record WritesPacket {D : Type 0} (contents : D → Option (List ℕ)) (failures : D → ℕ)
     (takes : D → List ℕ → ℕ → D → Type 0) (old new : D)
     (bytes : List ℕ) (IsLong : Type 0) (result : Result (Unit {0}) FileError) : Type 0 where

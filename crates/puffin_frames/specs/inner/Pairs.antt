@@ -9,11 +9,11 @@ use Rattle.puffin_threads.specs.declared.thread_profiler.thread_info.ThreadInfo.
 use Rattle.puffin_threads.specs.Thread.ThreadKey.{ThreadKey, key_cmp, key_entries}
 use Rattle.puffin_frames.specs.Frame.Streams.{records, without_sharing}
 
--- what threads recorded as the list of its pairs, in the order of the map's entries
+-- what threads recorded, as a list of pairs in the order of the map's entries
 abbrev pub pairs_of : {A : Type 0} → List (ThreadInfo × Arc StreamInfo A) → List (ThreadKey × StreamFacts)
 pairs_of entries = key_entries (records (without_sharing entries))
 
--- what was read, if the keys rise
+-- what was read, if the keys are in ascending order
 abbrev pub rising : Option (List (ThreadKey × StreamFacts) × List ℕ) →
     Option (List (ThreadKey × StreamFacts) × List ℕ)
 rising read = do

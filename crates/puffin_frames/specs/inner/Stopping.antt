@@ -1,4 +1,4 @@
--- What a call that reads the values of a packet returns where it may stop.
+-- The results of calls that read the values of a packet and may stop early.
 use Rattle.std.specs.Prelude.{◌≡◌, ℕ, false, List, length, Option, Some, None, Result, Ok, Err}
 use Rattle.std.specs.Io.KnownBytes.{Consumes}
 use Rattle.puffin_data.specs.Value.Layout.{IsBytes}
@@ -17,7 +17,7 @@ abbrev pub rest_of : {A : Type 0} → Option (A × List ℕ) → Option (List �
 rest_of None = None
 rest_of (Some a) = Some a.1
 
--- a call passed over what a reading gives; or the reading gives nothing
+-- a call skipped what a reading gives, or the reading gives nothing
 abbrev pub Passes : {A : Type 0} → Option (Unit {0}) → List ℕ → Option (A × List ℕ) → Type 0
 Passes (Some done) new read = rest_of read ≡ Some new
 Passes None new read = read ≡ None

@@ -68,7 +68,7 @@ fn read_meta(cursor: &mut Cursor) -> Option<FrameMeta>
     })
 }
 
-/// Decodes a meta. All of the bytes have to be its layout.
+/// Decodes a meta. All of the bytes must be its layout.
 pub(crate) fn meta_in(bytes: &[u8]) -> Option<FrameMeta>
     ensures { SeenAs (λ m. m) result (whole meta_at bytes.now) }
 {
@@ -139,7 +139,7 @@ fn read_facts(alloc: Global, cursor: &mut Cursor, packed: Form) -> Result<Stream
     })
 }
 
-/// Returns whether a thread is ordered after all those of a map.
+/// Returns whether a thread is ordered after all threads of the map.
 fn comes_last(streams: &ThreadStreams, thread: &ThreadInfo) -> bool
     ensures yes { (r : StreamFacts) → is_sorted key_cmp (pairs_of streams.now.entries) ≡ true →
         result ≡ true →
@@ -188,7 +188,7 @@ fn read_streams_times(
     Ok(streams)
 }
 
-/// Reads streams in a packet of form `packed`. In a packet of the long form some stream has to be long.
+/// Reads streams in a packet of form `packed`. In a packet of the long form at least one stream must be long.
 #[tactic(auto, unfolding(crate::specs::Packet::Structs::streams_at))]
 fn read_streams(alloc: Global, cursor: &mut Cursor, packed: Form) -> Result<ThreadStreams, Stop>
     ensures given { TriesToGive (λ m. pairs_of m.entries) result cursor.new (
@@ -206,7 +206,7 @@ fn read_streams(alloc: Global, cursor: &mut Cursor, packed: Form) -> Result<Thre
     }
 }
 
-/// Decodes streams of a packet of form `packed`. All of the bytes have to be their layout.
+/// Decodes streams of a packet of form `packed`. All of the bytes must be their layout.
 pub(crate) fn streams_in(alloc: Global, packed: Form, bytes: &[u8]) -> Result<ThreadStreams, Stop>
     ensures given { Tries (λ m. pairs_of m.entries) result (whole (streams_at packed) bytes.now) }
     ensures sorted { IfOk result (λ m. is_sorted key_cmp (pairs_of m.entries) ≡ true) }
@@ -289,7 +289,7 @@ fn read_details(alloc: Global, cursor: &mut Cursor) -> Result<Vec<Arc<ScopeDetai
     read_details_times(alloc, cursor, count)
 }
 
-/// Skips an optional text. Allocates nothing, as all that skips here.
+/// Skips an optional text. Like everything that skips here, allocates nothing.
 fn pass_name(cursor: &mut Cursor) -> Option<()>
     ensures { Passes result cursor.new (optional_at text_at cursor.old) }
 {
@@ -312,7 +312,7 @@ fn pass_detail(cursor: &mut Cursor) -> Option<()>
     Some(())
 }
 
-/// Skips the details of so many scopes.
+/// Skips the details of `count` scopes.
 fn pass_details(cursor: &mut Cursor, count: u64) -> Option<()>
     ensures { Passes result cursor.new (times_at detail_at count cursor.old) }
 {
@@ -334,8 +334,7 @@ fn are_details(bytes: &[u8]) -> bool
     pass_details(&mut cursor, count).is_some() && cursor.rest() == 0
 }
 
-/// Decodes a list of scope details. All of the bytes have to be its layout; other bytes are refused before any memory is
-/// taken.
+/// Decodes a list of scope details. All of the bytes must be its layout; other bytes are refused before any memory is taken.
 pub(crate) fn details_in(alloc: Global, bytes: &[u8]) -> Result<Vec<Arc<ScopeDetails>>, Stop>
     ensures given { Tries (λ v. shared_details v.items) result (whole details_at bytes.now) }
     ensures memory { result ≡ Err Memory → is_some (whole details_at bytes.now) ≡ true }
@@ -367,7 +366,7 @@ fn read_legacy(alloc: Global, cursor: &mut Cursor) -> Result<(FrameMeta, ThreadS
     Ok((meta, streams))
 }
 
-/// Decodes the meta and the streams of a legacy frame. All of the bytes have to be their layout.
+/// Decodes the meta and the streams of a legacy frame. All of the bytes must be their layout.
 pub(crate) fn legacy_in(alloc: Global, bytes: &[u8]) -> Result<(FrameMeta, ThreadStreams), Stop>
     ensures given { Tries (λ p. record { meta = p.0; streams = pairs_of p.1.entries }) result
         (whole legacy_at bytes.now) }

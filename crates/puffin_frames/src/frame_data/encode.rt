@@ -29,8 +29,11 @@ use std::sync::Arc;
 /// The most bytes that a number takes.
 const NUMBER_SIZE: usize = 9;
 
-/// The most bytes that a thread and the info of its scopes take, beside the name and the stream.
-const RECORD_SIZE: usize = 7 * NUMBER_SIZE + 2;
+/// The most bytes that a thread and the info of its scopes take, not counting the name and the stream.
+const ENTRY_SIZE: usize = 7 * NUMBER_SIZE + 2;
+
+/// The most bytes that a meta takes.
+pub(crate) const META_SIZE: usize = 5 * NUMBER_SIZE;
 
 /// Appends a frame's meta.
 pub(crate) fn put_meta(out: &mut Vec<u8>, meta: &FrameMeta) -> Result<()>
@@ -38,7 +41,7 @@ pub(crate) fn put_meta(out: &mut Vec<u8>, meta: &FrameMeta) -> Result<()>
     ensures fits { IsMeta meta.now }
     ensures memory { IfErr result (λ e. e ≡ Error.Memory) }
 {
-    // Read as a whole, for the proof: so the ranges of its numbers are known.
+    // Copied as a whole, so that the prover knows the ranges of its numbers.
     let meta = *meta;
     let (start, stop) = meta.range_ns;
     put_u64(out, meta.frame_index)?;
@@ -48,7 +51,7 @@ pub(crate) fn put_meta(out: &mut Vec<u8>, meta: &FrameMeta) -> Result<()>
     put_u64(out, meta.num_scopes as u64)
 }
 
-/// Returns a text unchanged. For the proof alone: the text is UTF-8 and shorter than `2^64` bytes.
+/// Returns a text unchanged. The contract states what its type guarantees: it is UTF-8 and shorter than `2^64` bytes.
 fn text_of(text: &str) -> &str
     ensures same { result.now ≡ text.now }
     ensures text { IsText text.now }
@@ -56,7 +59,7 @@ fn text_of(text: &str) -> &str
     text
 }
 
-/// Returns bytes unchanged. For the proof alone: they are fewer than `2^64`.
+/// Returns bytes unchanged. The contract states what their type guarantees: they are fewer than `2^64`.
 fn block_of(bytes: &[u8]) -> &[u8]
     ensures same { result.now ≡ bytes.now }
     ensures block { IsBlock bytes.now }
@@ -95,14 +98,14 @@ fn put_form(out: &mut Vec<u8>, packed: Form, form: Form) -> Result<()>
     }
 }
 
-/// Appends the info of a thread's scopes in a packet of form `packed`, its stream as one block.
+/// Appends the info of a thread's scopes in a packet of form `packed`, with its stream as one block.
 fn put_facts(out: &mut Vec<u8>, packed: Form, info: &StreamInfo) -> Result<()>
     ensures ok { OnOk result (
         out.new.items ≡ out.old.items ++ facts_layout packed (facts_of info.now)) }
     ensures fits { AreCounts (facts_of info.now) }
     ensures memory { IfErr result (λ e. e ≡ Error.Memory) }
 {
-    // All is read before anything is written, for the proof: so the ranges of the numbers are known.
+    // Everything is read before anything is written, so that the prover knows the ranges of the numbers.
     let stream = block_of(info.stream.bytes());
     let num_scopes = info.num_scopes as u64;
     let depth = info.depth as u64;
@@ -120,7 +123,7 @@ pub(crate) fn streams_size(streams: &ThreadStreams) -> usize {
     let mut size = NUMBER_SIZE;
     'streams: for (thread, info) in streams {
         size = size
-            .saturating_add(RECORD_SIZE)
+            .saturating_add(ENTRY_SIZE)
             .saturating_add(thread.name.len())
             .saturating_add(info.stream.len());
     }
@@ -139,7 +142,7 @@ pub(crate) fn packed_form(streams: &ThreadStreams) -> Form
     Form::Short
 }
 
-/// Appends streams by threads in a packet of form `packed`, which is that of [`packed_form`].
+/// Appends the streams and their threads in a packet of form `packed`, which must be that of [`packed_form`].
 pub(crate) fn put_streams(out: &mut Vec<u8>, packed: Form, streams: &ThreadStreams) -> Result<()>
     requires { packed ≡ form_of_all (pairs_of streams.now.entries) }
     ensures ok { OnOk result (
@@ -156,7 +159,7 @@ pub(crate) fn put_streams(out: &mut Vec<u8>, packed: Form, streams: &ThreadStrea
     Ok(())
 }
 
-/// Does nothing. For the proof alone: the numbers of a thread's info are in range.
+/// Does nothing. The contract states what the types guarantee: the numbers of a thread's info are in range.
 pub(crate) fn thread_fits(thread: &ThreadInfo)
     ensures { IsThreadKey (key_of thread.now) }
 {
@@ -169,7 +172,7 @@ pub(crate) fn thread_fits(thread: &ThreadInfo)
     }
 }
 
-/// Does nothing. For the proof alone: the counts of an info are in range.
+/// Does nothing. The contract states what the types guarantee: the counts of an info are in range.
 pub(crate) fn counts_fit(info: &StreamInfo)
     ensures { AreCounts (facts_of info.now) }
 {
@@ -179,7 +182,7 @@ pub(crate) fn counts_fit(info: &StreamInfo)
     let (_start, _stop) = info.range_ns;
 }
 
-/// Appends a name, or that it is missing.
+/// Appends a name, or a mark that it is missing.
 fn put_name(out: &mut Vec<u8>, name: &Option<CowStr<'static>>) -> Result<()>
     ensures ok { OnOk result (
         out.new.items ≡ out.old.items ++ optional block (option_map cow_str_bytes name.now)) }
@@ -196,7 +199,7 @@ fn put_name(out: &mut Vec<u8>, name: &Option<CowStr<'static>>) -> Result<()>
     }
 }
 
-/// Appends an id, or that it is missing.
+/// Appends an id, or a mark that it is missing.
 fn put_id(out: &mut Vec<u8>, id: Option<ScopeId>) -> Result<()>
     ensures ok { OnOk result (out.new.items ≡ out.old.items ++ optional number id) }
     ensures fits { IfAny IsId id }
@@ -205,7 +208,7 @@ fn put_id(out: &mut Vec<u8>, id: Option<ScopeId>) -> Result<()>
     match id {
         None => put_u8(out, 0),
         Some(id) => {
-            // Read first, for the proof: so its range is known.
+            // Read first, so that the prover knows its range.
             let number = id.get();
             put_u8(out, 1)?;
             put_u32(out, number)
@@ -243,7 +246,7 @@ pub(crate) fn put_details(out: &mut Vec<u8>, details: &[Arc<ScopeDetails>]) -> R
     Ok(())
 }
 
-/// Appends the details of a map as a list, by rising id.
+/// Appends the details of a map as a list, in ascending order of id.
 pub(crate) fn put_details_by_id(
     out: &mut Vec<u8>,
     details: &BTreeMap<ScopeId, Arc<ScopeDetails>>,

@@ -67,7 +67,7 @@ impl FrameData {
     ) -> Result<FrameData>
         ensures delta { IfOk result (λ frame.
             (frame.scope_delta ≡ scope_delta) × (frame.full_delta ≡ full_delta)) }
-        ensures contents { IfOk result (λ frame.
+        ensures streams { IfOk result (λ frame.
             holding_of frame
             ≡ record { packed = None; unpacked = Some (streams_of thread_streams.entries) }) }
         ensures alone { IfOk result (λ frame. is_alone frame ≡ true) }
@@ -81,7 +81,7 @@ impl FrameData {
         Ok(FrameData::of_unpacked(unpacked, scope_delta, full_delta))
     }
 
-    /// Makes a frame of its unpacked data and these details. Allocates nothing.
+    /// Makes a frame that holds this data unpacked, with these details. Allocates nothing.
     pub fn of_unpacked(
         unpacked: UnpackedFrameData,
         scope_delta: Vec<Arc<ScopeDetails>>,
@@ -100,11 +100,11 @@ impl FrameData {
         }
     }
 
-    /// Returns the unpacked data, and drops the details. The frame has to hold its data unpacked and share it with no other
-    /// frame, as one made by [`FrameData::of_unpacked`] does. Allocates nothing.
+    /// Returns the unpacked data, and drops the details. The frame must hold its data unpacked and share it with no other
+    /// frame, like one made by [`FrameData::of_unpacked`]. Allocates nothing.
     pub fn into_unpacked(self) -> UnpackedFrameData
         requires { is_alone self ≡ true }
-        ensures contents { Some (streams_held result) ≡ frame_streams self }
+        ensures streams { Some (streams_held result) ≡ frame_streams self }
         ensures meta { result.meta ≡ frame_meta self }
     {
         let FrameData { held, .. } = self;
@@ -116,7 +116,7 @@ impl FrameData {
 
     /// Returns the unpacked data, or `None` if the frame is only held packed.
     pub fn as_unpacked(&self) -> Option<&UnpackedFrameData>
-        ensures contents { option_map (λ unpacked. streams_held unpacked.now) result
+        ensures streams { option_map (λ unpacked. streams_held unpacked.now) result
             ≡ (holding_of self.now).unpacked }
         ensures meta { IfSome result (λ unpacked. unpacked.now.meta ≡ frame_meta self.now) }
     {
@@ -172,11 +172,11 @@ impl FrameData {
         }
     }
 
-    /// Copies the frame, held in the same ways. The copy shares the details and, if they are unpacked, the streams. Fails only
-    /// with `Memory`.
+    /// Copies the frame; the copy is held in the same ways. It shares the details and, if they are unpacked, the streams. Fails
+    /// only with `Memory`.
     pub fn clone(&self) -> Result<FrameData>
         ensures held { IfOk result (λ copy. holding_of copy ≡ holding_of self.now) }
-        ensures says { IfOk result (λ copy. packet_fields copy ≡ packet_fields self.now) }
+        ensures fields { IfOk result (λ copy. packet_fields copy ≡ packet_fields self.now) }
         ensures full_delta { IfOk result (λ copy. copy.full_delta ≡ self.now.full_delta) }
         ensures memory { IfErr result (λ e. e ≡ Error.Memory) }
     {
@@ -193,8 +193,8 @@ impl FrameData {
     /// Fails only with `Memory`; nothing changes then.
     pub fn pack(&mut self) -> Result<()>
         ensures ok { OnOk result (holding_of self.new ≡ as_packed (holding_of self.old)) }
-        ensures contents { frame_streams self.new ≡ frame_streams self.old }
-        ensures says { packet_fields self.new ≡ packet_fields self.old }
+        ensures streams { frame_streams self.new ≡ frame_streams self.old }
+        ensures fields { packet_fields self.new ≡ packet_fields self.old }
         ensures full_delta { self.new.full_delta ≡ self.old.full_delta }
         ensures err { OnErr result (self.new ≡ self.old) }
         ensures memory { IfErr result (λ e. e ≡ Error.Memory) }
@@ -206,11 +206,11 @@ impl FrameData {
         answer
     }
 
-    /// Copies the frame, held packed only. Fails only with `Memory`.
+    /// Copies the frame; the copy is held packed only. Fails only with `Memory`.
     pub fn packed_copy(&self) -> Result<FrameData>
         ensures held { IfOk result (λ copy. holding_of copy ≡ as_packed (holding_of self.now)) }
-        ensures contents { IfOk result (λ copy. frame_streams copy ≡ frame_streams self.now) }
-        ensures says { IfOk result (λ copy. packet_fields copy ≡ packet_fields self.now) }
+        ensures streams { IfOk result (λ copy. frame_streams copy ≡ frame_streams self.now) }
+        ensures fields { IfOk result (λ copy. packet_fields copy ≡ packet_fields self.now) }
         ensures full_delta { IfOk result (λ copy. copy.full_delta ≡ self.now.full_delta) }
         ensures memory { IfErr result (λ e. e ≡ Error.Memory) }
     {
@@ -224,12 +224,12 @@ impl FrameData {
 
     /// Returns the unpacked data. A frame that was held packed only is then held both ways.
     ///
-    /// Fails with `Compressed` if the packed streams are of another kind than 0, with `BadStreams` if their bytes aren't a
+    /// Fails with `Compressed` if the packed streams are compressed, with `BadStreams` if their bytes aren't a
     /// layout of streams, and with `Memory`; the frame is then held as before.
     pub fn unpacked(&mut self) -> std::result::Result<Arc<UnpackedFrameData>, FileError>
         ensures unpacked { DecidedInMemory (λ frame. streams_held (arc_value frame)) result (
             unpacked_from (holding_of self.old)) }
-        // Packed streams give the streams whose layout the bytes are.
+        // Unpacking gives the streams whose layout the packed bytes are.
         ensures layout { IfOk result (λ frame.
             IfSome (holding_of self.old).packed (λ p.
             HoldsStreams p (streams_held (arc_value frame)))) }
@@ -238,8 +238,8 @@ impl FrameData {
             (streams : Streams) → HoldsStreams p streams → ⊥) }
         ensures meta { IfOk result (λ frame. (arc_value frame).meta ≡ frame_meta self.old) }
         ensures ok { OnOk result (holding_of self.new ≡ as_unpacked (holding_of self.old)) }
-        ensures contents { frame_streams self.new ≡ frame_streams self.old }
-        ensures says { packet_fields self.new ≡ packet_fields self.old }
+        ensures streams { frame_streams self.new ≡ frame_streams self.old }
+        ensures fields { packet_fields self.new ≡ packet_fields self.old }
         ensures full_delta { self.new.full_delta ≡ self.old.full_delta }
         ensures err { OnErr result (holding_of self.new ≡ holding_of self.old) }
     {
@@ -261,7 +261,7 @@ impl FrameData {
         }
     }
 
-    /// Returns the size of the streams in bytes, as the meta has it, or `None` if the frame isn't held unpacked.
+    /// Returns the size of the streams in bytes, as given in the meta, or `None` if the frame isn't held unpacked.
     pub fn unpacked_size(&self) -> Option<usize>
         ensures { result
             ≡ option_map (λ _. (frame_meta self.now).num_bytes) (holding_of self.now).unpacked }
@@ -269,8 +269,8 @@ impl FrameData {
         Some(self.as_unpacked()?.meta.num_bytes)
     }
 
-    /// Returns how many bytes the streams take: the sum of [`FrameData::packed_size`] and [`FrameData::unpacked_size`], each 0
-    /// if it is `None`, or `usize::MAX` if the sum is greater.
+    /// Returns the number of bytes that the streams take: the sum of [`FrameData::packed_size`] and
+    /// [`FrameData::unpacked_size`], where `None` counts as 0, or `usize::MAX` if the sum is greater.
     pub fn bytes_of_ram_used(&self) -> usize
         ensures { result ≡ min
             (unwrap_or

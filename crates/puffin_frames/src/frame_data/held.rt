@@ -22,8 +22,8 @@ use std::sync::Arc;
 
 /// The streams of a frame, packed.
 ///
-/// The layout of uncompressed streams is that of packets of a form: the short one if all streams are short, else the long one,
-/// in which each stream's form comes before it.
+/// Uncompressed streams are laid out as in packets of one form: the short form if all streams are short, otherwise the long
+/// form, in which each stream's form comes before it.
 #[derive(Drop)]
 pub(crate) struct PackedStreams {
     pub(crate) form: Form,
@@ -75,7 +75,7 @@ impl PackedStreams {
     ghost use Rattle.puffin_frames.specs.Frame.Contents.{packed_as};
     ghost use Rattle.puffin_frames.specs.Packet.Tries.{DecidedInMemory};
 
-    /// Makes packed streams of their bytes. Allocates nothing.
+    /// Makes packed streams from their bytes. Allocates nothing.
     pub(crate) fn new(form: Form, kind: Kind, bytes: Vec<u8>) -> PackedStreams
         ensures { packed_as result ≡ record { form = form; kind = kind; bytes = bytes.items } }
     {
@@ -202,7 +202,7 @@ impl Held {
     pub(crate) fn pack(self, alloc: Global) -> (Held, Result<()>)
         ensures ok { OnOk result.1 (held_as result.0 ≡ as_packed (held_as self)) }
         ensures packing { packing_of (held_as result.0) ≡ packing_of (held_as self) }
-        ensures contents { holding_streams (held_as result.0) ≡ holding_streams (held_as self) }
+        ensures streams { holding_streams (held_as result.0) ≡ holding_streams (held_as self) }
         ensures err { OnErr result.1 (result.0 ≡ self) }
         ensures meta { held_meta result.0 ≡ held_meta self }
         ensures memory { IfErr result.1 (λ e. e ≡ Error.Memory) }
@@ -221,15 +221,15 @@ impl Held {
         }
     }
 
-    /// Unpacks the frame, keeps what is packed, and returns its unpacked data. If it fails, the frame is returned held as it
-    /// was.
+    /// Unpacks the frame, keeps what is packed, and returns its unpacked data. If it fails, the returned frame is held as
+    /// before.
     pub(crate) fn unpack(
         self,
         alloc: Global,
     ) -> (Held, std::result::Result<Arc<UnpackedFrameData>, FileError>)
         ensures ok { OnOk result.1 (held_as result.0 ≡ as_unpacked (held_as self)) }
         ensures packing { packing_of (held_as result.0) ≡ packing_of (held_as self) }
-        ensures contents { holding_streams (held_as result.0) ≡ holding_streams (held_as self) }
+        ensures streams { holding_streams (held_as result.0) ≡ holding_streams (held_as self) }
         ensures err { OnErr result.1 (held_as result.0 ≡ held_as self) }
         ensures meta { held_meta result.0 ≡ held_meta self }
         ensures unpacked { DecidedInMemory (λ frame. streams_held (arc_value frame)) result.1
@@ -250,10 +250,10 @@ impl Held {
         }
     }
 
-    /// Copies the frame, packed only. Fails only with `Memory`.
+    /// Copies the frame; the copy is packed only. Fails only with `Memory`.
     pub(crate) fn packed_copy(&self, alloc: Global) -> Result<Held>
         ensures ok { IfOk result (λ copy. held_as copy ≡ as_packed (held_as self.now)) }
-        ensures contents { IfOk result (λ copy.
+        ensures streams { IfOk result (λ copy.
             holding_streams (held_as copy) ≡ holding_streams (held_as self.now)) }
         ensures meta { IfOk result (λ copy. held_meta copy ≡ held_meta self.now) }
         ensures memory { IfErr result (λ e. e ≡ Error.Memory) }

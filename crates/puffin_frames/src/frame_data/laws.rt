@@ -14,7 +14,7 @@ ghost use Rattle.puffin_frames.specs.Packet.Stored.{PacketFields, Stored, packed
 ghost use Rattle.puffin_frames.specs.Packet.Front.{next_at};
 ghost use Rattle.puffin_frames.specs.Packet.Grammar.{packet, IsPacked, Stores};
 
-/// No layout of a value is a prefix of that of another of its type.
+/// No value's layout is a prefix of the layout of another value of the same type.
 pub fn no_layout_begins_another()
     ensures metas { NoneBeginsAnother IsMeta meta_layout }
     ensures threads { NoneBeginsAnother IsThreadKey key_layout }
@@ -26,7 +26,7 @@ pub fn no_layout_begins_another()
     ensures legacy { NoneBeginsAnother IsLegacy legacy_layout }
 {}
 
-/// A value is read from the front of bytes exactly when its layout is there.
+/// A value is read from the front of bytes exactly when they begin with its layout.
 pub fn only_layouts_are_read()
     ensures metas { ReadsLayouts IsMeta meta_layout meta_at }
     ensures threads { ReadsLayouts IsThreadKey key_layout key_at }
@@ -38,8 +38,8 @@ pub fn only_layouts_are_read()
     ensures legacy { ReadsLayouts IsLegacy legacy_layout legacy_at }
 {}
 
-/// A frame is read from the front of bytes exactly when they begin with bytes that store it: a packet of the version that is
-/// written or of an older one, or a legacy frame.
+/// Reading from the front of some bytes gives a frame exactly when the bytes begin with that frame as it is stored: as a packet
+/// of the version that is written, as a packet of an older version, or as a legacy frame.
 pub fn only_packets_are_read()
     ensures { (bytes rest : List ℕ) (s : Stored) → IsBytes bytes →
         (next_at bytes ≡ Ok (Some s, rest))

@@ -67,7 +67,7 @@ impl FrameMeta {
         })
     }
 
-    /// Makes the meta of a frame of these streams. Allocates nothing. Fails with `TooLarge` if a sum doesn't fit `usize`.
+    /// Makes the meta of a frame with these streams. Allocates nothing. Fails with `TooLarge` if a sum doesn't fit `usize`.
     pub(crate) fn of_streams(
         frame_index: FrameIndex,
         streams: &BTreeMap<ThreadInfo, StreamInfo>,

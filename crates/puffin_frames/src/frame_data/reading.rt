@@ -114,7 +114,7 @@ fn parsed_details(alloc: Global, bytes: &[u8]) -> Result<Vec<Arc<ScopeDetails>>,
     }
 }
 
-/// Reads the scope details. Returns none for an older packet, which has no such part.
+/// Reads the scope details. Returns an empty list for an older packet, which has no such part.
 fn read_details_part<S: Source>(
     alloc: Global,
     source: &mut S,
@@ -132,7 +132,7 @@ fn read_details_part<S: Source>(
     parsed_details(alloc, &part)
 }
 
-/// Reads the parts of a packet of this version, of which the letters were read.
+/// Reads the parts of a packet of this version, whose letters have been read already.
 fn read_packed<S: Source>(
     alloc: Global,
     source: &mut S,
@@ -158,7 +158,7 @@ fn read_packed<S: Source>(
     })
 }
 
-/// Reads the rest of a packet, of which `PFD` and this letter were read. Fails with `Legacy` or `Newer` if such packets aren't
+/// Reads the rest of a packet that begins with `PFD` and this letter. Fails with `Legacy` or `Newer` if such packets can't be
 /// read.
 fn read_version<S: Source>(
     alloc: Global,
@@ -204,7 +204,7 @@ fn parsed_legacy(alloc: Global, bytes: &[u8]) -> Result<FrameData, FileError>
     Ok(FrameData::of_unpacked(unpacked, Vec::new(alloc), false))
 }
 
-/// Reads a legacy frame of so many bytes.
+/// Reads a legacy frame of `len` bytes.
 fn read_legacy_part<S: Source>(
     alloc: Global,
     source: &mut S,
@@ -239,7 +239,7 @@ fn read_header<S: Source>(source: &mut S) -> Result<Option<[u8; 4]>, FileError>
     Ok(Some(header))
 }
 
-/// Returns whether a header begins a packet; else it is the length of a legacy frame.
+/// Returns whether a header begins a packet. Otherwise it is the length of a legacy frame.
 fn is_packet_header(header: [u8; 4]) -> bool
     ensures { result ≡ is_packet header }
 {

@@ -38,7 +38,7 @@ pub(crate) fn shared(
 {
     let mut shared = BTreeMap::new(alloc);
     for (thread, info) in streams {
-        // Read as they are, for the proof: so the ranges of their numbers are known.
+        // Both calls do nothing; their contracts tell the prover the ranges of the numbers.
         thread_fits(&thread);
         counts_fit(&info);
         let _before = shared.insert(thread, Arc::new(alloc, info)?)?;
@@ -61,8 +61,8 @@ pub(crate) fn streams_copy(alloc: Global, streams: &ThreadStreams) -> Result<Thr
 
 /// Appends an info's scopes to a shared info. Other owners of that info don't see the change.
 ///
-/// Fails with `UnlikeForms` if both have bytes and their forms differ, else with `TooLarge` if the number of scopes doesn't fit
-/// `usize`, else only with `Memory`; the info is then as before.
+/// Fails with the first cause that applies: `UnlikeForms` if both have bytes and their forms differ; `TooLarge` if the number
+/// of scopes doesn't fit `usize`; or `Memory`. The info is then as before.
 fn extend_shared(alloc: Global, shared: &mut Arc<StreamInfo>, times: &StreamInfoRef) -> Result<()>
     ensures ok { OnOk result (
         facts_of (arc_value shared.new)
@@ -115,8 +115,8 @@ fn extended(alloc: Global, info: &StreamInfo, times: &StreamInfoRef) -> Result<A
     Ok(Arc::new(alloc, copy)?)
 }
 
-/// Returns whether an info's scopes and those that the map has under their thread have bytes in unlike forms. Allocates
-/// nothing.
+/// Returns whether the scopes of `times` and those that the map has under the thread `info` both have bytes and their forms
+/// differ. Allocates nothing.
 pub fn are_unlike(streams: &ThreadStreams, info: &ThreadInfo, times: &StreamInfoRef) -> bool
     ensures { (result ≡ true)
         ↔ AreUnlike (stream_under (shared_streams streams.now.entries) (key_of info.now))
@@ -128,7 +128,7 @@ pub fn are_unlike(streams: &ThreadStreams, info: &ThreadInfo, times: &StreamInfo
     }
 }
 
-/// Makes an empty info that is about to take so many bytes. If they are few, makes room for more, if there is memory.
+/// Makes an empty info that is about to take this many bytes. If they are few, makes room for more, provided there is memory.
 fn fresh_info(alloc: Global, bytes: usize) -> StreamInfo
     ensures honest { IsHonest result empty }
     ensures form { result.stream.form ≡ Form.Short }
@@ -141,7 +141,7 @@ fn fresh_info(alloc: Global, bytes: usize) -> StreamInfo
     fresh
 }
 
-/// A law for the proof: a number fits its type.
+/// A law: a number fits its type.
 fn fits(number: usize)
     ensures { number < 2 ^ 64 }
 {}
@@ -181,11 +181,11 @@ fn insert_first(streams: &mut ThreadStreams, info: ThreadInfo, first: Arc<Stream
     Ok(())
 }
 
-/// Appends an info's scopes to those that the map has under their thread.
+/// Appends the scopes of `times` to those that the map has under the thread `info`.
 ///
-/// Fails with `UnlikeForms` if both have bytes and their forms differ, else with `TooLarge` if the number of scopes under that
-/// thread doesn't fit `usize`, else only with `Memory`; the scopes under each thread are then as before. Other owners of a
-/// stream in the map keep the scopes they had.
+/// Fails with the first cause that applies: `UnlikeForms` if both have bytes and their forms differ; `TooLarge` if the number
+/// of scopes under that thread doesn't fit `usize`; or `Memory`. The scopes under each thread are then as before. Other owners
+/// of a stream in the map keep the scopes they had.
 ///
 /// ```
 /// let mut streams = BTreeMap::new(alloc);

@@ -12,7 +12,7 @@ use puffin_threads::thread_profiler::ThreadInfo;
 use std::alloc::Global;
 use std::collections::BTreeMap;
 
-/// A frame with its streams unpacked: the streams reported since the frame before, by thread, with their totals.
+/// A frame with its streams unpacked: the streams reported since the previous frame, by thread, with their totals.
 ///
 /// The range in its meta isn't reversed, and its duration fits [`NanoSecond`], even if the frame is made by hand.
 #[derive(Drop)]
@@ -35,8 +35,8 @@ impl UnpackedFrameData {
     /// Makes frame `frame_index` from these streams. Moves each stream into an `Arc`.
     ///
     /// Fails with the first cause that applies: `TooLarge` if the sum of bytes or of scopes doesn't fit `usize`; `Empty` if the
-    /// joined range is reversed, as it is if there are no scopes; `RangeTooLong` if its duration doesn't fit `i64`; `Memory`.
-    /// The streams are then dropped.
+    /// least start is after the greatest stop, as is the case when there are no scopes; `RangeTooLong` if the time between them
+    /// doesn't fit `i64`; `Memory` if memory runs out. A failure drops the streams.
     pub fn new(
         alloc: Global,
         frame_index: FrameIndex,
@@ -48,7 +48,7 @@ impl UnpackedFrameData {
             without_sharing frame.thread_streams.entries ≡ thread_streams.entries) }
 
         // The same by infos: the frame holds the given streams, and its meta is theirs.
-        ensures contents { IfOk result (λ frame.
+        ensures held { IfOk result (λ frame.
             streams_held frame ≡ streams_of thread_streams.entries) }
         ensures own_meta { IfOk result (λ frame.
             frame.meta ≡ meta_of frame_index (map.values (streams_held frame))) }
@@ -95,7 +95,7 @@ impl UnpackedFrameData {
 
     /// Copies the frame; the copy shares the streams. Fails only with `Memory`.
     pub fn clone(&self, alloc: Global) -> Result<UnpackedFrameData>
-        ensures contents { IfOk result (λ copy. streams_held copy ≡ streams_held self.now) }
+        ensures streams { IfOk result (λ copy. streams_held copy ≡ streams_held self.now) }
         ensures meta { IfOk result (λ copy. copy.meta ≡ self.now.meta) }
         ensures memory { IfErr result (λ e. e ≡ Error.Memory) }
     {

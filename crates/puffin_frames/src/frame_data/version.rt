@@ -5,14 +5,14 @@ ghost use Rattle.puffin_frames.specs.Packet.Letters.{for_form, from_letter, has_
 
 use puffin_data::data::Form;
 
-/// A version of packets that is read, named by the letters that its packets begin with.
+/// A version of packets that can be read, named after the letters that its packets begin with.
 #[derive(Clone, Copy, Debug, PartialEq, Eq)]
 pub(crate) enum Version {
     /// Packets without scope details, whose streams were compressed by zstd.
     Pfd2,
     /// Packets without scope details.
     Pfd3,
-    /// The packets that are written of short streams.
+    /// The packets that are written for short streams.
     Pfd4,
     /// The packets that are written if a stream is of the long form.
     PfdL,
@@ -32,7 +32,7 @@ impl Version {
         }
     }
 
-    /// Returns the version that is written of streams of this form.
+    /// Returns the version that is written for streams of this form.
     pub(crate) fn for_form(form: Form) -> Version
         ensures { result ≡ for_form form }
     {

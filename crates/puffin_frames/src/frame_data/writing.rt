@@ -11,9 +11,9 @@ ghost use Rattle.puffin_frames.specs.Packet.Structs.{meta_layout, IsMeta, detail
 ghost use Rattle.puffin_frames.specs.Frame.Contents.{frame_details, streams_held};
 ghost use Rattle.puffin_frames.specs.Frame.Holding.{plainly_packed};
 ghost use Rattle.puffin_frames.specs.Packet.Grammar.{packet_head, packet_with, packet, IsPacked};
-ghost use Rattle.puffin_frames.specs.Packet.Writing.{details_or, says_with, HasLongPart, WritesPacket};
+ghost use Rattle.puffin_frames.specs.Packet.Writing.{details_or, fields_with, HasLongPart, WritesPacket};
 
-use crate::frame_data::encode::{put_details, put_details_by_id, put_meta};
+use crate::frame_data::encode::{META_SIZE, put_details, put_details_by_id, put_meta};
 use crate::frame_data::frame::FrameData;
 use crate::frame_data::held::{Held, PackedStreams};
 use crate::frame_data::kind::Kind;
@@ -26,9 +26,7 @@ use puffin_threads::scope_details::{ScopeCollection, ScopeDetails};
 use std::alloc::Global;
 use std::sync::Arc;
 
-/// The most bytes that a meta takes: five numbers of at most 9 bytes.
-const META_SIZE: usize = 45;
-/// How many bytes a packet has before its streams, beside the meta: the letters, two lengths and the kind.
+/// The number of bytes before a packet's streams, not counting the meta: the letters, two lengths and the kind.
 const PACKET_HEAD_SIZE: usize = 13;
 
 /// Writes two pieces, one after the other.
@@ -149,7 +147,7 @@ fn delta_part(alloc: Global, details: &[Arc<ScopeDetails>]) -> Result<Vec<u8>, F
     }
 }
 
-/// Encodes the details of a collection as a list, by rising id. Fails only with `Memory`.
+/// Encodes the details of a collection as a list, in ascending order of id. Fails only with `Memory`.
 fn collection_part(alloc: Global, scopes: &ScopeCollection) -> Result<Vec<u8>, FileError>
     ensures ok { IfOk result (λ bytes. bytes.items ≡ details_layout (values scopes.now.by_id)) }
     ensures fit { OnOk result (AreDetails (values scopes.now.by_id)) }
@@ -163,7 +161,7 @@ fn collection_part(alloc: Global, scopes: &ScopeCollection) -> Result<Vec<u8>, F
 }
 
 impl FrameData {
-    /// Encodes the details of a collection, if one is given, else the frame's own. Fails only with `Memory`.
+    /// Encodes the details of the collection if one is given, otherwise the frame's own. Fails only with `Memory`.
     fn details_part(&self, scopes: Option<&ScopeCollection>) -> Result<Vec<u8>, FileError>
         ensures ok { IfOk result (λ bytes.
             bytes.items ≡ details_layout (
@@ -182,11 +180,11 @@ impl FrameData {
     }
 
     /// Writes the frame as one packet in the format that `docs/FORMAT.md` describes: `PFD4`, or `PFDL` if a stream is of the
-    /// long form. The packet has the details of `scopes`, by rising id, or without `scopes` the frame's own. Streams that are
-    /// packed are written as they are.
+    /// long form. The packet has the details of `scopes` in ascending order of id or, if `scopes` is `None`, the frame's own.
+    /// Streams that are packed are written as they are.
     ///
     /// Fails with `PartTooLong` if a part has `2^32` bytes or more, with `Memory`, or with `Io` if a write fails or takes none
-    /// of the bytes that are left. Nothing is written then, except after `Io`: a prefix of the packet.
+    /// of the bytes that are left. After `Io` a prefix of the packet has been written; after any other error, nothing.
     ///
     /// ```
     /// let mut drain = Counted::new(Vec::new(alloc));
@@ -199,11 +197,11 @@ impl FrameData {
     ) -> Result<(), FileError>
         requires { D.failures drain.old < 2 ^ 64 - 1 }
         ensures written { WritesPacket D.contents D.failures D.takes drain.old drain.new
-            (packet (says_with self.now (option_map (λ c. c.now) scopes.entry)))
-            (HasLongPart (says_with self.now (option_map (λ c. c.now) scopes.entry))) result }
-        // A packet that is written is read again.
+            (packet (fields_with self.now (option_map (λ c. c.now) scopes.entry)))
+            (HasLongPart (fields_with self.now (option_map (λ c. c.now) scopes.entry))) result }
+        // A packet that is written can be read again.
         ensures packed { OnOk result (
-            IsPacked (says_with self.now (option_map (λ c. c.now) scopes.entry))) }
+            IsPacked (fields_with self.now (option_map (λ c. c.now) scopes.entry))) }
     {
         let alloc = *self.scope_delta.allocator();
         let details = self.details_part(scopes)?;

@@ -10,7 +10,7 @@ pub record StreamBytes : Type 0 where
   pub form : Form
   pub bytes : List ℕ
 
--- the start of a frame's range, and its stream under the info
+-- the start of a frame's range, and the thread's stream, if the frame has one
 pub record FrameBytes : Type 0 where
   pub start : ℤ
   pub stream : Option StreamBytes

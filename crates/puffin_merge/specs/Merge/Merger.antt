@@ -7,7 +7,7 @@ use Rattle.puffin_merge.specs.Merge.FrameBytes.{FrameBytes, HaveScopes, start_of
 use Rattle.puffin_merge.specs.Merge.Refusals.{AreAccepted}
 use Rattle.puffin_merge.specs.inner.Tables.{IsTableOf}
 
--- the info whose scopes are merged
+-- the info of the thread whose scopes are merged
 abbrev pub merged_info : Merger → ThreadKey
 merged_info m = key_of m.info.now
 

@@ -1,4 +1,4 @@
--- The occurrences of scopes under one info, each with its path, start and duration.
+-- The occurrences of one thread's scopes, each with its path, start and duration.
 use Rattle.std.specs.Prelude.{ℕ, ℤ, ◌-ℤ◌, nat_abs, pos, Bool, List, [], ◌∷◌, ◌++◌, map, flat_map}
 use Rattle.std.specs.declared.cmp.Ordering.{Ordering}
 use Rattle.std.specs.Ordering.{nat_cmp, on, then_cmp, eq_by_cmp}
@@ -29,18 +29,19 @@ label_of s = record { id = s.id; text = text_in s.text }
 abbrev pub path_of : List Span → Path
 path_of spans = map label_of spans
 
--- One scope in one frame. Its own start is measured from its parent's start, that of a top-level scope as if every frame began when the first did.
+-- One scope in one frame. Its own start is measured from its parent's start, and that of a top-level scope as if every frame
+-- began when the first did.
 pub record Occurrence : Type 0 where
   pub path : Path
   pub own_start : ℤ
   pub duration : ℕ
 
--- the start of the innermost of these scopes, or the origin without scopes
+-- the start of the innermost of these scopes, or the origin if there are none
 abbrev pub origin_in : ℤ → List Span → ℤ
 origin_in origin [] = origin
 origin_in origin (s ∷ around) = origin_in s.start around
 
--- a scope of a forest whose top-level scopes' starts are measured from an origin
+-- the occurrence of a scope of a forest; starts of top-level scopes are measured from the origin
 abbrev pub occurrence_of : ℤ → ScopeInContext → Occurrence
 occurrence_of origin scope = record {
   path = path_of scope.around ++ (label_of scope.span ∷ []);
@@ -51,7 +52,7 @@ occurrence_of origin scope = record {
 abbrev pub occurrences_in : ℤ → List ScopeInContext → List Occurrence
 occurrences_in origin scopes = map (occurrence_of origin) scopes
 
--- what merging reads of a frame: the start of its range, and the scopes under the info, none without a stream
+-- what merging reads of a frame: the start of its range, and the thread's scopes (none if it has no stream)
 pub record FrameScopes : Type 0 where
   pub start : ℤ
   pub forest : Forest

@@ -13,7 +13,7 @@ total_of pieces = sum_by (λ o. o.duration) pieces
 abbrev pub greatest_of : List Occurrence → ℕ
 greatest_of pieces = fold (λ d o. max d o.duration) 0 pieces
 
--- 0 without pieces
+-- 0 if there are no pieces
 abbrev pub least_start_of : List Occurrence → ℤ
 least_start_of [] = pos 0
 least_start_of (o ∷ pieces) = fold (λ t p. int_min t p.own_start) o.own_start pieces

@@ -12,11 +12,15 @@ use Rattle.puffin_merge.specs.Merge.Tree.{MergedForest, no_node, merged}
 use Rattle.puffin_merge.specs.Merge.{IsMerge}
 use Rattle.puffin_merge.specs.Merge.FrameBytes.{FrameBytes, form_of, bytes_of, start_of, HaveScopes, most_tries}
 
--- a scope that is nested in at most 1,023 others
-abbrev pub IsShallow : Occurrence → Type 0
-IsShallow o = length o.path ≤ 1024
+-- the greatest nesting depth that is merged
+abbrev pub greatest_depth : ℕ
+greatest_depth = 1024
 
--- with one occurrence more, the number of its path fits usize and the total i64
+-- a scope that isn't nested more deeply
+abbrev pub IsShallow : Occurrence → Type 0
+IsShallow o = length o.path ≤ greatest_depth
+
+-- with one more occurrence, the number of its path fits usize, and the total fits i64
 pub record SumsFit (done : List Occurrence) (o : Occurrence) : Type 0 where
   pub number : (merged_at (done ++ (o ∷ [])) o.path).number < 2 ^ 64
   pub total : (merged_at (done ++ (o ∷ [])) o.path).total < 2 ^ 63
@@ -26,20 +30,22 @@ pub record Fits (done : List Occurrence) (o : Occurrence) : Type 0 where
   pub own_start : FitsSigned w64 o.own_start
   pub sums : SumsFit done o
 
--- one occurrence more is refused: the first that is nested in 1,024 others, or one whose sums don't fit
+-- one more occurrence is refused: it is nested too deeply, or its start or its sums don't fit
 abbrev pub IsRefusedFor : List Occurrence → Occurrence → Error → Type 0
 IsRefusedFor done o e =
-    ((length o.path ≡ 1025) × (e ≡ TooDeep)) ⊎ (IsShallow o × (Fits done o → ⊥) × (e ≡ TooLarge))
+    ((length o.path ≡ greatest_depth + 1) × (e ≡ TooDeep)) ⊎ (IsShallow o × (Fits done o → ⊥) × (e ≡ TooLarge))
 
 -- each of these is accepted in turn, after those that were accepted before
 abbrev pub AreAccepted : List Occurrence → List Occurrence → Type 0
 AreAccepted done [] = Unit {0}
 AreAccepted done (o ∷ more) = IsShallow o × Fits done o × AreAccepted (done ++ (o ∷ [])) more
 
--- The refusal of a frame whose stream has this form, after so many tries, and after the occurrences of the frames before. Starts of its top-level scopes are measured from `origin`.
+-- The refusal of a frame whose stream has this form, after this many tries, and after the occurrences `done` of the frames
+-- before. Starts of its top-level scopes are measured from `origin`.
 pub data IsFrameRefusal (done : List Occurrence) (origin : ℤ) (form : Form) (bytes : List ℕ) :
     ℕ → Error → Type 0 where
-  -- the first fault of the bytes, if all sound scopes before it are accepted: one try for each of these, and one more if a `(` is at the fault
+  -- the first fault of the bytes, if all sound scopes before it are accepted: one try for each of these, and one more if there
+  -- is a `(` at the fault
   faulty : {place : ℕ} {fault : Error} {placed : List PlacedScope} →
       IsFirstFault form bytes place fault →
       Sees form bytes [] 0 (length bytes) placed →
@@ -63,7 +69,9 @@ EndsFit no_node = Unit {0}
 EndsFit (merged n children others) =
     FitsSigned w64 (n.start +ℤ n.per_frame) × EndsFit children × EndsFit others
 
--- The refusal of a merge after so many tries: that of the first refused frame, after one try for each scope of the frames before it and the frame's own; or, if there is none, an end that doesn't fit, after one try for each scope.
+-- The refusal of a merge after this many tries. It is that of the first refused frame, after one try for each scope of the
+-- frames before it and the tries of the frame itself. If no frame is refused, it is that of an end that doesn't fit, after one
+-- try for each scope.
 pub data IsRefusalAfter (frames : List FrameBytes) : ℕ → Error → Type 0 where
   in_frame : (earlier later : List FrameBytes) (frame : FrameBytes) (scopes : List FrameScopes)
       {tries : ℕ} {refusal : Error} →
@@ -88,7 +96,7 @@ pub record AreMerged (frames : List FrameBytes) (f : MergedForest) : Type 0 wher
   pub merge : IsMerge (occurrences scopes) (length frames) f
   pub ends : EndsFit f
 
--- Some first frames are accepted, and of the others at most the next was read, with so many tries in all.
+-- A prefix of the frames is accepted, and at most the next one was also read, with this many tries in all.
 pub record ReadsFew (frames : List FrameBytes) (tries : ℕ) : Type 0 where
   pub accepted : ℕ
   pub scopes : List FrameScopes

@@ -16,7 +16,7 @@ use Rattle.puffin_merge.specs.Merge.Tree.{MergedForest, no_node, merged}
 abbrev pub stream_in : StreamFacts → StreamBytes
 stream_in r = record { form = r.form; bytes = r.bytes }
 
--- the start of a frame's range, and its stream under an info
+-- the start of a frame's range, and its stream for a thread
 abbrev pub frame_bytes : ThreadKey → UnpackedFrameData → FrameBytes
 frame_bytes info frame = record {
   start = frame.meta.range_ns.0;

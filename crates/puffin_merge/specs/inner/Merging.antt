@@ -9,7 +9,7 @@ use Rattle.puffin_merge.specs.declared.merge.stream.Merging.{Merging}
 use Rattle.puffin_merge.specs.declared.merge.stream.Open.{Open}
 use Rattle.puffin_merge.specs.Merge.Occurrences.{Occurrence, path_of, origin_in, occurrence_of, occurrences_in}
 use Rattle.puffin_merge.specs.inner.Origins.{IsOrigin}
-use Rattle.puffin_merge.specs.Merge.Refusals.{IsRefusedFor, AreAccepted}
+use Rattle.puffin_merge.specs.Merge.Refusals.{IsRefusedFor, AreAccepted, greatest_depth}
 use Rattle.puffin_merge.specs.inner.Tables.{path_at, IsTableOf, Extends}
 
 -- the scopes' occurrences are accepted, and were added to the table
@@ -26,13 +26,13 @@ RefusesScope v scope e =
     (all : List Occurrence) → IsTableOf all v.table →
     IsRefusedFor all (occurrence_of v.origin scope) e
 
--- what is kept for an open scope is that of the innermost of these scopes
+-- what is kept for an open scope belongs to the innermost of these scopes
 pub record StandsFor (v : Merging) (w : Open) (around : List Span) : Type 0 where
   pub table : (all : List Occurrence) × IsTableOf all v.table
   pub node : w.node.number ≤ vec_len v.table.nodes
   pub path : path_at v.table.nodes.items w.node.number ≡ path_of around
   pub depth : w.depth ≡ length around
-  pub shallow : w.depth ≤ 1024
+  pub shallow : w.depth ≤ greatest_depth
   pub origin : w.origin ≡ origin_in v.origin around
   pub is_origin : IsOrigin w.origin
 

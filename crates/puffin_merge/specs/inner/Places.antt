@@ -1,4 +1,4 @@
--- The nodes of a table in the order in which the result is made of them, with their starts.
+-- The nodes of a table, with their starts, in the order in which the result is made from them.
 use Rattle.std.specs.Prelude.{◌≡◌, ℕ, ◌+◌, ◌-◌, ◌/◌, ◌<◌, ◌==◌, pos, ◌+ℤ◌, FitsSigned, List, [], ◌∷◌, length, slice_index_or, string_bytes, All, ◌⊎◌, if◌then◌else◌}
 use Rattle.std.specs.Int.{w64}
 use Rattle.std.specs.declared.cmp.Ordering.{Ordering}
@@ -12,7 +12,7 @@ use Rattle.puffin_merge.specs.declared.merge.table.PieceTotals.{PieceTotals}
 use Rattle.puffin_merge.specs.Merge.Starts.{earliest_start}
 use Rattle.puffin_merge.specs.Merge.Tree as forests
 
--- the ordered node made of the node at k
+-- the ordered node made from the node at k
 pub record IsOrderedNodeAt (nodes : List Node) (k : ℕ) (p : OrderedNode) : Type 0 where
   pub number : p.number.number ≡ k + 1
   pub parent : (d : Node) → p.parent.number ≡ (slice_index_or nodes k d).key.parent.number
@@ -28,11 +28,12 @@ abbrev pub SomeOf : {A : Type 0} → (A → Type 0) → List A → Type 0
 SomeOf P [] = ⊥
 SomeOf P (x ∷ xs) = P x ⊎ SomeOf P xs
 
--- the property holds for each element, by recursion; and no two ordered nodes have the same number
+-- the property holds for each element, by recursion
 abbrev pub EachOf : {A : Type 0} → (A → Type 0) → List A → Type 0
 EachOf P [] = Unit {0}
 EachOf P (x ∷ xs) = P x × EachOf P xs
 
+-- no two ordered nodes have the same number
 abbrev pub AreApart : List OrderedNode → Type 0
 AreApart [] = Unit {0}
 AreApart (p ∷ ps) = EachOf (λ q. p.number.number ≡ q.number.number → ⊥) ps × AreApart ps
@@ -57,7 +58,7 @@ pub record AreOrderedNodesOf (nodes : List Node) (ordered_nodes : List OrderedNo
 abbrev pub above_all : Placement
 above_all = record { parent = 0; start = pos 0; end = pos 0 }
 
--- the next node, as early as possible: after its sibling's end, or from 0 if the node before is no sibling
+-- the next node, placed as early as possible: after its sibling's end, or from 0 if the node before it isn't a sibling
 abbrev pub placement_after : ℕ → PieceTotals → OrderedNode → Placement → Placement
 placement_after frames sums p before =
     let start = earliest_start

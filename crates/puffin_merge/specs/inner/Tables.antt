@@ -34,7 +34,7 @@ merged_in sums = record {
   own_start = sums.own_start;
 }
 
--- The paths of the nodes' numbers: 0 has the empty path, and a node's path is its label below its parent's path.
+-- The paths by node number: 0 has the empty path, and a node's path is its label below its parent's path.
 abbrev pub with_path : List Path → Key → List Path
 with_path paths key =
     paths ++ (below (slice_index_or paths key.parent.number []) (label_in key) ∷ [])
@@ -80,7 +80,7 @@ number_in t key (Some text) = lookup (is_at (spot_cmp (spot_of key text))) t.num
 abbrev pub found_in : Table → Key → Option NodeNumber
 found_in t key = number_in t key (lookup (is_at (string_cmp key.text)) t.texts.entries)
 
--- exactly the nodes are found, and each text has a number of its own
+-- exactly the nodes are found, and each text has its own number
 pub record IsFound (t : Table) : Type 0 where
   pub found : (q : Key) (x : NodeNumber) → found_in t q ≡ Some x →
       (0 < x.number) × (x.number ≤ vec_len t.nodes) × HasKey t.nodes.items (x.number - 1) q

@@ -1,4 +1,4 @@
-//! Laws of merging. Each is the contract of a function that does nothing; a proof of another crate cites it by calling the
+//! Laws of merging. Each is the contract of a function that does nothing; a proof in another crate cites it by calling the
 //! function.
 
 ghost use Rattle.std.specs.Prelude.{◌≡◌, ◌↔◌, true, ℕ, pos, List, [], ◌∷◌, ◌++◌, IsPermutation};
@@ -18,14 +18,14 @@ ghost use Rattle.puffin_merge.specs.declared.merge.scope.MergeScope.{MergeScope}
 
 use crate::merge::scope::MergeScope;
 
-/// Siblings that each start as early as they can have the least feasible starts.
+/// If siblings each start as early as possible, their starts are the least feasible ones.
 pub fn earliest_starts()
     ensures { (siblings : List Sibling) →
         IsLeastFeasible siblings (earliest_starts (pos 0) siblings) }
 {}
 
-/// A merge doesn't depend on the order of the frames after the first. So frames that have a merge have it in any order that
-/// keeps the first one first, and merging them in that order gives it, or fails with `Memory`.
+/// A merge doesn't depend on the order of the frames after the first. So frames that have a merge have the same one in any
+/// order that keeps the first frame first, and merging them in that order returns it or fails with `Memory`.
 pub fn frames_in_any_order()
     ensures frames { (info : ThreadKey) (first : Arc UnpackedFrameData Global)
         (others again : List (Arc UnpackedFrameData Global)) → IsPermutation others again →
@@ -44,13 +44,13 @@ pub fn one_outcome()
     ensures refused { (frames : List FrameBytes) (f : MergedForest) (refusal : Error) →
         AreMerged frames f → IsMergeRefusal frames refusal → ⊥ }
 {
-    // This law follows from these of spellings and of walks.
+    // This law follows from these laws of spellings and walks.
     puffin_data::laws::one_forest();
     puffin_data::laws::no_fault_in_a_spelling();
     puffin_data::laws::scopes_of_a_walk();
 }
 
-/// A merged scope among others can be replaced by one that contracts see as the same.
+/// If a merged scope in a list is replaced by one that contracts see as the same, contracts see the list as the same too.
 pub fn same_scopes()
     ensures { (before after : List MergeScope) (s t : MergeScope) →
         forest_in (s ∷ []) ≡ forest_in (t ∷ []) →

@@ -19,7 +19,7 @@ use std::alloc::Global;
 /// Merges one thread's scopes over frames that are added one at a time.
 ///
 /// It keeps a table of the scopes' paths, with its own copies of their texts, and nothing of the frames. So a frame can be
-/// dropped once it was added.
+/// dropped once it has been added.
 ///
 /// ```
 /// let mut merger = Merger::new(alloc, &info);
@@ -37,7 +37,7 @@ pub struct Merger<'i> {
 }
 
 impl<'i> Merger<'i> {
-    /// Makes a merger of the scopes under an info, without frames. Allocates nothing.
+    /// Makes a merger for the scopes of the thread `info`, without frames. Allocates nothing.
     pub fn new(alloc: Global, info: &'i ThreadInfo) -> Merger<'i>
         ensures info { result.info.now ≡ info.now }
         ensures none { HasAdded [] result }
@@ -58,11 +58,11 @@ impl<'i> Merger<'i> {
         self.frames
     }
 
-    /// Adds the next frame. Fewer than `2^64 - 1` frames may have been added before.
+    /// Adds the next frame. Fewer than `2^64 - 1` frames must have been added before.
     ///
-    /// Fails if the frames so far can't be merged, whatever frames follow, with the error of
-    /// [`merge_scopes_for_thread`](crate::merge::merge_scopes_for_thread); or with `Memory`. After an error neither
-    /// [`Merger::add`] nor [`Merger::finish`] may be called.
+    /// Fails with the error of [`merge_scopes_for_thread`](crate::merge::merge_scopes_for_thread) if the frames so far can't be
+    /// merged, whatever frames follow, or with `Memory`. After an error neither [`Merger::add`] nor [`Merger::finish`] may be
+    /// called.
     pub fn add(&mut self, frame: &UnpackedFrameData) -> Result<()>
         requires { CanAdd self.old }
         ensures info { self.new.info ≡ self.old.info }
@@ -76,7 +76,7 @@ impl<'i> Merger<'i> {
         self.add_counted(frame, &mut tries)
     }
 
-    /// Adds a frame as [`Merger::add`] does. Sets `tries` to the number of readings made at a byte `(`.
+    /// Adds a frame like [`Merger::add`]. Sets `tries` to the number of bytes `(` at which it tried to read a scope.
     pub(crate) fn add_counted(&mut self, frame: &UnpackedFrameData, tries: &mut u64) -> Result<()>
         requires { CanAdd self.old }
         ensures info { self.new.info ≡ self.old.info }

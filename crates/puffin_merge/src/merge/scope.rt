@@ -6,7 +6,7 @@ use puffin_data::{Error, NanoSecond, Result};
 use std::alloc::Global;
 use std::borrow::CowStr;
 
-/// A scope merged from all those with the same path of ids and texts, its pieces.
+/// A scope merged from all scopes with the same path of ids and texts, which are its pieces.
 #[derive(Debug, PartialEq, Drop)]
 pub struct MergeScope<'s> {
     /// The start, in nanoseconds, measured from the parent's start. That of a top-level scope is measured as if every frame
@@ -29,7 +29,7 @@ pub struct MergeScope<'s> {
 }
 
 impl<'s> MergeScope<'s> {
-    /// Copies all borrowed texts, those of the children too. Fails only with `Memory`.
+    /// Copies all borrowed texts, including those of the children. Fails only with `Memory`.
     pub fn into_owned(self, alloc: Global) -> Result<MergeScope<'static>>
         ensures same { IfOk result (λ owned. forest_in (owned ∷ []) ≡ forest_in (self.entry ∷ [])) }
         ensures memory { IfErr result (λ e. e ≡ Error.Memory) }

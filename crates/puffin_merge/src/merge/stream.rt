@@ -27,12 +27,12 @@ pub(crate) struct Open {
     pub node: NodeNumber,
     /// The scope's nesting depth; 1 for a top-level scope.
     pub depth: usize,
-    /// What the starts of the scopes within it are measured from.
+    /// The time from which the starts of the scopes within it are measured.
     pub origin: i128,
 }
 
 impl Open {
-    /// Makes the parent of the top-level scopes, which is no scope.
+    /// Makes the parent of the top-level scopes, which isn't itself a scope.
     pub(crate) fn outside(origin: i128) -> Open
         ensures { result ≡ record { node = record { number = 0 }; depth = 0; origin = origin } }
     {
@@ -44,7 +44,7 @@ impl Open {
     }
 }
 
-/// The table, and what the starts of top-level scopes are measured from in the current stream.
+/// The table, and the time from which the starts of top-level scopes in the current stream are measured.
 #[derive(Drop)]
 pub(crate) struct Merging {
     pub table: Table,
@@ -115,7 +115,8 @@ impl<'s> Visitor<'s> for Merging {
     }
 }
 
-/// Returns what the starts of a frame's top-level scopes are measured from, as if its range began when the first frame's did.
+/// Returns the time from which the starts of a frame's top-level scopes are measured, as if its range began when the first
+/// frame's did.
 fn origin_of(frame: &UnpackedFrameData, first: NanoSecond) -> i128
     ensures origin { result ≡ frame.now.meta.range_ns.0 -ℤ first }
     ensures is { IsOrigin result }
@@ -123,7 +124,7 @@ fn origin_of(frame: &UnpackedFrameData, first: NanoSecond) -> i128
     frame.meta.range_ns.0 as i128 - first as i128
 }
 
-/// Adds the scopes of a frame's stream to the table, if the frame has one under the info.
+/// Adds the scopes of a frame's stream to the table, if the frame has a stream for this thread.
 pub(crate) fn read_frame(
     alloc: Global,
     merging: &mut Merging,

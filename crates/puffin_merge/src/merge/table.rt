@@ -12,13 +12,13 @@ use puffin_data::{Error, NanoSecond, Result};
 use std::alloc::Global;
 use std::collections::BTreeMap;
 
-/// A node of the table: its place in the list plus 1; 0 is the root above all nodes.
+/// The number of a node: its place in the list plus 1. 0 is the root above all nodes.
 #[derive(Clone, Copy, Debug, PartialEq, Eq, PartialOrd, Ord)]
 pub(crate) struct NodeNumber {
     pub number: usize,
 }
 
-/// A node to look up: by its parent, and its id and text.
+/// Identifies a node to look up: its parent, its id and its text.
 #[derive(Clone, Copy, Debug)]
 pub(crate) struct Asked<'k> {
     pub parent: NodeNumber,
@@ -36,13 +36,13 @@ pub(crate) struct Key {
     pub text: String,
 }
 
-/// A text of the table. Texts are numbered from 0.
+/// The number of a text of the table. Texts are numbered from 0.
 #[derive(Clone, Copy, Debug, PartialEq, Eq, PartialOrd, Ord)]
 pub(crate) struct TextNumber {
     pub number: usize,
 }
 
-/// A key with the number of its text.
+/// A key with the number of its text in place of the text.
 #[derive(Clone, Copy, Debug, PartialEq, Eq, PartialOrd, Ord)]
 pub(crate) struct Spot {
     pub parent: NodeNumber,
@@ -108,14 +108,14 @@ pub(crate) struct Node {
     pub sums: PieceTotals,
 }
 
-/// The nodes, and maps that find them.
+/// The nodes, and maps to look them up.
 #[derive(Drop)]
 pub(crate) struct Table {
     pub nodes: Vec<Node>,
     texts: BTreeMap<String, TextNumber>,
     numbers: BTreeMap<Spot, NodeNumber>,
-    /// For each node, by its place, the place of the node that was looked up next when this one was looked up last. As frames
-    /// are much alike, that one often comes next again.
+    /// For each node, by its place, the place of the node that was looked up right after it the last time. Since frames are
+    /// much alike, that node often comes next again.
     guesses: Vec<usize>,
     /// The place of the node that was looked up last.
     last: usize,
@@ -155,7 +155,7 @@ impl Table {
         }
     }
 
-    /// Keeps which node was looked up next.
+    /// Records which node was looked up next.
     fn follow(&mut self, place: usize)
         ensures nodes { self.new.nodes ≡ self.old.nodes }
         ensures texts { self.new.texts ≡ self.old.texts }
@@ -192,7 +192,7 @@ impl Table {
         }
     }
 
-    /// Finds a node: the guessed one, or else by its text.
+    /// Finds a node: by the guess if it is right, otherwise by its text.
     fn find(&self, key: &Asked) -> Option<NodeNumber>
         requires { IsFound self.now }
         ensures some { IfSome result (λ x.
@@ -210,7 +210,7 @@ impl Table {
         }
     }
 
-    /// Returns the number of a text, which is added if it is new.
+    /// Returns the number of a text. Adds the text if it is new.
     fn number_of(&mut self, text: &String) -> Result<TextNumber>
         requires { IsFound self.old }
         ensures ok { IfOk result (λ x.

@@ -20,7 +20,7 @@ use std::alloc::Global;
 use std::borrow::CowStr;
 use std::mem;
 
-/// A node, with the fields that order siblings.
+/// A node, with the fields by which siblings are ordered.
 #[derive(Clone, Copy, Debug, PartialEq, Eq, PartialOrd, Ord)]
 struct OrderedNode<'t> {
     parent: NodeNumber,
@@ -68,7 +68,8 @@ struct Placement {
     end: NanoSecond,
 }
 
-/// Starts a node as early as it can, after the one before it. Fails with `TooLarge` if its end doesn't fit.
+/// Starts a node as early as possible, after the end of the sibling before it if there is one. Fails with `TooLarge` if its end
+/// doesn't fit.
 fn place_node(
     sums: &PieceTotals,
     ordered: &OrderedNode,
@@ -135,7 +136,7 @@ fn place_nodes(
     Ok(placements)
 }
 
-/// Makes the merged scope of a node with these children, and a text of its own. Fails only with `Memory`.
+/// Makes the merged scope of a node with these children and its own copy of the text. Fails only with `Memory`.
 fn scope_at<'s>(
     alloc: Global,
     ordered: &OrderedNode,

@@ -22,7 +22,7 @@ abbrev pub frame_in : Option (Arc FrameData Global) → List Frame
 frame_in None = []
 frame_in (Some frame) = shared_frame frame ∷ []
 
--- the frame that a reply has, if any
+-- the frame in a reply, if any
 abbrev pub emitted_by : Reply → List Frame
 emitted_by (reply.Frame emitted) = frame_in emitted.frame
 emitted_by _ = []
@@ -39,7 +39,8 @@ pub record Takes (frames : List Frame) (old new : FrameView) : Type 0 where
   pub details : collection_of new
       ≡ with_all_details (collection_of old) (flat_map details_of_frame frames)
 
--- The view took a prefix of these frames, and memory ran out for the next: the view knows a prefix of what that lists, and its newest frame may be packed, as it would have been.
+-- The view took a prefix of these frames, and memory ran out for the next one. The view knows a prefix of the details that the
+-- next one lists, and its newest frame may be packed, as it would have been.
 pub record TakesSome (frames : List Frame) (old new : FrameView) : Type 0 where
   pub front : List Frame
   pub next : Frame
@@ -49,12 +50,12 @@ pub record TakesSome (frames : List Frame) (old new : FrameView) : Type 0 where
   pub details : LearnsSome (with_all_details (collection_of old) (flat_map details_of_frame front))
       (details_of_frame next) (collection_of new)
 
--- a view that took a list of frames took these besides
+-- a view that took a list of frames has taken these as well
 abbrev pub TookAlso : List Frame → View → View → Type 0
 TookAlso frames old new =
     (cs : List PacketFields) → Took cs old → Took (cs ++ map fields_of frames) new
 
--- if all details that a view held had ids, so have those that it holds now, and those that its file lists
+-- if all details that a view held had ids, then so do those that it holds now, and those that its file lists
 abbrev pub HoldsIds : View → View → Type 0
 HoldsIds old new = NoneLacksIds (fields_held old) → NoneLacksIds (fields_held new)
 

@@ -29,7 +29,7 @@ pub record IsTaken (start end : SessionState) (commands : List Command) (replies
   pub run : EmitsDue start end commands replies
   pub view : Takes (frames_emitted replies) old new
   pub took : TookAlso (frames_emitted replies) (view_of old) (view_of new)
-  -- if all details of the view's frames had ids, so have those that it holds now, and those of its file
+  -- if all details of the view's frames had ids, then so do those that it holds now, and those of its file
   pub held_ids : HoldsIds (view_of old) (view_of new)
   pub ids : ListsIds (view_of old) (view_of new)
 
@@ -64,7 +64,7 @@ module _ (start end : SessionState) (commands : List Command) (old new : FrameVi
       × (fault ≡ file.Memory)
       × Appends before after []
 
-  -- the commands were run and the view took all frames of the run, but only a beginning of its file was written
+  -- the commands were run and the view took all frames of the run, but only a prefix of its file was written
   abbrev pub HasNotWritten : FileError → Type 0
   HasNotWritten fault =
       (replies : List Reply)

@@ -45,7 +45,7 @@ abbrev pub ended_line : ℕ → Closed → Option (List ℕ)
 ended_line number (closed.Kept cause) = Some (kept_line number cause)
 ended_line number _ = None
 
--- the number of threads of a frame, as it is held unpacked; a frame that was just taken is
+-- the number of threads of a frame that is held unpacked, like a frame that was just taken
 abbrev pub threads_held : Option Streams → ℕ
 threads_held None = 0
 threads_held (Some streams) = len streams

@@ -33,7 +33,8 @@ loose_view = record empty_view { packs = false }
 abbrev pub view_after : List Reply → View
 view_after replies = after_all loose_view (frames_emitted replies)
 
--- One writer got the file of a view that took the frames of a run of the script, and the other the lines of the run's replies. Each emitted frame says what was due, and the file has exactly those that a new view keeps.
+-- One writer got the file of a view that took the frames of a run of the script, and the other the lines of the run's replies.
+-- Each emitted frame contains what was due, and the file has exactly the frames that a new view keeps.
 pub record IsReplayed (script : Script)
     (file_before file_after lines_before lines_after : Option (List ℕ)) : Type 0 where
   pub replies : List Reply
@@ -46,7 +47,8 @@ pub record IsReplayed (script : Script)
   pub ids : NoneLacksIds (fields_in (view_after replies))
   pub told : Appends lines_before lines_after (reply_lines script.lines.items replies)
 
--- Why a script's run failed, and what it wrote: memory ran out, and nothing is written; or a beginning of the file, and no line; or the file, and a beginning of the lines.
+-- Why a script's run failed, and what it wrote: nothing, because memory ran out; or a prefix of the file, and no lines; or the
+-- file, and a prefix of the lines.
 abbrev pub IsUnfinished : Script → FileError → Option (List ℕ) → Option (List ℕ) → Option (List ℕ) →
     Option (List ℕ) → Type 0
 IsUnfinished script fault file_before file_after lines_before lines_after =

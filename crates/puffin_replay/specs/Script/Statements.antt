@@ -15,7 +15,7 @@ pub data Meaning : Type 0 where
   -- registers a scope's details with a thread; a function's have no name
   registers : (thread : List ℕ) → (name : Option (List ℕ)) → (function : List ℕ) → (file : List ℕ) →
       (line : ℕ) → Meaning
-  -- registers a scope of another origin
+  -- registers one of the caller's own scopes
   registers_user : (name : List ℕ) → Meaning
   -- makes the next frame list every known scope
   tells_all : Meaning
@@ -26,7 +26,7 @@ pub data Meaning : Type 0 where
 abbrev pub is_blank : ℕ → Bool
 is_blank byte = byte == 32
 
--- the words of a line, separated by one blank each
+-- the words of a line, separated by single blanks
 abbrev pub words_in : List ℕ → List (List ℕ)
 words_in line = slice_split is_blank line
 
@@ -67,7 +67,7 @@ unless_zero n = if n == 0 then None else Some n
 abbrev pub id_of : List ℕ → Option ℕ
 id_of word = option_and_then unless_zero (line_of word)
 
--- ---- lines, by the words behind the first
+-- ---- lines, by the words after the first
 
 abbrev pub begin_of : List (List ℕ) → Option Meaning
 begin_of (thread ∷ time ∷ id ∷ text) =

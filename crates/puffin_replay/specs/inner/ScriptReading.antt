@@ -1,4 +1,4 @@
--- What is read of a script so far, and what is left of it.
+-- What has been read of a script so far, and what remains of it.
 use Rattle.std.specs.Prelude.{◌≡◌, ℕ, List, [], map, true, false, Option, Some, None, option_map, slice_get, MatchOption}
 use Rattle.std.specs.List.{list_any}
 use Rattle.std.specs.Ordering.{nat_cmp}
@@ -19,7 +19,7 @@ use Rattle.puffin_session.specs.declared.command.Command.{Command}
 
 -- ---- a line
 
--- the words that are left of a line
+-- the remaining words of a line
 abbrev pub words_behind : Option (Bor (List ℕ)) → List (List ℕ)
 words_behind None = []
 words_behind (Some text) = words_in text.now
@@ -57,7 +57,7 @@ IsNumbered threads =
     (list_any (bytes_eq name) (names_in threads) ≡ false)
     (λ number. slice_get (names_in threads) number ≡ Some name)
 
--- a command has the meaning of a line; without a command the line is none
+-- a command has the meaning of a line; if there is no command, the line isn't one
 abbrev pub Asks : List (List ℕ) → Option Command → Meaning → Type 0
 Asks names None s = is_command s ≡ false
 Asks names (Some c) s = (is_command s ≡ true) × (command_said names c ≡ Some s)

@@ -38,7 +38,7 @@ pub struct Unread {
     pub replies: Option<Vec<Reply>>,
 }
 
-/// Returns the frame that a reply has, if any.
+/// Returns the frame in a reply, if any.
 fn emitted_by(reply: &Reply) -> Option<&Arc<FrameData>>
     ensures { frame_in (option_map (λ frame. frame.now) result) ≡ emitted_by reply.now }
 {
@@ -67,8 +67,8 @@ fn add_frames(view: &mut FrameView, replies: &[Reply]) -> Answer<()>
 
 /// Runs commands in a session, and adds each emitted frame to a view, in order. Returns one reply for each command.
 ///
-/// Fails only with `Memory`. The session may then have run the commands or none of them, and the view may have taken a
-/// beginning of the frames.
+/// Fails only with `Memory`. The session has then run all of the commands or none, and the view may have taken the first few
+/// of the frames.
 pub(crate) fn run_into(
     session: &mut Session,
     commands: &[Command],
@@ -108,8 +108,8 @@ pub(crate) fn run_into(
 /// Runs commands in a session, adds each emitted frame to a view, in order, and writes the view's file. Returns one reply for
 /// each command.
 ///
-/// Fails with `Memory`, and as [`FrameView::write`] does with `PartTooLong` and `Io`. The session may then have run the
-/// commands or none of them, and the view may have taken the first few of the frames. Nothing is written before the view has
+/// Fails with `Memory`, and with `PartTooLong` or `Io` in the same cases as [`FrameView::write`]. The session has then run all
+/// of the commands or none, and the view may have taken the first few of the frames. Nothing is written before the view has
 /// taken all of them.
 ///
 /// ```
@@ -148,8 +148,8 @@ pub fn record_session<D: Drain>(
 /// Runs commands in a new session of threads with these names, in the short form. Adds each emitted frame to a view, in order,
 /// and writes the view's file, as [`record_session`] does. Returns one reply for each command.
 ///
-/// Fails with `Memory`, and as [`FrameView::write`] does with `PartTooLong` and `Io`. The view may then have taken the first
-/// few of the frames. Nothing is written before the view has taken all of them.
+/// Fails with `Memory`, and with `PartTooLong` or `Io` in the same cases as [`FrameView::write`]. The view may then have taken
+/// the first few of the frames. Nothing is written before the view has taken all of them.
 ///
 /// ```
 /// let mut drain = Counted::new(file);
@@ -218,8 +218,8 @@ fn threads_of(alloc: Global, script: &Script) -> Result<Vec<(String, Form)>, All
     Ok(threads)
 }
 
-/// Runs a script in a new session. A new view takes each frame of the run. Writes the view's file to `out`, and then the lines
-/// of the replies, which `docs/FORMAT.md` lists, to `lines`.
+/// Runs a script in a new session, and adds each frame of the run to a new view. Writes the view's file to `out`, and then the
+/// lines for the replies to `lines`. `docs/FORMAT.md` lists these lines.
 ///
 /// Fails as [`record`] does, before any line is written; or with `Memory` or `Io` if the lines can't be written.
 ///

@@ -14,13 +14,11 @@ ghost use Rattle.puffin_replay.specs.inner.InMemory.{IsFileOf, IsReadFault};
 
 use crate::replay::recording::{Unread, run_into};
 use puffin_data::FileError;
-use puffin_data::data::{Buffered, Drain, Form};
+use puffin_data::data::{Buffered, Form, MemoryFile};
 use puffin_session::{Command, Reply, Session};
 use puffin_view::profile_view::FrameView;
 use puffin_view::profile_view::laws::what_was_written_is_read;
 use std::alloc::Global;
-use std::io;
-use std::io::Write;
 
 /// Which frames a view keeps, and whether it packs them.
 #[derive(Clone, Copy, Debug, PartialEq, Eq)]
@@ -42,32 +40,7 @@ pub struct Recording {
     pub view: FrameView,
 }
 
-/// A file in memory. A write to it fails only if memory runs out.
-#[derive(Drop)]
-struct MemoryFile {
-    bytes: Vec<u8>,
-    faults: u64,
-}
-
-impl Drain for MemoryFile {
-    ghost contents = { λ file. Some file.bytes.items };
-
-    ghost failures = { λ file. file.faults };
-
-    fn write(&mut self, buf: &[u8]) -> io::Result<usize> {
-        let result = self.bytes.write(buf);
-        if result.is_err() {
-            self.faults += 1;
-        }
-        result
-    }
-
-    fn faults(&self) -> u64 {
-        self.faults
-    }
-}
-
-/// Converts the error of a call that reads or writes memory: its `Io` is `Memory`.
+/// Converts the error of a call that reads or writes memory: `Io` becomes `Memory`.
 fn in_memory(fault: FileError) -> FileError
     ensures io { fault ≡ FileError.Io → result ≡ FileError.Memory }
     ensures other { (fault ≡ FileError.Io → ⊥) → result ≡ fault }
@@ -115,10 +88,7 @@ fn written_and_read(alloc: Global, view: &FrameView) -> Result<FrameView, FileEr
         IsReadFault (fields_in (view_of view.now)) e
         ⊎ ((e ≡ FileError.PartTooLong) × Any HasLongPart (fields_in (view_of view.now)))) }
 {
-    let mut file = MemoryFile {
-        bytes: Vec::new(alloc),
-        faults: 0,
-    };
+    let mut file = MemoryFile::new(alloc);
     match view.write(&mut file) {
         Ok(()) => read_file(alloc, file.bytes.as_slice()),
         Err(fault) => Err(in_memory(fault)),
@@ -129,9 +99,9 @@ fn written_and_read(alloc: Global, view: &FrameView) -> Result<FrameView, FileEr
 /// into another view. Returns one reply for each command, and the view that was read.
 ///
 /// The session may have done anything before, and the view may have taken any frames. Each emitted frame has, under each
-/// thread's start and name, exactly the scopes reported there since the emitted frame before it, of this call or an earlier
-/// one. The view that was read has exactly the frames that the first view then has, and the details that these list. It keeps
-/// up to `usize::MAX` recent frames and 256 slow ones, as [`FrameView::read`] does.
+/// thread's start and name, exactly the scopes reported there since the previous emitted frame, whether that is from this call
+/// or an earlier one. The view that was read has exactly the frames that the first view has afterwards, and the details that
+/// they list. It keeps up to `usize::MAX` recent frames and 256 slow ones, like any view from [`FrameView::read`].
 ///
 /// Fails with `Memory`, with `PartTooLong` if a part of a packet has `2^32` bytes or more, and with `Refused(MissingId)` if
 /// details of a frame that the view held before have no id. The error has the replies if the commands were run.

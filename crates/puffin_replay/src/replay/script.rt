@@ -22,9 +22,9 @@ pub struct Script {
     pub names: Vec<String>,
     /// The form of each thread, in the same order: long if the first line that names the thread is `long`.
     pub forms: Vec<Form>,
-    /// The commands, in order. A thread's number is the place of its name.
+    /// The commands, in order. A thread's number is the index of its name in `names`.
     pub commands: Vec<Command>,
-    /// The line of each command, counted from 1 over all lines.
+    /// The line number of each command, counted from 1 over all lines.
     pub lines: Vec<u64>,
 }
 
@@ -175,7 +175,7 @@ impl<'s> Threads<'s> {
     }
 }
 
-/// Makes the command that registers a scope of the caller's own by its name.
+/// Makes the command that registers one of the caller's own scopes by its name.
 fn register_user(alloc: Global, name: &str) -> Result<Command, AllocError>
     ensures { IfOk result (λ command. (names : List (List ℕ)) →
         command_said names command ≡ Some (registers_user name.now)) }
@@ -227,7 +227,7 @@ fn is_skipped(line: &[u8]) -> bool
     }
 }
 
-/// Parses a line. Returns `None` if it is skipped, and its number as the fault if it is invalid.
+/// Parses a line. Returns `None` if it is skipped. Fails with its number if it is invalid.
 fn parse_line(number: u64, line: &[u8]) -> Result<Option<Statement<'_>>, ToolFault>
     ensures { MatchResult result
         (λ statement. told_by number line.now ≡ Ok (option_map meaning_of statement))
@@ -283,7 +283,7 @@ impl<'s> Reading<'s> {
         }
     }
 
-    /// Appends the command of this line, if it is one.
+    /// Appends the command of this line, if it has one.
     fn push(&mut self, number: u64, statement: &Statement<'s>) -> Result<(), AllocError>
         ensures { OnOk result (
             (before : List (ℕ × Meaning)) → IsReading self.old before →
@@ -323,11 +323,11 @@ fn script_of(alloc: Global, bytes: &[u8]) -> Result<Script, ToolFault>
     Ok(reading.into_script())
 }
 
-/// Reads a script to its end. `docs/FORMAT.md` lists the commands. Each line is one, except lines that are empty or begin with
-/// `#`, and `long T`, which makes the form of thread `T` long and has to be the first line that names it.
+/// Reads a script to its end. `docs/FORMAT.md` lists the commands. Each line is a command, except for lines that are empty or
+/// begin with `#`, and for `long T`, which makes the form of thread `T` long and must be the first line that names it.
 ///
-/// Fails with `Line` and the number of the first line that isn't UTF-8 or isn't valid there; else with `Io` if the reader
-/// fails, or with `Memory`; how far it read is then unspecified.
+/// Fails with `Io` if the reader fails, or with `Memory`; how far it read is then unspecified. Once the whole script is read,
+/// fails with `Line` and the number of the first line that isn't UTF-8 or isn't valid at its place.
 ///
 /// ```
 /// let script = read_script(alloc, &mut Counted::new(b"begin main 100 1\nend main 200\nframe\n".as_slice()))?;

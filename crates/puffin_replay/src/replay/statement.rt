@@ -34,7 +34,7 @@ pub(crate) enum Statement<'l> {
         file: &'l str,
         line: u32,
     },
-    /// Registers a scope of the caller's own by its name.
+    /// Registers one of the caller's own scopes by its name.
     RegisterUser {
         name: &'l str,
     },
@@ -44,7 +44,7 @@ pub(crate) enum Statement<'l> {
     NewFrame,
 }
 
-/// The words that are left of a line, separated by one blank each.
+/// The remaining words of a line, separated by single blanks.
 #[derive(Clone, Copy)]
 struct Words<'l> {
     left: Option<&'l str>,

@@ -36,7 +36,7 @@ fn start(word: &str) -> Option<Option<NanoSecond>>
     Some(Some(signed_time(word)?))
 }
 
-/// Parses `START:NAME`. Returns `None` for another word.
+/// Parses `START:NAME`. Returns `None` for any other word.
 fn thread_of(word: &str) -> Option<(Option<NanoSecond>, &str)>
     ensures { option_map (λ t. record { start = t.0; name = t.1.now }) result
         ≡ thread_of_word word.now }
@@ -45,7 +45,7 @@ fn thread_of(word: &str) -> Option<(Option<NanoSecond>, &str)>
     Some((start(before)?, name))
 }
 
-/// Makes the task to report a file for the thread in `word`. Returns `None` if that isn't `START:NAME`.
+/// Makes the task that prints the report of a file for the thread in `word`. Returns `None` if `word` isn't `START:NAME`.
 fn report_of(file: &String, word: &str) -> Result<Option<Task>>
     ensures task { IfOk result (λ task.
         option_map request_of task ≡ report_by (string_bytes file.now) word.now) }

@@ -18,15 +18,15 @@ use Rattle.puffin_report.specs.declared.summing.Progress.TheVariants as progress
 use Rattle.puffin_report.specs.declared.summing.Summing.{Summing}
 use Rattle.puffin_report.specs.Summary.{all_bytes_in}
 
--- what frames say that were read
+-- the contents of the frames that were read
 abbrev pub said_by : List Stored → List PacketFields
 said_by stored = map fields_of (map frame_stored stored)
 
--- those since the last one whose index isn't above that of the frame before it
+-- those from the last frame whose index isn't greater than that of the frame before it
 abbrev pub kept_of : List Stored → List PacketFields
 kept_of stored = rising_end (said_by stored)
 
--- ---- how far merging came with the frames that are kept
+-- ---- how far merging got with the kept frames
 
 -- all of them were unpacked and added
 abbrev pub AreAdded : ThreadKey → List PacketFields → Merger → Type 0
@@ -36,7 +36,7 @@ AreAdded info kept m =
     × HasAdded streams m
     × (merged_info m ≡ info)
 
--- all of them were unpacked, and merging them is refused so, whatever frames follow
+-- all of them were unpacked, and merging them is refused with this cause, whatever frames follow
 abbrev pub AreRefused : ThreadKey → List PacketFields → Error → Type 0
 AreRefused info kept cause =
     (streams : List FrameBytes)
@@ -44,24 +44,24 @@ AreRefused info kept cause =
     × (cause ≡ Memory → ⊥)
     × ((later : List FrameBytes) → IsMergeRefusal (streams ++ later) cause)
 
--- by which of the two it came, or the fault of the first that isn't unpacked
+-- either of these two, or the fault of the first frame that can't be unpacked
 abbrev pub IsProgress : ThreadKey → List PacketFields → Progress → Type 0
 IsProgress info kept (progress.Merged m) = AreAdded info kept m
 IsProgress info kept (progress.Refused cause) = AreRefused info kept cause
 IsProgress info kept (progress.NotUnpacked fault) = all_bytes_in info kept ≡ Err fault
 
--- that of some frames, and one more can be added
+-- the progress of some frames, to which one more can be added
 abbrev pub CanGoOn : Progress → Type 0
 CanGoOn p = (info : ThreadKey) × (kept : List PacketFields) × IsProgress info kept p × (length kept < 2 ^ 64 - 1)
 
--- that of the frames which, with one frame more, are those that are kept of all
+-- the progress of the frames that, followed by this one, are those kept of all
 pub record IsKeptWith (info : ThreadKey) (cs : List PacketFields) (c : PacketFields) (p : Progress) : Type 0 where
   pub before : List PacketFields
   pub fewer : length before ≤ length cs
   pub progress : IsProgress info before p
   pub kept : rising_end (cs ++ c ∷ []) ≡ before ++ c ∷ []
 
--- ---- how far summing up came with the frames that were read
+-- ---- how far summing up got with the frames that were read
 
 pub record HasSummed (info : ThreadKey) (stored : List Stored) (s : Summing) : Type 0 where
   pub thread : key_of s.thread.now ≡ info

@@ -15,7 +15,7 @@ abbrev pub begun_offset : Thread → List ℕ → ℕ
 begun_offset thread text =
     word_size thread.form thread.word + size_offset thread.form (cut_text thread.form text)
 
--- The guard has a scope, begun as the profiler's own call does. The clock answered by this relation.
+-- The guard has a scope, begun just as the profiler's own call begins one. The clock's answer is one that `answers` allows.
 pub record IsOn {C : Type 0} (answers : C → ℤ → C → Type 0) (old : ThreadProfiler C) (id : ℕ)
     (text : List ℕ) (scope : ProfilerScope C) : Type 0 where
   pub at : ℤ

@@ -15,7 +15,7 @@ use Rattle.puffin_threads.specs.Details.{Details}
 abbrev pub innermost_of : {C : Type 0} → ThreadProfiler C → Option ℕ
 innermost_of profiler = slice_get (offsets_of (thread_of profiler)) 0
 
--- the scope at this offset was ended, as the profiler's own call does
+-- the scope at this offset was ended, just as the profiler's own call ends one
 pub record IsEnded {C R : Type 0} (answers : C → ℤ → C → Type 0)
     (accepts : R → ThreadKey → List Details → StreamFacts → R → Type 0)
     (refuses : R → ThreadKey → List Details → StreamFacts → Error → R → Type 0)
@@ -26,7 +26,7 @@ pub record IsEnded {C R : Type 0} (answers : C → ℤ → C → Type 0)
   pub never_negative : pos 0 ≤ℤ at
   pub closes : Closes accepts refuses (thread_of old) (thread_of new) at before after closed
 
--- no scope was ended, as the one at this offset isn't the innermost
+-- no scope was ended, because the one at this offset isn't the innermost
 pub record IsMismatched {C R : Type 0} (offset : ℕ) (old new : ThreadProfiler C)
     (before after : R) (e : Error) : Type 0 where
   pub mismatched : e ≡ MismatchedEnd
@@ -34,7 +34,7 @@ pub record IsMismatched {C R : Type 0} (offset : ℕ) (old new : ThreadProfiler 
   pub unchanged : new ≡ old
   pub reporter : after ≡ before
 
--- What `end` leaves, if the guard has a scope at this offset or none.
+-- What `end` does and returns, for a guard that has a scope at this offset or no scope.
 abbrev pub Ends : {C R : Type 0} → (C → ℤ → C → Type 0) →
     (R → ThreadKey → List Details → StreamFacts → R → Type 0) →
     (R → ThreadKey → List Details → StreamFacts → Error → R → Type 0) → Option ℕ → ThreadProfiler C →
@@ -61,7 +61,7 @@ pub record IsLeftAt {C : Type 0} (answers : C → ℤ → C → Type 0) (offset 
   pub innermost : innermost_of old ≡ Some offset → IsClosed answers old new
   pub other : innermost_of old ≢ Some offset → new ≡ old
 
--- What a drop leaves, if the guard has a scope at this offset or none. Nothing is reported.
+-- The profiler after a drop, for a guard that has a scope at this offset or no scope. Nothing is reported.
 abbrev pub IsLeft : {C : Type 0} → (C → ℤ → C → Type 0) → Option ℕ → ThreadProfiler C →
     ThreadProfiler C → Type 0
 IsLeft answers None old new = new ≡ old

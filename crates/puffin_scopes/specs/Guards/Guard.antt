@@ -25,10 +25,10 @@ refusal_in (On offset) = None
 refusal_in Off = None
 refusal_in (Refused e) = Some e
 
--- the offset of its scope's size
+-- the offset of the size of the guard's scope
 abbrev pub offset_of : {C : Type 0} → ProfilerScope C → Option ℕ
 offset_of scope = offset_in scope.state
 
--- why it has no scope
+-- the error if the scope was refused
 abbrev pub guard_refusal : {C : Type 0} → ProfilerScope C → Option Error
 guard_refusal scope = refusal_in scope.state

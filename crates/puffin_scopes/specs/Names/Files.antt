@@ -27,7 +27,8 @@ last_src (part ∷ parts) =
 abbrev pub part_at : List (List ℕ) → ℕ → List ℕ
 part_at parts i = slice_index_or parts i []
 
--- The crate's folder and the file, and between them the part in the middle if it is the only one, else `…`. A `lib.rs` keeps its folder, too.
+-- The crate's folder and the file, with the part between them if there is exactly one, else with `…`. For a `lib.rs`, its
+-- folder is kept too.
 abbrev pub kept_in_crate : List (List ℕ) → ℕ → ℕ → List (List ℕ)
 kept_in_crate parts crate file =
     if crate + 2 == file
@@ -36,13 +37,14 @@ kept_in_crate parts crate file =
     then part_at parts crate ∷ ellipsis ∷ part_at parts (file - 1) ∷ part_at parts file ∷ []
     else part_at parts crate ∷ ellipsis ∷ part_at parts file ∷ []
 
--- The crate's folder is the part before the last `src`, or `src` itself if it is the first part. Without `src` the last two parts are kept.
+-- The crate's folder is the part before the last `src`, or `src` itself if it is the first part. If there is no `src`, the last
+-- two parts are kept.
 abbrev pub kept_by : List (List ℕ) → Option ℕ → List (List ℕ)
 kept_by parts None =
     part_at parts (length parts - 2) ∷ part_at parts (length parts - 1) ∷ []
 kept_by parts (Some src) = kept_in_crate parts (src - 1) (length parts - 1)
 
--- all parts if there are at most two
+-- the parts that are kept: all of them if there are at most two
 abbrev pub kept_parts : List (List ℕ) → List (List ℕ)
 kept_parts parts = if nat_lt 2 (length parts) then kept_by parts (last_src parts) else parts
 

@@ -21,7 +21,7 @@ abbrev pub after_cut_or : List ℕ → Option (List ℕ × List ℕ) → List �
 after_cut_or other (Some cut) = cut.1
 after_cut_or other None = other
 
--- what follows the last `::`, or the whole name without one
+-- what follows the last `::`, or the whole name if there is none
 abbrev pub last_segment : List ℕ → List ℕ
 last_segment name = after_cut_or name (last_cut (codes "::") name)
 
@@ -37,7 +37,8 @@ two_segments_by name None = name
 abbrev pub two_segments : List ℕ → List ℕ
 two_segments name = two_segments_by name (last_cut (codes "::") name)
 
--- `<`, the type, ` as `, the trait, `>` and the rest. The type follows the last `<` before the ` as `; without one the whole name is taken for it.
+-- `<`, the type, ` as `, the trait, `>` and the rest. The type follows the last `<` before the ` as `; if there is none, the
+-- whole name is taken as the type.
 abbrev pub short_impl : List ℕ → List ℕ → List ℕ → List ℕ → List ℕ
 short_impl name front trait_name rest =
     codes "<" ++ (last_segment (after_cut_or name (last_cut (codes "<") front)) ++ (
@@ -71,7 +72,7 @@ without_closures_by (suc n) name =
     if ends_with nat_eq name closure_ending
     then without_closures_by n (without_last 13 name) else name
 
--- without all of these endings, of which there are at most as many as bytes
+-- without any closure endings, of which there are at most as many as bytes
 abbrev pub without_closures : List ℕ → List ℕ
 without_closures name = without_closures_by (length name) name
 

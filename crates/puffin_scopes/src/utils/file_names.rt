@@ -57,7 +57,7 @@ fn last_src(parts: &[&str]) -> Option<usize>
     last
 }
 
-/// Joins the parts to be kept, of a path with three parts or more.
+/// Joins the parts that are kept of a path with at least three parts.
 fn kept(alloc: Global, parts: &[&str]) -> Result<String>
     requires { 2 < length parts.now }
     ensures ok { IfOk result (λ name. string_bytes name

@@ -33,7 +33,8 @@ abbrev pub user_details : {A : Type 0} → List (String A) → List Details
 user_details names =
     map (λ name. record default_details { scope_name = Some (string_bytes name) }) names
 
--- What a command did, by its reply and, as these two don't give them, by the details that became known: those of new user scopes, and those that a refused frame had already added.
+-- What a command with this reply did. The details that became known are given too, because command and reply don't contain
+-- them: those of new user scopes, and those that a refused frame had already added.
 abbrev pub action_of : Command → Reply → List Details → Action
 action_of (Begin thread at id text) (reply.Began offset) learnt =
     calls thread (record { at = at; mark = begun id (string_bytes text) })

@@ -61,7 +61,8 @@ pub data Delivery : Type 0 where
   all_taken : Delivery
 
 module _ (o : Opening) where
-  -- What an action hands over, after those before it: an accepted report, the part of the thread's word that it ends; a user's report, its word.
+  -- What an action hands over, after those before it. An accepted report hands over the part of the thread's word that it ends,
+  -- and a user's report its word.
   abbrev pub deliveries_at : List Action → Action → List Delivery
   deliveries_at done (calls t c) = elim c.mark [
     | begun id text ↦ []

@@ -33,7 +33,7 @@ joined_word a b = record {
 abbrev pub AreUnlikeWords : Word → Word → Type 0
 AreUnlikeWords a b = (0 < length a.events) × (0 < length b.events) × (a.form ≢ b.form)
 
--- what was handed over under an info, with one delivery more
+-- what was handed over under an info, with one more delivery
 abbrev pub with_delivery : ThreadKey → Option Word → Delivery → Option Word
 with_delivery i sofar (under j word) =
     if has_same_key i j then Some (joined_word (unwrap_or sofar no_word) word) else sofar
@@ -57,7 +57,7 @@ abbrev pub events_of : Delivery → List Event
 events_of (under i word) = word.events
 events_of all_taken = []
 
--- a command for a frame was accepted, with a frame or without
+-- a command for a frame was accepted, with or without a frame
 abbrev pub is_numbered : Action → Bool
 is_numbered (frames emitted) = true
 is_numbered _ = false

@@ -15,7 +15,9 @@ pub record Word : Type 0 where
   pub form : Form
   pub events : List Event
 
--- The state before: the threads; what is due, words under an info in the order in which they were handed over; the next frame's index; the number of scopes ever reported; the known details, those new in the next frame, in order, and whether the next frame is to list all.
+-- The state before: the threads; what is due, as words under infos in the order in which they were handed over; the next
+-- frame's index; the number of scopes ever reported; the known details, those new in the next frame, in order, and whether the
+-- next frame is to list all known ones.
 pub record Opening : Type 0 where
   pub threads : List Thread
   pub due : List (ThreadKey × Word)
@@ -25,7 +27,7 @@ pub record Opening : Type 0 where
   pub new_details : List Details
   pub wants_all : Bool
 
--- a scope was begun, with its whole text, or ended, with an accepted report or without
+-- a scope was begun, with its whole text, or ended, with or without an accepted report
 pub data Mark : Type 0 where
   begun : (id : ℕ) → (text : List ℕ) → Mark
   ended : (reported : Bool) → Mark
@@ -39,7 +41,7 @@ pub record Call : Type 0 where
 pub data Action : Type 0 where
   calls : (thread : ℕ) → Call → Action
   hands : ThreadKey → Word → Action
-  -- the frame index rose, with a frame or without
+  -- the frame index rose, with or without a frame
   frames : (emitted : Bool) → Action
   -- a thread registered details
   registers : (thread : ℕ) → Details → Action
@@ -47,7 +49,7 @@ pub data Action : Type 0 where
   adds : List Details → Action
   -- details became known for a frame that was refused
   learns : List Details → Action
-  -- the next frame is to list all
+  -- the next frame is to list all known details
   wants : Action
   nothing : Action
 

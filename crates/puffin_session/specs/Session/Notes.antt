@@ -5,7 +5,7 @@ use Rattle.puffin_threads.specs.Details.{Details}
 use Rattle.puffin_threads.specs.Details.Collection.{Collection, with_all_details}
 use Rattle.puffin_session.specs.Session.History.{Opening, begun, ended, Action, calls, frames, registers, adds, learns, wants, thread_at, since_last}
 
--- details, or that all details before went on
+-- details, or a mark that all details before it were passed on
 pub data Note : Type 0 where
   noted : Details → Note
   sent : Note
@@ -18,11 +18,11 @@ abbrev pub details_in : Note → List Details
 details_in (noted d) = d ∷ []
 details_in sent = []
 
--- the details since all before went on
+-- the details since the last time that all were passed on
 abbrev pub details_waiting : List Note → List Details
 details_waiting notes = flat_map details_in (since_last is_sent notes)
 
--- what an action notes for a thread: details that it registered, which go on with its next accepted report
+-- what an action notes for a thread: details that it registered, which are passed on with its next accepted report
 abbrev pub notes_at : ℕ → Action → List Note
 notes_at t (calls u c) =
     if t == u

@@ -20,7 +20,7 @@ use Rattle.puffin_frames.specs.declared.frame_data.frame.FrameData.{FrameData}
 use Rattle.puffin_threads.specs.declared.thread_profiler.reporter.Closed.{Closed}
 use Rattle.puffin_threads.specs.declared.thread_profiler.reporter.Closed.TheVariants as closed
 use Rattle.puffin_threads.specs.Details.{Details, shared_details}
-use Rattle.puffin_threads.specs.Details.Collection.{Collection, Begins}
+use Rattle.puffin_threads.specs.Details.Collection.{Collection, IsPrefix}
 use Rattle.puffin_collector.specs.Collector.State.{IsTooLong, delta_of}
 use Rattle.puffin_collector.specs.Collector.Registering.{Registers, RegistersSome}
 use Rattle.puffin_collector.specs.declared.emitted.Emitted.{Emitted}
@@ -36,7 +36,8 @@ use Rattle.puffin_session.specs.Session.Notes.{due_details, known_after, is_want
 use Rattle.puffin_session.specs.Session.{thread_after, word_of_thread, begun_place, SpellsDue}
 use Rattle.puffin_session.specs.Session.Actions.{user_details}
 
--- The frame with this index spells what was due, and its meta is that of its streams, which have some scope. It is held unpacked only.
+-- The frame with this index spells what was due, and its meta is that of its streams, which have at least one scope. It is held
+-- unpacked only.
 pub record SpellsFrame (frame : FrameData) (index : ℕ) (ds : List Delivery) : Type 0 where
   pub streams : Streams
   pub held : holding_of frame ≡ record { packed = None; unpacked = Some streams }
@@ -67,7 +68,7 @@ module _ (o : Opening) (done : List Action) where
   abbrev pub ending_word : ℕ → ℤ → Word
   ending_word t at = word_of_thread (after_end (thread_after o done t) (int_max (pos 0) at))
 
-  -- with this word more, the sums over all that is due fit 64 bits, and so does that over all that was ever reported
+  -- with this word added, the sums over all that is due fit 64 bits, and so does the sum over all that was ever reported
   pub record DueFits (word : Word) : Type 0 where
     pub bytes : sum_by bytes_delivered (due o done) + word_size word.form word.events < 2 ^ 64
     pub scopes : sum_by scopes_delivered (due o done) + num_begun word.events < 2 ^ 64
@@ -77,7 +78,7 @@ module _ (o : Opening) (done : List Action) where
   abbrev pub due_with : Word → List Event
   due_with word = flat_map events_of (due o done) ++ word.events
 
-  -- with this word more, the range of all that is due isn't reversed, and its duration doesn't fit i64
+  -- with this word added, the range of all that is due isn't reversed, and its duration doesn't fit i64
   abbrev pub DueIsTooLong : Word → Type 0
   DueIsTooLong word = IsTooLong (least_open (due_with word), greatest_close (due_with word))
 
@@ -142,5 +143,5 @@ module _ (o : Opening) (done : List Action) where
       (emitted.refused ≡ 0) × (index_after o done ≢ 2 ^ 64 - 1) × FrameIsDue emitted
   MayReply NewFrame (reply.Refused e) learnt =
       ((e ≡ IndexExhausted) × (index_after o done ≡ 2 ^ 64 - 1) × (learnt ≡ []))
-      ⊎ ((e ≡ Memory) × Begins learnt (due_details o done))
+      ⊎ ((e ≡ Memory) × IsPrefix learnt (due_details o done))
   MayReply _ _ learnt = ⊥

@@ -52,12 +52,13 @@ pub record SumsTo (streams : Streams) (ds : List Delivery) : Type 0 where
   pub start : joined_start (values streams) ≡ least_open (flat_map events_of ds)
   pub stop : joined_stop (values streams) ≡ greatest_close (flat_map events_of ds)
 
--- the state of a session after a history, with sums over what is collected that are those of what is due
+-- the state of a session after a history, in which the sums over what is collected are those over what is due
 pub record Continued (o : Opening) (done : List Action) (now : SessionState) : Type 0 where
   pub stands : StandsAfter o done now
   pub sums : SumsTo now.collected.streams (due o done)
 
--- One command and its reply: some details became known, and after whatever history the session was before, it is now after that history and what the command did.
+-- One command and its reply: some details became known. Whatever history led to the session's old state, that history followed
+-- by what the command did leads to the new one.
 abbrev pub ContinuesBy : SessionState → SessionState → Command → Reply → List Details → Type 0
 ContinuesBy old new c r learnt =
     (o : Opening) (done : List Action) → Continued o done old →

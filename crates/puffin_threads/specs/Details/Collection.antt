@@ -52,13 +52,13 @@ abbrev pub with_all_details : Collection → List Details → Collection
 with_all_details collection ds = fold with_details collection ds
 
 -- `some` is a prefix of `all`
-abbrev pub Begins : List Details → List Details → Type 0
-Begins some all = (rest : List Details) × (all ≡ some ++ rest)
+abbrev pub IsPrefix : List Details → List Details → Type 0
+IsPrefix some all = (rest : List Details) × (all ≡ some ++ rest)
 
 -- a prefix of the details was inserted
 abbrev pub LearnsSome : Collection → List Details → Collection → Type 0
 LearnsSome old ds new =
-    (learnt : List Details) × Begins learnt ds × (new ≡ with_all_details old learnt)
+    (learnt : List Details) × IsPrefix learnt ds × (new ≡ with_all_details old learnt)
 
 -- what a collection has under the id of these details
 abbrev pub kept_for : Collection → Details → Option Details

@@ -1,4 +1,4 @@
--- What ending a scope, and asking for a report, does to a thread and its reporter.
+-- What ending a scope or asking for a report does to a thread and its reporter.
 use Rattle.std.specs.Prelude.{◌≡◌, ◌≢◌, ◌<◌, ◌⊎◌, ℤ, Bool, true, false, List, [], Result, Ok, Err}
 use Rattle.puffin_data.specs.declared.error.Error.{Error}
 use Rattle.puffin_data.specs.declared.error.Error.TheVariants.{Memory, ScopesOpen}
@@ -42,12 +42,13 @@ Closes accepts refuses old new at before after (Kept e) =
     × (new ≡ after_end old at)
     × GoesTo (λ b i d r a. refuses b i d r e a) (after_end old at) before after
 
--- closed scopes wait for a report, and none is open
+-- closed scopes are waiting for a report, and no scope is open
 pub record Waits (thread : Thread) : Type 0 where
   pub none_open : open_after 0 thread.word ≡ 0
   pub some : thread.word ≢ []
 
--- Reports what waits. A refusal doesn't change the thread: a scope is open, the name couldn't be copied, or the reporter refused.
+-- Reports the waiting scopes. Fails if a scope is open, the name can't be copied or the reporter refuses; the thread doesn't
+-- change then.
 abbrev pub Reports : {R : Type 0} → (R → ThreadKey → List Details → StreamFacts → R → Type 0) →
     (R → ThreadKey → List Details → StreamFacts → Error → R → Type 0) → Thread → Thread → R → R →
     Result Bool Error → Type 0

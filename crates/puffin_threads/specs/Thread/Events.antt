@@ -1,4 +1,4 @@
--- The events that bytes spell, read without the sizes of children, so open scopes are among them.
+-- The events that bytes spell, including those of open scopes, since they are read without the sizes of children.
 use Rattle.std.specs.Prelude.{ℕ, zero, suc, ◌==◌, true, false, List, [], ◌∷◌, length, take, drop, slice_index}
 use Rattle.puffin_data.specs.declared.data.form.Form.{Form}
 use Rattle.puffin_data.specs.Forest.Spelling.{begin_mark, end_mark, end_size}

@@ -1,4 +1,4 @@
--- How a thread stores its scopes, and the invariant of that.
+-- How a thread stores its scopes, and the invariant of its state.
 use Rattle.std.specs.Prelude.{◌≡◌, ℕ, ◌*◌, ◌≤◌, ℤ, pos, ◌≤ℤ◌, List, [], ◌∷◌, length, reverse, fold, Option, Some, None, string_bytes}
 use Rattle.std.specs.Option.{option_map}
 use Rattle.puffin_data.specs.declared.data.form.Form.{Form}
@@ -13,7 +13,7 @@ use Rattle.puffin_threads.specs.Details.{details_seen}
 use Rattle.puffin_threads.specs.Thread.Events.{events_in}
 use Rattle.puffin_threads.specs.Thread.Calls.{Thread, open_offsets}
 
--- the open scopes of a word, the innermost first, and the closed ones beside the next
+-- the open scopes of a word, the innermost first, and the closed siblings of the next scope to begin
 abbrev pub scopes_closed : List Opened → Forest → ℤ → List Opened × Forest
 scopes_closed [] closed stop = ([], closed)
 scopes_closed (o ∷ outer) closed stop = (outer, with_ended o closed stop)
@@ -68,7 +68,7 @@ abbrev pub spare_name : Inside → Option (List ℕ)
 spare_name r = option_map (λ s. string_bytes s) r.spare
 
 -- the invariant of a recording in this form
-pub record IsRecordingIn (form : Form) (r : Inside) : Type 0 where
+pub record IsThreadStateIn (form : Form) (r : Inside) : Type 0 where
   pub latest : pos 0 ≤ℤ r.latest
   pub scopes : ∥ HoldsScopes form r.info.stream.bytes r.latest ∥₁
   pub counted : Counted r.info (events_in form r.info.stream.bytes)
@@ -79,4 +79,4 @@ pub record IsRecordingIn (form : Form) (r : Inside) : Type 0 where
   pub spare : (name : List ℕ) → spare_name r ≡ Some name → name ≡ string_bytes r.name
 
 abbrev pub IsThreadState : Inside → Type 0
-IsThreadState r = IsRecordingIn r.info.stream.form r
+IsThreadState r = IsThreadStateIn r.info.stream.form r

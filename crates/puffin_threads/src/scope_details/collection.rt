@@ -14,8 +14,8 @@ use std::collections::BTreeMap;
 use std::marker::Model;
 use std::sync::Arc;
 
-/// The details of scopes by id, and the ids by name. Of details inserted under the same id the first are kept; of ids inserted
-/// under the same name, the last.
+/// Maps ids to the details of scopes, and names to ids. If details are inserted under an id more than once, the first are kept;
+/// if ids are inserted under a name more than once, the last is kept.
 #[derive(Drop)]
 pub struct ScopeCollection {
     by_id: BTreeMap<ScopeId, Arc<ScopeDetails>>,
@@ -86,7 +86,7 @@ impl ScopeCollection {
 
     /// Inserts details under their id and their name. Returns the details kept under the id, which are the first ones inserted.
     ///
-    /// Fails with `MissingId` if the details have no id, else only with `Memory`. Nothing changes then.
+    /// Fails with `MissingId` if the details have no id, otherwise only with `Memory`. A failure changes nothing.
     ///
     /// ```
     /// let details = ScopeDetails::from_scope_name(CowStr::Borrowed("part")).with_scope_id(id);
@@ -120,10 +120,10 @@ impl ScopeCollection {
         Ok(kept)
     }
 
-    /// Inserts details one after the other, as [`ScopeCollection::insert`] does.
+    /// Inserts these details one after the other, like [`ScopeCollection::insert`].
     ///
-    /// Fails with `MissingId` exactly when some of them have no id; nothing changes then. Else fails only with `Memory`; the
-    /// first few may then be inserted.
+    /// Fails with `MissingId` exactly when some of them have no id, and then changes nothing. Otherwise fails only with
+    /// `Memory`; the first few may have been inserted by then.
     pub fn insert_all(&mut self, details: &[Arc<ScopeDetails>]) -> Result<()>
         ensures ok { OnOk result (
             self.new ≡ with_all_details self.old (shared_details details.now)) }

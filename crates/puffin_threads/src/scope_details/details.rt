@@ -146,7 +146,7 @@ impl Default for ScopeDetails {
     }
 }
 
-/// Returns whether some of these details have no id.
+/// Returns whether any of these details have no id.
 pub fn any_lacks_id(details: &[Arc<ScopeDetails>]) -> bool
     ensures { result ≡ list_any (λ d. lacks_id (details_of (arc_value d))) details.now }
 {

@@ -26,8 +26,8 @@ impl ScopeIds {
         }
     }
 
-    /// Draws the next number as an id. Allocates nothing. Draws give different ids until the counter wraps around, which is
-    /// tested and not proved.
+    /// Draws the next number as an id. Allocates nothing. Ids don't repeat until the counter wraps around; this is tested, not
+    /// proved.
     ///
     /// Fails only with `IdsExhausted`, if the number is 0 or doesn't fit `u32`. The number is used up even then.
     ///

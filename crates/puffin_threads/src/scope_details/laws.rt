@@ -35,8 +35,8 @@ pub fn details_by_contents()
         ⟦<ScopeDetails as Hash>⟧.hash_input a ≡ ⟦<ScopeDetails as Hash>⟧.hash_input b }
 {}
 
-/// Details are ordered by id, none first, then by scope name, none first, then by function, file and line. The order is total,
-/// and only equal details compare as equal.
+/// Details are ordered by id, then by scope name, function, file and line; a missing id or scope name comes first. The order is
+/// total, and only equal details compare as equal.
 pub fn order_of_details()
     ensures no_id_first { (a b : Details) → a.id ≡ None → (i : ℕ) → b.id ≡ Some i →
         details_cmp a b ≡ Less }
@@ -48,7 +48,7 @@ pub fn order_of_details()
     ensures same { (a b : Details) → IsTrue (same_details a b) → a ≡ b }
 {}
 
-/// Types of scopes are ordered with functions before named scopes, and ids by number. Their hashes agree with the order.
+/// Functions come before named scopes in the order of scope types; ids are ordered by number. The hashes agree with the orders.
 pub fn types_and_ids()
     ensures types { (a b : ScopeType) → ⟦<ScopeType as Ord>⟧.cmp a b ≡ type_cmp a b }
     ensures partial_types { (a b : ScopeType) →
@@ -66,8 +66,8 @@ pub fn types_and_ids()
     ensures id_hashes { (a : ScopeId) → ⟦<ScopeId as Hash>⟧.hash_input a ≡ fed.u32 a }
 {}
 
-/// A collection made of a list of details has under each id the first details with it, and under each name the last id inserted
-/// with it. It has all details under their own ids.
+/// A collection made from a list of details maps each id to the first details with that id, and each name to the last id that
+/// was inserted with that name. The details in it are under their own ids.
 pub fn collected_details()
     ensures first { (ds : List Details) (id : ℕ) →
         map.get (with_all_details no_details ds).by_id id ≡ first_with_id id ds }
@@ -79,7 +79,8 @@ pub fn collected_details()
     ensures none { (map.values no_details.by_id ≡ []) × (map.values no_details.by_name ≡ []) }
 {}
 
-/// The entries of a collection's maps, which are sorted, are the entries that contracts see.
+/// If the entries of a collection's maps are sorted by key, the maps that contracts see have exactly these entries, in the form
+/// that `ids_seen` and `names_seen` give.
 pub fn entries_of_collections()
     ensures ids { (entries : List (ℕ × Arc ScopeDetails Global)) →
         IsStrictlySortedBy nat_cmp (keys_of entries) →

@@ -21,7 +21,7 @@ pub trait AnyThread {
     /// Whether the thread's clock, read in the first state, may return this time and end in the second state.
     ghost answers: { Self → ℤ → Self → Type 0 };
 
-    /// Ends the innermost open scope, as [`ThreadProfiler::end_scope`] does.
+    /// Ends the innermost open scope, like [`ThreadProfiler::end_scope`].
     fn end_scope<R: Reporter>(&mut self, offset: usize, reporter: &mut R) -> Result<Closed>
         ensures innermost { OnOk result (
             slice_get (offsets_of (state self.old)) 0 ≡ Some offset) }
@@ -36,7 +36,7 @@ pub trait AnyThread {
             × Closes R.accepts R.refuses (state self.old) (state self.new) at reporter.old
             reporter.new closed) };
 
-    /// Reports the closed scopes that wait, as [`ThreadProfiler::report_closed`] does.
+    /// Reports the closed scopes that are still waiting, like [`ThreadProfiler::report_closed`].
     fn report_closed<R: Reporter>(&mut self, reporter: &mut R) -> Result<bool>
         ensures reports { Reports R.accepts R.refuses (state self.old) (state self.new)
             reporter.old reporter.new result };

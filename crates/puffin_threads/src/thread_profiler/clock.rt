@@ -29,11 +29,11 @@ fn nanoseconds(time: Duration) -> NanoSecond
     NanoSecond::try_from(time.as_nanos()).unwrap_or(NanoSecond::MAX)
 }
 
-/// Fewer seconds than these fit `i64` as nanoseconds.
+/// Any smaller number of seconds fits `i64` as nanoseconds.
 const QUICK_SECONDS: u64 = 1 << 33;
 
-/// Converts a duration to nanoseconds, or to `i64::MAX` if it is longer than that. Up to some 272 years take one multiplication
-/// of 64 bits.
+/// Converts a duration to nanoseconds, or to `i64::MAX` if it is longer than that. Durations of up to about 272 years take one
+/// 64-bit multiplication.
 #[inline(always)]
 fn quick_nanoseconds(time: Duration) -> NanoSecond
     ensures { pos 0 ≤ℤ result }
@@ -45,7 +45,7 @@ fn quick_nanoseconds(time: Duration) -> NanoSecond
     nanoseconds(time)
 }
 
-/// Returns the time from one moment to another, or 0 if the other is earlier.
+/// Returns the time from `begun` to `now`, or 0 if `now` is earlier.
 #[inline(always)]
 fn gone_by(begun: NanoSecond, now: NanoSecond) -> NanoSecond
     requires begun { pos 0 ≤ℤ begun }
@@ -58,7 +58,7 @@ fn gone_by(begun: NanoSecond, now: NanoSecond) -> NanoSecond
     now - begun
 }
 
-/// Returns the time so much later, or `i64::MAX` if that is greater.
+/// Returns `start + gone`, or `i64::MAX` if the sum is greater than that.
 #[inline(always)]
 fn later(start: NanoSecond, gone: NanoSecond) -> NanoSecond
     requires start { pos 0 ≤ℤ start }
@@ -71,8 +71,8 @@ fn later(start: NanoSecond, gone: NanoSecond) -> NanoSecond
     start + gone
 }
 
-/// The system's clock. Its time is that of the wall clock when it was made, in nanoseconds since 1970, plus the monotonic time
-/// since then.
+/// The system's clock. Its time is the wall clock's time when the `SystemClock` was made, in nanoseconds since 1970, plus the
+/// monotonic time since then.
 ///
 /// ```
 /// let clock = SystemClock::new(rt)?;
@@ -92,8 +92,8 @@ impl<R: Clock + Drop> SystemClock<R> {
     ghost use Rattle.std.specs.Prelude.{IfOk};
     ghost use Rattle.puffin_threads.specs.Thread.Clock.{clock_start, last_answer};
 
-    /// Reads the start from the wall clock, in nanoseconds since 1970: 0 if it is before 1970, and at most `i64::MAX`. Fails
-    /// with the system's error if a clock can't be read.
+    /// Makes a clock that starts at the wall clock's time, in nanoseconds since 1970: 0 if that is before 1970, and at most
+    /// `i64::MAX`. Fails with the system's error if a clock can't be read.
     pub fn new(rt: R) -> io::Result<SystemClock<R>>
         ensures start { IfOk result (λ clock. pos 0 ≤ℤ clock_start clock) }
         ensures last { IfOk result (λ clock. last_answer clock ≡ clock_start clock) }

@@ -17,7 +17,7 @@ pub fn one_record()
         length a.bytes < 2 ^ 63 → a.form ≡ b.form → a.bytes ≡ b.bytes → a ≡ b }
 {}
 
-/// The offsets of the open scopes, the innermost first: there is one for each open scope; a scope that begins adds its own at
+/// The offsets of the open scopes, the innermost first. There is one for each open scope: a scope that begins adds its own at
 /// the front, and one that ends removes the first.
 pub fn open_scopes()
     ensures count { (form : Form) (word : List Event) →

@@ -32,7 +32,7 @@ impl<C: NsSource> ThreadProfiler<C> {
     ghost use Rattle.puffin_threads.specs.contracts.thread_profiler.profiler.ThreadProfiler.{the_row};
     ghost use Rattle.std.specs.Borrow.{Lends, sem};
 
-    /// Makes a profiler of a thread with this name, without scopes and in the short form.
+    /// Makes a profiler for a thread with this name, with no scopes and in the short form.
     ///
     /// ```
     /// let name = String::from_str(alloc, "main")?;
@@ -46,7 +46,7 @@ impl<C: NsSource> ThreadProfiler<C> {
         ThreadProfiler::with_form(alloc, name, clock, Form::Short)
     }
 
-    /// Makes a profiler of a thread with this name, without scopes and in this form.
+    /// Makes a profiler for a thread with this name, with no scopes and in this form.
     pub fn with_form(alloc: Global, name: String, clock: C, form: Form) -> ThreadProfiler<C>
         ensures thread { thread_of result ≡ new_thread (string_bytes name) form }
         ensures clock { clock_of result ≡ clock }
@@ -107,7 +107,7 @@ impl<C: NsSource> ThreadProfiler<C> {
         self.state.begin_scope(&mut self.clock, id, text)
     }
 
-    /// Ends the innermost open scope, which has to have this offset. If it was the last open one, hands all scopes that have
+    /// Ends the innermost open scope, which must have this offset. If it was the last open one, hands all scopes that have
     /// closed since the last accepted report to the reporter, under the thread's name and the start of its first scope.
     ///
     /// A refused report is no error: the call returns [`Closed::Kept`], and the scopes wait for the next report. Fails only with
@@ -142,7 +142,7 @@ impl<C: NsSource> ThreadProfiler<C> {
         }
     }
 
-    /// Ends the innermost open scope, which has to have this offset, and reports nothing. All closed scopes wait for the
+    /// Ends the innermost open scope, which must have this offset, and reports nothing. All closed scopes wait for the
     /// thread's next report, by [`ThreadProfiler::end_scope`] or [`ThreadProfiler::report_closed`].
     ///
     /// Fails only with `MismatchedEnd`, if the offset isn't the innermost open scope's; then the clock isn't read and nothing
@@ -166,8 +166,8 @@ impl<C: NsSource> ThreadProfiler<C> {
         Ok(())
     }
 
-    /// Reads the clock for the end of the innermost open scope, which has to have this offset. Fails with `MismatchedEnd` if it
-    /// has another; then the clock isn't read.
+    /// Reads the clock for the end of the innermost open scope, which must have this offset. Otherwise fails with
+    /// `MismatchedEnd`, and then doesn't read the clock.
     #[inline(always)]
     fn time_of_end(&mut self, offset: usize) -> Result<NanoSecond>
         ensures innermost { OnOk result (
@@ -218,7 +218,7 @@ impl<C: NsSource> ThreadProfiler<C> {
         self.state.register(ids, details)
     }
 
-    /// Registers a scope with a name of its own in a function, as [`ThreadProfiler::register_function_scope`] does.
+    /// Registers a named scope in a function, like [`ThreadProfiler::register_function_scope`].
     pub fn register_named_scope(
         &mut self,
         ids: &ScopeIds,

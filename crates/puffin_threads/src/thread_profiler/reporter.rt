@@ -25,8 +25,8 @@ pub trait Reporter {
     /// Whether such a report may be refused with this error.
     ghost refuses: { Self → ThreadKey → List Details → StreamFacts → Error → Self → Type 0 };
 
-    /// Receives a thread's closed scopes, and the details registered since its last accepted report. `times` has to be honest:
-    /// its counts are those of its bytes. After an error the thread keeps scopes and details for its next report.
+    /// Receives a thread's closed scopes, and the details registered since its last accepted report. `times` must be honest:
+    /// its counts must be those of its bytes. After an error the thread keeps the scopes and details for its next report.
     fn report(
         &mut self,
         info: ThreadInfo,

@@ -56,7 +56,7 @@ fn copy_of(name: &String) -> Result<String>
     Ok(name.clone()?)
 }
 
-/// Sets a missing spare to a copy of the name. Fails only with `Memory`.
+/// Sets the spare, which must be missing, to a copy of the name. Fails only with `Memory`.
 #[cold]
 #[inline(never)]
 fn fill(spare: &mut Option<String>, name: &String) -> Result<()>
@@ -96,7 +96,7 @@ fn keep_first(first: &mut Option<NanoSecond>, at: NanoSecond)
     }
 }
 
-/// Raises a number to this one. Always writes it, so that there is no jump.
+/// Raises `number` to `to` if it is less. Always writes it, so that there is no branch.
 #[inline(always)]
 fn raise(number: &mut usize, to: usize)
     ensures { number.new ≡ max number.old to }
@@ -104,7 +104,7 @@ fn raise(number: &mut usize, to: usize)
     *number = (*number).max(to);
 }
 
-/// Lowers a time to this one. Always writes it, so that there is no jump.
+/// Lowers `time` to `to` if it is greater. Always writes it, so that there is no branch.
 #[inline(always)]
 fn lower(time: &mut NanoSecond, to: NanoSecond)
     ensures { time.new ≡ int_min time.old to }
@@ -112,7 +112,7 @@ fn lower(time: &mut NanoSecond, to: NanoSecond)
     *time = (*time).min(to);
 }
 
-/// Returns how many bytes the ends of the open scopes and of one more take.
+/// Returns the number of bytes that the ends of the open scopes and of one more take.
 fn size_of_ends(offsets: &[usize]) -> usize
     ensures size { result ≡ END_SIZE * (length offsets.now + 1) }
     ensures small { result + 2 ^ 15 < 2 ^ 64 }
@@ -120,7 +120,7 @@ fn size_of_ends(offsets: &[usize]) -> usize
     END_SIZE * (offsets.len() + 1)
 }
 
-/// Appends a scope's beginning with this start, which fits the room, and returns the offset of its size.
+/// Appends the beginning of a scope with this start, and returns the offset of its size. The beginning must fit the room.
 #[inline(always)]
 fn write_begin(stream: &mut Stream, at: NanoSecond, id: ScopeId, text: &str) -> usize
     requires { head_size stream.old.form (cut_text stream.old.form text.now) ≤ stream.old.room }

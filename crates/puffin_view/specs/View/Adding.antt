@@ -7,25 +7,25 @@ use Rattle.puffin_view.specs.View.FrameOf.{details_of_frame}
 use Rattle.puffin_view.specs.View.{View, Holds, Took, is_past, after_taking, KeepsFrames}
 use Rattle.puffin_view.specs.View.Known.{KnownView, view_of, collection_of, lacks_ids}
 
--- The view holds the last and the slowest of the frames that it held those of before, and of this one.
+-- If the view held the last and the slowest of some frames, it now holds the last and the slowest of those frames and this one.
 pub record HoldsAlso (frame : Frame) (old new : View) : Type 0 where
-  -- of the frames that it took
+  -- for the frames that it took
   pub took : (cs : List PacketFields) → Took cs old → Took (cs ++ fields_of frame ∷ []) new
-  -- of any two lists of frames, each extended by this one
+  -- for any two lists of frames, each extended by this one
   pub more : (cs ds : List PacketFields) → is_past old (index_of frame) ≡ false → Holds cs ds old →
       Holds (cs ++ fields_of frame ∷ []) (ds ++ fields_of frame ∷ []) new
-  -- of this frame alone, after a reset
+  -- for this frame alone, after a reset
   pub anew : is_past old (index_of frame) ≡ true →
       Holds (fields_of frame ∷ []) (fields_of frame ∷ []) new
 
--- The view took a frame, all of whose details have ids, and knows these.
+-- The view took a frame whose details all have ids, and added them to its collection.
 pub record Adds (frame : Frame) (old new : KnownView) : Type 0 where
   pub frames : view_of new ≡ after_taking (view_of old) frame
   pub learnt : collection_of new
       ≡ with_all_details (collection_of old) (details_of_frame frame)
   pub ids : lacks_ids (fields_of frame) ≡ false
 
--- The view didn't take a frame: it knows a beginning of its details, and its newest frame may be packed.
+-- The view didn't take a frame. A prefix of the frame's details may be in its collection, and its newest frame may be packed.
 pub record FailsToAdd (frame : Frame) (old new : KnownView) : Type 0 where
   pub frames : KeepsFrames (view_of old) (index_of frame) (view_of new)
   pub known : LearnsSome (collection_of old) (details_of_frame frame) (collection_of new)

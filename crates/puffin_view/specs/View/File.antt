@@ -33,7 +33,7 @@ file_of cs = magic ++ flat_map packet cs
 abbrev pub fields_held : View → List PacketFields
 fields_held v = map fields_of (v.recent ++ v.slow)
 
--- the contents of a view's frames, each once, by rising index
+-- the contents of a view's frames, each once, in ascending order of index
 abbrev pub fields_in : View → List PacketFields
 fields_in v = map fields_of (all_uniq v)
 
@@ -99,7 +99,7 @@ file_at bytes =
 abbrev pub FramesReading : Type 0
 FramesReading = List ℕ → Result (List Stored × List ℕ) FileError
 
--- The bytes taken from a device are read as these frames, whatever bytes follow; or else the device is at its end.
+-- The bytes taken from a device are read as these frames. Either this holds whatever bytes follow, or the device is at its end.
 pub record TookFrames (read : FramesReading) (old new : Option (List ℕ)) (frames : List Stored) :
     Type 0 where
   pub taken : List ℕ
@@ -107,7 +107,7 @@ pub record TookFrames (read : FramesReading) (old new : Option (List ℕ)) (fram
   pub given : read taken ≡ Ok (frames, [])
   pub last : ((rest : List ℕ) → read (taken ++ rest) ≡ Ok (frames, rest)) ⊎ IsAtEnd new
 
--- The bytes taken from a device have this fault, whatever bytes follow; or else the device is at its end.
+-- The bytes taken from a device have this fault. Either this holds whatever bytes follow, or the device is at its end.
 pub record TookFault (read : FramesReading) (old new : Option (List ℕ)) (fault : FileError) :
     Type 0 where
   pub taken : List ℕ
@@ -115,7 +115,7 @@ pub record TookFault (read : FramesReading) (old new : Option (List ℕ)) (fault
   pub fails : read taken ≡ Err fault
   pub last : ((rest : List ℕ) → read (taken ++ rest) ≡ Err fault) ⊎ IsAtEnd new
 
--- Why a call failed. Nothing is said of failures of the device or of memory.
+-- Why a call failed. Failures of the device or of memory are left unspecified.
 abbrev pub FailsToRead : FramesReading → Option (List ℕ) → Option (List ℕ) → FileError → Type 0
 FailsToRead read old new file.Io = Unit {0}
 FailsToRead read old new file.Memory = Unit {0}
@@ -127,13 +127,13 @@ FailsToRead read old new fault = TookFault read old new fault
 abbrev pub read_view : View
 read_view = record empty_view { max_recent = 2 ^ 64 - 1 }
 
--- The view took exactly these frames, in order, and knows their details.
+-- The view took exactly these frames, in order, and its collection has their details.
 pub record IsViewOf (stored : List Stored) (v : FrameView) : Type 0 where
   pub took : Took (map fields_of (map frame_stored stored)) (view_of v)
   pub frames : view_of v ≡ after_all read_view (map frame_stored stored)
   pub details : collection_of v ≡ with_all_details no_details (flat_map details_stored stored)
 
--- A call read a view from a device: that of the frames whose bytes it took.
+-- A call read a view from a device: the view of the frames whose bytes it took.
 abbrev pub ReadsView : FramesReading → Option (List ℕ) → Option (List ℕ) →
     Result FrameView FileError → Type 0
 ReadsView read old new (Ok view) =

@@ -1,4 +1,4 @@
--- The source of a reader of frames and the drain of a writer, and whether the reader is done or the writer broken.
+-- What a reader of frames reads from, what a writer of frames writes to, and whether the reader is done or the writer broken.
 use Rattle.std.specs.Prelude.{Bool, true, false, Option, Some, None, Result, Ok, Err}
 use Rattle.puffin_data.specs.declared.file_error.FileError.{FileError}
 use Rattle.puffin_view.specs.declared.profile_view.frame_file.FrameReader.{FrameReader}

@@ -19,13 +19,14 @@ frame_with_ids (Some s) rest = do
   frame ← with_ids s
   Ok (Some frame, rest)
 
--- The next frame and the bytes after it, none at the end, or the first fault: also where some of the frame's details have no id.
+-- The next frame and the bytes after it, no frame at the end, or the first fault. Details without an id are a fault too.
 abbrev pub frame_at : List ℕ → Result (Option Stored × List ℕ) FileError
 frame_at bytes = do
   next ← next_at bytes
   frame_with_ids next.0 next.1
 
--- A call took bytes from a device: those of the frame that it returned, whatever follows; or the device is at its end; or the bytes that were taken have this fault.
+-- A call took bytes from a device: the bytes of the frame that it returned, whatever follows them; or those of the end; or
+-- bytes that have this fault.
 abbrev pub GivesNext : Option (List ℕ) → Option (List ℕ) → Result (Option FrameData) FileError →
     Type 0
 GivesNext old new (Ok (Some frame)) =
@@ -33,7 +34,7 @@ GivesNext old new (Ok (Some frame)) =
 GivesNext old new (Ok None) = AtEnd old new
 GivesNext old new (Err e) = FailsAt e old new frame_at
 
--- the bytes are those of these frames, one behind the other: each is read from its own bytes, whatever follows them
+-- the bytes are those of these frames, one after the other: each is read from its own bytes, whatever follows them
 abbrev pub AreGiven : List ℕ → List Stored → Type 0
 AreGiven bytes [] = bytes ≡ []
 AreGiven bytes (s ∷ frames) =
@@ -43,7 +44,7 @@ AreGiven bytes (s ∷ frames) =
     × ((rest : List ℕ) → frame_at (front ++ rest) ≡ Ok (Some s, rest))
     × AreGiven others frames
 
--- The four letters of a file and these frames were taken of a device, and nothing else.
+-- The four letters of a file and these frames were taken from a device, and nothing else.
 pub record HasGiven (old new : Option (List ℕ)) (frames : List Stored) : Type 0 where
   pub bytes : List ℕ
   pub consumed : Consumes old new (magic ++ bytes)
@@ -55,13 +56,13 @@ pub record HasGiven (old new : Option (List ℕ)) (frames : List Stored) : Type 
 abbrev pub HoldsFile : Option (List ℕ) → Option (List ℕ) → List PacketFields → Type 0
 HoldsFile old new cs = Appends old new (file_of cs)
 
--- the device got the file of these frames, and a beginning of one more packet
+-- the device got the file of these frames, and a prefix of one more packet
 abbrev pub HoldsBegun : Option (List ℕ) → Option (List ℕ) → List PacketFields → PacketFields → Type 0
 HoldsBegun old new cs c =
     (front : List ℕ) × (rest : List ℕ) × (packet c ≡ front ++ rest)
     × Appends old new (file_of cs ++ front)
 
--- What a device holds of the frames written so far: their file, and where a write broke off a beginning of one packet more.
+-- What a device holds of the frames written so far: their file and, if a write broke off, a prefix of one more packet.
 abbrev pub HoldsSoFar : Bool → Option (List ℕ) → Option (List ℕ) → List PacketFields → Type 0
 HoldsSoFar false old new cs = HoldsFile old new cs
 HoldsSoFar true old new cs = (c : PacketFields) × HoldsBegun old new cs c
@@ -73,12 +74,12 @@ written_after (Err e) cs c = cs
 
 -- ---- files that were cut
 
--- What is left of a packet that was cut: some of its bytes, and not all. Of no packet nothing is left.
+-- What is left of the next packet after a cut: a proper prefix, maybe empty. If there is no next packet, nothing is left.
 abbrev pub IsLeftOf : List ℕ → List PacketFields → Type 0
 IsLeftOf left [] = left ≡ []
 IsLeftOf left (c ∷ cs) = (lost : List ℕ) × (packet c ≡ left ++ lost) × (0 < length lost)
 
--- A file of frames was cut: the file of those that are whole is left, and what is left of the packet of the next one.
+-- A file of frames was cut. The file of the frames that are still whole remains, followed by what is left of the next packet.
 pub record IsCut (cs : List PacketFields) (bytes : List ℕ) (whole : List PacketFields) : Type 0 where
   pub lost : List PacketFields
   pub in_order : cs ≡ whole ++ lost

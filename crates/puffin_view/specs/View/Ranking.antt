@@ -3,12 +3,12 @@ use Rattle.std.specs.Prelude.{ℕ, ◌-◌, ◌≡◌, Bool, false, cond, List, 
 use Rattle.std.specs.List.{AllPairs, list_any}
 use Rattle.puffin_view.specs.declared.profile_view.slow_rank.SlowRank.{SlowRank}
 
--- an ordered list with one more item, in front of the first one that it comes before
+-- an ordered list with one more item, inserted in front of the first one that it comes before
 abbrev pub place : {F : Type 0} → (F → F → Bool) → F → List F → List F
 place before f [] = f ∷ []
 place before f (x ∷ xs) = cond (before f x) (f ∷ (x ∷ xs)) (x ∷ place before f xs)
 
--- the same for an item that was in front of all others: it goes behind those that come before it
+-- the same for an item that was in front of all others: it is inserted after those that come before it
 abbrev pub place_first : {F : Type 0} → (F → F → Bool) → F → List F → List F
 place_first before f [] = f ∷ []
 place_first before f (x ∷ xs) = cond (before x f) (x ∷ place_first before f xs) (f ∷ (x ∷ xs))
@@ -22,7 +22,7 @@ in_order before (x ∷ xs) = place_first before x (in_order before xs)
 abbrev pub first_in_order : {F : Type 0} → (F → F → Bool) → ℕ → List F → List F
 first_in_order before k xs = take k (in_order before xs)
 
--- out is the first k items of an ordered list of all, in which none comes before one in front of it
+-- `out` is the first k items of a sorted permutation of `xs`, in which no item comes before one in front of it
 pub record AreFirst {F : Type 0} (before : F → F → Bool) (k : ℕ) (xs out : List F) : Type 0 where
   pub ordered : List F
   pub all : IsPermutation xs ordered

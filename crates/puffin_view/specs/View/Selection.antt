@@ -20,14 +20,14 @@ abbrev pub ranks_from : ℕ → List Frame → List Rank
 ranks_from k [] = []
 ranks_from k (f ∷ fs) = rank_at k f ∷ ranks_from (suc k) fs
 
--- by falling duration, then rising index, then place
+-- by duration, longest first, then by index, then by place
 abbrev pub slower_rank : Rank → Rank → Bool
 slower_rank a b =
     is_lt (
     ordering_then (int_cmp b.duration a.duration) (
     ordering_then (nat_cmp a.index b.index) (nat_cmp a.place b.place)))
 
--- by rising index, then place (no two have one place)
+-- by index, then by place (no two ranks have the same place)
 abbrev pub older_cmp : Rank → Rank → Ordering
 older_cmp =
     then_cmp (on (λ r. r.index) nat_cmp) (
@@ -36,11 +36,12 @@ older_cmp =
 abbrev pub older_rank : Rank → Rank → Bool
 older_rank a b = is_lt (older_cmp a b)
 
--- a place of the code, as a rank
+-- a `ByIndex` of the code, as a rank
 abbrev pub old_place : ByIndex → Rank
 old_place r = record { duration = r.duration_ns; index = r.frame_index; place = r.place }
 
--- out is the first max frames by falling duration, then rising index, then place, ordered by rising index, then place
+-- `out` is the first `max` frames by duration, longest first, then by index, then by place; they are sorted by index, then by
+-- place
 pub record IsSelection (max : ℕ) (frames out : List Frame) : Type 0 where
   pub ranked : List Rank
   pub ranks : IsPermutation (ranks_from 0 frames) ranked

@@ -1,4 +1,4 @@
--- A frame as a view sees it: what it says and how it is held, with the orders of frames.
+-- A frame as a view sees it: its contents and how it is held, with the orders of frames.
 use Rattle.std.specs.Prelude.{ℕ, ◌+◌, ◌-◌, ◌^◌, ℤ, ◌-ℤ◌, Bool, true, false, cond, min, List, [], ◌∷◌, nat_lt, nat_eq, ◌&&◌, length, map}
 use Rattle.std.specs.declared.cmp.Ordering.{Ordering}
 use Rattle.std.specs.Ordering.{nat_cmp, int_cmp, is_lt, on, then_cmp, flip_args}
@@ -28,7 +28,7 @@ index_of f = frame_index f.fields
 abbrev pub duration_of : Frame → ℤ
 duration_of f = duration f.fields
 
--- by falling duration, then rising index
+-- by duration, longest first, then by index
 abbrev pub by_duration : PacketFields → PacketFields → Ordering
 by_duration = then_cmp (on duration (flip_args int_cmp)) (on frame_index nat_cmp)
 
@@ -38,11 +38,11 @@ is_slower c d = is_lt (by_duration c d)
 abbrev pub is_slower_frame : Frame → Frame → Bool
 is_slower_frame f g = is_slower f.fields g.fields
 
--- the first k by falling duration, then rising index, then place in the list
+-- the first k by duration, longest first, then by index, then by place in the list
 abbrev pub slowest : ℕ → List PacketFields → List PacketFields
 slowest k cs = first_in_order is_slower k cs
 
--- whether the indices of a list rise strictly, from above i
+-- whether the indices of a list strictly increase, starting above i
 abbrev pub rises_above : ℕ → List PacketFields → Bool
 rises_above i [] = true
 rises_above i (c ∷ cs) = nat_lt i (frame_index c) && rises_above (frame_index c) cs
@@ -51,8 +51,8 @@ abbrev pub is_rising : List PacketFields → Bool
 is_rising [] = true
 is_rising (c ∷ cs) = rises_above (frame_index c) cs
 
--- the longest suffix of a list whose indices rise strictly: the frames that a view took since it was last emptied, by an index
--- that didn't rise
+-- the longest suffix of a list in which indices strictly increase: the frames that a view took since it was last emptied
+-- because an index didn't increase
 abbrev pub rising_end : List PacketFields → List PacketFields
 rising_end [] = []
 rising_end (c ∷ cs) = cond (is_rising (c ∷ cs)) (c ∷ cs) (rising_end cs)
@@ -73,10 +73,10 @@ ram_of f =
     + cond f.is_packed (length f.fields.streams) 0)
     (2 ^ 64 - 1)
 
--- frames by their indices; of those with one index, the first
+-- frames by their indices; of those with the same index, the first
 abbrev pub frames_by_index : List Frame → map.FinMap nat_cmp Frame
 frames_by_index fs = map.from_entries (map (λ f. (index_of f, f)) fs)
 
--- frames by rising index; of those with one index, the first
+-- frames sorted by index; of those with the same index, the first
 abbrev pub chronological : List Frame → List Frame
 chronological fs = map.values (frames_by_index fs)

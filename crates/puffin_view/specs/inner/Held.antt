@@ -9,7 +9,7 @@ use Rattle.std.specs.FinMap as map
 use Rattle.std.specs.Coded.{Coded, coded_ℕ}
 use Rattle.std.specs.declared.sync.Arc.{Arc}
 use Rattle.puffin_frames.specs.declared.frame_data.frame.FrameData.{FrameData}
-use Rattle.puffin_view.specs.declared.profile_view.sums.RunningStats.{RunningStats}
+use Rattle.puffin_view.specs.declared.profile_view.running_stats.RunningStats.{RunningStats}
 use Rattle.puffin_view.specs.View.ViewedFrames.{Frame, ram_of}
 use Rattle.puffin_view.specs.View.FrameOf.{shared_frame}
 use Rattle.puffin_view.specs.inner.Codes.{frame_code}

@@ -13,7 +13,7 @@ IsUpTo (Some last) i = i ≤ last
 abbrev pub IsSteady : View → Type 0
 IsSteady v = AllByRecursion (λ f. IsUpTo v.last (index_of f)) v.slow
 
--- indices rise strictly
+-- indices strictly increase
 abbrev pub AreRising : List Frame → Type 0
 AreRising [] = Unit {0}
 AreRising (f ∷ fs) = AllByRecursion (λ g. index_of f < index_of g) fs × AreRising fs

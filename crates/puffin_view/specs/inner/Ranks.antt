@@ -12,7 +12,7 @@ use Rattle.puffin_view.specs.inner.Held.{HeldFrames}
 abbrev pub is_before : SlowRank → SlowRank → Bool
 is_before a b = is_lt (rank_cmp a b)
 
--- whether a rank belongs among the k slowest: if there is room, or if it comes before the last of them
+-- whether a rank belongs among the k slowest, which it does if there is room, or if it comes before the last of them
 abbrev pub rank_enters : ℕ → List SlowRank → SlowRank → Bool
 rank_enters k slow r =
     nat_lt (length slow) k || option_map_or (λ s. is_before r s) (last_in slow) false
@@ -30,7 +30,7 @@ abbrev pub AreRanked : HeldFrames → List SlowRank → Type 0
 AreRanked held slow =
     AllByRecursion (λ r. option_map rank_of (map.get held (rank_index r)) ≡ Some r) slow
 
--- what was held still is, except under the indices in gone that aren't in stays
+-- what was held is still held, except under the indices in gone that aren't in stays
 abbrev pub LetsGo : HeldFrames → List ℕ → List ℕ → HeldFrames → Type 0
 LetsGo old stays gone new =
     (q : ℕ) →

@@ -1,4 +1,4 @@
--- Frames by rising index: those of a map, and behind them those of a deque.
+-- Frames sorted by index: those of a map, followed by those of a deque.
 use Rattle.std.specs.Prelude.{ℕ, List, ◌++◌, map}
 use Rattle.std.specs.declared.alloc.Global.{Global}
 use Rattle.std.specs.declared.sync.Arc.{Arc}
@@ -11,6 +11,6 @@ use Rattle.puffin_view.specs.View.FrameOf.{shared_frame}
 abbrev pub keyed : {A : Type 0} → List (Arc FrameData A) → List (ℕ × Arc FrameData A)
 keyed row = map (λ a. (index_of (shared_frame a), a)) row
 
--- all frames, each with its index, as they rise
+-- all frames, each with its index, in ascending order of index
 abbrev pub rows_of : FrameRows → List (ℕ × Arc FrameData Global)
 rows_of r = r.older.entries ++ keyed r.newest.items

@@ -18,7 +18,7 @@ frames_under held is = filter_map (map.get held) is
 abbrev pub AreHeld : (ℕ → Option Frame) → List Frame → Type 0
 AreHeld held fs = AllByRecursion (λ f. held (index_of f) ≡ Some f) fs
 
--- whether a list has a frame of an index
+-- whether a list has a frame with this index
 abbrev pub has_index : ℕ → List Frame → Bool
 has_index q fs = list_any (λ f. nat_eq q (index_of f)) fs
 

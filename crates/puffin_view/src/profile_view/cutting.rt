@@ -1,4 +1,4 @@
-//! Cutting the lists of a view, and which frames it then drops.
+//! Cutting the lists of a view, and dropping the frames that are then in neither list.
 ghost use Rattle.std.specs.Prelude.{◌≡◌, ◌-◌, ◌<◌, take, drop, map, length, nat_eq};
 ghost use Rattle.std.specs.Ordering.{nat_cmp};
 ghost use Rattle.std.specs.List.{list_any};
@@ -65,7 +65,7 @@ pub(super) fn enter_slow(
     }
 }
 
-/// Cuts the slowest frames to `max`. Drops a frame that is then neither slow nor recent.
+/// Cuts the slowest frames to `max`. Drops frames that are then neither slow nor recent.
 pub(super) fn cut_slow(
     held: &mut HeldFrames,
     recent: &VecDeque<FrameIndex>,
@@ -85,7 +85,7 @@ pub(super) fn cut_slow(
     slow.truncate(max);
 }
 
-/// Cuts the recent frames to the last `max`. Drops a frame that is then neither recent nor slow.
+/// Cuts the recent frames to the last `max`. Drops frames that are then neither recent nor slow.
 pub(super) fn cut_recent(
     held: &mut HeldFrames,
     recent: &mut VecDeque<FrameIndex>,

@@ -22,7 +22,7 @@ use puffin_frames::frame_data::FrameData;
 use std::alloc::Global;
 use std::sync::Arc;
 
-/// Adds a frame that was read to a view.
+/// Adds a frame read from a file to a view.
 fn add_read(alloc: Global, view: &mut FrameView, frame: FrameData) -> Result<(), FileError>
     ensures ok { OnOk result (Adds (frame_of frame) view.old view.new) }
     ensures missing { IfErr result (λ e.
@@ -40,11 +40,11 @@ fn add_read(alloc: Global, view: &mut FrameView, frame: FrameData) -> Result<(),
 }
 
 impl FrameView {
-    /// Writes a file: `PUF0`, and then a packet for each frame that the view holds, recent or slow, by rising index. Each packet
-    /// has the details that are new in its frame (`scope_delta`).
+    /// Writes a file: `PUF0`, then a packet for each recent or slow frame, in ascending order of index. Each packet contains
+    /// the details that are new in its frame (`scope_delta`).
     ///
     /// Fails with `PartTooLong` if a part of a packet has `2^32` bytes or more, with `Memory`, or with `Io` if a write fails or
-    /// takes nothing of a piece that isn't empty. A beginning of the file is then written.
+    /// accepts no bytes of a nonempty piece. A prefix of the file has then been written.
     ///
     /// ```
     /// view.write(&mut Counted::new(File::create(&rt, "frames.puffin")?))?;
@@ -54,7 +54,7 @@ impl FrameView {
         ensures ok { OnOk result (
             Appends (D.contents drain.old) (D.contents drain.new) (
             file_of (fields_in (view_of self.now)))) }
-        // What is written is read again.
+        // What is written can be read again.
         ensures packed { OnOk result (AllByRecursion IsPacked (fields_in (view_of self.now))) }
         ensures begun { IfErr result (λ e.
             WritesBeginning (D.contents drain.old) (D.contents drain.new) (
@@ -75,13 +75,13 @@ impl FrameView {
         Ok(())
     }
 
-    /// Reads a file into a new view, which takes each of its frames, in order. The view keeps up to `usize::MAX` recent and 256
-    /// slow frames, and packing is on. The file ends if fewer than four bytes are left, or at four zeros; nothing after these is
-    /// read.
+    /// Reads a file, and adds its frames, in order, to a new view. The view keeps up to `usize::MAX` recent and 256 slow
+    /// frames, and packing is on. The file ends at four zeros, or where fewer than four bytes are left; nothing after the zeros
+    /// is read.
     ///
-    /// Fails with the first that applies: `NoMagic` if the first four bytes aren't `PUF0`, or there are fewer; as
-    /// [`FrameData::read_next`] does at each frame; `Refused(MissingId)` if some of a frame's details have no id; `Truncated` if
-    /// there are `2^64 - 1` frames before the end. How far it read is then unspecified.
+    /// Fails with the first error that applies: `NoMagic` if the first four bytes aren't `PUF0`, or there are fewer; any error
+    /// of [`FrameData::read_next`] at a frame; `Refused(MissingId)` if some of a frame's details have no id; `Truncated` if
+    /// there are `2^64 - 1` frames before the end. How far the source was read is then unspecified.
     ///
     /// ```
     /// let view = FrameView::read(alloc, &mut Counted::new(File::open(&rt, "frames.puffin")?))?;

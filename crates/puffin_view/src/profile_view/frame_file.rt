@@ -26,7 +26,7 @@ fn is_magic(letters: [u8; 4]) -> bool
     letters[0] == b'P' && letters[1] == b'U' && letters[2] == b'F' && letters[3] == b'0'
 }
 
-/// Reads the four letters that a file begins with, as [`FrameReader::new`] does, from a borrowed source.
+/// Reads the four letters at the beginning of a file from a borrowed source. Fails like [`FrameReader::new`].
 pub fn read_magic<S: Source>(source: &mut S) -> Result<(), FileError>
     requires { S.failures source.old < 2 ^ 64 - 1 }
     ensures begun { OnOk result (
@@ -47,7 +47,7 @@ pub fn read_magic<S: Source>(source: &mut S) -> Result<(), FileError>
     }
 }
 
-/// Reads the next frame, if all of its details have ids.
+/// Reads the next frame, and checks that all of its details have ids.
 fn checked_frame<S: Source>(alloc: Global, source: &mut S) -> Result<Option<FrameData>, FileError>
     requires { S.failures source.old < 2 ^ 64 - 1 }
     ensures next { GivesNext (S.remaining source.old) (S.remaining source.new) result }
@@ -65,7 +65,8 @@ fn checked_frame<S: Source>(alloc: Global, source: &mut S) -> Result<Option<Fram
     Ok(Some(frame))
 }
 
-/// Reads the next frame from a borrowed source, after [`read_magic`]. Returns and fails as [`FrameReader::next`] does.
+/// Reads the next frame from a borrowed source, after [`read_magic`]. Returns and fails like [`FrameReader::next`], except that
+/// a call after the end or a fault reads on.
 pub fn next_frame<S: Source>(alloc: Global, source: &mut S) -> Result<Option<FrameData>, FileError>
     requires { S.failures source.old < 2 ^ 64 - 1 }
     ensures given { IfOk result (λ next. IfSome next (λ frame.
@@ -79,7 +80,7 @@ pub fn next_frame<S: Source>(alloc: Global, source: &mut S) -> Result<Option<Fra
     ensures fault { IfErr result (λ e. (old : Option (List ℕ)) (frames : List Stored) →
         HasGiven old (S.remaining source.old) frames → length frames < 2 ^ 64 - 1 →
         FailsToRead file_at old (S.remaining source.new) e) }
-    // The same of this call alone.
+    // The same for this call alone.
     ensures next { GivesNext (S.remaining source.old) (S.remaining source.new) result }
     ensures ids { IfOk result (λ next. IfSome next (λ frame.
         lacks_ids (packet_fields frame) ≡ false)) }
@@ -102,7 +103,7 @@ pub(super) fn write_magic<D: Drain>(drain: &mut D) -> Result<(), FileError>
     write_all(drain, b"PUF0")
 }
 
-/// Reads a file one frame at a time, in the memory of one frame.
+/// Reads a file one frame at a time, using memory for one frame only.
 ///
 /// ```
 /// let mut reader = FrameReader::new(alloc, Counted::new(File::open(&rt, "frames.puffin")?))?;
@@ -114,7 +115,7 @@ pub(super) fn write_magic<D: Drain>(drain: &mut D) -> Result<(), FileError>
 pub struct FrameReader<S: Source> {
     alloc: Global,
     source: S,
-    /// After the end or a fault.
+    /// True after the end or a fault.
     is_done: bool,
     ghost countable: { is_done ≡ false → S.failures source < 2 ^ 64 - 1 },
 }
@@ -124,8 +125,8 @@ impl<S: Source> FrameReader<S> {
 
     /// Reads the four letters that a file begins with.
     ///
-    /// Fails with `NoMagic` if there are fewer than four bytes, or others than `PUF0`, and with `Io` if a read fails. Then
-    /// `source` is dropped; how far it was read is unspecified.
+    /// Fails with `NoMagic` if there are fewer than four bytes or they aren't `PUF0`, and with `Io` if a read fails. `source`
+    /// is then dropped; how far it was read is unspecified.
     pub fn new(alloc: Global, source: S) -> Result<FrameReader<S>, FileError>
     where
         S: Drop,
@@ -151,12 +152,12 @@ impl<S: Source> FrameReader<S> {
         })
     }
 
-    /// Returns the next frame, or `None` at the end: where fewer than four bytes are left, or four zeros stand.
+    /// Returns the next frame, or `None` at the end: at four zeros, or where fewer than four bytes are left.
     ///
-    /// Fails as [`FrameData::read_next`], and with `Refused(MissingId)` if some of the frame's details have no id. How far
-    /// it read is then unspecified. After the end or a fault each call returns `None`, and reads nothing.
+    /// Fails like [`FrameData::read_next`], and with `Refused(MissingId)` if some of the frame's details have no id. How far
+    /// the source was read is then unspecified. After the end or a fault, each call returns `None` and reads nothing.
     pub fn next(&mut self) -> Result<Option<FrameData>, FileError>
-        // A reader that has given the frames of a file up to here has given this one too.
+        // If the reader had given the frames of a file up to here, it has now given this one too.
         ensures given { IfOk result (λ next. IfSome next (λ frame.
             (old : Option (List ℕ)) (frames : List Stored) →
             HasGiven old (S.remaining (source_of self.old)) frames →
@@ -168,17 +169,17 @@ impl<S: Source> FrameReader<S> {
             HasGiven old (S.remaining (source_of self.old)) frames →
             length frames < 2 ^ 64 - 1 →
             TookFrames file_at old (S.remaining (source_of self.new)) frames)) }
-        // A refusal is that of reading the file at once.
+        // It fails as it would if the file were read at once.
         ensures fault { IfErr result (λ e. (old : Option (List ℕ)) (frames : List Stored) →
             HasGiven old (S.remaining (source_of self.old)) frames →
             length frames < 2 ^ 64 - 1 →
             FailsToRead file_at old (S.remaining (source_of self.new)) e) }
-        // It goes on behind a frame, and behind nothing else.
+        // It goes on after a frame, and only then.
         ensures goes_on { is_done_of self.new ≡ ends_reading result }
         ensures done { is_done_of self.old ≡ true →
             (result ≡ Ok None) × (self.new ≡ self.old) }
 
-        // The same of this call alone.
+        // The same for this call alone.
         ensures next { is_done_of self.old ≡ false → GivesNext
             (S.remaining (source_of self.old)) (S.remaining (source_of self.new)) result }
         ensures ids { IfOk result (λ next. IfSome next (λ frame.
@@ -195,7 +196,7 @@ impl<S: Source> FrameReader<S> {
         next
     }
 
-    /// Returns the source, which stands behind what was read of it.
+    /// Returns the source, positioned after what was read from it.
     pub fn into_source(self) -> S
         ensures { result ≡ source_of self }
     {
@@ -212,7 +213,7 @@ impl<S: Source> FrameReader<S> {
 #[derive(Drop)]
 pub struct FrameWriter<D: Drain> {
     drain: D,
-    /// After `Io`: a beginning of a packet may be written, and nothing behind it would be read.
+    /// True after `Io`: a prefix of a packet may have been written, and nothing after it would be read.
     is_broken: bool,
     ghost countable: { is_broken ≡ false → D.failures drain < 2 ^ 64 - 1 },
 }
@@ -222,8 +223,8 @@ impl<D: Drain> FrameWriter<D> {
 
     /// Writes the four letters that a file begins with.
     ///
-    /// Fails only with `Io`, if a write fails or takes nothing of a piece that isn't empty. Then `drain` is dropped, with a
-    /// beginning of the letters written to it.
+    /// Fails only with `Io`, if a write fails or accepts no bytes of a nonempty piece. `drain` is then dropped, with a prefix
+    /// of the letters written to it.
     pub fn new(drain: D) -> Result<FrameWriter<D>, FileError>
     where
         D: Drop,
@@ -250,12 +251,12 @@ impl<D: Drain> FrameWriter<D> {
 
     /// Appends a frame, as one packet with its own `scope_delta`.
     ///
-    /// Fails as [`FrameData::write_into`]. After `Io` a beginning of the packet is written; each further call then fails with
-    /// `Io` and writes nothing, since what stands behind a packet that was cut is never read. After another error the
-    /// writer is unchanged.
+    /// Fails like [`FrameData::write_into`]. After `Io`, a prefix of the packet has been written, and each further call fails
+    /// with `Io` and writes nothing, since nothing after a cut packet would ever be read. After any other error the writer is
+    /// unchanged.
     pub fn write(&mut self, frame: &FrameData) -> Result<(), FileError>
-        // After each call the device holds the frames written so far, and nothing behind them but
-        // a beginning of one packet where the writer is broken.
+        // After each call the device holds the frames written so far, followed by nothing or, if the writer is broken, by a
+        // prefix of one packet.
         ensures so_far { (old : Option (List ℕ)) (cs : List PacketFields) →
             HoldsSoFar (is_broken_of self.old) old (D.contents (drain_of self.old)) cs →
             HoldsSoFar (is_broken_of self.new) old (D.contents (drain_of self.new))
@@ -270,10 +271,10 @@ impl<D: Drain> FrameWriter<D> {
             HoldsFile old (D.contents (drain_of self.old)) cs →
             HoldsBegun old (D.contents (drain_of self.new)) cs (packet_fields frame.now)) }
         ensures unchanged { IfErr result (λ e. e ≢ FileError.Io → self.new ≡ self.old) }
-        // What is written is read again.
+        // What is written can be read again.
         ensures packed { OnOk result (IsPacked (packet_fields frame.now)) }
 
-        // The same of this call alone.
+        // The same for this call alone.
         ensures packet { is_broken_of self.old ≡ false → WritesPacket D.contents D.failures D.takes
             (drain_of self.old) (drain_of self.new)
             (packet (packet_fields frame.now)) (HasLongPart (packet_fields frame.now)) result }
@@ -286,7 +287,8 @@ impl<D: Drain> FrameWriter<D> {
         written
     }
 
-    /// Returns the drain, to which the letters and the packets were written.
+    /// Returns the drain. It contains the four letters that the file begins with, a packet for each frame written and, if a
+    /// write failed with `Io`, a prefix of one more packet.
     pub fn into_drain(self) -> D
         ensures { result ≡ drain_of self }
     {

@@ -1,4 +1,4 @@
-//! Frames by rising index: the newest in a row, older ones in a map.
+//! Frames sorted by index: the newest in a row, older ones in a map.
 ghost use Rattle.std.specs.Prelude.{◌≡◌, ◌<◌, ◌∷◌, ◌++◌, [], None, length, IfNone, IfOk, IfErr, IfSome, IsSome, OnErr, OnOk, nat_eq, false};
 ghost use Rattle.std.specs.BTreeMap.{insert_entry, is_at};
 ghost use Rattle.std.specs.Iterator.{YieldsFirstBy, item_count};
@@ -21,7 +21,7 @@ use std::collections::{BTreeMap, VecDeque, btree_map, vec_deque};
 use std::mem;
 use std::sync::Arc;
 
-/// Frames, each once under its index: the newest in a row, and older ones in a map. Indices in the map are below those in the row.
+/// Frames by index, each once: the newest in a row, older ones in a map. All indices in the map are below those in the row.
 #[derive(Drop)]
 pub(crate) struct FrameRows {
     older: BTreeMap<FrameIndex, Arc<FrameData>>,
@@ -57,7 +57,7 @@ impl FrameRows {
         }
     }
 
-    /// Adds a frame behind all others. Fails only with `Memory`; nothing changes then.
+    /// Adds a frame after all others. Fails only with `Memory`; nothing changes then.
     pub fn push(&mut self, frame: Arc<FrameData>) -> Result<()>
         ensures ok { OnOk result (
             rows_of self.new
@@ -70,7 +70,7 @@ impl FrameRows {
         Ok(())
     }
 
-    /// Replaces the frame with this frame's index, which has to be there, and returns the old one.
+    /// Replaces the frame that has the same index as `frame`, and returns the old one. There has to be such a frame.
     pub fn replace(&mut self, frame: Arc<FrameData>) -> Option<Arc<FrameData>>
         requires sorted { IsStrictlySortedBy nat_cmp (keys_of (rows_of self.old)) }
         requires there { IsSome (
@@ -117,7 +117,7 @@ impl FrameRows {
         }
     }
 
-    /// Iterates over the frames by rising index.
+    /// Iterates over the frames in ascending order of index.
     pub fn iter(&self) -> FrameRowsIter<'_>
         ensures { frames_left result ≡ values_of (rows_of self.now) }
     {
@@ -141,8 +141,8 @@ impl FrameRows {
     }
 }
 
-/// Returns the place of the frame with this index in a row. Tries two places before it searches: the one that the frame has if
-/// no index before it was left out, and the last.
+/// Returns the place of the frame with this index in a row. Before it searches, it tries two places: the one where the frame is
+/// if the row skips no index before it, and the last.
 fn place_in(row: &VecDeque<Arc<FrameData>>, index: FrameIndex) -> Option<usize>
     requires { IsStrictlySortedBy nat_cmp (keys_of (keyed row.now.items)) }
     ensures found { IfSome result (λ at.
@@ -166,7 +166,7 @@ fn place_in(row: &VecDeque<Arc<FrameData>>, index: FrameIndex) -> Option<usize>
     }
 }
 
-/// Returns whether there is a frame with this index.
+/// Returns whether there is a frame and it has this index.
 fn is_of(frame: Option<&Arc<FrameData>>, index: FrameIndex) -> bool
     ensures { result
         ≡ option_map_or (λ a. nat_eq (index_of (shared_frame a.now)) index) frame.entry false }
@@ -177,7 +177,7 @@ fn is_of(frame: Option<&Arc<FrameData>>, index: FrameIndex) -> bool
     }
 }
 
-/// Iterates over frames in rows, by rising index.
+/// Iterates over frames in rows, in ascending order of index.
 #[derive(Drop)]
 pub(crate) struct FrameRowsIter<'a> {
     older: btree_map::Values<'a, FrameIndex, Arc<FrameData>>,

@@ -80,7 +80,7 @@ impl Model for FrameView {
 }
 
 impl FrameView {
-    /// Makes a view without frames, which keeps up to 1,000 recent and 256 slow frames, and packs. Allocates nothing.
+    /// Makes an empty view that keeps up to 1,000 recent and 256 slow frames, with packing on. Allocates nothing.
     ///
     /// ```
     /// let mut view = FrameView::new(alloc);
@@ -149,21 +149,22 @@ impl FrameView {
         RecentFrames::new(self.recent.iter(), &self.held)
     }
 
-    /// Iterates over the slowest frames, by rising index.
+    /// Iterates over the slowest frames, in ascending order of index.
     pub fn slowest_frames_chronological(&self) -> SlowestFrames<'_>
         ensures { slowest_left result ≡ chronological (view_of self.now).slow }
     {
         SlowestFrames::new(self.held.iter(), &self.slow)
     }
 
-    /// Iterates over the recent and the slowest frames, each once, by rising index.
+    /// Iterates over the recent and the slowest frames, each once, in ascending order of index.
     pub fn all_uniq(&self) -> AllFrames<'_>
         ensures { all_left result ≡ all_uniq (view_of self.now) }
     {
         AllFrames::new(self.held.iter())
     }
 
-    /// Returns how many frames are held, how many of them unpacked, and how many bytes they take. Reads running sums.
+    /// Returns how many frames are held, how many of them are held unpacked, and how many bytes all of them take. Reads running
+    /// sums.
     ///
     /// ```
     /// let (frames, bytes) = (view.stats().frames(), view.stats().bytes_of_ram_used());
@@ -174,7 +175,7 @@ impl FrameView {
         self.held.stats()
     }
 
-    /// Returns the same as [`FrameView::stats`], but goes over all frames.
+    /// Returns the same as [`FrameView::stats`], but iterates over all frames.
     pub fn stats_full(&self) -> FrameStats
         ensures { result ≡ stats_of (all_uniq (view_of self.now)) }
     {

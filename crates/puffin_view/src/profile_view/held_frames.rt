@@ -9,8 +9,8 @@ ghost use Rattle.puffin_view.specs.View.Listings.{frames_left};
 ghost use Rattle.puffin_view.specs.View.Stats.{stats_of};
 
 use crate::profile_view::frame_rows::{FrameRows, FrameRowsIter};
+use crate::profile_view::running_stats::RunningStats;
 use crate::profile_view::stats::FrameStats;
-use crate::profile_view::sums::RunningStats;
 use puffin_data::Result;
 use puffin_frames::frame_data::{FrameData, FrameIndex};
 use std::alloc::Global;
@@ -57,7 +57,7 @@ impl HeldFrames {
         self.frames.get(index)
     }
 
-    /// Adds a frame whose index is above all others. Fails only with `Memory`; nothing changes then.
+    /// Adds a frame, whose index must be above all others. Fails only with `Memory`; nothing changes then.
     pub fn push(&mut self, frame: Arc<FrameData>) -> Result<()>
         requires { (q : ℕ) → index_of (shared_frame frame) ≤ q → map.get self.old q ≡ None }
         ensures ok { OnOk result (
@@ -73,7 +73,7 @@ impl HeldFrames {
         Ok(())
     }
 
-    /// Replaces the frame with this frame's index, which has to be there.
+    /// Replaces the frame that has the same index as `frame`. There has to be such a frame.
     pub fn replace(&mut self, frame: Arc<FrameData>)
         requires { IsSome (map.get self.old (index_of (shared_frame frame))) }
         ensures { self.new
@@ -94,14 +94,15 @@ impl HeldFrames {
         self.sums.lower(before);
     }
 
-    /// Moves the oldest frame of the row into the map, so that the frames behind it can leave the row. The frames stay the same.
+    /// Moves the oldest frame of the row into the map, so that the frames after it can leave the row. The set of frames stays
+    /// the same.
     pub fn set_aside(&mut self)
         ensures { self.new ≡ self.old }
     {
         self.frames.set_aside();
     }
 
-    /// Iterates over the frames by rising index.
+    /// Iterates over the frames in ascending order of index.
     pub fn iter(&self) -> FrameRowsIter<'_>
         ensures { frames_of (frames_left result) ≡ map.values self.now }
     {
@@ -119,7 +120,8 @@ impl HeldFrames {
         })
     }
 
-    /// Returns the number of frames and the sums over them. A sum that doesn't fit is `usize::MAX`.
+    /// Returns the number of frames, how many of them are held unpacked, and how many bytes all of them take. A number that
+    /// doesn't fit `usize` is `usize::MAX`.
     pub fn stats(&self) -> FrameStats
         ensures { result ≡ stats_of (map.values self.now) }
     {

@@ -1,5 +1,5 @@
-//! Laws of views and their files, as contracts of functions that do nothing. A proof of another crate cites them by calling
-//! the function.
+//! Laws of views and their files, as contracts of functions that do nothing. A proof in another crate cites a law by calling
+//! its function.
 
 ghost use Rattle.std.specs.Prelude.{ℕ, Bool, List, ◌≡◌, ◌↔◌, ◌<◌, ◌<ℤ◌, ◌≤◌, false, Option, Some, None, [], ◌∷◌, ◌++◌, ◌-◌, ◌^◌, true, Ok, Err, length, map, drop, nat_lt, if◌then◌else◌};
 ghost use Rattle.std.specs.List.{AllPairs, AllByRecursion, list_any};
@@ -30,16 +30,16 @@ use crate::profile_view::select::ByIndex;
 use crate::profile_view::slow_rank::SlowRank;
 use puffin_frames::frame_data::laws::{only_packets_are_read, written_is_read};
 
-/// The `k` slowest frames of a list are its first `k` in the order by falling duration, then rising index. They are returned in
-/// that order.
+/// The `k` slowest frames of a list are the first `k` when the list is sorted by duration, longest first, then by index. They
+/// are returned in that order.
 pub fn slowest_first()
     ensures first { (k : ℕ) (cs : List PacketFields) → AreFirst is_slower k cs (slowest k cs) }
     ensures in_order { (k : ℕ) (cs : List PacketFields) →
         AllPairs (λ c d. is_slower d c ≡ false) (slowest k cs) }
 {}
 
-/// Frames are ordered by falling duration, then rising index. The order is total, and two frames tie exactly when both are
-/// the same.
+/// Frames are ordered by duration, longest first, then by index. The order is total, and two frames tie exactly when they have
+/// the same duration and the same index.
 pub fn order_by_duration()
     ensures longer_first { (c d : PacketFields) → duration d <ℤ duration c →
         by_duration c d ≡ Less }
@@ -51,8 +51,8 @@ pub fn order_by_duration()
     ensures total { IsTotalOrder by_duration }
 {}
 
-/// A selection orders frames by rising index, then place in the list. The order is total, and equality and order of
-/// `ByIndex`, by which a selection is sorted, agree with it.
+/// A selection orders frames by index, then by place in the list. The order is total. A selection is sorted by `ByIndex`, whose
+/// equality and order agree with this order.
 pub fn order_by_index()
     ensures lower_first { (r s : Rank) → r.index < s.index → older_cmp r s ≡ Less }
     ensures then_by_place { (r s : Rank) → r.index ≡ s.index → r.place < s.place
@@ -77,7 +77,7 @@ pub fn ranks_by_duration()
 {}
 
 /// After taking frames, a view holds only frames that it held before or took, and its file has only frames that it holds. This
-/// is stated by any test `p`: if none of the former passes it, none of the latter does.
+/// is stated for any test `p`: if none of the former passes it, none of the latter does.
 pub fn views_hold_what_they_took()
     ensures held { (p : PacketFields → Bool) (v : View) (fs : List Frame) →
         list_any p (fields_held v) ≡ false → list_any p (map fields_of fs) ≡ false →
@@ -86,8 +86,9 @@ pub fn views_hold_what_they_took()
         list_any p (fields_in v) ≡ false }
 {}
 
-/// If the end follows a file that was written, it is read as exactly its frames, or refused with `MissingId` if some of their
-/// details have no id. Only one list of frames is written as these bytes.
+/// A written file of fewer than `2^64 - 1` frames, followed by an end (four zero bytes, or fewer than four bytes), is read as
+/// exactly its frames, or refused with `MissingId` if some of their details have no id. Different lists of frames are never
+/// written as the same bytes.
 pub fn written_files_are_read()
     ensures again { (cs : List PacketFields) (end : List ℕ) → AllByRecursion IsPacked cs →
         length cs < 2 ^ 64 - 1 → is_end end ≡ true → list_any lacks_ids cs ≡ false →
@@ -103,8 +104,8 @@ pub fn written_files_are_read()
 }
 
 /// Bytes are read as frames exactly when they are a file of these frames: the letters, a packet for each frame, in order and in
-/// any form that is read, and the end. A file is refused with `MissingId` if some details of its frames have no id. Both hold
-/// for fewer than `2^64 - 1` frames; a file with more isn't read.
+/// any readable form, and the end. A file is refused with `MissingId` if some details of its frames have no id. Both hold for
+/// fewer than `2^64 - 1` frames; a file with that many or more isn't read.
 pub fn only_files_are_read()
     ensures read { (bytes : List ℕ) (frames : List Stored) (after : List ℕ) → IsBytes bytes →
         (file_at bytes ≡ Ok (frames, after))
@@ -126,9 +127,9 @@ pub fn files_have_an_end()
         FailsToRead file_at old new FileError.Truncated }
 {}
 
-/// A reader that has a written file, and nothing after it, gives exactly the frames that were written. They are then the recent
-/// frames of the view that was read, in order. If neither the reader fails nor memory runs out, reading is refused only if some
-/// of their details have no id.
+/// A written file with nothing after it is read as exactly the frames that were written. These are, in order, the recent frames
+/// of the view that is read. Unless the reader fails or memory runs out, reading fails only if some of their details have no
+/// id.
 pub fn what_was_written_is_read()
     ensures frames { (cs : List PacketFields) (new : Option (List ℕ)) (frames : List Stored) →
         AllByRecursion IsPacked cs → length cs < 2 ^ 64 - 1 →
@@ -141,7 +142,7 @@ pub fn what_was_written_is_read()
         AllByRecursion IsPacked (fields_in v) → length (fields_in v) < 2 ^ 64 - 1 →
         ReadsView file_at (Some (file_of (fields_in v))) new (Ok view) →
         map fields_of (view_of view).recent ≡ fields_in v }
-    // The view that takes these frames has no others.
+    // The view that takes these frames holds no others.
     ensures all { (v : View) → length (fields_in v) < 2 ^ 64 - 1 →
         fields_in (after_all read_view (map frame_stored (map packed (fields_in v))))
         ≡ fields_in v }
@@ -151,7 +152,7 @@ pub fn what_was_written_is_read()
 }
 
 /// A view that reads fewer than `2^64 - 1` frames keeps exactly those since the last frame whose index isn't above the index of
-/// the frame before it. With one more frame these are the frames that were kept and that one, or that one alone.
+/// the frame before it. One more frame either joins the frames kept or replaces them all.
 pub fn reading_keeps_what_rises()
     ensures kept { (fs : List Frame) → length fs < 2 ^ 64 - 1 →
         fields_in (after_all read_view fs) ≡ rising_end (map fields_of fs) }
@@ -163,26 +164,27 @@ pub fn reading_keeps_what_rises()
         rising_end (cs ++ c ∷ []) ≡ c ∷ [] }
 {}
 
-/// Every beginning of a written file, from its four letters on, as a crash may leave it, is the file of its first frames and some
-/// bytes of the next packet. Read one frame at a time, it gives exactly these frames, in order, and then the end if fewer than
-/// four bytes of the next packet are left, or else `Truncated`. No frame is changed, and none comes that wasn't written.
+/// If a written file is cut anywhere after its four letters, as by a crash, what is left is the file of its first frames,
+/// perhaps followed by some bytes of the next packet. Read one frame at a time, it gives exactly these frames, in order, and
+/// then the end if fewer than four bytes of the next packet are left, or else `Truncated`. No frame is changed, and none is
+/// given that wasn't written.
 pub fn cut_files_give_whole_frames()
     // what is left of a file
     ensures cut { (cs : List PacketFields) (bytes lost : List ℕ) → file_of cs ≡ bytes ++ lost →
         4 ≤ length bytes → (whole : List PacketFields) × IsCut cs bytes whole }
-    // what a call gives that reads it at once
+    // what a call that reads it at once returns
     ensures file { (cs : List PacketFields) (bytes : List ℕ) (whole : List PacketFields)
         (h : IsCut cs bytes whole) → AllByRecursion IsPacked cs → length cs < 2 ^ 64 - 1 →
         list_any lacks_ids cs ≡ false →
         file_at bytes
         ≡ (if nat_lt (length h.left) 4 then Ok (map packed whole, [])
         else Err FileError.Truncated) }
-    // what a reader has given of it: the first of these frames
+    // what a reader has given so far: the first of these frames
     ensures given { (cs : List PacketFields) (bytes : List ℕ) (whole : List PacketFields) →
         IsCut cs bytes whole → AllByRecursion IsPacked cs → list_any lacks_ids cs ≡ false →
         (new : Option (List ℕ)) (frames : List Stored) → HasGiven (Some bytes) new frames →
         (given more : List PacketFields) × (whole ≡ given ++ more) × (frames ≡ map packed given) }
-    // and all of them, once it is at the end or refuses
+    // all of them, once it is at the end or fails with a fault of the bytes
     ensures end { (cs : List PacketFields) (bytes : List ℕ) (whole : List PacketFields) →
         IsCut cs bytes whole → AllByRecursion IsPacked cs → list_any lacks_ids cs ≡ false →
         (mid new : Option (List ℕ)) (frames : List Stored) → HasGiven (Some bytes) mid frames →

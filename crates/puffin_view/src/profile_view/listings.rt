@@ -48,7 +48,7 @@ impl<'a> Iterator for RecentFrames<'a> {
     }
 }
 
-/// Iterates over all frames of a view, each once, by rising index. Returned by
+/// Iterates over all frames of a view, each once, in ascending order of index. Returned by
 /// [`FrameView::all_uniq`](crate::profile_view::FrameView::all_uniq).
 #[derive(Drop)]
 pub struct AllFrames<'a> {
@@ -78,7 +78,7 @@ impl<'a> Iterator for AllFrames<'a> {
     }
 }
 
-/// Iterates over the slowest frames of a view, by rising index. Returned by
+/// Iterates over the slowest frames of a view, in ascending order of index. Returned by
 /// [`FrameView::slowest_frames_chronological`](crate::profile_view::FrameView::slowest_frames_chronological).
 #[derive(Drop)]
 pub struct SlowestFrames<'a> {
@@ -87,7 +87,7 @@ pub struct SlowestFrames<'a> {
 }
 
 impl<'a> SlowestFrames<'a> {
-    /// Makes an iterator over those of these frames that have a rank among the slowest.
+    /// Makes an iterator over those frames of `rest` that have a rank in `slow`.
     pub(crate) fn new(rest: FrameRowsIter<'a>, slow: &'a VecDeque<SlowRank>) -> Self
         ensures rest { result.rest ≡ rest.entry }
         ensures slow { result.slow.now ≡ slow.now }

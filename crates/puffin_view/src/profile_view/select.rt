@@ -13,7 +13,8 @@ use std::alloc::Global;
 use std::cmp::Reverse;
 use std::sync::Arc;
 
-/// A place in a list of frames, ordered by the falling duration of its frame, then by the rising index, then by the place.
+/// A place in a list of frames. Places are ordered by the duration of their frame, longest first, then by its index, then by
+/// place.
 #[derive(Clone, Copy, Debug, PartialEq, Eq, PartialOrd, Ord)]
 struct ByDuration {
     duration_ns: Reverse<NanoSecond>,
@@ -34,8 +35,8 @@ impl ByDuration {
     }
 }
 
-/// A place in a list of frames, ordered by the rising index of its frame, then by the place. No two places are equal, so the
-/// duration never decides.
+/// A place in a list of frames. Places are ordered by the index of their frame, then by place. No two places are equal, so the
+/// duration is never decisive.
 #[derive(Clone, Copy, Debug, PartialEq, Eq, PartialOrd, Ord)]
 pub(super) struct ByIndex {
     frame_index: FrameIndex,
@@ -106,8 +107,9 @@ fn frames_at(
     Ok(all)
 }
 
-/// Returns the `max` slowest frames of a list, or all if there are fewer: the first by falling duration, then rising index,
-/// then place in the list. The result is ordered by rising index, then place. Fails only with `Memory`.
+/// Returns the `max` slowest frames of a list, or all if there are fewer. Of equally slow frames, those with lower indices are
+/// preferred, then those earlier in the list. The result is sorted by index, then by place in the list. Fails only with
+/// `Memory`.
 ///
 /// ```
 /// let slowest = select_slowest(alloc, &frames, 10)?;

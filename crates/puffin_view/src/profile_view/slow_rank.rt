@@ -13,7 +13,7 @@ use puffin_frames::frame_data::{FrameData, FrameIndex};
 use std::cmp::Reverse;
 use std::collections::VecDeque;
 
-/// A frame's rank among the slowest: by falling duration, then rising index.
+/// A frame's rank among the slowest. Ranks are ordered by duration, longest first, then by index.
 #[derive(Clone, Copy, Debug, PartialEq, Eq, PartialOrd, Ord)]
 pub(crate) struct SlowRank {
     pub duration_ns: Reverse<NanoSecond>,
@@ -31,7 +31,7 @@ impl SlowRank {
         }
     }
 
-    /// Returns the place at which the rank belongs among sorted ones.
+    /// Returns the place at which the rank belongs in the sorted ranks.
     pub fn place_in(self, slow: &VecDeque<SlowRank>) -> usize
         requires { IsStrictlySortedBy rank_cmp slow.now.items }
         ensures bound { result ≤ length slow.now.items }
@@ -40,7 +40,7 @@ impl SlowRank {
         slow.partition_point(|other| *other <= self)
     }
 
-    /// Returns whether the rank is among sorted ones. A rank behind the last of them isn't looked for.
+    /// Returns whether the rank is in the sorted ranks. Doesn't search if the rank comes after the last of them.
     pub fn is_among(self, slow: &VecDeque<SlowRank>) -> bool
         requires { IsStrictlySortedBy rank_cmp slow.now.items }
         ensures { result ≡ list_any (λ other. is_eq (rank_cmp other self)) slow.now.items }
@@ -51,7 +51,8 @@ impl SlowRank {
         }
     }
 
-    /// Returns whether the rank belongs among the `max` slowest: if there is room, or if it comes before the last of them.
+    /// Returns whether the rank belongs among the `max` slowest. It does if there is room, or if it comes before the last of
+    /// them.
     pub fn enters(self, slow: &VecDeque<SlowRank>, max: usize) -> bool
         ensures { result ≡ rank_enters max slow.now.items self }
     {

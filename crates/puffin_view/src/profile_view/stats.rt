@@ -10,8 +10,8 @@ use puffin_frames::frame_data::FrameData;
 use std::fmt::Debug;
 use std::sync::Arc;
 
-/// The number of frames, of those that are held unpacked, and of the bytes that all take. A number that doesn't fit `usize` is
-/// `usize::MAX`.
+/// The number of frames, how many of them are held unpacked, and how many bytes all of them take. A number that doesn't fit
+/// `usize` is `usize::MAX`.
 #[derive(Clone, Copy, Debug, Default)]
 pub struct FrameStats {
     pub(super) frames: usize,

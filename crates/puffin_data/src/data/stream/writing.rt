@@ -81,8 +81,8 @@ impl Stream {
         Ok((self.begin_within(start, id, text), start))
     }
 
-    /// Appends the beginning of a scope as [`Stream::begin_scope`] does, with a start that is known. Returns the offset of the
-    /// placeholder.
+    /// Appends the beginning of a scope as [`Stream::begin_scope`] does, but with a given start. Returns the offset of the
+    /// placeholder for the size of the scope's children.
     #[inline(always)]
     pub fn begin_scope_at(&mut self, start: NanoSecond, id: ScopeId, text: &str) -> Result<usize>
         ensures begun { OnOk result (
@@ -103,8 +103,8 @@ impl Stream {
         Ok(self.begin_within(start, id, text))
     }
 
-    /// Appends the beginning of a scope as [`Stream::begin_scope_at`] does. It has to fit the room, so the call neither allocates
-    /// nor fails.
+    /// Appends the beginning of a scope as [`Stream::begin_scope_at`] does. The beginning must fit the room, so the call
+    /// neither allocates nor fails.
     #[inline(always)]
     pub fn begin_within(&mut self, start: NanoSecond, id: ScopeId, text: &str) -> usize
         requires { head_size self.old.form (cut_text self.old.form text.now) ≤ self.old.room }
@@ -123,8 +123,8 @@ impl Stream {
         self.longer_within(start, id, text)
     }
 
-    /// Appends the beginning of a scope whose text may have to be cut, and whose length may take two bytes. It is out of line,
-    /// so that a scope with a short text needs few registers.
+    /// Appends the beginning of a scope with a text that may have to be cut and whose length may take two bytes. It is out of
+    /// line, so that a scope with a short text needs few registers.
     #[inline(never)]
     fn longer_within(&mut self, start: NanoSecond, id: ScopeId, text: &str) -> usize
         requires { head_size self.old.form (cut_text self.old.form text.now) ≤ self.old.room }
@@ -135,7 +135,7 @@ impl Stream {
         self.write_begin(start, id, kept, group, second)
     }
 
-    /// Appends the beginning of a scope whose text isn't cut, and whose length has this encoding.
+    /// Appends the beginning of a scope with a text that isn't cut. `group` and `second` must encode the text's length.
     #[inline(always)]
     fn write_begin(
         &mut self,
@@ -160,9 +160,9 @@ impl Stream {
     }
 
     /// Ends the scope whose size is at `offset`: overwrites that size with the number of bytes after it, and appends the end
-    /// with its stop, in nanoseconds. There have to be eight bytes at `offset`.
+    /// with its stop, in nanoseconds. There must be eight bytes at `offset`.
     ///
-    /// Fails only with `Memory`; nothing changes then. Never fails with a room of at least 9 bytes.
+    /// Fails only with `Memory`, and then changes nothing. Never fails if the room is at least 9 bytes.
     #[inline]
     pub fn end_scope(&mut self, offset: usize, stop_ns: NanoSecond) -> Result<()>
         requires { offset + 8 ≤ length self.old.bytes }
@@ -178,7 +178,7 @@ impl Stream {
         Ok(())
     }
 
-    /// Ends a scope as [`Stream::end_scope`] does. The end has to fit the room, so the call neither allocates nor fails.
+    /// Ends a scope as [`Stream::end_scope`] does. The end must fit the room, so the call neither allocates nor fails.
     #[inline(always)]
     pub fn end_within(&mut self, offset: usize, stop_ns: NanoSecond)
         requires inside { offset + 8 ≤ length self.old.bytes }

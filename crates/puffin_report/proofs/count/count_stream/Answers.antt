@@ -1,4 +1,4 @@
--- A write that failed has written a beginning of the lines of the forest that was read.
+-- A write that failed has written a prefix of the lines of the forest that was read.
 use Rattle.std.proofs.Common.{◌≡◌, List, ℕ, ◌++◌, ap, subst, ◌∙◌, inr}
 use Rattle.puffin_data.specs.declared.data.form.Form.{Form}
 use Rattle.puffin_data.specs.declared.data.form.Form.TheVariants.{Short}

@@ -21,15 +21,15 @@ use std::mem;
 use std::sync::Arc;
 
 impl FrameView {
-    /// Adds a frame, and its details to the collection. The frame becomes the newest of the recent ones. It is also among the
-    /// slowest if there is room, or if it took longer than one of them. Frames beyond both limits are dropped.
+    /// Adds a frame, and its details to the collection. The frame becomes the newest of the recent ones. It also becomes one of
+    /// the slowest if there is room, or if it took longer than one of them. Frames beyond both limits are dropped.
     ///
     /// If its index isn't above that of the frame added last, all other frames are dropped. Otherwise, if packing is on, the
     /// newest frame so far is packed first.
     ///
-    /// Fails with `MissingId` exactly when some of the frame's details have no id, and then changes nothing; else only with
-    /// `Memory`. Then a beginning of its details may be known, and if packing is on and no frames had to be dropped, the newest
-    /// frame may be packed.
+    /// Fails with `MissingId` exactly when some of the frame's details have no id, and then changes nothing. Otherwise fails
+    /// only with `Memory`; a prefix of its details may be in the collection afterwards, and the newest frame may be packed if
+    /// packing is on and no frames had to be dropped.
     ///
     /// ```
     /// if let Some(frame) = profiler.collect_frame()? {
@@ -37,7 +37,8 @@ impl FrameView {
     /// }
     /// ```
     pub fn add_frame(&mut self, frame: Arc<FrameData>) -> Result<()>
-        // If the view held the last and the slowest of some frames, it holds those of them and this one.
+        // If the view held the last and the slowest of some frames, it now holds the last and the slowest of those frames and
+        // this one or, after a reset, of this one alone.
         ensures holds { OnOk result (
             HoldsAlso (shared_frame frame) (view_of self.old) (view_of self.new)) }
         ensures ok { OnOk result (Adds (shared_frame frame) self.old self.new) }
@@ -52,7 +53,7 @@ impl FrameView {
         self.take(frame)
     }
 
-    /// Returns a view without frames and details that has the same settings.
+    /// Returns a view with the same settings, but with no frames and no details.
     fn emptied(&self) -> FrameView
         ensures frames { view_of result ≡ without_frames (view_of self.now) }
         ensures collection { collection_of result ≡ no_details }
@@ -81,8 +82,8 @@ impl FrameView {
         }
     }
 
-    /// Packs the newest frame. Does nothing, and copies nothing, if that is held packed only. Fails only with `Memory`; nothing
-    /// changes then.
+    /// Packs the newest frame. Does nothing, and copies nothing, if that frame is held only packed. Fails only with `Memory`;
+    /// nothing changes then.
     fn pack_newest(&mut self) -> Result<()>
         ensures ok { OnOk result (
             self.new ≡ with_frames self.old (with_newest_packed (view_of self.old))) }
@@ -101,7 +102,7 @@ impl FrameView {
         Ok(())
     }
 
-    /// Adds a frame whose index is above that of the last frame taken. Fails only with `Memory`; nothing changes then.
+    /// Adds a frame, whose index must be above that of the last frame taken. Fails only with `Memory`; nothing changes then.
     fn join(&mut self, frame: Arc<FrameData>) -> Result<()>
         requires { is_past (view_of self.old) (index_of (shared_frame frame)) ≡ false }
         ensures ok { OnOk result (

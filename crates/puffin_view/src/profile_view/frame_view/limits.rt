@@ -18,14 +18,14 @@ impl FrameView {
         cut_slow(&mut self.held, &self.recent, &mut self.slow, 0);
     }
 
-    /// Returns how many recent frames are kept at most.
+    /// Returns the maximum number of recent frames to keep.
     pub fn max_recent(&self) -> usize
         ensures { result ≡ (view_of self.now).max_recent }
     {
         self.max_recent
     }
 
-    /// Sets how many recent frames are kept at most, effective when the next frame is added.
+    /// Sets the maximum number of recent frames to keep. Takes effect when the next frame is added.
     pub fn set_max_recent(&mut self, max_recent: usize)
         ensures { self.new
             ≡ with_frames self.old (record (view_of self.old) { max_recent = max_recent }) }
@@ -33,14 +33,14 @@ impl FrameView {
         self.max_recent = max_recent;
     }
 
-    /// Returns how many of the slowest frames are kept at most.
+    /// Returns the maximum number of slowest frames to keep.
     pub fn max_slow(&self) -> usize
         ensures { result ≡ (view_of self.now).max_slow }
     {
         self.max_slow
     }
 
-    /// Sets how many of the slowest frames are kept at most, effective when the next slow frame is added.
+    /// Sets the maximum number of slowest frames to keep. Takes effect when the next slow frame is added.
     pub fn set_max_slow(&mut self, max_slow: usize)
         ensures { self.new
             ≡ with_frames self.old (record (view_of self.old) { max_slow = max_slow }) }
@@ -55,7 +55,7 @@ impl FrameView {
         self.pack_frames
     }
 
-    /// Turns packing on or off: whether the newest frame is packed before another is added.
+    /// Turns packing on or off. If it is on, the newest frame is packed before another is added.
     pub fn set_pack_frames(&mut self, pack_frames: bool)
         ensures { self.new
             ≡ with_frames self.old (record (view_of self.old) { packs = pack_frames }) }

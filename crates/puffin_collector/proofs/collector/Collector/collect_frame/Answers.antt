@@ -1,10 +1,10 @@
--- Where the new details couldn't all be learnt, a beginning of them is known.
+-- Where the new details couldn't all be learnt, a prefix of them is known.
 use Rattle.std.proofs.Common.{◌≡◌, inr, refl, sym, ap, subst}
 use Rattle.std.proofs.lemmas.Result.{err_from_is_err_and}
 use Rattle.puffin_data.specs.declared.error.Error.TheVariants.{Memory}
 use Rattle.puffin_frames.specs.Frame.Contents.{shared_streams}
 use Rattle.puffin_threads.specs.Details.{shared_details, AllHaveIds}
-use Rattle.puffin_threads.specs.Details.Collection.{Begins}
+use Rattle.puffin_threads.specs.Details.Collection.{IsPrefix}
 use Rattle.puffin_collector.specs.Collector.State.{Collected}
 use Rattle.puffin_collector.specs.Collector.Collecting.{KeepsPending}
 use Rattle.puffin_collector.proofs.Knowing.{memory_alone}
@@ -39,7 +39,7 @@ returns-in_err-insert_all-clause-err c =
       refl,
       (
         some.0,
-        subst (Begins some.0) given some.1,
+        subst (IsPrefix some.0) given some.1,
         λ j. record {
           index = c.self.inside.meta.frame_index;
           reported = c.self.inside.reported;

@@ -1,4 +1,4 @@
--- The placements so far are a beginning of all, and their ends fit.
+-- The placements so far are a prefix of all, and their ends fit.
 use Rattle.std.proofs.Common.{◌≡◌, ◌++◌, drop}
 use Rattle.puffin_merge.specs.declared.merge.table.Node.{Node}
 use Rattle.puffin_merge.specs.inner.Places.{above_all, placements_from, EachOf, EndFits}

@@ -1,4 +1,4 @@
--- The line, or a beginning of it, was written.
+-- The line, or a prefix of it, was written.
 use Rattle.std.proofs.Common.{◌∙◌, sym, ap}
 use Rattle.puffin_replay.specs.Program.Faults.{fault_text}
 use Rattle.puffin_report.proofs.lemmas.WrittenLines.{beginning_written}

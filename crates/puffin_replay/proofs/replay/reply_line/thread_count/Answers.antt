@@ -4,4 +4,4 @@ use Rattle.puffin_replay.proofs.CountedLines.{len-shared_streams}
 use Rattle.puffin_replay.proofs.replay.reply_line.thread_count.Goals as goal
 
 pub returns-in-Some : goal.returns-in-Some
-returns-in-Some c = c.len.ensures.len ∙ sym (len-shared_streams _ c.len.ensures.ordered) ∙ ap threads_held c.in-Some.ensures.contents
+returns-in-Some c = c.len.ensures.len ∙ sym (len-shared_streams _ c.len.ensures.ordered) ∙ ap threads_held c.in-Some.ensures.streams

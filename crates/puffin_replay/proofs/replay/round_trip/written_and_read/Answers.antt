@@ -12,7 +12,7 @@ returns-in-Ok-clause-ok c =
     let v = view_of c.args.view.now in
     let of : IsFileOf c.as_slice.result.now v =
     record {
-      file = c.as_slice.ensures.value ∙ c.in-Ok.ensures.ok ∙ ap (λ (bs : List ℕ). bs ++ file_of (fields_in v)) c.new.ensures.items;
+      file = c.as_slice.ensures.value ∙ c.in-Ok.ensures.ok ∙ ap (λ (bs : List ℕ). bs ++ file_of (fields_in v)) c.new-file.ensures.bytes;
       packed = c.in-Ok.ensures.packed;
     } in
     IfOk-weaker c.read_file.result _ _ (λ read is. is v of) c.read_file.ensures.ok
@@ -22,7 +22,7 @@ returns-in-Ok-clause-fault c =
     let v = view_of c.args.view.now in
     let of : IsFileOf c.as_slice.result.now v =
     record {
-      file = c.as_slice.ensures.value ∙ c.in-Ok.ensures.ok ∙ ap (λ (bs : List ℕ). bs ++ file_of (fields_in v)) c.new.ensures.items;
+      file = c.as_slice.ensures.value ∙ c.in-Ok.ensures.ok ∙ ap (λ (bs : List ℕ). bs ++ file_of (fields_in v)) c.new-file.ensures.bytes;
       packed = c.in-Ok.ensures.packed;
     } in
     IfErr-weaker c.read_file.result _ _ (λ e is. inl (is v of)) c.read_file.ensures.fault

@@ -9,7 +9,7 @@ pub returns-clause-err : goal.returns-clause-err
 returns-clause-err c =
     on_err_weaker c.pack-held.result.1 (λ same. ap (λ held. record c.args.self.now { held = held }) (same ∙ c.replace-held.ensures.value)) c.pack-held.ensures.err
 
-pub returns-clause-says : goal.returns-clause-says
-returns-clause-says c =
+pub returns-clause-fields : goal.returns-clause-fields
+returns-clause-fields c =
     fields_same _ _ _ _ (frame_details c.args.self.now) (c.pack-held.ensures.meta ∙ ap held_meta c.replace-held.ensures.value)
     (c.pack-held.ensures.packing ∙ ap (λ held. packing_of (held_as held)) c.replace-held.ensures.value)

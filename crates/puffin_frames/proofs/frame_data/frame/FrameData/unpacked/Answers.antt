@@ -13,7 +13,7 @@ pub returns-clause-no_layout : goal.returns-clause-no_layout
 returns-clause-no_layout c =
     unpacked_no_layout (λ frame. streams_held (arc_value frame)) c.args.self.now.held c.unpack-held.result.1 (rw c.replace-held.ensures.value at c.unpack-held.ensures.unpacked)
 
-pub returns-clause-says : goal.returns-clause-says
-returns-clause-says c =
+pub returns-clause-fields : goal.returns-clause-fields
+returns-clause-fields c =
     fields_same _ _ _ _ (frame_details c.args.self.now) (c.unpack-held.ensures.meta ∙ ap held_meta c.replace-held.ensures.value)
     (c.unpack-held.ensures.packing ∙ ap (λ held. packing_of (held_as held)) c.replace-held.ensures.value)

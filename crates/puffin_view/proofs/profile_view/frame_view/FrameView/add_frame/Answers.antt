@@ -1,4 +1,4 @@
--- A refusal leaves a beginning of the details known, and the frame is taken after all that were taken before.
+-- A refusal leaves a prefix of the details known, and the frame is taken after all that were taken before.
 use Rattle.std.proofs.Common.{◌≡◌, List, [], subst, sym, ap, ◌∙◌, inl, append-nil}
 use Rattle.std.specs.List.{list_any}
 use Rattle.std.proofs.lemmas.Result.{on_ok_weaker, on_err_weaker, err_from_is_err_and}

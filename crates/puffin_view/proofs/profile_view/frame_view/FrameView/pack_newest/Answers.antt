@@ -29,7 +29,7 @@ same c = ap view_of c.self.view_is
 
 packs : (c : goal.After-replace) → shared_frame c.in_ok-packed.packed ≡ packed_alone (newest c)
 packs c =
-    ap frame_of c.in_ok-packed.ensures.ok ∙ packed_copied c.deref-2.result.now c.in_ok-packed_copy.field-0 c.in_ok-packed_copy.ensures.held c.in_ok-packed_copy.ensures.says ∙ ap (λ f. packed_alone (frame_of f)) c.deref-2.ensures
+    ap frame_of c.in_ok-packed.ensures.ok ∙ packed_copied c.deref-2.result.now c.in_ok-packed_copy.field-0 c.in_ok-packed_copy.ensures.held c.in_ok-packed_copy.ensures.fields ∙ ap (λ f. packed_alone (frame_of f)) c.deref-2.ensures
 
 stored : (c : goal.After-replace) → AreStored c.replace.new.self c.self.inside.recent.items c.self.inside.slow.items c.self.inside.last (with_packed (index_of (newest c)) (before c)).recent (with_packed (index_of (newest c)) (before c)).slow
 stored c =
@@ -50,7 +50,7 @@ replace-requires c =
     let f : Frame = shared_frame c.in-Some.newest.now in
     let found : last_in (view_of c.args.self.now).recent ≡ Some f = sym c.latest_frame.ensures ∙ ap (option_map (λ a. shared_frame a.now)) c.in-Some.is in
     let packed : shared_frame c.in_ok-packed.packed ≡ packed_alone f =
-    ap frame_of c.in_ok-packed.ensures.ok ∙ packed_copied c.deref-2.result.now c.in_ok-packed_copy.field-0 c.in_ok-packed_copy.ensures.held c.in_ok-packed_copy.ensures.says ∙ ap (λ f. packed_alone (frame_of f)) c.deref-2.ensures in
+    ap frame_of c.in_ok-packed.ensures.ok ∙ packed_copied c.deref-2.result.now c.in_ok-packed_copy.field-0 c.in_ok-packed_copy.ensures.held c.in_ok-packed_copy.ensures.fields ∙ ap (λ f. packed_alone (frame_of f)) c.deref-2.ensures in
     newest_there s.held s.recent.items s.slow.items s.last (frames_under s.held s.recent.items) (frames_under s.held (map rank_index s.slow.items)) f (index_of (shared_frame c.in_ok-packed.packed)) c.self.invariant (ap (λ v. last_in v.frames.recent) c.self.view_is ∙ found) (ap index_of packed)
 
 -- ---- a newest frame that is packed already

@@ -4,7 +4,7 @@ use Rattle.puffin_data.specs.Value.Layout.{number, IsU32}
 use Rattle.puffin_data.specs.Value.Decoding.{u32_at}
 use Rattle.puffin_data.proofs.lemmas.Readers.{none_begins}
 use Rattle.puffin_data.proofs.lemmas.ValueReaders.{word_reader}
-use Rattle.puffin_data.proofs.wire.front.word_in.Goals as goal
+use Rattle.puffin_data.proofs.wire.front.u32_in.Goals as goal
 
 pub returns-else-n-lt4294967296-clause-reads : goal.returns-else-n-lt4294967296-clause-reads
 returns-else-n-lt4294967296-clause-reads c =
