@@ -1,13 +1,14 @@
 //! Calls that the crates above make, each by itself.
 
 use crate::equal::equal;
-use crate::samples::{NONE, stream_of};
+use crate::samples::NONE;
 use puffin_data::data::{Counted, Form, Stream, StreamInfo, read_to_end, text_of, write_all};
 use puffin_data::{Error, FileError};
 use std::alloc::Global;
 use std::process::Abort;
 use std::test::Fail;
 use tests_support::samples::{ONE_SCOPE, THREE_SCOPES};
+use tests_support::streams::stream_of;
 
 type Outcome = std::result::Result<(), Fail>;
 

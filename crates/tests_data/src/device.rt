@@ -1,7 +1,7 @@
 ghost use Rattle.std.specs.Prelude.{◌≡◌};
 
 use crate::equal::equal;
-use puffin_data::data::{Counted, Drain, Source};
+use puffin_data::data::{Counted, Drain, MemoryFile, Source};
 use std::io;
 use std::io::{Read, Write};
 use std::test::Fail;
@@ -78,5 +78,14 @@ fn failures_are_counted(rt: HostRuntime) -> std::result::Result<(), Fail> {
     let mut drain = Counted::new(Flaky { fails: false });
     equal(&rt, write_twice(&mut drain, b"ab"), (Some(1), None));
     equal(&rt, Drain::faults(&drain), 1);
+    Ok(())
+}
+
+#[test]
+fn a_file_in_memory_has_what_was_written(rt: HostRuntime) -> std::result::Result<(), Fail> {
+    let mut file = MemoryFile::new(rt.alloc());
+    equal(&rt, write_twice(&mut file, b"ab"), (Some(2), Some(2)));
+    equal(&rt, file.bytes.as_slice(), b"abab".as_slice());
+    equal(&rt, file.faults(), 0);
     Ok(())
 }

@@ -1,11 +1,12 @@
 use crate::equal::equal;
-use crate::samples::{NONE, stream_of};
+use crate::samples::NONE;
 use puffin_data::data::{Form, Stream, StreamInfo};
 use puffin_data::{Error, NanoSecond, Result};
 use std::alloc::Global;
 use std::process::Abort;
 use std::test::Fail;
 use tests_support::samples::{ONE_SCOPE, THREE_SCOPES};
+use tests_support::streams::stream_of;
 
 /// The size of an info's bytes, its counts and its range.
 fn is_info(

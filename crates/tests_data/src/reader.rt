@@ -1,11 +1,10 @@
 use crate::equal::equal;
-use crate::samples::stream_of;
 use puffin_data::data::{Reader, Scope, Stream};
 use puffin_data::{Error, Result};
 use std::alloc::Global;
 use std::test::Fail;
 use tests_support::samples::{ONE_SCOPE, THREE_SCOPES};
-use tests_support::streams::{end, id};
+use tests_support::streams::{end, id, stream_of};
 
 /// What stands at a place of a region, where there is such a region.
 pub(crate) fn scope_at(stream: &Stream, at: usize, end: usize) -> Result<Option<Scope<'_>>> {

@@ -37,7 +37,3 @@ pub(crate) fn nest(alloc: Global, depth: u32) -> Result<Vec<u8>> {
     }
     Ok(bytes)
 }
-
-pub(crate) fn stream_of(alloc: Global, bytes: &[u8]) -> Result<Stream> {
-    Ok(Stream::from(Vec::from_slice(alloc, bytes)?))
-}

@@ -1,11 +1,10 @@
 use crate::equal::equal;
 use crate::reader::{scope_at, top_scopes};
-use crate::samples::stream_of;
 use puffin_data::Error;
 use puffin_data::data::{END_SIZE, Reader, Scope, Stream};
 use std::test::Fail;
 use tests_support::samples::ONE_SCOPE;
-use tests_support::streams::{end, id};
+use tests_support::streams::{end, id, stream_of};
 
 #[test]
 fn a_copy_stays_when_a_stream_is_cleared(rt: HostRuntime) -> std::result::Result<(), Fail> {

@@ -1,11 +1,12 @@
 use crate::equal::equal;
-use crate::samples::{NONE, leaf, nest, stream_of};
+use crate::samples::{NONE, leaf, nest};
 use puffin_data::data::{Form, Reader, Stream, StreamInfo, walk_forest};
 use puffin_data::{Error, NanoSecond, Result};
 use std::alloc::Global;
 use std::process::Abort;
 use std::test::Fail;
 use tests_support::samples::{ONE_SCOPE, THREE_SCOPES};
+use tests_support::streams::stream_of;
 
 type Outcome = std::result::Result<(), Fail>;
 

@@ -8,7 +8,7 @@ use std::borrow::CowStr;
 use std::process::Abort;
 use std::sync::Arc;
 use std::test::Fail;
-use tests_support::frames::packet_frame;
+use tests_support::frames::{packet_frame, written};
 use tests_support::samples::{ONE_SCOPE, PACKET};
 use tests_support::streams::{bytes_of, id};
 
@@ -43,17 +43,6 @@ pub(crate) fn read(
 
 pub(crate) fn read_one(alloc: Global, bytes: &[u8]) -> std::result::Result<FrameData, Fail> {
     Ok(read(alloc, bytes)?.ok_or("a frame")?)
-}
-
-/// What is written of a frame.
-fn written(
-    alloc: Global,
-    frame: &FrameData,
-    scopes: Option<&ScopeCollection>,
-) -> std::result::Result<Vec<u8>, Fail> {
-    let mut bytes = Vec::new(alloc);
-    frame.write_into(scopes, &mut Counted::new(&mut bytes))?;
-    Ok(bytes)
 }
 
 /// Just these bytes are written of a frame.
@@ -201,7 +190,7 @@ fn the_second_packet_of_the_rust_crate(rt: HostRuntime) -> Outcome {
 }
 
 #[test]
-fn the_third_form_has_no_details(rt: HostRuntime) -> Outcome {
+fn the_third_version_has_no_details(rt: HostRuntime) -> Outcome {
     let bytes = bytes_of(rt.alloc(), &[b"PFD3", &PACKET[4..70]])?;
     let frame = read_one(rt.alloc(), &bytes)?;
     equal(
@@ -213,7 +202,7 @@ fn the_third_form_has_no_details(rt: HostRuntime) -> Outcome {
 }
 
 #[test]
-fn the_second_form_is_kept_compressed(rt: HostRuntime) -> Outcome {
+fn the_second_version_is_kept_compressed(rt: HostRuntime) -> Outcome {
     let bytes = bytes_of(rt.alloc(), &[b"PFD2", &PACKET[4..19], &PACKET[20..70]])?;
     let mut frame = read_one(rt.alloc(), &bytes)?;
     equal(
@@ -324,7 +313,7 @@ fn two_scopes(alloc: Global) -> std::result::Result<ScopeCollection, Fail> {
 
 /// The packet of a frame, with a collection's details.
 fn packet_with(alloc: Global, scopes: &ScopeCollection) -> std::result::Result<Vec<u8>, Fail> {
-    written(alloc, &packet_frame(alloc, 0)?, Some(scopes))
+    Ok(written(alloc, &packet_frame(alloc, 0)?, Some(scopes))?)
 }
 
 /// The names of a frame's two details.

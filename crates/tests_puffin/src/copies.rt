@@ -16,7 +16,7 @@ use std::process::Abort;
 use std::sync::ledger::{Blank, Ledger};
 use std::sync::{Arc, Wait};
 use std::test::Fail;
-use tests_support::frames::{packet_frame, packet_thread};
+use tests_support::frames::{packet_frame, packet_thread, written};
 use tests_support::samples::{ONE_SCOPE, PACKET};
 use tests_support::streams::stream_of;
 use tests_support::threads::named;
@@ -31,19 +31,6 @@ fn collection(alloc: Global) -> std::result::Result<ScopeCollection, Fail> {
         let _kept = collection.insert(named(alloc, number, name)?)?;
     }
     Ok(collection)
-}
-
-fn written(
-    alloc: Global,
-    frame: &FrameData,
-    scopes: Option<&ScopeCollection>,
-) -> std::result::Result<Vec<u8>, Fail> {
-    let mut bytes = Vec::new(alloc);
-    frame
-        .write_into(scopes, &mut Counted::new(&mut bytes))
-        .ok()
-        .ok_or("it is written")?;
-    Ok(bytes)
 }
 
 /// Returns how many scopes a packet lists.

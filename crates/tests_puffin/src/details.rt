@@ -2,7 +2,6 @@
 
 use crate::equal::equal;
 use crate::global_profiler::{borrowed, emitted, holds, report, scope, thread};
-use puffin::frame_data::FrameData;
 use puffin::global_profiler::GlobalProfiler;
 use puffin::scope_details::{ScopeDetails, ScopeIds};
 use puffin::{Error, NanoSecond, Result};
@@ -10,21 +9,13 @@ use std::borrow::CowStr;
 use std::process::Abort;
 use std::sync::Wait;
 use std::test::Fail;
+use tests_support::frames::lists;
 use tests_support::streams::id;
 
 type Outcome = std::result::Result<(), Fail>;
 
 pub(crate) fn named(name: &'static str) -> ScopeDetails {
     ScopeDetails::from_scope_name(CowStr::Borrowed(name))
-}
-
-/// Returns whether a frame lists the details of exactly these scopes, given by id and name, in this order.
-fn tells_of(frame: &FrameData, scopes: &[(u32, &str)]) -> bool {
-    frame.scope_delta.len() == scopes.len()
-        && frame.scope_delta.iter().zip(scopes).all(|(details, (number, name))| {
-            details.name().as_str() == *name
-                && details.scope_id().is_some_and(|id| id.get() == *number)
-        })
 }
 
 /// Reports one scope of the thread `a`, with details.
@@ -46,7 +37,7 @@ fn tells<R: Wait + Abort>(
     full_delta: bool,
 ) -> Outcome {
     let frame = emitted(rt, profiler)?;
-    assert!(rt; tells_of(&frame, scopes));
+    assert!(rt; lists(&frame, scopes));
     equal(rt, frame.full_delta, full_delta);
     Ok(())
 }

@@ -21,6 +21,7 @@ use std::process::Abort;
 use std::sync::ledger::{Blank, Ledger};
 use std::sync::{Arc, Wait};
 use std::test::Fail;
+use tests_support::frames::lists;
 use tests_support::samples::PACKET;
 use tests_support::streams::{bytes_of, id};
 use tests_support::threads::main_thread;
@@ -38,15 +39,6 @@ enum Call {
     Snapshot,
     /// A frame is added for a view.
     AddFrame,
-}
-
-/// Checks that a frame lists exactly these scopes, given by id and name, in this order.
-fn tells_of(rt: &impl Abort, frame: &FrameData, scopes: &[(u32, &str)]) {
-    equal(rt, frame.scope_delta.len(), scopes.len());
-    for (details, (number, name)) in frame.scope_delta.iter().zip(scopes) {
-        let told = details.scope_id().map(|id| id.get());
-        equal(rt, (told, details.name().as_str()), (Some(*number), *name));
-    }
 }
 
 /// Registers a function, whose scope closes as its guard goes.
@@ -82,7 +74,7 @@ fn closed_is_reported<L: Ledger, M: Ledger, R: Wait + Abort + Copy + Drop>(
     is_reported_once(&rt, alloc, &mut reporter)?;
     let frame = next_frame(&rt, profiler, &mut reporter.into_share())?;
     equal(&rt, (frame.meta().num_scopes, frame.full_delta), (1, false));
-    tells_of(&rt, &frame, &[(1, "draw")]);
+    assert!(rt; lists(&frame, &[(1, "draw")]));
     Ok(())
 }
 
@@ -104,7 +96,7 @@ fn snapshot_tells_all<L: Ledger, M: Ledger, R: Wait + Abort + Copy + Drop>(
         share = shares::reported(rt, alloc, profiler, share, Form::Short, id(1)?, &[""])?;
         let frame = next_frame(&rt, profiler, &mut share)?;
         equal(&rt, frame.full_delta, wanted);
-        tells_of(&rt, &frame, scopes);
+        assert!(rt; lists(&frame, scopes));
     }
     Ok(())
 }
@@ -152,11 +144,8 @@ fn added_is_handed_on<
     is_viewed(&rt, &view)?;
     profiler.emit_scope_snapshot(&rt);
     let mut share = shares::reported(rt, alloc, profiler, share, Form::Short, id(1)?, &[""])?;
-    tells_of(
-        &rt,
-        &*next_frame(&rt, profiler, &mut share)?,
-        &[(1, "my-scope")],
-    );
+    let frame = next_frame(&rt, profiler, &mut share)?;
+    assert!(rt; lists(&frame, &[(1, "my-scope")]));
     Ok(())
 }
 

@@ -1,11 +1,13 @@
--- The thread and the stream of the packet that crates of tests share.
-use Rattle.std.specs.Prelude.{[], ◌∷◌, pos, Some, None, codes}
+-- The thread and the stream of the packet that the test crates share, and which scopes a frame lists.
+use Rattle.std.specs.Prelude.{ℕ, List, [], ◌∷◌, map, pos, Option, Some, None, codes}
 use Rattle.std.specs.FinMap.{from_entries}
 use Rattle.puffin_data.specs.declared.data.form.Form.{Form}
 use Rattle.puffin_data.specs.declared.data.form.Form.TheVariants.{Short}
 use Rattle.puffin_data.specs.Honesty.{StreamFacts}
+use Rattle.puffin_threads.specs.Details.{name_of}
 use Rattle.puffin_threads.specs.Thread.ThreadKey.{ThreadKey}
-use Rattle.puffin_frames.specs.Frame.Contents.{Streams}
+use Rattle.puffin_frames.specs.declared.frame_data.frame.FrameData.{FrameData}
+use Rattle.puffin_frames.specs.Frame.Contents.{Streams, frame_details}
 use Rattle.puffin_frames.specs.Frame.Holding.{Holding}
 use Rattle.tests_support.specs.declared.samples.TheConstants.{ONE_SCOPE}
 
@@ -29,3 +31,7 @@ packet_streams = from_entries ((packet_key, packet_facts Short) ∷ [])
 -- these streams, held unpacked
 abbrev pub packet_holding : Holding
 packet_holding = record { packed = None; unpacked = Some packet_streams }
+
+-- the id and the name of each scope that a frame lists
+abbrev pub scopes_listed : FrameData → List (Option ℕ × List ℕ)
+scopes_listed frame = map (λ d. (d.id, name_of d)) (frame_details frame)

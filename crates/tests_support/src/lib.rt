@@ -1,4 +1,4 @@
-//! What several crates of tests share: bytes of scopes, packets and files, the values that these bytes hold, and short calls.
+//! Shared by several test crates: bytes of scopes, packets and files, the values that these bytes hold, and helper functions.
 #![tactic(auto)]
 
 pub mod frames;

@@ -9,7 +9,7 @@ use puffin_data::data::{ScopeId, Stream};
 use puffin_data::{Error, NanoSecond, Result};
 use std::alloc::Global;
 
-/// Makes an id of a number. Fails with `MissingId` for 0.
+/// Makes an id from a number. Fails with `MissingId` for 0.
 pub fn id(number: u32) -> Result<ScopeId>
     ensures id { IfOk result (λ id. id ≡ number) }
     ensures none { IfErr result (λ e. (e ≡ Error.MissingId) × (number ≡ 0)) }
@@ -34,8 +34,8 @@ pub fn bytes_of(alloc: Global, pieces: &[&[u8]]) -> Result<Vec<u8>>
     Ok(pieces.concat(alloc)?)
 }
 
-/// Ends the scope whose size is at `offset`, as [`Stream::end_scope`] does. Fails with `ScopeNeverEnded` if there are no eight
-/// bytes at `offset`; nothing changes then.
+/// Ends the scope whose size is at `offset`, like [`Stream::end_scope`]. Fails with `ScopeNeverEnded` if there are fewer than
+/// eight bytes from `offset` on; nothing changes then.
 pub fn end(stream: &mut Stream, offset: usize, stop_ns: NanoSecond) -> Result<()>
     ensures ended { OnOk result (stream.new.bytes ≡ ended_bytes stream.old.bytes offset stop_ns) }
     ensures inside { OnOk result (offset + 8 ≤ length stream.old.bytes) }

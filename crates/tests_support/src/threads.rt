@@ -45,7 +45,7 @@ pub fn main_thread(alloc: Global, at: NanoSecond) -> Result<ThreadProfiler<Scrip
     Ok(ThreadProfiler::new(alloc, name, ScriptClock::new(at)))
 }
 
-/// Makes the details of a named scope with this id. Fails with `MissingId` for 0, and with `Memory`.
+/// Makes the details of a named scope with this id. Fails with `MissingId` for 0, or with `Memory`.
 pub fn named(alloc: Global, number: u32, name: &'static str) -> Result<Arc<ScopeDetails>>
     ensures details { IfOk result (λ details.
         details_of (arc_value details)

@@ -122,7 +122,7 @@ fn written_to_full(
     (full.written, refused, faults)
 }
 
-/// Whether a writer that takes so much has a beginning of the file, and failed once where it fails.
+/// Whether a writer that takes so much has a prefix of the file, and failed once where it fails.
 fn has_beginning(
     rt: &HostRuntime,
     view: &FrameView,
