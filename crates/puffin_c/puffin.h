@@ -74,9 +74,10 @@ uint32_t puffin_count(const uint8_t *bytes, size_t size, bool long_texts, Puffin
  * number of frames that were read before the fault, or before memory ran out. */
 uint32_t puffin_check_file(const uint8_t *file, size_t size, uint64_t *frames);
 
-/* Reports on a file for the thread with this name and this start, or with no start if has_start isn't set. Copies the report
- * to the front of out, as much of it as fits, and sets *size to the size of the whole report in bytes. Fails with
- * PUFFIN_NOT_TEXT if the name isn't UTF-8, whatever the file contains. Otherwise fails with the first fault in the file. */
+/* Reports on a file for the thread with this name and this start, or with this name and no start if has_start isn't set.
+ * Copies the report to the front of out, as much of it as fits, and sets *size to the size of the whole report in bytes.
+ * Fails with PUFFIN_NOT_TEXT if the name isn't UTF-8, whatever the file contains. Otherwise fails with the first fault in the
+ * file. */
 uint32_t puffin_report_file(const uint8_t *file, size_t file_size, bool has_start, int64_t start_ns, const uint8_t *name,
                             size_t name_size, uint8_t *out, size_t room, uint64_t *size);
 
@@ -98,7 +99,7 @@ typedef struct PuffinThread {
     bool is_open_;
 } PuffinThread;
 
-/* Texts are cut to 127 bytes, or to 16,383 if long_texts is set. */
+/* The texts of the thread's scopes are cut to at most 127 bytes, or 16,383 if long_texts is set. */
 uint32_t puffin_thread_open(PuffinThread *thread, PuffinIds *ids, const uint8_t *name, size_t name_size, bool long_texts);
 /* Drops the scopes that weren't reported. */
 uint32_t puffin_thread_close(PuffinThread *thread);
@@ -110,8 +111,8 @@ uint32_t puffin_register_function(PuffinThread *thread, const uint8_t *function,
 uint32_t puffin_register_scope(PuffinThread *thread, const uint8_t *name, size_t name_size, const uint8_t *function,
                                size_t function_size, const uint8_t *file, size_t file_size, uint32_t line, uint32_t *id);
 
-/* Begins a scope, and sets *scope to its offset, which puffin_end takes. A negative time counts as 0, and a time before the
- * thread's last one counts as the last one. */
+/* Begins a scope with this id and text at this time, and sets *scope to its offset, which puffin_end takes. A negative time
+ * counts as 0, and a time before the thread's last one counts as the last one. */
 uint32_t puffin_begin(PuffinThread *thread, int64_t now_ns, uint32_t id, const uint8_t *text, size_t text_size,
                       uint64_t *scope);
 /* Ends this scope, which must be the innermost open one. */
@@ -135,22 +136,24 @@ typedef struct PuffinFrame {
 uint32_t puffin_profiler_open(PuffinProfiler *profiler, PuffinIds *ids);
 uint32_t puffin_profiler_close(PuffinProfiler *profiler);
 
-/* Reports a thread's closed scopes to a profiler. If it fails, they keep waiting. */
+/* Reports a thread's waiting scopes to a profiler: those that ended since the thread's last accepted report. Does nothing if
+ * no scope is waiting or open. If the call fails, the scopes keep waiting. */
 uint32_t puffin_report(PuffinThread *thread, PuffinProfiler *profiler);
 
 /* Appends the scopes of a stream to those that wait for the next frame. They are added under the thread with this name and
- * this start, or with no start if has_start isn't set. There needn't be such a thread. See puffin_count for bytes and
+ * this start, or with this name and no start if has_start isn't set. The thread needn't exist. See puffin_count for bytes and
  * long_texts. Fails with the first fault in the bytes. */
 uint32_t puffin_user_scopes(PuffinProfiler *profiler, bool has_start, int64_t start_ns, const uint8_t *name,
                             size_t name_size, const uint8_t *bytes, size_t size, bool long_texts);
 
 /* Makes a frame of everything that was reported since the last one, adds it to the view, and fills in *frame. If the call
- * fails, nothing is lost: if the view has no memory for the frame, the frame waits, and the next call adds it. */
+ * fails, nothing is lost: if the view has no memory for the frame, the frame waits, and the next call adds it instead of
+ * making a new one. */
 uint32_t puffin_new_frame(PuffinProfiler *profiler, PuffinFrame *frame);
 /* Makes the next frame list every known scope, not only the new ones. */
 uint32_t puffin_snapshot(PuffinProfiler *profiler);
 
-/* Makes the .puffin file of the view's frames, and sets *size to its size in bytes. */
+/* Makes a .puffin file in memory from the view's frames, and sets *size to its size in bytes. */
 uint32_t puffin_file_begin(PuffinProfiler *profiler, uint64_t *size);
 /* Copies that file's next bytes to the front of out, as many as fit, and sets *size to how many were copied: 0 at the end. */
 uint32_t puffin_file_next(PuffinProfiler *profiler, uint8_t *out, size_t room, uint64_t *size);

@@ -9,7 +9,7 @@ use puffin_data::{Error, FileError};
 /// The reason why a call failed.
 #[derive(Clone, Copy, Debug, PartialEq, Eq)]
 pub enum Fault {
-    /// The profiler refused the call.
+    /// The call was refused with this error.
     Refused(Error),
     /// A file can't be read or written.
     File(FileError),

@@ -15,7 +15,7 @@ use crate::memory_source::MemorySource;
 use crate::texts::owned_text;
 use crate::unread::lay_over;
 use puffin_data::FileError;
-use puffin_data::data::MemoryFile;
+use puffin_data::data::Counted;
 use puffin_frames::thread_profiler::ThreadInfo;
 use puffin_report::print_report;
 use puffin_view::profile_view::{next_frame, read_magic};
@@ -72,13 +72,13 @@ pub(crate) fn named_thread(
 }
 
 /// Returns the lines of a file's report for a thread.
-fn lines_of(alloc: Global, file: &[u8], thread: &ThreadInfo) -> Result<MemoryFile, FileError>
-    ensures ok { IfOk result (λ lines. HasLines file.now (key_of thread.now) lines.bytes.items) }
+fn lines_of(alloc: Global, file: &[u8], thread: &ThreadInfo) -> Result<Vec<u8>, FileError>
+    ensures ok { IfOk result (λ lines. HasLines file.now (key_of thread.now) lines.items) }
     ensures err { IfErr result (LacksLines file.now (key_of thread.now)) }
 {
-    let mut lines = MemoryFile::new(alloc);
+    let mut lines = Counted::new(Vec::new(alloc));
     match print_report(alloc, &mut MemorySource::new(file), thread, &mut lines) {
-        Ok(()) => Ok(lines),
+        Ok(()) => Ok(lines.into_inner()),
         Err(fault) => Err(fault),
     }
 }
@@ -98,15 +98,15 @@ fn printed(
 {
     let thread = named_thread(alloc, has_start, start_ns, name)?;
     let lines = lines_of(alloc, file, &thread)?;
-    let bytes: &[u8] = &lines.bytes;
+    let bytes: &[u8] = &lines;
     lay_over(bytes, out);
     *size = bytes.len() as u64;
     Ok(())
 }
 
-/// Reports on a file of any origin for one thread: the one with this name and this start, or with no start if `has_start` isn't
-/// set. Copies the report to the front of `out`, as much of it as fits, and sets `size` to the size of the whole report in
-/// bytes.
+/// Reports on a file of any origin for the thread with this name and this start, or with this name and no start if `has_start`
+/// isn't set. Copies the report to the front of `out`, as much of it as fits, and sets `size` to the size of the whole report
+/// in bytes.
 ///
 /// Fails with `NotText` if the name isn't UTF-8, whatever the file contains. Otherwise fails with the first fault in the file,
 /// or with `Memory`. `out` and `size` don't change then.

@@ -17,7 +17,8 @@ use std::alloc::Global;
 use std::mem;
 use std::sync::Arc;
 
-/// A handle to a set of ids. A C program initializes it with zeros, and it isn't open at that point.
+/// A handle to a set of scope ids, which threads and profilers share. A C program initializes the handle with zeros, and it
+/// isn't open at that point.
 #[repr(C)]
 pub struct PuffinIds {
     pub(crate) slot: IdsSlot,

@@ -33,11 +33,12 @@ fn function_registered(
 }
 
 /// Registers a function as a scope, and sets `id` to its id, which [`puffin_begin`] takes. Pass 0 if the line is
-/// unknown. The details go to the profiler with the thread's next report.
+/// unknown. The scope's details go to the profiler with the thread's next accepted report, by [`puffin_report`].
 ///
 /// Fails with `NotOpen`, `NotText`, `IdsExhausted` or `Memory`. Nothing changes then, except that an id may be used up.
 ///
 /// [`puffin_begin`]: crate::thread::puffin_begin
+/// [`puffin_report`]: crate::profiling::puffin_report
 #[unsafe(no_mangle)]
 pub extern "C" fn puffin_register_function(
     alloc: Global,

@@ -16,7 +16,7 @@ ghost use Rattle.puffin_view.specs.View.File.{fields_in};
 use crate::shared_ids::SharedIds;
 use crate::unread::Unread;
 use puffin_collector::Collector;
-use puffin_data::data::MemoryFile;
+use puffin_data::data::Counted;
 use puffin_data::{FileError, Result as Answer};
 use puffin_frames::frame_data::{FrameData, FrameMeta};
 use puffin_view::profile_view::FrameView;
@@ -105,16 +105,16 @@ impl Profiler {
     }
 
     /// Returns the view's file. Fails with `PartTooLong`, or if memory runs out.
-    pub(crate) fn file(&self, alloc: Global) -> Result<MemoryFile, FileError>
-        ensures ok { IfOk result (λ written. written.bytes.items ≡ view_file self.now) }
+    pub(crate) fn file(&self, alloc: Global) -> Result<Vec<u8>, FileError>
+        ensures ok { IfOk result (λ written. written.items ≡ view_file self.now) }
         ensures err { IfErr result (λ e.
             ((e ≡ file.PartTooLong) × Any HasLongPart (fields_in (view_of self.now.view)))
             ⊎ (e ≡ file.Memory)
             ⊎ (e ≡ file.Io)) }
     {
-        let mut file = MemoryFile::new(alloc);
+        let mut file = Counted::new(Vec::new(alloc));
         match self.view.write(&mut file) {
-            Ok(()) => Ok(file),
+            Ok(()) => Ok(file.into_inner()),
             Err(fault) => Err(fault),
         }
     }
@@ -133,9 +133,8 @@ impl Profiler {
     {
         match self.file(alloc) {
             Ok(file) => {
-                let bytes: &[u8] = &file.bytes;
-                let size = bytes.len();
-                self.unread = Unread::of(file.bytes);
+                let size = file.len();
+                self.unread = Unread::of(file);
                 Ok(size)
             }
             Err(fault) => Err(fault),

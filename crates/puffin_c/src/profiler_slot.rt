@@ -12,7 +12,7 @@ use std::alloc::Global;
 use std::marker::Model;
 use std::ptr::null_mut;
 
-/// The address of a box with a profiler, or null. It owns the box.
+/// The address of a box with a profiler, or null. The slot owns the box.
 #[repr(C)]
 #[derive(Drop)]
 pub struct ProfilerSlot {

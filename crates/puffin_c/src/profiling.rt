@@ -133,8 +133,8 @@ fn reported(
     }
 }
 
-/// Reports a thread's waiting scopes to a profiler, with the details that were registered since the thread's last report. Does
-/// nothing if no scopes are waiting.
+/// Reports a thread's waiting scopes to a profiler: those that ended since the thread's last accepted report. The details that
+/// were registered since then go with them. Does nothing if no scope is waiting or open.
 ///
 /// Fails with `NotOpen`; with `ScopesOpen` while a scope is open; with `UnlikeForms`, `TooLarge` or `RangeTooLong` if
 /// the profiler refuses the scopes; or with `Memory`. The scopes keep waiting then.
@@ -185,7 +185,7 @@ fn taken(alloc: Global, profiler: &mut PuffinProfiler, frame: &mut PuffinFrame) 
 /// reported, no frame is made, and only `frame.is_some` is set, to `false`.
 ///
 /// Fails with `NotOpen`, `IndexExhausted` or `Memory`; `frame` doesn't change then. Nothing that was reported is lost:
-/// if the view has no memory for the frame, the frame waits, and the next call adds it.
+/// if the view has no memory for the frame, the frame waits, and the next call adds it instead of making a new one.
 #[unsafe(no_mangle)]
 pub extern "C" fn puffin_new_frame(
     alloc: Global,

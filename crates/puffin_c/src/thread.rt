@@ -75,8 +75,8 @@ fn opened(
     }
 }
 
-/// Opens a handle with a profiler for a thread with this name. Its scopes are registered under ids from `ids`. Texts are cut at
-/// a character boundary, to 127 bytes, or to 16,383 if `long_texts` is set.
+/// Opens a handle with a profiler for a thread with this name. The thread's scopes are registered under ids from `ids`. Their
+/// texts are cut at a character boundary to at most 127 bytes, or 16,383 if `long_texts` is set.
 ///
 /// Fails with `IsOpen`, with `NotOpen` if `ids` isn't open, with `NotText` if the name isn't UTF-8, or with `Memory`. Nothing
 /// changes then.
@@ -147,8 +147,8 @@ fn begun(
     Ok(())
 }
 
-/// Begins a scope at this time, and sets `scope` to its offset, which [`puffin_end`] takes. A negative time counts as 0, and a
-/// time before the thread's last one counts as the last one.
+/// Begins a scope with this id and the text `bytes` at this time, and sets `scope` to its offset, which [`puffin_end`] takes. A
+/// negative time counts as 0, and a time before the thread's last one counts as the last one.
 ///
 /// Fails with the first of `NotOpen`, `NoId` and `NotText` that applies, or with `Memory`. Nothing changes then.
 #[unsafe(no_mangle)]

@@ -1,4 +1,4 @@
-//! A slot for a thread's recorder in a handle.
+//! A slot for a thread's profiler in a handle.
 
 ghost use Rattle.std.specs.Prelude.{◌≡◌, Option, Some, None, is_some, true};
 ghost use Rattle.puffin_threads.specs.Thread.Calls.{Thread};
@@ -11,7 +11,7 @@ use std::alloc::Global;
 use std::marker::Model;
 use std::ptr::null_mut;
 
-/// The address of a box with a thread's recorder, or null. It owns the box.
+/// The address of a box with a thread's profiler, or null. The slot owns the box.
 #[repr(C)]
 #[derive(Drop)]
 pub struct ThreadSlot {

@@ -63,8 +63,8 @@ fn taken(
 }
 
 /// Appends the scopes of a stream of any origin to those that wait for the next frame. They are added under the thread with
-/// this name and this start, or with no start if `has_start` isn't set. There needn't be such a thread. See [`puffin_count`]
-/// for `bytes` and `long_texts`.
+/// this name and this start, or with this name and no start if `has_start` isn't set. The thread needn't exist. See
+/// [`puffin_count`] for `bytes` and `long_texts`.
 ///
 /// Fails with the first of these that applies: `NotOpen`; `NotText` if the name isn't UTF-8; the first fault in the bytes;
 /// `UnlikeForms`, `TooLarge` or `RangeTooLong`, like [`puffin_report`]. Can also fail with `Memory`. Nothing changes in either

@@ -27,8 +27,8 @@ fn begun(alloc: Global, profiler: &mut PuffinProfiler, size: &mut u64) -> Result
     }
 }
 
-/// Makes the `.puffin` file of the frames in the view, and sets `size` to its size in bytes. [`puffin_file_next`] reads it from
-/// its beginning. A file that was made before is dropped.
+/// Makes a `.puffin` file in memory from the view's frames, and sets `size` to its size in bytes. [`puffin_file_next`] reads it
+/// from its beginning. A file that was made before is dropped.
 ///
 /// Fails with `NotOpen`; with `PartTooLong` if a part of a packet has `2^32` bytes or more; or with `Memory`. Nothing
 /// changes then.
@@ -64,8 +64,8 @@ fn read(
     Ok(())
 }
 
-/// Copies the next bytes of the file that [`puffin_file_begin`] made to the front of `out`, as many as fit, and sets `size` to
-/// how many were copied. `size` is 0 at the file's end, or if no file was made.
+/// Copies the next bytes of [`puffin_file_begin`]'s file to the front of `out`, as many as fit, and sets `size` to how many
+/// were copied. `size` is 0 at the file's end, or if no file was made.
 ///
 /// Fails with `NotOpen`; `out` and `size` don't change then. Allocates nothing.
 #[unsafe(no_mangle)]

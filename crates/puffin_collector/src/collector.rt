@@ -75,7 +75,7 @@ impl Model for Collector {
 }
 
 impl Collector {
-    /// Makes a collector without scopes, whose next frame has this index.
+    /// Makes a collector without scopes, whose frame index starts at this number.
     pub fn new(alloc: Global, frame_index: FrameIndex) -> Collector
         ensures { result ≡ nothing_collected frame_index }
     {
@@ -141,14 +141,15 @@ impl Collector {
         Ok(id)
     }
 
-    /// Makes the next frame list every known scope, besides the new ones. Allocates nothing.
+    /// Makes the next frame list every known scope, and not only the new ones. Allocates nothing.
     pub fn emit_scope_snapshot(&mut self)
         ensures { self.new ≡ after_wanting self.old }
     {
         self.wants_all = true;
     }
 
-    /// Adds details from another source, such as a frame that was made elsewhere.
+    /// Adds details from another source, such as a frame that was made elsewhere, to the known ones. The next frame doesn't
+    /// list them as new.
     ///
     /// Fails with `MissingId` exactly when some of them have no id, and then changes nothing. Otherwise fails only with
     /// `Memory`; the first few may be known afterwards.
@@ -171,8 +172,8 @@ impl Collector {
     /// The frame lists the details registered since the last frame, in order, and then, if a snapshot was requested, all details
     /// known before. With `None`, the new details and the request are kept for the next frame.
     ///
-    /// Fails with `IndexExhausted` if the index can't rise, even if no scope is pending. Otherwise fails only with `Memory`.
-    /// A failure changes nothing, but after `Memory` the first few of the new details, or all of them, may be known.
+    /// Fails with `IndexExhausted` if the index can't rise, even if no scope is pending; nothing changes then. Otherwise fails
+    /// only with `Memory`; nothing changes then, except that the first few of the new details, or all of them, may be known.
     pub fn collect_frame(&mut self) -> Result<Option<Arc<FrameData>>>
         ensures ok { IfOk result (λ frame. Collects self.old frame self.new) }
         // All details that a frame lists have ids.

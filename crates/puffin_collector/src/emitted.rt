@@ -6,6 +6,6 @@ use std::sync::Arc;
 pub struct Emitted {
     /// The frame, or `None` if no scope was pending.
     pub frame: Option<Arc<FrameData>>,
-    /// How many sinks refused the frame.
+    /// How many sinks didn't take the frame.
     pub refused: usize,
 }

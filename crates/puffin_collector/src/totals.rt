@@ -1,10 +1,10 @@
 /// The numbers of scopes that were reported, are pending, and were handed out in frames.
 #[derive(Clone, Copy, Debug, PartialEq, Eq)]
 pub struct Totals {
-    /// The scopes of all reports so far.
+    /// The number of scopes reported so far.
     pub reported: u64,
-    /// The scopes that the next frame will have.
+    /// The number of reported scopes that haven't been handed out.
     pub pending: u64,
-    /// The scopes of all frames so far.
+    /// The number of scopes in all frames so far.
     pub emitted: u64,
 }

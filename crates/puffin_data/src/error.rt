@@ -11,7 +11,7 @@ pub type NanoSecond = i64;
 /// The number of a frame, counted from 0.
 pub type FrameIndex = u64;
 
-/// The result of the calls of this crate and of the crates above it.
+/// A `Result` whose error is [`Error`], for calls of this crate and of the crates above it.
 pub type Result<T> = std::result::Result<T, Error>;
 
 /// Why a call failed. It displays as its name.

@@ -28,8 +28,8 @@ ghost use Rattle.puffin_data.specs.Reader.ReadScopes.{record_seen, scope_seen};
 
 use crate::data::{Scope, ScopeRecord};
 
-/// A forest has one spelling, and no other forest has that spelling. The spelling of two forests, one after the other, is that
-/// of the first and then that of the second.
+/// A forest that can be written in a form has one spelling in that form. If the spelling is shorter than `2^63` bytes, no other
+/// such forest has it. The spelling of two forests, one after the other, is that of the first and then that of the second.
 pub fn one_forest()
     ensures spelling { (form : Form) (f g : Forest) → IsForest form f → IsForest form g →
         length (spelling form f) < 2 ^ 63 →
@@ -38,8 +38,8 @@ pub fn one_forest()
         spelling form (append f g) ≡ spelling form f ++ spelling form g }
 {}
 
-/// The scope count, height, least start and greatest stop of two joined forests follow from those of each. If both can be
-/// written, so can the two joined.
+/// Joining two forests adds their scope counts, and takes the greater height, the lesser start and the greater stop. If both
+/// can be written in a form, the joined forest can be written in it too.
 pub fn joined_measures()
     ensures scope_count { (f g : Forest) →
         scope_count (append f g) ≡ scope_count f + scope_count g }
@@ -79,7 +79,8 @@ pub fn no_fault_in_a_spelling()
         Spells form bytes f → IsFault form bytes fault → ⊥ }
 {}
 
-/// Each stream has exactly one list of the offsets of its sound scopes. They are in strictly ascending order.
+/// Each stream has exactly one list of the offsets of its sound scopes, which are those read without a fault. The offsets are
+/// in strictly ascending order.
 pub fn sounds_rise()
     ensures has { (form : Form) (bytes : List ℕ) →
         (places : List ℕ) × Sounds form bytes 0 (length bytes) places }
@@ -91,8 +92,8 @@ pub fn sounds_rise()
         IsStrictlyIncreasing places }
 {}
 
-/// For any bytes there is exactly one list of the scopes that a walk meets. If the bytes spell a forest, these are the forest's
-/// scopes.
+/// For any bytes there is exactly one list of the sound scopes (those read without a fault), each with its offset and the
+/// scopes around it. If the bytes spell a forest, these are the forest's scopes.
 pub fn scopes_of_a_walk()
     ensures has { (form : Form) (bytes : List ℕ) →
         (placed : List PlacedScope) × Sees form bytes [] 0 (length bytes) placed }
@@ -121,7 +122,7 @@ pub fn one_tour()
     ensures joined { (f g : Forest) → tour (append f g) ≡ tour f ++ tour g }
 {}
 
-/// The measures of a forest are those of its tour, including the size of its spelling.
+/// The measures of a forest, and the size of its spelling, are those of its tour. After the tour, no scope is open.
 pub fn tour_measures()
     ensures size { (form : Form) (f : Forest) → word_size form (tour f) ≡ length (spelling form f) }
     ensures begun { (f : Forest) → num_begun (tour f) ≡ scope_count f }
@@ -167,7 +168,7 @@ pub fn closing_measures()
 {}
 
 /// A text has exactly one cut: its longest prefix within the form's limit that ends at a character boundary. A cut is UTF-8, so
-/// it is read back unchanged. The cut of a list of bytes is a list of bytes.
+/// it is read back unchanged. If the items of a text are bytes (below 256), so are those of its cut.
 pub fn cut_texts()
     ensures is_cut { (form : Form) (text : List ℕ) → IsUtf8 text →
         IsCut form text (cut_text form text) }
@@ -180,8 +181,8 @@ pub fn cut_texts()
         All (λ b. b < 256) (cut_text form text) }
 {}
 
-/// A stream with open scopes, as bytes and as a word: how both change when a scope begins and when the innermost one ends, and
-/// where the innermost scope's size is. Without an open scope the stream spells a forest whose tour is the word.
+/// How the bytes and the word of a stream with open scopes change when a scope begins and when the innermost one ends, and
+/// where the size of the innermost scope's children is. If no scope is open, the stream spells a forest whose tour is the word.
 pub fn open_streams()
     ensures begins { (form : Form) (opened : List Opened) (closed : Forest) (id : ℕ) (start : ℤ)
         (text : List ℕ) →
@@ -218,8 +219,9 @@ pub fn open_streams()
         open_after 0 (open_word opened closed) ≡ length opened }
 {}
 
-/// From each offset of a stream a reader returns exactly one list of scopes and faults. A fault moves it to the stream's end,
-/// where it returns nothing. In a forest's spelling it returns the top-level scopes.
+/// From each offset of a stream, a reader returns exactly one sequence: scopes, and then at most one fault. A fault moves the
+/// reader to the stream's end, where it returns nothing. From the first byte of a forest's spelling, it returns the top-level
+/// scopes.
 pub fn one_reading()
     ensures read { (form : Form) (bytes : List ℕ) (p : ℕ) → p ≤ length bytes →
         (items : List (Result ReadScope Error)) × ReaderGives form bytes p items }
@@ -240,8 +242,8 @@ pub fn scopes_by_fields()
         IsTrue (⟦<Scope<'static> as PartialEq>⟧.eq a b) ↔ (scope_seen a ≡ scope_seen b) }
 {}
 
-/// No layout of a value is a prefix of another of its kind. Numbers of 32 bits are laid out as those of 64, and texts as blocks of
-/// bytes.
+/// No value's layout is a prefix of the layout of another value of its kind. Numbers of 32 bits have the layouts of numbers of
+/// 64 bits, and texts those of blocks of bytes, so this holds for them too.
 pub fn no_layout_begins_another()
     ensures bytes { NoneBeginsAnother IsByte byte }
     ensures numbers { NoneBeginsAnother IsLong number }

@@ -12,7 +12,7 @@
 //! | visit each scope of a stream | [`data::walk_with`] a [`data::Visitor`] |
 //! | iterate over the scopes of one level | [`data::Reader::from_start`] as an iterator, [`data::Reader::read_top_scopes`] |
 //! | join two streams with their counts | [`data::StreamInfo::extend`] |
-//! | read from and write to any device | [`data::Counted::new`] for a reader or writer of std, [`data::Buffered::new`] for a `BufRead`, [`data::MemoryFile::new`] for memory; [`data::read_to_end`], [`data::write_all`] |
+//! | read from and write to any device | [`data::Counted::new`] for a reader or writer of std, [`data::Buffered::new`] for a `BufRead`; [`data::read_to_end`], [`data::write_all`] |
 //! | encode values as bytes, and decode them | [`wire`]: `put_u64` and the like, [`wire::Cursor`] |
 //! | cite a law about definitions in a proof | [`laws`] |
 #![tactic(auto)]

@@ -17,8 +17,8 @@ ghost use Rattle.puffin_frames.specs.Frame.Sums.{total_bytes, total_scopes, join
 
 use puffin_threads::thread_profiler::ThreadInfo;
 
-/// A map from threads to streams is a sorted list of entries; contracts see it as a map from the threads' infos. Both have the
-/// same entries and values. Inserting into the list inserts into the map.
+/// A `BTreeMap` from thread infos to streams is a sorted list of entries; contracts see the list as a map from keys to facts.
+/// The list and that map have the same entries and values. Inserting into the list inserts into the map.
 pub fn streams_by_key()
     ensures entries { (entries : List (ThreadInfo × StreamInfo)) →
         IsStrictlySortedBy thread_cmp (keys_of entries) →
@@ -32,7 +32,8 @@ pub fn streams_by_key()
         ≡ map.insert (streams_of entries) (key_of thread) (facts_of info) }
 {}
 
-/// The joined range of infos: how one more info changes it, and how the ranges of two lists are joined.
+/// If one more info, or a second list, is added to a list of infos, the new joined range has the lesser start and the greater
+/// stop of the joined range before and the range of what was added.
 pub fn joined_ranges()
     ensures start_of_one_more { (info : StreamFacts) (infos : List StreamFacts) →
         joined_start (info ∷ infos) ≡ int_min info.range_ns.0 (joined_start infos) }
@@ -44,7 +45,8 @@ pub fn joined_ranges()
         joined_stop (xs ++ ys) ≡ int_max (joined_stop xs) (joined_stop ys) }
 {}
 
-/// How a report changes the totals of all streams.
+/// A report adds its bytes and scopes to the totals of all streams, and its range is joined to theirs. The scopes under one
+/// thread are part of the total.
 pub fn reported_streams()
     ensures bytes { (streams : Streams) (i : ThreadKey) (r : StreamFacts) →
         total_bytes (map.values (reported_to streams i r))
@@ -64,9 +66,9 @@ pub fn reported_streams()
         (stream_under streams i).num_scopes ≤ total_scopes (map.values streams) }
 {}
 
-/// Honest streams stay honest after a report, unless the report and the stream under its thread's info both have bytes and
-/// their forms differ. If honest streams have a scope, their joined range isn't reversed. If the total number of scopes is 0,
-/// no stream has a scope.
+/// Honest streams stay honest after an honest report, unless the report and the stream under its thread's info both have bytes
+/// and their forms differ. If honest streams have a scope, their joined range isn't reversed. If the total number of scopes is
+/// 0, no stream has a scope.
 pub fn honest_streams()
     ensures none { AreHonest map.empty }
     ensures report { (streams : Streams) (i : ThreadKey) (r : StreamFacts) (f : Forest) →

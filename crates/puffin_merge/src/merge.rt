@@ -29,7 +29,8 @@ use std::sync::Arc;
 ///
 /// A nested scope's start is measured from its parent's start. A top-level scope's start is measured as if every frame began
 /// when the first frame did. Siblings are ordered by the least start of their pieces, then by id, then by the bytes of their
-/// texts. Each sibling starts at the greatest of three times: that least start, 0, and the end of the sibling before it.
+/// texts. Each sibling starts at the greatest of three times: that least start, 0, and the end of the sibling before it. A
+/// merged scope's end is its start plus its duration per frame.
 ///
 /// Fails with the first of these, in the order of the frames and of the scopes in their streams: a fault of a stream
 /// (`PrematureEnd`, `InvalidStream` or `ScopeNeverEnded`); `TooDeep` at a scope nested in 1,024 others; `TooLarge` if a
@@ -58,8 +59,8 @@ pub fn merge_scopes_for_thread<'s>(
     merge_scopes_counted(alloc, collection, frames, info, &mut tries)
 }
 
-/// Merges like [`merge_scopes_for_thread`]. Sets `tries` to how often it tried to read a scope, each time at a byte `(`, in all
-/// frames together. If it fails, `tries` counts the tries up to the refusal.
+/// Merges like [`merge_scopes_for_thread`]. Sets `tries` to the number of bytes `(`, in all frames together, at which it tried
+/// to read a scope. If it fails, `tries` counts those up to the refusal.
 pub fn merge_scopes_counted<'s>(
     alloc: Global,
     _collection: &ScopeCollection,

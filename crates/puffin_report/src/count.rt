@@ -117,11 +117,12 @@ fn frame_line(alloc: Global, info: StreamInfo) -> Result<(String, Option<Error>)
 }
 
 /// Reads a stream of the short form to its end, and writes two lines, as `docs/FORMAT.md` lists them. The first has the number
-/// of its scopes, their depth, and their range in nanoseconds. The second has the counts and the range of frame 0, whose only
-/// stream is this one, from a thread `stdin` without a start; or the cause if there can't be such a frame.
+/// of scopes in the stream, their depth, and their range in nanoseconds. The second has the number of bytes, the number of
+/// scopes, the range and the duration of a frame 0 that has only this stream, from a thread `stdin` without a start; or the
+/// cause if there can't be such a frame.
 ///
-/// Returns `None` on success, even if there is no scope and so no frame. Returns a cause in two cases: if the frame is refused,
-/// with both lines written; and if the bytes aren't scopes, with nothing written.
+/// Returns `None` on success, and also if there is no frame because the stream has no scopes. Returns the cause if the frame is
+/// refused for any other reason, with both lines written, or if the bytes aren't scopes, with nothing written.
 ///
 /// Fails with `Memory`, and then writes nothing; or with `Io` if the reader or the writer fails. The lines are made before any
 /// of them is written; if the writer fails, a prefix of them may be written. If the call fails, how far it read is

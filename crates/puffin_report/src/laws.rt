@@ -21,9 +21,9 @@ use puffin_frames::frame_data::laws::each_frame_is_read_again;
 use puffin_merge::merge::laws::one_outcome;
 use puffin_view::profile_view::laws::what_was_written_is_read;
 
-/// If a reader has the file of a view and nothing after it, its summary is that of exactly the frames that were written, with
-/// the details that they list. If all these details have ids, and neither the reader fails nor memory runs out, then the
-/// summary is refused only because a frame can't be unpacked or the frames can't be merged.
+/// If a reader has the file of a view and nothing after it, the file's summary is that of exactly the frames that were written,
+/// with the details that they list. If all these details have ids, and neither the reader fails nor memory runs out, then
+/// summing up fails only because a frame can't be unpacked or the frames can't be merged.
 pub fn what_was_recorded_is_summed_up()
     ensures summary { (info : ThreadKey) (v : View) (new : Option (List ℕ)) (stored : List Stored)
         (summary : Summary) →
@@ -47,7 +47,7 @@ pub fn what_was_recorded_is_summed_up()
     each_frame_is_read_again();
 }
 
-/// For one info, all summaries of the same frames are printed as the same lines.
+/// For one thread info, all summaries of the same frames are printed as the same lines.
 pub fn one_report()
     ensures { (info : ThreadKey) (stored : List Stored) (one another : Summary) →
         IsSummary info stored one → IsSummary info stored another →

@@ -20,19 +20,19 @@ use std::alloc::Global;
 pub struct Summary {
     /// The number of frames that a view keeps when it reads the file.
     pub frames: usize,
-    /// The details that all frames of the file list, inserted in order.
+    /// All details that any frame of the file lists, inserted in the order of the file.
     pub scopes: ScopeCollection,
-    /// The scopes of one thread, merged over the frames that the view keeps.
+    /// The scopes of one thread, merged over the frames that a view keeps when it reads the file.
     pub merged: Vec<MergeScope<'static>>,
 }
 
-/// Reads a file one frame at a time, and merges the scopes of a thread. Like a view that reads the file, it starts over at each
-/// frame whose index isn't greater than that of the frame before it, so only the last run of rising indices counts. Besides one
-/// frame, this takes memory for the merge and for the details of all frames.
+/// Reads a file one frame at a time, and merges the scopes of a thread. At each frame whose index isn't greater than that of
+/// the frame before it, the merge starts over, just as a view that reads the file drops its other frames. So only the last run
+/// of rising indices counts. The call takes memory for one frame, for the merge and for the details of all frames.
 ///
 /// Fails with the first cause that applies: an error of [`FrameView::read`](puffin_view::profile_view::FrameView::read);
 /// `Compressed` or `BadStreams` for the first frame that counts but can't be unpacked; `Refused` if the frames can't be merged.
-/// It may fail with `Memory` at any step. How far the source was read is then unspecified.
+/// It may fail with `Memory` at any step. If it fails, how far the source was read is unspecified.
 pub fn summarize<S: Source>(
     alloc: Global,
     source: &mut S,

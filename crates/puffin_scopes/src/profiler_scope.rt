@@ -7,8 +7,8 @@ use puffin_frames::thread_profiler::{Closed, NsSource, Reporter, ThreadProfiler}
 
 /// A guard of a thread's scope: dropping it ends the scope.
 ///
-/// It borrows the thread's profiler; until it is dropped, use the profiler through [`ProfilerScope::profiler`]. Its scope is
-/// the profiler's open scope at the guard's offset.
+/// It borrows the thread's profiler; until it is dropped, use the profiler through [`ProfilerScope::profiler`]. The guard's
+/// scope is whichever open scope of the profiler has the guard's offset.
 ///
 /// ```
 /// let mut whole = ProfilerScope::new(&mut thread, id, "all bodies")?;
@@ -58,8 +58,8 @@ impl<'p, C: NsSource> ProfilerScope<'p, C> {
         ProfilerScope { profiler, state }
     }
 
-    /// Begins a scope under an id that may have been refused. If it was, or if beginning the scope fails with `Memory`, the
-    /// guard has no scope, the profiler is unchanged, and [`ProfilerScope::refusal`] returns the error.
+    /// Begins a scope under this id and returns its guard. If `id` is an error, or if beginning the scope fails with `Memory`,
+    /// the guard has no scope, the profiler is unchanged, and [`ProfilerScope::refusal`] returns the error.
     #[inline(always)]
     pub fn open(
         profiler: &'p mut ThreadProfiler<C>,
@@ -83,7 +83,7 @@ impl<'p, C: NsSource> ProfilerScope<'p, C> {
     }
 
     /// Borrows the thread's profiler, for scopes within this one. If this guard's scope is ended through that borrow, the guard
-    /// ends nothing.
+    /// ends nothing, unless a new scope with the same offset is the innermost open one when the guard is ended or dropped.
     pub fn profiler(&mut self) -> &mut ThreadProfiler<C>
         ensures { result.now ≡ profiler_of self.old }
     {

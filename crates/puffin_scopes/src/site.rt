@@ -18,10 +18,10 @@ impl Rule for IdOrZero {
     ghost invariant = { λ word. word < 2 ^ 32 };
 }
 
-/// A place in the code that makes a scope. It keeps the id drawn at its first use, so its scope is registered once. Any number
-/// of threads may share it.
+/// A place in the code that makes a scope. It keeps the id drawn at its first use, so later uses don't register its scope
+/// again. Any number of threads may share it.
 ///
-/// A program keeps its sites in a struct, one field for each, beside its switch and its ids.
+/// A program keeps its sites in a struct, one field for each, beside its `Switch` and its `ScopeIds`.
 ///
 /// ```
 /// let site = Site::new("src/draw.rs", 7);
@@ -44,7 +44,7 @@ impl Site {
     ghost use Rattle.puffin_scopes.specs.Names.Functions.{clean};
     ghost use Rattle.puffin_scopes.specs.Sites.{IsKnownOrNew, function_details, named_details};
 
-    /// Makes an unused place in a file, given by its path or its module. Pass 0 if the line is unknown.
+    /// Makes a place that has no id yet. `file` is the path of a source file or of a module. Pass 0 if the line is unknown.
     pub fn new(file: &'static str, line: u32) -> Site
         ensures { (result.file.now ≡ file.now) × (result.line ≡ line) }
     {

@@ -63,8 +63,8 @@ impl Model for Session {
 }
 
 impl Session {
-    /// Makes a session with a thread for each name, in the short form and without scopes. The first id drawn is 1. Fails only
-    /// with `Memory`.
+    /// Makes a session with a thread for each name, in the short form and without scopes. The first id drawn by a registration
+    /// is 1. Fails only with `Memory`.
     pub fn new(alloc: Global, names: Vec<String>) -> Result<Session>
         ensures new { IfOk result (λ session.
             session ≡ new_session (map (λ name. (string_bytes name, Short)) names.items)) }
@@ -77,7 +77,7 @@ impl Session {
         Ok(Session::of(alloc, profiled))
     }
 
-    /// Makes a session with a thread for each name, in the form given with the name and without scopes. Otherwise like
+    /// Makes a session with a thread for each name, without scopes and in the form given with the name. Otherwise like
     /// [`Session::new`].
     pub fn with_forms(alloc: Global, threads: Vec<(String, Form)>) -> Result<Session>
         ensures new { IfOk result (λ session.
@@ -105,7 +105,7 @@ impl Session {
 
     /// Runs commands in order, and returns one reply for each. Each accepted scope is then in exactly one place: an emitted
     /// frame, what is due for the next one, or its thread's unreported scopes. Each frame holds exactly what was due, and lists
-    /// exactly the details that are new in it, and all known ones if a snapshot was requested.
+    /// exactly the details that are new in it, followed by all already known ones if a snapshot was requested.
     ///
     /// Fails only with `Memory`, before any command has run.
     pub fn run(&mut self, commands: &[Command]) -> Result<Vec<Reply>>

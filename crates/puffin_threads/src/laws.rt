@@ -13,7 +13,7 @@ ghost use Rattle.puffin_threads.specs.Thread.ThreadKey.{ThreadKey, key_of, key_c
 use crate::thread_profiler::ThreadInfo;
 use std::hash::Hash;
 
-/// Threads are compared by their infos alone. Equality, order and hash agree.
+/// Thread infos are compared by their keys. Equality, order and hash agree.
 pub fn threads_by_key()
     ensures order { (a b : ThreadInfo) →
         ⟦<ThreadInfo as Ord>⟧.cmp a b ≡ key_cmp (key_of a) (key_of b) }
@@ -25,8 +25,8 @@ pub fn threads_by_key()
         ⟦<ThreadInfo as Hash>⟧.hash_input a ≡ ⟦<ThreadInfo as Hash>⟧.hash_input b }
 {}
 
-/// Infos are ordered by start, those without one first, and then by the bytes of the name. The order is total, and only equal
-/// infos compare as equal.
+/// Thread keys are ordered by start, then by the bytes of the name; a missing start comes first. The order is total, and only
+/// equal keys compare as equal.
 pub fn order_of_keys()
     ensures none_first { (a b : ThreadKey) → a.start ≡ None → (t : ℤ) → b.start ≡ Some t →
         key_cmp a b ≡ Less }

@@ -1,7 +1,7 @@
 ghost use Rattle.std.specs.Prelude.{◌≡◌};
 
 use crate::equal::equal;
-use puffin_data::data::{Counted, Drain, MemoryFile, Source};
+use puffin_data::data::{Counted, Drain, Source};
 use std::io;
 use std::io::{Read, Write};
 use std::test::Fail;
@@ -82,10 +82,10 @@ fn failures_are_counted(rt: HostRuntime) -> std::result::Result<(), Fail> {
 }
 
 #[test]
-fn a_file_in_memory_has_what_was_written(rt: HostRuntime) -> std::result::Result<(), Fail> {
-    let mut file = MemoryFile::new(rt.alloc());
+fn a_counted_vector_keeps_what_was_written(rt: HostRuntime) -> std::result::Result<(), Fail> {
+    let mut file = Counted::new(Vec::new(rt.alloc()));
     equal(&rt, write_twice(&mut file, b"ab"), (Some(2), Some(2)));
-    equal(&rt, file.bytes.as_slice(), b"abab".as_slice());
     equal(&rt, file.faults(), 0);
+    equal(&rt, file.into_inner().as_slice(), b"abab".as_slice());
     Ok(())
 }

@@ -12,7 +12,7 @@ ghost use Rattle.tests_support.specs.Packet.{packet_key, packet_facts, packet_ho
 
 use crate::samples::ONE_SCOPE;
 use crate::threads::thread_info;
-use puffin_data::data::{Form, MemoryFile, Stream, StreamInfo};
+use puffin_data::data::{Counted, Form, Stream, StreamInfo};
 use puffin_data::{FileError, FrameIndex, Result};
 use puffin_frames::frame_data::FrameData;
 use puffin_threads::scope_details::ScopeCollection;
@@ -82,9 +82,9 @@ pub fn written(
         ⊎ ((e ≡ FileError.PartTooLong)
         × HasLongPart (fields_with frame.now (option_map (λ c. c.now) scopes.entry)))) }
 {
-    let mut file = MemoryFile::new(alloc);
+    let mut file = Counted::new(Vec::new(alloc));
     frame.write_into(scopes, &mut file)?;
-    Ok(file.bytes)
+    Ok(file.into_inner())
 }
 
 /// Returns whether a frame lists exactly these scopes, given by id and name, in this order.

@@ -29,9 +29,9 @@ use puffin_frames::thread_profiler::ThreadInfo;
 use std::sync::ledger::{Book, Ledger};
 use std::sync::{Arc, Wait};
 
-/// A profiler with two books, each for all its shares together: one for the scopes that they reported, and one for the scopes
-/// that were handed out to them. Each method except `settle` calls [`GlobalProfiler`]'s method of the same name; reports and
-/// new frames are also counted in a share.
+/// A profiler with two books for all its shares together: one counts the scopes reported through the shares, and the other the
+/// scopes in the frames handed out to the shares. Each method except `settle` calls [`GlobalProfiler`]'s method of the same
+/// name; `report`, `report_user_scopes` and `new_frame` also count the scopes in the share that is passed.
 #[derive(Drop)]
 pub struct Booked<L: Ledger, M: Ledger> {
     /// Keeps the profiler off the cache line of the lock, which other threads read while one holds it.
@@ -44,14 +44,14 @@ pub struct Booked<L: Ledger, M: Ledger> {
     ghost handed_is: { handed.total ≡ profiler.collector.emitted },
 }
 
-/// What all shares of a profiler count together, and what is left.
+/// The counts of all shares of a profiler together, and the number of pending scopes.
 #[derive(Clone, Copy, Debug, PartialEq, Eq)]
 pub struct Settled {
     /// The number of scopes that were reported through all shares.
     pub reported: u64,
     /// The number of scopes in the frames that were handed out to all shares.
     pub handed: u64,
-    /// The number of scopes that will be in the next frame.
+    /// The number of reported scopes that weren't handed out.
     pub pending: u64,
 }
 
@@ -265,8 +265,8 @@ impl<L: Ledger, M: Ledger> Booked<L, M> {
         self.profiler.remove_sink(id)
     }
 
-    /// Returns the profiler's totals as [`GlobalProfiler::totals`] does. They are at least the share's counts. The share
-    /// doesn't change.
+    /// Returns the profiler's totals as [`GlobalProfiler::totals`] does. `reported` and `emitted` are at least the share's
+    /// counts of scopes reported and handed out. The share doesn't change.
     pub fn totals(&mut self, share: &mut Share<L, M>) -> Totals
         requires boxed_sinks { ⊤ }
         ensures reported { result.reported ≡ (collected_of self.old.profiler).reported }

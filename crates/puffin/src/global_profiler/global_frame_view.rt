@@ -19,7 +19,7 @@ pub struct GlobalFrameView {
 
 impl GlobalFrameView {
     /// Adds a new view to the profiler's sinks, and makes the next frame list every known scope, so that the view gets the
-    /// details of those too. Takes the lock once for both.
+    /// details of those too. Takes the profiler's lock once for both.
     ///
     /// Fails with `SinkIdsExhausted` or `Memory`; nothing changes then.
     ///
@@ -68,8 +68,8 @@ impl GlobalFrameView {
         self.sink_id
     }
 
-    /// Waits for the view's lock, and lends the view until the guard is dropped. A new frame waits until then, and so does each
-    /// thread that reports to the profiler meanwhile: drop the guard before you call `new_frame`.
+    /// Waits for the view's lock, and lends the view until the guard is dropped. Until then, `new_frame` and `add_frame` wait
+    /// with the profiler's lock held, so threads that report wait too: drop the guard before you call either.
     pub fn lock(&self, rt: &impl Wait) -> MutexGuard<'_, FrameView> {
         self.view.lock(rt)
     }

@@ -41,22 +41,22 @@ pub struct GlobalProfiler {
 }
 
 impl GlobalProfiler {
-    /// Makes a profiler without scopes and without sinks. Its first frame has the index 0.
+    /// Makes a profiler without scopes and without sinks. Its frame index starts at 0.
     pub fn new(alloc: Global) -> GlobalProfiler
         ensures { IsNewProfiler 0 result }
     {
         GlobalProfiler::with_frame_index(alloc, 0)
     }
 
-    /// Makes a profiler whose first frame has this index. No frame has an index above `2^64 - 2`.
+    /// Makes a profiler whose frame index starts at this number. No frame has an index above `2^64 - 2`.
     pub fn with_frame_index(alloc: Global, frame_index: FrameIndex) -> GlobalProfiler
         ensures { IsNewProfiler frame_index result }
     {
         GlobalProfiler::with_sinks(alloc, frame_index, Vec::new(alloc))
     }
 
-    /// Like [`GlobalProfiler::with_frame_index`], but takes the empty list of sinks from the caller. A crate that keeps a
-    /// profiler in a type of its own has to make that list itself.
+    /// Like [`GlobalProfiler::with_frame_index`], but takes the list of sinks, which must be empty, from the caller. A crate
+    /// that keeps a profiler in a type of its own has to make that list itself, and call this.
     pub fn with_sinks(
         alloc: Global,
         frame_index: FrameIndex,
@@ -71,8 +71,8 @@ impl GlobalProfiler {
         }
     }
 
-    /// Appends a thread's scopes to the pending ones, and its details to the next frame's new ones, as [`Collector::report`]
-    /// does. Fails in the same cases.
+    /// Appends a thread's scopes to the pending ones, and `details` to the new details that the next frame lists, as
+    /// [`Collector::report`] does. Fails in the same cases.
     #[inline(always)]
     pub fn report(
         &mut self,
@@ -125,7 +125,7 @@ impl GlobalProfiler {
         self.collector.register_user_scopes(ids, details)
     }
 
-    /// Makes the next frame list every known scope, besides the new ones. Allocates nothing.
+    /// Makes the next frame list every known scope, and not only the new ones. Allocates nothing.
     pub fn emit_scope_snapshot(&mut self)
         requires boxed_sinks { ⊤ }
         ensures wants { collected_of self.new ≡ after_wanting (collected_of self.old) }
@@ -162,10 +162,11 @@ impl GlobalProfiler {
     }
 
     /// Hands out a frame as [`GlobalProfiler::collect_frame`] does, and also hands it to each sink, in ascending order of the
-    /// sinks' numbers. The caller and the sinks share the frame. Waits for the lock of each view.
+    /// sinks' numbers. The caller and the sinks share the frame. Waits for the lock of each sink that is a view. The result's
+    /// `refused` is the number of sinks that didn't take the frame: they refused it, or weren't called because the frame's
+    /// `Arc` couldn't be cloned.
     ///
-    /// Fails as [`Collector::collect_frame`] does, before any sink is called. The result counts the sinks that refused the
-    /// frame, and those for which its `Arc` couldn't be cloned.
+    /// Fails as [`Collector::collect_frame`] does, before any sink is called.
     pub fn new_frame<R: Wait>(&mut self, rt: &R) -> Result<Emitted>
         requires boxed_sinks { ⊤ }
         ensures ok { IfOk result (λ emitted.
@@ -200,8 +201,8 @@ impl GlobalProfiler {
     }
 
     /// Takes in a frame that was made elsewhere: adds its scope details to those already known, then hands the frame to each
-    /// sink. Returns how many sinks didn't take it, counted as [`GlobalProfiler::new_frame`] does. The totals don't count the
-    /// frame's scopes.
+    /// sink. Returns how many sinks didn't take it, counted as [`GlobalProfiler::new_frame`] does. The frame's scopes aren't
+    /// added to the profiler's totals.
     ///
     /// Fails with `MissingId` exactly when some of its details have no id, and then changes nothing. Otherwise fails only with
     /// `Memory`, and then the first few of its details may have become known. If it fails, no sink is called.

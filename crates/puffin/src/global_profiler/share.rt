@@ -10,7 +10,7 @@ use std::sync::ledger;
 use std::sync::ledger::Ledger;
 
 /// One share of a shared profiler's counts. It counts the scopes reported through it, and those in the frames handed out to it.
-/// The two ledgers rule out its use with another profiler.
+/// `L` and `M` are the profiler's two ledgers, so the share can't be used with another profiler.
 #[derive(Drop)]
 pub struct Share<L: Ledger, M: Ledger> {
     pub(crate) reported: ledger::Share<L>,

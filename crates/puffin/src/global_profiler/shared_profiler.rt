@@ -50,7 +50,7 @@ fn pause(looks: u32) {
 ///
 /// A thread reports through its [`Share`], with a [`SharedReporter`](crate::global_profiler::SharedReporter). Whoever takes
 /// frames has a share too. `L` and `M` name two ledgers, one of the scopes reported and one of the scopes handed out. A
-/// function that opens a profiler is generic over both, and is called with `Brand` for each.
+/// function that opens a profiler is generic over both; call it with `std::marker::Brand` for each, as `docs/THREADS.md` shows.
 #[derive(Drop)]
 pub struct SharedProfiler<L: Ledger, M: Ledger> {
     booked: Arc<Mutex<Booked<L, M>>>,
@@ -58,8 +58,8 @@ pub struct SharedProfiler<L: Ledger, M: Ledger> {
 
 impl<L: Ledger, M: Ledger> SharedProfiler<L, M> {
     /// Puts a profiler behind a lock, and makes `n` shares of its counts. The profiler must not have had any scopes reported
-    /// to it yet, and `n` must be at least 1. `reported` and `handed` are the blanks of the ledgers `L` and `M`, with `n` parts
-    /// each.
+    /// to it yet, and `n` must be at least 1. `reported` must be the `Blank` of the ledger `L`, and `handed` that of `M`, each
+    /// with `n` parts.
     ///
     /// Fails with `Memory`, and then returns the profiler.
     ///

@@ -16,8 +16,8 @@ use puffin_frames::thread_profiler::{AnyThread, Closed, Reporter, ThreadInfo};
 use std::sync::Wait;
 use std::sync::ledger::Ledger;
 
-/// Reports to a shared profiler through a share, which counts the scopes that are accepted. It owns the handle `rt`, with
-/// which it waits for the lock.
+/// Reports to a shared profiler through a share, which counts the scopes that are accepted. The reporter owns `rt`, the handle
+/// with which it waits for the profiler's lock.
 ///
 /// ```
 /// let mut reporter = SharedReporter::new(rt, profiler, share);
@@ -45,7 +45,8 @@ impl<L: Ledger, M: Ledger, R: Wait> SharedReporter<L, M, R> {
         }
     }
 
-    /// Returns the profiler's totals. They are at least the share's counts. Waits for the lock.
+    /// Returns the profiler's totals. `reported` and `emitted` are at least the share's counts of scopes reported and handed
+    /// out. Waits for the lock.
     pub fn totals(&mut self) -> Totals
         requires boxed_sinks { ⊤ }
         ensures sum { result.reported ≡ result.pending + result.emitted }
@@ -57,7 +58,8 @@ impl<L: Ledger, M: Ledger, R: Wait> SharedReporter<L, M, R> {
     }
 
     /// Ends a thread's innermost open scope, which must have this offset. If it was the last open one, reports all scopes that
-    /// have closed since the last accepted report, and the share counts them. Waits for the lock if it reports.
+    /// have closed since the last accepted report; if this one is accepted, the share counts them. Waits for the lock if it
+    /// reports.
     ///
     /// Fails only with `MismatchedEnd`, as [`ThreadProfiler::end_scope`](crate::thread_profiler::ThreadProfiler::end_scope)
     /// does; nothing changes then.
@@ -85,8 +87,8 @@ impl<L: Ledger, M: Ledger, R: Wait> SharedReporter<L, M, R> {
         thread.end_scope(offset, self)
     }
 
-    /// Reports the closed scopes of a thread that are still waiting, such as those of dropped guards. Returns `Ok(false)` if
-    /// there are none. Waits for the lock if it reports.
+    /// Reports a thread's closed scopes that haven't been reported yet, such as those ended by dropping a
+    /// [`ProfilerScope`](crate::ProfilerScope). Returns `Ok(false)` if there are none. Waits for the lock if it reports.
     ///
     /// Fails as [`ThreadProfiler::report_closed`](crate::thread_profiler::ThreadProfiler::report_closed) does.
     pub fn report_closed<T: AnyThread>(&mut self, thread: &mut T) -> Result<bool>

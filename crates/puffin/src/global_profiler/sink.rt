@@ -20,7 +20,7 @@ pub trait FrameSink: Drop {
         ensures { accepts self.old (arc_value frame) result self.new };
 }
 
-/// A sink of a profiler: a view that others use too, or any other sink.
+/// A sink of a profiler: a shared view, or any other sink.
 #[derive(Drop)]
 pub enum Sink {
     /// A view behind a lock, which is taken for each frame.

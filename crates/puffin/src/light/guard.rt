@@ -47,8 +47,8 @@ pub trait Records {
     }
 }
 
-/// Ends a thread's scope when it is dropped. If that was the outermost scope, everything that has closed since the last report
-/// is reported.
+/// A guard of a scope: the scope ends when the guard is dropped. If it is the thread's outermost scope, everything that has
+/// closed since the last accepted report is then reported.
 pub struct Guard<'t, T: Records> {
     thread: &'t mut T,
     state: GuardState,
@@ -81,7 +81,7 @@ impl<'t, T: Records> Guard<'t, T> {
         Guard::open(&mut *self.thread, place, text)
     }
 
-    /// Borrows the thread, to be passed to a function that opens scopes within this one.
+    /// Borrows the thread, to be passed to a function that opens scopes within this guard's scope.
     #[inline(always)]
     pub fn thread(&mut self) -> &mut T
         ensures { result.now ≡ self.old.thread.now }

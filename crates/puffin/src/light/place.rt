@@ -24,7 +24,7 @@ impl Place {
     ghost use Rattle.puffin_scopes.specs.Sites.{IsKnownOrNew};
     ghost use Rattle.puffin.specs.Guards.{names_of};
 
-    /// Makes the place of a whole function. `file` is a path or a module.
+    /// Makes the place of a whole function. `file` is the path of a source file or of a module.
     pub fn function(file: &'static str, function: &'static str) -> Place
         ensures place { (result.site.file.now ≡ file.now)
             × (result.site.line ≡ 0)
@@ -38,7 +38,7 @@ impl Place {
         }
     }
 
-    /// Makes the place of a part of a function, with a name of its own. `file` is a path or a module.
+    /// Makes the place of a part of a function, with a name of its own. `file` is the path of a source file or of a module.
     pub fn named(file: &'static str, function: &'static str, name: &'static str) -> Place
         ensures place { (result.site.file.now ≡ file.now)
             × (result.site.line ≡ 0)
@@ -54,7 +54,7 @@ impl Place {
 
     /// Returns the id of the place. The first call draws it and registers the names with the thread.
     ///
-    /// Fails with `IdsExhausted` or `Memory`; nothing is registered then.
+    /// Fails with `IdsExhausted` or `Memory`; nothing is registered then, but an id may be used up.
     #[inline(always)]
     pub fn id<C: NsSource>(
         &self,

@@ -21,7 +21,7 @@ use std::thread::Threads;
 pub trait Frames {
     /// Hands out everything that was reported since the last frame, if anything was, and adds the frame to the view.
     ///
-    /// Fails with `IndexExhausted` or `Memory`; what was reported then waits for the next frame.
+    /// Fails with `IndexExhausted` or `Memory`; then what was reported waits for the next frame.
     fn new_frame(&mut self) -> Result<Emitted>
         ensures spells { IfOk result (λ emitted. SpellsItsScopes emitted.frame) };
 }
@@ -68,7 +68,7 @@ pub struct Outcome {
     pub settled: Settled,
     /// The number of frames that were handed out. Each of them has at least one scope.
     pub frames: u64,
-    /// The number of these frames that the view refused because memory ran out.
+    /// The number of these frames that the view didn't take, for example because memory ran out.
     pub missed: u64,
 }
 

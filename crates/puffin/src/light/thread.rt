@@ -28,7 +28,8 @@ pub struct Thread<C, P> {
 }
 
 impl<R: Clock + AllocGlobal + Copy, P: Reporter + Drop> Thread<SystemClock<R>, P> {
-    /// Makes a thread with this name and the system's clock, which reports to this reporter. Its scopes are on.
+    /// Starts to profile a thread under this name, by the system's clock. The thread reports to this reporter, and its scopes
+    /// are on.
     ///
     /// Fails if the clock can't be read or memory runs out; the reporter is then dropped.
     ///
@@ -52,7 +53,7 @@ impl<C> Thread<C, GlobalProfiler> {
     /// Hands out everything that was reported since the last frame, to the caller and to the profiler's sinks. Returns `None`
     /// if nothing was reported.
     ///
-    /// Fails with `IndexExhausted` or `Memory`; what was reported then waits for the next frame.
+    /// Fails with `IndexExhausted` or `Memory`; then what was reported waits for the next frame.
     pub fn new_frame(&mut self, rt: &impl Wait) -> Result<Option<Arc<FrameData>>>
         ensures ok { IfOk result (λ frame.
             Collects (collected_of self.old.reporter) frame (collected_of self.new.reporter)) }

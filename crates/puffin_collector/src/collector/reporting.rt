@@ -24,9 +24,9 @@ impl Collector {
     /// `times` has to be honest: its counts are those of its bytes.
     ///
     /// Fails with the first cause that applies, and then changes nothing: `MissingId` if some details have no id; `UnlikeForms`
-    /// if these scopes and those pending under the info have bytes in unlike forms; `TooLarge` if the pending bytes or scopes,
-    /// or the scopes ever reported, don't fit 64 bits; `RangeTooLong` if the joined range of all pending scopes isn't reversed
-    /// and its duration doesn't fit `i64`; `Memory`.
+    /// if these scopes and those pending under the info have bytes in unlike forms; `TooLarge` if, with these scopes, the
+    /// number of pending bytes, of pending scopes or of scopes ever reported doesn't fit 64 bits; `RangeTooLong` if the time
+    /// from the least start to the greatest stop of all scopes then pending doesn't fit `i64`; `Memory`.
     #[inline(always)]
     pub fn report(
         &mut self,
@@ -49,7 +49,8 @@ impl Collector {
         }
     }
 
-    /// Appends the caller's own scopes. Does the same as [`Collector::report`] with no details, and fails in the same cases.
+    /// Appends the caller's own scopes to the pending ones. The scopes use ids that [`Collector::register_user_scopes`]
+    /// returned. Does the same as [`Collector::report`] with no details, and fails in the same cases.
     #[inline(always)]
     pub fn report_user_scopes(&mut self, info: ThreadInfo, times: &StreamInfoRef) -> Result<()>
         requires { (f : Forest) × IsHonestRef times.now f }

@@ -78,8 +78,9 @@ fn append_to_len<B: BufRead>(
     Ok(())
 }
 
-/// A `BufRead` of std, such as a slice of bytes or a `BufReader`, with the number of its failures. It reads parts faster than
-/// [`Counted`](super::Counted) does, since it copies them from the reader's buffer and doesn't fill memory with zeros first.
+/// A `BufRead` of std, such as a slice of bytes or a `BufReader`, with the number of its failures. Reading into a vector is
+/// faster than with [`Counted`](super::Counted), since the bytes are copied from the reader's buffer and memory isn't filled
+/// with zeros first.
 ///
 /// ```
 /// let mut source = Buffered::new(b"\x04\0\0\0data".as_slice());

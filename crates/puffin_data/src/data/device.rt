@@ -9,8 +9,8 @@ use crate::file_error::FileError;
 use std::io;
 use std::io::{Read, Write};
 
-/// A reader that counts its failed calls. The count shows whether a call failed because the reader did. Wrap any reader of std
-/// in [`Counted`] to get one, or in [`Buffered`](super::Buffered) if it is a `BufRead`.
+/// A reader that counts its failed reads. If a function that reads from it fails, the count shows whether the reader was the
+/// cause. Wrap any reader of std in [`Counted`] to get one, or in [`Buffered`](super::Buffered) if it is a `BufRead`.
 pub trait Source {
     /// The bytes still to be read, if they are known.
     ghost remaining: { Self → Option (List ℕ) } = { λ _. None };
@@ -87,11 +87,12 @@ pub trait Drain {
         ensures { result ≡ failures self.now };
 }
 
-/// A reader or writer of std, with the number of its failures.
+/// A reader or writer of std, with the number of its failures. A `Counted<Vec<u8>>` keeps in memory what is written to it.
 ///
 /// ```
-/// let mut source = Counted::new(b"\x04\0\0\0data".as_slice());
-/// let part = read_counted_part(alloc, &mut source)?;
+/// let mut file = Counted::new(Vec::new(alloc));
+/// view.write(&mut file)?;
+/// let bytes = file.into_inner();
 /// ```
 #[derive(Drop)]
 pub struct Counted<D> {
@@ -108,6 +109,13 @@ impl<D> Counted<D> {
         ensures faults { failed_calls result ≡ 0 }
     {
         Counted { device, faults: 0 }
+    }
+
+    /// Returns the reader or writer itself.
+    pub fn into_inner(self) -> D
+        ensures { result ≡ counted_device self }
+    {
+        self.device
     }
 }
 

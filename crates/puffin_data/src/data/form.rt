@@ -59,8 +59,8 @@ impl Form {
         &text[..size]
     }
 
-    /// Returns an upper bound on the size of the beginning of a scope with this text. It is always [`BEGIN_LIMIT`] in the short
-    /// form, and in the long form for a text of up to 127 bytes.
+    /// Returns an upper bound on the size of the beginning of a scope with this text. It is [`BEGIN_LIMIT`] in the short form,
+    /// and also in the long form if the text has at most 127 bytes.
     #[inline]
     pub fn begin_limit(self, text: &str) -> usize
         ensures most { head_size self (cut_text self text.now) ≤ result }

@@ -12,8 +12,8 @@ use crate::data::walk::Walk;
 use crate::error::{Error, NanoSecond, Result};
 use std::alloc::Global;
 
-/// A stream with the counts of its scopes. It is honest for a forest if its bytes spell that forest and its other fields are
-/// the forest's measures. [`StreamInfo::parse`] returns honest infos; one made by hand may hold any numbers.
+/// A stream with the counts of its scopes. An info is honest for a forest if its bytes spell that forest and its other fields
+/// are the forest's measures. [`StreamInfo::parse`] returns honest infos; one made by hand may hold any numbers.
 ///
 /// ```
 /// let mut info = StreamInfo::parse(alloc, Stream::from_bytes(bytes, Form::Short))?;
@@ -132,11 +132,11 @@ impl StreamInfo {
         }
     }
 
-    /// Appends the scopes of another info. An info without bytes takes the other's form.
+    /// Appends the scopes of another info. If this info has no bytes, it takes the other's form.
     ///
-    /// Fails with `UnlikeForms` if both have bytes and their forms differ, or else with `TooLarge` if the number of scopes
-    /// doesn't fit `usize`. Otherwise fails only with `Memory`, and never if the other's bytes fit the stream's room; the call
-    /// then uses no more of the room than they take. Changes nothing if it fails.
+    /// Fails with `UnlikeForms` if both have bytes and their forms differ, or else with `TooLarge` if the sum of their
+    /// `num_scopes` doesn't fit `usize`. Otherwise fails only with `Memory`, and only if the other's bytes don't fit the
+    /// stream's room. If they fit, the call uses no more room than they take. If the call fails, at most the room changes.
     #[inline(always)]
     pub fn extend(&mut self, other: &StreamInfoRef) -> Result<()>
         ensures ok { OnOk result (

@@ -84,7 +84,7 @@ pub fn read_length<S: Source>(source: &mut S) -> Result<usize, FileError>
     Ok(LittleEndian::read_u32(&four) as usize)
 }
 
-/// Reads exactly `len` bytes. Allocates as the bytes arrive, so a false length takes little memory.
+/// Reads exactly `len` bytes. Allocates as the bytes arrive, so a `len` that is far too large takes little memory.
 ///
 /// Fails with `Io` if a read fails, with `Truncated` if the reader ends too early, or with `Memory`.
 pub fn read_part<S: Source>(alloc: Global, source: &mut S, len: usize) -> Result<Vec<u8>, FileError>

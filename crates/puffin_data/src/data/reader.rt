@@ -65,7 +65,7 @@ fn read_at(form: Form, bytes: &[u8], at: usize, end: usize) -> Result<Option<Sco
     }
 }
 
-/// Reads the scopes of a stream one after the other. Their texts are borrowed from it.
+/// Reads the scopes of a stream one after the other. Their texts are borrowed from the stream.
 ///
 /// As an iterator it returns the scope at its position and moves to that scope's next sibling, so it skips the children. It
 /// ends at the stream's end, and also, without an error, at a byte that isn't `(`. A fault (`PrematureEnd`, `InvalidStream` or
@@ -119,8 +119,8 @@ impl<'s> Reader<'s> {
         })
     }
 
-    /// Reads the scope at offset `at` of the region that ends at offset `end`. Returns `None` if `at` is the end or the byte
-    /// there isn't `(`. Fails with `PrematureEnd`, `InvalidStream` or `ScopeNeverEnded` if the scope there isn't sound.
+    /// Reads the scope at offset `at`, as if the stream ended at offset `end`. Returns `None` if `at` equals `end` or the byte
+    /// at `at` isn't `(`. Fails with the scope's fault: `PrematureEnd`, `InvalidStream` or `ScopeNeverEnded`.
     pub fn scope_at(stream: &'s Stream, at: usize, end: usize) -> Result<Option<Scope<'s>>>
         requires ordered { at ≤ end }
         requires within { end ≤ length stream.now.bytes }
@@ -149,11 +149,12 @@ impl<'s> Reader<'s> {
         Ok(scopes)
     }
 
-    /// Walks the whole stream in one pass and without recursion. The stream has to be a forest of scopes; it doesn't change.
+    /// Walks the whole stream in one pass and without recursion, and returns the counts of its scopes. The stream has to be a
+    /// forest of scopes; it doesn't change.
     ///
-    /// Sets `tries` to the number of bytes `(` at which it tried to read a scope, even if the walk fails. Fails with the fault
-    /// at the least offset among those that the walk reaches (`PrematureEnd`, `InvalidStream` or `ScopeNeverEnded`), or with
-    /// `Memory` if the vector of the open regions' ends can't grow.
+    /// Sets `tries` to the number of bytes `(` at which it tried to read a scope, even if the walk fails. Fails with the first
+    /// fault that it reaches, which is the one at the least offset (`PrematureEnd`, `InvalidStream` or `ScopeNeverEnded`), or
+    /// with `Memory` if its vector, which has an entry for each nesting level, can't grow.
     ///
     /// ```
     /// let mut tries = 0;

@@ -18,12 +18,12 @@ pub(crate) const SCOPE_END: u8 = b')';
 pub(crate) const FRONT_SIZE: usize = 13;
 /// The size of the field that holds the size of a scope's children.
 pub(crate) const SIZE_FIELD: usize = 8;
-/// The greatest size of a scope's beginning (all bytes before its children) that is written in the short form.
+/// The greatest size of a scope's beginning (all bytes before its children) when it is written in the short form.
 pub const BEGIN_LIMIT: usize = 149;
 /// The size of a scope's end: the byte after its children, and the stop.
 pub const END_SIZE: usize = 9;
 
-/// A sound scope at the front of a region. Its positions are offsets from the scope's first byte.
+/// A scope that was read without a fault. Its positions are offsets from the scope's first byte.
 #[derive(Clone, Copy, Debug)]
 pub struct RawScope<'s> {
     /// Identifies the scope's details. Never 0.

@@ -63,11 +63,11 @@ struct Region<W> {
 }
 
 /// Walks all of the bytes in one pass and without recursion, and hands each scope to the visitor. The bytes have to be a forest
-/// of scopes in this form. Top-level scopes are entered with `outside`.
+/// of scopes in this form. For a top-level scope, [`Visitor::enter`] receives `outside` as `within`.
 ///
 /// Sets `tries` to the number of bytes `(` at which it tried to read a scope, even if the walk fails. Fails with the visitor's
 /// first error or the first fault (`PrematureEnd`, `InvalidStream` or `ScopeNeverEnded`), whichever comes first, or with
-/// `Memory` if the vector of the open regions can't grow.
+/// `Memory` if the walk's vector, which has an entry for each nesting level, can't grow.
 ///
 /// ```
 /// let mut tries = 0;

@@ -72,8 +72,8 @@ pub(crate) fn next_scope<'s>(form: Form, region: &'s [u8], tries: &mut u64) -> R
     }
 }
 
-/// Walks all of the bytes in one pass and without recursion. They have to be a forest of scopes in this form. Reads the bytes
-/// where they are, without copying them into a [`Stream`](crate::data::Stream).
+/// Walks all of the bytes in one pass and without recursion, and returns the counts of their scopes. The bytes have to be a
+/// forest of scopes in this form. Reads them where they are, without copying them into a [`Stream`](crate::data::Stream).
 ///
 /// Sets `tries` to the number of bytes `(` at which it tried to read a scope, even if the walk fails. Fails as
 /// [`Reader::walk`](crate::data::Reader::walk) does.

@@ -8,8 +8,8 @@ ghost use Rattle.puffin_data.specs.Value.Outcomes.{Reads, Gives};
 use crate::wire::front::{byte_in, bytes_in, flag_in, number_in, signed_in, text_in, u32_in};
 use std::marker::Model;
 
-/// Reads values from the front of bytes. Each reading call returns `None` exactly when no layout of its kind is at the front;
-/// the cursor doesn't move then.
+/// Reads values from the front of bytes, one after the other. Each reading call returns `None` exactly when no layout of the
+/// kind that it reads is at the front. The cursor doesn't move then.
 ///
 /// ```
 /// let mut cursor = Cursor::new(bytes);

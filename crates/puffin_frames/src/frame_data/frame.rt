@@ -23,7 +23,8 @@ use std::collections::BTreeMap;
 use std::mem;
 use std::sync::Arc;
 
-/// A frame, with the details of the scopes that are new in it. It holds its streams unpacked, packed, or both ways.
+/// A frame, with the details of the scopes that are new in it. It holds its streams unpacked, packed (as their bytes in a
+/// packet), or both ways.
 ///
 /// ```
 /// frame.pack()?;
@@ -31,7 +32,7 @@ use std::sync::Arc;
 /// ```
 #[derive(Drop)]
 pub struct FrameData {
-    /// The details of the scopes registered since the last frame.
+    /// The details of the scopes that are new in this frame. If `full_delta` is set, also those of all scopes known before.
     pub scope_delta: Vec<Arc<ScopeDetails>>,
     /// Whether `scope_delta` also has the details of all scopes known before.
     pub full_delta: bool,
@@ -100,8 +101,8 @@ impl FrameData {
         }
     }
 
-    /// Returns the unpacked data, and drops the details. The frame must hold its data unpacked and share it with no other
-    /// frame, like one made by [`FrameData::of_unpacked`]. Allocates nothing.
+    /// Returns the unpacked data, and drops the details. The frame must be held as [`FrameData::of_unpacked`] makes it:
+    /// unpacked only, with data that [`FrameData::unpacked`] hasn't shared. Allocates nothing.
     pub fn into_unpacked(self) -> UnpackedFrameData
         requires { is_alone self ≡ true }
         ensures streams { Some (streams_held result) ≡ frame_streams self }
@@ -172,8 +173,8 @@ impl FrameData {
         }
     }
 
-    /// Copies the frame; the copy is held in the same ways. It shares the details and, if they are unpacked, the streams. Fails
-    /// only with `Memory`.
+    /// Copies the frame; the copy is held in the same ways. It shares the details and any unpacked streams. Fails only with
+    /// `Memory`.
     pub fn clone(&self) -> Result<FrameData>
         ensures held { IfOk result (λ copy. holding_of copy ≡ holding_of self.now) }
         ensures fields { IfOk result (λ copy. packet_fields copy ≡ packet_fields self.now) }

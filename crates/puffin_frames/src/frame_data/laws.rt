@@ -14,7 +14,7 @@ ghost use Rattle.puffin_frames.specs.Packet.Stored.{PacketFields, Stored, packed
 ghost use Rattle.puffin_frames.specs.Packet.Front.{next_at};
 ghost use Rattle.puffin_frames.specs.Packet.Grammar.{packet, IsPacked, Stores};
 
-/// No value's layout is a prefix of the layout of another value of the same type.
+/// No value's layout is a prefix of the layout of another value of the same type, in packets of the same form.
 pub fn no_layout_begins_another()
     ensures metas { NoneBeginsAnother IsMeta meta_layout }
     ensures threads { NoneBeginsAnother IsThreadKey key_layout }
@@ -38,42 +38,43 @@ pub fn only_layouts_are_read()
     ensures legacy { ReadsLayouts IsLegacy legacy_layout legacy_at }
 {}
 
-/// Reading from the front of some bytes gives a frame exactly when the bytes begin with that frame as it is stored: as a packet
-/// of the version that is written, as a packet of an older version, or as a legacy frame.
+/// Reading from the front of some bytes gives a frame exactly when they begin with bytes that store that frame: a packet as
+/// this crate writes it (`PFD4` or `PFDL`), a packet of an older version, or a legacy frame.
 pub fn only_packets_are_read()
     ensures { (bytes rest : List ℕ) (s : Stored) → IsBytes bytes →
         (next_at bytes ≡ Ok (Some s, rest))
         ↔ ((front : List ℕ) × Stores front s × (bytes ≡ front ++ rest)) }
 {}
 
-/// Packed bytes hold exactly the streams whose layout they are.
+/// Reading packed bytes gives streams exactly when the bytes are uncompressed and are the layout of those streams.
 pub fn packed_contents()
     ensures { (p : Packing) (streams : Streams) → IsBytes p.bytes →
         (streams_in p ≡ Some streams) ↔ HoldsStreams p streams }
 {}
 
-/// Reading a written packet returns what was stored, whatever bytes follow it. No packet is a prefix of another, in either
-/// version.
+/// Reading a written packet returns what was stored, whatever bytes follow it. No `PFD4` or `PFDL` packet is a prefix of
+/// another such packet.
 pub fn written_is_read()
     ensures again { (p : PacketFields) (rest : List ℕ) → IsPacked p →
         next_at (packet p ++ rest) ≡ Ok (Some (packed p), rest) }
     ensures alone { NoneBeginsAnother IsPacked packet }
 {}
 
-/// Streams that have a layout are read from it unchanged. The empty map of streams has one.
+/// Streams that have a layout are read from it unchanged. The empty map of streams has a layout.
 pub fn streams_with_a_layout()
     ensures again { (streams : Streams) → HaveLayout streams → AreReadAgain streams }
     ensures none { HaveLayout map.empty }
 {}
 
-/// The streams of any frame can be written and are read back unchanged: they have a layout, or are packed already.
+/// The streams of any frame, once they are packed, are read back unchanged, whether the frame holds them unpacked, packed, or
+/// both ways.
 pub fn each_frame_is_read_again()
     ensures holds { (frame : FrameData) → IsHolding (holding_of frame) }
     ensures again { (frame : FrameData) →
         streams_in (packing_of (holding_of frame)) ≡ frame_streams frame }
 {}
 
-/// Packing and unpacking don't change what a frame holds. Packing a second time changes nothing.
+/// Packing and unpacking don't change a frame's streams. Packing a second time changes nothing.
 pub fn packing_keeps()
     ensures packs { (h : Holding) → IsHolding h →
         holding_streams (as_packed h) ≡ holding_streams h }

@@ -13,7 +13,7 @@ use puffin_data::{Error, FrameIndex, NanoSecond, Result};
 use puffin_threads::thread_profiler::ThreadInfo;
 use std::collections::BTreeMap;
 
-/// The index and the totals of a frame. One made by hand may hold any numbers.
+/// The index and the totals of a frame. A `FrameMeta` made by hand may hold any numbers.
 #[derive(Clone, Copy, Debug)]
 pub struct FrameMeta {
     /// The number of the frame.

@@ -273,10 +273,10 @@ impl FrameData {
     /// The frame of a packet is held packed only. A legacy frame, which has a length but no `PFD`, is held unpacked only. The
     /// frame's range isn't reversed, and its duration fits `i64`; `full_delta` is false.
     ///
-    /// Fails with the first cause that applies: `Io` if a read fails; `Legacy` or `Newer` if packets of this version aren't read;
-    /// `Truncated` if the bytes end within the frame; `BadMeta`, `BadRange`, `UnknownKind` or `BadScopes` if that part isn't
-    /// valid; `BadStreams` if the streams of a legacy frame aren't (those of a packet are checked when they are unpacked); or
-    /// `Memory`. How far the source was read is then unspecified.
+    /// Fails with the first fault in the bytes: `Legacy` or `Newer` if packets of this version aren't read; `Truncated` if the
+    /// bytes end within the frame; `BadMeta`, `BadRange`, `UnknownKind` or `BadScopes` if that part isn't valid; `BadStreams`
+    /// if the bytes of a legacy frame aren't valid (the streams of a packet are checked when they are unpacked). At any step it
+    /// fails with `Io` if a read fails, and may fail with `Memory`. After an error, how far the source was read is unspecified.
     ///
     /// Scope details are checked before memory for them is allocated, so invalid ones take no memory beyond their bytes.
     ///

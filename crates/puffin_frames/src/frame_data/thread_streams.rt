@@ -115,8 +115,7 @@ fn extended(alloc: Global, info: &StreamInfo, times: &StreamInfoRef) -> Result<A
     Ok(Arc::new(alloc, copy)?)
 }
 
-/// Returns whether the scopes of `times` and those that the map has under the thread `info` both have bytes and their forms
-/// differ. Allocates nothing.
+/// Returns whether `times` and the stream under the thread `info` both have bytes and their forms differ. Allocates nothing.
 pub fn are_unlike(streams: &ThreadStreams, info: &ThreadInfo, times: &StreamInfoRef) -> bool
     ensures { (result ≡ true)
         ↔ AreUnlike (stream_under (shared_streams streams.now.entries) (key_of info.now))
@@ -181,11 +180,12 @@ fn insert_first(streams: &mut ThreadStreams, info: ThreadInfo, first: Arc<Stream
     Ok(())
 }
 
-/// Appends the scopes of `times` to those that the map has under the thread `info`.
+/// Appends the scopes of `times` to those that the map has under the thread `info`. Other owners of a stream in the map keep
+/// the scopes they had.
 ///
-/// Fails with the first cause that applies: `UnlikeForms` if both have bytes and their forms differ; `TooLarge` if the number
-/// of scopes under that thread doesn't fit `usize`; or `Memory`. The scopes under each thread are then as before. Other owners
-/// of a stream in the map keep the scopes they had.
+/// Fails with the first cause that applies: `UnlikeForms` if `times` and the stream under that thread both have bytes and their
+/// forms differ; `TooLarge` if the number of scopes under that thread doesn't fit `usize`; or `Memory`. The scopes under each
+/// thread are then as before.
 ///
 /// ```
 /// let mut streams = BTreeMap::new(alloc);

@@ -18,14 +18,15 @@ ghost use Rattle.puffin_merge.specs.declared.merge.scope.MergeScope.{MergeScope}
 
 use crate::merge::scope::MergeScope;
 
-/// If siblings each start as early as possible, their starts are the least feasible ones.
+/// Starts of siblings are feasible if none is below the least start of the sibling's pieces, below 0, or below the end of the
+/// sibling before it. If each sibling in turn starts as early as this allows, their starts are the least feasible ones.
 pub fn earliest_starts()
     ensures { (siblings : List Sibling) →
         IsLeastFeasible siblings (earliest_starts (pos 0) siblings) }
 {}
 
-/// A merge doesn't depend on the order of the frames after the first. So frames that have a merge have the same one in any
-/// order that keeps the first frame first, and merging them in that order returns it or fails with `Memory`.
+/// If some frames can be merged, their merge is the same in any order that keeps the first frame first. Merging them in such an
+/// order returns that merge or fails with `Memory`.
 pub fn frames_in_any_order()
     ensures frames { (info : ThreadKey) (first : Arc UnpackedFrameData Global)
         (others again : List (Arc UnpackedFrameData Global)) → IsPermutation others again →
@@ -57,8 +58,8 @@ pub fn same_scopes()
         forest_in (before ++ (s ∷ after)) ≡ forest_in (before ++ (t ∷ after)) }
 {}
 
-/// Merged scopes are equal exactly when contracts see them as the same, with all their children, wherever their texts are
-/// stored.
+/// Merged scopes are equal exactly when contracts see them as the same, with all their children. Whether their texts are
+/// borrowed or owned makes no difference.
 pub fn equal_scopes<'s>()
     ensures { (s t : MergeScope) →
         (⟦<MergeScope<'s> as PartialEq>⟧.eq s t ≡ true)

@@ -60,9 +60,9 @@ impl<'i> Merger<'i> {
 
     /// Adds the next frame. Fewer than `2^64 - 1` frames must have been added before.
     ///
-    /// Fails with the error of [`merge_scopes_for_thread`](crate::merge::merge_scopes_for_thread) if the frames so far can't be
-    /// merged, whatever frames follow, or with `Memory`. After an error neither [`Merger::add`] nor [`Merger::finish`] may be
-    /// called.
+    /// Fails with `Memory`, or with the error of [`merge_scopes_for_thread`](crate::merge::merge_scopes_for_thread) if the
+    /// frames up to and including this one can't be merged, whatever frames follow. After an error neither [`Merger::add`] nor
+    /// [`Merger::finish`] may be called.
     pub fn add(&mut self, frame: &UnpackedFrameData) -> Result<()>
         requires { CanAdd self.old }
         ensures info { self.new.info ≡ self.old.info }
@@ -119,10 +119,11 @@ impl<'i> Merger<'i> {
         }
     }
 
-    /// Returns the merge of the frames that were added, in their order. Returns no scopes if there are no frames. The scopes
-    /// own their texts.
+    /// Returns the merge of the frames in the order in which they were added. Returns no scopes if there are no frames. The
+    /// scopes own their texts.
     ///
-    /// Fails with `TooLarge` if an end doesn't fit, and with `Memory`.
+    /// Fails with `TooLarge` if the end of a merged scope, which is its start plus its duration per frame, doesn't fit `i64`,
+    /// and with `Memory`.
     pub fn finish<'s>(self) -> Result<Vec<MergeScope<'s>>>
         requires { (added : List FrameBytes) × HasAdded added self }
         ensures merged { IfOk result (λ merged. (added : List FrameBytes) →

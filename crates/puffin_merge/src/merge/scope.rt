@@ -6,7 +6,7 @@ use puffin_data::{Error, NanoSecond, Result};
 use std::alloc::Global;
 use std::borrow::CowStr;
 
-/// A scope merged from all scopes with the same path of ids and texts, which are its pieces.
+/// A scope merged from all scopes with the same path of ids and texts; these scopes are its pieces.
 #[derive(Debug, PartialEq, Drop)]
 pub struct MergeScope<'s> {
     /// The start, in nanoseconds, measured from the parent's start. That of a top-level scope is measured as if every frame

@@ -145,8 +145,8 @@ pub fn record_session<D: Drain>(
     Ok(replies)
 }
 
-/// Runs commands in a new session of threads with these names, in the short form. Adds each emitted frame to a view, in order,
-/// and writes the view's file, as [`record_session`] does. Returns one reply for each command.
+/// Runs commands in a new session whose threads have these names and the short form. Adds each emitted frame to a view, in
+/// order, and writes the view's file, as [`record_session`] does. Returns one reply for each command.
 ///
 /// Fails with `Memory`, and with `PartTooLong` or `Io` in the same cases as [`FrameView::write`]. The view may then have taken
 /// the first few of the frames. Nothing is written before the view has taken all of them.
@@ -218,8 +218,8 @@ fn threads_of(alloc: Global, script: &Script) -> Result<Vec<(String, Form)>, All
     Ok(threads)
 }
 
-/// Runs a script in a new session, and adds each frame of the run to a new view. Writes the view's file to `out`, and then the
-/// lines for the replies to `lines`. `docs/FORMAT.md` lists these lines.
+/// Runs a script in a new session, and adds each frame of the run to a new view. Writes the view's file to `out`. Then writes
+/// a line to `lines` for each reply that has one. `docs/FORMAT.md` lists these lines.
 ///
 /// Fails as [`record`] does, before any line is written; or with `Memory` or `Io` if the lines can't be written.
 ///

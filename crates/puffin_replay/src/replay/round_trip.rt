@@ -14,7 +14,7 @@ ghost use Rattle.puffin_replay.specs.inner.InMemory.{IsFileOf, IsReadFault};
 
 use crate::replay::recording::{Unread, run_into};
 use puffin_data::FileError;
-use puffin_data::data::{Buffered, Form, MemoryFile};
+use puffin_data::data::{Buffered, Counted, Form};
 use puffin_session::{Command, Reply, Session};
 use puffin_view::profile_view::FrameView;
 use puffin_view::profile_view::laws::what_was_written_is_read;
@@ -88,9 +88,9 @@ fn written_and_read(alloc: Global, view: &FrameView) -> Result<FrameView, FileEr
         IsReadFault (fields_in (view_of view.now)) e
         ⊎ ((e ≡ FileError.PartTooLong) × Any HasLongPart (fields_in (view_of view.now)))) }
 {
-    let mut file = MemoryFile::new(alloc);
+    let mut file = Counted::new(Vec::new(alloc));
     match view.write(&mut file) {
-        Ok(()) => read_file(alloc, file.bytes.as_slice()),
+        Ok(()) => read_file(alloc, file.into_inner().as_slice()),
         Err(fault) => Err(in_memory(fault)),
     }
 }
@@ -133,12 +133,12 @@ pub fn record_session_and_read(
     }
 }
 
-/// Runs commands in a new session of threads with these names and forms, and reads the recording back as
-/// [`record_session_and_read`] does, with a new view that has these limits.
+/// Calls [`record_session_and_read`] with these commands, with a new session whose threads have these names and forms, and with
+/// a new view that has these limits.
 ///
 /// So exactly the last and the slowest of the emitted frames are read back. Each of them has, under each thread's start and
-/// name, exactly the scopes reported there since the frame before it. Fails with `Memory`, and with `PartTooLong` if a part of
-/// a packet has `2^32` bytes or more.
+/// name, exactly the scopes reported there since the emitted frame before it. Fails with `Memory`, and with `PartTooLong` if a
+/// part of a packet has `2^32` bytes or more.
 ///
 /// ```
 /// let recorded = record_and_read(alloc, threads, &commands, limits);

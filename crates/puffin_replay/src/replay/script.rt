@@ -18,9 +18,10 @@ use std::collections::BTreeMap;
 /// A script's threads and commands.
 #[derive(Drop)]
 pub struct Script {
-    /// The names of the threads, in the order of their first lines.
+    /// The names of the threads, in the order in which the script first names them.
     pub names: Vec<String>,
-    /// The form of each thread, in the same order: long if the first line that names the thread is `long`.
+    /// The form of each thread, in the order of `names`: long if the first line that names the thread is a `long` statement, and
+    /// otherwise short.
     pub forms: Vec<Form>,
     /// The commands, in order. A thread's number is the index of its name in `names`.
     pub commands: Vec<Command>,

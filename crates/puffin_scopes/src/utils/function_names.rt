@@ -8,7 +8,7 @@ use puffin_data::{Error, Result};
 use std::alloc::Global;
 
 /// Returns the short name of a function, given the name of a function `f` nested in it: removes the `::f` and closures before
-/// it, and shortens the rest. Returns a name that doesn't end in `::f` unchanged. Fails only with `Memory`.
+/// it, and shortens the rest. If the name doesn't end in `::f`, returns it unchanged. Fails only with `Memory`.
 pub fn clean_function_name(alloc: Global, name: &str) -> Result<String>
     ensures ok { IfOk result (λ short. string_bytes short ≡ clean name.now) }
     ensures err { IfErr result (λ e. e ≡ Error.Memory) }
@@ -21,7 +21,8 @@ pub fn clean_function_name(alloc: Global, name: &str) -> Result<String>
     }
 }
 
-/// Removes the path of the type, the trait or the module from a function's name. Fails only with `Memory`.
+/// Shortens a function's name: `a::b::c` becomes `b::c`, and `<a::T as b::U>::f` becomes `<T as U>::f`. Fails only with
+/// `Memory`.
 pub fn shorten_rust_function_name(alloc: Global, name: &str) -> Result<String>
     ensures ok { IfOk result (λ short. string_bytes short ≡ shorten name.now) }
     ensures err { IfErr result (λ e. e ≡ Error.Memory) }

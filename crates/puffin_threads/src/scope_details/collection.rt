@@ -84,7 +84,8 @@ impl ScopeCollection {
         self.by_name.get(name)
     }
 
-    /// Inserts details under their id and their name. Returns the details kept under the id, which are the first ones inserted.
+    /// Inserts details under their id, and the id under their [`ScopeDetails::name`]. Returns the details kept under the id,
+    /// which are the first ones inserted.
     ///
     /// Fails with `MissingId` if the details have no id, otherwise only with `Memory`. A failure changes nothing.
     ///
@@ -122,8 +123,8 @@ impl ScopeCollection {
 
     /// Inserts these details one after the other, like [`ScopeCollection::insert`].
     ///
-    /// Fails with `MissingId` exactly when some of them have no id, and then changes nothing. Otherwise fails only with
-    /// `Memory`; the first few may have been inserted by then.
+    /// Fails with `MissingId` if any of them has no id, and then changes nothing. Otherwise fails only with `Memory`; the first
+    /// few may have been inserted by then.
     pub fn insert_all(&mut self, details: &[Arc<ScopeDetails>]) -> Result<()>
         ensures ok { OnOk result (
             self.new ≡ with_all_details self.old (shared_details details.now)) }

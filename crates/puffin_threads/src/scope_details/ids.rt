@@ -5,9 +5,9 @@ use puffin_data::data::ScopeId;
 use puffin_data::{Error, Result};
 use std::sync::atomic::{AtomicU64, Ordering};
 
-/// Draws scope ids, one after the other, for any number of threads.
+/// Draws scope ids from a counter, one after the other, for any number of threads.
 ///
-/// The counter has 64 bits: after the id `2^32 - 1` each draw fails until the counter has wrapped around.
+/// Ids have 32 bits and the counter has 64: after the id `2^32 - 1` each draw fails until the counter has wrapped around to 1.
 #[derive(Drop)]
 pub struct ScopeIds {
     next: AtomicU64,

@@ -48,7 +48,7 @@ pub fn order_of_details()
     ensures same { (a b : Details) → IsTrue (same_details a b) → a ≡ b }
 {}
 
-/// Functions come before named scopes in the order of scope types; ids are ordered by number. The hashes agree with the orders.
+/// Functions come before named scopes in the order of scope types; ids are ordered by number. Equality, order and hash agree.
 pub fn types_and_ids()
     ensures types { (a b : ScopeType) → ⟦<ScopeType as Ord>⟧.cmp a b ≡ type_cmp a b }
     ensures partial_types { (a b : ScopeType) →

@@ -71,8 +71,8 @@ fn later(start: NanoSecond, gone: NanoSecond) -> NanoSecond
     start + gone
 }
 
-/// The system's clock. Its time is the wall clock's time when the `SystemClock` was made, in nanoseconds since 1970, plus the
-/// monotonic time since then.
+/// The system's clock, in nanoseconds since 1970. It reads the wall clock once, when it is made; from there it advances with the
+/// monotonic clock.
 ///
 /// ```
 /// let clock = SystemClock::new(rt)?;

@@ -17,8 +17,8 @@ pub fn one_record()
         length a.bytes < 2 ^ 63 → a.form ≡ b.form → a.bytes ≡ b.bytes → a ≡ b }
 {}
 
-/// The offsets of the open scopes, the innermost first. There is one for each open scope: a scope that begins adds its own at
-/// the front, and one that ends removes the first.
+/// The offsets of the open scopes are listed innermost first, one for each. A scope that begins adds its offset at the front,
+/// and a scope that ends removes the first offset.
 pub fn open_scopes()
     ensures count { (form : Form) (word : List Event) →
         length (open_offsets form word) ≡ open_after 0 word }

@@ -85,8 +85,8 @@ impl<C: NsSource> ThreadProfiler<C> {
     /// Begins a scope and returns its offset, which [`ThreadProfiler::end_scope`] takes. The text is cut to what the form
     /// stores (127 or 16,383 bytes), at a character boundary.
     ///
-    /// Also allocates for the scope's end and its report. Fails only with `Memory`; then the clock isn't read and nothing
-    /// changes.
+    /// Also allocates the memory for ending and reporting the scope. Fails only with `Memory`; then the clock isn't read and
+    /// nothing changes.
     #[inline(always)]
     pub fn begin_scope(&mut self, id: ScopeId, text: &str) -> Result<usize>
         ensures begun { OnOk result (
@@ -107,12 +107,12 @@ impl<C: NsSource> ThreadProfiler<C> {
         self.state.begin_scope(&mut self.clock, id, text)
     }
 
-    /// Ends the innermost open scope, which must have this offset. If it was the last open one, hands all scopes that have
-    /// closed since the last accepted report to the reporter, under the thread's name and the start of its first scope.
+    /// Ends the innermost open scope, which must have this offset. If it was the last open one, hands the reporter all scopes
+    /// that have closed since the last accepted report, under the thread's name and the start of its first scope.
     ///
-    /// A refused report is no error: the call returns [`Closed::Kept`], and the scopes wait for the next report. Fails only with
-    /// `MismatchedEnd`, if the offset isn't the innermost open scope's; then the clock isn't read and nothing changes. The
-    /// thread allocates nothing.
+    /// A refused report is no error: the call returns [`Closed::Kept`], and the scopes wait for the next report. Fails only
+    /// with `MismatchedEnd`, if the offset isn't the innermost open scope's; then the clock isn't read and nothing changes.
+    /// Allocates nothing itself; the reporter may.
     ///
     /// ```
     /// let scope = thread.begin_scope(id, "image-12.png")?;
@@ -186,10 +186,10 @@ impl<C: NsSource> ThreadProfiler<C> {
         Ok(self.clock.now_ns())
     }
 
-    /// Registers a whole function as a scope under a newly drawn id, and returns the id. The details go to the reporter with
-    /// the thread's next accepted report.
+    /// Registers a whole function as a scope under a newly drawn id, and returns the id. The scope's details go to the reporter
+    /// with the thread's next accepted report.
     ///
-    /// Fails with `IdsExhausted` or `Memory`; nothing changes then, but an id may be used up.
+    /// Fails with `IdsExhausted` or `Memory`; the profiler is unchanged then, but an id may be used up.
     ///
     /// ```
     /// let (function, file) = (CowStr::Borrowed("draw"), CowStr::Borrowed("src/draw.rs"));
@@ -247,8 +247,8 @@ impl<C: NsSource> ThreadProfiler<C> {
     /// Reports all closed scopes that haven't been reported yet: those ended by [`ThreadProfiler::close_scope`], and those of
     /// refused reports. Returns `Ok(false)` if there are none.
     ///
-    /// Fails with `ScopesOpen` while a scope is open; with `Memory` if the name can't be copied, before the reporter is called;
-    /// or with the reporter's error. The thread doesn't change then.
+    /// Fails with `ScopesOpen` while a scope is open, or with `Memory` if the thread's name can't be copied; the reporter isn't
+    /// called then. Otherwise fails only with the reporter's error. A failure doesn't change the thread.
     pub fn report_closed<R: Reporter>(&mut self, reporter: &mut R) -> Result<bool>
         ensures reports { Reports R.accepts R.refuses (thread_of self.old) (thread_of self.new)
             reporter.old reporter.new result }

@@ -4,8 +4,8 @@ ghost use Rattle.puffin_threads.specs.Thread.ThreadKey.{key_of};
 
 use puffin_data::{Error, NanoSecond, Result};
 
-/// Identifies the thread whose scopes a stream holds. Infos are ordered by start, those without one first, and then by the
-/// bytes of the name.
+/// Identifies the thread whose scopes a stream holds. Infos are ordered by start, then by the bytes of the name; a missing
+/// start comes first.
 #[derive(Debug, PartialEq, Eq, PartialOrd, Ord, Hash, Drop)]
 pub struct ThreadInfo {
     /// When the thread's first scope began, in nanoseconds, or `None` if that isn't known.

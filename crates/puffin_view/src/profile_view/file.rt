@@ -44,7 +44,7 @@ impl FrameView {
     /// the details that are new in its frame (`scope_delta`).
     ///
     /// Fails with `PartTooLong` if a part of a packet has `2^32` bytes or more, with `Memory`, or with `Io` if a write fails or
-    /// accepts no bytes of a nonempty piece. A prefix of the file has then been written.
+    /// takes none of the bytes that are left. A prefix of the file has then been written.
     ///
     /// ```
     /// view.write(&mut Counted::new(File::create(&rt, "frames.puffin")?))?;
@@ -79,9 +79,9 @@ impl FrameView {
     /// frames, and packing is on. The file ends at four zeros, or where fewer than four bytes are left; nothing after the zeros
     /// is read.
     ///
-    /// Fails with the first error that applies: `NoMagic` if the first four bytes aren't `PUF0`, or there are fewer; any error
-    /// of [`FrameData::read_next`] at a frame; `Refused(MissingId)` if some of a frame's details have no id; `Truncated` if
-    /// there are `2^64 - 1` frames before the end. How far the source was read is then unspecified.
+    /// Fails with the first error that applies: `NoMagic` if the first four bytes aren't `PUF0`, or there are fewer; `Io` if a
+    /// read fails; any other error of [`FrameData::read_next`] at a frame; `Refused(MissingId)` if some of a frame's details
+    /// have no id; `Truncated` if there are `2^64 - 1` frames before the end. How far the source was read is then unspecified.
     ///
     /// ```
     /// let view = FrameView::read(alloc, &mut Counted::new(File::open(&rt, "frames.puffin")?))?;

@@ -26,7 +26,7 @@ fn is_magic(letters: [u8; 4]) -> bool
     letters[0] == b'P' && letters[1] == b'U' && letters[2] == b'F' && letters[3] == b'0'
 }
 
-/// Reads the four letters at the beginning of a file from a borrowed source. Fails like [`FrameReader::new`].
+/// Reads the four letters that a file begins with, `PUF0`, from a borrowed source. Fails like [`FrameReader::new`].
 pub fn read_magic<S: Source>(source: &mut S) -> Result<(), FileError>
     requires { S.failures source.old < 2 ^ 64 - 1 }
     ensures begun { OnOk result (
@@ -123,9 +123,9 @@ pub struct FrameReader<S: Source> {
 impl<S: Source> FrameReader<S> {
     ghost use Rattle.puffin_view.specs.View.FrameDevices.{source_of, is_done_of, ends_reading};
 
-    /// Reads the four letters that a file begins with.
+    /// Makes a reader, and reads the four letters that a file begins with.
     ///
-    /// Fails with `NoMagic` if there are fewer than four bytes or they aren't `PUF0`, and with `Io` if a read fails. `source`
+    /// Fails with `NoMagic` if the first four bytes aren't `PUF0`, or there are fewer, and with `Io` if a read fails. `source`
     /// is then dropped; how far it was read is unspecified.
     pub fn new(alloc: Global, source: S) -> Result<FrameReader<S>, FileError>
     where
@@ -221,9 +221,9 @@ pub struct FrameWriter<D: Drain> {
 impl<D: Drain> FrameWriter<D> {
     ghost use Rattle.puffin_view.specs.View.FrameDevices.{drain_of, is_broken_of};
 
-    /// Writes the four letters that a file begins with.
+    /// Makes a writer, and writes the four letters that a file begins with.
     ///
-    /// Fails only with `Io`, if a write fails or accepts no bytes of a nonempty piece. `drain` is then dropped, with a prefix
+    /// Fails only with `Io`, if a write fails or takes none of the bytes that are left. `drain` is then dropped, with a prefix
     /// of the letters written to it.
     pub fn new(drain: D) -> Result<FrameWriter<D>, FileError>
     where
@@ -249,7 +249,7 @@ impl<D: Drain> FrameWriter<D> {
         })
     }
 
-    /// Appends a frame, as one packet with its own `scope_delta`.
+    /// Appends a frame as one packet, which has the details of the frame's own `scope_delta`.
     ///
     /// Fails like [`FrameData::write_into`]. After `Io`, a prefix of the packet has been written, and each further call fails
     /// with `Io` and writes nothing, since nothing after a cut packet would ever be read. After any other error the writer is

@@ -29,7 +29,7 @@ pub(crate) struct FrameRows {
 }
 
 impl FrameRows {
-    /// Makes rows without frames. Allocates nothing.
+    /// Makes an empty `FrameRows`. Allocates nothing.
     pub fn new(alloc: Global) -> FrameRows
         ensures { rows_of result ≡ [] }
     {

@@ -111,7 +111,7 @@ impl FrameView {
         self.recent.is_empty() && self.slow.is_empty()
     }
 
-    /// Returns the details of all scopes that any frame listed.
+    /// Returns the details of every scope listed in a frame that was ever added, including frames that are no longer held.
     pub fn scope_collection(&self) -> &ScopeCollection
         ensures { result.now ≡ collection_of self.now }
     {
@@ -164,7 +164,7 @@ impl FrameView {
     }
 
     /// Returns how many frames are held, how many of them are held unpacked, and how many bytes all of them take. Reads running
-    /// sums.
+    /// sums, so it doesn't iterate over the frames.
     ///
     /// ```
     /// let (frames, bytes) = (view.stats().frames(), view.stats().bytes_of_ram_used());
@@ -182,7 +182,7 @@ impl FrameView {
         FrameStats::from_frames(self.all_uniq())
     }
 
-    /// Returns a copy, which shares its frames and details. Fails only with `Memory`.
+    /// Returns a copy, which shares this view's frames and details. Fails only with `Memory`.
     pub fn clone(&self) -> Result<FrameView>
         ensures same { IfOk result (λ copy. copy ≡ self.now) }
         ensures cause { IfErr result (λ e. e ≡ Error.Memory) }

@@ -94,8 +94,8 @@ impl HeldFrames {
         self.sums.lower(before);
     }
 
-    /// Moves the oldest frame of the row into the map, so that the frames after it can leave the row. The set of frames stays
-    /// the same.
+    /// Moves the oldest frame of the row of newest frames into the map of older ones (see [`FrameRows`]), so that the frames
+    /// after it can be removed from the row's front. The set of frames stays the same.
     pub fn set_aside(&mut self)
         ensures { self.new ≡ self.old }
     {

@@ -31,7 +31,7 @@ use crate::profile_view::slow_rank::SlowRank;
 use puffin_frames::frame_data::laws::{only_packets_are_read, written_is_read};
 
 /// The `k` slowest frames of a list are the first `k` when the list is sorted by duration, longest first, then by index. They
-/// are returned in that order.
+/// are listed in that order.
 pub fn slowest_first()
     ensures first { (k : ℕ) (cs : List PacketFields) → AreFirst is_slower k cs (slowest k cs) }
     ensures in_order { (k : ℕ) (cs : List PacketFields) →
@@ -51,8 +51,8 @@ pub fn order_by_duration()
     ensures total { IsTotalOrder by_duration }
 {}
 
-/// A selection orders frames by index, then by place in the list. The order is total. A selection is sorted by `ByIndex`, whose
-/// equality and order agree with this order.
+/// The result of [`select_slowest`](crate::profile_view::select_slowest) is sorted by index, then by place in the list. This
+/// order is total, and the equality and order of `ByIndex`, the type that is sorted, agree with it.
 pub fn order_by_index()
     ensures lower_first { (r s : Rank) → r.index < s.index → older_cmp r s ≡ Less }
     ensures then_by_place { (r s : Rank) → r.index ≡ s.index → r.place < s.place
@@ -65,8 +65,8 @@ pub fn order_by_index()
     ensures one { (p q : ByIndex) → older_cmp (old_place p) (old_place q) ≡ Equal → p ≡ q }
 {}
 
-/// A view compares frames by their ranks. Ranks are ordered as their frames are by duration, and two ranks compare as equal
-/// exactly when they are the same.
+/// A view compares frames by their ranks. A rank is a frame's duration and index. Ranks are ordered as [`order_by_duration`]
+/// orders their frames, and two ranks compare as equal exactly when they are the same.
 pub fn ranks_by_duration()
     ensures order { (f g : Frame) →
         ⟦<SlowRank as Ord>⟧.cmp (rank_of f) (rank_of g)
@@ -76,8 +76,9 @@ pub fn ranks_by_duration()
     ensures one { (r s : SlowRank) → rank_cmp r s ≡ Equal → r ≡ s }
 {}
 
-/// After taking frames, a view holds only frames that it held before or took, and its file has only frames that it holds. This
-/// is stated for any test `p`: if none of the former passes it, none of the latter does.
+/// After taking frames, a view holds only frames that it held before or took, and its file has only frames that it holds. Both
+/// are stated for any test `p`: if no frame held before or taken passes it, no frame held afterwards does; and if no frame held
+/// passes it, no frame in the file does.
 pub fn views_hold_what_they_took()
     ensures held { (p : PacketFields → Bool) (v : View) (fs : List Frame) →
         list_any p (fields_held v) ≡ false → list_any p (map fields_of fs) ≡ false →
@@ -103,9 +104,9 @@ pub fn written_files_are_read()
     written_is_read();
 }
 
-/// Bytes are read as frames exactly when they are a file of these frames: the letters, a packet for each frame, in order and in
-/// any readable form, and the end. A file is refused with `MissingId` if some details of its frames have no id. Both hold for
-/// fewer than `2^64 - 1` frames; a file with that many or more isn't read.
+/// A file of frames is `PUF0`, a packet for each frame, in order, and an end as in [`written_files_are_read`]. The packets may
+/// be of any version that is read. Bytes are read as frames exactly when they are a file of these frames, all details of the
+/// frames have ids, and there are fewer than `2^64 - 1` frames. If only ids are missing, the file is refused with `MissingId`.
 pub fn only_files_are_read()
     ensures read { (bytes : List ℕ) (frames : List Stored) (after : List ℕ) → IsBytes bytes →
         (file_at bytes ≡ Ok (frames, after))
@@ -120,16 +121,16 @@ pub fn only_files_are_read()
     only_packets_are_read();
 }
 
-/// A file with `2^64 - 1` frames or more before its end is refused as if it were cut short, whatever follows.
+/// A file with `2^64 - 1` frames or more before its end is refused with `Truncated`, whatever follows the first `2^64 - 1`.
 pub fn files_have_an_end()
     ensures { (old new : Option (List ℕ)) (frames : List Stored) →
         HasGiven old new frames → length frames ≡ 2 ^ 64 - 1 →
         FailsToRead file_at old new FileError.Truncated }
 {}
 
-/// A written file with nothing after it is read as exactly the frames that were written. These are, in order, the recent frames
-/// of the view that is read. Unless the reader fails or memory runs out, reading fails only if some of their details have no
-/// id.
+/// A written file with nothing after it is read as exactly the frames that were written. If a view wrote the file, they are, in
+/// order, the recent frames of the view that [`FrameView::read`](crate::profile_view::FrameView::read) returns. Unless the
+/// reader fails or memory runs out, reading fails only if some details of the frames have no id.
 pub fn what_was_written_is_read()
     ensures frames { (cs : List PacketFields) (new : Option (List ℕ)) (frames : List Stored) →
         AllByRecursion IsPacked cs → length cs < 2 ^ 64 - 1 →
@@ -151,8 +152,8 @@ pub fn what_was_written_is_read()
     written_is_read();
 }
 
-/// A view that reads fewer than `2^64 - 1` frames keeps exactly those since the last frame whose index isn't above the index of
-/// the frame before it. One more frame either joins the frames kept or replaces them all.
+/// A view that reads fewer than `2^64 - 1` frames keeps exactly the longest run at their end in which each index is above the
+/// one before. One more frame joins the frames kept if its index is above the last index, and otherwise replaces them all.
 pub fn reading_keeps_what_rises()
     ensures kept { (fs : List Frame) → length fs < 2 ^ 64 - 1 →
         fields_in (after_all read_view fs) ≡ rising_end (map fields_of fs) }
@@ -164,10 +165,10 @@ pub fn reading_keeps_what_rises()
         rising_end (cs ++ c ∷ []) ≡ c ∷ [] }
 {}
 
-/// If a written file is cut anywhere after its four letters, as by a crash, what is left is the file of its first frames,
-/// perhaps followed by some bytes of the next packet. Read one frame at a time, it gives exactly these frames, in order, and
-/// then the end if fewer than four bytes of the next packet are left, or else `Truncated`. No frame is changed, and none is
-/// given that wasn't written.
+/// If a written file is cut anywhere after `PUF0`, as by a crash, what is left is the file of its first frames, perhaps
+/// followed by some bytes of the next packet. If all details of the frames have ids, reading it one frame at a time gives
+/// exactly these frames, in order, and then the end if fewer than four bytes of the next packet are left, or else `Truncated`.
+/// No frame is changed, and none is given that wasn't written.
 pub fn cut_files_give_whole_frames()
     // what is left of a file
     ensures cut { (cs : List PacketFields) (bytes lost : List ℕ) → file_of cs ≡ bytes ++ lost →

@@ -34,8 +34,8 @@ returns c =
     let same = to_z-of_z c.ranges.start_ns in
     let key = c.in_ok-thread.ensures.ok ∙ ap (λ (s : ℤ). key_given c.args.has_start s c.args.name.now) same in (
       text_given c.args.has_start _ _ c.in_ok-thread.ensures.text,
-      c.in_ok-lines.lines.bytes.items,
-      subst (λ (i : ThreadKey). HasLines c.args.file.now i c.in_ok-lines.lines.bytes.items) key c.in_ok-lines.ensures.ok,
+      c.in_ok-lines.lines.items,
+      subst (λ (i : ThreadKey). HasLines c.args.file.now i c.in_ok-lines.lines.items) key c.in_ok-lines.ensures.ok,
       c.lay_over.ensures.out ∙ ap (laid_over c.args.out.now) c.deref-bytes.ensures.value,
       ap length c.deref-bytes.ensures.value,
     )

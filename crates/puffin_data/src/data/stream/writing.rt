@@ -20,8 +20,8 @@ impl Stream {
     /// placeholder, which [`Stream::end_scope`] takes, and the start. The text is cut to what the form stores (127 or 16,383
     /// bytes), at a character boundary.
     ///
-    /// Reads the clock once, after it has made room. Fails only with `Memory`; then nothing is appended and the clock isn't
-    /// read. Never fails if the beginning fits the room.
+    /// Reads the start from the clock `now_ns` once, after making room. Fails only with `Memory`; then nothing is appended and
+    /// the clock isn't read. Never fails if the beginning fits the room.
     #[inline(always)]
     pub fn begin_scope<F: Fn() -> NanoSecond + Drop>(
         &mut self,
@@ -159,8 +159,8 @@ impl Stream {
         offset
     }
 
-    /// Ends the scope whose size is at `offset`: overwrites that size with the number of bytes after it, and appends the end
-    /// with its stop, in nanoseconds. There must be eight bytes at `offset`.
+    /// Ends the scope whose size placeholder is at `offset`: overwrites the placeholder with the number of bytes after it, and
+    /// appends the scope's end with this stop, in nanoseconds. There must be eight bytes at `offset`.
     ///
     /// Fails only with `Memory`, and then changes nothing. Never fails if the room is at least 9 bytes.
     #[inline]

@@ -21,15 +21,16 @@ use std::mem;
 use std::sync::Arc;
 
 impl FrameView {
-    /// Adds a frame, and its details to the collection. The frame becomes the newest of the recent ones. It also becomes one of
-    /// the slowest if there is room, or if it took longer than one of them. Frames beyond both limits are dropped.
+    /// Adds a frame to the view, and its details to [`FrameView::scope_collection`]. The frame becomes the newest of the recent
+    /// ones. It also becomes one of the slowest if there is room, or if it took longer than one of them. Frames beyond both
+    /// limits are dropped.
     ///
-    /// If its index isn't above that of the frame added last, all other frames are dropped. Otherwise, if packing is on, the
-    /// newest frame so far is packed first.
+    /// If the frame's index isn't above that of the frame added last, all other frames are dropped. Otherwise, if packing is
+    /// on, the newest frame so far is packed first.
     ///
     /// Fails with `MissingId` exactly when some of the frame's details have no id, and then changes nothing. Otherwise fails
-    /// only with `Memory`; a prefix of its details may be in the collection afterwards, and the newest frame may be packed if
-    /// packing is on and no frames had to be dropped.
+    /// only with `Memory`; a prefix of the frame's details may be in the collection afterwards, and the newest frame so far may
+    /// be packed if packing is on and the index is above that of the frame added last.
     ///
     /// ```
     /// if let Some(frame) = profiler.collect_frame()? {
