@@ -36,7 +36,7 @@ pub enum Error {
     MismatchedEnd,
     /// A report was asked for while a scope is open.
     ScopesOpen,
-    /// Scope details have no id.
+    /// Scope details have no id, or a place isn't one of its thread's scopes.
     MissingId,
     /// The next id is 0 or doesn't fit `u32`.
     IdsExhausted,

@@ -11,13 +11,24 @@ use Rattle.puffin_data.specs.Text.Lengths.{stored_limit}
 use Rattle.puffin_data.specs.Forest.{Forest, IsForest, IsSpan, Span, empty, node}
 use Rattle.puffin_data.specs.Forest.Spelling.{spelling, begin_bytes, head_size, size_offset}
 use Rattle.puffin_data.specs.Forest.Tour.{Event, Open, Close, tour}
-use Rattle.puffin_data.specs.Forest.Words.{word_size, open_after}
-use Rattle.puffin_data.specs.Forest.Open.{Opened, IsOpened, open_spelling, open_word, size_place, ended_bytes, with_ended}
+use Rattle.puffin_data.specs.Forest.Measures.{scope_count}
+use Rattle.puffin_data.specs.Forest.Words.{word_size, open_after, num_begun}
+use Rattle.puffin_data.specs.Forest.Open.{Opened, IsOpened, open_spelling, open_word, opening_word, size_place, ended_bytes, with_ended}
+use Rattle.puffin_data.proofs.lemmas.WordMeasures.{num_begun-append, num_begun-tour}
 use Rattle.puffin_data.proofs.lemmas.Opening.{begins, begins-word, finishes, finishes-word, ended-written, open_size, size_within}
 use Rattle.puffin_threads.specs.Thread.Events.{events_in}
 use Rattle.puffin_threads.specs.inner.StoredThread.{scopes_closed, scopes_with, scopes_in, size_places, StartedBy, HoldsScopes}
-use Rattle.puffin_threads.specs.Thread.Calls.{opened_after, open_offsets}
+use Rattle.puffin_threads.specs.Thread.Calls.{opened_after, open_offsets, num_ended}
 use Rattle.puffin_threads.proofs.lemmas.Events.{events_open, events_of_none}
+
+num_ended-append : (u v : List Event) → num_ended (u ++ v) ≡ num_ended u + num_ended v
+num_ended-append [] v = omega arith
+num_ended-append (Open id text start ∷ u) v = num_ended-append u v
+num_ended-append (Close stop ∷ u) v = omega (arith, num_ended-append u v)
+
+num_ended-tour : (f : Forest) → num_ended (tour f) ≡ scope_count f
+num_ended-tour empty = refl
+num_ended-tour (node s c o) = omega (arith, num_ended-append (tour c) (Close s.stop ∷ tour o), num_ended-tour c, num_ended-tour o)
 
 module _ (form : Form) where
   -- the facts have one proof each
@@ -68,6 +79,26 @@ module _ (form : Form) where
   -- the word of the bytes
   word_is : (bytes : List ℕ) (latest : ℤ) (opened : List Opened) (closed : Forest) → Parts bytes latest opened closed → events_in form bytes ≡ open_word opened closed
   word_is bytes latest opened closed p = ap (events_in form) p.whole ∙ events_open form latest opened closed p.started p.written
+
+  -- as many scopes have begun as have ended and are open
+  begun-opening : (opened : List Opened) → num_begun (opening_word opened) ≡ num_ended (opening_word opened) + length opened
+  begun-opening [] = refl
+  begun-opening (o ∷ outer) =
+      omega (arith, begun-opening outer, num_begun-append (opening_word outer) (tour o.before ++ (Open o.id o.text o.start ∷ [])), num_begun-append (tour o.before) (Open o.id o.text o.start ∷ []), num_ended-append (opening_word outer) (tour o.before ++ (Open o.id o.text o.start ∷ [])), num_ended-append (tour o.before) (Open o.id o.text o.start ∷ []), num_begun-tour o.before, num_ended-tour o.before)
+
+  begun_parts : (bytes : List ℕ) (latest : ℤ) (opened : List Opened) (closed : Forest) → Parts bytes latest opened closed → num_begun (events_in form bytes) ≡ num_ended (events_in form bytes) + length opened
+  begun_parts bytes latest opened closed p =
+      let word = word_is bytes latest opened closed p in
+      omega (arith, ap num_begun word, ap num_ended word, begun-opening opened, num_begun-append (opening_word opened) (tour closed), num_ended-append (opening_word opened) (tour closed), num_begun-tour closed, num_ended-tour closed)
+
+  length-size_places : (opened : List Opened) → length (size_places form opened) ≡ length opened
+  length-size_places [] = refl
+  length-size_places (o ∷ outer) = omega (arith, length-size_places outer)
+
+  pub begun_held : (bytes : List ℕ) (latest : ℤ) → HoldsScopes form bytes latest → num_begun (events_in form bytes) ≡ num_ended (events_in form bytes) + length (open_offsets form (events_in form bytes))
+  begun_held bytes latest h =
+      let opened = (scopes_in (events_in form bytes)).0 in
+      omega (arith, begun_parts bytes latest _ _ (parts bytes latest h), ap length h.places, length-size_places opened)
 
   -- one event more
 
@@ -179,10 +210,6 @@ module _ (form : Form) where
   place_held bytes latest place rest h is = place_parts bytes latest place rest _ _ (parts bytes latest h) (sym h.places ∙ is)
 
   -- the counts of what is held
-
-  length-size_places : (opened : List Opened) → length (size_places form opened) ≡ length opened
-  length-size_places [] = refl
-  length-size_places (o ∷ outer) = omega (arith, length-size_places outer)
 
   pub size_held : (bytes : List ℕ) (latest : ℤ) → HoldsScopes form bytes latest → length bytes ≡ word_size form (events_in form bytes)
   size_held bytes latest h =

@@ -21,9 +21,9 @@ use Rattle.puffin_threads.specs.declared.thread_profiler.thread_state.ThreadStat
 use Rattle.puffin_threads.specs.Thread.Closing.{IsReportOf}
 use Rattle.puffin_threads.specs.Thread.Events.{events_in}
 use Rattle.puffin_threads.specs.inner.StoredThread.{IsThreadState, IsThreadStateIn, HoldsScopes, Counted, scopes_in, spare_name, thread_in}
-use Rattle.puffin_threads.specs.Thread.Calls.{Thread, open_offsets}
+use Rattle.puffin_threads.specs.Thread.Calls.{Thread, open_offsets, num_ended}
 use Rattle.puffin_threads.proofs.lemmas.Events.{events_of_none}
-use Rattle.puffin_threads.proofs.RecordedScopes.{Goes, held, length-open_offsets, size_held, begins_held, ends_held, place_held, closed_held, nothing_held, offsets_opened, offsets_closed}
+use Rattle.puffin_threads.proofs.RecordedScopes.{Goes, held, begun_held, length-open_offsets, size_held, begins_held, ends_held, place_held, closed_held, nothing_held, offsets_opened, offsets_closed}
 
 pub same_thread : (a b : Thread) → a.name ≡ b.name → a.form ≡ b.form → a.first_start ≡ b.first_start → a.latest ≡ b.latest → a.word ≡ b.word → a.details ≡ b.details → a ≡ b
 same_thread a b e1 ef e2 e3 e4 e5 = λ i. record { name = e1 i; form = ef i; first_start = e2 i; latest = e3 i; word = e4 i; details = e5 i }
@@ -33,6 +33,10 @@ holds_in r h = held r.info.stream.form r.info.stream.bytes r.latest h.scopes
 
 pub depth_in : (r : Inside) → IsThreadState r → length r.offsets.items ≡ open_after 0 (events_in r.info.stream.form r.info.stream.bytes)
 depth_in r h = sym (length-reverse r.offsets.items) ∙ ap length h.offsets ∙ length-open_offsets r.info.stream.form (events_in r.info.stream.form r.info.stream.bytes)
+
+-- the closed scopes are those that have begun, without the open ones
+pub closed_in : (r : Inside) → IsThreadState r → r.info.num_scopes ≡ num_ended (events_in r.info.stream.form r.info.stream.bytes) + length r.offsets.items
+closed_in r h = omega (arith, h.counted.num_scopes, begun_held r.info.stream.form r.info.stream.bytes r.latest (holds_in r h), ap length h.offsets, length-reverse r.offsets.items)
 
 last_first : (xs : List ℕ) → slice_get xs (length xs - 1) ≡ slice_get (reverse xs) 0
 last_first [] = refl

@@ -1,5 +1,6 @@
--- The device and the failure count of a `Counted` and of a `Buffered`.
-use Rattle.std.specs.Prelude.{ℕ}
+-- The device, the failure count and the last error of a `Counted` and of a `Buffered`.
+use Rattle.std.specs.Prelude.{ℕ, Option}
+use Rattle.std.specs.declared.io.Error as io
 use Rattle.puffin_data.specs.declared.data.device.Counted.{Counted}
 use Rattle.puffin_data.specs.declared.data.buffered.Buffered.{Buffered}
 
@@ -18,3 +19,11 @@ buffered_reader buffered = buffered.reader
 -- the number of its failed reads
 abbrev pub failed_reads : {B : Type 0} → Buffered B → ℕ
 failed_reads buffered = buffered.faults
+
+-- the error of its last failed call
+abbrev pub error_kept : {D : Type 0} → Counted D → Option io.Error
+error_kept counted = counted.last
+
+-- the error of its last failed read
+abbrev pub reading_error_kept : {B : Type 0} → Buffered B → Option io.Error
+reading_error_kept buffered = buffered.last

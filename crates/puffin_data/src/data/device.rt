@@ -1,6 +1,6 @@
 //! Readers and writers that count their failures.
 
-ghost use Rattle.std.specs.Prelude.{◌≡◌, ◌++◌, ◌+◌, ◌-◌, ◌^◌, ◌<◌, ◌≤◌, ℕ, List, Option, None, IfOk, IfErr, OnOk, is_err, length, if◌then◌else◌};
+ghost use Rattle.std.specs.Prelude.{◌≡◌, ◌++◌, ◌+◌, ◌-◌, ◌^◌, ◌<◌, ◌≤◌, ℕ, List, Option, None, IsSome, IfOk, IfErr, OnOk, is_err, length, if◌then◌else◌};
 ghost use Rattle.std.specs.Io.{ReadsAtMost, WritesAtMost};
 ghost use Rattle.std.specs.Io.KnownBytes.{Consumes, IsAtEnd, ReadConsumes, WriteAppends};
 ghost use Rattle.puffin_data.specs.Device.{IsOutside, failures_after};
@@ -98,17 +98,32 @@ pub trait Drain {
 pub struct Counted<D> {
     device: D,
     faults: u64,
+    last: Option<io::Error>,
+    ghost told: { last ≡ None → faults ≡ 0 },
 }
 
 impl<D> Counted<D> {
-    ghost use Rattle.puffin_data.specs.Device.Counting.{counted_device, failed_calls};
+    ghost use Rattle.puffin_data.specs.Device.Counting.{counted_device, failed_calls, error_kept};
 
     /// Wraps a reader or writer, with no failures so far.
     pub fn new(device: D) -> Counted<D>
         ensures device { counted_device result ≡ device }
         ensures faults { failed_calls result ≡ 0 }
     {
-        Counted { device, faults: 0 }
+        Counted {
+            device,
+            faults: 0,
+            last: None,
+        }
+    }
+
+    /// Returns the system's error of the last call that failed, or `None` if none has failed. After an
+    /// [`Io`](FileError::Io), it says why: the disk is full, for example. A writer that took no byte has no error.
+    pub fn last_error(&self) -> Option<io::Error>
+        ensures error { result ≡ error_kept self.now }
+        ensures some { 0 < failed_calls self.now → IsSome result }
+    {
+        self.last
     }
 
     /// Returns the reader or writer itself.
@@ -126,8 +141,9 @@ impl<R: Read> Source for Counted<R> {
 
     fn read(&mut self, buf: &mut [u8]) -> io::Result<usize> {
         let result = self.device.read(buf);
-        if result.is_err() {
+        if let Err(e) = &result {
             self.faults += 1;
+            self.last = Some(*e);
         }
         result
     }
@@ -144,8 +160,9 @@ impl<W: Write> Drain for Counted<W> {
 
     fn write(&mut self, buf: &[u8]) -> io::Result<usize> {
         let result = self.device.write(buf);
-        if result.is_err() {
+        if let Err(e) = &result {
             self.faults += 1;
+            self.last = Some(*e);
         }
         result
     }

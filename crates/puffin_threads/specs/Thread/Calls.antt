@@ -66,6 +66,12 @@ after_handing thread = record thread { word = []; details = [] }
 abbrev pub key_of_thread : Thread → ThreadKey
 key_of_thread thread = record { start = thread.first_start; name = thread.name }
 
+-- the number of scopes that end
+abbrev pub num_ended : List Event → ℕ
+num_ended [] = 0
+num_ended (Open id text start ∷ word) = num_ended word
+num_ended (Close stop ∷ word) = 1 + num_ended word
+
 -- the number of bytes so far, and the offsets of the open scopes' sizes, the innermost first
 abbrev pub opened_after : Form → ℕ × List ℕ → Event → ℕ × List ℕ
 opened_after form sofar (Open id text start) =

@@ -9,3 +9,7 @@ clock_start clock = clock.start_ns
 -- its last answer, or its start before the first one
 abbrev pub last_answer : {R : Type 0} → SystemClock R → ℤ
 last_answer clock = clock.last_ns
+
+-- the monotonic clock's time when it was made
+abbrev pub clock_begun : {R : Type 0} → SystemClock R → ℤ
+clock_begun clock = clock.begun_ns

@@ -21,6 +21,9 @@ pub trait AnyThread {
     /// Whether the thread's clock, read in the first state, may return this time and end in the second state.
     ghost answers: { Self → ℤ → Self → Type 0 };
 
+    /// Whether the thread's clock is the same in both states.
+    ghost same_clock: { Self → Self → Type 0 };
+
     /// Ends the innermost open scope, like [`ThreadProfiler::end_scope`].
     fn end_scope<R: Reporter>(&mut self, offset: usize, reporter: &mut R) -> Result<Closed>
         ensures innermost { OnOk result (
@@ -36,18 +39,22 @@ pub trait AnyThread {
             × Closes R.accepts R.refuses (state self.old) (state self.new) at reporter.old
             reporter.new closed) };
 
-    /// Reports the closed scopes that are still waiting, like [`ThreadProfiler::report_closed`].
+    /// Reports the closed scopes that are still waiting, like [`ThreadProfiler::report_closed`]. Doesn't read the clock.
     fn report_closed<R: Reporter>(&mut self, reporter: &mut R) -> Result<bool>
         ensures reports { Reports R.accepts R.refuses (state self.old) (state self.new)
-            reporter.old reporter.new result };
+            reporter.old reporter.new result }
+        ensures clock { same_clock self.old self.new };
 }
 
 impl<C: NsSource> AnyThread for ThreadProfiler<C> {
+    ghost use Rattle.std.specs.Prelude.{◌≡◌};
     ghost use Rattle.puffin_threads.specs.Thread.ThreadProfiler.{thread_of, clock_of};
 
     ghost state = { λ profiler. thread_of profiler };
 
     ghost answers = { λ old at new. C.answers (clock_of old) at (clock_of new) };
+
+    ghost same_clock = { λ old new. clock_of new ≡ clock_of old };
 
     fn end_scope<R: Reporter>(&mut self, offset: usize, reporter: &mut R) -> Result<Closed> {
         self.end_scope(offset, reporter)

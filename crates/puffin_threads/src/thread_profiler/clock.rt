@@ -1,6 +1,7 @@
 //! The clocks that scopes are timed by.
 
-ghost use Rattle.std.specs.Prelude.{◌≡◌, ◌-◌, ◌^◌, ℤ, pos, ◌≤ℤ◌, min};
+ghost use Rattle.std.specs.Prelude.{◌≡◌, ◌-◌, ◌^◌, ℤ, pos, ◌+ℤ◌, ◌-ℤ◌, ◌≤ℤ◌, min};
+ghost use Rattle.std.specs.Int.{int_max, int_min};
 ghost use Rattle.std.specs.Duration.{as_nanos};
 
 use puffin_data::NanoSecond;
@@ -36,7 +37,7 @@ const QUICK_SECONDS: u64 = 1 << 33;
 /// 64-bit multiplication.
 #[inline(always)]
 fn quick_nanoseconds(time: Duration) -> NanoSecond
-    ensures { pos 0 ≤ℤ result }
+    ensures { result ≡ pos (min (as_nanos time) (2 ^ 63 - 1)) }
 {
     let seconds = time.as_secs();
     if seconds < QUICK_SECONDS {
@@ -50,7 +51,7 @@ fn quick_nanoseconds(time: Duration) -> NanoSecond
 fn gone_by(begun: NanoSecond, now: NanoSecond) -> NanoSecond
     requires begun { pos 0 ≤ℤ begun }
     requires now { pos 0 ≤ℤ now }
-    ensures { pos 0 ≤ℤ result }
+    ensures { result ≡ int_max (pos 0) (now -ℤ begun) }
 {
     if now < begun {
         return 0;
@@ -63,7 +64,7 @@ fn gone_by(begun: NanoSecond, now: NanoSecond) -> NanoSecond
 fn later(start: NanoSecond, gone: NanoSecond) -> NanoSecond
     requires start { pos 0 ≤ℤ start }
     requires gone { pos 0 ≤ℤ gone }
-    ensures { start ≤ℤ result }
+    ensures { result ≡ int_min (start +ℤ gone) (pos (2 ^ 63 - 1)) }
 {
     if gone > NanoSecond::MAX - start {
         return NanoSecond::MAX;
@@ -111,6 +112,30 @@ impl<R: Clock + Drop> SystemClock<R> {
             start_ns,
             last_ns: start_ns,
         })
+    }
+}
+
+impl<R: Copy> SystemClock<R> {
+    ghost use Rattle.puffin_threads.specs.Thread.Clock.{clock_start, clock_begun, last_answer};
+
+    /// Makes another clock with the same start, for example for another thread. Readings of clocks with the same start agree:
+    /// of two readings one after the other, on any threads, the second isn't less than the first.
+    ///
+    /// ```
+    /// let clock = SystemClock::new(rt)?;
+    /// let (loader, painter) = (clock.another(), clock.another());
+    /// ```
+    pub fn another(&self) -> SystemClock<R>
+        ensures start { clock_start result ≡ clock_start self.now }
+        ensures begun { clock_begun result ≡ clock_begun self.now }
+        ensures last { last_answer result ≡ last_answer self.now }
+    {
+        SystemClock {
+            rt: self.rt,
+            begun_ns: self.begun_ns,
+            start_ns: self.start_ns,
+            last_ns: self.last_ns,
+        }
     }
 }
 

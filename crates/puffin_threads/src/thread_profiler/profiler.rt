@@ -25,7 +25,7 @@ impl<C: NsSource> ThreadProfiler<C> {
     ghost use Rattle.puffin_data.specs.Forest.Spelling.{size_offset};
     ghost use Rattle.puffin_data.specs.Text.{cut_text};
     ghost use Rattle.puffin_data.specs.Forest.Words.{word_size, open_after};
-    ghost use Rattle.puffin_threads.specs.Thread.Calls.{new_thread, after_begin, after_end, RegistersScope, offsets_of};
+    ghost use Rattle.puffin_threads.specs.Thread.Calls.{new_thread, after_begin, after_end, RegistersScope, offsets_of, num_ended};
     ghost use Rattle.puffin_threads.specs.Details.{default_details};
     ghost use Rattle.puffin_threads.specs.Thread.Closing.{Closes, Reports};
     ghost use Rattle.puffin_threads.specs.Thread.ThreadProfiler.{thread_of, clock_of, allocator_of, with_clock};
@@ -80,6 +80,13 @@ impl<C: NsSource> ThreadProfiler<C> {
         ensures { result ≡ open_after 0 (thread_of self.now).word }
     {
         self.state.depth()
+    }
+
+    /// Returns the number of closed scopes that haven't been reported yet.
+    pub fn num_closed(&self) -> usize
+        ensures { result ≡ num_ended (thread_of self.now).word }
+    {
+        self.state.num_closed()
     }
 
     /// Begins a scope and returns its offset, which [`ThreadProfiler::end_scope`] takes. The text is cut to what the form

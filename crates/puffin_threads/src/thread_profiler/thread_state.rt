@@ -7,7 +7,7 @@ ghost use Rattle.puffin_data.specs.declared.error.Error.{Error};
 ghost use Rattle.puffin_data.specs.Forest.Spelling.{begin_bytes, size_offset, head_size};
 ghost use Rattle.puffin_data.specs.Text.{cut_text};
 ghost use Rattle.puffin_data.specs.Forest.Words.{word_size, open_after};
-ghost use Rattle.puffin_threads.specs.Thread.Calls.{new_thread, after_begin, after_end, after_handing, RegistersScope, offsets_of};
+ghost use Rattle.puffin_threads.specs.Thread.Calls.{new_thread, after_begin, after_end, after_handing, RegistersScope, offsets_of, num_ended};
 ghost use Rattle.puffin_threads.specs.Thread.Closing.{GoesTo};
 ghost use Rattle.puffin_threads.specs.Details.{details_of};
 
@@ -160,6 +160,13 @@ impl ThreadState {
         ensures { result ≡ open_after 0 self.now.word }
     {
         self.offsets.len()
+    }
+
+    /// Returns the number of closed scopes that wait for a report.
+    pub(crate) fn num_closed(&self) -> usize
+        ensures { result ≡ num_ended self.now.word }
+    {
+        self.info.num_scopes - self.offsets.len()
     }
 
     /// Returns whether no scope is open and none waits for a report.

@@ -1,0 +1,11 @@
+use Rattle.std.proofs.Common.{ap, arith}
+use Rattle.puffin_threads.specs.Thread.Calls.{Thread, num_ended}
+use Rattle.puffin_threads.proofs.ThreadStates.{closed_in}
+use Rattle.puffin_threads.proofs.thread_profiler.thread_state.ThreadState.num_closed.Goals as goal
+
+pub overflow_sub-result : goal.overflow_sub-result
+overflow_sub-result c = omega (arith, closed_in c.self.inside c.self.invariant, c.len.ensures)
+
+pub returns : goal.returns
+returns c =
+    omega (arith, closed_in c.self.inside c.self.invariant, c.len.ensures, ap (λ (t : Thread). num_ended t.word) c.self.view_is)
