@@ -333,16 +333,16 @@ Continues-taken now new (Some f) more collects =
     subst (λ (c : Collected). Continues now (session_with_collected now c) NewFrame (reply.Frame (record { frame = Some f; refused = 0 }))) (sym collects.2) (Continues-framed now f more collects.0 collects.1)
 
 -- a refused frame: nothing is learnt, or a prefix of the new details
-pub Continues-not_framed : (now : SessionState) (collected : Collected) (e : Error) → (e ≡ IndexExhausted → now.collected.index ≡ 2 ^ 64 - 1) → KeepsPending now.collected e collected → Continues now (session_with_collected now collected) NewFrame (reply.Refused e)
-Continues-not_framed now collected e last (inl exhausted) =
-    subst (λ (c : Collected). Continues now (session_with_collected now c) NewFrame (reply.Refused e)) (sym exhausted.1) (
+pub Continues-not_framed : (now : SessionState) (collected : Collected) (e : Error) → KeepsPending now.collected e collected → Continues now (session_with_collected now collected) NewFrame (reply.Refused e)
+Continues-not_framed now collected e (inl exhausted) =
+    subst (λ (c : Collected). Continues now (session_with_collected now c) NewFrame (reply.Refused e)) (sym exhausted.2) (
       [],
       λ o done before. (
         quiet now now.collected o done (learns []) before (λ t. (refl, refl)) refl refl refl refl refl (TellsAfter-more o done (learns []) now.collected now.collected before.stands.tells refl refl refl),
-        inl (exhausted.0, sym before.stands.index ∙ last exhausted.0, refl),
+        inl (exhausted.0, sym before.stands.index ∙ exhausted.1, refl),
       ),
     )
-Continues-not_framed now collected e last (inr (memory, (some, begins, is))) =
+Continues-not_framed now collected e (inr (memory, (some, begins, is))) =
     subst (λ (c : Collected). Continues now (session_with_collected now c) NewFrame (reply.Refused e)) (sym is) (
       some,
       λ o done before. (

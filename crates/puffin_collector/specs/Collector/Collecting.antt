@@ -1,5 +1,5 @@
 -- What a call that collects a frame hands out, and what it leaves behind.
-use Rattle.std.specs.Prelude.{◌≡◌, ℕ, ◌+◌, ◌<◌, List, Option, Some, None, ◌⊎◌}
+use Rattle.std.specs.Prelude.{◌≡◌, ℕ, ◌+◌, ◌-◌, ◌^◌, ◌<◌, List, Option, Some, None, ◌⊎◌}
 use Rattle.std.specs.FinMap as map
 use Rattle.std.specs.Arc.{arc_value}
 use Rattle.std.specs.declared.sync.Arc.{Arc}
@@ -46,10 +46,11 @@ abbrev pub KnowsSome : Collected → List Details → Collected → Type 0
 KnowsSome old ds new =
     (learnt : List Details) × IsPrefix learnt ds × (new ≡ after_learning old learnt)
 
--- A refused call keeps all that is pending; a prefix of the new details may be known.
+-- A refused call keeps all that is pending: the index is the last one, or memory ran out, and a prefix of the new details may be
+-- known.
 abbrev pub KeepsPending : Collected → Error → Collected → Type 0
 KeepsPending old e new =
-    ((e ≡ IndexExhausted) × (new ≡ old))
+    ((e ≡ IndexExhausted) × (old.index ≡ 2 ^ 64 - 1) × (new ≡ old))
     ⊎ ((e ≡ Memory) × KnowsSome old old.new_details new)
 
 -- what is kept beside the pending streams, which are honest and have a layout: the meta of a frame of all of them, and the totals

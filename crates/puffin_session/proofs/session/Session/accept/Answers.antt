@@ -67,7 +67,7 @@ pub returns-in_err-frame-in-NewFrame-clause-refused : goal.returns-in_err-frame-
 returns-in_err-frame-in-NewFrame-clause-refused c =
     let p = err_from_is_err_and c.from_residual-in_err-frame-in-NewFrame.result c.from_residual-in_err-frame-in-NewFrame.ensures.1 in
     let it = c.in_err-frame-in-NewFrame.ensures in
-    rw (p.1, p.2) (same c.args.self.now c.new_frame.new.self _ _ _ _ c.in-NewFrame.is it.err.0 (Continues-not_framed c.args.self.now c.new_frame.new.self.collected c.in_err-frame-in-NewFrame.field-0.0 it.last it.err.1))
+    rw (p.1, p.2) (same c.args.self.now c.new_frame.new.self _ _ _ _ c.in-NewFrame.is it.err.0 (Continues-not_framed c.args.self.now c.new_frame.new.self.collected c.in_err-frame-in-NewFrame.field-0.0 it.err.1))
 
 pub returns-in_ok-register-in-Register-clause-accepted : goal.returns-in_ok-register-in-Register-clause-accepted
 returns-in_ok-register-in-Register-clause-accepted c =
