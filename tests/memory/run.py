@@ -111,13 +111,15 @@ def is_not_begun(ended, usual):
 
 
 def is_all_reported(ended, usual):
-    """Each part was done, what was begun was reported, and that was handed out or waits; each frame is in the view, or missed."""
+    """Each part was done, and each of its two scopes was begun or is counted as refused; what was begun was reported, and that was
+    handed out or waits; each frame is in the view, or missed."""
     words = ended[1].split()
     told = dict(zip(words[::2], map(int, words[1::2]))) if words[1::2] and all(it.isdigit() for it in words[1::2]) else {}
     if ended[0] or ended[2] or list(told) != usual[1].split()[::2] or told[b"parts"] != int(usual[1].split()[1]):
         return False
-    is_whole = told[b"begun"] == told[b"reported"] == told[b"handed"] + told[b"pending"]
-    return is_whole and told[b"frames"] == told[b"held"] + told[b"missed"]
+    is_whole = told[b"begun"] == told[b"reported"] == told[b"handed"] + told[b"pending"] and not told[b"unreported"]
+    is_counted = told[b"begun"] + told[b"refused"] == 2 * told[b"parts"]
+    return is_whole and is_counted and told[b"frames"] == told[b"held"] + told[b"missed"]
 
 
 def faults_of_threads(refusing, words):

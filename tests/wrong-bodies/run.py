@@ -293,6 +293,14 @@ def wrong_bodies(words):
     return sorted(found, key=lambda it: -len(it[1])) + ([] if words else shown)
 
 
+def commit():
+    """The commit of the sources, and whether they have changed since."""
+    git = ["git", "-C", ROOT]
+    name = subprocess.run([*git, "rev-parse", "--short=8", "HEAD"], capture_output=True, text=True).stdout.strip()
+    changed = subprocess.run([*git, "status", "--porcelain", "crates"], capture_output=True, text=True).stdout
+    return f"{name or 'no commit'}{' with changes' if changed else ''}"
+
+
 def main():
     tasks = wrong_bodies(sys.argv[1:])
     if not tasks or not all(bodies for _, bodies in tasks):
@@ -311,6 +319,7 @@ def main():
             passed, failed = passed + well, failed + badly
     used = resource.getrusage(resource.RUSAGE_CHILDREN)
     print(f"wrong bodies: {(used.ru_utime + used.ru_stime) / 60:.1f} processor minutes")
+    print(f"wrong bodies: {passed + failed} tried on {commit()}")
     print(f"{passed} passed, {failed} failed")
     return 1 if failed else 0
 

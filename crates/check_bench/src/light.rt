@@ -3,13 +3,12 @@
 
 use crate::scopes::{DEPTH, NESTS, SCOPES, TEXT};
 use crate::{print, print_counts, thread};
-use anyhow::{Context, Result};
+use anyhow::Result;
 use puffin::light::{Place, Records, Scopes, Thread};
 use puffin::scope_details::ScopeDetails;
 use puffin::thread_profiler::{Reporter, ScriptClock, ThreadInfo};
 use puffin::{place, profile};
 use puffin_data::data::StreamInfoRef;
-use std::sync::Arc;
 use std::time::Instant;
 
 /// How often each kind of work is run; the fastest run counts.
@@ -39,16 +38,21 @@ impl Reporter for Reports {
 
 type Recorder = Thread<ScriptClock, Reports>;
 
-/// Makes a thread whose scopes are on or off.
-fn recorder(rt: &HostRuntime, on: bool) -> Result<Recorder> {
-    let scopes = Arc::new(rt.alloc(), Scopes::new()).ok().context("memory")?;
+/// Makes a thread whose scopes are on or off, and the place of its scopes.
+fn recorder(rt: &HostRuntime, on: bool) -> Result<(Recorder, Place)> {
+    let mut scopes = Scopes::new(rt.alloc())?;
+    let part = place!(scopes, "recorder", "part")?;
     scopes.set_on(on);
-    Ok(Thread::new(thread(rt)?, Reports { count: 0 }, scopes))
+    let reports = Reports { count: 0 };
+    Ok((
+        Thread::new(thread(rt)?, reports, scopes.for_thread()?),
+        part,
+    ))
 }
 
 /// Makes scopes nested `depth` deep.
 #[inline(never)]
-fn nest(thread: &mut Recorder, part: &Place, depth: usize) {
+fn nest(thread: &mut Recorder, part: Place, depth: usize) {
     let mut guard = thread.scope(part);
     if depth > 1 {
         nest(guard.thread(), part, depth - 1);
@@ -57,7 +61,7 @@ fn nest(thread: &mut Recorder, part: &Place, depth: usize) {
 
 /// Makes scopes with a text, nested `depth` deep.
 #[inline(never)]
-fn nest_with_text(thread: &mut Recorder, part: &Place, text: &str, depth: usize) {
+fn nest_with_text(thread: &mut Recorder, part: Place, text: &str, depth: usize) {
     let mut guard = thread.scope_with(part, text);
     if depth > 1 {
         nest_with_text(guard.thread(), part, text, depth - 1);
@@ -66,7 +70,7 @@ fn nest_with_text(thread: &mut Recorder, part: &Place, text: &str, depth: usize)
 
 /// Makes outermost scopes, one after the other.
 #[inline(never)]
-fn row(thread: &mut Recorder, part: &Place) {
+fn row(thread: &mut Recorder, part: Place) {
     for _ in 0..SCOPES {
         profile!(_guard, thread, part);
     }
@@ -106,7 +110,7 @@ impl LightWork {
 
     /// Makes the scopes of a run.
     #[inline(never)]
-    fn run(self, thread: &mut Recorder, part: &Place) {
+    fn run(self, thread: &mut Recorder, part: Place) {
         match self {
             LightWork::Off | LightWork::Outermost => row(thread, part),
             LightWork::Nests => {
@@ -126,8 +130,8 @@ impl LightWork {
 /// Runs each kind of work once, and prints the number of reports.
 pub fn count_light(rt: &HostRuntime) -> Result<()> {
     for work in LightWork::ALL {
-        let mut thread = recorder(rt, work != LightWork::Off)?;
-        work.run(&mut thread, &place!("count_light", "part"));
+        let (mut thread, part) = recorder(rt, work != LightWork::Off)?;
+        work.run(&mut thread, part);
         let reports = thread.into_reporter().count;
         print_counts(rt, work.name(), &[("reports", reports)])?;
     }
@@ -137,12 +141,11 @@ pub fn count_light(rt: &HostRuntime) -> Result<()> {
 /// Times each kind of work; the unit is a scope.
 pub fn time_light(rt: &HostRuntime) -> Result<()> {
     for work in LightWork::ALL {
-        let mut thread = recorder(rt, work != LightWork::Off)?;
-        let part = place!("time_light", "part");
+        let (mut thread, part) = recorder(rt, work != LightWork::Off)?;
         let mut best = u128::MAX;
         for _ in 0..ROUNDS {
             let begun = Instant::now(rt)?;
-            work.run(&mut thread, &part);
+            work.run(&mut thread, part);
             best = best.min(begun.elapsed(rt)?.as_nanos());
         }
         print(rt, work.name(), best, SCOPES)?;

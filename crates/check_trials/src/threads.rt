@@ -1,7 +1,8 @@
 //! Three threads that work in rounds, for a run in which one allocation or the start of one thread is refused.
 
-use puffin::light::{GuardState, Outcome, Place, Records, Rounds, in_rounds};
-use puffin::place;
+use puffin::light::{GuardState, Outcome, Place, Records, Rounds, Scopes, in_rounds};
+use puffin::{Result, place};
+use std::alloc::Global;
 use std::rt::Clock;
 use std::sync::Wait;
 use std::sync::atomic::{AtomicU64, Ordering};
@@ -19,13 +20,13 @@ struct Parts {
 }
 
 impl Parts {
-    fn new() -> Parts {
-        Parts {
+    fn new(scopes: &mut Scopes) -> Result<Parts> {
+        Ok(Parts {
             done: AtomicU64::new(0),
             begun: AtomicU64::new(0),
-            outer: place!("part"),
-            inner: place!("part", "inner"),
-        }
+            outer: place!(scopes, "part")?,
+            inner: place!(scopes, "part", "inner")?,
+        })
     }
 
     /// Counts a scope that began.
@@ -47,11 +48,18 @@ impl Rounds for Parts {
     /// Makes a scope within another.
     fn part<T: Records>(&self, _number: usize, thread: &mut T) {
         self.done.fetch_add(1, Ordering::SeqCst);
-        let mut outer = thread.scope(&self.outer);
+        let mut outer = thread.scope(self.outer);
         self.count(outer.state());
-        let inner = outer.scope_with(&self.inner, "text");
+        let inner = outer.scope_with(self.inner, "text");
         self.count(inner.state());
     }
+}
+
+/// Registers the places. Fails if memory runs out.
+fn registered(alloc: Global) -> Result<(Scopes, Parts)> {
+    let mut scopes = Scopes::new(alloc)?;
+    let parts = Parts::new(&mut scopes)?;
+    Ok((scopes, parts))
 }
 
 /// Prints the outcome of the threads.
@@ -64,15 +72,23 @@ fn print_outcome<R: Print + Wait>(rt: &R, outcome: &Outcome) -> Option<()> {
     )
     .ok()?;
     let held = outcome.view.lock(rt).stats().frames();
-    println!(rt; " frames {frames} held {held} missed {missed}").ok()
+    print!(rt; " frames {frames} held {held} missed {missed}").ok()?;
+    let (mut unreported, mut refused) = (0_u64, 0_u64);
+    for thread in &outcome.threads {
+        unreported = unreported.saturating_add(thread.unreported);
+        refused = refused.saturating_add(thread.refused);
+    }
+    println!(rt; " unreported {unreported} refused {refused}").ok()
 }
 
 /// Runs the threads, and prints their outcome, or that they were refused.
 pub(crate) fn run<R: AllocGlobal + Clock + Print + Threads + Wait + Copy + Send + Sync>(
     rt: R,
 ) -> Option<()> {
-    let parts = Parts::new();
-    let outcome = in_rounds(rt, &["a", "b", "c"], ROUNDS, &parts);
+    let Ok((scopes, parts)) = registered(rt.alloc()) else {
+        return println!(rt; "parts 0 begun 0 refused").ok();
+    };
+    let outcome = in_rounds(rt, &["a", "b", "c"], &scopes, ROUNDS, &parts);
     parts.print(&rt)?;
     match outcome {
         Ok(outcome) => print_outcome(&rt, &outcome),

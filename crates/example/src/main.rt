@@ -7,7 +7,7 @@ mod picture;
 use anyhow::{Context, Result};
 use picture::Picture;
 use puffin::data::Counted;
-use puffin::light::{Frames, Program, Records, profiled};
+use puffin::light::{Frames, Program, Records, Scopes, profiled};
 use puffin::profile_view::{FrameView, FrameWriter};
 use std::env;
 use std::fs::File;
@@ -68,12 +68,13 @@ fn print(rt: &HostRuntime, out: &str, view: &FrameView, handed: u64) -> Result<(
 fn main(rt: HostRuntime) -> Result<()> {
     let out = env::args(&rt)?.nth(1).context("no file's name")?;
     let names = ["painter-0", "painter-1", "painter-2", "painter-3"];
+    let mut scopes = Scopes::new(rt.alloc())?;
     let studio = Studio {
-        picture: Picture::new(),
+        picture: Picture::new(&mut scopes)?,
         meeting: Barrier::new(names.len() + 1),
         writer: Mutex::new(FrameWriter::new(Counted::new(File::create(&rt, out.as_str())?))?),
     };
-    let outcome = profiled(rt, &names, &studio)?;
+    let outcome = profiled(rt, &names, &scopes, &studio)?;
     println!(rt; "steps {}", studio.picture.steps.load(Ordering::Relaxed))?;
     let view = outcome.view.lock(&rt);
     print(&rt, out.as_str(), &view, outcome.settled.handed)

@@ -1,6 +1,7 @@
 //! A picture in rows: the number of steps that each point of a plane takes until it is far from 0.
 
-use puffin::light::{Place, Records};
+use anyhow::Result;
+use puffin::light::{Place, Records, Scopes};
 use puffin::{place, profile};
 use std::sync::atomic::{AtomicU64, Ordering};
 
@@ -13,13 +14,13 @@ pub struct Picture {
 }
 
 impl Picture {
-    /// Makes a picture that isn't begun yet.
-    pub fn new() -> Picture {
-        Picture {
+    /// Makes a picture that isn't begun yet, and registers its places.
+    pub fn new(scopes: &mut Scopes) -> Result<Picture> {
+        Ok(Picture {
             steps: AtomicU64::new(0),
-            draw: place!("draw"),
-            row: place!("draw", "row"),
-        }
+            draw: place!(scopes, "draw")?,
+            row: place!(scopes, "draw", "row")?,
+        })
     }
 
     /// Draws the four rows of thread `number`, which are the same in each round.

@@ -6,7 +6,7 @@
 use anyhow::{Context, Result};
 use puffin::data::Counted;
 use puffin::global_profiler::GlobalProfiler;
-use puffin::light::{Records, Thread};
+use puffin::light::{Records, Scopes, Thread};
 use puffin::profile_view::{FrameReader, FrameWriter};
 use puffin::{FileError, place, profile};
 use std::env;
@@ -37,9 +37,11 @@ fn main(rt: HostRuntime) -> Result<()> {
         return read(&rt, path.as_str());
     }
     let frames: u64 = env::args(&rt)?.nth(3).context("no number")?.parse()?;
-    let (update, physics) = (place!("update"), place!("update", "physics"));
+    let mut scopes = Scopes::new(rt.alloc())?;
+    let update = place!(scopes, "update")?;
+    let physics = place!(scopes, "update", "physics")?;
     let mut writer = FrameWriter::new(Counted::new(File::create(&rt, path.as_str())?))?;
-    let mut thread = Thread::start(rt, "main", GlobalProfiler::new(rt.alloc()))?;
+    let mut thread = Thread::start(rt, "main", GlobalProfiler::new(rt.alloc()), &scopes)?;
     for _ in 0..frames {
         {
             profile!(whole, thread, update);

@@ -1,7 +1,7 @@
 //! Four threads work in rounds; a frame is taken after each round.
 #![tactic(auto)]
 
-use puffin::light::{Place, Records, Rounds, in_rounds, save};
+use puffin::light::{Place, Records, Rounds, Scopes, in_rounds, save};
 use puffin::{place, profile};
 
 #[derive(Drop)]
@@ -18,11 +18,12 @@ impl Rounds for Game {
 }
 
 fn main(rt: HostRuntime) -> anyhow::Result<()> {
+    let mut scopes = Scopes::new(rt.alloc())?;
     let game = Game {
-        update: place!("update"),
-        physics: place!("update", "physics"),
+        update: place!(scopes, "update")?,
+        physics: place!(scopes, "update", "physics")?,
     };
-    let outcome = in_rounds(rt, &["north", "east", "south", "west"], 10, &game)?;
+    let outcome = in_rounds(rt, &["north", "east", "south", "west"], &scopes, 10, &game)?;
     let handed = outcome.settled.handed;
     println!(rt; "scopes handed out {handed}")?;
     Ok(save(&rt, "frames.puffin", &outcome.view.lock(&rt))?)

@@ -2,13 +2,15 @@
 #![tactic(auto)]
 
 use puffin::global_profiler::GlobalProfiler;
-use puffin::light::{Records, Thread, save};
+use puffin::light::{Records, Scopes, Thread, save};
 use puffin::profile_view::FrameView;
 use puffin::{place, profile};
 
 fn main(rt: HostRuntime) -> anyhow::Result<()> {
-    let (update, physics) = (place!("update"), place!("update", "physics"));
-    let mut thread = Thread::start(rt, "main", GlobalProfiler::new(rt.alloc()))?;
+    let mut scopes = Scopes::new(rt.alloc())?;
+    let update = place!(scopes, "update")?;
+    let physics = place!(scopes, "update", "physics")?;
+    let mut thread = Thread::start(rt, "main", GlobalProfiler::new(rt.alloc()), &scopes)?;
     let mut view = FrameView::new(rt.alloc());
     for _ in 0..3 {
         {

@@ -4,3 +4,4 @@ mod Numbering
 mod HandedOut
 mod SharedRefusals
 mod CountedShares
+mod EndedScopes

@@ -1,7 +1,7 @@
 -- What beginning and ending a scope at a `Place` does to a thread.
-use Rattle.std.specs.Prelude.{ℕ, ◌+◌, ◌≡◌, ◌≢◌, ℤ, pos, ◌≤ℤ◌, List, Option, Some, None}
-use Rattle.std.specs.Borrow.{Bor}
+use Rattle.std.specs.Prelude.{ℕ, ◌+◌, ◌<◌, ◌≤◌, ◌≡◌, ◌≢◌, ◌⊎◌, ℤ, pos, ◌≤ℤ◌, List, Option, Some, None}
 use Rattle.puffin_data.specs.declared.error.Error.{Error}
+use Rattle.puffin_data.specs.declared.error.Error.TheVariants.{Memory, MissingId}
 use Rattle.puffin_data.specs.Honesty.{StreamFacts}
 use Rattle.puffin_data.specs.Text.{cut_text}
 use Rattle.puffin_data.specs.Forest.Spelling.{size_offset}
@@ -9,46 +9,46 @@ use Rattle.puffin_data.specs.Forest.Words.{word_size}
 use Rattle.puffin_threads.specs.declared.thread_profiler.profiler.ThreadProfiler.{ThreadProfiler}
 use Rattle.puffin_threads.specs.declared.thread_profiler.reporter.Closed.{Closed}
 use Rattle.puffin_threads.specs.Thread.ThreadProfiler.{thread_of, clock_of}
-use Rattle.puffin_threads.specs.Thread.Calls.{Thread, after_begin}
+use Rattle.puffin_threads.specs.Thread.Calls.{after_begin}
 use Rattle.puffin_threads.specs.Thread.Closing.{Closes}
 use Rattle.puffin_threads.specs.Thread.ThreadKey.{ThreadKey}
 use Rattle.puffin_threads.specs.Details.{Details}
-use Rattle.puffin_scopes.specs.declared.site.Site.{Site}
 use Rattle.puffin_scopes.specs.Guards.Ending.{innermost_of}
-use Rattle.puffin_scopes.specs.Sites.{IsKnownOrNew, function_details, named_details}
 use Rattle.puffin_scopes.specs.declared.guard_state.GuardState.{GuardState}
 use Rattle.puffin_scopes.specs.declared.guard_state.GuardState.TheVariants.{On, Off, Refused}
 use Rattle.puffin.specs.declared.light.place.Place.{Place}
+use Rattle.puffin.specs.declared.light.thread.Thread.{Thread}
+use Rattle.puffin.specs.LightThread.{profiler_of, reporter_of, scopes_of, refused_of}
+use Rattle.puffin.specs.Places.{num_known}
+use Rattle.puffin.specs.Taking.{one_more}
 
--- the details of a function, or of a scope in it with this name
-abbrev pub details_at : Site → List ℕ → Option (Bor (List ℕ)) → Details
-details_at site function None = function_details site function
-details_at site function (Some name) = named_details site function name.now
-
--- the details that a place registers for its scope
-abbrev pub names_of : Place → Details
-names_of place = details_at place.site place.function.now place.name
-
--- A scope began at the clock's time, and is now the innermost. Its details were registered before, or by this call.
-pub record Began {C : Type 0} (answers : C → ℤ → C → Type 0) (names : Details)
+-- A scope with this id began at the clock's time, and is now the innermost.
+pub record Began {C : Type 0} (answers : C → ℤ → C → Type 0) (id : ℕ)
     (old : ThreadProfiler C) (text : List ℕ) (offset : ℕ) (new : ThreadProfiler C) : Type 0 where
-  pub known : Thread
-  pub named : IsKnownOrNew names (thread_of old) known
-  pub id : ℕ
   pub at : ℤ
   pub answered : answers (clock_of old) at (clock_of new)
   pub never_negative : pos 0 ≤ℤ at
-  pub begun : thread_of new ≡ after_begin known id (cut_text known.form text) at
+  pub begun : thread_of new
+      ≡ after_begin (thread_of old) id (cut_text (thread_of old).form text) at
   pub offset_is : offset
-      ≡ word_size known.form known.word + size_offset known.form (cut_text known.form text)
+      ≡ word_size (thread_of old).form (thread_of old).word
+      + size_offset (thread_of old).form (cut_text (thread_of old).form text)
 
--- The thread after a `begin` with this outcome. A refused `begin` may have registered the details all the same.
-abbrev pub Begins : {C : Type 0} → (C → ℤ → C → Type 0) → Details → ThreadProfiler C → List ℕ →
-    GuardState → ThreadProfiler C → Type 0
-Begins answers names old text (On offset) new = Began answers names old text offset new
-Begins answers names old text Off new = new ≡ old
-Begins answers names old text (Refused e) new =
-    IsKnownOrNew names (thread_of old) (thread_of new) × (clock_of new ≡ clock_of old)
+-- A thread's profiler after a `begin` with this outcome, where the thread knows the places up to this number. A place beyond
+-- them is refused, and only such a place is refused with `MissingId`.
+abbrev pub Begins : {C : Type 0} → (C → ℤ → C → Type 0) → (known : ℕ) → (id : ℕ) →
+    ThreadProfiler C → List ℕ → GuardState → ThreadProfiler C → Type 0
+Begins answers known id old text (On offset) new =
+    (id ≤ known) × Began answers id old text offset new
+Begins answers known id old text Off new = new ≡ old
+Begins answers known id old text (Refused e) new =
+    (new ≡ old) × (((e ≡ MissingId) × (known < id)) ⊎ ((e ≡ Memory) × (id ≤ known)))
+
+-- the number of refused scopes after a `begin` with this outcome
+abbrev pub refused_after : ℕ → GuardState → ℕ
+refused_after n (On offset) = n
+refused_after n Off = n
+refused_after n (Refused e) = one_more n
 
 -- The innermost scope was ended at the clock's time. If no other scope was open, all closed scopes were reported.
 pub record Ended {C R : Type 0} (answers : C → ℤ → C → Type 0)
@@ -74,3 +74,22 @@ pub record EndsAt {C R : Type 0} (answers : C → ℤ → C → Type 0)
 abbrev pub Leaves : {T : Type 0} → (T → ℕ → T → Type 0) → Option ℕ → T → T → Type 0
 Leaves ends None old new = new ≡ old
 Leaves ends (Some offset) old new = ends old offset new
+
+-- What `begin` does to a light thread: nothing is reported, the scopes that it knows stay, and a refused scope is counted.
+pub record BeginsAt {C R : Type 0} (answers : C → ℤ → C → Type 0) (old : Thread C R)
+    (place : Place) (text : List ℕ) (state : GuardState) (new : Thread C R) : Type 0 where
+  pub begins : Begins answers (num_known (scopes_of old)) place.id (profiler_of old) text state
+      (profiler_of new)
+  pub reporter : reporter_of new ≡ reporter_of old
+  pub scopes : scopes_of new ≡ scopes_of old
+  pub refused : refused_of new ≡ refused_after (refused_of old) state
+
+-- what `end` does to a light thread: the scopes that it knows, and the number of refused ones, stay
+pub record EndsIn {C R : Type 0} (answers : C → ℤ → C → Type 0)
+    (accepts : R → ThreadKey → List Details → StreamFacts → R → Type 0)
+    (refuses : R → ThreadKey → List Details → StreamFacts → Error → R → Type 0)
+    (old : Thread C R) (offset : ℕ) (new : Thread C R) : Type 0 where
+  pub ends : EndsAt answers accepts refuses offset (profiler_of old) (profiler_of new)
+      (reporter_of old) (reporter_of new)
+  pub scopes : scopes_of new ≡ scopes_of old
+  pub refused : refused_of new ≡ refused_of old

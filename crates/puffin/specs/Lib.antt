@@ -3,5 +3,11 @@ pub mod Sinks
 pub mod Shares
 pub mod SharedCauses
 pub mod Taking
+pub mod Clocks
+pub mod Numbered
+pub mod Places
+pub mod LightThread
+pub mod Lent
 pub mod Guards
+pub mod Ended
 pub mod inner

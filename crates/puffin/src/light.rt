@@ -3,10 +3,10 @@
 //!
 //! | to | call |
 //! |---|---|
-//! | name a place in the code | the macro `place`; a program keeps its [`Place`]s in a struct |
+//! | name the places where scopes begin | [`Scopes::new`] and the macro `place`; a program keeps its [`Place`]s in a struct |
 //! | profile one thread | [`Thread::start`], then [`Records::scope`] or the macro `profile` |
 //! | open a scope within another | [`Guard::scope`] |
-//! | see whether a scope began | [`Guard::state`] |
+//! | see whether a scope began | [`Guard::state`], [`Thread::num_refused`] |
 //! | give a scope a text | [`Records::scope_with`], [`Guard::scope_with`] |
 //! | turn all scopes off and on | [`Scopes::set_on`] |
 //! | take a frame of one thread | [`Thread::new_frame`] |
@@ -19,6 +19,7 @@ mod counted;
 pub mod files;
 mod gate;
 pub mod guard;
+pub mod laws;
 mod macros;
 pub mod place;
 pub mod program;
@@ -29,11 +30,10 @@ mod started;
 mod taker;
 pub mod thread;
 
-pub use files::save;
+pub use files::{SaveCause, SaveError, save};
 pub use guard::{Guard, GuardState, Records};
 pub use place::Place;
-pub use program::{Frames, Outcome, Program, profiled};
-pub use puffin_scopes::laws;
+pub use program::{Frames, Outcome, Program, ThreadCounts, profiled};
 pub use rounds::{Rounds, StatefulRounds, in_rounds};
-pub use scopes::Scopes;
+pub use scopes::{Scopes, ThreadScopes};
 pub use thread::Thread;

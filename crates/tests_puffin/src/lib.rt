@@ -14,6 +14,8 @@ mod global_profiler;
 #[cfg(test)]
 mod light;
 #[cfg(test)]
+mod places;
+#[cfg(test)]
 mod sinks;
 #[cfg(test)]
 mod surface;

@@ -4,16 +4,17 @@ use crate::equal::equal;
 use puffin::data::Counted;
 use puffin::global_profiler::{GlobalProfiler, Settled};
 use puffin::light::{
-    Frames, GuardState, Outcome, Place, Program, Records, Rounds, StatefulRounds, Thread,
-    in_rounds, profiled, save,
+    Frames, GuardState, Outcome, Place, Program, Records, Rounds, SaveCause, SaveError, Scopes,
+    StatefulRounds, Thread, ThreadCounts, in_rounds, profiled, save,
 };
 use puffin::profile_view::FrameView;
-use puffin::{FileError, place, profile};
-use std::fs;
+use puffin::{place, profile};
+use std::alloc::Global;
 use std::fs::File;
 use std::process::Abort;
 use std::sync::Wait;
 use std::test::Fail;
+use std::{fs, io};
 
 type Tested = std::result::Result<(), Fail>;
 
@@ -25,12 +26,19 @@ struct Places {
 }
 
 impl Places {
-    fn new() -> Places {
-        Places {
-            whole: place!("whole"),
-            part: place!("whole", "part"),
-        }
+    fn new(scopes: &mut Scopes) -> puffin::Result<Places> {
+        Ok(Places {
+            whole: place!(scopes, "whole")?,
+            part: place!(scopes, "whole", "part")?,
+        })
     }
+}
+
+/// Registers both places in new scopes.
+fn registered(alloc: Global) -> puffin::Result<(Scopes, Places)> {
+    let mut scopes = Scopes::new(alloc)?;
+    let places = Places::new(&mut scopes)?;
+    Ok((scopes, places))
 }
 
 /// Makes a scope with a child.
@@ -41,8 +49,8 @@ fn both<T: Records>(thread: &mut T, places: &Places) {
 
 #[test]
 fn an_inner_scope_is_reported_with_the_outermost(rt: HostRuntime) -> Tested {
-    let mut thread = Thread::start(rt, "main", GlobalProfiler::new(rt.alloc()))?;
-    let places = Places::new();
+    let (scopes, places) = registered(rt.alloc())?;
+    let mut thread = Thread::start(rt, "main", GlobalProfiler::new(rt.alloc()), &scopes)?;
     {
         profile!(whole, thread, places.whole, "text");
         {
@@ -60,16 +68,16 @@ fn an_inner_scope_is_reported_with_the_outermost(rt: HostRuntime) -> Tested {
 
 #[test]
 fn scopes_that_are_off_are_not_begun(rt: HostRuntime) -> Tested {
-    let mut thread = Thread::start(rt, "main", GlobalProfiler::new(rt.alloc()))?;
-    let places = Places::new();
-    thread.scopes().set_on(false);
+    let (scopes, places) = registered(rt.alloc())?;
+    let mut thread = Thread::start(rt, "main", GlobalProfiler::new(rt.alloc()), &scopes)?;
+    thread.switch().set_scopes_on(false);
     {
-        let guard = thread.scope(&places.whole);
+        let guard = thread.scope(places.whole);
         equal(&rt, guard.state(), GuardState::Off);
     }
     both(&mut thread, &places);
     equal(&rt, thread.reporter().totals().reported, 0);
-    thread.scopes().set_on(true);
+    scopes.set_on(true);
     both(&mut thread, &places);
     equal(&rt, thread.reporter().totals().reported, 2);
     Ok(())
@@ -79,7 +87,8 @@ fn scopes_that_are_off_are_not_begun(rt: HostRuntime) -> Tested {
 fn a_view_is_saved_and_replaced(rt: HostRuntime) -> Tested {
     let name = "light.puffin";
     save(&rt, name, &FrameView::new(rt.alloc()))?;
-    let outcome = in_rounds(rt, &["a", "b"], 1, &Places::new())?;
+    let (scopes, places) = registered(rt.alloc())?;
+    let outcome = in_rounds(rt, &["a", "b"], &scopes, 1, &places)?;
     save(&rt, name, &outcome.view.lock(&rt))?;
     let view = FrameView::read(rt.alloc(), &mut Counted::new(File::open(&rt, name)?))?;
     equal(&rt, view.stats().frames(), 1);
@@ -88,11 +97,23 @@ fn a_view_is_saved_and_replaced(rt: HostRuntime) -> Tested {
     Ok(())
 }
 
+/// Returns the kind of the system's error that refused a view.
+fn refusal(saved: std::result::Result<(), SaveError<'_>>) -> Option<io::ErrorKind> {
+    match saved.err()?.cause {
+        SaveCause::System(e) => Some(e.kind()),
+        SaveCause::View(_) => None,
+    }
+}
+
 #[test]
-fn a_full_device_refuses_a_view(rt: HostRuntime) -> Tested {
-    let outcome = in_rounds(rt, &["a", "b"], 1, &Places::new())?;
-    let refused = save(&rt, "/dev/full", &outcome.view.lock(&rt));
-    equal(&rt, refused, Err(FileError::Io));
+fn a_full_device_and_a_missing_folder_refuse_a_view(rt: HostRuntime) -> Tested {
+    let (scopes, places) = registered(rt.alloc())?;
+    let outcome = in_rounds(rt, &["a", "b"], &scopes, 1, &places)?;
+    let view = outcome.view.lock(&rt);
+    let full = save(&rt, "/dev/full", &view);
+    equal(&rt, refusal(full), Some(io::ErrorKind::StorageFull));
+    let missing = save(&rt, "no folder/light.puffin", &view);
+    equal(&rt, refusal(missing), Some(io::ErrorKind::NotFound));
     Ok(())
 }
 
@@ -105,10 +126,20 @@ impl Rounds for Places {
     }
 }
 
+/// Whether each thread reported as many scopes as `reported` lists, and none was refused or left.
+fn has_reported(outcome: &Outcome, reported: &[u64]) -> bool {
+    let all = |&reported| ThreadCounts {
+        reported,
+        unreported: 0,
+        refused: 0,
+    };
+    outcome.threads.iter().copied().eq(reported.iter().map(all))
+}
+
 /// Checks that each thread reported as many scopes as `reported` lists, `sum` together, and that all of them were
 /// handed out, in `frames` frames that are all in the view.
 fn has<R: Abort + Wait>(rt: &R, outcome: &Outcome, reported: &[u64], sum: u64, frames: usize) {
-    equal(rt, outcome.reported.as_slice() == reported, true);
+    equal(rt, has_reported(outcome, reported), true);
     let settled = Settled {
         reported: sum,
         handed: sum,
@@ -121,22 +152,23 @@ fn has<R: Abort + Wait>(rt: &R, outcome: &Outcome, reported: &[u64], sum: u64, f
 
 #[test]
 fn a_frame_is_taken_after_each_round(rt: HostRuntime) -> Tested {
-    let outcome = in_rounds(rt, &["a", "b", "c"], 5, &Places::new())?;
+    let (scopes, places) = registered(rt.alloc())?;
+    let outcome = in_rounds(rt, &["a", "b", "c"], &scopes, 5, &places)?;
     has(&rt, &outcome, &[0, 10, 10], 20, 5);
-    let outcome = in_rounds(rt, &["a", "b", "c"], 0, &Places::new())?;
+    let outcome = in_rounds(rt, &["a", "b", "c"], &scopes, 0, &places)?;
     has(&rt, &outcome, &[0, 0, 0], 0, 0);
     Ok(())
 }
 
 #[test]
 fn one_thread_two_and_64(rt: HostRuntime) -> Tested {
-    let places = Places::new();
-    let outcome = in_rounds(rt, &["a"], 2, &places)?;
+    let (scopes, places) = registered(rt.alloc())?;
+    let outcome = in_rounds(rt, &["a"], &scopes, 2, &places)?;
     has(&rt, &outcome, &[0], 0, 0);
-    let outcome = in_rounds(rt, &["a", "b"], 2, &places)?;
+    let outcome = in_rounds(rt, &["a", "b"], &scopes, 2, &places)?;
     has(&rt, &outcome, &[0, 4], 4, 2);
-    let outcome = in_rounds(rt, &["a"; 64], 2, &places)?;
-    equal(&rt, outcome.reported.len(), 64);
+    let outcome = in_rounds(rt, &["a"; 64], &scopes, 2, &places)?;
+    equal(&rt, outcome.threads.len(), 64);
     equal(&rt, outcome.settled.handed, 252);
     equal(&rt, outcome.frames, 2);
     Ok(())
@@ -162,15 +194,10 @@ impl Program for Uneven {
 
 #[test]
 fn all_that_threads_report_is_handed_out_or_pending(rt: HostRuntime) -> Tested {
-    let uneven = Uneven {
-        places: Places::new(),
-    };
-    let outcome = profiled(rt, &["a", "b", "c"], &uneven)?;
-    equal(
-        &rt,
-        outcome.reported.as_slice() == [0, 2, 4].as_slice(),
-        true,
-    );
+    let (scopes, places) = registered(rt.alloc())?;
+    let uneven = Uneven { places };
+    let outcome = profiled(rt, &["a", "b", "c"], &scopes, &uneven)?;
+    equal(&rt, has_reported(&outcome, &[0, 2, 4]), true);
     let settled = outcome.settled;
     equal(&rt, settled.reported, 6);
     equal(&rt, settled.handed.checked_add(settled.pending), Some(6));
@@ -203,10 +230,9 @@ impl StatefulRounds for Rising {
 
 #[test]
 fn a_thread_keeps_its_state_from_round_to_round(rt: HostRuntime) -> Tested {
-    let rising = Rising {
-        places: Places::new(),
-    };
-    let outcome = in_rounds(rt, &["a", "b", "c", "d"], 5, &rising)?;
+    let (scopes, places) = registered(rt.alloc())?;
+    let rising = Rising { places };
+    let outcome = in_rounds(rt, &["a", "b", "c", "d"], &scopes, 5, &rising)?;
     has(&rt, &outcome, &[0, 2, 6, 12], 20, 3);
     Ok(())
 }

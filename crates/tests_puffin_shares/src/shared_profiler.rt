@@ -15,8 +15,8 @@ use std::alloc::Global;
 use std::borrow::CowStr;
 use std::marker::Brand;
 use std::process::Abort;
-use std::sync::Wait;
 use std::sync::ledger::{Blank, Ledger};
+use std::sync::{Arc, Wait};
 use std::test::Fail;
 
 type Outcome = std::result::Result<(), Fail>;
@@ -118,20 +118,20 @@ fn found<R: Wait + Abort>(rt: &R, view: &GlobalFrameView, id: ScopeId) {
     assert!(rt; view.lock(rt).latest_frame().is_some());
 }
 
-/// A scope with this id is reported, and its frame handed on.
+/// A scope with this id is reported, and its frame handed on. Returns the frame and the share.
 fn handed_on<L: Ledger, M: Ledger, R: Wait + Abort + Copy + Drop>(
     rt: R,
     alloc: Global,
     profiler: &SharedProfiler<L, M>,
     share: Share<L, M>,
     id: ScopeId,
-) -> Outcome {
+) -> std::result::Result<(Arc<FrameData>, Share<L, M>), Fail> {
     let mut share = shares::reported(rt, alloc, profiler, share, Form::Short, id, &[""])?;
     let frame = next_frame(&rt, profiler, &mut share)?;
-    told(&rt, &frame, id)
+    Ok((frame, share))
 }
 
-/// A scope of the caller's own, in a view that was attached before it was reported.
+/// A scope of the caller's own, in a view that was attached before it was reported. A view that was removed gets no frame.
 fn is_viewed<
     L: Ledger + Send + Sync + 'static,
     M: Ledger + Send + Sync + 'static,
@@ -139,9 +139,15 @@ fn is_viewed<
 >(rt: R, alloc: Global, profiler: &SharedProfiler<L, M>, share: Share<L, M>) -> Outcome {
     let id = registered(&rt, profiler)?;
     let view = GlobalFrameView::attach(&rt, alloc, profiler)?;
-    handed_on(rt, alloc, profiler, share, id)?;
+    let (frame, share) = handed_on(rt, alloc, profiler, share, id)?;
+    told(&rt, &frame, id)?;
     found(&rt, &view, id);
-    assert!(rt; view.detach(&rt, profiler));
+    assert!(rt; profiler.remove_sink(&rt, view.sink_id()).is_some());
+    let (_next, _share) = handed_on(rt, alloc, profiler, share, id)?;
+    equal(&rt, view.lock(&rt).stats().frames(), 1);
+    assert!(rt; !view.detach(&rt, profiler));
+    let other = GlobalFrameView::attach(&rt, alloc, profiler)?;
+    assert!(rt; other.detach(&rt, profiler));
     Ok(())
 }
 

@@ -5,6 +5,8 @@ use puffin_threads::thread_profiler::{NsSource, ScriptClock, SystemClock};
 use std::cell::Cell;
 use std::io;
 use std::rt::Clock;
+use std::sync::{Condvar, Mutex, Wait};
+use std::thread::join;
 use std::time::Duration;
 
 /// A clock whose two readings are set, and may be errors.
@@ -88,4 +90,70 @@ fn a_script_clock_is_never_below_0(rt: HostRuntime) {
     equal(&rt, clock.now_ns(), 0);
     clock.set(7);
     equal(&rt, clock.now_ns(), 7);
+}
+
+#[test]
+fn another_clock_has_the_same_start(rt: HostRuntime) -> Outcome {
+    let runtime = clock_reading(Ok(Duration::from_nanos(1000)), Some(7));
+    let first = SystemClock::new(&runtime)?;
+    runtime.monotonic.set(Some(27));
+    let mut other = first.another();
+    equal(&rt, other.now_ns(), 1020);
+    Ok(())
+}
+
+/// Whose turn it is to read a clock, the last time that was read, and how often a time was less than the one before.
+#[derive(Drop)]
+struct Turns {
+    next: usize,
+    last: NanoSecond,
+    back: u32,
+}
+
+const READINGS: usize = 100_000;
+
+/// Reads a clock in every second turn.
+fn read_in_turn<R: Wait>(
+    rt: &R,
+    number: usize,
+    clock: &mut impl NsSource,
+    turns: &Mutex<Turns>,
+    changed: &Condvar,
+) {
+    for _ in 0..READINGS / 2 {
+        let mut turn = turns.lock(rt);
+        for _ in rt.forever() {
+            if turn.next == number {
+                break;
+            }
+            turn = changed.wait(rt, turn);
+        }
+        let now = clock.now_ns();
+        if now < turn.last {
+            turn.back = turn.back.saturating_add(1);
+        }
+        turn.last = now;
+        turn.next = 1_usize.saturating_sub(number);
+        drop(turn);
+        changed.notify_all();
+    }
+}
+
+#[test]
+fn two_threads_that_read_clocks_in_turn_never_go_back(rt: HostRuntime) -> Outcome {
+    let mut first = SystemClock::new(rt)?;
+    let mut second = first.another();
+    let turns = Mutex::new(Turns {
+        next: 0,
+        last: 0,
+        back: 0,
+    });
+    let changed = Condvar::new();
+    join(
+        &rt,
+        || read_in_turn(&rt, 0, &mut first, &turns, &changed),
+        || read_in_turn(&rt, 1, &mut second, &turns, &changed),
+    );
+    equal(&rt, turns.lock(&rt).back, 0);
+    Ok(())
 }

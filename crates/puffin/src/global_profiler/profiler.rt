@@ -6,7 +6,7 @@ ghost use Rattle.std.specs.Arc.{arc_value};
 ghost use Rattle.puffin_data.specs.Forest.{Forest};
 ghost use Rattle.puffin_data.specs.Honesty.{IsHonestRef, facts_of_ref};
 ghost use Rattle.puffin_threads.specs.Thread.ThreadKey.{key_of};
-ghost use Rattle.puffin_threads.specs.Details.{details_seen, lacks_id};
+ghost use Rattle.puffin_threads.specs.Details.{details_seen, shared_details, lacks_id};
 ghost use Rattle.puffin_frames.specs.Frame.Contents.{AreHonest, frame_details};
 ghost use Rattle.puffin_frames.specs.Frame.Sums.{total_scopes};
 ghost use Rattle.puffin_collector.specs.Collector.State.{AcceptsReport, RefusesReport, after_learning, after_wanting};
@@ -132,6 +132,35 @@ impl GlobalProfiler {
         ensures sinks { self.new.sinks ≡ self.old.sinks }
     {
         self.collector.emit_scope_snapshot();
+    }
+
+    /// Adds scopes to the known ones, and makes the next frame list every known scope. Scopes that are known already aren't
+    /// listed twice. For the places of a program, pass [`Scopes::details`](crate::light::Scopes::details).
+    ///
+    /// Fails with `MissingId` exactly when some of them have no id, and then changes nothing. Otherwise fails only with
+    /// `Memory`; the first few may have become known then.
+    ///
+    /// ```
+    /// let mut profiler = GlobalProfiler::new(alloc);
+    /// profiler.add_scopes(scopes.details())?;
+    /// ```
+    pub fn add_scopes(&mut self, details: &[Arc<ScopeDetails>]) -> Result<()>
+        requires boxed_sinks { ⊤ }
+        ensures ok { OnOk result (collected_of self.new
+            ≡ after_wanting (after_learning (collected_of self.old) (shared_details details.now))) }
+        ensures missing { (result ≡ Err Error.MissingId)
+            ↔ (list_any lacks_id (shared_details details.now) ≡ true) }
+        ensures unchanged { (result ≡ Err Error.MissingId) →
+            collected_of self.new ≡ collected_of self.old }
+        ensures err { OnErr result (
+            KnowsSome (collected_of self.old) (shared_details details.now)
+            (collected_of self.new)) }
+        ensures cause { IfErr result (λ e. (e ≡ Error.MissingId) ⊎ (e ≡ Error.Memory)) }
+        ensures sinks { self.new.sinks ≡ self.old.sinks }
+    {
+        self.collector.learn(details)?;
+        self.collector.emit_scope_snapshot();
+        Ok(())
     }
 
     /// Hands out one frame with everything that is pending, as [`Collector::collect_frame`] does, and calls no sink. Fails in

@@ -2,6 +2,8 @@
 ghost use Rattle.std.specs.Prelude.{◌≡◌, ◌<◌, ◌^◌};
 
 use crate::global_profiler::{Share, SharedReporter};
+use crate::light::program::ThreadCounts;
+use crate::light::ready::Left;
 use crate::scope_details::ScopeDetails;
 use crate::thread_profiler::{Reporter, ThreadInfo};
 use puffin_data::Result;
@@ -9,12 +11,12 @@ use puffin_data::data::StreamInfoRef;
 use std::sync::Wait;
 use std::sync::ledger::Ledger;
 
-/// A share that its thread has returned, with the number of scopes that it counts as reported.
+/// A share that its thread has returned, with what became of the thread's scopes.
 #[derive(Drop)]
 pub(crate) struct CountedShare<L: Ledger, M: Ledger> {
     pub(crate) share: Share<L, M>,
-    pub(crate) reported: u64,
-    ghost counted: { share.reported < 2 ^ 64 → reported ≡ share.reported },
+    pub(crate) counts: ThreadCounts,
+    ghost counted: { share.reported < 2 ^ 64 → counts.reported ≡ share.reported },
     ghost none_handed: { share.handed ≡ 0 },
 }
 
@@ -42,12 +44,19 @@ impl<L: Ledger, M: Ledger, R: Wait> Counting<L, M, R> {
 }
 
 impl<L: Ledger, M: Ledger, R: Wait + Drop> Counting<L, M, R> {
-    /// Returns the share, with the number of scopes that it counts.
-    pub(crate) fn into_share(self) -> CountedShare<L, M> {
+    /// Returns the share, with the number of scopes that it counts and the numbers of those that were left.
+    pub(crate) fn into_share(self, left: Left) -> CountedShare<L, M>
+        ensures { (result.counts.unreported ≡ left.unreported)
+            × (result.counts.refused ≡ left.refused) }
+    {
         let Counting { reporter, reported } = self;
         CountedShare {
             share: reporter.into_share(),
-            reported,
+            counts: ThreadCounts {
+                reported,
+                unreported: left.unreported,
+                refused: left.refused,
+            },
         }
     }
 }

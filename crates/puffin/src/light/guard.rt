@@ -2,8 +2,8 @@
 
 ghost use Rattle.std.specs.Prelude.{◌≡◌, Some, None, []};
 
+use crate::Switch;
 use crate::light::place::Place;
-use crate::light::scopes::Scopes;
 pub use puffin_scopes::GuardState;
 
 /// A thread that records scopes. Functions that open scopes are generic over it.
@@ -18,12 +18,12 @@ pub trait Records {
     /// What `end` may do, as a relation between the thread, the scope's offset and the thread afterwards.
     ghost ends: { Self → ℕ → Self → Type 0 };
 
-    /// Returns the switch of scopes and the source of their ids, which all threads of a program share.
-    fn scopes(&self) -> &Scopes;
+    /// Returns the switch of scopes, which all threads of a program share.
+    fn switch(&self) -> &Switch;
 
     /// Begins a scope at a place, with a text, if scopes are on. Returns whether it began.
-    fn begin(&mut self, place: &Place, text: &str) -> GuardState
-        ensures { begins self.old place.now text.now result self.new };
+    fn begin(&mut self, place: Place, text: &str) -> GuardState
+        ensures { begins self.old place text.now result self.new };
 
     /// Ends the scope at this offset if it is the innermost open one; otherwise does nothing. If no other scope is open then,
     /// reports everything that has closed; if that is refused, the closed scopes wait for the thread's next report.
@@ -32,16 +32,18 @@ pub trait Records {
 
     /// Begins a scope at a place, without a text, if scopes are on. It ends when the guard is dropped.
     #[inline(always)]
-    final fn scope(&mut self, place: &Place) -> Guard<'_, Self>
-        ensures { begins self.old place.now [] result.state result.thread.now }
+    final fn scope(&mut self, place: Place) -> Guard<'_, Self>
+        ensures same_reference { result.thread.ghost_name ≡ self.entry.ghost_name }
+        ensures begun { begins self.old place [] result.state result.thread.now }
     {
         Guard::open(self, place, "")
     }
 
     /// Begins a scope at a place, with a text, if scopes are on. It ends when the guard is dropped.
     #[inline(always)]
-    final fn scope_with(&mut self, place: &Place, text: &str) -> Guard<'_, Self>
-        ensures { begins self.old place.now text.now result.state result.thread.now }
+    final fn scope_with(&mut self, place: Place, text: &str) -> Guard<'_, Self>
+        ensures same_reference { result.thread.ghost_name ≡ self.entry.ghost_name }
+        ensures begun { begins self.old place text.now result.state result.thread.now }
     {
         Guard::open(self, place, text)
     }
@@ -55,11 +57,16 @@ pub struct Guard<'t, T: Records> {
 }
 
 impl<'t, T: Records> Guard<'t, T> {
+    ghost use Rattle.puffin.specs.Lent.{with_thread};
+    ghost use Rattle.puffin.specs.contracts.light.guard.Guard.{the_row};
+    ghost use Rattle.std.specs.Borrow.{Lends, follows, sem};
+    ghost use mir.Syntax.{named};
+
     /// Begins a scope at a place, with a text, if scopes are on. It ends when the guard is dropped.
     #[inline(always)]
-    pub fn open(thread: &'t mut T, place: &Place, text: &str) -> Guard<'t, T>
+    pub fn open(thread: &'t mut T, place: Place, text: &str) -> Guard<'t, T>
         ensures same_reference { result.thread.ghost_name ≡ thread.entry.ghost_name }
-        ensures begun { T.begins thread.old place.now text.now result.state result.thread.now }
+        ensures begun { T.begins thread.old place text.now result.state result.thread.now }
     {
         let state = thread.begin(place, text);
         Guard { thread, state }
@@ -67,16 +74,23 @@ impl<'t, T: Records> Guard<'t, T> {
 
     /// Begins a scope within this one, without a text. It ends when its own guard is dropped.
     #[inline(always)]
-    pub fn scope(&mut self, place: &Place) -> Guard<'_, T>
-        ensures { T.begins self.old.thread.now place.now [] result.state result.thread.now }
+    pub fn scope(&mut self, place: Place) -> Guard<'_, T>
+        ensures begun { T.begins self.old.thread.now place [] result.state result.thread.now }
+        ensures* writes_back { sem 𝓛 (
+            follows (the_row (record { mir = named 0; lft = [] }) T.row) T.row
+            self.entry.ghost_name result.thread.ghost_name (with_thread self.old)) }
     {
         Guard::open(&mut *self.thread, place, "")
     }
 
     /// Begins a scope within this one, with a text. It ends when its own guard is dropped.
     #[inline(always)]
-    pub fn scope_with(&mut self, place: &Place, text: &str) -> Guard<'_, T>
-        ensures { T.begins self.old.thread.now place.now text.now result.state result.thread.now }
+    pub fn scope_with(&mut self, place: Place, text: &str) -> Guard<'_, T>
+        ensures begun { T.begins self.old.thread.now place text.now result.state
+            result.thread.now }
+        ensures* writes_back { sem 𝓛 (
+            follows (the_row (record { mir = named 0; lft = [] }) T.row) T.row
+            self.entry.ghost_name result.thread.ghost_name (with_thread self.old)) }
     {
         Guard::open(&mut *self.thread, place, text)
     }
@@ -84,7 +98,10 @@ impl<'t, T: Records> Guard<'t, T> {
     /// Borrows the thread, to be passed to a function that opens scopes within this guard's scope.
     #[inline(always)]
     pub fn thread(&mut self) -> &mut T
-        ensures { result.now ≡ self.old.thread.now }
+        ensures value { result.now ≡ self.old.thread.now }
+        ensures* writes_back { sem 𝓛 (
+            Lends (the_row (record { mir = named 1; lft = [] }) T.row) T.row self.entry result
+            (with_thread self.old)) }
     {
         &mut *self.thread
     }

@@ -1,6 +1,8 @@
 //! Programs whose threads are profiled.
-ghost use Rattle.std.specs.Prelude.{◌≡◌, ◌+◌, ◌<◌, ◌≤◌, IfOk, vec_len, length, sum};
+ghost use Rattle.std.specs.Prelude.{◌≡◌, ◌+◌, ◌<◌, ◌≤◌, IfOk, IfErr, vec_len, length, sum_by};
 ghost use Rattle.puffin.specs.Shares.{SpellsItsScopes};
+ghost use Rattle.puffin.specs.SharedCauses.{IsFrameCause};
+ghost use Rattle.puffin.specs.Clocks.{HaveOneStart};
 
 use crate::global_profiler::{Emitted, GlobalFrameView, Settled};
 use crate::light::gate::Gate;
@@ -13,8 +15,8 @@ use puffin_data::Result;
 use std::io;
 use std::marker::Brand;
 use std::rt::Clock;
+use std::sync::Wait;
 use std::sync::ledger::Blank;
-use std::sync::{Arc, Wait};
 use std::thread::Threads;
 
 /// Takes frames of what all threads of a program report.
@@ -23,7 +25,8 @@ pub trait Frames {
     ///
     /// Fails with `IndexExhausted` or `Memory`; then what was reported waits for the next frame.
     fn new_frame(&mut self) -> Result<Emitted>
-        ensures spells { IfOk result (λ emitted. SpellsItsScopes emitted.frame) };
+        ensures spells { IfOk result (λ emitted. SpellsItsScopes emitted.frame) }
+        ensures cause { IfErr result IsFrameCause };
 }
 
 /// A program whose threads are profiled. All threads share it by `&`; a thread's own state is kept in local variables of
@@ -57,13 +60,25 @@ pub trait Program {
     fn lead<R: Wait, F: Frames>(&self, rt: &R, frames: &mut F);
 }
 
+/// What became of the scopes of one thread. The scopes that closed are those that were reported and those that weren't.
+#[derive(Clone, Copy, Debug, PartialEq, Eq)]
+pub struct ThreadCounts {
+    /// The number of scopes that were reported. Each is in a frame, or pending.
+    pub reported: u64,
+    /// The number of scopes that closed and were never reported, because the thread's last reports were refused. They are in no
+    /// frame.
+    pub unreported: u64,
+    /// The number of scopes that were refused when they should have begun. They are in no frame.
+    pub refused: u64,
+}
+
 /// The result of a program whose threads are profiled.
 #[derive(Drop)]
 pub struct Outcome {
     /// The last and the slowest frames.
     pub view: GlobalFrameView,
-    /// The number of scopes that each thread reported, in the order in which the threads' names were passed.
-    pub reported: Vec<u64>,
+    /// What became of each thread's scopes, in the order in which the threads' names were passed.
+    pub threads: Vec<ThreadCounts>,
     /// How many scopes all threads reported, how many of these were handed out in frames, and how many are pending.
     pub settled: Settled,
     /// The number of frames that were handed out. Each of them has at least one scope.
@@ -72,19 +87,24 @@ pub struct Outcome {
     pub missed: u64,
 }
 
-/// Prepares a thread for each name, with the system's clock.
+/// Prepares a thread for each name. All have the same clock, the system's.
 fn ready<R: AllocGlobal + Clock + Copy>(
     rt: R,
     names: &[&str],
+    scopes: &Scopes,
 ) -> io::Result<Vec<Ready<SystemClock<R>>>>
-    ensures { IfOk result (λ threads. vec_len threads ≡ length names.now) }
+    ensures threads { IfOk result (λ threads. vec_len threads ≡ length names.now) }
+    ensures clocks { IfOk result (λ threads.
+        HaveOneStart (λ thread. thread.clock) threads.items) }
 {
-    let scopes = Arc::new(rt.alloc(), Scopes::new())?;
+    let clock = SystemClock::new(rt)?;
     let mut threads = Vec::new(rt.alloc());
     for name in names {
         let name = String::from_str(rt.alloc(), name)?;
-        let (clock, scopes) = (SystemClock::new(rt)?, Arc::try_clone(&scopes)?);
-        threads.push(Ready::new(rt.alloc(), name, clock, scopes))?;
+        let Ok(scopes) = scopes.for_thread() else {
+            return Err(io::Error::from(io::ErrorKind::OutOfMemory));
+        };
+        threads.push(Ready::new(rt.alloc(), name, clock.another(), scopes))?;
     }
     Ok(threads)
 }
@@ -96,28 +116,30 @@ fn ready<R: AllocGlobal + Clock + Copy>(
 /// without having begun their work.
 ///
 /// ```
-/// let outcome = profiled(rt, &["loader", "painter"], &program)?;
+/// let outcome = profiled(rt, &["loader", "painter"], &scopes, &program)?;
 /// ```
 pub fn profiled<R: AllocGlobal + Threads + Wait + Clock + Copy + Send + Sync, W: Program + Sync>(
     rt: R,
     names: &[&str],
+    scopes: &Scopes,
     program: &W,
 ) -> io::Result<Outcome>
     ensures sum { IfOk result (λ outcome.
         outcome.settled.reported ≡ outcome.settled.handed + outcome.settled.pending) }
     ensures threads { IfOk result (λ outcome.
-        (vec_len outcome.reported ≡ length names.now)
-        × (sum outcome.reported.items ≡ outcome.settled.reported)) }
+        (vec_len outcome.threads ≡ length names.now)
+        × (sum_by (λ t. t.reported) outcome.threads.items ≡ outcome.settled.reported)) }
     ensures frames { IfOk result (λ outcome.
         (outcome.missed ≤ outcome.frames)
         × (outcome.frames ≤ outcome.settled.handed)
         × (outcome.frames ≡ 0 → outcome.settled.handed ≡ 0)) }
 {
-    let threads = ready(rt, names)?;
+    let threads = ready(rt, names, scopes)?;
     let parts = names.len() + 1;
     let gate = Gate::new(program);
     let outcome = run::<Brand, Brand, R, Ready<SystemClock<R>>, Gate<W>>(
         rt,
+        scopes,
         threads,
         &gate,
         parts,

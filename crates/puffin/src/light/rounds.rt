@@ -1,9 +1,10 @@
 //! Programs whose threads work in rounds.
 
-ghost use Rattle.std.specs.Prelude.{◌≡◌, ◌+◌, ◌≤◌, IfOk, vec_len, length, sum};
+ghost use Rattle.std.specs.Prelude.{◌≡◌, ◌+◌, ◌≤◌, IfOk, vec_len, length, sum_by};
 
 use crate::light::guard::Records;
 use crate::light::program::{Frames, Outcome, Program, profiled};
+use crate::light::scopes::Scopes;
 use std::io;
 use std::rt::Clock;
 use std::sync::{Barrier, Wait};
@@ -73,18 +74,18 @@ impl<W: StatefulRounds> Program for InRounds<'_, W> {
 /// Fails as [`profiled`] does; no round has begun then.
 ///
 /// ```
-/// let outcome = in_rounds(rt, &["north", "east", "south", "west"], 10, &game)?;
+/// let outcome = in_rounds(rt, &["north", "east", "south", "west"], &scopes, 10, &game)?;
 /// save(&rt, "frames.puffin", &outcome.view.lock(&rt))?;
 /// ```
 pub fn in_rounds<
     R: AllocGlobal + Threads + Wait + Clock + Copy + Send + Sync,
     W: StatefulRounds + Sync,
->(rt: R, names: &[&str], rounds: usize, program: &W) -> io::Result<Outcome>
+>(rt: R, names: &[&str], scopes: &Scopes, rounds: usize, program: &W) -> io::Result<Outcome>
     ensures sum { IfOk result (λ outcome.
         outcome.settled.reported ≡ outcome.settled.handed + outcome.settled.pending) }
     ensures threads { IfOk result (λ outcome.
-        (vec_len outcome.reported ≡ length names.now)
-        × (sum outcome.reported.items ≡ outcome.settled.reported)) }
+        (vec_len outcome.threads ≡ length names.now)
+        × (sum_by (λ t. t.reported) outcome.threads.items ≡ outcome.settled.reported)) }
     ensures frames { IfOk result (λ outcome.
         (outcome.missed ≤ outcome.frames)
         × (outcome.frames ≤ outcome.settled.handed)
@@ -96,7 +97,7 @@ pub fn in_rounds<
         rounds,
         meeting,
     };
-    let outcome = profiled(rt, names, &program);
+    let outcome = profiled(rt, names, scopes, &program);
     let InRounds {
         program: _,
         rounds: _,

@@ -1,5 +1,5 @@
 //! Threads of a program, from their start until all shares are back.
-ghost use Rattle.std.specs.Prelude.{◌≡◌, ◌+◌, ◌<◌, ◌≤◌, ◌^◌, [], IfOk, vec_len, All, sum};
+ghost use Rattle.std.specs.Prelude.{◌≡◌, ◌+◌, ◌<◌, ◌≤◌, ◌^◌, [], IfOk, vec_len, All, sum_by};
 ghost use Rattle.puffin.specs.Shares.{IsBlankFor, no_counts, all_reported, all_handed};
 
 use crate::global_profiler::{
@@ -7,8 +7,9 @@ use crate::global_profiler::{
 };
 use crate::light::counted::{CountedShare, Counting};
 use crate::light::gate::Gated;
-use crate::light::program::{Outcome, Program};
+use crate::light::program::{Outcome, Program, ThreadCounts};
 use crate::light::ready::AnyReady;
+use crate::light::scopes::Scopes;
 use crate::light::taker::{Taken, Taker};
 use std::sync::Wait;
 use std::sync::ledger::{Blank, Ledger};
@@ -27,8 +28,8 @@ fn work<L: Ledger, M: Ledger, R: Wait + Copy, T: AnyReady, W: Program>(
     requires { share ≡ no_counts }
 {
     let mut reporter = Counting::new(SharedReporter::new(rt, profiler, share));
-    thread.run(&rt, number, &mut reporter, program);
-    reporter.into_share()
+    let left = thread.run(&rt, number, &mut reporter, program);
+    reporter.into_share(left)
 }
 
 /// Starts a thread that calls [`work`].
@@ -102,8 +103,8 @@ fn start_all<
 #[derive(Drop)]
 struct Room<L: Ledger, M: Ledger> {
     shares: Vec<Share<L, M>>,
-    reported: Vec<u64>,
-    ghost none: { (shares.items ≡ []) × (reported.items ≡ []) },
+    counts: Vec<ThreadCounts>,
+    ghost none: { (shares.items ≡ []) × (counts.items ≡ []) },
 }
 
 impl<L: Ledger, M: Ledger> Room<L, M> {
@@ -111,24 +112,24 @@ impl<L: Ledger, M: Ledger> Room<L, M> {
     fn new<R: AllocGlobal>(rt: &R, threads: usize) -> io::Result<Room<L, M>> {
         Ok(Room {
             shares: Vec::with_capacity(rt.alloc(), threads.saturating_add(1))?,
-            reported: Vec::with_capacity(rt.alloc(), threads)?,
+            counts: Vec::with_capacity(rt.alloc(), threads)?,
         })
     }
 }
 
-/// What all threads returned: every share, the number of scopes that each thread reported, and what the leader counted.
+/// What all threads returned: every share, what became of each thread's scopes, and what the leader counted.
 #[derive(Drop)]
 struct Joined<L: Ledger, M: Ledger> {
     shares: Vec<Share<L, M>>,
-    reported: Vec<u64>,
+    counts: Vec<ThreadCounts>,
     frames: u64,
     missed: u64,
-    ghost all_back: { vec_len shares ≡ vec_len reported + 1 },
+    ghost all_back: { vec_len shares ≡ vec_len counts + 1 },
     ghost none_handed: { frames ≡ 0 → all_handed shares.items ≡ 0 },
     ghost some_each: { frames ≤ all_handed shares.items },
     ghost some: { missed ≤ frames },
     ghost counted: { all_reported shares.items < 2 ^ 64
-        → sum reported.items ≡ all_reported shares.items },
+        → sum_by (λ t. t.reported) counts.items ≡ all_reported shares.items },
 }
 
 #[tactic(auto, using(crate::proofs::CountedShares::counted_more, crate::proofs::CountedShares::none_more, crate::proofs::CountedShares::some_more))]
@@ -139,11 +140,13 @@ fn join_all<L: Ledger, M: Ledger, R: Threads>(
     taken: Taken<L, M>,
     room: Room<L, M>,
 ) -> io::Result<Joined<L, M>>
-    ensures { IfOk result (λ joined. vec_len joined.reported ≡ vec_len started) }
+    ensures threads { IfOk result (λ joined. vec_len joined.counts ≡ vec_len started) }
+    ensures frames { IfOk result (λ joined.
+        (joined.frames ≡ taken.frames) × (joined.missed ≡ taken.missed)) }
 {
     let Room {
         mut shares,
-        mut reported,
+        mut counts,
     } = room;
     let Taken {
         share,
@@ -154,11 +157,11 @@ fn join_all<L: Ledger, M: Ledger, R: Threads>(
     for thread in started {
         let counted = thread.join(rt);
         shares.push(counted.share)?;
-        reported.push(counted.reported)?;
+        counts.push(counted.counts)?;
     }
     Ok(Joined {
         shares,
-        reported,
+        counts,
         frames,
         missed,
     })
@@ -209,7 +212,7 @@ fn run_all<
 ) -> io::Result<Joined<L, M>>
     requires own { own ≡ no_counts }
     requires shares { All (λ share. share ≡ no_counts) shares.items }
-    ensures { IfOk result (λ joined. vec_len joined.reported ≡ vec_len threads) }
+    ensures { IfOk result (λ joined. vec_len joined.counts ≡ vec_len threads) }
 {
     let room = Room::new(&rt, threads.len())?;
     let Ok(leader) = profiler.clone() else {
@@ -239,7 +242,7 @@ fn scoped<
 ) -> io::Result<Joined<L, M>>
     requires own { own ≡ no_counts }
     requires shares { All (λ share. share ≡ no_counts) shares.items }
-    ensures { IfOk result (λ joined. vec_len joined.reported ≡ vec_len threads) }
+    ensures { IfOk result (λ joined. vec_len joined.counts ≡ vec_len threads) }
 {
     thread::scope(
         thread::scope_env(),
@@ -247,7 +250,7 @@ fn scoped<
         move |scope| -> io::Result<Joined<L, M>>
             requires own { own ≡ no_counts }
             requires shares { All (λ share. share ≡ no_counts) shares.items }
-            ensures { IfOk result (λ joined. vec_len joined.reported ≡ vec_len threads) }
+            ensures { IfOk result (λ joined. vec_len joined.counts ≡ vec_len threads) }
         { run_all(scope, rt, profiler, own, shares, threads, program) },
     )
 }
@@ -263,9 +266,10 @@ struct Opened<L: Ledger, M: Ledger> {
 }
 
 impl<L: Ledger, M: Ledger> Opened<L, M> {
-    /// Opens a new profiler with this number of shares. Fails if memory runs out.
+    /// Opens a new profiler with this number of shares, whose first frame lists these places. Fails if memory runs out.
     fn new<R: AllocGlobal + Wait>(
         rt: &R,
+        scopes: &Scopes,
         parts: usize,
         reported: Blank,
         handed: Blank,
@@ -274,7 +278,10 @@ impl<L: Ledger, M: Ledger> Opened<L, M> {
         requires reported { IsBlankFor L.name L.parts parts reported }
         requires handed { IsBlankFor M.name M.parts parts handed }
     {
-        let profiler = GlobalProfiler::new(rt.alloc());
+        let mut profiler = GlobalProfiler::new(rt.alloc());
+        let Ok(()) = profiler.add_scopes(scopes.details()) else {
+            return Err(no_memory());
+        };
         let opened = SharedProfiler::<L, M>::open(rt.alloc(), profiler, parts, reported, handed);
         let Ok((profiler, mut shares)) = opened else {
             return Err(no_memory());
@@ -301,24 +308,25 @@ fn settled<L: Ledger, M: Ledger, R: Wait>(
     view: GlobalFrameView,
     joined: Joined<L, M>,
 ) -> Outcome
-    requires { vec_len joined.reported + 1 ≡ L.parts }
+    requires { vec_len joined.counts + 1 ≡ L.parts }
     ensures sum { result.settled.reported ≡ result.settled.handed + result.settled.pending }
-    ensures threads { (result.reported ≡ joined.reported)
-        × (sum result.reported.items ≡ result.settled.reported) }
-    ensures frames { (result.missed ≤ result.frames)
+    ensures threads { (result.threads ≡ joined.counts)
+        × (sum_by (λ t. t.reported) result.threads.items ≡ result.settled.reported) }
+    ensures frames { (result.frames ≡ joined.frames) × (result.missed ≡ joined.missed) }
+    ensures bounds { (result.missed ≤ result.frames)
         × (result.frames ≤ result.settled.handed)
         × (result.frames ≡ 0 → result.settled.handed ≡ 0) }
 {
     let Joined {
         shares,
-        reported,
+        counts,
         frames,
         missed,
     } = joined;
     match profiler.settle(rt, shares) {
         Ok(settled) => Outcome {
             view,
-            reported,
+            threads: counts,
             settled,
             frames,
             missed,
@@ -337,6 +345,7 @@ pub(crate) fn run<
     W: Gated + Sync,
 >(
     rt: R,
+    scopes: &Scopes,
     threads: Vec<T>,
     program: &W,
     parts: usize,
@@ -349,14 +358,14 @@ pub(crate) fn run<
     ensures sum { IfOk result (λ outcome.
         outcome.settled.reported ≡ outcome.settled.handed + outcome.settled.pending) }
     ensures threads { IfOk result (λ outcome.
-        (vec_len outcome.reported ≡ vec_len threads)
-        × (sum outcome.reported.items ≡ outcome.settled.reported)) }
+        (vec_len outcome.threads ≡ vec_len threads)
+        × (sum_by (λ t. t.reported) outcome.threads.items ≡ outcome.settled.reported)) }
     ensures frames { IfOk result (λ outcome.
         (outcome.missed ≤ outcome.frames)
         × (outcome.frames ≤ outcome.settled.handed)
         × (outcome.frames ≡ 0 → outcome.settled.handed ≡ 0)) }
 {
-    let opened = Opened::<L, M>::new(&rt, parts, reported, handed)?;
+    let opened = Opened::<L, M>::new(&rt, scopes, parts, reported, handed)?;
     let Opened {
         profiler,
         view,

@@ -58,12 +58,14 @@ pub(crate) struct Taker<L: Ledger, M: Ledger, R: Wait> {
 }
 
 impl<L: Ledger, M: Ledger, R: Wait> Frames for Taker<L, M, R> {
-    ghost use Rattle.std.specs.Prelude.{◌≡◌, IfOk, OnErr};
+    ghost use Rattle.std.specs.Prelude.{◌≡◌, IfOk, IfErr, OnErr};
+    ghost use Rattle.puffin.specs.SharedCauses.{IsFrameCause};
     ghost use Rattle.puffin.specs.Shares.{SpellsItsScopes, CountsFrame};
     ghost use Rattle.puffin.specs.Taking.{CountsTaken};
 
     fn new_frame(&mut self) -> Result<Emitted>
         ensures spells { IfOk result (λ emitted. SpellsItsScopes emitted.frame) }
+        ensures cause { IfErr result IsFrameCause }
         ensures share { IfOk result (λ emitted.
             CountsFrame self.old.taken.share emitted.frame self.new.taken.share) }
         ensures counts { IfOk result (λ emitted. CountsTaken emitted.frame emitted.refused

@@ -1,19 +1,24 @@
 //! Threads that are profiled, each with its clock and its reporter.
-ghost use Rattle.std.specs.Prelude.{◌≡◌, IfOk, IfErr};
+
+ghost use Rattle.std.specs.Prelude.{◌≡◌, ◌↔◌, ◌-◌, ◌^◌, ℕ, length, Err, OnErr, IfOk, IfErr};
+ghost use Rattle.puffin_data.specs.declared.error.Error.{Error};
 ghost use Rattle.puffin_data.specs.declared.data.form.Form.{Form};
-ghost use Rattle.puffin_threads.specs.Thread.Calls.{new_thread};
+ghost use Rattle.puffin_threads.specs.Thread.Calls.{new_thread, num_ended};
 ghost use Rattle.puffin_threads.specs.Thread.Closing.{Reports};
 ghost use Rattle.puffin_threads.specs.Thread.ThreadProfiler.{thread_of, clock_of};
 ghost use Rattle.puffin_collector.specs.Collector.Collecting.{Collects, TellsIds, KeepsPending};
-ghost use Rattle.puffin.specs.Profiler.{collected_of};
+ghost use Rattle.puffin_collector.specs.Collector.State.{after_learning, after_wanting};
+ghost use Rattle.puffin.specs.Profiler.{collected_of, sinks_of, next_sink_of};
+ghost use Rattle.puffin.specs.Sinks.Handing.{HandsOnAny};
 
+use crate::Switch;
 use crate::frame_data::FrameData;
-use crate::global_profiler::GlobalProfiler;
+use crate::global_profiler::{FrameSink, GlobalProfiler};
 use crate::light::guard::{GuardState, Records};
 use crate::light::place::Place;
-use crate::light::scopes::Scopes;
+use crate::light::scopes::{Scopes, ThreadScopes};
 use crate::thread_profiler::{NsSource, Reporter, SystemClock, ThreadProfiler};
-use puffin_data::Result;
+use puffin_data::{Error, Result};
 use std::io;
 use std::rt::Clock;
 use std::sync::{Arc, Wait};
@@ -24,74 +29,152 @@ use std::sync::{Arc, Wait};
 pub struct Thread<C, P> {
     profiler: ThreadProfiler<C>,
     reporter: P,
-    scopes: Arc<Scopes>,
+    scopes: ThreadScopes,
+    refused: u64,
 }
 
-impl<R: Clock + AllocGlobal + Copy, P: Reporter + Drop> Thread<SystemClock<R>, P> {
-    /// Starts to profile a thread under this name, by the system's clock. The thread reports to this reporter, and its scopes
-    /// are on.
+impl<R: Clock + AllocGlobal + Copy> Thread<SystemClock<R>, GlobalProfiler> {
+    ghost use Rattle.puffin.specs.LightThread.{profiler_of, reporter_of, scopes_of, refused_of};
+    ghost use Rattle.puffin.specs.Places.{details_in, num_known};
+
+    /// Starts to profile a thread under this name, by the system's clock. The thread reports to this profiler, whose next frame
+    /// lists the places of `scopes`.
     ///
-    /// Fails if the clock can't be read or memory runs out; the reporter is then dropped.
+    /// A program that starts threads itself makes one clock, gives each thread [`another`](SystemClock::another) of it, so that
+    /// their times agree, and makes the threads with [`Thread::new`].
+    ///
+    /// Fails if the clock can't be read or memory runs out; the profiler is then dropped.
     ///
     /// ```
-    /// let mut thread = Thread::start(rt, "main", GlobalProfiler::new(rt.alloc()))?;
+    /// let mut thread = Thread::start(rt, "main", GlobalProfiler::new(rt.alloc()), &scopes)?;
     /// ```
-    pub fn start(rt: R, name: &str, reporter: P) -> io::Result<Thread<SystemClock<R>, P>>
+    pub fn start(
+        rt: R,
+        name: &str,
+        profiler: GlobalProfiler,
+        scopes: &Scopes,
+    ) -> io::Result<Thread<SystemClock<R>, GlobalProfiler>>
         ensures thread { IfOk result (λ thread.
-            thread_of thread.profiler ≡ new_thread name.now Form.Short) }
-        ensures reporter { IfOk result (λ thread. thread.reporter ≡ reporter) }
+            thread_of (profiler_of thread) ≡ new_thread name.now Form.Short) }
+        ensures collected { IfOk result (λ thread. collected_of (reporter_of thread)
+            ≡ after_wanting (after_learning (collected_of profiler) (details_in scopes.now))) }
+        ensures sinks { IfOk result (λ thread.
+            (sinks_of (reporter_of thread) ≡ sinks_of profiler)
+            × (next_sink_of (reporter_of thread) ≡ next_sink_of profiler)) }
+        ensures known { IfOk result (λ thread.
+            num_known (scopes_of thread) ≡ length (details_in scopes.now)) }
+        ensures refused { IfOk result (λ thread. refused_of thread ≡ 0) }
     {
+        let mut reporter = profiler;
+        let (Ok(()), Ok(known)) = (reporter.add_scopes(scopes.details()), scopes.for_thread())
+        else {
+            return Err(io::Error::from(io::ErrorKind::OutOfMemory));
+        };
         let alloc = rt.alloc();
         let name = String::from_str(alloc, name)?;
         let profiler = ThreadProfiler::new(alloc, name, SystemClock::new(rt)?);
-        let scopes = Arc::new(alloc, Scopes::new())?;
-        Ok(Thread::new(profiler, reporter, scopes))
+        Ok(Thread::new(profiler, reporter, known))
     }
 }
 
 impl<C> Thread<C, GlobalProfiler> {
+    ghost use Rattle.puffin.specs.LightThread.{reporter_of};
+    ghost use Rattle.puffin.specs.Lent.{with_reporter};
+
     /// Hands out everything that was reported since the last frame, to the caller and to the profiler's sinks. Returns `None`
     /// if nothing was reported.
     ///
     /// Fails with `IndexExhausted` or `Memory`; then what was reported waits for the next frame.
     pub fn new_frame(&mut self, rt: &impl Wait) -> Result<Option<Arc<FrameData>>>
         ensures ok { IfOk result (λ frame.
-            Collects (collected_of self.old.reporter) frame (collected_of self.new.reporter)) }
+            Collects (collected_of (reporter_of self.old)) frame
+            (collected_of (reporter_of self.new))) }
         ensures ids { IfOk result (λ frame. TellsIds frame) }
+        ensures handed { IfOk result (λ frame. (refused : ℕ)
+            × HandsOnAny (λ b. (FrameSink-box b).accepts) frame (sinks_of (reporter_of self.old))
+            refused (sinks_of (reporter_of self.new))) }
+        ensures exhausted { (result ≡ Err Error.IndexExhausted)
+            ↔ ((collected_of (reporter_of self.old)).index ≡ 2 ^ 64 - 1) }
         ensures err { IfErr result (λ e.
-            KeepsPending (collected_of self.old.reporter) e (collected_of self.new.reporter)) }
-        ensures thread { self.new.profiler ≡ self.old.profiler }
+            KeepsPending (collected_of (reporter_of self.old)) e
+            (collected_of (reporter_of self.new))) }
+        ensures kept { OnErr result (
+            sinks_of (reporter_of self.new) ≡ sinks_of (reporter_of self.old)) }
+        ensures next { next_sink_of (reporter_of self.new) ≡ next_sink_of (reporter_of self.old) }
+        ensures thread { self.new ≡ with_reporter self.old (reporter_of self.new) }
     {
         Ok(self.reporter.new_frame(rt)?.frame)
     }
 }
 
 impl<C: NsSource, P: Reporter> Thread<C, P> {
-    ghost use Rattle.puffin.specs.Guards.{EndsAt};
+    ghost use Rattle.puffin.specs.Guards.{EndsIn};
+    ghost use Rattle.puffin.specs.Taking.{one_more};
+    ghost use Rattle.puffin.specs.LightThread.{profiler_of, reporter_of, scopes_of, refused_of};
+    ghost use Rattle.puffin.specs.Lent.{with_reporter};
+    ghost use Rattle.puffin.specs.contracts.light.thread.Thread.{the_row};
+    ghost use Rattle.std.specs.Borrow.{Lends, sem};
 
-    /// Makes a thread from its profiler and the reporter that it reports to. All threads of a program share `scopes`.
-    pub fn new(profiler: ThreadProfiler<C>, reporter: P, scopes: Arc<Scopes>) -> Thread<C, P>
-        ensures { (result.profiler ≡ profiler) × (result.reporter ≡ reporter) }
+    /// Makes a thread from its profiler, the reporter that it reports to, and the scopes that it knows.
+    ///
+    /// ```
+    /// profiler.add_scopes(scopes.details())?;
+    /// let thread = Thread::new(thread_profiler, profiler, scopes.for_thread()?);
+    /// ```
+    pub fn new(profiler: ThreadProfiler<C>, reporter: P, scopes: ThreadScopes) -> Thread<C, P>
+        ensures profiler { profiler_of result ≡ profiler }
+        ensures reporter { reporter_of result ≡ reporter }
+        ensures scopes { scopes_of result ≡ scopes }
+        ensures refused { refused_of result ≡ 0 }
     {
         Thread {
             profiler,
             reporter,
             scopes,
+            refused: 0,
         }
     }
 
     /// Borrows the reporter.
     pub fn reporter(&mut self) -> &mut P
-        ensures { result.now ≡ self.old.reporter }
+        ensures value { result.now ≡ reporter_of self.old }
+        ensures* writes_back { sem 𝓛 (
+            Lends (the_row C.row P.row) P.row self.entry result (with_reporter self.old)) }
     {
         &mut self.reporter
+    }
+
+    /// Returns the number of closed scopes that wait for a report, because an earlier one was refused or other scopes are open.
+    pub fn num_closed(&self) -> usize
+        ensures { result ≡ num_ended (thread_of (profiler_of self.now)).word }
+    {
+        self.profiler.num_closed()
+    }
+
+    /// Returns the number of scopes that were refused when they should have begun, or `u64::MAX` if there were more. Such a
+    /// scope isn't in any frame.
+    pub fn num_refused(&self) -> u64
+        ensures { result ≡ refused_of self.now }
+    {
+        self.refused
+    }
+
+    /// Counts a scope that can't begin, and returns its guard's state.
+    #[cold]
+    #[inline(never)]
+    fn refuse(&mut self, cause: Error) -> GuardState
+        ensures state { result ≡ GuardState.Refused cause }
+        ensures counted { self.new
+            ≡ record self.old { refused = one_more self.old.refused } }
+    {
+        self.refused = self.refused.saturating_add(1);
+        GuardState::Refused(cause)
     }
 
     /// Ends the scope at this offset with [`ThreadProfiler::end_scope`], which also reports if no other scope is open.
     #[inline(never)]
     fn end_and_report(&mut self, offset: usize)
-        ensures { EndsAt C.answers P.accepts P.refuses offset self.old.profiler
-            self.new.profiler self.old.reporter self.new.reporter }
+        ensures { EndsIn C.answers P.accepts P.refuses self.old offset self.new }
     {
         let _ = self.profiler.end_scope(offset, &mut self.reporter);
     }
@@ -101,41 +184,41 @@ impl<C: NsSource, P: Reporter> Thread<C, P> {
     ///
     /// Fails as [`ThreadProfiler::report_closed`] does; the thread doesn't change then.
     pub fn report_closed(&mut self) -> Result<bool>
-        ensures reports { Reports P.accepts P.refuses (thread_of self.old.profiler)
-            (thread_of self.new.profiler) self.old.reporter self.new.reporter result }
-        ensures clock { clock_of self.new.profiler ≡ clock_of self.old.profiler }
+        ensures reports { Reports P.accepts P.refuses (thread_of (profiler_of self.old))
+            (thread_of (profiler_of self.new)) (reporter_of self.old) (reporter_of self.new)
+            result }
+        ensures clock { clock_of (profiler_of self.new) ≡ clock_of (profiler_of self.old) }
+        ensures scopes { scopes_of self.new ≡ scopes_of self.old }
+        ensures refused { refused_of self.new ≡ refused_of self.old }
     {
         self.profiler.report_closed(&mut self.reporter)
     }
 }
 
 impl<C: NsSource, P: Reporter> Records for Thread<C, P> {
-    ghost use Rattle.std.specs.Prelude.{◌≡◌};
-    ghost use Rattle.puffin.specs.Guards.{names_of, Begins, EndsAt};
+    ghost use Rattle.puffin.specs.Guards.{BeginsAt, EndsIn};
 
     ghost begins = { λ old place text state new.
-        Begins C.answers (names_of place) old.profiler text state new.profiler
-        × (new.reporter ≡ old.reporter) };
+        BeginsAt C.answers old place text state new };
 
     ghost ends = { λ old offset new.
-        EndsAt C.answers P.accepts P.refuses offset old.profiler new.profiler old.reporter
-        new.reporter };
+        EndsIn C.answers P.accepts P.refuses old offset new };
 
-    fn scopes(&self) -> &Scopes {
-        &self.scopes
+    fn switch(&self) -> &Switch {
+        self.scopes.switch()
     }
 
     #[inline(always)]
-    fn begin(&mut self, place: &Place, text: &str) -> GuardState {
-        if !self.scopes.are_on() {
+    fn begin(&mut self, place: Place, text: &str) -> GuardState {
+        if !self.scopes.switch().are_scopes_on() {
             return GuardState::Off;
         }
-        match place.id(&mut self.profiler, self.scopes.ids()) {
-            Ok(id) => match self.profiler.begin_scope(id, text) {
-                Ok(offset) => GuardState::On(offset),
-                Err(e) => GuardState::Refused(e),
-            },
-            Err(e) => GuardState::Refused(e),
+        if !self.scopes.know(&place) {
+            return self.refuse(Error::MissingId);
+        }
+        match self.profiler.begin_scope(place.id(), text) {
+            Ok(offset) => GuardState::On(offset),
+            Err(e) => self.refuse(e),
         }
     }
 
@@ -150,14 +233,18 @@ impl<C: NsSource, P: Reporter> Records for Thread<C, P> {
 }
 
 impl<C: Drop, P> Thread<C, P> {
-    /// Consumes the thread and returns its reporter. Closed scopes that weren't reported are lost.
+    ghost use Rattle.puffin.specs.LightThread.{reporter_of};
+
+    /// Consumes the thread and returns its reporter. Closed scopes that weren't reported are lost; [`Thread::num_closed`] says
+    /// how many there are.
     pub fn into_reporter(self) -> P
-        ensures { result ≡ self.reporter }
+        ensures { result ≡ reporter_of self }
     {
         let Thread {
             profiler: _,
             reporter,
             scopes: _,
+            refused: _,
         } = self;
         reporter
     }

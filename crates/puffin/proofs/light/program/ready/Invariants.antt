@@ -1,5 +1,10 @@
-use Rattle.std.specs.Prelude.{◌≡◌, vec_len}
+use Rattle.std.specs.Prelude.{◌≡◌, vec_len, All}
+use Rattle.puffin_threads.specs.Thread.Clock.{clock_start, clock_begun}
+use Rattle.puffin.specs.Clocks.{StartsAt}
 use Rattle.puffin.proofs.light.program.ready.Given as goal
 
 abbrev pub invariant-loop-name : goal.invariant-loop-name
-invariant-loop-name g l = vec_len l.threads ≡ l.name-index
+invariant-loop-name g l = record {
+  threads : vec_len l.threads ≡ l.name-index;
+  clocks : All (λ thread. StartsAt (clock_start l.clock) (clock_begun l.clock) thread.clock) l.threads.items;
+}

@@ -1,12 +1,12 @@
-use Rattle.std.specs.Prelude.{◌≡◌, ◌+◌, ◌<◌, ◌≤◌, ◌^◌, vec_len, length, sum}
+use Rattle.std.specs.Prelude.{◌≡◌, ◌+◌, ◌<◌, ◌≤◌, ◌^◌, vec_len, length, sum_by}
 use Rattle.puffin.specs.Shares.{all_reported, all_handed}
 use Rattle.puffin.proofs.light.started.join_all.Given as goal
 
 abbrev pub invariant-loop-thread : goal.invariant-loop-thread
 invariant-loop-thread g l = record {
   shares : vec_len l.shares ≡ length l.yielded + 1;
-  reported : vec_len l.reported ≡ length l.yielded;
-  counted : all_reported l.shares.items < 2 ^ 64 → sum l.reported.items ≡ all_reported l.shares.items;
+  counts : vec_len l.counts ≡ length l.yielded;
+  counted : all_reported l.shares.items < 2 ^ 64 → sum_by (λ t. t.reported) l.counts.items ≡ all_reported l.shares.items;
   none_handed : l.frames ≡ 0 → all_handed l.shares.items ≡ 0;
   some_each : l.frames ≤ all_handed l.shares.items;
 }

@@ -1,0 +1,135 @@
+//! Uses the same places in several runs, in different orders, and with several profilers. Prints what the reports of all files
+//! say: the name of each scope and the number of its pieces.
+#![tactic(auto)]
+
+use anyhow::{Context, Result};
+use puffin::data::{Buffered, Counted};
+use puffin::global_profiler::GlobalProfiler;
+use puffin::light::{Place, Records, Rounds, Scopes, Thread, in_rounds};
+use puffin::merge::MergeScope;
+use puffin::profile_view::FrameView;
+use puffin::scope_details::ScopeCollection;
+use puffin::{place, profile};
+use puffin_report::summarize;
+use std::mem;
+use std::rt::Clock;
+use std::sync::Wait;
+use std::thread::Threads;
+
+#[derive(Drop)]
+struct Game {
+    load: Place,
+    paint: Place,
+}
+
+impl Rounds for Game {
+    /// A thread with an even number loads; the others paint, and load within that.
+    fn part<T: Records>(&self, number: usize, thread: &mut T) {
+        if number % 2 == 0 {
+            profile!(_load, thread, self.load);
+        } else {
+            profile!(paint, thread, self.paint);
+            profile!(_load, paint, self.load);
+        }
+    }
+}
+
+/// Prints the name and the number of pieces of each scope, indented by `blanks`.
+fn print_scopes(
+    rt: &impl Print,
+    names: &ScopeCollection,
+    blanks: &str,
+    scopes: &[MergeScope<'_>],
+) -> Result<()> {
+    for scope in scopes {
+        let name = names.fetch_by_id(&scope.id).context("a name")?.name();
+        println!(rt; "{blanks}{} pieces {}", name.as_str(), scope.num_pieces)?;
+    }
+    Ok(())
+}
+
+/// Writes a view's file into memory, and prints its report for each of these threads.
+fn report<R: AllocGlobal + Print>(
+    rt: &R,
+    title: &str,
+    threads: &[&str],
+    view: &FrameView,
+) -> Result<()> {
+    println!(rt; "{title}")?;
+    let mut file = Counted::new(Vec::new(rt.alloc()));
+    view.write(&mut file)?;
+    let bytes = file.into_inner();
+    let last = view.latest_frame().and_then(|frame| frame.as_unpacked());
+    let streams = &last.context("a frame")?.thread_streams;
+    for name in threads {
+        let mut keys = streams.keys();
+        let thread = keys
+            .find(|thread| thread.name.as_str() == *name)
+            .context("a thread")?;
+        let summary = summarize(rt.alloc(), &mut Buffered::new(bytes.as_slice()), thread)?;
+        println!(rt; "  {name} frames {}", summary.frames)?;
+        print_scopes(rt, &summary.scopes, "    ", &summary.merged)?;
+        for scope in &summary.merged {
+            print_scopes(rt, &summary.scopes, "      ", &scope.children)?;
+        }
+    }
+    Ok(())
+}
+
+/// Runs some threads for three rounds, and reports on their frames.
+fn run<R: AllocGlobal + Clock + Print + Threads + Wait + Copy + Send + Sync>(
+    rt: R,
+    title: &str,
+    names: &[&str],
+    scopes: &Scopes,
+    game: &Game,
+) -> Result<()> {
+    let outcome = in_rounds(rt, names, scopes, 3, game)?;
+    report(&rt, title, names, &outcome.view.lock(&rt))
+}
+
+/// Takes a frame of a profiler, and reports on it.
+fn report_on<R: AllocGlobal + Print + Wait>(
+    rt: &R,
+    title: &str,
+    profiler: &mut GlobalProfiler,
+) -> Result<()> {
+    let mut view = FrameView::new(rt.alloc());
+    if let Some(frame) = profiler.new_frame(rt)?.frame {
+        view.add_frame(frame)?;
+    }
+    report(rt, title, &["alone"], &view)
+}
+
+/// One thread reports to a profiler, and then to another one.
+fn run_alone<R: AllocGlobal + Clock + Print + Wait + Copy + Drop>(
+    rt: R,
+    scopes: &Scopes,
+    game: &Game,
+) -> Result<()> {
+    let mut thread = Thread::start(rt, "alone", GlobalProfiler::new(rt.alloc()), scopes)?;
+    {
+        profile!(_paint, thread, game.paint);
+    }
+    let mut second = GlobalProfiler::new(rt.alloc());
+    second.add_scopes(scopes.details())?;
+    let mut first = mem::replace(thread.reporter(), second);
+    {
+        profile!(load, thread, game.load);
+        profile!(_paint, load, game.paint);
+    }
+    report_on(&rt, "a thread's first profiler", &mut first)?;
+    report_on(&rt, "its second profiler", thread.reporter())
+}
+
+fn main(rt: HostRuntime) -> Result<()> {
+    let mut scopes = Scopes::new(rt.alloc())?;
+    let game = Game {
+        load: place!(scopes, "load")?,
+        paint: place!(scopes, "paint", "pixels")?,
+    };
+    run(rt, "one thread", &["a"], &scopes, &game)?;
+    run(rt, "two threads", &["a", "b"], &scopes, &game)?;
+    run(rt, "one thread again", &["c"], &scopes, &game)?;
+    run_alone(rt, &scopes, &game)
+}

@@ -1,0 +1,32 @@
+-- The registered places of a program, and what registering one more does.
+use Rattle.std.specs.Prelude.{◌≡◌, ℕ, ◌+◌, ◌≤◌, List, Some, [], ◌∷◌, ◌++◌, length}
+use Rattle.puffin_threads.specs.Details.{Details, default_details, with_id, shared_details}
+use Rattle.puffin_scopes.specs.Names.Files.{short_file}
+use Rattle.puffin_scopes.specs.Names.Functions.{clean}
+use Rattle.puffin.specs.declared.light.scopes.Scopes.{Scopes}
+use Rattle.puffin.specs.declared.light.scopes.ThreadScopes.{ThreadScopes}
+
+-- the details of all registered places, in the order of their ids
+abbrev pub details_in : Scopes → List Details
+details_in scopes = shared_details scopes.details.items
+
+-- the number of places that a thread knows; their ids are 1 to this number
+abbrev pub num_known : ThreadScopes → ℕ
+num_known scopes = scopes.places
+
+-- the details of a function in a file, with short names and no id yet
+abbrev pub function_at : List ℕ → List ℕ → Details
+function_at file function = record default_details {
+  function_name = clean function;
+  file_path = short_file file;
+}
+
+-- the details of a scope with this name in a function
+abbrev pub named_at : List ℕ → List ℕ → List ℕ → Details
+named_at file function name = record (function_at file function) { scope_name = Some name }
+
+-- the details were registered last, and their id is the number of the registration, from 1
+pub record Registers (old : List Details) (details : Details) (id : ℕ) (new : List Details) :
+    Type 0 where
+  pub number : id ≡ length old + 1
+  pub added : new ≡ old ++ (with_id details id ∷ [])

@@ -1,0 +1,175 @@
+//! Places with their names, threads that don't know a place, and what a thread that reports by itself hands on.
+
+use crate::equal::equal;
+use crate::sinks::added;
+use puffin::data::StreamInfoRef;
+use puffin::global_profiler::{GlobalProfiler, Sink};
+use puffin::light::{GuardState, Place, Records, Rounds, Scopes, Thread, in_rounds};
+use puffin::profile_view::FrameView;
+use puffin::scope_details::ScopeDetails;
+use puffin::thread_profiler::{Reporter, ScriptClock, ThreadInfo, ThreadProfiler};
+use puffin::{Error, place, profile};
+use std::alloc::Global;
+use std::sync::{Arc, Mutex};
+use std::test::Fail;
+use tests_support::frames::lists;
+
+type Tested = std::result::Result<(), Fail>;
+
+/// A function and a part of it.
+#[derive(Drop)]
+struct Places {
+    load: Place,
+    paint: Place,
+}
+
+/// Registers both places in new scopes.
+fn registered(alloc: Global) -> puffin::Result<(Scopes, Places)> {
+    let mut scopes = Scopes::new(alloc)?;
+    let places = Places {
+        load: place!(scopes, "load")?,
+        paint: place!(scopes, "paint", "pixels")?,
+    };
+    Ok((scopes, places))
+}
+
+#[test]
+fn a_first_frame_lists_the_places_by_number_and_name(rt: HostRuntime) -> Tested {
+    let (scopes, places) = registered(rt.alloc())?;
+    equal(&rt, places.load.id().get(), 1);
+    equal(&rt, places.paint.id().get(), 2);
+    equal(&rt, scopes.details()[0].function_name.as_str(), "load");
+    equal(
+        &rt,
+        scopes.details()[0].file_path.as_str(),
+        "tests_puffin::places",
+    );
+    equal(&rt, scopes.details()[1].function_name.as_str(), "paint");
+    let mut thread = Thread::start(rt, "main", GlobalProfiler::new(rt.alloc()), &scopes)?;
+    {
+        profile!(_paint, thread, places.paint);
+    }
+    let frame = thread.new_frame(&rt)?.ok_or("a frame")?;
+    equal(&rt, lists(&frame, &[(1, "load"), (2, "pixels")]), true);
+    Ok(())
+}
+
+#[test]
+fn a_place_may_have_details_of_its_own(rt: HostRuntime) -> Tested {
+    let mut scopes = Scopes::new(rt.alloc())?;
+    let details = ScopeDetails::default().with_line_nr(7);
+    equal(&rt, scopes.register(details)?.id().get(), 1);
+    equal(&rt, scopes.details()[0].line_nr, 7);
+    equal(&rt, scopes.are_on(), true);
+    Ok(())
+}
+
+#[test]
+fn a_thread_refuses_a_place_that_it_does_not_know(rt: HostRuntime) -> Tested {
+    let (mut scopes, places) = registered(rt.alloc())?;
+    let mut thread = Thread::start(rt, "main", GlobalProfiler::new(rt.alloc()), &scopes)?;
+    let late = place!(scopes, "late")?;
+    {
+        let mut guard = thread.scope(late);
+        equal(&rt, guard.state(), GuardState::Refused(Error::MissingId));
+        profile!(load, guard, places.load);
+        equal(&rt, load.state(), GuardState::On(14));
+    }
+    equal(&rt, thread.num_refused(), 1);
+    equal(&rt, thread.num_closed(), 0);
+    equal(&rt, thread.into_reporter().totals().reported, 1);
+    Ok(())
+}
+
+/// The first thread uses a place of other scopes.
+#[derive(Drop)]
+struct Foreign {
+    own: Place,
+    other: Place,
+}
+
+impl Rounds for Foreign {
+    fn part<T: Records>(&self, number: usize, thread: &mut T) {
+        profile!(
+            _scope,
+            thread,
+            if number == 0 { self.other } else { self.own }
+        );
+    }
+}
+
+#[test]
+fn a_program_counts_the_scopes_that_are_refused(rt: HostRuntime) -> Tested {
+    let (_others, places) = registered(rt.alloc())?;
+    let mut scopes = Scopes::new(rt.alloc())?;
+    let foreign = Foreign {
+        own: place!(scopes, "own")?,
+        other: places.paint,
+    };
+    let outcome = in_rounds(rt, &["a", "b"], &scopes, 3, &foreign)?;
+    let counts = outcome.threads.iter();
+    equal(
+        &rt,
+        counts
+            .map(|thread| (thread.reported, thread.unreported, thread.refused))
+            .eq([(0, 0, 3), (3, 0, 0)]),
+        true,
+    );
+    Ok(())
+}
+
+/// A reporter that refuses everything.
+#[derive(Drop)]
+struct Refusing;
+
+impl Reporter for Refusing {
+    ghost accepts = { λ _ _ _ _ _. Unit {0} };
+
+    ghost refuses = { λ _ _ _ _ _ _. Unit {0} };
+
+    fn report(
+        &mut self,
+        _info: ThreadInfo,
+        _details: &[ScopeDetails],
+        _times: &StreamInfoRef,
+    ) -> puffin::Result<()> {
+        Err(Error::TooLarge)
+    }
+}
+
+#[test]
+fn scopes_of_a_refused_report_are_counted(rt: HostRuntime) -> Tested {
+    let (scopes, places) = registered(rt.alloc())?;
+    let name = String::from_str(rt.alloc(), "main")?;
+    let profiler = ThreadProfiler::new(rt.alloc(), name, ScriptClock::new(5));
+    let mut thread = Thread::new(profiler, Refusing, scopes.for_thread()?);
+    {
+        profile!(paint, thread, places.paint);
+        {
+            profile!(_load, paint, places.load);
+        }
+        equal(&rt, paint.thread().num_closed(), 1);
+    }
+    equal(&rt, thread.num_closed(), 2);
+    equal(&rt, thread.report_closed(), Err(Error::TooLarge));
+    equal(&rt, thread.num_closed(), 2);
+    Ok(())
+}
+
+#[test]
+fn a_thread_s_frame_reaches_the_profiler_s_sinks(rt: HostRuntime) -> Tested {
+    let (scopes, places) = registered(rt.alloc())?;
+    let view = Arc::new(rt.alloc(), Mutex::new(FrameView::new(rt.alloc())))?;
+    let mut profiler = GlobalProfiler::new(rt.alloc());
+    let _id = added(&mut profiler, Sink::View(Arc::try_clone(&view)?))?;
+    let mut thread = Thread::start(rt, "main", profiler, &scopes)?;
+    {
+        profile!(_load, thread, places.load);
+    }
+    let frame = thread.new_frame(&rt)?.ok_or("a frame")?;
+    let view = view.lock(&rt);
+    let held = view.latest_frame().ok_or("a frame in the view")?;
+    equal(&rt, held.frame_index(), frame.frame_index());
+    equal(&rt, held.meta().num_scopes, 1);
+    Ok(())
+}
