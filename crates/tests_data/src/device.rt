@@ -1,9 +1,9 @@
 ghost use Rattle.std.specs.Prelude.{◌≡◌};
 
 use crate::equal::equal;
-use puffin_data::data::{Counted, Drain, Source};
+use puffin_data::data::{Buffered, Counted, Drain, Source};
 use std::io;
-use std::io::{Read, Write};
+use std::io::{BufReader, Read, Write};
 use std::test::Fail;
 
 /// Gives or takes one byte, then fails once, and so on.
@@ -87,5 +87,39 @@ fn a_counted_vector_keeps_what_was_written(rt: HostRuntime) -> std::result::Resu
     equal(&rt, write_twice(&mut file, b"ab"), (Some(2), Some(2)));
     equal(&rt, file.faults(), 0);
     equal(&rt, file.into_inner().as_slice(), b"abab".as_slice());
+    Ok(())
+}
+
+/// Fails with another kind of error each time.
+#[derive(Drop)]
+struct Failing {
+    found: bool,
+}
+
+impl Read for Failing {
+    fn read(&mut self, _buf: &mut [u8]) -> io::Result<usize> {
+        self.found = !self.found;
+        Err(io::Error::from(if self.found {
+            io::ErrorKind::NotFound
+        } else {
+            io::ErrorKind::BrokenPipe
+        }))
+    }
+}
+
+#[test]
+fn the_last_error_is_told(rt: HostRuntime) -> std::result::Result<(), Fail> {
+    let mut source = Counted::new(Failing { found: false });
+    equal(&rt, source.last_error().is_none(), true);
+    equal(&rt, read_twice(&mut source, &mut [0]), (None, None));
+    let last = source.last_error().ok_or("an error")?;
+    equal(&rt, last.kind(), io::ErrorKind::BrokenPipe);
+    let failing = Failing { found: false };
+    let mut source = Buffered::new(BufReader::with_capacity(rt.alloc(), 4, failing)?);
+    equal(&rt, source.last_error().is_none(), true);
+    let mut bytes = Vec::new(rt.alloc());
+    equal(&rt, source.read_to_len(&mut bytes, 2).is_err(), true);
+    let last = source.last_error().ok_or("an error")?;
+    equal(&rt, last.kind(), io::ErrorKind::NotFound);
     Ok(())
 }
