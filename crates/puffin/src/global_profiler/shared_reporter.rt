@@ -88,14 +88,16 @@ impl<L: Ledger, M: Ledger, R: Wait> SharedReporter<L, M, R> {
     }
 
     /// Reports a thread's closed scopes that haven't been reported yet, such as those ended by dropping a
-    /// [`ProfilerScope`](crate::ProfilerScope). Returns `Ok(false)` if there are none. Waits for the lock if it reports.
+    /// [`ProfilerScope`](crate::ProfilerScope). Returns `Ok(false)` if there are none. Waits for the lock if it reports, and
+    /// doesn't read the thread's clock.
     ///
     /// Fails as [`ThreadProfiler::report_closed`](crate::thread_profiler::ThreadProfiler::report_closed) does.
     pub fn report_closed<T: AnyThread>(&mut self, thread: &mut T) -> Result<bool>
         requires boxed_sinks { ⊤ }
-        ensures { Reports ⟦<SharedReporter<L, M, R> as Reporter>⟧.accepts
+        ensures reports { Reports ⟦<SharedReporter<L, M, R> as Reporter>⟧.accepts
             ⟦<SharedReporter<L, M, R> as Reporter>⟧.refuses (T.state thread.old)
             (T.state thread.new) self.old self.new result }
+        ensures clock { T.same_clock thread.old thread.new }
     {
         thread.report_closed(self)
     }
