@@ -13,12 +13,11 @@ import pathlib
 import subprocess
 import sys
 
-HERE = pathlib.Path(__file__).resolve().parent
-ROOT = HERE.parents[1]
-sys.path.append(str(ROOT / "tests"))
-from libraries import kit_folder, words_over  # noqa: E402
+sys.path.append(str(pathlib.Path(__file__).resolve().parents[1]))
+import common  # noqa: E402
 
-CRATES = ROOT / "crates"
+HERE = pathlib.Path(__file__).resolve().parent
+CRATES = common.ROOT / "crates"
 CRATE = CRATES / "puffin_c"
 ARCHIVE = CRATE / "out" / "libpuffin_c.a"
 TOOL = CRATES / "puffin_tool" / "out" / "puffin_tool"
@@ -27,19 +26,21 @@ TOOL = CRATES / "puffin_tool" / "out" / "puffin_tool"
 def building(kit):
     """The command that makes the archive over what `rt ci` left."""
     made = ["--toolchain", kit / "toolchain", "--jobs", os.environ.get("RT_JOBS", "2"), "-o", ARCHIVE]
-    return [kit / "bin" / "rattle", "build", *words_over("puffin_c", ROOT, kit), *made]
+    return [kit / "bin" / "rattle", "build", *common.words_over("puffin_c", kit), *made]
 
 
 def main():
-    kit = kit_folder()
+    kit = common.kit_folder()
     ARCHIVE.parent.mkdir(exist_ok=True)
     ARCHIVE.unlink(missing_ok=True)
     has_kept = any(CRATES.glob("*/out/rlib/stamp"))
     made = subprocess.run(["rt", "lib"] if has_kept else building(kit), cwd=CRATE, capture_output=True, text=True, errors="replace")
     said = (made.stdout + made.stderr).splitlines()
     if made.returncode or not ARCHIVE.is_file():
-        print(*said, "failed: libpuffin_c.a isn't built", "0 passed, 1 failed", sep="\n")
-        return 1
+        print(*said, "failed: libpuffin_c.a isn't built", sep="\n")
+        count = common.Count()
+        count.add(False)
+        return count.end()
     print(*[line for line in said if line.startswith("logic=")], sep="\n", flush=True)
     return subprocess.run([sys.executable, HERE / "run.py", ARCHIVE, kit / "c" / "liblibc_c.a", TOOL]).returncode
 

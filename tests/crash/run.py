@@ -15,6 +15,9 @@ import sys
 import tempfile
 import time
 
+sys.path.append(str(pathlib.Path(__file__).resolve().parents[1]))
+import common  # noqa: E402
+
 ENOUGH = 200_000
 MOST_SECONDS = 60
 SCOPES_IN_A_FRAME = 2
@@ -87,19 +90,16 @@ def cases(program, folder):
 
 def main():
     program = pathlib.Path(sys.argv[1]).resolve()
+    count = common.Count()
     if not program.exists():
         print(f"there is no program {program}: it was not proved, or not built")
-        print("0 passed, 1 failed")
-        return 1
-    outcomes = []
+        count.add(False)
+        return count.end()
     with tempfile.TemporaryDirectory() as folder:
         for name, is_good in cases(program, pathlib.Path(folder)):
-            outcomes.append(is_good)
-            if not is_good:
+            if not count.add(is_good):
                 print(f"{name}: failed")
-    passed = sum(outcomes)
-    print(f"{passed} passed, {len(outcomes) - passed} failed")
-    return 0 if passed == len(outcomes) else 1
+    return count.end()
 
 
 if __name__ == "__main__":

@@ -3,9 +3,10 @@
     python3 run.py
 
 Clauses have at most 100 columns; crates cite of those below them no proofs but `lemmas`; each wrong body can be applied
-and stands in docs/PROOFS.md, in italics where it is one of the long run, and the gate tries at most twelve of a crate; the
-rows there name clauses that are there; each spec file begins with a line that says what it defines, and docs/ARCHITECTURE.md
-has these lines as they are; links in the documents lead somewhere. The last line is 'N passed, M failed'.
+and stands in docs/PROOFS.md, in italics where it is one of the long run, and the gate tries at most twelve of a crate; what
+the rows there cite is there, and leads to the functions that their wrong bodies change; each spec file begins with a line
+that says what it defines, and docs/ARCHITECTURE.md has these lines as they are; links in the documents lead somewhere. The
+last line is 'N passed, M failed'.
 """
 
 import pathlib
@@ -13,9 +14,12 @@ import re
 import subprocess
 import sys
 
-import spec_files
+sys.path.append(str(pathlib.Path(__file__).resolve().parents[1]))
+import common  # noqa: E402
+import promises  # noqa: E402
+import spec_files  # noqa: E402
 
-TOP = pathlib.Path(__file__).resolve().parents[2]
+TOP = common.ROOT
 MOST_IN_THE_GATE = 12
 CLAUSE = re.compile(r"^\s*(?:requires|ensures)\*?(?: \w+)? \{|^\s*ghost \w+(?: =|:) \{", re.M)
 
@@ -24,6 +28,11 @@ def files(*endings):
     """The repository's files with these endings."""
     listed = subprocess.run(["git", "ls-files", "-co", "--exclude-standard"], cwd=TOP, capture_output=True, text=True, check=True)
     return [TOP / name for name in listed.stdout.split("\n") if name.endswith(endings) and (TOP / name).is_file()]
+
+
+def source_files(*endings):
+    """The files of crates with these endings."""
+    return [path for path in files(*endings) if path.is_relative_to(TOP / "crates")]
 
 
 def short(path):
@@ -40,7 +49,7 @@ def clause_end(text, start):
 
 
 def wide_clauses():
-    for path in files(".rt"):
+    for path in source_files(".rt"):
         text = path.read_text()
         for clause in CLAUSE.finditer(text):
             whole = text[clause.start() : clause_end(text, clause.end())]
@@ -48,33 +57,55 @@ def wide_clauses():
                 yield f"{short(path)}: a clause line has over 100 columns: {clause[0].strip()}"
 
 
+def path_end(text, start):
+    """Where a path ends that begins at a place: at a blank or a bracket, but not within braces."""
+    depth, at = 0, start
+    while at < len(text) and (depth or re.match(r"[^\s();,}]", text[at])):
+        depth += {"{": 1, "}": -1}.get(text[at], 0)
+        at += 1
+    return at
+
+
+def dotted(path):
+    """The paths that one with braces stands for: `a.b` and `a.c.d` for `a.{b, c.d}`."""
+    head, brace, rest = path.partition("{")
+    if not brace:
+        return [path]
+    items, depth = [""], 0
+    for letter in rest[: clause_end(rest, 0) - 1] if "}" in rest else rest:
+        depth += {"{": 1, "}": -1}.get(letter, 0)
+        if letter == "," and not depth:
+            items.append("")
+        else:
+            items[-1] += letter
+    return [head + it for item in items for it in dotted(item.strip())]
+
+
 def proofs_cited_from_above():
-    for path in files(".antt", ".rt"):
-        own = path.relative_to(TOP / "crates").parts[0]
-        for crate, name in re.findall(r"Rattle\.(puffin\w*)\.proofs\.(\w+)", path.read_text()):
-            if crate != own and name != "lemmas":
-                yield f"{short(path)}: cites proofs of {crate}: {name}"
+    crates = common.crates()
+    for path in source_files(".antt", ".rt"):
+        own = path.relative_to(TOP).parts[1]
+        text = re.sub(r"\s*\.\s*(?=[\w{])", ".", path.read_text())
+        for start in re.finditer(r"\bRattle\.", text):
+            for cited in dotted(text[start.start() : path_end(text, start.start())]):
+                _, crate, *rest = re.split(r"[.\s]+", cited)
+                if crate in crates and crate != own and rest[:1] == ["proofs"] and rest[1:2] != ["lemmas"]:
+                    yield f"{short(path)}: cites proofs of {crate}: {cited}"
 
 
 def edits():
-    return [path for path in files(".edit") if path.parent.name in ("must-fail", "wrong")]
+    return [path for path in promises.edits().values() if path.is_file()]
 
 
 def edits_that_do_not_apply():
     for path in edits():
-        made, at, old = {}, None, None
-        for line in path.read_text().split("\n"):
-            word, _, rest = line.partition(": ")
-            if word == "file":
-                of_tests = path.is_relative_to(TOP / "tests")
-                at = (TOP if of_tests else path.parents[1]) / rest.strip()
-                made.setdefault(at, at.read_text() if at.is_file() else "")
-            elif word == "old":
-                old = rest
-            elif word in ("new", "new:"):
-                if made[at].count(old) != 1:
-                    yield f"{short(path)}: an old text stands in {short(at)} {made[at].count(old)} times"
-                made[at] = made[at].replace(old, rest, 1)
+        of_tests = path.is_relative_to(TOP / "tests")
+        words = ("test",) if of_tests else ("function",) if path.parent.name == "wrong" else ()
+        folder = TOP if of_tests else path.parents[1]
+        try:
+            common.edited(common.parsed(path, words).changes, lambda file: (folder / file).read_text())
+        except (ValueError, OSError) as fault:
+            yield f"{short(path)}: {fault}"
 
 
 def edits_without_a_promise():
@@ -95,23 +126,6 @@ def crates_with_too_many_edits():
             yield f"{short(folder)}: {number} wrong bodies; the gate tries at most {MOST_IN_THE_GATE} of a crate"
 
 
-def clauses_that_are_not_there():
-    """Of a row's contracts: each function is linked, and behind a colon stand the labels of its clauses."""
-    text = with_targets((TOP / "docs/PROOFS.md").read_text())
-    for row in text.split("\n"):
-        cells = row.split(" | ")
-        for part in cells[1].split("; ") if len(cells) == 3 else []:
-            part = re.sub(r"\((?!\.\./)(?:[^()]|\([^()]*\))*\)", "", part)  # definitions, in brackets
-            functions, colon, labels = part.partition("): ")
-            linked = re.findall(r"\]\(\.\./([^)#]+\.rt)", functions + ")")
-            if not colon or not linked:
-                continue
-            code = "".join((TOP / name).read_text() for name in linked if (TOP / name).is_file())
-            for label in re.findall(r"(?<!\[)`([a-z0-9_]+)`", labels):
-                if not re.search(rf"(?:ensures\*?|ghost|fn) {label}\b", code):
-                    yield f"docs/PROOFS.md: no clause {label} in {', '.join(linked)}"
-
-
 def spec_files_without_a_summary():
     for path in spec_files.without_summary():
         yield f"{short(path)}: its first line isn't a comment of one line that says what the file defines"
@@ -120,12 +134,6 @@ def spec_files_without_a_summary():
 def spec_files_that_are_not_listed():
     if not spec_files.is_current():
         yield "docs/ARCHITECTURE.md: its tables of spec files are old; run: python3 tests/house/spec_files.py --write"
-
-
-def with_targets(text):
-    """The text with each link `[it][name]` written as `[it](target)`, by the line `[name]: target`."""
-    targets = dict(re.findall(r"^\[([^\]]+)\]: (\S+)$", text, re.M))
-    return re.sub(r"\]\[([^\]]+)\]", lambda link: f"]({targets.get(link[1], '?' + link[1])})", text)
 
 
 def anchors(text):
@@ -137,7 +145,7 @@ def anchors(text):
 
 def broken_links():
     for path in files(".md"):
-        for target in re.findall(r"\]\(([^)\s]+)\)", with_targets(path.read_text())):
+        for target in re.findall(r"\]\(([^)\s]+)\)", promises.with_targets(path.read_text())):
             if target.startswith("http"):
                 continue
             name, _, anchor = target.partition("#")
@@ -148,27 +156,32 @@ def broken_links():
                 yield f"{short(path)}: no such heading: {target}"
 
 
+RULES = (
+    wide_clauses,
+    proofs_cited_from_above,
+    edits_that_do_not_apply,
+    edits_without_a_promise,
+    crates_with_too_many_edits,
+    promises.rows_without_a_contract,
+    promises.contracts_that_are_not_there,
+    promises.clauses_that_are_not_there,
+    promises.bodies_that_are_not_there,
+    promises.bodies_in_another_row,
+    spec_files_without_a_summary,
+    spec_files_that_are_not_listed,
+    broken_links,
+)
+
+
 def main():
-    passed, failed = 0, 0
-    rules = (
-        wide_clauses,
-        proofs_cited_from_above,
-        edits_that_do_not_apply,
-        edits_without_a_promise,
-        crates_with_too_many_edits,
-        clauses_that_are_not_there,
-        spec_files_without_a_summary,
-        spec_files_that_are_not_listed,
-        broken_links,
-    )
-    for rule in rules:
+    count = common.Count()
+    for rule in RULES:
         faults = list(rule())
         for fault in faults:
             print(fault)
+        count.add(not faults)
         print(f"house: {rule.__name__}: {'ok' if not faults else 'broken'}")
-        passed, failed = passed + (not faults), failed + bool(faults)
-    print(f"{passed} passed, {failed} failed")
-    return 1 if failed else 0
+    return count.end()
 
 
 if __name__ == "__main__":

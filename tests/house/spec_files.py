@@ -11,16 +11,14 @@ import pathlib
 import re
 import sys
 
-TOP = pathlib.Path(__file__).resolve().parents[2]
+sys.path.append(str(pathlib.Path(__file__).resolve().parents[1]))
+import common  # noqa: E402
+
+TOP = common.ROOT
 PAGE = TOP / "docs/ARCHITECTURE.md"
 BEGIN = "<!-- made by tests/house/spec_files.py --write -->"
 END = "<!-- the end of what spec_files.py made -->"
 DEFINITION = re.compile(r"^ *(?:abbrev |unfoldable )?pub (?!mod |use )", re.M)
-
-
-def crates():
-    """The crates, in the order of crates.txt: each stands after those that it uses."""
-    return [line.partition(":")[0] for line in (TOP / "crates.txt").read_text().splitlines() if ":" in line]
 
 
 def spec_files(crate):
@@ -37,13 +35,13 @@ def summary(path):
 
 
 def without_summary():
-    return [path for crate in crates() for path in spec_files(crate) if not summary(path)]
+    return [path for crate in common.crates() for path in spec_files(crate) if not summary(path)]
 
 
 def tables():
     """The tables, a heading and a table for each crate that defines something."""
     made = []
-    for crate in crates():
+    for crate in common.crates():
         rows = []
         for path in spec_files(crate):
             if DEFINITION.search(path.read_text()):

@@ -13,7 +13,9 @@ import re
 import subprocess
 import sys
 
-ROOT = pathlib.Path(__file__).resolve().parents[2]
+sys.path.append(str(pathlib.Path(__file__).resolve().parents[1]))
+import common  # noqa: E402
+
 LANES = min(4, len(os.sched_getaffinity(0)))
 # seconds for what is tried at once, and for its run alone, which takes longer with checks than without
 LIMIT, RUN_LIMIT = 1200, "300"
@@ -22,9 +24,8 @@ LIMIT, RUN_LIMIT = 1200, "300"
 def crates_with_tests():
     """The crates of crates.txt that have tests, those with the most text first, as they take the longest."""
     sizes = {}
-    for line in (ROOT / "crates.txt").read_text().splitlines():
-        name = re.split(r"[ :]", line.partition("#")[0].strip())[0]
-        texts = [it.read_text() for it in (ROOT / "crates" / name / "src").rglob("*.rt")] if name else []
+    for name, crate in common.crates().items():
+        texts = [it.read_text() for it in (crate.folder() / "src").rglob("*.rt")]
         if any(re.search(r"^\s*#\[test\]", it, re.M) for it in texts):
             sizes[name] = sum(map(len, texts))
     return sorted(sizes, key=sizes.get, reverse=True)
@@ -48,7 +49,7 @@ def counts(said, words):
 
 def tests_of(crate):
     """How many tests passed, how many failed and what to show."""
-    said, status = ran(["rt", "try", "--test", "--seconds", RUN_LIMIT], ROOT / "crates" / crate)
+    said, status = ran(["rt", "try", "--test", "--seconds", RUN_LIMIT], common.crate(crate).folder())
     found = counts(said, r"test result: \w+\. (\d+) passed; (\d+) failed; 0 ignored; 0 filtered out")
     is_well = status == 0 and found and found[0] and not found[1]
     print(f"tests of {crate} ... {f'ok, {found[0]}' if is_well else 'FAILED'}", flush=True)
@@ -58,7 +59,7 @@ def tests_of(crate):
 
 def part(script, words):
     """The same of a script of tests, and how many it left out."""
-    said, status = ran(["python3", str(ROOT / script)], ROOT)
+    said, status = ran(["python3", str(common.ROOT / script)], common.ROOT)
     found = counts(said, words) or [0, 1]
     print(f"{script} ... {'ok' if status == 0 and not found[1] else 'FAILED'}", flush=True)
     failed = found[1] if status == 0 else max(found[1], 1)

@@ -14,67 +14,40 @@ import os
 import pathlib
 import re
 import resource
-import shutil
 import subprocess
 import sys
 import tempfile
 import time
-from dataclasses import dataclass
+
+sys.path.append(str(pathlib.Path(__file__).resolve().parents[1]))
+import common  # noqa: E402
+from verdicts import BAD, NOT_LOOKED_AT, REFUSED, UNKNOWN, UNSURE  # noqa: E402
+from verdicts import WrongBody, changes_a_shape, is_judged, judged, wrong_below  # noqa: E402
 
 HERE = pathlib.Path(__file__).resolve().parent
-ROOT = HERE.parent.parent
-sys.path.append(str(ROOT / "tests"))
-from libraries import kit_folder, line_of, words_over  # noqa: E402
-
 LANES = min(4, os.cpu_count() or 1)
 # How many wrong functions stand in one check.
 TOGETHER = 12
-# What a check of a crate as it stands doesn't read.
-NOT_READ = shutil.ignore_patterns("out", "must-fail", "wrong")
-
-REFUSED = "REFUSED"
-NOT_REFUSED = "NOT REFUSED"
-BAD = "BAD EDIT"
-NOT_LOOKED_AT = "NOT LOOKED AT"
-# In a check with others: it says nothing of this function by itself.
-UNSURE = "NO VERDICT OF ITS OWN"
-
-# What a proof says that cites what an edit took away, which says nothing of the contract.
-OF_A_NAME = re.compile(r"has no field|is not in scope|has no `|was not admitted")
-
-# What the check says of a name that is no function's, or several functions'.
-UNKNOWN = re.compile(r"has no function|names? several|fits several")
 
 
-@dataclass(frozen=True)
-class WrongBody:
-    """An edit, the functions of which one has to be refused (none: the crate), and its changes: file, old and new text."""
-
-    name: str
-    functions: tuple
-    changes: tuple
-    ends: str
-
-    def is_of_definitions(self):
-        return any(file.startswith("specs/") for file, _, _ in self.changes)
+def texts_of(folder):
+    """Reads the files of a folder."""
+    return lambda file: (folder / file).read_text()
 
 
-def parsed(path):
-    """The wrong body that a file spells."""
-    functions, changes, file, old, ends = [], [], None, None, REFUSED
-    for line in path.read_text().splitlines():
-        word, _, rest = line.partition(": ")
-        if word == "function":
-            functions.append(rest)
-        elif word == "file":
-            file = rest
-        elif word == "old":
-            old = rest
-        elif word in ("new", "new:"):
-            changes.append((file, old, rest))
-        elif word == "ends":
-            ends = rest
-    return WrongBody(path.stem, tuple(functions), tuple(changes), ends)
+def parsed(path, folder):
+    """The wrong body that a file spells, of the crate in a folder. Raises a ValueError if it names no function."""
+    edit = common.parsed(path, ("function", "ends"))
+    functions, ends = edit.head("function"), edit.head("ends")
+    if not functions or not edit.changes:
+        raise ValueError(f"{path.name}: it names no function, or changes nothing")
+    try:
+        made = common.edited(edit.changes, texts_of(folder)).items()
+    except (ValueError, OSError):
+        # (it will be told as a bad edit)
+        made = ()
+    is_of_shape = any(file.endswith(".rt") and changes_a_shape((folder / file).read_text(), text) for file, text in made)
+    return WrongBody(edit.name, functions, edit.changes, is_of_shape, *ends)
 
 
 class Copy:
@@ -83,24 +56,18 @@ class Copy:
     def __init__(self, crate, folder, below):
         self.crate = crate
         self.folder = pathlib.Path(folder, crate)
-        kit = kit_folder()
-        self.command = [kit / "bin" / "rattle", "check", *words_over(crate, ROOT, kit, below)]
+        kit = common.kit_folder()
+        self.command = [kit / "bin" / "rattle", "check", *common.words_over(crate, kit, below)]
         self.command += ["--incremental", "out/incremental", "--jobs", "1"]
-        shutil.copytree(ROOT / "crates" / crate, self.folder, ignore=NOT_READ)
+        common.copy_crate(crate, self.folder)
         (self.folder / "out").mkdir()
 
     def text_of(self, file):
-        return (ROOT / "crates" / self.crate / file).read_text()
+        return (common.crate(self.crate).folder() / file).read_text()
 
     def put(self, bodies):
         """Puts these bodies in. Raises a ValueError where an old text doesn't stand in its file once."""
-        texts = {}
-        for body in bodies:
-            for file, old, new in body.changes:
-                text = texts.get(file) or self.text_of(file)
-                if text.count(old) != 1:
-                    raise ValueError(f"an old text stands in {file} {text.count(old)} times")
-                texts[file] = text.replace(old, new)
+        texts = common.edited([change for body in bodies for change in body.changes], self.text_of)
         for file, text in texts.items():
             (self.folder / file).write_text(text)
         return texts
@@ -124,73 +91,9 @@ class Copy:
                 (self.folder / file).write_text(self.text_of(file))
 
 
-def verdicts(crate, said):
-    """What the prover says of each function: behind `fn CRATE::NAME: `."""
-    return dict(re.findall(rf"^fn {crate}::(\S+): (.*)$", said, re.M))
-
-
-def is_judged(said):
-    """Whether the check came to its end, and didn't stop at what can't be compiled."""
-    return bool(re.search(r"^(only=\d+ proved=|logic=)", said, re.M))
-
-
-def errors_of(function, said):
-    """What is wrong in the proof of a function, without what only cites a name that is gone."""
-    folder, _, name = function.replace("::", "/").rpartition("/")
-    # (of a function that calls itself the proof stands in a folder with a plus)
-    place = rf"{re.escape(folder)}/\+?{re.escape(name)}" if folder else rf"\+?{re.escape(name)}"
-    found = re.findall(rf"^(?:\./)?proofs/{place}/\w+\.antt:\d+:\d+: error: (.*)$", said, re.M)
-    return [it for it in found if not OF_A_NAME.search(it)]
-
-
-def verdict_on(function, crate, said):
-    """What a check says of one function by itself."""
-    line = verdicts(crate, said).get(function)
-    if line is None:
-        return NOT_LOOKED_AT
-    if line == "proved":
-        return NOT_REFUSED
-    return REFUSED if "`search` did not prove" in line or errors_of(function, said) else UNSURE
-
-
-def judged(body, crate, said):
-    """What a check says of a wrong body: the clearest verdict on one of its functions."""
-    if not body.functions:
-        return verdict_on_all(said)
-    if body.is_of_definitions() and not is_proved(body, crate, said):
-        return verdict_on_all(said)
-    found = {verdict_on(it, crate, said) for it in body.functions}
-    return next(it for it in (REFUSED, NOT_LOOKED_AT, UNSURE, NOT_REFUSED) if it in found)
-
-
-def is_proved(body, crate, said):
-    return all(verdicts(crate, said).get(it, "proved") == "proved" for it in body.functions)
-
-
-def verdict_on_all(said):
-    """What a check comes to as a whole, whichever proof or lemma is refused."""
-    if re.search(r"^logic=proved", said, re.M):
-        return NOT_REFUSED
-    errors = re.findall(r"^(?:\./)?\S+:\d+:\d+: error: (.*)$", said, re.M)
-    is_refused = "`search` did not prove" in said or any(not OF_A_NAME.search(it) for it in errors)
-    return REFUSED if is_refused else UNSURE
-
-
-def wrong_below(body, bodies, crate, said):
-    """The other bodies whose functions this one's call, through functions that aren't proved for that."""
-    calls = {it: re.findall(rf"`{crate}::([^`]+)`", line.partition("it calls ")[2]) for it, line in verdicts(crate, said).items()}
-    seen, left = set(), list(body.functions)
-    while left:
-        function = left.pop()
-        if function not in seen:
-            seen.add(function)
-            left += calls.get(function, [])
-    return [it for it in bodies if it is not body and seen & set(it.functions)]
-
-
 def is_alone(body):
     """Whether a body is tried alone: what it changes may be cited by the proofs of the others."""
-    return not body.functions or body.is_of_definitions()
+    return body.is_of_definitions()
 
 
 class Tries:
@@ -223,7 +126,7 @@ class Tries:
         """Tries bodies in one check; in two halves where they can't be compiled together."""
         try:
             said = self.copy.checked(bodies)
-        except ValueError as fault:
+        except (ValueError, OSError) as fault:
             said = f"error: {fault}"
         if not is_judged(said):
             half = len(bodies) // 2
@@ -234,7 +137,7 @@ class Tries:
                 self.end(bodies[0], NOT_LOOKED_AT if UNKNOWN.search(said) else BAD, said)
             return
         for body in bodies:
-            verdict = judged(body, self.copy.crate, said)
+            verdict = judged(body, self.copy.crate, said, self.copy.text_of)
             if verdict != UNSURE or len(bodies) == 1:
                 self.end(body, verdict, said)
             else:
@@ -247,22 +150,12 @@ class Tries:
         return self.ended
 
 
-def libraries_of(crate):
-    """The libraries of the repository that a crate uses, and those that they use."""
-    used = [it for it in line_of(crate, ROOT)[1] if (ROOT / "crates" / it).is_dir()]
-    return set(used).union(*map(libraries_of, used))
-
-
 def has_libraries(crates, folder):
     """Copies the libraries below these crates to a folder, and has `rt ci` prove them there or put back what it has kept."""
-    below = set().union(*map(libraries_of, crates))
+    below = set().union(*map(common.below, crates))
     if not below:
         return True
-    shutil.copy(ROOT / "HANDLES", folder)
-    for name in below:
-        shutil.copytree(ROOT / "crates" / name, folder / "crates" / name, ignore=NOT_READ)
-    lines = [f"{name}: {' '.join(line_of(name, ROOT)[1])}\n" for name in sorted(below)]
-    (folder / "crates.txt").write_text("".join(lines))
+    common.copy_crates(below, folder)
     ran = subprocess.run(["rt", "ci"], cwd=folder, capture_output=True, text=True, errors="replace")
     if ran.returncode:
         print(ran.stdout[-2000:] + ran.stderr[-2000:])
@@ -270,32 +163,40 @@ def has_libraries(crates, folder):
 
 
 def tried(crate, bodies, below):
-    """The lines on a crate's wrong bodies, and how many failed."""
+    """The lines on a crate's wrong bodies, and of each whether it ended as it must."""
     begun = time.monotonic()
     with tempfile.TemporaryDirectory() as folder:
         ended = Tries(Copy(crate, folder, below), bodies).run()
     lines = [f"{crate}/{body.name}: {verdict}{': ' if why else ''}{why}" for body, (verdict, why) in ended.items()]
-    failed = sum(verdict != body.ends for body, (verdict, _) in ended.items())
     took = time.monotonic() - begun
-    return [*sorted(lines), f"{crate}: {len(bodies)} tried in {took:.0f} seconds"], len(bodies) - failed, failed
+    are_well = [verdict == body.ends for body, (verdict, _) in ended.items()]
+    return [*sorted(lines), f"{crate}: {len(bodies)} tried in {took:.0f} seconds"], are_well
+
+
+def wrong_of(crate):
+    """The files of a crate's wrong bodies."""
+    return sorted(common.crate(crate).folder().glob("wrong/*.edit"))
+
+
+def bodies_of(crate, paths):
+    return [parsed(it, common.crate(crate).folder()) for it in paths]
 
 
 def wrong_bodies(words):
     """Crates with their wrong bodies, the most first: those that are named, or all with those that are shown."""
-    shown = [("puffin_data", [parsed(it) for it in sorted(HERE.glob("shown/*.edit"))])]
+    shown = [("puffin_data", bodies_of("puffin_data", sorted(HERE.glob("shown/*.edit"))))]
     if words == ["--shown"]:
         return shown
     found = []
-    for word in words or sorted(it.parent.name for it in ROOT.glob("crates/*/wrong")):
+    for word in words or [it for it in common.crates() if any(wrong_of(it))]:
         crate, _, part = word.partition("/")
-        paths = sorted(ROOT.glob(f"crates/{crate}/wrong/*.edit"))
-        found.append((crate, [parsed(it) for it in paths if part in it.name]))
+        found.append((crate, bodies_of(crate, [it for it in wrong_of(crate) if part in it.name])))
     return sorted(found, key=lambda it: -len(it[1])) + ([] if words else shown)
 
 
 def commit():
     """The commit of the sources, and whether they have changed since."""
-    git = ["git", "-C", ROOT]
+    git = ["git", "-C", common.ROOT]
     name = subprocess.run([*git, "rev-parse", "--short=8", "HEAD"], capture_output=True, text=True).stdout.strip()
     changed = subprocess.run([*git, "status", "--porcelain", "crates"], capture_output=True, text=True).stdout
     return f"{name or 'no commit'}{' with changes' if changed else ''}"
@@ -306,22 +207,22 @@ def main():
     if not tasks or not all(bodies for _, bodies in tasks):
         print(f"no wrong bodies: {' '.join(crate for crate, bodies in tasks if not bodies)}")
         return 2
-    passed, failed = 0, 0
+    count = common.Count()
     with tempfile.TemporaryDirectory() as folder, concurrent.futures.ThreadPoolExecutor(LANES) as lanes:
         below = pathlib.Path(folder)
         if not has_libraries([crate for crate, _ in tasks], below):
-            print("0 passed, 1 failed")
-            return 1
+            count.add(False)
+            return count.end()
         begun = [lanes.submit(tried, crate, bodies, below) for crate, bodies in tasks]
         for ended in concurrent.futures.as_completed(begun):
-            lines, well, badly = ended.result()
+            lines, are_well = ended.result()
             print("\n".join(lines), flush=True)
-            passed, failed = passed + well, failed + badly
+            for is_well in are_well:
+                count.add(is_well)
     used = resource.getrusage(resource.RUSAGE_CHILDREN)
     print(f"wrong bodies: {(used.ru_utime + used.ru_stime) / 60:.1f} processor minutes")
-    print(f"wrong bodies: {passed + failed} tried on {commit()}")
-    print(f"{passed} passed, {failed} failed")
-    return 1 if failed else 0
+    print(f"wrong bodies: {count.passed + count.failed} tried on {commit()}")
+    return count.end()
 
 
 if __name__ == "__main__":
