@@ -5,14 +5,13 @@
 The first program, asked for `memory`, makes each call again that was refused for memory: it has to end with status 0 and to
 print the same whichever allocation it was. The second must do what it does otherwise; or end with status 1 and say that there
 was no memory, and nothing but a beginning of its output is written then; or, where it replays a script, tell in one line that
-one command was refused or one report kept for memory, and go on: each such end is known, with the file of the frames that its
-lines tell of. At least once it must end otherwise than usual. Asked for `threads`, the first has to end too, whichever
-allocation or start of a thread was refused: with all parts done, and each scope that was begun reported, or with an error
-before the first part. A C compiler is needed: `cc`, or what CC names.
+one command was refused or one report kept for memory, and go on: of a script of one scope each such end is known, with the
+file of the frames that its lines tell of. Asked for `threads`, the first has to end too, whichever allocation or start of a
+thread was refused: with all parts done, and each scope that was begun reported, or with an error before the first part. A C
+compiler is needed: `cc`, or what CC names.
 
 At last the second program reports a file of many frames in little memory (one frame's and the report's, and not the file's), and
-refuses a packet whose details are fewer than their number says, without memory for one of them. The last line is
-'N passed, M failed'.
+refuses a packet whose details are fewer than their number says, without memory for one of them.
 """
 
 import os
@@ -22,14 +21,11 @@ import subprocess
 import sys
 import tempfile
 
-sys.path.append(str(pathlib.Path(__file__).resolve().parents[1]))
-import common  # noqa: E402
-import ends  # noqa: E402
-
 HERE = pathlib.Path(__file__).resolve().parent
 STREAM = bytes.fromhex("28 01000000 6400000000000000 04 64617461 0000000000000000 29 2c01000000000000")
 ONE_SCOPE = b"begin main 100 1 data\nend main 300\nframe\n"
 LONG_SCOPE = b"long main\nbegin main 100 1 " + 200 * b"a" + b"\nend main 300\nframe\n"
+NO_FRAMES = b"PUF0"
 SCRIPT = b"""function main load a.rs 7
 user own
 begin main 100 1 data
@@ -79,47 +75,73 @@ class Refusing:
         return ran.returncode, ran.stdout, ran.stderr, out.read_bytes() if out.exists() else b"", count
 
 
-def faults(refusing, words, given, ways):
-    """How many allocations were refused, and the runs that ended in none of these ways. Where there are others than the usual
-    one, some run has to end otherwise: else nothing was refused."""
+def is_alike(ended, usual):
+    return ended[:4] == usual[:4]
+
+
+def is_told(ended, usual):
+    """The program's own words for want of memory, with nothing but a beginning of its output."""
+    status, lines, cause, file, _ = ended
+    began = usual[1].startswith(lines) and usual[3].startswith(file)
+    return status == 1 and began and cause == b"puffin-tool: Memory\n"
+
+
+def is_replied(ended, usual):
+    """One command was refused for want of memory, or one report kept; a file is written, and nothing else is told."""
+    status, lines, cause, file, _ = ended
+    refused = [it for it in lines.splitlines() if it.endswith(b" Memory")]
+    is_one = len(refused) == 1 and refused[0].split()[0] in (b"refused", b"kept")
+    return status == 0 and is_one and not cause and file.startswith(b"PUF0")
+
+
+def is_one_scope_replied(first):
+    """One of the three commands, the first of which stands in this line, was refused or kept for want of memory, and there is no
+    frame, in the lines as in the file."""
+    lines = {
+        b"refused %d Memory\nrefused %d MismatchedEnd\nframe none\n" % (first, first + 1),
+        b"kept %d Memory\nframe none\n" % (first + 1),
+        b"refused %d Memory\n" % (first + 2),
+    }
+    return lambda ended, usual: ended[0] == 0 and ended[1] in lines and not ended[2] and ended[3] == NO_FRAMES
+
+
+def is_not_begun(ended, usual):
+    """No part of a round was done."""
+    return ended[:3] == (0, b"parts 0 begun 0 refused\n", b"")
+
+
+def is_all_reported(ended, usual):
+    """Each part was done, and each of its two scopes was begun or is counted as refused; what was begun was reported, and that was
+    handed out or waits; each frame is in the view, or missed."""
+    words = ended[1].split()
+    told = dict(zip(words[::2], map(int, words[1::2]))) if words[1::2] and all(it.isdigit() for it in words[1::2]) else {}
+    if ended[0] or ended[2] or list(told) != usual[1].split()[::2] or told[b"parts"] != int(usual[1].split()[1]):
+        return False
+    is_whole = told[b"begun"] == told[b"reported"] == told[b"handed"] + told[b"pending"] and not told[b"unreported"]
+    is_counted = told[b"begun"] + told[b"refused"] == 2 * told[b"parts"]
+    return is_whole and is_counted and told[b"frames"] == told[b"held"] + told[b"missed"]
+
+
+def faults_of_threads(refusing, words):
+    """The same of the program's three threads, each of which can't be started in turn: nothing begins."""
+    usual = refusing.run(words, b"", 0)
+    ended = {number: refusing.run(words, b"", 0, number) for number in (1, 2, 3)}
+    return 3, [f"thread {number}: {it[:3]}" for number, it in ended.items() if not is_not_begun(it, usual)]
+
+
+def faults(refusing, words, given, ends):
+    """How many allocations were refused, and the runs that ended in none of these ways."""
     usual = refusing.run(words, given, 0)
     if usual[0]:
         return 0, [f"with memory it ends with status {usual[0]}: {usual[2]!r:.200}"]
     if not usual[4]:
         return 0, ["no allocation was counted"]
-    runs = {number: refusing.run(words, given, number) for number in range(1, usual[4] + 1)}
-    found = [
-        f"at {number}: status {ended[0]}, {ended[1]!r:.200}, {ended[2]!r:.200}"
-        for number, ended in runs.items()
-        if not any(is_well(ended, usual) for is_well in ways)
-    ]
-    if ways != [ends.is_alike] and all(ends.is_alike(ended, usual) for ended in runs.values()):
-        found.append("whichever allocation was refused, it ended as usual")
-    return usual[4], found
-
-
-def faults_of_threads(refusing, words):
-    """How many allocations of three threads were refused, or starts of one of them, and the runs that ended otherwise than they
-    must: with all parts done, or, as where a thread isn't started, before the first."""
-    usual = refusing.run(words, b"", 0)
-    if not ends.is_undisturbed(usual):
-        return 0, [f"with memory: {usual[:3]}"]
-    runs = {number: refusing.run(words, b"", number) for number in range(1, usual[4] + 1)}
     found = []
-    for number, ended in runs.items():
-        if not ends.is_all_reported(ended, usual) and not ends.is_not_begun(ended, usual):
+    for number in range(1, usual[4] + 1):
+        ended = refusing.run(words, given, number)
+        if not any(is_well(ended, usual) for is_well in ends):
             found.append(f"at {number}: status {ended[0]}, {ended[1]!r:.200}, {ended[2]!r:.200}")
-    if not any(map(ends.counts_a_refused_scope, runs.values())):
-        found.append("whichever allocation was refused, no scope was")
     return usual[4], found
-
-
-def faults_of_starts(refusing, words):
-    """The same of the start of each thread: nothing begins."""
-    usual = refusing.run(words, b"", 0)
-    ended = {number: refusing.run(words, b"", 0, number) for number in (1, 2, 3)}
-    found = [] if ends.is_undisturbed(usual) else [f"with all starts: {usual[:3]}"]
-    return 3, found + [f"thread {number}: {it[:3]}" for number, it in ended.items() if not ends.is_not_begun(it, usual)]
 
 
 def numbered(packet, index):
@@ -156,57 +178,49 @@ def many_faults(tool, folder):
     return [] if ended == (0, MANY_LINES, b"") else [f"{ended!r:.300}"]
 
 
-def lay_files(tool, folder):
-    """Puts the scripts into a folder, and the files that the program makes of them."""
-    scripts = {"script": SCRIPT, "one_scope": ONE_SCOPE, "long_scope": LONG_SCOPE, "scopes_script": SCOPES}
-    files = {"script": "frames", "one_scope": "one_frame", "long_scope": "long_frames", "scopes_script": "scopes"}
-    for name, script in scripts.items():
-        pathlib.Path(f"{folder}/{name}").write_bytes(script)
-        subprocess.run([tool, "replay", name, files[name]], capture_output=True, cwd=folder, check=True)
-
-
-def cases(trials, tool, folder):
-    """What is run with each allocation refused: the words, standard input, and the ways to end."""
-    alike, told = ends.is_alike, ends.is_told
-    replied = ends.is_replied(ends.replies_known(tool, SCRIPT, folder))
-    yield "each call twice", [trials, "memory"], b"", [alike]
-    yield "count", [tool, "count"], STREAM, [alike, told]
-    yield "replay", [tool, "replay", "script", "out"], b"", [alike, told, replied]
-    yield "replay of one scope", [tool, "replay", "one_scope", "out"], b"", [alike, told, ends.is_one_scope_replied(1)]
-    yield "replay of one long scope", [tool, "replay", "long_scope", "out"], b"", [alike, told, ends.is_one_scope_replied(2)]
-    yield "report", [tool, "report", "frames", "100:main"], b"", [alike, told]
-    yield "report of one scope", [tool, "report", "one_frame", "100:main"], b"", [alike, told]
-    yield "report of long texts", [tool, "report", "long_frames", "100:main"], b"", [alike, told]
-
-
-def outcomes(trials, tool, folder):
-    """Each check by its name, what it tried, and its faults."""
-    refusing = Refusing(folder)
-    lay_files(tool, folder)
-    for name, words, given, ways in cases(trials, tool, folder):
-        count, found = faults(refusing, words, given, ways)
-        yield name, f"{count} allocations refused in turn", found
-    count, found = faults_of_threads(refusing, [trials, "threads"])
-    yield "threads", f"{count} allocations refused in turn", found
-    count, found = faults_of_starts(refusing, [trials, "threads"])
-    yield "threads not started", f"{count} starts refused in turn", found
-    yield "of a report of many frames", f"{MANY} frames in {ROOM // 1_000_000} MB", many_faults(tool, folder)
-    yield "of details that lie", f"{LYING} bytes in {4 * LYING // 1_000_000} MB", faults_of_lying_details(tool, folder)
-
-
 def main():
     trials, tool = (str(pathlib.Path(it).resolve()) for it in sys.argv[1:])
-    count = common.Count()
-    for missing in (it for it in (trials, tool) if not os.path.exists(it)):
-        print(f"memory ... there is no program {missing}: it was not proved, or not built")
-        count.add(False)
-    if count.failed:
-        return count.end()
+    missing = [it for it in (trials, tool) if not os.path.exists(it)]
+    if missing:
+        print(f"memory ... there is no program {', '.join(missing)}: it was not proved, or not built")
+        print(f"0 passed, {len(missing)} failed")
+        return 1
+    failed = 0
     with tempfile.TemporaryDirectory() as folder:
-        for name, tried, found in outcomes(trials, tool, folder):
-            count.add(not found)
-            print(f"memory {name} ... {'; '.join(found) if found else f'{tried}: ok'}")
-    return count.end()
+        refusing = Refusing(folder)
+        pathlib.Path(f"{folder}/script").write_bytes(SCRIPT)
+        pathlib.Path(f"{folder}/one_scope").write_bytes(ONE_SCOPE)
+        pathlib.Path(f"{folder}/long_scope").write_bytes(LONG_SCOPE)
+        pathlib.Path(f"{folder}/scopes_script").write_bytes(SCOPES)
+        replayed = {"script": "frames", "one_scope": "one_frame", "long_scope": "long_frames", "scopes_script": "scopes"}
+        for script, frames in replayed.items():
+            subprocess.run([tool, "replay", script, frames], capture_output=True, cwd=folder, check=True)
+        cases = {
+            "each call twice": ([trials, "memory"], b"", [is_alike]),
+            "threads": ([trials, "threads"], b"", [is_all_reported, is_not_begun]),
+            "count": ([tool, "count"], STREAM, [is_alike, is_told]),
+            "replay": ([tool, "replay", "script", "out"], b"", [is_alike, is_told, is_replied]),
+            "replay of one scope": ([tool, "replay", "one_scope", "out"], b"", [is_alike, is_told, is_one_scope_replied(1)]),
+            "replay of one long scope": ([tool, "replay", "long_scope", "out"], b"", [is_alike, is_told, is_one_scope_replied(2)]),
+            "report": ([tool, "report", "frames", "100:main"], b"", [is_alike, is_told]),
+            "report of one scope": ([tool, "report", "one_frame", "100:main"], b"", [is_alike, is_told]),
+            "report of long texts": ([tool, "report", "long_frames", "100:main"], b"", [is_alike, is_told]),
+        }
+        for name, (words, given, ends) in cases.items():
+            count, found = faults(refusing, words, given, ends)
+            failed += bool(found)
+            print(f"memory {name} ... {'; '.join(found) if found else f'{count} allocations refused in turn: ok'}")
+        count, found = faults_of_threads(refusing, [trials, "threads"])
+        failed += bool(found)
+        print(f"memory threads not started ... {'; '.join(found) if found else f'{count} starts refused in turn: ok'}")
+        found = many_faults(tool, folder)
+        failed += bool(found)
+        print(f"memory of a report of many frames ... {'; '.join(found) or f'{MANY} frames in {ROOM // 1_000_000} MB: ok'}")
+        found = faults_of_lying_details(tool, folder)
+        failed += bool(found)
+        print(f"memory of details that lie ... {'; '.join(found) or f'{LYING} bytes in {4 * LYING // 1_000_000} MB: ok'}")
+    print(f"{len(cases) + 3 - failed} passed, {failed} failed")
+    return 1 if failed else 0
 
 
 if __name__ == "__main__":

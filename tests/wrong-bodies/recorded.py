@@ -2,12 +2,14 @@
 
     python3 recorded.py
 
-NAME.edit is a wrong body of the crate `heaps`, of which `recorded` has a source file and a proof; NAME.said is what a check of
-it prints. A line `ends` in the edit is the verdict, if it isn't REFUSED. No prover runs. The last line is 'N passed, M failed'.
+NAME.edit is a wrong body of the crate `heaps`, of which `recorded` has a source file and a proof, each with `.txt` after its name,
+since `rt ci` wants no source outside of crates; NAME.said is what a check of the body prints. A line `ends` in the edit is the verdict, if it isn't REFUSED. No prover runs. The last line is 'N passed, M failed'.
 """
 
 import pathlib
+import shutil
 import sys
+import tempfile
 
 sys.path.append(str(pathlib.Path(__file__).resolve().parents[1]))
 import common  # noqa: E402
@@ -18,13 +20,24 @@ FOLDER = pathlib.Path(__file__).resolve().parent / "recorded"
 CRATE = "heaps"
 
 
+def copy_sources(to):
+    """Copies the crate's files to a folder, under their own names."""
+    for path in FOLDER.rglob("*.txt"):
+        copy = to / path.relative_to(FOLDER).with_suffix("")
+        copy.parent.mkdir(parents=True, exist_ok=True)
+        shutil.copy(path, copy)
+
+
 def main():
     count = common.Count()
-    for path in sorted(FOLDER.glob("*.edit")):
-        body, said = parsed(path, FOLDER), path.with_suffix(".said").read_text()
-        verdict = judged(body, CRATE, said, texts_of(FOLDER)) if is_judged(said) else "no end of a check"
-        is_well = count.add(verdict == body.ends)
-        print(f"recorded {path.stem} ... {'ok' if is_well else f'{verdict} in place of {body.ends}'}")
+    with tempfile.TemporaryDirectory() as name:
+        crate = pathlib.Path(name)
+        copy_sources(crate)
+        for path in sorted(FOLDER.glob("*.edit")):
+            body, said = parsed(path, crate), path.with_suffix(".said").read_text()
+            verdict = judged(body, CRATE, said, texts_of(crate)) if is_judged(said) else "no end of a check"
+            is_well = count.add(verdict == body.ends)
+            print(f"recorded {path.stem} ... {'ok' if is_well else f'{verdict} in place of {body.ends}'}")
     return count.end()
 
 
