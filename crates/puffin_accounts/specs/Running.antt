@@ -1,0 +1,89 @@
+-- Code that opens scopes, and what the first frame of a thread shows of it.
+use Rattle.std.specs.Prelude.{◌≡◌, ℕ, ◌+◌, ℤ, List, Option}
+use Rattle.std.specs.declared.sync.Arc.{Arc}
+use Rattle.puffin_data.specs.declared.data.form.Form.{Form}
+use Rattle.puffin_data.specs.declared.data.form.Form.TheVariants.{Short}
+use Rattle.puffin_data.specs.Text.{cut_text}
+use Rattle.puffin_data.specs.Forest as forest
+use Rattle.puffin_data.specs.Forest.{Forest, node, append}
+use Rattle.puffin_data.specs.Forest.Measures.{scope_count}
+use Rattle.puffin_data.specs.Forest.Tour.{tour}
+use Rattle.puffin_threads.specs.Thread.Calls.{new_thread}
+use Rattle.puffin_threads.specs.Details.{Details}
+use Rattle.puffin_frames.specs.declared.frame_data.frame.FrameData.{FrameData}
+use Rattle.puffin_collector.specs.Collector.State.{nothing_collected, after_learning, after_wanting}
+use Rattle.puffin_scopes.specs.declared.guard_state.GuardState.{GuardState}
+use Rattle.puffin_scopes.specs.Guards.Guard.{offset_in}
+use Rattle.puffin.specs.declared.light.place.Place.{Place}
+use Rattle.puffin.specs.Guards.{Leaves}
+use Rattle.puffin_accounts.specs.Moments.{Moment}
+use Rattle.puffin_accounts.specs.Times.{Timed}
+use Rattle.puffin_accounts.specs.Adding.{scope_if, span_at}
+use Rattle.puffin_accounts.specs.Showing.{ShowsAll}
+
+-- code that opens scopes: nothing, or a scope at a place with a text, with the code within it and the code after it
+pub data Code : Type 0 where
+  nothing : Code
+  scope : (place : Place) → (text : List ℕ) → (within : Code) → (after : Code) → Code
+
+-- the calls of this code were made, one after the other
+abbrev pub Runs : {T : Type 0} → (T → Place → List ℕ → GuardState → T → Type 0) →
+    (T → ℕ → T → Type 0) → Code → T → T → Type 0
+Runs begins ends nothing old new = new ≡ old
+Runs {T} begins ends (scope place text within after) old new =
+    (state : GuardState)
+    × (begun left ended : T)
+    × begins old place text state begun
+    × Runs begins ends within begun left
+    × Leaves ends (offset_in state) left ended
+    × Runs begins ends after ended new
+
+-- the scopes of this code that began, each with its place's id and its text
+abbrev pub AreScopesOf : Form → Code → Forest → Type 0
+AreScopesOf form nothing f = f ≡ forest.empty
+AreScopesOf form (scope place text within after) f =
+    (state : GuardState)
+    × (start stop : ℤ)
+    × (children others : Forest)
+    × AreScopesOf form within children
+    × AreScopesOf form after others
+    × (f ≡ append (scope_if state (span_at place (cut_text form text) start stop) children) others)
+
+-- all scopes of this code
+abbrev pub AreAllOf : Form → Code → Forest → Type 0
+AreAllOf form nothing f = f ≡ forest.empty
+AreAllOf form (scope place text within after) forest.empty = ⊥
+AreAllOf form (scope place text within after) (node s children others) =
+    (s.id ≡ place.id)
+    × (s.text ≡ cut_text form text)
+    × AreAllOf form within children
+    × AreAllOf form after others
+
+-- the number of scopes that the code opens
+abbrev pub num_scopes_of : Code → ℕ
+num_scopes_of nothing = 0
+num_scopes_of (scope place text within after) = 1 + (num_scopes_of within + num_scopes_of after)
+
+-- code of which each scope has no code after it
+abbrev pub IsNested : Code → Type 0
+IsNested nothing = Unit {0}
+IsNested (scope place text within after) = (after ≡ nothing) × IsNested within
+
+-- a new thread with this name and clock, and a new profiler that was told these details
+abbrev pub at_first : {C : Type 0} → List ℕ → C → List Details → Moment C
+at_first name clock details = record {
+  clock = clock;
+  thread = new_thread name Short;
+  collected = after_wanting (after_learning (nothing_collected 0) details);
+}
+
+-- The code ran on a new thread, and then a frame was asked for. The frame shows exactly the scopes that began, at times that the
+-- clock gave; or there is none, and they wait.
+pub record ShowsRun {C A : Type 0} (answers : C → ℤ → C → Type 0) (first : Moment C) (code : Code)
+    (frame : Option (Arc FrameData A)) : Type 0 where
+  pub scopes : Forest
+  pub began : AreScopesOf first.thread.form code scopes
+  pub all : scope_count scopes ≡ num_scopes_of code → AreAllOf first.thread.form code scopes
+  pub now : Moment C
+  pub timed : Timed answers first now (tour scopes)
+  pub shows : ShowsAll first now scopes frame

@@ -1,0 +1,18 @@
+//! Laws of what the calls on a thread of `puffin::light` record, and of what its frames show. Each is the contract of a function
+//! that does nothing; a proof in another crate cites it by calling the function. That of a program is written with the
+//! definitions in `specs`: `Runs` says which calls a function makes, and `ShowsRun` what the next frame shows of them.
+#![tactic(auto)]
+
+ghost use Rattle.puffin_accounts.specs.Steps.{CallsAccount, NoneDueAtFirst, NoFrameNothingDue};
+
+use puffin::thread_profiler::{NsSource, Reporter};
+
+/// Whatever list of calls is made on a thread, the events that its frames show, those that are due for the next frame and those
+/// that wait are, one after the other, exactly those that the calls recorded, each at the time that the clock gave, under its
+/// place's id. A new thread that reports to what has collected nothing has nothing due. Where a frame call answers that there
+/// is no frame, nothing was due.
+pub fn calls_account<C: NsSource, P: Reporter>()
+    ensures account { CallsAccount C.answers P.accepts P.refuses }
+    ensures first { NoneDueAtFirst C }
+    ensures none { NoFrameNothingDue C }
+{}
