@@ -1,6 +1,7 @@
 -- Which scopes a piece of code adds to a thread, and what is reported of them meanwhile.
-use Rattle.std.specs.Prelude.{◌≡◌, ◌⊎◌, ℕ, ◌<◌, ℤ, false, List, [], ◌++◌, Option, Some, None, unwrap_or}
+use Rattle.std.specs.Prelude.{◌≡◌, ◌⊎◌, ℕ, ◌<◌, ◌≤◌, ℤ, false, List, [], ◌++◌, Option, Some, None, unwrap_or}
 use Rattle.std.specs.FinMap.{get}
+use Rattle.puffin_data.specs.declared.error.Error.TheVariants.{Memory, MissingId}
 use Rattle.puffin_data.specs.Forest.{Forest, Span, empty, node}
 use Rattle.puffin_data.specs.Forest.Tour.{Event, tour, IsBalanced}
 use Rattle.puffin_data.specs.Honesty.{StreamFacts, AreHonestFacts}
@@ -69,6 +70,14 @@ abbrev pub scope_if : GuardState → Span → Forest → Forest
 scope_if (On offset) s children = node s children empty
 scope_if Off s children = children
 scope_if (Refused e) s children = children
+
+-- A scope at this place may have this state, where the thread knows that many places: a place that it doesn't know is refused,
+-- and any other only where memory runs out.
+abbrev pub MayBe : ℕ → Place → GuardState → Type 0
+MayBe known place (On offset) = place.id ≤ known
+MayBe known place Off = Unit {0}
+MayBe known place (Refused e) =
+    ((e ≡ MissingId) × (known < place.id)) ⊎ ((e ≡ Memory) × (place.id ≤ known))
 
 -- a scope at a place
 abbrev pub span_at : Place → List ℕ → ℤ → ℤ → Span

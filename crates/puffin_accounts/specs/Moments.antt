@@ -11,12 +11,14 @@ use Rattle.puffin_threads.specs.Details.{Details}
 use Rattle.puffin_collector.specs.Collector.State.{Collected, AcceptsReport, RefusesReport}
 use Rattle.puffin.specs.declared.global_profiler.profiler.GlobalProfiler.{GlobalProfiler}
 use Rattle.puffin.specs.declared.light.thread.Thread.{Thread}
-use Rattle.puffin.specs.LightThread.{profiler_of, reporter_of}
+use Rattle.puffin.specs.LightThread.{profiler_of, reporter_of, scopes_of}
+use Rattle.puffin.specs.Places.{num_known}
 use Rattle.puffin.specs.Profiler.{collected_of, sinks_of}
 
--- a thread at one time: its clock, what it has recorded, and what its profiler has collected
+-- a thread at one time: its clock, the number of places that it knows, what it has recorded, and what its profiler has collected
 pub record Moment (C : Type 0) : Type 0 where
   pub clock : C
+  pub known : ℕ
   pub thread : calls.Thread
   pub collected : Collected
 
@@ -24,6 +26,7 @@ pub record Moment (C : Type 0) : Type 0 where
 abbrev pub moment_by : {C R : Type 0} → (R → Collected) → Thread C R → Moment C
 moment_by seen t = record {
   clock = clock_of (profiler_of t);
+  known = num_known (scopes_of t);
   thread = thread_of (profiler_of t);
   collected = seen (reporter_of t);
 }

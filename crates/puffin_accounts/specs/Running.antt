@@ -1,5 +1,5 @@
 -- Code that opens scopes, and what the first frame of a thread shows of it.
-use Rattle.std.specs.Prelude.{◌≡◌, ℕ, ◌+◌, ℤ, List, Option}
+use Rattle.std.specs.Prelude.{◌≡◌, ℕ, ◌+◌, ℤ, Bool, true, false, List, length, Option}
 use Rattle.std.specs.declared.sync.Arc.{Arc}
 use Rattle.puffin_data.specs.declared.data.form.Form.{Form}
 use Rattle.puffin_data.specs.declared.data.form.Form.TheVariants.{Short}
@@ -18,7 +18,7 @@ use Rattle.puffin.specs.declared.light.place.Place.{Place}
 use Rattle.puffin.specs.Guards.{Leaves}
 use Rattle.puffin_accounts.specs.Moments.{Moment}
 use Rattle.puffin_accounts.specs.Times.{Timed}
-use Rattle.puffin_accounts.specs.Adding.{scope_if, span_at}
+use Rattle.puffin_accounts.specs.Adding.{MayBe, scope_if, span_at}
 use Rattle.puffin_accounts.specs.Showing.{ShowsAll}
 
 -- code that opens scopes: nothing, or a scope at a place with a text, with the code within it and the code after it
@@ -38,15 +38,16 @@ Runs {T} begins ends (scope place text within after) old new =
     × Leaves ends (offset_in state) left ended
     × Runs begins ends after ended new
 
--- the scopes of this code that began, each with its place's id and its text
-abbrev pub AreScopesOf : Form → Code → Forest → Type 0
-AreScopesOf form nothing f = f ≡ forest.empty
-AreScopesOf form (scope place text within after) f =
+-- the scopes of this code that began, each with its place's id and its text, where the thread knows that many places
+abbrev pub AreScopesOf : ℕ → Form → Code → Forest → Type 0
+AreScopesOf known form nothing f = f ≡ forest.empty
+AreScopesOf known form (scope place text within after) f =
     (state : GuardState)
+    × MayBe known place state
     × (start stop : ℤ)
     × (children others : Forest)
-    × AreScopesOf form within children
-    × AreScopesOf form after others
+    × AreScopesOf known form within children
+    × AreScopesOf known form after others
     × (f ≡ append (scope_if state (span_at place (cut_text form text) start stop) children) others)
 
 -- all scopes of this code
@@ -64,15 +65,17 @@ abbrev pub num_scopes_of : Code → ℕ
 num_scopes_of nothing = 0
 num_scopes_of (scope place text within after) = 1 + (num_scopes_of within + num_scopes_of after)
 
--- code of which each scope has no code after it
-abbrev pub IsNested : Code → Type 0
-IsNested nothing = Unit {0}
-IsNested (scope place text within after) = (after ≡ nothing) × IsNested within
+-- whether no scope of this code has another one after it
+abbrev pub is_nested : Code → Bool
+is_nested nothing = true
+is_nested (scope place text within nothing) = is_nested within
+is_nested (scope place text within (scope next after_text inner after)) = false
 
 -- a new thread with this name and clock, and a new profiler that was told these details
 abbrev pub at_first : {C : Type 0} → List ℕ → C → List Details → Moment C
 at_first name clock details = record {
   clock = clock;
+  known = length details;
   thread = new_thread name Short;
   collected = after_wanting (after_learning (nothing_collected 0) details);
 }
@@ -82,7 +85,7 @@ at_first name clock details = record {
 pub record ShowsRun {C A : Type 0} (answers : C → ℤ → C → Type 0) (first : Moment C) (code : Code)
     (frame : Option (Arc FrameData A)) : Type 0 where
   pub scopes : Forest
-  pub began : AreScopesOf first.thread.form code scopes
+  pub began : AreScopesOf first.known first.thread.form code scopes
   pub all : scope_count scopes ≡ num_scopes_of code → AreAllOf first.thread.form code scopes
   pub now : Moment C
   pub timed : Timed answers first now (tour scopes)

@@ -24,11 +24,11 @@ use Rattle.puffin_scopes.specs.declared.guard_state.GuardState.{GuardState}
 use Rattle.puffin_scopes.specs.declared.guard_state.GuardState.TheVariants.{On, Off, Refused}
 use Rattle.puffin.specs.declared.light.thread.Thread.{Thread}
 use Rattle.puffin.specs.declared.light.place.Place.{Place}
-use Rattle.puffin.specs.LightThread.{profiler_of, reporter_of}
+use Rattle.puffin.specs.LightThread.{profiler_of, reporter_of, scopes_of}
 use Rattle.puffin.specs.Guards.{BeginsAt, EndsIn}
 use Rattle.puffin_accounts.specs.Moments.{Moment, moment_by, key_at, Sees}
 use Rattle.puffin_accounts.specs.Times.{Timed}
-use Rattle.puffin_accounts.specs.Adding.{SpellsEvents}
+use Rattle.puffin_accounts.specs.Adding.{SpellsEvents, MayBe}
 use Rattle.puffin_accounts.specs.Showing.{ShowsForest}
 
 -- a call on a thread, with its outcome
@@ -49,10 +49,12 @@ module _ {C R : Type 0} (answers : C → ℤ → C → Type 0) (seen : R → Col
       Reports accepts refuses (thread_of (profiler_of old)) (thread_of (profiler_of new))
       (reporter_of old) (reporter_of new) result
       × (clock_of (profiler_of new) ≡ clock_of (profiler_of old))
+      × (scopes_of new ≡ scopes_of old)
   Does (frame result) old new =
       IfOk result (λ f. Collects (seen (reporter_of old)) f (seen (reporter_of new)))
       × IfErr result (λ e. KeepsPending (seen (reporter_of old)) e (seen (reporter_of new)))
       × (profiler_of new ≡ profiler_of old)
+      × (scopes_of new ≡ scopes_of old)
 
   -- the calls were made one after the other
   abbrev pub Run : Thread C R → List Call → Thread C R → Type 0
@@ -60,15 +62,17 @@ module _ {C R : Type 0} (answers : C → ℤ → C → Type 0) (seen : R → Col
   Run old (call ∷ later) new =
       (next : Thread C R) × Does call old next × Run next later new
 
--- the event that a call records, if any
-abbrev pub Marks : Form → Call → List Event → Type 0
-Marks form (begins place text (On offset)) events =
-    (start : ℤ) × (events ≡ Open place.id (cut_text form text) start ∷ [])
-Marks form (begins place text Off) events = events ≡ []
-Marks form (begins place text (Refused e)) events = events ≡ []
-Marks form (ends offset) events = (events ≡ []) ⊎ ((stop : ℤ) × (events ≡ Close stop ∷ []))
-Marks form (reports result) events = events ≡ []
-Marks form (frame result) events = events ≡ []
+-- The event that a call records, if any, where the thread knows that many places. A refused call says why.
+abbrev pub Marks : ℕ → Form → Call → List Event → Type 0
+Marks known form (begins place text (On offset)) events =
+    MayBe known place (On offset)
+    × (start : ℤ) × (events ≡ Open place.id (cut_text form text) start ∷ [])
+Marks known form (begins place text Off) events = events ≡ []
+Marks known form (begins place text (Refused e)) events =
+    MayBe known place (Refused e) × (events ≡ [])
+Marks known form (ends offset) events = (events ≡ []) ⊎ ((stop : ℤ) × (events ≡ Close stop ∷ []))
+Marks known form (reports result) events = events ≡ []
+Marks known form (frame result) events = events ≡ []
 
 abbrev pub flat : List (List Event) → List Event
 flat [] = []
@@ -111,7 +115,7 @@ pub record IsDue {C : Type 0} (m : Moment C) (events : List Event) : Type 0 wher
 pub record Accounts {C : Type 0} (answers : C → ℤ → C → Type 0) (old : Moment C) (due : List Event)
     (calls : List Call) (new : Moment C) : Type 0 where
   pub events : List (List Event)
-  pub marked : AllZip (Marks old.thread.form) calls events
+  pub marked : AllZip (Marks old.known old.thread.form) calls events
   pub timed : Timed answers old new (flat events)
   pub shown : List Forest
   pub frames : AllZip (ShowsOf old.thread.name) (frames_in calls) shown

@@ -30,7 +30,7 @@ first_start_in first (Open id text start ∷ word) =
 first_start_in first (Close stop ∷ word) = first_start_in first word
 
 -- Events were recorded, each at the time that the clock gave, or at the thread's latest time where that is greater. The thread's
--- name and form stay.
+-- name and form and the places that it knows stay.
 pub record Timed {C : Type 0} (answers : C → ℤ → C → Type 0) (old new : Moment C)
     (events : List Event) : Type 0 where
   pub ats : List ℤ
@@ -40,3 +40,4 @@ pub record Timed {C : Type 0} (answers : C → ℤ → C → Type 0) (old new : 
   pub first_start : new.thread.first_start ≡ first_start_in old.thread.first_start events
   pub name : new.thread.name ≡ old.thread.name
   pub form : new.thread.form ≡ old.thread.form
+  pub known : new.known ≡ old.known

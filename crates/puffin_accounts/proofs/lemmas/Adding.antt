@@ -79,7 +79,7 @@ quiet a b f word details same = record {
 -- nothing was added
 pub adds_nothing : {C : Type 0} (answers : C → ℤ → C → Type 0) (m : Moment C) → AddsScopes answers m m empty
 adds_nothing answers m = record {
-  timed = timed_still answers m m refl refl;
+  timed = timed_still answers m m refl refl refl;
   word = λ some. sym (append-nil m.thread.word);
   details = λ some. refl;
   collected = λ some. refl;

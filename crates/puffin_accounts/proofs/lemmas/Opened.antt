@@ -31,7 +31,8 @@ use Rattle.puffin_scopes.specs.declared.guard_state.GuardState.{GuardState}
 use Rattle.puffin_scopes.specs.declared.guard_state.GuardState.TheVariants.{On, Off, Refused}
 use Rattle.puffin.specs.declared.light.thread.Thread.{Thread}
 use Rattle.puffin.specs.declared.light.place.Place.{Place}
-use Rattle.puffin.specs.LightThread.{profiler_of, reporter_of}
+use Rattle.puffin.specs.LightThread.{profiler_of, reporter_of, scopes_of}
+use Rattle.puffin.specs.Places.{num_known}
 use Rattle.puffin.specs.Guards.{BeginsAt, EndsIn, Leaves}
 use Rattle.puffin_accounts.specs.Moments.{Moment, moment_by, num_open, key_at, Sees}
 use Rattle.puffin_accounts.specs.Times.{Timed}
@@ -41,7 +42,7 @@ use Rattle.puffin_accounts.proofs.lemmas.Times.{has_start, timed_open, timed_clo
 use Rattle.puffin_accounts.proofs.lemmas.Adding.{quiet}
 
 module _ {C : Type 0} (answers : C → ℤ → C → Type 0) (a b n d : Moment C) (id : ℕ) (text : List ℕ) (at at2 : ℤ) (f : Forest)
-    (answered : answers a.clock at b.clock) (low : pos 0 ≤ℤ at) (begun : b.thread ≡ after_begin a.thread id text at) (still : b.collected ≡ a.collected) (body : AddsScopes answers b n f) where
+    (answered : answers a.clock at b.clock) (low : pos 0 ≤ℤ at) (begun : b.thread ≡ after_begin a.thread id text at) (still : b.collected ≡ a.collected) (known : b.known ≡ a.known) (body : AddsScopes answers b n f) where
   abbrev opening : Event
   opening = Open id text (time_of a.thread at)
 
@@ -77,13 +78,13 @@ module _ {C : Type 0} (answers : C → ℤ → C → Type 0) (a b n d : Moment C
       ∙ ap (λ (w : List Event). slice_get (open_offsets a.thread.form w) 0) (body.word deep)
       ∙ ap (λ (xs : List ℕ). slice_get xs 0) (offsets-tour a.thread.form b.thread.word f ∙ ap (λ (t : calls.Thread). open_offsets a.thread.form t.word) begun ∙ offsets-open a.thread.form a.thread.word id text (time_of a.thread at))
 
-  around : answers n.clock at2 d.clock → pos 0 ≤ℤ at2 → (closed : Closed) → Closes AcceptsReport RefusesReport n.thread d.thread at2 n.collected d.collected closed → AddsScopes answers a d whole
-  around later low2 = at_close
+  around : answers n.clock at2 d.clock → pos 0 ≤ℤ at2 → d.known ≡ n.known → (closed : Closed) → Closes AcceptsReport RefusesReport n.thread d.thread at2 n.collected d.collected closed → AddsScopes answers a d whole
+  around later low2 later_known = at_close
     where
       timed : after_handing d.thread ≡ after_handing (after_end n.thread at2) → Timed answers a d (tour whole)
       timed is = timed_both answers a n d (opening ∷ tour f) (closing ∷ [])
-          (timed_both answers a b n (opening ∷ []) (tour f) (timed_open answers a b id text at answered low begun) body.timed)
-          (timed_close answers n d at2 later low2 is)
+          (timed_both answers a b n (opening ∷ []) (tour f) (timed_open answers a b id text at answered low begun known) body.timed)
+          (timed_close answers n d at2 later low2 is later_known)
 
       word_full : n.thread.word ++ (closing ∷ []) ≡ a.thread.word ++ tour whole
       word_full = ap (λ (w : List Event). w ++ (closing ∷ [])) word_then ∙ append_assoc a.thread.word (opening ∷ tour f) (closing ∷ [])
@@ -154,27 +155,30 @@ module _ {C R : Type 0} (answers : C → ℤ → C → Type 0) (seen : R → Col
   closes_by old new at before after Reported h = (h.0, h.1, (h.2.0, h.2.1, sees.accepted before (key_of_thread (after_end old at)) (after_end old at).details h.2.0 after h.2.2))
   closes_by old new at before after (Kept e) h = (h.0, h.1, (h.2.0, h.2.1, sees.refused before (key_of_thread (after_end old at)) (after_end old at).details h.2.0 e after h.2.2))
 
-  abbrev moment_with : ThreadProfiler C → R → Moment C
-  moment_with p r = record { clock = clock_of p; thread = thread_of p; collected = seen r }
+  abbrev moment_with : ThreadProfiler C → R → ℕ → Moment C
+  moment_with p r known = record { clock = clock_of p; known = known; thread = thread_of p; collected = seen r }
 
-  pub same_moment : (a b : Thread C R) → profiler_of b ≡ profiler_of a → reporter_of b ≡ reporter_of a → moment_by seen b ≡ moment_by seen a
-  same_moment a b profiler reporter = ap (λ p. moment_with p (reporter_of b)) profiler ∙ ap (moment_with (profiler_of a)) reporter
+  pub same_moment : (a b : Thread C R) → profiler_of b ≡ profiler_of a → reporter_of b ≡ reporter_of a → scopes_of b ≡ scopes_of a → moment_by seen b ≡ moment_by seen a
+  same_moment a b profiler reporter scopes =
+      ap (λ p. moment_with p (reporter_of b) (num_known (scopes_of b))) profiler
+      ∙ ap (λ r. moment_with (profiler_of a) r (num_known (scopes_of b))) reporter
+      ∙ ap (λ k. moment_with (profiler_of a) (reporter_of a) (num_known k)) scopes
 
-  bare : (a b c d : Thread C R) (f : Forest) → profiler_of b ≡ profiler_of a → reporter_of b ≡ reporter_of a → AddsScopes answers (moment_by seen b) (moment_by seen c) f → d ≡ c → AddsScopes answers (moment_by seen a) (moment_by seen d) f
-  bare a b c d f profiler reporter body left = subst (λ m. AddsScopes answers m (moment_by seen d) f) (same_moment a b profiler reporter) (subst (λ t. AddsScopes answers (moment_by seen b) (moment_by seen t) f) (sym left) body)
+  bare : (a b c d : Thread C R) (f : Forest) → profiler_of b ≡ profiler_of a → reporter_of b ≡ reporter_of a → scopes_of b ≡ scopes_of a → AddsScopes answers (moment_by seen b) (moment_by seen c) f → d ≡ c → AddsScopes answers (moment_by seen a) (moment_by seen d) f
+  bare a b c d f profiler reporter scopes body left = subst (λ m. AddsScopes answers m (moment_by seen d) f) (same_moment a b profiler reporter scopes) (subst (λ t. AddsScopes answers (moment_by seen b) (moment_by seen t) f) (sym left) body)
 
   -- A guard was opened at a place, code ran within it, and it was dropped.
   pub adds_scope : (a b c d : Thread C R) (place : Place) (text : List ℕ) (state : GuardState) (f : Forest) → BeginsAt answers a place text state b → AddsScopes answers (moment_by seen b) (moment_by seen c) f → Leaves (EndsIn answers accepts refuses) (offset_in state) c d → AddsScope answers (moment_by seen a) (moment_by seen d) place text state f
-  adds_scope a b c d place text Off f begins body left = record { start = pos 0; stop = pos 0; adds = bare a b c d f begins.begins begins.reporter body left }
-  adds_scope a b c d place text (Refused e) f begins body left = record { start = pos 0; stop = pos 0; adds = bare a b c d f begins.begins.0 begins.reporter body left }
+  adds_scope a b c d place text Off f begins body left = record { start = pos 0; stop = pos 0; adds = bare a b c d f begins.begins begins.reporter begins.scopes body left }
+  adds_scope a b c d place text (Refused e) f begins body left = record { start = pos 0; stop = pos 0; adds = bare a b c d f begins.begins.0 begins.reporter begins.scopes body left }
   adds_scope a b c d place text (On offset) f begins body left =
       let h = begins.begins.1 in
       let still : seen (reporter_of b) ≡ seen (reporter_of a) = ap seen begins.reporter in
       let stored = cut_text (thread_of (profiler_of a)).form text in
-      let end = left.ends.innermost (innermost answers (moment_by seen a) (moment_by seen b) (moment_by seen c) (moment_by seen d) place.id stored h.at h.at f h.answered h.never_negative h.begun still body ∙ ap Some (sym h.offset_is)) in
+      let end = left.ends.innermost (innermost answers (moment_by seen a) (moment_by seen b) (moment_by seen c) (moment_by seen d) place.id stored h.at h.at f h.answered h.never_negative h.begun still (ap num_known begins.scopes) body ∙ ap Some (sym h.offset_is)) in
       record {
         start = time_of (thread_of (profiler_of a)) h.at;
         stop = time_of (thread_of (profiler_of c)) end.at;
-        adds = around answers (moment_by seen a) (moment_by seen b) (moment_by seen c) (moment_by seen d) place.id stored h.at end.at f h.answered h.never_negative h.begun still body end.answered end.never_negative end.closed
+        adds = around answers (moment_by seen a) (moment_by seen b) (moment_by seen c) (moment_by seen d) place.id stored h.at end.at f h.answered h.never_negative h.begun still (ap num_known begins.scopes) body end.answered end.never_negative (ap num_known left.scopes) end.closed
             (closes_by (thread_of (profiler_of c)) (thread_of (profiler_of d)) end.at (reporter_of c) (reporter_of d) end.closed end.closes);
       }

@@ -37,7 +37,8 @@ use Rattle.puffin_scopes.specs.declared.guard_state.GuardState.{GuardState}
 use Rattle.puffin_scopes.specs.declared.guard_state.GuardState.TheVariants.{On, Off, Refused}
 use Rattle.puffin.specs.declared.light.thread.Thread.{Thread}
 use Rattle.puffin.specs.declared.light.place.Place.{Place}
-use Rattle.puffin.specs.LightThread.{profiler_of, reporter_of}
+use Rattle.puffin.specs.LightThread.{profiler_of, reporter_of, scopes_of}
+use Rattle.puffin.specs.Places.{num_known}
 use Rattle.puffin_accounts.specs.Moments.{Moment, moment_by, Sees, key_at}
 use Rattle.puffin_accounts.specs.Times.{Timed}
 use Rattle.puffin_accounts.specs.Adding.{SpellsEvents}
@@ -48,7 +49,7 @@ use Rattle.puffin_accounts.proofs.lemmas.Showing.{spells_none, none_spelled, one
 
 record Stepped {C : Type 0} (answers : C → ℤ → C → Type 0) (old : Moment C) (due : List Event) (call : Call) (new : Moment C) : Type 0 where
   events : List Event
-  marked : Marks old.thread.form call events
+  marked : Marks old.known old.thread.form call events
   timed : Timed answers old new events
   shown : List Forest
   frames : AllZip (ShowsOf old.thread.name) (frames_in (call ∷ [])) shown
@@ -82,7 +83,7 @@ all_kept s t d w e m x n g p q = append_assoc s t n ∙ ap (λ y. s ++ y) q ∙ 
 accounts_more : {C : Type 0} (answers : C → ℤ → C → Type 0) (old mid new : Moment C) (due : List Event) (call : Call) (later : List Call) (s : Stepped answers old due call mid) → Accounts answers mid s.now_due later new → Accounts answers old due (call ∷ later) new
 accounts_more answers old mid new due call later s a = record {
   events = s.events ∷ a.events;
-  marked = (s.marked, subst (λ (form : Form). AllZip (Marks form) later a.events) s.timed.form a.marked);
+  marked = (s.marked, subst (λ (form : Form). AllZip (Marks old.known form) later a.events) s.timed.form (subst (λ (k : ℕ). AllZip (Marks k mid.thread.form) later a.events) s.timed.known a.marked));
   timed = timed_both answers old mid new s.events (flat a.events) s.timed a.timed;
   shown = s.shown ++ a.shown;
   frames = subst (λ fs. AllZip (ShowsOf old.thread.name) fs (s.shown ++ a.shown)) (sym (frames_split call later)) (zip_both (ShowsOf old.thread.name) (frames_in (call ∷ [])) s.shown (frames_in later) a.shown s.frames (subst (λ (name : List ℕ). AllZip (ShowsOf name) (frames_in later) a.shown) s.timed.name a.frames));
@@ -96,7 +97,7 @@ accounts_none : {C : Type 0} (answers : C → ℤ → C → Type 0) (m n : Momen
 accounts_none {C = C} answers m n due same h = subst (λ (x : Moment C). Accounts answers m due [] x) (sym same) (record {
   events = [];
   marked = tt;
-  timed = timed_still answers m m refl refl;
+  timed = timed_still answers m m refl refl refl;
   shown = [];
   frames = tt;
   now_due = due;
@@ -134,7 +135,7 @@ module _ {C : Type 0} (answers : C → ℤ → C → Type 0) (m n : Moment C) (d
         unstarted = λ none. let u = h.unstarted (earlier m.thread.first_start refl none) in (u.0, unstarted none u.1, streams ∙ u.2);
       }
 
-  quiet_step : (call : Call) → n.thread.word ≡ m.thread.word ++ events → Marks m.thread.form call events → AllZip (ShowsOf m.thread.name) (frames_in (call ∷ [])) [] → Stepped answers m due call n
+  quiet_step : (call : Call) → n.thread.word ≡ m.thread.word ++ events → Marks m.known m.thread.form call events → AllZip (ShowsOf m.thread.name) (frames_in (call ∷ [])) [] → Stepped answers m due call n
   quiet_step call word marked frames = record {
     events = events;
     marked = marked;
@@ -147,9 +148,9 @@ module _ {C : Type 0} (answers : C → ℤ → C → Type 0) (m n : Moment C) (d
   }
 
 -- the thread and its streams are the same
-still_step : {C : Type 0} (answers : C → ℤ → C → Type 0) (m n : Moment C) (due : List Event) (call : Call) → n.clock ≡ m.clock → n.thread ≡ m.thread → n.collected.streams ≡ m.collected.streams → IsDue m due → Marks m.thread.form call [] → AllZip (ShowsOf m.thread.name) (frames_in (call ∷ [])) [] → Stepped answers m due call n
-still_step answers m n due call clock is streams h marked frames =
-    quiet_step answers m n due [] (timed_still answers m n clock (ap after_handing is)) streams (λ none word. ap (λ (t : calls.Thread). t.word) is ∙ word) h call (ap (λ (t : calls.Thread). t.word) is ∙ sym (append-nil m.thread.word)) marked frames
+still_step : {C : Type 0} (answers : C → ℤ → C → Type 0) (m n : Moment C) (due : List Event) (call : Call) → n.clock ≡ m.clock → n.thread ≡ m.thread → n.known ≡ m.known → n.collected.streams ≡ m.collected.streams → IsDue m due → Marks m.known m.thread.form call [] → AllZip (ShowsOf m.thread.name) (frames_in (call ∷ [])) [] → Stepped answers m due call n
+still_step answers m n due call clock is known streams h marked frames =
+    quiet_step answers m n due [] (timed_still answers m n clock (ap after_handing is) known) streams (λ none word. ap (λ (t : calls.Thread). t.word) is ∙ word) h call (ap (λ (t : calls.Thread). t.word) is ∙ sym (append-nil m.thread.word)) marked frames
 
 -- ---- where all that waits is reported
 
@@ -188,38 +189,38 @@ module _ {C R : Type 0} (answers : C → ℤ → C → Type 0) (seen : R → Col
   now = moment_by seen b
 
   -- neither the profiler nor what was collected changed
-  unchanged : (call : Call) → profiler_of b ≡ profiler_of a → reporter_of b ≡ reporter_of a → Marks was.thread.form call [] → AllZip (ShowsOf was.thread.name) (frames_in (call ∷ [])) [] → Stepped answers was due call now
-  unchanged call profiler reporter = still_step answers was now due call (ap clock_of profiler) (ap thread_of profiler) (ap (λ r. (seen r).streams) reporter) h
+  unchanged : (call : Call) → profiler_of b ≡ profiler_of a → reporter_of b ≡ reporter_of a → scopes_of b ≡ scopes_of a → Marks was.known was.thread.form call [] → AllZip (ShowsOf was.thread.name) (frames_in (call ∷ [])) [] → Stepped answers was due call now
+  unchanged call profiler reporter scopes = still_step answers was now due call (ap clock_of profiler) (ap thread_of profiler) (ap num_known scopes) (ap (λ r. (seen r).streams) reporter) h
 
   begin_step : (place : Place) (text : List ℕ) (state : GuardState) → Does answers seen accepts refuses (begins place text state) a b → Stepped answers was due (begins place text state) now
-  begin_step place text Off d = unchanged (begins place text Off) d.begins d.reporter refl tt
-  begin_step place text (Refused e) d = unchanged (begins place text (Refused e)) d.begins.0 d.reporter refl tt
+  begin_step place text Off d = unchanged (begins place text Off) d.begins d.reporter d.scopes refl tt
+  begin_step place text (Refused e) d = unchanged (begins place text (Refused e)) d.begins.0 d.reporter d.scopes (d.begins.1, refl) tt
   begin_step place text (On offset) d =
       let g = d.begins.1 in
       quiet_step answers was now due (Open place.id (cut_text was.thread.form text) (time_of was.thread g.at) ∷ [])
-      (timed_open answers was now place.id (cut_text was.thread.form text) g.at g.answered g.never_negative g.begun)
+      (timed_open answers was now place.id (cut_text was.thread.form text) g.at g.answered g.never_negative g.begun (ap num_known d.scopes))
       (ap (λ r. (seen r).streams) d.reporter)
       (λ none word. absurd (has_start was.thread.first_start (time_of was.thread g.at) [] now.thread.first_start (ap (λ (u : calls.Thread). u.first_start) g.begun) none))
-      h (begins place text (On offset)) (ap (λ (u : calls.Thread). u.word) g.begun) (time_of was.thread g.at, refl) tt
+      h (begins place text (On offset)) (ap (λ (u : calls.Thread). u.word) g.begun) (d.begins.0, time_of was.thread g.at, refl) tt
 
   none_before : now.thread.first_start ≡ was.thread.first_start → 0 < open_after 0 was.thread.word → now.thread.first_start ≡ None → ⊥
   none_before same some none = let e = ap (open_after 0) (h.unstarted (sym same ∙ none)).1 in omega arith
 
-  quiet_close : (offset : ℕ) (at : ℤ) → answers was.clock at now.clock → pos 0 ≤ℤ at → now.thread ≡ after_end was.thread at → now.collected ≡ was.collected → 0 < open_after 0 was.thread.word → Stepped answers was due (ends offset) now
-  quiet_close offset at answered low is same some =
+  quiet_close : (offset : ℕ) (at : ℤ) → answers was.clock at now.clock → pos 0 ≤ℤ at → now.thread ≡ after_end was.thread at → now.collected ≡ was.collected → now.known ≡ was.known → 0 < open_after 0 was.thread.word → Stepped answers was due (ends offset) now
+  quiet_close offset at answered low is same known some =
       quiet_step answers was now due (Close (time_of was.thread at) ∷ [])
-      (timed_close answers was now at answered low (ap after_handing is))
+      (timed_close answers was now at answered low (ap after_handing is) known)
       (ap (λ (c : Collected). c.streams) same) (λ none word. absurd (none_before (ap (λ (u : calls.Thread). u.first_start) is) some none)) h (ends offset) (ap (λ (u : calls.Thread). u.word) is) (inr (time_of was.thread at, refl)) tt
 
-  close_step : (offset : ℕ) (at : ℤ) → answers was.clock at now.clock → pos 0 ≤ℤ at → (closed : Closed) → Closes AcceptsReport RefusesReport was.thread now.thread at was.collected now.collected closed → Stepped answers was due (ends offset) now
-  close_step offset at answered low Inner c = quiet_close offset at answered low c.1 c.2 (let o = c.0 in omega arith)
-  close_step offset at answered low (Kept e) c = quiet_close offset at answered low c.1 c.2.2.1 (let o = c.0 in omega arith)
-  close_step offset at answered low Reported c =
+  close_step : (offset : ℕ) (at : ℤ) → answers was.clock at now.clock → pos 0 ≤ℤ at → now.known ≡ was.known → (closed : Closed) → Closes AcceptsReport RefusesReport was.thread now.thread at was.collected now.collected closed → Stepped answers was due (ends offset) now
+  close_step offset at answered low known Inner c = quiet_close offset at answered low c.1 c.2 known (let o = c.0 in omega arith)
+  close_step offset at answered low known (Kept e) c = quiet_close offset at answered low c.1 c.2.2.1 known (let o = c.0 in omega arith)
+  close_step offset at answered low known Reported c =
       let word = was.thread.word ++ (Close (time_of was.thread at) ∷ []) in
       record {
         events = Close (time_of was.thread at) ∷ [];
         marked = inr (time_of was.thread at, refl);
-        timed = timed_close answers was now at answered low (ap after_handing c.1);
+        timed = timed_close answers was now at answered low (ap after_handing c.1) known;
         shown = [];
         frames = tt;
         now_due = due ++ word;
@@ -231,43 +232,43 @@ module _ {C R : Type 0} (answers : C → ℤ → C → Type 0) (seen : R → Col
   end_step offset d = at_place (slice_get (offsets_of was.thread) 0) refl
     where
       not_here : (slice_get (offsets_of was.thread) 0 ≡ Some offset → ⊥) → Stepped answers was due (ends offset) now
-      not_here ne = let e = d.ends.other ne in unchanged (ends offset) e.0 e.1 (inl refl) tt
+      not_here ne = let e = d.ends.other ne in unchanged (ends offset) e.0 e.1 d.scopes (inl refl) tt
 
       at_place : (o : Option ℕ) → slice_get (offsets_of was.thread) 0 ≡ o → Stepped answers was due (ends offset) now
       at_place None is = not_here (λ e. cc)
       at_place (Some k) is = elim (cases_eq k offset) [
-        | inl e ↦ (let g = d.ends.innermost (is ∙ ap Some e) in close_step offset g.at g.answered g.never_negative g.closed (closes_by answers seen accepts refuses sees was.thread now.thread g.at (reporter_of a) (reporter_of b) g.closed g.closes))
+        | inl e ↦ (let g = d.ends.innermost (is ∙ ap Some e) in close_step offset g.at g.answered g.never_negative (ap num_known d.scopes) g.closed (closes_by answers seen accepts refuses sees was.thread now.thread g.at (reporter_of a) (reporter_of b) g.closed g.closes))
         | inr ne ↦ not_here (λ e. let same : k ≡ offset = cc in omega (arith, same, ne))
       ]
 
   report_step : (result : Result Bool Error) → Does answers seen accepts refuses (reports result) a b → Stepped answers was due (reports result) now
-  report_step (Ok false) d = still_step answers was now due (reports (Ok false)) d.1 d.0.1 (ap (λ r. (seen r).streams) d.0.2) h refl tt
+  report_step (Ok false) d = still_step answers was now due (reports (Ok false)) d.1 d.0.1 (ap num_known d.2) (ap (λ r. (seen r).streams) d.0.2) h refl tt
   report_step (Ok true) d =
       let start : now.thread.first_start ≡ was.thread.first_start = ap (λ (u : calls.Thread). u.first_start) d.0.1 in
       let accepted = sees.accepted (reporter_of a) (key_of_thread was.thread) was.thread.details d.0.2.0 (reporter_of b) d.0.2.2 in
       record {
         events = [];
         marked = refl;
-        timed = timed_still answers was now d.1 (ap after_handing d.0.1);
+        timed = timed_still answers was now d.1 (ap after_handing d.0.1) (ap num_known d.2);
         shown = [];
         frames = tt;
         now_due = due ++ was.thread.word;
         is_due = reported_due was now due was.thread.word d.0.2.0 was.thread.details d.0.2.1.forest h (λ none. d.0.0.some (h.unstarted (sym start ∙ none)).1) (ap key_of_thread d.0.1) accepted.0 accepted.2 d.0.2.1.honest d.0.2.1.word;
         kept = ap (λ (u : calls.Thread). (due ++ was.thread.word) ++ u.word) d.0.1;
       }
-  report_step (Err e) d = still_step answers was now due (reports (Err e)) d.1 d.0.0 (ap (λ (c : Collected). c.streams) (same d.0.1)) h refl tt
+  report_step (Err e) d = still_step answers was now due (reports (Err e)) d.1 d.0.0 (ap num_known d.2) (ap (λ (c : Collected). c.streams) (same d.0.1)) h refl tt
     where
       same : (((0 < open_after 0 was.thread.word) × (e ≡ ScopesOpen) × (reporter_of b ≡ reporter_of a)) ⊎ (Waits was.thread × (((e ≡ Memory) × (reporter_of b ≡ reporter_of a)) ⊎ GoesTo (λ x i ds r y. refuses x i ds r e y) was.thread (reporter_of a) (reporter_of b)))) → now.collected ≡ was.collected
       same (inl x) = ap seen x.2
       same (inr x) = elim x.1 [ inl y ↦ ap seen y.1 | inr y ↦ (sees.refused (reporter_of a) (key_of_thread was.thread) was.thread.details y.0 e (reporter_of b) y.2).1 ]
 
   frame_step : (result : Result (Option (Arc FrameData Global)) Error) → Does answers seen accepts refuses (frame result) a b → Stepped answers was due (frame result) now
-  frame_step (Err e) d = still_step answers was now due (frame (Err e)) (ap clock_of d.2) (ap thread_of d.2) (same d.1) h refl tt
+  frame_step (Err e) d = still_step answers was now due (frame (Err e)) (ap clock_of d.2) (ap thread_of d.2) (ap num_known d.3) (same d.1) h refl tt
     where
       same : KeepsPending was.collected e now.collected → now.collected.streams ≡ was.collected.streams
       same (inl x) = ap (λ (c : Collected). c.streams) x.2
       same (inr x) = ap (λ (c : Collected). c.streams) x.1.2
-  frame_step (Ok None) d = still_step answers was now due (frame (Ok None)) (ap clock_of d.2) (ap thread_of d.2) (ap (λ (c : Collected). c.streams) d.0.1) h refl tt
+  frame_step (Ok None) d = still_step answers was now due (frame (Ok None)) (ap clock_of d.2) (ap thread_of d.2) (ap num_known d.3) (ap (λ (c : Collected). c.streams) d.0.1) h refl tt
   frame_step (Ok (Some f)) d = at_here h.here
     where
       streams : now.collected.streams ≡ empty
@@ -279,7 +280,7 @@ module _ {C R : Type 0} (answers : C → ℤ → C → Type 0) (seen : R → Col
           record {
             events = [];
             marked = refl;
-            timed = timed_still answers was now (ap clock_of d.2) (ap (λ p. after_handing (thread_of p)) d.2);
+            timed = timed_still answers was now (ap clock_of d.2) (ap (λ p. after_handing (thread_of p)) d.2) (ap num_known d.3);
             shown = e.2.forest ∷ [];
             frames = ((was.collected.index, key_at was, refl, shows_spelled was.collected now.collected f (key_at was) e.0 due e.2 (one_entry was.collected.streams (key_at was) e.0 e.1 h.only) d.0), tt);
             now_due = [];

@@ -42,8 +42,8 @@ has_start (Some y) t u x is none = let h = started-stays y u in cc
 pub same_start : {C : Type 0} (answers : C → ℤ → C → Type 0) (m n : Moment C) (t : ℤ) (events : List Event) → Timed answers m n events → m.thread.first_start ≡ Some t → n.thread.first_start ≡ Some t
 same_start answers m n t events timed is = timed.first_start ∙ ap (λ s. first_start_in s events) is ∙ started-stays t events
 
-pub timed_still : {C : Type 0} (answers : C → ℤ → C → Type 0) (m n : Moment C) → n.clock ≡ m.clock → after_handing n.thread ≡ after_handing m.thread → Timed answers m n []
-timed_still answers m n clock is = record {
+pub timed_still : {C : Type 0} (answers : C → ℤ → C → Type 0) (m n : Moment C) → n.clock ≡ m.clock → after_handing n.thread ≡ after_handing m.thread → n.known ≡ m.known → Timed answers m n []
+timed_still answers m n clock is known = record {
   ats = [];
   answered = clock;
   times = refl;
@@ -51,10 +51,11 @@ timed_still answers m n clock is = record {
   first_start = ap (λ (t : calls.Thread). t.first_start) is;
   name = ap (λ (t : calls.Thread). t.name) is;
   form = ap (λ (t : calls.Thread). t.form) is;
+  known = known;
 }
 
-pub timed_open : {C : Type 0} (answers : C → ℤ → C → Type 0) (m n : Moment C) (id : ℕ) (text : List ℕ) (at : ℤ) → answers m.clock at n.clock → pos 0 ≤ℤ at → n.thread ≡ after_begin m.thread id text at → Timed answers m n (Open id text (time_of m.thread at) ∷ [])
-timed_open answers m n id text at answered low is = record {
+pub timed_open : {C : Type 0} (answers : C → ℤ → C → Type 0) (m n : Moment C) (id : ℕ) (text : List ℕ) (at : ℤ) → answers m.clock at n.clock → pos 0 ≤ℤ at → n.thread ≡ after_begin m.thread id text at → n.known ≡ m.known → Timed answers m n (Open id text (time_of m.thread at) ∷ [])
+timed_open answers m n id text at answered low is known = record {
   ats = at ∷ [];
   answered = (n.clock, answered, low, refl);
   times = refl;
@@ -62,11 +63,12 @@ timed_open answers m n id text at answered low is = record {
   first_start = ap (λ (t : calls.Thread). t.first_start) is;
   name = ap (λ (t : calls.Thread). t.name) is;
   form = ap (λ (t : calls.Thread). t.form) is;
+  known = known;
 }
 
 -- whether or not its scopes are reported at once
-pub timed_close : {C : Type 0} (answers : C → ℤ → C → Type 0) (m n : Moment C) (at : ℤ) → answers m.clock at n.clock → pos 0 ≤ℤ at → after_handing n.thread ≡ after_handing (after_end m.thread at) → Timed answers m n (Close (time_of m.thread at) ∷ [])
-timed_close answers m n at answered low is = record {
+pub timed_close : {C : Type 0} (answers : C → ℤ → C → Type 0) (m n : Moment C) (at : ℤ) → answers m.clock at n.clock → pos 0 ≤ℤ at → after_handing n.thread ≡ after_handing (after_end m.thread at) → n.known ≡ m.known → Timed answers m n (Close (time_of m.thread at) ∷ [])
+timed_close answers m n at answered low is known = record {
   ats = at ∷ [];
   answered = (n.clock, answered, low, refl);
   times = refl;
@@ -74,6 +76,7 @@ timed_close answers m n at answered low is = record {
   first_start = ap (λ (t : calls.Thread). t.first_start) is;
   name = ap (λ (t : calls.Thread). t.name) is;
   form = ap (λ (t : calls.Thread). t.form) is;
+  known = known;
 }
 
 pub timed_both : {C : Type 0} (answers : C → ℤ → C → Type 0) (o m n : Moment C) (f g : List Event) → Timed answers o m f → Timed answers m n g → Timed answers o n (f ++ g)
@@ -85,4 +88,5 @@ timed_both answers o m n f g p q = record {
   first_start = q.first_start ∙ ap (λ s. first_start_in s g) p.first_start ∙ sym (starts-both o.thread.first_start f g);
   name = q.name ∙ p.name;
   form = q.form ∙ p.form;
+  known = q.known ∙ p.known;
 }
