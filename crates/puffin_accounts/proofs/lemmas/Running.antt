@@ -11,12 +11,13 @@ use Rattle.puffin_data.specs.Forest.Words.{open_after}
 use Rattle.puffin_data.specs.Honesty.{StreamFacts}
 use Rattle.puffin_data.specs.Text.{cut_text}
 use Rattle.puffin_data.proofs.lemmas.Extended.{scope_count-append}
-use Rattle.puffin_threads.specs.Thread.ThreadProfiler.{thread_of}
+use Rattle.puffin_threads.specs.Thread.ThreadProfiler.{thread_of, clock_of}
 use Rattle.puffin_threads.specs.Thread.ThreadKey.{ThreadKey}
 use Rattle.puffin_threads.specs.Thread.Calls as calls
+use Rattle.puffin_threads.specs.Thread.Calls.{new_thread}
 use Rattle.puffin_threads.specs.Details.{Details}
 use Rattle.puffin_frames.specs.declared.frame_data.frame.FrameData.{FrameData}
-use Rattle.puffin_collector.specs.Collector.State.{Collected}
+use Rattle.puffin_collector.specs.Collector.State.{Collected, nothing_collected, after_learning, after_wanting}
 use Rattle.puffin_collector.specs.Collector.Collecting.{Collects}
 use Rattle.puffin_scopes.specs.declared.guard_state.GuardState.{GuardState}
 use Rattle.puffin_scopes.specs.declared.guard_state.GuardState.TheVariants.{On, Off, Refused}
@@ -113,12 +114,22 @@ module _ {C R : Type 0} (answers : C → ℤ → C → Type 0) (seen : R → Col
         adds = adds_both answers (moment_by seen old) (moment_by seen ended) (moment_by seen new) _ l.scopes w.adds l.adds;
       }
 
+abbrev made_of : {C : Type 0} → C → ℕ → calls.Thread → Collected → Moment C
+made_of clock known thread collected = record { clock = clock; known = known; thread = thread; collected = collected }
+
 -- what the first frame shows of code that ran on a new thread
 pub shows_run : {C I : Type 0} {F : I → Type 0} {A : Type 0} (answers : C → ℤ → C → Type 0) (name : List ℕ) (clock : C) (details : List Details) (code : Code) (old new : Thread C (GlobalProfiler I F)) (later : Collected) (result : Result (Option (Arc FrameData A)) Error)
-    → is_nested code ≡ true → moment_of old ≡ at_first name clock details → Runs (BeginsAt answers) (EndsIn answers AcceptsThere RefusesThere) code old new
+    → clock_of (profiler_of old) ≡ clock → num_known (scopes_of old) ≡ length details → thread_of (profiler_of old) ≡ new_thread name Short
+    → collected_of (reporter_of old) ≡ after_wanting (after_learning (nothing_collected 0) details)
+    → is_nested code ≡ true → Runs (BeginsAt answers) (EndsIn answers AcceptsThere RefusesThere) code old new
     → IfOk result (λ frame. Collects (collected_of (reporter_of new)) frame later) → IfOk result (λ frame. ShowsRun answers (at_first name clock details) code frame)
-shows_run answers name clock details code old new later (Err e) nested first runs took = tt
-shows_run answers name clock details code old new later (Ok frame) nested first runs took =
+shows_run answers name clock details code old new later (Err e) same_clock known thread collected nested runs took = tt
+shows_run answers name clock details code old new later (Ok frame) same_clock known thread collected nested runs took =
+    let first : moment_of old ≡ at_first name clock details =
+        ap (λ c. made_of c (num_known (scopes_of old)) (thread_of (profiler_of old)) (collected_of (reporter_of old))) same_clock
+        ∙ ap (λ k. made_of clock k (thread_of (profiler_of old)) (collected_of (reporter_of old))) known
+        ∙ ap (λ t. made_of clock (length details) t (collected_of (reporter_of old))) thread
+        ∙ ap (made_of clock (length details) (new_thread name Short)) collected in
     let added = subst (λ m. AddsCode answers m (moment_of new) code) first (adds_code answers collected_of AcceptsThere RefusesThere sees_there code old new runs) in
     record {
       scopes = added.scopes;
