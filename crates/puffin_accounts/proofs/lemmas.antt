@@ -6,3 +6,4 @@ pub mod Opened
 pub mod Showing
 pub mod Steps
 pub mod Running
+pub mod Listing

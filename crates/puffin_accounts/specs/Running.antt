@@ -1,5 +1,6 @@
 -- Code that opens scopes, and what the first frame of a thread shows of it.
-use Rattle.std.specs.Prelude.{◌≡◌, ℕ, ◌+◌, ℤ, Bool, true, false, List, length, Option}
+use Rattle.std.specs.Prelude.{◌≡◌, ℕ, ◌+◌, ℤ, Bool, true, false, List, length, Option, Some}
+use Rattle.std.specs.List.{Contains}
 use Rattle.std.specs.declared.sync.Arc.{Arc}
 use Rattle.puffin_data.specs.declared.data.form.Form.{Form}
 use Rattle.puffin_data.specs.declared.data.form.Form.TheVariants.{Short}
@@ -10,6 +11,7 @@ use Rattle.puffin_data.specs.Forest.Measures.{scope_count}
 use Rattle.puffin_data.specs.Forest.Tour.{tour}
 use Rattle.puffin_threads.specs.Thread.Calls.{new_thread}
 use Rattle.puffin_threads.specs.Details.{Details}
+use Rattle.puffin_threads.specs.Details.Collection.{first_with_id}
 use Rattle.puffin_frames.specs.declared.frame_data.frame.FrameData.{FrameData}
 use Rattle.puffin_collector.specs.Collector.State.{nothing_collected, after_learning, after_wanting}
 use Rattle.puffin_scopes.specs.declared.guard_state.GuardState.{GuardState}
@@ -19,7 +21,7 @@ use Rattle.puffin.specs.Guards.{Leaves}
 use Rattle.puffin_accounts.specs.Moments.{Moment}
 use Rattle.puffin_accounts.specs.Times.{Timed}
 use Rattle.puffin_accounts.specs.Adding.{MayBe, scope_if, span_at}
-use Rattle.puffin_accounts.specs.Showing.{ShowsAll}
+use Rattle.puffin_accounts.specs.Showing.{ShowsAll, listed_next}
 
 -- code that opens scopes: nothing, or a scope at a place with a text, with the code within it and the code after it
 pub data Code : Type 0 where
@@ -79,6 +81,12 @@ at_first name clock details = record {
   thread = new_thread name Short;
   collected = after_wanting (after_learning (nothing_collected 0) details);
 }
+
+-- the first frame of a new thread lists all places that its profiler was told: under each id, the first details with that id
+abbrev pub ListsPlaces : Type 0 → Type 0
+ListsPlaces C =
+    (name : List ℕ) (clock : C) (details : List Details) (id : ℕ) (d : Details) →
+    first_with_id id details ≡ Some d → Contains (listed_next (at_first name clock details)) d
 
 -- The code ran on a new thread, and then a frame was asked for. The frame shows exactly the scopes that began, at times that the
 -- clock gave; or there is none, and they wait.

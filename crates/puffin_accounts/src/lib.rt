@@ -3,9 +3,11 @@
 //! definitions in `specs`: `Runs` says which calls a function makes, and `ShowsRun` what the next frame shows of them.
 #![tactic(auto)]
 
+ghost use Rattle.puffin_accounts.specs.Running.{ListsPlaces};
 ghost use Rattle.puffin_accounts.specs.Steps.{CallsAccount, NoneDueAtFirst, NoFrameNothingDue};
 
 use puffin::thread_profiler::{NsSource, Reporter};
+use puffin_threads::scope_details::laws::collected_details;
 
 /// Whatever list of calls is made on a thread, the events that its frames show, those that are due for the next frame and those
 /// that wait are, one after the other, exactly those that the calls recorded, each at the time that the clock gave, under its
@@ -16,3 +18,11 @@ pub fn calls_account<C: NsSource, P: Reporter>()
     ensures first { NoneDueAtFirst C }
     ensures none { NoFrameNothingDue C }
 {}
+
+/// The first frame of a new thread lists the details of all places that its profiler was told. If several have the same id, it
+/// lists the first of them.
+pub fn places_are_listed<C: NsSource>()
+    ensures { ListsPlaces C }
+{
+    collected_details();
+}

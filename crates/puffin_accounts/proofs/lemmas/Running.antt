@@ -118,18 +118,18 @@ abbrev made_of : {C : Type 0} → C → ℕ → calls.Thread → Collected → M
 made_of clock known thread collected = record { clock = clock; known = known; thread = thread; collected = collected }
 
 -- what the first frame shows of code that ran on a new thread
-pub shows_run : {C I : Type 0} {F : I → Type 0} {A : Type 0} (answers : C → ℤ → C → Type 0) (name : List ℕ) (clock : C) (details : List Details) (code : Code) (old new : Thread C (GlobalProfiler I F)) (later : Collected) (result : Result (Option (Arc FrameData A)) Error)
+pub shows_run : {C I : Type 0} {F : I → Type 0} {A : Type 0} (answers : C → ℤ → C → Type 0) (name : List ℕ) (clock : C) (details : List Details) (code : Code) (old new : Thread C (GlobalProfiler I F)) (later : Collected) (result : Result (Option (Arc FrameData A)) Error) (empty_one : Collected) (told : List Details)
     → clock_of (profiler_of old) ≡ clock → num_known (scopes_of old) ≡ length details → thread_of (profiler_of old) ≡ new_thread name Short
-    → collected_of (reporter_of old) ≡ after_wanting (after_learning (nothing_collected 0) details)
+    → collected_of (reporter_of old) ≡ after_wanting (after_learning empty_one told) → empty_one ≡ nothing_collected 0 → told ≡ details
     → is_nested code ≡ true → Runs (BeginsAt answers) (EndsIn answers AcceptsThere RefusesThere) code old new
     → IfOk result (λ frame. Collects (collected_of (reporter_of new)) frame later) → IfOk result (λ frame. ShowsRun answers (at_first name clock details) code frame)
-shows_run answers name clock details code old new later (Err e) same_clock known thread collected nested runs took = tt
-shows_run answers name clock details code old new later (Ok frame) same_clock known thread collected nested runs took =
+shows_run answers name clock details code old new later (Err e) empty_one told same_clock known thread collected is_empty same_details nested runs took = tt
+shows_run answers name clock details code old new later (Ok frame) empty_one told same_clock known thread collected is_empty same_details nested runs took =
     let first : moment_of old ≡ at_first name clock details =
         ap (λ c. made_of c (num_known (scopes_of old)) (thread_of (profiler_of old)) (collected_of (reporter_of old))) same_clock
         ∙ ap (λ k. made_of clock k (thread_of (profiler_of old)) (collected_of (reporter_of old))) known
         ∙ ap (λ t. made_of clock (length details) t (collected_of (reporter_of old))) thread
-        ∙ ap (made_of clock (length details) (new_thread name Short)) collected in
+        ∙ ap (made_of clock (length details) (new_thread name Short)) (collected ∙ ap (λ x. after_wanting (after_learning x told)) is_empty ∙ ap (λ ds. after_wanting (after_learning (nothing_collected 0) ds)) same_details) in
     let added = subst (λ m. AddsCode answers m (moment_of new) code) first (adds_code answers collected_of AcceptsThere RefusesThere sees_there code old new runs) in
     record {
       scopes = added.scopes;
