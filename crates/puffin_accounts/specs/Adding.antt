@@ -50,9 +50,9 @@ pub record PassesOn {C : Type 0} (old new : Moment C) (events : List Event) : Ty
   -- nothing else that is collected changes
   pub collected : new.collected
       ≡ record old.collected {
-      reported = new.collected.reported;
-      streams = new.collected.streams;
-      new_details = old.collected.new_details ++ sent;
+        reported = new.collected.reported;
+        streams = new.collected.streams;
+        new_details = old.collected.new_details ++ sent;
       }
 
 -- Code added these scopes to a thread, in order and with this nesting. Within an open scope nothing is reported.

@@ -1,5 +1,4 @@
--- Any list of calls on one thread: nothing that they record is lost, doubled or moved, and each frame shows what was reported
--- since the frame before.
+-- Any list of calls on one thread: nothing that they record is lost, doubled or moved.
 use Rattle.std.specs.Prelude.{◌≡◌, ◌⊎◌, ℕ, ℤ, Bool, false, List, [], ◌∷◌, ◌++◌, Option, Some, None, Result, Ok, Err, IfOk, IfErr}
 use Rattle.std.specs.List.{AllZip}
 use Rattle.std.specs.FinMap.{get, empty}

@@ -1,5 +1,5 @@
 -- How what code adds to a thread is composed: nothing, and one piece after another.
-use Rattle.std.proofs.Common.{◌≡◌, ℕ, ◌<◌, ℤ, false, List, [], ◌∷◌, ◌++◌, Option, Some, None, unwrap_or, inl, inr, refl, sym, ap, ◌∙◌, subst, append_assoc}
+use Rattle.std.proofs.Common.{◌≡◌, ℕ, ◌<◌, ℤ, false, List, [], ◌++◌, Option, Some, None, unwrap_or, inl, inr, refl, sym, ap, ◌∙◌, subst, append_assoc}
 use Rattle.std.specs.FinMap.{get}
 use Rattle.std.proofs.lemmas.List.{append-nil}
 use Rattle.puffin_data.specs.Forest.{Forest, empty, append}
@@ -8,8 +8,6 @@ use Rattle.puffin_data.specs.Forest.Words.{open_after}
 use Rattle.puffin_data.specs.Honesty.{StreamFacts}
 use Rattle.puffin_data.proofs.lemmas.Tours.{tour-append}
 use Rattle.puffin_threads.specs.Thread.ThreadKey.{ThreadKey, has_same_key}
-use Rattle.puffin_threads.specs.Thread.Calls as calls
-use Rattle.puffin_threads.specs.Thread.Calls.{after_handing}
 use Rattle.puffin_threads.specs.Details.{Details}
 use Rattle.puffin_frames.specs.Frame.Contents.{Streams}
 use Rattle.puffin_collector.specs.Collector.State.{Collected, no_scopes}

@@ -1,5 +1,5 @@
 -- Code adds the scopes of it that began, and the next frame shows them.
-use Rattle.std.proofs.Common.{◌≡◌, ℕ, ◌+◌, ◌≤◌, ℤ, true, List, [], length, Option, Result, Ok, Err, refl, sym, ap, ◌∙◌, subst, arith}
+use Rattle.std.proofs.Common.{◌≡◌, ℕ, ◌≤◌, ℤ, true, List, length, Option, Result, Ok, Err, refl, sym, ap, ◌∙◌, subst, arith}
 use Rattle.std.specs.Prelude.{IfOk}
 use Rattle.std.specs.declared.sync.Arc.{Arc}
 use Rattle.puffin_data.specs.declared.error.Error.{Error}
@@ -7,7 +7,6 @@ use Rattle.puffin_data.specs.declared.data.form.Form.{Form}
 use Rattle.puffin_data.specs.declared.data.form.Form.TheVariants.{Short}
 use Rattle.puffin_data.specs.Forest.{Forest, empty, node, append}
 use Rattle.puffin_data.specs.Forest.Measures.{scope_count}
-use Rattle.puffin_data.specs.Forest.Words.{open_after}
 use Rattle.puffin_data.specs.Honesty.{StreamFacts}
 use Rattle.puffin_data.specs.Text.{cut_text}
 use Rattle.puffin_data.proofs.lemmas.Extended.{scope_count-append}
@@ -107,10 +106,17 @@ module _ {C R : Type 0} (answers : C → ℤ → C → Type 0) (seen : R → Col
       let form = begins_form answers old begun place text state begins in
       record {
         scopes = append (scope_if state (span_at place (cut_text (moment_by seen old).thread.form text) w.start w.stop) i.scopes) l.scopes;
-        began = (state, may_be answers old begun place text state begins, w.start, w.stop, i.scopes, l.scopes,
-            moved within i.scopes (ap num_known begins.scopes) form i.began,
-            moved after l.scopes w.adds.timed.known w.adds.timed.form l.began,
-            refl);
+        began = (
+          state,
+          may_be answers old begun place text state begins,
+          w.start,
+          w.stop,
+          i.scopes,
+          l.scopes,
+          moved within i.scopes (ap num_known begins.scopes) form i.began,
+          moved after l.scopes w.adds.timed.known w.adds.timed.form l.began,
+          refl,
+        );
         adds = adds_both answers (moment_by seen old) (moment_by seen ended) (moment_by seen new) _ l.scopes w.adds l.adds;
       }
 
@@ -126,10 +132,10 @@ pub shows_run : {C I : Type 0} {F : I → Type 0} {A : Type 0} (answers : C → 
 shows_run answers name clock details code old new later (Err e) empty_one told same_clock known thread collected is_empty same_details nested runs took = tt
 shows_run answers name clock details code old new later (Ok frame) empty_one told same_clock known thread collected is_empty same_details nested runs took =
     let first : moment_of old ≡ at_first name clock details =
-        ap (λ c. made_of c (num_known (scopes_of old)) (thread_of (profiler_of old)) (collected_of (reporter_of old))) same_clock
-        ∙ ap (λ k. made_of clock k (thread_of (profiler_of old)) (collected_of (reporter_of old))) known
-        ∙ ap (λ t. made_of clock (length details) t (collected_of (reporter_of old))) thread
-        ∙ ap (made_of clock (length details) (new_thread name Short)) (collected ∙ ap (λ x. after_wanting (after_learning x told)) is_empty ∙ ap (λ ds. after_wanting (after_learning (nothing_collected 0) ds)) same_details) in
+    ap (λ c. made_of c (num_known (scopes_of old)) (thread_of (profiler_of old)) (collected_of (reporter_of old))) same_clock
+    ∙ ap (λ k. made_of clock k (thread_of (profiler_of old)) (collected_of (reporter_of old))) known
+    ∙ ap (λ t. made_of clock (length details) t (collected_of (reporter_of old))) thread
+    ∙ ap (made_of clock (length details) (new_thread name Short)) (collected ∙ ap (λ x. after_wanting (after_learning x told)) is_empty ∙ ap (λ ds. after_wanting (after_learning (nothing_collected 0) ds)) same_details) in
     let added = subst (λ m. AddsCode answers m (moment_of new) code) first (adds_code answers collected_of AcceptsThere RefusesThere sees_there code old new runs) in
     record {
       scopes = added.scopes;

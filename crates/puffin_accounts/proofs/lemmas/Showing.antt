@@ -11,7 +11,6 @@ use Rattle.puffin_data.specs.Forest as forest
 use Rattle.puffin_data.specs.Forest.{Forest, Span, node, append}
 use Rattle.puffin_data.specs.Forest.Measures.{scope_count}
 use Rattle.puffin_data.specs.Forest.Tour.{Event, tour}
-use Rattle.puffin_data.specs.Forest.Words.{open_after}
 use Rattle.puffin_data.specs.Honesty.{StreamFacts}
 use Rattle.puffin_data.specs.Text.{cut_text}
 use Rattle.puffin_data.proofs.lemmas.Tours.{tour-append, one_tour}
@@ -26,7 +25,7 @@ use Rattle.puffin_frames.proofs.lemmas.Measured.{total_scopes-one}
 use Rattle.puffin_collector.specs.Collector.State.{Collected, no_scopes, delta_of}
 use Rattle.puffin_collector.specs.Collector.Collecting.{Collects}
 use Rattle.puffin_accounts.specs.Moments.{Moment, num_open, key_at}
-use Rattle.puffin_accounts.specs.Adding.{SpellsEvents, Gains, PassesOn, AddsScopes}
+use Rattle.puffin_accounts.specs.Adding.{SpellsEvents, Gains, AddsScopes}
 use Rattle.puffin_accounts.specs.Showing.{ShowsForest, HasOneTop, ShowsAdded, ShowsAll}
 
 pub no_tour : (f : Forest) → scope_count f ≡ 0 → tour f ≡ []

@@ -1,10 +1,8 @@
 -- Each call accounts for its events, and so does any list of calls.
 use Rattle.std.proofs.Common.{◌≡◌, ℕ, ◌<◌, ℤ, pos, ◌≤ℤ◌, Bool, true, false, cond, List, [], ◌∷◌, ◌++◌, Option, Some, None, unwrap_or, Result, Ok, Err, Global, ◌⊎◌, inl, inr, refl, sym, ap, ◌∙◌, subst, append_assoc, arith}
 use Rattle.std.specs.Prelude.{slice_get}
-use Rattle.std.specs.Int.{int_max}
 use Rattle.std.specs.List.{AllZip}
 use Rattle.std.specs.FinMap.{get, insert, empty, values, get-insert, get-empty}
-use Rattle.std.specs.Arc.{arc_value}
 use Rattle.std.specs.declared.sync.Arc.{Arc}
 use Rattle.std.proofs.lemmas.Bool.{cases_eq}
 use Rattle.std.proofs.lemmas.List.{append-nil}
@@ -28,9 +26,8 @@ use Rattle.puffin_threads.specs.Thread.Closing.{Closes, Waits, GoesTo}
 use Rattle.puffin_threads.specs.Details.{Details}
 use Rattle.puffin_threads.proofs.lemmas.ThreadKeys.{key_cmp_total, has_same_key-itself}
 use Rattle.puffin_frames.specs.declared.frame_data.frame.FrameData.{FrameData}
-use Rattle.puffin_frames.specs.Frame.Contents.{Streams, stream_under, frame_meta}
-use Rattle.puffin_frames.specs.Frame.Sums.{meta_of, total_scopes}
-use Rattle.puffin_frames.proofs.lemmas.Measured.{total_scopes-one}
+use Rattle.puffin_frames.specs.Frame.Contents.{Streams, stream_under}
+use Rattle.puffin_frames.specs.Frame.Sums.{total_scopes}
 use Rattle.puffin_collector.specs.Collector.State.{Collected, no_scopes, after_report, AcceptsReport, RefusesReport}
 use Rattle.puffin_collector.specs.Collector.Collecting.{KeepsPending}
 use Rattle.puffin_scopes.specs.declared.guard_state.GuardState.{GuardState}
