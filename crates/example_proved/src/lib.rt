@@ -38,7 +38,7 @@ pub fn turn_by_call<T: Records>(thread: &mut T, update: Place, physics: Place)
     physics_alone(whole.thread(), physics);
 }
 
-/// Takes the frame of one turn of a new thread, which knows these places.
+/// Takes the frame of one turn of a new thread, which knows the places of `scopes`.
 pub fn first_frame(
     rt: &(impl Wait + AllocGlobal),
     name: String,

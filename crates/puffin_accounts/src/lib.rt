@@ -1,6 +1,6 @@
-//! Laws of what the calls on a thread of `puffin::light` record, and of what its frames show. Each is the contract of a function
-//! that does nothing; a proof in another crate cites it by calling the function. That of a program is written with the
-//! definitions in `specs`: `Runs` says which calls a function makes, and `ShowsRun` what the next frame shows of them.
+//! Laws of what the calls on a thread of `puffin::light` record and what its frames show. Each is the contract of a function that
+//! does nothing; a proof in another crate cites it by calling the function. A program states with `Runs`, of `specs`, which
+//! scopes its code opens, and with `ShowsRun` what the first frame shows of them; the lemma `shows_run` proves the second.
 #![tactic(auto)]
 
 ghost use Rattle.puffin_accounts.specs.Running.{ListsPlaces};
