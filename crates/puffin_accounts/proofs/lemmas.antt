@@ -1,0 +1,9 @@
+-- What crates above cite, to prove what their own code adds to a thread and what a frame shows of it.
+pub mod Offsets
+pub mod Times
+pub mod Adding
+pub mod Opened
+pub mod Showing
+pub mod Steps
+pub mod Running
+pub mod Listing

@@ -1,0 +1,100 @@
+-- Code that opens scopes, and what the first frame of a thread shows of it.
+use Rattle.std.specs.Prelude.{◌≡◌, ℕ, ◌+◌, ℤ, Bool, true, false, List, length, Option, Some}
+use Rattle.std.specs.List.{Contains}
+use Rattle.std.specs.declared.sync.Arc.{Arc}
+use Rattle.puffin_data.specs.declared.data.form.Form.{Form}
+use Rattle.puffin_data.specs.declared.data.form.Form.TheVariants.{Short}
+use Rattle.puffin_data.specs.Text.{cut_text}
+use Rattle.puffin_data.specs.Forest as forest
+use Rattle.puffin_data.specs.Forest.{Forest, node, append}
+use Rattle.puffin_data.specs.Forest.Measures.{scope_count}
+use Rattle.puffin_data.specs.Forest.Tour.{tour}
+use Rattle.puffin_threads.specs.Thread.Calls.{new_thread}
+use Rattle.puffin_threads.specs.Details.{Details}
+use Rattle.puffin_threads.specs.Details.Collection.{first_with_id}
+use Rattle.puffin_frames.specs.declared.frame_data.frame.FrameData.{FrameData}
+use Rattle.puffin_collector.specs.Collector.State.{nothing_collected, after_learning, after_wanting}
+use Rattle.puffin_scopes.specs.declared.guard_state.GuardState.{GuardState}
+use Rattle.puffin_scopes.specs.Guards.Guard.{offset_in}
+use Rattle.puffin.specs.declared.light.place.Place.{Place}
+use Rattle.puffin.specs.Guards.{Leaves}
+use Rattle.puffin_accounts.specs.Moments.{Moment}
+use Rattle.puffin_accounts.specs.Times.{Timed}
+use Rattle.puffin_accounts.specs.Adding.{MayBe, scope_if, span_at}
+use Rattle.puffin_accounts.specs.Showing.{ShowsAll, listed_next}
+
+-- code that opens scopes: nothing, or a scope at a place with a text, with the code within it and the code after it
+pub data Code : Type 0 where
+  nothing : Code
+  scope : (place : Place) → (text : List ℕ) → (within : Code) → (after : Code) → Code
+
+-- the calls of this code were made, one after the other
+abbrev pub Runs : {T : Type 0} → (T → Place → List ℕ → GuardState → T → Type 0) →
+    (T → ℕ → T → Type 0) → Code → T → T → Type 0
+Runs begins ends nothing old new = new ≡ old
+Runs {T} begins ends (scope place text within after) old new =
+    (state : GuardState)
+    × (begun left ended : T)
+    × begins old place text state begun
+    × Runs begins ends within begun left
+    × Leaves ends (offset_in state) left ended
+    × Runs begins ends after ended new
+
+-- the scopes of this code that began, each with its place's id and its text, where the thread knows that many places
+abbrev pub AreScopesOf : ℕ → Form → Code → Forest → Type 0
+AreScopesOf known form nothing f = f ≡ forest.empty
+AreScopesOf known form (scope place text within after) f =
+    (state : GuardState)
+    × MayBe known place state
+    × (start stop : ℤ)
+    × (children others : Forest)
+    × AreScopesOf known form within children
+    × AreScopesOf known form after others
+    × (f ≡ append (scope_if state (span_at place (cut_text form text) start stop) children) others)
+
+-- all scopes of this code
+abbrev pub AreAllOf : Form → Code → Forest → Type 0
+AreAllOf form nothing f = f ≡ forest.empty
+AreAllOf form (scope place text within after) forest.empty = ⊥
+AreAllOf form (scope place text within after) (node s children others) =
+    (s.id ≡ place.id)
+    × (s.text ≡ cut_text form text)
+    × AreAllOf form within children
+    × AreAllOf form after others
+
+-- the number of scopes that the code opens
+abbrev pub num_scopes_of : Code → ℕ
+num_scopes_of nothing = 0
+num_scopes_of (scope place text within after) = 1 + (num_scopes_of within + num_scopes_of after)
+
+-- whether no scope of this code has another one after it
+abbrev pub is_nested : Code → Bool
+is_nested nothing = true
+is_nested (scope place text within nothing) = is_nested within
+is_nested (scope place text within (scope next after_text inner after)) = false
+
+-- a new thread with this name and clock, and a new profiler that was told these details
+abbrev pub at_first : {C : Type 0} → List ℕ → C → List Details → Moment C
+at_first name clock details = record {
+  clock = clock;
+  known = length details;
+  thread = new_thread name Short;
+  collected = after_wanting (after_learning (nothing_collected 0) details);
+}
+
+-- the first frame of a new thread lists all places that its profiler was told: under each id, the first details with that id
+abbrev pub ListsPlaces : Type 0 → Type 0
+ListsPlaces C =
+    (name : List ℕ) (clock : C) (details : List Details) (id : ℕ) (d : Details) →
+    first_with_id id details ≡ Some d → Contains (listed_next (at_first name clock details)) d
+
+-- The code ran on a new thread, and then a frame was asked for. The frame shows exactly the scopes that began, at times that the
+-- clock gave; or there is none, and they wait.
+pub record ShowsRun {C A : Type 0} (answers : C → ℤ → C → Type 0) (first : Moment C) (code : Code)
+    (frame : Option (Arc FrameData A)) : Type 0 where
+  pub scopes : Forest
+  pub began : AreScopesOf first.known first.thread.form code scopes
+  pub all : scope_count scopes ≡ num_scopes_of code → AreAllOf first.thread.form code scopes
+  pub now : Moment C
+  pub timed : Timed answers first now (tour scopes)
+  pub shows : ShowsAll first now scopes frame

@@ -1,0 +1,145 @@
+-- Any list of calls on one thread: nothing that they record is lost, doubled or moved.
+use Rattle.std.specs.Prelude.{◌≡◌, ◌⊎◌, ℕ, ℤ, Bool, false, List, [], ◌∷◌, ◌++◌, Option, Some, None, Result, Ok, Err, IfOk, IfErr}
+use Rattle.std.specs.List.{AllZip}
+use Rattle.std.specs.FinMap.{get, empty}
+use Rattle.std.specs.Arc.{arc_value}
+use Rattle.std.specs.declared.sync.Arc.{Arc}
+use Rattle.std.specs.declared.alloc.Global.{Global}
+use Rattle.puffin_data.specs.declared.error.Error.{Error}
+use Rattle.puffin_data.specs.declared.data.form.Form.{Form}
+use Rattle.puffin_data.specs.Forest.{Forest}
+use Rattle.puffin_data.specs.Forest.Tour.{Event, Open, Close, tour}
+use Rattle.puffin_data.specs.Honesty.{StreamFacts}
+use Rattle.puffin_data.specs.Text.{cut_text}
+use Rattle.puffin_threads.specs.Thread.ThreadProfiler.{thread_of, clock_of}
+use Rattle.puffin_threads.specs.Thread.ThreadKey.{ThreadKey, has_same_key}
+use Rattle.puffin_threads.specs.Thread.Calls.{new_thread}
+use Rattle.puffin_threads.specs.Thread.Closing.{Reports}
+use Rattle.puffin_threads.specs.Details.{Details}
+use Rattle.puffin_frames.specs.declared.frame_data.frame.FrameData.{FrameData}
+use Rattle.puffin_collector.specs.Collector.State.{Collected}
+use Rattle.puffin_collector.specs.Collector.Collecting.{Collects, KeepsPending}
+use Rattle.puffin_scopes.specs.declared.guard_state.GuardState.{GuardState}
+use Rattle.puffin_scopes.specs.declared.guard_state.GuardState.TheVariants.{On, Off, Refused}
+use Rattle.puffin.specs.declared.light.thread.Thread.{Thread}
+use Rattle.puffin.specs.declared.light.place.Place.{Place}
+use Rattle.puffin.specs.LightThread.{profiler_of, reporter_of, scopes_of}
+use Rattle.puffin.specs.Guards.{BeginsAt, EndsIn}
+use Rattle.puffin_accounts.specs.Moments.{Moment, moment_by, key_at, Sees}
+use Rattle.puffin_accounts.specs.Times.{Timed}
+use Rattle.puffin_accounts.specs.Adding.{SpellsEvents, MayBe}
+use Rattle.puffin_accounts.specs.Showing.{ShowsForest}
+
+-- a call on a thread, with its outcome
+pub data Call : Type 0 where
+  begins : (place : Place) → (text : List ℕ) → (state : GuardState) → Call
+  ends : (offset : ℕ) → Call
+  reports : (result : Result Bool Error) → Call
+  frame : (result : Result (Option (Arc FrameData Global)) Error) → Call
+
+module _ {C R : Type 0} (answers : C → ℤ → C → Type 0) (seen : R → Collected)
+    (accepts : R → ThreadKey → List Details → StreamFacts → R → Type 0)
+    (refuses : R → ThreadKey → List Details → StreamFacts → Error → R → Type 0) where
+  -- what each call's contract says of the thread before and after
+  abbrev pub Does : Call → Thread C R → Thread C R → Type 0
+  Does (begins place text state) old new = BeginsAt answers old place text state new
+  Does (ends offset) old new = EndsIn answers accepts refuses old offset new
+  Does (reports result) old new =
+      Reports accepts refuses (thread_of (profiler_of old)) (thread_of (profiler_of new))
+      (reporter_of old) (reporter_of new) result
+      × (clock_of (profiler_of new) ≡ clock_of (profiler_of old))
+      × (scopes_of new ≡ scopes_of old)
+  Does (frame result) old new =
+      IfOk result (λ f. Collects (seen (reporter_of old)) f (seen (reporter_of new)))
+      × IfErr result (λ e. KeepsPending (seen (reporter_of old)) e (seen (reporter_of new)))
+      × (profiler_of new ≡ profiler_of old)
+      × (scopes_of new ≡ scopes_of old)
+
+  -- the calls were made one after the other
+  abbrev pub Run : Thread C R → List Call → Thread C R → Type 0
+  Run old [] new = moment_by seen new ≡ moment_by seen old
+  Run old (call ∷ later) new =
+      (next : Thread C R) × Does call old next × Run next later new
+
+-- The event that a call records, if any, where the thread knows that many places. A refused call says why.
+abbrev pub Marks : ℕ → Form → Call → List Event → Type 0
+Marks known form (begins place text (On offset)) events =
+    MayBe known place (On offset)
+    × (start : ℤ) × (events ≡ Open place.id (cut_text form text) start ∷ [])
+Marks known form (begins place text Off) events = events ≡ []
+Marks known form (begins place text (Refused e)) events =
+    MayBe known place (Refused e) × (events ≡ [])
+Marks known form (ends offset) events = (events ≡ []) ⊎ ((stop : ℤ) × (events ≡ Close stop ∷ []))
+Marks known form (reports result) events = events ≡ []
+Marks known form (frame result) events = events ≡ []
+
+abbrev pub flat : List (List Event) → List Event
+flat [] = []
+flat (word ∷ words) = word ++ flat words
+
+-- the frames that were handed out, in order
+abbrev pub frames_in : List Call → List FrameData
+frames_in [] = []
+frames_in (frame (Ok (Some f)) ∷ later) = arc_value f ∷ frames_in later
+frames_in (frame (Ok None) ∷ later) = frames_in later
+frames_in (frame (Err e) ∷ later) = frames_in later
+frames_in (begins place text state ∷ later) = frames_in later
+frames_in (ends offset ∷ later) = frames_in later
+frames_in (reports result ∷ later) = frames_in later
+
+abbrev pub tours : List Forest → List Event
+tours [] = []
+tours (f ∷ later) = tour f ++ tours later
+
+-- the frame's only stream stands under this thread's name, and spells this forest
+abbrev pub ShowsOf : List ℕ → FrameData → Forest → Type 0
+ShowsOf name f forest =
+    (index : ℕ) × (key : ThreadKey) × (key.name ≡ name) × ShowsForest f index key forest
+
+-- these events of the thread, and nothing else, are due for the next frame
+pub record IsDue {C : Type 0} (m : Moment C) (events : List Event) : Type 0 where
+  pub here : ((get m.collected.streams (key_at m) ≡ None) × (events ≡ []))
+      ⊎ ((r : StreamFacts)
+      × (get m.collected.streams (key_at m) ≡ Some r)
+      × SpellsEvents r events)
+  pub only : (i : ThreadKey) → has_same_key i (key_at m) ≡ false →
+      get m.collected.streams i ≡ None
+  -- before the first scope there is nothing
+  pub unstarted : m.thread.first_start ≡ None →
+      (events ≡ []) × (m.thread.word ≡ []) × (m.collected.streams ≡ empty)
+
+-- What the calls of a run did: each records at most its own event, at the time that the clock gave; and the events shown by the
+-- frames, those that are due and those that wait are, one after the other, those that were due and waited before, and then those
+-- that were recorded.
+pub record Accounts {C : Type 0} (answers : C → ℤ → C → Type 0) (old : Moment C) (due : List Event)
+    (calls : List Call) (new : Moment C) : Type 0 where
+  pub events : List (List Event)
+  pub marked : AllZip (Marks old.known old.thread.form) calls events
+  pub timed : Timed answers old new (flat events)
+  pub shown : List Forest
+  pub frames : AllZip (ShowsOf old.thread.name) (frames_in calls) shown
+  pub now_due : List Event
+  pub is_due : IsDue new now_due
+  pub kept : tours shown ++ (now_due ++ new.thread.word) ≡ (due ++ old.thread.word) ++ flat events
+
+-- Whatever list of calls is made on a thread, it accounts for all that they record: nothing is lost, doubled or moved.
+abbrev pub CallsAccount : {C R : Type 0} → (C → ℤ → C → Type 0) →
+    (R → ThreadKey → List Details → StreamFacts → R → Type 0) →
+    (R → ThreadKey → List Details → StreamFacts → Error → R → Type 0) → Type 0
+CallsAccount {C} {R} answers accepts refuses =
+    (seen : R → Collected) → Sees seen accepts refuses →
+    (calls : List Call) (old new : Thread C R) (due : List Event) →
+    Run answers seen accepts refuses old calls new → IsDue (moment_by seen old) due →
+    Accounts answers (moment_by seen old) due calls (moment_by seen new)
+
+-- a new thread that reports to what has collected nothing has nothing due
+abbrev pub NoneDueAtFirst : Type 0 → Type 0
+NoneDueAtFirst C =
+    (m : Moment C) (name : List ℕ) (form : Form) → m.thread ≡ new_thread name form →
+    m.collected.streams ≡ empty → IsDue m []
+
+-- a frame call that answers that there is no frame says that nothing was due
+abbrev pub NoFrameNothingDue : Type 0 → Type 0
+NoFrameNothingDue C =
+    (m : Moment C) (due : List Event) (later : Collected) → IsDue m due →
+    Collects {A = Global} m.collected None later → due ≡ []
