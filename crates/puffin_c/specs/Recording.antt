@@ -10,19 +10,25 @@ use Rattle.puffin_c.specs.declared.fault.Fault.{Fault}
 use Rattle.puffin_c.specs.declared.fault.Fault.TheVariants as fault
 use Rattle.puffin_c.specs.Times.{clock_time, begun_place}
 
--- why a text is refused
+-- why a text is refused: the first cause that applies
 abbrev pub IsNoText : List ℕ → Fault → Type 0
-IsNoText text f = ((f ≡ fault.NotText) × ¬ (IsUtf8 text)) ⊎ (f ≡ fault.Refused error.Memory)
+IsNoText text f =
+    ((f ≡ fault.NotText) × ¬ (IsUtf8 text)) ⊎ ((f ≡ fault.Refused error.Memory) × IsUtf8 text)
 
--- some of these aren't UTF-8
+-- all of these are UTF-8; some aren't
+abbrev pub AreTexts : List (List ℕ) → Type 0
+AreTexts [] = Unit {0}
+AreTexts (text ∷ rest) = IsUtf8 text × AreTexts rest
+
 abbrev pub HasNoText : List (List ℕ) → Type 0
 HasNoText [] = ⊥
 HasNoText (text ∷ rest) = (¬ (IsUtf8 text)) ⊎ HasNoText rest
 
--- why one of these texts is refused
+-- why texts are refused: the first cause that applies
 abbrev pub AreNoTexts : List (List ℕ) → Fault → Type 0
 AreNoTexts texts f =
-    ((f ≡ fault.NotText) × HasNoText texts) ⊎ (f ≡ fault.Refused error.Memory)
+    ((f ≡ fault.NotText) × HasNoText texts)
+    ⊎ ((f ≡ fault.Refused error.Memory) × AreTexts texts)
 
 -- a handle that held nothing now holds ids; or nothing is changed
 abbrev pub OpensIds : {X : Type 0} → Option X → Option X → Result (Unit {0}) Fault → Type 0
