@@ -50,14 +50,17 @@ pub record IsNew (p : Profiler) : Type 0 where
   pub waiting : waiting_frame p ≡ None
   pub unread : p.unread ≡ []
 
+-- There are ids, and a handle that held nothing now holds a new profiler. Or nothing is changed, and the fault is the first that
+-- applies.
 abbrev pub OpensProfiler : Option Profiler → Bool → Option Profiler → Result (Unit {0}) Fault → Type 0
 OpensProfiler old has_ids new (Ok _) =
     (old ≡ None) × (has_ids ≡ true) × (p : Profiler) × (new ≡ Some p) × IsNew p
 OpensProfiler old has_ids new (Err f) =
     (new ≡ old)
     × (((f ≡ fault.IsOpen) × (is_some old ≡ true))
-    ⊎ ((f ≡ fault.NotOpen) × (has_ids ≡ false))
-    ⊎ (f ≡ fault.Refused error.Memory))
+    ⊎ ((old ≡ None)
+    × (((f ≡ fault.NotOpen) × (has_ids ≡ false))
+    ⊎ ((f ≡ fault.Refused error.Memory) × (has_ids ≡ true)))))
 
 -- the profiler with `c` as the state of its collector
 abbrev pub with_collected : Profiler → Collected → Profiler
