@@ -3,6 +3,7 @@ use Rattle.std.proofs.Common.{◌≡◌, ◌⊎◌, ℕ, List, [], ◌∷◌, re
 use mathlib.Core.Bool.{Bool, true, false, true≢false}
 use Rattle.std.specs.Prelude.{Option, Some, None, is_some, Result, Ok, Err, OnErr}
 use Rattle.std.specs.List.{Any}
+use Rattle.std.specs.Str.{IsUtf8}
 use Rattle.puffin_data.specs.declared.error.Error.{Error}
 use Rattle.puffin_data.specs.declared.error.Error.TheVariants as error
 use Rattle.puffin_data.specs.declared.data.form.Form.{Form}
@@ -20,7 +21,7 @@ use Rattle.puffin_c.specs.declared.fault.Fault.{Fault}
 use Rattle.puffin_c.specs.declared.fault.Fault.TheVariants as fault
 use Rattle.puffin_c.specs.declared.profiler.Profiler.{Profiler}
 use Rattle.puffin_c.specs.Faults.{file_fault}
-use Rattle.puffin_c.specs.Recording.{AreNoTexts}
+use Rattle.puffin_c.specs.Recording.{IsNoText}
 use Rattle.puffin_c.specs.Profiling.{TakesOwn}
 
 pub nothing_held : {X : Type 0} (o : Option X) (is_open : Bool) → is_open ≡ is_some o → is_open ≡ false → o ≡ None
@@ -70,11 +71,12 @@ file_refusal here q e f same is (inr (inr io)) = inl (is ∙ ap file_fault io)
 
 -- scopes of the program's own whose name is refused, and whose bytes are
 pub name_refused : (p : Option Profiler) (held : (q : Profiler) × (p ≡ Some q)) (key : ThreadKey) (form : Form) (bytes : List ℕ) (f e : Fault) →
-    f ≡ e → AreNoTexts (key.name ∷ []) e → TakesOwn p key form bytes p (Err f)
-name_refused p held key form bytes f e same why =
-    (refl, inr (held.0, held.1, inl (subst (AreNoTexts (key.name ∷ [])) (sym same) why)))
+    f ≡ e → IsNoText key.name e → TakesOwn p key form bytes p (Err f)
+name_refused p held key form bytes f e same (inl (is, none)) = (refl, inr (held.0, held.1, inl (same ∙ is, none)))
+name_refused p held key form bytes f e same (inr (memory, text)) =
+    (refl, inr (held.0, held.1, inr (text, error.Memory, same ∙ memory, inl refl)))
 
 pub bytes_refused : (p : Option Profiler) (held : (q : Profiler) × (p ≡ Some q)) (key : ThreadKey) (form : Form) (bytes : List ℕ) (f : Fault)
-    (e : Error) → f ≡ fault.Refused e → (e ≡ error.Memory) ⊎ IsFault form bytes e → TakesOwn p key form bytes p (Err f)
-bytes_refused p held key form bytes f e same (inl memory) = (refl, inr (held.0, held.1, inl (inr (same ∙ ap fault.Refused memory))))
-bytes_refused p held key form bytes f e same (inr first) = (refl, inr (held.0, held.1, inr (e, same, inl first)))
+    (e : Error) → IsUtf8 key.name → f ≡ fault.Refused e → (e ≡ error.Memory) ⊎ IsFault form bytes e → TakesOwn p key form bytes p (Err f)
+bytes_refused p held key form bytes f e text same (inl memory) = (refl, inr (held.0, held.1, inr (text, e, same, inl memory)))
+bytes_refused p held key form bytes f e text same (inr first) = (refl, inr (held.0, held.1, inr (text, e, same, inr (inl first))))

@@ -1,5 +1,5 @@
 -- The name of a thread that a caller gives.
-use Rattle.std.proofs.Common.{◌≡◌, ◌⊎◌, ℕ, List, [], ◌∷◌, refl, ◌∙◌, inl, inr}
+use Rattle.std.proofs.Common.{◌≡◌, ◌⊎◌, ℕ, List, refl, inl, inr}
 use Rattle.std.specs.Prelude.{Bool, true, false, ℤ, None, Err}
 use Rattle.std.specs.Str.{IsUtf8}
 use Rattle.puffin_data.specs.declared.error.Error.TheVariants as error
@@ -9,11 +9,11 @@ use Rattle.puffin_threads.specs.Thread.ThreadKey.{ThreadKey}
 use Rattle.puffin_c.specs.declared.fault.Fault.{Fault}
 use Rattle.puffin_c.specs.declared.fault.Fault.TheVariants as fault
 use Rattle.puffin_c.specs.Faults.{file_fault}
-use Rattle.puffin_c.specs.Recording.{AreNoTexts}
+use Rattle.puffin_c.specs.Recording.{IsNoText}
 use Rattle.puffin_c.specs.Reporting.{key_given, LacksLines, IsPrinted}
 
-pub name_given : (has_start : Bool) (start : ℤ) (name : List ℕ) (f : Fault) → AreNoTexts (name ∷ []) f →
-    AreNoTexts ((key_given has_start start name).name ∷ []) f
+pub name_given : (has_start : Bool) (start : ℤ) (name : List ℕ) (f : Fault) → IsNoText name f →
+    IsNoText (key_given has_start start name).name f
 name_given true start name f h = h
 name_given false start name f h = h
 
@@ -22,18 +22,15 @@ text_given true start name h = h
 text_given false start name h = h
 
 -- a name that is refused is no text, or memory ran out
-refused_name : (bytes : List ℕ) (info : ThreadKey) (f : Fault) → AreNoTexts (info.name ∷ []) f →
-    (f ≡ fault.Refused error.Memory → IsUtf8 info.name) →
+refused_name : (bytes : List ℕ) (info : ThreadKey) (f : Fault) → IsNoText info.name f →
     ((f ≡ fault.NotText) × ¬ (IsUtf8 info.name))
     ⊎ (IsUtf8 info.name × (e : FileError) × (f ≡ file_fault e) × LacksLines bytes info e)
-refused_name bytes info f (inl (is, inl other)) text = inl (is, other)
-refused_name bytes info f (inl (is, inr none)) text = absurd none
-refused_name bytes info f (inr memory) text = inr (text memory, file.Memory, memory, (None, inl tt))
+refused_name bytes info f (inl none) = inl none
+refused_name bytes info f (inr (memory, text)) = inr (text, file.Memory, memory, (None, inl tt))
 
 pub name_not_printed : (has_start : Bool) (start : ℤ) (name bytes old : List ℕ) (size : ℕ) (f e : Fault) → f ≡ e →
-    AreNoTexts (name ∷ []) e → (e ≡ fault.Refused error.Memory → IsUtf8 name) →
-    IsPrinted bytes (key_given has_start start name) old old size size (Err f)
-name_not_printed true start name bytes old size f e is why text =
-    rw is (refl, refl, refused_name bytes (key_given true start name) e why text)
-name_not_printed false start name bytes old size f e is why text =
-    rw is (refl, refl, refused_name bytes (key_given false start name) e why text)
+    IsNoText name e → IsPrinted bytes (key_given has_start start name) old old size size (Err f)
+name_not_printed true start name bytes old size f e is why =
+    rw is (refl, refl, refused_name bytes (key_given true start name) e why)
+name_not_printed false start name bytes old size f e is why =
+    rw is (refl, refl, refused_name bytes (key_given false start name) e why)

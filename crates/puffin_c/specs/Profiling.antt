@@ -1,6 +1,7 @@
 -- How the calls on a profiler's handle change what it holds.
 use Rattle.std.specs.Prelude.{◌≡◌, ◌⊎◌, ◌<◌, ℕ, List, [], ◌∷◌, Bool, true, false, Option, Some, None, Result, Ok, Err, is_some, length, drop, min}
 use Rattle.std.specs.List.{Any}
+use Rattle.std.specs.Str.{IsUtf8}
 use Rattle.std.specs.Arc.{arc_value}
 use Rattle.std.specs.Option.{option_map}
 use Rattle.std.specs.FinMap.{values}
@@ -30,7 +31,6 @@ use Rattle.puffin_c.specs.declared.fault.Fault.{Fault}
 use Rattle.puffin_c.specs.declared.fault.Fault.TheVariants as fault
 use Rattle.puffin_c.specs.declared.frame.PuffinFrame.{PuffinFrame}
 use Rattle.puffin_c.specs.declared.profiler.Profiler.{Profiler}
-use Rattle.puffin_c.specs.Recording.{AreNoTexts}
 use Rattle.puffin_c.specs.Reporting.{laid_over}
 
 -- ---- a profiler
@@ -50,14 +50,17 @@ pub record IsNew (p : Profiler) : Type 0 where
   pub waiting : waiting_frame p ≡ None
   pub unread : p.unread ≡ []
 
+-- There are ids, and a handle that held nothing now holds a new profiler. Or nothing is changed, and the fault is the first that
+-- applies.
 abbrev pub OpensProfiler : Option Profiler → Bool → Option Profiler → Result (Unit {0}) Fault → Type 0
 OpensProfiler old has_ids new (Ok _) =
     (old ≡ None) × (has_ids ≡ true) × (p : Profiler) × (new ≡ Some p) × IsNew p
 OpensProfiler old has_ids new (Err f) =
     (new ≡ old)
     × (((f ≡ fault.IsOpen) × (is_some old ≡ true))
-    ⊎ ((f ≡ fault.NotOpen) × (has_ids ≡ false))
-    ⊎ (f ≡ fault.Refused error.Memory))
+    ⊎ ((old ≡ None)
+    × (((f ≡ fault.NotOpen) × (has_ids ≡ false))
+    ⊎ ((f ≡ fault.Refused error.Memory) × (has_ids ≡ true)))))
 
 -- the profiler with `c` as the state of its collector
 abbrev pub with_collected : Profiler → Collected → Profiler
@@ -95,8 +98,8 @@ abbrev pub IsStream : Form → List ℕ → StreamFacts → Type 0
 IsStream form bytes r =
     (r.form ≡ form) × (r.bytes ≡ bytes) × (f : Forest) × AreHonestFacts r f
 
--- Either the scopes of a stream are appended under this key; or the name, the bytes or the scopes are refused, and nothing is
--- changed.
+-- The scopes of a stream are appended under this key. Or nothing is changed: first the name is refused, then the bytes, and then
+-- the scopes. Memory may run out at any time after the name was tested.
 abbrev pub TakesOwn : Option Profiler → ThreadKey → Form → List ℕ → Option Profiler →
     Result (Unit {0}) Fault → Type 0
 TakesOwn p key form bytes p' (Ok _) =
@@ -105,6 +108,7 @@ TakesOwn p key form bytes p' (Ok _) =
     × (r : StreamFacts)
     × (p ≡ Some q)
     × (p' ≡ Some (with_collected q after))
+    × IsUtf8 key.name
     × IsStream form bytes r
     × AcceptsReport q.collector key [] r after
 TakesOwn p key form bytes p' (Err f) =
@@ -112,10 +116,12 @@ TakesOwn p key form bytes p' (Err f) =
     × (((f ≡ fault.NotOpen) × (p ≡ None))
     ⊎ ((q : Profiler)
     × (p ≡ Some q)
-    × (AreNoTexts (key.name ∷ []) f
-    ⊎ ((e : Error)
+    × (((f ≡ fault.NotText) × ¬ (IsUtf8 key.name))
+    ⊎ (IsUtf8 key.name
+    × (e : Error)
     × (f ≡ fault.Refused e)
-    × (IsFault form bytes e
+    × ((e ≡ error.Memory)
+    ⊎ IsFault form bytes e
     ⊎ ((r : StreamFacts) × IsStream form bytes r × IsReportRefusal q.collector key [] r e))))))
 
 -- ---- frames

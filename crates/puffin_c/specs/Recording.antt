@@ -1,5 +1,5 @@
 -- How the calls on the handles of ids and threads change what the handles hold.
-use Rattle.std.specs.Prelude.{◌≡◌, ◌≢◌, ◌⊎◌, ℕ, ◌<◌, ℤ, Bool, true, List, [], ◌∷◌, Option, Some, None, Result, Ok, Err, is_some, slice_get}
+use Rattle.std.specs.Prelude.{◌≡◌, ◌≢◌, ◌⊎◌, ℕ, ◌<◌, ℤ, Bool, true, false, List, [], ◌∷◌, Option, Some, None, Result, Ok, Err, is_some, slice_get}
 use Rattle.std.specs.Str.{IsUtf8}
 use Rattle.puffin_data.specs.declared.data.form.Form.{Form}
 use Rattle.puffin_data.specs.declared.error.Error.TheVariants as error
@@ -10,58 +10,69 @@ use Rattle.puffin_c.specs.declared.fault.Fault.{Fault}
 use Rattle.puffin_c.specs.declared.fault.Fault.TheVariants as fault
 use Rattle.puffin_c.specs.Times.{clock_time, begun_place}
 
--- why a text is refused
+-- why a text is refused: the first cause that applies
 abbrev pub IsNoText : List ℕ → Fault → Type 0
-IsNoText text f = ((f ≡ fault.NotText) × ¬ (IsUtf8 text)) ⊎ (f ≡ fault.Refused error.Memory)
+IsNoText text f =
+    ((f ≡ fault.NotText) × ¬ (IsUtf8 text)) ⊎ ((f ≡ fault.Refused error.Memory) × IsUtf8 text)
 
--- some of these aren't UTF-8
+-- all of these texts are UTF-8
+abbrev pub AreTexts : List (List ℕ) → Type 0
+AreTexts [] = Unit {0}
+AreTexts (text ∷ rest) = IsUtf8 text × AreTexts rest
+
+-- some of these texts aren't UTF-8
 abbrev pub HasNoText : List (List ℕ) → Type 0
 HasNoText [] = ⊥
 HasNoText (text ∷ rest) = (¬ (IsUtf8 text)) ⊎ HasNoText rest
 
--- why one of these texts is refused
+-- why texts are refused: the first cause that applies
 abbrev pub AreNoTexts : List (List ℕ) → Fault → Type 0
 AreNoTexts texts f =
-    ((f ≡ fault.NotText) × HasNoText texts) ⊎ (f ≡ fault.Refused error.Memory)
+    ((f ≡ fault.NotText) × HasNoText texts)
+    ⊎ ((f ≡ fault.Refused error.Memory) × AreTexts texts)
 
 -- a handle that held nothing now holds ids; or nothing is changed
 abbrev pub OpensIds : {X : Type 0} → Option X → Option X → Result (Unit {0}) Fault → Type 0
 OpensIds old new (Ok _) = (old ≡ None) × (is_some new ≡ true)
 OpensIds old new (Err f) =
     (new ≡ old)
-    × (((f ≡ fault.IsOpen) × (is_some old ≡ true)) ⊎ (f ≡ fault.Refused error.Memory))
+    × (((f ≡ fault.IsOpen) × (is_some old ≡ true))
+    ⊎ ((f ≡ fault.Refused error.Memory) × (old ≡ None)))
 
--- there are ids, and a handle that held nothing now holds a new thread; or nothing is changed
+-- There are ids, and a handle that held nothing now holds a new thread. Or nothing is changed, and the fault is the first that
+-- applies.
 abbrev pub Opens : Option Thread → Bool → List ℕ → Form → Option Thread →
     Result (Unit {0}) Fault → Type 0
 Opens old has_ids name form new (Ok _) =
-    (old ≡ None) × (has_ids ≡ true) × (new ≡ Some (new_thread name form))
+    (old ≡ None) × (has_ids ≡ true) × IsUtf8 name × (new ≡ Some (new_thread name form))
 Opens old has_ids name form new (Err f) =
     (new ≡ old)
     × (((f ≡ fault.IsOpen) × (is_some old ≡ true))
-    ⊎ ((f ≡ fault.NotOpen) × (has_ids ≢ true))
-    ⊎ IsNoText name f)
+    ⊎ ((old ≡ None)
+    × (((f ≡ fault.NotOpen) × (has_ids ≡ false)) ⊎ ((has_ids ≡ true) × IsNoText name f))))
 
 -- a handle that held something now holds nothing; or it held nothing, and the call is refused
 abbrev pub Closes : {X : Type 0} → Option X → Option X → Result (Unit {0}) Fault → Type 0
 Closes old new (Ok _) = (is_some old ≡ true) × (new ≡ None)
 Closes old new (Err f) = (f ≡ fault.NotOpen) × (old ≡ None) × (new ≡ None)
 
--- a scope was begun in the handle's thread, and this is its offset; or nothing is changed
+-- A scope was begun in the handle's thread, and this is its offset. Or nothing is changed, and the fault is the first that
+-- applies.
 abbrev pub Begins : Option Thread → ℤ → ℕ → List ℕ → Option Thread → ℕ → ℕ →
     Result (Unit {0}) Fault → Type 0
 Begins old at id text new before place (Ok _) =
     (t : Thread)
     × (old ≡ Some t)
     × (0 < id)
+    × IsUtf8 text
     × (new ≡ Some (after_begin t id (cut_text t.form text) (clock_time at)))
     × (place ≡ begun_place t text)
 Begins old at id text new before place (Err f) =
     (new ≡ old)
     × (place ≡ before)
     × (((f ≡ fault.NotOpen) × (old ≡ None))
-    ⊎ ((f ≡ fault.NoId) × (id ≡ 0) × (is_some old ≡ true))
-    ⊎ (IsNoText text f × (is_some old ≡ true)))
+    ⊎ ((is_some old ≡ true)
+    × (((f ≡ fault.NoId) × (id ≡ 0)) ⊎ ((0 < id) × IsNoText text f))))
 
 -- the innermost scope, which has this offset, was ended; or nothing is changed
 abbrev pub Ends : Option Thread → ℤ → ℕ → Option Thread → Result (Unit {0}) Fault → Type 0
@@ -94,15 +105,19 @@ scope_details name function file line = record default_details {
   line_nr = line;
 }
 
--- Either a scope with these details was registered under this id, and the details go with the thread's next report; or nothing
--- is changed.
+-- A scope with these details was registered under this id, and the details go with the thread's next report. Or nothing is
+-- changed, and the fault is the first that applies.
 abbrev pub RegistersFor : Option Thread → List (List ℕ) → Details → Option Thread → ℕ → ℕ →
     Result (Unit {0}) Fault → Type 0
 RegistersFor old texts d new before id (Ok _) =
-    (t : Thread) × (old ≡ Some t) × (new ≡ Some (after_registering t (with_id d id)))
+    (t : Thread)
+    × (old ≡ Some t)
+    × AreTexts texts
+    × (0 < id)
+    × (new ≡ Some (after_registering t (with_id d id)))
 RegistersFor old texts d new before id (Err f) =
     (new ≡ old)
     × (id ≡ before)
     × (((f ≡ fault.NotOpen) × (old ≡ None))
     ⊎ ((is_some old ≡ true)
-    × (AreNoTexts texts f ⊎ (f ≡ fault.Refused error.IdsExhausted))))
+    × (AreNoTexts texts f ⊎ ((f ≡ fault.Refused error.IdsExhausted) × AreTexts texts))))

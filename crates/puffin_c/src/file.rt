@@ -1,18 +1,16 @@
 //! Counts the frames of a file, and reports on the file.
 
-ghost use Rattle.std.specs.Prelude.{◌≡◌, [], ◌∷◌, Result, OnOk, IfOk, IfErr};
+ghost use Rattle.std.specs.Prelude.{◌≡◌, Result, OnOk, IfOk, IfErr};
 ghost use Rattle.std.specs.Str.{IsUtf8};
-ghost use Rattle.puffin_data.specs.declared.error.Error.TheVariants as error;
 ghost use Rattle.puffin_threads.specs.Thread.ThreadKey.{key_of};
 ghost use Rattle.puffin_c.specs.declared.fault.Fault.{Fault};
-ghost use Rattle.puffin_c.specs.declared.fault.Fault.TheVariants as fault;
 ghost use Rattle.puffin_c.specs.Faults.{answer_code};
-ghost use Rattle.puffin_c.specs.Recording.{AreNoTexts};
+ghost use Rattle.puffin_c.specs.Recording.{IsNoText};
 ghost use Rattle.puffin_c.specs.Reporting.{IsChecked, HasLines, LacksLines, key_given, IsPrinted};
 
 use crate::fault::{Fault, answer_code};
 use crate::memory_source::MemorySource;
-use crate::texts::owned_text;
+use crate::texts::{copied, text};
 use crate::unread::lay_over;
 use puffin_data::FileError;
 use puffin_data::data::Counted;
@@ -52,7 +50,7 @@ pub extern "C" fn puffin_check_file(alloc: Global, file: &[u8], frames: &mut u64
     answer_code(answer)
 }
 
-/// Returns the info of a thread. Fails with `NotText` if its name isn't UTF-8, or with `Memory`.
+/// Returns the info of a thread. Fails with `NotText` if its name isn't UTF-8, otherwise only with `Memory`.
 pub(crate) fn named_thread(
     alloc: Global,
     has_start: bool,
@@ -60,14 +58,13 @@ pub(crate) fn named_thread(
     name: &[u8],
 ) -> Result<ThreadInfo, Fault>
     ensures ok { IfOk result (λ info. key_of info ≡ key_given has_start start_ns name.now) }
-    ensures err { IfErr result (AreNoTexts (name.now ∷ [])) }
     ensures text { OnOk result (IsUtf8 name.now) }
-    ensures memory { IfErr result (λ f. f ≡ fault.Refused error.Memory → IsUtf8 name.now) }
+    ensures err { IfErr result (IsNoText name.now) }
 {
-    let name = owned_text(alloc, name)?;
+    let name = text(name)?;
     Ok(ThreadInfo {
         start_time_ns: if has_start { Some(start_ns) } else { None },
-        name,
+        name: copied(alloc, name)?,
     })
 }
 

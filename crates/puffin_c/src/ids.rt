@@ -55,7 +55,7 @@ impl PuffinIds {
         ensures ok { OnOk result (is_some self.old.slot.held ≡ true) }
         ensures err { IfErr result (λ f.
             ((f ≡ fault.NotOpen) × (self.old.slot.held ≡ None))
-            ⊎ (f ≡ fault.Refused error.Memory)) }
+            ⊎ ((f ≡ fault.Refused error.Memory) × (is_some self.old.slot.held ≡ true))) }
     {
         if !self.is_open {
             return Err(Fault::NotOpen);
@@ -96,7 +96,7 @@ fn opened(alloc: Global, ids: &mut PuffinIds) -> Result<(), Fault>
 
 /// Opens a handle with a new set of ids.
 ///
-/// Fails with `IsOpen` or `Memory`. Nothing changes then.
+/// Fails with the first of `IsOpen` and `Memory` that applies. Nothing changes then.
 #[unsafe(no_mangle)]
 pub extern "C" fn puffin_ids_open(alloc: Global, ids: &mut PuffinIds) -> u32
     ensures { (answer : Result (Unit {0}) Fault)

@@ -6,7 +6,7 @@ ghost use Rattle.puffin_c.specs.Faults.{answer_code};
 ghost use Rattle.puffin_c.specs.Recording.{RegistersFor, function_details, scope_details};
 
 use crate::fault::{Fault, answer_code};
-use crate::texts::{FunctionAndFile, owned_text};
+use crate::texts::{FunctionAndFile, copied, text};
 use crate::thread::PuffinThread;
 use std::alloc::Global;
 
@@ -35,7 +35,8 @@ fn function_registered(
 /// Registers a function as a scope, and sets `id` to its id, which [`puffin_begin`] takes. Pass 0 if the line is
 /// unknown. The scope's details go to the profiler with the thread's next accepted report, by [`puffin_report`].
 ///
-/// Fails with `NotOpen`, `NotText`, `IdsExhausted` or `Memory`. Nothing changes then, except that an id may be used up.
+/// Fails with `NotOpen`; otherwise with `NotText` if a text isn't UTF-8; otherwise with `IdsExhausted` or `Memory`. Nothing
+/// changes then, except that an id may be used up.
 ///
 /// [`puffin_begin`]: crate::thread::puffin_begin
 /// [`puffin_report`]: crate::profiling::puffin_report
@@ -73,8 +74,9 @@ fn scope_registered(
     if !thread.is_open {
         return Err(Fault::NotOpen);
     }
-    let name = owned_text(alloc, name)?;
+    let name = text(name)?;
     let place = FunctionAndFile::of(alloc, function, file)?;
+    let name = copied(alloc, name)?;
     let mut recorder = thread.take(alloc);
     let answer = recorder.register_scope(name, place.function, place.file, line);
     thread.put(recorder);

@@ -66,7 +66,8 @@ impl Profiler {
             return Ok(());
         }
         if let Some(frame) = self.collector.collect_frame()? {
-            self.waiting = Some(Waiting { frame });
+            let waiting = Waiting { frame };
+            self.waiting = Some(waiting);
         }
         Ok(())
     }

@@ -71,7 +71,7 @@ fn opened(alloc: Global, profiler: &mut PuffinProfiler, ids: &mut PuffinIds) -> 
 /// Opens a handle with a new profiler, which shares the ids of `ids`. Its view keeps the last 1,000 frames and the 256
 /// slowest ones.
 ///
-/// Fails with `IsOpen`, with `NotOpen` if `ids` isn't open, or with `Memory`. Nothing changes then.
+/// Fails with the first of these that applies: `IsOpen`; `NotOpen` if `ids` isn't open; `Memory`. Nothing changes then.
 #[unsafe(no_mangle)]
 pub extern "C" fn puffin_profiler_open(
     alloc: Global,

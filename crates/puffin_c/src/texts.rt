@@ -1,10 +1,10 @@
 //! Texts that programs pass as bytes.
 
-ghost use Rattle.std.specs.Prelude.{◌≡◌, [], ◌∷◌, OnOk, IfOk, IfErr, MatchResult, string_bytes};
+ghost use Rattle.std.specs.Prelude.{◌≡◌, [], ◌∷◌, OnOk, IfOk, IfErr, string_bytes};
 ghost use Rattle.std.specs.Str.{IsUtf8};
 ghost use Rattle.puffin_data.specs.declared.error.Error.TheVariants as error;
 ghost use Rattle.puffin_c.specs.declared.fault.Fault.TheVariants as fault;
-ghost use Rattle.puffin_c.specs.Recording.{IsNoText, AreNoTexts};
+ghost use Rattle.puffin_c.specs.Recording.{AreTexts, AreNoTexts};
 
 use crate::fault::Fault;
 use puffin_data::Error;
@@ -14,8 +14,9 @@ use std::alloc::Global;
 /// time.
 #[inline(always)]
 pub(crate) fn text(bytes: &[u8]) -> Result<&str, Fault>
-    ensures { MatchResult result (λ s. s.now ≡ bytes.now) (λ f.
-        (f ≡ fault.NotText) × ¬ (IsUtf8 bytes.now)) }
+    ensures ok { IfOk result (λ s. s.now ≡ bytes.now) }
+    ensures text { OnOk result (IsUtf8 bytes.now) }
+    ensures err { IfErr result (λ f. (f ≡ fault.NotText) × ¬ (IsUtf8 bytes.now)) }
 {
     if bytes.is_ascii() {
         return Ok(unsafe { str::from_utf8_unchecked(bytes) });
@@ -27,8 +28,9 @@ pub(crate) fn text(bytes: &[u8]) -> Result<&str, Fault>
 #[cold]
 #[inline(never)]
 fn other_text(bytes: &[u8]) -> Result<&str, Fault>
-    ensures { MatchResult result (λ s. s.now ≡ bytes.now) (λ f.
-        (f ≡ fault.NotText) × ¬ (IsUtf8 bytes.now)) }
+    ensures ok { IfOk result (λ s. s.now ≡ bytes.now) }
+    ensures text { OnOk result (IsUtf8 bytes.now) }
+    ensures err { IfErr result (λ f. (f ≡ fault.NotText) × ¬ (IsUtf8 bytes.now)) }
 {
     match str::from_utf8(bytes) {
         Ok(text) => Ok(text),
@@ -36,16 +38,13 @@ fn other_text(bytes: &[u8]) -> Result<&str, Fault>
     }
 }
 
-/// Copies a text. Fails with `NotText` or `Memory`.
-pub(crate) fn owned_text(alloc: Global, bytes: &[u8]) -> Result<String, Fault>
-    ensures ok { IfOk result (λ s. string_bytes s ≡ bytes.now) }
-    ensures err { IfErr result (IsNoText bytes.now) }
-    ensures text { OnOk result (IsUtf8 bytes.now) }
-    ensures memory { IfErr result (λ f. f ≡ fault.Refused error.Memory → IsUtf8 bytes.now) }
+/// Copies a text. Fails only with `Memory`.
+pub(crate) fn copied(alloc: Global, text: &str) -> Result<String, Fault>
+    ensures ok { IfOk result (λ copy. string_bytes copy ≡ text.now) }
+    ensures err { IfErr result (λ f. f ≡ fault.Refused error.Memory) }
 {
-    let text = text(bytes)?;
     match String::from_str(alloc, text) {
-        Ok(text) => Ok(text),
+        Ok(copy) => Ok(copy),
         Err(_) => Err(Fault::Refused(Error::Memory)),
     }
 }
@@ -58,15 +57,18 @@ pub(crate) struct FunctionAndFile {
 }
 
 impl FunctionAndFile {
-    /// Copies these texts. Fails with `NotText` or `Memory`.
+    /// Copies these texts. Fails with the first of `NotText` and `Memory` that applies.
     pub(crate) fn of(alloc: Global, function: &[u8], file: &[u8]) -> Result<FunctionAndFile, Fault>
         ensures function { IfOk result (λ place. string_bytes place.function ≡ function.now) }
         ensures file { IfOk result (λ place. string_bytes place.file ≡ file.now) }
+        ensures texts { OnOk result (AreTexts (function.now ∷ file.now ∷ [])) }
         ensures err { IfErr result (AreNoTexts (function.now ∷ file.now ∷ [])) }
     {
+        let function = text(function)?;
+        let file = text(file)?;
         Ok(FunctionAndFile {
-            function: owned_text(alloc, function)?,
-            file: owned_text(alloc, file)?,
+            function: copied(alloc, function)?,
+            file: copied(alloc, file)?,
         })
     }
 }

@@ -11,7 +11,7 @@ use crate::ids::PuffinIds;
 use crate::raw_box::RawBox;
 use crate::recorder::Recorder;
 use crate::stream::form_of;
-use crate::texts::{owned_text, text};
+use crate::texts::{copied, text};
 use crate::thread_slot::ThreadSlot;
 use puffin_data::Error;
 use puffin_data::data::{Form, ScopeId};
@@ -64,8 +64,12 @@ fn opened(
     if thread.is_open {
         return Err(Fault::IsOpen);
     }
+    if !ids.is_open {
+        return Err(Fault::NotOpen);
+    }
+    let name = text(name)?;
     let shared = ids.share(alloc)?;
-    let name = owned_text(alloc, name)?;
+    let name = copied(alloc, name)?;
     match Box::new(alloc, Recorder::new(alloc, shared, name, form)) {
         Ok(held) => {
             thread.put(held);
@@ -78,8 +82,8 @@ fn opened(
 /// Opens a handle with a profiler for a thread with this name. The thread's scopes are registered under ids from `ids`. Their
 /// texts are cut at a character boundary to at most 127 bytes, or 16,383 if `long_texts` is set.
 ///
-/// Fails with `IsOpen`, with `NotOpen` if `ids` isn't open, with `NotText` if the name isn't UTF-8, or with `Memory`. Nothing
-/// changes then.
+/// Fails with the first of these that applies: `IsOpen`; `NotOpen` if `ids` isn't open; `NotText` if the name isn't UTF-8;
+/// `Memory`. Nothing changes then.
 #[unsafe(no_mangle)]
 pub extern "C" fn puffin_thread_open(
     alloc: Global,
@@ -150,7 +154,7 @@ fn begun(
 /// Begins a scope with this id and the text `bytes` at this time, and sets `scope` to its offset, which [`puffin_end`] takes. A
 /// negative time counts as 0, and a time before the thread's last one counts as the last one.
 ///
-/// Fails with the first of `NotOpen`, `NoId` and `NotText` that applies, or with `Memory`. Nothing changes then.
+/// Fails with the first of `NotOpen`, `NoId`, `NotText` and `Memory` that applies. Nothing changes then.
 #[unsafe(no_mangle)]
 pub extern "C" fn puffin_begin(
     alloc: Global,

@@ -67,8 +67,8 @@ fn taken(
 /// [`puffin_count`] for `bytes` and `long_texts`.
 ///
 /// Fails with the first of these that applies: `NotOpen`; `NotText` if the name isn't UTF-8; the first fault in the bytes;
-/// `UnlikeForms`, `TooLarge` or `RangeTooLong`, like [`puffin_report`]. Can also fail with `Memory`. Nothing changes in either
-/// case.
+/// `UnlikeForms`, `TooLarge` or `RangeTooLong`, like [`puffin_report`]. Can also fail with `Memory`, but not in place of
+/// `NotOpen` or `NotText`. Nothing changes in either case.
 ///
 /// [`puffin_count`]: crate::stream::puffin_count
 /// [`puffin_report`]: crate::profiling::puffin_report

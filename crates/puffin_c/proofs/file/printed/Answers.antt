@@ -10,8 +10,7 @@ use Rattle.puffin_c.proofs.file.printed.Goals as goal
 pub returns-in_err-thread : goal.returns-in_err-thread
 returns-in_err-thread c =
     let p = err_from_is_err_and c.from_residual.result c.from_residual.ensures.1 in
-    let refused = c.in_err-thread.ensures in
-    rw p.1 (name_not_printed c.args.has_start _ _ _ _ _ p.0 _ p.2 refused.err refused.memory)
+    rw p.1 (name_not_printed c.args.has_start _ _ _ _ _ p.0 _ p.2 c.in_err-thread.ensures.err)
 
 pub returns-in_err-lines : goal.returns-in_err-lines
 returns-in_err-lines c =

@@ -8,7 +8,7 @@ use Rattle.puffin_c.specs.declared.profiler.Profiler.{Profiler}
 use Rattle.puffin_c.specs.Profiling.{with_collected}
 use Rattle.puffin_c.specs.Reporting.{key_given}
 use Rattle.puffin_c.proofs.Held.{something_held, name_refused, bytes_refused}
-use Rattle.puffin_c.proofs.Named.{name_given}
+use Rattle.puffin_c.proofs.Named.{name_given, text_given}
 use Rattle.puffin_c.proofs.user_scopes.taken.Goals as goal
 
 pub returns-in_err-info : goal.returns-in_err-info
@@ -22,7 +22,8 @@ pub returns-in_err-times : goal.returns-in_err-times
 returns-in_err-times c =
     let p = err_from_is_err_and c.from_residual-in_err-times.result c.from_residual-in_err-times.ensures.1 in
     let held = something_held _ _ c.args.profiler.now.tied c.if-not-profiler.false in
-    rw p.1 (bytes_refused _ held _ _ _ p.0 _ p.2 c.in_err-times.ensures.fault)
+    let text = text_given c.args.has_start c.args.start_ns _ c.in_ok-info.ensures.text in
+    rw p.1 (bytes_refused _ held _ _ _ p.0 _ text p.2 c.in_err-times.ensures.fault)
 
 pub returns-in-Ok : goal.returns-in-Ok
 returns-in-Ok c =
@@ -36,6 +37,7 @@ returns-in-Ok c =
       times,
       c.take-whole.ensures.taken,
       c.put.ensures ∙ ap (λ (p : Profiler). Some (with_collected p after)) c.deref_mut.ensures.value,
+      text_given c.args.has_start c.args.start_ns _ c.in_ok-info.ensures.text,
       (c.in_ok-times.ensures.form, c.in_ok-times.ensures.bytes, c.in_ok-times.ensures.honest.0, c.in_ok-times.ensures.honest.1),
       subst (λ (i : ThreadKey). AcceptsReport q.collector i [] times after) key
           (subst (λ (p : Profiler). AcceptsReport p.collector (key_of c.in_ok-info.info) [] times after) c.deref_mut.ensures.value
@@ -56,15 +58,16 @@ returns-in-Err c =
         q,
         c.take-whole.ensures.taken,
         inr (
+          text_given c.args.has_start c.args.start_ns _ c.in_ok-info.ensures.text,
           c.in-Err.cause,
           refl,
-          inr (
+          inr (inr (
             times,
             (c.in_ok-times.ensures.form, c.in_ok-times.ensures.bytes, c.in_ok-times.ensures.honest.0, c.in_ok-times.ensures.honest.1),
             subst (λ (i : ThreadKey). IsReportRefusal q.collector i [] times c.in-Err.cause) key
                 (subst (λ (p : Profiler). IsReportRefusal p.collector (key_of c.in_ok-info.info) [] times c.in-Err.cause)
                 c.deref_mut.ensures.value refuses.0),
-          ),
+          )),
         ),
       ),
     )

@@ -8,8 +8,8 @@ returns-then-is_some-clause-ok c =
     let w = waits c.args.self.now.waiting _ c.is_some.ensures c.if-is_some.true in
     (refl, refl, inr (w.0, inl (w.1, refl), w.1))
 
-pub invariant_of-t-14 : goal.invariant_of-t-14
-invariant_of-t-14 c = record { ids = tells_ids (arc_value c.in-Some.frame) (rw c.in-Some.is at c.in_ok-frame.ensures.ids) }
+pub invariant_of-waiting : goal.invariant_of-waiting
+invariant_of-waiting c = record { ids = tells_ids (arc_value c.in-Some.frame) (rw c.in-Some.is at c.in_ok-frame.ensures.ids) }
 
 pub returns-in-Some-clause-ok : goal.returns-in-Some-clause-ok
 returns-in-Some-clause-ok c =
