@@ -52,7 +52,7 @@ fn recorder(rt: &HostRuntime, on: bool) -> Result<(Recorder, Place)> {
 
 /// Makes scopes nested `depth` deep.
 #[inline(never)]
-fn nest(thread: &mut Recorder, part: Place, depth: usize) {
+fn nest(thread: &mut Recorder, part: &Place, depth: usize) {
     let mut guard = thread.scope(part);
     if depth > 1 {
         nest(guard.thread(), part, depth - 1);
@@ -61,7 +61,7 @@ fn nest(thread: &mut Recorder, part: Place, depth: usize) {
 
 /// Makes scopes with a text, nested `depth` deep.
 #[inline(never)]
-fn nest_with_text(thread: &mut Recorder, part: Place, text: &str, depth: usize) {
+fn nest_with_text(thread: &mut Recorder, part: &Place, text: &str, depth: usize) {
     let mut guard = thread.scope_with(part, text);
     if depth > 1 {
         nest_with_text(guard.thread(), part, text, depth - 1);
@@ -70,7 +70,7 @@ fn nest_with_text(thread: &mut Recorder, part: Place, text: &str, depth: usize) 
 
 /// Makes outermost scopes, one after the other.
 #[inline(never)]
-fn row(thread: &mut Recorder, part: Place) {
+fn row(thread: &mut Recorder, part: &Place) {
     for _ in 0..SCOPES {
         profile!(_guard, thread, part);
     }
@@ -110,7 +110,7 @@ impl LightWork {
 
     /// Makes the scopes of a run.
     #[inline(never)]
-    fn run(self, thread: &mut Recorder, part: Place) {
+    fn run(self, thread: &mut Recorder, part: &Place) {
         match self {
             LightWork::Off | LightWork::Outermost => row(thread, part),
             LightWork::Nests => {
@@ -131,7 +131,7 @@ impl LightWork {
 pub fn count_light(rt: &HostRuntime) -> Result<()> {
     for work in LightWork::ALL {
         let (mut thread, part) = recorder(rt, work != LightWork::Off)?;
-        work.run(&mut thread, part);
+        work.run(&mut thread, &part);
         let reports = thread.into_reporter().count;
         print_counts(rt, work.name(), &[("reports", reports)])?;
     }
@@ -145,7 +145,7 @@ pub fn time_light(rt: &HostRuntime) -> Result<()> {
         let mut best = u128::MAX;
         for _ in 0..ROUNDS {
             let begun = Instant::now(rt)?;
-            work.run(&mut thread, part);
+            work.run(&mut thread, &part);
             best = best.min(begun.elapsed(rt)?.as_nanos());
         }
         print(rt, work.name(), best, SCOPES)?;

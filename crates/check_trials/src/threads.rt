@@ -48,9 +48,9 @@ impl Rounds for Parts {
     /// Makes a scope within another.
     fn part<T: Records>(&self, _number: usize, thread: &mut T) {
         self.done.fetch_add(1, Ordering::SeqCst);
-        let mut outer = thread.scope(self.outer);
+        let mut outer = thread.scope(&self.outer);
         self.count(outer.state());
-        let inner = outer.scope_with(self.inner, "text");
+        let inner = outer.scope_with(&self.inner, "text");
         self.count(inner.state());
     }
 }

@@ -72,7 +72,7 @@ fn scopes_that_are_off_are_not_begun(rt: HostRuntime) -> Tested {
     let mut thread = Thread::start(rt, "main", GlobalProfiler::new(rt.alloc()), &scopes)?;
     thread.switch().set_scopes_on(false);
     {
-        let guard = thread.scope(places.whole);
+        let guard = thread.scope(&places.whole);
         equal(&rt, guard.state(), GuardState::Off);
     }
     both(&mut thread, &places);

@@ -70,7 +70,7 @@ fn a_thread_refuses_a_place_that_it_does_not_know(rt: HostRuntime) -> Tested {
     let mut thread = Thread::start(rt, "main", GlobalProfiler::new(rt.alloc()), &scopes)?;
     let late = place!(scopes, "late")?;
     {
-        let mut guard = thread.scope(late);
+        let mut guard = thread.scope(&late);
         equal(&rt, guard.state(), GuardState::Refused(Error::MissingId));
         profile!(load, guard, places.load);
         equal(&rt, load.state(), GuardState::On(14));

@@ -22,8 +22,8 @@ pub trait Records {
     fn switch(&self) -> &Switch;
 
     /// Begins a scope at a place, with a text, if scopes are on. Returns whether it began.
-    fn begin(&mut self, place: Place, text: &str) -> GuardState
-        ensures { begins self.old place text.now result self.new };
+    fn begin(&mut self, place: &Place, text: &str) -> GuardState
+        ensures { begins self.old place.now text.now result self.new };
 
     /// Ends the scope at this offset if it is the innermost open one; otherwise does nothing. If no other scope is open then,
     /// reports everything that has closed; if that is refused, the closed scopes wait for the thread's next report.
@@ -32,18 +32,18 @@ pub trait Records {
 
     /// Begins a scope at a place, without a text, if scopes are on. It ends when the guard is dropped.
     #[inline(always)]
-    final fn scope(&mut self, place: Place) -> Guard<'_, Self>
+    final fn scope(&mut self, place: &Place) -> Guard<'_, Self>
         ensures same_reference { result.thread.ghost_name ≡ self.entry.ghost_name }
-        ensures begun { begins self.old place [] result.state result.thread.now }
+        ensures begun { begins self.old place.now [] result.state result.thread.now }
     {
         Guard::open(self, place, "")
     }
 
     /// Begins a scope at a place, with a text, if scopes are on. It ends when the guard is dropped.
     #[inline(always)]
-    final fn scope_with(&mut self, place: Place, text: &str) -> Guard<'_, Self>
+    final fn scope_with(&mut self, place: &Place, text: &str) -> Guard<'_, Self>
         ensures same_reference { result.thread.ghost_name ≡ self.entry.ghost_name }
-        ensures begun { begins self.old place text.now result.state result.thread.now }
+        ensures begun { begins self.old place.now text.now result.state result.thread.now }
     {
         Guard::open(self, place, text)
     }
@@ -64,9 +64,9 @@ impl<'t, T: Records> Guard<'t, T> {
 
     /// Begins a scope at a place, with a text, if scopes are on. It ends when the guard is dropped.
     #[inline(always)]
-    pub fn open(thread: &'t mut T, place: Place, text: &str) -> Guard<'t, T>
+    pub fn open(thread: &'t mut T, place: &Place, text: &str) -> Guard<'t, T>
         ensures same_reference { result.thread.ghost_name ≡ thread.entry.ghost_name }
-        ensures begun { T.begins thread.old place text.now result.state result.thread.now }
+        ensures begun { T.begins thread.old place.now text.now result.state result.thread.now }
     {
         let state = thread.begin(place, text);
         Guard { thread, state }
@@ -74,8 +74,9 @@ impl<'t, T: Records> Guard<'t, T> {
 
     /// Begins a scope within this one, without a text. It ends when its own guard is dropped.
     #[inline(always)]
-    pub fn scope(&mut self, place: Place) -> Guard<'_, T>
-        ensures begun { T.begins self.old.thread.now place [] result.state result.thread.now }
+    pub fn scope(&mut self, place: &Place) -> Guard<'_, T>
+        ensures begun { T.begins self.old.thread.now place.now [] result.state
+            result.thread.now }
         ensures* writes_back { sem 𝓛 (
             follows (the_row (record { mir = named 0; lft = [] }) T.row) T.row
             self.entry.ghost_name result.thread.ghost_name (with_thread self.old)) }
@@ -85,8 +86,8 @@ impl<'t, T: Records> Guard<'t, T> {
 
     /// Begins a scope within this one, with a text. It ends when its own guard is dropped.
     #[inline(always)]
-    pub fn scope_with(&mut self, place: Place, text: &str) -> Guard<'_, T>
-        ensures begun { T.begins self.old.thread.now place text.now result.state
+    pub fn scope_with(&mut self, place: &Place, text: &str) -> Guard<'_, T>
+        ensures begun { T.begins self.old.thread.now place.now text.now result.state
             result.thread.now }
         ensures* writes_back { sem 𝓛 (
             follows (the_row (record { mir = named 0; lft = [] }) T.row) T.row

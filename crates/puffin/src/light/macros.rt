@@ -36,9 +36,9 @@ macro_rules! place {
 #[macro_export]
 macro_rules! profile {
     ($guard:ident, $outer:expr, $place:expr $(,)?) => {
-        let mut $guard = $outer.scope($place);
+        let mut $guard = $outer.scope(&$place);
     };
     ($guard:ident, $outer:expr, $place:expr, $text:expr $(,)?) => {
-        let mut $guard = $outer.scope_with($place, $text);
+        let mut $guard = $outer.scope_with(&$place, $text);
     };
 }

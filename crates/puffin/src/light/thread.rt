@@ -209,11 +209,11 @@ impl<C: NsSource, P: Reporter> Records for Thread<C, P> {
     }
 
     #[inline(always)]
-    fn begin(&mut self, place: Place, text: &str) -> GuardState {
+    fn begin(&mut self, place: &Place, text: &str) -> GuardState {
         if !self.scopes.switch().are_scopes_on() {
             return GuardState::Off;
         }
-        if !self.scopes.know(&place) {
+        if !self.scopes.know(place) {
             return self.refuse(Error::MissingId);
         }
         match self.profiler.begin_scope(place.id(), text) {
