@@ -2,7 +2,8 @@
 
     python3 run.py PROGRAM [SCRIPT]
 
-SCRIPT is the script that builds and runs the program; it is run through a symbolic link from another folder.
+SCRIPT is the script that builds and runs the program; it is run through a symbolic link from another folder, and on the
+cases of starter.py.
 
 A case is a folder in cases/ with the files
   args    the program's words, one a line
@@ -26,6 +27,7 @@ import subprocess
 import sys
 import tempfile
 
+import starter
 import streams
 
 HERE = pathlib.Path(__file__).resolve().parent
@@ -136,6 +138,7 @@ def main():
     cases = all_cases()
     runs = [(case.name, faults, program, case) for case in cases]
     runs += [("through_a_link", faults_through_a_link, it, HERE / "cases" / "replay_one_frame") for it in script]
+    runs += [(name, starter.faults, it, steps) for it in script for name, steps in starter.CASES.items()]
     failed = 0
     for name, compare, what, case in runs:
         try:

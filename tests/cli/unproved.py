@@ -4,8 +4,9 @@
 
 `rt try` builds the program once. It gives the program files for its standard streams and a folder of its own, so words
 that name files are made absolute. Left out are cases whose standard output is a full device or a closed pipe, those with
-a standard stream that isn't open and, for root, those with a file that may not be opened. One more case runs the script puffin-tool where nothing is built. The
-last line is 'N passed, M failed, K left out'.
+a standard stream that isn't open and, for root, those with a file that may not be opened. One more case runs the script
+puffin-tool where nothing is built and crates.txt names a crate that isn't there; those of starter.py try what the script
+takes for built. The last line is 'N passed, M failed, K left out'.
 """
 
 import concurrent.futures
@@ -18,6 +19,7 @@ import sys
 import tempfile
 
 import run
+import starter
 
 ROOT = run.HERE.parent.parent
 # the words that name files, by the first word
@@ -79,6 +81,8 @@ def faults_of_script(folder):
     shutil.copytree(ROOT / "crates", copy / "crates", ignore=shutil.ignore_patterns("out", "must-fail"))
     for name in ("crates.txt", "HANDLES", "puffin-tool"):
         shutil.copy(ROOT / name, copy)
+    with (copy / "crates.txt").open("a") as lines:
+        lines.write(starter.LINE)
     link = folder / "linked"
     link.symlink_to(copy / "puffin-tool")
     case, place = run.HERE / "cases" / "range_too_long", folder / "of_script"
@@ -97,12 +101,15 @@ def ends_of_cases(cases, folder):
     return [(it.name, faults_unproved(it, found.get(it.name), folder / it.name)) for it in cases]
 
 
-def end_of_script(folder):
-    try:
-        faults = faults_of_script(folder)
-    except (OSError, subprocess.SubprocessError) as error:
-        faults = [str(error)]
-    return "script_where_nothing_is_built", faults
+def ends_of_script(folder):
+    """The same of the cases of the script."""
+    cases = [("script_where_nothing_is_built", faults_of_script, (folder,))]
+    cases += [(name, starter.faults, (ROOT / "puffin-tool", steps)) for name, steps in starter.CASES.items()]
+    for name, compare, words in cases:
+        try:
+            yield name, compare(*words)
+        except (OSError, subprocess.SubprocessError) as error:
+            yield name, [str(error)]
 
 
 def main():
@@ -110,8 +117,8 @@ def main():
     taken = [it for it in cases if is_taken(it)]
     with tempfile.TemporaryDirectory() as name, concurrent.futures.ThreadPoolExecutor(1) as beside:
         folder = pathlib.Path(name)
-        script = beside.submit(end_of_script, folder)
-        ended = [*ends_of_cases(taken, folder), script.result()]
+        script = beside.submit(lambda: list(ends_of_script(folder)))
+        ended = [*ends_of_cases(taken, folder), *script.result()]
     failed = sum(bool(faults) for _, faults in ended)
     for name, faults in ended:
         print(f"case {name} ... {'; '.join(faults) if faults else 'ok'}")

@@ -23,7 +23,7 @@ use Rattle.puffin_session.specs.declared.command.Command.{Command}
 use Rattle.puffin_session.specs.declared.command.Reply.{Reply}
 use Rattle.puffin_session.specs.Session.{SessionState, new_session}
 use Rattle.puffin_replay.specs.Program.EmittedFrames.{frames_emitted, Takes, TookAlso, ListsIds}
-use Rattle.puffin_replay.specs.Promise.{EmitsDue, emitted_fields, kept_frames, IsReadOf, KeepsRun, KeepsPromise, IsFileFault, IsUnread, IsTooLong}
+use Rattle.puffin_replay.specs.Promise.{EmitsDue, emitted_fields, kept_frames, IsReadOf, KeepsRun, KeepsPromise, IsFileFault, IsUnread, IsUnreadAnew}
 use Rattle.puffin_replay.specs.inner.InMemory.{IsFileOf, IsReadFault}
 use Rattle.puffin_replay.proofs.KeptFrames.{same_limits, kept_by}
 
@@ -207,12 +207,12 @@ module _ (threads : List (List ℕ × Form)) (commands : List Command) (max_rece
       again = subst (λ (cs : List PacketFields). IsReadOf cs read) (view_kept replies keeps.emits keeps.taken keeps.took) keeps.again;
     }
 
-    pub refused : (fault : FileError) (told : Option (List Reply)) → IsUnread (new_session threads) end commands old new fault told → (fault ≡ file.Memory) ⊎ ((fault ≡ file.PartTooLong) × IsTooLong threads commands max_recent max_slow told)
-    refused fault told (inl none) = inl none.0
-    refused fault told (inr (inl some)) = inl some.4
+    pub refused : (fault : FileError) (told : Option (List Reply)) → IsUnread (new_session threads) end commands old new fault told → IsUnreadAnew threads commands max_recent max_slow fault told
+    refused fault told (inl none) = inl (none.0, inl none.1)
+    refused fault told (inr (inl some)) = inl (some.4, inr (some.0, some.1, end, some.2))
     refused fault told (inr (inr all)) = by_cause all.5
       where
-        by_cause : IsFileFault old new fault → (fault ≡ file.Memory) ⊎ ((fault ≡ file.PartTooLong) × IsTooLong threads commands max_recent max_slow told)
-        by_cause (inl memory) = inl memory
-        by_cause (inr (inl (part, long))) = inr (part, (all.0, all.1, end, all.2, subst (Any HasLongPart) (view_kept all.0 all.2 all.3 all.4) long))
+        by_cause : IsFileFault old new fault → IsUnreadAnew threads commands max_recent max_slow fault told
+        by_cause (inl memory) = inl (memory, inr (all.0, all.1, end, all.2))
+        by_cause (inr (inl (part, long))) = inr (part, all.0, all.1, end, all.2, subst (Any HasLongPart) (view_kept all.0 all.2 all.3 all.4) long)
         by_cause (inr (inr (missing, lacks))) = let none : list_any lacks_ids (fields_held (view_of old)) ≡ false = held_before in absurd (cc)

@@ -149,11 +149,28 @@ module _ (start end : SessionState) (commands : List Command) (old new : FrameVi
   abbrev pub IsUnread : FileError → Option (List Reply) → Type 0
   IsUnread fault told = IsNotRun fault told ⊎ IsNotTaken fault told ⊎ IsNotRead fault told
 
--- In the run with these replies, a frame that is kept has a part that is too long to be written.
-abbrev pub IsTooLong : List (List ℕ × Form) → List Command → ℕ → ℕ → Option (List Reply) → Type 0
-IsTooLong threads commands max_recent max_slow told =
-    (replies : List Reply)
-    × (told ≡ Some replies)
-    × (end : SessionState)
-    × EmitsDue (new_session threads) end commands replies
-    × Any HasLongPart (kept_frames max_recent max_slow (emitted_fields replies))
+-- Why no view is read for a new session of threads with these names and forms, and a new view with these limits. `told` has the
+-- replies if the commands were run.
+module _ (threads : List (List ℕ × Form)) (commands : List Command) (max_recent max_slow : ℕ) where
+  -- memory ran out, before the commands were run or after
+  abbrev pub IsOutOfMemory : FileError → Option (List Reply) → Type 0
+  IsOutOfMemory fault told =
+      (fault ≡ file.Memory)
+      × ((told ≡ None)
+      ⊎ ((replies : List Reply)
+      × (told ≡ Some replies)
+      × (end : SessionState)
+      × EmitsDue (new_session threads) end commands replies))
+
+  -- the commands were run, and a frame that is kept has a part that is too long to be written
+  abbrev pub IsTooLong : FileError → Option (List Reply) → Type 0
+  IsTooLong fault told =
+      (fault ≡ file.PartTooLong)
+      × (replies : List Reply)
+      × (told ≡ Some replies)
+      × (end : SessionState)
+      × EmitsDue (new_session threads) end commands replies
+      × Any HasLongPart (kept_frames max_recent max_slow (emitted_fields replies))
+
+  abbrev pub IsUnreadAnew : FileError → Option (List Reply) → Type 0
+  IsUnreadAnew fault told = IsOutOfMemory fault told ⊎ IsTooLong fault told

@@ -1,5 +1,5 @@
 //! Counts a stream, and prints the counts.
-ghost use Rattle.std.specs.Prelude.{◌≡◌, ◌+◌, ◌-◌, ◌^◌, ◌<◌, ◌-ℤ◌, List, ℕ, IfOk, IfErr, OnErr, MatchResult, ◌⊎◌};
+ghost use Rattle.std.specs.Prelude.{◌≡◌, ◌+◌, ◌-◌, ◌^◌, ◌<◌, ◌-ℤ◌, List, ℕ, IfOk, IfErr, OnOk, OnErr, MatchResult, ◌⊎◌};
 ghost use Rattle.std.specs.String.{string_bytes};
 ghost use Rattle.puffin_data.specs.Forest.{Forest};
 ghost use Rattle.puffin_data.specs.Honesty.{IsHonest};
@@ -151,6 +151,9 @@ pub fn count_stream<S: Source, D: Drain>(
     // `Io` means that the reader or the writer failed in this call, or that the writer took no bytes.
     ensures io { (result ≡ Err FileError.Io) → (S.failures source.new ≡ S.failures source.old + 1)
         ⊎ ((D.failures drain.new ≡ D.failures drain.old + 1) ⊎ TookNothing D.takes drain.new) }
+    ensures failures { OnOk result (
+        (S.failures source.new ≡ S.failures source.old)
+        × (D.failures drain.new ≡ D.failures drain.old)) }
 {
     let bytes = read_to_end(alloc, source)?;
     let info = match StreamInfo::parse(alloc, Stream::from(bytes)) {

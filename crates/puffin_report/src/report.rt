@@ -161,6 +161,9 @@ pub fn print_report<S: Source, D: Drain>(
     // `Io` means that the reader or the writer failed in this call, or that the writer took no bytes.
     ensures io { (result ≡ Err FileError.Io) → (S.failures source.new ≡ S.failures source.old + 1)
         ⊎ ((D.failures drain.new ≡ D.failures drain.old + 1) ⊎ TookNothing D.takes drain.new) }
+    ensures failures { OnOk result (
+        (S.failures source.new ≡ S.failures source.old)
+        × (D.failures drain.new ≡ D.failures drain.old)) }
 {
     let summary = summarize(alloc, source, thread)?;
     let lines = report_lines(alloc, &summary)?;

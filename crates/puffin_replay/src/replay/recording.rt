@@ -245,6 +245,9 @@ pub fn run_script<D: Drain, E: Drain>(
     ensures io { (result ≡ Err FileError.Io) →
         ((D.failures out.new ≡ D.failures out.old + 1) ⊎ TookNothing D.takes out.new)
         ⊎ ((E.failures lines.new ≡ E.failures lines.old + 1) ⊎ TookNothing E.takes lines.new) }
+    ensures failures { OnOk result (
+        (D.failures out.new ≡ D.failures out.old)
+        × (E.failures lines.new ≡ E.failures lines.old)) }
 {
     let threads = threads_of(alloc, script)?;
     let mut session = match Session::with_forms(alloc, threads) {

@@ -9,7 +9,7 @@ ghost use Rattle.puffin_frames.specs.Packet.Writing.{HasLongPart};
 ghost use Rattle.puffin_view.specs.View.{View, empty_view};
 ghost use Rattle.puffin_view.specs.View.Known.{view_of, lacks_ids};
 ghost use Rattle.puffin_view.specs.View.File.{fields_in};
-ghost use Rattle.puffin_replay.specs.Promise.{IsReadOf, KeepsRun, KeepsPromise, IsUnread, IsTooLong};
+ghost use Rattle.puffin_replay.specs.Promise.{IsReadOf, KeepsRun, KeepsPromise, IsUnread, IsUnreadAnew};
 ghost use Rattle.puffin_replay.specs.inner.InMemory.{IsFileOf, IsReadFault};
 
 use crate::replay::recording::{Unread, run_into};
@@ -137,8 +137,10 @@ pub fn record_session_and_read(
 /// a new view that has these limits.
 ///
 /// So exactly the last and the slowest of the emitted frames are read back. Each of them has, under each thread's start and
-/// name, exactly the scopes reported there since the emitted frame before it. Fails with `Memory`, and with `PartTooLong` if a
-/// part of a packet has `2^32` bytes or more.
+/// name, exactly the scopes reported there since the emitted frame before it.
+///
+/// Fails with `Memory`, and with `PartTooLong` if a part of a packet has `2^32` bytes or more. The error has the replies if the
+/// commands were run.
 ///
 /// ```
 /// let recorded = record_and_read(alloc, threads, &commands, limits);
@@ -154,10 +156,8 @@ pub fn record_and_read(
         KeepsPromise (map (λ t. (string_bytes t.0, t.1)) threads.items) commands.now
         limits.max_recent limits.max_slow recording.replies.items recording.view) }
     ensures refusal { IfErr result (λ e.
-        (e.fault ≡ FileError.Memory)
-        ⊎ ((e.fault ≡ FileError.PartTooLong)
-        × IsTooLong (map (λ t. (string_bytes t.0, t.1)) threads.items) commands.now
-        limits.max_recent limits.max_slow (option_map (λ rs. rs.items) e.replies))) }
+        IsUnreadAnew (map (λ t. (string_bytes t.0, t.1)) threads.items) commands.now
+        limits.max_recent limits.max_slow e.fault (option_map (λ rs. rs.items) e.replies)) }
 {
     let mut view = limited_view(alloc, limits);
     match Session::with_forms(alloc, threads) {
