@@ -38,13 +38,11 @@ fn a_first_frame_lists_the_places_by_number_and_name(rt: HostRuntime) -> Tested 
     let (scopes, places) = registered(rt.alloc())?;
     equal(&rt, places.load.id().get(), 1);
     equal(&rt, places.paint.id().get(), 2);
-    equal(&rt, scopes.details()[0].function_name.as_str(), "load");
-    equal(
-        &rt,
-        scopes.details()[0].file_path.as_str(),
-        "tests_puffin::places",
-    );
-    equal(&rt, scopes.details()[1].function_name.as_str(), "paint");
+    let load = scopes.details().first().ok_or("details")?;
+    equal(&rt, load.function_name.as_str(), "load");
+    equal(&rt, load.file_path.as_str(), "tests_puffin::places");
+    let paint = scopes.details().last().ok_or("details")?;
+    equal(&rt, paint.function_name.as_str(), "paint");
     let mut thread = Thread::start(rt, "main", GlobalProfiler::new(rt.alloc()), &scopes)?;
     {
         profile!(_paint, thread, places.paint);
@@ -59,7 +57,8 @@ fn a_place_may_have_details_of_its_own(rt: HostRuntime) -> Tested {
     let mut scopes = Scopes::new(rt.alloc())?;
     let details = ScopeDetails::default().with_line_nr(7);
     equal(&rt, scopes.register(details)?.id().get(), 1);
-    equal(&rt, scopes.details()[0].line_nr, 7);
+    let details = scopes.details().first().ok_or("details")?;
+    equal(&rt, details.line_nr, 7);
     equal(&rt, scopes.are_on(), true);
     Ok(())
 }
