@@ -1,5 +1,7 @@
 //! The sizes of the interface's structs, for programs that compare their header with the library.
 
+ghost use Rattle.std.specs.Prelude.{◌≡◌};
+
 use crate::count::PuffinCount;
 use crate::frame::PuffinFrame;
 use crate::ids::PuffinIds;
@@ -25,7 +27,9 @@ pub struct PuffinSizes {
 
 /// Sets `sizes` to the sizes of the interface's structs, in bytes.
 #[unsafe(no_mangle)]
-pub extern "C" fn puffin_sizes(sizes: &mut PuffinSizes) {
+pub extern "C" fn puffin_sizes(sizes: &mut PuffinSizes)
+    ensures { sizes.new ≡ record { count = 40; frame = 48; ids = 16; thread = 16; profiler = 16 } }
+{
     sizes.count = size_of::<PuffinCount>() as u64;
     sizes.frame = size_of::<PuffinFrame>() as u64;
     sizes.ids = size_of::<PuffinIds>() as u64;
