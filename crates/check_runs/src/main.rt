@@ -9,6 +9,7 @@ use puffin::light::{Place, Records, Rounds, Scopes, Thread, in_rounds};
 use puffin::merge::MergeScope;
 use puffin::profile_view::FrameView;
 use puffin::scope_details::ScopeCollection;
+use puffin::thread_profiler::ThreadInfo;
 use puffin::{place, profile};
 use puffin_report::summarize;
 use std::mem;
@@ -48,6 +49,17 @@ fn print_scopes(
     Ok(())
 }
 
+/// Prints the report of one thread of a file.
+fn report_thread<R: AllocGlobal + Print>(rt: &R, bytes: &[u8], thread: &ThreadInfo) -> Result<()> {
+    let summary = summarize(rt.alloc(), &mut Buffered::new(bytes), thread)?;
+    println!(rt; "  {} frames {}", thread.name, summary.frames)?;
+    print_scopes(rt, &summary.scopes, "    ", &summary.merged)?;
+    for scope in &summary.merged {
+        print_scopes(rt, &summary.scopes, "      ", &scope.children)?;
+    }
+    Ok(())
+}
+
 /// Writes a view's file into memory, and prints its report for each of these threads.
 fn report<R: AllocGlobal + Print>(
     rt: &R,
@@ -62,15 +74,10 @@ fn report<R: AllocGlobal + Print>(
     let last = view.latest_frame().and_then(|frame| frame.as_unpacked());
     let streams = &last.context("a frame")?.thread_streams;
     for name in threads {
-        let mut keys = streams.keys();
-        let thread = keys
-            .find(|thread| thread.name.as_str() == *name)
-            .context("a thread")?;
-        let summary = summarize(rt.alloc(), &mut Buffered::new(bytes.as_slice()), thread)?;
-        println!(rt; "  {name} frames {}", summary.frames)?;
-        print_scopes(rt, &summary.scopes, "    ", &summary.merged)?;
-        for scope in &summary.merged {
-            print_scopes(rt, &summary.scopes, "      ", &scope.children)?;
+        for thread in streams.keys() {
+            if thread.name.as_str() == *name {
+                report_thread(rt, &bytes, thread)?;
+            }
         }
     }
     Ok(())
@@ -101,13 +108,17 @@ fn report_on<R: AllocGlobal + Print + Wait>(
     report(rt, title, &["alone"], &view)
 }
 
-/// One thread reports to a profiler, and then to another one.
-fn run_alone<R: AllocGlobal + Clock + Print + Wait + Copy + Drop>(
-    rt: R,
-    scopes: &Scopes,
-    game: &Game,
-) -> Result<()> {
-    let mut thread = Thread::start(rt, "alone", GlobalProfiler::new(rt.alloc()), scopes)?;
+fn main(rt: HostRuntime) -> Result<()> {
+    let mut scopes = Scopes::new(rt.alloc())?;
+    let game = Game {
+        load: place!(scopes, "load")?,
+        paint: place!(scopes, "paint", "pixels")?,
+    };
+    run(rt, "one thread", &["a"], &scopes, &game)?;
+    run(rt, "two threads", &["a", "b"], &scopes, &game)?;
+    run(rt, "one thread again", &["c"], &scopes, &game)?;
+    // One thread reports to a profiler, and then to another one.
+    let mut thread = Thread::start(rt, "alone", GlobalProfiler::new(rt.alloc()), &scopes)?;
     {
         profile!(_paint, thread, game.paint);
     }
@@ -120,16 +131,4 @@ fn run_alone<R: AllocGlobal + Clock + Print + Wait + Copy + Drop>(
     }
     report_on(&rt, "a thread's first profiler", &mut first)?;
     report_on(&rt, "its second profiler", thread.reporter())
-}
-
-fn main(rt: HostRuntime) -> Result<()> {
-    let mut scopes = Scopes::new(rt.alloc())?;
-    let game = Game {
-        load: place!(scopes, "load")?,
-        paint: place!(scopes, "paint", "pixels")?,
-    };
-    run(rt, "one thread", &["a"], &scopes, &game)?;
-    run(rt, "two threads", &["a", "b"], &scopes, &game)?;
-    run(rt, "one thread again", &["c"], &scopes, &game)?;
-    run_alone(rt, &scopes, &game)
 }

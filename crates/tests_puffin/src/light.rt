@@ -5,7 +5,7 @@ use puffin::data::Counted;
 use puffin::global_profiler::{GlobalProfiler, Settled};
 use puffin::light::{
     Frames, GuardState, Outcome, Place, Program, Records, Rounds, SaveCause, SaveError, Scopes,
-    StatefulRounds, Thread, ThreadCounts, in_rounds, profiled, save,
+    StatefulRounds, Thread, in_rounds, profiled, save,
 };
 use puffin::profile_view::FrameView;
 use puffin::{place, profile};
@@ -128,12 +128,10 @@ impl Rounds for Places {
 
 /// Whether each thread reported as many scopes as `reported` lists, and none was refused or left.
 fn has_reported(outcome: &Outcome, reported: &[u64]) -> bool {
-    let all = |&reported| ThreadCounts {
-        reported,
-        unreported: 0,
-        refused: 0,
-    };
-    outcome.threads.iter().copied().eq(reported.iter().map(all))
+    outcome.threads.len() == reported.len()
+        && outcome.threads.iter().zip(reported).all(|(thread, number)| {
+            thread.reported == *number && thread.unreported == 0 && thread.refused == 0
+        })
 }
 
 /// Checks that each thread reported as many scopes as `reported` lists, `sum` together, and that all of them were

@@ -89,11 +89,11 @@ struct Foreign {
 
 impl Rounds for Foreign {
     fn part<T: Records>(&self, number: usize, thread: &mut T) {
-        profile!(
-            _scope,
-            thread,
-            if number == 0 { self.other } else { self.own }
-        );
+        if number == 0 {
+            profile!(_other, thread, self.other);
+        } else {
+            profile!(_own, thread, self.own);
+        }
     }
 }
 
@@ -106,14 +106,12 @@ fn a_program_counts_the_scopes_that_are_refused(rt: HostRuntime) -> Tested {
         other: places.paint,
     };
     let outcome = in_rounds(rt, &["a", "b"], &scopes, 3, &foreign)?;
-    let counts = outcome.threads.iter();
-    equal(
-        &rt,
-        counts
-            .map(|thread| (thread.reported, thread.unreported, thread.refused))
-            .eq([(0, 0, 3), (3, 0, 0)]),
-        true,
-    );
+    let [refused, reported] = outcome.threads.as_slice() else {
+        return Err(Fail::new("two threads"));
+    };
+    equal(&rt, (refused.reported, refused.refused), (0, 3));
+    equal(&rt, (reported.reported, reported.refused), (3, 0));
+    equal(&rt, (refused.unreported, reported.unreported), (0, 0));
     Ok(())
 }
 
