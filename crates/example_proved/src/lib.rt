@@ -1,61 +1,128 @@
-//! Code that is profiled, with proofs of which scopes it opens and what its frame shows.
+//! Code that is profiled, with proofs of which scopes it opens and what its frames show.
 #![tactic(auto)]
 
-ghost use Rattle.std.specs.Prelude.{IfOk};
+ghost use Rattle.std.specs.Prelude.{◌≡◌, ◌+◌, ◌∷◌, [], IfOk, IfSome, map, vec_len};
+ghost use Rattle.std.specs.Arc.{arc_value};
+ghost use Rattle.std.specs.List.{Contains};
 ghost use Rattle.std.specs.String.{string_bytes};
-ghost use Rattle.puffin.specs.Places.{details_in};
-ghost use Rattle.puffin_accounts.specs.Running.{Runs, ShowsRun, at_first};
-ghost use Rattle.example_proved.specs.Turn.{physics_code, turn_code, script_answers};
+ghost use Rattle.puffin_frames.specs.Frame.Contents.{frame_details};
+ghost use Rattle.puffin_accounts.specs.Moments.{moment_of};
+ghost use Rattle.puffin_accounts.specs.Running.{Runs, at_first, repeated};
+ghost use Rattle.puffin_accounts.specs.Rounds.{ShowsRounds};
+ghost use Rattle.example_proved.specs.Turn.{
+  body_code,
+  turn_code,
+  turn_round,
+  script_answers,
+  the_places,
+  the_details,
+  update_details,
+  physics_details,
+};
 
 use puffin::frame_data::FrameData;
 use puffin::global_profiler::GlobalProfiler;
 use puffin::light::{Place, Records, Scopes, Thread};
-use puffin::profile;
 use puffin::thread_profiler::{ScriptClock, ThreadProfiler};
+use puffin::{place, profile};
+use puffin_accounts::places_are_listed;
 use puffin_data::Result;
+use std::alloc::Global;
 use std::sync::{Arc, Wait};
 
+#[cfg(test)]
+mod tests;
+
+/// The places where scopes begin.
+#[derive(Drop)]
+pub struct Places {
+    update: Place,
+    physics: Place,
+}
+
 /// Opens the scope of a turn, and within it that of physics.
-pub fn turn<T: Records>(thread: &mut T, update: Place, physics: Place)
-    ensures { Runs T.begins T.ends (turn_code update physics) thread.old thread.new }
+pub fn turn<T: Records>(thread: &mut T, places: &Places)
+    ensures { Runs T.begins T.ends (turn_code places.now) thread.old thread.new }
 {
-    profile!(whole, thread, update);
-    profile!(_inner, whole, physics, "all bodies");
+    profile!(whole, thread, places.update);
+    profile!(_physics, whole, places.physics, "all bodies");
 }
 
-/// Opens the scope of physics.
-pub fn physics_alone<T: Records>(thread: &mut T, physics: Place)
-    ensures { Runs T.begins T.ends (physics_code physics) thread.old thread.new }
+/// Opens the scope of physics for each of so many bodies.
+pub fn bodies<T: Records>(thread: &mut T, places: &Places, n: usize)
+    ensures { Runs T.begins T.ends (repeated n (body_code places.now)) thread.old thread.new }
 {
-    profile!(_inner, thread, physics, "all bodies");
+    for body in 0..n {
+        profile!(_physics, thread, places.physics);
+    }
 }
 
-/// The same as [`turn`], with the inner scope in a function of its own.
-pub fn turn_by_call<T: Records>(thread: &mut T, update: Place, physics: Place)
-    ensures { Runs T.begins T.ends (turn_code update physics) thread.old thread.new }
+/// Returns twice this number. The contract is one that the function had before it was profiled.
+pub fn twice<T: Records>(thread: &mut T, places: &Places, n: u32) -> u64
+    ensures { result ≡ n + n }
 {
-    profile!(whole, thread, update);
-    physics_alone(whole.thread(), physics);
+    profile!(_physics, thread, places.physics);
+    u64::from(n) + u64::from(n)
 }
 
-/// Takes the frame of one turn of a new thread, which knows the places of `scopes`.
+/// Makes a new thread, and the places that it knows.
+fn started(
+    alloc: Global,
+    name: String,
+    clock: ScriptClock,
+) -> Result<(Thread<ScriptClock, GlobalProfiler>, Places)>
+    ensures thread { IfOk result (λ started.
+        moment_of started.0 ≡ at_first (string_bytes name) clock the_details) }
+    ensures places { IfOk result (λ started. started.1 ≡ the_places) }
+{
+    let mut scopes = Scopes::new(alloc)?;
+    let places = Places {
+        update: place!(scopes, "update")?,
+        physics: place!(scopes, "update", "physics")?,
+    };
+    let mut profiler = GlobalProfiler::new(alloc);
+    profiler.add_scopes(scopes.details())?;
+    let recorder = ThreadProfiler::new(alloc, name, clock);
+    let thread = Thread::new(recorder, profiler, scopes.for_thread()?);
+    Ok((thread, places))
+}
+
+/// Takes the frame of one turn of a new thread. Returns it, and how many scopes wait for a report.
 pub fn first_frame(
     rt: &(impl Wait + AllocGlobal),
     name: String,
     clock: ScriptClock,
-    scopes: &Scopes,
-    update: Place,
-    physics: Place,
-) -> Result<Option<Arc<FrameData>>>
-    ensures { IfOk result (λ frame. ShowsRun script_answers
-        (at_first (string_bytes name) clock (details_in scopes.now))
-        (turn_code update physics) frame) }
+) -> Result<(Option<Arc<FrameData>>, usize)>
+    ensures shown { IfOk result (λ taken. ShowsRounds script_answers
+        (at_first (string_bytes name) clock the_details) (turn_round taken.0 ∷ []) taken.1) }
+    ensures named { IfOk result (λ taken. IfSome taken.0 (λ frame.
+        Contains (frame_details (arc_value frame)) update_details
+        × Contains (frame_details (arc_value frame)) physics_details)) }
+{
+    places_are_listed::<ScriptClock>();
+    let (mut thread, places) = started(rt.alloc(), name, clock)?;
+    turn(&mut thread, &places);
+    let frame = thread.new_frame(rt)?;
+    Ok((frame, thread.num_closed()))
+}
+
+/// Takes a frame after each of so many turns of a new thread. Returns them, and how many scopes wait for a report.
+pub fn frames(
+    rt: &(impl Wait + AllocGlobal),
+    name: String,
+    clock: ScriptClock,
+    turns: usize,
+) -> Result<(Vec<Option<Arc<FrameData>>>, usize)>
+    ensures number { IfOk result (λ taken. vec_len taken.0 ≡ turns) }
+    ensures shown { IfOk result (λ taken. ShowsRounds script_answers
+        (at_first (string_bytes name) clock the_details) (map turn_round taken.0.items) taken.1) }
 {
     let alloc = rt.alloc();
-    let mut profiler = GlobalProfiler::new(alloc);
-    profiler.add_scopes(scopes.details())?;
-    let recorder = ThreadProfiler::new(alloc, name, clock);
-    let mut thread = Thread::new(recorder, profiler, scopes.for_thread()?);
-    turn(&mut thread, update, physics);
-    thread.new_frame(rt)
+    let (mut thread, places) = started(alloc, name, clock)?;
+    let mut frames = Vec::new(alloc);
+    for round in 0..turns {
+        turn(&mut thread, &places);
+        frames.push(thread.new_frame(rt)?)?;
+    }
+    Ok((frames, thread.num_closed()))
 }

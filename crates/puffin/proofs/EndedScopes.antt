@@ -1,9 +1,7 @@
 -- Each scope that ends is counted once.
 use Rattle.std.proofs.Common.{◌≡◌, ◌≢◌, ◌<◌, ℕ, ◌+◌, ℤ, List, [], ◌∷◌, ◌++◌, Some, Result, Ok, Err, Bool, true, false, refl, sym, ap, ◌∙◌, arith, inl, inr}
 use Rattle.puffin_data.specs.declared.error.Error.{Error}
-use Rattle.puffin_data.specs.Forest.{Forest, empty, node}
-use Rattle.puffin_data.specs.Forest.Measures.{scope_count}
-use Rattle.puffin_data.specs.Forest.Tour.{Event, Open, Close, tour}
+use Rattle.puffin_data.specs.Forest.Tour.{Event, Open, Close}
 use Rattle.puffin_data.specs.Honesty.{StreamFacts}
 use Rattle.puffin_data.specs.Text.{cut_text}
 use Rattle.puffin_threads.specs.declared.thread_profiler.reporter.Closed.{Closed}
@@ -22,15 +20,7 @@ use Rattle.puffin.specs.declared.light.thread.Thread.{Thread}
 use Rattle.puffin.specs.LightThread.{profiler_of, reporter_of}
 use Rattle.puffin.specs.Guards.{BeginsAt, EndsIn}
 use Rattle.puffin.specs.Ended.{CountsReports, counted_by}
-
-num_ended-append : (u v : List Event) → num_ended (u ++ v) ≡ num_ended u + num_ended v
-num_ended-append [] v = omega arith
-num_ended-append (Open id text start ∷ u) v = num_ended-append u v
-num_ended-append (Close stop ∷ u) v = omega (arith, num_ended-append u v)
-
-num_ended-tour : (f : Forest) → num_ended (tour f) ≡ scope_count f
-num_ended-tour empty = refl
-num_ended-tour (node s c o) = omega (arith, num_ended-append (tour c) (Close s.stop ∷ tour o), num_ended-tour c, num_ended-tour o)
+use Rattle.puffin.proofs.lemmas.Waiting.{num_ended-append, num_ended-tour}
 
 -- a report has as many scopes as have ended
 reported_ended : (t : calls.Thread) (r : StreamFacts) → IsReportOf t r → r.num_scopes ≡ num_ended t.word

@@ -5,3 +5,4 @@ mod HandedOut
 mod SharedRefusals
 mod CountedShares
 mod EndedScopes
+mod Registered

@@ -1,6 +1,7 @@
 -- The registered places of a program, and what registering one more does.
 use Rattle.std.specs.Prelude.{◌≡◌, ℕ, ◌+◌, ◌≤◌, List, Some, [], ◌∷◌, ◌++◌, length}
 use Rattle.puffin_threads.specs.Details.{Details, default_details, with_id, shared_details}
+use Rattle.puffin_threads.specs.Details.Collection.{first_with_id}
 use Rattle.puffin_scopes.specs.Names.Files.{short_file}
 use Rattle.puffin_scopes.specs.Names.Functions.{clean}
 use Rattle.puffin.specs.declared.light.scopes.Scopes.{Scopes}
@@ -25,8 +26,9 @@ function_at file function = record default_details {
 abbrev pub named_at : List ℕ → List ℕ → List ℕ → Details
 named_at file function name = record (function_at file function) { scope_name = Some name }
 
--- the details were registered last, and their id is the number of the registration, from 1
+-- the details were registered last; their id is the number of the registration, from 1, and no details before have it
 pub record Registers (old : List Details) (details : Details) (id : ℕ) (new : List Details) :
     Type 0 where
   pub number : id ≡ length old + 1
   pub added : new ≡ old ++ (with_id details id ∷ [])
+  pub found : first_with_id id new ≡ Some (with_id details id)

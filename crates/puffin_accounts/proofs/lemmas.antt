@@ -7,3 +7,5 @@ pub mod Showing
 pub mod Steps
 pub mod Running
 pub mod Listing
+pub mod Rounds
+pub mod Chains

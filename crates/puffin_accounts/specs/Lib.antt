@@ -4,3 +4,4 @@ pub mod Adding
 pub mod Showing
 pub mod Running
 pub mod Steps
+pub mod Rounds

@@ -1,27 +1,23 @@
--- Code that opens scopes, and what the first frame of a thread shows of it.
-use Rattle.std.specs.Prelude.{◌≡◌, ℕ, ◌+◌, ℤ, Bool, true, false, List, length, Option, Some}
+-- Code that opens scopes, and which of them begin.
+use Rattle.std.specs.Prelude.{◌≡◌, ℕ, zero, suc, ◌+◌, ◌≤◌, ℤ, List, length, Option, Some}
 use Rattle.std.specs.List.{Contains}
-use Rattle.std.specs.declared.sync.Arc.{Arc}
 use Rattle.puffin_data.specs.declared.data.form.Form.{Form}
 use Rattle.puffin_data.specs.declared.data.form.Form.TheVariants.{Short}
 use Rattle.puffin_data.specs.Text.{cut_text}
 use Rattle.puffin_data.specs.Forest as forest
 use Rattle.puffin_data.specs.Forest.{Forest, node, append}
 use Rattle.puffin_data.specs.Forest.Measures.{scope_count}
-use Rattle.puffin_data.specs.Forest.Tour.{tour}
 use Rattle.puffin_threads.specs.Thread.Calls.{new_thread}
 use Rattle.puffin_threads.specs.Details.{Details}
 use Rattle.puffin_threads.specs.Details.Collection.{first_with_id}
-use Rattle.puffin_frames.specs.declared.frame_data.frame.FrameData.{FrameData}
 use Rattle.puffin_collector.specs.Collector.State.{nothing_collected, after_learning, after_wanting}
 use Rattle.puffin_scopes.specs.declared.guard_state.GuardState.{GuardState}
 use Rattle.puffin_scopes.specs.Guards.Guard.{offset_in}
 use Rattle.puffin.specs.declared.light.place.Place.{Place}
 use Rattle.puffin.specs.Guards.{Leaves}
 use Rattle.puffin_accounts.specs.Moments.{Moment}
-use Rattle.puffin_accounts.specs.Times.{Timed}
 use Rattle.puffin_accounts.specs.Adding.{MayBe, scope_if, span_at}
-use Rattle.puffin_accounts.specs.Showing.{ShowsAll, listed_next}
+use Rattle.puffin_accounts.specs.Showing.{listed_next}
 
 -- code that opens scopes: nothing, or a scope at a place with a text, with the code within it and the code after it
 pub data Code : Type 0 where
@@ -67,11 +63,22 @@ abbrev pub num_scopes_of : Code → ℕ
 num_scopes_of nothing = 0
 num_scopes_of (scope place text within after) = 1 + (num_scopes_of within + num_scopes_of after)
 
--- whether no scope of this code has another one after it
-abbrev pub is_nested : Code → Bool
-is_nested nothing = true
-is_nested (scope place text within nothing) = is_nested within
-is_nested (scope place text within (scope next after_text inner after)) = false
+-- one piece of code, and another after it
+abbrev pub followed_by : Code → Code → Code
+followed_by nothing next = next
+followed_by (scope place text within after) next = scope place text within (followed_by after next)
+
+-- a piece of code, this many times
+abbrev pub repeated : ℕ → Code → Code
+repeated zero code = nothing
+repeated (suc n) code = followed_by (repeated n code) code
+
+-- no more scopes began than the code has; and if as many began, then all of them
+abbrev pub AllBegan : Type 0
+AllBegan =
+    (known : ℕ) (form : Form) (code : Code) (f : Forest) → AreScopesOf known form code f →
+    (scope_count f ≤ num_scopes_of code)
+    × (scope_count f ≡ num_scopes_of code → AreAllOf form code f)
 
 -- a new thread with this name and clock, and a new profiler that was told these details
 abbrev pub at_first : {C : Type 0} → List ℕ → C → List Details → Moment C
@@ -87,14 +94,3 @@ abbrev pub ListsPlaces : Type 0 → Type 0
 ListsPlaces C =
     (name : List ℕ) (clock : C) (details : List Details) (id : ℕ) (d : Details) →
     first_with_id id details ≡ Some d → Contains (listed_next (at_first name clock details)) d
-
--- The code ran on a new thread, and then a frame was asked for. The frame shows exactly the scopes that began, at times that the
--- clock gave; or there is none, and they wait.
-pub record ShowsRun {C A : Type 0} (answers : C → ℤ → C → Type 0) (first : Moment C) (code : Code)
-    (frame : Option (Arc FrameData A)) : Type 0 where
-  pub scopes : Forest
-  pub began : AreScopesOf first.known first.thread.form code scopes
-  pub all : scope_count scopes ≡ num_scopes_of code → AreAllOf first.thread.form code scopes
-  pub now : Moment C
-  pub timed : Timed answers first now (tour scopes)
-  pub shows : ShowsAll first now scopes frame

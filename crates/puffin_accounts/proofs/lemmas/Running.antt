@@ -1,47 +1,35 @@
--- Code adds the scopes of it that began, and the next frame shows them.
-use Rattle.std.proofs.Common.{◌≡◌, ℕ, ◌≤◌, ℤ, true, List, length, Option, Result, Ok, Err, refl, sym, ap, ◌∙◌, subst, arith}
-use Rattle.std.specs.Prelude.{IfOk}
-use Rattle.std.specs.declared.sync.Arc.{Arc}
+-- Code adds the scopes of it that began.
+use Rattle.std.proofs.Common.{◌≡◌, ℕ, suc, ◌+◌, ◌≤◌, ℤ, List, refl, sym, ap, ◌∙◌, subst, arith}
 use Rattle.puffin_data.specs.declared.error.Error.{Error}
 use Rattle.puffin_data.specs.declared.data.form.Form.{Form}
-use Rattle.puffin_data.specs.declared.data.form.Form.TheVariants.{Short}
-use Rattle.puffin_data.specs.Forest.{Forest, empty, node, append}
+use Rattle.puffin_data.specs.Forest.{Forest, empty, append}
 use Rattle.puffin_data.specs.Forest.Measures.{scope_count}
 use Rattle.puffin_data.specs.Honesty.{StreamFacts}
 use Rattle.puffin_data.specs.Text.{cut_text}
 use Rattle.puffin_data.proofs.lemmas.Extended.{scope_count-append}
-use Rattle.puffin_threads.specs.Thread.ThreadProfiler.{thread_of, clock_of}
+use Rattle.puffin_threads.specs.Thread.ThreadProfiler.{thread_of}
 use Rattle.puffin_threads.specs.Thread.ThreadKey.{ThreadKey}
 use Rattle.puffin_threads.specs.Thread.Calls as calls
-use Rattle.puffin_threads.specs.Thread.Calls.{new_thread}
 use Rattle.puffin_threads.specs.Details.{Details}
-use Rattle.puffin_frames.specs.declared.frame_data.frame.FrameData.{FrameData}
-use Rattle.puffin_collector.specs.Collector.State.{Collected, nothing_collected, after_learning, after_wanting}
-use Rattle.puffin_collector.specs.Collector.Collecting.{Collects}
+use Rattle.puffin_collector.specs.Collector.State.{Collected}
 use Rattle.puffin_scopes.specs.declared.guard_state.GuardState.{GuardState}
 use Rattle.puffin_scopes.specs.declared.guard_state.GuardState.TheVariants.{On, Off, Refused}
 use Rattle.puffin.specs.declared.global_profiler.profiler.GlobalProfiler.{GlobalProfiler}
 use Rattle.puffin.specs.declared.light.thread.Thread.{Thread}
 use Rattle.puffin.specs.declared.light.place.Place.{Place}
 use Rattle.puffin.specs.Profiler.{collected_of}
-use Rattle.puffin.specs.LightThread.{profiler_of, reporter_of, scopes_of}
+use Rattle.puffin.specs.LightThread.{profiler_of, scopes_of}
 use Rattle.puffin.specs.Places.{num_known}
 use Rattle.puffin.specs.Guards.{BeginsAt, EndsIn}
-use Rattle.puffin_accounts.specs.Moments.{Moment, moment_by, moment_of, Sees, AcceptsThere, RefusesThere}
+use Rattle.puffin_accounts.specs.Moments.{Moment, moment_by, Sees, AcceptsThere, RefusesThere}
 use Rattle.puffin_accounts.specs.Adding.{AddsScopes, MayBe, scope_if, span_at}
-use Rattle.puffin_accounts.specs.Showing.{HasOneTop}
-use Rattle.puffin_accounts.specs.Running.{Code, nothing, scope, Runs, AreScopesOf, AreAllOf, num_scopes_of, is_nested, at_first, ShowsRun}
+use Rattle.puffin_accounts.specs.Running.{Code, nothing, scope, Runs, AreScopesOf, AreAllOf, AllBegan, followed_by, repeated, num_scopes_of}
 use Rattle.puffin_accounts.proofs.lemmas.Adding.{adds_nothing, adds_both}
 use Rattle.puffin_accounts.proofs.lemmas.Opened.{adds_scope}
-use Rattle.puffin_accounts.proofs.lemmas.Showing.{frame_shows, shows_all}
 
 -- ---- which scopes began
 
-append-empty : (f : Forest) → append f empty ≡ f
-append-empty empty = refl
-append-empty (node s c o) = ap (node s c) (append-empty o)
-
--- no more scopes began than the code has, and if as many did, all did
+-- no more scopes began than the code has
 at_most : (known : ℕ) (form : Form) (code : Code) (f : Forest) → AreScopesOf known form code f → scope_count f ≤ num_scopes_of code
 at_most known form nothing f is = omega (arith, ap scope_count is)
 at_most known form (scope place text within after) f (On offset, why, start, stop, children, others, inner, later, is) =
@@ -51,35 +39,45 @@ at_most known form (scope place text within after) f (Off, why, start, stop, chi
 at_most known form (scope place text within after) f (Refused e, why, start, stop, children, others, inner, later, is) =
     omega (arith, ap scope_count is, scope_count-append children others, at_most known form within children inner, at_most known form after others later)
 
-pub all_began : (known : ℕ) (form : Form) (code : Code) (f : Forest) → AreScopesOf known form code f → scope_count f ≡ num_scopes_of code → AreAllOf form code f
-all_began known form nothing f is same = is
-all_began known form (scope place text within after) f (On offset, why, start, stop, children, others, inner, later, is) same =
+-- if as many began, all did
+all_of : (known : ℕ) (form : Form) (code : Code) (f : Forest) → AreScopesOf known form code f → scope_count f ≡ num_scopes_of code → AreAllOf form code f
+all_of known form nothing f is same = is
+all_of known form (scope place text within after) f (On offset, why, start, stop, children, others, inner, later, is) same =
     let fewer = at_most known form within children inner in
     let fewer_after = at_most known form after others later in
     let total = ap scope_count is in
-    subst (AreAllOf form (scope place text within after)) (sym is) (refl, refl, all_began known form within children inner (omega (arith, same, total, fewer, fewer_after)), all_began known form after others later (omega (arith, same, total, fewer, fewer_after)))
-all_began known form (scope place text within after) f (Off, why, start, stop, children, others, inner, later, is) same =
+    subst (AreAllOf form (scope place text within after)) (sym is) (refl, refl, all_of known form within children inner (omega (arith, same, total, fewer, fewer_after)), all_of known form after others later (omega (arith, same, total, fewer, fewer_after)))
+all_of known form (scope place text within after) f (Off, why, start, stop, children, others, inner, later, is) same =
     absurd (omega (arith, same, ap scope_count is, scope_count-append children others, at_most known form within children inner, at_most known form after others later))
-all_began known form (scope place text within after) f (Refused e, why, start, stop, children, others, inner, later, is) same =
+all_of known form (scope place text within after) f (Refused e, why, start, stop, children, others, inner, later, is) same =
     absurd (omega (arith, same, ap scope_count is, scope_count-append children others, at_most known form within children inner, at_most known form after others later))
 
--- nested code has at most one scope that is within no other
-one_top : (known : ℕ) (form : Form) (code : Code) (f : Forest) → is_nested code ≡ true → AreScopesOf known form code f → HasOneTop f
-one_top known form nothing f nested is = subst HasOneTop (sym is) tt
-one_top known form (scope place text within nothing) f nested (On offset, why, start, stop, children, others, inner, later, is) = subst HasOneTop (sym is) later
-one_top known form (scope place text within nothing) f nested (Off, why, start, stop, children, others, inner, later, is) = subst HasOneTop (sym (is ∙ ap (append children) later ∙ append-empty children)) (one_top known form within children nested inner)
-one_top known form (scope place text within nothing) f nested (Refused e, why, start, stop, children, others, inner, later, is) = subst HasOneTop (sym (is ∙ ap (append children) later ∙ append-empty children)) (one_top known form within children nested inner)
-one_top known form (scope place text within (scope p t w a)) f nested is = absurd cc
+pub all_began : AllBegan
+all_began known form code f is = (at_most known form code f is, all_of known form code f is)
+
+-- ---- code after code
+
+-- one piece of code ran after another
+pub runs_both : {T : Type 0} (begins : T → Place → List ℕ → GuardState → T → Type 0) (ends : T → ℕ → T → Type 0) (code next : Code) (old mid new : T) → Runs begins ends code old mid → Runs begins ends next mid new → Runs begins ends (followed_by code next) old new
+runs_both begins ends nothing next old mid new first then_next = subst (λ t. Runs begins ends next t new) first then_next
+runs_both begins ends (scope place text within after) next old mid new (state, begun, left, ended, began, inner, leaves, rest) then_next =
+    (state, begun, left, ended, began, inner, leaves, runs_both begins ends after next ended mid new rest then_next)
+
+-- code ran once more
+pub runs_again : {T : Type 0} (begins : T → Place → List ℕ → GuardState → T → Type 0) (ends : T → ℕ → T → Type 0) (n : ℕ) (code : Code) (old mid new : T) → Runs begins ends (repeated n code) old mid → Runs begins ends code mid new → Runs begins ends (repeated (n + 1) code) old new
+runs_again begins ends n code old mid new before once =
+    let next : suc n ≡ n + 1 = omega arith in
+    subst (λ k. Runs begins ends (repeated k code) old new) next (runs_both begins ends (repeated n code) code old mid new before once)
 
 -- ---- what runs
 
-record AddsCode {C : Type 0} (answers : C → ℤ → C → Type 0) (old new : Moment C) (code : Code) : Type 0 where
-  scopes : Forest
-  began : AreScopesOf old.known old.thread.form code scopes
-  adds : AddsScopes answers old new scopes
+pub record AddsCode {C : Type 0} (answers : C → ℤ → C → Type 0) (old new : Moment C) (code : Code) : Type 0 where
+  pub scopes : Forest
+  pub began : AreScopesOf old.known old.thread.form code scopes
+  pub adds : AddsScopes answers old new scopes
 
 -- a profiler is seen
-sees_there : {I : Type 0} {F : I → Type 0} → Sees {R = GlobalProfiler I F} collected_of AcceptsThere RefusesThere
+pub sees_there : {I : Type 0} {F : I → Type 0} → Sees {R = GlobalProfiler I F} collected_of AcceptsThere RefusesThere
 sees_there = record { accepted = λ old i ds r new h. h.0; refused = λ old i ds r e new h. h.0 }
 
 begins_form : {C R : Type 0} (answers : C → ℤ → C → Type 0) (old new : Thread C R) (place : Place) (text : List ℕ) (state : GuardState) → BeginsAt answers old place text state new → (thread_of (profiler_of new)).form ≡ (thread_of (profiler_of old)).form
@@ -97,7 +95,7 @@ moved : {k known : ℕ} {x form : Form} (code : Code) (f : Forest) → k ≡ kno
 moved {k} {known} {x} {form} code f same_known same_form is = subst (λ (y : Form). AreScopesOf known y code f) same_form (subst (λ (n : ℕ). AreScopesOf n x code f) same_known is)
 
 module _ {C R : Type 0} (answers : C → ℤ → C → Type 0) (seen : R → Collected) (accepts : R → ThreadKey → List Details → StreamFacts → R → Type 0) (refuses : R → ThreadKey → List Details → StreamFacts → Error → R → Type 0) (sees : Sees seen accepts refuses) where
-  adds_code : (code : Code) (old new : Thread C R) → Runs (BeginsAt answers) (EndsIn answers accepts refuses) code old new → AddsCode answers (moment_by seen old) (moment_by seen new) code
+  pub adds_code : (code : Code) (old new : Thread C R) → Runs (BeginsAt answers) (EndsIn answers accepts refuses) code old new → AddsCode answers (moment_by seen old) (moment_by seen new) code
   adds_code nothing old new runs = record { scopes = empty; began = refl; adds = subst (λ t. AddsScopes answers (moment_by seen old) (moment_by seen t) empty) (sym runs) (adds_nothing answers (moment_by seen old)) }
   adds_code (scope place text within after) old new (state, begun, left, ended, begins, inner, leaves, later) =
       let i = adds_code within begun left inner in
@@ -119,30 +117,3 @@ module _ {C R : Type 0} (answers : C → ℤ → C → Type 0) (seen : R → Col
         );
         adds = adds_both answers (moment_by seen old) (moment_by seen ended) (moment_by seen new) _ l.scopes w.adds l.adds;
       }
-
-abbrev made_of : {C : Type 0} → C → ℕ → calls.Thread → Collected → Moment C
-made_of clock known thread collected = record { clock = clock; known = known; thread = thread; collected = collected }
-
--- what the first frame shows of code that ran on a new thread
-pub shows_run : {C I : Type 0} {F : I → Type 0} {A : Type 0} (answers : C → ℤ → C → Type 0) (name : List ℕ) (clock : C) (details : List Details) (code : Code) (old new : Thread C (GlobalProfiler I F)) (later : Collected) (result : Result (Option (Arc FrameData A)) Error) (empty_one : Collected) (told : List Details)
-    → clock_of (profiler_of old) ≡ clock → num_known (scopes_of old) ≡ length details → thread_of (profiler_of old) ≡ new_thread name Short
-    → collected_of (reporter_of old) ≡ after_wanting (after_learning empty_one told) → empty_one ≡ nothing_collected 0 → told ≡ details
-    → is_nested code ≡ true → Runs (BeginsAt answers) (EndsIn answers AcceptsThere RefusesThere) code old new
-    → IfOk result (λ frame. Collects (collected_of (reporter_of new)) frame later) → IfOk result (λ frame. ShowsRun answers (at_first name clock details) code frame)
-shows_run answers name clock details code old new later (Err e) empty_one told same_clock known thread collected is_empty same_details nested runs took = tt
-shows_run answers name clock details code old new later (Ok frame) empty_one told same_clock known thread collected is_empty same_details nested runs took =
-    let first : moment_of old ≡ at_first name clock details =
-    ap (λ c. made_of c (num_known (scopes_of old)) (thread_of (profiler_of old)) (collected_of (reporter_of old))) same_clock
-    ∙ ap (λ k. made_of clock k (thread_of (profiler_of old)) (collected_of (reporter_of old))) known
-    ∙ ap (λ t. made_of clock (length details) t (collected_of (reporter_of old))) thread
-    ∙ ap (made_of clock (length details) (new_thread name Short)) (collected ∙ ap (λ x. after_wanting (after_learning x told)) is_empty ∙ ap (λ ds. after_wanting (after_learning (nothing_collected 0) ds)) same_details) in
-    let added = subst (λ m. AddsCode answers m (moment_of new) code) first (adds_code answers collected_of AcceptsThere RefusesThere sees_there code old new runs) in
-    record {
-      scopes = added.scopes;
-      began = added.began;
-      all = all_began (length details) Short code added.scopes added.began;
-      now = moment_of new;
-      timed = added.adds.timed;
-      shows = shows_all (at_first name clock details) (moment_of new) added.scopes frame (one_top (length details) Short code added.scopes nested added.began)
-          (frame_shows answers (at_first name clock details) (moment_of new) added.scopes later refl refl refl refl added.adds frame took);
-    }

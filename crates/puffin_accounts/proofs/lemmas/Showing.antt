@@ -8,12 +8,12 @@ use Rattle.std.proofs.lemmas.List.{append-nil}
 use Rattle.puffin_data.specs.declared.data.form.Form.{Form}
 use Rattle.puffin_data.specs.declared.data.form.Form.TheVariants.{Short, Long}
 use Rattle.puffin_data.specs.Forest as forest
-use Rattle.puffin_data.specs.Forest.{Forest, Span, node, append}
+use Rattle.puffin_data.specs.Forest.{node}
+use Rattle.puffin_data.specs.Forest.{Forest}
 use Rattle.puffin_data.specs.Forest.Measures.{scope_count}
 use Rattle.puffin_data.specs.Forest.Tour.{Event, tour}
 use Rattle.puffin_data.specs.Honesty.{StreamFacts}
 use Rattle.puffin_data.specs.Text.{cut_text}
-use Rattle.puffin_data.proofs.lemmas.Tours.{tour-append, one_tour}
 use Rattle.puffin_threads.specs.Thread.ThreadKey.{ThreadKey, key_cmp, has_same_key}
 use Rattle.puffin_threads.specs.Details.{Details}
 use Rattle.puffin_threads.proofs.lemmas.EntriesSeen.{entries-empty}
@@ -24,9 +24,8 @@ use Rattle.puffin_frames.specs.Frame.Sums.{meta_of, total_scopes}
 use Rattle.puffin_frames.proofs.lemmas.Measured.{total_scopes-one}
 use Rattle.puffin_collector.specs.Collector.State.{Collected, no_scopes, delta_of}
 use Rattle.puffin_collector.specs.Collector.Collecting.{Collects}
-use Rattle.puffin_accounts.specs.Moments.{Moment, num_open, key_at}
-use Rattle.puffin_accounts.specs.Adding.{SpellsEvents, Gains, AddsScopes}
-use Rattle.puffin_accounts.specs.Showing.{ShowsForest, HasOneTop, ShowsAdded, ShowsAll}
+use Rattle.puffin_accounts.specs.Adding.{SpellsEvents}
+use Rattle.puffin_accounts.specs.Showing.{ShowsForest}
 
 pub no_tour : (f : Forest) → scope_count f ≡ 0 → tour f ≡ []
 no_tour forest.empty e = refl
@@ -63,7 +62,7 @@ none_in_empty some =
     let zero_scopes : total_scopes (values (empty {X = StreamFacts} {R = key_cmp})) ≡ 0 = ap total_scopes e in
     omega arith
 
-none_of : {A : Type 0} (xs ys : List A) → xs ++ ys ≡ [] → xs ≡ []
+pub none_of : {A : Type 0} (xs ys : List A) → xs ++ ys ≡ [] → xs ≡ []
 none_of [] ys e = refl
 none_of (x ∷ xs) ys e = absurd cc
 
@@ -80,74 +79,6 @@ shows_spelled c later frame key r events spelled one took =
       counted = ap (λ m. m.num_scopes) meta ∙ total_scopes-one r [] ∙ omega (arith, spelled.honest.counts.num_scopes);
       some = subst (λ (k : ℕ). 0 < k) total took.1;
     }
-
-module _ {C : Type 0} (answers : C → ℤ → C → Type 0) (old new : Moment C) (f : Forest) (later : Collected)
-    (closed : num_open old ≡ 0) (word : old.thread.word ≡ []) (none : old.collected.streams ≡ empty) (no_details : old.thread.details ≡ []) (adds : AddsScopes answers old new f) where
-  was_none : (i : ThreadKey) → get old.collected.streams i ≡ None
-  was_none i = ap (λ (s : Streams). get s i) none ∙ get-empty key_cmp i
-
-  others_none : (i : ThreadKey) → has_same_key i (key_at new) ≡ false → get new.collected.streams i ≡ None
-  others_none i other = (adds.passed closed).others i other ∙ was_none i
-
-  events : (adds.passed closed).reported ++ new.thread.word ≡ tour f
-  events = (adds.passed closed).events_kept ∙ ap (λ (w : List Event). w ++ tour f) word
-
-  none_sent : (adds.passed closed).sent ≡ []
-  none_sent = none_of (adds.passed closed).sent new.thread.details ((adds.passed closed).details_kept ∙ no_details)
-
-  -- the frame that is taken next, or that there is none
-  pub frame_shows : {A : Type 0} (frame : Option (Arc FrameData A)) → Collects new.collected frame later → ShowsAdded old new f frame
-  frame_shows {A} frame took = at_stream (adds.passed closed).stream frame took
-    where
-      at_stream : Gains (get old.collected.streams (key_at new)) (get new.collected.streams (key_at new)) (adds.passed closed).reported → (frame : Option (Arc FrameData A)) → Collects new.collected frame later → ShowsAdded old new f frame
-      at_stream (inl h) None took = ap (λ (w : List Event). w ++ new.thread.word) (sym h.1) ∙ events
-      at_stream (inl h) (Some frame) took = absurd (none_in_empty (subst (λ (s : Streams). 0 < total_scopes (values s)) (no_entry new.collected.streams (key_at new) (h.0 ∙ was_none (key_at new)) others_none) took.1))
-      at_stream (inr h) frame took = at_frame frame took
-        where
-          spelled : SpellsEvents h.0 (adds.passed closed).reported
-          spelled = h.2 [] (subst (λ (x : Option StreamFacts). SpellsEvents (unwrap_or x no_scopes) []) (sym (was_none (key_at new))) spells_none)
-
-          at_frame : (frame : Option (Arc FrameData A)) → Collects new.collected frame later → ShowsAdded old new f frame
-          at_frame None took = ap (λ (w : List Event). w ++ new.thread.word) (sym (none_spelled h.0 (adds.passed closed).reported spelled (took.0 (key_at new) h.0 h.1))) ∙ events
-          at_frame (Some frame) took =
-              let rest = (adds.passed closed).balanced (forest.empty, word) in
-              let one = one_entry new.collected.streams (key_at new) h.0 h.1 others_none in
-              let all = (adds.passed closed).collected in (
-                spelled.forest,
-                rest.0,
-                one_tour (append spelled.forest rest.0) f (tour-append spelled.forest rest.0 ∙ ap (λ (w : List Event). w ++ tour rest.0) spelled.toured ∙ ap (λ (w : List Event). (adds.passed closed).reported ++ w) (sym rest.1) ∙ events),
-                rest.1,
-                subst (λ (k : ℕ). ShowsForest (arc_value frame) k (key_at new) spelled.forest) (ap (λ (c : Collected). c.index) all) (shows_spelled new.collected later frame (key_at new) h.0 (adds.passed closed).reported spelled one took),
-                took.0.delta
-                    ∙ ap (λ (c : Collected). delta_of c.collection c.new_details c.wants_all) all
-                    ∙ ap (λ (ds : List Details). delta_of old.collected.collection ds old.collected.wants_all) (ap (λ (ds : List Details). old.collected.new_details ++ ds) none_sent ∙ append-nil old.collected.new_details),
-              )
-
--- ---- scopes within one
-
-no_parts : (f g : Forest) → append f g ≡ forest.empty → (f ≡ forest.empty) × (g ≡ forest.empty)
-no_parts forest.empty g e = (refl, e)
-no_parts (node s c o) g e = absurd cc
-
-same_whole : (s t : Span) (c d o u : Forest) → s ≡ t → c ≡ d → o ≡ u → node s c o ≡ node t d u
-same_whole s t c d o u e1 e2 e3 = cc
-
-all_shown : (shown waiting f : Forest) → HasOneTop f → 0 < scope_count shown → append shown waiting ≡ f → (shown ≡ f) × (waiting ≡ forest.empty)
-all_shown forest.empty waiting f one some e = absurd (omega arith)
-all_shown (node s c o) waiting forest.empty one some e = absurd cc
-all_shown (node s c o) waiting (node t d u) one some e =
-    let rest : append o waiting ≡ u = cc in
-    let spans : s ≡ t = cc in
-    let inner : c ≡ d = cc in
-    let none = no_parts o waiting (rest ∙ one) in
-    (same_whole s t c d o u spans inner (none.0 ∙ sym one), none.1)
-
--- all is shown, or all waits
-pub shows_all : {C A : Type 0} (old new : Moment C) (f : Forest) (frame : Option (Arc FrameData A)) → HasOneTop f → ShowsAdded old new f frame → ShowsAll old new f frame
-shows_all old new f None one h = h
-shows_all old new f (Some frame) one h =
-    let all = all_shown h.0 h.1 f one h.4.some h.2 in
-    (h.3 ∙ ap tour all.1, subst (λ (g : Forest). ShowsForest (arc_value frame) old.collected.index (key_at new) g) all.0 h.4, h.5)
 
 -- a text that is stored whole
 pub text_kept : (form : Form) (text : List ℕ) → length text ≤ 127 → cut_text form text ≡ text

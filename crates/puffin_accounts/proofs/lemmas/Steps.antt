@@ -123,7 +123,7 @@ module _ {C : Type 0} (answers : C → ℤ → C → Type 0) (m n : Moment C) (d
       subst (λ (k : ThreadKey). ((i : ThreadKey) → has_same_key i k ≡ false → get n.collected.streams i ≡ None) × (((get n.collected.streams k ≡ None) × (due ≡ [])) ⊎ ((r : StreamFacts) × (get n.collected.streams k ≡ Some r) × SpellsEvents r due))) (sym key)
       (subst (λ (s : Streams). ((i : ThreadKey) → has_same_key i (key_at m) ≡ false → get s i ≡ None) × (((get s (key_at m) ≡ None) × (due ≡ [])) ⊎ ((r : StreamFacts) × (get s (key_at m) ≡ Some r) × SpellsEvents r due))) (sym streams) (h.only, h.here))
 
-  still_due : IsDue n due
+  pub still_due : IsDue n due
   still_due =
       let there = at_start m.thread.first_start refl in
       record {
