@@ -10,14 +10,13 @@ use Rattle.puffin_accounts.specs.Running.{Code, nothing, scope}
 use Rattle.puffin_accounts.specs.Rounds.{Round}
 use Rattle.example_proved.specs.declared.Places.{Places}
 
--- the scope of a body
-abbrev pub body_code : Places → Code
-body_code places = scope places.physics [] nothing nothing
+-- the scope of physics
+abbrev pub physics_code : Places → Code
+physics_code places = scope places.physics (codes "all bodies") nothing nothing
 
 -- a scope for the whole turn, and within it that of physics
 abbrev pub turn_code : Places → Code
-turn_code places =
-    scope places.update [] (scope places.physics (codes "all bodies") nothing nothing) nothing
+turn_code places = scope places.update [] (physics_code places) nothing
 
 -- both places, and the details of each
 abbrev pub the_places : Places

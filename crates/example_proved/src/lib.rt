@@ -1,16 +1,13 @@
 //! Code that is profiled, with proofs of which scopes it opens and what its frames show.
 #![tactic(auto)]
 
-ghost use Rattle.std.specs.Prelude.{◌≡◌, ◌+◌, ◌∷◌, [], IfOk, IfSome, map, vec_len};
-ghost use Rattle.std.specs.Arc.{arc_value};
-ghost use Rattle.std.specs.List.{Contains};
+ghost use Rattle.std.specs.Prelude.{◌≡◌, ◌+◌, ◌∷◌, [], IfOk, map, vec_len};
 ghost use Rattle.std.specs.String.{string_bytes};
-ghost use Rattle.puffin_frames.specs.Frame.Contents.{frame_details};
 ghost use Rattle.puffin_accounts.specs.Moments.{moment_of};
 ghost use Rattle.puffin_accounts.specs.Running.{Runs, at_first, repeated};
-ghost use Rattle.puffin_accounts.specs.Rounds.{ShowsRounds};
+ghost use Rattle.puffin_accounts.specs.Rounds.{Lists, ShowsRounds};
 ghost use Rattle.example_proved.specs.Turn.{
-  body_code,
+  physics_code,
   turn_code,
   turn_round,
   script_answers,
@@ -48,12 +45,27 @@ pub fn turn<T: Records>(thread: &mut T, places: &Places)
     profile!(_physics, whole, places.physics, "all bodies");
 }
 
-/// Opens the scope of physics for each of so many bodies.
-pub fn bodies<T: Records>(thread: &mut T, places: &Places, n: usize)
-    ensures { Runs T.begins T.ends (repeated n (body_code places.now)) thread.old thread.new }
+/// Opens the scope of physics.
+pub fn physics<T: Records>(thread: &mut T, places: &Places)
+    ensures { Runs T.begins T.ends (physics_code places.now) thread.old thread.new }
 {
-    for body in 0..n {
-        profile!(_physics, thread, places.physics);
+    profile!(_physics, thread, places.physics, "all bodies");
+}
+
+/// The same as [`turn`], with the inner scope in a function of its own.
+pub fn turn_by_call<T: Records>(thread: &mut T, places: &Places)
+    ensures { Runs T.begins T.ends (turn_code places.now) thread.old thread.new }
+{
+    profile!(whole, thread, places.update);
+    physics(whole.thread(), places);
+}
+
+/// Opens the scope of physics this many times, one after the other.
+pub fn steps<T: Records>(thread: &mut T, places: &Places, n: usize)
+    ensures { Runs T.begins T.ends (repeated n (physics_code places.now)) thread.old thread.new }
+{
+    for step in 0..n {
+        physics(thread, places);
     }
 }
 
@@ -95,11 +107,10 @@ pub fn first_frame(
 ) -> Result<(Option<Arc<FrameData>>, usize)>
     ensures shown { IfOk result (λ taken. ShowsRounds script_answers
         (at_first (string_bytes name) clock the_details) (turn_round taken.0 ∷ []) taken.1) }
-    ensures named { IfOk result (λ taken. IfSome taken.0 (λ frame.
-        Contains (frame_details (arc_value frame)) update_details
-        × Contains (frame_details (arc_value frame)) physics_details)) }
+    ensures update { IfOk result (λ taken. Lists taken.0 update_details) }
+    ensures physics { IfOk result (λ taken. Lists taken.0 physics_details) }
 {
-    places_are_listed::<ScriptClock>();
+    places_are_listed::<ScriptClock>(); // for the proof: what the frame lists
     let (mut thread, places) = started(rt.alloc(), name, clock)?;
     turn(&mut thread, &places);
     let frame = thread.new_frame(rt)?;

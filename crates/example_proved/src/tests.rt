@@ -1,6 +1,6 @@
 //! What the frames of turns hold, byte by byte.
 
-use crate::{bodies, first_frame, frames, started};
+use crate::{first_frame, frames, started, steps};
 use puffin::frame_data::FrameData;
 use puffin::thread_profiler::ScriptClock;
 use std::process::Abort;
@@ -56,10 +56,10 @@ fn three_frames_show_three_turns(rt: HostRuntime) -> Tested {
 }
 
 #[test]
-fn each_body_is_a_scope(rt: HostRuntime) -> Tested {
+fn each_step_is_a_scope(rt: HostRuntime) -> Tested {
     let name = String::from_str(rt.alloc(), "main")?;
     let (mut thread, places) = started(rt.alloc(), name, ScriptClock::new(5))?;
-    bodies(&mut thread, &places, 4);
+    steps(&mut thread, &places, 4);
     let frame = thread.new_frame(&rt)?;
     assert!(rt; frame.is_some_and(|frame| frame.meta().num_scopes == 4));
     Ok(())

@@ -1,6 +1,7 @@
 -- Rounds on a thread, each of code that runs and a frame that is asked for after it, and what the frames show.
-use Rattle.std.specs.Prelude.{◌≡◌, ℕ, ◌+◌, ℤ, List, [], ◌∷◌, Option, Some, None}
+use Rattle.std.specs.Prelude.{◌≡◌, ℕ, ◌+◌, ℤ, List, [], ◌∷◌, Option, Some, None, IfSome}
 use Rattle.std.specs.Arc.{arc_value}
+use Rattle.std.specs.List.{Contains}
 use Rattle.std.specs.FinMap as map
 use Rattle.std.specs.declared.sync.Arc.{Arc}
 use Rattle.std.specs.declared.alloc.Global.{Global}
@@ -65,6 +66,10 @@ abbrev pub Shows : Option (Arc FrameData Global) → ℕ → ThreadKey → List 
 Shows None index key listed shown = shown ≡ empty
 Shows (Some frame) index key listed shown =
     ShowsForest (arc_value frame) index key shown × (frame_details (arc_value frame) ≡ listed)
+
+-- the frame, if there is one, lists these details
+abbrev pub Lists : Option (Arc FrameData Global) → Details → Type 0
+Lists frame details = IfSome frame (λ f. Contains (frame_details (arc_value f)) details)
 
 -- what the next frame lists, after a frame call with this answer: what a frame has listed isn't listed again
 abbrev pub listed_after : Option (Arc FrameData Global) → List Details → List Details

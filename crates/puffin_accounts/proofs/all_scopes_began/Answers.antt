@@ -2,4 +2,4 @@ use Rattle.puffin_accounts.proofs.lemmas.Running.{all_began}
 use Rattle.puffin_accounts.proofs.all_scopes_began.Goals as goal
 
 pub returns : goal.returns
-returns g c = all_began
+returns c = all_began

@@ -17,11 +17,11 @@ module _ {C R : Type 0} (answers : C → ℤ → C → Type 0) (seen : R → Col
 
   left : (offset : Option ℕ) (old new last : Thread C R) → Leaves (EndsIn answers accepts refuses) offset old new → Made new last → Made old last
   left None old new last same later = subst (λ t. Made t last) same later
-  left (Some offset) old new last ended later = (ends offset ∷ later.0, new, ended, later.1)
+  left (Some offset) old new last ended later = (ends offset ∷ later.0, (new, ended, later.1))
 
   pub calls_of_code : (code : Code) (old new last : Thread C R) → Runs (BeginsAt answers) (EndsIn answers accepts refuses) code old new → Made new last → Made old last
   calls_of_code nothing old new last same later = subst (λ t. Made t last) same later
   calls_of_code (scope place text within after) old new last (state, begun, inner, ended, began, inside, leaves, rest) later =
       let behind = calls_of_code after ended new last rest later in
       let more = calls_of_code within begun inner last inside (left (offset_in state) inner ended last leaves behind) in
-      (begins place text state ∷ more.0, begun, began, more.1)
+      (begins place text state ∷ more.0, (begun, began, more.1))

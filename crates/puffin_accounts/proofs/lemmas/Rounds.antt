@@ -1,10 +1,11 @@
 -- Rounds show the scopes of their code that began.
-use Rattle.std.proofs.Common.{◌≡◌, ℕ, ◌+◌, ◌<◌, ℤ, false, List, [], ◌∷◌, ◌++◌, length, Option, Some, None, unwrap_or, Global, ◌⊎◌, inl, inr, refl, sym, ap, ◌∙◌, subst, arith}
+use Rattle.std.proofs.Common.{◌≡◌, ℕ, ◌+◌, ◌<◌, ℤ, false, List, [], ◌∷◌, ◌++◌, length, map, Option, Some, None, unwrap_or, Global, ◌⊎◌, inl, inr, refl, sym, ap, ◌∙◌, subst, arith}
 use Rattle.std.specs.FinMap.{get, values, get-empty}
 use Rattle.std.specs.Arc.{arc_value}
+use Rattle.std.specs.List.{Contains}
 use Rattle.std.specs.declared.sync.Arc.{Arc}
-use Rattle.std.specs.FinMap as map
-use Rattle.std.proofs.lemmas.List.{append-nil}
+use Rattle.std.specs.FinMap as fin_map
+use Rattle.std.proofs.lemmas.List.{append-nil, map-append}
 use Rattle.puffin_data.specs.declared.error.Error.{Error}
 use Rattle.puffin_data.specs.declared.data.form.Form.{Form}
 use Rattle.puffin_data.specs.declared.data.form.Form.TheVariants.{Short}
@@ -19,6 +20,7 @@ use Rattle.puffin_threads.specs.Thread.ThreadKey.{ThreadKey, key_cmp, has_same_k
 use Rattle.puffin_threads.specs.Thread.Calls as calls
 use Rattle.puffin_threads.specs.Thread.Calls.{new_thread, num_ended}
 use Rattle.puffin_threads.specs.Details.{Details}
+use Rattle.puffin_threads.specs.Details.Collection.{first_with_id}
 use Rattle.puffin_frames.specs.declared.frame_data.frame.FrameData.{FrameData}
 use Rattle.puffin_frames.specs.Frame.Contents.{Streams}
 use Rattle.puffin_frames.specs.Frame.Sums.{total_scopes}
@@ -26,22 +28,24 @@ use Rattle.puffin_collector.specs.Collector.State.{Collected, no_scopes, delta_o
 use Rattle.puffin_collector.specs.Collector.Collecting.{Collects}
 use Rattle.puffin.specs.declared.global_profiler.profiler.GlobalProfiler.{GlobalProfiler}
 use Rattle.puffin.specs.declared.light.thread.Thread.{Thread}
+use Rattle.puffin.specs.Guards.{BeginsAt, EndsIn}
+use Rattle.puffin.specs.Lent.{with_reporter}
 use Rattle.puffin.specs.LightThread.{profiler_of, reporter_of, scopes_of}
 use Rattle.puffin.specs.Places.{num_known}
 use Rattle.puffin.specs.Profiler.{collected_of}
 use Rattle.puffin.proofs.lemmas.Waiting.{num_ended-tour}
-use Rattle.puffin_accounts.specs.Moments.{Moment, moment_by, moment_of, num_open, key_at, Sees, AcceptsThere, RefusesThere}
+use Rattle.puffin_accounts.specs.Moments.{Moment, moment_by, moment_of, key_at, Sees, AcceptsThere, RefusesThere}
 use Rattle.puffin_accounts.specs.Times.{Timed, first_start_in}
 use Rattle.puffin_accounts.specs.Adding.{SpellsEvents, Gains, PassesOn, AddsScopes}
-use Rattle.puffin_accounts.specs.Running.{AreScopesOf, at_first}
+use Rattle.puffin_accounts.specs.Running.{Code, Runs, AreScopesOf, ListsPlaces, at_first}
 use Rattle.puffin_accounts.specs.Showing.{ShowsForest, listed_next}
 use Rattle.puffin_accounts.specs.Steps.{IsDue, tours}
-use Rattle.puffin_accounts.specs.Rounds.{Round, MakesRound, MakesRounds, RunsRounds, Shows, listed_after, ShowsEach, ShowsRounds, RoundsShow}
+use Rattle.puffin_accounts.specs.Rounds.{Round, MakesRound, MakesRounds, RunsRound, RunsRounds, Shows, Lists, listed_after, ShowsEach, ShowsRounds, RoundsShow}
 use Rattle.puffin_accounts.proofs.lemmas.Offsets.{depth-tour}
 use Rattle.puffin_accounts.proofs.lemmas.Times.{has_start, same_start, timed_still, timed_both}
 use Rattle.puffin_accounts.proofs.lemmas.Showing.{spells_none, one_entry, no_entry, none_in_empty, none_of, shows_spelled}
 use Rattle.puffin_accounts.proofs.lemmas.Steps.{still_due, none_due_at_first, nothing_due}
-use Rattle.puffin_accounts.proofs.lemmas.Running.{AddsCode, adds_code, sees_there}
+use Rattle.puffin_accounts.proofs.lemmas.Running.{adds_code, sees_there}
 
 -- between rounds nothing is due, and these scopes wait
 record Rests {C : Type 0} (m : Moment C) (waited : Forest) : Type 0 where
@@ -76,10 +80,8 @@ module _ {C : Type 0} (answers : C → ℤ → C → Type 0) (m r : Moment C) (w
       ((get m.collected.streams key ≡ None) ⊎ ((s : StreamFacts) × (get m.collected.streams key ≡ Some s) × SpellsEvents s []))
       × ((i : ThreadKey) → has_same_key i key ≡ false → get m.collected.streams i ≡ None)
 
-  none_at_first : ((get m.collected.streams (key_at m) ≡ None) × ([] {X = Event} ≡ [])) ⊎ ((s : StreamFacts) × (get m.collected.streams (key_at m) ≡ Some s) × SpellsEvents s [])
-      → (get m.collected.streams (key_at m) ≡ None) ⊎ ((s : StreamFacts) × (get m.collected.streams (key_at m) ≡ Some s) × SpellsEvents s [])
-  none_at_first (inl h) = inl h.0
-  none_at_first (inr h) = inr h
+  none_at_first : (get m.collected.streams (key_at m) ≡ None) ⊎ ((s : StreamFacts) × (get m.collected.streams (key_at m) ≡ Some s) × SpellsEvents s [])
+  none_at_first = elim rests.is_due.here [ inl h ↦ inl h.0 | inr h ↦ inr h ]
 
   none_under : (s : Option ℤ) → m.thread.first_start ≡ s → NoneUnder (key_at r)
   none_under None is =
@@ -90,7 +92,7 @@ module _ {C : Type 0} (answers : C → ℤ → C → Type 0) (m r : Moment C) (w
       let start : r.thread.first_start ≡ m.thread.first_start = later ∙ sym is in
       let name = adds.timed.name in
       let key : key_at r ≡ key_at m = cc in
-      subst NoneUnder (sym key) (none_at_first rests.is_due.here, rests.is_due.only)
+      subst NoneUnder (sym key) (none_at_first, rests.is_due.only)
 
   due_here : (get m.collected.streams (key_at r) ≡ None) ⊎ ((s : StreamFacts) × (get m.collected.streams (key_at r) ≡ Some s) × SpellsEvents s [])
       → Gains (get m.collected.streams (key_at r)) (get r.collected.streams (key_at r)) passed.reported
@@ -100,7 +102,7 @@ module _ {C : Type 0} (answers : C → ℤ → C → Type 0) (m r : Moment C) (w
   due_here (inl none) (inr h) = inr (h.0, h.1, h.2 [] (subst (λ (x : Option StreamFacts). SpellsEvents (unwrap_or x no_scopes) []) (sym none) spells_none))
   due_here (inr some) (inr h) = inr (h.0, h.1, h.2 [] (subst (λ (x : Option StreamFacts). SpellsEvents (unwrap_or x no_scopes) []) (sym some.1) some.2))
 
-  still_unstarted : (s : Option ℤ) → m.thread.first_start ≡ s → r.thread.first_start ≡ None → (passed.reported ≡ []) × (r.thread.word ≡ []) × (r.collected.streams ≡ map.empty)
+  still_unstarted : (s : Option ℤ) → m.thread.first_start ≡ s → r.thread.first_start ≡ None → (passed.reported ≡ []) × (r.thread.word ≡ []) × (r.collected.streams ≡ fin_map.empty)
   still_unstarted (Some t) is none = absurd (let later = same_start answers m r t (tour f) adds.timed is in cc)
   still_unstarted None is none =
       let before = rests.is_due.unstarted is in
@@ -162,7 +164,7 @@ module _ {C : Type 0} (answers : C → ℤ → C → Type 0) (m r : Moment C) (w
       }
   framed (Some frame) later took = at_here due_after.here
     where
-      streams : later.streams ≡ map.empty
+      streams : later.streams ≡ fin_map.empty
       streams = ap (λ (c : Collected). c.streams) took.2
 
       at_here : ((get r.collected.streams (key_at r) ≡ None) × (passed.reported ≡ [])) ⊎ ((s : StreamFacts) × (get r.collected.streams (key_at r) ≡ Some s) × SpellsEvents s passed.reported) → Framed m (after later) waited f (Some frame)
@@ -228,7 +230,7 @@ showed_more answers m k n waited round rounds s more = record {
   shows = (s.framed.shown, s.framed.left, s.are, s.framed.kept, shows_later answers k n (tours more.began) round.frame m.collected.index (listed_next m) s.framed.shown more.timed s.framed.started s.framed.shows, others);
 }
   where
-    abbrev Others : ℕ → Form → ℕ → List Details → Type 0
+    Others : ℕ → Form → ℕ → List Details → Type 0
     Others known form index listed = ShowsEach known form (key_at n) index listed s.framed.left rounds more.began more.waits
 
     others : Others m.known m.thread.form (m.collected.index + 1) (listed_after round.frame (listed_next m))
@@ -286,24 +288,53 @@ rounds_are_shown {C} answers accepts refuses seen sees rounds old new name form 
       shows = s.shows;
     }
 
--- a new thread that reports to a profiler of its own, which was told these details
-pub starts_new : {C I : Type 0} {F : I → Type 0} (name : List ℕ) (clock : C) (details : List Details) (thread : Thread C (GlobalProfiler I F)) (unused : Collected)
-    → clock_of (profiler_of thread) ≡ clock → num_known (scopes_of thread) ≡ length details → thread_of (profiler_of thread) ≡ new_thread name Short
-    → collected_of (reporter_of thread) ≡ after_wanting (after_learning unused details) → unused ≡ nothing_collected 0
+-- ---- what a user's own proof cites
+
+-- a new thread that reports to a profiler of its own, both of which were told of these places
+pub starts_new : {C I : Type 0} {F : I → Type 0} {name : List ℕ} {clock : C} {details listed told : List Details} {unused : Collected} (thread : Thread C (GlobalProfiler I F))
+    → listed ≡ details → told ≡ listed → clock_of (profiler_of thread) ≡ clock → num_known (scopes_of thread) ≡ length listed → thread_of (profiler_of thread) ≡ new_thread name Short
+    → collected_of (reporter_of thread) ≡ after_wanting (after_learning unused told) → unused ≡ nothing_collected 0
     → moment_of thread ≡ at_first name clock details
-starts_new {C} name clock details thread unused same_clock known new collected is_unused =
+starts_new {C} {name = name} {clock = clock} {details = details} {told = told} thread same_listed same_told same_clock known new collected is_unused =
     ap (λ c. made_of c (num_known (scopes_of thread)) (thread_of (profiler_of thread)) (collected_of (reporter_of thread))) same_clock
-    ∙ ap (λ k. made_of clock k (thread_of (profiler_of thread)) (collected_of (reporter_of thread))) known
+    ∙ ap (λ k. made_of clock k (thread_of (profiler_of thread)) (collected_of (reporter_of thread))) (known ∙ ap length same_listed)
     ∙ ap (λ t. made_of clock (length details) t (collected_of (reporter_of thread))) new
-    ∙ ap (made_of clock (length details) (new_thread name Short)) (collected ∙ ap (λ c. after_wanting (after_learning c details)) is_unused)
+    ∙ ap (made_of clock (length details) (new_thread name Short)) (collected ∙ ap (λ c. after_wanting (after_learning c told)) is_unused ∙ ap (λ ds. after_wanting (after_learning (nothing_collected 0) ds)) (same_told ∙ same_listed))
   where
-    abbrev made_of : C → ℕ → calls.Thread → Collected → Moment C
+    made_of : C → ℕ → calls.Thread → Collected → Moment C
     made_of c k t x = record { clock = c; known = k; thread = t; collected = x }
 
--- what the frames of its rounds show
-pub shows_rounds : {C I : Type 0} {F : I → Type 0} (answers : C → ℤ → C → Type 0) (name : List ℕ) (clock : C) (details : List Details) (rounds : List Round) (waiting : ℕ) (old new : Thread C (GlobalProfiler I F))
-    → moment_of old ≡ at_first name clock details → RunsRounds answers rounds old new → waiting ≡ num_ended (thread_of (profiler_of new)).word
-    → ShowsRounds answers (at_first name clock details) rounds waiting
-shows_rounds {C} answers name clock details rounds waiting old new first runs counted =
-    subst (λ (m : Moment C). ShowsRounds answers m rounds waiting) first (subst (λ (n : ℕ). ShowsRounds answers (moment_of old) rounds n) (sym counted)
-    (rounds_are_shown answers AcceptsThere RefusesThere collected_of sees_there rounds old new name Short (ap (λ (m : Moment C). m.thread) first) (ap (λ (m : Moment C). m.collected.streams) first) runs))
+module _ {C I : Type 0} {F : I → Type 0} {answers : C → ℤ → C → Type 0} where
+  -- code ran, and a frame was taken
+  pub runs_round : {code made : Code} {frame : Option (Arc FrameData Global)} {old new : Thread C (GlobalProfiler I F)} (ran : Thread C (GlobalProfiler I F))
+      → made ≡ code → Runs (BeginsAt answers) (EndsIn answers AcceptsThere RefusesThere) made old ran
+      → Collects (collected_of (reporter_of ran)) frame (collected_of (reporter_of new)) → new ≡ with_reporter ran (reporter_of new)
+      → RunsRound answers (record { code = code; frame = frame }) old new
+  runs_round {old = old} ran same runs took thread = record { ran = ran; runs = subst (λ c. Runs (BeginsAt answers) (EndsIn answers AcceptsThere RefusesThere) c old ran) same runs; took = took; thread = thread }
+
+  -- one more round, whose frame was added to those that were taken
+  pub runs_more : (round_of : Option (Arc FrameData Global) → Round) (frames : List (Option (Arc FrameData Global))) {all : List (Option (Arc FrameData Global))} {frame : Option (Arc FrameData Global)} (old mid new : Thread C (GlobalProfiler I F))
+      → all ≡ frames ++ (frame ∷ []) → RunsRounds answers (map round_of frames) old mid → RunsRound answers (round_of frame) mid new
+      → RunsRounds answers (map round_of all) old new
+  runs_more round_of frames {all} {frame} old mid new added some one =
+      subst (λ rounds. RunsRounds answers rounds old new) (sym (ap (map round_of) added ∙ map-append round_of frames (frame ∷ [])))
+      (makes_more answers collected_of AcceptsThere RefusesThere (map round_of frames) (round_of frame) old mid new some one)
+
+  -- what the frames of a new thread's rounds show
+  pub shows_rounds : {name : List ℕ} {clock : C} (details : List Details) (rounds : List Round) {waiting : ℕ} (old new : Thread C (GlobalProfiler I F))
+      → moment_of old ≡ at_first name clock details → RunsRounds answers rounds old new → waiting ≡ num_ended (thread_of (profiler_of new)).word
+      → ShowsRounds answers (at_first name clock details) rounds waiting
+  shows_rounds {name} {clock} details rounds {waiting} old new first runs counted =
+      subst (λ (m : Moment C). ShowsRounds answers m rounds waiting) first (subst (λ (n : ℕ). ShowsRounds answers (moment_of old) rounds n) (sym counted)
+      (rounds_are_shown answers AcceptsThere RefusesThere collected_of sees_there rounds old new name Short (ap (λ (m : Moment C). m.thread) first) (ap (λ (m : Moment C). m.collected.streams) first) runs))
+
+-- the frame of the first round lists the details of each place, by the law `places_are_listed`
+pub lists_place : {C : Type 0} {answers : C → ℤ → C → Type 0} {name : List ℕ} {clock : C} (details : List Details) {code : Code} {frame : Option (Arc FrameData Global)} {rounds : List Round} {waiting : ℕ}
+    → ListsPlaces C → ShowsRounds answers (at_first name clock details) (record { code = code; frame = frame } ∷ rounds) waiting
+    → (id : ℕ) (listed : Details) → first_with_id id details ≡ Some listed → Lists frame listed
+lists_place {C} {answers} {name} {clock} details {code} {frame} {rounds} law shows id listed found = at_began frame shows.began shows.shows
+  where
+    at_began : (f : Option (Arc FrameData Global)) (began : List Forest) → ShowsEach (length details) Short (key_at shows.now) 0 (listed_next (at_first name clock details)) empty (record { code = code; frame = f } ∷ rounds) began shows.waits → Lists f listed
+    at_began None began h = tt
+    at_began (Some f) [] h = absurd h
+    at_began (Some f) (one ∷ later) h = subst (λ (ds : List Details). Contains ds listed) (sym h.4.1) (law name clock details id listed found)

@@ -1,5 +1,5 @@
 -- Code adds the scopes of it that began.
-use Rattle.std.proofs.Common.{◌≡◌, ℕ, suc, ◌+◌, ◌≤◌, ℤ, List, refl, sym, ap, ◌∙◌, subst, arith}
+use Rattle.std.proofs.Common.{◌≡◌, ℕ, suc, ◌+◌, ◌≤◌, ℤ, List, refl, sym, ap, subst, arith}
 use Rattle.puffin_data.specs.declared.error.Error.{Error}
 use Rattle.puffin_data.specs.declared.data.form.Form.{Form}
 use Rattle.puffin_data.specs.Forest.{Forest, empty, append}
@@ -64,8 +64,8 @@ runs_both begins ends (scope place text within after) next old mid new (state, b
     (state, begun, left, ended, began, inner, leaves, runs_both begins ends after next ended mid new rest then_next)
 
 -- code ran once more
-pub runs_again : {T : Type 0} (begins : T → Place → List ℕ → GuardState → T → Type 0) (ends : T → ℕ → T → Type 0) (n : ℕ) (code : Code) (old mid new : T) → Runs begins ends (repeated n code) old mid → Runs begins ends code mid new → Runs begins ends (repeated (n + 1) code) old new
-runs_again begins ends n code old mid new before once =
+pub runs_again : {T : Type 0} (begins : T → Place → List ℕ → GuardState → T → Type 0) (ends : T → ℕ → T → Type 0) (code : Code) (n : ℕ) (old mid new : T) → Runs begins ends (repeated n code) old mid → Runs begins ends code mid new → Runs begins ends (repeated (n + 1) code) old new
+runs_again begins ends code n old mid new before once =
     let next : suc n ≡ n + 1 = omega arith in
     subst (λ k. Runs begins ends (repeated k code) old new) next (runs_both begins ends (repeated n code) code old mid new before once)
 

@@ -1,10 +1,9 @@
 -- What a frame shows: all that was due, and nothing else.
-use Rattle.std.proofs.Common.{◌≡◌, ℕ, ◌<◌, ◌≤◌, ℤ, Bool, true, false, cond, List, [], ◌∷◌, ◌++◌, length, map, Option, Some, None, unwrap_or, inl, inr, refl, sym, ap, ◌∙◌, subst, arith}
+use Rattle.std.proofs.Common.{◌≡◌, ℕ, ◌<◌, ◌≤◌, Bool, true, false, cond, List, [], ◌∷◌, ◌++◌, length, map, Some, None, refl, sym, ap, ◌∙◌, subst, arith}
 use Rattle.std.specs.FinMap.{get, insert, empty, values, put, get-insert, get-empty, entries-insert, same_map}
 use Rattle.std.specs.Arc.{arc_value}
 use Rattle.std.specs.declared.sync.Arc.{Arc}
 use Rattle.std.proofs.lemmas.Bool.Decides.{nat_tests}
-use Rattle.std.proofs.lemmas.List.{append-nil}
 use Rattle.puffin_data.specs.declared.data.form.Form.{Form}
 use Rattle.puffin_data.specs.declared.data.form.Form.TheVariants.{Short, Long}
 use Rattle.puffin_data.specs.Forest as forest
@@ -15,14 +14,13 @@ use Rattle.puffin_data.specs.Forest.Tour.{Event, tour}
 use Rattle.puffin_data.specs.Honesty.{StreamFacts}
 use Rattle.puffin_data.specs.Text.{cut_text}
 use Rattle.puffin_threads.specs.Thread.ThreadKey.{ThreadKey, key_cmp, has_same_key}
-use Rattle.puffin_threads.specs.Details.{Details}
 use Rattle.puffin_threads.proofs.lemmas.EntriesSeen.{entries-empty}
 use Rattle.puffin_threads.proofs.lemmas.ThreadKeys.{key_cmp_total, key_cmp-one, has_same_key-one}
 use Rattle.puffin_frames.specs.declared.frame_data.frame.FrameData.{FrameData}
 use Rattle.puffin_frames.specs.Frame.Contents.{Streams, frame_meta}
 use Rattle.puffin_frames.specs.Frame.Sums.{meta_of, total_scopes}
 use Rattle.puffin_frames.proofs.lemmas.Measured.{total_scopes-one}
-use Rattle.puffin_collector.specs.Collector.State.{Collected, no_scopes, delta_of}
+use Rattle.puffin_collector.specs.Collector.State.{Collected, no_scopes}
 use Rattle.puffin_collector.specs.Collector.Collecting.{Collects}
 use Rattle.puffin_accounts.specs.Adding.{SpellsEvents}
 use Rattle.puffin_accounts.specs.Showing.{ShowsForest}
