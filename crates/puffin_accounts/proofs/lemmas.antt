@@ -9,3 +9,4 @@ pub mod Running
 pub mod Listing
 pub mod Rounds
 pub mod Chains
+pub mod Handing
