@@ -309,11 +309,12 @@ fn copies_of_views(rt: HostRuntime) -> Outcome {
     assert!(rt; is_telling(&copy) && copy.stats().frames() == 3);
     are_recent(&rt, &copy, &[3, 4])?;
     are_slowest(&rt, &copy, &[0])?;
-    // The copy knows the index that it took last, and how slow its slowest frame is.
+    // The copy knows how slow its slowest frame is, and which index it took last.
     add(&rt, &mut copy, 5, 8)?;
     are_all(&rt, &copy, &[0, 4, 5])?;
-    add(&rt, &mut copy, 5, 8)?;
-    are_all(&rt, &copy, &[5])
+    let mut other = copied(&rt)?;
+    add(&rt, &mut other, 4, 1)?;
+    are_all(&rt, &other, &[4])
 }
 
 /// Details with the id 7, and details without an id.
