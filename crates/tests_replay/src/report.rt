@@ -1,7 +1,7 @@
-use crate::commands::Outcome;
 use crate::count::{NEVER, device};
 use crate::equal::equal;
 use crate::run::{Written, run_of_text};
+use crate::steps::Outcome;
 use puffin_data::FileError;
 use puffin_data::data::Counted;
 use puffin_frames::thread_profiler::ThreadInfo;
