@@ -3,6 +3,7 @@
 
 use crate::reports::Ignored;
 use crate::scopes::{DEPTH, NESTS, SCOPES, TEXT};
+use crate::timing::Work;
 use puffin::data::ScopeId;
 use puffin::scope_details::ScopeIds;
 use puffin::thread_profiler::{NsSource, ScriptClock, ThreadProfiler};
@@ -114,7 +115,7 @@ fn guards(thread: &mut Thread, id: ScopeId, depth: usize) {
 
 /// Makes the nests of [`GuardWork::Named`] with any clock, and reports each at its end. Returns the number of reports.
 #[inline(never)]
-pub fn named_nests<C: NsSource>(thread: &mut ThreadProfiler<C>, scopes: &Scopes) -> Result<usize> {
+fn named_nests<C: NsSource>(thread: &mut ThreadProfiler<C>, scopes: &Scopes) -> Result<usize> {
     let mut reports: usize = 0;
     for _ in 0..NESTS {
         named(thread, scopes, DEPTH);
@@ -179,7 +180,7 @@ impl GuardWork {
 
     /// Makes the scopes of a run, and reports each nest at its end. Returns the number of reports.
     #[inline(never)]
-    pub fn run(self, thread: &mut Thread, scopes: &Scopes) -> Result<usize> {
+    fn run(self, thread: &mut Thread, scopes: &Scopes) -> Result<usize> {
         let mut reports: usize = 0;
         if !self.is_on() {
             off(thread, scopes);
@@ -194,5 +195,38 @@ impl GuardWork {
             }
         }
         Ok(reports)
+    }
+}
+
+/// Makes the scopes of one kind of work.
+#[derive(Drop)]
+pub struct Guarding {
+    pub thread: Thread,
+    pub scopes: Scopes,
+    pub work: GuardWork,
+}
+
+impl Work for Guarding {
+    /// The units are scopes: those that were reported, or all that are switched off.
+    fn run(&mut self) -> anyhow::Result<usize> {
+        let reports = self.work.run(&mut self.thread, &self.scopes)?;
+        if !self.work.is_on() {
+            return Ok(SCOPES);
+        }
+        Ok(reports.saturating_mul(DEPTH))
+    }
+}
+
+/// Makes nests of named scopes with any clock.
+#[derive(Drop)]
+pub struct Nesting<C> {
+    pub thread: ThreadProfiler<C>,
+    pub scopes: Scopes,
+}
+
+impl<C: NsSource> Work for Nesting<C> {
+    fn run(&mut self) -> anyhow::Result<usize> {
+        let reports = named_nests(&mut self.thread, &self.scopes)?;
+        Ok(reports.saturating_mul(DEPTH))
     }
 }

@@ -2,14 +2,14 @@
 //! time.
 
 use crate::scopes::{DEPTH, NESTS, SCOPES, TEXT};
-use crate::{print, print_counts, thread};
+use crate::timing::{Mode, Work};
+use crate::{thread, timing};
 use anyhow::Result;
 use puffin::light::{Place, Records, Scopes, Thread};
 use puffin::scope_details::ScopeDetails;
 use puffin::thread_profiler::{Reporter, ScriptClock, ThreadInfo};
 use puffin::{place, profile};
 use puffin_data::data::StreamInfoRef;
-use std::time::Instant;
 
 /// How often each kind of work is run; the fastest run counts.
 const ROUNDS: u32 = 4_000;
@@ -37,18 +37,6 @@ impl Reporter for Reports {
 }
 
 type Recorder = Thread<ScriptClock, Reports>;
-
-/// Makes a thread whose scopes are on or off, and the place of its scopes.
-fn recorder(rt: &HostRuntime, on: bool) -> Result<(Recorder, Place)> {
-    let mut scopes = Scopes::new(rt.alloc())?;
-    let part = place!(scopes, "recorder", "part")?;
-    scopes.set_on(on);
-    let reports = Reports { count: 0 };
-    Ok((
-        Thread::new(thread(rt)?, reports, scopes.for_thread()?),
-        part,
-    ))
-}
 
 /// Makes scopes nested `depth` deep.
 #[inline(never)]
@@ -127,28 +115,38 @@ impl LightWork {
     }
 }
 
-/// Runs each kind of work once, and prints the number of reports.
-pub fn count_light(rt: &HostRuntime) -> Result<()> {
-    for work in LightWork::ALL {
-        let (mut thread, part) = recorder(rt, work != LightWork::Off)?;
-        work.run(&mut thread, &part);
-        let reports = thread.into_reporter().count;
-        print_counts(rt, work.name(), &[("reports", reports)])?;
-    }
-    Ok(())
+/// Makes the scopes of one kind of work at a place.
+#[derive(Drop)]
+struct Recording {
+    thread: Recorder,
+    part: Place,
+    work: LightWork,
 }
 
-/// Times each kind of work; the unit is a scope.
-pub fn time_light(rt: &HostRuntime) -> Result<()> {
+impl Recording {
+    /// Makes a thread whose scopes are on, or off for [`LightWork::Off`], and the place of its scopes.
+    fn new(rt: &HostRuntime, work: LightWork) -> Result<Recording> {
+        let mut scopes = Scopes::new(rt.alloc())?;
+        let part = place!(scopes, "recorder", "part")?;
+        scopes.set_on(work != LightWork::Off);
+        let reports = Reports { count: 0 };
+        let thread = Thread::new(thread(rt)?, reports, scopes.for_thread()?);
+        Ok(Recording { thread, part, work })
+    }
+}
+
+impl Work for Recording {
+    fn run(&mut self) -> Result<usize> {
+        self.work.run(&mut self.thread, &self.part);
+        Ok(SCOPES)
+    }
+}
+
+/// Counts or times each kind of work; the unit is a scope.
+pub fn run_light(rt: &HostRuntime, mode: Mode) -> Result<()> {
     for work in LightWork::ALL {
-        let (mut thread, part) = recorder(rt, work != LightWork::Off)?;
-        let mut best = u128::MAX;
-        for _ in 0..ROUNDS {
-            let begun = Instant::now(rt)?;
-            work.run(&mut thread, &part);
-            best = best.min(begun.elapsed(rt)?.as_nanos());
-        }
-        print(rt, work.name(), best, SCOPES)?;
+        let mut recording = Recording::new(rt, work)?;
+        timing::run(rt, mode, work.name(), ROUNDS, &mut recording)?;
     }
     Ok(())
 }

@@ -1,6 +1,7 @@
 //! Merging the scopes of frames.
 
 use crate::scopes::{TEXT, end};
+use crate::timing::{Mode, Work};
 use puffin::frame_data::UnpackedFrameData;
 use puffin::merge::merge_scopes_for_thread;
 use puffin::scope_details::ScopeCollection;
@@ -62,6 +63,15 @@ impl MergeWork {
         },
     ];
 
+    /// Returns the same work, on few scopes if it is counted.
+    pub fn sized(self, mode: Mode) -> MergeWork {
+        MergeWork {
+            frames: mode.pick(2, self.frames),
+            children: mode.pick(9, self.children),
+            ..self
+        }
+    }
+
     /// Makes the stream of one frame, beginning at `start`.
     fn stream(&self, alloc: Global, start: i64) -> Result<Stream> {
         let mut stream = Stream::with_form(alloc, self.form);
@@ -86,19 +96,12 @@ impl MergeWork {
     }
 
     /// Makes all frames.
-    pub fn frames(&self, alloc: Global) -> Result<Vec<Arc<UnpackedFrameData>>> {
+    fn frames(&self, alloc: Global) -> Result<Vec<Arc<UnpackedFrameData>>> {
         let mut frames = Vec::new(alloc);
         for index in 0..self.frames {
             frames.push(self.frame(alloc, index)?)?;
         }
         Ok(frames)
-    }
-
-    /// Returns how many scopes all frames have together.
-    pub fn scopes(&self) -> usize {
-        (self.frames as usize)
-            .saturating_mul(TOPS as usize)
-            .saturating_mul((self.children as usize).saturating_add(1))
     }
 }
 
@@ -122,13 +125,42 @@ fn leaves(stream: &mut Stream, count: u32, mut now: i64) -> Result<i64> {
     Ok(now)
 }
 
-/// Merges the scopes of frames, and returns the number of merged top-level scopes.
-#[inline(never)]
-pub fn merged(
+/// Merges the scopes of frames of one thread.
+#[derive(Drop)]
+pub struct Merging {
     alloc: Global,
-    collection: &ScopeCollection,
-    frames: &[Arc<UnpackedFrameData>],
-    thread: &ThreadInfo,
-) -> Result<usize> {
-    Ok(merge_scopes_for_thread(alloc, collection, frames, thread)?.len())
+    collection: ScopeCollection,
+    frames: Vec<Arc<UnpackedFrameData>>,
+    thread: ThreadInfo,
+}
+
+impl Merging {
+    /// Makes all frames.
+    pub fn new(alloc: Global, work: &MergeWork) -> Result<Merging> {
+        Ok(Merging {
+            alloc,
+            collection: ScopeCollection::new(alloc),
+            frames: work.frames(alloc)?,
+            thread: main_thread(alloc)?,
+        })
+    }
+}
+
+impl Work for Merging {
+    /// The units are the scopes that were merged.
+    fn run(&mut self) -> anyhow::Result<usize> {
+        let mut scopes: usize = 0;
+        for top in &merge_scopes_for_thread(
+            self.alloc,
+            &self.collection,
+            &self.frames,
+            &self.thread,
+        )? {
+            scopes = scopes.saturating_add(top.num_pieces);
+            for child in &top.children {
+                scopes = scopes.saturating_add(child.num_pieces);
+            }
+        }
+        Ok(scopes)
+    }
 }

@@ -1,5 +1,6 @@
 //! Shortening the names of functions and files.
 
+use crate::timing::Work;
 use puffin::utils::{clean_function_name, short_file_name};
 use puffin_data::Result;
 use std::alloc::Global;
@@ -54,14 +55,6 @@ impl NameWork {
         }
     }
 
-    /// Returns how many names a run shortens.
-    pub fn units(self) -> usize {
-        match self {
-            NameWork::Functions => TIMES * FUNCTIONS.len(),
-            NameWork::Files => TIMES * FILES.len(),
-        }
-    }
-
     /// Returns the short form of a name.
     fn shortened(self, alloc: Global, name: &str) -> Result<String> {
         match self {
@@ -70,19 +63,35 @@ impl NameWork {
         }
     }
 
-    /// Goes over the table a number of times, and shortens each name. Returns the sum of the lengths, in bytes.
+    /// Goes over the table a number of times, and shortens each name. Returns how many were shortened.
     #[inline(never)]
-    pub fn run(self, alloc: Global) -> Result<usize> {
+    fn run(self, alloc: Global) -> Result<usize> {
         let table: &[&str] = match self {
             NameWork::Functions => &FUNCTIONS,
             NameWork::Files => &FILES,
         };
-        let mut bytes: usize = 0;
+        let mut names: usize = 0;
         for _ in 0..TIMES {
             for name in table {
-                bytes = bytes.wrapping_add(self.shortened(alloc, name)?.len());
+                let short = self.shortened(alloc, name)?;
+                if name.is_empty() || !short.is_empty() {
+                    names = names.wrapping_add(1);
+                }
             }
         }
-        Ok(bytes)
+        Ok(names)
+    }
+}
+
+/// Shortens the names of one kind.
+#[derive(Drop)]
+pub struct Shortening {
+    pub alloc: Global,
+    pub work: NameWork,
+}
+
+impl Work for Shortening {
+    fn run(&mut self) -> anyhow::Result<usize> {
+        Ok(self.work.run(self.alloc)?)
     }
 }

@@ -2,6 +2,8 @@
 
 use crate::merges::main_thread;
 use crate::scopes::nest;
+use crate::timing::Work;
+use anyhow::Context;
 use puffin::frame_data::FrameData;
 use puffin::profile_view::FrameView;
 use puffin_data::data::{Buffered, Counted, Drain, ScopeId, Source, Stream, StreamInfo};
@@ -106,10 +108,13 @@ impl FileWork {
 /// Frames, packed copies of them, a view, the bytes of their files, and room for a copy of a file.
 #[derive(Drop)]
 pub struct Files {
+    alloc: Global,
+    /// The work that is done next.
+    pub work: FileWork,
     frames: Vec<FrameData>,
     packed: Vec<FrameData>,
     /// The packets that were written last.
-    pub file: Vec<u8>,
+    file: Vec<u8>,
     copy: Vec<u8>,
     view: FrameView,
     view_file: Vec<u8>,
@@ -129,6 +134,8 @@ impl Files {
         let mut view_file = Vec::new(alloc);
         let _count = view_written(&view, &mut view_file)?;
         Ok(Files {
+            alloc,
+            work: FileWork::Write,
             frames,
             packed,
             file,
@@ -138,20 +145,26 @@ impl Files {
         })
     }
 
-    /// Does one kind of work, and returns the number of frames it was done on.
-    pub fn work(&mut self, alloc: Global, work: FileWork) -> std::result::Result<usize, FileError> {
-        match work {
+    /// Does the work, and returns the number of frames it was done on.
+    fn done(&mut self) -> std::result::Result<usize, FileError> {
+        match self.work {
             FileWork::Write => written(&self.frames, &mut self.file),
             FileWork::WritePacked => written(&self.packed, &mut self.file),
             FileWork::Copy => {
                 copied(&self.file, &mut self.copy)?;
                 Ok(self.frames.len())
             }
-            FileWork::Read => Ok(read(alloc, &self.file)?.len()),
-            FileWork::ReadUnpacked => read_unpacked(alloc, &self.file),
+            FileWork::Read => Ok(read(self.alloc, &self.file)?.len()),
+            FileWork::ReadUnpacked => read_unpacked(self.alloc, &self.file),
             FileWork::ViewWrite => view_written(&self.view, &mut self.view_file),
-            FileWork::ViewRead => view_read(alloc, &self.view_file),
+            FileWork::ViewRead => view_read(self.alloc, &self.view_file),
         }
+    }
+}
+
+impl Work for Files {
+    fn run(&mut self) -> anyhow::Result<usize> {
+        self.done().ok().context("a file")
     }
 }
 

@@ -4,6 +4,7 @@ ghost use Rattle.puffin_data.specs.Forest.{Forest};
 ghost use Rattle.puffin_data.specs.Honesty.{IsHonest};
 
 use crate::scopes::{DEPTH, NESTS, SCOPES};
+use crate::timing::Work;
 use puffin::global_profiler::GlobalProfiler;
 use puffin::scope_details::ScopeDetails;
 use puffin::thread_profiler::{NsSource, Reporter, ThreadInfo, ThreadProfiler};
@@ -49,13 +50,26 @@ fn nest<C: NsSource>(thread: &mut ThreadProfiler<C>, id: ScopeId, text: &str) ->
 
 /// Profiles scopes, and returns their number.
 #[inline(never)]
-pub fn profiled<C: NsSource>(thread: &mut ThreadProfiler<C>, text: &str) -> Result<usize> {
+fn profiled<C: NsSource>(thread: &mut ThreadProfiler<C>, text: &str) -> Result<usize> {
     if let Some(id) = ScopeId::new(1) {
         for _ in 0..NESTS {
             nest(thread, id, text)?;
         }
     }
     Ok(SCOPES)
+}
+
+/// Profiles scopes with a text, nested eight deep, with a report for each nest.
+#[derive(Drop)]
+pub struct Profiling<C> {
+    pub thread: ThreadProfiler<C>,
+    pub text: &'static str,
+}
+
+impl<C: NsSource> Work for Profiling<C> {
+    fn run(&mut self) -> anyhow::Result<usize> {
+        Ok(profiled(&mut self.thread, self.text)?)
+    }
 }
 
 /// Makes a stream of a scope with one child.

@@ -1,5 +1,6 @@
 //! Scopes that are begun and ended in a stream.
 
+use crate::timing::Work;
 use puffin_data::Result;
 use puffin_data::data::{Form, Reader, ScopeId, Stream};
 use std::alloc::Global;
@@ -20,7 +21,7 @@ const LONG_TEXT: &str = "a text of two hundred bytes, as a path or a query may h
 
 /// A kind of work with scopes in a stream.
 #[derive(Clone, Copy)]
-pub struct Work {
+pub struct ScopeWork {
     /// The name under which the time is printed.
     pub name: &'static str,
     /// Whether the scopes are nested, and not one after the other.
@@ -31,46 +32,46 @@ pub struct Work {
     pub text: &'static str,
 }
 
-impl Work {
+impl ScopeWork {
     /// Every kind of work.
-    pub const ALL: [Work; 7] = [
-        Work {
+    pub const ALL: [ScopeWork; 7] = [
+        ScopeWork {
             name: "scope_empty",
             nested: true,
             form: Form::Short,
             text: "",
         },
-        Work {
+        ScopeWork {
             name: "scope_text12",
             nested: true,
             form: Form::Short,
             text: TEXT,
         },
-        Work {
+        ScopeWork {
             name: "flat_empty",
             nested: false,
             form: Form::Short,
             text: "",
         },
-        Work {
+        ScopeWork {
             name: "flat_text12",
             nested: false,
             form: Form::Short,
             text: TEXT,
         },
-        Work {
+        ScopeWork {
             name: "long_text12",
             nested: true,
             form: Form::Long,
             text: TEXT,
         },
-        Work {
+        ScopeWork {
             name: "long_text200",
             nested: true,
             form: Form::Long,
             text: LONG_TEXT,
         },
-        Work {
+        ScopeWork {
             name: "long_flat_text200",
             nested: false,
             form: Form::Long,
@@ -119,7 +120,7 @@ fn row(stream: &mut Stream, id: ScopeId, text: &str, mut now: i64) -> Result<i64
 
 /// Writes the scopes of one kind of work into a stream, and returns their number.
 #[inline(never)]
-pub fn written(stream: &mut Stream, work: &Work) -> Result<usize> {
+fn written(stream: &mut Stream, work: &ScopeWork) -> Result<usize> {
     let mut now = 0;
     if let Some(id) = ScopeId::new(1) {
         for _ in 0..NESTS {
@@ -134,7 +135,7 @@ pub fn written(stream: &mut Stream, work: &Work) -> Result<usize> {
 }
 
 /// Makes the stream of one kind of work.
-pub fn stream_of(alloc: Global, work: &Work) -> Result<Stream> {
+pub fn stream_of(alloc: Global, work: &ScopeWork) -> Result<Stream> {
     let mut stream = Stream::with_form(alloc, work.form);
     let _scopes = written(&mut stream, work)?;
     Ok(stream)
@@ -142,7 +143,34 @@ pub fn stream_of(alloc: Global, work: &Work) -> Result<Stream> {
 
 /// Counts the scopes of a stream with a walk.
 #[inline(never)]
-pub fn counted(alloc: Global, stream: &Stream) -> Result<usize> {
+fn counted(alloc: Global, stream: &Stream) -> Result<usize> {
     let (scopes, _depth) = Reader::count_scope_and_depth(alloc, stream)?;
     Ok(scopes)
+}
+
+/// Writes scopes into a stream whose memory is reused.
+#[derive(Drop)]
+pub struct Writing {
+    pub stream: Stream,
+    pub work: ScopeWork,
+}
+
+impl Work for Writing {
+    fn run(&mut self) -> anyhow::Result<usize> {
+        self.stream.clear();
+        Ok(written(&mut self.stream, &self.work)?)
+    }
+}
+
+/// Counts the scopes of a stream.
+#[derive(Drop)]
+pub struct Counting {
+    pub alloc: Global,
+    pub stream: Stream,
+}
+
+impl Work for Counting {
+    fn run(&mut self) -> anyhow::Result<usize> {
+        Ok(counted(self.alloc, &self.stream)?)
+    }
 }

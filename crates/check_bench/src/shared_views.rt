@@ -21,15 +21,6 @@ pub const FRAMES: usize = 1_000;
 /// How many runs fill a view.
 const FILLING: u32 = 2;
 
-/// The result of the runs.
-#[derive(Clone, Copy)]
-pub struct Timed {
-    /// The nanoseconds of the fastest run.
-    pub best: u128,
-    /// How many frames the view holds.
-    pub held: usize,
-}
-
 /// Reports an honest info and takes a frame, for each frame of a run.
 #[inline(never)]
 fn taken<L: Ledger, M: Ledger, R: Wait>(
@@ -74,14 +65,14 @@ fn fastest<L: Ledger, M: Ledger, R: Wait + Clock>(
     Ok(best)
 }
 
-/// Attaches a view, fills it, and takes frames in `runs` more runs.
+/// Attaches a view, fills it, and takes frames in `runs` more runs. Returns the nanoseconds of the fastest.
 fn viewed<L: Ledger, M: Ledger, R: Wait + Clock>(
     rt: &R,
     alloc: Global,
     runs: u32,
     reported: Blank,
     handed: Blank,
-) -> Result<Timed>
+) -> Result<u128>
     requires reported { (reported.name ≡ L.name)
         × (reported.parts ≡ L.parts)
         × (reported.parts ≡ 1) }
@@ -97,12 +88,11 @@ fn viewed<L: Ledger, M: Ledger, R: Wait + Clock>(
     for mut share in shares {
         best = fastest(rt, alloc, runs, &profiler, &mut share)?;
     }
-    let held = view.lock(rt).stats().frames();
     let _was_attached = view.detach(rt, &profiler);
-    Ok(Timed { best, held })
+    Ok(best)
 }
 
-/// Takes frames of a profiler that one view is attached to, in `runs` runs.
-pub fn run<R: Wait + Clock>(rt: &R, alloc: Global, runs: u32) -> Result<Timed> {
+/// Takes frames of a profiler that one view is attached to, in `runs` runs. Returns the nanoseconds of the fastest.
+pub fn run<R: Wait + Clock>(rt: &R, alloc: Global, runs: u32) -> Result<u128> {
     viewed::<Brand, Brand, R>(rt, alloc, runs, Blank::new(1), Blank::new(1))
 }

@@ -2,16 +2,21 @@
 
 use crate::merges::main_thread;
 use crate::scopes::{TEXT, end, nest};
+use crate::timing::{Mode, print};
 use puffin::frame_data::FrameData;
 use puffin::profile_view::FrameView;
 use puffin_data::Result;
 use puffin_data::data::{ScopeId, Stream, StreamInfo};
 use std::alloc::Global;
 use std::collections::BTreeMap;
+use std::rt::Clock;
 use std::sync::Arc;
+use std::time::Instant;
 
 /// How many frames are added to a full view.
 const FRAMES: u32 = 1_000;
+/// How often frames are added to a view.
+const ROUNDS: u32 = 10;
 
 /// A kind of work that adds frames to a full view.
 #[derive(Clone, Copy)]
@@ -65,6 +70,15 @@ impl ViewWork {
         ]
     }
 
+    /// Returns the same work, on a small view if it is counted.
+    pub fn sized(self, mode: Mode) -> ViewWork {
+        ViewWork {
+            max_recent: mode.pick(20, self.max_recent),
+            max_slow: mode.pick(5, self.max_slow),
+            ..self
+        }
+    }
+
     /// Returns how many nanoseconds more than a microsecond the frame with this index takes.
     fn extra_ns(&self, index: u32) -> u32 {
         if self.rises { index } else { u32::MAX - index }
@@ -97,7 +111,7 @@ impl ViewWork {
     }
 
     /// Makes a view, and adds as many frames as it can hold.
-    pub fn full(&self, alloc: Global) -> Result<FrameView> {
+    fn full(&self, alloc: Global) -> Result<FrameView> {
         let mut view = FrameView::new(alloc);
         view.set_max_recent(self.max_recent as usize);
         view.set_max_slow(self.max_slow as usize);
@@ -109,7 +123,7 @@ impl ViewWork {
     }
 
     /// Makes the frames that are added to the full view.
-    pub fn frames(&self, alloc: Global) -> Result<Vec<Arc<FrameData>>> {
+    fn frames(&self, alloc: Global) -> Result<Vec<Arc<FrameData>>> {
         let mut frames = Vec::with_capacity(alloc, FRAMES as usize)?;
         for index in 0..FRAMES {
             frames.push(self.frame(alloc, self.first().saturating_add(index))?)?;
@@ -120,10 +134,28 @@ impl ViewWork {
 
 /// Adds frames to a view, and returns how many.
 #[inline(never)]
-pub fn added(view: &mut FrameView, frames: Vec<Arc<FrameData>>) -> Result<usize> {
+fn added(view: &mut FrameView, frames: Vec<Arc<FrameData>>) -> Result<usize> {
     let count = frames.len();
     for frame in frames {
         view.add_frame(frame)?;
     }
     Ok(count)
+}
+
+/// Counts or times frames that are added to a full view; the unit is a frame.
+pub fn run_view<R: AllocGlobal + Clock + Print>(
+    rt: &R,
+    mode: Mode,
+    work: &ViewWork,
+) -> anyhow::Result<()> {
+    let mut best = u128::MAX;
+    let mut count = 0;
+    for _ in 0..mode.pick(1, ROUNDS) {
+        let mut view = work.full(rt.alloc())?;
+        let frames = work.frames(rt.alloc())?;
+        let begun = Instant::now(rt)?;
+        count = added(&mut view, frames)?;
+        best = best.min(begun.elapsed(rt)?.as_nanos());
+    }
+    print(rt, mode, work.name, best, count)
 }

@@ -62,7 +62,7 @@ fn write_twice<D: Drain>(drain: &mut D, buf: &[u8]) -> (Option<usize>, Option<us
 }
 
 #[test]
-fn failures_are_counted(rt: HostRuntime) -> std::result::Result<(), Fail> {
+fn failures_of_reads_are_counted(rt: HostRuntime) {
     let mut buf = [0; 4];
     let mut memory = Counted::new(b"abcdef".as_slice());
     equal(&rt, read_twice(&mut memory, &mut buf), (Some(4), Some(2)));
@@ -72,22 +72,21 @@ fn failures_are_counted(rt: HostRuntime) -> std::result::Result<(), Fail> {
     equal(&rt, read_twice(&mut source, &mut buf), (Some(1), None));
     equal(&rt, buf, *b"\x07fcd");
     equal(&rt, Source::faults(&source), 1);
-    let mut written = Counted::new(Vec::with_capacity(rt.alloc(), 4)?);
-    equal(&rt, write_twice(&mut written, b"ab"), (Some(2), Some(2)));
-    equal(&rt, written.faults(), 0);
-    let mut drain = Counted::new(Flaky { fails: false });
-    equal(&rt, write_twice(&mut drain, b"ab"), (Some(1), None));
-    equal(&rt, Drain::faults(&drain), 1);
-    Ok(())
 }
 
 #[test]
-fn a_counted_vector_keeps_what_was_written(rt: HostRuntime) -> std::result::Result<(), Fail> {
+fn failures_of_writes_are_counted(rt: HostRuntime) {
+    let mut drain = Counted::new(Flaky { fails: false });
+    equal(&rt, write_twice(&mut drain, b"ab"), (Some(1), None));
+    equal(&rt, Drain::faults(&drain), 1);
+}
+
+#[test]
+fn a_counted_vector_keeps_what_was_written(rt: HostRuntime) {
     let mut file = Counted::new(Vec::new(rt.alloc()));
     equal(&rt, write_twice(&mut file, b"ab"), (Some(2), Some(2)));
     equal(&rt, file.faults(), 0);
     equal(&rt, file.into_inner().as_slice(), b"abab".as_slice());
-    Ok(())
 }
 
 /// Fails with another kind of error each time.

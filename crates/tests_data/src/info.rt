@@ -28,11 +28,6 @@ fn extended(alloc: Global) -> Result<StreamInfo> {
 }
 
 #[test]
-fn a_new_info_is_empty(rt: HostRuntime) {
-    is_info(&rt, &StreamInfo::new(rt.alloc()), (0, 0, 0), NONE);
-}
-
-#[test]
 fn a_borrowed_info_says_the_same(rt: HostRuntime) -> std::result::Result<(), Fail> {
     let other = StreamInfo::parse(rt.alloc(), stream_of(rt.alloc(), &THREE_SCOPES)?)?;
     let borrowed = other.as_stream_into_ref();
@@ -81,13 +76,19 @@ fn unlike_forms_are_not_joined(rt: HostRuntime) -> std::result::Result<(), Fail>
     Ok(())
 }
 
+/// Extends an info by another. Returns the form that it has then.
+fn form_with(info: &mut StreamInfo, other: Result<StreamInfo>) -> Result<Form> {
+    let other = other?;
+    info.extend(&other.as_stream_into_ref())?;
+    Ok(info.stream.form())
+}
+
 #[test]
-fn an_info_without_bytes_takes_the_other_s_form(rt: HostRuntime) -> std::result::Result<(), Fail> {
+fn an_info_without_bytes_takes_the_other_s_form(rt: HostRuntime) {
     let mut info = StreamInfo::new(rt.alloc());
-    info.extend(&long_one(rt.alloc())?.as_stream_into_ref())?;
-    equal(&rt, info.stream.form(), Form::Long);
-    info.extend(&StreamInfo::new(rt.alloc()).as_stream_into_ref())?;
-    equal(&rt, info.stream.form(), Form::Long);
+    let long = long_one(rt.alloc());
+    equal(&rt, form_with(&mut info, long), Ok(Form::Long));
+    let none = Ok(StreamInfo::new(rt.alloc()));
+    equal(&rt, form_with(&mut info, none), Ok(Form::Long));
     is_info(&rt, &info, (35, 1, 1), (100, 300));
-    Ok(())
 }

@@ -31,7 +31,7 @@ fn fault_at(stream: &Stream, at: usize, end: usize) -> Option<Error> {
     }
 }
 
-/// The scopes of a reader, with the fault that it gave at last. After that it has to give nothing.
+/// The scopes of a reader, up to its end or its first fault. After either it has to give nothing.
 pub(crate) fn top_scopes<'s>(
     rt: &HostRuntime,
     mut reader: Reader<'s>,
@@ -45,7 +45,10 @@ pub(crate) fn top_scopes<'s>(
                     return Err(Fail::from("no memory"));
                 }
             }
-            Err(found) => fault = Some(found),
+            Err(found) => {
+                fault = Some(found);
+                break;
+            }
         }
     }
     if reader.next().is_some() {

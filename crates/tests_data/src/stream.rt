@@ -1,6 +1,5 @@
 use crate::equal::equal;
 use crate::reader::{scope_at, top_scopes};
-use puffin_data::Error;
 use puffin_data::data::{END_SIZE, Reader, Scope, Stream};
 use std::test::Fail;
 use tests_support::samples::ONE_SCOPE;
@@ -113,6 +112,8 @@ fn long_texts_are_cut_at_a_character(rt: HostRuntime) -> std::result::Result<(),
 #[test]
 fn within_the_room_nothing_is_refused(rt: HostRuntime) -> std::result::Result<(), Fail> {
     let mut stream = Stream::new(rt.alloc());
+    stream.reserve(35)?;
+    assert!(rt; 35 <= stream.room() && stream.is_empty());
     stream.reserve(35 + 35)?;
     assert!(rt; 70 <= stream.room());
     for left in [35, 0] {
@@ -126,29 +127,19 @@ fn within_the_room_nothing_is_refused(rt: HostRuntime) -> std::result::Result<()
 }
 
 #[test]
-fn a_refusal_leaves_stream_and_clock(rt: HostRuntime) -> std::result::Result<(), Fail> {
+fn a_begin_asks_its_clock_once(rt: HostRuntime) -> std::result::Result<(), Fail> {
     let mut stream = Stream::new(rt.alloc());
-    let mut asked = 0;
+    let mut asked: u32 = 0;
     let begun = stream.begin_scope_by(
         &mut || {
-            asked = 1;
+            asked = asked.saturating_add(1);
             100
         },
         id(1)?,
         "data",
     );
-    match begun {
-        Ok((offset, start)) => {
-            equal(&rt, (offset, start), (18, 100));
-            equal(&rt, stream.len(), 26);
-            equal(&rt, asked, 1);
-        }
-        Err(fault) => {
-            equal(&rt, fault, Error::Memory);
-            assert!(rt; stream.is_empty());
-            equal(&rt, asked, 0);
-        }
-    }
+    equal(&rt, begun, Ok((18, 100)));
+    equal(&rt, (stream.len(), asked), (26, 1));
     Ok(())
 }
 

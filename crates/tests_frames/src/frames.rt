@@ -6,10 +6,10 @@ use puffin_frames::thread_profiler::ThreadInfo;
 use std::alloc::Global;
 use std::collections::BTreeMap;
 use std::test::Fail;
-use tests_support::frames::{one_stream, packet_thread};
+use tests_support::frames::{lists, one_stream, packet_thread};
 use tests_support::samples::THREE_SCOPES;
 use tests_support::streams::stream_of;
-use tests_support::threads::thread_info;
+use tests_support::threads::{named, thread_info};
 
 type Outcome = std::result::Result<(), Fail>;
 
@@ -125,14 +125,33 @@ fn a_frame_with_its_delta(rt: HostRuntime) -> Outcome {
     Ok(())
 }
 
+/// The bytes of an unpacked frame's only stream, which is that of the thread `main` that began at 100.
+fn bytes_of_main(frame: &UnpackedFrameData) -> Option<&[u8]> {
+    let mut streams = frame.thread_streams.iter();
+    let (thread, info) = streams.next()?;
+    let is_main = thread.name.as_str() == "main" && thread.start_time_ns == Some(100);
+    if is_main && streams.next().is_none() {
+        Some(info.stream.bytes())
+    } else {
+        None
+    }
+}
+
+/// A frame made again of the streams of a frame, with one detail.
+fn made_again(alloc: Global) -> std::result::Result<FrameData, Fail> {
+    let mut details = Vec::new(alloc);
+    details.push(named(alloc, 1, "a")?)?;
+    let frame = FrameData::new(alloc, 7, main_stream(alloc)?, Vec::new(alloc), true)?;
+    Ok(FrameData::of_unpacked(frame.into_unpacked(), details, false))
+}
+
 #[test]
 fn a_frame_made_again_of_its_streams(rt: HostRuntime) -> Outcome {
-    let streams = main_stream(rt.alloc())?;
-    let frame = FrameData::new(rt.alloc(), 7, streams, Vec::new(rt.alloc()), true)?;
-    let unpacked = frame.into_unpacked();
-    equal(&rt, unpacked.meta.num_scopes, 3);
-    let again = FrameData::of_unpacked(unpacked, Vec::new(rt.alloc()), false);
-    equal(&rt, again.frame_index(), 7);
+    let again = made_again(rt.alloc())?;
+    assert!(rt; lists(&again, &[(1, "a")]) && !again.full_delta);
+    let unpacked = again.as_unpacked().ok_or("streams")?;
+    equal(&rt, facts(unpacked), (7, (100, 400), 300, (127, 3)));
+    equal(&rt, bytes_of_main(unpacked), Some(THREE_SCOPES.as_slice()));
     Ok(())
 }
 

@@ -11,7 +11,7 @@ use tests_support::streams::bytes_of;
 use tests_support::threads::thread_info;
 
 /// The frame of [`PACKET`], whose stream is of the long form.
-static LONG_PACKET: [u8; 76] = [
+pub(crate) static LONG_PACKET: [u8; 76] = [
     80, 70, 68, 76, 7, 0, 0, 0, 0, 200, 251, 88, 2, 35, 1, 51, 0, 0, 0, 0, 1, 1, 200, 4, 109, 97,
     105, 110, 1, 35, 40, 1, 0, 0, 0, 100, 0, 0, 0, 0, 0, 0, 0, 4, 100, 97, 116, 97, 0, 0, 0, 0, 0,
     0, 0, 0, 41, 44, 1, 0, 0, 0, 0, 0, 0, 1, 1, 200, 251, 88, 2, 1, 0, 0, 0, 0,

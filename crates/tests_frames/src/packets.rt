@@ -8,7 +8,7 @@ use std::borrow::CowStr;
 use std::process::Abort;
 use std::sync::Arc;
 use std::test::Fail;
-use tests_support::frames::{packet_frame, written};
+use tests_support::frames::{lists, packet_frame, written};
 use tests_support::samples::{ONE_SCOPE, PACKET};
 use tests_support::streams::{bytes_of, id};
 
@@ -86,7 +86,7 @@ pub(crate) fn facts(frame: &FrameData) -> (u64, (i64, i64), (usize, usize), Opti
 }
 
 /// Whether a frame's streams are packed, and whether they are there as they are.
-fn held(frame: &FrameData) -> (bool, bool) {
+pub(crate) fn held(frame: &FrameData) -> (bool, bool) {
     (frame.has_packed(), frame.has_unpacked())
 }
 
@@ -105,7 +105,7 @@ fn count_streams(frame: &mut FrameData) -> std::result::Result<usize, Fail> {
 }
 
 /// Why a frame isn't unpacked.
-fn fault_of_streams(frame: &mut FrameData) -> Option<FileError> {
+pub(crate) fn fault_of_streams(frame: &mut FrameData) -> Option<FileError> {
     frame.unpacked().err()
 }
 
@@ -302,33 +302,45 @@ fn a_list_of_one_detail(rt: HostRuntime) -> Outcome {
     tells_of_one(&rt, &read_one(rt.alloc(), &packet)?)
 }
 
-/// Two scopes' details.
-fn two_scopes(alloc: Global) -> std::result::Result<ScopeCollection, Fail> {
-    let mut scopes = ScopeCollection::new(alloc);
-    for (id, name) in [(300, "x"), (2, "y")] {
-        let _ = scopes.insert(details(alloc, id, name)?)?;
+/// A collection of these scopes.
+fn collection(
+    alloc: Global,
+    scopes: &[(u32, &'static str)],
+) -> std::result::Result<ScopeCollection, Fail> {
+    let mut collection = ScopeCollection::new(alloc);
+    for (number, name) in scopes {
+        let _ = collection.insert(details(alloc, *number, *name)?)?;
     }
-    Ok(scopes)
+    Ok(collection)
 }
 
-/// The packet of a frame, with a collection's details.
-fn packet_with(alloc: Global, scopes: &ScopeCollection) -> std::result::Result<Vec<u8>, Fail> {
-    Ok(written(alloc, &packet_frame(alloc, 0)?, Some(scopes))?)
-}
-
-/// The names of a frame's two details.
-fn two_names<'f>(frame: &'f FrameData) -> std::result::Result<(&'f str, &'f str), Fail> {
-    match frame.scope_delta.as_slice() {
-        [first, second] => Ok((first.name().as_str(), second.name().as_str())),
-        _ => Err("details of two scopes".into()),
-    }
+/// Checks that a frame which is written with a collection's details lists these scopes.
+fn lists_instead(
+    rt: &impl Abort,
+    alloc: Global,
+    frame: &FrameData,
+    collection: &ScopeCollection,
+    scopes: &[(u32, &str)],
+) -> Outcome {
+    let packet = written(alloc, frame, Some(collection))?;
+    assert!(rt; lists(&read_one(alloc, &packet)?, scopes));
+    Ok(())
 }
 
 #[test]
 fn details_of_a_collection_are_written(rt: HostRuntime) -> Outcome {
     // A collection's details stand in place of the frame's, by rising id.
-    let packet = packet_with(rt.alloc(), &two_scopes(rt.alloc())?)?;
-    let read_back = read_one(rt.alloc(), &packet)?;
-    equal(&rt, two_names(&read_back)?, ("y", "x"));
-    Ok(())
+    let frame = frame_with_details(rt.alloc())?;
+    let two = collection(rt.alloc(), &[(300, "x"), (2, "y")])?;
+    lists_instead(&rt, rt.alloc(), &frame, &two, &[(2, "y"), (300, "x")])
+}
+
+#[test]
+fn copies_are_written_with_a_collection(rt: HostRuntime) -> Outcome {
+    // Of the details named `b`, whose id is taken, only the name is kept.
+    let three = collection(rt.alloc(), &[(1, "a"), (1, "b"), (2, "a")])?;
+    let frame = packet_frame(rt.alloc(), 0)?;
+    let kept = [(1, "a"), (2, "a")];
+    lists_instead(&rt, rt.alloc(), &frame.clone()?, &three, &kept)?;
+    lists_instead(&rt, rt.alloc(), &frame.packed_copy()?, &three, &kept)
 }

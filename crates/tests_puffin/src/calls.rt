@@ -1,48 +1,18 @@
-//! What callers hand to a profiler: details without an id, details to learn, and sinks that are returned.
+//! What callers hand to a profiler: details to learn, a frame, and sinks that are returned.
 
 use crate::details::named;
 use crate::equal::equal;
-use crate::global_profiler::{borrowed, report, scope, thread};
+use crate::global_profiler::report;
 use crate::sinks::added;
 use puffin::global_profiler::{Collector, FrameSinkId, GlobalProfiler, Sink};
 use puffin::profile_view::FrameView;
-use puffin::{Error, Result};
 use std::process::Abort;
 use std::sync::{Arc, Mutex, Wait};
 use std::test::Fail;
+use tests_support::frames::packet_frame;
 use tests_support::streams::id;
 
 type Outcome = std::result::Result<(), Fail>;
-
-/// Reports one scope with details that have no id.
-fn report_nameless(rt: &impl AllocGlobal, profiler: &mut GlobalProfiler) -> Result<()> {
-    let info = scope(rt, 7, 300, 400)?;
-    profiler.report(thread(rt, "a")?, &[named("x")], &borrowed(&info))
-}
-
-/// Checks that such a report is refused, and changes neither the totals nor what is pending.
-fn changes_nothing<R: AllocGlobal + Wait + Abort>(
-    rt: &R,
-    profiler: &mut GlobalProfiler,
-) -> Outcome {
-    report(rt, profiler, "a", 1, (100, 200))?;
-    let before = profiler.totals();
-    equal(rt, report_nameless(rt, profiler), Err(Error::MissingId));
-    equal(rt, profiler.totals(), before);
-    let frame = profiler.new_frame(rt)?.frame.ok_or("a frame")?;
-    equal(
-        rt,
-        (frame.meta().num_scopes, frame.meta().num_bytes),
-        (1, 31),
-    );
-    equal(rt, frame.scope_delta.len(), 0);
-    Ok(())
-}
-
-#[test]
-fn details_alone_without_an_id_are_refused(rt: HostRuntime) -> Outcome {
-    changes_nothing(&rt, &mut GlobalProfiler::new(rt.alloc()))
-}
 
 /// Adds the details of a scope to those that are known. Checks that a snapshot lists them.
 fn learns(rt: &(impl AllocGlobal + Abort), collector: &mut Collector) -> Outcome {
@@ -85,19 +55,36 @@ fn removed<R: Wait>(rt: &R, profiler: &mut GlobalProfiler, id: FrameSinkId) -> O
     }
 }
 
-/// Adds three views. Checks that removing the second returns it, once.
+/// Checks that views are numbered from 1 on, that removing the second returns it, once, and that its number isn't given
+/// again.
 fn comes_back<R: AllocGlobal + Wait + Abort>(rt: &R, profiler: &mut GlobalProfiler) -> Outcome {
     for limit in 1..4 {
-        let id = add_view(rt, profiler, limit)?;
-        equal(rt, id, FrameSinkId(limit as u64));
+        equal(
+            rt,
+            add_view(rt, profiler, limit)?,
+            FrameSinkId(limit as u64),
+        );
     }
     for limit in [Some(2), None] {
         equal(rt, removed(rt, profiler, FrameSinkId(2)), limit);
     }
+    equal(rt, add_view(rt, profiler, 4)?, FrameSinkId(4));
     Ok(())
 }
 
 #[test]
 fn the_sink_that_was_added_comes_back(rt: HostRuntime) -> Outcome {
     comes_back(&rt, &mut GlobalProfiler::new(rt.alloc()))
+}
+
+/// Adds a frame to a profiler without sinks. Checks that no sink refuses it.
+fn is_taken<R: AllocGlobal + Wait + Abort>(rt: &R, profiler: &mut GlobalProfiler) -> Outcome {
+    let frame = Arc::new(rt.alloc(), packet_frame(rt.alloc(), 0)?)?;
+    equal(rt, profiler.add_frame(rt, frame)?, 0);
+    Ok(())
+}
+
+#[test]
+fn a_frame_is_refused_by_no_sink(rt: HostRuntime) -> Outcome {
+    is_taken(&rt, &mut GlobalProfiler::new(rt.alloc()))
 }

@@ -42,15 +42,17 @@ fn tells<R: Wait + Abort>(
     Ok(())
 }
 
-/// Checks that a report whose second details have no id is refused, and changes neither the totals nor what was
-/// reported before.
+/// Checks that a report with details that have no id is refused, alone and behind details with one, and changes neither
+/// the totals nor what was reported before.
 fn without_an_id<R: AllocGlobal + Wait + Abort>(rt: &R, profiler: &mut GlobalProfiler) -> Outcome {
     report(rt, profiler, "a", 1, (100, 200))?;
     let before = profiler.totals();
     let details = [named("y").with_scope_id(id(2)?), named("x")];
-    let refused = report_with(rt, profiler, &details, (300, 400)).err();
-    equal(rt, refused, Some(Error::MissingId));
-    equal(rt, profiler.totals(), before);
+    for refused in [&details[1..], &details[..]] {
+        let cause = report_with(rt, profiler, refused, (300, 400)).err();
+        equal(rt, cause, Some(Error::MissingId));
+        equal(rt, profiler.totals(), before);
+    }
     let frame = emitted(rt, profiler)?;
     holds(rt, &frame, "a", Some((31, 1)))?;
     assert!(rt; frame.scope_delta.is_empty());

@@ -5,7 +5,7 @@ ghost use Rattle.puffin_data.specs.Honesty.{IsHonest, IsHonestRef};
 use crate::equal::equal;
 use puffin::data::{Stream, StreamInfo, StreamInfoRef};
 use puffin::frame_data::FrameData;
-use puffin::global_profiler::{Collector, Emitted, GlobalProfiler, Totals};
+use puffin::global_profiler::{GlobalProfiler, Totals};
 use puffin::thread_profiler::{Reporter, ThreadInfo};
 use puffin::{Error, NanoSecond, Result};
 use std::process::Abort;
@@ -219,35 +219,9 @@ fn totals_of_reports_and_frames(rt: HostRuntime) -> Outcome {
     Ok(())
 }
 
-/// The next frame of a collector.
-fn collected(collector: &mut Collector) -> std::result::Result<Arc<FrameData>, Fail> {
-    let Some(frame) = collector.collect_frame()? else {
-        return Err(Fail::new("no frame"));
-    };
-    Ok(frame)
-}
-
-/// Reports one scope of the caller's own to a collector.
-fn report_to(rt: &impl AllocGlobal, collector: &mut Collector) -> Result<()> {
-    let last = scope(rt, 1, 8, 9)?;
-    collector.report_user_scopes(thread(rt, "a")?, &borrowed(&last))
-}
-
 /// How many scopes were reported, are pending and were emitted.
 fn counts(totals: Totals) -> (u64, u64, u64) {
     (totals.reported, totals.pending, totals.emitted)
-}
-
-#[test]
-fn a_collector_at_the_last_index(rt: HostRuntime) -> Outcome {
-    let mut collector = Collector::new(rt.alloc(), u64::MAX - 1);
-    report(&rt, &mut collector, "a", 1, (5, 7))?;
-    equal(&rt, collected(&mut collector)?.frame_index(), u64::MAX - 1);
-    report_to(&rt, &mut collector)?;
-    let refused = collector.collect_frame().err();
-    equal(&rt, refused, Some(Error::IndexExhausted));
-    equal(&rt, counts(collector.totals()), (2, 1, 1));
-    Ok(())
 }
 
 #[test]
@@ -263,77 +237,5 @@ fn a_profiler_at_the_last_index(rt: HostRuntime) -> Outcome {
     let refused = profiler.new_frame(&rt).err();
     equal(&rt, refused, Some(Error::IndexExhausted));
     equal(&rt, counts(profiler.totals()), (2, 1, 1));
-    Ok(())
-}
-
-/// Reports, and once more where memory is refused, which changes no total.
-fn report_again(
-    rt: &impl AllocGlobal,
-    profiler: &mut GlobalProfiler,
-    name: &str,
-    id: u8,
-) -> Outcome {
-    let before = profiler.totals();
-    let first = report(rt, profiler, name, id, (5, 7));
-    if first.is_err() {
-        if profiler.totals() != before {
-            return Err(Fail::new("a refused report was counted"));
-        }
-        report(rt, profiler, name, id, (5, 7))?;
-    }
-    Ok(())
-}
-
-/// A frame that was refused, taken once more behind another report.
-fn emitted_again<R: AllocGlobal + Wait + Abort>(
-    rt: &R,
-    profiler: &mut GlobalProfiler,
-) -> std::result::Result<Result<Emitted>, Fail> {
-    equal(rt, profiler.totals().pending, 6);
-    report_again(rt, profiler, "c", 1)?;
-    Ok(profiler.new_frame(rt))
-}
-
-/// The first frame, with three scopes under each of the two threads, and perhaps one under a third.
-fn has_all<R: Abort>(rt: &R, frame: &FrameData) -> Outcome {
-    equal(rt, frame.frame_index(), 0);
-    let Some(unpacked) = frame.as_unpacked() else {
-        return Err(Fail::new("packed"));
-    };
-    let mut threads: usize = 0;
-    for (thread, info) in &unpacked.thread_streams {
-        if thread.name.as_str() == "c" {
-            equal(rt, info.stream.len(), 31);
-        } else {
-            threads = threads.wrapping_add(1);
-            equal(rt, (info.stream.len(), info.num_scopes), (93, 3));
-        }
-    }
-    equal(rt, threads, 2);
-    Ok(())
-}
-
-/// Takes a frame, and once more where memory is refused, behind another report.
-fn emitted_at_last<R: AllocGlobal + Wait + Abort>(
-    rt: &R,
-    profiler: &mut GlobalProfiler,
-) -> std::result::Result<Arc<FrameData>, Fail> {
-    let mut emitted = profiler.new_frame(rt);
-    if emitted.is_err() {
-        emitted = emitted_again(rt, profiler)?;
-    }
-    Ok(emitted?.frame.ok_or("no frame")?)
-}
-
-/// Run with each allocation failing in turn: nothing is lost or doubled.
-#[test]
-fn one_refused_allocation(rt: HostRuntime) -> Outcome {
-    let mut profiler = GlobalProfiler::new(rt.alloc());
-    for id in 1..4_u8 {
-        report_again(&rt, &mut profiler, "a", id)?;
-        report_again(&rt, &mut profiler, "b", id)?;
-    }
-    has_all(&rt, &*emitted_at_last(&rt, &mut profiler)?)?;
-    equal(&rt, profiler.totals().pending, 0);
     Ok(())
 }

@@ -4,8 +4,6 @@
 #[cfg(test)]
 mod calls;
 #[cfg(test)]
-mod copies;
-#[cfg(test)]
 mod details;
 #[cfg(test)]
 mod equal;

@@ -10,7 +10,6 @@ use std::collections::BTreeMap;
 use std::process::Abort;
 use std::sync::{Arc, Mutex, Wait};
 use std::test::Fail;
-use std::vec::IntoIter;
 
 type Outcome = std::result::Result<(), Fail>;
 
@@ -82,38 +81,6 @@ fn all_added(profiler: &mut GlobalProfiler, sinks: Vec<Sink>) -> Outcome {
         let _id = added(profiler, sink)?;
     }
     Ok(())
-}
-
-/// Adds the next sink, and returns its number.
-fn next_added(
-    profiler: &mut GlobalProfiler,
-    sinks: &mut IntoIter<Sink>,
-) -> std::result::Result<FrameSinkId, Fail> {
-    added(profiler, sinks.next().ok_or("a sink")?)
-}
-
-/// Checks that sinks are numbered from 1 on, and that the number of a removed one isn't given again.
-fn are_numbered<R: AllocGlobal + Abort>(rt: &R, sinks: Vec<Sink>) -> Outcome {
-    let mut profiler = GlobalProfiler::new(rt.alloc());
-    let mut sinks = sinks.into_iter();
-    for number in 1..4u64 {
-        equal(
-            rt,
-            next_added(&mut profiler, &mut sinks)?,
-            FrameSinkId(number),
-        );
-    }
-    assert!(rt; profiler.remove_sink(FrameSinkId(2)).is_some());
-    assert!(rt; profiler.remove_sink(FrameSinkId(2)).is_none());
-    equal(rt, next_added(&mut profiler, &mut sinks)?, FrameSinkId(4));
-    Ok(())
-}
-
-#[test]
-fn numbers_of_sinks(rt: HostRuntime) -> Outcome {
-    let handed = nothing_handed(&rt)?;
-    let sinks = sinks_named!(rt, &handed, 4u64, 0u64);
-    are_numbered(&rt, sinks)
 }
 
 /// Returns what the sinks noted.

@@ -3,7 +3,9 @@
 ghost use Rattle.std.specs.Prelude.{◌≡◌};
 
 use crate::equal::equal;
+use crate::shares::next_frame;
 use puffin::data::ScopeId;
+use puffin::frame_data::FrameData;
 use puffin::global_profiler::{GlobalProfiler, Settled, Share, SharedProfiler, SharedReporter};
 use puffin::thread_profiler::{ScriptClock, ThreadProfiler};
 use std::alloc::{AllocError, Global};
@@ -76,6 +78,24 @@ fn load_elsewhere<
     Ok(loader.join(&rt).ok_or("the loader's share")?)
 }
 
+/// The scope of the image, with the id 7, from 5 to 5.
+const IMAGE: &[u8] =
+    b"(\x07\0\0\0\x05\0\0\0\0\0\0\0\x0cimage-12.png\0\0\0\0\0\0\0\0)\x05\0\0\0\0\0\0\0";
+
+/// Checks that a frame has the image alone, on the thread "loader".
+fn has_image<R: Abort>(rt: &R, frame: &FrameData) -> std::result::Result<(), Fail> {
+    let streams = &frame.as_unpacked().ok_or("streams")?.thread_streams;
+    equal(rt, streams.len(), 1);
+    let (thread, info) = streams.first_key_value().ok_or("a stream")?;
+    equal(
+        rt,
+        (thread.name.as_str(), thread.start_time_ns),
+        ("loader", Some(5)),
+    );
+    equal(rt, info.stream.bytes(), IMAGE);
+    Ok(())
+}
+
 /// A loader's thread, and one that takes the frame when the loader is done.
 fn framed<
     L: Ledger + Send + Sync + 'static,
@@ -90,7 +110,7 @@ fn framed<
     let theirs = shares.pop().ok_or("a share")?;
     let theirs = load_elsewhere(rt, alloc, profiler, theirs)?;
     let own = shares.last_mut().ok_or("another")?;
-    assert!(rt; profiler.new_frame(&rt, own)?.frame.is_some());
+    has_image(&rt, &*next_frame(&rt, profiler, own)?)?;
     shares.push(theirs)?;
     Ok(())
 }

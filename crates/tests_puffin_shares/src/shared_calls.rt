@@ -133,12 +133,14 @@ fn is_viewed<R: Wait + Abort>(rt: &R, view: &GlobalFrameView) -> Outcome {
     Ok(())
 }
 
-/// Checks that an added frame is handed to a view, and that its scope is listed by a snapshot in the next frame.
+/// Checks that a frame may be added where there is no sink, that it is handed to a view, and that its scope is listed by a
+/// snapshot in the next frame.
 fn added_is_handed_on<
     L: Ledger + Send + Sync + 'static,
     M: Ledger + Send + Sync + 'static,
     R: Wait + Abort + Copy + Drop,
 >(rt: R, alloc: Global, profiler: &SharedProfiler<L, M>, share: Share<L, M>) -> Outcome {
+    is_added(&rt, alloc, profiler)?;
     let view = GlobalFrameView::attach(&rt, alloc, profiler)?;
     is_added(&rt, alloc, profiler)?;
     is_viewed(&rt, &view)?;

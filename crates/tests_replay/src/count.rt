@@ -1,7 +1,7 @@
 ghost use Rattle.std.specs.Prelude.{◌≡◌, ◌+◌, ◌-◌, ◌^◌, ◌<◌, if◌then◌else◌};
 
-use crate::commands::{Outcome, texts};
 use crate::equal::equal;
+use crate::steps::{Outcome, texts};
 use puffin_data::data::{Counted, Drain, Source};
 use puffin_data::{Error, FileError};
 use puffin_replay::replay::*;
@@ -174,7 +174,7 @@ fn is_replay(task: &Option<Task>, asked: &str, file: &str) -> bool {
 
 #[test]
 fn replay_with_two_files_is_a_task(rt: HostRuntime) -> Outcome<()> {
-    let words = texts(&rt, &["replay", "a script", "b"])?;
+    let words = texts(rt.alloc(), &["replay", "a script", "b"])?;
     let task = read_words(&words)?;
     assert!(rt; is_replay(&task, "a script", "b"));
     Ok(())

@@ -1,8 +1,9 @@
 //! Commands that are recorded in one session, call after call.
 
-use crate::commands::{Outcome, Step, commands, texts};
 use crate::count::{NEVER, device};
 use crate::equal::equal;
+use crate::steps::Step::{Begin, End, NewFrame};
+use crate::steps::{Outcome, Step, commands, texts};
 use puffin_replay::replay::{Session, record_session};
 use puffin_view::profile_view::FrameView;
 use std::alloc::AllocGlobal;
@@ -10,20 +11,20 @@ use std::process::Abort;
 use tests_support::samples::{FILE, ONE_FRAME};
 
 /// A scope of the thread, and a frame of it.
-const FIRST: &[Step<'static>] = &[Step::Begin(100, 1, "data"), Step::End(300), Step::Frame];
+const FIRST: &[Step] = &[Begin(0, 100, 1, "data"), End(0, 300), NewFrame];
 
 /// Another one.
-const SECOND: &[Step<'static>] = &[Step::Begin(400, 1, "a"), Step::End(401), Step::Frame];
+const SECOND: &[Step] = &[Begin(0, 400, 1, "a"), End(0, 401), NewFrame];
 
 /// Records these steps, and writes a file.
 fn records(
     rt: &(impl AllocGlobal + Abort),
     session: &mut Session,
     view: &mut FrameView,
-    steps: &[Step<'_>],
+    steps: &[Step],
     file: &[u8],
 ) -> Outcome<()> {
-    let commands = commands(rt, steps)?;
+    let commands = commands(rt.alloc(), steps)?;
     let mut drain = device(rt, b"", 1000, NEVER);
     let replies = record_session(session, &commands, view, &mut drain)?;
     equal(rt, replies.len(), steps.len());
@@ -43,6 +44,6 @@ fn records_both(
 
 #[test]
 fn a_session_goes_on_with_the_next_index(rt: HostRuntime) -> Outcome<()> {
-    let mut session = Session::new(rt.alloc(), texts(&rt, &["main"])?)?;
+    let mut session = Session::new(rt.alloc(), texts(rt.alloc(), &["main"])?)?;
     records_both(&rt, &mut session, &mut FrameView::new(rt.alloc()))
 }

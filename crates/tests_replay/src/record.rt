@@ -1,7 +1,8 @@
-use crate::commands::{Outcome, Step, commands, texts};
 use crate::count::{NEVER, device};
 use crate::equal::equal;
 use crate::run::run;
+use crate::steps::Step::{Begin, End, NewFrame, Report};
+use crate::steps::{Outcome, Step, commands, texts};
 use puffin_data::FileError;
 use puffin_replay::replay::{Reply, Script, record};
 use puffin_view::profile_view::FrameView;
@@ -10,21 +11,21 @@ use std::process::Abort;
 use tests_support::samples::{FILE, ONE_FRAME};
 
 /// A scope of the thread and a frame of it.
-const ONE: &[Step<'static>] = &[Step::Begin(100, 1, "data"), Step::End(300), Step::Frame];
+const ONE: &[Step] = &[Begin(0, 100, 1, "data"), End(0, 300), NewFrame];
 
 /// One scope with the id 1 and no text, from the least time to the least time.
 const EARLIEST: &[u8] = b"(\x01\0\0\0\0\0\0\0\0\0\0\x80\0\0\0\0\0\0\0\0\0)\0\0\0\0\0\0\0\x80";
 
 /// A script of one thread, with a step in each line.
-fn script(rt: &impl AllocGlobal, name: &str, steps: &[Step<'_>]) -> Outcome<Script> {
+fn script(rt: &impl AllocGlobal, name: &str, steps: &[Step]) -> Outcome<Script> {
     let mut lines = Vec::new(rt.alloc());
     for number in 0..steps.len() {
         lines.push(number as u64 + 1)?;
     }
     Ok(Script {
-        names: texts(rt, &[name])?,
+        names: texts(rt.alloc(), &[name])?,
         forms: Vec::new(rt.alloc()),
-        commands: commands(rt, steps)?,
+        commands: commands(rt.alloc(), steps)?,
         lines,
     })
 }
@@ -33,7 +34,7 @@ fn script(rt: &impl AllocGlobal, name: &str, steps: &[Step<'_>]) -> Outcome<Scri
 fn writes(
     rt: &(impl AllocGlobal + Abort),
     name: &str,
-    steps: &[Step<'_>],
+    steps: &[Step],
     file: &[u8],
     lines: &[u8],
 ) -> Outcome<()> {
@@ -56,11 +57,7 @@ fn a_script_makes_a_file_and_lines(rt: HostRuntime) -> Outcome<()> {
 
 #[test]
 fn a_kept_report_is_told_with_its_line(rt: HostRuntime) -> Outcome<()> {
-    let steps = [
-        Step::Report("u", EARLIEST),
-        Step::Begin(100, 1, ""),
-        Step::End(200),
-    ];
+    let steps = [Report("u", EARLIEST), Begin(0, 100, 1, ""), End(0, 200)];
     writes(&rt, "a", &steps, b"PUF0", b"kept 3 RangeTooLong\n")
 }
 
@@ -70,13 +67,13 @@ fn recorded(
     rt: &(impl AllocGlobal + Abort),
     view: &mut FrameView,
     name: &str,
-    steps: &[Step<'_>],
+    steps: &[Step],
     file: &[u8],
     piece: usize,
 ) -> Outcome<Vec<Reply>> {
-    let commands = commands(rt, steps)?;
+    let commands = commands(rt.alloc(), steps)?;
     let mut drain = device(rt, b"", piece, NEVER);
-    let names = texts(rt, &[name])?;
+    let names = texts(rt.alloc(), &[name])?;
     let replies = record(rt.alloc(), names, &commands, view, &mut drain)?;
     equal(rt, drain.written.as_slice(), file);
     Ok(replies)

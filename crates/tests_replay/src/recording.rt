@@ -1,5 +1,6 @@
-use crate::commands::{Outcome, Step, commands, texts};
 use crate::equal::equal;
+use crate::steps::Step::{Begin, End, NewFrame};
+use crate::steps::{Outcome, Step, commands, texts};
 use puffin_data::NanoSecond;
 use puffin_data::data::Form;
 use puffin_frames::frame_data::{FrameData, UnpackedFrameData};
@@ -13,16 +14,16 @@ use std::sync::Arc;
 const LONGEST: &[u8] = b"(\x01\0\0\0\x64\0\0\0\0\0\0\0\0\0\0\0\0\0\0\0\0)\x2c\x01\0\0\0\0\0\0";
 
 /// Three scopes of a thread, of 200, 50 and 100 ns, each in a frame of its own.
-const THREE_FRAMES: &[Step<'static>] = &[
-    Step::Begin(100, 1, ""),
-    Step::End(300),
-    Step::Frame,
-    Step::Begin(400, 1, ""),
-    Step::End(450),
-    Step::Frame,
-    Step::Begin(500, 1, ""),
-    Step::End(600),
-    Step::Frame,
+const THREE_FRAMES: &[Step] = &[
+    Begin(0, 100, 1, ""),
+    End(0, 300),
+    NewFrame,
+    Begin(0, 400, 1, ""),
+    End(0, 450),
+    NewFrame,
+    Begin(0, 500, 1, ""),
+    End(0, 600),
+    NewFrame,
 ];
 
 /// The name of the thread, whose texts are short.
@@ -44,7 +45,7 @@ fn recorded(
         max_slow,
         packs,
     };
-    let commands = commands(rt, THREE_FRAMES)?;
+    let commands = commands(rt.alloc(), THREE_FRAMES)?;
     let recording = record_and_read(rt.alloc(), main_thread(rt)?, &commands, limits).map_err(
         |unread| unread.fault,
     )?;
@@ -137,25 +138,25 @@ fn as_many_frames_are_read_again_as_are_kept(rt: HostRuntime) -> Outcome<()> {
 }
 
 /// A scope in a frame of its own, and the begin of another one.
-const ONE_AND_A_BEGIN: &[Step<'static>] = &[
-    Step::Begin(100, 1, ""),
-    Step::End(300),
-    Step::Frame,
-    Step::Begin(400, 1, ""),
+const ONE_AND_A_BEGIN: &[Step] = &[
+    Begin(0, 100, 1, ""),
+    End(0, 300),
+    NewFrame,
+    Begin(0, 400, 1, ""),
 ];
 
 /// The end of that, and its frame.
-const AN_END: &[Step<'static>] = &[Step::End(450), Step::Frame];
+const AN_END: &[Step] = &[End(0, 450), NewFrame];
 
 /// After these steps in a session and a view that there are, just these frames are read.
 fn goes_on(
     rt: &(impl AllocGlobal + Abort),
     session: &mut Session,
     view: &mut FrameView,
-    steps: &[Step<'_>],
+    steps: &[Step],
     frames: &[(u64, (NanoSecond, NanoSecond))],
 ) -> Outcome<()> {
-    let commands = commands(rt, steps)?;
+    let commands = commands(rt.alloc(), steps)?;
     let recording = record_session_and_read(rt.alloc(), session, &commands, view).map_err(
         |unread| unread.fault,
     )?;
@@ -182,6 +183,6 @@ fn goes_on_twice(
 
 #[test]
 fn a_session_and_a_view_go_on(rt: HostRuntime) -> Outcome<()> {
-    let mut session = Session::new(rt.alloc(), texts(&rt, &["main"])?)?;
+    let mut session = Session::new(rt.alloc(), texts(rt.alloc(), &["main"])?)?;
     goes_on_twice(&rt, &mut session, &mut FrameView::new(rt.alloc()))
 }

@@ -1,15 +1,14 @@
-use crate::commands::Outcome;
 use crate::count::{NEVER, device};
 use crate::equal::equal;
 use crate::run::{Written, run_of_text};
+use crate::steps::Outcome;
+use puffin_data::FileError;
 use puffin_data::data::Counted;
-use puffin_data::{FileError, NanoSecond};
 use puffin_frames::thread_profiler::ThreadInfo;
 use puffin_replay::replay::print_report;
 use std::alloc::AllocGlobal;
 use std::process::Abort;
 use tests_support::frames::packet_thread;
-use tests_support::threads::thread_info;
 
 /// One scope, `data` from 100 to 300.
 const ONE: &[u8] = b"begin main 100 1 data\nend main 300\nframe\n";
@@ -18,11 +17,34 @@ const ONE: &[u8] = b"begin main 100 1 data\nend main 300\nframe\n";
 const ONE_LINES: &[u8] =
     b"frames 1\n#1 (data) pieces 1 total 200 per_frame 200 max 200 start 100\n";
 
-/// The start, if known, and the name of a thread.
-type Named<'a> = (Option<NanoSecond>, &'a str);
+/// A scope in another.
+const NESTED: &[u8] = b"begin main 100 1\nbegin main 200 2 x\nend main 300\nend main 400\nframe\n";
 
-/// The thread of these scripts.
-const MAIN: Named<'static> = (Some(100), "main");
+/// The same in a function that is registered first.
+const IN_FUNCTION: &[u8] =
+    b"function main load a.rs 7\nbegin main 100 1\nbegin main 200 2 x\nend main 300\nend main 400\nframe\n";
+
+/// What a run of either prints.
+const NESTED_FRAME: &[u8] = b"frame 0 threads 1 scopes 2 bytes 63 duration 300\n";
+
+/// Scripts with what their runs print, and what is printed of the files that these write.
+const SCRIPTS: [(&[u8], &[u8], &[u8]); 3] = [
+    (
+        ONE,
+        b"frame 0 threads 1 scopes 1 bytes 35 duration 200\n",
+        ONE_LINES,
+    ),
+    (
+        NESTED,
+        NESTED_FRAME,
+        b"frames 1\n#1 pieces 1 total 300 per_frame 300 max 300 start 100\n  #2 (x) pieces 1 total 100 per_frame 100 max 100 start 100\n",
+    ),
+    (
+        IN_FUNCTION,
+        NESTED_FRAME,
+        b"frames 1\nload pieces 1 total 300 per_frame 300 max 300 start 100\n  #2 (x) pieces 1 total 100 per_frame 100 max 100 start 100\n",
+    ),
+];
 
 /// The run of the script with this text.
 fn run(rt: &(impl AllocGlobal + Abort), text: &[u8]) -> Outcome<Written> {
@@ -43,27 +65,22 @@ fn reported(
     (answer, drain.written)
 }
 
-/// Reporting a file for a thread returns this and prints these lines, where this call of the
-/// file's reader fails.
-fn reports(
-    rt: &(impl AllocGlobal + Abort),
-    file: &[u8],
-    fails_at: u64,
-    (start, name): Named<'_>,
-    returned: Result<(), FileError>,
-    lines: &[u8],
-) -> Outcome<()> {
-    let thread = thread_info(rt.alloc(), start, name)?;
-    let (answer, written) = reported(rt, file, fails_at, &thread);
-    equal(rt, answer, returned);
+/// Checks what is printed of a file for the thread of these scripts.
+fn reports(rt: &(impl AllocGlobal + Abort), file: &[u8], lines: &[u8]) -> Outcome<()> {
+    let (answer, written) = reported(rt, file, NEVER, &packet_thread(rt.alloc())?);
+    equal(rt, answer, Ok(()));
     equal(rt, written.as_slice(), lines);
     Ok(())
 }
 
 #[test]
-fn a_file_s_frames_and_scopes_are_printed(rt: HostRuntime) -> Outcome<()> {
-    let file = run(&rt, ONE)?.file;
-    reports(&rt, &file, NEVER, MAIN, Ok(()), ONE_LINES)
+fn the_file_that_a_script_writes_is_reported(rt: HostRuntime) -> Outcome<()> {
+    for (script, lines, report) in SCRIPTS {
+        let run = run(&rt, script)?;
+        equal(&rt, run.lines.as_slice(), lines);
+        reports(&rt, &run.file, report)?;
+    }
+    Ok(())
 }
 
 /// Whether the whole report is written where this call of its writer fails. If not, its
@@ -92,8 +109,30 @@ fn a_report_that_is_not_written_whole_is_told(rt: HostRuntime) -> Outcome<()> {
     Ok(())
 }
 
+/// Reading the file of [`ONE`] in pieces of three bytes takes so many calls, the last of which finds its end.
+const READS: u64 = 33;
+
+/// Whether a file is reported whole where this call of its reader fails. If not, nothing is written.
+fn is_read(rt: &(impl AllocGlobal + Abort), file: &[u8], thread: &ThreadInfo, call: u64) -> bool {
+    let (answer, written) = reported(rt, file, call, thread);
+    let whole = answer == Ok(());
+    if !whole {
+        equal(rt, answer, Err(FileError::Io));
+    }
+    equal(rt, written.as_slice(), if whole { ONE_LINES } else { b"" });
+    whole
+}
+
 #[test]
 fn a_file_that_is_not_read_whole_is_told(rt: HostRuntime) -> Outcome<()> {
     let file = run(&rt, ONE)?.file;
-    reports(&rt, &file, 5, MAIN, Err(FileError::Io), b"")
+    let main = packet_thread(rt.alloc())?;
+    for call in 0..READS + 1 {
+        equal(
+            &rt,
+            (call, is_read(&rt, &file, &main, call)),
+            (call, call == READS),
+        );
+    }
+    Ok(())
 }

@@ -1,8 +1,8 @@
 //! Runs of scripts, as tests of scripts, recordings and reports make them.
 
-use crate::commands::Outcome;
 use crate::count::{NEVER, device};
 use crate::equal::equal;
+use crate::steps::Outcome;
 use puffin_data::FileError;
 use puffin_data::data::Counted;
 use puffin_replay::replay::{Script, read_script, run_script};

@@ -1,5 +1,5 @@
-use crate::commands::Outcome;
 use crate::equal::equal;
+use crate::steps::Outcome;
 use puffin_data::FileError;
 use puffin_data::data::{Counted, Form, Source};
 use puffin_replay::replay::{Command, Script, ToolFault, read_script};

@@ -1,4 +1,4 @@
-//! What is done with a session, as plain values: tests list it, and compare the replies.
+//! What is done with a session, as plain values: tests list it, and compare the replies or what is recorded.
 
 use puffin_data::NanoSecond;
 use puffin_data::data::Form;
@@ -33,7 +33,7 @@ fn text(alloc: Global, text: &str) -> Outcome<String> {
     Ok(String::from_str(alloc, text)?)
 }
 
-fn texts(alloc: Global, texts: &[&str]) -> Outcome<Vec<String>> {
+pub(crate) fn texts(alloc: Global, texts: &[&str]) -> Outcome<Vec<String>> {
     let mut owned = Vec::new(alloc);
     for one in texts {
         owned.push(text(alloc, one)?)?;
@@ -97,7 +97,7 @@ fn command(alloc: Global, step: Step) -> Outcome<Command> {
     }
 }
 
-fn commands(alloc: Global, steps: &[Step]) -> Outcome<Vec<Command>> {
+pub(crate) fn commands(alloc: Global, steps: &[Step]) -> Outcome<Vec<Command>> {
     let mut commands = Vec::new(alloc);
     for step in steps {
         commands.push(command(alloc, *step)?)?;

@@ -1,5 +1,5 @@
-use crate::commands::Outcome;
 use crate::equal::equal;
+use crate::steps::Outcome;
 use puffin_data::data::Counted;
 use puffin_data::{Error, FileError, NanoSecond};
 use puffin_replay::replay::{Summary, summarize};

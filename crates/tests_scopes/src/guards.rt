@@ -127,36 +127,3 @@ fn guards_within_guards(rt: HostRuntime) -> Outcome {
     let mut thread = main_thread(rt.alloc())?;
     nested(&rt, &mut thread, &mut GlobalProfiler::new(rt.alloc()))
 }
-
-/// A guard that is off.
-fn off(rt: &impl Abort, thread: &mut Thread, profiler: &mut GlobalProfiler) -> Outcome {
-    let mut guard = ProfilerScope::off(thread);
-    equal(rt, guard.offset(), None);
-    equal(rt, guard.refusal(), None);
-    equal(rt, guard.profiler().depth(), 0);
-    equal(rt, guard.end(profiler), Ok(None));
-    equal(rt, thread.report_closed(profiler), Ok(false));
-    Ok(())
-}
-
-#[test]
-fn a_guard_that_is_off_begins_and_ends_nothing(rt: HostRuntime) -> Outcome {
-    let mut thread = main_thread(rt.alloc())?;
-    off(&rt, &mut thread, &mut GlobalProfiler::new(rt.alloc()))
-}
-
-/// A guard whose id was refused.
-fn refused(rt: &impl Abort, thread: &mut Thread, profiler: &mut GlobalProfiler) -> Outcome {
-    let guard = ProfilerScope::open(thread, Err(Error::IdsExhausted), "");
-    equal(rt, guard.offset(), None);
-    equal(rt, guard.refusal(), Some(Error::IdsExhausted));
-    equal(rt, guard.end(profiler), Ok(None));
-    equal(rt, thread.depth(), 0);
-    Ok(())
-}
-
-#[test]
-fn a_refused_id_is_kept(rt: HostRuntime) -> Outcome {
-    let mut thread = main_thread(rt.alloc())?;
-    refused(&rt, &mut thread, &mut GlobalProfiler::new(rt.alloc()))
-}

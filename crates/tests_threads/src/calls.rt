@@ -3,14 +3,18 @@
 use crate::equal::equal;
 use crate::rig::{Outcome, Rig};
 use puffin_data::{Error, NanoSecond, Result};
+use puffin_threads::thread_profiler::Closed;
 use std::process::Abort;
-use tests_support::threads::main_thread;
+use tests_support::samples::ONE_SCOPE;
 
 #[test]
-fn a_thread_says_what_it_takes_memory_from(rt: HostRuntime) -> Outcome {
-    let thread = main_thread(rt.alloc(), 0)?;
-    let text = String::from_str(thread.allocator(), "text")?;
-    equal(&rt, text.as_str(), "text");
+fn a_thread_s_allocator_makes_a_text_of_its_scope(rt: HostRuntime) -> Outcome {
+    let mut rig = Rig::new(rt.alloc(), 100, 0)?;
+    let text = String::from_str(rig.thread.allocator(), "data")?;
+    rig.begins(&rt, (1, &text), 18);
+    rig.set(300);
+    rig.ends(&rt, 18, Ok(Closed::Reported));
+    equal(&rt, rig.bytes(0)?, ONE_SCOPE.as_slice());
     Ok(())
 }
 

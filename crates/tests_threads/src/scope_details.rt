@@ -200,44 +200,6 @@ fn a_copy_of_a_collection(rt: HostRuntime) -> Outcome {
     Ok(())
 }
 
-/// Inserts a named scope, and returns the number of the details that are kept.
-fn number_kept(
-    scopes: &mut ScopeCollection,
-    alloc: Global,
-    number: u32,
-    name: &'static str,
-) -> Result<Option<ScopeId>> {
-    Ok(scopes.insert(named(alloc, number, name)?)?.scope_id())
-}
-
-/// Inserts a named scope. A refusal says `Memory`, changes nothing, and doesn't come again.
-fn inserts_again(
-    rt: &impl Abort,
-    scopes: &mut ScopeCollection,
-    alloc: Global,
-    number: u32,
-    name: &'static str,
-) {
-    let before = sizes(scopes);
-    let mut kept = number_kept(scopes, alloc, number, name);
-    if kept.is_err() {
-        equal(rt, kept, Err(Error::Memory));
-        equal(rt, sizes(scopes), before);
-        kept = number_kept(scopes, alloc, number, name);
-    }
-    equal(rt, kept, Ok(ScopeId::new(number)));
-}
-
-/// One allocation may fail: then the call says so, nothing is changed, and the same call succeeds.
-#[test]
-fn want_of_memory_changes_no_collection(rt: HostRuntime) {
-    let mut scopes = ScopeCollection::new(rt.alloc());
-    for (number, name) in [(1, "a"), (2, "b"), (1, "c")] {
-        inserts_again(&rt, &mut scopes, rt.alloc(), number, name);
-    }
-    equal(&rt, sizes(&scopes), (2, 3));
-}
-
 #[test]
 fn ids_rise_from_1(rt: HostRuntime) -> Outcome {
     let ids = ScopeIds::new();

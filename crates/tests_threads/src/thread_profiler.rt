@@ -5,7 +5,10 @@ use puffin_data::{Error, NanoSecond, Result};
 use puffin_threads::thread_profiler::{Closed, NsSource, SystemClock, ThreadProfiler};
 use std::alloc::Global;
 use std::process::Abort;
+use std::rt::Clock;
 use std::test::Fail;
+use std::thread::sleep;
+use std::time::Duration;
 use tests_support::samples::ONE_SCOPE;
 use tests_support::streams::id;
 
@@ -209,55 +212,14 @@ fn a_long_text_is_cut(rt: HostRuntime) -> Outcome {
     reports_bytes(&rt, &mut rig, &text, (140, 157))
 }
 
-/// Begins a scope, whose offset is expected. A refusal says `Memory`, changes nothing, and doesn't come again.
-fn begins_again(rt: &impl Abort, rig: &mut Rig, depth: usize, expected: usize) {
-    equal(rt, rig.counts(), (depth, 0, 0));
-    let mut offset = rig.begin(1, "");
-    if offset.is_err() {
-        equal(rt, offset, Err(Error::Memory));
-        equal(rt, rig.counts(), (depth, 0, 0));
-        offset = rig.begin(1, "");
-    }
-    equal(rt, offset, Ok(expected));
-}
-
-/// Reports what is closed. A refusal says `Memory`, changes nothing, and doesn't come again.
-fn reports_again(rt: &impl Abort, rig: &mut Rig) {
-    let mut reported = rig.report_closed();
-    if reported.is_err() {
-        equal(rt, reported, Err(Error::Memory));
-        equal(rt, rig.counts(), (0, 0, 0));
-        reported = rig.report_closed();
-    }
-    equal(rt, reported, Ok(true));
-    equal(rt, rig.counts(), (0, 1, 0));
-}
-
-/// One allocation may fail: then the call says so, nothing is changed, and the same call succeeds.
-#[test]
-fn want_of_memory_is_told(rt: HostRuntime) {
-    let Ok(mut rig) = Rig::new(rt.alloc(), 100, 1) else {
-        return;
-    };
-    for (depth, expected) in [14, 36, 58].into_iter().enumerate() {
-        begins_again(&rt, &mut rig, depth, expected);
-    }
-    for inner in [58, 36] {
-        rig.ends(&rt, inner, Ok(Closed::Inner));
-    }
-    rig.ends(&rt, 14, Ok(Closed::Kept(Error::TooLarge)));
-    // The name is copied here, and the recorder copies the bytes.
-    reports_again(&rt, &mut rig);
-    equal(&rt, rig.bytes(0).map(|bytes| bytes.len()), Ok(93));
-}
-
-/// One scope of a thread, and its range.
+/// One scope of a thread that sleeps for two milliseconds in it, and the scope's range.
 fn timed<C: NsSource>(
-    rt: &impl Abort,
+    rt: &(impl Abort + Clock),
     thread: &mut ThreadProfiler<C>,
     recorder: &mut Recorder,
 ) -> Result<(NanoSecond, NanoSecond)> {
     let offset = thread.begin_scope(id(1)?, "timed")?;
+    sleep(rt, Duration::from_millis(2));
     equal(rt, thread.end_scope(offset, recorder), Ok(Closed::Reported));
     Ok(recorder.at(0)?.1.range_ns)
 }
@@ -269,6 +231,6 @@ fn scopes_are_timed_by_the_system(rt: HostRuntime) -> Outcome {
     let mut recorder = Recorder::new(rt.alloc(), 0);
     let mut thread = ThreadProfiler::new(rt.alloc(), name, clock);
     let (start, stop) = timed(&rt, &mut thread, &mut recorder)?;
-    assert!(rt; start > 0);
+    assert!(rt; start > 0 && stop.saturating_sub(start) >= 2_000_000);
     is_report(&rt, &recorder, 0, start, (1, 1, (start, stop)))
 }

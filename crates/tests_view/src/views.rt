@@ -226,46 +226,35 @@ fn with_the_limit_0_no_frame_is_slow(rt: HostRuntime) -> Outcome {
     are_slowest(&rt, &none, &[])
 }
 
-/// Three frames, of which the second was taken while none was packed.
-fn packed_late(rt: &HostRuntime) -> Result<FrameView> {
-    let mut frames = view(rt, 1000, 256, &[1])?;
-    frames.set_pack_frames(false);
-    add(rt, &mut frames, 1, 1)?;
-    frames.set_pack_frames(true);
-    add(rt, &mut frames, 2, 1)?;
-    Ok(frames)
+/// The last so many recent frames have these indices.
+fn are_latest(view: &FrameView, count: usize, indices: &[FrameIndex]) -> bool {
+    let mut rest = indices.iter();
+    for frame in view.latest_frames(count) {
+        if rest.next() != Some(&frame.frame_index()) {
+            return false;
+        }
+    }
+    rest.next().is_none()
 }
 
 #[test]
-fn one_frame_is_not_packed(rt: HostRuntime) -> Outcome {
-    let mut frames = view(&rt, 1000, 256, &[1])?;
-    assert!(rt; frames.pack_frames() && numbers(frames.stats()) == (1, 1, 31));
-    frames.set_pack_frames(false);
-    add(&rt, &mut frames, 1, 1)?;
-    assert!(rt; frames.stats().unpacked_frames() == 2);
+fn the_latest_frames_are_the_last_ones(rt: HostRuntime) -> Outcome {
+    let frames = view(&rt, 1000, 256, &[1, 1, 1])?;
+    assert!(rt; are_latest(&frames, 0, &[]));
+    assert!(rt; are_latest(&frames, 1, &[2]));
+    assert!(rt; are_latest(&frames, 2, &[1, 2]));
+    assert!(rt; are_latest(&frames, 4, &[0, 1, 2]));
+    assert!(rt; frames.pack_frames() && !frames.is_empty());
+    assert!(rt; frames.scope_collection().scopes_by_id().is_empty());
     Ok(())
 }
 
 #[test]
-fn the_newest_frame_is_packed_late(rt: HostRuntime) -> Outcome {
-    let frames = packed_late(&rt)?;
-    let mut stats = frames.stats();
-    assert!(rt; stats.unpacked_frames() == 2);
-    assert!(rt; numbers(stats) == numbers(frames.stats_full()));
+fn cleared_statistics_are_zeros(rt: HostRuntime) -> Outcome {
+    let mut stats = view(&rt, 1000, 256, &[1])?.stats();
+    assert!(rt; numbers(stats) == (1, 1, 31));
     stats.clear();
     assert!(rt; numbers(stats) == (0, 0, 0));
-    Ok(())
-}
-
-#[test]
-fn the_latest_frame_has_the_last_index(rt: HostRuntime) -> Outcome {
-    let frames = packed_late(&rt)?;
-    let mut last = 0;
-    for frame in frames.latest_frames(1) {
-        last = frame.frame_index();
-    }
-    assert!(rt; last == 2 && !frames.is_empty());
-    assert!(rt; frames.scope_collection().scopes_by_id().is_empty());
     Ok(())
 }
 
@@ -283,6 +272,49 @@ fn selections_are_by_index(rt: HostRuntime) -> Outcome {
     let none = select_slowest(rt.alloc(), &frames, 0)?;
     assert!(rt; none.is_empty());
     Ok(())
+}
+
+/// Two recent frames, the first of which tells of a scope, and a slow one, none of them packed.
+fn telling_view(rt: &HostRuntime) -> Result<FrameView> {
+    let mut frames = view(rt, 2, 1, &[9, 1, 2])?;
+    frames.set_pack_frames(false);
+    let mut details = Vec::new(rt.alloc());
+    details.push(named(rt.alloc(), 7, "a")?)?;
+    frames.add_frame(telling_frame(rt, 3, 1, details)?)?;
+    add(rt, &mut frames, 4, 3)?;
+    Ok(frames)
+}
+
+/// A copy of a view that is emptied behind it.
+fn copied(rt: &HostRuntime) -> Result<FrameView> {
+    let mut frames = telling_view(rt)?;
+    let copy = frames.clone()?;
+    add(rt, &mut frames, 0, 1)?;
+    Ok(copy)
+}
+
+/// Whether a view has the limits and the scope of [`telling_view`], and as many frames.
+fn is_telling(view: &FrameView) -> bool {
+    let limits = (view.max_recent(), view.max_slow(), view.pack_frames());
+    let scopes = view.scope_collection();
+    let id = scopes.fetch_by_name("a").map(|id| id.get());
+    limits == (2, 1, false)
+        && (scopes.scopes_by_id().len(), id) == (1, Some(7))
+        && numbers(view.stats()) == numbers(view.stats_full())
+}
+
+#[test]
+fn copies_of_views(rt: HostRuntime) -> Outcome {
+    let mut copy = copied(&rt)?;
+    assert!(rt; is_telling(&copy) && copy.stats().frames() == 3);
+    are_recent(&rt, &copy, &[3, 4])?;
+    are_slowest(&rt, &copy, &[0])?;
+    // The copy knows how slow its slowest frame is, and which index it took last.
+    add(&rt, &mut copy, 5, 8)?;
+    are_all(&rt, &copy, &[0, 4, 5])?;
+    let mut other = copied(&rt)?;
+    add(&rt, &mut other, 4, 1)?;
+    are_all(&rt, &other, &[4])
 }
 
 /// Details with the id 7, and details without an id.
