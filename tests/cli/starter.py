@@ -11,10 +11,10 @@ import subprocess
 import tempfile
 import time
 
-ROOT = pathlib.Path(__file__).resolve().parents[2]
+from .. import common
+
 # of a crate whose folder isn't there yet
 LINE = "my_first: anyhow puffin\n"
-LEFT_OUT = "out", "proofs", "specs", "must-fail", "wrong"
 BUILT = "#!/bin/sh\necho built\n"
 # it ends as `rt try` does; the script needs no other word of rt
 UNPROVED = '#!/bin/sh\n[ "$1" = try ] || exit 1\necho unproved\necho run=ended status=0 runners=2 proved=no >&2\n'
@@ -24,9 +24,9 @@ class Copy:
     def __init__(self, script, folder):
         self.top, self.tools = folder / "copy", folder / "tools"
         self.script = self.top / pathlib.Path(script).name
-        shutil.copytree(ROOT / "crates", self.top / "crates", ignore=shutil.ignore_patterns(*LEFT_OUT))
-        for path in (ROOT / "crates.txt", ROOT / "HANDLES", script):
-            shutil.copy(path, self.top)
+        self.top.mkdir()
+        common.copy_crates(common.crates(), self.top, ("proofs", "specs"))
+        shutil.copy(script, self.top)
         self.lines, self.program = self.top / "crates.txt", self.top / "crates/puffin_tool/out/puffin_tool"
         write_script(self.program, BUILT)
         write_script(self.tools / "rt", UNPROVED)

@@ -9,8 +9,8 @@ import functools
 import re
 from dataclasses import dataclass
 
-import common
-import sources
+from .. import common
+from . import sources
 
 PAGE = common.ROOT / "docs/PROOFS.md"
 LINK = re.compile(r"\[([^\]]*)\]\(\.\./([^)#\s]+)\)")

@@ -1,7 +1,7 @@
 """Tries the wrong bodies of crates/*/wrong: of each, the prover must refuse the function that it changes.
 
-    python3 run.py [CRATE[/WORD]..]
-    python3 run.py --shown
+    python3 -m tests.wrong-bodies.run [CRATE[/WORD]..]
+    python3 -m tests.wrong-bodies.run --shown
 
 With a word it tries those of the crate whose names have it.
 
@@ -19,10 +19,9 @@ import sys
 import tempfile
 import time
 
-sys.path.append(str(pathlib.Path(__file__).resolve().parents[1]))
-import common  # noqa: E402
-from verdicts import BAD, NOT_LOOKED_AT, REFUSED, UNKNOWN, UNSURE  # noqa: E402
-from verdicts import WrongBody, changes_a_shape, is_judged, judged, wrong_below  # noqa: E402
+from .. import common
+from .verdicts import BAD, NOT_LOOKED_AT, REFUSED, UNKNOWN, UNSURE
+from .verdicts import WrongBody, changes_a_shape, is_judged, judged, wrong_below
 
 HERE = pathlib.Path(__file__).resolve().parent
 LANES = min(4, os.cpu_count() or 1)
