@@ -9,6 +9,7 @@ puffin-tool without TOOL. The last line is 'N passed, M failed'.
 
 import os
 import pathlib
+import re
 import shutil
 import subprocess
 import sys
@@ -33,10 +34,10 @@ def run(*words):
     return subprocess.run([str(word) for word in words], capture_output=True, timeout=300)
 
 
-def allocations(said):
-    """The number in the last line that calls.c prints, `allocations N`, or 0 if there is no such line."""
-    words = said.splitlines()[-1].split() if said else []
-    return int(words[1]) if len(words) == 2 and words[0] == b"allocations" and words[1].isdigit() else 0
+def numbers(said):
+    """The numbers in the last line that calls.c prints, `allocations N refused M`, or zeros if there is no such line."""
+    found = re.search(rb"^allocations (\d+) refused (\d+)\n\Z", said, re.M)
+    return (int(found[1]), int(found[2])) if found else (0, 0)
 
 
 class Programs:
@@ -80,13 +81,17 @@ class Programs:
         self.refusals(program, got.stdout)
 
     def refusals(self, program, usual):
-        """Each allocation of the C program refused in turn: it tells of some, and of as many at least as the one that is refused."""
-        number = allocations(run(program, self.place / "file", 0).stdout)
-        self.check("calls.c allocates", number > 0 and allocations(usual) > 0, usual)
+        """Each allocation of the C program refused in turn: it makes some, and as many at least as the one that is refused; and of
+        one that is refused no more than one call is. Some call has to be refused."""
+        number, none = numbers(run(program, self.place / "file", 0).stdout)
+        self.check("calls.c allocates", number > 0 and numbers(usual)[0] > 0 and none == 0, usual)
+        calls = 0
         for refused in range(1, number + 1):
             got = run(program, self.place / "file", refused)
-            is_fine = got.returncode == 0 and allocations(got.stdout) >= refused
-            self.check(f"allocation {refused} refused", is_fine, got.stderr + got.stdout)
+            made, told = numbers(got.stdout)
+            calls += told
+            self.check(f"allocation {refused} refused", got.returncode == 0 and made >= refused and told <= 1, got.stderr + got.stdout)
+        self.check("some call is refused for memory", calls > 0)
         if not shutil.which("valgrind"):
             print("left out: valgrind")
             return
