@@ -98,7 +98,7 @@ def edits():
 def edits_that_do_not_apply():
     for path in edits():
         of_tests = path.is_relative_to(TOP / "tests")
-        words = ("test",) if of_tests else ("function",) if path.parent.name == "wrong" else ()
+        words = ("test",) if of_tests else ("function", "proved") if path.parent.name == "wrong" else ()
         folder = TOP if of_tests else path.parents[1]
         try:
             common.edited(common.parsed(path, words).changes, lambda file: (folder / file).read_text())

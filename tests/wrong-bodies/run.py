@@ -35,18 +35,21 @@ def texts_of(folder):
 
 
 def parsed(path, folder):
-    """The wrong body that a file spells, of the crate in a folder. Raises a ValueError if it names no function."""
-    edit = common.parsed(path, ("function", "ends"))
-    functions, ends = edit.head("function"), edit.head("ends")
+    """The wrong body that a file spells, of the crate in a folder. Raises a ValueError if it names no function, or if it changes
+    code with a definition, and names no function that stays proved."""
+    edit = common.parsed(path, ("function", "proved", "ends"))
+    functions, proved, ends = map(edit.head, ("function", "proved", "ends"))
     if not functions or not edit.changes:
         raise ValueError(f"{path.name}: it names no function, or changes nothing")
+    if {"src", "specs"} <= {file.partition("/")[0] for file, _, _ in edit.changes} and not proved:
+        raise ValueError(f"{path.name}: it changes code with a definition, and names no function that stays proved")
     try:
         made = common.edited(edit.changes, texts_of(folder)).items()
     except (ValueError, OSError):
         # (it will be told as a bad edit)
         made = ()
     is_of_shape = any(file.endswith(".rt") and changes_a_shape((folder / file).read_text(), text) for file, text in made)
-    return WrongBody(edit.name, functions, edit.changes, is_of_shape, *ends)
+    return WrongBody(edit.name, functions, edit.changes, is_of_shape, *(ends or (REFUSED,)), proved)
 
 
 class Copy:
@@ -75,7 +78,7 @@ class Copy:
         """What the prover says of the functions of these bodies, all of them put in."""
         texts = self.put(bodies)
         try:
-            only = [word for body in bodies for it in body.functions for word in ("--only", it)]
+            only = [word for body in bodies for it in (*body.functions, *body.proved) for word in ("--only", it)]
             ran = subprocess.run(
                 [*self.command, *only],
                 cwd=self.folder,
