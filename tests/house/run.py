@@ -9,7 +9,6 @@ that says what it defines, and docs/ARCHITECTURE.md has these lines as they are;
 last line is 'N passed, M failed'.
 """
 
-import pathlib
 import re
 import subprocess
 import sys

@@ -7,7 +7,6 @@ The first line of a spec file is a comment that says what the file defines. Left
 crate's folders, and files that define nothing themselves, as the pages of some folders.
 """
 
-import pathlib
 import re
 import sys
 

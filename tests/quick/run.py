@@ -8,7 +8,6 @@ processors, up to four. The last line says how many passed and failed, and that 
 
 import concurrent.futures
 import os
-import pathlib
 import re
 import subprocess
 import sys

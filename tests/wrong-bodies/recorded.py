@@ -2,8 +2,9 @@
 
     python3 -m tests.wrong-bodies.recorded
 
-NAME.edit is a wrong body of the crate `heaps`, of which `recorded` has a source file and a proof, each with `.txt` after its name,
-since `rt ci` wants no source outside of crates; NAME.said is what a check of the body prints. A line `ends` in the edit is the verdict, if it isn't REFUSED. No prover runs. The last line is 'N passed, M failed'.
+NAME.edit is a wrong body of the crate `heaps`, of which `recorded` has a source file, a definition and a proof, each with `.txt`
+after its name, since `rt ci` wants no source outside of crates; NAME.said is what a check of the body prints. A line `ends` in
+the edit is the verdict, if it isn't REFUSED. No prover runs. The last line is 'N passed, M failed'.
 """
 
 import pathlib
