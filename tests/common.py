@@ -1,10 +1,7 @@
 """What the runners of this folder have in common: the lines of crates.txt, edits, copies of crates, `rattle` commands, and
 the last line.
 
-A runner gets at it by the two lines
-
-    sys.path.append(str(pathlib.Path(__file__).resolve().parents[1]))
-    import common
+Runners are modules of the package `tests`, and run at the top of the repository, as by `python3 -m tests.house.run`.
 """
 
 import pathlib
@@ -15,7 +12,7 @@ from dataclasses import dataclass
 ROOT = pathlib.Path(__file__).resolve().parents[1]
 
 # What a copy of a crate leaves out: builds, and the wrong bodies, which no build reads.
-NOT_READ = shutil.ignore_patterns("out", "must-fail", "wrong")
+NOT_READ = "out", "must-fail", "wrong"
 
 
 @dataclass(frozen=True)
@@ -58,18 +55,18 @@ def below(name):
     return set(used).union(*map(below, used))
 
 
-def copy_crate(name, to):
-    """Copies what a build of a crate reads to a folder that isn't there yet."""
-    shutil.copytree(crate(name).folder(), to, ignore=NOT_READ)
+def copy_crate(name, to, left_out=()):
+    """Copies what a build of a crate reads to a folder that isn't there yet, without the folders that are left out."""
+    shutil.copytree(crate(name).folder(), to, ignore=shutil.ignore_patterns(*NOT_READ, *left_out))
 
 
-def copy_crates(names, to):
+def copy_crates(names, to, left_out=()):
     """Copies these crates to a folder, with the files in which `rt` looks up what they are."""
     own = crates()
     shutil.copy(ROOT / "HANDLES", to)
     pathlib.Path(to, "crates.txt").write_text("".join(f"{it.line()}\n" for it in own.values() if it.name in names))
     for name in names:
-        copy_crate(name, pathlib.Path(to, "crates", name))
+        copy_crate(name, pathlib.Path(to, "crates", name), left_out)
 
 
 @dataclass(frozen=True)

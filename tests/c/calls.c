@@ -9,10 +9,12 @@
 #include <string.h>
 
 /* The library's allocations are counted, and one of them is refused. The linker puts these in place of malloc and realloc
- * (--wrap). */
+ * (--wrap), but not within the C library, as when a thread is started. */
 void *__real_malloc(size_t size);
 void *__real_realloc(void *block, size_t size);
 static long allocations, refused_one = -1;
+/* how many calls were refused for memory */
+static long refused_calls;
 static bool counts;
 
 static bool refuses(void) {
@@ -36,8 +38,10 @@ static void is(const char *what, uint64_t got, uint64_t wanted) {
 #define CALL(call)                                                                                                          \
     do {                                                                                                                    \
         uint32_t answer_ = call;                                                                                            \
-        if (answer_ == PUFFIN_MEMORY)                                                                                       \
+        if (answer_ == PUFFIN_MEMORY) {                                                                                     \
+            refused_calls++;                                                                                                \
             answer_ = call;                                                                                                 \
+        }                                                                                                                   \
         is(#call, answer_, PUFFIN_OK);                                                                                      \
     } while (0)
 
@@ -45,8 +49,10 @@ static void is(const char *what, uint64_t got, uint64_t wanted) {
 #define REFUSED(what, call, wanted)                                                                                         \
     do {                                                                                                                    \
         uint32_t answer_ = call;                                                                                            \
-        if (answer_ == PUFFIN_MEMORY)                                                                                       \
+        if (answer_ == PUFFIN_MEMORY) {                                                                                     \
+            refused_calls++;                                                                                                \
             answer_ = call;                                                                                                 \
+        }                                                                                                                   \
         is(what, answer_, wanted);                                                                                          \
     } while (0)
 
@@ -210,9 +216,7 @@ int main(int argc, char **argv) {
     refusals();
     counting();
     for (int i = 0; i < 2; i++) {
-        counts = false;
         pthread_create(&threads[i], NULL, record, &works[i]);
-        counts = true;
         if (!at_once) {
             pthread_join(threads[i], NULL);
         }
@@ -236,6 +240,6 @@ int main(int argc, char **argv) {
     CALL(puffin_ids_close(&ids));
     CALL(puffin_profiler_close(&profiler));
     counts = false;
-    printf("allocations %ld\n", allocations);
+    printf("allocations %ld refused %ld\n", allocations, refused_calls);
     return 0;
 }

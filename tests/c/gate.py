@@ -1,6 +1,6 @@
 """Builds libpuffin_c.a after `rt ci`, and tests it by run.py.
 
-    python3 gate.py
+    python3 -m tests.c.gate
 
 `rt ci` proves puffin_c and makes no archive of it, but it leaves each library below in that crate's out/rlib. `rattle build`
 makes the archive over these. It builds only what it has proved itself, so it proves puffin_c once more, and nothing below.
@@ -9,14 +9,11 @@ The archive is crates/puffin_c/out/libpuffin_c.a. The last line is 'N passed, M 
 """
 
 import os
-import pathlib
 import subprocess
 import sys
 
-sys.path.append(str(pathlib.Path(__file__).resolve().parents[1]))
-import common  # noqa: E402
+from .. import common
 
-HERE = pathlib.Path(__file__).resolve().parent
 CRATES = common.ROOT / "crates"
 CRATE = CRATES / "puffin_c"
 ARCHIVE = CRATE / "out" / "libpuffin_c.a"
@@ -42,7 +39,9 @@ def main():
         count.add(False)
         return count.end()
     print(*[line for line in said if line.startswith("logic=")], sep="\n", flush=True)
-    return subprocess.run([sys.executable, HERE / "run.py", ARCHIVE, kit / "c" / "liblibc_c.a", TOOL]).returncode
+    words = [sys.executable, "-m", "tests.c.run", ARCHIVE, kit / "c" / "liblibc_c.a", TOOL]
+    return subprocess.run(words, cwd=common.ROOT).returncode
 
 
-sys.exit(main())
+if __name__ == "__main__":
+    sys.exit(main())

@@ -1,6 +1,6 @@
 """Runs the program on the cases of this folder and compares what it writes.
 
-    python3 run.py PROGRAM [SCRIPT]
+    python3 -m tests.cli.run PROGRAM [SCRIPT]
 
 SCRIPT is the script that builds and runs the program; it is run through a symbolic link from another folder, and on the
 cases of starter.py.
@@ -27,8 +27,8 @@ import subprocess
 import sys
 import tempfile
 
-import starter
-import streams
+from .. import common
+from . import starter, streams
 
 HERE = pathlib.Path(__file__).resolve().parent
 STANDARD = {"no-stdin": 0, "no-stdout": 1, "no-stderr": 2}
@@ -139,16 +139,16 @@ def main():
     runs = [(case.name, faults, program, case) for case in cases]
     runs += [("through_a_link", faults_through_a_link, it, HERE / "cases" / "replay_one_frame") for it in script]
     runs += [(name, starter.faults, it, steps) for it in script for name, steps in starter.CASES.items()]
-    failed = 0
+    count = common.Count()
     for name, compare, what, case in runs:
         try:
             found = compare(what, case)
         except (OSError, subprocess.SubprocessError) as error:
             found = [str(error)]
-        failed += bool(found)
+        count.add(not found)
         print(f"case {name} ... {'; '.join(found) if found else 'ok'}")
-    print(f"{len(runs) - failed} passed, {failed} failed")
-    return 1 if failed or not cases else 0
+    status = count.end()
+    return status if cases else 1
 
 
 if __name__ == "__main__":

@@ -11,10 +11,10 @@ import subprocess
 import tempfile
 import time
 
-ROOT = pathlib.Path(__file__).resolve().parents[2]
+from .. import common
+
 # of a crate whose folder isn't there yet
 LINE = "my_first: anyhow puffin\n"
-LEFT_OUT = "out", "proofs", "specs", "must-fail", "wrong"
 BUILT = "#!/bin/sh\necho built\n"
 # it ends as `rt try` does; the script needs no other word of rt
 UNPROVED = '#!/bin/sh\n[ "$1" = try ] || exit 1\necho unproved\necho run=ended status=0 runners=2 proved=no >&2\n'
@@ -24,13 +24,16 @@ class Copy:
     def __init__(self, script, folder):
         self.top, self.tools = folder / "copy", folder / "tools"
         self.script = self.top / pathlib.Path(script).name
-        shutil.copytree(ROOT / "crates", self.top / "crates", ignore=shutil.ignore_patterns(*LEFT_OUT))
-        for path in (ROOT / "crates.txt", ROOT / "HANDLES", script):
-            shutil.copy(path, self.top)
+        self.top.mkdir()
+        common.copy_crates(common.crates(), self.top, ("proofs", "specs"))
+        shutil.copy(script, self.top)
         self.lines, self.program = self.top / "crates.txt", self.top / "crates/puffin_tool/out/puffin_tool"
         write_script(self.program, BUILT)
         write_script(self.tools / "rt", UNPROVED)
-        # all is older than what the cases change, and the program is the newest
+        self.age()
+
+    def age(self):
+        """Makes all older than what the cases change, and the program the newest."""
         for path in self.top.rglob("*"):
             os.utime(path, (1, 1))
         os.utime(self.program, (2, 2))
@@ -70,6 +73,26 @@ def touch_a_source(copy):
     (copy.top / "crates/puffin_view/src/lib.rt").touch()
 
 
+def touch_only(*names):
+    """The step that changes a source of each of these crates after the program was built."""
+
+    def touch(copy):
+        copy.age()
+        for name in names:
+            next((copy.top / "crates" / name / "src").glob("*.rt")).touch()
+
+    touch.__name__ = f"touch_{'_'.join(names):.40}"
+    return touch
+
+
+def touch_each():
+    """The steps that change the program's own crates, one at a time, and all others at once: the script has to tell them apart as
+    the lines of crates.txt do."""
+    own = {"puffin_tool", *common.below("puffin_tool")}
+    others = [it for it in common.crates() if it not in own]
+    return [(touch_only(*others), "built"), *((touch_only(it), "unproved") for it in sorted(own))]
+
+
 def build_again(copy):
     """As `rt ci` does, which keeps no lines beside the program; and then changes crates.txt."""
     later = time.time() + 1
@@ -85,6 +108,7 @@ CASES = {
     "line_before_any_answer": [(append_a_line, "unproved")],
     "source_of_an_own_crate": [(nothing, "built"), (touch_a_source, "unproved")],
     "line_after_another_build": [(nothing, "built"), (build_again, "unproved")],
+    "source_of_each_crate": touch_each(),
 }
 
 

@@ -1,6 +1,6 @@
 """Runs the cases of this folder over a program that isn't proved, and compares what it writes.
 
-    python3 unproved.py
+    python3 -m tests.cli.unproved
 
 `rt try` builds the program once. It gives the program files for its standard streams and a folder of its own, so words
 that name files are made absolute. Left out are cases whose standard output is a full device or a closed pipe, those with
@@ -18,10 +18,9 @@ import subprocess
 import sys
 import tempfile
 
-import run
-import starter
+from .. import common
+from . import run, starter
 
-ROOT = run.HERE.parent.parent
 # the words that name files, by the first word
 FILES = {"replay": (1, 2), "report": (1,)}
 # the line that the script adds to standard error
@@ -61,7 +60,7 @@ def tried(cases, folder):
         lay(case, folder / case.name, inputs)
     words = ["rt", "try", "--seconds", "300", "--cases", str(inputs)]
     how = {"stdin": subprocess.DEVNULL, "capture_output": True, "timeout": 1200}
-    ran = subprocess.run(words, cwd=ROOT / "crates/puffin_tool", **how)
+    ran = subprocess.run(words, cwd=common.crate("puffin_tool").folder(), **how)
     outputs = dict(re.findall(rb"^== (\w+)\n((?:(?!== ).*\n)*)", ran.stdout, re.M))
     errors = re.findall(rb"((?:(?!case=).*\n)*)case=(\w+) (run=\w+)(?: status=(\d+))?.*\n", ran.stderr)
     ended = [it for it in errors if it[2] == b"run=ended"]
@@ -78,9 +77,9 @@ def faults_unproved(case, found, place):
 def faults_of_script(folder):
     """What the script, called by a link where nothing is built, does otherwise than the program, but for its line."""
     copy = folder / "copy"
-    shutil.copytree(ROOT / "crates", copy / "crates", ignore=shutil.ignore_patterns("out", "must-fail"))
-    for name in ("crates.txt", "HANDLES", "puffin-tool"):
-        shutil.copy(ROOT / name, copy)
+    copy.mkdir()
+    common.copy_crates(common.crates(), copy)
+    shutil.copy(common.ROOT / "puffin-tool", copy)
     with (copy / "crates.txt").open("a") as lines:
         lines.write(starter.LINE)
     link = folder / "linked"
@@ -104,7 +103,7 @@ def ends_of_cases(cases, folder):
 def ends_of_script(folder):
     """The same of the cases of the script."""
     cases = [("script_where_nothing_is_built", faults_of_script, (folder,))]
-    cases += [(name, starter.faults, (ROOT / "puffin-tool", steps)) for name, steps in starter.CASES.items()]
+    cases += [(name, starter.faults, (common.ROOT / "puffin-tool", steps)) for name, steps in starter.CASES.items()]
     for name, compare, words in cases:
         try:
             yield name, compare(*words)
@@ -119,11 +118,12 @@ def main():
         folder = pathlib.Path(name)
         script = beside.submit(lambda: list(ends_of_script(folder)))
         ended = [*ends_of_cases(taken, folder), *script.result()]
-    failed = sum(bool(faults) for _, faults in ended)
+    count = common.Count()
     for name, faults in ended:
+        count.add(not faults)
         print(f"case {name} ... {'; '.join(faults) if faults else 'ok'}")
-    print(f"{len(ended) - failed} passed, {failed} failed, {len(cases) - len(taken)} left out")
-    return 1 if failed or not taken else 0
+    status = count.end(f", {len(cases) - len(taken)} left out")
+    return status if taken else 1
 
 
 if __name__ == "__main__":

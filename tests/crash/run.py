@@ -1,6 +1,6 @@
 """Ends a program in the middle of its recording, and looks at what its file still gives.
 
-    python3 run.py PUFFIN_RECORDER
+    python3 -m tests.crash.run PUFFIN_RECORDER
 
 The program writes frames of two scopes until it is killed by a signal. Then it reads the file up to the last whole frame, and
 counts just the frames whose packets are whole: they are found here by the lengths in the file. The same is shown of each
@@ -15,8 +15,7 @@ import sys
 import tempfile
 import time
 
-sys.path.append(str(pathlib.Path(__file__).resolve().parents[1]))
-import common  # noqa: E402
+from .. import common
 
 ENOUGH = 200_000
 MOST_SECONDS = 60

@@ -9,8 +9,8 @@ import functools
 import re
 from dataclasses import dataclass
 
-import common
-import sources
+from .. import common
+from . import sources
 
 PAGE = common.ROOT / "docs/PROOFS.md"
 LINK = re.compile(r"\[([^\]]*)\]\(\.\./([^)#\s]+)\)")
@@ -173,7 +173,7 @@ def bodies_that_are_not_there():
 def changed_by(path):
     """The functions that an edit names, and those in which it changes something; or the constants and types, if it changes
     none. One that changes definitions alone has its function in its name."""
-    edit, folder = common.parsed(path, ("function",)), path.parents[1]
+    edit, folder = common.parsed(path, ("function", "proved")), path.parents[1]
     own = pieces_of_crates([folder.name])
     found = {it for name in edit.head("function") for it in named(name, own)}
     for file, old, _ in edit.changes:

@@ -1,6 +1,6 @@
 """Looks at the house rules that no prover sees, and says which files break them.
 
-    python3 run.py
+    python3 -m tests.house.run
 
 Clauses have at most 100 columns; crates cite of those below them no proofs but `lemmas`; each wrong body can be applied
 and stands in docs/PROOFS.md, in italics where it is one of the long run, and the gate tries at most twelve of a crate; what
@@ -9,15 +9,12 @@ that says what it defines, and docs/ARCHITECTURE.md has these lines as they are;
 last line is 'N passed, M failed'.
 """
 
-import pathlib
 import re
 import subprocess
 import sys
 
-sys.path.append(str(pathlib.Path(__file__).resolve().parents[1]))
-import common  # noqa: E402
-import promises  # noqa: E402
-import spec_files  # noqa: E402
+from .. import common
+from . import promises, spec_files
 
 TOP = common.ROOT
 MOST_IN_THE_GATE = 12
@@ -100,7 +97,7 @@ def edits():
 def edits_that_do_not_apply():
     for path in edits():
         of_tests = path.is_relative_to(TOP / "tests")
-        words = ("test",) if of_tests else ("function",) if path.parent.name == "wrong" else ()
+        words = ("test",) if of_tests else ("function", "proved") if path.parent.name == "wrong" else ()
         folder = TOP if of_tests else path.parents[1]
         try:
             common.edited(common.parsed(path, words).changes, lambda file: (folder / file).read_text())
@@ -133,7 +130,7 @@ def spec_files_without_a_summary():
 
 def spec_files_that_are_not_listed():
     if not spec_files.is_current():
-        yield "docs/ARCHITECTURE.md: its tables of spec files are old; run: python3 tests/house/spec_files.py --write"
+        yield "docs/ARCHITECTURE.md: its tables of spec files are old; run: python3 -m tests.house.spec_files --write"
 
 
 def anchors(text):

@@ -4,7 +4,7 @@ import functools
 import re
 from dataclasses import dataclass
 
-import common
+from .. import common
 
 ITEM = re.compile(
     r"^(?P<indent>(?:    )?)(?:pub(?:\([\w ]+\))? )?(?:default |final )?(?:const )?(?:unsafe )?(?:extern \"C\" )?"

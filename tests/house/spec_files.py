@@ -1,18 +1,16 @@
 """Prints the tables of docs/ARCHITECTURE.md that list the spec files, made from the first line of each file.
 
-    python3 spec_files.py            prints the tables
-    python3 spec_files.py --write    writes them into docs/ARCHITECTURE.md, between the two markers
+    python3 -m tests.house.spec_files            prints the tables
+    python3 -m tests.house.spec_files --write    writes them into docs/ARCHITECTURE.md, between the two markers
 
 The first line of a spec file is a comment that says what the file defines. Left out are `Lib.antt`, which only lists a
 crate's folders, and files that define nothing themselves, as the pages of some folders.
 """
 
-import pathlib
 import re
 import sys
 
-sys.path.append(str(pathlib.Path(__file__).resolve().parents[1]))
-import common  # noqa: E402
+from .. import common
 
 TOP = common.ROOT
 PAGE = TOP / "docs/ARCHITECTURE.md"

@@ -1,6 +1,6 @@
 """Puts each wrong body that no prover refuses into a copy of the repository, and looks whether its test fails.
 
-    python3 run.py [WORD]
+    python3 -m tests.must-fail.run [WORD]
 
 README.md says what an edit looks like. Each copy is built and run without any proof.
 """
@@ -13,8 +13,7 @@ import subprocess
 import sys
 import tempfile
 
-sys.path.append(str(pathlib.Path(__file__).resolve().parents[1]))
-import common  # noqa: E402
+from .. import common
 
 HERE = pathlib.Path(__file__).resolve().parent
 LANES = min(4, os.cpu_count() or 1)

@@ -1,6 +1,6 @@
 """Runs the tests, the cases of the command line and the house rules over code that isn't proved.
 
-    python3 run.py
+    python3 -m tests.quick.run
 
 `rt try` builds each crate of tests, and tests/cli/unproved.py the program; as many go side by side as there are
 processors, up to four. The last line says how many passed and failed, and that nothing was proved.
@@ -8,13 +8,11 @@ processors, up to four. The last line says how many passed and failed, and that 
 
 import concurrent.futures
 import os
-import pathlib
 import re
 import subprocess
 import sys
 
-sys.path.append(str(pathlib.Path(__file__).resolve().parents[1]))
-import common  # noqa: E402
+from .. import common
 
 LANES = min(4, len(os.sched_getaffinity(0)))
 # seconds for what is tried at once, and for its run alone, which takes longer with checks than without
@@ -57,21 +55,21 @@ def tests_of(crate):
     return passed, failed if is_well else max(failed, 1), "" if is_well else f"== {crate}\n{said}"
 
 
-def part(script, words):
-    """The same of a script of tests, and how many it left out."""
-    said, status = ran(["python3", str(common.ROOT / script)], common.ROOT)
+def part(runner, words):
+    """The same of a runner, and how many it left out."""
+    said, status = ran([sys.executable, "-m", runner], common.ROOT)
     found = counts(said, words) or [0, 1]
-    print(f"{script} ... {'ok' if status == 0 and not found[1] else 'FAILED'}", flush=True)
+    print(f"{runner} ... {'ok' if status == 0 and not found[1] else 'FAILED'}", flush=True)
     failed = found[1] if status == 0 else max(found[1], 1)
-    return found[0], failed, "" if not failed else f"== {script}\n{said}", *found[2:]
+    return found[0], failed, "" if not failed else f"== {runner}\n{said}", *found[2:]
 
 
 def main():
     crates = crates_with_tests()
     with concurrent.futures.ThreadPoolExecutor(LANES) as lanes:
-        cases = lanes.submit(part, "tests/cli/unproved.py", r"(\d+) passed, (\d+) failed, (\d+) left out")
+        cases = lanes.submit(part, "tests.cli.unproved", r"(\d+) passed, (\d+) failed, (\d+) left out")
         tests = list(lanes.map(tests_of, crates))
-        rules = part("tests/house/run.py", r"(\d+) passed, (\d+) failed")
+        rules = part("tests.house.run", r"(\d+) passed, (\d+) failed")
         cases = cases.result()
     parts = [*tests, cases, rules]
     for it in parts:

@@ -1,6 +1,6 @@
 """Breaks what the runners of tests/ check, each thing in a copy of the repository, and looks whether its runner fails.
 
-    python3 run.py [WORD]
+    python3 -m tests.runners.run [WORD]
 
 README.md says what an edit looks like. With a word it tries only those whose names have it. An edit whose runner needs a
 program that isn't built is left out and named. The last line is 'N passed, M failed'.
@@ -17,8 +17,7 @@ import sys
 import tempfile
 import threading
 
-sys.path.append(str(pathlib.Path(__file__).resolve().parents[1]))
-import common  # noqa: E402
+from .. import common
 
 HERE = pathlib.Path(__file__).resolve().parent
 LANES = min(4, os.cpu_count() or 1)
@@ -48,15 +47,17 @@ def change(edit, folder):
         (folder / file).write_text(text)
 
 
-def programs_of(words):
-    """The programs that a runner is given, of this repository, or of the kit where they begin with KIT."""
-    return [common.kit_folder() / it[4:] if it.startswith("KIT/") else common.ROOT / it for it in words]
+def file_of(word):
+    """The file that a runner is given by a word with a slash: of this repository, or of the kit where it begins with KIT."""
+    return common.kit_folder() / word[4:] if word.startswith("KIT/") else common.ROOT / word
 
 
-def said_by(script, programs, folder):
+def said_by(runner, folder):
     """The status of a runner in a copy, and its lines."""
+    module, *words = runner.split(" ")
     ran = subprocess.run(
-        [sys.executable, folder / script, *programs],
+        [sys.executable, "-m", module, *(file_of(it) if "/" in it else it for it in words)],
+        cwd=folder,
         stdin=subprocess.DEVNULL,
         stdout=subprocess.PIPE,
         stderr=subprocess.STDOUT,
@@ -73,10 +74,9 @@ ONE_AT_A_TIME = threading.Lock()
 @functools.cache
 def faults_of_unbroken(runner):
     """What is wrong with a runner in a copy in which nothing is broken: it has to pass."""
-    script, *words = runner.split(" ")
     with tempfile.TemporaryDirectory() as name:
         copy_repository(pathlib.Path(name))
-        status, lines = said_by(script, programs_of(words), pathlib.Path(name))
+        status, lines = said_by(runner, pathlib.Path(name))
     return "" if status == 0 else f"{runner} fails where nothing is broken: {' '.join(lines[-2:]):.300}"
 
 
@@ -89,7 +89,6 @@ def faults_unbroken(runner):
 def why_not(edit):
     """Why a runner lets an edit pass, or an empty text where it fails with the line that the edit names."""
     (runner,), (line,) = edit.head("runner"), edit.head("fails")
-    script, *words = runner.split(" ")
     unbroken = faults_unbroken(runner)
     if unbroken:
         return unbroken
@@ -97,7 +96,7 @@ def why_not(edit):
         folder = pathlib.Path(name)
         copy_repository(folder)
         change(edit, folder)
-        status, lines = said_by(script, programs_of(words), folder)
+        status, lines = said_by(runner, folder)
     if status and any(re.match(line, it) for it in lines):
         return ""
     return f"status {status}, {' '.join(lines[-2:]):.300}"
@@ -107,11 +106,12 @@ def tried(path):
     """A line that says how it went, and whether it went well, or None where it was left out."""
     try:
         edit = common.parsed(path, ("runner", "fails", "gone"))
-        missing = [it for it in programs_of(edit.head("runner")[0].split(" ")[1:]) if not it.is_file()]
+        (runner,) = edit.head("runner")
+        missing = [it for it in runner.split(" ") if "/" in it and not file_of(it).is_file()]
         if missing:
-            return f"left out: {edit.name}: there is no {missing[0].name}", None
+            return f"left out: {edit.name}: there is no {missing[0]}", None
         why = why_not(edit)
-    except (ValueError, IndexError, OSError, subprocess.SubprocessError) as fault:
+    except (ValueError, OSError, subprocess.SubprocessError) as fault:
         why = f"{fault}"
     return f"{path.name}: {f'ITS RUNNER PASSES: {why}' if why else 'its runner fails'}", not why
 

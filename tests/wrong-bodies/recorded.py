@@ -1,9 +1,10 @@
 """Reads the verdicts from outputs of checks that are kept in `recorded`, and compares them with those that they must give.
 
-    python3 recorded.py
+    python3 -m tests.wrong-bodies.recorded
 
-NAME.edit is a wrong body of the crate `heaps`, of which `recorded` has a source file and a proof, each with `.txt` after its name,
-since `rt ci` wants no source outside of crates; NAME.said is what a check of the body prints. A line `ends` in the edit is the verdict, if it isn't REFUSED. No prover runs. The last line is 'N passed, M failed'.
+NAME.edit is a wrong body of the crate `heaps`, of which `recorded` has a source file, a definition and a proof, each with `.txt`
+after its name, since `rt ci` wants no source outside of crates; NAME.said is what a check of the body prints. A line `ends` in
+the edit is the verdict, if it isn't REFUSED. No prover runs. The last line is 'N passed, M failed'.
 """
 
 import pathlib
@@ -11,10 +12,9 @@ import shutil
 import sys
 import tempfile
 
-sys.path.append(str(pathlib.Path(__file__).resolve().parents[1]))
-import common  # noqa: E402
-from run import parsed, texts_of  # noqa: E402
-from verdicts import is_judged, judged  # noqa: E402
+from .. import common
+from .run import parsed, texts_of
+from .verdicts import is_judged, judged
 
 FOLDER = pathlib.Path(__file__).resolve().parent / "recorded"
 CRATE = "heaps"

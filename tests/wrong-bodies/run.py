@@ -1,7 +1,7 @@
 """Tries the wrong bodies of crates/*/wrong: of each, the prover must refuse the function that it changes.
 
-    python3 run.py [CRATE[/WORD]..]
-    python3 run.py --shown
+    python3 -m tests.wrong-bodies.run [CRATE[/WORD]..]
+    python3 -m tests.wrong-bodies.run --shown
 
 With a word it tries those of the crate whose names have it.
 
@@ -19,10 +19,9 @@ import sys
 import tempfile
 import time
 
-sys.path.append(str(pathlib.Path(__file__).resolve().parents[1]))
-import common  # noqa: E402
-from verdicts import BAD, NOT_LOOKED_AT, REFUSED, UNKNOWN, UNSURE  # noqa: E402
-from verdicts import WrongBody, changes_a_shape, is_judged, judged, wrong_below  # noqa: E402
+from .. import common
+from .verdicts import BAD, NOT_LOOKED_AT, REFUSED, UNKNOWN, UNSURE
+from .verdicts import WrongBody, changes_a_shape, is_judged, judged, wrong_below
 
 HERE = pathlib.Path(__file__).resolve().parent
 LANES = min(4, os.cpu_count() or 1)
@@ -36,18 +35,21 @@ def texts_of(folder):
 
 
 def parsed(path, folder):
-    """The wrong body that a file spells, of the crate in a folder. Raises a ValueError if it names no function."""
-    edit = common.parsed(path, ("function", "ends"))
-    functions, ends = edit.head("function"), edit.head("ends")
+    """The wrong body that a file spells, of the crate in a folder. Raises a ValueError if it names no function, or if it changes
+    code with a definition, and names no function that stays proved."""
+    edit = common.parsed(path, ("function", "proved", "ends"))
+    functions, proved, ends = map(edit.head, ("function", "proved", "ends"))
     if not functions or not edit.changes:
         raise ValueError(f"{path.name}: it names no function, or changes nothing")
+    if {"src", "specs"} <= {file.partition("/")[0] for file, _, _ in edit.changes} and not proved:
+        raise ValueError(f"{path.name}: it changes code with a definition, and names no function that stays proved")
     try:
         made = common.edited(edit.changes, texts_of(folder)).items()
     except (ValueError, OSError):
         # (it will be told as a bad edit)
         made = ()
     is_of_shape = any(file.endswith(".rt") and changes_a_shape((folder / file).read_text(), text) for file, text in made)
-    return WrongBody(edit.name, functions, edit.changes, is_of_shape, *ends)
+    return WrongBody(edit.name, functions, edit.changes, is_of_shape, *(ends or (REFUSED,)), proved)
 
 
 class Copy:
@@ -76,7 +78,7 @@ class Copy:
         """What the prover says of the functions of these bodies, all of them put in."""
         texts = self.put(bodies)
         try:
-            only = [word for body in bodies for it in body.functions for word in ("--only", it)]
+            only = [word for body in bodies for it in (*body.functions, *body.proved) for word in ("--only", it)]
             ran = subprocess.run(
                 [*self.command, *only],
                 cwd=self.folder,

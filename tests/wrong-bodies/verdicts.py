@@ -28,13 +28,14 @@ TYPE = re.compile(r"^\s*(?:pub(?:\(\w+\))? )?(?:struct|enum|union|type) (\w+)", 
 @dataclass(frozen=True)
 class WrongBody:
     """An edit, the functions of which one has to be refused, its changes (file, old and new text), whether these give a type
-    another shape, and the result that it must have."""
+    another shape, the result that it must have, and the functions that have to stay proved."""
 
     name: str
     functions: tuple
     changes: tuple
     is_of_shape: bool = False
     ends: str = REFUSED
+    proved: tuple = ()
 
     def is_of_definitions(self):
         return any(file.startswith("specs/") for file, _, _ in self.changes)
@@ -117,7 +118,11 @@ def verdict_on(function, body, crate, said, text_of):
 
 
 def judged(body, crate, said, text_of):
-    """What a check says of a wrong body: the clearest verdict on one of its functions. `text_of` reads a file of the crate."""
+    """What a check says of a wrong body: the clearest verdict on one of its functions. `text_of` reads a file of the crate. Where
+    it changes a definition, the code has to be right by that, so that it is the law that refuses the definition."""
+    told = verdicts(crate, said)
+    if any(told.get(it) != "proved" for it in body.proved):
+        return UNSURE
     if body.is_of_definitions() and not is_proved(body, crate, said):
         return verdict_on_all(said)
     found = {verdict_on(it, body, crate, said, text_of) for it in body.functions}

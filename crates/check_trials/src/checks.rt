@@ -1,7 +1,7 @@
 //! Checks that must pass for any bytes.
 
 use crate::devices::OneByte;
-use puffin_data::data::{Buffered, Counted, Reader, Stream};
+use puffin_data::data::{Buffered, Counted, Reader, Stream, Walk};
 use puffin_data::{Error, FileError};
 use puffin_frames::thread_profiler::ThreadInfo;
 use puffin_report::{count_stream, print_report};
@@ -21,6 +21,10 @@ pub(crate) enum Broken {
     Counting,
     /// A view that was read can't be written, or its file can't be read and written again with the same bytes.
     Again,
+    /// Bytes without a fault are refused.
+    Refused,
+    /// Bytes that were cut are accepted.
+    Taken,
 }
 
 impl From<AllocError> for Broken {
@@ -53,8 +57,8 @@ fn counted(alloc: Global, bytes: &[u8], slowly: bool) -> Printed {
     Printed { lines, fault }
 }
 
-/// Walks and counts a stream. Returns whether it is a forest of scopes.
-pub(crate) fn check_stream(alloc: Global, bytes: &[u8]) -> Result<bool, Broken> {
+/// Walks and counts a stream. Returns the counts of the walk, or `None` if the stream isn't a forest of scopes.
+pub(crate) fn check_stream(alloc: Global, bytes: &[u8]) -> Result<Option<Walk>, Broken> {
     let mut copy = Vec::new(alloc);
     copy.extend_from_slice(bytes)?;
     let stream = Stream::from(copy);
@@ -70,9 +74,9 @@ pub(crate) fn check_stream(alloc: Global, bytes: &[u8]) -> Result<bool, Broken> 
     }
     match walk {
         Ok(_) if first.lines.is_empty() => Err(Broken::Counting),
-        Ok(_) => Ok(true),
+        Ok(walk) => Ok(Some(walk)),
         Err(Error::Memory) => Err(Broken::Memory),
-        Err(cause) if first.fault == Some(FileError::Refused(cause)) => Ok(false),
+        Err(cause) if first.fault == Some(FileError::Refused(cause)) => Ok(None),
         Err(_) => Err(Broken::Counting),
     }
 }

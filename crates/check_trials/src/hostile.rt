@@ -1,5 +1,5 @@
-//! Counts, reads, reports and writes bytes that no writer made: random streams and files with up to three faults,
-//! crafted streams and deep ones.
+//! Counts, reads, reports and writes random streams and files: some as they were made, some without their last byte, and the
+//! others with one to three faults. Then it does the same with deep streams and crafted ones.
 
 use crate::checks::{Broken, check_file, check_stream};
 use crate::damage::damage;
@@ -18,21 +18,42 @@ const LEVELS: u64 = 2_000;
 /// The maximum number of times that two walks are measured, until their times are in proportion.
 const ROUNDS: u32 = 100;
 
-/// How many cases were accepted, and how many refused.
+/// What was done to the bytes of a case.
+#[derive(Clone, Copy)]
+enum Change {
+    /// Nothing, so they must be accepted.
+    None,
+    /// The last byte was cut off, so they must be refused.
+    Cut,
+    /// One to three random faults were made, and the bytes may be either.
+    Faults,
+}
+
+/// How many cases were accepted and how many refused; and how many of these had to be.
 #[derive(Clone, Copy)]
 struct Outcomes {
     taken: u64,
+    unchanged: u64,
     refused: u64,
+    cut: u64,
 }
 
 impl Outcomes {
-    /// Counts one case.
-    fn count(&mut self, is_taken: bool) {
+    /// Counts one case. Fails if it had to end otherwise.
+    fn count(&mut self, change: Change, is_taken: bool) -> Result<(), Broken> {
+        match change {
+            Change::None if !is_taken => return Err(Broken::Refused),
+            Change::Cut if is_taken => return Err(Broken::Taken),
+            Change::None => self.unchanged = self.unchanged.saturating_add(1),
+            Change::Cut => self.cut = self.cut.saturating_add(1),
+            Change::Faults => {}
+        }
         if is_taken {
             self.taken = self.taken.saturating_add(1);
         } else {
             self.refused = self.refused.saturating_add(1);
         }
+        Ok(())
     }
 }
 
@@ -41,64 +62,77 @@ fn broken(what: &str, number: u64, broken: Broken) -> anyhow::Error {
     anyhow!("{what} {number}: {broken:?}")
 }
 
-/// Makes up to three faults.
-fn damaged(random: &mut Random, bytes: &mut Vec<u8>) -> Result<()> {
-    for _ in 0..random.below(4) {
-        damage(random, bytes)?;
+/// Leaves the bytes of every fourth case as they are, cuts off the last byte of every eighth case, and makes one to three faults
+/// in the others.
+fn changed(random: &mut Random, number: u64, bytes: &mut Vec<u8>) -> Result<Change> {
+    match number % 8 {
+        0 | 4 => Ok(Change::None),
+        1 => match bytes.pop() {
+            Some(_) => Ok(Change::Cut),
+            None => Ok(Change::None),
+        },
+        _ => {
+            for _ in 0..=random.below(3) {
+                damage(random, bytes)?;
+            }
+            Ok(Change::Faults)
+        }
     }
-    Ok(())
 }
 
-/// Checks a random stream with up to three faults. Returns whether it is accepted.
-fn stream_case(alloc: Global, number: u64) -> Result<bool> {
+/// Checks a random stream. Returns what was done to it, and whether it is accepted.
+fn stream_case(alloc: Global, number: u64) -> Result<(Change, bool)> {
     let mut random = Random::new(number);
     let scopes = random.below(40);
     let mut bytes = Vec::new(alloc);
     bytes.extend_from_slice(forest(alloc, &mut random, scopes, 6)?.bytes())?;
-    damaged(&mut random, &mut bytes)?;
-    check_stream(alloc, &bytes).map_err(|why| broken("stream", number, why))
+    let change = changed(&mut random, number, &mut bytes)?;
+    let walk = check_stream(alloc, &bytes).map_err(|why| broken("stream", number, why))?;
+    Ok((change, walk.is_some()))
 }
 
-/// Checks a random file with up to three faults. Returns whether it is accepted.
-fn file_case(alloc: Global, number: u64) -> Result<bool> {
+/// Checks a random file. Returns what was done to it, and whether it is accepted.
+fn file_case(alloc: Global, number: u64) -> Result<(Change, bool)> {
     let mut random = Random::new(number);
     let frames = random.below(5) as u64;
     let mut bytes = file(alloc, &mut random, frames)?;
-    damaged(&mut random, &mut bytes)?;
+    let change = changed(&mut random, number, &mut bytes)?;
     let thread = thread(alloc, "main")?;
-    check_file(alloc, &bytes, &thread).map_err(|why| broken("file", number, why))
+    let is_taken = check_file(alloc, &bytes, &thread).map_err(|why| broken("file", number, why))?;
+    Ok((change, is_taken))
 }
 
 /// Runs `cases` cases of streams or files.
-fn run(alloc: Global, cases: u64, files: bool) -> Result<Outcomes> {
+fn run(alloc: Global, what: &str, cases: u64, files: bool) -> Result<Outcomes> {
     let mut outcomes = Outcomes {
         taken: 0,
+        unchanged: 0,
         refused: 0,
+        cut: 0,
     };
     for number in 0..cases {
-        let is_taken = if files {
+        let (change, is_taken) = if files {
             file_case(alloc, number)?
         } else {
             stream_case(alloc, number)?
         };
-        outcomes.count(is_taken);
+        outcomes
+            .count(change, is_taken)
+            .map_err(|why| broken(what, number, why))?;
     }
     Ok(outcomes)
 }
 
-/// Checks random streams and files, and prints how many.
-fn small(rt: &impl Print, alloc: Global) -> Result<()> {
-    let _streams = run(alloc, CASES, false)?;
-    let _files = run(alloc, CASES, true)?;
-    println!(rt; "streams {CASES} files {CASES}")?;
-    Ok(())
-}
-
-/// Checks `cases` random streams and files, and prints how many were accepted and how many refused.
-fn large(rt: &impl Print, alloc: Global, cases: u64) -> Result<()> {
+/// Checks `cases` random streams and files. Prints how many were accepted and refused, and how many of these had to be.
+fn cases(rt: &impl Print, alloc: Global, cases: u64) -> Result<()> {
     for (what, files) in [("streams", false), ("files", true)] {
-        let Outcomes { taken, refused } = run(alloc, cases, files)?;
-        println!(rt; "{what} taken {taken} refused {refused}")?;
+        let Outcomes {
+            taken,
+            unchanged,
+            refused,
+            cut,
+        } = run(alloc, what, cases, files)?;
+        println!(rt; "{what} taken {taken} unchanged {unchanged} refused {refused} cut {cut}")?;
     }
     Ok(())
 }
@@ -141,23 +175,31 @@ fn growth(rt: &HostRuntime) -> Result<()> {
     )
 }
 
-/// Counts a deep and a crafted stream with fewer levels.
+/// Counts a deep and a crafted stream with fewer levels, and prints the counts of the walk.
 fn levels(rt: &impl Print, alloc: Global) -> Result<()> {
-    for bytes in [nested(alloc, LEVELS)?, crafted(alloc, LEVELS)?] {
-        let is_taken = check_stream(alloc, &bytes).map_err(|why| broken("levels", LEVELS, why))?;
-        println!(rt; "levels {LEVELS} taken {is_taken}")?;
+    for (what, bytes) in [
+        ("deep", nested(alloc, LEVELS)?),
+        ("crafted", crafted(alloc, LEVELS)?),
+    ] {
+        match check_stream(alloc, &bytes).map_err(|why| broken(what, LEVELS, why))? {
+            Some(walk) => {
+                let (scopes, depth) = (walk.num_scopes, walk.depth);
+                println!(rt; "{what} scopes {scopes} depth {depth}")?;
+            }
+            None => println!(rt; "{what} refused")?,
+        }
     }
     Ok(())
 }
 
 /// Checks random streams and files, and a deep and a crafted stream.
 pub(crate) fn run_some(rt: &HostRuntime) -> Result<()> {
-    small(rt, rt.alloc())?;
+    cases(rt, rt.alloc(), CASES)?;
     levels(rt, rt.alloc())
 }
 
-/// Checks `cases` random streams and files, and how the time of a walk grows with the length.
-pub(crate) fn run_many(rt: &HostRuntime, cases: u64) -> Result<()> {
-    large(rt, rt.alloc(), cases)?;
+/// Checks `number` random streams and files, and how the time of a walk grows with the length.
+pub(crate) fn run_many(rt: &HostRuntime, number: u64) -> Result<()> {
+    cases(rt, rt.alloc(), number)?;
     growth(rt)
 }

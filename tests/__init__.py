@@ -1,0 +1,1 @@
+"""The runners of the repository's checks. Each is run at the top, as in `python3 -m tests.house.run`."""
