@@ -17,12 +17,14 @@ mod guards;
 mod hostile;
 mod packets;
 mod random;
+mod recordings;
 mod refusal;
 mod registrations;
 mod shared;
 mod streams;
 mod summaries;
 mod threads;
+mod unchanged;
 
 use anyhow::{Context, Result, anyhow};
 use std::env;
@@ -61,7 +63,9 @@ fn main(rt: HostRuntime) -> Result<()> {
             && packets::run(&rt).is_some()
             && summaries::run(&rt).is_some()
             && guards::run(&rt).is_some()
-            && shared::run(&rt).is_some();
+            && shared::run(&rt).is_some()
+            && unchanged::run(&rt).is_some()
+            && recordings::run(&rt).is_some();
     if !is_done {
         return Err(anyhow!("a call was refused twice"));
     }

@@ -1,0 +1,96 @@
+//! A script that is recorded into memory.
+
+use crate::again;
+use crate::refusal::Refusal;
+use puffin::profile_view::FrameView;
+use puffin_data::FileError;
+use puffin_data::data::{Counted, ScopeId};
+use puffin_frames::thread_profiler::Closed;
+use puffin_replay::replay::{Command, Reply, record};
+use std::alloc::Global;
+
+/// The file of one frame, with the scope `data` of the thread `main`.
+const FILE: &[u8] =
+    b"PUF0PFD4\x07\0\0\0\0\xc8\xfbX\x02#\x012\0\0\0\0\x01\x01\xc8\x04main#(\x01\0\0\0d\0\0\0\0\0\0\0\x04data\0\0\0\0\0\0\0\0),\x01\0\0\0\0\0\0\x01\x01\xc8\xfbX\x02\x01\0\0\0\0";
+
+/// The file of no frame.
+const NO_FRAME: &[u8] = b"PUF0";
+
+/// Makes the commands that begin the scope, end it and take the frame.
+fn commands(alloc: Global) -> Option<Vec<Command>> {
+    let text = again!(String::from_str(alloc, "data"))?;
+    let id = ScopeId::new(1)?;
+    let mut commands = Vec::new(alloc);
+    again!(commands.reserve(3))?;
+    for command in [
+        Command::Begin {
+            thread: 0,
+            at: 100,
+            id,
+            text,
+        },
+        Command::End {
+            thread: 0,
+            at: 300,
+            back: 0,
+        },
+        Command::NewFrame,
+    ] {
+        commands.push(command).ok()?;
+    }
+    Some(commands)
+}
+
+/// Returns whether no command was refused and the report wasn't kept.
+fn are_whole(replies: &[Reply]) -> bool {
+    match replies {
+        [
+            Reply::Began(18),
+            Reply::Ended(Closed::Reported),
+            Reply::Frame(emitted),
+        ] => { emitted.frame.is_some() }
+        _ => false,
+    }
+}
+
+/// Records the commands once. Returns whether all of them succeeded, and the file.
+fn recorded(alloc: Global, commands: &[Command]) -> Result<(bool, Vec<u8>), FileError> {
+    let mut names = Vec::new(alloc);
+    names.push(String::from_str(alloc, "main")?)?;
+    let mut bytes = Vec::new(alloc);
+    let mut drain = Counted::new(&mut bytes);
+    let replies = record(
+        alloc,
+        names,
+        commands,
+        &mut FrameView::new(alloc),
+        &mut drain,
+    )?;
+    Ok((are_whole(&replies), bytes))
+}
+
+/// Returns whether a recording is as documented: the file has the frame if all commands succeeded, and no frame if one was
+/// refused or the report was kept. A recording may also fail for want of memory.
+fn is_documented(recording: &Result<(bool, Vec<u8>), FileError>) -> bool {
+    match recording {
+        Ok((true, file)) => file.as_slice() == FILE,
+        Ok((false, file)) => file.as_slice() == NO_FRAME,
+        Err(cause) => cause.is_memory(),
+    }
+}
+
+/// Records the commands, and records them again if that didn't succeed whole. Prints the size of the file.
+pub(crate) fn run<R: Print + AllocGlobal>(rt: &R) -> Option<()> {
+    let commands = commands(rt.alloc())?;
+    for _ in 0..2 {
+        let recording = recorded(rt.alloc(), &commands);
+        if !is_documented(&recording) {
+            return None;
+        }
+        if let Ok((true, file)) = recording {
+            let len = file.len();
+            return println!(rt; "recorded bytes {len}").ok();
+        }
+    }
+    None
+}
