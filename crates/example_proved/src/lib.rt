@@ -3,7 +3,7 @@
 
 ghost use Rattle.std.specs.Prelude.{◌≡◌, ◌+◌, ◌∷◌, [], IfOk, map, vec_len};
 ghost use Rattle.std.specs.String.{string_bytes};
-ghost use Rattle.puffin_accounts.specs.Moments.{moment_of};
+ghost use Rattle.puffin.specs.Places.{details_in};
 ghost use Rattle.puffin_accounts.specs.Running.{Runs, at_first, repeated};
 ghost use Rattle.puffin_accounts.specs.Rounds.{Lists, ShowsRounds};
 ghost use Rattle.example_proved.specs.Turn.{
@@ -77,26 +77,17 @@ pub fn twice<T: Records>(thread: &mut T, places: &Places, n: u32) -> u64
     u64::from(n) + u64::from(n)
 }
 
-/// Makes a new thread, and the places that it knows.
-fn started(
-    alloc: Global,
-    name: String,
-    clock: ScriptClock,
-) -> Result<(Thread<ScriptClock, GlobalProfiler>, Places)>
-    ensures thread { IfOk result (λ started.
-        moment_of started.0 ≡ at_first (string_bytes name) clock the_details) }
-    ensures places { IfOk result (λ started. started.1 ≡ the_places) }
+/// Registers the places.
+fn registered(alloc: Global) -> Result<(Scopes, Places)>
+    ensures scopes { IfOk result (λ registered. details_in registered.0 ≡ the_details) }
+    ensures places { IfOk result (λ registered. registered.1 ≡ the_places) }
 {
     let mut scopes = Scopes::new(alloc)?;
     let places = Places {
         update: place!(scopes, "update")?,
         physics: place!(scopes, "update", "physics")?,
     };
-    let mut profiler = GlobalProfiler::new(alloc);
-    profiler.add_scopes(scopes.details())?;
-    let recorder = ThreadProfiler::new(alloc, name, clock);
-    let thread = Thread::new(recorder, profiler, scopes.for_thread()?);
-    Ok((thread, places))
+    Ok((scopes, places))
 }
 
 /// Takes the frame of one turn of a new thread. Returns it, and how many scopes wait for a report.
@@ -111,7 +102,12 @@ pub fn first_frame(
     ensures physics { IfOk result (λ taken. Lists taken.0 physics_details) }
 {
     places_are_listed::<ScriptClock>(); // for the proof: what the frame lists
-    let (mut thread, places) = started(rt.alloc(), name, clock)?;
+    let alloc = rt.alloc();
+    let (scopes, places) = registered(alloc)?;
+    let mut profiler = GlobalProfiler::new(alloc);
+    profiler.add_scopes(scopes.details())?;
+    let recorder = ThreadProfiler::new(alloc, name, clock);
+    let mut thread = Thread::new(recorder, profiler, scopes.for_thread()?);
     turn(&mut thread, &places);
     let frame = thread.new_frame(rt)?;
     Ok((frame, thread.num_closed()))
@@ -129,7 +125,11 @@ pub fn frames(
         (at_first (string_bytes name) clock the_details) (map turn_round taken.0.items) taken.1) }
 {
     let alloc = rt.alloc();
-    let (mut thread, places) = started(alloc, name, clock)?;
+    let (scopes, places) = registered(alloc)?;
+    let mut profiler = GlobalProfiler::new(alloc);
+    profiler.add_scopes(scopes.details())?;
+    let recorder = ThreadProfiler::new(alloc, name, clock);
+    let mut thread = Thread::new(recorder, profiler, scopes.for_thread()?);
     let mut frames = Vec::new(alloc);
     for round in 0..turns {
         turn(&mut thread, &places);

@@ -1,8 +1,10 @@
 //! What the frames of turns hold, byte by byte.
 
-use crate::{first_frame, frames, started, steps};
+use crate::{first_frame, frames, registered, steps};
 use puffin::frame_data::FrameData;
-use puffin::thread_profiler::ScriptClock;
+use puffin::global_profiler::GlobalProfiler;
+use puffin::light::Thread;
+use puffin::thread_profiler::{ScriptClock, ThreadProfiler};
 use std::process::Abort;
 use std::sync::Arc;
 use std::test::Fail;
@@ -58,7 +60,10 @@ fn three_frames_show_three_turns(rt: HostRuntime) -> Tested {
 #[test]
 fn each_step_is_a_scope(rt: HostRuntime) -> Tested {
     let name = String::from_str(rt.alloc(), "main")?;
-    let (mut thread, places) = started(rt.alloc(), name, ScriptClock::new(5))?;
+    let (scopes, places) = registered(rt.alloc())?;
+    let recorder = ThreadProfiler::new(rt.alloc(), name, ScriptClock::new(5));
+    let profiler = GlobalProfiler::new(rt.alloc());
+    let mut thread = Thread::new(recorder, profiler, scopes.for_thread()?);
     steps(&mut thread, &places, 4);
     let frame = thread.new_frame(&rt)?;
     assert!(rt; frame.is_some_and(|frame| frame.meta().num_scopes == 4));
