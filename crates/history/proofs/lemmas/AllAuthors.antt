@@ -22,6 +22,10 @@ module _ {E : Type 0} where
   pub events-append : (xs ys : List (ℕ × E)) → events (xs ++ ys) ≡ events xs ++ events ys
   events-append xs ys = map-append (λ x. x.1) xs ys
 
+  pub has_authors-prefix : (n : ℕ) (xs ys : List (ℕ × E)) → HasAuthors n (xs ++ ys) → HasAuthors n xs
+  has_authors-prefix n [] ys has = tt
+  has_authors-prefix n (x ∷ xs) ys has = (has.0, has_authors-prefix n xs ys has.1)
+
   -- one of the authors has this number
   some_author : (k : ℕ) (P : ℕ × List E → Type 0) (authors : List (ℕ × List E)) → 0 < times number k authors → AllByRecursion P authors → (a : ℕ × List E) × (a.0 ≡ k) × P a
   some_author k P [] some all = absurd (omega (arith, some))

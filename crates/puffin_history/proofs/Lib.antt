@@ -1,0 +1,5 @@
+mod Growing
+mod SpelledThreads
+mod LeavingShares
+mod SharedCalls
+mod TellingShares
