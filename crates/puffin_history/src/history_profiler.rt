@@ -55,9 +55,9 @@ fn pause(looks: u32) {
     }
 }
 
-/// A profiler with a history behind a lock, for several threads: a [`SharedProfiler`](puffin::global_profiler::SharedProfiler) whose
-/// shares also know what happened through them. Each method except `clone` and `lock` waits for the lock and calls
-/// [`WithHistory`]'s method of the same name under it.
+/// A profiler with a history behind a lock, for several threads. It is a
+/// [`SharedProfiler`](puffin::global_profiler::SharedProfiler) whose shares also know what happened through them. Each method except
+/// `clone` and `lock` waits for the lock and calls [`WithHistory`]'s method of the same name under it.
 ///
 /// A thread reports through its [`HistoryShare`], with a [`HistoryReporter`](crate::HistoryReporter). Whoever takes frames has a
 /// share too. `L` and `M` name two ledgers, and `L` also the history. A function that opens a profiler is generic over both; call
@@ -69,8 +69,8 @@ pub struct HistoryProfiler<L: Ledger + History, M: Ledger> {
 
 impl<L: Ledger + History, M: Ledger> HistoryProfiler<L, M> {
     /// Puts a profiler behind a lock, and makes `n` shares of its counts and of its history. The profiler must not have had any
-    /// scopes reported to it yet, and `n` must be at least 1. `reported` must be the `Blank` of the ledger `L` and `handed` that of
-    /// `M`, each with `n` parts, and `log` must be that of the history `L`.
+    /// scopes reported to it yet, and `n` must be at least 1. `reported` must be the `Blank` of the ledger `L` and `handed` that
+    /// of `M`, each with `n` parts, and `log` must be that of the history `L`.
     ///
     /// Fails with `Memory`, and then returns the profiler.
     ///
@@ -158,8 +158,8 @@ impl<L: Ledger + History, M: Ledger> HistoryProfiler<L, M> {
         self.locked.lock(rt)
     }
 
-    /// Calls [`WithHistory::report`] under the lock. A report that is accepted is the last entry of the history that the share has
-    /// then seen.
+    /// Calls [`WithHistory::report`] under the lock. A report that is accepted is the last entry of the history that the share
+    /// has then seen.
     #[inline(always)]
     pub fn report(
         &self,
@@ -181,9 +181,49 @@ impl<L: Ledger + History, M: Ledger> HistoryProfiler<L, M> {
         self.lock(rt).report(share, info, details, times)
     }
 
-    /// Calls [`WithHistory::new_frame`] under the lock, which it holds until all sinks have been called. A frame is the last entry
-    /// of the history that the share has then seen, and has just what was reported since the frame before it. Fails only with
-    /// `IndexExhausted` or `Memory`.
+    /// Under the lock, appends the caller's own scopes to those that wait for the next frame. If that succeeds, the share counts
+    /// them, and they are the last entry of the history that it has then seen; otherwise nothing changes.
+    pub fn report_user_scopes(
+        &self,
+        rt: &impl Wait,
+        share: &mut HistoryShare<L, M>,
+        info: ThreadInfo,
+        times: &StreamInfoRef,
+    ) -> Result<()>
+        requires { (f : Forest) × IsHonestRef times.now f }
+        ensures counted { OnOk result (
+            share.new.counts ≡ with_reported share.old.counts times.now.num_scopes) }
+        ensures told { OnOk result (
+            Told share.old (reported (key_of info) (facts_of_ref times.now)) share.new) }
+        ensures unchanged { OnErr result (share.new ≡ share.old) }
+        ensures cause { IfErr result IsScopesCause }
+    {
+        self.lock(rt).report_user_scopes(share, info, times)
+    }
+
+    /// Calls [`WithHistory::register_user_scopes`] under the lock.
+    pub fn register_user_scopes(
+        &self,
+        rt: &impl Wait,
+        ids: &ScopeIds,
+        details: &[ScopeDetails],
+    ) -> Result<Vec<ScopeId>>
+        requires boxed_sinks { ⊤ }
+        ensures cause { IfErr result IsAddingCause }
+    {
+        self.lock(rt).register_user_scopes(ids, details)
+    }
+
+    /// Calls [`WithHistory::emit_scope_snapshot`] under the lock.
+    pub fn emit_scope_snapshot(&self, rt: &impl Wait)
+        requires boxed_sinks { ⊤ }
+    {
+        self.lock(rt).emit_scope_snapshot();
+    }
+
+    /// Calls [`WithHistory::new_frame`] under the lock, which it holds until all sinks have been called. A frame is the last
+    /// entry of the history that the share has then seen, and has just what was reported since the frame before it. Fails only
+    /// with `IndexExhausted` or `Memory`.
     ///
     /// ```
     /// let emitted = profiler.new_frame(&rt, &mut share)?;
@@ -198,6 +238,47 @@ impl<L: Ledger + History, M: Ledger> HistoryProfiler<L, M> {
         ensures cause { IfErr result IsFrameCause }
     {
         self.lock(rt).new_frame(rt, share)
+    }
+
+    /// Calls [`WithHistory::add_frame`] under the lock, which it holds until all sinks have been called.
+    pub fn add_frame<R: Wait>(&self, rt: &R, frame: Arc<FrameData>) -> Result<usize>
+        requires boxed_sinks { ⊤ }
+        ensures missing { (result ≡ Err Error.MissingId)
+            ↔ (list_any lacks_id (frame_details (arc_value frame)) ≡ true) }
+        ensures cause { IfErr result (λ e. (e ≡ Error.MissingId) ⊎ (e ≡ Error.Memory)) }
+    {
+        self.lock(rt).add_frame(rt, frame)
+    }
+
+    /// Calls [`WithHistory::add_sink`] under the lock.
+    pub fn add_sink(
+        &self,
+        rt: &impl Wait,
+        sink: Sink,
+    ) -> std::result::Result<FrameSinkId, (Error, Sink)>
+        requires boxed_sinks { ⊤ }
+        ensures err { IfErr result (λ e.
+            (e.1 ≡ sink) × ((e.0 ≡ Error.SinkIdsExhausted) ⊎ (e.0 ≡ Error.Memory))) }
+    {
+        self.lock(rt).add_sink(sink)
+    }
+
+    /// Calls [`WithHistory::remove_sink`] under the lock.
+    pub fn remove_sink(&self, rt: &impl Wait, id: FrameSinkId) -> Option<Sink>
+        requires boxed_sinks { ⊤ }
+    {
+        self.lock(rt).remove_sink(id)
+    }
+
+    /// Calls [`WithHistory::totals`] under the lock.
+    pub fn totals(&self, rt: &impl Wait, share: &mut HistoryShare<L, M>) -> Totals
+        requires boxed_sinks { ⊤ }
+        ensures sum { result.reported ≡ result.pending + result.emitted }
+        ensures own { (share.old.counts.reported ≤ result.reported)
+            × (share.old.counts.handed ≤ result.emitted) }
+        ensures same { share.new ≡ share.old }
+    {
+        self.lock(rt).totals(share)
     }
 
     /// Calls [`WithHistory::settle`] under the lock. Whoever settles all shares knows the whole history: the frames and then what

@@ -27,7 +27,7 @@ use crate::leaving::leave_all;
 use crate::parts::Parts;
 use crate::share::HistoryShare;
 use history::{History, Log};
-use puffin::global_profiler::{GlobalProfiler, Settled};
+use puffin::global_profiler::{FrameSinkId, GlobalProfiler, Settled, Sink};
 use puffin_collector::{Emitted, Totals};
 use puffin_data::data::{ScopeId, StreamInfoRef};
 use puffin_data::{Error, Result};
@@ -38,9 +38,9 @@ use std::snapshot::Snapshot;
 use std::sync::ledger::{Book, Ledger};
 use std::sync::{Arc, Wait};
 
-/// A profiler with two books for all its shares together, like [`Booked`](puffin::global_profiler::Booked), and with the history of
-/// what happened through them. What is pending is just what the history leaves pending, and each frame had just what was due. The
-/// methods are those of `Booked`.
+/// A profiler with two books for all its shares together, as [`Booked`](puffin::global_profiler::Booked) is, and with the history
+/// of what happened through them. What is pending is just what the history leaves pending, and each frame had just what was due.
+/// The methods are those of `Booked`.
 #[derive(Drop)]
 pub struct WithHistory<L: Ledger + History, M: Ledger> {
     /// Keeps the profiler off the cache line of the lock, which other threads read while one holds it.
@@ -136,8 +136,66 @@ impl<L: Ledger + History, M: Ledger> WithHistory<L, M> {
         Ok(())
     }
 
-    /// Hands out a frame as [`GlobalProfiler::new_frame`] does. If there is one, the share counts its scopes, and the frame is the
-    /// history's next entry.
+    /// Reports the caller's own scopes, as [`GlobalProfiler::report_user_scopes`] does. If that succeeds, the share counts the
+    /// scopes, and the report is the history's next entry.
+    pub fn report_user_scopes(
+        &mut self,
+        share: &mut HistoryShare<L, M>,
+        info: ThreadInfo,
+        times: &StreamInfoRef,
+    ) -> Result<()>
+        requires { (f : Forest) × IsHonestRef times.now f }
+        ensures ok { OnOk result (
+            AcceptsReport (collected_of self.old.profiler) (key_of info) []
+            (facts_of_ref times.now) (collected_of self.new.profiler)) }
+        ensures counted { OnOk result (
+            share.new.counts ≡ with_reported share.old.counts times.now.num_scopes) }
+        ensures told { OnOk result (
+            Tells share.old (reported (key_of info) (facts_of_ref times.now))
+            self.old.log.entries share.new) }
+        ensures log { OnOk result (self.new.log.entries ≡ share.new.seen) }
+        ensures err { IfErr result (λ e.
+            RefusesReport (collected_of self.old.profiler) (key_of info) []
+            (facts_of_ref times.now) e (collected_of self.new.profiler)) }
+        ensures unchanged { OnErr result (
+            (share.new ≡ share.old) × (self.new.log.entries ≡ self.old.log.entries)) }
+        ensures sinks { self.new.profiler.sinks ≡ self.old.profiler.sinks }
+    {
+        self.report(share, info, &[], times)
+    }
+
+    /// Registers the caller's own scopes, as [`GlobalProfiler::register_user_scopes`] does.
+    pub fn register_user_scopes(
+        &mut self,
+        ids: &ScopeIds,
+        details: &[ScopeDetails],
+    ) -> Result<Vec<ScopeId>>
+        requires boxed_sinks { ⊤ }
+        ensures ok { IfOk result (λ scope_ids.
+            Adds (collected_of self.old.profiler) (details_seen details.now) scope_ids.items
+            (collected_of self.new.profiler)) }
+        ensures err { IfErr result (λ e.
+            AddsSome (collected_of self.old.profiler) (details_seen details.now) e
+            (collected_of self.new.profiler)) }
+        ensures sinks { self.new.profiler.sinks ≡ self.old.profiler.sinks }
+        ensures log { self.new.log.entries ≡ self.old.log.entries }
+    {
+        self.profiler.register_user_scopes(ids, details)
+    }
+
+    /// Makes the next frame list every known scope, as [`GlobalProfiler::emit_scope_snapshot`] does.
+    pub fn emit_scope_snapshot(&mut self)
+        requires boxed_sinks { ⊤ }
+        ensures wants { collected_of self.new.profiler
+            ≡ after_wanting (collected_of self.old.profiler) }
+        ensures sinks { self.new.profiler.sinks ≡ self.old.profiler.sinks }
+        ensures log { self.new.log.entries ≡ self.old.log.entries }
+    {
+        self.profiler.emit_scope_snapshot();
+    }
+
+    /// Hands out a frame as [`GlobalProfiler::new_frame`] does. If there is one, the share counts its scopes, and the frame is
+    /// the history's next entry.
     pub fn new_frame<R: Wait>(&mut self, rt: &R, share: &mut HistoryShare<L, M>) -> Result<Emitted>
         requires boxed_sinks { ⊤ }
         ensures ok { IfOk result (λ emitted.
@@ -175,6 +233,84 @@ impl<L: Ledger + History, M: Ledger> WithHistory<L, M> {
             frame: Some(frame),
             refused,
         })
+    }
+
+    /// Hands a frame that was made elsewhere to the sinks, as [`GlobalProfiler::add_frame`] does. No share counts it, and it is no
+    /// entry of the history.
+    pub fn add_frame<R: Wait>(&mut self, rt: &R, frame: Arc<FrameData>) -> Result<usize>
+        requires boxed_sinks { ⊤ }
+        ensures learnt { OnOk result (
+            collected_of self.new.profiler
+            ≡ after_learning (collected_of self.old.profiler) (frame_details (arc_value frame))) }
+        ensures missing { (result ≡ Err Error.MissingId)
+            ↔ (list_any lacks_id (frame_details (arc_value frame)) ≡ true) }
+        ensures unchanged { (result ≡ Err Error.MissingId) →
+            collected_of self.new.profiler ≡ collected_of self.old.profiler }
+        ensures cause { IfErr result (λ e. (e ≡ Error.MissingId) ⊎ (e ≡ Error.Memory)) }
+        ensures known { OnErr result (
+            KnowsSome (collected_of self.old.profiler) (frame_details (arc_value frame))
+            (collected_of self.new.profiler)) }
+        ensures kept { OnErr result (sinks_of self.new.profiler ≡ sinks_of self.old.profiler) }
+        ensures next { next_sink_of self.new.profiler ≡ next_sink_of self.old.profiler }
+        ensures log { self.new.log.entries ≡ self.old.log.entries }
+    {
+        self.profiler.add_frame(rt, frame)
+    }
+
+    /// Adds a sink as [`GlobalProfiler::add_sink`] does.
+    pub fn add_sink(&mut self, sink: Sink) -> std::result::Result<FrameSinkId, (Error, Sink)>
+        requires boxed_sinks { ⊤ }
+        ensures ok { IfOk result (λ id.
+            (id.0 ≡ next_sink_of self.old.profiler)
+            × (next_sink_of self.new.profiler ≡ next_sink_of self.old.profiler + 1)
+            × PutsIn id.0 sink (sinks_of self.old.profiler) (sinks_of self.new.profiler)) }
+        ensures err { IfErr result (λ e.
+            (e.1 ≡ sink)
+            × (sinks_of self.new.profiler ≡ sinks_of self.old.profiler)
+            × (next_sink_of self.new.profiler ≡ next_sink_of self.old.profiler)) }
+        ensures cause { IfErr result (λ e.
+            ((e.0 ≡ Error.SinkIdsExhausted) × (next_sink_of self.old.profiler ≡ 2 ^ 64 - 1))
+            ⊎ ((e.0 ≡ Error.Memory) × (next_sink_of self.old.profiler < 2 ^ 64 - 1))) }
+        ensures rest { collected_of self.new.profiler ≡ collected_of self.old.profiler }
+        ensures log { self.new.log.entries ≡ self.old.log.entries }
+    {
+        self.profiler.add_sink(sink)
+    }
+
+    /// Removes a sink as [`GlobalProfiler::remove_sink`] does.
+    pub fn remove_sink(&mut self, id: FrameSinkId) -> Option<Sink>
+        requires boxed_sinks { ⊤ }
+        ensures some { IfSome result (λ sink.
+            TakesOut id.0 sink (sinks_of self.old.profiler) (sinks_of self.new.profiler)) }
+        ensures none { IfNone result (
+            HasNone id.0 (sinks_of self.old.profiler)
+            × (sinks_of self.new.profiler ≡ sinks_of self.old.profiler)) }
+        ensures next { next_sink_of self.new.profiler ≡ next_sink_of self.old.profiler }
+        ensures rest { collected_of self.new.profiler ≡ collected_of self.old.profiler }
+        ensures log { self.new.log.entries ≡ self.old.log.entries }
+    {
+        self.profiler.remove_sink(id)
+    }
+
+    /// Returns the profiler's totals as [`GlobalProfiler::totals`] does. `reported` and `emitted` are at least the share's counts of
+    /// scopes reported and handed out. The share doesn't change.
+    pub fn totals(&mut self, share: &mut HistoryShare<L, M>) -> Totals
+        requires boxed_sinks { ⊤ }
+        ensures reported { result.reported ≡ (collected_of self.old.profiler).reported }
+        ensures pending { result.pending
+            ≡ total_scopes (map.values (collected_of self.old.profiler).streams) }
+        ensures emitted { result.emitted ≡ (collected_of self.old.profiler).emitted }
+        ensures sum { result.reported ≡ result.pending + result.emitted }
+        ensures own { (share.old.counts.reported ≤ result.reported)
+            × (share.old.counts.handed ≤ result.emitted) }
+        ensures same { (self.new.profiler ≡ self.old.profiler)
+            × (self.new.log.entries ≡ self.old.log.entries)
+            × (share.new ≡ share.old) }
+    {
+        // Both calls do nothing; their contracts tell the prover that no share counts more than its book.
+        self.reported.audit(&mut share.reported);
+        self.handed.audit(&mut share.handed);
+        self.profiler.totals()
     }
 
     /// Adds up the counts of all shares, and returns the sums with the number of pending scopes. The shares leave the history,
