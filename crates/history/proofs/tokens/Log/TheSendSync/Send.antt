@@ -1,0 +1,8 @@
+use denote.RattleType.{RattleType}
+use denote.Param.Send.{IsSend}
+use Rattle.history.specs.declared.tokens.History.{Ghosts}
+use Rattle.history.specs.contracts.tokens.Log.{the_row}
+use Rattle.history.proofs.Steps.{log_keyless}
+
+pub send : (E L : RattleType) (g : Ghosts L.Denot) → IsSend (the_row E L g)
+send E L g = record { owned = λ d vs. ((λ vss. (tt, ((λ uss. (tt, tt)), tt))), log_keyless E.coded.code g.history d.authors d.entries); leaving = λ k f vs. tt }

@@ -1,0 +1,7 @@
+pub mod lemmas
+mod Growing
+mod SpelledThreads
+mod LeavingShares
+mod SharedCalls
+mod TellingShares
+mod KeptStreams

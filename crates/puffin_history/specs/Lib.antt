@@ -1,0 +1,4 @@
+pub mod Happenings
+pub mod Members
+pub mod Recounted
+pub mod Leaving

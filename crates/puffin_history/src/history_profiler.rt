@@ -1,0 +1,311 @@
+//! A profiler with a history that several threads share.
+ghost use Rattle.std.specs.Prelude.{◌≡◌, ◌+◌, ◌<◌, ◌≤◌, ◌⊎◌, ◌↔◌, true, vec_len, All, OnOk, OnErr, IfOk, IfErr, ⊤};
+ghost use Rattle.std.specs.FinMap as map;
+ghost use Rattle.std.specs.List.{list_any};
+ghost use Rattle.std.specs.Arc.{arc_value};
+ghost use Rattle.history.specs.Entries.{events};
+ghost use Rattle.puffin_data.specs.Forest.{Forest};
+ghost use Rattle.puffin_data.specs.Honesty.{IsHonestRef, facts_of_ref};
+ghost use Rattle.puffin_threads.specs.Thread.ThreadKey.{key_of};
+ghost use Rattle.puffin_threads.specs.Details.{details_seen, lacks_id, AllHaveIds};
+ghost use Rattle.puffin_frames.specs.Frame.Contents.{frame_details};
+ghost use Rattle.puffin_frames.specs.Frame.Sums.{total_scopes};
+ghost use Rattle.puffin.specs.Profiler.{collected_of};
+ghost use Rattle.puffin.specs.Shares.{with_reported, CountsFrame, SpellsItsScopes};
+ghost use Rattle.puffin.specs.SharedCauses.{IsReportCause, IsScopesCause, IsFrameCause, IsAddingCause};
+ghost use Rattle.puffin_history.specs.Happenings.{History, reported, pending_of};
+ghost use Rattle.puffin_history.specs.Members.{IsNewMember, Told, TakesFrame};
+ghost use Rattle.puffin_history.specs.Leaving.{accounts_of, all_reported_by, all_handed_by};
+ghost use Rattle.puffin_history.specs.Recounted.{Recounts};
+
+use crate::event::Event;
+use crate::parts::Parts;
+use crate::share::HistoryShare;
+use crate::with_history::WithHistory;
+use history::{History, NewLog};
+use puffin::global_profiler::{FrameSinkId, GlobalProfiler, Settled, Sink};
+use puffin_collector::{Emitted, Totals};
+use puffin_data::data::{ScopeId, StreamInfoRef};
+use puffin_data::{Error, Result};
+use puffin_frames::frame_data::FrameData;
+use puffin_frames::scope_details::{ScopeDetails, ScopeIds};
+use puffin_frames::thread_profiler::ThreadInfo;
+use std::alloc::Global;
+use std::hint::spin_loop;
+use std::sync::ledger::{Blank, Ledger};
+use std::sync::{Arc, Mutex, MutexGuard, Wait};
+use std::thread::yield_now;
+
+/// The number of times that a thread tries the lock again before it sleeps.
+const LOOKS: u32 = 20;
+/// The number of spin-loop hints in the first pause.
+const FIRST_PAUSES: u32 = 64;
+/// The number of pauses that are each twice as long as the one before. Later ones all have the same length, and let other
+/// threads run.
+const GROWING: u32 = 4;
+
+/// Pauses before the lock is tried again. `looks` is the number of earlier pauses. The first few are each twice as long as the
+/// one before, so that a thread waits at most about twice as long as it has to.
+fn pause(looks: u32) {
+    for _ in 0..FIRST_PAUSES << looks.min(GROWING) {
+        spin_loop();
+    }
+    if looks > GROWING {
+        yield_now();
+    }
+}
+
+/// A profiler with a history behind a lock, for several threads. It is a
+/// [`SharedProfiler`](puffin::global_profiler::SharedProfiler) whose shares also know what happened through them. Each method except
+/// `clone` and `lock` waits for the lock and calls [`WithHistory`]'s method of the same name under it.
+///
+/// A thread reports through its [`HistoryShare`], with a [`HistoryReporter`](crate::HistoryReporter). Whoever takes frames has a
+/// share too. `L` and `M` name two ledgers, and `L` also the history. A function that opens a profiler is generic over both; call
+/// it with `std::marker::Brand` for each.
+#[derive(Drop)]
+pub struct HistoryProfiler<L: Ledger + History, M: Ledger> {
+    locked: Arc<Mutex<WithHistory<L, M>>>,
+}
+
+impl<L: Ledger + History, M: Ledger> HistoryProfiler<L, M> {
+    /// Puts a profiler behind a lock, and makes `n` shares of its counts and of its history. The profiler must not have had any
+    /// scopes reported to it yet, and `n` must be at least 1. `reported` must be the `Blank` of the ledger `L` and `handed` that
+    /// of `M`, each with `n` parts, and `log` must be that of the history `L`.
+    ///
+    /// Fails with `Memory`, and then returns the profiler.
+    ///
+    /// ```
+    /// let opened = HistoryProfiler::<L, M>::open(alloc, GlobalProfiler::new(alloc), 5, reported, handed, log);
+    /// let Ok((profiler, shares)) = opened else { return Err(Error::Memory) };
+    /// ```
+    pub fn open(
+        alloc: Global,
+        profiler: GlobalProfiler,
+        n: usize,
+        reported: Blank,
+        handed: Blank,
+        log: NewLog<Event>,
+    ) -> std::result::Result<
+        (HistoryProfiler<L, M>, Vec<HistoryShare<L, M>>),
+        (Error, GlobalProfiler),
+    >
+        requires fresh { ((collected_of profiler).reported ≡ 0)
+            × ((collected_of profiler).emitted ≡ 0)
+            × ((collected_of profiler).streams ≡ map.empty) }
+        requires some { 0 < n }
+        requires reported { (reported.name ≡ L.name)
+            × (reported.parts ≡ L.parts)
+            × (reported.parts ≡ n) }
+        requires handed { (handed.name ≡ M.name)
+            × (handed.parts ≡ M.parts)
+            × (handed.parts ≡ n) }
+        requires log { log.name ≡ L.history }
+        ensures shares { IfOk result (λ r. (vec_len r.1 ≡ n) × All IsNewMember r.1.items) }
+        ensures err { IfErr result (λ e. e.0 ≡ Error.Memory) }
+    {
+        let (reported, all_reported) = reported.open::<L>();
+        let (handed, all_handed) = handed.open::<M>();
+        let mut log = log.open::<L>();
+        let Ok(shares) = HistoryShare::split(alloc, n, all_reported, all_handed, &mut log) else {
+            return Err((Error::Memory, profiler));
+        };
+        let parts = Parts::new(n as u64);
+        match Arc::new(
+            alloc,
+            Mutex::new(WithHistory::new(profiler, reported, handed, parts, log)),
+        ) {
+            Ok(locked) => Ok((HistoryProfiler { locked }, shares)),
+            Err(refused) => Err((Error::Memory, refused.value.into_inner().into_profiler())),
+        }
+    }
+
+    /// Returns another handle to this profiler. Fails only with `Memory`.
+    pub fn clone(&self) -> Result<HistoryProfiler<L, M>>
+        requires boxed_sinks { ⊤ }
+        ensures cause { IfErr result (λ e. e ≡ Error.Memory) }
+    {
+        Ok(HistoryProfiler {
+            locked: Arc::try_clone(&self.locked)?,
+        })
+    }
+
+    /// Waits for the lock, and returns a guard that lends the protected value. The lock is held until the guard is dropped.
+    ///
+    /// A thread tries the lock several times, with pauses in between, before it sleeps: most calls hold the lock for less time
+    /// than waking a thread takes.
+    #[inline]
+    pub fn lock(&self, rt: &impl Wait) -> MutexGuard<'_, WithHistory<L, M>>
+        requires boxed_sinks { ⊤ }
+    {
+        match self.locked.try_lock() {
+            Some(guard) => guard,
+            None => self.lock_later(rt),
+        }
+    }
+
+    /// Tries the lock several times, with pauses in between, and then sleeps until it is free.
+    #[cold]
+    #[inline(never)]
+    fn lock_later(&self, rt: &impl Wait) -> MutexGuard<'_, WithHistory<L, M>>
+        requires boxed_sinks { ⊤ }
+    {
+        for look in 0..LOOKS {
+            pause(look);
+            if let Some(guard) = self.locked.try_lock() {
+                return guard;
+            }
+        }
+        self.locked.lock(rt)
+    }
+
+    /// Calls [`WithHistory::report`] under the lock. A report that is accepted is the last entry of the history that the share
+    /// has then seen.
+    #[inline(always)]
+    pub fn report(
+        &self,
+        rt: &impl Wait,
+        share: &mut HistoryShare<L, M>,
+        info: ThreadInfo,
+        details: &[ScopeDetails],
+        times: &StreamInfoRef,
+    ) -> Result<()>
+        requires { (f : Forest) × IsHonestRef times.now f }
+        ensures counted { OnOk result (
+            share.new.counts ≡ with_reported share.old.counts times.now.num_scopes) }
+        ensures told { OnOk result (
+            Told share.old (reported (key_of info) (facts_of_ref times.now)) share.new) }
+        ensures ids { OnOk result (AllHaveIds (details_seen details.now)) }
+        ensures unchanged { OnErr result (share.new ≡ share.old) }
+        ensures cause { IfErr result (IsReportCause (details_seen details.now)) }
+    {
+        self.lock(rt).report(share, info, details, times)
+    }
+
+    /// Under the lock, appends the caller's own scopes to those that wait for the next frame. If that succeeds, the share counts
+    /// them, and they are the last entry of the history that it has then seen; otherwise nothing changes.
+    pub fn report_user_scopes(
+        &self,
+        rt: &impl Wait,
+        share: &mut HistoryShare<L, M>,
+        info: ThreadInfo,
+        times: &StreamInfoRef,
+    ) -> Result<()>
+        requires { (f : Forest) × IsHonestRef times.now f }
+        ensures counted { OnOk result (
+            share.new.counts ≡ with_reported share.old.counts times.now.num_scopes) }
+        ensures told { OnOk result (
+            Told share.old (reported (key_of info) (facts_of_ref times.now)) share.new) }
+        ensures unchanged { OnErr result (share.new ≡ share.old) }
+        ensures cause { IfErr result IsScopesCause }
+    {
+        self.lock(rt).report_user_scopes(share, info, times)
+    }
+
+    /// Calls [`WithHistory::register_user_scopes`] under the lock.
+    pub fn register_user_scopes(
+        &self,
+        rt: &impl Wait,
+        ids: &ScopeIds,
+        details: &[ScopeDetails],
+    ) -> Result<Vec<ScopeId>>
+        requires boxed_sinks { ⊤ }
+        ensures cause { IfErr result IsAddingCause }
+    {
+        self.lock(rt).register_user_scopes(ids, details)
+    }
+
+    /// Calls [`WithHistory::emit_scope_snapshot`] under the lock.
+    pub fn emit_scope_snapshot(&self, rt: &impl Wait)
+        requires boxed_sinks { ⊤ }
+    {
+        self.lock(rt).emit_scope_snapshot();
+    }
+
+    /// Calls [`WithHistory::new_frame`] under the lock, which it holds until all sinks have been called. A frame is the last
+    /// entry of the history that the share has then seen, and has just what was reported since the frame before it. Fails only
+    /// with `IndexExhausted` or `Memory`.
+    ///
+    /// ```
+    /// let emitted = profiler.new_frame(&rt, &mut share)?;
+    /// ```
+    pub fn new_frame<R: Wait>(&self, rt: &R, share: &mut HistoryShare<L, M>) -> Result<Emitted>
+        requires boxed_sinks { ⊤ }
+        ensures counted { IfOk result (λ emitted.
+            CountsFrame share.old.counts emitted.frame share.new.counts) }
+        ensures taken { IfOk result (λ emitted. TakesFrame share.old emitted.frame share.new) }
+        ensures spells { IfOk result (λ emitted. SpellsItsScopes emitted.frame) }
+        ensures unchanged { OnErr result (share.new ≡ share.old) }
+        ensures cause { IfErr result IsFrameCause }
+    {
+        self.lock(rt).new_frame(rt, share)
+    }
+
+    /// Calls [`WithHistory::add_frame`] under the lock, which it holds until all sinks have been called.
+    pub fn add_frame<R: Wait>(&self, rt: &R, frame: Arc<FrameData>) -> Result<usize>
+        requires boxed_sinks { ⊤ }
+        ensures missing { (result ≡ Err Error.MissingId)
+            ↔ (list_any lacks_id (frame_details (arc_value frame)) ≡ true) }
+        ensures cause { IfErr result (λ e. (e ≡ Error.MissingId) ⊎ (e ≡ Error.Memory)) }
+    {
+        self.lock(rt).add_frame(rt, frame)
+    }
+
+    /// Calls [`WithHistory::add_sink`] under the lock.
+    pub fn add_sink(
+        &self,
+        rt: &impl Wait,
+        sink: Sink,
+    ) -> std::result::Result<FrameSinkId, (Error, Sink)>
+        requires boxed_sinks { ⊤ }
+        ensures err { IfErr result (λ e.
+            (e.1 ≡ sink) × ((e.0 ≡ Error.SinkIdsExhausted) ⊎ (e.0 ≡ Error.Memory))) }
+    {
+        self.lock(rt).add_sink(sink)
+    }
+
+    /// Calls [`WithHistory::remove_sink`] under the lock.
+    pub fn remove_sink(&self, rt: &impl Wait, id: FrameSinkId) -> Option<Sink>
+        requires boxed_sinks { ⊤ }
+    {
+        self.lock(rt).remove_sink(id)
+    }
+
+    /// Calls [`WithHistory::totals`] under the lock.
+    pub fn totals(&self, rt: &impl Wait, share: &mut HistoryShare<L, M>) -> Totals
+        requires boxed_sinks { ⊤ }
+        ensures sum { result.reported ≡ result.pending + result.emitted }
+        ensures own { (share.old.counts.reported ≤ result.reported)
+            × (share.old.counts.handed ≤ result.emitted) }
+        ensures same { share.new ≡ share.old }
+    {
+        self.lock(rt).totals(share)
+    }
+
+    /// Calls [`WithHistory::settle`] under the lock. Whoever settles all shares knows the whole history: the frames and then what
+    /// is pending spell exactly what each thread reported, in its order.
+    ///
+    /// ```
+    /// if let Ok(Settled { reported, handed, pending }) = profiler.settle(&rt, shares) {
+    ///     println!(rt; "{reported} = {handed} + {pending}")?;
+    /// }
+    /// ```
+    pub fn settle(
+        &self,
+        rt: &impl Wait,
+        shares: Vec<HistoryShare<L, M>>,
+    ) -> std::result::Result<Settled, Vec<HistoryShare<L, M>>>
+        requires boxed_sinks { ⊤ }
+        ensures full { OnOk result (
+            (vec_len shares ≡ L.parts) × (vec_len shares ≡ M.parts)) }
+        ensures reported { IfOk result (λ s. s.reported ≡ all_reported_by shares.items) }
+        ensures handed { IfOk result (λ s. s.handed ≡ all_handed_by shares.items) }
+        ensures sum { IfOk result (λ s. s.reported ≡ s.handed + s.pending) }
+        ensures history { IfOk result (λ s.
+            (log : History)
+            × Recounts (vec_len shares) (accounts_of shares.items) log
+            × (s.pending ≡ total_scopes (map.values (pending_of (events log))))) }
+        ensures err { IfErr result (λ v. (v ≡ shares) × ¬ (vec_len shares ≡ L.parts)) }
+    {
+        self.lock(rt).settle(shares)
+    }
+}

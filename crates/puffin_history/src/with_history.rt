@@ -1,0 +1,357 @@
+//! The value that the lock of a profiler with a history protects.
+ghost use Rattle.std.specs.Prelude.{◌≡◌, ◌+◌, ◌-◌, ◌^◌, ◌<◌, ◌≤◌, ◌⊎◌, ◌↔◌, ◌++◌, ◌∷◌, [], true, vec_len, Some, OnOk, OnErr, IfOk, IfErr, IfSome, IfNone, ⊤};
+ghost use Rattle.std.specs.FinMap as map;
+ghost use Rattle.std.specs.List.{list_any};
+ghost use Rattle.std.specs.Arc.{arc_value};
+ghost use Rattle.history.specs.Entries.{events};
+ghost use Rattle.puffin_data.specs.Forest.{Forest};
+ghost use Rattle.puffin_data.specs.Honesty.{IsHonestRef, facts_of_ref};
+ghost use Rattle.puffin_threads.specs.Thread.ThreadKey.{key_of};
+ghost use Rattle.puffin_threads.specs.Details.{details_seen, lacks_id};
+ghost use Rattle.puffin_frames.specs.Frame.Contents.{AreHonest, frame_details};
+ghost use Rattle.puffin_frames.specs.Frame.Sums.{total_scopes};
+ghost use Rattle.puffin_collector.specs.Collector.State.{AcceptsReport, RefusesReport, after_learning, after_wanting};
+ghost use Rattle.puffin_collector.specs.Collector.Registering.{Adds, AddsSome};
+ghost use Rattle.puffin_collector.specs.Collector.Collecting.{Collects, TellsIds, KeepsPending, KnowsSome};
+ghost use Rattle.puffin.specs.Profiler.{collected_of, sinks_of, next_sink_of};
+ghost use Rattle.puffin.specs.Sinks.{PutsIn, TakesOut, HasNone};
+ghost use Rattle.puffin.specs.Sinks.Handing.{HandsOn, HandsOnAny};
+ghost use Rattle.puffin.specs.Shares.{with_reported, CountsFrame};
+ghost use Rattle.puffin_history.specs.Happenings.{reported, pending_of, Stands};
+ghost use Rattle.puffin_history.specs.Members.{Tells, TakesFrame};
+ghost use Rattle.puffin_history.specs.Leaving.{accounts_of, all_reported_by, all_handed_by};
+ghost use Rattle.puffin_history.specs.Recounted.{Recounts};
+
+use crate::event::{Event, Frames, Report, Reports};
+use crate::leaving::leave_all;
+use crate::parts::Parts;
+use crate::share::HistoryShare;
+use history::{History, Log};
+use puffin::global_profiler::{FrameSinkId, GlobalProfiler, Settled, Sink};
+use puffin_collector::{Emitted, Totals};
+use puffin_data::data::{ScopeId, StreamInfoRef};
+use puffin_data::{Error, Result};
+use puffin_frames::frame_data::FrameData;
+use puffin_frames::scope_details::{ScopeDetails, ScopeIds};
+use puffin_frames::thread_profiler::ThreadInfo;
+use std::snapshot::Snapshot;
+use std::sync::ledger::{Book, Ledger};
+use std::sync::{Arc, Wait};
+
+/// A profiler with two books for all its shares together, as [`Booked`](puffin::global_profiler::Booked) is, and with the history
+/// of what happened through them. What is pending is just what the history leaves pending, and each frame had just what was due.
+/// The methods are those of `Booked`.
+#[derive(Drop)]
+pub struct WithHistory<L: Ledger + History, M: Ledger> {
+    /// Keeps the profiler off the cache line of the lock, which other threads read while one holds it.
+    apart: [u64; 16],
+    profiler: GlobalProfiler,
+    reported: Book<L>,
+    handed: Book<M>,
+    parts: Parts<L, M>,
+    log: Log<Event, L>,
+    ghost reported_is: { reported.total ≡ (collected_of profiler).reported },
+    ghost handed_is: { handed.total ≡ (collected_of profiler).emitted },
+    ghost authors_are: { log.authors ≡ parts },
+    ghost stands: { ∥ Stands (collected_of profiler).streams (events log.entries) ∥₁ },
+}
+
+impl<L: Ledger + History, M: Ledger> WithHistory<L, M> {
+    /// Combines a profiler to which nothing was reported with its books and a log without entries.
+    pub(crate) fn new(
+        profiler: GlobalProfiler,
+        reported: Book<L>,
+        handed: Book<M>,
+        parts: Parts<L, M>,
+        log: Log<Event, L>,
+    ) -> WithHistory<L, M>
+        requires fresh { ((collected_of profiler).reported ≡ 0)
+            × ((collected_of profiler).emitted ≡ 0)
+            × ((collected_of profiler).streams ≡ map.empty) }
+        requires books { (reported.total ≡ 0) × (handed.total ≡ 0) }
+        requires log { (log.authors ≡ parts) × (log.entries ≡ []) }
+        ensures { result.profiler ≡ profiler }
+    {
+        WithHistory {
+            apart: [0; 16],
+            profiler,
+            reported,
+            handed,
+            parts,
+            log,
+        }
+    }
+
+    /// Returns the profiler, and drops the rest.
+    pub(crate) fn into_profiler(self) -> GlobalProfiler
+        ensures { result ≡ self.profiler }
+    {
+        let WithHistory {
+            apart: _,
+            profiler,
+            reported: _,
+            handed: _,
+            parts: _,
+            log: _,
+        } = self;
+        profiler
+    }
+
+    /// Reports as [`GlobalProfiler::report`] does. If that succeeds, the share counts the scopes, and the report is the history's
+    /// next entry.
+    #[inline(always)]
+    pub fn report(
+        &mut self,
+        share: &mut HistoryShare<L, M>,
+        info: ThreadInfo,
+        details: &[ScopeDetails],
+        times: &StreamInfoRef,
+    ) -> Result<()>
+        requires { (f : Forest) × IsHonestRef times.now f }
+        ensures ok { OnOk result (
+            AcceptsReport (collected_of self.old.profiler) (key_of info)
+            (details_seen details.now) (facts_of_ref times.now)
+            (collected_of self.new.profiler)) }
+        ensures counted { OnOk result (
+            share.new.counts ≡ with_reported share.old.counts times.now.num_scopes) }
+        ensures told { OnOk result (
+            Tells share.old (reported (key_of info) (facts_of_ref times.now))
+            self.old.log.entries share.new) }
+        ensures log { OnOk result (self.new.log.entries ≡ share.new.seen) }
+        ensures err { IfErr result (λ e.
+            RefusesReport (collected_of self.old.profiler) (key_of info)
+            (details_seen details.now) (facts_of_ref times.now) e
+            (collected_of self.new.profiler)) }
+        ensures unchanged { OnErr result (
+            (share.new ≡ share.old) × (self.new.log.entries ≡ self.old.log.entries)) }
+        ensures sinks { self.new.profiler.sinks ≡ self.old.profiler.sinks }
+    {
+        let key = Snapshot::of(&info);
+        self.profiler.report(info, details, times)?;
+        self.reported
+            .add(&mut share.reported, times.num_scopes as u64);
+        let report = Report { info: key, times };
+        self.log
+            .add::<Report<'_>, Reports>(&mut share.author, &report);
+        Ok(())
+    }
+
+    /// Reports the caller's own scopes, as [`GlobalProfiler::report_user_scopes`] does. If that succeeds, the share counts the
+    /// scopes, and the report is the history's next entry.
+    pub fn report_user_scopes(
+        &mut self,
+        share: &mut HistoryShare<L, M>,
+        info: ThreadInfo,
+        times: &StreamInfoRef,
+    ) -> Result<()>
+        requires { (f : Forest) × IsHonestRef times.now f }
+        ensures ok { OnOk result (
+            AcceptsReport (collected_of self.old.profiler) (key_of info) []
+            (facts_of_ref times.now) (collected_of self.new.profiler)) }
+        ensures counted { OnOk result (
+            share.new.counts ≡ with_reported share.old.counts times.now.num_scopes) }
+        ensures told { OnOk result (
+            Tells share.old (reported (key_of info) (facts_of_ref times.now))
+            self.old.log.entries share.new) }
+        ensures log { OnOk result (self.new.log.entries ≡ share.new.seen) }
+        ensures err { IfErr result (λ e.
+            RefusesReport (collected_of self.old.profiler) (key_of info) []
+            (facts_of_ref times.now) e (collected_of self.new.profiler)) }
+        ensures unchanged { OnErr result (
+            (share.new ≡ share.old) × (self.new.log.entries ≡ self.old.log.entries)) }
+        ensures sinks { self.new.profiler.sinks ≡ self.old.profiler.sinks }
+    {
+        self.report(share, info, &[], times)
+    }
+
+    /// Registers the caller's own scopes, as [`GlobalProfiler::register_user_scopes`] does.
+    pub fn register_user_scopes(
+        &mut self,
+        ids: &ScopeIds,
+        details: &[ScopeDetails],
+    ) -> Result<Vec<ScopeId>>
+        requires boxed_sinks { ⊤ }
+        ensures ok { IfOk result (λ scope_ids.
+            Adds (collected_of self.old.profiler) (details_seen details.now) scope_ids.items
+            (collected_of self.new.profiler)) }
+        ensures err { IfErr result (λ e.
+            AddsSome (collected_of self.old.profiler) (details_seen details.now) e
+            (collected_of self.new.profiler)) }
+        ensures sinks { self.new.profiler.sinks ≡ self.old.profiler.sinks }
+        ensures log { self.new.log.entries ≡ self.old.log.entries }
+    {
+        self.profiler.register_user_scopes(ids, details)
+    }
+
+    /// Makes the next frame list every known scope, as [`GlobalProfiler::emit_scope_snapshot`] does.
+    pub fn emit_scope_snapshot(&mut self)
+        requires boxed_sinks { ⊤ }
+        ensures wants { collected_of self.new.profiler
+            ≡ after_wanting (collected_of self.old.profiler) }
+        ensures sinks { self.new.profiler.sinks ≡ self.old.profiler.sinks }
+        ensures log { self.new.log.entries ≡ self.old.log.entries }
+    {
+        self.profiler.emit_scope_snapshot();
+    }
+
+    /// Hands out a frame as [`GlobalProfiler::new_frame`] does. If there is one, the share counts its scopes, and the frame is
+    /// the history's next entry.
+    pub fn new_frame<R: Wait>(&mut self, rt: &R, share: &mut HistoryShare<L, M>) -> Result<Emitted>
+        requires boxed_sinks { ⊤ }
+        ensures ok { IfOk result (λ emitted.
+            Collects (collected_of self.old.profiler) emitted.frame
+            (collected_of self.new.profiler)) }
+        ensures ids { IfOk result (λ emitted. TellsIds emitted.frame) }
+        ensures counted { IfOk result (λ emitted.
+            CountsFrame share.old.counts emitted.frame share.new.counts) }
+        ensures taken { IfOk result (λ emitted. TakesFrame share.old emitted.frame share.new) }
+        ensures honest { AreHonest (collected_of self.old.profiler).streams }
+        ensures sum { (collected_of self.old.profiler).reported
+            ≡ (collected_of self.old.profiler).emitted
+            + total_scopes (map.values (collected_of self.old.profiler).streams) }
+        ensures exhausted { (result ≡ Err Error.IndexExhausted)
+            ↔ ((collected_of self.old.profiler).index ≡ 2 ^ 64 - 1) }
+        ensures err { IfErr result (λ e.
+            KeepsPending (collected_of self.old.profiler) e (collected_of self.new.profiler)) }
+        ensures kept { OnErr result (sinks_of self.new.profiler ≡ sinks_of self.old.profiler) }
+        ensures unchanged { OnErr result (
+            (share.new ≡ share.old) × (self.new.log.entries ≡ self.old.log.entries)) }
+        ensures next { next_sink_of self.new.profiler ≡ next_sink_of self.old.profiler }
+    {
+        let Emitted { frame, refused } = self.profiler.new_frame(rt)?;
+        let Some(frame) = frame else {
+            return Ok(Emitted {
+                frame: None,
+                refused,
+            });
+        };
+        self.handed
+            .add(&mut share.handed, frame.meta().num_scopes as u64);
+        self.log
+            .add::<Arc<FrameData>, Frames>(&mut share.author, &frame);
+        Ok(Emitted {
+            frame: Some(frame),
+            refused,
+        })
+    }
+
+    /// Hands a frame that was made elsewhere to the sinks, as [`GlobalProfiler::add_frame`] does. No share counts it, and it is no
+    /// entry of the history.
+    pub fn add_frame<R: Wait>(&mut self, rt: &R, frame: Arc<FrameData>) -> Result<usize>
+        requires boxed_sinks { ⊤ }
+        ensures learnt { OnOk result (
+            collected_of self.new.profiler
+            ≡ after_learning (collected_of self.old.profiler) (frame_details (arc_value frame))) }
+        ensures missing { (result ≡ Err Error.MissingId)
+            ↔ (list_any lacks_id (frame_details (arc_value frame)) ≡ true) }
+        ensures unchanged { (result ≡ Err Error.MissingId) →
+            collected_of self.new.profiler ≡ collected_of self.old.profiler }
+        ensures cause { IfErr result (λ e. (e ≡ Error.MissingId) ⊎ (e ≡ Error.Memory)) }
+        ensures known { OnErr result (
+            KnowsSome (collected_of self.old.profiler) (frame_details (arc_value frame))
+            (collected_of self.new.profiler)) }
+        ensures kept { OnErr result (sinks_of self.new.profiler ≡ sinks_of self.old.profiler) }
+        ensures next { next_sink_of self.new.profiler ≡ next_sink_of self.old.profiler }
+        ensures log { self.new.log.entries ≡ self.old.log.entries }
+    {
+        self.profiler.add_frame(rt, frame)
+    }
+
+    /// Adds a sink as [`GlobalProfiler::add_sink`] does.
+    pub fn add_sink(&mut self, sink: Sink) -> std::result::Result<FrameSinkId, (Error, Sink)>
+        requires boxed_sinks { ⊤ }
+        ensures ok { IfOk result (λ id.
+            (id.0 ≡ next_sink_of self.old.profiler)
+            × (next_sink_of self.new.profiler ≡ next_sink_of self.old.profiler + 1)
+            × PutsIn id.0 sink (sinks_of self.old.profiler) (sinks_of self.new.profiler)) }
+        ensures err { IfErr result (λ e.
+            (e.1 ≡ sink)
+            × (sinks_of self.new.profiler ≡ sinks_of self.old.profiler)
+            × (next_sink_of self.new.profiler ≡ next_sink_of self.old.profiler)) }
+        ensures cause { IfErr result (λ e.
+            ((e.0 ≡ Error.SinkIdsExhausted) × (next_sink_of self.old.profiler ≡ 2 ^ 64 - 1))
+            ⊎ ((e.0 ≡ Error.Memory) × (next_sink_of self.old.profiler < 2 ^ 64 - 1))) }
+        ensures rest { collected_of self.new.profiler ≡ collected_of self.old.profiler }
+        ensures log { self.new.log.entries ≡ self.old.log.entries }
+    {
+        self.profiler.add_sink(sink)
+    }
+
+    /// Removes a sink as [`GlobalProfiler::remove_sink`] does.
+    pub fn remove_sink(&mut self, id: FrameSinkId) -> Option<Sink>
+        requires boxed_sinks { ⊤ }
+        ensures some { IfSome result (λ sink.
+            TakesOut id.0 sink (sinks_of self.old.profiler) (sinks_of self.new.profiler)) }
+        ensures none { IfNone result (
+            HasNone id.0 (sinks_of self.old.profiler)
+            × (sinks_of self.new.profiler ≡ sinks_of self.old.profiler)) }
+        ensures next { next_sink_of self.new.profiler ≡ next_sink_of self.old.profiler }
+        ensures rest { collected_of self.new.profiler ≡ collected_of self.old.profiler }
+        ensures log { self.new.log.entries ≡ self.old.log.entries }
+    {
+        self.profiler.remove_sink(id)
+    }
+
+    /// Returns the profiler's totals as [`GlobalProfiler::totals`] does. `reported` and `emitted` are at least the share's counts of
+    /// scopes reported and handed out. The share doesn't change.
+    pub fn totals(&mut self, share: &mut HistoryShare<L, M>) -> Totals
+        requires boxed_sinks { ⊤ }
+        ensures reported { result.reported ≡ (collected_of self.old.profiler).reported }
+        ensures pending { result.pending
+            ≡ total_scopes (map.values (collected_of self.old.profiler).streams) }
+        ensures emitted { result.emitted ≡ (collected_of self.old.profiler).emitted }
+        ensures sum { result.reported ≡ result.pending + result.emitted }
+        ensures own { (share.old.counts.reported ≤ result.reported)
+            × (share.old.counts.handed ≤ result.emitted) }
+        ensures same { (self.new.profiler ≡ self.old.profiler)
+            × (self.new.log.entries ≡ self.old.log.entries)
+            × (share.new ≡ share.old) }
+    {
+        // Both calls do nothing; their contracts tell the prover that no share counts more than its book.
+        self.reported.audit(&mut share.reported);
+        self.handed.audit(&mut share.handed);
+        self.profiler.totals()
+    }
+
+    /// Adds up the counts of all shares, and returns the sums with the number of pending scopes. The shares leave the history,
+    /// and together they know all of it. Allocates nothing.
+    ///
+    /// Fails if `shares` doesn't have as many shares as were made, and then returns them.
+    pub fn settle(
+        &mut self,
+        shares: Vec<HistoryShare<L, M>>,
+    ) -> std::result::Result<Settled, Vec<HistoryShare<L, M>>>
+        requires boxed_sinks { ⊤ }
+        ensures full { OnOk result (
+            (vec_len shares ≡ L.parts) × (vec_len shares ≡ M.parts)) }
+        ensures reported { IfOk result (λ s. s.reported ≡ all_reported_by shares.items) }
+        ensures handed { IfOk result (λ s. s.handed ≡ all_handed_by shares.items) }
+        ensures pending { IfOk result (λ s. s.pending
+            ≡ total_scopes (map.values (collected_of self.old.profiler).streams)) }
+        ensures sum { IfOk result (λ s. s.reported ≡ s.handed + s.pending) }
+        ensures history { OnOk result (
+            Recounts (vec_len shares) (accounts_of shares.items) self.old.log.entries) }
+        ensures left_pending { (collected_of self.old.profiler).streams
+            ≡ pending_of (events self.old.log.entries) }
+        ensures err { IfErr result (λ v. (v ≡ shares) × ¬ (vec_len shares ≡ L.parts)) }
+        ensures same { self.new.profiler ≡ self.old.profiler }
+    {
+        if shares.len() as u64 != self.parts.n() {
+            return Err(shares);
+        }
+        let mut shares = shares;
+        let Some(last) = shares.pop() else {
+            return Err(shares);
+        };
+        let (mut all_reported, mut all_handed) = leave_all(&mut self.log, shares, last);
+        // Both calls do nothing; their contracts tell the prover that all shares together count as much as their books.
+        self.reported.audit(&mut all_reported);
+        self.handed.audit(&mut all_handed);
+        let totals = self.profiler.totals();
+        Ok(Settled {
+            reported: totals.reported,
+            handed: totals.emitted,
+            pending: totals.pending,
+        })
+    }
+}

@@ -1,0 +1,11 @@
+//! Histories and profilers with a history, tested over their public calls alone.
+#![tactic(auto)]
+
+#[cfg(test)]
+mod equal;
+#[cfg(test)]
+mod shares;
+#[cfg(test)]
+mod threads;
+#[cfg(test)]
+mod tokens;
