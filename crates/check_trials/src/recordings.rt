@@ -41,14 +41,12 @@ fn commands(alloc: Global) -> Option<Vec<Command>> {
     Some(commands)
 }
 
-/// Returns whether no command was refused and the report wasn't kept.
-fn are_whole(replies: &[Reply]) -> bool {
-    match replies {
-        [
-            Reply::Began(18),
-            Reply::Ended(Closed::Reported),
-            Reply::Frame(emitted),
-        ] => { emitted.frame.is_some() }
+/// Returns whether a command wasn't refused, and the report wasn't kept.
+fn is_whole(reply: &Reply) -> bool {
+    match reply {
+        Reply::Began(offset) => *offset == 18,
+        Reply::Ended(closed) => *closed == Closed::Reported,
+        Reply::Frame(emitted) => emitted.frame.is_some(),
         _ => false,
     }
 }
@@ -66,7 +64,7 @@ fn recorded(alloc: Global, commands: &[Command]) -> Result<(bool, Vec<u8>), File
         &mut FrameView::new(alloc),
         &mut drain,
     )?;
-    Ok((are_whole(&replies), bytes))
+    Ok((replies.len() == 3 && replies.iter().all(is_whole), bytes))
 }
 
 /// Returns whether a recording is as documented: the file has the frame if all commands succeeded, and no frame if one was

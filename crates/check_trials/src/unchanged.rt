@@ -42,7 +42,11 @@ fn forty(alloc: Global) -> Option<StreamInfo>
     ensures { IfSome result (λ info. (f : Forest) × IsHonest info f) }
 {
     let stream = Stream::from(again!(nested(alloc, 40))?);
-    again!(info_once(alloc, &stream))
+    match info_once(alloc, &stream) {
+        Ok(info) => Some(info),
+        Err(Error::Memory) => info_once(alloc, &stream).ok(),
+        Err(_) => None,
+    }
 }
 
 /// Extends an info by its copy. Returns `None` if a refused call changed it.
