@@ -42,17 +42,27 @@ fn tells<R: Wait + Abort>(
     Ok(())
 }
 
-/// Checks that a report with details that have no id is refused, alone and behind details with one, and changes neither
-/// the totals nor what was reported before.
+/// Checks that a report with these details is refused, since one has no id, and changes no total.
+fn refuses<R: AllocGlobal + Abort>(
+    rt: &R,
+    profiler: &mut GlobalProfiler,
+    details: &[ScopeDetails],
+) -> Outcome {
+    let before = profiler.totals();
+    let cause = report_with(rt, profiler, details, (300, 400)).err();
+    equal(rt, cause, Some(Error::MissingId));
+    equal(rt, profiler.totals(), before);
+    Ok(())
+}
+
+/// Checks that a report with details that have no id is refused, alone and behind details with one, and that what was
+/// reported before stays.
 fn without_an_id<R: AllocGlobal + Wait + Abort>(rt: &R, profiler: &mut GlobalProfiler) -> Outcome {
     report(rt, profiler, "a", 1, (100, 200))?;
-    let before = profiler.totals();
-    let details = [named("y").with_scope_id(id(2)?), named("x")];
-    for refused in [&details[1..], &details[..]] {
-        let cause = report_with(rt, profiler, refused, (300, 400)).err();
-        equal(rt, cause, Some(Error::MissingId));
-        equal(rt, profiler.totals(), before);
-    }
+    let alone = [named("x")];
+    refuses(rt, profiler, &alone)?;
+    let behind = [named("y").with_scope_id(id(2)?), named("x")];
+    refuses(rt, profiler, &behind)?;
     let frame = emitted(rt, profiler)?;
     holds(rt, &frame, "a", Some((31, 1)))?;
     assert!(rt; frame.scope_delta.is_empty());
