@@ -1,4 +1,4 @@
--- What a share counts and what it tells of the history, and how a call adds to it.
+-- What a share counts and what it knows of the history, and how a call adds to it.
 use Rattle.std.specs.Prelude.{◌≡◌, ℕ, List, [], ◌∷◌, ◌++◌, Option, Some, None, unwrap_or, refl}
 use Rattle.std.specs.Coded.{Coded, code_by, coded×, coded_list, coded_ℕ}
 use Rattle.std.specs.FinMap as map

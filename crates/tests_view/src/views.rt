@@ -274,7 +274,7 @@ fn selections_are_by_index(rt: HostRuntime) -> Outcome {
     Ok(())
 }
 
-/// Two recent frames, the first of which tells of a scope, and a slow one, none of them packed.
+/// Two recent frames, the first of which lists a scope, and a slow one. All three are unpacked.
 fn telling_view(rt: &HostRuntime) -> Result<FrameView> {
     let mut frames = view(rt, 2, 1, &[9, 1, 2])?;
     frames.set_pack_frames(false);
