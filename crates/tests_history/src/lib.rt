@@ -2,7 +2,11 @@
 #![tactic(auto)]
 
 #[cfg(test)]
+mod calls;
+#[cfg(test)]
 mod equal;
+#[cfg(test)]
+mod opened;
 #[cfg(test)]
 mod shares;
 #[cfg(test)]

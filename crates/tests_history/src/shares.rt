@@ -3,6 +3,7 @@
 ghost use Rattle.std.specs.Prelude.{◌≡◌};
 
 use crate::equal::equal;
+use crate::opened::opened;
 use history::{History, NewLog};
 use puffin::data::ScopeId;
 use puffin::global_profiler::{GlobalProfiler, Settled};
@@ -69,12 +70,8 @@ fn settled<L: Ledger + History, M: Ledger, R: Wait + Abort + Copy + Drop>(
     requires handed { (handed.name ≡ M.name) × (handed.parts ≡ M.parts) × (handed.parts ≡ 3) }
     requires log { log.name ≡ L.history }
 {
-    let profiler = GlobalProfiler::new(alloc);
-    let opened = HistoryProfiler::<L, M>::open(alloc, profiler, 3, reported, handed, log);
-    let Ok((profiler, shares)) = opened else {
-        return Err(Fail::new("no memory"));
-    };
-    let mut shares = shares;
+    let none = GlobalProfiler::new(alloc);
+    let (profiler, mut shares) = opened::<L, M>(alloc, none, 3, reported, handed, log)?;
     in_turn(rt, alloc, &profiler, &mut shares)?;
     let Ok(settled) = profiler.settle(&rt, shares) else {
         return Err(Fail::new("three shares are all"));
