@@ -14,7 +14,7 @@ import subprocess
 import sys
 
 from .. import common
-from . import promises, spec_files
+from . import drawing, promises, spec_files
 
 TOP = common.ROOT
 MOST_IN_THE_GATE = 12
@@ -133,6 +133,13 @@ def spec_files_that_are_not_listed():
         yield "docs/ARCHITECTURE.md: its tables of spec files are old; run: python3 -m tests.house.spec_files --write"
 
 
+def crates_that_are_not_drawn():
+    for name in drawing.without_words():
+        yield f"tests/house/drawing.py: its WORDS and crates.txt differ in {name}"
+    if not drawing.is_current():
+        yield "docs/crates.svg is old; run: python3 -m tests.house.drawing --write"
+
+
 def anchors(text):
     """What a document can be linked by: its headings, and what has an `<a id="..">`."""
     heads = re.findall(r"^#+ (.*)$", text, re.M)
@@ -166,6 +173,7 @@ RULES = (
     promises.bodies_in_another_row,
     spec_files_without_a_summary,
     spec_files_that_are_not_listed,
+    crates_that_are_not_drawn,
     broken_links,
 )
 

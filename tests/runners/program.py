@@ -13,7 +13,7 @@ from .. import common
 
 def main():
     crate = common.crate(sys.argv[1])
-    words = ["rt", "try", "--seconds", "100"]
+    words = ["rt", "try", "--seconds", "300"]
     ran = subprocess.run(words, cwd=crate.folder(), stdin=subprocess.DEVNULL, capture_output=True, timeout=900)
     count = common.Count()
     if not count.add(ran.returncode == 0 and ran.stdout == (crate.folder() / "stdout").read_bytes()):
