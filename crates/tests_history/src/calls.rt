@@ -1,12 +1,14 @@
 //! The other calls of a profiler with a history and of its reporter, checked by the frame that follows.
 
-ghost use Rattle.std.specs.Prelude.{◌≡◌};
+ghost use Rattle.std.specs.Prelude.{◌≡◌, IfOk};
+ghost use Rattle.puffin_data.specs.Forest.{Forest};
+ghost use Rattle.puffin_data.specs.Honesty.{IsHonest};
 
 use crate::equal::equal;
 use crate::opened::opened;
 use history::{History, NewLog};
 use puffin::ProfilerScope;
-use puffin::data::Form;
+use puffin::data::StreamInfo;
 use puffin::global_profiler::{GlobalProfiler, Sink};
 use puffin::profile_view::FrameView;
 use puffin::scope_details::{ScopeDetails, ScopeIds};
@@ -18,11 +20,19 @@ use std::process::Abort;
 use std::sync::ledger::{Blank, Ledger};
 use std::sync::{Arc, Mutex, Wait};
 use std::test::Fail;
-use tests_support::frames::{lists, packet_frame, packet_info, packet_thread};
-use tests_support::streams::id;
+use tests_support::frames::{lists, packet_frame, packet_thread};
+use tests_support::samples::ONE_SCOPE;
+use tests_support::streams::{id, stream_of};
 use tests_support::threads::main_thread;
 
 type Outcome = std::result::Result<(), Fail>;
+
+/// Makes the info of one scope.
+fn one_scope(alloc: Global) -> puffin::Result<StreamInfo>
+    ensures { IfOk result (λ info. (f : Forest) × IsHonest info f) }
+{
+    StreamInfo::parse(alloc, stream_of(alloc, &ONE_SCOPE)?)
+}
 
 /// Registers a scope, and reports the caller's own scope for each of three frames. The first frame lists the registered scope,
 /// the second none, and the third, for a snapshot, lists it again.
@@ -34,7 +44,7 @@ fn own_scopes_are_reported<L: Ledger + History, M: Ledger, R: Wait + Abort>(
 ) -> Outcome {
     let details = [ScopeDetails::from_scope_name(CowStr::Borrowed("u"))];
     let _ids = profiler.register_user_scopes(rt, &ScopeIds::new(), &details)?;
-    let info = packet_info(alloc, Form::Short)?;
+    let info = one_scope(alloc)?;
     for (wanted, scopes) in [(false, &[(1, "u")][..]), (false, &[]), (true, &[(1, "u")])] {
         if wanted {
             profiler.emit_scope_snapshot(rt);
