@@ -62,7 +62,8 @@ def install(prefix, library, kit):
         shutil.copyfile(CRATE / header, prefix / "include" / header)
     make_archive(prefix / "lib" / "libpuffin.a", library, kit)
     make_shared(prefix / "lib" / "libpuffin.so", prefix / "lib" / "libpuffin.a")
-    for name, folder in (("puffin.pc", "pkgconfig"), ("puffin-config.cmake", "cmake/puffin"), ("puffin-config-version.cmake", "cmake/puffin")):
+    texts = {"puffin.pc": "pkgconfig", "puffin-config.cmake": "cmake/puffin", "puffin-config-version.cmake": "cmake/puffin"}
+    for name, folder in texts.items():
         text = (HERE / f"{name}.in").read_text().replace("@VERSION@", version())
         (prefix / "lib" / folder / name).write_text(text)
 

@@ -198,7 +198,9 @@ class Programs:
         made = run("cmake", "-S", source, "-B", source / "build", f"-DCMAKE_PREFIX_PATH={prefix}")
         if self.check("cmake finds puffin", made.returncode == 0, made.stderr):
             made = run("cmake", "--build", source / "build")
-            self.check("first.c by cmake", made.returncode == 0 and run(source / "build" / "first", self.place / "file").returncode == 0, made.stdout)
+            if self.check("first.c is built by cmake", made.returncode == 0, made.stdout):
+                got = run(source / "build" / "first", self.place / "file")
+                self.check("first.c by cmake", got.returncode == 0, got.stderr)
 
     def bindings(self):
         """The Rust crate: its tests, and its examples, which profile themselves."""
@@ -210,7 +212,8 @@ class Programs:
         self.check("the tests of bindings/rust", got.returncode == 0, got.stdout + got.stderr)
         got = run("cargo", "run", "--offline", "--quiet", "--example", "turns", self.place / "file", **crate)
         self.check("turns.rs", got.returncode == 0, got.stderr)
-        self.check_report("puffin-tool reads the file of turns.rs", "1000:main-loop", lambda told: told.startswith(b"frames 3\n"))
+        is_told = lambda told: told.startswith(b"frames 3\n")
+        self.check_report("puffin-tool reads the file of turns.rs", "1000:main-loop", is_told)
         got = run("cargo", "run", "--offline", "--quiet", "--example", "rounds", self.place / "file", **crate)
         wanted = b"frame 0 scopes 18\nframe 1 scopes 18\nframe 2 scopes 18\nrefused 0\n"
         self.check("rounds.rs", got.returncode == 0 and got.stdout == wanted, got.stdout + got.stderr)
