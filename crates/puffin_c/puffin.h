@@ -1,13 +1,13 @@
 /* The calls of libpuffin_c.a, for C and C++ programs. docs/C.md says how to link it.
  *
- * Each call but puffin_sizes returns 0, or the number of a fault (below). A call that fails changes nothing, unless its
+ * Each call that returns a uint32_t returns 0, or the number of a fault (below). A call that fails changes nothing, unless its
  * comment says otherwise.
  *
  * A program has to follow these rules. Nothing checks them, either here or in the library:
  *
- * - Pass no NULL, not even with length 0. A pointer must point to as many bytes as its length says. While a call runs, no
- *   other thread may write bytes that the call reads, or read or write bytes that the call may write. No two parameters of a
- *   call may overlap, unless both are only read.
+ * - Pass no NULL, except for a text or for bytes that a call only reads (const uint8_t *), if their length is 0. A pointer must
+ *   point to as many bytes as its length says. While a call runs, no other thread may write bytes that the call reads, or read
+ *   or write bytes that the call may write. No two parameters of a call may overlap, unless both are only read.
  * - Fill a handle (PuffinIds, PuffinThread, PuffinProfiler) with zeros ({0}) before its first call. It isn't open then:
  *   every call on it except the one that opens it fails with PUFFIN_NOT_OPEN. Don't read or write its fields, and don't copy
  *   it. Close an open handle before its storage goes away; otherwise its memory leaks.
@@ -25,6 +25,20 @@
 extern "C" {
 #endif
 
+/* ---- versions: of this header, and of the library that is linked */
+
+#define PUFFIN_VERSION_MAJOR 0
+#define PUFFIN_VERSION_MINOR 20
+#define PUFFIN_VERSION_PATCH 0
+
+typedef struct PuffinVersion {
+    uint32_t major, minor, patch;
+} PuffinVersion;
+
+PuffinVersion puffin_version(void);
+
+/* ---- faults */
+
 enum {
     PUFFIN_OK = 0,
     PUFFIN_PREMATURE_END = 1,     /* the bytes end within a scope, or an id in them is 0 */
@@ -34,8 +48,10 @@ enum {
     PUFFIN_RANGE_TOO_LONG = 7,    /* the frame's duration wouldn't fit int64_t */
     PUFFIN_MISMATCHED_END = 8,    /* the scope isn't the innermost open one */
     PUFFIN_SCOPES_OPEN = 9,       /* a report while a scope is open */
+    PUFFIN_MISSING_ID = 10,       /* only of a file: scope details without an id */
     PUFFIN_IDS_EXHAUSTED = 11,    /* all ids are used up */
     PUFFIN_INDEX_EXHAUSTED = 12,  /* the frame's index is the last one */
+    PUFFIN_TOO_DEEP = 14,         /* only of a report on a file: a scope is nested in 1,024 others */
     PUFFIN_MEMORY = 16,           /* an allocation failed */
     PUFFIN_UNLIKE_FORMS = 17,     /* long and short texts under one thread's name and start */
     PUFFIN_NOT_TEXT = 32,         /* a text isn't UTF-8 */
@@ -57,6 +73,13 @@ enum {
     PUFFIN_FILE_REFUSED = 77        /* + 256 * one of the faults from 1 to 17 */
 };
 
+/* Copies the name that a number has here to the front of name, as much of it as fits, and returns the size of the whole name in
+ * bytes. No zero is added: fill name with zeros first. A file that is refused for another fault has both names, as in
+ * "PUFFIN_FILE_REFUSED + 256 * PUFFIN_TOO_DEEP". Returns 0 if no call returns the number. */
+size_t puffin_fault_name(uint32_t fault, char *name, size_t room);
+/* No name is longer, with a zero. */
+enum { PUFFIN_FAULT_NAME_ROOM = 64 };
+
 /* ---- bytes of any origin */
 
 /* The counts of a stream. */
@@ -70,9 +93,10 @@ typedef struct PuffinCount {
  * PUFFIN_MEMORY; only count->tries is set then. */
 uint32_t puffin_count(const uint8_t *bytes, size_t size, bool long_texts, PuffinCount *count);
 
-/* Reads a file, and sets *frames to the number of its frames. Fails with the first fault in the file; *frames is then the
- * number of frames that were read before the fault, or before memory ran out. */
-uint32_t puffin_check_file(const uint8_t *file, size_t size, uint64_t *frames);
+/* Reads a file, and sets *frames to the number of its frames, and *offset to the offset at which the last of them ends. Fails
+ * with the first fault in the file; *frames is then the number of frames that were read before the fault, or before memory ran
+ * out. The fault is in the next frame, which begins at *offset, or at the file's beginning if *offset is 0. */
+uint32_t puffin_check_file(const uint8_t *file, size_t size, uint64_t *frames, uint64_t *offset);
 
 /* Reports on a file for the thread with this name and this start, or with this name and no start if has_start isn't set.
  * Copies the report to the front of out, as much of it as fits, and sets *size to the size of the whole report in bytes.
@@ -80,6 +104,12 @@ uint32_t puffin_check_file(const uint8_t *file, size_t size, uint64_t *frames);
  * file. */
 uint32_t puffin_report_file(const uint8_t *file, size_t file_size, bool has_start, int64_t start_ns, const uint8_t *name,
                             size_t name_size, uint8_t *out, size_t room, uint64_t *size);
+
+/* ---- a clock */
+
+/* Returns the time in nanoseconds by the system's monotonic clock, which has one start for all threads. Returns 0 if the clock
+ * can't be read. A program may also pass times of its own. */
+int64_t puffin_now_ns(void);
 
 /* ---- ids, which threads and profilers share */
 
@@ -132,7 +162,7 @@ typedef struct PuffinFrame {
     bool is_some; /* whether there is a frame: none is made if no scope was reported */
 } PuffinFrame;
 
-/* The view keeps the last 1,000 frames and the 256 slowest ones. */
+/* The view keeps the last 1,000 frames and the 256 slowest ones, unless puffin_set_limits sets other limits. */
 uint32_t puffin_profiler_open(PuffinProfiler *profiler, PuffinIds *ids);
 uint32_t puffin_profiler_close(PuffinProfiler *profiler);
 
@@ -150,20 +180,95 @@ uint32_t puffin_user_scopes(PuffinProfiler *profiler, bool has_start, int64_t st
  * fails, nothing is lost: if the view has no memory for the frame, the frame waits, and the next call adds it instead of
  * making a new one. */
 uint32_t puffin_new_frame(PuffinProfiler *profiler, PuffinFrame *frame);
-/* Makes the next frame list every known scope, not only the new ones. */
+/* Makes the next frame list every known scope, not only the new ones. A program that begins a new file calls it, so that the
+ * file has all names. */
 uint32_t puffin_snapshot(PuffinProfiler *profiler);
+
+/* Sets how many recent and how many slow frames the view keeps at most. This takes effect when the next frame is added. */
+uint32_t puffin_set_limits(PuffinProfiler *profiler, size_t recent, size_t slow);
+/* Drops all frames of the view, recent and slow, and keeps its limits. What waits for the next frame stays. */
+uint32_t puffin_view_clear(PuffinProfiler *profiler);
 
 /* Makes a .puffin file in memory from the view's frames, and sets *size to its size in bytes. */
 uint32_t puffin_file_begin(PuffinProfiler *profiler, uint64_t *size);
 /* Copies that file's next bytes to the front of out, as many as fit, and sets *size to how many were copied: 0 at the end. */
 uint32_t puffin_file_next(PuffinProfiler *profiler, uint8_t *out, size_t room, uint64_t *size);
 
+/* A file consists of these four letters and of packets, so a program can write it as frames come. */
+#define PUFFIN_FILE_START "PUF0"
+/* Makes the packet of the view's newest frame in memory, and sets *size to its size in bytes, or to 0 if the view keeps no
+ * recent frame. */
+uint32_t puffin_frame_begin(PuffinProfiler *profiler, uint64_t *size);
+/* Copies that packet's next bytes to the front of out, as many as fit, and sets *size to how many were copied: 0 at the end. */
+uint32_t puffin_frame_next(PuffinProfiler *profiler, uint8_t *out, size_t room, uint64_t *size);
+
 /* ---- sizes in bytes of these structs, for a program that compares its header with the library */
 
-typedef struct PuffinSizes {
-    uint64_t count, frame, ids, thread, profiler;
-} PuffinSizes;
-void puffin_sizes(PuffinSizes *sizes);
+enum {
+    PUFFIN_SIZE_OF_COUNT,
+    PUFFIN_SIZE_OF_FRAME,
+    PUFFIN_SIZE_OF_IDS,
+    PUFFIN_SIZE_OF_THREAD,
+    PUFFIN_SIZE_OF_PROFILER,
+    PUFFIN_SIZES /* how many sizes this header knows */
+};
+/* Copies the sizes to the front of sizes, at most room of them, and returns how many the library has. */
+size_t puffin_sizes(uint64_t *sizes, size_t room);
+
+/* ---- empty texts: the calls above get a pointer that isn't NULL */
+
+#ifdef __cplusplus
+#define PUFFIN_INLINE_ inline
+#else
+#define PUFFIN_INLINE_ static inline
+#endif
+
+PUFFIN_INLINE_ const uint8_t *puffin_bytes_(const uint8_t *bytes) {
+    return bytes ? bytes : (const uint8_t *)"";
+}
+PUFFIN_INLINE_ uint32_t puffin_count_(const uint8_t *bytes, size_t size, bool long_texts, PuffinCount *count) {
+    return puffin_count(puffin_bytes_(bytes), size, long_texts, count);
+}
+PUFFIN_INLINE_ uint32_t puffin_check_file_(const uint8_t *file, size_t size, uint64_t *frames, uint64_t *offset) {
+    return puffin_check_file(puffin_bytes_(file), size, frames, offset);
+}
+PUFFIN_INLINE_ uint32_t puffin_report_file_(const uint8_t *file, size_t file_size, bool has_start, int64_t start_ns,
+                                            const uint8_t *name, size_t name_size, uint8_t *out, size_t room,
+                                            uint64_t *size) {
+    return puffin_report_file(puffin_bytes_(file), file_size, has_start, start_ns, puffin_bytes_(name), name_size, out, room,
+                              size);
+}
+PUFFIN_INLINE_ uint32_t puffin_thread_open_(PuffinThread *thread, PuffinIds *ids, const uint8_t *name, size_t name_size,
+                                            bool long_texts) {
+    return puffin_thread_open(thread, ids, puffin_bytes_(name), name_size, long_texts);
+}
+PUFFIN_INLINE_ uint32_t puffin_register_function_(PuffinThread *thread, const uint8_t *function, size_t function_size,
+                                                  const uint8_t *file, size_t file_size, uint32_t line, uint32_t *id) {
+    return puffin_register_function(thread, puffin_bytes_(function), function_size, puffin_bytes_(file), file_size, line, id);
+}
+PUFFIN_INLINE_ uint32_t puffin_register_scope_(PuffinThread *thread, const uint8_t *name, size_t name_size,
+                                               const uint8_t *function, size_t function_size, const uint8_t *file,
+                                               size_t file_size, uint32_t line, uint32_t *id) {
+    return puffin_register_scope(thread, puffin_bytes_(name), name_size, puffin_bytes_(function), function_size,
+                                 puffin_bytes_(file), file_size, line, id);
+}
+PUFFIN_INLINE_ uint32_t puffin_begin_(PuffinThread *thread, int64_t now_ns, uint32_t id, const uint8_t *text,
+                                      size_t text_size, uint64_t *scope) {
+    return puffin_begin(thread, now_ns, id, puffin_bytes_(text), text_size, scope);
+}
+PUFFIN_INLINE_ uint32_t puffin_user_scopes_(PuffinProfiler *profiler, bool has_start, int64_t start_ns, const uint8_t *name,
+                                            size_t name_size, const uint8_t *bytes, size_t size, bool long_texts) {
+    return puffin_user_scopes(profiler, has_start, start_ns, puffin_bytes_(name), name_size, puffin_bytes_(bytes), size,
+                              long_texts);
+}
+#define puffin_count puffin_count_
+#define puffin_check_file puffin_check_file_
+#define puffin_report_file puffin_report_file_
+#define puffin_thread_open puffin_thread_open_
+#define puffin_register_function puffin_register_function_
+#define puffin_register_scope puffin_register_scope_
+#define puffin_begin puffin_begin_
+#define puffin_user_scopes puffin_user_scopes_
 
 #ifdef __cplusplus
 }

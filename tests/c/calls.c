@@ -80,7 +80,7 @@ static void *record(void *given) {
     CALL(puffin_register_scope(&thread, TEXT("part"), TEXT("record"), TEXT("calls.c"), 60, &part));
     int64_t now = work->start;
     for (int round = 0; round < 2; round++) {
-        CALL(puffin_begin(&thread, now, whole, TEXT(""), &outer));
+        CALL(puffin_begin(&thread, now, whole, NULL, 0, &outer));
         pthread_mutex_lock(&lock);
         is("a report while a scope is open", puffin_report(&thread, &profiler), PUFFIN_SCOPES_OPEN);
         pthread_mutex_unlock(&lock);
@@ -120,6 +120,10 @@ static void refusals(void) {
     is("report", puffin_report(&none, &profiler), PUFFIN_NOT_OPEN);
     is("new frame", puffin_new_frame(&nothing, &frame), PUFFIN_NOT_OPEN);
     is("snapshot", puffin_snapshot(&nothing), PUFFIN_NOT_OPEN);
+    is("limits", puffin_set_limits(&nothing, 1, 1), PUFFIN_NOT_OPEN);
+    is("clear", puffin_view_clear(&nothing), PUFFIN_NOT_OPEN);
+    is("packet", puffin_frame_begin(&nothing, &number), PUFFIN_NOT_OPEN);
+    is("packet", puffin_frame_next(&nothing, out, 1, &number), PUFFIN_NOT_OPEN);
     is("file", puffin_file_begin(&nothing, &number), PUFFIN_NOT_OPEN);
     is("file", puffin_file_next(&nothing, out, 1, &number), PUFFIN_NOT_OPEN);
     CALL(puffin_thread_open(&thread, &ids, TEXT("t"), false));
@@ -141,7 +145,7 @@ static const uint8_t one_scope[31] = {'(', 1, 0, 0, 0, 5, 0, 0, 0, 0, 0, 0, 0, 0
 
 static void counting(void) {
     PuffinCount count = {0};
-    CALL(puffin_count(one_scope, 0, false, &count));
+    CALL(puffin_count(NULL, 0, false, &count));
     is("scopes", count.scopes, 0);
     is("start", (uint64_t)count.start_ns, (uint64_t)INT64_MAX);
     is("stop", (uint64_t)count.stop_ns, (uint64_t)INT64_MIN);
@@ -165,6 +169,63 @@ static void user_scopes(void) {
     REFUSED("long texts", puffin_user_scopes(&profiler, true, 5, TEXT("gpu"), one_scope, 31, true), PUFFIN_UNLIKE_FORMS);
 }
 
+/* The name of a number is the one that the header gives it. */
+static void is_named(uint32_t fault, const char *name) {
+    char got[PUFFIN_FAULT_NAME_ROOM] = {0};
+    is(name, puffin_fault_name(fault, got, sizeof got), strlen(name));
+    is(got, strcmp(got, name) == 0, true);
+}
+#define NAMED(fault) is_named(fault, #fault)
+
+static void names(void) {
+    char few[5] = {0};
+    NAMED(PUFFIN_OK);
+    NAMED(PUFFIN_PREMATURE_END);
+    NAMED(PUFFIN_INVALID_STREAM);
+    NAMED(PUFFIN_SCOPE_NEVER_ENDED);
+    NAMED(PUFFIN_TOO_LARGE);
+    NAMED(PUFFIN_RANGE_TOO_LONG);
+    NAMED(PUFFIN_MISMATCHED_END);
+    NAMED(PUFFIN_SCOPES_OPEN);
+    NAMED(PUFFIN_MISSING_ID);
+    NAMED(PUFFIN_IDS_EXHAUSTED);
+    NAMED(PUFFIN_INDEX_EXHAUSTED);
+    NAMED(PUFFIN_TOO_DEEP);
+    NAMED(PUFFIN_MEMORY);
+    NAMED(PUFFIN_UNLIKE_FORMS);
+    NAMED(PUFFIN_NOT_TEXT);
+    NAMED(PUFFIN_NO_ID);
+    NAMED(PUFFIN_NOT_OPEN);
+    NAMED(PUFFIN_IS_OPEN);
+    NAMED(PUFFIN_FILE_NO_MAGIC);
+    NAMED(PUFFIN_FILE_TRUNCATED);
+    NAMED(PUFFIN_FILE_LEGACY);
+    NAMED(PUFFIN_FILE_NEWER);
+    NAMED(PUFFIN_FILE_UNKNOWN_KIND);
+    is_named(PUFFIN_FILE_UNKNOWN_KIND + 256 * 9, "PUFFIN_FILE_UNKNOWN_KIND");
+    NAMED(PUFFIN_FILE_COMPRESSED);
+    is_named(PUFFIN_FILE_COMPRESSED + 256 * 2, "PUFFIN_FILE_COMPRESSED");
+    NAMED(PUFFIN_FILE_BAD_META);
+    NAMED(PUFFIN_FILE_BAD_STREAMS);
+    NAMED(PUFFIN_FILE_BAD_SCOPES);
+    NAMED(PUFFIN_FILE_BAD_RANGE);
+    NAMED(PUFFIN_FILE_PART_TOO_LONG);
+    NAMED(PUFFIN_FILE_REFUSED + 256 * PUFFIN_PREMATURE_END);
+    NAMED(PUFFIN_FILE_REFUSED + 256 * PUFFIN_MISSING_ID);
+    NAMED(PUFFIN_FILE_REFUSED + 256 * PUFFIN_TOO_DEEP);
+    NAMED(PUFFIN_FILE_REFUSED + 256 * PUFFIN_UNLIKE_FORMS);
+    is_named(PUFFIN_FILE_REFUSED, "");
+    is_named(PUFFIN_FILE_REFUSED + 256 * 18, "");
+    is_named(PUFFIN_PREMATURE_END + 256, "");
+    is_named(18, "");
+    is_named(36, "");
+    is_named(64, "");
+    is_named(79, "");
+    is_named(UINT32_MAX, "");
+    is("a cut name", puffin_fault_name(PUFFIN_NO_ID, few, 4), 12);
+    is("a name's beginning", strcmp(few, "PUFF") == 0, true);
+}
+
 static size_t read_file(uint8_t *file, uint64_t size) {
     uint64_t got = 1, all = 0;
     while (got) {
@@ -175,24 +236,65 @@ static size_t read_file(uint8_t *file, uint64_t size) {
     return all;
 }
 
+/* The packet of the newest frame is what the file of that frame alone has behind its first four bytes. */
+static void packets(const uint8_t *file, uint64_t size) {
+    uint64_t packet_size = 0, got = 1, all = 0;
+    static uint8_t packet[4096];
+    CALL(puffin_frame_begin(&profiler, &packet_size));
+    is("bytes of the packet", packet_size, size - 4);
+    while (got) {
+        CALL(puffin_frame_next(&profiler, packet + all, 33, &got));
+        all += got;
+    }
+    is("bytes that were read", all, packet_size);
+    is("the packet", memcmp(packet, file + 4, size - 4) == 0, true);
+    is("the file's beginning", memcmp(PUFFIN_FILE_START, file, 4) == 0, true);
+}
+
+/* A view that is cleared has no frames, and keeps as many as its limits say. */
+static void views(void) {
+    uint64_t size = 7;
+    PuffinFrame frame = {0};
+    CALL(puffin_view_clear(&profiler));
+    CALL(puffin_file_begin(&profiler, &size));
+    is("a file of no frames", size, 4);
+    CALL(puffin_frame_begin(&profiler, &size));
+    is("a packet of no frame", size, 0);
+    CALL(puffin_set_limits(&profiler, 1, 0));
+    for (int i = 0; i < 3; i++) {
+        CALL(puffin_user_scopes(&profiler, true, 5, TEXT("gpu"), one_scope, 31, false));
+        CALL(puffin_new_frame(&profiler, &frame));
+    }
+    CALL(puffin_frame_begin(&profiler, &size));
+    uint64_t packet_size = size;
+    CALL(puffin_file_begin(&profiler, &size));
+    is("a file of one frame", size, packet_size + 4);
+}
+
 static void reading(const char *path) {
-    uint64_t size = 0, frames = 0, lines = 0;
+    uint64_t size = 0, frames = 0, lines = 0, end = 7;
     static uint8_t file[4096], out[2000];
     CALL(puffin_file_begin(&profiler, &size));
     is("bytes of the file", read_file(file, size), size);
+    packets(file, size);
     FILE *written = fopen(path, "wb");
     fwrite(file, 1, size, written);
     fclose(written);
-    CALL(puffin_check_file(file, size, &frames));
+    CALL(puffin_check_file(file, size, &frames, &end));
     is("frames", frames, 1);
+    is("the frame's end", end, size);
     /* the same packet once more, which is then cut */
     memcpy(file + size, file + 4, size - 4);
-    CALL(puffin_check_file(file, 2 * size - 4, &frames));
+    CALL(puffin_check_file(file, 2 * size - 4, &frames, &end));
     is("frames", frames, 2);
-    is("a cut file", puffin_check_file(file, 2 * size - 5, &frames), PUFFIN_FILE_TRUNCATED);
+    is("the last frame's end", end, 2 * size - 4);
+    is("a cut file", puffin_check_file(file, 2 * size - 5, &frames, &end), PUFFIN_FILE_TRUNCATED);
     is("frames before the cut", frames, 1);
-    is("no file", puffin_check_file(TEXT("XUF0"), &frames), PUFFIN_FILE_NO_MAGIC);
+    is("where the cut frame begins", end, size);
+    is("no file", puffin_check_file(TEXT("XUF0"), &frames, &end), PUFFIN_FILE_NO_MAGIC);
     is("frames of no file", frames, 0);
+    is("where no file begins", end, 0);
+    is("no bytes", puffin_check_file(NULL, 0, &frames, &end), PUFFIN_FILE_NO_MAGIC);
     CALL(puffin_report_file(file, size, true, 1000, TEXT("main"), out, sizeof out, &lines));
     fwrite(out, 1, lines, stdout);
     CALL(puffin_report_file(file, size, true, 5, TEXT("gpu"), out, sizeof out, &lines));
@@ -214,6 +316,7 @@ int main(int argc, char **argv) {
     CALL(puffin_ids_open(&ids));
     CALL(puffin_profiler_open(&profiler, &ids));
     refusals();
+    names();
     counting();
     for (int i = 0; i < 2; i++) {
         pthread_create(&threads[i], NULL, record, &works[i]);
@@ -237,6 +340,7 @@ int main(int argc, char **argv) {
     counts = false;
     reading(argv[1]);
     counts = true;
+    views();
     CALL(puffin_ids_close(&ids));
     CALL(puffin_profiler_close(&profiler));
     counts = false;

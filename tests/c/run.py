@@ -3,8 +3,8 @@
     python3 -m tests.c.run LIBRARY KIT_LIBRARY [TOOL]
 
 LIBRARY is libpuffin_c.a, KIT_LIBRARY the kit's c/liblibc_c.a, and TOOL puffin-tool, which reports the files. A C compiler is
-needed: `cc`, or what CC names. What else isn't there (a C++ compiler, rustc, valgrind) is left out and named, and so is
-puffin-tool without TOOL. The last line is 'N passed, M failed'.
+needed: `cc`, or what CC names. What else isn't there (a C++ compiler, cargo, valgrind, the thread sanitizer, pkg-config, cmake)
+is left out and named, and so is puffin-tool without TOOL. The last line is 'N passed, M failed'.
 """
 
 import os
@@ -19,9 +19,12 @@ from .. import common
 
 HERE = pathlib.Path(__file__).resolve().parent
 HEADER = common.ROOT / "crates" / "puffin_c"
+BINDINGS = common.ROOT / "bindings"
 C_COMPILER = os.environ.get("CC", "cc")
 STRICT = ["-Wall", "-Wextra", "-Werror", "-I", HEADER]
 WRAPPED = ["-Wl,--wrap=malloc", "-Wl,--wrap=realloc"]
+# frames of the long session
+FRAMES = 100_000
 CALLS_REPORT = (
     b"frames 1\n",
     b"record pieces 2 total 800 per_frame 800 max 400 ",
@@ -30,8 +33,17 @@ CALLS_REPORT = (
 )
 
 
-def run(*words):
-    return subprocess.run([str(word) for word in words], capture_output=True, timeout=300)
+def run(*words, cwd=None, **variables):
+    words = [str(word) for word in words]
+    variables = {name: str(value) for name, value in variables.items()}
+    return subprocess.run(words, capture_output=True, timeout=300, cwd=cwd, env={**os.environ, **variables})
+
+
+def is_there(program):
+    """Whether a program is installed; says so if it isn't."""
+    if not shutil.which(program):
+        print(f"left out: {program}")
+    return bool(shutil.which(program))
 
 
 def numbers(said):
@@ -92,8 +104,7 @@ class Programs:
             calls += told
             self.check(f"allocation {refused} refused", got.returncode == 0 and made >= refused and told <= 1, got.stderr + got.stdout)
         self.check("some call is refused for memory", calls > 0)
-        if not shutil.which("valgrind"):
-            print("left out: valgrind")
+        if not is_there("valgrind"):
             return
         for refused in (0, number // 3, number - 2):
             got = run("valgrind", "--error-exitcode=9", "--leak-check=full", "-q", program, self.place / "file", refused)
@@ -113,27 +124,99 @@ class Programs:
 
     def sizes(self, compiler, more):
         """The sizes of the header's types, by one compiler."""
-        if not shutil.which(compiler):
-            print(f"left out: {compiler}")
+        if not is_there(compiler):
             return
         words = [compiler, "-I", HEADER, *more, HERE / "sizes.c", *(["-x", "none"] if more else []), self.library, self.kit]
         if self.built(f"sizes.c by {compiler}", *words, "-o", self.place / "sizes"):
             got = run(self.place / "sizes")
             self.check(f"sizes.c by {compiler}", got.returncode == 0, got.stdout)
 
-    def game(self):
-        """The program in Rust."""
-        if not shutil.which("rustc"):
-            print("left out: rustc")
+    def headers(self):
+        """The headers by themselves, as the strictest programs compile them."""
+        strict = ["-Wall", "-Wextra", "-Werror", "-pedantic", "-I", HEADER, "-fsyntax-only"]
+        source = self.place / "header"
+        source.write_text('#include "puffin.h"\n')
+        self.built("puffin.h as C99", C_COMPILER, "-std=c99", *strict, "-x", "c", source)
+        if is_there("c++"):
+            self.built("puffin.h as C++17", "c++", "-std=c++17", *strict, "-x", "c++", source)
+            source.write_text('#include "puffin.hpp"\n')
+            self.built("puffin.hpp", "c++", "-std=c++17", "-fno-exceptions", *strict, "-x", "c++", source)
+
+    def scopes(self):
+        """The program over puffin.hpp, on two threads; also where the sanitizer watches them."""
+        if not is_there("c++"):
             return
-        words = ["-O", "--edition", "2024"]
-        for library in (self.library, self.kit):
-            words += ["-L", f"native={library.parent}", "-l", f"static={library.stem.removeprefix('lib')}"]
-        if self.built("game.rs", "rustc", *words, HERE / "game.rs", "-o", self.place / "game"):
-            got = run(self.place / "game", self.place / "file")
-            self.check("game.rs", got.returncode == 0, got.stderr)
-            is_told = lambda told: told.startswith(b"frames 3\n")
-            self.check_report("puffin-tool reads the file of game.rs", "1000:main-loop", is_told)
+        words = ["-std=c++17", *STRICT, "-pedantic", HERE / "scopes.cc", self.library, self.kit, "-lpthread"]
+        for name, more in (("scopes.cc", []), ("scopes.cc with the thread sanitizer", ["-fsanitize=thread", "-g"])):
+            program = self.place / "scopes"
+            if more and run("c++", *more, *words, "-o", program).returncode:
+                print("left out: the thread sanitizer")
+            elif self.built(name, "c++", *more, *words, "-o", program):
+                got = run(program, self.place / "file")
+                self.check(name, got.returncode == 0, got.stderr)
+
+    def long(self):
+        """A long session, in files that are read as soon as they are whole, and in little memory."""
+        words = ["-std=gnu11", *STRICT, "-O1", HERE / "long.c", self.library, self.kit]
+        program = self.place / "long"
+        if not self.built("long.c", C_COMPILER, *words, "-o", program):
+            return
+        got = run(program, FRAMES, self.place)
+        self.check("long.c", got.returncode == 0 and got.stdout == b"frames %d\n" % FRAMES, got.stderr)
+        if is_there("valgrind"):
+            got = run("valgrind", "--error-exitcode=9", "--leak-check=full", "-q", program, 200, self.place)
+            self.check("long.c by valgrind", got.returncode == 0, got.stderr)
+
+    def installed(self):
+        """What bindings/c/install.py installs, used by pkg-config and by CMake."""
+        prefix = self.place / "prefix"
+        got = run(sys.executable, BINDINGS / "c" / "install.py", prefix, self.library, self.kit)
+        if not self.check("the library is installed", got.returncode == 0, got.stderr):
+            return
+        if is_there("pkg-config"):
+            where = {"PKG_CONFIG_PATH": prefix / "lib" / "pkgconfig"}
+            flags = run("pkg-config", "--cflags", "--libs", "--static", "puffin", **where).stdout.decode().split()
+            words = [C_COMPILER, "-std=gnu11", HERE / "first.c", *flags, "-o", self.place / "by_pkg_config"]
+            if self.built("first.c by pkg-config", *words):
+                got = run(self.place / "by_pkg_config", self.place / "file", LD_LIBRARY_PATH=prefix / "lib")
+                self.check("first.c by pkg-config", got.returncode == 0, got.stderr)
+        if is_there("cmake"):
+            self.by_cmake(prefix)
+        shared = prefix / "lib" / "libpuffin.so"
+        if shared.is_file() and is_there("nm"):
+            names = {line.split()[-1] for line in run("nm", "-D", "--defined-only", shared).stdout.splitlines()}
+            hidden = [name for name in names if not name.startswith(b"puffin_")]
+            self.check("libpuffin.so shows only puffin_*", names and not hidden, b" ".join(hidden))
+
+    def by_cmake(self, prefix):
+        source = self.place / "cmake"
+        source.mkdir()
+        (source / "CMakeLists.txt").write_text(
+            "cmake_minimum_required(VERSION 3.10)\nproject(first C)\nfind_package(puffin 0.20 REQUIRED)\n"
+            f"add_executable(first {HERE / 'first.c'})\ntarget_link_libraries(first puffin::puffin)\n"
+        )
+        made = run("cmake", "-S", source, "-B", source / "build", f"-DCMAKE_PREFIX_PATH={prefix}")
+        if self.check("cmake finds puffin", made.returncode == 0, made.stderr):
+            made = run("cmake", "--build", source / "build")
+            if self.check("first.c is built by cmake", made.returncode == 0, made.stdout):
+                got = run(source / "build" / "first", self.place / "file")
+                self.check("first.c by cmake", got.returncode == 0, got.stderr)
+
+    def bindings(self):
+        """The Rust crate: its tests, and its examples, which profile themselves."""
+        if not is_there("cargo"):
+            return
+        crate = {"cwd": BINDINGS / "rust", "CARGO_TARGET_DIR": self.place / "target"}
+        crate |= {"PUFFIN_LIBRARY": self.library, "PUFFIN_KIT_LIBRARY": self.kit}
+        got = run("cargo", "test", "--offline", "--quiet", **crate)
+        self.check("the tests of bindings/rust", got.returncode == 0, got.stdout + got.stderr)
+        got = run("cargo", "run", "--offline", "--quiet", "--example", "turns", self.place / "file", **crate)
+        self.check("turns.rs", got.returncode == 0, got.stderr)
+        is_told = lambda told: told.startswith(b"frames 3\n")
+        self.check_report("puffin-tool reads the file of turns.rs", "1000:main-loop", is_told)
+        got = run("cargo", "run", "--offline", "--quiet", "--example", "rounds", self.place / "file", **crate)
+        wanted = b"frame 0 scopes 18\nframe 1 scopes 18\nframe 2 scopes 18\nrefused 0\n"
+        self.check("rounds.rs", got.returncode == 0 and got.stdout == wanted, got.stdout + got.stderr)
 
 
 def main():
@@ -146,11 +229,15 @@ def main():
             return programs.count.end()
         if not tool:
             print("left out: puffin-tool")
+        programs.headers()
         programs.calls()
         programs.first()
         programs.sizes(C_COMPILER, [])
         programs.sizes("c++", ["-x", "c++"])
-        programs.game()
+        programs.scopes()
+        programs.long()
+        programs.installed()
+        programs.bindings()
     return programs.count.end()
 
 

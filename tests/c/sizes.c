@@ -25,17 +25,24 @@ static void put_scope(uint8_t *at, uint8_t start, uint8_t stop, uint8_t children
 int main(void) {
     /* From 5 to 9, with two scopes in it. */
     static uint8_t bytes[93];
-    PuffinSizes sizes;
+    uint64_t sizes[PUFFIN_SIZES + 1] = {0}, few[2] = {0};
+    PuffinVersion version = puffin_version();
     PuffinCount count;
     put_scope(bytes, 5, 9, 62);
     put_scope(bytes + 22, 6, 7, 0);
     put_scope(bytes + 53, 7, 8, 0);
-    puffin_sizes(&sizes);
-    is("PuffinCount", sizes.count, sizeof(PuffinCount));
-    is("PuffinFrame", sizes.frame, sizeof(PuffinFrame));
-    is("PuffinIds", sizes.ids, sizeof(PuffinIds));
-    is("PuffinThread", sizes.thread, sizeof(PuffinThread));
-    is("PuffinProfiler", sizes.profiler, sizeof(PuffinProfiler));
+    is("major version", version.major, PUFFIN_VERSION_MAJOR);
+    is("minor version", version.minor, PUFFIN_VERSION_MINOR);
+    is("patch version", version.patch, PUFFIN_VERSION_PATCH);
+    is("sizes", puffin_sizes(sizes, PUFFIN_SIZES + 1), PUFFIN_SIZES);
+    is("PuffinCount", sizes[PUFFIN_SIZE_OF_COUNT], sizeof(PuffinCount));
+    is("PuffinFrame", sizes[PUFFIN_SIZE_OF_FRAME], sizeof(PuffinFrame));
+    is("PuffinIds", sizes[PUFFIN_SIZE_OF_IDS], sizeof(PuffinIds));
+    is("PuffinThread", sizes[PUFFIN_SIZE_OF_THREAD], sizeof(PuffinThread));
+    is("PuffinProfiler", sizes[PUFFIN_SIZE_OF_PROFILER], sizeof(PuffinProfiler));
+    is("past the sizes", sizes[PUFFIN_SIZES], 0);
+    is("sizes", puffin_sizes(few, 1), PUFFIN_SIZES);
+    is("one size", few[0] == sizeof(PuffinCount) && few[1] == 0, 1);
     is("count", puffin_count(bytes, sizeof bytes, false, &count), PUFFIN_OK);
     is("scopes", count.scopes, 3);
     is("depth", count.depth, 2);

@@ -22,7 +22,7 @@ use Rattle.puffin_c.specs.declared.fault.Fault.TheVariants as fault
 use Rattle.puffin_c.specs.declared.profiler.Profiler.{Profiler}
 use Rattle.puffin_c.specs.Faults.{file_fault}
 use Rattle.puffin_c.specs.Recording.{IsNoText}
-use Rattle.puffin_c.specs.Profiling.{TakesOwn}
+use Rattle.puffin_c.specs.Profiling.{TakesOwn, HasLongNewest}
 
 pub nothing_held : {X : Type 0} (o : Option X) (is_open : Bool) → is_open ≡ is_some o → is_open ≡ false → o ≡ None
 nothing_held None is_open e f = refl
@@ -68,6 +68,13 @@ file_refusal here q e f same is (inl (long, any)) =
     inr (is ∙ ap file_fault long, subst (λ (p : Profiler). Any HasLongPart (fields_in (view_of p.view))) same any)
 file_refusal here q e f same is (inr (inl memory)) = inl (is ∙ ap file_fault memory)
 file_refusal here q e f same is (inr (inr io)) = inl (is ∙ ap file_fault io)
+
+pub packet_refusal : (here q : Profiler) (e : FileError) (f : Fault) → here ≡ q → f ≡ file_fault e →
+    (((e ≡ file.PartTooLong) × HasLongNewest here) ⊎ (e ≡ file.Memory) ⊎ (e ≡ file.Io)) →
+    (f ≡ fault.Refused error.Memory) ⊎ ((f ≡ fault.File file.PartTooLong) × HasLongNewest q)
+packet_refusal here q e f same is (inl (long, any)) = inr (is ∙ ap file_fault long, subst HasLongNewest same any)
+packet_refusal here q e f same is (inr (inl memory)) = inl (is ∙ ap file_fault memory)
+packet_refusal here q e f same is (inr (inr io)) = inl (is ∙ ap file_fault io)
 
 -- scopes of the program's own whose name is refused, and whose bytes are
 pub name_refused : (p : Option Profiler) (held : (q : Profiler) × (p ≡ Some q)) (key : ThreadKey) (form : Form) (bytes : List ℕ) (f e : Fault) →

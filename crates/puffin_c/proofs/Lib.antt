@@ -1,4 +1,5 @@
 pub mod Codes
+pub mod FaultNames
 pub mod Frames
 pub mod GivenFrames
 pub mod Held

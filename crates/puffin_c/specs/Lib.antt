@@ -1,7 +1,11 @@
 pub mod Counting
+pub mod FaultNames
 pub mod Faults
+pub mod Handles
+pub mod Layout
 pub mod Owning
 pub mod Profiling
 pub mod Recording
 pub mod Reporting
 pub mod Times
+pub mod Version

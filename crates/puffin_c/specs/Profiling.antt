@@ -3,7 +3,7 @@ use Rattle.std.specs.Prelude.{◌≡◌, ◌⊎◌, ◌<◌, ℕ, List, [], ◌�
 use Rattle.std.specs.List.{Any}
 use Rattle.std.specs.Str.{IsUtf8}
 use Rattle.std.specs.Arc.{arc_value}
-use Rattle.std.specs.Option.{option_map}
+use Rattle.std.specs.Option.{option_map, option_map_or}
 use Rattle.std.specs.FinMap.{values}
 use Rattle.puffin_data.specs.declared.error.Error.{Error}
 use Rattle.puffin_data.specs.declared.error.Error.TheVariants as error
@@ -19,13 +19,16 @@ use Rattle.puffin_frames.specs.declared.frame_data.frame.FrameData.{FrameData}
 use Rattle.puffin_frames.specs.declared.frame_data.meta.FrameMeta.{FrameMeta}
 use Rattle.puffin_frames.specs.Frame.Contents.{frame_meta}
 use Rattle.puffin_frames.specs.Frame.Sums.{total_scopes}
+use Rattle.puffin_frames.specs.Packet.Grammar.{packet}
 use Rattle.puffin_frames.specs.Packet.Writing.{HasLongPart}
 use Rattle.puffin_collector.specs.Collector.State.{Collected, nothing_collected, AcceptsReport, RefusesReport, IsReportRefusal, after_frame, after_no_frame, after_wanting}
 use Rattle.puffin_collector.specs.Collector.Collecting.{HoldsAll, HaveNoScopes, KeepsPending}
-use Rattle.puffin_view.specs.View.{empty_view, after_taking, KeepsFrames}
-use Rattle.puffin_view.specs.View.ViewedFrames.{index_of}
+use Rattle.puffin_threads.specs.Details.Collection.{no_details}
+use Rattle.puffin_view.specs.View.{empty_view, without_frames, after_taking, KeepsFrames}
+use Rattle.puffin_view.specs.View.Ranking.{last_in}
+use Rattle.puffin_view.specs.View.ViewedFrames.{Frame, fields_of, index_of}
 use Rattle.puffin_view.specs.View.FrameOf.{frame_of}
-use Rattle.puffin_view.specs.View.Known.{view_of}
+use Rattle.puffin_view.specs.View.Known.{view_of, with_frames}
 use Rattle.puffin_view.specs.View.File.{file_of, fields_in}
 use Rattle.puffin_c.specs.declared.fault.Fault.{Fault}
 use Rattle.puffin_c.specs.declared.fault.Fault.TheVariants as fault
@@ -43,12 +46,25 @@ waiting_frame p = option_map (λ w. arc_value w.frame) p.waiting
 abbrev pub view_file : Profiler → List ℕ
 view_file p = file_of (fields_in (view_of p.view))
 
+-- the newest frame of the view
+abbrev pub newest_frame : Profiler → Option Frame
+newest_frame p = last_in (view_of p.view).recent
+
+-- the packet of the view's newest frame, or no bytes if the view has no recent frame
+abbrev pub newest_packet : Profiler → List ℕ
+newest_packet p = option_map_or (λ f. packet (fields_of f)) (newest_frame p) []
+
+-- the newest frame has a part whose length can't be written
+abbrev pub HasLongNewest : Profiler → Type 0
+HasLongNewest p = (f : Frame) × (newest_frame p ≡ Some f) × HasLongPart (fields_of f)
+
 -- a new profiler: nothing was reported, the view is empty, no frame waits, and no bytes of a file are unread
 pub record IsNew (p : Profiler) : Type 0 where
   pub collected : p.collector ≡ nothing_collected 0
   pub view : view_of p.view ≡ empty_view
   pub waiting : waiting_frame p ≡ None
-  pub unread : p.unread ≡ []
+  pub file : p.unread.file ≡ []
+  pub packet : p.unread.packet ≡ []
 
 -- There are ids, and a handle that held nothing now holds a new profiler. Or nothing is changed, and the fault is the first that
 -- applies.
@@ -65,6 +81,25 @@ OpensProfiler old has_ids new (Err f) =
 -- the profiler with `c` as the state of its collector
 abbrev pub with_collected : Profiler → Collected → Profiler
 with_collected p c = record p { collector = c }
+
+-- the profiler with these unread bytes of the view's file, or of a packet
+abbrev pub with_file : Profiler → List ℕ → Profiler
+with_file p bytes = record p { unread = record p.unread { file = bytes } }
+
+abbrev pub with_packet : Profiler → List ℕ → Profiler
+with_packet p bytes = record p { unread = record p.unread { packet = bytes } }
+
+-- the profiler whose view keeps at most so many recent and slow frames
+abbrev pub with_limits : Profiler → ℕ → ℕ → Profiler
+with_limits p recent slow = record p {
+  view = with_frames p.view (record (view_of p.view) { max_recent = recent; max_slow = slow });
+}
+
+-- the profiler whose view has no frames and knows no details, with the same settings
+abbrev pub without_view : Profiler → Profiler
+without_view p = record p {
+  view = record { frames = without_frames (view_of p.view); scope_collection = no_details };
+}
 
 -- ---- reports
 
@@ -225,7 +260,7 @@ abbrev pub MakesFile : Option Profiler → Option Profiler → ℕ → ℕ → R
 MakesFile p p' before size (Ok _) =
     (q : Profiler)
     × (p ≡ Some q)
-    × (p' ≡ Some (record q { unread = view_file q }))
+    × (p' ≡ Some (with_file q (view_file q)))
     × (size ≡ length (view_file q))
 MakesFile p p' before size (Err f) =
     (p' ≡ p)
@@ -242,8 +277,52 @@ abbrev pub ReadsFile : Option Profiler → Option Profiler → List ℕ → List
 ReadsFile p p' old new before size (Ok _) =
     (q : Profiler)
     × (p ≡ Some q)
-    × (size ≡ min (length q.unread) (length old))
-    × (p' ≡ Some (record q { unread = drop size q.unread }))
-    × (new ≡ laid_over old q.unread)
+    × (size ≡ min (length q.unread.file) (length old))
+    × (p' ≡ Some (with_file q (drop size q.unread.file)))
+    × (new ≡ laid_over old q.unread.file)
 ReadsFile p p' old new before size (Err f) =
     (f ≡ fault.NotOpen) × (p ≡ None) × (p' ≡ None) × (new ≡ old) × (size ≡ before)
+
+-- ---- the packet of the newest frame
+
+-- The packet of the view's newest frame is made, and its bytes replace any unread ones of an earlier packet; or nothing is
+-- changed.
+abbrev pub MakesPacket : Option Profiler → Option Profiler → ℕ → ℕ → Result (Unit {0}) Fault → Type 0
+MakesPacket p p' before size (Ok _) =
+    (q : Profiler)
+    × (p ≡ Some q)
+    × (p' ≡ Some (with_packet q (newest_packet q)))
+    × (size ≡ length (newest_packet q))
+MakesPacket p p' before size (Err f) =
+    (p' ≡ p)
+    × (size ≡ before)
+    × (((f ≡ fault.NotOpen) × (p ≡ None))
+    ⊎ ((q : Profiler)
+    × (p ≡ Some q)
+    × ((f ≡ fault.Refused error.Memory)
+    ⊎ ((f ≡ fault.File file.PartTooLong) × HasLongNewest q))))
+
+-- The same for a packet as for the view's file.
+abbrev pub ReadsPacket : Option Profiler → Option Profiler → List ℕ → List ℕ → ℕ → ℕ →
+    Result (Unit {0}) Fault → Type 0
+ReadsPacket p p' old new before size (Ok _) =
+    (q : Profiler)
+    × (p ≡ Some q)
+    × (size ≡ min (length q.unread.packet) (length old))
+    × (p' ≡ Some (with_packet q (drop size q.unread.packet)))
+    × (new ≡ laid_over old q.unread.packet)
+ReadsPacket p p' old new before size (Err f) =
+    (f ≡ fault.NotOpen) × (p ≡ None) × (p' ≡ None) × (new ≡ old) × (size ≡ before)
+
+-- ---- the view
+
+-- the view keeps at most so many frames from now on; or the call is refused
+abbrev pub SetsLimits : Option Profiler → ℕ → ℕ → Option Profiler → Result (Unit {0}) Fault → Type 0
+SetsLimits p recent slow p' (Ok _) =
+    (q : Profiler) × (p ≡ Some q) × (p' ≡ Some (with_limits q recent slow))
+SetsLimits p recent slow p' (Err f) = (f ≡ fault.NotOpen) × (p ≡ None) × (p' ≡ None)
+
+-- the view's frames are dropped; or the call is refused
+abbrev pub ClearsView : Option Profiler → Option Profiler → Result (Unit {0}) Fault → Type 0
+ClearsView p p' (Ok _) = (q : Profiler) × (p ≡ Some q) × (p' ≡ Some (without_view q))
+ClearsView p p' (Err f) = (f ≡ fault.NotOpen) × (p ≡ None) × (p' ≡ None)

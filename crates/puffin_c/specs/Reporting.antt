@@ -1,5 +1,5 @@
 -- The results of checking a file and of reporting on it.
-use Rattle.std.specs.Prelude.{◌≡◌, ◌≢◌, ◌⊎◌, ℕ, ℤ, Bool, true, false, List, [], ◌∷◌, ◌++◌, length, take, drop, min, Option, Some, None, Result, Ok, Err}
+use Rattle.std.specs.Prelude.{◌≡◌, ◌≢◌, ◌⊎◌, ℕ, ℤ, Bool, true, false, List, [], ◌∷◌, ◌++◌, ◌+◌, length, take, drop, min, Option, Some, None, Result, Ok, Err}
 use Rattle.std.specs.Str.{IsUtf8}
 use Rattle.puffin_data.specs.declared.file_error.FileError.{FileError}
 use Rattle.puffin_data.specs.declared.file_error.FileError.TheVariants as file
@@ -16,30 +16,39 @@ use Rattle.puffin_c.specs.declared.fault.Fault.{Fault}
 use Rattle.puffin_c.specs.declared.fault.Fault.TheVariants as fault
 use Rattle.puffin_c.specs.Faults.{file_fault}
 
--- A fault comes after `n` frames: none if the magic bytes at the file's beginning are missing, otherwise those read before it.
-abbrev pub StandBefore : List ℕ → Option (List ℕ) → FileError → ℕ → Type 0
-StandBefore bytes left e n =
-    ((n ≡ 0) × (e ≡ file.NoMagic))
-    ⊎ ((given : Option (List ℕ))
-    × (stored : List Stored)
-    × HasGiven (Some bytes) given stored
-    × (n ≡ length stored)
-    × FailsAt e given left frame_at)
+-- the magic bytes and these frames are at the file's beginning, up to this offset, from which these bytes follow
+pub record EndAt (bytes : List ℕ) (stored : List Stored) (offset : ℕ) (rest : List ℕ) : Type 0 where
+  pub given : HasGiven (Some bytes) (Some rest) stored
+  pub end : offset + length rest ≡ length bytes
 
--- The bytes begin with a file of `n` frames; or, after `n` frames, there is this fault or memory ran out.
-abbrev pub IsChecked : List ℕ → ℕ → Result (Unit {0}) Fault → Type 0
-IsChecked bytes n (Ok _) =
+-- A fault comes after `n` frames, at an offset: at the file's beginning if the magic bytes there are missing, otherwise in the
+-- frame that begins at the offset.
+abbrev pub StandBefore : List ℕ → Option (List ℕ) → FileError → ℕ → ℕ → Type 0
+StandBefore bytes left e n offset =
+    ((n ≡ 0) × (offset ≡ 0) × (e ≡ file.NoMagic))
+    ⊎ ((rest : List ℕ)
+    × (stored : List Stored)
+    × EndAt bytes stored offset rest
+    × (n ≡ length stored)
+    × FailsAt e (Some rest) left frame_at)
+
+-- The bytes begin with a file of `n` frames, the last of which ends at the offset; or, after `n` frames, there is this fault or
+-- memory ran out.
+abbrev pub IsChecked : List ℕ → ℕ → ℕ → Result (Unit {0}) Fault → Type 0
+IsChecked bytes n offset (Ok _) =
     (left : Option (List ℕ))
     × (stored : List Stored)
+    × (rest : List ℕ)
     × TookFrames file_at (Some bytes) left stored
+    × EndAt bytes stored offset rest
     × (n ≡ length stored)
-IsChecked bytes n (Err f) =
+IsChecked bytes n offset (Err f) =
     (left : Option (List ℕ))
     × (e : FileError)
     × (f ≡ file_fault e)
     × (e ≢ file.Io)
     × FailsToRead file_at (Some bytes) left e
-    × StandBefore bytes left e n
+    × StandBefore bytes left e n offset
 
 -- the key of the thread whose scopes are meant
 abbrev pub key_given : Bool → ℤ → List ℕ → ThreadKey

@@ -19,34 +19,44 @@ use puffin_report::print_report;
 use puffin_view::profile_view::{next_frame, read_magic};
 use std::alloc::Global;
 
-/// Reads a file frame by frame, and counts the frames.
-fn checked(alloc: Global, file: &[u8], frames: &mut u64) -> Result<(), Fault>
-    ensures { IsChecked file.now frames.new result }
+/// Reads a file frame by frame, counts the frames, and sets `offset` to where the last of them ends.
+fn checked(alloc: Global, file: &[u8], frames: &mut u64, offset: &mut u64) -> Result<(), Fault>
+    ensures { IsChecked file.now frames.new offset.new result }
 {
     *frames = 0;
+    *offset = 0;
     let mut source = MemorySource::new(file);
     read_magic(&mut source)?;
+    *offset = source.offset_in(file);
     'frames: for _ in 0..u64::MAX {
         let Some(_frame) = next_frame(alloc, &mut source)? else {
             return Ok(());
         };
         *frames += 1;
+        *offset = source.offset_in(file);
     }
     // Not reached: a file has fewer frames than bytes.
     Err(Fault::from(FileError::Truncated))
 }
 
-/// Reads a file of any origin frame by frame, and sets `frames` to the number of its frames.
+/// Reads a file of any origin frame by frame, and sets `frames` to the number of its frames, and `offset` to the offset at which
+/// the last of them ends.
 ///
 /// Fails with the first fault in the file, or with `Memory`. `frames` is then the number of frames that were read before the
-/// fault, or before memory ran out.
+/// fault, or before memory ran out. The fault is in the next frame, which begins at `offset`; it is at the file's beginning if
+/// `offset` is 0.
 #[unsafe(no_mangle)]
-pub extern "C" fn puffin_check_file(alloc: Global, file: &[u8], frames: &mut u64) -> u32
+pub extern "C" fn puffin_check_file(
+    alloc: Global,
+    file: &[u8],
+    frames: &mut u64,
+    offset: &mut u64,
+) -> u32
     ensures { (answer : Result (Unit {0}) Fault)
         × (result ≡ answer_code answer)
-        × IsChecked file.now frames.new answer }
+        × IsChecked file.now frames.new offset.new answer }
 {
-    let answer = checked(alloc, file, frames);
+    let answer = checked(alloc, file, frames, offset);
     answer_code(answer)
 }
 

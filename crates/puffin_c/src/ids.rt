@@ -5,57 +5,25 @@ ghost use Rattle.puffin_data.specs.declared.error.Error.TheVariants as error;
 ghost use Rattle.puffin_c.specs.declared.fault.Fault.{Fault};
 ghost use Rattle.puffin_c.specs.declared.fault.Fault.TheVariants as fault;
 ghost use Rattle.puffin_c.specs.Faults.{answer_code};
+ghost use Rattle.puffin_c.specs.Handles.{ids_in};
 ghost use Rattle.puffin_c.specs.Recording.{OpensIds, Closes};
 
 use crate::fault::{Fault, answer_code};
-use crate::ids_slot::IdsSlot;
-use crate::raw_box::RawBox;
+use crate::handles::PuffinIds;
 use crate::shared_ids::SharedIds;
 use puffin_data::Error;
 use puffin_frames::scope_details::ScopeIds;
 use std::alloc::Global;
-use std::mem;
 use std::sync::Arc;
 
-/// A handle to a set of scope ids, which threads and profilers share. A C program initializes the handle with zeros, and it
-/// isn't open at that point.
-#[repr(C)]
-pub struct PuffinIds {
-    pub(crate) slot: IdsSlot,
-    pub(crate) is_open: bool,
-    ghost tied: { is_open ≡ is_some slot.held },
-}
-
 impl PuffinIds {
-    /// Takes the set of ids out of an open handle. The handle isn't open then.
-    #[inline(always)]
-    fn take(&mut self, alloc: Global) -> Box<SharedIds>
-        requires { self.old.is_open ≡ true }
-        ensures taken { self.old.slot.held ≡ Some result.value }
-        ensures left { self.new.slot.held ≡ None }
-    {
-        let slot = mem::replace(&mut self.slot, IdsSlot::empty(alloc));
-        self.is_open = false;
-        slot.into_raw().restore()
-    }
-
-    /// Opens the handle with this set of ids.
-    #[inline(always)]
-    fn put(&mut self, held: Box<SharedIds>)
-        requires { self.old.slot.held ≡ None }
-        ensures { self.new.slot.held ≡ Some held.value }
-    {
-        self.slot = IdsSlot::of(RawBox::take(held));
-        self.is_open = true;
-    }
-
     /// Returns another reference to the ids. Fails with `NotOpen` or `Memory`.
     pub(crate) fn share(&mut self, alloc: Global) -> Result<SharedIds, Fault>
-        ensures same { self.new.slot.held ≡ self.old.slot.held }
-        ensures ok { OnOk result (is_some self.old.slot.held ≡ true) }
+        ensures same { ids_in self.new ≡ ids_in self.old }
+        ensures ok { OnOk result (is_some (ids_in self.old) ≡ true) }
         ensures err { IfErr result (λ f.
-            ((f ≡ fault.NotOpen) × (self.old.slot.held ≡ None))
-            ⊎ ((f ≡ fault.Refused error.Memory) × (is_some self.old.slot.held ≡ true))) }
+            ((f ≡ fault.NotOpen) × (ids_in self.old ≡ None))
+            ⊎ ((f ≡ fault.Refused error.Memory) × (is_some (ids_in self.old) ≡ true))) }
     {
         if !self.is_open {
             return Err(Fault::NotOpen);
@@ -84,7 +52,7 @@ fn made(alloc: Global) -> Result<Box<SharedIds>, Fault>
 }
 
 fn opened(alloc: Global, ids: &mut PuffinIds) -> Result<(), Fault>
-    ensures { OpensIds ids.old.slot.held ids.new.slot.held result }
+    ensures { OpensIds (ids_in ids.old) (ids_in ids.new) result }
 {
     if ids.is_open {
         return Err(Fault::IsOpen);
@@ -101,14 +69,14 @@ fn opened(alloc: Global, ids: &mut PuffinIds) -> Result<(), Fault>
 pub extern "C" fn puffin_ids_open(alloc: Global, ids: &mut PuffinIds) -> u32
     ensures { (answer : Result (Unit {0}) Fault)
         × (result ≡ answer_code answer)
-        × OpensIds ids.old.slot.held ids.new.slot.held answer }
+        × OpensIds (ids_in ids.old) (ids_in ids.new) answer }
 {
     let answer = opened(alloc, ids);
     answer_code(answer)
 }
 
 fn closed(alloc: Global, ids: &mut PuffinIds) -> Result<(), Fault>
-    ensures { Closes ids.old.slot.held ids.new.slot.held result }
+    ensures { Closes (ids_in ids.old) (ids_in ids.new) result }
 {
     if !ids.is_open {
         return Err(Fault::NotOpen);
@@ -124,7 +92,7 @@ fn closed(alloc: Global, ids: &mut PuffinIds) -> Result<(), Fault>
 pub extern "C" fn puffin_ids_close(alloc: Global, ids: &mut PuffinIds) -> u32
     ensures { (answer : Result (Unit {0}) Fault)
         × (result ≡ answer_code answer)
-        × Closes ids.old.slot.held ids.new.slot.held answer }
+        × Closes (ids_in ids.old) (ids_in ids.new) answer }
 {
     let answer = closed(alloc, ids);
     answer_code(answer)

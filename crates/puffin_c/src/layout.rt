@@ -1,40 +1,57 @@
-//! The sizes of the interface's structs, for programs that compare their header with the library.
+//! The library's version and the sizes of the interface's structs, for programs that compare their header with the library.
 
-ghost use Rattle.std.specs.Prelude.{◌≡◌};
+ghost use Rattle.std.specs.Prelude.{◌≡◌, length};
+ghost use Rattle.puffin_c.specs.Layout.{struct_sizes};
+ghost use Rattle.puffin_c.specs.Version.{this_version};
+ghost use Rattle.puffin_c.specs.Reporting.{laid_over};
 
 use crate::count::PuffinCount;
 use crate::frame::PuffinFrame;
-use crate::ids::PuffinIds;
-use crate::profiling::PuffinProfiler;
-use crate::thread::PuffinThread;
+use crate::handles::{PuffinIds, PuffinProfiler, PuffinThread};
 use std::mem::size_of;
 
-/// The sizes of the interface's structs, in bytes.
-#[repr(C)]
-#[derive(Clone, Copy)]
-pub struct PuffinSizes {
-    /// The size of a [`PuffinCount`].
-    pub count: u64,
-    /// The size of a [`PuffinFrame`].
-    pub frame: u64,
-    /// The size of a [`PuffinIds`].
-    pub ids: u64,
-    /// The size of a [`PuffinThread`].
-    pub thread: u64,
-    /// The size of a [`PuffinProfiler`].
-    pub profiler: u64,
+/// Copies the sizes of the interface's structs, in bytes, to the front of `sizes`, as many as fit, and returns how many there are:
+/// those of [`PuffinCount`], [`PuffinFrame`], [`PuffinIds`], [`PuffinThread`] and [`PuffinProfiler`], in this order. A later version
+/// may add more.
+#[unsafe(no_mangle)]
+pub extern "C" fn puffin_sizes(sizes: &mut [u64]) -> usize
+    ensures sizes { sizes.new ≡ laid_over sizes.old struct_sizes }
+    ensures number { result ≡ length struct_sizes }
+{
+    let all = [
+        size_of::<PuffinCount>() as u64,
+        size_of::<PuffinFrame>() as u64,
+        size_of::<PuffinIds>() as u64,
+        size_of::<PuffinThread>() as u64,
+        size_of::<PuffinProfiler>() as u64,
+    ];
+    let number = all.len().min(sizes.len());
+    sizes[..number].copy_from_slice(&all[..number]);
+    all.len()
 }
 
-/// Sets `sizes` to the sizes of the interface's structs, in bytes.
+/// The version of a library or of a header.
+#[repr(C)]
+#[derive(Clone, Copy)]
+pub struct PuffinVersion {
+    /// Raised by a change that programs have to follow.
+    pub major: u32,
+    /// Raised by an addition; while the major number is 0, also by a change that programs have to follow.
+    pub minor: u32,
+    /// Raised by a correction.
+    pub patch: u32,
+}
+
+/// Returns the version of this library.
 #[unsafe(no_mangle)]
-pub extern "C" fn puffin_sizes(sizes: &mut PuffinSizes)
-    ensures { sizes.new ≡ record { count = 40; frame = 48; ids = 16; thread = 16; profiler = 16 } }
+pub extern "C" fn puffin_version() -> PuffinVersion
+    ensures { result ≡ this_version }
 {
-    sizes.count = size_of::<PuffinCount>() as u64;
-    sizes.frame = size_of::<PuffinFrame>() as u64;
-    sizes.ids = size_of::<PuffinIds>() as u64;
-    sizes.thread = size_of::<PuffinThread>() as u64;
-    sizes.profiler = size_of::<PuffinProfiler>() as u64;
+    PuffinVersion {
+        major: 0,
+        minor: 20,
+        patch: 0,
+    }
 }
 
 /// Requires that a value may be sent to another thread.

@@ -4,10 +4,13 @@
 //! A call returns 0 for success, or the number of a [`fault::Fault`].
 #![tactic(auto)]
 
+pub mod clock;
 pub mod count;
 pub mod fault;
+pub mod fault_name;
 pub mod file;
 pub mod frame;
+pub mod handles;
 pub mod ids;
 pub mod ids_slot;
 pub mod layout;
@@ -25,4 +28,5 @@ pub mod thread;
 pub mod thread_slot;
 mod unread;
 pub mod user_scopes;
+pub mod view;
 pub mod view_file;

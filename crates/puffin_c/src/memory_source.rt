@@ -1,6 +1,6 @@
 //! A reader of bytes in memory.
 
-ghost use Rattle.std.specs.Prelude.{◌≡◌, Some};
+ghost use Rattle.std.specs.Prelude.{◌≡◌, ◌≤◌, ◌+◌, Some, length};
 
 use puffin_data::FileError;
 use puffin_data::data::Source;
@@ -19,6 +19,14 @@ impl<'a> MemorySource<'a> {
         ensures { result.unread.now ≡ bytes.now }
     {
         MemorySource { unread: bytes }
+    }
+
+    /// Returns how much of `file` was read, if the source reads it and nothing else.
+    pub(crate) fn offset_in(&self, file: &[u8]) -> u64
+        requires { length self.now.unread.now ≤ length file.now }
+        ensures { result + length self.now.unread.now ≡ length file.now }
+    {
+        (file.len() - self.unread.len()) as u64
     }
 }
 

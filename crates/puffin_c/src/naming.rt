@@ -3,11 +3,12 @@
 ghost use Rattle.std.specs.Prelude.{◌≡◌, [], ◌∷◌, Some, Result};
 ghost use Rattle.puffin_c.specs.declared.fault.Fault.{Fault};
 ghost use Rattle.puffin_c.specs.Faults.{answer_code};
+ghost use Rattle.puffin_c.specs.Handles.{thread_in};
 ghost use Rattle.puffin_c.specs.Recording.{RegistersFor, function_details, scope_details};
 
 use crate::fault::{Fault, answer_code};
+use crate::handles::PuffinThread;
 use crate::texts::{FunctionAndFile, copied, text};
-use crate::thread::PuffinThread;
 use std::alloc::Global;
 
 fn function_registered(
@@ -18,8 +19,9 @@ fn function_registered(
     line: u32,
     id: &mut u32,
 ) -> Result<(), Fault>
-    ensures { RegistersFor thread.old.slot.held (function.now ∷ file.now ∷ [])
-        (function_details function.now file.now line) thread.new.slot.held id.old id.new result }
+    ensures { RegistersFor (thread_in thread.old) (function.now ∷ file.now ∷ [])
+        (function_details function.now file.now line) (thread_in thread.new) id.old
+        id.new result }
 {
     if !thread.is_open {
         return Err(Fault::NotOpen);
@@ -51,8 +53,9 @@ pub extern "C" fn puffin_register_function(
 ) -> u32
     ensures { (answer : Result (Unit {0}) Fault)
         × (result ≡ answer_code answer)
-        × RegistersFor thread.old.slot.held (function.now ∷ file.now ∷ [])
-        (function_details function.now file.now line) thread.new.slot.held id.old id.new answer }
+        × RegistersFor (thread_in thread.old) (function.now ∷ file.now ∷ [])
+        (function_details function.now file.now line) (thread_in thread.new) id.old
+        id.new answer }
 {
     let answer = function_registered(alloc, thread, function, file, line, id);
     answer_code(answer)
@@ -67,8 +70,8 @@ fn scope_registered(
     line: u32,
     id: &mut u32,
 ) -> Result<(), Fault>
-    ensures { RegistersFor thread.old.slot.held (name.now ∷ function.now ∷ file.now ∷ [])
-        (scope_details name.now function.now file.now line) thread.new.slot.held id.old id.new
+    ensures { RegistersFor (thread_in thread.old) (name.now ∷ function.now ∷ file.now ∷ [])
+        (scope_details name.now function.now file.now line) (thread_in thread.new) id.old id.new
         result }
 {
     if !thread.is_open {
@@ -97,8 +100,8 @@ pub extern "C" fn puffin_register_scope(
 ) -> u32
     ensures { (answer : Result (Unit {0}) Fault)
         × (result ≡ answer_code answer)
-        × RegistersFor thread.old.slot.held (name.now ∷ function.now ∷ file.now ∷ [])
-        (scope_details name.now function.now file.now line) thread.new.slot.held id.old id.new
+        × RegistersFor (thread_in thread.old) (name.now ∷ function.now ∷ file.now ∷ [])
+        (scope_details name.now function.now file.now line) (thread_in thread.new) id.old id.new
         answer }
 {
     let answer = scope_registered(alloc, thread, name, function, file, line, id);

@@ -8,13 +8,14 @@ ghost use Rattle.puffin_data.specs.declared.error.Error.TheVariants as error;
 ghost use Rattle.puffin_data.specs.declared.file_error.FileError.TheVariants as file;
 ghost use Rattle.puffin_threads.specs.Details.{lacks_id};
 ghost use Rattle.puffin_frames.specs.declared.frame_data.frame.FrameData.{FrameData};
-ghost use Rattle.puffin_frames.specs.Frame.Contents.{frame_details};
+ghost use Rattle.puffin_frames.specs.Frame.Contents.{frame_details, packet_fields};
+ghost use Rattle.puffin_frames.specs.Packet.Grammar.{packet};
 ghost use Rattle.puffin_frames.specs.Packet.Writing.{HasLongPart};
 ghost use Rattle.puffin_view.specs.View.Known.{view_of};
 ghost use Rattle.puffin_view.specs.View.File.{fields_in};
 
 use crate::shared_ids::SharedIds;
-use crate::unread::Unread;
+use crate::unread::{Pieces, Unread};
 use puffin_collector::Collector;
 use puffin_data::data::Counted;
 use puffin_data::{FileError, Result as Answer};
@@ -30,19 +31,34 @@ pub(crate) struct Waiting {
     ghost ids: { list_any lacks_id (frame_details (arc_value frame)) ≡ false },
 }
 
+/// Returns the packet of a frame. Fails with `PartTooLong`, or if memory runs out.
+fn packet_of(alloc: Global, frame: &FrameData) -> Result<Vec<u8>, FileError>
+    ensures ok { IfOk result (λ bytes. bytes.items ≡ packet (packet_fields frame.now)) }
+    ensures err { IfErr result (λ e.
+        ((e ≡ file.PartTooLong) × HasLongPart (packet_fields frame.now))
+        ⊎ (e ≡ file.Memory)
+        ⊎ (e ≡ file.Io)) }
+{
+    let mut packet = Counted::new(Vec::new(alloc));
+    match frame.write_into(None, &mut packet) {
+        Ok(()) => Ok(packet.into_inner()),
+        Err(fault) => Err(fault),
+    }
+}
+
 /// Collects scopes for the next frame, and keeps a view of the frames so far. Also holds a frame that the view had no
-/// memory for, and the unread bytes of the view's file.
+/// memory for, and the bytes that the program hasn't read yet.
 #[derive(Drop)]
 pub(crate) struct Profiler {
     pub(crate) collector: Collector,
     pub(crate) view: FrameView,
     pub(crate) shared: SharedIds,
     pub(crate) waiting: Option<Waiting>,
-    pub(crate) unread: Unread,
+    pub(crate) unread: Pieces,
 }
 
 impl Profiler {
-    ghost use Rattle.puffin_c.specs.Profiling.{waiting_frame, IsNew, IsCollected, IsTaken, IsLeft, view_file};
+    ghost use Rattle.puffin_c.specs.Profiling.{waiting_frame, IsNew, IsCollected, IsTaken, IsLeft, view_file, newest_packet, HasLongNewest, with_file, with_packet, with_limits, without_view};
 
     /// Makes a profiler without scopes or frames.
     pub(crate) fn new(alloc: Global, shared: SharedIds) -> Profiler
@@ -53,7 +69,10 @@ impl Profiler {
             view: FrameView::new(alloc),
             shared,
             waiting: None,
-            unread: Unread::nothing(alloc),
+            unread: Pieces {
+                file: Unread::nothing(alloc),
+                packet: Unread::nothing(alloc),
+            },
         }
     }
 
@@ -125,7 +144,7 @@ impl Profiler {
     pub(crate) fn begin_file(&mut self, alloc: Global) -> Result<usize, FileError>
         ensures size { IfOk result (λ size. size ≡ length (view_file self.old)) }
         ensures made { OnOk result (
-            self.new ≡ record self.old { unread = view_file self.old }) }
+            self.new ≡ with_file self.old (view_file self.old)) }
         ensures unchanged { OnErr result (self.new ≡ self.old) }
         ensures err { IfErr result (λ e.
             ((e ≡ file.PartTooLong) × Any HasLongPart (fields_in (view_of self.old.view)))
@@ -135,10 +154,66 @@ impl Profiler {
         match self.file(alloc) {
             Ok(file) => {
                 let size = file.len();
-                self.unread = Unread::of(file);
+                self.unread.file = Unread::of(file);
                 Ok(size)
             }
             Err(fault) => Err(fault),
         }
+    }
+
+    /// Returns the packet of the view's newest frame, or no bytes if the view has no recent frame. Fails like
+    /// [`Profiler::file`].
+    fn packet(&self, alloc: Global) -> Result<Vec<u8>, FileError>
+        ensures ok { IfOk result (λ written. written.items ≡ newest_packet self.now) }
+        ensures err { IfErr result (λ e.
+            ((e ≡ file.PartTooLong) × HasLongNewest self.now)
+            ⊎ (e ≡ file.Memory)
+            ⊎ (e ≡ file.Io)) }
+    {
+        match self.view.latest_frame() {
+            Some(frame) => packet_of(alloc, frame),
+            None => Ok(Vec::new(alloc)),
+        }
+    }
+
+    /// Makes the packet of the view's newest frame, to be read from its beginning, and returns its size in bytes. Fails like
+    /// [`Profiler::file`]; nothing changes then.
+    pub(crate) fn begin_packet(&mut self, alloc: Global) -> Result<usize, FileError>
+        ensures size { IfOk result (λ size. size ≡ length (newest_packet self.old)) }
+        ensures made { OnOk result (
+            self.new ≡ with_packet self.old (newest_packet self.old)) }
+        ensures unchanged { OnErr result (self.new ≡ self.old) }
+        ensures err { IfErr result (λ e.
+            ((e ≡ file.PartTooLong) × HasLongNewest self.old)
+            ⊎ (e ≡ file.Memory)
+            ⊎ (e ≡ file.Io)) }
+    {
+        match self.packet(alloc) {
+            Ok(packet) => {
+                let size = packet.len();
+                self.unread.packet = Unread::of(packet);
+                Ok(size)
+            }
+            Err(fault) => Err(fault),
+        }
+    }
+
+    /// Sets how many recent and how many slow frames the view keeps at most.
+    pub(crate) fn set_limits(&mut self, recent: usize, slow: usize)
+        ensures { self.new ≡ with_limits self.old recent slow }
+    {
+        self.view.set_max_recent(recent);
+        self.view.set_max_slow(slow);
+    }
+
+    /// Drops the view's frames, and keeps its settings.
+    pub(crate) fn clear_view(&mut self, alloc: Global)
+        ensures { self.new ≡ without_view self.old }
+    {
+        let mut view = FrameView::new(alloc);
+        view.set_max_recent(self.view.max_recent());
+        view.set_max_slow(self.view.max_slow());
+        view.set_pack_frames(self.view.pack_frames());
+        self.view = view;
     }
 }

@@ -3,57 +3,22 @@
 ghost use Rattle.std.specs.Prelude.{◌≡◌, None, Some, Result, is_some, true};
 ghost use Rattle.puffin_c.specs.declared.fault.Fault.{Fault};
 ghost use Rattle.puffin_c.specs.Faults.{answer_code};
+ghost use Rattle.puffin_c.specs.Handles.{ids_in, profiler_in, thread_in};
 ghost use Rattle.puffin_c.specs.Recording.{Closes};
 ghost use Rattle.puffin_c.specs.Profiling.{OpensProfiler, Hands, IsTold, TakesFrame, WantsAll};
 
 use crate::fault::{Fault, answer_code};
 use crate::frame::PuffinFrame;
-use crate::ids::PuffinIds;
+use crate::handles::{PuffinIds, PuffinProfiler, PuffinThread};
 use crate::profiler::Profiler;
-use crate::profiler_slot::ProfilerSlot;
-use crate::raw_box::RawBox;
-use crate::thread::PuffinThread;
 use puffin_data::Error;
 use puffin_frames::frame_data::FrameMeta;
 use std::alloc::Global;
-use std::mem;
-
-/// A handle to a profiler. A C program initializes it with zeros, and it isn't open at that point.
-#[repr(C)]
-pub struct PuffinProfiler {
-    pub(crate) slot: ProfilerSlot,
-    pub(crate) is_open: bool,
-    ghost tied: { is_open ≡ is_some slot.held },
-}
-
-impl PuffinProfiler {
-    /// Takes the profiler out of an open handle. The handle isn't open then.
-    #[inline(always)]
-    pub(crate) fn take(&mut self, alloc: Global) -> Box<Profiler>
-        requires { self.old.is_open ≡ true }
-        ensures taken { self.old.slot.held ≡ Some result.value }
-        ensures left { self.new.slot.held ≡ None }
-    {
-        let slot = mem::replace(&mut self.slot, ProfilerSlot::empty(alloc));
-        self.is_open = false;
-        slot.into_raw().restore()
-    }
-
-    /// Opens the handle with this profiler.
-    #[inline(always)]
-    pub(crate) fn put(&mut self, held: Box<Profiler>)
-        requires { self.old.slot.held ≡ None }
-        ensures { self.new.slot.held ≡ Some held.value }
-    {
-        self.slot = ProfilerSlot::of(RawBox::take(held));
-        self.is_open = true;
-    }
-}
 
 fn opened(alloc: Global, profiler: &mut PuffinProfiler, ids: &mut PuffinIds) -> Result<(), Fault>
-    ensures opens { OpensProfiler profiler.old.slot.held (is_some ids.old.slot.held)
-        profiler.new.slot.held result }
-    ensures same_ids { ids.new.slot.held ≡ ids.old.slot.held }
+    ensures opens { OpensProfiler (profiler_in profiler.old) (is_some (ids_in ids.old))
+        (profiler_in profiler.new) result }
+    ensures same_ids { ids_in ids.new ≡ ids_in ids.old }
 {
     if profiler.is_open {
         return Err(Fault::IsOpen);
@@ -80,16 +45,16 @@ pub extern "C" fn puffin_profiler_open(
 ) -> u32
     ensures opens { (answer : Result (Unit {0}) Fault)
         × (result ≡ answer_code answer)
-        × OpensProfiler profiler.old.slot.held (is_some ids.old.slot.held)
-        profiler.new.slot.held answer }
-    ensures same_ids { ids.new.slot.held ≡ ids.old.slot.held }
+        × OpensProfiler (profiler_in profiler.old) (is_some (ids_in ids.old))
+        (profiler_in profiler.new) answer }
+    ensures same_ids { ids_in ids.new ≡ ids_in ids.old }
 {
     let answer = opened(alloc, profiler, ids);
     answer_code(answer)
 }
 
 fn closed(alloc: Global, profiler: &mut PuffinProfiler) -> Result<(), Fault>
-    ensures { Closes profiler.old.slot.held profiler.new.slot.held result }
+    ensures { Closes (profiler_in profiler.old) (profiler_in profiler.new) result }
 {
     if !profiler.is_open {
         return Err(Fault::NotOpen);
@@ -105,7 +70,7 @@ fn closed(alloc: Global, profiler: &mut PuffinProfiler) -> Result<(), Fault>
 pub extern "C" fn puffin_profiler_close(alloc: Global, profiler: &mut PuffinProfiler) -> u32
     ensures { (answer : Result (Unit {0}) Fault)
         × (result ≡ answer_code answer)
-        × Closes profiler.old.slot.held profiler.new.slot.held answer }
+        × Closes (profiler_in profiler.old) (profiler_in profiler.new) answer }
 {
     let answer = closed(alloc, profiler);
     answer_code(answer)
@@ -116,8 +81,8 @@ fn reported(
     thread: &mut PuffinThread,
     profiler: &mut PuffinProfiler,
 ) -> Result<(), Fault>
-    ensures { Hands thread.old.slot.held profiler.old.slot.held thread.new.slot.held
-        profiler.new.slot.held result }
+    ensures { Hands (thread_in thread.old) (profiler_in profiler.old) (thread_in thread.new)
+        (profiler_in profiler.new) result }
 {
     if !thread.is_open || !profiler.is_open {
         return Err(Fault::NotOpen);
@@ -146,8 +111,8 @@ pub extern "C" fn puffin_report(
 ) -> u32
     ensures { (answer : Result (Unit {0}) Fault)
         × (result ≡ answer_code answer)
-        × Hands thread.old.slot.held profiler.old.slot.held thread.new.slot.held
-        profiler.new.slot.held answer }
+        × Hands (thread_in thread.old) (profiler_in profiler.old) (thread_in thread.new)
+        (profiler_in profiler.new) answer }
 {
     let answer = reported(alloc, thread, profiler);
     answer_code(answer)
@@ -164,7 +129,8 @@ fn tell(meta: Option<FrameMeta>, frame: &mut PuffinFrame)
 }
 
 fn taken(alloc: Global, profiler: &mut PuffinProfiler, frame: &mut PuffinFrame) -> Result<(), Fault>
-    ensures { TakesFrame profiler.old.slot.held profiler.new.slot.held frame.old frame.new result }
+    ensures { TakesFrame (profiler_in profiler.old) (profiler_in profiler.new) frame.old frame.new
+        result }
 {
     if !profiler.is_open {
         return Err(Fault::NotOpen);
@@ -194,14 +160,15 @@ pub extern "C" fn puffin_new_frame(
 ) -> u32
     ensures { (answer : Result (Unit {0}) Fault)
         × (result ≡ answer_code answer)
-        × TakesFrame profiler.old.slot.held profiler.new.slot.held frame.old frame.new answer }
+        × TakesFrame (profiler_in profiler.old) (profiler_in profiler.new) frame.old frame.new
+        answer }
 {
     let answer = taken(alloc, profiler, frame);
     answer_code(answer)
 }
 
 fn wanted(alloc: Global, profiler: &mut PuffinProfiler) -> Result<(), Fault>
-    ensures { WantsAll profiler.old.slot.held profiler.new.slot.held result }
+    ensures { WantsAll (profiler_in profiler.old) (profiler_in profiler.new) result }
 {
     if !profiler.is_open {
         return Err(Fault::NotOpen);
@@ -219,7 +186,7 @@ fn wanted(alloc: Global, profiler: &mut PuffinProfiler) -> Result<(), Fault>
 pub extern "C" fn puffin_snapshot(alloc: Global, profiler: &mut PuffinProfiler) -> u32
     ensures { (answer : Result (Unit {0}) Fault)
         × (result ≡ answer_code answer)
-        × WantsAll profiler.old.slot.held profiler.new.slot.held answer }
+        × WantsAll (profiler_in profiler.old) (profiler_in profiler.new) answer }
 {
     let answer = wanted(alloc, profiler);
     answer_code(answer)

@@ -3,52 +3,18 @@
 ghost use Rattle.std.specs.Prelude.{◌≡◌, None, Some, Result, is_some, true};
 ghost use Rattle.puffin_c.specs.declared.fault.Fault.{Fault};
 ghost use Rattle.puffin_c.specs.Faults.{answer_code};
+ghost use Rattle.puffin_c.specs.Handles.{ids_in, thread_in};
 ghost use Rattle.puffin_c.specs.Counting.{form_given};
 ghost use Rattle.puffin_c.specs.Recording.{Opens, Closes, Begins, Ends};
 
 use crate::fault::{Fault, answer_code};
-use crate::ids::PuffinIds;
-use crate::raw_box::RawBox;
+use crate::handles::{PuffinIds, PuffinThread};
 use crate::recorder::Recorder;
 use crate::stream::form_of;
 use crate::texts::{copied, text};
-use crate::thread_slot::ThreadSlot;
 use puffin_data::Error;
 use puffin_data::data::{Form, ScopeId};
 use std::alloc::Global;
-use std::mem;
-
-/// A handle to a thread's profiler. A C program initializes it with zeros, and it isn't open at that point.
-#[repr(C)]
-pub struct PuffinThread {
-    pub(crate) slot: ThreadSlot,
-    pub(crate) is_open: bool,
-    ghost tied: { is_open ≡ is_some slot.held },
-}
-
-impl PuffinThread {
-    /// Takes the recorder out of an open handle. The handle isn't open then.
-    #[inline(always)]
-    pub(crate) fn take(&mut self, alloc: Global) -> Box<Recorder>
-        requires { self.old.is_open ≡ true }
-        ensures taken { self.old.slot.held ≡ Some result.value }
-        ensures left { self.new.slot.held ≡ None }
-    {
-        let slot = mem::replace(&mut self.slot, ThreadSlot::empty(alloc));
-        self.is_open = false;
-        slot.into_raw().restore()
-    }
-
-    /// Opens the handle with this recorder.
-    #[inline(always)]
-    pub(crate) fn put(&mut self, held: Box<Recorder>)
-        requires { self.old.slot.held ≡ None }
-        ensures { self.new.slot.held ≡ Some held.value }
-    {
-        self.slot = ThreadSlot::of(RawBox::take(held));
-        self.is_open = true;
-    }
-}
 
 fn opened(
     alloc: Global,
@@ -57,9 +23,9 @@ fn opened(
     name: &[u8],
     form: Form,
 ) -> Result<(), Fault>
-    ensures opens { Opens thread.old.slot.held (is_some ids.old.slot.held) name.now form
-        thread.new.slot.held result }
-    ensures same_ids { ids.new.slot.held ≡ ids.old.slot.held }
+    ensures opens { Opens (thread_in thread.old) (is_some (ids_in ids.old)) name.now form
+        (thread_in thread.new) result }
+    ensures same_ids { ids_in ids.new ≡ ids_in ids.old }
 {
     if thread.is_open {
         return Err(Fault::IsOpen);
@@ -94,16 +60,16 @@ pub extern "C" fn puffin_thread_open(
 ) -> u32
     ensures opens { (answer : Result (Unit {0}) Fault)
         × (result ≡ answer_code answer)
-        × Opens thread.old.slot.held (is_some ids.old.slot.held) name.now (form_given long_texts)
-        thread.new.slot.held answer }
-    ensures same_ids { ids.new.slot.held ≡ ids.old.slot.held }
+        × Opens (thread_in thread.old) (is_some (ids_in ids.old)) name.now (form_given long_texts)
+        (thread_in thread.new) answer }
+    ensures same_ids { ids_in ids.new ≡ ids_in ids.old }
 {
     let answer = opened(alloc, thread, ids, name, form_of(long_texts));
     answer_code(answer)
 }
 
 fn closed(alloc: Global, thread: &mut PuffinThread) -> Result<(), Fault>
-    ensures { Closes thread.old.slot.held thread.new.slot.held result }
+    ensures { Closes (thread_in thread.old) (thread_in thread.new) result }
 {
     if !thread.is_open {
         return Err(Fault::NotOpen);
@@ -119,7 +85,7 @@ fn closed(alloc: Global, thread: &mut PuffinThread) -> Result<(), Fault>
 pub extern "C" fn puffin_thread_close(alloc: Global, thread: &mut PuffinThread) -> u32
     ensures { (answer : Result (Unit {0}) Fault)
         × (result ≡ answer_code answer)
-        × Closes thread.old.slot.held thread.new.slot.held answer }
+        × Closes (thread_in thread.old) (thread_in thread.new) answer }
 {
     let answer = closed(alloc, thread);
     answer_code(answer)
@@ -134,7 +100,7 @@ fn begun(
     bytes: &[u8],
     scope: &mut u64,
 ) -> Result<(), Fault>
-    ensures { Begins thread.old.slot.held now_ns id bytes.now thread.new.slot.held scope.old
+    ensures { Begins (thread_in thread.old) now_ns id bytes.now (thread_in thread.new) scope.old
         scope.new result }
 {
     if !thread.is_open {
@@ -166,7 +132,7 @@ pub extern "C" fn puffin_begin(
 ) -> u32
     ensures { (answer : Result (Unit {0}) Fault)
         × (result ≡ answer_code answer)
-        × Begins thread.old.slot.held now_ns id bytes.now thread.new.slot.held scope.old
+        × Begins (thread_in thread.old) now_ns id bytes.now (thread_in thread.new) scope.old
         scope.new answer }
 {
     let answer = begun(alloc, thread, now_ns, id, bytes, scope);
@@ -175,7 +141,7 @@ pub extern "C" fn puffin_begin(
 
 #[inline(always)]
 fn ended(alloc: Global, thread: &mut PuffinThread, now_ns: i64, scope: u64) -> Result<(), Fault>
-    ensures { Ends thread.old.slot.held now_ns scope thread.new.slot.held result }
+    ensures { Ends (thread_in thread.old) now_ns scope (thread_in thread.new) result }
 {
     if !thread.is_open {
         return Err(Fault::NotOpen);
@@ -200,7 +166,7 @@ pub extern "C" fn puffin_end(
 ) -> u32
     ensures { (answer : Result (Unit {0}) Fault)
         × (result ≡ answer_code answer)
-        × Ends thread.old.slot.held now_ns scope thread.new.slot.held answer }
+        × Ends (thread_in thread.old) now_ns scope (thread_in thread.new) answer }
 {
     let answer = ended(alloc, thread, now_ns, scope);
     answer_code(answer)

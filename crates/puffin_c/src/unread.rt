@@ -34,6 +34,13 @@ impl Model for Unread {
     ghost invariant = { λ u. u.read ≤ length u.bytes.items };
 }
 
+/// What a program reads in pieces: the file of the view, and the packet of one frame.
+#[derive(Drop)]
+pub(crate) struct Pieces {
+    pub(crate) file: Unread,
+    pub(crate) packet: Unread,
+}
+
 impl Unread {
     /// Makes a reader of no bytes.
     pub(crate) fn nothing(alloc: Global) -> Unread

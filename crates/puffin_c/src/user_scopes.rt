@@ -7,13 +7,14 @@ ghost use Rattle.puffin_data.specs.Honesty.{IsHonestRef};
 ghost use Rattle.puffin_data.specs.Walk.{IsFault};
 ghost use Rattle.puffin_c.specs.declared.fault.Fault.{Fault};
 ghost use Rattle.puffin_c.specs.Faults.{answer_code};
+ghost use Rattle.puffin_c.specs.Handles.{profiler_in};
 ghost use Rattle.puffin_c.specs.Counting.{form_given};
 ghost use Rattle.puffin_c.specs.Reporting.{key_given};
 ghost use Rattle.puffin_c.specs.Profiling.{TakesOwn};
 
 use crate::fault::{Fault, answer_code};
 use crate::file::named_thread;
-use crate::profiling::PuffinProfiler;
+use crate::handles::PuffinProfiler;
 use crate::stream::form_of;
 use puffin_data::data::{Form, StreamInfoRef, walk_forest};
 use std::alloc::Global;
@@ -45,8 +46,8 @@ fn taken(
     bytes: &[u8],
     form: Form,
 ) -> Result<(), Fault>
-    ensures { TakesOwn profiler.old.slot.held (key_given has_start start_ns name.now) form
-        bytes.now profiler.new.slot.held result }
+    ensures { TakesOwn (profiler_in profiler.old) (key_given has_start start_ns name.now) form
+        bytes.now (profiler_in profiler.new) result }
 {
     if !profiler.is_open {
         return Err(Fault::NotOpen);
@@ -84,8 +85,8 @@ pub extern "C" fn puffin_user_scopes(
 ) -> u32
     ensures { (answer : Result (Unit {0}) Fault)
         × (result ≡ answer_code answer)
-        × TakesOwn profiler.old.slot.held (key_given has_start start_ns name.now)
-        (form_given long_texts) bytes.now profiler.new.slot.held answer }
+        × TakesOwn (profiler_in profiler.old) (key_given has_start start_ns name.now)
+        (form_given long_texts) bytes.now (profiler_in profiler.new) answer }
 {
     let form = form_of(long_texts);
     let answer = taken(alloc, profiler, has_start, start_ns, name, bytes, form);

@@ -1,16 +1,18 @@
-//! The file of a profiler's view, read in pieces.
+//! The file of a profiler's view, and the packet of its newest frame, read in pieces.
 
 ghost use Rattle.std.specs.Prelude.{◌≡◌, Result};
 ghost use Rattle.puffin_c.specs.declared.fault.Fault.{Fault};
 ghost use Rattle.puffin_c.specs.Faults.{answer_code};
-ghost use Rattle.puffin_c.specs.Profiling.{MakesFile, ReadsFile};
+ghost use Rattle.puffin_c.specs.Handles.{profiler_in};
+ghost use Rattle.puffin_c.specs.Profiling.{MakesFile, ReadsFile, MakesPacket, ReadsPacket};
 
 use crate::fault::{Fault, answer_code};
-use crate::profiling::PuffinProfiler;
+use crate::handles::PuffinProfiler;
 use std::alloc::Global;
 
 fn begun(alloc: Global, profiler: &mut PuffinProfiler, size: &mut u64) -> Result<(), Fault>
-    ensures { MakesFile profiler.old.slot.held profiler.new.slot.held size.old size.new result }
+    ensures { MakesFile (profiler_in profiler.old) (profiler_in profiler.new) size.old size.new
+        result }
 {
     if !profiler.is_open {
         return Err(Fault::NotOpen);
@@ -40,7 +42,8 @@ pub extern "C" fn puffin_file_begin(
 ) -> u32
     ensures { (answer : Result (Unit {0}) Fault)
         × (result ≡ answer_code answer)
-        × MakesFile profiler.old.slot.held profiler.new.slot.held size.old size.new answer }
+        × MakesFile (profiler_in profiler.old) (profiler_in profiler.new) size.old size.new
+        answer }
 {
     let answer = begun(alloc, profiler, size);
     answer_code(answer)
@@ -52,14 +55,14 @@ fn read(
     out: &mut [u8],
     size: &mut u64,
 ) -> Result<(), Fault>
-    ensures { ReadsFile profiler.old.slot.held profiler.new.slot.held out.old out.new size.old
-        size.new result }
+    ensures { ReadsFile (profiler_in profiler.old) (profiler_in profiler.new) out.old out.new
+        size.old size.new result }
 {
     if !profiler.is_open {
         return Err(Fault::NotOpen);
     }
     let mut whole = profiler.take(alloc);
-    *size = whole.unread.read(out) as u64;
+    *size = whole.unread.file.read(out) as u64;
     profiler.put(whole);
     Ok(())
 }
@@ -77,9 +80,87 @@ pub extern "C" fn puffin_file_next(
 ) -> u32
     ensures { (answer : Result (Unit {0}) Fault)
         × (result ≡ answer_code answer)
-        × ReadsFile profiler.old.slot.held profiler.new.slot.held out.old out.new size.old
-        size.new answer }
+        × ReadsFile (profiler_in profiler.old) (profiler_in profiler.new) out.old out.new
+        size.old size.new answer }
 {
     let answer = read(alloc, profiler, out, size);
+    answer_code(answer)
+}
+
+fn packet_begun(alloc: Global, profiler: &mut PuffinProfiler, size: &mut u64) -> Result<(), Fault>
+    ensures { MakesPacket (profiler_in profiler.old) (profiler_in profiler.new) size.old size.new
+        result }
+{
+    if !profiler.is_open {
+        return Err(Fault::NotOpen);
+    }
+    let mut whole = profiler.take(alloc);
+    let answer = whole.begin_packet(alloc);
+    profiler.put(whole);
+    match answer {
+        Ok(packet_size) => {
+            *size = packet_size as u64;
+            Ok(())
+        }
+        Err(fault) => Err(Fault::from(fault)),
+    }
+}
+
+/// Makes the packet of the view's newest frame in memory, and sets `size` to its size in bytes, or to 0 if the view has no recent
+/// frame. [`puffin_frame_next`] reads it from its beginning. A packet that was made before is dropped. A file consists of the
+/// four letters `PUF0` and of packets.
+///
+/// Fails with `NotOpen`; with `PartTooLong` if a part of the packet has `2^32` bytes or more; or with `Memory`. Nothing changes
+/// then.
+#[unsafe(no_mangle)]
+pub extern "C" fn puffin_frame_begin(
+    alloc: Global,
+    profiler: &mut PuffinProfiler,
+    size: &mut u64,
+) -> u32
+    ensures { (answer : Result (Unit {0}) Fault)
+        × (result ≡ answer_code answer)
+        × MakesPacket (profiler_in profiler.old) (profiler_in profiler.new) size.old size.new
+        answer }
+{
+    let answer = packet_begun(alloc, profiler, size);
+    answer_code(answer)
+}
+
+fn packet_read(
+    alloc: Global,
+    profiler: &mut PuffinProfiler,
+    out: &mut [u8],
+    size: &mut u64,
+) -> Result<(), Fault>
+    ensures { ReadsPacket (profiler_in profiler.old) (profiler_in profiler.new) out.old out.new
+        size.old size.new result }
+{
+    if !profiler.is_open {
+        return Err(Fault::NotOpen);
+    }
+    let mut whole = profiler.take(alloc);
+    *size = whole.unread.packet.read(out) as u64;
+    profiler.put(whole);
+    Ok(())
+}
+
+/// Copies the next bytes of [`puffin_frame_begin`]'s packet to the front of `out`, as many as fit, and sets `size` to how many
+/// were copied. `size` is 0 at the packet's end, or if no packet was made.
+///
+/// Fails with `NotOpen`; `out` and `size` don't change then. Allocates nothing.
+#[unsafe(no_mangle)]
+pub extern "C" fn puffin_frame_next(
+    alloc: Global,
+    profiler: &mut PuffinProfiler,
+    out: &mut [u8],
+    size: &mut u64,
+) -> u32
+    ensures { (answer : Result (Unit {0}) Fault)
+        × (result ≡ answer_code answer)
+        × ReadsPacket (profiler_in profiler.old) (profiler_in profiler.new) out.old out.new
+        size.old size.new answer }
+{
+    let answer = packet_read(alloc, profiler, out, size);
     answer_code(answer)
 }

@@ -24,6 +24,7 @@ frames-init c = (
       c.in_ok-read_magic.ensures.begun,
   refl,
   refl,
+  c.offset_in.ensures,
 )
 
 pub returns-in_err-_frame : goal.returns-in_err-_frame
@@ -38,7 +39,7 @@ returns-in_err-_frame c =
       p.2,
       no_io _ c.in_err-_frame.ensures.failures,
       c.in_err-_frame.ensures.fault _ before.0 before.1 short,
-      inr (_, before.0, before.1, before.3 ∙ sym before.2, c.in_err-_frame.ensures.next),
+      inr (_, before.0, record { given = before.1; end = before.4 }, before.3 ∙ sym before.2, c.in_err-_frame.ensures.next),
     )
 
 pub returns-in_default : goal.returns-in_default
@@ -47,7 +48,7 @@ returns-in_default c =
     let few = few_frames _ _ before.0 before.1 in
     let short : length before.0 < 2 ^ 64 - 1 = omega arith in
     let took = (rw c.in_default.is at c.in_ok-_frame.ensures.end) _ before.0 before.1 short in
-    (_, before.0, took, before.3 ∙ sym before.2)
+    (_, before.0, _, took, record { given = before.1; end = before.4 }, before.3 ∙ sym before.2)
 
 pub frames-preserved : goal.frames-preserved
 frames-preserved c =
@@ -57,6 +58,7 @@ frames-preserved c =
       (rw c.in-Some.is at c.in_ok-_frame.ensures.given) _ before.0 before.1,
       omega (arith, length-append before.0 one, before.2),
       omega (arith, before.3),
+      c.offset_in-in-frames.ensures,
     )
 
 pub returns : goal.returns

@@ -1,7 +1,7 @@
 use Rattle.std.proofs.Common.{refl, sym, ap, ◌∙◌, inr}
 use Rattle.std.specs.Prelude.{Some, length}
 use Rattle.puffin_c.specs.declared.profiler.Profiler.{Profiler}
-use Rattle.puffin_c.specs.Profiling.{view_file}
+use Rattle.puffin_c.specs.Profiling.{view_file, with_file}
 use Rattle.puffin_c.proofs.Held.{file_refusal}
 use Rattle.puffin_c.proofs.view_file.begun.Goals as goal
 
@@ -11,7 +11,7 @@ returns-in-Ok c =
       c.take-whole.result.value,
       c.take-whole.ensures.taken,
       c.put.ensures ∙ ap (λ (q : Profiler). Some q) c.in-Ok.ensures.made
-          ∙ ap (λ (q : Profiler). Some (record q { unread = view_file q })) same,
+          ∙ ap (λ (q : Profiler). Some (with_file q (view_file q))) same,
       c.in-Ok.ensures.size ∙ ap (λ (q : Profiler). length (view_file q)) same,
     )
 

@@ -1,6 +1,7 @@
 use Rattle.std.proofs.Common.{ℕ, List, ap, ◌∙◌}
 use Rattle.std.specs.Prelude.{Some, length, drop, min}
 use Rattle.puffin_c.specs.declared.profiler.Profiler.{Profiler}
+use Rattle.puffin_c.specs.Profiling.{with_file}
 use Rattle.puffin_c.specs.Reporting.{laid_over}
 use Rattle.puffin_c.proofs.view_file.read.Goals as goal
 
@@ -11,8 +12,8 @@ returns c =
     let same = c.deref_mut.ensures.value in (
       c.take-whole.result.value,
       c.take-whole.ensures.taken,
-      c.read.ensures.number ∙ ap (λ (q : Profiler). min (length q.unread) (length out)) same,
-      c.put.ensures ∙ ap (λ (u : List ℕ). Some (record here { unread = u })) c.read.ensures.left
-          ∙ ap (λ (q : Profiler). Some (record q { unread = drop c.read.result q.unread })) same,
-      c.read.ensures.out ∙ ap (λ (q : Profiler). laid_over out q.unread) same,
+      c.read.ensures.number ∙ ap (λ (q : Profiler). min (length q.unread.file) (length out)) same,
+      c.put.ensures ∙ ap (λ (u : List ℕ). Some (with_file here u)) c.read.ensures.left
+          ∙ ap (λ (q : Profiler). Some (with_file q (drop c.read.result q.unread.file))) same,
+      c.read.ensures.out ∙ ap (λ (q : Profiler). laid_over out q.unread.file) same,
     )

@@ -1,8 +1,7 @@
 //! Two threads' scopes and three frames, and the file of them.
 
-mod puffin_c;
-
 use puffin_c::{Fault, Ids, Profiler, Thread};
+use std::error::Error;
 
 /// A round of work, at times that the caller hands in. Returns the time after it.
 fn round(thread: &mut Thread, id: u32, mut now: i64) -> Result<i64, Fault> {
@@ -18,22 +17,25 @@ fn round(thread: &mut Thread, id: u32, mut now: i64) -> Result<i64, Fault> {
     Ok(now)
 }
 
-fn main() -> Result<(), Fault> {
+fn main() -> Result<(), Box<dyn Error>> {
     let mut ids = Ids::new()?;
-    let mut main_loop = Thread::new(&mut ids, "main-loop")?;
-    let mut worker = Thread::new(&mut ids, "worker")?;
+    let mut main_loop = Thread::new(&mut ids, "main-loop", false)?;
+    let mut worker = Thread::new(&mut ids, "worker", false)?;
     let mut profiler = Profiler::new(&mut ids)?;
-    let (main_id, worker_id) = (main_loop.register("turn", "game.rs", 7)?, worker.register("work", "game.rs", 7)?);
+    let (main_id, worker_id) = (
+        main_loop.register_function("turn", "turns.rs", 7)?,
+        worker.register_function("work", "turns.rs", 7)?,
+    );
     let (mut now, mut later) = (1000, 1500);
     for _ in 0..3 {
         now = round(&mut main_loop, main_id, now)?;
         later = round(&mut worker, worker_id, later)?;
         profiler.report(&mut main_loop)?;
         profiler.report(&mut worker)?;
-        let frame = profiler.new_frame()?;
+        let frame = profiler.new_frame()?.ok_or("a turn is a frame")?;
         println!("frame {} scopes {} range {} {}", frame.index, frame.scopes, frame.start_ns, frame.stop_ns);
     }
-    let path = std::env::args().nth(1).expect("a path");
-    std::fs::write(path, profiler.file()?).expect("a file");
+    let path = std::env::args().nth(1).ok_or("a path")?;
+    std::fs::write(path, profiler.file()?)?;
     Ok(())
 }

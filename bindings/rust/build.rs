@@ -1,0 +1,25 @@
+//! Names the libraries to link: `PUFFIN_LIBRARY` is the path of `libpuffin_c.a`, and `PUFFIN_KIT_LIBRARY` that of the kit's
+//! `liblibc_c.a`.
+
+use std::{env, path::PathBuf, process};
+
+fn link(variable: &str) {
+    println!("cargo:rerun-if-env-changed={variable}");
+    let Some(path) = env::var_os(variable).map(PathBuf::from) else {
+        eprintln!("set {variable} to the path of a library, as docs/C.md says");
+        process::exit(1);
+    };
+    let stem = path.file_stem().and_then(|name| name.to_str()).and_then(|name| name.strip_prefix("lib"));
+    let (Some(name), Some(folder)) = (stem, path.parent()) else {
+        eprintln!("{variable}: {} isn't a library like libNAME.a", path.display());
+        process::exit(1);
+    };
+    println!("cargo:rerun-if-changed={}", path.display());
+    println!("cargo:rustc-link-search=native={}", folder.display());
+    println!("cargo:rustc-link-lib=static={name}");
+}
+
+fn main() {
+    link("PUFFIN_LIBRARY");
+    link("PUFFIN_KIT_LIBRARY");
+}

@@ -1,0 +1,277 @@
+//! Safe Rust over `libpuffin_c.a`, the C library of `puffin`. The macros profile a program in two lines:
+//!
+//! ```no_run
+//! fn work() {
+//!     puffin_c::profile_function!();
+//! }
+//!
+//! fn main() -> Result<(), Box<dyn std::error::Error>> {
+//!     work();
+//!     puffin_c::new_frame()?;
+//!     std::fs::write("work.puffin", puffin_c::file()?)?;
+//!     Ok(())
+//! }
+//! ```
+//!
+//! [`Ids`], [`Thread`] and [`Profiler`] are the library's handles, for programs that don't want one profiler for the process.
+//! Each may be sent to another thread; none is `Sync`, as the library takes a handle in one call at a time.
+
+mod global;
+mod raw;
+
+pub use global::{file, new_frame, refused, set_limits, snapshot, Place, ScopeGuard};
+pub use raw::Version;
+
+use raw::{Handle, RawFrame};
+use std::{error, fmt, num::NonZeroU32};
+
+/// The version of the library that is linked.
+pub fn version() -> Version {
+    unsafe { raw::puffin_version() }
+}
+
+/// The time in nanoseconds by the system's monotonic clock, which has one start for all threads.
+pub fn now_ns() -> i64 {
+    unsafe { raw::puffin_now_ns() }
+}
+
+/// Why a call failed. It displays as the name that `puffin.h` gives to its number.
+#[derive(Debug, Clone, Copy, PartialEq, Eq)]
+pub struct Fault(NonZeroU32);
+
+impl Fault {
+    pub fn number(self) -> u32 {
+        self.0.get()
+    }
+
+    pub fn name(self) -> String {
+        let mut name = [0; 64];
+        let size = unsafe { raw::puffin_fault_name(self.number(), name.as_mut_ptr(), name.len()) };
+        String::from_utf8_lossy(&name[..size.min(name.len())]).into_owned()
+    }
+}
+
+impl fmt::Display for Fault {
+    fn fmt(&self, f: &mut fmt::Formatter<'_>) -> fmt::Result {
+        f.write_str(&self.name())
+    }
+}
+
+impl error::Error for Fault {}
+
+fn told(answer: u32) -> Result<(), Fault> {
+    NonZeroU32::new(answer).map_or(Ok(()), |number| Err(Fault(number)))
+}
+
+/// A file with a fault: how many frames are before it, and where the frame with the fault begins.
+#[derive(Debug, Clone, Copy, PartialEq, Eq)]
+pub struct FileFault {
+    pub fault: Fault,
+    pub frames: u64,
+    pub offset: u64,
+}
+
+/// Returns the number of a file's frames.
+pub fn check_file(file: &[u8]) -> Result<u64, FileFault> {
+    let (mut frames, mut offset) = (0, 0);
+    told(unsafe { raw::puffin_check_file(file.as_ptr(), file.len(), &mut frames, &mut offset) })
+        .map(|()| frames)
+        .map_err(|fault| FileFault { fault, frames, offset })
+}
+
+/// A set of ids, which threads and profilers share.
+pub struct Ids(Handle);
+
+// The library proves that what a handle holds can be sent to another thread.
+unsafe impl Send for Ids {}
+
+impl Ids {
+    pub fn new() -> Result<Ids, Fault> {
+        let mut handle = Handle::new();
+        told(unsafe { raw::puffin_ids_open(&mut handle) })?;
+        Ok(Ids(handle))
+    }
+}
+
+impl Drop for Ids {
+    fn drop(&mut self) {
+        unsafe { raw::puffin_ids_close(&mut self.0) };
+    }
+}
+
+/// Identifies an open scope. [`Thread::end`] takes it.
+#[must_use]
+#[derive(Debug)]
+pub struct Scope(u64);
+
+/// Records the scopes of one thread.
+pub struct Thread(Handle);
+
+unsafe impl Send for Thread {}
+
+impl Thread {
+    /// Makes a recorder for a thread with this name. Texts are cut to 127 bytes, or to 16,383 if `long_texts` is set.
+    pub fn new(ids: &mut Ids, name: &str, long_texts: bool) -> Result<Thread, Fault> {
+        let mut handle = Handle::new();
+        told(unsafe { raw::puffin_thread_open(&mut handle, &mut ids.0, name.as_ptr(), name.len(), long_texts) })?;
+        Ok(Thread(handle))
+    }
+
+    /// Registers a function, and returns its id. Pass 0 if the line is unknown.
+    pub fn register_function(&mut self, function: &str, file: &str, line: u32) -> Result<u32, Fault> {
+        let mut id = 0;
+        told(unsafe {
+            raw::puffin_register_function(
+                &mut self.0,
+                function.as_ptr(),
+                function.len(),
+                file.as_ptr(),
+                file.len(),
+                line,
+                &mut id,
+            )
+        })?;
+        Ok(id)
+    }
+
+    /// Registers a scope within a function, under a name of its own, and returns its id.
+    pub fn register_scope(&mut self, name: &str, function: &str, file: &str, line: u32) -> Result<u32, Fault> {
+        let mut id = 0;
+        told(unsafe {
+            raw::puffin_register_scope(
+                &mut self.0,
+                name.as_ptr(),
+                name.len(),
+                function.as_ptr(),
+                function.len(),
+                file.as_ptr(),
+                file.len(),
+                line,
+                &mut id,
+            )
+        })?;
+        Ok(id)
+    }
+
+    pub fn begin(&mut self, now_ns: i64, id: u32, text: &str) -> Result<Scope, Fault> {
+        let mut scope = 0;
+        told(unsafe { raw::puffin_begin(&mut self.0, now_ns, id, text.as_ptr(), text.len(), &mut scope) })?;
+        Ok(Scope(scope))
+    }
+
+    /// Ends the innermost open scope, which must be this one.
+    pub fn end(&mut self, now_ns: i64, scope: Scope) -> Result<(), Fault> {
+        told(unsafe { raw::puffin_end(&mut self.0, now_ns, scope.0) })
+    }
+}
+
+impl Drop for Thread {
+    fn drop(&mut self) {
+        unsafe { raw::puffin_thread_close(&mut self.0) };
+    }
+}
+
+/// Describes a frame.
+#[derive(Debug, Clone, Copy, PartialEq, Eq)]
+pub struct Frame {
+    pub index: u64,
+    pub scopes: u64,
+    pub bytes: u64,
+    pub start_ns: i64,
+    pub stop_ns: i64,
+}
+
+/// Collects what threads report into frames, and keeps a view of them.
+pub struct Profiler(Handle);
+
+unsafe impl Send for Profiler {}
+
+type Begin = unsafe extern "C" fn(*mut Handle, *mut u64) -> u32;
+type Next = unsafe extern "C" fn(*mut Handle, *mut u8, usize, *mut u64) -> u32;
+
+impl Profiler {
+    pub fn new(ids: &mut Ids) -> Result<Profiler, Fault> {
+        let mut handle = Handle::new();
+        told(unsafe { raw::puffin_profiler_open(&mut handle, &mut ids.0) })?;
+        Ok(Profiler(handle))
+    }
+
+    /// Sets how many recent and how many slow frames the view keeps at most, from the next frame on.
+    pub fn set_limits(&mut self, recent: usize, slow: usize) -> Result<(), Fault> {
+        told(unsafe { raw::puffin_set_limits(&mut self.0, recent, slow) })
+    }
+
+    /// Reports a thread's closed scopes. If the call fails, they keep waiting.
+    pub fn report(&mut self, thread: &mut Thread) -> Result<(), Fault> {
+        told(unsafe { raw::puffin_report(&mut thread.0, &mut self.0) })
+    }
+
+    /// Makes a frame of everything that was reported since the last one, or none if no scope was reported.
+    pub fn new_frame(&mut self) -> Result<Option<Frame>, Fault> {
+        let mut frame = RawFrame::default();
+        told(unsafe { raw::puffin_new_frame(&mut self.0, &mut frame) })?;
+        let RawFrame { index, scopes, bytes, start_ns, stop_ns, is_some } = frame;
+        Ok(is_some.then_some(Frame { index, scopes, bytes, start_ns, stop_ns }))
+    }
+
+    /// Makes the next frame list every known scope, for a file that begins with it.
+    pub fn snapshot(&mut self) -> Result<(), Fault> {
+        told(unsafe { raw::puffin_snapshot(&mut self.0) })
+    }
+
+    /// Drops the view's frames, and keeps its limits.
+    pub fn clear_view(&mut self) -> Result<(), Fault> {
+        told(unsafe { raw::puffin_view_clear(&mut self.0) })
+    }
+
+    /// Returns the `.puffin` file of the view's frames.
+    pub fn file(&mut self) -> Result<Vec<u8>, Fault> {
+        self.read(raw::puffin_file_begin, raw::puffin_file_next)
+    }
+
+    /// Returns the packet of the view's newest frame. A file consists of [`FILE_START`] and of packets.
+    pub fn packet(&mut self) -> Result<Vec<u8>, Fault> {
+        self.read(raw::puffin_frame_begin, raw::puffin_frame_next)
+    }
+
+    fn read(&mut self, begin: Begin, next: Next) -> Result<Vec<u8>, Fault> {
+        let mut size = 0;
+        told(unsafe { begin(&mut self.0, &mut size) })?;
+        let mut bytes = vec![0; size as usize];
+        told(unsafe { next(&mut self.0, bytes.as_mut_ptr(), bytes.len(), &mut size) })?;
+        bytes.truncate(size as usize);
+        Ok(bytes)
+    }
+}
+
+impl Drop for Profiler {
+    fn drop(&mut self) {
+        unsafe { raw::puffin_profiler_close(&mut self.0) };
+    }
+}
+
+/// The letters that a file begins with.
+pub const FILE_START: &[u8; 4] = b"PUF0";
+
+/// The sizes of the library's structs must be those of the declarations here.
+#[cfg(test)]
+mod tests {
+    use super::*;
+    use std::mem::size_of;
+
+    #[test]
+    fn structs_have_the_library_s_sizes() {
+        let mut sizes = [0; 5];
+        assert_eq!(unsafe { raw::puffin_sizes(sizes.as_mut_ptr(), sizes.len()) }, sizes.len());
+        assert_eq!(sizes[1], size_of::<RawFrame>() as u64);
+        assert_eq!(sizes[2..], [size_of::<Handle>() as u64; 3]);
+    }
+
+    #[test]
+    fn handles_can_be_sent() {
+        fn is_send<T: Send>() {}
+        is_send::<Ids>();
+        is_send::<Thread>();
+        is_send::<Profiler>();
+    }
+}

@@ -1,0 +1,82 @@
+//! The calls of `puffin.h`. The tests compare the sizes of these structs with the library's.
+
+use std::ffi::c_void;
+
+/// A handle. It isn't open when it is filled with zeros.
+#[repr(C)]
+pub struct Handle {
+    at: *mut c_void,
+    is_open: bool,
+}
+
+impl Handle {
+    pub const fn new() -> Handle {
+        Handle { at: std::ptr::null_mut(), is_open: false }
+    }
+}
+
+/// Describes a frame.
+#[repr(C)]
+#[derive(Default, Clone, Copy)]
+pub struct RawFrame {
+    pub index: u64,
+    pub scopes: u64,
+    pub bytes: u64,
+    pub start_ns: i64,
+    pub stop_ns: i64,
+    pub is_some: bool,
+}
+
+#[repr(C)]
+#[derive(Debug, Clone, Copy, PartialEq, Eq)]
+pub struct Version {
+    pub major: u32,
+    pub minor: u32,
+    pub patch: u32,
+}
+
+extern "C" {
+    pub fn puffin_version() -> Version;
+    #[cfg_attr(not(test), allow(dead_code))]
+    pub fn puffin_sizes(sizes: *mut u64, room: usize) -> usize;
+    pub fn puffin_fault_name(fault: u32, name: *mut u8, room: usize) -> usize;
+    pub fn puffin_now_ns() -> i64;
+    pub fn puffin_check_file(file: *const u8, size: usize, frames: *mut u64, offset: *mut u64) -> u32;
+    pub fn puffin_ids_open(ids: *mut Handle) -> u32;
+    pub fn puffin_ids_close(ids: *mut Handle) -> u32;
+    pub fn puffin_thread_open(thread: *mut Handle, ids: *mut Handle, name: *const u8, size: usize, long_texts: bool) -> u32;
+    pub fn puffin_thread_close(thread: *mut Handle) -> u32;
+    pub fn puffin_register_function(
+        thread: *mut Handle,
+        function: *const u8,
+        function_size: usize,
+        file: *const u8,
+        file_size: usize,
+        line: u32,
+        id: *mut u32,
+    ) -> u32;
+    pub fn puffin_register_scope(
+        thread: *mut Handle,
+        name: *const u8,
+        name_size: usize,
+        function: *const u8,
+        function_size: usize,
+        file: *const u8,
+        file_size: usize,
+        line: u32,
+        id: *mut u32,
+    ) -> u32;
+    pub fn puffin_begin(thread: *mut Handle, now_ns: i64, id: u32, text: *const u8, size: usize, scope: *mut u64) -> u32;
+    pub fn puffin_end(thread: *mut Handle, now_ns: i64, scope: u64) -> u32;
+    pub fn puffin_profiler_open(profiler: *mut Handle, ids: *mut Handle) -> u32;
+    pub fn puffin_profiler_close(profiler: *mut Handle) -> u32;
+    pub fn puffin_report(thread: *mut Handle, profiler: *mut Handle) -> u32;
+    pub fn puffin_new_frame(profiler: *mut Handle, frame: *mut RawFrame) -> u32;
+    pub fn puffin_snapshot(profiler: *mut Handle) -> u32;
+    pub fn puffin_set_limits(profiler: *mut Handle, recent: usize, slow: usize) -> u32;
+    pub fn puffin_view_clear(profiler: *mut Handle) -> u32;
+    pub fn puffin_file_begin(profiler: *mut Handle, size: *mut u64) -> u32;
+    pub fn puffin_file_next(profiler: *mut Handle, out: *mut u8, room: usize, size: *mut u64) -> u32;
+    pub fn puffin_frame_begin(profiler: *mut Handle, size: *mut u64) -> u32;
+    pub fn puffin_frame_next(profiler: *mut Handle, out: *mut u8, room: usize, size: *mut u64) -> u32;
+}

@@ -1,0 +1,61 @@
+//! The library's handles, on two threads.
+
+use puffin_c::{check_file, Ids, Profiler, Thread, FILE_START};
+use std::sync::Mutex;
+
+/// A function with two scopes in it.
+fn work(thread: &mut Thread, id: u32, start: i64) {
+    let whole = thread.begin(start, id, "").unwrap();
+    for step in 0..2 {
+        let part = thread.begin(start + 10 * step, id, "step").unwrap();
+        thread.end(start + 10 * step + 5, part).unwrap();
+    }
+    thread.end(start + 100, whole).unwrap();
+}
+
+#[test]
+fn two_threads_report_to_one_profiler() {
+    let mut ids = Ids::new().unwrap();
+    let profiler = Mutex::new(Profiler::new(&mut ids).unwrap());
+    let threads = ["main", "worker"].map(|name| Thread::new(&mut ids, name, false).unwrap());
+    std::thread::scope(|scope| {
+        for mut thread in threads {
+            let profiler = &profiler;
+            scope.spawn(move || {
+                let id = thread.register_function("work", "handles.rs", 7).unwrap();
+                work(&mut thread, id, 1000);
+                profiler.lock().unwrap().report(&mut thread).unwrap();
+            });
+        }
+    });
+    let mut profiler = profiler.into_inner().unwrap();
+    let frame = profiler.new_frame().unwrap().unwrap();
+    assert_eq!((frame.scopes, frame.start_ns, frame.stop_ns), (6, 1000, 1100));
+    assert_eq!(profiler.new_frame().unwrap(), None);
+    let file = profiler.file().unwrap();
+    assert_eq!(check_file(&file), Ok(1));
+    assert_eq!([&FILE_START[..], &profiler.packet().unwrap()].concat(), file);
+    let fault = check_file(&file[..file.len() - 1]).unwrap_err();
+    assert_eq!((fault.fault.to_string().as_str(), fault.frames, fault.offset), ("PUFFIN_FILE_TRUNCATED", 0, 4));
+}
+
+#[test]
+fn faults_have_names() {
+    let mut ids = Ids::new().unwrap();
+    let mut thread = Thread::new(&mut ids, "main", false).unwrap();
+    let fault = thread.begin(0, 0, "").unwrap_err();
+    assert_eq!(fault.to_string(), "PUFFIN_NO_ID");
+    let outer = thread.begin(0, 1, "").unwrap();
+    let inner = thread.begin(1, 1, "").unwrap();
+    assert_eq!(thread.end(2, outer).unwrap_err().to_string(), "PUFFIN_MISMATCHED_END");
+    thread.end(2, inner).unwrap();
+    let mut profiler = Profiler::new(&mut ids).unwrap();
+    assert_eq!(profiler.report(&mut thread).unwrap_err().to_string(), "PUFFIN_SCOPES_OPEN");
+}
+
+#[test]
+fn the_version_is_the_package_s() {
+    let version = puffin_c::version();
+    let said = format!("{}.{}.{}", version.major, version.minor, version.patch);
+    assert_eq!(said, env!("CARGO_PKG_VERSION"));
+}

@@ -1,0 +1,19 @@
+use Rattle.std.proofs.Common.{ℕ, List, ap, ◌∙◌}
+use Rattle.std.specs.Prelude.{Some, length, drop, min}
+use Rattle.puffin_c.specs.declared.profiler.Profiler.{Profiler}
+use Rattle.puffin_c.specs.Profiling.{with_packet}
+use Rattle.puffin_c.specs.Reporting.{laid_over}
+use Rattle.puffin_c.proofs.view_file.packet_read.Goals as goal
+
+pub returns : goal.returns
+returns c =
+    let here : Profiler = c.deref_mut.result.now in
+    let out : List ℕ = c.args.out.now in
+    let same = c.deref_mut.ensures.value in (
+      c.take-whole.result.value,
+      c.take-whole.ensures.taken,
+      c.read.ensures.number ∙ ap (λ (q : Profiler). min (length q.unread.packet) (length out)) same,
+      c.put.ensures ∙ ap (λ (u : List ℕ). Some (with_packet here u)) c.read.ensures.left
+          ∙ ap (λ (q : Profiler). Some (with_packet q (drop c.read.result q.unread.packet))) same,
+      c.read.ensures.out ∙ ap (λ (q : Profiler). laid_over out q.unread.packet) same,
+    )

@@ -1,0 +1,17 @@
+-- What a handle holds: a value if it is open, nothing if it isn't.
+use Rattle.std.specs.Prelude.{Option}
+use Rattle.puffin_threads.specs.Thread.Calls.{Thread}
+use Rattle.puffin_c.specs.declared.handles.PuffinIds.{PuffinIds}
+use Rattle.puffin_c.specs.declared.handles.PuffinThread.{PuffinThread}
+use Rattle.puffin_c.specs.declared.handles.PuffinProfiler.{PuffinProfiler}
+use Rattle.puffin_c.specs.declared.shared_ids.SharedIds.{SharedIds}
+use Rattle.puffin_c.specs.declared.profiler.Profiler.{Profiler}
+
+abbrev pub ids_in : PuffinIds → Option SharedIds
+ids_in handle = handle.slot.held
+
+abbrev pub thread_in : PuffinThread → Option Thread
+thread_in handle = handle.slot.held
+
+abbrev pub profiler_in : PuffinProfiler → Option Profiler
+profiler_in handle = handle.slot.held

@@ -1,0 +1,6 @@
+-- The sizes of the interface's structs in bytes.
+use Rattle.std.specs.Prelude.{ℕ, List, [], ◌∷◌}
+
+-- of a count, a frame's description, and the handles of ids, a thread and a profiler
+abbrev pub struct_sizes : List ℕ
+struct_sizes = 40 ∷ 48 ∷ 16 ∷ 16 ∷ 16 ∷ []

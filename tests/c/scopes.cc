@@ -1,0 +1,66 @@
+/* Scopes by puffin.hpp on two threads, each with its own recorder; the file of one frame goes to the first argument. */
+#include "puffin.hpp"
+#include <cstdio>
+#include <cstdlib>
+#include <mutex>
+#include <thread>
+
+static puffin::Ids ids;
+static puffin::Profiler profiler;
+static std::mutex lock;
+
+static void call(const char *what, std::uint32_t fault) {
+    if (fault != PUFFIN_OK) {
+        std::fprintf(stderr, "%s: %s\n", what, puffin::fault_name(fault).c_str());
+        std::exit(1);
+    }
+}
+#define CALL(it) call(#it, it)
+
+static void work(const char *name) {
+    puffin::Thread thread;
+    std::uint32_t whole, part;
+    {
+        std::lock_guard<std::mutex> held(lock);
+        CALL(thread.open(ids, name));
+    }
+    CALL(thread.register_function("work", __FILE__, __LINE__, whole));
+    CALL(thread.register_scope("part", "work", __FILE__, __LINE__, part));
+    {
+        PUFFIN_SCOPE(thread, whole, std::string_view());
+        for (int step = 0; step < 3; step++) {
+            PUFFIN_SCOPE(thread, part, "step");
+        }
+    }
+    std::lock_guard<std::mutex> held(lock);
+    CALL(profiler.report(thread));
+}
+
+int main(int argc, char **argv) {
+    PuffinFrame frame;
+    CALL(ids.open());
+    CALL(profiler.open(ids));
+    std::int64_t before = puffin_now_ns();
+    std::thread one(work, "main"), other(work, "worker");
+    one.join();
+    other.join();
+    CALL(profiler.new_frame(frame));
+    if (frame.scopes != 8 || frame.start_ns < before || frame.stop_ns > puffin_now_ns()) {
+        std::fprintf(stderr, "scopes %llu\n", (unsigned long long)frame.scopes);
+        return 1;
+    }
+    {
+        puffin::Thread closed;
+        puffin::Scope scope(closed, 1);
+        if (puffin::fault_name(scope.begin_fault()) != "PUFFIN_NOT_OPEN") {
+            return 1;
+        }
+    }
+    std::FILE *file = argc > 1 ? std::fopen(argv[1], "wb") : nullptr;
+    if (!file) {
+        return 2;
+    }
+    auto write = [file](const std::uint8_t *bytes, std::size_t size) { std::fwrite(bytes, 1, size, file); };
+    CALL(profiler.file(write));
+    return std::fclose(file) ? 1 : 0;
+}
