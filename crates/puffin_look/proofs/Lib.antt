@@ -1,0 +1,4 @@
+mod Listed
+mod HeldStreams
+mod ThreadsTotaled
+mod ThreadsPrinted

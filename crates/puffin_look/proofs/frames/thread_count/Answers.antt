@@ -1,0 +1,6 @@
+use Rattle.std.proofs.Common.{sym, ◌∙◌}
+use Rattle.puffin_look.proofs.HeldStreams.{len_held}
+use Rattle.puffin_look.proofs.frames.thread_count.Goals as goal
+
+pub returns : goal.returns
+returns c = c.len.ensures.len ∙ sym (len_held c.args.frame.now.thread_streams.entries c.len.ensures.ordered)

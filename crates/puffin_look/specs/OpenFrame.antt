@@ -1,0 +1,44 @@
+-- A frame of a file with its streams unpacked.
+use Rattle.std.specs.Prelude.{◌≡◌, List, [], ◌∷◌, Result, Ok, Err}
+use Rattle.puffin_data.specs.declared.file_error.FileError.{FileError}
+use Rattle.puffin_threads.specs.Details.{Details}
+use Rattle.puffin_frames.specs.declared.frame_data.meta.FrameMeta.{FrameMeta}
+use Rattle.puffin_frames.specs.declared.frame_data.unpacked.UnpackedFrameData.{UnpackedFrameData}
+use Rattle.puffin_frames.specs.Frame.Streams.{Streams}
+use Rattle.puffin_frames.specs.Frame.Contents.{streams_held}
+use Rattle.puffin_frames.specs.Packet.Stored.{PacketFields, Stored}
+use Rattle.puffin_view.specs.View.ViewedFrames.{fields_of}
+use Rattle.puffin_view.specs.View.File.{frame_stored}
+use Rattle.puffin_frames.specs.Frame.Holding.{unpacking}
+
+-- a frame's totals, the details that it lists, and its streams by thread
+pub record OpenFrame : Type 0 where
+  pub meta : FrameMeta
+  pub details : List Details
+  pub streams : Streams
+
+-- a frame of the code with these details
+abbrev pub open_of : UnpackedFrameData → List Details → OpenFrame
+open_of frame details =
+    record { meta = frame.meta; details = details; streams = streams_held frame }
+
+abbrev pub opened_with : PacketFields → Result Streams FileError → Result OpenFrame FileError
+opened_with c (Ok streams) =
+    Ok (record { meta = c.meta; details = c.details; streams = streams })
+opened_with c (Err fault) = Err fault
+
+-- a frame with these fields, or why its streams can't be unpacked
+abbrev pub opened_fields : PacketFields → Result OpenFrame FileError
+opened_fields c =
+    opened_with c (unpacking (record { form = c.form; kind = c.kind; bytes = c.streams }))
+
+-- the same of a frame that was read
+abbrev pub opened : Stored → Result OpenFrame FileError
+opened s = opened_fields (fields_of (frame_stored s))
+
+-- frames that were read, each unpacked
+abbrev pub AreOpened : List Stored → List OpenFrame → Type 0
+AreOpened [] [] = Unit {0}
+AreOpened [] (o ∷ os) = ⊥
+AreOpened (s ∷ ss) [] = ⊥
+AreOpened (s ∷ ss) (o ∷ os) = (opened s ≡ Ok o) × AreOpened ss os

@@ -1,0 +1,3 @@
+-- How a file is listed, frame after frame: steps of the proof.
+pub mod Listings
+pub mod Taken

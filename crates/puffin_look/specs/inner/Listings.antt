@@ -1,0 +1,82 @@
+-- A listing of frames, step by step.
+use Rattle.std.specs.Prelude.{◌≡◌, ◌⊎◌, ℕ, List, [], ◌∷◌, ◌++◌, Option, Result, Ok, Err}
+use Rattle.std.specs.Io.KnownBytes.{Appends}
+use Rattle.puffin_data.specs.declared.error.Error.{Error}
+use Rattle.puffin_data.specs.declared.file_error.FileError.{FileError}
+use Rattle.puffin_data.specs.declared.file_error.FileError.TheVariants as file
+use Rattle.puffin_data.specs.Device.{FailsAt, IsOutside, WritesBeginning}
+use Rattle.puffin_frames.specs.Packet.Stored.{Stored}
+use Rattle.puffin_view.specs.View.File.{file_at, TookFrames, FailsToRead}
+use Rattle.puffin_view.specs.View.FrameFile.{frame_at, HasGiven}
+use Rattle.puffin_look.specs.OpenFrame.{OpenFrame, opened, AreOpened}
+use Rattle.puffin_look.specs.Printed.{Begins, IsFull}
+
+-- ---- one frame
+
+-- a frame was unpacked and added
+pub record AddsFrame {L : Type 0} (text : L → List ℕ)
+    (takes : L → List OpenFrame → List ℕ → L → Type 0) (old new : L)
+    (answer : Result OpenFrame FileError) : Type 0 where
+  pub frame : OpenFrame
+  pub opens : answer ≡ Ok frame
+  pub more : List ℕ
+  pub pending : text new ≡ text old ++ more
+  pub taken : takes old (frame ∷ []) more new
+
+-- it can't be unpacked, and the listing stayed as it was; or it is refused; or memory ran out
+abbrev pub FailsToAdd : {L : Type 0} → (L → OpenFrame → Error → Type 0) → L → L →
+    Result OpenFrame FileError → FileError → Type 0
+FailsToAdd refuses old new answer fault =
+    (fault ≡ file.Memory)
+    ⊎ ((answer ≡ Err fault) × (new ≡ old))
+    ⊎ ((frame : OpenFrame)
+    × (cause : Error)
+    × (answer ≡ Ok frame)
+    × (fault ≡ file.Refused cause)
+    × refuses old frame cause)
+
+-- ---- a file
+
+-- these frames were listed, from the state old to the state now
+pub record HasListed {L : Type 0} (takes : L → List OpenFrame → List ℕ → L → Type 0) (old now : L)
+    (stored : List Stored) (text : List ℕ) : Type 0 where
+  pub frames : List OpenFrame
+  pub opens : AreOpened stored frames
+  pub taken : takes old frames text now
+
+-- all frames were listed, and their text was written
+pub record ListsAll {L : Type 0} (text : L → List ℕ)
+    (takes : L → List OpenFrame → List ℕ → L → Type 0) (old new : L)
+    (unread left before after : Option (List ℕ)) : Type 0 where
+  pub stored : List Stored
+  pub took : TookFrames file_at unread left stored
+  pub begins : Begins unread stored
+  pub more : List ℕ
+  pub listed : HasListed takes old new stored more
+  pub none_left : text new ≡ []
+  pub written : Appends before after (text old ++ more)
+
+-- where and why listing stopped
+pub record StopsListing {L : Type 0} (text : L → List ℕ)
+    (takes : L → List OpenFrame → List ℕ → L → Type 0) (refuses : L → OpenFrame → Error → Type 0)
+    (old new : L) (unread left before after : Option (List ℕ)) (fault : FileError) : Type 0 where
+  pub stored : List Stored
+  pub begins : Begins unread stored
+  pub more : List ℕ
+  pub state : L
+  pub listed : HasListed takes old state stored more
+  pub outcome :
+      -- the reader, the writer or memory failed
+      (IsOutside fault × WritesBeginning before after (text old ++ more)
+      × ((fault ≡ file.Memory) ⊎ (state ≡ new)))
+      -- the next frame can't be read
+      ⊎ (Appends before after (text old ++ more) × (state ≡ new)
+      × (now : Option (List ℕ)) × HasGiven unread now stored
+      × (FailsAt fault now left frame_at ⊎ IsFull stored fault))
+      -- it can't be added
+      ⊎ (Appends before after (text old ++ more)
+      × (s : Stored) × HasGiven unread left (stored ++ s ∷ [])
+      × FailsToAdd refuses state new (opened s) fault)
+      -- the file doesn't begin with its letters
+      ⊎ ((stored ≡ []) × (state ≡ new) × FailsToRead file_at unread left fault
+      × Appends before after [])

@@ -1,0 +1,49 @@
+-- What the listings of this crate take.
+use Rattle.std.specs.Prelude.{◌≡◌, ℕ, Bool, true, false, Result, Ok, Err, List, [], ◌++◌, fold}
+use Rattle.std.proofs.Common.{refl, sym, ap, ◌∙◌}
+use Rattle.std.proofs.lemmas.List.Concat.{flat_map-append}
+use Rattle.std.proofs.lemmas.List.Sums.{fold-append}
+use Rattle.puffin_data.specs.declared.file_error.FileError.{FileError}
+use Rattle.puffin_data.specs.declared.file_error.FileError.TheVariants as file
+use Rattle.puffin_threads.specs.Thread.ThreadKey.{by_key}
+use Rattle.puffin_look.specs.OpenFrame.{OpenFrame}
+use Rattle.puffin_look.specs.ThreadLines.{with_frame}
+use Rattle.puffin_look.specs.FrameLines.{frame_line, frame_lines}
+use Rattle.puffin_look.specs.declared.threads.Threads.{Threads}
+use Rattle.puffin_look.specs.declared.frames.FrameLines.{FrameLines}
+
+-- ---- threads
+
+-- the totals are those with these frames, and nothing was printed
+pub record TakesTotals (v : Threads) (frames : List OpenFrame) (text : List ℕ) (u : Threads) : Type 0 where
+  pub none : text ≡ []
+  pub totals : by_key u.totals.entries ≡ fold with_frame (by_key v.totals.entries) frames
+
+pub totals_none : (v : Threads) → TakesTotals v [] [] v
+totals_none v = record { none = refl; totals = refl }
+
+pub totals_more : (u v w : Threads) (xs ys : List OpenFrame) (s t : List ℕ) → TakesTotals u xs s v →
+    TakesTotals v ys t w → TakesTotals u (xs ++ ys) (s ++ t) w
+totals_more u v w xs ys s t a b = record {
+  none = ap (λ (r : List ℕ). r ++ t) a.none ∙ b.none;
+  totals = b.totals ∙ ap (λ m. fold with_frame m ys) a.totals
+      ∙ sym (fold-append with_frame (by_key u.totals.entries) xs ys);
+}
+
+-- ---- frames
+
+abbrev pub TakesLines : FrameLines → List OpenFrame → List ℕ → FrameLines → Type 0
+TakesLines v frames text u = text ≡ frame_lines frames
+
+pub lines_more : (u v w : FrameLines) (xs ys : List OpenFrame) (s t : List ℕ) → TakesLines u xs s v →
+    TakesLines v ys t w → TakesLines u (xs ++ ys) (s ++ t) w
+lines_more u v w xs ys s t a b =
+    ap (λ (r : List ℕ). r ++ t) a ∙ ap (λ (r : List ℕ). frame_lines xs ++ r) b
+    ∙ sym (flat_map-append frame_line xs ys)
+
+-- whether a call failed because the reader, the writer or memory did
+abbrev pub fails_outside : {X : Type 0} → Result X FileError → Bool
+fails_outside (Ok x) = false
+fails_outside (Err file.Io) = true
+fails_outside (Err file.Memory) = true
+fails_outside (Err _) = false

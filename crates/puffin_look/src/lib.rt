@@ -1,0 +1,17 @@
+//! Shows what is in a file of frames: its threads and its frames. Reads one frame at a time.
+//!
+//! | to | call |
+//! |---|---|
+//! | list the threads of a file | [`print_threads`] |
+//! | list its frames | [`print_frames`] |
+#![tactic(auto)]
+
+mod frames;
+mod listing;
+mod task;
+mod text;
+mod threads;
+
+pub use frames::print_frames;
+pub use task::{View, read_words};
+pub use threads::print_threads;

@@ -1,0 +1,146 @@
+//! Reads a file one frame at a time, and prints each frame.
+
+ghost use Rattle.std.specs.Prelude.{◌≡◌, ◌⊎◌, ◌<◌, ◌-◌, ◌+◌, ◌^◌, ◌++◌, ◌∷◌, [], List, ℕ, false, ◌≢◌, Ok, Err, IfOk, IfErr, OnOk};
+ghost use Rattle.std.specs.List.{list_any};
+ghost use Rattle.std.specs.Arc.{arc_value};
+ghost use Rattle.puffin_data.specs.declared.error.Error.{Error};
+ghost use Rattle.puffin_data.specs.Device.{TookNothing};
+ghost use Rattle.puffin_threads.specs.Details.{lacks_id, shared_details};
+ghost use Rattle.puffin_view.specs.View.Known.{lacks_ids};
+ghost use Rattle.puffin_frames.specs.Frame.Contents.{packet_fields, frame_details};
+ghost use Rattle.puffin_look.specs.OpenFrame.{OpenFrame, open_of, opened_fields};
+ghost use Rattle.puffin_look.specs.inner.Listings.{AddsFrame, FailsToAdd, ListsAll, StopsListing};
+
+use puffin_data::data::{Drain, Source, write_all};
+use puffin_data::{Error, FileError, Result as Answer};
+use puffin_frames::frame_data::laws::each_frame_is_read_again;
+use puffin_frames::frame_data::{FrameData, UnpackedFrameData};
+use puffin_frames::scope_details::ScopeDetails;
+use puffin_view::profile_view::{next_frame, read_magic};
+use std::alloc::Global;
+use std::sync::Arc;
+
+/// Makes the text of frames, one after the other.
+pub(crate) trait Listing {
+    ghost use Rattle.puffin_data.specs.declared.error.Error.{Error};
+
+    /// The text that is still to be written.
+    ghost text: { Self → List ℕ };
+
+    /// Whether these frames, in order, have this text and lead from the first state to the second.
+    ghost takes: { Self → List OpenFrame → List ℕ → Self → Type 0 };
+
+    /// Whether this frame is refused with this error in this state.
+    ghost refuses: { Self → OpenFrame → Error → Type 0 };
+
+    /// Appends the text of the next frame, which lists these details.
+    fn add(&mut self, frame: &UnpackedFrameData, details: &[Arc<ScopeDetails>]) -> Answer<()>
+        requires ids { list_any lacks_id (shared_details details.now) ≡ false }
+        ensures ok { OnOk result (
+            (more : List ℕ)
+            × (text self.new ≡ text self.old ++ more)
+            × takes self.old (open_of frame.now (shared_details details.now) ∷ []) more
+            self.new) }
+        ensures err { IfErr result (λ e.
+            (e ≡ Error.Memory)
+            ⊎ refuses self.old (open_of frame.now (shared_details details.now)) e) };
+
+    /// Returns the text that is still to be written.
+    fn pending(&self) -> &[u8]
+        ensures { result.now ≡ text self.now };
+
+    /// Forgets that text, which was written.
+    fn clear(&mut self)
+        ensures text { text self.new ≡ [] }
+        ensures same { takes self.old [] [] self.new };
+
+    /// Taking no frame changes nothing.
+    ghost takes_none: { (v : Self) → takes v [] [] v };
+
+    /// Taking some frames and then others counts as taking both, joined.
+    ghost takes_more: { (u v w : Self) (xs ys : List OpenFrame) (s t : List ℕ) →
+        takes u xs s v → takes v ys t w → takes u (xs ++ ys) (s ++ t) w };
+}
+
+/// Converts an error of a listing.
+fn as_file_error(cause: Error) -> FileError
+    ensures memory { cause ≡ Error.Memory → result ≡ FileError.Memory }
+    ensures other { (result ≡ FileError.Memory) ⊎ (result ≡ FileError.Refused cause) }
+    ensures io { result ≢ FileError.Io }
+{
+    match cause {
+        Error::Memory => FileError::Memory,
+        cause => FileError::Refused(cause),
+    }
+}
+
+/// Returns the unpacked data of a frame. Packed bytes are decoded where they are, and not copied.
+fn unpacked(frame: &mut FrameData) -> Result<Arc<UnpackedFrameData>, FileError>
+    ensures ok { IfOk result (λ unpacked. opened_fields (packet_fields frame.old)
+        ≡ Ok (open_of (arc_value unpacked) (frame_details frame.old))) }
+    ensures err { IfErr result (λ e.
+        (e ≡ FileError.Memory) ⊎ (opened_fields (packet_fields frame.old) ≡ Err e)) }
+    ensures details { frame_details frame.new ≡ frame_details frame.old }
+{
+    // The proof uses this law: packed bytes are those of the frame's streams.
+    each_frame_is_read_again();
+    frame.unpacked()
+}
+
+/// Adds a frame that was read to a listing, unpacked.
+///
+/// Fails with `Compressed` or `BadStreams` if it can't be unpacked, with `Refused` if the listing refuses it, and with `Memory`.
+fn add_frame<L: Listing>(listing: &mut L, frame: FrameData) -> Result<(), FileError>
+    requires ids { lacks_ids (packet_fields frame) ≡ false }
+    ensures ok { OnOk result (
+        AddsFrame L.text L.takes listing.old listing.new (opened_fields (packet_fields frame))) }
+    ensures err { IfErr result (λ e.
+        FailsToAdd L.refuses listing.old listing.new (opened_fields (packet_fields frame)) e) }
+    ensures cause { IfErr result (λ e. e ≢ FileError.Io) }
+{
+    let mut frame = frame;
+    let unpacked = unpacked(&mut frame)?;
+    match listing.add(&unpacked, &frame.scope_delta) {
+        Ok(()) => Ok(()),
+        Err(cause) => Err(as_file_error(cause)),
+    }
+}
+
+/// Prints all frames of a file, each as soon as it was read. What is pending at the beginning is written in front of them, once
+/// the file's letters were read.
+pub(crate) fn list_frames<S: Source, D: Drain, L: Listing>(
+    alloc: Global,
+    source: &mut S,
+    drain: &mut D,
+    listing: &mut L,
+) -> Result<(), FileError>
+    requires source { S.failures source.old < 2 ^ 64 - 1 }
+    requires drain { D.failures drain.old < 2 ^ 64 - 1 }
+    ensures ok { OnOk result (
+        ListsAll L.text L.takes listing.old listing.new (S.remaining source.old)
+        (S.remaining source.new) (D.contents drain.old) (D.contents drain.new)) }
+    ensures err { IfErr result (λ e.
+        StopsListing L.text L.takes L.refuses listing.old listing.new (S.remaining source.old)
+        (S.remaining source.new) (D.contents drain.old) (D.contents drain.new) e) }
+    // `Io` means that the reader or the writer failed in this call, or that the writer took no bytes.
+    ensures io { (result ≡ Err FileError.Io) → (S.failures source.new ≡ S.failures source.old + 1)
+        ⊎ ((D.failures drain.new ≡ D.failures drain.old + 1) ⊎ TookNothing D.takes drain.new) }
+    ensures failures { OnOk result (
+        (S.failures source.new ≡ S.failures source.old)
+        × (D.failures drain.new ≡ D.failures drain.old)) }
+    ensures drained { result ≢ Err FileError.Io → D.failures drain.new ≡ D.failures drain.old }
+{
+    read_magic(source)?;
+    write_all(drain, listing.pending())?;
+    listing.clear();
+    'frames: for _ in 0..u64::MAX {
+        let Some(frame) = next_frame(alloc, source)? else {
+            return Ok(());
+        };
+        add_frame(listing, frame)?;
+        write_all(drain, listing.pending())?;
+        listing.clear();
+    }
+    // The loop has returned, unless the file has more frames than any that is accepted.
+    Err(FileError::Truncated)
+}

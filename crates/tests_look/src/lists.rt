@@ -1,0 +1,71 @@
+use crate::equal::equal;
+use puffin_data::FileError;
+use puffin_data::data::Counted;
+use puffin_look::{View, print_frames, print_threads, read_words};
+use std::alloc::AllocGlobal;
+use std::process::Abort;
+use std::test::Fail;
+use tests_support::samples::{FILE, ONE_FRAME};
+
+/// What a call returned, and what it wrote.
+type Printed = (Result<(), FileError>, Vec<u8>);
+
+/// The lines of the two frames of [`FILE`].
+const FRAMES: &[u8] = b"frame 0 threads 1 scopes 1 range 100 300 duration 200\n\
+frame 1 threads 1 scopes 1 range 400 401 duration 1\n";
+
+/// Where the line of the second frame begins.
+const SECOND_LINE: usize = 54;
+
+/// Lists the threads of a file.
+fn threads_of(rt: &impl AllocGlobal, file: &[u8]) -> Printed {
+    let mut out = Counted::new(Vec::new(rt.alloc()));
+    let answer = print_threads(rt.alloc(), &mut Counted::new(file), &mut out);
+    (answer, out.into_inner())
+}
+
+/// Lists the frames of a file.
+fn frames_of(rt: &impl AllocGlobal, file: &[u8]) -> Printed {
+    let mut out = Counted::new(Vec::new(rt.alloc()));
+    let answer = print_frames(rt.alloc(), &mut Counted::new(file), &mut out);
+    (answer, out.into_inner())
+}
+
+/// Checks what was printed.
+fn prints(rt: &impl Abort, printed: &Printed, answer: Result<(), FileError>, lines: &[u8]) {
+    equal(rt, printed.0, answer);
+    equal(rt, printed.1.as_slice(), lines);
+}
+
+#[test]
+fn a_thread_is_listed_with_the_sums_of_its_frames(rt: HostRuntime) {
+    let printed = threads_of(&rt, &FILE);
+    let line = b"frames 2 scopes 2 bytes 67 range 100 401 thread 100:main\n";
+    prints(&rt, &printed, Ok(()), line);
+}
+
+#[test]
+fn each_frame_is_listed(rt: HostRuntime) {
+    prints(&rt, &frames_of(&rt, &FILE), Ok(()), FRAMES);
+}
+
+#[test]
+fn what_stands_before_a_fault_is_listed(rt: HostRuntime) {
+    let cut = &FILE[..ONE_FRAME + 20];
+    let truncated = Err(FileError::Truncated);
+    prints(&rt, &frames_of(&rt, cut), truncated, &FRAMES[..SECOND_LINE]);
+    let line = b"frames 1 scopes 1 bytes 35 range 100 300 thread 100:main\n";
+    prints(&rt, &threads_of(&rt, cut), truncated, line);
+}
+
+#[test]
+fn words_name_what_is_shown(rt: HostRuntime) -> Result<(), Fail> {
+    let alloc = rt.alloc();
+    let words = [
+        String::from_str(alloc, "frames")?,
+        String::from_str(alloc, "a.puffin")?,
+    ];
+    equal(&rt, read_words(&words), Some((View::Frames, "a.puffin")));
+    equal(&rt, read_words(&words[..1]), None);
+    Ok(())
+}
