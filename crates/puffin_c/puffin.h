@@ -105,12 +105,6 @@ uint32_t puffin_check_file(const uint8_t *file, size_t size, uint64_t *frames, u
 uint32_t puffin_report_file(const uint8_t *file, size_t file_size, bool has_start, int64_t start_ns, const uint8_t *name,
                             size_t name_size, uint8_t *out, size_t room, uint64_t *size);
 
-/* ---- a clock */
-
-/* Returns the time in nanoseconds by the system's monotonic clock, which has one start for all threads. Returns 0 if the clock
- * can't be read. A program may also pass times of its own. */
-int64_t puffin_now_ns(void);
-
 /* ---- ids, which threads and profilers share */
 
 typedef struct PuffinIds {

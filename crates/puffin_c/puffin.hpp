@@ -19,12 +19,18 @@
 #ifndef PUFFIN_HPP
 #define PUFFIN_HPP
 #include "puffin.h"
+#include <chrono>
 #include <cstddef>
 #include <cstdint>
 #include <string>
 #include <string_view>
 
 namespace puffin {
+
+/* The time in nanoseconds by the steady clock, which has one start for all threads. */
+inline std::int64_t now_ns() noexcept {
+    return std::chrono::nanoseconds(std::chrono::steady_clock::now().time_since_epoch()).count();
+}
 
 inline const std::uint8_t *bytes_of(std::string_view text) noexcept {
     return reinterpret_cast<const std::uint8_t *>(text.data());
@@ -79,16 +85,16 @@ class Thread {
     PuffinThread handle = {};
 };
 
-/* A scope that lasts as long as this object, by puffin_now_ns. A scope whose beginning is refused isn't ended. */
+/* A scope that lasts as long as this object, by now_ns. A scope whose beginning is refused isn't ended. */
 class Scope {
   public:
     Scope(Thread &thread, std::uint32_t id, std::string_view text = {}) noexcept
-        : thread(thread), fault(thread.begin(puffin_now_ns(), id, text, place)) {}
+        : thread(thread), fault(thread.begin(now_ns(), id, text, place)) {}
     Scope(const Scope &) = delete;
     Scope &operator=(const Scope &) = delete;
     ~Scope() {
         if (fault == PUFFIN_OK) {
-            thread.end(puffin_now_ns(), place);
+            thread.end(now_ns(), place);
         }
     }
     /* The fault of the beginning, or 0. */

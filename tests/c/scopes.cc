@@ -40,12 +40,12 @@ int main(int argc, char **argv) {
     PuffinFrame frame;
     CALL(ids.open());
     CALL(profiler.open(ids));
-    std::int64_t before = puffin_now_ns();
+    std::int64_t before = puffin::now_ns();
     std::thread one(work, "main"), other(work, "worker");
     one.join();
     other.join();
     CALL(profiler.new_frame(frame));
-    if (frame.scopes != 8 || frame.start_ns < before || frame.stop_ns > puffin_now_ns()) {
+    if (frame.scopes != 8 || frame.start_ns < before || frame.stop_ns > puffin::now_ns()) {
         std::fprintf(stderr, "scopes %llu\n", (unsigned long long)frame.scopes);
         return 1;
     }

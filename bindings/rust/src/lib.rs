@@ -23,16 +23,17 @@ pub use global::{file, new_frame, refused, set_limits, snapshot, Place, ScopeGua
 pub use raw::Version;
 
 use raw::{Handle, RawFrame};
-use std::{error, fmt, num::NonZeroU32};
+use std::{error, fmt, num::NonZeroU32, sync::OnceLock, time::Instant};
 
 /// The version of the library that is linked.
 pub fn version() -> Version {
     unsafe { raw::puffin_version() }
 }
 
-/// The time in nanoseconds by the system's monotonic clock, which has one start for all threads.
+/// The time in nanoseconds since the first call, by the system's monotonic clock: one start for all threads.
 pub fn now_ns() -> i64 {
-    unsafe { raw::puffin_now_ns() }
+    static START: OnceLock<Instant> = OnceLock::new();
+    i64::try_from(START.get_or_init(Instant::now).elapsed().as_nanos()).unwrap_or(i64::MAX)
 }
 
 /// Why a call failed. It displays as the name that `puffin.h` gives to its number.

@@ -40,7 +40,6 @@ extern "C" {
     #[cfg_attr(not(test), allow(dead_code))]
     pub fn puffin_sizes(sizes: *mut u64, room: usize) -> usize;
     pub fn puffin_fault_name(fault: u32, name: *mut u8, room: usize) -> usize;
-    pub fn puffin_now_ns() -> i64;
     pub fn puffin_check_file(file: *const u8, size: usize, frames: *mut u64, offset: *mut u64) -> u32;
     pub fn puffin_ids_open(ids: *mut Handle) -> u32;
     pub fn puffin_ids_close(ids: *mut Handle) -> u32;

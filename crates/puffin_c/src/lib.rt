@@ -4,7 +4,6 @@
 //! A call returns 0 for success, or the number of a [`fault::Fault`].
 #![tactic(auto)]
 
-pub mod clock;
 pub mod count;
 pub mod fault;
 pub mod fault_name;
