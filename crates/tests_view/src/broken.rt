@@ -51,34 +51,41 @@ fn read_tired(
     (read, Source::faults(&source))
 }
 
+/// The first so many bytes of the file, given one by one, are read as a whole, or have the fault of a file that is cut there.
+fn is_read(rt: &HostRuntime, len: usize, failure: ErrorKind) -> Outcome {
+    let (read, faults) = read_tired(rt, (1, CALLS), failure, &FILE[..len]);
+    if faults != 0 {
+        return Err(Fail::new("a failure that isn't one"));
+    }
+    let written = if len < ONE_FRAME { 4 } else { len };
+    match read {
+        Ok(read) => is_written(rt, &read, &FILE[..written]),
+        Err(fault) if Some(fault) == fault_of_cut(len) => Ok(()),
+        Err(_) => Err(Fail::new("another fault")),
+    }
+}
+
+/// Whether a reader that fails after so many calls gives no view, and fails once.
+fn has_failed(rt: &HostRuntime, calls: usize, failure: ErrorKind) -> bool {
+    let (read, faults) = read_tired(rt, (1, calls), failure, &FILE[..ONE_FRAME]);
+    (read.err(), faults) == (Some(FileError::Io), 1)
+}
+
 #[test]
 fn a_cut_file_comes_byte_by_byte(rt: HostRuntime) -> Outcome {
     for len in 0..ONE_FRAME + 1 {
-        let (read, faults) = read_tired(&rt, (1, CALLS), ErrorKind::Other, &FILE[..len]);
-        assert!(rt; faults == 0);
-        match read {
-            Ok(read) => {
-                let written = if len < ONE_FRAME { 4 } else { len };
-                is_written(&rt, &read, &FILE[..written])?;
-            }
-            Err(fault) => assert!(rt; Some(fault) == fault_of_cut(len)),
-        }
+        is_read(&rt, len, ErrorKind::Other)?;
     }
     Ok(())
 }
 
 #[test]
 fn a_reader_that_fails_gives_no_view(rt: HostRuntime) -> Outcome {
-    let file = &FILE[..ONE_FRAME];
     for failure in [ErrorKind::Other, ErrorKind::Interrupted] {
         for calls in 0..CALLS {
-            let (read, faults) = read_tired(&rt, (1, calls), failure, file);
-            assert!(rt; read.err() == Some(FileError::Io));
-            assert!(rt; faults == 1);
+            assert!(rt; has_failed(&rt, calls, failure));
         }
-        let (read, faults) = read_tired(&rt, (1, CALLS), failure, file);
-        assert!(rt; faults == 0);
-        is_written(&rt, &read?, file)?;
+        is_read(&rt, ONE_FRAME, failure)?;
     }
     Ok(())
 }

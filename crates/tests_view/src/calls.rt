@@ -1,9 +1,10 @@
 //! Statistics of frames that are packed or not, and the faults of packets.
 
 use crate::files::{Outcome, has_fault};
-use puffin_data::{Error, FileError};
+use puffin_data::{Error, FileError, FrameIndex};
 use puffin_view::profile_view::{FrameStats, FrameView};
 use std::sync::Arc;
+use std::test::Fail;
 use tests_support::frames::packet_frame;
 use tests_support::samples::{FILE, ONE_FRAME};
 
@@ -12,18 +13,25 @@ fn counts(stats: FrameStats) -> (usize, usize) {
     (stats.frames(), stats.unpacked_frames())
 }
 
+/// How many frames both calls for statistics count with this frame more, and how many of them unpacked.
+fn counts_with(
+    rt: &HostRuntime,
+    view: &mut FrameView,
+    index: FrameIndex,
+) -> std::result::Result<[(usize, usize); 2], Fail> {
+    let frame = packet_frame(rt.alloc(), index)?;
+    view.add_frame(Arc::new(rt.alloc(), frame)?)?;
+    let stats = FrameStats::from_frames(view.all_uniq());
+    Ok([counts(view.stats()), counts(stats)])
+}
+
 #[test]
 fn the_newest_frame_is_packed_where_packing_is_on(rt: HostRuntime) -> Outcome {
     let mut view = FrameView::new(rt.alloc());
-    view.set_pack_frames(false);
     for (index, expected) in [(0, (1, 1)), (1, (2, 2)), (2, (3, 2))] {
-        if index == 2 {
-            view.set_pack_frames(true);
-        }
-        let frame = packet_frame(rt.alloc(), index)?;
-        view.add_frame(Arc::new(rt.alloc(), frame)?)?;
-        assert!(rt; counts(view.stats()) == expected);
-        assert!(rt; counts(FrameStats::from_frames(view.all_uniq())) == expected);
+        view.set_pack_frames(index == 2);
+        let found = counts_with(&rt, &mut view, index)?;
+        assert!(rt; found == [expected, expected]);
     }
     Ok(())
 }

@@ -38,6 +38,12 @@ fn add_all(view: &mut FrameView, other: &FrameView) -> Outcome {
     Ok(())
 }
 
+/// Adds the frames of a file.
+fn add_file(rt: &HostRuntime, limited: &mut FrameView, bytes: &[u8]) -> Outcome {
+    let whole = view(rt, bytes)?;
+    add_all(limited, &whole)
+}
+
 /// A view with these limits, of the frames of a file.
 fn limited(
     rt: &HostRuntime,
@@ -45,11 +51,10 @@ fn limited(
     max_recent: usize,
     max_slow: usize,
 ) -> std::result::Result<FrameView, Fail> {
-    let whole = view(rt, bytes)?;
     let mut limited = FrameView::new(rt.alloc());
     limited.set_max_recent(max_recent);
     limited.set_max_slow(max_slow);
-    add_all(&mut limited, &whole)?;
+    add_file(rt, &mut limited, bytes)?;
     Ok(limited)
 }
 
@@ -150,46 +155,46 @@ fn frames_that_are_recent_and_slow_are_written_once(rt: HostRuntime) -> Outcome 
 fn files_end_at_few_bytes_or_four_zeros(rt: HostRuntime) -> Outcome {
     let ends: [&[u8]; 4] = [b"", b"PFD", &[0, 0, 0, 0], &[0, 0, 0, 0, 80, 70, 68, 57]];
     for end in ends {
-        let none = view(&rt, &bytes_of(rt.alloc(), &[b"PUF0", end])?)?;
-        assert!(rt; none.is_empty());
-        let one = view(&rt, &bytes_of(rt.alloc(), &[&FILE[..79], end])?)?;
-        are_recent(&rt, &one, &[0])?;
+        are_recent(&rt, &view_of(&rt, &[b"PUF0", end])?, &[])?;
+        are_recent(&rt, &view_of(&rt, &[&FILE[..79], end])?, &[0])?;
     }
     Ok(())
 }
 
+/// A view of a file of these pieces.
+fn view_of(rt: &HostRuntime, pieces: &[&[u8]]) -> std::result::Result<FrameView, Fail> {
+    let bytes = bytes_of(rt.alloc(), pieces)?;
+    view(rt, &bytes)
+}
+
 #[test]
 fn legacy_frames_are_held_unpacked(rt: HostRuntime) -> Outcome {
-    let bytes = bytes_of(
-        rt.alloc(),
-        &[
-            b"PUF0",
-            &[57, 0, 0, 0, 0],
-            &FILE[24..74],
-            &[0xc8, 0xfb, 0x58, 0x02, 0x23, 0x01],
-        ],
-    )?;
-    let view = view(&rt, &bytes)?;
+    let counts = [0xc8, 0xfb, 0x58, 0x02, 0x23, 0x01];
+    let view = view_of(&rt, &[b"PUF0", &[57, 0, 0, 0, 0], &FILE[24..74], &counts])?;
     assert!(rt; view.stats().unpacked_frames() == 1);
     is_written(&rt, &view, &FILE[..79])
 }
 
 #[test]
 fn an_index_that_does_not_rise_empties_the_view(rt: HostRuntime) -> Outcome {
-    let bytes = bytes_of(rt.alloc(), &[b"PUF0", &FILE[79..], &FILE[4..79]])?;
-    let view = view(&rt, &bytes)?;
+    let view = view_of(&rt, &[b"PUF0", &FILE[79..], &FILE[4..79]])?;
     are_recent(&rt, &view, &[0])
+}
+
+/// A view of this file knows one scope, and is written as the file.
+fn knows_one(rt: &HostRuntime, file: &[u8]) -> Outcome {
+    let known = view(rt, file)?;
+    if known.scope_collection().scopes_by_id().len() != 1 {
+        return Err(Fail::new("other scopes are known"));
+    }
+    is_written(rt, &known, file)
 }
 
 #[test]
 fn details_are_learnt(rt: HostRuntime) -> Outcome {
-    let bytes = bytes_of(
-        rt.alloc(),
-        &[&FILE[..74], b"\x08\0\0\0\x01\x01\x07\0\x01f\0\0"],
-    )?;
-    let known = view(&rt, &bytes)?;
-    assert!(rt; known.scope_collection().scopes_by_id().len() == 1);
-    is_written(&rt, &known, bytes.as_slice())
+    let details = b"\x08\0\0\0\x01\x01\x07\0\x01f\0\0";
+    let bytes = bytes_of(rt.alloc(), &[&FILE[..74], details])?;
+    knows_one(&rt, &bytes)
 }
 
 #[test]
