@@ -51,16 +51,20 @@ fn read_tired(
     (read, Source::faults(&source))
 }
 
-/// The first so many bytes of the file, given one by one, are read as a whole, or have the fault of a file that is cut there.
-fn is_read(rt: &HostRuntime, len: usize, failure: ErrorKind) -> Outcome {
-    let (read, faults) = read_tired(rt, (1, CALLS), failure, &FILE[..len]);
+/// A beginning of the file, given byte by byte, is read, or has the fault of a file that is cut there.
+fn is_read(rt: &HostRuntime, front: &[u8], failure: ErrorKind) -> Outcome {
+    let (read, faults) = read_tired(rt, (1, CALLS), failure, front);
     if faults != 0 {
         return Err(Fail::new("a failure that isn't one"));
     }
-    let written = if len < ONE_FRAME { 4 } else { len };
+    let written = if front.len() < ONE_FRAME {
+        &FILE[..4]
+    } else {
+        front
+    };
     match read {
-        Ok(read) => is_written(rt, &read, &FILE[..written]),
-        Err(fault) if Some(fault) == fault_of_cut(len) => Ok(()),
+        Ok(read) => is_written(rt, &read, written),
+        Err(fault) if Some(fault) == fault_of_cut(front.len()) => Ok(()),
         Err(_) => Err(Fail::new("another fault")),
     }
 }
@@ -74,7 +78,7 @@ fn has_failed(rt: &HostRuntime, calls: usize, failure: ErrorKind) -> bool {
 #[test]
 fn a_cut_file_comes_byte_by_byte(rt: HostRuntime) -> Outcome {
     for len in 0..ONE_FRAME + 1 {
-        is_read(&rt, len, ErrorKind::Other)?;
+        is_read(&rt, &FILE[..len], ErrorKind::Other)?;
     }
     Ok(())
 }
@@ -85,7 +89,7 @@ fn a_reader_that_fails_gives_no_view(rt: HostRuntime) -> Outcome {
         for calls in 0..CALLS {
             assert!(rt; has_failed(&rt, calls, failure));
         }
-        is_read(&rt, ONE_FRAME, failure)?;
+        is_read(&rt, &FILE[..ONE_FRAME], failure)?;
     }
     Ok(())
 }
