@@ -1,4 +1,4 @@
-ghost use Rattle.std.specs.Prelude.{◌≡◌, ◌+◌, ◌-◌, ◌^◌, ◌<◌, ◌⊎◌, ◌↔◌, [], ◌∷◌, None, Some, true, OnOk, OnErr, IfOk, IfErr};
+ghost use Rattle.std.specs.Prelude.{◌≡◌, ◌+◌, ◌-◌, ◌^◌, ◌<◌, ◌⊎◌, ◌↔◌, [], ◌∷◌, None, Some, true, OnOk, OnErr, IfOk, IfErr, IsOkUnless};
 ghost use Rattle.std.specs.Arc.{arc_value};
 ghost use Rattle.std.specs.List.{list_any};
 ghost use Rattle.std.specs.FinMap as map;
@@ -14,11 +14,9 @@ use crate::delta::scope_delta;
 use crate::totals::Totals;
 use puffin_data::data::ScopeId;
 use puffin_data::{Error, Result};
-use puffin_frames::frame_data::laws::streams_with_a_layout;
 use puffin_frames::frame_data::{
     FrameData, FrameIndex, FrameMeta, ThreadStreams, UnpackedFrameData,
 };
-use puffin_frames::laws;
 use puffin_frames::scope_details::{ScopeCollection, ScopeDetails, ScopeIds};
 use std::alloc::Global;
 use std::collections::BTreeMap;
@@ -79,10 +77,6 @@ impl Collector {
     pub fn new(alloc: Global, frame_index: FrameIndex) -> Collector
         ensures { result ≡ nothing_collected frame_index }
     {
-        // Laws for the proof of the invariant.
-        laws::reported_streams();
-        laws::honest_streams();
-        streams_with_a_layout();
         Collector {
             alloc,
             pending: BTreeMap::new(alloc),
@@ -185,10 +179,6 @@ impl Collector {
         ensures exhausted { (result ≡ Err Error.IndexExhausted) ↔ (self.old.index ≡ 2 ^ 64 - 1) }
         ensures err { IfErr result (λ e. KeepsPending self.old e self.new) }
     {
-        // The proof uses these laws about an empty map of streams, honest streams, and streams that have a layout.
-        laws::reported_streams();
-        laws::honest_streams();
-        streams_with_a_layout();
         let Some(next) = self.meta.frame_index.checked_add(1) else {
             return Err(Error::IndexExhausted);
         };
@@ -219,12 +209,8 @@ impl Collector {
             HoldsPending self.old (shared_details delta.items) (arc_value frame)) }
         ensures ok { OnOk result (self.new ≡ after_handing_out self.old next) }
         ensures err { OnErr result (self.new ≡ self.old) }
-        ensures memory { IfErr result (λ e. e ≡ Error.Memory) }
+        ensures memory { IsOkUnless result Error.Memory }
     {
-        // The proof uses these laws about an empty map of streams, honest streams, and streams that have a layout.
-        laws::reported_streams();
-        laws::honest_streams();
-        streams_with_a_layout();
         let thread_streams = mem::replace(&mut self.pending, BTreeMap::new(self.alloc));
         let unpacked = UnpackedFrameData {
             meta: self.meta,
@@ -251,7 +237,6 @@ impl Collector {
         ensures reported { result.reported ≡ self.now.reported }
         ensures pending { result.pending ≡ total_scopes (map.values self.now.streams) }
         ensures emitted { result.emitted ≡ self.now.emitted }
-        ensures sum { result.reported ≡ result.pending + result.emitted }
         // At any time, what is pending is honest.
         ensures honest { AreHonest self.now.streams }
     {

@@ -1,4 +1,4 @@
-ghost use Rattle.std.specs.Prelude.{◌≡◌, ◌++◌, ◌↔◌, OnOk, IfOk, IfErr, All, IsTrue, IsSome};
+ghost use Rattle.std.specs.Prelude.{◌≡◌, ◌++◌, ◌↔◌, OnOk, IfOk, All, IsTrue, IsSome, IsOkUnless};
 ghost use Rattle.puffin_threads.specs.Details.{details_of, details_seen, shared_details, AllHaveIds};
 ghost use Rattle.puffin_threads.specs.Details.Collection.{KeepsOwnIds};
 ghost use Rattle.puffin_collector.specs.Collector.State.{all_details, delta_of};
@@ -18,7 +18,7 @@ pub(crate) fn all_have_ids(details: &[ScopeDetails]) -> bool
 /// Copies details. Fails only with `Memory`.
 pub(crate) fn copies(alloc: Global, details: &[ScopeDetails]) -> Result<Vec<Arc<ScopeDetails>>>
     ensures ok { IfOk result (λ copies. shared_details copies.items ≡ details_seen details.now) }
-    ensures err { IfErr result (λ e. e ≡ Error.Memory) }
+    ensures err { IsOkUnless result Error.Memory }
 {
     let mut copies = Vec::with_capacity(alloc, details.len())?;
     for details in details {
@@ -40,7 +40,7 @@ pub(crate) fn scope_delta(
         shared_details delta.items
         ≡ delta_of collection.now (shared_details new_details.now) wants_all) }
     ensures ids { IfOk result (λ delta. AllHaveIds (shared_details delta.items)) }
-    ensures err { IfErr result (λ e. e ≡ Error.Memory) }
+    ensures err { IsOkUnless result Error.Memory }
 {
     let mut delta = Vec::with_capacity(alloc, new_details.len())?;
     for details in new_details {
@@ -58,7 +58,7 @@ fn tell_of_all(delta: &mut Vec<Arc<ScopeDetails>>, collection: &ScopeCollection)
         shared_details delta.new.items
         ≡ shared_details delta.old.items ++ all_details collection.now) }
     ensures own { KeepsOwnIds collection.now }
-    ensures err { IfErr result (λ e. e ≡ Error.Memory) }
+    ensures err { IsOkUnless result Error.Memory }
 {
     for details in collection.scopes_by_id().values() {
         delta.push(details.clone()?)?;

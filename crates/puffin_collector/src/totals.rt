@@ -1,3 +1,5 @@
+ghost use Rattle.std.specs.Prelude.{◌≡◌, ◌+◌};
+
 /// The numbers of scopes that were reported, are pending, and were handed out in frames.
 #[derive(Clone, Copy, Debug, PartialEq, Eq)]
 pub struct Totals {
@@ -7,4 +9,5 @@ pub struct Totals {
     pub pending: u64,
     /// The number of scopes in all frames so far.
     pub emitted: u64,
+    ghost sum: { reported ≡ pending + emitted },
 }

@@ -16,28 +16,11 @@ use Rattle.puffin_data.specs.inner.Walking.{tries_in, no_scope_counted, Walked, 
 use Rattle.puffin_data.specs.Forest.Spelling.{Spells}
 use Rattle.puffin_data.specs.Honesty.{Counts}
 use Rattle.puffin_data.proofs.lemmas.Numbers.{IsBytes}
+use Rattle.puffin_data.proofs.lemmas.ForestRanges.{least_in_range, greatest_in_range, from_most, from_least}
 use Rattle.puffin_data.proofs.Regions.{whole_region, empty_region, nothing_is_no_fault, between}
 use Rattle.puffin_data.proofs.Completes.{completed, tallied, tallies}
 use Rattle.puffin_data.proofs.FirstFaults.{stopped_at}
 use Rattle.puffin_data.proofs.lemmas.Unique.{faultless, same_forest}
-
-pub least_in_range : (f : Forest) → least_start f ≤ℤ pos (2 ^ 63 - 1)
-least_in_range empty = omega (arith, ints)
-least_in_range (node s c o) = omega (arith, ints, clamps, least_in_range c, least_in_range o)
-
-pub greatest_in_range : (f : Forest) → negsuc (2 ^ 63 - 1) ≤ℤ greatest_stop f
-greatest_in_range empty = omega (arith, ints)
-greatest_in_range (node s c o) = omega (arith, ints, clamps, greatest_in_range c, greatest_in_range o)
-
-pub ordered : (form : Form) (f : Forest) → IsForest form f → 0 < scope_count f → least_start f ≤ℤ greatest_stop f
-ordered form empty fits some = absurd (omega arith)
-ordered form (node s c o) fits some = omega (arith, ints, clamps, fits.0.ordered)
-
-pub from_most : (z : ℤ) → z ≤ℤ pos (2 ^ 63 - 1) → int_min (pos (2 ^ 63 - 1)) z ≡ z
-from_most z h = omega (arith, ints, clamps)
-
-pub from_least : (z : ℤ) → negsuc (2 ^ 63 - 1) ≤ℤ z → int_max (negsuc (2 ^ 63 - 1)) z ≡ z
-from_least z h = omega (arith, ints, clamps)
 
 counts : (f : Forest) → Counts (tallied 0 no_scope_counted f) f
 counts f =

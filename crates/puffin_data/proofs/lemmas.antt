@@ -2,6 +2,7 @@
 pub mod Numbers
 pub mod Lengths
 pub mod Unique
+pub mod ForestRanges
 pub mod Extended
 pub mod Tours
 pub mod Opening

@@ -44,6 +44,11 @@ error_name error.NoThread = codes "NoThread"
 error_name error.Memory = codes "Memory"
 error_name error.UnlikeForms = codes "UnlikeForms"
 
+-- what a call that reads or writes returns where a call of its own fails
+abbrev pub file_error_of : Error → FileError
+file_error_of error.Memory = file.Memory
+file_error_of cause = file.Refused cause
+
 abbrev pub file_error_number : FileError → ℕ
 file_error_number file.Io = 1
 file_error_number file.NoMagic = 2

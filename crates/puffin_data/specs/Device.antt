@@ -1,6 +1,6 @@
 -- What a call on a reader or writer guarantees: the bytes it takes or writes, and when it returns `Io`.
 pub mod Counting
-use Rattle.std.specs.Prelude.{◌≡◌, ℕ, ◌+◌, ◌<◌, ◌≤◌, Bool, true, false, List, ◌++◌, length, Option, Result, Ok, Err, if◌then◌else◌, ◌⊎◌}
+use Rattle.std.specs.Prelude.{◌≡◌, ℕ, ◌+◌, ◌-◌, ◌^◌, ◌<◌, ◌≤◌, Bool, true, false, List, ◌++◌, length, Option, Result, Ok, Err, if◌then◌else◌, ◌⊎◌}
 use Rattle.std.specs.Io.KnownBytes.{Appends, Consumes, IsAtEnd}
 use Rattle.puffin_data.specs.Value.Layout.{IsBytes}
 use Rattle.puffin_data.specs.declared.file_error.FileError.{FileError}
@@ -15,6 +15,10 @@ is_io (Err _) = false
 -- a reader's number of failures after a call
 abbrev pub failures_after : {X : Type 0} → ℕ → Result X FileError → ℕ
 failures_after n r = if is_io r then n + 1 else n
+
+-- one more failure can be counted
+abbrev pub CanFail : {D : Type 0} → (D → ℕ) → D → Type 0
+CanFail failures device = failures device < 2 ^ 64 - 1
 
 -- a failure of the device or of memory, not a fault in what was read
 abbrev pub IsOutside : FileError → Type 0

@@ -54,6 +54,10 @@ IsHonest info f = AreHonestFacts (facts_of info) f
 abbrev pub IsHonestRef : StreamInfoRef → Forest → Type 0
 IsHonestRef info f = AreHonestFacts (facts_of_ref info) f
 
+-- the bytes of a report spell some forest, and its numbers agree with them
+abbrev pub IsHonestReport : StreamInfoRef → Type 0
+IsHonestReport info = (f : Forest) × IsHonestRef info f
+
 -- both have bytes, and their forms differ
 abbrev pub AreUnlike : StreamFacts → StreamFacts → Type 0
 AreUnlike a b = (0 < length a.bytes) × (0 < length b.bytes) × (a.form ≢ b.form)

@@ -3,12 +3,20 @@ pub mod Reading
 pub mod FoundScopes
 pub mod PlacedScopes
 pub mod Visitor
-use Rattle.std.specs.Prelude.{◌≡◌, ℕ, ◌+◌, ◌-◌, ◌≤◌, List, [], ◌∷◌, ◌++◌, length, take, drop, slice_index, nat_lt, ◌==◌, if◌then◌else◌, Some, Ok}
+use Rattle.std.specs.Prelude.{◌≡◌, ℕ, ◌+◌, ◌-◌, ◌/◌, ◌≤◌, List, [], ◌∷◌, ◌++◌, length, take, drop, slice_index, nat_lt, ◌==◌, if◌then◌else◌, Some, Ok}
 use Rattle.std.specs.List.{count_by}
 use Rattle.puffin_data.specs.declared.data.form.Form.{Form}
 use Rattle.puffin_data.specs.declared.error.Error.{Error}
 use Rattle.puffin_data.specs.Forest.Spelling.{begin_mark}
 use Rattle.puffin_data.specs.Walk.Reading.{FoundScope, reading, IsFaultIn}
+
+-- the bytes of a short scope without text and children
+abbrev pub least_scope_size : ℕ
+least_scope_size = 31
+
+-- the most scopes that a walk of these bytes tries to read
+abbrev pub most_tries_in : List ℕ → ℕ
+most_tries_in bytes = length bytes / least_scope_size + 1
 
 -- the bytes from place p to place e
 abbrev pub region : List ℕ → ℕ → ℕ → List ℕ

@@ -1,10 +1,10 @@
 ghost use Rattle.std.specs.Prelude.{◌≡◌};
-ghost use Rattle.puffin_data.specs.declared.file_error.FileError.TheVariants.{Memory};
-ghost use Rattle.puffin_data.specs.Cause.{file_error_number, file_error_name};
+ghost use Rattle.puffin_data.specs.declared.file_error.FileError.TheVariants.{Io, Memory};
+ghost use Rattle.puffin_data.specs.Cause.{file_error_number, file_error_name, file_error_of};
 
 use crate::error::Error;
 use std::alloc::{AllocError, AllocFailed};
-use std::fmt;
+use std::{fmt, io};
 
 /// Why a stream, a packet or a file couldn't be read or written. It displays as its name, followed by a space and the number or
 /// error that it holds, if any.
@@ -117,5 +117,24 @@ impl<T: Drop> From<AllocFailed<T>> for FileError {
 
     fn from(_e: AllocFailed<T>) -> FileError {
         FileError::Memory
+    }
+}
+
+impl From<Error> for FileError {
+    ghost from_gives = { λ cause e. e ≡ file_error_of cause };
+
+    fn from(cause: Error) -> FileError {
+        match cause {
+            Error::Memory => FileError::Memory,
+            cause => FileError::Refused(cause),
+        }
+    }
+}
+
+impl From<io::Error> for FileError {
+    ghost from_gives = { λ _ e. e ≡ Io };
+
+    fn from(_e: io::Error) -> FileError {
+        FileError::Io
     }
 }

@@ -13,7 +13,4 @@ mod Packings
 mod Joining
 mod Sharing
 mod Reports
-mod Honest
-mod PackedAgain
 mod Layouts
-mod LayoutsKept

@@ -26,7 +26,7 @@ use Rattle.puffin_frames.specs.Packet.Structs.{form_of_all, AreStreams, streams_
 use Rattle.puffin_frames.specs.Frame.Holding.{Packing, HoldsStreams, AreReadAgain, or_bad, unpacking, unpacked_from, Holding, streams_in, if_packed, either_content, holding_streams, Agree, IsHolding, packing, plainly_packed, as_packed, as_unpacked}
 use Rattle.puffin_frames.proofs.Structs.{streams_reader}
 use Rattle.puffin_frames.proofs.Listed.{holds}
-use Rattle.puffin_frames.proofs.PackedAgain.{packed_again}
+use Rattle.puffin_frames.proofs.lemmas.PackedAgain.{packed_again}
 use Rattle.puffin_frames.proofs.PartsTaken.{same_ok}
 use Rattle.puffin_frames.proofs.FormsOfAll.{sorted_in, form_stored}
 

@@ -2,3 +2,6 @@
 pub mod Keyed
 pub mod Ranges
 pub mod Measured
+pub mod Honest
+pub mod PackedAgain
+pub mod LayoutsKept

@@ -78,8 +78,4 @@ pub fn honest_streams()
         0 < total_scopes (map.values streams) → IsOrdered (joined_range (map.values streams)) }
     ensures no_scopes { (streams : Streams) (i : ThreadKey) (r : StreamFacts) →
         total_scopes (map.values streams) ≡ 0 → map.get streams i ≡ Some r → r.num_scopes ≡ 0 }
-{
-    // The laws that the proof cites.
-    puffin_data::laws::joined_infos();
-    puffin_data::laws::range_of_a_forest();
-}
+{}

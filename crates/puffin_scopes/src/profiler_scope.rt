@@ -42,7 +42,7 @@ impl<'p, C: NsSource> ProfilerScope<'p, C> {
             lender_of scope ≡ profiler.entry.ghost_name) }
         ensures begun { IfOk result (λ scope.
             IsOn C.answers profiler.old id text.now scope) }
-        ensures memory { IfErr result (λ e. e ≡ Error.Memory) }
+        ensures memory { IsOkUnless result Error.Memory }
     {
         let state = GuardState::On(profiler.begin_scope(id, text)?);
         Ok(ProfilerScope { profiler, state })

@@ -123,7 +123,7 @@ impl Site {
         ensures names { IfOk result (λ names.
             (cow_str_bytes names.0 ≡ clean function.now)
             × (cow_str_bytes names.1 ≡ short_file self.now.file.now)) }
-        ensures memory { IfErr result (λ e. e ≡ Error.Memory) }
+        ensures memory { IsOkUnless result Error.Memory }
     {
         let function = clean_function_name(alloc, function)?;
         let file = short_file_name(alloc, self.file)?;

@@ -1,6 +1,6 @@
 ghost use Rattle.std.specs.Prelude.{IfOk};
 ghost use Rattle.puffin_data.specs.Forest.{Forest};
-ghost use Rattle.puffin_data.specs.Honesty.{IsHonest, IsHonestRef};
+ghost use Rattle.puffin_data.specs.Honesty.{IsHonest, IsHonestReport};
 
 use crate::equal::equal;
 use puffin::data::{Stream, StreamInfo, StreamInfoRef};
@@ -41,7 +41,7 @@ pub(crate) fn scope(
 /// An honest info with its bytes borrowed.
 pub(crate) fn borrowed(info: &StreamInfo) -> StreamInfoRef<'_>
     requires { (f : Forest) × IsHonest info.now f }
-    ensures { (f : Forest) × IsHonestRef result f }
+    ensures { IsHonestReport result }
 {
     info.as_stream_into_ref()
 }

@@ -2,8 +2,7 @@
 
 ghost use Rattle.std.specs.Prelude.{◌≡◌, List, ◌+◌, [], OnOk, IfOk, IfErr};
 ghost use Rattle.std.specs.Bool.{MatchBool};
-ghost use Rattle.puffin_data.specs.Forest.{Forest};
-ghost use Rattle.puffin_data.specs.Honesty.{IsHonestRef, facts_of_ref};
+ghost use Rattle.puffin_data.specs.Honesty.{IsHonestReport, facts_of_ref};
 ghost use Rattle.puffin_threads.specs.Thread.ThreadKey.{key_of};
 ghost use Rattle.puffin_threads.specs.Details.{Details, details_seen, AllHaveIds};
 ghost use Rattle.puffin_frames.specs.Frame.Sums.{IsOrdered, DurationFits};
@@ -15,7 +14,6 @@ use crate::delta::{all_have_ids, copies};
 use puffin_data::data::{StreamInfoRef, is_valid_range};
 use puffin_data::{Error, NanoSecond, Result};
 use puffin_frames::frame_data::{FrameMeta, are_unlike, report_to};
-use puffin_frames::laws;
 use puffin_frames::scope_details::ScopeDetails;
 use puffin_frames::thread_profiler::{Reporter, ThreadInfo};
 
@@ -34,7 +32,7 @@ impl Collector {
         details: &[ScopeDetails],
         times: &StreamInfoRef,
     ) -> Result<()>
-        requires { (f : Forest) × IsHonestRef times.now f }
+        requires { IsHonestReport times.now }
         ensures ok { OnOk result (
             AcceptsReport self.old (key_of info) (details_seen details.now)
             (facts_of_ref times.now) self.new) }
@@ -53,7 +51,7 @@ impl Collector {
     /// returned. Does the same as [`Collector::report`] with no details, and fails in the same cases.
     #[inline(always)]
     pub fn report_user_scopes(&mut self, info: ThreadInfo, times: &StreamInfoRef) -> Result<()>
-        requires { (f : Forest) × IsHonestRef times.now f }
+        requires { IsHonestReport times.now }
         ensures ok { OnOk result (
             AcceptsReport self.old (key_of info) [] (facts_of_ref times.now) self.new) }
         ensures err { IfErr result (λ e.
@@ -71,7 +69,7 @@ impl Collector {
         details: &[ScopeDetails],
         times: &StreamInfoRef,
     ) -> Result<()>
-        requires { (f : Forest) × IsHonestRef times.now f }
+        requires { IsHonestReport times.now }
         ensures ok { OnOk result (
             AcceptsReport self.old (key_of info) (details_seen details.now)
             (facts_of_ref times.now) self.new) }
@@ -104,16 +102,12 @@ impl Collector {
     /// [`Collector::report`].
     #[inline(always)]
     fn append(&mut self, info: ThreadInfo, times: &StreamInfoRef) -> Result<()>
-        requires { (f : Forest) × IsHonestRef times.now f }
+        requires { IsHonestReport times.now }
         ensures ok { OnOk result (
             AcceptsReport self.old (key_of info) [] (facts_of_ref times.now) self.new) }
         ensures err { IfErr result (λ e.
             RefusesReport self.old (key_of info) [] (facts_of_ref times.now) e self.new) }
     {
-        // The proof of the invariant uses these laws about joined ranges and streams.
-        laws::joined_ranges();
-        laws::reported_streams();
-        laws::honest_streams();
         let (meta, reported) = match self.sums_with(times) {
             Ok(sums) => sums,
             Err(cause) => return Err(self.first_cause(&info, times, cause)),
@@ -158,8 +152,6 @@ impl Collector {
             × ¬ IsTooLong (range_with self.now (facts_of_ref times.now))) }
         ensures refusal { IfErr result (IsSumRefusal self.now (facts_of_ref times.now)) }
     {
-        // The proof uses this law about a range joined with one more stream.
-        laws::joined_ranges();
         let Some(meta) = self.meta.joined(times) else {
             return Err(Error::TooLarge);
         };

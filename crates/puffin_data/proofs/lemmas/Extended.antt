@@ -10,7 +10,7 @@ use Rattle.puffin_data.specs.Forest.Measures.{scope_count, height, least_start, 
 use Rattle.puffin_data.specs.Forest.Spelling.{spelling, Spells}
 use Rattle.puffin_data.specs.Honesty.{StreamFacts, AreHonestFacts, AreUnlike, joined_form, joined_facts}
 use Rattle.puffin_data.proofs.lemmas.Unique.{spelling-append, long}
-use Rattle.puffin_data.proofs.RangesTold.{least_in_range, greatest_in_range, from_most, from_least}
+use Rattle.puffin_data.proofs.lemmas.ForestRanges.{least_in_range, greatest_in_range, from_most, from_least}
 
 pub scope_count-append : (f g : Forest) → scope_count (append f g) ≡ scope_count f + scope_count g
 scope_count-append empty g = omega arith

@@ -1,9 +1,9 @@
 //! Readers and writers that count their failures.
 
-ghost use Rattle.std.specs.Prelude.{◌≡◌, ◌++◌, ◌+◌, ◌-◌, ◌^◌, ◌<◌, ◌≤◌, ℕ, List, Option, None, IsSome, IfOk, IfErr, OnOk, is_err, length, if◌then◌else◌};
+ghost use Rattle.std.specs.Prelude.{◌≡◌, ◌++◌, ◌+◌, ◌<◌, ◌≤◌, ℕ, List, Option, None, IsSome, IfOk, IfErr, OnOk, is_err, length, if◌then◌else◌};
 ghost use Rattle.std.specs.Io.{ReadsAtMost, WritesAtMost};
 ghost use Rattle.std.specs.Io.KnownBytes.{Consumes, IsAtEnd, ReadConsumes, WriteAppends};
-ghost use Rattle.puffin_data.specs.Device.{IsOutside, failures_after};
+ghost use Rattle.puffin_data.specs.Device.{CanFail, IsOutside, failures_after};
 
 use crate::file_error::FileError;
 use std::io;
@@ -21,7 +21,7 @@ pub trait Source {
     /// Reads some bytes into the front of `buf`, as std's `Read` does, and returns how many. If `buf` isn't empty, 0 means the
     /// end. Each error adds one to the failures, even an interruption.
     fn read(&mut self, buf: &mut [u8]) -> io::Result<usize>
-        requires { failures self.old < 2 ^ 64 - 1 }
+        requires { CanFail failures self.old }
         ensures bound { ReadsAtMost result buf.new }
         ensures bytes { ReadConsumes (remaining self.old) (remaining self.new) result buf.new }
         ensures failed { failures self.new
@@ -30,7 +30,7 @@ pub trait Source {
     /// Reads bytes and appends them until `bytes` has `len` bytes or the reader ends. Fails with `Io` if a read fails, or with
     /// `Memory`; the contents of `bytes` and how far it read are then unspecified.
     fn read_to_len(&mut self, bytes: &mut Vec<u8>, len: usize) -> Result<(), FileError>
-        requires failures { failures self.old < 2 ^ 64 - 1 }
+        requires failures { CanFail failures self.old }
         requires len { length bytes.old.items ≤ len }
         ensures grown { OnOk result (
             (taken : List ℕ)
@@ -75,7 +75,7 @@ pub trait Drain {
     /// Writes some bytes from the front of `buf`, as std's `Write` does, and returns how many. Each error adds one to the
     /// failures, even an interruption.
     fn write(&mut self, buf: &[u8]) -> io::Result<usize>
-        requires { failures self.old < 2 ^ 64 - 1 }
+        requires { CanFail failures self.old }
         ensures bound { WritesAtMost result buf.now }
         ensures bytes { WriteAppends (contents self.old) (contents self.new) result buf.now }
         ensures took { IfOk result (λ n. takes self.old buf.now n self.new) }

@@ -1,4 +1,4 @@
-ghost use Rattle.std.specs.Prelude.{◌≡◌, ◌+◌, ◌≤◌, ◌<◌, ◌^◌, ◌↔◌, ◌⊎◌, true, length, IfOk, IfErr, IsOk, OnOk, OnErr, MatchResult};
+ghost use Rattle.std.specs.Prelude.{◌≡◌, ◌+◌, ◌≤◌, ◌<◌, ◌^◌, ◌↔◌, ◌⊎◌, length, IfOk, IfErr, IsOk, OnOk, OnErr, MatchResult, IsOkUnless, IsTrue};
 ghost use Rattle.std.specs.Int.{int_min, int_max};
 ghost use Rattle.puffin_data.specs.Forest.{Forest, empty, append};
 ghost use Rattle.puffin_data.specs.Forest.Spelling.{Spells};
@@ -116,7 +116,7 @@ impl StreamInfo {
 
     /// Returns whether both infos have bytes and their forms differ. Such infos can't be joined.
     pub fn is_unlike(&self, other: &StreamInfoRef) -> bool
-        ensures { (result ≡ true) ↔ AreUnlike (facts_of self.now) (facts_of_ref other.now) }
+        ensures { IsTrue result ↔ AreUnlike (facts_of self.now) (facts_of_ref other.now) }
     {
         !self.stream.is_empty() && !other.stream.is_empty() && self.stream.form() != other.form
     }
@@ -177,7 +177,7 @@ impl StreamInfo {
     /// Copies the info. Fails only with `Memory`.
     pub fn clone(&self) -> Result<StreamInfo>
         ensures ok { IfOk result (λ info. facts_of info ≡ facts_of self.now) }
-        ensures err { IfErr result (λ e. e ≡ Error.Memory) }
+        ensures err { IsOkUnless result Error.Memory }
     {
         Ok(StreamInfo {
             stream: self.stream.clone()?,

@@ -1,8 +1,8 @@
 //! Reading parts of a given length from any reader.
 
-ghost use Rattle.std.specs.Prelude.{◌≡◌, ◌-◌, ◌+◌, ◌^◌, ◌<◌, ◌≤◌, ◌⊎◌, IfOk, IfErr, length, take, drop};
+ghost use Rattle.std.specs.Prelude.{◌≡◌, ◌-◌, ◌+◌, ◌^◌, ◌<◌, ◌≤◌, ◌⊎◌, IfOk, IfErr, length, take, drop, IsOkUnless};
 ghost use Rattle.std.specs.Io.KnownBytes.{Consumes, IsAtEnd};
-ghost use Rattle.puffin_data.specs.Device.{FromDevice, TookUpTo, failures_after};
+ghost use Rattle.puffin_data.specs.Device.{CanFail, FromDevice, TookUpTo, failures_after};
 ghost use Rattle.puffin_data.specs.Part.{part_of, first_at, part_length_at, counted_part_at};
 
 use crate::data::device::Source;
@@ -13,32 +13,29 @@ use std::alloc::Global;
 
 /// Reads once into `buf`, after its first `at` bytes. Fails only with `Io`.
 fn read_behind<S: Source>(source: &mut S, buf: &mut [u8], at: usize) -> Result<usize, FileError>
-    requires failures { S.failures source.old < 2 ^ 64 - 1 }
+    requires failures { CanFail S.failures source.old }
     requires at { at < length buf.old }
     ensures front { take at buf.new ≡ take at buf.old }
     ensures fits { IfOk result (λ n. at + n ≤ length buf.new) }
     ensures took { IfOk result (λ n.
         Consumes (S.remaining source.old) (S.remaining source.new) (take n (drop at buf.new))) }
     ensures end { IfOk result (λ n. n ≡ 0 → IsAtEnd (S.remaining source.new)) }
-    ensures io { IfErr result (λ e. e ≡ FileError.Io) }
+    ensures io { IsOkUnless result FileError.Io }
     ensures failures { S.failures source.new ≡ failures_after (S.failures source.old) result }
 {
-    match source.read(&mut buf[at..]) {
-        Ok(n) => Ok(n),
-        Err(_) => Err(FileError::Io),
-    }
+    Ok(source.read(&mut buf[at..])?)
 }
 
 /// Reads until `buf` is full or the reader ends, and returns the number of bytes read. Fails with `Io` if a read fails; how far
 /// it read is then unspecified.
 pub fn read_up_to<S: Source>(source: &mut S, buf: &mut [u8]) -> Result<usize, FileError>
-    requires { S.failures source.old < 2 ^ 64 - 1 }
+    requires { CanFail S.failures source.old }
     ensures size { length buf.new ≡ length buf.old }
     ensures took { IfOk result (λ n.
         (n ≤ length buf.old)
         × TookUpTo (S.remaining source.old) (S.remaining source.new) (length buf.old)
         (take n buf.new)) }
-    ensures io { IfErr result (λ e. e ≡ FileError.Io) }
+    ensures io { IsOkUnless result FileError.Io }
     ensures failures { S.failures source.new ≡ failures_after (S.failures source.old) result }
 {
     let mut end = 0;
@@ -54,7 +51,7 @@ pub fn read_up_to<S: Source>(source: &mut S, buf: &mut [u8]) -> Result<usize, Fi
 
 /// Reads one byte. Fails with `Truncated` at the reader's end, and with `Io` if a read fails.
 pub fn read_byte<S: Source>(source: &mut S) -> Result<u8, FileError>
-    requires { S.failures source.old < 2 ^ 64 - 1 }
+    requires { CanFail S.failures source.old }
     ensures part { FromDevice (λ b. b) (S.remaining source.old) (S.remaining source.new) result
         first_at }
     ensures causes { IfErr result (λ e. (e ≡ FileError.Io) ⊎ (e ≡ FileError.Truncated)) }
@@ -70,7 +67,7 @@ pub fn read_byte<S: Source>(source: &mut S) -> Result<u8, FileError>
 /// Reads a length: four bytes, the lowest first. Fails with `Truncated` if the reader ends too early, and with `Io` if a read
 /// fails.
 pub fn read_length<S: Source>(source: &mut S) -> Result<usize, FileError>
-    requires { S.failures source.old < 2 ^ 64 - 1 }
+    requires { CanFail S.failures source.old }
     ensures part { FromDevice (λ n. n) (S.remaining source.old) (S.remaining source.new) result
         part_length_at }
     ensures bound { IfOk result (λ n. n < 2 ^ 32) }
@@ -88,7 +85,7 @@ pub fn read_length<S: Source>(source: &mut S) -> Result<usize, FileError>
 ///
 /// Fails with `Io` if a read fails, with `Truncated` if the reader ends too early, or with `Memory`.
 pub fn read_part<S: Source>(alloc: Global, source: &mut S, len: usize) -> Result<Vec<u8>, FileError>
-    requires { S.failures source.old < 2 ^ 64 - 1 }
+    requires { CanFail S.failures source.old }
     ensures part { FromDevice (λ v. v.items) (S.remaining source.old) (S.remaining source.new)
         result (part_of len) }
     ensures len { IfOk result (λ v. length v.items ≡ len) }
@@ -107,7 +104,7 @@ pub fn read_part<S: Source>(alloc: Global, source: &mut S, len: usize) -> Result
 
 /// Reads a length as [`read_length`] does, and then that many bytes. Fails as [`read_part`] does.
 pub fn read_counted_part<S: Source>(alloc: Global, source: &mut S) -> Result<Vec<u8>, FileError>
-    requires { S.failures source.old < 2 ^ 64 - 1 }
+    requires { CanFail S.failures source.old }
     ensures part { FromDevice (λ v. v.items) (S.remaining source.old) (S.remaining source.new)
         result counted_part_at }
     ensures failures { S.failures source.new ≡ failures_after (S.failures source.old) result }

@@ -1,4 +1,4 @@
-ghost use Rattle.std.specs.Prelude.{◌≡◌, ◌-ℤ◌, ◌≤ℤ◌, FitsSigned, true, false};
+ghost use Rattle.std.specs.Prelude.{◌≡◌, ◌-ℤ◌, ◌≤ℤ◌, FitsSigned, false, IsTrue};
 ghost use Rattle.std.specs.Int.{w64};
 ghost use Rattle.puffin_data.specs.Range.{is_valid_range_at};
 
@@ -8,8 +8,8 @@ use crate::error::NanoSecond;
 #[inline]
 pub fn is_valid_range(range: (NanoSecond, NanoSecond)) -> bool
     ensures test { result ≡ is_valid_range_at range.0 range.1 }
-    ensures ordered { result ≡ true → range.0 ≤ℤ range.1 }
-    ensures duration_fits { result ≡ true → FitsSigned w64 (range.1 -ℤ range.0) }
+    ensures ordered { IsTrue result → range.0 ≤ℤ range.1 }
+    ensures duration_fits { IsTrue result → FitsSigned w64 (range.1 -ℤ range.0) }
     // A range that isn't reversed is refused only if it is too long.
     ensures too_long { result ≡ false → range.0 ≤ℤ range.1 → ¬ FitsSigned w64 (range.1 -ℤ range.0) }
 {

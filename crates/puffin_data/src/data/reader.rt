@@ -1,11 +1,11 @@
-ghost use Rattle.std.specs.Prelude.{◌≡◌, ℕ, ℤ, ◌+◌, ◌-◌, ◌/◌, ◌≤◌, ◌<◌, ◌^◌, ◌-ℤ◌, ◌+ℤ◌, ◌↔◌, FitsSigned, length, IfOk, IfErr, IsErr, MatchResult, ◌⊎◌};
+ghost use Rattle.std.specs.Prelude.{◌≡◌, ℕ, ℤ, ◌+◌, ◌-◌, ◌≤◌, ◌<◌, ◌^◌, ◌-ℤ◌, ◌+ℤ◌, ◌↔◌, FitsSigned, length, IfOk, IfErr, IsErr, MatchResult, ◌⊎◌, IsOkUnless};
 ghost use Rattle.std.specs.Int.{w64};
 ghost use Rattle.std.specs.Iterator.{at_most};
 ghost use Rattle.puffin_data.specs.Forest.{Forest};
 ghost use Rattle.puffin_data.specs.Forest.Measures.{scope_count, height};
 ghost use Rattle.puffin_data.specs.Forest.Spelling.{Spells};
 ghost use Rattle.puffin_data.specs.Honesty.{Counts};
-ghost use Rattle.puffin_data.specs.Walk.{IsFault, Refuses};
+ghost use Rattle.puffin_data.specs.Walk.{most_tries_in, IsFault, Refuses};
 ghost use Rattle.puffin_data.specs.Text.{text_in};
 ghost use Rattle.puffin_data.specs.Walk.FoundScopes.{found_of};
 ghost use Rattle.puffin_data.specs.Reader.{ReaderState, read_scope, scope_read};
@@ -107,7 +107,7 @@ impl<'s> Reader<'s> {
         ensures ok { IfOk result (λ r.
             r ≡ record { form = stream.now.form; bytes = stream.now.bytes; at = offset }) }
         ensures refused { IsErr result ↔ (length stream.now.bytes < offset) }
-        ensures err { IfErr result (λ e. e ≡ Error.InvalidOffset) }
+        ensures err { IsOkUnless result Error.InvalidOffset }
     {
         if offset > stream.len() as u64 {
             return Err(Error::InvalidOffset);
@@ -172,7 +172,7 @@ impl<'s> Reader<'s> {
         ensures fault { IfErr result (λ e.
             (e ≡ Error.Memory) ⊎ Refuses stream.now.form stream.now.bytes e tries.new) }
         ensures tries { IfOk result (λ w. tries.new ≡ w.num_scopes) }
-        ensures few { tries.new ≤ length stream.now.bytes / 31 + 1 }
+        ensures few { tries.new ≤ most_tries_in stream.now.bytes }
     {
         // A local count stays in a register during the walk.
         let mut tried = 0;

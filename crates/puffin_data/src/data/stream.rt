@@ -1,4 +1,4 @@
-ghost use Rattle.std.specs.Prelude.{◌≡◌, ◌==◌, ◌+◌, ◌-◌, ◌<◌, ◌≤◌, [], ◌++◌, length, take, drop, IfOk, OnOk, OnErr, IfErr, IsOk};
+ghost use Rattle.std.specs.Prelude.{◌≡◌, ◌==◌, ◌+◌, ◌-◌, ◌<◌, ◌≤◌, [], ◌++◌, length, take, drop, IfOk, OnOk, OnErr, IsOk, IsOkUnless};
 ghost use Rattle.puffin_data.specs.Stream.{StreamState};
 ghost use Rattle.puffin_data.specs.inner.Groups.{second_byte};
 
@@ -140,7 +140,7 @@ impl Stream {
         ensures bytes { self.new.bytes ≡ self.old.bytes }
         ensures form { self.new.form ≡ self.old.form }
         ensures room { self.old.room ≤ self.new.room }
-        ensures memory { IfErr result (λ e. e ≡ Error.Memory) }
+        ensures memory { IsOkUnless result Error.Memory }
         ensures succeeds { bytes ≤ self.old.room → IsOk result }
     {
         let room = self.room();
@@ -158,7 +158,7 @@ impl Stream {
         ensures bytes { self.new.bytes ≡ self.old.bytes }
         ensures form { self.new.form ≡ self.old.form }
         ensures room { self.old.room ≤ self.new.room }
-        ensures memory { IfErr result (λ e. e ≡ Error.Memory) }
+        ensures memory { IsOkUnless result Error.Memory }
     {
         self.block.reserve(more)?;
         let whole = self.block.capacity();
@@ -170,7 +170,7 @@ impl Stream {
     pub fn clone(&self) -> Result<Stream>
         ensures ok { IfOk result (λ stream. stream.bytes ≡ self.now.bytes) }
         ensures form { IfOk result (λ stream. stream.form ≡ self.now.form) }
-        ensures err { IfErr result (λ e. e ≡ Error.Memory) }
+        ensures err { IsOkUnless result Error.Memory }
     {
         let block = Vec::from_slice(*self.block.allocator(), self.bytes())?;
         let len = block.len();
@@ -186,7 +186,7 @@ impl Stream {
         ensures ok { OnOk result (self.new.bytes ≡ self.old.bytes ++ bytes.now) }
         ensures err { OnErr result (self.new.bytes ≡ self.old.bytes) }
         ensures form { self.new.form ≡ self.old.form }
-        ensures memory { IfErr result (λ e. e ≡ Error.Memory) }
+        ensures memory { IsOkUnless result Error.Memory }
         ensures succeeds { length bytes.now ≤ self.old.room → IsOk result }
         ensures room { self.old.room ≤ self.new.room + length bytes.now }
     {
@@ -204,7 +204,7 @@ impl Stream {
         ensures ok { OnOk result (self.new.bytes ≡ self.old.bytes ++ bytes.now) }
         ensures err { OnErr result (self.new.bytes ≡ self.old.bytes) }
         ensures form { self.new.form ≡ self.old.form }
-        ensures memory { IfErr result (λ e. e ≡ Error.Memory) }
+        ensures memory { IsOkUnless result Error.Memory }
     {
         self.block.truncate(self.len);
         self.block.extend_from_slice(bytes)?;

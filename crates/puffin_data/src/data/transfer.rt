@@ -1,8 +1,8 @@
 //! Reading to the end and writing all, with any reader and writer.
 
-ghost use Rattle.std.specs.Prelude.{◌≡◌, ◌++◌, ◌+◌, ◌-◌, ◌^◌, ◌<◌, ◌≤◌, List, ℕ, IfOk, IfErr, OnOk, OnErr, length, ◌⊎◌};
+ghost use Rattle.std.specs.Prelude.{◌≡◌, ◌++◌, ◌+◌, ◌<◌, ◌≤◌, List, ℕ, IfOk, IfErr, OnOk, OnErr, length, ◌⊎◌};
 ghost use Rattle.std.specs.Io.KnownBytes.{Consumes, Appends, IsAtEnd};
-ghost use Rattle.puffin_data.specs.Device.{IsOutside, TookNothing, WritesBeginning, failures_after};
+ghost use Rattle.puffin_data.specs.Device.{CanFail, IsOutside, TookNothing, WritesBeginning, failures_after};
 
 use crate::data::device::{Drain, Source};
 use crate::file_error::FileError;
@@ -13,7 +13,7 @@ pub(super) const PIECE_SIZE: usize = 65536;
 
 /// Reads to the end. Fails with `Io` if a read fails, or with `Memory`; how far it read is then unspecified.
 pub fn read_to_end<S: Source>(alloc: Global, source: &mut S) -> Result<Vec<u8>, FileError>
-    requires { S.failures source.old < 2 ^ 64 - 1 }
+    requires { CanFail S.failures source.old }
     ensures all { IfOk result (λ bytes.
         Consumes (S.remaining source.old) (S.remaining source.new) bytes.items
         × IsAtEnd (S.remaining source.new)) }
@@ -33,7 +33,7 @@ pub fn read_to_end<S: Source>(alloc: Global, source: &mut S) -> Result<Vec<u8>, 
 /// Writes all of the bytes, in as many writes as the writer needs. Fails only with `Io`, if a write fails or takes none of the
 /// bytes that are left; a prefix of the bytes has then been written.
 pub fn write_all<D: Drain>(drain: &mut D, bytes: &[u8]) -> Result<(), FileError>
-    requires { D.failures drain.old < 2 ^ 64 - 1 }
+    requires { CanFail D.failures drain.old }
     ensures ok { OnOk result (Appends (D.contents drain.old) (D.contents drain.new) bytes.now) }
     ensures err { OnErr result (
         WritesBeginning (D.contents drain.old) (D.contents drain.new) bytes.now) }
@@ -44,10 +44,7 @@ pub fn write_all<D: Drain>(drain: &mut D, bytes: &[u8]) -> Result<(), FileError>
 {
     let mut at = 0;
     'pieces: while at < bytes.len() {
-        let n = match drain.write(&bytes[at..]) {
-            Ok(n) => n,
-            Err(_) => return Err(FileError::Io),
-        };
+        let n = drain.write(&bytes[at..])?;
         if n == 0 {
             return Err(FileError::Io);
         }

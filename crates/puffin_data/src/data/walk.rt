@@ -1,11 +1,11 @@
 //! The strict walk: one pass over the bytes of a stream, which have to be a forest of scopes. `docs/FORMAT.md` lists its
 //! faults.
 
-ghost use Rattle.std.specs.Prelude.{◌≡◌, ℕ, ◌+◌, ◌*◌, ◌/◌, ◌⊎◌, ◌≤◌, ◌<◌, ◌^◌, ◌==◌, if◌then◌else◌, length, slice_index, IfOk, IfErr, MatchResult};
+ghost use Rattle.std.specs.Prelude.{◌≡◌, ℕ, ◌+◌, ◌*◌, ◌⊎◌, ◌≤◌, ◌<◌, ◌^◌, ◌==◌, if◌then◌else◌, length, slice_index, IfOk, IfErr, MatchResult};
 ghost use Rattle.puffin_data.specs.Forest.{Forest};
 ghost use Rattle.puffin_data.specs.Forest.Spelling.{begin_mark, Spells};
 ghost use Rattle.puffin_data.specs.Honesty.{Counts};
-ghost use Rattle.puffin_data.specs.Walk.{Refuses};
+ghost use Rattle.puffin_data.specs.Walk.{most_tries_in, Refuses};
 ghost use Rattle.puffin_data.specs.Walk.Reading.{reading, IsFaultIn};
 ghost use Rattle.puffin_data.specs.Walk.FoundScopes.{found_of};
 ghost use Rattle.puffin_data.specs.inner.Walking.{no_scope_counted, with_scope, Walked, Stopped};
@@ -88,7 +88,7 @@ pub fn walk_forest(alloc: Global, form: Form, bytes: &[u8], tries: &mut u64) -> 
         MatchResult result (λ w. Counts w f) (λ e. e ≡ Error.Memory) }
     ensures fault { IfErr result (λ e. (e ≡ Error.Memory) ⊎ Refuses form bytes.now e tries.new) }
     ensures tries { IfOk result (λ w. tries.new ≡ w.num_scopes) }
-    ensures few { tries.new ≤ length bytes.now / 31 + 1 }
+    ensures few { tries.new ≤ most_tries_in bytes.now }
 {
     // A loop for each form: the short one is then as fast as if there were no other.
     match form {

@@ -1,6 +1,6 @@
 //! Appending values to a vector. Each call fails only with `Memory`, and then appends nothing.
 
-ghost use Rattle.std.specs.Prelude.{◌≡◌, ◌++◌, OnOk, OnErr, IfErr};
+ghost use Rattle.std.specs.Prelude.{◌≡◌, ◌++◌, OnOk, OnErr, IsOkUnless};
 ghost use Rattle.puffin_data.specs.Value.Layout.{number, signed, byte, block, zigzag};
 
 use crate::error::{Error, Result};
@@ -11,7 +11,7 @@ use crate::wire::{EIGHT_BYTES_MARK, FOUR_BYTES_MARK, TWO_BYTES_MARK};
 pub fn put_u64(out: &mut Vec<u8>, n: u64) -> Result<()>
     ensures ok { OnOk result (out.new.items ≡ out.old.items ++ number n) }
     ensures err { OnErr result (out.new.items ≡ out.old.items) }
-    ensures memory { IfErr result (λ e. e ≡ Error.Memory) }
+    ensures memory { IsOkUnless result Error.Memory }
 {
     if n < TWO_BYTES_MARK as u64 {
         out.push(n as u8)?;
@@ -32,7 +32,7 @@ pub fn put_u64(out: &mut Vec<u8>, n: u64) -> Result<()>
 pub fn put_u8(out: &mut Vec<u8>, n: u8) -> Result<()>
     ensures ok { OnOk result (out.new.items ≡ out.old.items ++ byte n) }
     ensures err { OnErr result (out.new.items ≡ out.old.items) }
-    ensures memory { IfErr result (λ e. e ≡ Error.Memory) }
+    ensures memory { IsOkUnless result Error.Memory }
 {
     out.push(n)?;
     Ok(())
@@ -42,7 +42,7 @@ pub fn put_u8(out: &mut Vec<u8>, n: u8) -> Result<()>
 pub fn put_u32(out: &mut Vec<u8>, n: u32) -> Result<()>
     ensures ok { OnOk result (out.new.items ≡ out.old.items ++ number n) }
     ensures err { OnErr result (out.new.items ≡ out.old.items) }
-    ensures memory { IfErr result (λ e. e ≡ Error.Memory) }
+    ensures memory { IsOkUnless result Error.Memory }
 {
     put_u64(out, n as u64)
 }
@@ -62,7 +62,7 @@ fn zigzag_of(z: i64) -> u64
 pub fn put_i64(out: &mut Vec<u8>, z: i64) -> Result<()>
     ensures ok { OnOk result (out.new.items ≡ out.old.items ++ signed z) }
     ensures err { OnErr result (out.new.items ≡ out.old.items) }
-    ensures memory { IfErr result (λ e. e ≡ Error.Memory) }
+    ensures memory { IsOkUnless result Error.Memory }
 {
     put_u64(out, zigzag_of(z))
 }
@@ -71,7 +71,7 @@ pub fn put_i64(out: &mut Vec<u8>, z: i64) -> Result<()>
 pub fn put_bytes(out: &mut Vec<u8>, bytes: &[u8]) -> Result<()>
     ensures ok { OnOk result (out.new.items ≡ out.old.items ++ block bytes.now) }
     ensures err { OnErr result (out.new.items ≡ out.old.items) }
-    ensures memory { IfErr result (λ e. e ≡ Error.Memory) }
+    ensures memory { IsOkUnless result Error.Memory }
 {
     let before = out.len();
     put_u64(out, bytes.len() as u64)?;
@@ -86,7 +86,7 @@ pub fn put_bytes(out: &mut Vec<u8>, bytes: &[u8]) -> Result<()>
 pub fn put_text(out: &mut Vec<u8>, t: &str) -> Result<()>
     ensures ok { OnOk result (out.new.items ≡ out.old.items ++ block t.now) }
     ensures err { OnErr result (out.new.items ≡ out.old.items) }
-    ensures memory { IfErr result (λ e. e ≡ Error.Memory) }
+    ensures memory { IsOkUnless result Error.Memory }
 {
     put_bytes(out, t.as_bytes())
 }

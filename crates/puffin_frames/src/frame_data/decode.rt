@@ -1,6 +1,6 @@
 //! Decoding the parts of a packet.
 
-ghost use Rattle.std.specs.Prelude.{◌≡◌, ◌-◌, ℕ, ◌∷◌, ◌++◌, [], List, Option, Err, is_some, string_bytes, true, false, IfOk};
+ghost use Rattle.std.specs.Prelude.{◌≡◌, ◌-◌, ℕ, ◌∷◌, ◌++◌, [], List, Option, Err, is_some, string_bytes, true, false, IfOk, IsTrue};
 ghost use Rattle.std.specs.Option.{option_map};
 ghost use Rattle.std.specs.Cow.{cow_str_bytes};
 ghost use Rattle.std.specs.FinMap.{is_sorted};
@@ -142,7 +142,7 @@ fn read_facts(alloc: Global, cursor: &mut Cursor, packed: Form) -> Result<Stream
 /// Returns whether a thread is ordered after all threads of the map.
 fn comes_last(streams: &ThreadStreams, thread: &ThreadInfo) -> bool
     ensures yes { (r : StreamFacts) → is_sorted key_cmp (pairs_of streams.now.entries) ≡ true →
-        result ≡ true →
+        IsTrue result →
         is_sorted key_cmp (pairs_of streams.now.entries ++ (key_of thread.now, r) ∷ []) ≡ true }
     ensures no { (r : StreamFacts) (rest : List (ThreadKey × StreamFacts)) → result ≡ false →
         is_sorted key_cmp (pairs_of streams.now.entries ++ (key_of thread.now, r) ∷ rest)

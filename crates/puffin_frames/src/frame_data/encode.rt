@@ -1,6 +1,6 @@
 //! Encoding the parts of a packet. Each call appends to a vector, and fails only with `Memory`.
 
-ghost use Rattle.std.specs.Prelude.{◌≡◌, ◌++◌, ◌^◌, ◌<◌, List, OnOk, OnErr, IfOk, IfErr, map, length};
+ghost use Rattle.std.specs.Prelude.{◌≡◌, ◌++◌, ◌^◌, ◌<◌, List, OnOk, OnErr, IfOk, map, length, IsOkUnless};
 ghost use Rattle.std.specs.Map.{keys_of, values_of};
 ghost use Rattle.std.specs.Ordering.{nat_cmp};
 ghost use Rattle.std.specs.List.Sorted.{IsStrictlySortedBy};
@@ -39,7 +39,7 @@ pub(crate) const META_SIZE: usize = 5 * NUMBER_SIZE;
 pub(crate) fn put_meta(out: &mut Vec<u8>, meta: &FrameMeta) -> Result<()>
     ensures ok { OnOk result (out.new.items ≡ out.old.items ++ meta_layout meta.now) }
     ensures fits { IsMeta meta.now }
-    ensures memory { IfErr result (λ e. e ≡ Error.Memory) }
+    ensures memory { IsOkUnless result Error.Memory }
 {
     // Copied as a whole, so that the prover knows the ranges of its numbers.
     let meta = *meta;
@@ -71,7 +71,7 @@ fn block_of(bytes: &[u8]) -> &[u8]
 fn put_thread(out: &mut Vec<u8>, thread: &ThreadInfo) -> Result<()>
     ensures ok { OnOk result (out.new.items ≡ out.old.items ++ key_layout (key_of thread.now)) }
     ensures fits { IsThreadKey (key_of thread.now) }
-    ensures memory { IfErr result (λ e. e ≡ Error.Memory) }
+    ensures memory { IsOkUnless result Error.Memory }
 {
     let name = text_of(&thread.name);
     match thread.start_time_ns {
@@ -87,7 +87,7 @@ fn put_thread(out: &mut Vec<u8>, thread: &ThreadInfo) -> Result<()>
 /// Appends a stream's form in a packet of the long form, and nothing in one of the short form.
 fn put_form(out: &mut Vec<u8>, packed: Form, form: Form) -> Result<()>
     ensures ok { OnOk result (out.new.items ≡ out.old.items ++ form_layout packed form) }
-    ensures memory { IfErr result (λ e. e ≡ Error.Memory) }
+    ensures memory { IsOkUnless result Error.Memory }
 {
     match packed {
         Form::Short => Ok(()),
@@ -103,7 +103,7 @@ fn put_facts(out: &mut Vec<u8>, packed: Form, info: &StreamInfo) -> Result<()>
     ensures ok { OnOk result (
         out.new.items ≡ out.old.items ++ facts_layout packed (facts_of info.now)) }
     ensures fits { AreCounts (facts_of info.now) }
-    ensures memory { IfErr result (λ e. e ≡ Error.Memory) }
+    ensures memory { IsOkUnless result Error.Memory }
 {
     // Everything is read before anything is written, so that the prover knows the ranges of the numbers.
     let stream = block_of(info.stream.bytes());
@@ -149,7 +149,7 @@ pub(crate) fn put_streams(out: &mut Vec<u8>, packed: Form, streams: &ThreadStrea
         out.new.items ≡ out.old.items ++ streams_layout packed (pairs_of streams.now.entries)) }
     ensures fit { OnOk result (AreStreams packed (pairs_of streams.now.entries)) }
     ensures sorted { IsStrictlySortedBy thread_cmp (keys_of streams.now.entries) }
-    ensures memory { IfErr result (λ e. e ≡ Error.Memory) }
+    ensures memory { IsOkUnless result Error.Memory }
 {
     put_u64(out, streams.len() as u64)?;
     'streams: for (thread, info) in streams {
@@ -187,7 +187,7 @@ fn put_name(out: &mut Vec<u8>, name: &Option<CowStr<'static>>) -> Result<()>
     ensures ok { OnOk result (
         out.new.items ≡ out.old.items ++ optional block (option_map cow_str_bytes name.now)) }
     ensures fits { IfAny IsText (option_map cow_str_bytes name.now) }
-    ensures memory { IfErr result (λ e. e ≡ Error.Memory) }
+    ensures memory { IsOkUnless result Error.Memory }
 {
     match name {
         None => put_u8(out, 0),
@@ -203,7 +203,7 @@ fn put_name(out: &mut Vec<u8>, name: &Option<CowStr<'static>>) -> Result<()>
 fn put_id(out: &mut Vec<u8>, id: Option<ScopeId>) -> Result<()>
     ensures ok { OnOk result (out.new.items ≡ out.old.items ++ optional number id) }
     ensures fits { IfAny IsId id }
-    ensures memory { IfErr result (λ e. e ≡ Error.Memory) }
+    ensures memory { IsOkUnless result Error.Memory }
 {
     match id {
         None => put_u8(out, 0),
@@ -221,7 +221,7 @@ fn put_detail(out: &mut Vec<u8>, details: &ScopeDetails) -> Result<()>
     ensures ok { OnOk result (
         out.new.items ≡ out.old.items ++ detail_layout (details_of details.now)) }
     ensures fits { OnOk result (IsDetail (details_of details.now)) }
-    ensures memory { IfErr result (λ e. e ≡ Error.Memory) }
+    ensures memory { IsOkUnless result Error.Memory }
 {
     let function_name = text_of(details.function_name.as_str());
     let file_path = text_of(details.file_path.as_str());
@@ -237,7 +237,7 @@ pub(crate) fn put_details(out: &mut Vec<u8>, details: &[Arc<ScopeDetails>]) -> R
     ensures ok { OnOk result (
         out.new.items ≡ out.old.items ++ details_layout (shared_details details.now)) }
     ensures fit { OnOk result (AreDetails (shared_details details.now)) }
-    ensures memory { IfErr result (λ e. e ≡ Error.Memory) }
+    ensures memory { IsOkUnless result Error.Memory }
 {
     put_u64(out, details.len() as u64)?;
     'details: for one in details {
@@ -256,7 +256,7 @@ pub(crate) fn put_details_by_id(
         ≡ out.old.items ++ details_layout (shared_details (values_of details.now.entries))) }
     ensures fit { OnOk result (AreDetails (shared_details (values_of details.now.entries))) }
     ensures sorted { IsStrictlySortedBy nat_cmp (keys_of details.now.entries) }
-    ensures memory { IfErr result (λ e. e ≡ Error.Memory) }
+    ensures memory { IsOkUnless result Error.Memory }
 {
     put_u64(out, details.len() as u64)?;
     'details: for one in details.values() {

@@ -1,4 +1,4 @@
-ghost use Rattle.std.specs.Prelude.{◌≡◌, ◌-ℤ◌, ◌≤ℤ◌, IfOk, IfErr, IfSome, Some, None, true, ◌+◌, ◌-◌, ◌^◌, min, length, is_some, Err, OnOk, OnErr};
+ghost use Rattle.std.specs.Prelude.{◌≡◌, ◌-ℤ◌, ◌≤ℤ◌, IfOk, IfErr, IfSome, Some, None, ◌+◌, ◌-◌, ◌^◌, min, length, is_some, Err, OnOk, OnErr, IsOkUnless, IsTrue};
 ghost use Rattle.std.specs.Option.{option_map, unwrap_or};
 ghost use Rattle.std.specs.FinMap as map;
 ghost use Rattle.puffin_data.specs.declared.error.Error.{Error};
@@ -43,7 +43,7 @@ pub struct FrameData {
 fn shared_copy(details: &Vec<Arc<ScopeDetails>>) -> Result<Vec<Arc<ScopeDetails>>>
     ensures ok { IfOk result (λ copy.
         shared_details copy.items ≡ shared_details details.now.items) }
-    ensures memory { IfErr result (λ e. e ≡ Error.Memory) }
+    ensures memory { IsOkUnless result Error.Memory }
 {
     let mut copy = Vec::new(*details.allocator());
     'details: for one in details {
@@ -71,7 +71,7 @@ impl FrameData {
         ensures streams { IfOk result (λ frame.
             holding_of frame
             ≡ record { packed = None; unpacked = Some (streams_of thread_streams.entries) }) }
-        ensures alone { IfOk result (λ frame. is_alone frame ≡ true) }
+        ensures alone { IfOk result (λ frame. IsTrue (is_alone frame)) }
         ensures meta { IfOk result (λ frame.
             frame_meta frame
             ≡ meta_of frame_index (map.values (streams_of thread_streams.entries))) }
@@ -91,7 +91,7 @@ impl FrameData {
         ensures delta { (result.scope_delta ≡ scope_delta) × (result.full_delta ≡ full_delta) }
         ensures held { holding_of result
             ≡ record { packed = None; unpacked = Some (streams_held unpacked) } }
-        ensures alone { is_alone result ≡ true }
+        ensures alone { IsTrue (is_alone result) }
         ensures meta { frame_meta result ≡ unpacked.meta }
     {
         FrameData {
@@ -104,7 +104,7 @@ impl FrameData {
     /// Returns the unpacked data, and drops the details. The frame must be held as [`FrameData::of_unpacked`] makes it:
     /// unpacked only, with data that [`FrameData::unpacked`] hasn't shared. Allocates nothing.
     pub fn into_unpacked(self) -> UnpackedFrameData
-        requires { is_alone self ≡ true }
+        requires { IsTrue (is_alone self) }
         ensures streams { Some (streams_held result) ≡ frame_streams self }
         ensures meta { result.meta ≡ frame_meta self }
     {
@@ -179,7 +179,7 @@ impl FrameData {
         ensures held { IfOk result (λ copy. holding_of copy ≡ holding_of self.now) }
         ensures fields { IfOk result (λ copy. packet_fields copy ≡ packet_fields self.now) }
         ensures full_delta { IfOk result (λ copy. copy.full_delta ≡ self.now.full_delta) }
-        ensures memory { IfErr result (λ e. e ≡ Error.Memory) }
+        ensures memory { IsOkUnless result Error.Memory }
     {
         let alloc = *self.scope_delta.allocator();
         Ok(FrameData {
@@ -198,7 +198,7 @@ impl FrameData {
         ensures fields { packet_fields self.new ≡ packet_fields self.old }
         ensures full_delta { self.new.full_delta ≡ self.old.full_delta }
         ensures err { OnErr result (self.new ≡ self.old) }
-        ensures memory { IfErr result (λ e. e ≡ Error.Memory) }
+        ensures memory { IsOkUnless result Error.Memory }
     {
         let alloc = *self.scope_delta.allocator();
         let held = mem::replace(&mut self.held, Held::nothing(alloc));
@@ -213,7 +213,7 @@ impl FrameData {
         ensures streams { IfOk result (λ copy. frame_streams copy ≡ frame_streams self.now) }
         ensures fields { IfOk result (λ copy. packet_fields copy ≡ packet_fields self.now) }
         ensures full_delta { IfOk result (λ copy. copy.full_delta ≡ self.now.full_delta) }
-        ensures memory { IfErr result (λ e. e ≡ Error.Memory) }
+        ensures memory { IsOkUnless result Error.Memory }
     {
         let alloc = *self.scope_delta.allocator();
         Ok(FrameData {

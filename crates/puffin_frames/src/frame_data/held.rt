@@ -1,6 +1,6 @@
 //! The ways to hold a frame's streams, and the changes from one to another.
 
-ghost use Rattle.std.specs.Prelude.{◌≡◌, ◌-ℤ◌, ◌≤ℤ◌, Some, FitsSigned};
+ghost use Rattle.std.specs.Prelude.{◌≡◌, ◌-ℤ◌, ◌≤ℤ◌, Some, FitsSigned, IsOkUnless};
 ghost use Rattle.std.specs.Int.{w64};
 ghost use Rattle.std.specs.Arc.{arc_value};
 ghost use Rattle.std.specs.Coded.{Coded-set, coded_option};
@@ -88,7 +88,7 @@ impl PackedStreams {
             packed_as packed ≡ plainly_packed (shared_streams streams.now.entries)) }
         ensures content { IfOk result (λ packed.
             streams_in (packed_as packed) ≡ Some (shared_streams streams.now.entries)) }
-        ensures memory { IfErr result (λ e. e ≡ Error.Memory) }
+        ensures memory { IsOkUnless result Error.Memory }
     {
         let form = packed_form(streams);
         let mut bytes = Vec::with_capacity(alloc, streams_size(streams))?;
@@ -99,7 +99,7 @@ impl PackedStreams {
     /// Copies the packed streams. Fails only with `Memory`.
     fn clone(&self) -> Result<PackedStreams>
         ensures ok { IfOk result (λ copy. packed_as copy ≡ packed_as self.now) }
-        ensures memory { IfErr result (λ e. e ≡ Error.Memory) }
+        ensures memory { IsOkUnless result Error.Memory }
     {
         let bytes = Vec::from_slice(*self.bytes.allocator(), self.bytes.as_slice())?;
         Ok(PackedStreams::new(self.form, self.kind, bytes))
@@ -149,7 +149,7 @@ impl PackedFrame {
         ensures content { IfOk result (λ packed.
             streams_in (packed_as packed.streams) ≡ Some (streams_held frame.now)) }
         ensures meta { IfOk result (λ packed. packed.meta ≡ frame.now.meta) }
-        ensures memory { IfErr result (λ e. e ≡ Error.Memory) }
+        ensures memory { IsOkUnless result Error.Memory }
     {
         let streams = PackedStreams::of(alloc, &frame.thread_streams)?;
         Ok(PackedFrame {
@@ -176,7 +176,7 @@ impl PackedFrame {
     fn clone(&self) -> Result<PackedFrame>
         ensures ok { IfOk result (λ copy. packed_as copy.streams ≡ packed_as self.now.streams) }
         ensures meta { IfOk result (λ copy. copy.meta ≡ self.now.meta) }
-        ensures memory { IfErr result (λ e. e ≡ Error.Memory) }
+        ensures memory { IsOkUnless result Error.Memory }
     {
         Ok(PackedFrame {
             meta: self.meta,
@@ -256,7 +256,7 @@ impl Held {
         ensures streams { IfOk result (λ copy.
             holding_streams (held_as copy) ≡ holding_streams (held_as self.now)) }
         ensures meta { IfOk result (λ copy. held_meta copy ≡ held_meta self.now) }
-        ensures memory { IfErr result (λ e. e ≡ Error.Memory) }
+        ensures memory { IsOkUnless result Error.Memory }
     {
         let packed = match self {
             Held::Own(frame) => PackedFrame::of(alloc, frame)?,
@@ -271,7 +271,7 @@ impl Held {
     pub(crate) fn clone(&self, alloc: Global) -> Result<Held>
         ensures ok { IfOk result (λ copy. held_as copy ≡ held_as self.now) }
         ensures meta { IfOk result (λ copy. held_meta copy ≡ held_meta self.now) }
-        ensures memory { IfErr result (λ e. e ≡ Error.Memory) }
+        ensures memory { IsOkUnless result Error.Memory }
     {
         Ok(match self {
             Held::Own(frame) => Held::Own(frame.clone(alloc)?),
@@ -286,7 +286,7 @@ impl Held {
         frame: &Arc<UnpackedFrameData>,
     ) -> std::result::Result<Arc<UnpackedFrameData>, FileError>
         ensures ok { IfOk result (λ same. arc_value same ≡ arc_value frame.now) }
-        ensures memory { IfErr result (λ e. e ≡ FileError.Memory) }
+        ensures memory { IsOkUnless result FileError.Memory }
     {
         Ok(Arc::try_clone(frame)?)
     }
@@ -373,7 +373,7 @@ impl BothWays {
             streams_in (packed_as copy.streams)
             ≡ Some (streams_held (arc_value self.now.unpacked))) }
         ensures meta { IfOk result (λ copy. copy.meta ≡ (arc_value self.now.unpacked).meta) }
-        ensures memory { IfErr result (λ e. e ≡ Error.Memory) }
+        ensures memory { IsOkUnless result Error.Memory }
     {
         Ok(PackedFrame {
             meta: self.unpacked.meta,
@@ -386,7 +386,7 @@ impl BothWays {
         ensures packed { IfOk result (λ copy. packed_as copy.packed ≡ packed_as self.now.packed) }
         ensures unpacked { IfOk result (λ copy.
             arc_value copy.unpacked ≡ arc_value self.now.unpacked) }
-        ensures memory { IfErr result (λ e. e ≡ Error.Memory) }
+        ensures memory { IsOkUnless result Error.Memory }
     {
         let packed = self.packed.clone()?;
         let unpacked = Arc::try_clone(&self.unpacked)?;

@@ -1,9 +1,9 @@
 //! Reading frames from any reader.
 
-ghost use Rattle.std.specs.Prelude.{◌≡◌, ◌-◌, ◌+◌, ◌^◌, ◌<◌, ◌≤◌, ◌-ℤ◌, ◌≤ℤ◌, FitsSigned, Some, None, true, is_some, IfOk, IfErr, IfSome};
+ghost use Rattle.std.specs.Prelude.{◌≡◌, ◌+◌, ◌<◌, ◌≤◌, ◌-ℤ◌, ◌≤ℤ◌, FitsSigned, Some, None, true, is_some, IfOk, IfSome, IsOkUnless};
 ghost use Rattle.std.specs.Int.{w64};
 ghost use Rattle.puffin_data.specs.declared.file_error.FileError.{FileError};
-ghost use Rattle.puffin_data.specs.Device.{FromDevice, failures_after};
+ghost use Rattle.puffin_data.specs.Device.{CanFail, FromDevice, failures_after};
 ghost use Rattle.puffin_data.specs.Value.Decoding.{whole};
 ghost use Rattle.puffin_frames.specs.Packet.Structs.{details_at};
 ghost use Rattle.puffin_threads.specs.Details.{shared_details};
@@ -51,7 +51,7 @@ fn parsed_meta(bytes: &[u8]) -> Result<FrameMeta, FileError>
 
 /// Reads a meta part.
 fn read_meta_part<S: Source>(alloc: Global, source: &mut S) -> Result<FrameMeta, FileError>
-    requires { S.failures source.old < 2 ^ 64 - 1 }
+    requires { CanFail S.failures source.old }
     ensures part { FromDevice (λ m. m) (S.remaining source.old) (S.remaining source.new) result
         meta_part_at }
     ensures ordered { IfOk result (λ m. m.range_ns.0 ≤ℤ m.range_ns.1) }
@@ -74,7 +74,7 @@ fn kind_of(byte: u8) -> Result<Kind, FileError>
 
 /// Reads the kind of the packed streams. A packet that doesn't store it has streams that were compressed by zstd.
 fn read_kind<S: Source>(source: &mut S, version: Version) -> Result<Kind, FileError>
-    requires { S.failures source.old < 2 ^ 64 - 1 }
+    requires { CanFail S.failures source.old }
     ensures part { FromDevice (λ k. k) (S.remaining source.old) (S.remaining source.new) result
         (kind_at version) }
     ensures failures { S.failures source.new ≡ failures_after (S.failures source.old) result }
@@ -92,7 +92,7 @@ fn read_streams_part<S: Source>(
     source: &mut S,
     version: Version,
 ) -> Result<(Kind, Vec<u8>), FileError>
-    requires { S.failures source.old < 2 ^ 64 - 1 }
+    requires { CanFail S.failures source.old }
     ensures part { FromDevice (λ p. (p.0, p.1.items)) (S.remaining source.old)
         (S.remaining source.new) result (streams_part_at version) }
     ensures failures { S.failures source.new ≡ failures_after (S.failures source.old) result }
@@ -120,7 +120,7 @@ fn read_details_part<S: Source>(
     source: &mut S,
     version: Version,
 ) -> Result<Vec<Arc<ScopeDetails>>, FileError>
-    requires { S.failures source.old < 2 ^ 64 - 1 }
+    requires { CanFail S.failures source.old }
     ensures part { FromDevice (λ v. shared_details v.items) (S.remaining source.old)
         (S.remaining source.new) result (details_part_at version) }
     ensures failures { S.failures source.new ≡ failures_after (S.failures source.old) result }
@@ -138,7 +138,7 @@ fn read_packed<S: Source>(
     source: &mut S,
     version: Version,
 ) -> Result<FrameData, FileError>
-    requires { S.failures source.old < 2 ^ 64 - 1 }
+    requires { CanFail S.failures source.old }
     ensures part { FromDevice packet_fields (S.remaining source.old) (S.remaining source.new) result
         (packet_at version) }
     ensures packed { IfOk result (λ frame. is_some (holding_of frame).packed ≡ true) }
@@ -165,7 +165,7 @@ fn read_version<S: Source>(
     source: &mut S,
     letter: u8,
 ) -> Result<FrameData, FileError>
-    requires { S.failures source.old < 2 ^ 64 - 1 }
+    requires { CanFail S.failures source.old }
     ensures part { FromDevice packet_fields (S.remaining source.old) (S.remaining source.new) result
         (version_at letter) }
     ensures packed { IfOk result (λ frame. is_some (holding_of frame).packed ≡ true) }
@@ -210,7 +210,7 @@ fn read_legacy_part<S: Source>(
     source: &mut S,
     len: usize,
 ) -> Result<FrameData, FileError>
-    requires { S.failures source.old < 2 ^ 64 - 1 }
+    requires { CanFail S.failures source.old }
     ensures part { FromDevice legacy_of (S.remaining source.old) (S.remaining source.new) result
         (legacy_part_at len) }
     ensures unpacked { IfOk result (λ frame. (holding_of frame).packed ≡ None) }
@@ -223,10 +223,10 @@ fn read_legacy_part<S: Source>(
 
 /// Reads the four bytes before a frame. Returns `None` at the end.
 fn read_header<S: Source>(source: &mut S) -> Result<Option<[u8; 4]>, FileError>
-    requires { S.failures source.old < 2 ^ 64 - 1 }
+    requires { CanFail S.failures source.old }
     ensures header { IfOk result (λ o.
         HeaderFrom (S.remaining source.old) (S.remaining source.new) o) }
-    ensures io { IfErr result (λ e. e ≡ FileError.Io) }
+    ensures io { IsOkUnless result FileError.Io }
     ensures failures { S.failures source.new ≡ failures_after (S.failures source.old) result }
 {
     let mut header = [0; 4];
@@ -252,7 +252,7 @@ fn read_stored<S: Source>(
     source: &mut S,
     header: [u8; 4],
 ) -> Result<FrameData, FileError>
-    requires { S.failures source.old < 2 ^ 64 - 1 }
+    requires { CanFail S.failures source.old }
     ensures part { FromDevice (λ frame. Some (stored_of frame)) (S.remaining source.old)
         (S.remaining source.new) result (stored_after header) }
     ensures fresh { IfOk result IsFresh }
@@ -288,7 +288,7 @@ impl FrameData {
         alloc: Global,
         source: &mut S,
     ) -> Result<Option<FrameData>, FileError>
-        requires { S.failures source.old < 2 ^ 64 - 1 }
+        requires { CanFail S.failures source.old }
         ensures next { ReadsNext (S.remaining source.old) (S.remaining source.new) result }
         // What was read is the frame's packet, or its legacy frame.
         ensures took { IfOk result (λ next. IfSome next (λ frame.

@@ -1,4 +1,4 @@
-ghost use Rattle.std.specs.Prelude.{◌≡◌, ◌⊎◌, ◌↔◌, ◌+◌, ◌^◌, ◌<◌, ◌≤◌, true, IfOk, IfErr, OnOk, OnErr, length};
+ghost use Rattle.std.specs.Prelude.{◌≡◌, ◌⊎◌, ◌↔◌, ◌+◌, ◌^◌, ◌<◌, ◌≤◌, IfOk, IfErr, OnOk, OnErr, length, IsOkUnless, IsTrue};
 ghost use Rattle.std.specs.Arc.{arc_value};
 ghost use Rattle.std.specs.BTreeMap.{insert_entry};
 ghost use Rattle.std.specs.Map.{keys_of};
@@ -34,7 +34,7 @@ pub(crate) fn shared(
 ) -> Result<ThreadStreams>
     ensures ok { IfOk result (λ shared. without_sharing shared.entries ≡ streams.entries) }
     ensures read_again { IfOk result (λ shared. AreReadAgain (shared_streams shared.entries)) }
-    ensures err { IfErr result (λ e. e ≡ Error.Memory) }
+    ensures err { IsOkUnless result Error.Memory }
 {
     let mut shared = BTreeMap::new(alloc);
     for (thread, info) in streams {
@@ -50,7 +50,7 @@ pub(crate) fn shared(
 /// Copies a map of streams; the copy shares them. Fails only with `Memory`.
 pub(crate) fn streams_copy(alloc: Global, streams: &ThreadStreams) -> Result<ThreadStreams>
     ensures ok { IfOk result (λ copy. pairs_of copy.entries ≡ pairs_of streams.now.entries) }
-    ensures memory { IfErr result (λ e. e ≡ Error.Memory) }
+    ensures memory { IsOkUnless result Error.Memory }
 {
     let mut copy = BTreeMap::new(alloc);
     'streams: for (thread, info) in streams.iter() {
@@ -117,7 +117,7 @@ fn extended(alloc: Global, info: &StreamInfo, times: &StreamInfoRef) -> Result<A
 
 /// Returns whether `times` and the stream under the thread `info` both have bytes and their forms differ. Allocates nothing.
 pub fn are_unlike(streams: &ThreadStreams, info: &ThreadInfo, times: &StreamInfoRef) -> bool
-    ensures { (result ≡ true)
+    ensures { IsTrue result
         ↔ AreUnlike (stream_under (shared_streams streams.now.entries) (key_of info.now))
         (facts_of_ref times.now) }
 {
@@ -152,7 +152,7 @@ fn first_info(alloc: Global, times: &StreamInfoRef) -> Result<Arc<StreamInfo>>
     ensures ok { IfOk result (λ info.
         facts_of (arc_value info) ≡ joined_facts no_scopes (facts_of_ref times.now)) }
     ensures counts { IfOk result (λ info. AreCounts (facts_of (arc_value info))) }
-    ensures err { IfErr result (λ e. e ≡ Error.Memory) }
+    ensures err { IsOkUnless result Error.Memory }
     ensures fits { times.now.num_scopes < 2 ^ 64 }
 {
     fits(times.num_scopes);
@@ -172,7 +172,7 @@ fn insert_first(streams: &mut ThreadStreams, info: ThreadInfo, first: Arc<Stream
     ensures count { OnOk result (length streams.new.entries < 2 ^ 64) }
     ensures sorted { IsStrictlySortedBy thread_cmp (keys_of streams.new.entries) }
     ensures err { OnErr result (streams.new.entries ≡ streams.old.entries) }
-    ensures memory { IfErr result (λ e. e ≡ Error.Memory) }
+    ensures memory { IsOkUnless result Error.Memory }
 {
     thread_fits(&info);
     let _before = streams.insert(info, first)?;

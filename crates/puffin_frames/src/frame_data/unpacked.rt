@@ -1,4 +1,4 @@
-ghost use Rattle.std.specs.Prelude.{◌≡◌, ◌^◌, ◌<◌, ◌-ℤ◌, ◌≤ℤ◌, FitsSigned};
+ghost use Rattle.std.specs.Prelude.{◌≡◌, ◌^◌, ◌<◌, ◌-ℤ◌, ◌≤ℤ◌, FitsSigned, IsOkUnless};
 ghost use Rattle.std.specs.Int.{w64};
 ghost use Rattle.std.specs.Coded.{Coded-set, coded_option};
 ghost use Rattle.puffin_frames.specs.Frame.Streams.{shared_streams, streams_code};
@@ -97,7 +97,7 @@ impl UnpackedFrameData {
     pub fn clone(&self, alloc: Global) -> Result<UnpackedFrameData>
         ensures streams { IfOk result (λ copy. streams_held copy ≡ streams_held self.now) }
         ensures meta { IfOk result (λ copy. copy.meta ≡ self.now.meta) }
-        ensures memory { IfErr result (λ e. e ≡ Error.Memory) }
+        ensures memory { IsOkUnless result Error.Memory }
     {
         Ok(UnpackedFrameData {
             meta: self.meta,

@@ -1,9 +1,9 @@
 //! Writing frames to any writer.
 
-ghost use Rattle.std.specs.Prelude.{◌≡◌, ◌-◌, ◌+◌, ◌++◌, ◌^◌, ◌<◌, ◌≤◌, ◌⊎◌, Some, None, IfOk, IfErr, OnOk, OnErr, option_map, length};
+ghost use Rattle.std.specs.Prelude.{◌≡◌, ◌+◌, ◌++◌, ◌^◌, ◌<◌, ◌≤◌, ◌⊎◌, Some, None, IfOk, IfErr, OnOk, OnErr, option_map, length, IsOkUnless};
 ghost use Rattle.std.specs.Io.KnownBytes.{Appends};
 ghost use Rattle.puffin_data.specs.declared.file_error.FileError.{FileError};
-ghost use Rattle.puffin_data.specs.Device.{TookNothing, WritesBeginning};
+ghost use Rattle.puffin_data.specs.Device.{CanFail, TookNothing, WritesBeginning};
 ghost use Rattle.std.specs.FinMap.{values};
 ghost use Rattle.puffin_threads.specs.Details.{shared_details};
 ghost use Rattle.puffin_frames.specs.declared.frame_data.kind.Kind.{Kind};
@@ -31,7 +31,7 @@ const PACKET_HEAD_SIZE: usize = 13;
 
 /// Writes two pieces, one after the other.
 fn write_both<D: Drain>(drain: &mut D, first: &[u8], second: &[u8]) -> Result<(), FileError>
-    requires { D.failures drain.old < 2 ^ 64 - 1 }
+    requires { CanFail D.failures drain.old }
     ensures ok { OnOk result (
         Appends (D.contents drain.old) (D.contents drain.new) (first.now ++ second.now)) }
     ensures err { OnErr result (
@@ -51,13 +51,11 @@ fn meta_part(alloc: Global, meta: FrameMeta) -> Result<Vec<u8>, FileError>
     ensures ok { IfOk result (λ bytes. bytes.items ≡ meta_layout meta) }
     ensures short { length (meta_layout meta) < 2 ^ 32 }
     ensures fits { IsMeta meta }
-    ensures memory { IfErr result (λ e. e ≡ FileError.Memory) }
+    ensures memory { IsOkUnless result FileError.Memory }
 {
     let mut bytes = Vec::with_capacity(alloc, META_SIZE)?;
-    match put_meta(&mut bytes, &meta) {
-        Ok(()) => Ok(bytes),
-        Err(_) => Err(FileError::Memory),
-    }
+    put_meta(&mut bytes, &meta)?;
+    Ok(bytes)
 }
 
 /// Encodes the front of a packet: its letters, its meta part, and the length and the kind of its streams. Fails only with
@@ -72,7 +70,7 @@ fn head(
 ) -> Result<Vec<u8>, FileError>
     ensures ok { IfOk result (λ bytes. bytes.items ≡ packet_head form meta.now kind len) }
     ensures fits { IsMeta meta.now }
-    ensures memory { IfErr result (λ e. e ≡ FileError.Memory) }
+    ensures memory { IsOkUnless result FileError.Memory }
 {
     let part = meta_part(alloc, *meta)?;
     let mut bytes = Vec::with_capacity(alloc, PACKET_HEAD_SIZE + part.len())?;
@@ -92,7 +90,7 @@ fn write_packed<D: Drain>(
     details: &[u8],
     drain: &mut D,
 ) -> Result<(), FileError>
-    requires { D.failures drain.old < 2 ^ 64 - 1 }
+    requires { CanFail D.failures drain.old }
     ensures written { WritesPacket D.contents D.failures D.takes drain.old drain.new
         (packet_with streams.now.form meta.now streams.now.kind streams.now.bytes.items
         details.now)
@@ -117,7 +115,7 @@ fn write_unpacked<D: Drain>(
     details: &[u8],
     drain: &mut D,
 ) -> Result<(), FileError>
-    requires { D.failures drain.old < 2 ^ 64 - 1 }
+    requires { CanFail D.failures drain.old }
     ensures written { WritesPacket D.contents D.failures D.takes drain.old drain.new
         (packet_with (plainly_packed (streams_held frame.now)).form frame.now.meta Kind.Uncompressed
         (plainly_packed (streams_held frame.now)).bytes details.now)
@@ -128,9 +126,7 @@ fn write_unpacked<D: Drain>(
         × (length details.now < 2 ^ 32)) }
     ensures fits { OnOk result (IsMeta frame.now.meta) }
 {
-    let Ok(streams) = PackedStreams::of(alloc, &frame.thread_streams) else {
-        return Err(FileError::Memory);
-    };
+    let streams = PackedStreams::of(alloc, &frame.thread_streams)?;
     write_packed(alloc, &frame.meta, &streams, details, drain)
 }
 
@@ -138,26 +134,22 @@ fn write_unpacked<D: Drain>(
 fn delta_part(alloc: Global, details: &[Arc<ScopeDetails>]) -> Result<Vec<u8>, FileError>
     ensures ok { IfOk result (λ bytes. bytes.items ≡ details_layout (shared_details details.now)) }
     ensures fit { OnOk result (AreDetails (shared_details details.now)) }
-    ensures memory { IfErr result (λ e. e ≡ FileError.Memory) }
+    ensures memory { IsOkUnless result FileError.Memory }
 {
     let mut bytes = Vec::new(alloc);
-    match put_details(&mut bytes, details) {
-        Ok(()) => Ok(bytes),
-        Err(_) => Err(FileError::Memory),
-    }
+    put_details(&mut bytes, details)?;
+    Ok(bytes)
 }
 
 /// Encodes the details of a collection as a list, in ascending order of id. Fails only with `Memory`.
 fn collection_part(alloc: Global, scopes: &ScopeCollection) -> Result<Vec<u8>, FileError>
     ensures ok { IfOk result (λ bytes. bytes.items ≡ details_layout (values scopes.now.by_id)) }
     ensures fit { OnOk result (AreDetails (values scopes.now.by_id)) }
-    ensures memory { IfErr result (λ e. e ≡ FileError.Memory) }
+    ensures memory { IsOkUnless result FileError.Memory }
 {
     let mut bytes = Vec::new(alloc);
-    match put_details_by_id(&mut bytes, scopes.scopes_by_id()) {
-        Ok(()) => Ok(bytes),
-        Err(_) => Err(FileError::Memory),
-    }
+    put_details_by_id(&mut bytes, scopes.scopes_by_id())?;
+    Ok(bytes)
 }
 
 impl FrameData {
@@ -170,7 +162,7 @@ impl FrameData {
         ensures fit { OnOk result (
             AreDetails (
             details_or (frame_details self.now) (option_map (λ c. c.now) scopes.entry))) }
-        ensures memory { IfErr result (λ e. e ≡ FileError.Memory) }
+        ensures memory { IsOkUnless result FileError.Memory }
     {
         let alloc = *self.scope_delta.allocator();
         match scopes {
@@ -195,7 +187,7 @@ impl FrameData {
         scopes: Option<&ScopeCollection>,
         drain: &mut D,
     ) -> Result<(), FileError>
-        requires { D.failures drain.old < 2 ^ 64 - 1 }
+        requires { CanFail D.failures drain.old }
         ensures written { WritesPacket D.contents D.failures D.takes drain.old drain.new
             (packet (fields_with self.now (option_map (λ c. c.now) scopes.entry)))
             (HasLongPart (fields_with self.now (option_map (λ c. c.now) scopes.entry))) result }

@@ -1,6 +1,6 @@
 //! Short names of files.
 
-ghost use Rattle.std.specs.Prelude.{◌≡◌, ◌<◌, ◌==◌, map, length, IfSome, IfOk, IfErr, string_bytes};
+ghost use Rattle.std.specs.Prelude.{◌≡◌, ◌<◌, ◌==◌, map, length, IfSome, IfOk, string_bytes, IsOkUnless};
 ghost use Rattle.std.specs.List.{slice_split, join_with_byte};
 ghost use Rattle.puffin_data.specs.declared.error.Error.{Error};
 ghost use Rattle.puffin_scopes.specs.Names.Files.{with_slashes, short_file, kept_parts, last_src};
@@ -12,7 +12,7 @@ use std::alloc::Global;
 /// Backslashes count as slashes. Fails only with `Memory`.
 pub fn short_file_name(alloc: Global, path: &str) -> Result<String>
     ensures ok { IfOk result (λ name. string_bytes name ≡ short_file path.now) }
-    ensures err { IfErr result (λ e. e ≡ Error.Memory) }
+    ensures err { IsOkUnless result Error.Memory }
 {
     if !path.contains('\\') {
         return shortened(alloc, path);
@@ -25,7 +25,7 @@ pub fn short_file_name(alloc: Global, path: &str) -> Result<String>
 fn shortened(alloc: Global, path: &str) -> Result<String>
     ensures ok { IfOk result (λ name. string_bytes name
         ≡ join_with_byte 47 (kept_parts (slice_split (λ b. b == 47) path.now))) }
-    ensures err { IfErr result (λ e. e ≡ Error.Memory) }
+    ensures err { IsOkUnless result Error.Memory }
 {
     let parts = parts(alloc, path)?;
     if parts.len() <= 2 {
@@ -38,7 +38,7 @@ fn shortened(alloc: Global, path: &str) -> Result<String>
 fn parts(alloc: Global, path: &str) -> Result<Vec<&str>>
     ensures ok { IfOk result (λ parts.
         map (λ part. part.now) parts.items ≡ slice_split (λ b. b == 47) path.now) }
-    ensures err { IfErr result (λ e. e ≡ Error.Memory) }
+    ensures err { IsOkUnless result Error.Memory }
 {
     Ok(path.split('/').collect(alloc)?)
 }
@@ -62,7 +62,7 @@ fn kept(alloc: Global, parts: &[&str]) -> Result<String>
     requires { 2 < length parts.now }
     ensures ok { IfOk result (λ name. string_bytes name
         ≡ join_with_byte 47 (kept_parts (map (λ part. part.now) parts.now))) }
-    ensures err { IfErr result (λ e. e ≡ Error.Memory) }
+    ensures err { IsOkUnless result Error.Memory }
 {
     let last = parts.len() - 1;
     let file = parts[last];

@@ -1,6 +1,6 @@
 //! Short names of functions.
 
-ghost use Rattle.std.specs.Prelude.{◌≡◌, IfOk, IfErr, string_bytes};
+ghost use Rattle.std.specs.Prelude.{◌≡◌, IfOk, string_bytes, IsOkUnless};
 ghost use Rattle.puffin_data.specs.declared.error.Error.{Error};
 ghost use Rattle.puffin_scopes.specs.Names.Functions.{clean, shorten, last_segment, two_segments};
 
@@ -11,7 +11,7 @@ use std::alloc::Global;
 /// it, and shortens the rest. If the name doesn't end in `::f`, returns it unchanged. Fails only with `Memory`.
 pub fn clean_function_name(alloc: Global, name: &str) -> Result<String>
     ensures ok { IfOk result (λ short. string_bytes short ≡ clean name.now) }
-    ensures err { IfErr result (λ e. e ≡ Error.Memory) }
+    ensures err { IsOkUnless result Error.Memory }
 {
     match name.strip_suffix("::f") {
         Some(outer) => {
@@ -25,7 +25,7 @@ pub fn clean_function_name(alloc: Global, name: &str) -> Result<String>
 /// `Memory`.
 pub fn shorten_rust_function_name(alloc: Global, name: &str) -> Result<String>
     ensures ok { IfOk result (λ short. string_bytes short ≡ shorten name.now) }
-    ensures err { IfErr result (λ e. e ≡ Error.Memory) }
+    ensures err { IsOkUnless result Error.Memory }
 {
     let Some((front, back)) = name.rsplit_once(" as ") else {
         return last_two_segments(alloc, name);
@@ -55,7 +55,7 @@ fn last_segment(text: &str) -> &str
 /// Returns the last two segments, or the whole name if it has fewer than three.
 fn last_two_segments(alloc: Global, name: &str) -> Result<String>
     ensures ok { IfOk result (λ short. string_bytes short ≡ two_segments name.now) }
-    ensures err { IfErr result (λ e. e ≡ Error.Memory) }
+    ensures err { IsOkUnless result Error.Memory }
 {
     if let Some((front, last)) = name.rsplit_once("::")
         && let Some((_, before)) = front.rsplit_once("::")

@@ -1,4 +1,4 @@
-ghost use Rattle.std.specs.Prelude.{◌≡◌, ◌↔◌, ◌⊎◌, Some, None, true, IfOk, IfErr, OnOk, OnErr, option_map, option_copied};
+ghost use Rattle.std.specs.Prelude.{◌≡◌, ◌↔◌, ◌⊎◌, Some, None, true, IfOk, IfErr, OnOk, OnErr, option_map, option_copied, IsOkUnless};
 ghost use Rattle.std.specs.List.{list_any};
 ghost use Rattle.std.specs.Arc.{arc_value};
 ghost use Rattle.std.specs.FinMap as map;
@@ -47,7 +47,7 @@ fn put_name(
     ensures ok { OnOk result (
         by_names by_name.new.entries ≡ map.insert (by_names by_name.old.entries) name.now id) }
     ensures err { OnErr result (by_names by_name.new.entries ≡ by_names by_name.old.entries) }
-    ensures memory { IfErr result (λ e. e ≡ Error.Memory) }
+    ensures memory { IsOkUnless result Error.Memory }
 {
     if let Some(kept) = by_name.get_mut(name) {
         *kept = id;
@@ -161,7 +161,7 @@ impl ScopeCollection {
     /// Copies the collection; the copy shares the details. Fails only with `Memory`.
     pub fn clone(&self) -> Result<ScopeCollection>
         ensures ok { IfOk result (λ copy. copy ≡ self.now) }
-        ensures err { IfErr result (λ e. e ≡ Error.Memory) }
+        ensures err { IsOkUnless result Error.Memory }
     {
         Ok(ScopeCollection {
             by_id: self.by_id.clone()?,

@@ -1,4 +1,4 @@
-ghost use Rattle.std.specs.Prelude.{◌≡◌, Some, string_bytes, IfOk, IfErr};
+ghost use Rattle.std.specs.Prelude.{◌≡◌, Some, string_bytes, IfOk, IsOkUnless};
 ghost use Rattle.std.specs.List.{list_any};
 ghost use Rattle.std.specs.Arc.{arc_value};
 ghost use Rattle.std.specs.Cow.{cow_str_bytes};
@@ -105,7 +105,7 @@ impl ScopeDetails {
     /// Formats the place in the code: `file:line`, or `file` if the line is 0. Fails only with `Memory`.
     pub fn location(&self, alloc: Global) -> Result<String>
         ensures ok { IfOk result (λ text. string_bytes text ≡ location_of (details_of self.now)) }
-        ensures err { IfErr result (λ e. e ≡ Error.Memory) }
+        ensures err { IsOkUnless result Error.Memory }
     {
         let file = self.file_path.as_str();
         let line = self.line_nr;
@@ -119,7 +119,7 @@ impl ScopeDetails {
     /// Copies the details. Fails only with `Memory`.
     pub fn clone(&self) -> Result<ScopeDetails>
         ensures ok { IfOk result (λ details. details_of details ≡ details_of self.now) }
-        ensures err { IfErr result (λ e. e ≡ Error.Memory) }
+        ensures err { IsOkUnless result Error.Memory }
     {
         Ok(ScopeDetails {
             scope_id: self.scope_id,

@@ -1,4 +1,4 @@
-ghost use Rattle.std.specs.Prelude.{◌≡◌, IfErr};
+ghost use Rattle.std.specs.Prelude.{◌≡◌, IsOkUnless};
 ghost use Rattle.puffin_data.specs.declared.error.Error.{Error};
 
 use puffin_data::data::ScopeId;
@@ -36,7 +36,7 @@ impl ScopeIds {
     /// let id = ids.draw()?;
     /// ```
     pub fn draw(&self) -> Result<ScopeId>
-        ensures { IfErr result (λ e. e ≡ Error.IdsExhausted) }
+        ensures { IsOkUnless result Error.IdsExhausted }
     {
         let number = self.next.fetch_add(1, Ordering::Relaxed);
         u32::try_from(number)

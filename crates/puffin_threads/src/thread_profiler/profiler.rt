@@ -19,7 +19,7 @@ pub struct ThreadProfiler<C> {
 }
 
 impl<C: NsSource> ThreadProfiler<C> {
-    ghost use Rattle.std.specs.Prelude.{◌≡◌, ◌≢◌, ◌+◌, ℤ, pos, ◌≤ℤ◌, length, Some, OnOk, OnErr, IfOk, IfErr, string_bytes, slice_get};
+    ghost use Rattle.std.specs.Prelude.{◌≡◌, ◌≢◌, ◌+◌, ℤ, pos, ◌≤ℤ◌, length, Some, OnOk, OnErr, IfOk, IfErr, string_bytes, slice_get, IsOkUnless};
     ghost use Rattle.puffin_data.specs.declared.error.Error.{Error};
     ghost use Rattle.std.specs.Cow.{cow_str_bytes};
     ghost use Rattle.puffin_data.specs.Forest.Spelling.{size_offset};
@@ -109,7 +109,7 @@ impl<C: NsSource> ThreadProfiler<C> {
             + size_offset (thread_of self.old).form
             (cut_text (thread_of self.old).form text.now)) }
         ensures unchanged { OnErr result (self.new ≡ self.old) }
-        ensures memory { IfErr result (λ e. e ≡ Error.Memory) }
+        ensures memory { IsOkUnless result Error.Memory }
     {
         self.state.begin_scope(&mut self.clock, id, text)
     }

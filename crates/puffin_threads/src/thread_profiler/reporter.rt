@@ -1,8 +1,7 @@
 //! The receivers of closed scopes.
 
 ghost use Rattle.std.specs.Prelude.{OnOk, IfErr};
-ghost use Rattle.puffin_data.specs.Forest.{Forest};
-ghost use Rattle.puffin_data.specs.Honesty.{IsHonestRef, facts_of_ref};
+ghost use Rattle.puffin_data.specs.Honesty.{IsHonestReport, facts_of_ref};
 ghost use Rattle.puffin_threads.specs.Details.{details_seen};
 ghost use Rattle.puffin_threads.specs.Thread.ThreadKey.{key_of};
 
@@ -33,7 +32,7 @@ pub trait Reporter {
         details: &[ScopeDetails],
         times: &StreamInfoRef,
     ) -> Result<()>
-        requires { (f : Forest) × IsHonestRef times.now f }
+        requires { IsHonestReport times.now }
         ensures ok { OnOk result (
             accepts self.old (key_of info) (details_seen details.now) (facts_of_ref times.now)
             self.new) }

@@ -1,4 +1,4 @@
-ghost use Rattle.std.specs.Prelude.{◌≡◌, IfOk, IfErr};
+ghost use Rattle.std.specs.Prelude.{◌≡◌, IfOk, IsOkUnless};
 ghost use Rattle.puffin_data.specs.declared.error.Error.{Error};
 ghost use Rattle.puffin_threads.specs.Thread.ThreadKey.{key_of};
 
@@ -18,7 +18,7 @@ impl ThreadInfo {
     /// Copies the info. Fails only with `Memory`.
     pub fn clone(&self) -> Result<ThreadInfo>
         ensures ok { IfOk result (λ info. key_of info ≡ key_of self.now) }
-        ensures err { IfErr result (λ e. e ≡ Error.Memory) }
+        ensures err { IsOkUnless result Error.Memory }
     {
         Ok(ThreadInfo {
             start_time_ns: self.start_time_ns,

@@ -1,6 +1,6 @@
 //! The records of one thread, apart from its clock.
 
-ghost use Rattle.std.specs.Prelude.{◌≡◌, ◌+◌, ◌-◌, ◌*◌, ◌^◌, ◌<◌, ◌≤◌, ◌++◌, ℤ, pos, ◌≤ℤ◌, ◌==◌, length, max, OnOk, OnErr, IfOk, IfErr, IfSome, IfNone, string_bytes, slice_get, unwrap_or, option_map};
+ghost use Rattle.std.specs.Prelude.{◌≡◌, ◌+◌, ◌-◌, ◌*◌, ◌^◌, ◌<◌, ◌≤◌, ◌++◌, ℤ, pos, ◌≤ℤ◌, ◌==◌, length, max, OnOk, OnErr, IfOk, IfErr, IfSome, IfNone, string_bytes, slice_get, unwrap_or, option_map, IsOkUnless};
 ghost use Rattle.std.specs.Int.{int_min};
 ghost use Rattle.std.specs.Option.{option_or};
 ghost use Rattle.puffin_data.specs.declared.error.Error.{Error};
@@ -51,7 +51,7 @@ impl Model for ThreadState {
 #[inline(never)]
 fn copy_of(name: &String) -> Result<String>
     ensures ok { IfOk result (λ s. string_bytes s ≡ string_bytes name.now) }
-    ensures memory { IfErr result (λ e. e ≡ Error.Memory) }
+    ensures memory { IsOkUnless result Error.Memory }
 {
     Ok(name.clone()?)
 }
@@ -64,7 +64,7 @@ fn fill(spare: &mut Option<String>, name: &String) -> Result<()>
     ensures ok { OnOk result (
         option_map (λ s. string_bytes s) spare.new ≡ Some (string_bytes name.now)) }
     ensures err { OnErr result (spare.new ≡ spare.old) }
-    ensures memory { IfErr result (λ e. e ≡ Error.Memory) }
+    ensures memory { IsOkUnless result Error.Memory }
 {
     *spare = Some(copy_of(name)?);
     Ok(())
@@ -78,7 +78,7 @@ fn keep_copy(spare: &mut Option<String>, name: &String) -> Result<()>
         unwrap_or (option_map (λ s. string_bytes s) spare.old) (
         string_bytes name.now))) }
     ensures err { OnErr result (spare.new ≡ spare.old) }
-    ensures memory { IfErr result (λ e. e ≡ Error.Memory) }
+    ensures memory { IsOkUnless result Error.Memory }
 {
     if spare.is_none() {
         return fill(spare, name);
@@ -202,7 +202,7 @@ impl ThreadState {
             ≡ word_size self.old.form self.old.word
             + size_offset self.old.form (cut_text self.old.form text.now)) }
         ensures unchanged { OnErr result ((self.new ≡ self.old) × (clock.new ≡ clock.old)) }
-        ensures memory { IfErr result (λ e. e ≡ Error.Memory) }
+        ensures memory { IsOkUnless result Error.Memory }
     {
         keep_copy(&mut self.spare, &self.name)?;
         self.offsets.reserve(1)?;
@@ -257,7 +257,7 @@ impl ThreadState {
         requires { open_after 0 self.old.word ≡ 0 }
         ensures name { IfOk result (λ name. string_bytes name ≡ self.old.name) }
         ensures unchanged { self.new ≡ self.old }
-        ensures memory { IfErr result (λ e. e ≡ Error.Memory) }
+        ensures memory { IsOkUnless result Error.Memory }
     {
         match self.spare.take() {
             Some(name) => Ok(name),

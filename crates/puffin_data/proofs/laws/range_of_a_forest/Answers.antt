@@ -1,4 +1,4 @@
-use Rattle.puffin_data.proofs.RangesTold.{least_in_range, greatest_in_range, ordered}
+use Rattle.puffin_data.proofs.lemmas.ForestRanges.{least_in_range, greatest_in_range, ordered}
 use Rattle.puffin_data.proofs.laws.range_of_a_forest.Goals as goal
 
 pub returns-clause-start : goal.returns-clause-start

@@ -1,6 +1,6 @@
 //! Writing scopes, each in two steps: when it begins and when it ends.
 
-ghost use Rattle.std.specs.Prelude.{◌≡◌, ◌+◌, ◌-◌, ◌≤◌, ◌++◌, length, IfOk, OnOk, OnErr, IfErr, IsOk, ◌^◌, ◌∷◌};
+ghost use Rattle.std.specs.Prelude.{◌≡◌, ◌+◌, ◌-◌, ◌≤◌, ◌++◌, length, IfOk, OnOk, OnErr, IsOk, ◌^◌, ◌∷◌, IsOkUnless};
 ghost use Rattle.puffin_data.specs.Forest.Spelling.{begin_bytes, head_size};
 ghost use Rattle.puffin_data.specs.Forest.Open.{ended_bytes};
 ghost use Rattle.puffin_data.specs.Text.{cut_text};
@@ -39,7 +39,7 @@ impl Stream {
         ensures clock { IfOk result (λ at. F.post now_ns at.1) }
         ensures err { OnErr result (self.new.bytes ≡ self.old.bytes) }
         ensures form { self.new.form ≡ self.old.form }
-        ensures memory { IfErr result (λ e. e ≡ Error.Memory) }
+        ensures memory { IsOkUnless result Error.Memory }
         ensures succeeds { head_size self.old.form (cut_text self.old.form text.now)
             ≤ self.old.room → IsOk result }
         ensures room { self.old.room
@@ -69,7 +69,7 @@ impl Stream {
         ensures err { OnErr result (self.new.bytes ≡ self.old.bytes) }
         ensures form { self.new.form ≡ self.old.form }
         ensures unasked { OnErr result (now_ns.new ≡ now_ns.old) }
-        ensures memory { IfErr result (λ e. e ≡ Error.Memory) }
+        ensures memory { IsOkUnless result Error.Memory }
         ensures succeeds { head_size self.old.form (cut_text self.old.form text.now)
             ≤ self.old.room → IsOk result }
         ensures room { self.old.room
@@ -93,7 +93,7 @@ impl Stream {
         ensures offset { IfOk result (λ offset. offset + 8 ≡ length self.new.bytes) }
         ensures err { OnErr result (self.new.bytes ≡ self.old.bytes) }
         ensures form { self.new.form ≡ self.old.form }
-        ensures memory { IfErr result (λ e. e ≡ Error.Memory) }
+        ensures memory { IsOkUnless result Error.Memory }
         ensures succeeds { head_size self.old.form (cut_text self.old.form text.now)
             ≤ self.old.room → IsOk result }
         ensures room { self.old.room
@@ -169,7 +169,7 @@ impl Stream {
         ensures ended { OnOk result (self.new.bytes ≡ ended_bytes self.old.bytes offset stop_ns) }
         ensures err { OnErr result (self.new.bytes ≡ self.old.bytes) }
         ensures form { self.new.form ≡ self.old.form }
-        ensures memory { IfErr result (λ e. e ≡ Error.Memory) }
+        ensures memory { IsOkUnless result Error.Memory }
         ensures succeeds { END_SIZE ≤ self.old.room → IsOk result }
         ensures room { self.old.room ≤ self.new.room + END_SIZE }
     {

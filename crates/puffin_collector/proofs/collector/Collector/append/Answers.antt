@@ -9,6 +9,9 @@ use Rattle.puffin_data.specs.Honesty.{AreUnlike, facts_of_ref}
 use Rattle.puffin_threads.specs.Thread.ThreadKey.{key_of}
 use Rattle.puffin_frames.specs.Frame.Contents.{Streams, shared_streams, stream_under, reported_to}
 use Rattle.puffin_frames.specs.Frame.Holding.{HaveLayout}
+use Rattle.puffin_frames.proofs.lemmas.Measured.{after_report as totals_after_report, bytes_measure, scopes_measure, starts_measure, stops_measure, under_one}
+use Rattle.puffin_frames.proofs.lemmas.Honest.{honest-report}
+use Rattle.puffin_frames.proofs.lemmas.Ranges.{least_start-one, greatest_stop-one}
 use Rattle.puffin_threads.specs.Details.{shared_details, AllHaveIds}
 use Rattle.puffin_collector.specs.Collector.State.{Collected, PendingFits, range_with, IsTooLong, IsUnlike, IsReportRefusal, after_report}
 use Rattle.puffin_collector.specs.Collector.Collecting.{IsTallied}
@@ -36,18 +39,18 @@ invariant_of-self-2 c =
     let r = facts_of_ref c.args.times.now in
     let like : ¬ AreUnlike (stream_under seen.streams i) r = (λ apart. let refused = c.in_ok-report_to.ensures.unlike.1 apart in absurd cc) in
     let laws : Laws seen.streams i r c.requires.0 = record {
-      bytes = c.reported_streams.ensures.bytes _ i r;
-      scopes = c.reported_streams.ensures.scopes _ i r;
-      start = c.reported_streams.ensures.start _ i r;
-      stop = c.reported_streams.ensures.stop _ i r;
-      honest = c.honest_streams.ensures.report _ i r _ like;
+      bytes = totals_after_report bytes_measure _ i r;
+      scopes = totals_after_report scopes_measure _ i r;
+      start = totals_after_report starts_measure _ i r;
+      stop = totals_after_report stops_measure _ i r;
+      honest = honest-report _ i r _ like;
     } in
     let adds : AddsUp seen c.in-Ok.sums.0 r = subst (λ (v : Collected). AddsUp v c.in-Ok.sums.0 r) (sym c.self.view_is) c.in-Ok.ensures.sums.0 in
     let reported : c.in-Ok.sums.1 ≡ seen.reported + r.num_scopes = subst (λ (v : Collected). c.in-Ok.sums.1 ≡ v.reported + r.num_scopes) (sym c.self.view_is) c.in-Ok.ensures.sums.1 in
     let put = c.in_ok-report_to.ensures.ok in
     let layout : HaveLayout (reported_to seen.streams i r) = subst HaveLayout put (c.in_ok-report_to.ensures.layout c.self.invariant.0.layout) in (
       subst (λ (s : Streams). IsTallied s c.in-Ok.sums.0 c.in-Ok.sums.1 inside.emitted) (sym put)
-          (kept_after seen _ _ i r c.requires.0 _ laws adds (c.joined_ranges.ensures.start_of_one_more r (map.values seen.streams)) (c.joined_ranges.ensures.stop_of_one_more r (map.values seen.streams)) c.self.invariant.0 layout c.requires.1 reported),
+          (kept_after seen _ _ i r c.requires.0 _ laws adds (least_start-one r (map.values seen.streams)) (greatest_stop-one r (map.values seen.streams)) c.self.invariant.0 layout c.requires.1 reported),
       c.self.invariant.1,
     )
 
@@ -72,7 +75,7 @@ returns-in_err-report_to-clause-err c =
     }) in
     let seen : Collected = with (shared_streams inside.pending.entries) in
     let fits = subst (λ (v : Collected). PendingFits v r × ¬ IsTooLong (range_with v r)) (sym c.self.view_is) c.in-Ok.ensures.fits in
-    let refused = late_refusal seen i [] r no_ids c.in_err-report_to.field-0.0 c.in_err-report_to.ensures.unlike c.in_err-report_to.ensures.too_large (c.reported_streams.ensures.under_one seen.streams i) fits c.in_err-report_to.ensures.cause in
+    let refused = late_refusal seen i [] r no_ids c.in_err-report_to.field-0.0 c.in_err-report_to.ensures.unlike c.in_err-report_to.ensures.too_large (under_one seen.streams i) fits c.in_err-report_to.ensures.cause in
     rw (p.1, p.2) (
       subst (λ (v : Collected). IsReportRefusal v i [] r c.in_err-report_to.field-0.0) c.self.view_is refused,
       ap with c.in_err-report_to.ensures.err ∙ c.self.view_is,

@@ -3,6 +3,7 @@ use Rattle.std.proofs.Common.{◌≡◌, ◌+◌, ◌^◌, ◌<◌, arith, refl,
 use Rattle.std.specs.FinMap as map
 use Rattle.puffin_data.specs.Honesty.{facts_of_ref}
 use Rattle.puffin_frames.specs.Frame.Sums.{meta_of}
+use Rattle.puffin_frames.proofs.lemmas.Ranges.{least_start-one, greatest_stop-one}
 use Rattle.puffin_collector.specs.Collector.State.{Collected, PendingFits}
 use Rattle.puffin_collector.proofs.Reporting.{Joins, sums_fit, range_is, adds_up, too_large, too_long, not_too_long, duration_fits}
 use Rattle.puffin_collector.proofs.collector.Collector.sums_with.Goals as goal
@@ -46,17 +47,17 @@ returns-in_default-checked_add-clause-refusal c =
 
 pub returns-then-is_too_long-clause-refusal : goal.returns-then-is_too_long-clause-refusal
 returns-then-is_too_long-clause-refusal c =
-    let range = range_is _ _ _ _ (at_test c) c.joined_ranges.ensures.start_of_one_more c.joined_ranges.ensures.stop_of_one_more in
+    let range = range_is _ _ _ _ (at_test c) least_start-one greatest_stop-one in
     inr (inl (refl, sums_fit _ _ _ _ (at_test c), too_long _ _ _ range c.is_too_long.ensures c.if-is_too_long.true))
 
 pub returns-clause-sums : goal.returns-clause-sums
 returns-clause-sums c =
-    let range = range_is _ _ _ _ (after c) c.joined_ranges.ensures.start_of_one_more c.joined_ranges.ensures.stop_of_one_more in (
+    let range = range_is _ _ _ _ (after c) least_start-one greatest_stop-one in (
       adds_up _ _ _ _ (after c) range (duration_fits _ _ c.is_too_long.ensures c.if-is_too_long.false),
       subst (λ (v : Collected). c.in-Some-checked_add.reported ≡ v.reported + c.args.times.now.num_scopes) c.self.view_is (omega arith),
     )
 
 pub returns-clause-fits : goal.returns-clause-fits
 returns-clause-fits c =
-    let range = range_is _ _ _ _ (after c) c.joined_ranges.ensures.start_of_one_more c.joined_ranges.ensures.stop_of_one_more in
+    let range = range_is _ _ _ _ (after c) least_start-one greatest_stop-one in
     (sums_fit _ _ _ _ (after c), not_too_long _ _ _ range c.is_too_long.ensures c.if-is_too_long.false)

@@ -16,7 +16,7 @@ use Rattle.puffin_frames.specs.Frame.Contents.{shared_streams}
 use Rattle.puffin_frames.proofs.Listed.{entries-listed}
 use Rattle.puffin_frames.proofs.Structs.{legacy_reader}
 use Rattle.puffin_frames.proofs.Layouts.{stored_plainly}
-use Rattle.puffin_frames.proofs.PackedAgain.{packed_again}
+use Rattle.puffin_frames.proofs.lemmas.PackedAgain.{packed_again}
 use Rattle.puffin_frames.proofs.frame_data.reading.parsed_legacy.Goals as goal
 
 pub returns-clause-decided : goal.returns-clause-decided

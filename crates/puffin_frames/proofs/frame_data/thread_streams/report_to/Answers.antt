@@ -10,7 +10,7 @@ use Rattle.puffin_data.specs.declared.error.Error.TheVariants.{Memory}
 use Rattle.puffin_frames.proofs.Reports.{WritesAt, IsRefusedBy, reported_over, refused_over, reported_first, under_there, none_under, not_unlike, not_too_large, refused_as, not_refused}
 use Rattle.puffin_frames.specs.Frame.Contents.{shared_streams, stream_under}
 use Rattle.puffin_threads.specs.Thread.ThreadKey.{key_of}
-use Rattle.puffin_frames.proofs.LayoutsKept.{layout_over, layout_first}
+use Rattle.puffin_frames.proofs.lemmas.LayoutsKept.{layout_over, layout_first}
 use Rattle.puffin_frames.proofs.frame_data.thread_streams.report_to.Goals as goal
 
 writes : (c : goal.After-drop-info) → WritesAt c.args.streams.now.entries c.args.info c.in-Some.shared.now c.extend_shared.new.shared (c.get_mut.follows.lender c.extend_shared.new.shared).entries

@@ -8,7 +8,7 @@ use Rattle.puffin_threads.specs.Thread.ThreadKey.{thread_cmp}
 use Rattle.puffin_frames.specs.Frame.Contents.{shared_streams}
 use Rattle.puffin_frames.specs.inner.Pairs.{pairs_of}
 use Rattle.puffin_frames.proofs.Layouts.{all_laid_out}
-use Rattle.puffin_frames.proofs.PackedAgain.{read_again}
+use Rattle.puffin_frames.proofs.lemmas.PackedAgain.{read_again}
 use Rattle.puffin_frames.proofs.Sharing.{one_more}
 use Rattle.puffin_frames.proofs.frame_data.thread_streams.shared.Goals as goal
 

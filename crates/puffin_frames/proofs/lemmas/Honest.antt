@@ -11,24 +11,20 @@ use Rattle.std.specs.FinMap.Entries.{below_all}
 use Rattle.std.proofs.lemmas.Cmp.{tied_itself}
 use Rattle.std.proofs.lemmas.Int.{ints, clamps}
 use Rattle.std.proofs.lemmas.Grind.{merely, not_there}
-use Rattle.puffin_data.specs.declared.data.form.Form.{Form}
-use Rattle.puffin_data.specs.Forest.{Forest, IsForest, append}
+use Rattle.puffin_data.specs.Forest.{Forest, append}
 use Rattle.puffin_data.specs.Forest as forest
-use Rattle.puffin_data.specs.Forest.Measures as measure
 use Rattle.puffin_data.specs.Honesty.{StreamFacts, AreHonestFacts, AreUnlike, joined_facts}
 use Rattle.puffin_threads.specs.Thread.ThreadKey.{ThreadKey, key_cmp, has_same_key}
 use Rattle.puffin_frames.specs.Frame.Contents.{Streams, stream_under, reported_to, no_scopes, AreHonest}
 use Rattle.puffin_frames.specs.Frame.Sums.{total_scopes, joined_start, joined_stop, joined_range, IsOrdered}
+use Rattle.puffin_data.proofs.lemmas.Extended.{honest_joined}
+use Rattle.puffin_data.proofs.lemmas.ForestRanges as forest_range
 use Rattle.puffin_threads.proofs.lemmas.ThreadKeys.{key_cmp_total, key_cmp-one}
 use Rattle.puffin_frames.proofs.lemmas.Measured.{first, second, less, total_scopes-one}
 use Rattle.puffin_frames.proofs.lemmas.Ranges.{least_start-one, greatest_stop-one}
 
 abbrev pub IsHonestSomehow : StreamFacts → Type 0
 IsHonestSomehow r = ∥ ((f : Forest) × AreHonestFacts r f) ∥₁
-
--- the law of joined infos
-abbrev pub Joins : Type 0
-Joins = (a b : StreamFacts) (f g : Forest) → (AreUnlike a b → ⊥) → AreHonestFacts a f → AreHonestFacts b g → AreHonestFacts (joined_facts a b) (append f g)
 
 none_honest : AreHonestFacts no_scopes forest.empty
 none_honest = record {
@@ -39,18 +35,18 @@ none_honest = record {
 pub honest-none : AreHonest empty
 honest-none i r found = let none = get-empty {X = StreamFacts} key_cmp i in absurd cc
 
-joined_honest : Joins → (o : Option StreamFacts) (r : StreamFacts) (f : Forest) → (AreUnlike (unwrap_or o no_scopes) r → ⊥) → AreHonestFacts r f → ((x : StreamFacts) → o ≡ Some x → IsHonestSomehow x) → IsHonestSomehow (joined_facts (unwrap_or o no_scopes) r)
-joined_honest joins None r f like h before = merely (append forest.empty f, joins no_scopes r forest.empty f like none_honest h)
-joined_honest joins (Some x) r f like h before = ∥∥₁_map (before x refl) (λ p. (append p.0 f, joins x r p.0 f like p.1 h))
+joined_honest : (o : Option StreamFacts) (r : StreamFacts) (f : Forest) → (AreUnlike (unwrap_or o no_scopes) r → ⊥) → AreHonestFacts r f → ((x : StreamFacts) → o ≡ Some x → IsHonestSomehow x) → IsHonestSomehow (joined_facts (unwrap_or o no_scopes) r)
+joined_honest None r f like h before = merely (append forest.empty f, honest_joined no_scopes r forest.empty f like none_honest h)
+joined_honest (Some x) r f like h before = ∥∥₁_map (before x refl) (λ p. (append p.0 f, honest_joined x r p.0 f like p.1 h))
 
 at_test : (b : Bool) (j x : StreamFacts) (o : Option StreamFacts) → IsHonestSomehow j → (o ≡ Some x → IsHonestSomehow x) → cond b (Some j) o ≡ Some x → IsHonestSomehow x
 at_test true j x o h before found = let same : j ≡ x = cc in subst IsHonestSomehow same h
 at_test false j x o h before found = before found
 
-pub honest-report : Joins → (streams : Streams) (i : ThreadKey) (r : StreamFacts) (f : Forest) → (AreUnlike (stream_under streams i) r → ⊥) → AreHonest streams → AreHonestFacts r f → AreHonest (reported_to streams i r)
-honest-report joins streams i r f like honest h q x found =
+pub honest-report : (streams : Streams) (i : ThreadKey) (r : StreamFacts) (f : Forest) → (AreUnlike (stream_under streams i) r → ⊥) → AreHonest streams → AreHonestFacts r f → AreHonest (reported_to streams i r)
+honest-report streams i r f like honest h q x found =
     let more = joined_facts (unwrap_or (get streams i) no_scopes) r in
-    at_test (has_same_key q i) more x (get streams q) (joined_honest joins (get streams i) r f like h (λ y. honest i y)) (honest q x) (sym (get-insert key_cmp_total streams i more q) ∙ found)
+    at_test (has_same_key q i) more x (get streams q) (joined_honest (get streams i) r f like h (λ y. honest i y)) (honest q x) (sym (get-insert key_cmp_total streams i more q) ∙ found)
 
 -- ---- what holds at each info holds of each stream
 none_at : (x : ThreadKey) (es : List (ThreadKey × StreamFacts)) → T (below_all key_cmp x es) → find key_cmp x es ≡ None
@@ -74,35 +70,31 @@ all_from_each P (e ∷ es) sorted each = (
 )
 
 -- ---- the joined range
--- the law of a forest's range
-abbrev pub Ordered : Type 0
-Ordered = (form : Form) (f : Forest) → IsForest form f → 0 < measure.scope_count f → measure.least_start f ≤ℤ measure.greatest_stop f
-
-one_ordered : Ordered → (x : StreamFacts) → IsHonestSomehow x → 0 < x.num_scopes → ¬ (x.range_ns.1 <ℤ x.range_ns.0)
-one_ordered law x honest some reversed =
+one_ordered : (x : StreamFacts) → IsHonestSomehow x → 0 < x.num_scopes → ¬ (x.range_ns.1 <ℤ x.range_ns.0)
+one_ordered x honest some reversed =
     not_there honest (λ p.
     let h = p.1 in
-    let ordered = law x.form p.0 h.stream.fits (omega (arith, h.counts.num_scopes)) in
+    let ordered = forest_range.ordered x.form p.0 h.stream.fits (omega (arith, h.counts.num_scopes)) in
     omega (arith, ints, ordered, h.counts.least_start, h.counts.greatest_stop, reversed))
 
 not_above : (a b : ℤ) → ¬ (b <ℤ a) → a ≤ℤ b
 not_above a b h = grind (arith, ints)
 
-ordered_from : Ordered → (n : ℕ) (x : StreamFacts) (xs : List StreamFacts) → x.num_scopes ≡ n → IsHonestSomehow x → 0 < total_scopes (x ∷ xs) → (0 < total_scopes xs → joined_start xs ≤ℤ joined_stop xs) → joined_start (x ∷ xs) ≤ℤ joined_stop (x ∷ xs)
-ordered_from law zero x xs is honest some later =
+ordered_from : (n : ℕ) (x : StreamFacts) (xs : List StreamFacts) → x.num_scopes ≡ n → IsHonestSomehow x → 0 < total_scopes (x ∷ xs) → (0 < total_scopes xs → joined_start xs ≤ℤ joined_stop xs) → joined_start (x ∷ xs) ≤ℤ joined_stop (x ∷ xs)
+ordered_from zero x xs is honest some later =
     let rest = later (omega (arith, total_scopes-one x xs)) in
     omega (arith, ints, clamps, least_start-one x xs, greatest_stop-one x xs, rest)
-ordered_from law (suc n) x xs is honest some later =
-    let here : x.range_ns.0 ≤ℤ x.range_ns.1 = not_above _ _ (one_ordered law x honest (omega arith)) in
+ordered_from (suc n) x xs is honest some later =
+    let here : x.range_ns.0 ≤ℤ x.range_ns.1 = not_above _ _ (one_ordered x honest (omega arith)) in
     omega (arith, ints, clamps, least_start-one x xs, greatest_stop-one x xs, here)
 
-all_ordered : Ordered → (xs : List StreamFacts) → AllByRecursion IsHonestSomehow xs → 0 < total_scopes xs → joined_start xs ≤ℤ joined_stop xs
-all_ordered law [] all some = absurd (omega arith)
-all_ordered law (x ∷ xs) all some = ordered_from law x.num_scopes x xs refl all.0 some (all_ordered law xs all.1)
+all_ordered : (xs : List StreamFacts) → AllByRecursion IsHonestSomehow xs → 0 < total_scopes xs → joined_start xs ≤ℤ joined_stop xs
+all_ordered [] all some = absurd (omega arith)
+all_ordered (x ∷ xs) all some = ordered_from x.num_scopes x xs refl all.0 some (all_ordered xs all.1)
 
-pub ordered : Ordered → (streams : Streams) → AreHonest streams → 0 < total_scopes (values streams) → IsOrdered (joined_range (values streams))
-ordered law streams honest some =
-    all_ordered law (values streams) (all_from_each IsHonestSomehow (entries streams) (entries_sorted streams) (λ q x found. honest q x (get-entries streams q ∙ found))) some
+pub ordered : (streams : Streams) → AreHonest streams → 0 < total_scopes (values streams) → IsOrdered (joined_range (values streams))
+ordered streams honest some =
+    all_ordered (values streams) (all_from_each IsHonestSomehow (entries streams) (entries_sorted streams) (λ q x found. honest q x (get-entries streams q ∙ found))) some
 
 -- ---- no scope
 none_at_test : (b : Bool) (e : ThreadKey × StreamFacts) (r : StreamFacts) (o : Option StreamFacts) → e.1.num_scopes ≡ 0 → (o ≡ Some r → r.num_scopes ≡ 0) → cond b (Some e.1) o ≡ Some r → r.num_scopes ≡ 0
