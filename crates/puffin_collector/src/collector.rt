@@ -80,7 +80,7 @@ impl Collector {
         Collector {
             alloc,
             pending: BTreeMap::new(alloc),
-            meta: FrameMeta::of_none(frame_index),
+            meta: FrameMeta::empty(frame_index),
             reported: 0,
             emitted: 0,
             collection: ScopeCollection::new(alloc),
@@ -216,10 +216,10 @@ impl Collector {
             meta: self.meta,
             thread_streams,
         };
-        let frame = FrameData::of_unpacked(unpacked, delta, self.wants_all);
+        let frame = FrameData::from_unpacked(unpacked, delta, self.wants_all);
         match Arc::new(self.alloc, frame) {
             Ok(frame) => {
-                self.meta = FrameMeta::of_none(next);
+                self.meta = FrameMeta::empty(next);
                 self.emitted = self.reported;
                 self.new_details.clear();
                 self.wants_all = false;

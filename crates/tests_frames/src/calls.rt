@@ -21,7 +21,7 @@ fn facts(meta: FrameMeta) -> (u64, (NanoSecond, NanoSecond), (usize, usize)) {
 
 #[test]
 fn a_stream_is_joined_to_none(rt: HostRuntime) -> Outcome {
-    let none = FrameMeta::of_none(7);
+    let none = FrameMeta::empty(7);
     let empty = (NanoSecond::MAX, NanoSecond::MIN);
     equal(&rt, facts(none), (7, empty, (0, 0)));
     let info = packet_info(rt.alloc(), Form::Short)?;

@@ -142,7 +142,7 @@ fn made_again(alloc: Global) -> std::result::Result<FrameData, Fail> {
     let mut details = Vec::new(alloc);
     details.push(named(alloc, 1, "a")?)?;
     let frame = FrameData::new(alloc, 7, main_stream(alloc)?, Vec::new(alloc), true)?;
-    Ok(FrameData::of_unpacked(frame.into_unpacked(), details, false))
+    Ok(FrameData::from_unpacked(frame.into_unpacked(), details, false))
 }
 
 #[test]

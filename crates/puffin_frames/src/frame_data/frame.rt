@@ -79,11 +79,11 @@ impl FrameData {
         ensures refusal { IfErr result (λ e. RefusesFrame (all_facts thread_streams) e) }
     {
         let unpacked = UnpackedFrameData::new(alloc, frame_index, thread_streams)?;
-        Ok(FrameData::of_unpacked(unpacked, scope_delta, full_delta))
+        Ok(FrameData::from_unpacked(unpacked, scope_delta, full_delta))
     }
 
     /// Makes a frame that holds this data unpacked, with these details. Allocates nothing.
-    pub fn of_unpacked(
+    pub fn from_unpacked(
         unpacked: UnpackedFrameData,
         scope_delta: Vec<Arc<ScopeDetails>>,
         full_delta: bool,
@@ -101,7 +101,7 @@ impl FrameData {
         }
     }
 
-    /// Returns the unpacked data, and drops the details. The frame must be held as [`FrameData::of_unpacked`] makes it:
+    /// Returns the unpacked data, and drops the details. The frame must be held as [`FrameData::from_unpacked`] makes it:
     /// unpacked only, with data that [`FrameData::unpacked`] hasn't shared. Allocates nothing.
     pub fn into_unpacked(self) -> UnpackedFrameData
         requires { IsTrue (is_alone self) }

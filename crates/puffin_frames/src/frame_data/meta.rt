@@ -28,7 +28,7 @@ pub struct FrameMeta {
 
 impl FrameMeta {
     /// Makes the meta of an empty frame: all counts are 0, and the range is `(i64::MAX, i64::MIN)`.
-    pub fn of_none(frame_index: FrameIndex) -> FrameMeta
+    pub fn empty(frame_index: FrameIndex) -> FrameMeta
         ensures { result ≡ meta_of frame_index [] }
     {
         FrameMeta {
@@ -68,7 +68,7 @@ impl FrameMeta {
     }
 
     /// Makes the meta of a frame with these streams. Allocates nothing. Fails with `TooLarge` if a sum doesn't fit `usize`.
-    pub(crate) fn of_streams(
+    pub(crate) fn from_streams(
         frame_index: FrameIndex,
         streams: &BTreeMap<ThreadInfo, StreamInfo>,
     ) -> Result<FrameMeta>
@@ -78,7 +78,7 @@ impl FrameMeta {
         ensures err { IfErr result (λ e.
             (e ≡ Error.TooLarge) × ¬ TotalsFit (all_facts streams.now)) }
     {
-        let mut meta = FrameMeta::of_none(frame_index);
+        let mut meta = FrameMeta::empty(frame_index);
         for info in streams.values() {
             let Some(more) = meta.joined(&info.as_stream_into_ref()) else {
                 return Err(Error::TooLarge);

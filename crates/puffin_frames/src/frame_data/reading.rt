@@ -201,7 +201,7 @@ fn parsed_legacy(alloc: Global, bytes: &[u8]) -> Result<FrameData, FileError>
         meta,
         thread_streams,
     };
-    Ok(FrameData::of_unpacked(unpacked, Vec::new(alloc), false))
+    Ok(FrameData::from_unpacked(unpacked, Vec::new(alloc), false))
 }
 
 /// Reads a legacy frame of `len` bytes.

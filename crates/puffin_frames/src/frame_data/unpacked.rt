@@ -56,7 +56,7 @@ impl UnpackedFrameData {
         ensures makes { OnOk result (MakeFrame (all_facts thread_streams)) }
         ensures refusal { IfErr result (λ e. RefusesFrame (all_facts thread_streams) e) }
     {
-        let meta = FrameMeta::of_streams(frame_index, &thread_streams)?;
+        let meta = FrameMeta::from_streams(frame_index, &thread_streams)?;
         let (start, stop) = meta.range_ns;
         if stop < start {
             return Err(Error::Empty);

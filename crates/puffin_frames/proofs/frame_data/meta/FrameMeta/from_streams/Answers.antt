@@ -3,7 +3,7 @@ use Rattle.std.proofs.Common.{refl, map, ap}
 use Rattle.puffin_data.specs.Honesty.{facts_of}
 use Rattle.std.proofs.lemmas.Map.Iter.{rest_more, rest_all}
 use Rattle.puffin_frames.proofs.Joining.{too_large, totals_fit, at_next}
-use Rattle.puffin_frames.proofs.frame_data.meta.FrameMeta.of_streams.Goals as goal
+use Rattle.puffin_frames.proofs.frame_data.meta.FrameMeta.from_streams.Goals as goal
 
 pub returns-in_default-clause-err : goal.returns-in_default-clause-err
 returns-in_default-clause-err c =
