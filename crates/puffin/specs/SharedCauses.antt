@@ -1,8 +1,9 @@
 -- The errors that a shared profiler's calls may return. The profiler's state isn't mentioned, because a caller can't see it.
 use Rattle.std.specs.Prelude.{◌≡◌, List, ◌⊎◌}
 use Rattle.puffin_data.specs.declared.error.Error.{Error}
-use Rattle.puffin_data.specs.declared.error.Error.TheVariants.{IdsExhausted, IndexExhausted, MissingId, UnlikeForms, TooLarge, RangeTooLong, Memory}
+use Rattle.puffin_data.specs.declared.error.Error.TheVariants.{IndexExhausted, MissingId, UnlikeForms, TooLarge, RangeTooLong, Memory}
 use Rattle.puffin_threads.specs.Details.{Details, AllHaveIds}
+pub use Rattle.puffin_threads.specs.Details.{IsAddingCause}
 
 -- the errors of a report with no details
 abbrev pub IsScopesCause : Error → Type 0
@@ -16,7 +17,3 @@ IsReportCause ds e =
 -- the errors of taking a frame
 abbrev pub IsFrameCause : Error → Type 0
 IsFrameCause e = (e ≡ IndexExhausted) ⊎ (e ≡ Memory)
-
--- the errors of registering the caller's own scopes
-abbrev pub IsAddingCause : Error → Type 0
-IsAddingCause e = (e ≡ IdsExhausted) ⊎ (e ≡ Memory)

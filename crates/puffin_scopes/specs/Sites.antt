@@ -6,6 +6,10 @@ use Rattle.puffin_scopes.specs.Names.Files.{short_file}
 use Rattle.puffin_scopes.specs.Names.Functions.{clean}
 use Rattle.puffin_scopes.specs.declared.site.Site.{Site}
 
+-- where a site stands: its file and its line
+abbrev pub site_place : Site → List ℕ × ℕ
+site_place site = (site.file.now, site.line)
+
 -- the details of a function with this name: short names, and no id yet
 abbrev pub function_details : Site → List ℕ → Details
 function_details site function = record default_details {

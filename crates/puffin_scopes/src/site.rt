@@ -36,17 +36,18 @@ pub struct Site {
 }
 
 impl Site {
-    ghost use Rattle.std.specs.Prelude.{◌≡◌, ◌⊎◌, ℕ, OnOk, OnErr, IfOk, IfErr};
+    ghost use Rattle.std.specs.Prelude.{◌≡◌, ℕ, OnOk, OnErr, IfOk, IfErr};
     ghost use Rattle.std.specs.Cow.{cow_str_bytes};
     ghost use Rattle.puffin_data.specs.declared.error.Error.{Error};
     ghost use Rattle.puffin_threads.specs.Thread.ThreadProfiler.{thread_of, clock_of};
     ghost use Rattle.puffin_scopes.specs.Names.Files.{short_file};
     ghost use Rattle.puffin_scopes.specs.Names.Functions.{clean};
-    ghost use Rattle.puffin_scopes.specs.Sites.{IsKnownOrNew, function_details, named_details};
+    ghost use Rattle.puffin_threads.specs.Details.{IsAddingCause};
+    ghost use Rattle.puffin_scopes.specs.Sites.{IsKnownOrNew, function_details, named_details, site_place};
 
     /// Makes a place that has no id yet. `file` is the path of a source file or of a module. Pass 0 if the line is unknown.
     pub fn new(file: &'static str, line: u32) -> Site
-        ensures { (result.file.now ≡ file.now) × (result.line ≡ line) }
+        ensures { site_place result ≡ (file.now, line) }
     {
         Site {
             file,
@@ -78,7 +79,7 @@ impl Site {
             (thread_of profiler.old) (thread_of profiler.new)) }
         ensures clock { clock_of profiler.new ≡ clock_of profiler.old }
         ensures unchanged { OnErr result (profiler.new ≡ profiler.old) }
-        ensures cause { IfErr result (λ e. (e ≡ Error.IdsExhausted) ⊎ (e ≡ Error.Memory)) }
+        ensures cause { IfErr result IsAddingCause }
     {
         if let Some(id) = self.id() {
             return Ok(id);
@@ -103,7 +104,7 @@ impl Site {
             (thread_of profiler.old) (thread_of profiler.new)) }
         ensures clock { clock_of profiler.new ≡ clock_of profiler.old }
         ensures unchanged { OnErr result (profiler.new ≡ profiler.old) }
-        ensures cause { IfErr result (λ e. (e ≡ Error.IdsExhausted) ⊎ (e ≡ Error.Memory)) }
+        ensures cause { IfErr result IsAddingCause }
     {
         if let Some(id) = self.id() {
             return Ok(id);

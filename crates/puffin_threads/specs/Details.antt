@@ -1,7 +1,7 @@
 -- What contracts see of scope details, and their order.
 pub mod Collection
 pub mod Kind
-use Rattle.std.specs.Prelude.{ℕ, Bool, List, Option, Some, None, ◌++◌, ◌∷◌, [], map, refl, is_some, is_none, IsSome, All, decimal, if◌then◌else◌, ◌==◌}
+use Rattle.std.specs.Prelude.{◌≡◌, ◌⊎◌, ℕ, Bool, List, Option, Some, None, ◌++◌, ◌∷◌, [], map, refl, is_some, is_none, IsSome, All, decimal, if◌then◌else◌, ◌==◌}
 use Rattle.std.specs.declared.cmp.Ordering.{Ordering}
 use Rattle.std.specs.declared.sync.Arc.{Arc}
 use Rattle.std.specs.Ordering.{nat_cmp, on, then_cmp, eq_by_cmp}
@@ -10,6 +10,8 @@ use Rattle.std.specs.Coded.{Coded, code_by, coded×, coded_option, coded_list, c
 use Rattle.std.specs.Cow.{cow_str_bytes}
 use Rattle.std.specs.Option.{option_cmp, option_map, unwrap_or}
 use Rattle.std.specs.Cmp.Lexicographic.{slice_cmp}
+use Rattle.puffin_data.specs.declared.error.Error.{Error}
+use Rattle.puffin_data.specs.declared.error.Error.TheVariants.{IdsExhausted, Memory}
 use Rattle.puffin_threads.specs.declared.scope_details.details.ScopeDetails.{ScopeDetails}
 use Rattle.puffin_threads.specs.declared.scope_details.scope_type.ScopeType.{ScopeType}
 use Rattle.puffin_threads.specs.declared.scope_details.scope_type.ScopeType.TheVariants.{Function, Named}
@@ -93,3 +95,7 @@ details_cmp = then_cmp (on (λ d. d.id) (option_cmp nat_cmp)) texts_cmp
 
 abbrev pub same_details : Details → Details → Bool
 same_details = eq_by_cmp details_cmp
+
+-- the errors of registering scopes under new ids
+abbrev pub IsAddingCause : Error → Type 0
+IsAddingCause e = (e ≡ IdsExhausted) ⊎ (e ≡ Memory)
