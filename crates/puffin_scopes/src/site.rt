@@ -36,7 +36,7 @@ pub struct Site {
 }
 
 impl Site {
-    ghost use Rattle.std.specs.Prelude.{◌≡◌, ℕ, OnOk, OnErr, IfOk, IfErr};
+    ghost use Rattle.std.specs.Prelude.{◌≡◌, ℕ, OnOk, OnErr, IfOk, IfErr, IsOkUnless};
     ghost use Rattle.std.specs.Cow.{cow_str_bytes};
     ghost use Rattle.puffin_data.specs.declared.error.Error.{Error};
     ghost use Rattle.puffin_threads.specs.Thread.ThreadProfiler.{thread_of, clock_of};

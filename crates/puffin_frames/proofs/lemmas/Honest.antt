@@ -32,8 +32,8 @@ none_honest = record {
   counts = record { num_scopes = refl; depth = refl; least_start = refl; greatest_stop = refl };
 }
 
-pub honest-none : AreHonest empty
-honest-none i r found = let none = get-empty {X = StreamFacts} key_cmp i in absurd cc
+pub none_is_honest : AreHonest empty
+none_is_honest i r found = let none = get-empty {X = StreamFacts} key_cmp i in absurd cc
 
 joined_honest : (o : Option StreamFacts) (r : StreamFacts) (f : Forest) → (AreUnlike (unwrap_or o no_scopes) r → ⊥) → AreHonestFacts r f → ((x : StreamFacts) → o ≡ Some x → IsHonestSomehow x) → IsHonestSomehow (joined_facts (unwrap_or o no_scopes) r)
 joined_honest None r f like h before = merely (append forest.empty f, honest_joined no_scopes r forest.empty f like none_honest h)

@@ -5,7 +5,7 @@ use Rattle.std.specs.declared.cmp.Ordering.TheVariants.{Less, Equal, Greater}
 use Rattle.std.specs.Ordering.{is_eq, is_lt}
 use Rattle.std.specs.Option.{unwrap_or}
 use Rattle.std.specs.Int.{int_min, int_max}
-use Rattle.std.specs.FinMap.{get, entries, values, find, put, is_sorted, entries_sorted, entries-insert, get-entries}
+use Rattle.std.specs.FinMap.{get, empty, entries, values, find, put, is_sorted, entries_sorted, entries-insert, get-entries}
 use Rattle.std.specs.FinMap.Entries.{by_order, below_all}
 use Rattle.std.proofs.lemmas.Int.{ints, clamps}
 use Rattle.std.proofs.lemmas.List.{length-append}
@@ -14,6 +14,7 @@ use Rattle.puffin_threads.specs.Thread.ThreadKey.{ThreadKey, key_cmp}
 use Rattle.puffin_frames.specs.Frame.Contents.{Streams, stream_under, reported_to, no_scopes}
 use Rattle.puffin_frames.specs.Frame.Sums.{total_bytes, total_scopes, joined_start, joined_stop}
 use Rattle.puffin_threads.proofs.lemmas.ThreadKeys.{key_cmp_total}
+use Rattle.puffin_threads.proofs.lemmas.EntriesSeen.{entries-empty}
 use Rattle.puffin_frames.proofs.Joining.{bytes_from, scopes_from}
 use Rattle.puffin_frames.proofs.lemmas.Ranges.{least_start-one, greatest_stop-one, least_in_range, greatest_in_range}
 
@@ -143,3 +144,7 @@ pub under_one : (streams : Streams) (i : ThreadKey) → (stream_under streams i)
 under_one streams i =
     let least = found_least i (entries streams) in
     omega (arith, ap (λ o. (unwrap_or o no_scopes).num_scopes) (get-entries streams i), least)
+
+-- the streams of no thread
+pub no_values : values (empty {X = StreamFacts} {R = key_cmp}) ≡ []
+no_values = ap (map (λ e. e.1)) (entries-empty key_cmp)

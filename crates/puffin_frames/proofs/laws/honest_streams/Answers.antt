@@ -1,8 +1,8 @@
-use Rattle.puffin_frames.proofs.lemmas.Honest.{honest-none, honest-report, ordered, no_scopes_there}
+use Rattle.puffin_frames.proofs.lemmas.Honest.{none_is_honest, honest-report, ordered, no_scopes_there}
 use Rattle.puffin_frames.proofs.laws.honest_streams.Goals as goal
 
 pub returns-clause-none : goal.returns-clause-none
-returns-clause-none c = honest-none
+returns-clause-none c = none_is_honest
 
 pub returns-clause-report : goal.returns-clause-report
 returns-clause-report c = honest-report

@@ -1,7 +1,4 @@
-use Rattle.puffin_threads.specs.Thread.ThreadKey.{key_cmp}
-use Rattle.puffin_threads.proofs.lemmas.EntriesSeen.{entries-empty}
-use Rattle.std.proofs.Common.{ap, map}
-use Rattle.puffin_frames.proofs.lemmas.Measured.{after_report, bytes_measure, scopes_measure, starts_measure, stops_measure, under_one}
+use Rattle.puffin_frames.proofs.lemmas.Measured.{after_report, bytes_measure, scopes_measure, starts_measure, stops_measure, under_one, no_values}
 use Rattle.puffin_frames.proofs.laws.reported_streams.Goals as goal
 
 pub returns-clause-bytes : goal.returns-clause-bytes
@@ -17,7 +14,7 @@ pub returns-clause-stop : goal.returns-clause-stop
 returns-clause-stop c = after_report stops_measure
 
 pub returns-clause-none : goal.returns-clause-none
-returns-clause-none c = ap (map (λ e. e.1)) (entries-empty key_cmp)
+returns-clause-none c = no_values
 
 pub returns-clause-under_one : goal.returns-clause-under_one
 returns-clause-under_one c = under_one
