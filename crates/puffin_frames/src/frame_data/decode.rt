@@ -167,7 +167,7 @@ fn read_stream(
     Ok((thread, info))
 }
 
-fn read_streams_times(
+fn read_counted_streams(
     alloc: Global,
     cursor: &mut Cursor,
     packed: Form,
@@ -196,7 +196,7 @@ fn read_streams(alloc: Global, cursor: &mut Cursor, packed: Form) -> Result<Thre
     ensures sorted { IfOk result (λ m. is_sorted key_cmp (pairs_of m.entries) ≡ true) }
 {
     let count = cursor.u64().ok_or(Stop::NoLayout)?;
-    let streams = read_streams_times(alloc, cursor, packed, count)?;
+    let streams = read_counted_streams(alloc, cursor, packed, count)?;
     match packed {
         Form::Short => Ok(streams),
         Form::Long => match packed_form(&streams) {
@@ -265,7 +265,7 @@ fn read_detail(alloc: Global, cursor: &mut Cursor) -> Result<ScopeDetails, Stop>
     })
 }
 
-fn read_details_times(
+fn read_counted_details(
     alloc: Global,
     cursor: &mut Cursor,
     count: u64,
@@ -286,7 +286,7 @@ fn read_details(alloc: Global, cursor: &mut Cursor) -> Result<Vec<Arc<ScopeDetai
     ensures { TriesToGive (λ v. shared_details v.items) result cursor.new (details_at cursor.old) }
 {
     let count = cursor.u64().ok_or(Stop::NoLayout)?;
-    read_details_times(alloc, cursor, count)
+    read_counted_details(alloc, cursor, count)
 }
 
 /// Skips an optional text. Like everything that skips here, allocates nothing.

@@ -8,7 +8,7 @@ use Rattle.puffin_threads.specs.Thread.ThreadKey.{key_of, key_cmp}
 use Rattle.puffin_frames.specs.Packet.Structs.{stream_at}
 use Rattle.puffin_frames.specs.inner.Pairs.{pairs_of}
 use Rattle.puffin_frames.proofs.Listed.{insert-last, listed-push}
-use Rattle.puffin_frames.proofs.frame_data.decode.read_streams_times.Goals as goal
+use Rattle.puffin_frames.proofs.frame_data.decode.read_counted_streams.Goals as goal
 
 pub streams-preserved : goal.streams-preserved
 streams-preserved c =

@@ -5,7 +5,7 @@ use Rattle.puffin_data.proofs.lemmas.Loops.{with_front}
 use Rattle.puffin_frames.specs.Packet.Structs.{stream_at}
 use Rattle.puffin_threads.specs.Thread.ThreadKey.{key_cmp}
 use Rattle.puffin_frames.specs.inner.Pairs.{pairs_of}
-use Rattle.puffin_frames.proofs.frame_data.decode.read_streams_times.Given as goal
+use Rattle.puffin_frames.proofs.frame_data.decode.read_counted_streams.Given as goal
 
 abbrev pub invariant-streams : goal.invariant-streams
 invariant-streams l = record {

@@ -4,7 +4,7 @@ use Rattle.puffin_data.specs.Value.Decoding.{times_at}
 use Rattle.puffin_data.proofs.lemmas.Loops.{one_more}
 use Rattle.puffin_frames.specs.Packet.Structs.{detail_at}
 use Rattle.puffin_threads.specs.Details.{Details, details_of, shared_details}
-use Rattle.puffin_frames.proofs.frame_data.decode.read_details_times.Goals as goal
+use Rattle.puffin_frames.proofs.frame_data.decode.read_counted_details.Goals as goal
 
 pub details-preserved : goal.details-preserved
 details-preserved c =
