@@ -5,7 +5,7 @@
 Clauses have at most 100 columns; crates cite of those below them no proofs but `lemmas`; each wrong body can be applied
 and stands in docs/PROOFS.md, in italics where it is one of the long run, and the gate tries at most twelve of a crate; what
 the rows there cite is there, and leads to the functions that their wrong bodies change; each spec file begins with a line
-that says what it defines, and docs/ARCHITECTURE.md has these lines as they are; links in the documents lead somewhere. The
+that says what it defines, and docs/SPECS.md has these lines as they are; links in the documents lead somewhere. The
 last line is 'N passed, M failed'.
 """
 
@@ -130,7 +130,7 @@ def spec_files_without_a_summary():
 
 def spec_files_that_are_not_listed():
     if not spec_files.is_current():
-        yield "docs/ARCHITECTURE.md: its tables of spec files are old; run: python3 -m tests.house.spec_files --write"
+        yield "docs/SPECS.md: its tables of spec files are old; run: python3 -m tests.house.spec_files --write"
 
 
 def crates_that_are_not_drawn():

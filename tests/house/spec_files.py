@@ -1,7 +1,7 @@
-"""Prints the tables of docs/ARCHITECTURE.md that list the spec files, made from the first line of each file.
+"""Prints the tables of docs/SPECS.md that list the spec files, made from the first line of each file.
 
     python3 -m tests.house.spec_files            prints the tables
-    python3 -m tests.house.spec_files --write    writes them into docs/ARCHITECTURE.md, between the two markers
+    python3 -m tests.house.spec_files --write    writes them into docs/SPECS.md, between the two markers
 
 The first line of a spec file is a comment that says what the file defines. Left out are `Lib.antt`, which only lists a
 crate's folders, and files that define nothing themselves, as the pages of some folders.
@@ -13,7 +13,7 @@ import sys
 from .. import common
 
 TOP = common.ROOT
-PAGE = TOP / "docs/ARCHITECTURE.md"
+PAGE = TOP / "docs/SPECS.md"
 BEGIN = "<!-- made by tests/house/spec_files.py --write -->"
 END = "<!-- the end of what spec_files.py made -->"
 DEFINITION = re.compile(r"^ *(?:abbrev |unfoldable )?pub (?!mod |use )", re.M)

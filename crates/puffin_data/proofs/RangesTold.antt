@@ -1,16 +1,15 @@
 -- What a walk's caller is told, from how the walk went.
-use Rattle.std.proofs.Common.{◌≡◌, ℕ, ◌-◌, ◌<◌, ◌≤◌, ◌^◌, List, [], length, drop, get_or, sym, ap, subst, ◌∙◌, arith, Result, Ok, Err, ◌⊎◌, inl, inr, cond, eqb, ℤ, ◌≤ℤ◌, pos, negsuc}
+use Rattle.std.proofs.Common.{◌≡◌, ℕ, ◌-◌, ◌<◌, ◌≤◌, ◌^◌, List, [], length, drop, get_or, sym, ap, subst, ◌∙◌, arith, Result, Ok, Err, ◌⊎◌, inl, inr, cond, eqb}
 use Rattle.std.specs.Prelude.{MatchResult, IfOk, IfErr}
-use Rattle.std.specs.Int.{int_min, int_max}
-use Rattle.std.proofs.lemmas.Int.{ints, clamps}
+use Rattle.std.proofs.lemmas.Int.{ints}
 use Rattle.std.proofs.lemmas.Bool.{cases_lt}
 use Rattle.std.proofs.lemmas.List.{get_or-take, get_or-drop}
 use Rattle.puffin_data.specs.declared.data.form.Form.{Form}
 use Rattle.puffin_data.specs.declared.error.Error.{Error}
 use Rattle.puffin_data.specs.declared.error.Error.TheVariants.{Memory}
 use Rattle.puffin_data.specs.declared.data.walk.Walk.{Walk}
-use Rattle.puffin_data.specs.Forest.{Forest, empty, node, IsForest}
-use Rattle.puffin_data.specs.Forest.Measures.{scope_count, least_start, greatest_stop}
+use Rattle.puffin_data.specs.Forest.{Forest}
+use Rattle.puffin_data.specs.Forest.Measures.{least_start, greatest_stop}
 use Rattle.puffin_data.specs.Walk.{region, IsFaultAt, Refuses}
 use Rattle.puffin_data.specs.inner.Walking.{tries_in, no_scope_counted, Walked, Stopped}
 use Rattle.puffin_data.specs.Forest.Spelling.{Spells}

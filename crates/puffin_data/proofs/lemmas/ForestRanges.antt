@@ -1,5 +1,5 @@
 -- The range of a forest: its times are numbers of 64 bits, and it isn't reversed.
-use Rattle.std.proofs.Common.{◌≡◌, ℕ, ◌-◌, ◌<◌, ◌^◌, arith, ℤ, ◌≤ℤ◌, pos, negsuc}
+use Rattle.std.proofs.Common.{◌≡◌, ◌-◌, ◌<◌, ◌^◌, arith, ℤ, ◌≤ℤ◌, pos, negsuc}
 use Rattle.std.specs.Int.{int_min, int_max}
 use Rattle.std.proofs.lemmas.Int.{ints, clamps}
 use Rattle.puffin_data.specs.declared.data.form.Form.{Form}
