@@ -2,7 +2,6 @@
 use Rattle.std.specs.Prelude.{◌≡◌, Result, Ok, Err}
 use Rattle.puffin_data.specs.declared.file_error.FileError.{FileError}
 use Rattle.puffin_data.specs.declared.file_error.FileError.TheVariants as file
-use Rattle.puffin_frames.specs.declared.frame_data.decode.Stop.TheVariants as stops
 
 -- a call has this result, seen by view, unless memory ran out
 abbrev pub DecidedInMemory : {X A : Type 0} → (X → A) → Result X FileError → Result A FileError →

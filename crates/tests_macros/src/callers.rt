@@ -2,7 +2,7 @@
 
 ghost use Rattle.std.specs.Prelude.{◌≡◌, Ok, None, IsTrue, IfOk, IfSome};
 ghost use Rattle.puffin_threads.specs.Thread.ThreadProfiler.{thread_of};
-ghost use Rattle.tests_scopes.specs.Callers.{IsOneScope, IsEndedScope};
+ghost use Rattle.tests_macros.specs.Callers.{IsOneScope, IsEndedScope};
 
 use crate::equal::equal;
 use crate::program::{Outcome, main_thread};
