@@ -74,11 +74,7 @@ impl Model for Collector {
 
 impl Collector {
     /// Makes a collector without scopes, whose frame index starts at this number.
-    #[tactic(auto, using(
-        puffin_frames::proofs::lemmas::Measured::no_values,
-        puffin_frames::proofs::lemmas::Honest::none_is_honest,
-        puffin_frames::proofs::lemmas::LayoutsKept::none_laid_out,
-    ))]
+    #[tactic(auto, using(puffin_frames::proofs::lemmas::Measured::no_values, puffin_frames::proofs::lemmas::Honest::none_is_honest, puffin_frames::proofs::lemmas::LayoutsKept::none_laid_out,))]
     pub fn new(alloc: Global, frame_index: FrameIndex) -> Collector
         ensures { result ≡ nothing_collected frame_index }
     {
@@ -173,9 +169,7 @@ impl Collector {
     ///
     /// Fails with `IndexExhausted` if the index can't rise, even if no scope is pending; nothing changes then. Otherwise fails
     /// only with `Memory`; nothing changes then, except that the first few of the new details, or all of them, may be known.
-    #[tactic(auto, using(
-        puffin_frames::proofs::lemmas::Honest::no_scopes_there,
-    ))]
+    #[tactic(auto, using(puffin_frames::proofs::lemmas::Honest::no_scopes_there,))]
     pub fn collect_frame(&mut self) -> Result<Option<Arc<FrameData>>>
         ensures ok { IfOk result (λ frame. Collects self.old frame self.new) }
         // All details that a frame lists have ids.
@@ -207,13 +201,7 @@ impl Collector {
 
     /// Moves all that is pending into a frame that lists these details. At least one scope must be pending. The next frame then
     /// has the index `next`, no new details, and no request for a snapshot. Fails only with `Memory`; nothing changes then.
-    #[tactic(auto, using(
-        puffin_frames::proofs::lemmas::Measured::no_values,
-        puffin_frames::proofs::lemmas::Honest::none_is_honest,
-        puffin_frames::proofs::lemmas::Honest::ordered,
-        puffin_frames::proofs::lemmas::LayoutsKept::none_laid_out,
-        puffin_frames::proofs::lemmas::PackedAgain::read_again,
-    ))]
+    #[tactic(auto, using(puffin_frames::proofs::lemmas::Measured::no_values, puffin_frames::proofs::lemmas::Honest::none_is_honest, puffin_frames::proofs::lemmas::Honest::ordered, puffin_frames::proofs::lemmas::LayoutsKept::none_laid_out, puffin_frames::proofs::lemmas::PackedAgain::read_again,))]
     fn hand_out(
         &mut self,
         next: FrameIndex,

@@ -1,5 +1,5 @@
 -- How a guard begins: with a scope, or without one.
-use Rattle.std.specs.Prelude.{ℕ, ◌+◌, ◌≡◌, ℤ, pos, ◌≤ℤ◌, List, length, Option, Some, None}
+use Rattle.std.specs.Prelude.{ℕ, ◌+◌, ◌≡◌, ℤ, pos, ◌≤ℤ◌, List, Option, Some, None}
 use Rattle.puffin_data.specs.Forest.Spelling.{size_offset}
 use Rattle.puffin_data.specs.declared.error.Error.{Error}
 use Rattle.puffin_data.specs.Text.{cut_text}
