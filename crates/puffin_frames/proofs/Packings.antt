@@ -116,8 +116,8 @@ layout_of : (h : Held) (streams : Streams) → unpacked_from (held_as h) ≡ Ok 
 layout_of (Own u) streams e = tt
 layout_of (Shared u) streams e = tt
 layout_of (Packed p) streams e =
-    let o : Option Streams = option_map from_sorted (whole (streams_at p.streams.form) p.streams.bytes.items) in
-    streams_taken (packed_as p.streams) streams p.streams.are_bytes (unpacked_so (is_uncompressed p.streams.kind) (to_byte p.streams.kind) o streams e)
+    let o : Option Streams = option_map from_sorted (whole (streams_at p.form) p.bytes.items) in
+    streams_taken (packed_as p) streams p.are_bytes (unpacked_so (is_uncompressed p.kind) (to_byte p.kind) o streams e)
 layout_of (Both b) streams e =
     streams_taken (packed_as b.packed) streams b.packed.are_bytes (b.same ∙ ap Some (same_ok _ streams e))
 
@@ -129,8 +129,8 @@ bad_of : (h : Held) → unpacked_from (held_as h) ≡ Err file.BadStreams → If
 bad_of (Own u) e = tt
 bad_of (Shared u) e = tt
 bad_of (Packed p) e = λ streams held.
-    let o : Option Streams = option_map from_sorted (whole (streams_at p.streams.form) p.streams.bytes.items) in
-    bad_so (is_uncompressed p.streams.kind) (to_byte p.streams.kind) o streams e (streams_given (packed_as p.streams) streams held)
+    let o : Option Streams = option_map from_sorted (whole (streams_at p.form) p.bytes.items) in
+    bad_so (is_uncompressed p.kind) (to_byte p.kind) o streams e (streams_given (packed_as p) streams held)
 bad_of (Both b) e = absurd cc
 
 pub unpacked_no_layout : {X : Type 0} (view : X → Streams) (h : Held) (r : Result X FileError) → DecidedInMemory view r (unpacked_from (held_as h)) → r ≡ Err file.BadStreams → IfSome (held_as h).packed (λ p. (streams : Streams) → HoldsStreams p streams → ⊥)

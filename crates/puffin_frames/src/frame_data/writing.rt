@@ -200,12 +200,8 @@ impl FrameData {
         match &self.held {
             Held::Own(frame) => write_unpacked(alloc, frame, &details, drain),
             Held::Shared(frame) => write_unpacked(alloc, frame, &details, drain),
-            Held::Packed(frame) => {
-                write_packed(alloc, &frame.meta, &frame.streams, &details, drain)
-            }
-            Held::Both(frame) => {
-                write_packed(alloc, &frame.unpacked.meta, &frame.packed, &details, drain)
-            }
+            Held::Packed(packed) => write_packed(alloc, &self.meta, packed, &details, drain),
+            Held::Both(both) => write_packed(alloc, &self.meta, &both.packed, &details, drain),
         }
     }
 }
