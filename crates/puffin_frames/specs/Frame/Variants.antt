@@ -1,6 +1,6 @@
 -- What a frame holds in each of the ways to hold one.
 use Rattle.std.specs.Prelude.{◌≡◌, Bool, true, false, Option, Some, None, IfSome}
-use Rattle.std.specs.Coded.{Coded-set, Unit-prop}
+use Rattle.std.specs.Coded.{Unit-prop}
 use Rattle.std.specs.Arc.{arc_value}
 use Rattle.std.proofs.Props.{props}
 use Rattle.puffin_frames.specs.declared.frame_data.held.PackedStreams.{PackedStreams}
