@@ -13,7 +13,11 @@ use Rattle.puffin_data.specs.Value.Decoding.{whole}
 use Rattle.puffin_data.proofs.lemmas.Readers.{whole_taken}
 use Rattle.puffin_frames.specs.declared.frame_data.held.Held.{Held}
 use Rattle.puffin_frames.specs.declared.frame_data.held.Held.TheVariants.{Own, Shared, Packed, Both}
+use Rattle.std.proofs.Props.{props}
+use Rattle.puffin_frames.specs.declared.frame_data.frame.FrameData.{FrameData}
+use Rattle.puffin_frames.specs.Frame.Sums.{IsOrdered, DurationFits}
 use Rattle.puffin_frames.specs.Frame.Contents.{packed_as, held_as, fields_from}
+use Rattle.puffin_frames.specs.Frame.Variants.{HasMeta, HasMeta-prop}
 use Rattle.puffin_frames.specs.declared.frame_data.kind.Kind.{Kind}
 use Rattle.puffin_frames.specs.declared.frame_data.kind.Kind.TheVariants.{Uncompressed, Lz4, Zstd}
 use Rattle.puffin_frames.specs.declared.frame_data.meta.FrameMeta.{FrameMeta}
@@ -33,6 +37,15 @@ use Rattle.puffin_frames.proofs.FormsOfAll.{sorted_in, form_stored}
 -- what a frame says goes by its meta and its packing
 pub fields_same : (m n : FrameMeta) (p q : Packing) (ds : List Details) → m ≡ n → p ≡ q → fields_from m p ds ≡ fields_from n q ds
 fields_same m n p q ds metas packings = ap (λ x. fields_from x p ds) metas ∙ ap (λ x. fields_from n x ds) packings
+
+-- a frame whose way to be held is replaced by an equal one is the same frame
+pub with_held : (frame : FrameData) (h : Held) (ordered : IsOrdered frame.meta.range_ns) (fits : DurationFits frame.meta.range_ns) (same : HasMeta h frame.meta) → frame.held ≡ h → record frame { held = h; ordered = ordered; duration_fits = fits; same_meta = same } ≡ frame
+with_held frame h ordered fits same e =
+    let one : IsProp (DurationFits frame.meta.range_ns) = Prim.hlevel props in
+    let first : IsProp (IsOrdered frame.meta.range_ns) = Prim.hlevel props in
+    subst (λ (x : Held). (s : HasMeta x frame.meta) → record frame { held = x; ordered = ordered; duration_fits = fits; same_meta = s } ≡ frame) e
+    (λ s. λ i. record frame { ordered = first ordered frame.ordered i; duration_fits = one fits frame.duration_fits i; same_meta = HasMeta-prop frame.held frame.meta s frame.same_meta i })
+    same
 
 packing-keeps : (p : Option Packing) (u : Option Streams) → Agree p u → streams_in (packing p u) ≡ either_content p u
 packing-keeps None None h = absurd h
@@ -116,8 +129,8 @@ layout_of : (h : Held) (streams : Streams) → unpacked_from (held_as h) ≡ Ok 
 layout_of (Own u) streams e = tt
 layout_of (Shared u) streams e = tt
 layout_of (Packed p) streams e =
-    let o : Option Streams = option_map from_sorted (whole (streams_at p.streams.form) p.streams.bytes.items) in
-    streams_taken (packed_as p.streams) streams p.streams.are_bytes (unpacked_so (is_uncompressed p.streams.kind) (to_byte p.streams.kind) o streams e)
+    let o : Option Streams = option_map from_sorted (whole (streams_at p.form) p.bytes.items) in
+    streams_taken (packed_as p) streams p.are_bytes (unpacked_so (is_uncompressed p.kind) (to_byte p.kind) o streams e)
 layout_of (Both b) streams e =
     streams_taken (packed_as b.packed) streams b.packed.are_bytes (b.same ∙ ap Some (same_ok _ streams e))
 
@@ -129,8 +142,8 @@ bad_of : (h : Held) → unpacked_from (held_as h) ≡ Err file.BadStreams → If
 bad_of (Own u) e = tt
 bad_of (Shared u) e = tt
 bad_of (Packed p) e = λ streams held.
-    let o : Option Streams = option_map from_sorted (whole (streams_at p.streams.form) p.streams.bytes.items) in
-    bad_so (is_uncompressed p.streams.kind) (to_byte p.streams.kind) o streams e (streams_given (packed_as p.streams) streams held)
+    let o : Option Streams = option_map from_sorted (whole (streams_at p.form) p.bytes.items) in
+    bad_so (is_uncompressed p.kind) (to_byte p.kind) o streams e (streams_given (packed_as p) streams held)
 bad_of (Both b) e = absurd cc
 
 pub unpacked_no_layout : {X : Type 0} (view : X → Streams) (h : Held) (r : Result X FileError) → DecidedInMemory view r (unpacked_from (held_as h)) → r ≡ Err file.BadStreams → IfSome (held_as h).packed (λ p. (streams : Streams) → HoldsStreams p streams → ⊥)

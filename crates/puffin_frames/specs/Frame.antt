@@ -3,4 +3,5 @@ pub mod Streams
 pub mod Sums
 pub mod Holding
 pub mod Unpacked
+pub mod Variants
 pub mod Contents

@@ -17,6 +17,7 @@ use Rattle.puffin_frames.specs.declared.frame_data.kind.Kind.TheVariants.{Uncomp
 use Rattle.puffin_frames.specs.declared.frame_data.frame.FrameData.{FrameData}
 use Rattle.puffin_frames.specs.declared.frame_data.held.Held.{Held}
 use Rattle.puffin_frames.specs.declared.frame_data.held.Held.TheVariants.{Own, Shared, Packed, Both}
+use Rattle.puffin_frames.specs.Frame.Variants.{HasMeta}
 use Rattle.puffin_frames.specs.declared.frame_data.meta.FrameMeta.{FrameMeta}
 use Rattle.puffin_frames.specs.declared.frame_data.unpacked.UnpackedFrameData.{UnpackedFrameData}
 use Rattle.puffin_frames.specs.Frame.Contents.{packet_fields, frame_meta, frame_details}
@@ -232,14 +233,14 @@ first_said m form streams ds = record { fields = record { meta = m; form = form;
 true_is_not_false : true ≡ false → ⊥
 true_is_not_false e = cc
 
-fresh_by : (frame : FrameData) (h : Held) → IsFresh (record frame { held = h }) → frame_of (record frame { held = h }) ≡ frame_stored (stored_of (record frame { held = h }))
-fresh_by frame (Own u) fresh = ap (first_said _ _ _) (fresh.no_details refl)
-fresh_by frame (Shared u) fresh = ap (first_said _ _ _) (fresh.no_details refl)
-fresh_by frame (Packed p) fresh = refl
-fresh_by frame (Both b) fresh = absurd (true_is_not_false fresh.one_way)
+fresh_by : (frame : FrameData) (h : Held) (same : HasMeta h frame.meta) → IsFresh (record frame { held = h; same_meta = same }) → frame_of (record frame { held = h; same_meta = same }) ≡ frame_stored (stored_of (record frame { held = h; same_meta = same }))
+fresh_by frame (Own u) same fresh = ap (first_said _ _ _) (fresh.no_details refl)
+fresh_by frame (Shared u) same fresh = ap (first_said _ _ _) (fresh.no_details refl)
+fresh_by frame (Packed p) same fresh = refl
+fresh_by frame (Both b) same fresh = absurd (true_is_not_false fresh.one_way)
 
 pub fresh_frame : (frame : FrameData) → IsFresh frame → frame_of frame ≡ frame_stored (stored_of frame)
-fresh_frame frame fresh = fresh_by frame frame.held fresh
+fresh_frame frame fresh = fresh_by frame frame.held frame.same_meta fresh
 
 -- ---- a file is summed up
 

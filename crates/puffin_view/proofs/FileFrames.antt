@@ -17,6 +17,7 @@ use Rattle.puffin_frames.specs.declared.frame_data.frame.FrameData.{FrameData}
 use Rattle.puffin_frames.specs.declared.frame_data.meta.FrameMeta.{FrameMeta}
 use Rattle.puffin_frames.specs.declared.frame_data.held.Held.{Held}
 use Rattle.puffin_frames.specs.declared.frame_data.held.Held.TheVariants.{Own, Shared, Packed, Both}
+use Rattle.puffin_frames.specs.Frame.Variants.{HasMeta}
 use Rattle.puffin_threads.specs.declared.scope_details.details.ScopeDetails.{ScopeDetails}
 use Rattle.puffin_threads.specs.Details.{Details, details_of, shared_details, lacks_id}
 use Rattle.puffin_threads.specs.Details.Collection.{Collection, no_details, with_details, with_all_details}
@@ -44,14 +45,14 @@ true_is_not_false e = cc
 no_details_said : (m : FrameMeta) (form : Form) (streams : List ℕ) (ds : List Details) → ds ≡ [] → frame_said m form streams ds ≡ frame_said m form streams []
 no_details_said m form streams ds e = ap (frame_said m form streams) e
 
-fresh_by : (frame : FrameData) (h : Held) → IsFresh (record frame { held = h }) → frame_of (record frame { held = h }) ≡ frame_stored (stored_of (record frame { held = h }))
-fresh_by frame (Own u) fresh = no_details_said _ _ _ _ (fresh.no_details refl)
-fresh_by frame (Shared u) fresh = no_details_said _ _ _ _ (fresh.no_details refl)
-fresh_by frame (Packed p) fresh = refl
-fresh_by frame (Both b) fresh = absurd (true_is_not_false fresh.one_way)
+fresh_by : (frame : FrameData) (h : Held) (same : HasMeta h frame.meta) → IsFresh (record frame { held = h; same_meta = same }) → frame_of (record frame { held = h; same_meta = same }) ≡ frame_stored (stored_of (record frame { held = h; same_meta = same }))
+fresh_by frame (Own u) same fresh = no_details_said _ _ _ _ (fresh.no_details refl)
+fresh_by frame (Shared u) same fresh = no_details_said _ _ _ _ (fresh.no_details refl)
+fresh_by frame (Packed p) same fresh = refl
+fresh_by frame (Both b) same fresh = absurd (true_is_not_false fresh.one_way)
 
 pub fresh_frame : (frame : FrameData) → IsFresh frame → frame_of frame ≡ frame_stored (stored_of frame)
-fresh_frame frame fresh = fresh_by frame frame.held fresh
+fresh_frame frame fresh = fresh_by frame frame.held frame.same_meta fresh
 
 -- ---- one frame more
 

@@ -40,6 +40,10 @@ IsOrdered range = range.0 ≤ℤ range.1
 abbrev pub DurationFits : ℤ × ℤ → Type 0
 DurationFits range = FitsSigned w64 (range.1 -ℤ range.0)
 
+-- a range that a frame can have
+abbrev pub IsRange : ℤ × ℤ → Type 0
+IsRange range = IsOrdered range × DurationFits range
+
 -- the infos make a frame
 pub record MakeFrame (infos : List StreamFacts) : Type 0 where
   pub totals : TotalsFit infos

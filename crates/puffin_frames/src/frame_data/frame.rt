@@ -1,13 +1,7 @@
-ghost use Rattle.std.specs.Prelude.{◌≡◌, ◌-ℤ◌, ◌≤ℤ◌, IfOk, IfErr, IfSome, Some, None, ◌+◌, ◌-◌, ◌^◌, min, length, is_some, Err, OnOk, OnErr, IsOkUnless, IsTrue};
-ghost use Rattle.std.specs.Option.{option_map, unwrap_or};
-ghost use Rattle.std.specs.FinMap as map;
+ghost use Rattle.std.specs.Prelude.{◌≡◌, ◌-ℤ◌, ◌≤ℤ◌, FitsSigned, IfOk, IsOkUnless};
+ghost use Rattle.std.specs.Int.{w64};
 ghost use Rattle.puffin_data.specs.declared.error.Error.{Error};
-ghost use Rattle.puffin_frames.specs.Frame.Sums.{MakeFrame, meta_of, RefusesFrame};
-ghost use Rattle.puffin_frames.specs.Frame.Contents.{streams_of, all_facts, streams_held, holding_of, frame_streams, frame_meta, is_alone, Streams, packet_fields};
-ghost use Rattle.std.specs.Arc.{arc_value};
-ghost use Rattle.puffin_data.specs.declared.file_error.FileError.{FileError};
-ghost use Rattle.puffin_frames.specs.Frame.Holding.{as_packed, as_unpacked, unpacked_from, HoldsStreams};
-ghost use Rattle.puffin_frames.specs.Packet.Tries.{DecidedInMemory};
+ghost use Rattle.puffin_frames.specs.Frame.Variants.{HasMeta, HasMeta-prop};
 ghost use Rattle.puffin_threads.specs.Details.{shared_details};
 
 use crate::frame_data::held::Held;
@@ -36,7 +30,11 @@ pub struct FrameData {
     pub scope_delta: Vec<Arc<ScopeDetails>>,
     /// Whether `scope_delta` also has the details of all scopes known before.
     pub full_delta: bool,
+    pub(crate) meta: FrameMeta,
     pub(crate) held: Held,
+    ghost ordered: { meta.range_ns.0 ≤ℤ meta.range_ns.1 },
+    ghost duration_fits: { FitsSigned w64 (meta.range_ns.1 -ℤ meta.range_ns.0) },
+    ghost same_meta: { HasMeta held meta } by { HasMeta-prop held meta },
 }
 
 /// Copies a list of details; the copy shares them. Fails only with `Memory`.
@@ -53,6 +51,16 @@ fn shared_copy(details: &Vec<Arc<ScopeDetails>>) -> Result<Vec<Arc<ScopeDetails>
 }
 
 impl FrameData {
+    ghost use Rattle.std.specs.Prelude.{IfErr, IfSome, Some, None, ◌+◌, ◌-◌, ◌^◌, min, length, is_some, Err, OnOk, OnErr, IsTrue};
+    ghost use Rattle.std.specs.Option.{option_map, unwrap_or};
+    ghost use Rattle.std.specs.FinMap as map;
+    ghost use Rattle.std.specs.Arc.{arc_value};
+    ghost use Rattle.puffin_data.specs.declared.file_error.FileError.{FileError};
+    ghost use Rattle.puffin_frames.specs.Frame.Sums.{MakeFrame, meta_of, RefusesFrame};
+    ghost use Rattle.puffin_frames.specs.Frame.Contents.{streams_of, all_facts, streams_held, holding_of, frame_streams, frame_meta, is_alone, Streams, packet_fields};
+    ghost use Rattle.puffin_frames.specs.Frame.Holding.{as_packed, as_unpacked, unpacked_from, HoldsStreams};
+    ghost use Rattle.puffin_frames.specs.Packet.Tries.{DecidedInMemory};
+
     /// Makes frame `frame_index` from these streams. Fails as [`UnpackedFrameData::new`] does, and then drops the streams and
     /// the details.
     ///
@@ -97,6 +105,7 @@ impl FrameData {
         FrameData {
             scope_delta,
             full_delta,
+            meta: unpacked.meta,
             held: Held::Own(unpacked),
         }
     }
@@ -133,19 +142,14 @@ impl FrameData {
     pub fn meta(&self) -> &FrameMeta
         ensures { result.now ≡ frame_meta self.now }
     {
-        match &self.held {
-            Held::Own(unpacked) => &unpacked.meta,
-            Held::Shared(unpacked) => &unpacked.meta,
-            Held::Packed(packed) => &packed.meta,
-            Held::Both(both) => &both.unpacked.meta,
-        }
+        &self.meta
     }
 
     /// Returns the number of the frame.
     pub fn frame_index(&self) -> FrameIndex
         ensures { result ≡ (frame_meta self.now).frame_index }
     {
-        self.meta().frame_index
+        self.meta.frame_index
     }
 
     /// Returns the least start and the greatest stop of all scopes, in nanoseconds.
@@ -153,24 +157,15 @@ impl FrameData {
         ensures range { result ≡ (frame_meta self.now).range_ns }
         ensures ordered { result.0 ≤ℤ result.1 }
     {
-        match &self.held {
-            Held::Own(unpacked) => unpacked.range_ns(),
-            Held::Shared(unpacked) => unpacked.range_ns(),
-            Held::Packed(packed) => packed.meta.range_ns,
-            Held::Both(both) => both.unpacked.range_ns(),
-        }
+        self.meta.range_ns
     }
 
     /// Returns the time from the least start to the greatest stop, in nanoseconds.
     pub fn duration_ns(&self) -> NanoSecond
         ensures { result ≡ (frame_meta self.now).range_ns.1 -ℤ (frame_meta self.now).range_ns.0 }
     {
-        match &self.held {
-            Held::Own(unpacked) => unpacked.duration_ns(),
-            Held::Shared(unpacked) => unpacked.duration_ns(),
-            Held::Packed(packed) => packed.meta.range_ns.1 - packed.meta.range_ns.0,
-            Held::Both(both) => both.unpacked.duration_ns(),
-        }
+        let (start, stop) = self.meta.range_ns;
+        stop - start
     }
 
     /// Copies the frame; the copy is held in the same ways. It shares the details and any unpacked streams. Fails only with
@@ -185,6 +180,7 @@ impl FrameData {
         Ok(FrameData {
             scope_delta: shared_copy(&self.scope_delta)?,
             full_delta: self.full_delta,
+            meta: self.meta,
             held: self.held.clone(alloc)?,
         })
     }
@@ -219,7 +215,8 @@ impl FrameData {
         Ok(FrameData {
             scope_delta: shared_copy(&self.scope_delta)?,
             full_delta: self.full_delta,
-            held: self.held.packed_copy(alloc)?,
+            meta: self.meta,
+            held: Held::Packed(self.held.packed_copy(alloc)?),
         })
     }
 
@@ -246,7 +243,7 @@ impl FrameData {
     {
         let alloc = *self.scope_delta.allocator();
         let held = mem::replace(&mut self.held, Held::nothing(alloc));
-        let (held, answer) = held.unpack(alloc);
+        let (held, answer) = held.unpack(alloc, self.meta);
         self.held = held;
         answer
     }
@@ -257,7 +254,7 @@ impl FrameData {
     {
         match &self.held {
             Held::Own(_) | Held::Shared(_) => None,
-            Held::Packed(packed) => Some(packed.streams.bytes.len()),
+            Held::Packed(packed) => Some(packed.bytes.len()),
             Held::Both(both) => Some(both.packed.bytes.len()),
         }
     }

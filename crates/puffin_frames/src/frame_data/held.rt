@@ -1,7 +1,6 @@
 //! The ways to hold a frame's streams, and the changes from one to another.
 
-ghost use Rattle.std.specs.Prelude.{◌≡◌, ◌-ℤ◌, ◌≤ℤ◌, Some, FitsSigned, IsOkUnless};
-ghost use Rattle.std.specs.Int.{w64};
+ghost use Rattle.std.specs.Prelude.{◌≡◌, Some, IsOkUnless};
 ghost use Rattle.std.specs.Arc.{arc_value};
 ghost use Rattle.std.specs.Coded.{Coded-set, coded_option};
 ghost use Rattle.puffin_data.specs.Value.Layout.{IsBytes};
@@ -32,15 +31,6 @@ pub(crate) struct PackedStreams {
     ghost are_bytes: { IsBytes bytes.items },
 }
 
-/// A frame that is held packed only.
-#[derive(Drop)]
-pub(crate) struct PackedFrame {
-    pub(crate) meta: FrameMeta,
-    pub(crate) streams: PackedStreams,
-    ghost ordered: { meta.range_ns.0 ≤ℤ meta.range_ns.1 },
-    ghost duration_fits: { FitsSigned w64 (meta.range_ns.1 -ℤ meta.range_ns.0) },
-}
-
 /// A frame that was packed and is held unpacked too.
 #[derive(Drop)]
 pub(crate) struct BothWays {
@@ -62,7 +52,7 @@ pub(crate) enum Held {
     /// Unpacked, and shared with those who asked for it.
     Shared(Arc<UnpackedFrameData>),
     /// Packed only.
-    Packed(PackedFrame),
+    Packed(PackedStreams),
     /// Packed and unpacked.
     Both(BothWays),
 }
@@ -73,6 +63,7 @@ impl PackedStreams {
     ghost use Rattle.puffin_data.specs.declared.error.Error.{Error};
     ghost use Rattle.puffin_frames.specs.Frame.Streams.{shared_streams};
     ghost use Rattle.puffin_frames.specs.Frame.Contents.{packed_as};
+    ghost use Rattle.puffin_frames.specs.Frame.Sums.{IsRange};
     ghost use Rattle.puffin_frames.specs.Packet.Tries.{DecidedInMemory};
 
     /// Makes packed streams from their bytes. Allocates nothing.
@@ -120,68 +111,24 @@ impl PackedStreams {
             Err(Stop::NoLayout) => Err(FileError::BadStreams),
         }
     }
-}
 
-impl PackedFrame {
-    ghost use Rattle.std.specs.Prelude.{IfOk, IfErr};
-    ghost use Rattle.puffin_frames.specs.Frame.Holding.{plainly_packed, unpacking};
-    ghost use Rattle.puffin_data.specs.declared.error.Error.{Error};
-    ghost use Rattle.puffin_frames.specs.Frame.Contents.{packed_as};
-    ghost use Rattle.puffin_frames.specs.Packet.Tries.{DecidedInMemory};
-
-    /// Makes a placeholder. Allocates nothing.
-    fn nothing(alloc: Global) -> PackedFrame {
-        PackedFrame {
-            meta: FrameMeta {
-                frame_index: 0,
-                range_ns: (0, 0),
-                num_bytes: 0,
-                num_scopes: 0,
-            },
-            streams: PackedStreams::new(Form::Short, Kind::Uncompressed, Vec::new(alloc)),
-        }
-    }
-
-    /// Packs a frame. Fails only with `Memory`.
-    fn of(alloc: Global, frame: &UnpackedFrameData) -> Result<PackedFrame>
-        ensures ok { IfOk result (λ packed.
-            packed_as packed.streams ≡ plainly_packed (streams_held frame.now)) }
-        ensures content { IfOk result (λ packed.
-            streams_in (packed_as packed.streams) ≡ Some (streams_held frame.now)) }
-        ensures meta { IfOk result (λ packed. packed.meta ≡ frame.now.meta) }
-        ensures memory { IsOkUnless result Error.Memory }
-    {
-        let streams = PackedStreams::of(alloc, &frame.thread_streams)?;
-        Ok(PackedFrame {
-            meta: frame.meta,
-            streams,
-        })
-    }
-
-    /// Unpacks the frame. Fails as [`PackedStreams::unpack`] does, and with `Memory`.
-    fn unpack(&self, alloc: Global) -> std::result::Result<Arc<UnpackedFrameData>, FileError>
+    /// Unpacks the streams of a frame with this meta. Fails as [`PackedStreams::unpack`] does, and with `Memory`.
+    fn unpacked_frame(
+        &self,
+        alloc: Global,
+        meta: FrameMeta,
+    ) -> std::result::Result<Arc<UnpackedFrameData>, FileError>
+        requires { IsRange meta.range_ns }
         ensures ok { DecidedInMemory (λ frame. streams_held (arc_value frame)) result (
-            unpacking (packed_as self.now.streams)) }
-        ensures meta { IfOk result (λ frame. (arc_value frame).meta ≡ self.now.meta) }
+            unpacking (packed_as self.now)) }
+        ensures meta { IfOk result (λ frame. (arc_value frame).meta ≡ meta) }
     {
-        let thread_streams = self.streams.unpack(alloc)?;
+        let thread_streams = self.unpack(alloc)?;
         let frame = UnpackedFrameData {
-            meta: self.meta,
+            meta,
             thread_streams,
         };
         Ok(Arc::new(alloc, frame)?)
-    }
-
-    /// Copies the frame. Fails only with `Memory`.
-    fn clone(&self) -> Result<PackedFrame>
-        ensures ok { IfOk result (λ copy. packed_as copy.streams ≡ packed_as self.now.streams) }
-        ensures meta { IfOk result (λ copy. copy.meta ≡ self.now.meta) }
-        ensures memory { IsOkUnless result Error.Memory }
-    {
-        Ok(PackedFrame {
-            meta: self.meta,
-            streams: self.streams.clone()?,
-        })
     }
 }
 
@@ -190,12 +137,28 @@ impl Held {
     ghost use Rattle.puffin_frames.specs.Frame.Holding.{unpacking, unpacked_from, packing_of, holding_streams, as_packed, as_unpacked};
     ghost use Rattle.puffin_data.specs.declared.error.Error.{Error};
     ghost use Rattle.puffin_data.specs.declared.file_error.FileError.{FileError};
-    ghost use Rattle.puffin_frames.specs.Frame.Contents.{packed_as, held_as, held_meta};
+    ghost use Rattle.puffin_frames.specs.Frame.Contents.{packed_as, held_as, held_meta, HasMeta};
+    ghost use Rattle.puffin_frames.specs.Frame.Sums.{IsRange};
     ghost use Rattle.puffin_frames.specs.Packet.Tries.{DecidedInMemory};
 
     /// Makes a placeholder for `mem::replace`. Allocates nothing.
     pub(crate) fn nothing(alloc: Global) -> Held {
-        Held::Packed(PackedFrame::nothing(alloc))
+        Held::Packed(PackedStreams::new(Form::Short, Kind::Uncompressed, Vec::new(alloc)))
+    }
+
+    /// Packs the frame's streams, or copies those that are packed already. Fails only with `Memory`.
+    pub(crate) fn packed_copy(&self, alloc: Global) -> Result<PackedStreams>
+        ensures ok { IfOk result (λ copy. packed_as copy ≡ packing_of (held_as self.now)) }
+        ensures streams { IfOk result (λ copy.
+            streams_in (packed_as copy) ≡ holding_streams (held_as self.now)) }
+        ensures memory { IsOkUnless result Error.Memory }
+    {
+        match self {
+            Held::Own(frame) => PackedStreams::of(alloc, &frame.thread_streams),
+            Held::Shared(frame) => PackedStreams::of(alloc, &frame.thread_streams),
+            Held::Packed(packed) => packed.clone(),
+            Held::Both(both) => both.packed.clone(),
+        }
     }
 
     /// Packs the frame, and drops what is unpacked. Fails only with `Memory`; the frame is then returned as it was.
@@ -204,37 +167,36 @@ impl Held {
         ensures packing { packing_of (held_as result.0) ≡ packing_of (held_as self) }
         ensures streams { holding_streams (held_as result.0) ≡ holding_streams (held_as self) }
         ensures err { OnErr result.1 (result.0 ≡ self) }
-        ensures meta { held_meta result.0 ≡ held_meta self }
+        ensures meta { OnOk result.1 (held_meta result.0 ≡ None) }
         ensures memory { IfErr result.1 (λ e. e ≡ Error.Memory) }
     {
         match self {
-            Held::Own(frame) => match PackedFrame::of(alloc, &frame) {
-                Ok(packed) => (Held::Packed(packed), Ok(())),
-                Err(cause) => (Held::Own(frame), Err(cause)),
-            },
-            Held::Shared(frame) => match PackedFrame::of(alloc, &frame) {
-                Ok(packed) => (Held::Packed(packed), Ok(())),
-                Err(cause) => (Held::Shared(frame), Err(cause)),
-            },
             Held::Packed(packed) => (Held::Packed(packed), Ok(())),
-            Held::Both(both) => (Held::Packed(both.into_packed()), Ok(())),
+            Held::Both(both) => (Held::Packed(both.packed), Ok(())),
+            unpacked => match unpacked.packed_copy(alloc) {
+                Ok(packed) => (Held::Packed(packed), Ok(())),
+                Err(cause) => (unpacked, Err(cause)),
+            },
         }
     }
 
-    /// Unpacks the frame, keeps what is packed, and returns its unpacked data. If it fails, the returned frame is held as
-    /// before.
+    /// Unpacks the frame, whose meta this is, keeps what is packed, and returns its unpacked data. If it fails, the returned
+    /// frame is held as before.
     pub(crate) fn unpack(
         self,
         alloc: Global,
+        meta: FrameMeta,
     ) -> (Held, std::result::Result<Arc<UnpackedFrameData>, FileError>)
+        requires range { IsRange meta.range_ns }
+        requires meta { HasMeta self meta }
         ensures ok { OnOk result.1 (held_as result.0 ≡ as_unpacked (held_as self)) }
         ensures packing { packing_of (held_as result.0) ≡ packing_of (held_as self) }
         ensures streams { holding_streams (held_as result.0) ≡ holding_streams (held_as self) }
         ensures err { OnErr result.1 (held_as result.0 ≡ held_as self) }
-        ensures meta { held_meta result.0 ≡ held_meta self }
+        ensures meta { HasMeta result.0 meta }
         ensures unpacked { DecidedInMemory (λ frame. streams_held (arc_value frame)) result.1
             (unpacked_from (held_as self)) }
-        ensures unpacked_meta { IfOk result.1 (λ frame. (arc_value frame).meta ≡ held_meta self) }
+        ensures unpacked_meta { IfOk result.1 (λ frame. (arc_value frame).meta ≡ meta) }
     {
         match self {
             Held::Own(frame) => Held::share(alloc, frame),
@@ -242,29 +204,12 @@ impl Held {
                 let same = Held::lent(&frame);
                 (Held::Shared(frame), same)
             }
-            Held::Packed(packed) => Held::unpack_too(alloc, packed),
+            Held::Packed(packed) => Held::unpack_too(alloc, meta, packed),
             Held::Both(both) => {
                 let same = Held::lent(&both.unpacked);
                 (Held::Both(both), same)
             }
         }
-    }
-
-    /// Copies the frame; the copy is packed only. Fails only with `Memory`.
-    pub(crate) fn packed_copy(&self, alloc: Global) -> Result<Held>
-        ensures ok { IfOk result (λ copy. held_as copy ≡ as_packed (held_as self.now)) }
-        ensures streams { IfOk result (λ copy.
-            holding_streams (held_as copy) ≡ holding_streams (held_as self.now)) }
-        ensures meta { IfOk result (λ copy. held_meta copy ≡ held_meta self.now) }
-        ensures memory { IsOkUnless result Error.Memory }
-    {
-        let packed = match self {
-            Held::Own(frame) => PackedFrame::of(alloc, frame)?,
-            Held::Shared(frame) => PackedFrame::of(alloc, frame)?,
-            Held::Packed(packed) => packed.clone()?,
-            Held::Both(both) => both.packed_copy()?,
-        };
-        Ok(Held::Packed(packed))
     }
 
     /// Copies the frame; the copy shares unpacked streams. Fails only with `Memory`.
@@ -299,7 +244,7 @@ impl Held {
     ) -> (Held, std::result::Result<Arc<UnpackedFrameData>, FileError>)
         ensures held { held_as result.0
             ≡ record { packed = None; unpacked = Some (streams_held frame) } }
-        ensures meta { held_meta result.0 ≡ frame.meta }
+        ensures meta { held_meta result.0 ≡ Some frame.meta }
         ensures ok { IfOk result.1 (λ same. arc_value same ≡ frame) }
         ensures memory { IfErr result.1 (λ e. e ≡ FileError.Memory) }
     {
@@ -312,37 +257,32 @@ impl Held {
         }
     }
 
-    /// Unpacks a packed frame, keeps what is packed, and returns its unpacked data. If it fails, the frame is returned as it
-    /// was.
+    /// Unpacks packed streams of a frame with this meta, keeps what is packed, and returns the unpacked data. If it fails,
+    /// nothing is unpacked.
     fn unpack_too(
         alloc: Global,
-        packed: PackedFrame,
+        meta: FrameMeta,
+        packed: PackedStreams,
     ) -> (Held, std::result::Result<Arc<UnpackedFrameData>, FileError>)
+        requires { IsRange meta.range_ns }
         ensures ok { IfOk result.1 (λ frame.
             held_as result.0 ≡ record {
-              packed = Some (packed_as packed.streams);
+              packed = Some (packed_as packed);
               unpacked = Some (streams_held (arc_value frame));
             }) }
         ensures err { OnErr result.1 (
-            held_as result.0
-            ≡ record { packed = Some (packed_as packed.streams); unpacked = None }) }
-        ensures meta { held_meta result.0 ≡ packed.meta }
+            held_as result.0 ≡ record { packed = Some (packed_as packed); unpacked = None }) }
+        ensures meta { HasMeta result.0 meta }
         ensures unpacked { DecidedInMemory (λ frame. streams_held (arc_value frame)) result.1 (
-            unpacking (packed_as packed.streams)) }
-        ensures unpacked_meta { IfOk result.1 (λ frame. (arc_value frame).meta ≡ packed.meta) }
+            unpacking (packed_as packed)) }
+        ensures unpacked_meta { IfOk result.1 (λ frame. (arc_value frame).meta ≡ meta) }
     {
-        let unpacked = match packed.unpack(alloc) {
+        let unpacked = match packed.unpacked_frame(alloc, meta) {
             Ok(unpacked) => unpacked,
             Err(cause) => return (Held::Packed(packed), Err(cause)),
         };
         match Held::lent(&unpacked) {
-            Ok(same) => {
-                let both = BothWays {
-                    unpacked,
-                    packed: packed.streams,
-                };
-                (Held::Both(both), Ok(same))
-            }
+            Ok(same) => (Held::Both(BothWays { unpacked, packed }), Ok(same)),
             Err(cause) => (Held::Packed(packed), Err(cause)),
         }
     }
@@ -352,34 +292,6 @@ impl BothWays {
     ghost use Rattle.std.specs.Prelude.{IfOk, IfErr};
     ghost use Rattle.puffin_data.specs.declared.error.Error.{Error};
     ghost use Rattle.puffin_frames.specs.Frame.Contents.{packed_as};
-
-    /// Drops the unpacked data. Allocates nothing.
-    fn into_packed(self) -> PackedFrame
-        ensures streams { packed_as result.streams ≡ packed_as self.packed }
-        ensures content { streams_in (packed_as result.streams)
-            ≡ Some (streams_held (arc_value self.unpacked)) }
-        ensures meta { result.meta ≡ (arc_value self.unpacked).meta }
-    {
-        PackedFrame {
-            meta: self.unpacked.meta,
-            streams: self.packed,
-        }
-    }
-
-    /// Copies the packed data. Fails only with `Memory`.
-    fn packed_copy(&self) -> Result<PackedFrame>
-        ensures ok { IfOk result (λ copy. packed_as copy.streams ≡ packed_as self.now.packed) }
-        ensures content { IfOk result (λ copy.
-            streams_in (packed_as copy.streams)
-            ≡ Some (streams_held (arc_value self.now.unpacked))) }
-        ensures meta { IfOk result (λ copy. copy.meta ≡ (arc_value self.now.unpacked).meta) }
-        ensures memory { IsOkUnless result Error.Memory }
-    {
-        Ok(PackedFrame {
-            meta: self.unpacked.meta,
-            streams: self.packed.clone()?,
-        })
-    }
 
     /// Copies the frame; the copy shares the unpacked data. Fails only with `Memory`.
     fn clone(&self) -> Result<BothWays>

@@ -18,7 +18,7 @@ ghost use Rattle.puffin_frames.specs.Packet.Next.{legacy_of, stored_of, IsFresh,
 
 use crate::frame_data::decode::{Stop, details_in, legacy_in, meta_in};
 use crate::frame_data::frame::FrameData;
-use crate::frame_data::held::{Held, PackedFrame, PackedStreams};
+use crate::frame_data::held::{Held, PackedStreams};
 use crate::frame_data::kind::Kind;
 use crate::frame_data::meta::FrameMeta;
 use crate::frame_data::unpacked::UnpackedFrameData;
@@ -151,10 +151,8 @@ fn read_packed<S: Source>(
     Ok(FrameData {
         scope_delta,
         full_delta: false,
-        held: Held::Packed(PackedFrame {
-            meta,
-            streams: PackedStreams::new(version.text_form(), kind, bytes),
-        }),
+        meta,
+        held: Held::Packed(PackedStreams::new(version.text_form(), kind, bytes)),
     })
 }
 

@@ -8,7 +8,7 @@ ghost use Rattle.std.specs.FinMap.{values};
 ghost use Rattle.puffin_threads.specs.Details.{shared_details};
 ghost use Rattle.puffin_frames.specs.declared.frame_data.kind.Kind.{Kind};
 ghost use Rattle.puffin_frames.specs.Packet.Structs.{meta_layout, IsMeta, details_layout, AreDetails};
-ghost use Rattle.puffin_frames.specs.Frame.Contents.{frame_details, streams_held};
+ghost use Rattle.puffin_frames.specs.Frame.Contents.{frame_details, shared_streams};
 ghost use Rattle.puffin_frames.specs.Frame.Holding.{plainly_packed};
 ghost use Rattle.puffin_frames.specs.Packet.Grammar.{packet_head, packet_with, packet, IsPacked};
 ghost use Rattle.puffin_frames.specs.Packet.Writing.{details_or, fields_with, HasLongPart, WritesPacket};
@@ -18,7 +18,7 @@ use crate::frame_data::frame::FrameData;
 use crate::frame_data::held::{Held, PackedStreams};
 use crate::frame_data::kind::Kind;
 use crate::frame_data::meta::FrameMeta;
-use crate::frame_data::unpacked::UnpackedFrameData;
+use crate::frame_data::thread_streams::ThreadStreams;
 use crate::frame_data::version::Version;
 use puffin_data::FileError;
 use puffin_data::data::{Drain, Form, write_all};
@@ -111,23 +111,24 @@ fn write_packed<D: Drain>(
 /// Writes the packet of a frame that is held unpacked.
 fn write_unpacked<D: Drain>(
     alloc: Global,
-    frame: &UnpackedFrameData,
+    meta: &FrameMeta,
+    streams: &ThreadStreams,
     details: &[u8],
     drain: &mut D,
 ) -> Result<(), FileError>
     requires { CanFail D.failures drain.old }
     ensures written { WritesPacket D.contents D.failures D.takes drain.old drain.new
-        (packet_with (plainly_packed (streams_held frame.now)).form frame.now.meta Kind.Uncompressed
-        (plainly_packed (streams_held frame.now)).bytes details.now)
-        ((2 ^ 32 ≤ length (plainly_packed (streams_held frame.now)).bytes)
+        (packet_with (plainly_packed (shared_streams streams.now.entries)).form meta.now
+        Kind.Uncompressed (plainly_packed (shared_streams streams.now.entries)).bytes details.now)
+        ((2 ^ 32 ≤ length (plainly_packed (shared_streams streams.now.entries)).bytes)
         ⊎ (2 ^ 32 ≤ length details.now)) result }
     ensures short { OnOk result (
-        (length (plainly_packed (streams_held frame.now)).bytes < 2 ^ 32)
+        (length (plainly_packed (shared_streams streams.now.entries)).bytes < 2 ^ 32)
         × (length details.now < 2 ^ 32)) }
-    ensures fits { OnOk result (IsMeta frame.now.meta) }
+    ensures fits { OnOk result (IsMeta meta.now) }
 {
-    let streams = PackedStreams::of(alloc, &frame.thread_streams)?;
-    write_packed(alloc, &frame.meta, &streams, details, drain)
+    let packed = PackedStreams::of(alloc, streams)?;
+    write_packed(alloc, meta, &packed, details, drain)
 }
 
 /// Encodes a list of details. Fails only with `Memory`.
@@ -197,15 +198,18 @@ impl FrameData {
     {
         let alloc = *self.scope_delta.allocator();
         let details = self.details_part(scopes)?;
+        let meta = &self.meta;
         match &self.held {
-            Held::Own(frame) => write_unpacked(alloc, frame, &details, drain),
-            Held::Shared(frame) => write_unpacked(alloc, frame, &details, drain),
-            Held::Packed(frame) => {
-                write_packed(alloc, &frame.meta, &frame.streams, &details, drain)
-            }
-            Held::Both(frame) => {
-                write_packed(alloc, &frame.unpacked.meta, &frame.packed, &details, drain)
-            }
+            Held::Own(frame) => write_unpacked(alloc, meta, &frame.thread_streams, &details, drain),
+            Held::Shared(frame) => write_unpacked(
+                alloc,
+                meta,
+                &frame.thread_streams,
+                &details,
+                drain,
+            ),
+            Held::Packed(packed) => write_packed(alloc, meta, packed, &details, drain),
+            Held::Both(both) => write_packed(alloc, meta, &both.packed, &details, drain),
         }
     }
 }

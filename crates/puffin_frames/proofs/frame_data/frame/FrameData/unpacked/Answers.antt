@@ -1,6 +1,6 @@
-use Rattle.std.proofs.Common.{ap, ◌∙◌}
+use Rattle.std.proofs.Common.{refl, ap, ◌∙◌}
 use Rattle.std.specs.Arc.{arc_value}
-use Rattle.puffin_frames.specs.Frame.Contents.{streams_held, held_as, held_meta, frame_details}
+use Rattle.puffin_frames.specs.Frame.Contents.{streams_held, held_as, frame_details}
 use Rattle.puffin_frames.proofs.Packings.{fields_same, unpacked_layout, unpacked_no_layout}
 use Rattle.puffin_frames.specs.Frame.Holding.{packing_of}
 use Rattle.puffin_frames.proofs.frame_data.frame.FrameData.unpacked.Goals as goal
@@ -15,5 +15,5 @@ returns-clause-no_layout c =
 
 pub returns-clause-fields : goal.returns-clause-fields
 returns-clause-fields c =
-    fields_same _ _ _ _ (frame_details c.args.self.now) (c.unpack-held.ensures.meta ∙ ap held_meta c.replace-held.ensures.value)
+    fields_same _ _ _ _ (frame_details c.args.self.now) refl
     (c.unpack-held.ensures.packing ∙ ap (λ held. packing_of (held_as held)) c.replace-held.ensures.value)

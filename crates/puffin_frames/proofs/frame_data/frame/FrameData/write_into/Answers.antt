@@ -43,11 +43,10 @@ returns-in-Packed-clause-written g c =
 
 pub returns-clause-written : goal.returns-clause-written
 returns-clause-written g c =
-    let h = rw (c.deref-in-Both-2.ensures.value, c.in_ok-details.ensures.ok) at c.write_packed-in-Both.ensures.written.begun in
-    let k = rw c.deref-in-Both.ensures at h in
+    let h = rw (c.deref-in-Both.ensures.value, c.in_ok-details.ensures.ok) at c.write_packed-in-Both.ensures.written.begun in
     record {
       ok = search rules;
-      begun = rw c.in-Both.is k;
+      begun = rw c.in-Both.is h;
       untouched = search rules;
       io = search rules;
       too_long = search rules;
