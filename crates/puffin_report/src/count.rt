@@ -1,5 +1,5 @@
 //! Counts a stream, and prints the counts.
-ghost use Rattle.std.specs.Prelude.{◌≡◌, ◌+◌, ◌-◌, ◌^◌, ◌<◌, ◌-ℤ◌, List, ℕ, IfOk, IfErr, OnOk, OnErr, MatchResult, ◌⊎◌};
+ghost use Rattle.std.specs.Prelude.{◌≡◌, ◌+◌, ◌-◌, ◌^◌, ◌<◌, ◌-ℤ◌, List, ℕ, IfOk, IfErr, OnOk, OnErr, MatchResult, ◌⊎◌, IsOkUnless};
 ghost use Rattle.std.specs.String.{string_bytes};
 ghost use Rattle.puffin_data.specs.Forest.{Forest};
 ghost use Rattle.puffin_data.specs.Honesty.{IsHonest};
@@ -106,7 +106,7 @@ fn frame_line(alloc: Global, info: StreamInfo) -> Result<(String, Option<Error>)
         (f : Forest) → IsHonest info f →
         (string_bytes it.0 ≡ outcome_line (frame_of_forest info.stream.form f))
         × (it.1 ≡ refusal_of (frame_of_forest info.stream.form f))) }
-    ensures err { IfErr result (λ e. e ≡ FileError.Memory) }
+    ensures err { IsOkUnless result FileError.Memory }
 {
     match frame_of(alloc, info) {
         Ok(frame) => Ok((meta_line(alloc, &frame)?, None)),

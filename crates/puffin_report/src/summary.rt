@@ -11,7 +11,6 @@ use puffin_data::data::Source;
 use puffin_frames::scope_details::ScopeCollection;
 use puffin_frames::thread_profiler::ThreadInfo;
 use puffin_merge::merge::MergeScope;
-use puffin_view::profile_view::laws::files_have_an_end;
 use puffin_view::profile_view::{next_frame, read_magic};
 use std::alloc::Global;
 
@@ -55,7 +54,6 @@ pub fn summarize<S: Source>(
         };
         sum = sum.take(frame)?;
     }
-    // By this law, the loop has already returned, because a file has fewer frames.
-    files_have_an_end();
+    // The loop has already returned unless there are `2^64 - 1` frames.
     Err(FileError::Truncated)
 }

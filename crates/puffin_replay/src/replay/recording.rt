@@ -25,7 +25,6 @@ use puffin_frames::frame_data::FrameData;
 use puffin_frames::frame_data::laws::each_frame_is_read_again;
 use puffin_session::{Command, Reply, Session};
 use puffin_view::profile_view::FrameView;
-use puffin_view::profile_view::laws::views_hold_what_they_took;
 use std::alloc::{AllocError, Global};
 use std::sync::Arc;
 
@@ -83,10 +82,8 @@ pub(crate) fn run_into(
         (option_map (λ rs. rs.items) e.replies)) }
     ensures memory { IfErr result (λ e. e.fault ≡ FileError.Memory) }
 {
-    // By these laws, a frame's streams are read as the frame holds them, and a view and its file have only frames that the view
-    // held before or took.
+    // By this law, a frame's streams are read as the frame holds them.
     each_frame_is_read_again();
-    views_hold_what_they_took();
     let replies = match session.run(commands) {
         Ok(replies) => replies,
         Err(_) => {

@@ -310,11 +310,7 @@ fn script_of(alloc: Global, bytes: &[u8]) -> Result<Script, ToolFault>
     let mut lines = Lines { left: Some(bytes) };
     'lines: while let Some(line) = lines.next() {
         number += 1;
-        let statement = match parse_line(number, line) {
-            Ok(statement) => statement,
-            Err(fault) => return Err(fault),
-        };
-        if let Some(statement) = &statement {
+        if let Some(statement) = &parse_line(number, line)? {
             if reading.threads.is_late(statement) {
                 return Err(ToolFault::Line(number));
             }

@@ -1,6 +1,6 @@
 //! Files of views.
 
-ghost use Rattle.std.specs.Prelude.{◌≡◌, ◌⊎◌, ◌+◌, ◌-◌, ◌^◌, ◌<◌, true, IfErr, OnOk};
+ghost use Rattle.std.specs.Prelude.{◌≡◌, ◌⊎◌, ◌+◌, ◌-◌, ◌^◌, ◌<◌, IsTrue, IfErr, OnOk};
 ghost use Rattle.std.specs.List.{AllByRecursion, Any};
 ghost use Rattle.std.specs.Io.KnownBytes.{Appends};
 ghost use Rattle.puffin_data.specs.declared.error.Error.{Error};
@@ -27,7 +27,7 @@ fn add_read(alloc: Global, view: &mut FrameView, frame: FrameData) -> Result<(),
     ensures ok { OnOk result (Adds (frame_of frame) view.old view.new) }
     ensures missing { IfErr result (λ e.
         e ≡ FileError.Refused Error.MissingId →
-        lacks_ids (fields_of (frame_of frame)) ≡ true) }
+        IsTrue (lacks_ids (fields_of (frame_of frame)))) }
     ensures cause { IfErr result (λ e.
         (e ≡ FileError.Refused Error.MissingId) ⊎ (e ≡ FileError.Memory)) }
 {

@@ -5,8 +5,8 @@ use Rattle.puffin_view.proofs.Storing.{newest_held}
 use Rattle.puffin_view.proofs.Placing.{last_or_of}
 use Rattle.puffin_view.proofs.profile_view.frame_view.FrameView.latest_frame.Goals as goal
 
-pub returns-in-Some : goal.returns-in-Some
-returns-in-Some c =
+pub returns : goal.returns
+returns c =
     let s = c.self.inside in
     let filled : 0 < deque_len s.recent = c.in-Some.ensures.variant.0 refl in
     let as_many : deque_len s.recent ≡ length s.recent.items = omega arith in
