@@ -1,9 +1,9 @@
 //! Counts a stream, and prints the counts.
-ghost use Rattle.std.specs.Prelude.{◌≡◌, ◌+◌, ◌-◌, ◌^◌, ◌<◌, ◌-ℤ◌, List, ℕ, IfOk, IfErr, OnOk, OnErr, MatchResult, ◌⊎◌, IsOkUnless};
+ghost use Rattle.std.specs.Prelude.{◌≡◌, ◌+◌, ◌-ℤ◌, List, ℕ, IfOk, IfErr, OnOk, OnErr, MatchResult, ◌⊎◌, IsOkUnless};
 ghost use Rattle.std.specs.String.{string_bytes};
 ghost use Rattle.puffin_data.specs.Forest.{Forest};
 ghost use Rattle.puffin_data.specs.Honesty.{IsHonest};
-ghost use Rattle.puffin_data.specs.Device.{IsOutside, TookNothing};
+ghost use Rattle.puffin_data.specs.Device.{CanFail, IsOutside, TookNothing};
 ghost use Rattle.puffin_report.specs.Lines.{count_line, measures_line, sums_text, range_text, meta_line, none_line, outcome_line, frame_of_forest, refusal_of};
 ghost use Rattle.puffin_report.specs.Count.{ReadsAll, IsCounted, IsCutShort};
 
@@ -138,8 +138,8 @@ pub fn count_stream<S: Source, D: Drain>(
     source: &mut S,
     drain: &mut D,
 ) -> Result<Option<Error>, FileError>
-    requires source { S.failures source.old < 2 ^ 64 - 1 }
-    requires drain { D.failures drain.old < 2 ^ 64 - 1 }
+    requires source { CanFail S.failures source.old }
+    requires drain { CanFail D.failures drain.old }
     ensures counted { IfOk result (λ answer.
         (bytes : List ℕ)
         × ReadsAll (S.remaining source.old) (S.remaining source.new) bytes

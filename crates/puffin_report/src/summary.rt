@@ -1,5 +1,5 @@
-ghost use Rattle.std.specs.Prelude.{◌<◌, ◌-◌, ◌^◌, List, IfOk, IfErr, ◌≡◌};
-ghost use Rattle.puffin_data.specs.Device.{failures_after};
+ghost use Rattle.std.specs.Prelude.{List, IfOk, IfErr, ◌≡◌};
+ghost use Rattle.puffin_data.specs.Device.{CanFail, failures_after};
 ghost use Rattle.puffin_threads.specs.Thread.ThreadKey.{key_of};
 ghost use Rattle.puffin_frames.specs.Packet.Stored.{Stored};
 ghost use Rattle.puffin_view.specs.View.File.{file_at, TookFrames};
@@ -37,7 +37,7 @@ pub fn summarize<S: Source>(
     source: &mut S,
     thread: &ThreadInfo,
 ) -> Result<Summary, FileError>
-    requires { S.failures source.old < 2 ^ 64 - 1 }
+    requires { CanFail S.failures source.old }
     ensures summary { IfOk result (λ summary.
         (stored : List Stored)
         × TookFrames file_at (S.remaining source.old) (S.remaining source.new) stored

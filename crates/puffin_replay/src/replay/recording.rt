@@ -1,10 +1,10 @@
 //! Recording the frames that a session emits.
 
-ghost use Rattle.std.specs.Prelude.{◌≡◌, ◌⊎◌, ◌+◌, ◌-◌, ◌^◌, ◌<◌, [], All, map, option_map, IfOk, IfErr, OnOk, get_or};
+ghost use Rattle.std.specs.Prelude.{◌≡◌, ◌⊎◌, ◌+◌, [], All, map, option_map, IfOk, IfErr, OnOk, get_or};
 ghost use Rattle.std.specs.List.{Any};
 ghost use Rattle.std.specs.String.{string_bytes};
 ghost use Rattle.puffin_data.specs.declared.data.form.Form.TheVariants.{Short};
-ghost use Rattle.puffin_data.specs.Device.{TookNothing};
+ghost use Rattle.puffin_data.specs.Device.{CanFail, TookNothing};
 ghost use Rattle.puffin_frames.specs.Packet.Writing.{HasLongPart};
 ghost use Rattle.puffin_view.specs.View.{Took};
 ghost use Rattle.puffin_view.specs.View.Known.{view_of};
@@ -119,7 +119,7 @@ pub fn record_session<D: Drain>(
     view: &mut FrameView,
     drain: &mut D,
 ) -> Result<Vec<Reply>, FileError>
-    requires { D.failures drain.old < 2 ^ 64 - 1 }
+    requires { CanFail D.failures drain.old }
     // The commands were run, each emitted frame has what was due, the view took these frames, and its file was written.
     ensures recorded { IfOk result (λ replies.
         IsRecorded session.old session.new commands.now replies.items view.old view.new
@@ -159,7 +159,7 @@ pub fn record<D: Drain>(
     view: &mut FrameView,
     drain: &mut D,
 ) -> Result<Vec<Reply>, FileError>
-    requires { D.failures drain.old < 2 ^ 64 - 1 }
+    requires { CanFail D.failures drain.old }
     ensures recorded { IfOk result (λ replies.
         (end : SessionState)
         × IsRecorded (new_session (map (λ name. (string_bytes name, Short)) names.items)) end
@@ -230,8 +230,8 @@ pub fn run_script<D: Drain, E: Drain>(
     out: &mut D,
     lines: &mut E,
 ) -> Result<(), FileError>
-    requires out { D.failures out.old < 2 ^ 64 - 1 }
-    requires lines { E.failures lines.old < 2 ^ 64 - 1 }
+    requires out { CanFail D.failures out.old }
+    requires lines { CanFail E.failures lines.old }
     ensures ok { OnOk result (
         IsReplayed script.now (D.contents out.old) (D.contents out.new) (E.contents lines.old)
         (E.contents lines.new)) }

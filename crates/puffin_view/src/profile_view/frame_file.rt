@@ -3,7 +3,7 @@
 ghost use Rattle.std.specs.Prelude.{◌≡◌, ◌≢◌, ◌⊎◌, ◌+◌, ◌-◌, ◌^◌, ◌<◌, ◌++◌, ◌∷◌, [], List, ℕ, IsFalse, IsTrue, Option, None, length, Err, Ok, IfOk, IfErr, IfSome, IfNone, OnOk, IsOkUnless};
 ghost use Rattle.std.specs.Io.KnownBytes.{Appends, Consumes};
 ghost use Rattle.puffin_data.specs.declared.file_error.FileError.{FileError};
-ghost use Rattle.puffin_data.specs.Device.{TookNothing, WritesBeginning, failures_after, is_io};
+ghost use Rattle.puffin_data.specs.Device.{CanFail, TookNothing, WritesBeginning, failures_after, is_io};
 ghost use Rattle.puffin_frames.specs.Packet.Stored.{PacketFields, Stored};
 ghost use Rattle.puffin_frames.specs.Packet.Next.{stored_of, IsFresh};
 ghost use Rattle.puffin_frames.specs.Packet.Grammar.{IsPacked, packet};
@@ -28,7 +28,7 @@ fn is_magic(letters: [u8; 4]) -> bool
 
 /// Reads the four letters that a file begins with, `PUF0`, from a borrowed source. Fails like [`FrameReader::new`].
 pub fn read_magic<S: Source>(source: &mut S) -> Result<(), FileError>
-    requires { S.failures source.old < 2 ^ 64 - 1 }
+    requires { CanFail S.failures source.old }
     ensures begun { OnOk result (
         HasGiven (S.remaining source.old) (S.remaining source.new) []) }
     ensures err { IfErr result (λ e.
@@ -49,7 +49,7 @@ pub fn read_magic<S: Source>(source: &mut S) -> Result<(), FileError>
 
 /// Reads the next frame, and checks that all of its details have ids.
 fn checked_frame<S: Source>(alloc: Global, source: &mut S) -> Result<Option<FrameData>, FileError>
-    requires { S.failures source.old < 2 ^ 64 - 1 }
+    requires { CanFail S.failures source.old }
     ensures next { GivesNext (S.remaining source.old) (S.remaining source.new) result }
     ensures ids { IfOk result (λ next. IfSome next (λ frame.
         IsFalse (lacks_ids (packet_fields frame)))) }
@@ -68,7 +68,7 @@ fn checked_frame<S: Source>(alloc: Global, source: &mut S) -> Result<Option<Fram
 /// Reads the next frame from a borrowed source, after [`read_magic`]. Returns and fails like [`FrameReader::next`], except that
 /// a call after the end or a fault reads on.
 pub fn next_frame<S: Source>(alloc: Global, source: &mut S) -> Result<Option<FrameData>, FileError>
-    requires { S.failures source.old < 2 ^ 64 - 1 }
+    requires { CanFail S.failures source.old }
     ensures given { IfOk result (λ next. IfSome next (λ frame.
         (old : Option (List ℕ)) (frames : List Stored) →
         HasGiven old (S.remaining source.old) frames →
@@ -92,7 +92,7 @@ pub fn next_frame<S: Source>(alloc: Global, source: &mut S) -> Result<Option<Fra
 
 /// Writes the letters that a file begins with.
 pub(super) fn write_magic<D: Drain>(drain: &mut D) -> Result<(), FileError>
-    requires { D.failures drain.old < 2 ^ 64 - 1 }
+    requires { CanFail D.failures drain.old }
     ensures ok { OnOk result (Appends (D.contents drain.old) (D.contents drain.new) magic) }
     ensures err { IfErr result (λ e.
         (e ≡ FileError.Io)
@@ -117,7 +117,7 @@ pub struct FrameReader<S: Source> {
     source: S,
     /// True after the end or a fault.
     is_done: bool,
-    ghost countable: { IsFalse is_done → S.failures source < 2 ^ 64 - 1 },
+    ghost countable: { IsFalse is_done → CanFail S.failures source },
 }
 
 impl<S: Source> FrameReader<S> {
@@ -130,7 +130,7 @@ impl<S: Source> FrameReader<S> {
     pub fn new(alloc: Global, source: S) -> Result<FrameReader<S>, FileError>
     where
         S: Drop,
-        requires { S.failures source < 2 ^ 64 - 1 }
+        requires { CanFail S.failures source }
         ensures begun { IfOk result (λ reader.
             HasGiven (S.remaining source) (S.remaining (source_of reader)) []) }
         // what a failure left of the source that was dropped
@@ -215,7 +215,7 @@ pub struct FrameWriter<D: Drain> {
     drain: D,
     /// True after `Io`: a prefix of a packet may have been written, and nothing after it would be read.
     is_broken: bool,
-    ghost countable: { IsFalse is_broken → D.failures drain < 2 ^ 64 - 1 },
+    ghost countable: { IsFalse is_broken → CanFail D.failures drain },
 }
 
 impl<D: Drain> FrameWriter<D> {
@@ -228,7 +228,7 @@ impl<D: Drain> FrameWriter<D> {
     pub fn new(drain: D) -> Result<FrameWriter<D>, FileError>
     where
         D: Drop,
-        requires { D.failures drain < 2 ^ 64 - 1 }
+        requires { CanFail D.failures drain }
         ensures begun { IfOk result (λ writer.
             HoldsFile (D.contents drain) (D.contents (drain_of writer)) []) }
         // what a failure left of the drain that was dropped
