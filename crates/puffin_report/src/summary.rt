@@ -1,3 +1,5 @@
+//! The summary of a file of frames.
+
 ghost use Rattle.std.specs.Prelude.{List, IfOk, IfErr, ◌≡◌};
 ghost use Rattle.puffin_data.specs.Device.{CanFail, failures_after};
 ghost use Rattle.puffin_threads.specs.Thread.ThreadKey.{key_of};

@@ -85,17 +85,6 @@ fn refused<'i>(cause: Error) -> Result<Progress<'i>, FileError>
     }
 }
 
-/// Converts an `Error` to a `FileError`.
-fn as_file_error(cause: Error) -> FileError
-    ensures memory { cause ≡ Error.Memory → result ≡ FileError.Memory }
-    ensures other { cause ≢ Error.Memory → result ≡ FileError.Refused cause }
-{
-    match cause {
-        Error::Memory => FileError::Memory,
-        cause => FileError::Refused(cause),
-    }
-}
-
 impl<'i> Progress<'i> {
     /// Unpacks the next frame and merges it with those before. After a frame that can't be unpacked, no further frame is
     /// unpacked. If the merge failed, further frames are still unpacked, because the fault of a frame takes precedence over the
@@ -248,13 +237,11 @@ impl<'i> Summing<'i> {
             Progress::NotUnpacked(fault) => return Err(fault),
         };
         let frames = merger.frames();
-        match merger.finish() {
-            Ok(merged) => Ok(Summary {
-                frames,
-                scopes,
-                merged,
-            }),
-            Err(cause) => Err(as_file_error(cause)),
-        }
+        let merged = merger.finish()?;
+        Ok(Summary {
+            frames,
+            scopes,
+            merged,
+        })
     }
 }

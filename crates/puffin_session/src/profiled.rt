@@ -1,3 +1,5 @@
+//! The threads of a session.
+
 ghost use Rattle.std.specs.Prelude.{◌≡◌, ◌+◌, ◌-◌, ◌<◌, ◌⊎◌, length, option_map, IfOk, IfErr, OnOk, OnErr, IsOkUnless};
 ghost use Rattle.std.specs.String.{string_bytes};
 ghost use Rattle.puffin_data.specs.Text.{cut_text};

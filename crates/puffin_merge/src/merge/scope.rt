@@ -1,3 +1,5 @@
+//! Merged scopes.
+
 ghost use Rattle.std.specs.Prelude.{◌≡◌, [], ◌∷◌, IfOk, IsOkUnless};
 ghost use Rattle.puffin_merge.specs.Merge.Scopes.{forest_in};
 

@@ -16,8 +16,8 @@ ghost use Rattle.puffin_view.specs.View.File.{file_of, fields_in, file_at, Reads
 
 use crate::profile_view::frame_file::{read_magic, write_magic};
 use crate::profile_view::frame_view::FrameView;
+use puffin_data::FileError;
 use puffin_data::data::{Drain, Source};
-use puffin_data::{Error, FileError};
 use puffin_frames::frame_data::FrameData;
 use std::alloc::Global;
 use std::sync::Arc;
@@ -32,11 +32,7 @@ fn add_read(alloc: Global, view: &mut FrameView, frame: FrameData) -> Result<(),
         (e ≡ FileError.Refused Error.MissingId) ⊎ (e ≡ FileError.Memory)) }
 {
     let frame = Arc::new(alloc, frame)?;
-    match view.add_frame(frame) {
-        Ok(()) => Ok(()),
-        Err(Error::Memory) => Err(FileError::Memory),
-        Err(cause) => Err(FileError::Refused(cause)),
-    }
+    Ok(view.add_frame(frame)?)
 }
 
 impl FrameView {
