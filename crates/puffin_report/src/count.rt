@@ -8,7 +8,6 @@ ghost use Rattle.puffin_report.specs.Lines.{count_line, measures_line, sums_text
 ghost use Rattle.puffin_report.specs.Count.{ReadsAll, IsCounted, IsCutShort};
 
 use puffin_data::data::{Drain, Source, Stream, StreamInfo, read_to_end, write_all};
-use puffin_data::laws::range_of_a_forest;
 use puffin_data::{Error, FileError, NanoSecond};
 use puffin_frames::frame_data::{FrameIndex, UnpackedFrameData};
 use puffin_frames::thread_profiler::ThreadInfo;
@@ -84,13 +83,12 @@ fn none_line(alloc: Global, cause: Error) -> Result<String, AllocError>
 }
 
 /// Makes frame 0 with an honest info as its one stream.
+#[tactic(auto, using(puffin_data::proofs::lemmas::ForestRanges::least_in_range, puffin_data::proofs::lemmas::ForestRanges::greatest_in_range, puffin_data::proofs::lemmas::ForestRanges::ordered))]
 fn frame_of(alloc: Global, info: StreamInfo) -> Result<UnpackedFrameData, Error>
     ensures { (f : Forest) → IsHonest info f →
         MatchResult result (λ frame. frame_of_forest info.stream.form f ≡ Ok frame.meta) (λ e.
         (e ≡ Error.Memory) ⊎ (frame_of_forest info.stream.form f ≡ Err e)) }
 {
-    // Only for the proof: a law about forests.
-    range_of_a_forest();
     let thread = ThreadInfo {
         start_time_ns: None,
         name: String::from_str(alloc, "stdin")?,

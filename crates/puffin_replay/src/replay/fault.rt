@@ -36,6 +36,14 @@ impl From<AllocError> for ToolFault {
     }
 }
 
+impl From<FileError> for ToolFault {
+    ghost from_gives = { λ cause fault. fault ≡ File cause };
+
+    fn from(cause: FileError) -> ToolFault {
+        ToolFault::File(cause)
+    }
+}
+
 /// A buffer that is longer than any line that is printed.
 type Line = ArrayString<80>;
 

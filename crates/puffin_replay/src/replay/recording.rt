@@ -177,10 +177,8 @@ pub fn record<D: Drain>(
     ensures too_long { (result ≡ Err FileError.PartTooLong) →
         Any HasLongPart (fields_in (view_of view.new)) }
 {
-    match Session::new(alloc, names) {
-        Ok(mut session) => record_session(&mut session, commands, view, drain),
-        Err(_) => Err(FileError::Memory),
-    }
+    let mut session = Session::new(alloc, names)?;
+    record_session(&mut session, commands, view, drain)
 }
 
 /// Makes an empty view that packs no frames. Its frames stay as the replies have them, and are packed when they are written.
@@ -247,10 +245,7 @@ pub fn run_script<D: Drain, E: Drain>(
         × (E.failures lines.new ≡ E.failures lines.old)) }
 {
     let threads = threads_of(alloc, script)?;
-    let mut session = match Session::with_forms(alloc, threads) {
-        Ok(session) => session,
-        Err(_) => return Err(FileError::Memory),
-    };
+    let mut session = Session::with_forms(alloc, threads)?;
     let mut view = loose_view(alloc);
     let replies = record_session(&mut session, &script.commands, &mut view, out)?;
     let text = reply_lines(alloc, &script.lines, &replies)?;

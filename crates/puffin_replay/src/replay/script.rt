@@ -346,9 +346,6 @@ pub fn read_script<S: Source>(alloc: Global, source: &mut S) -> Result<Script, T
     ensures io { (result ≡ Err (ToolFault.File FileError.Io)) →
         S.failures source.new ≡ S.failures source.old + 1 }
 {
-    let bytes = match read_to_end(alloc, source) {
-        Ok(bytes) => bytes,
-        Err(cause) => return Err(ToolFault::File(cause)),
-    };
+    let bytes = read_to_end(alloc, source)?;
     script_of(alloc, bytes.as_slice())
 }
